@@ -1,0 +1,3 @@
+pub mod LockWord
+pub mod Process
+pub mod Signed

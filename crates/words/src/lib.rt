@@ -1,0 +1,19 @@
+//! The words of the machine: its memory, the words of a lock, the words of a process, and signed numbers.
+#![tactic(auto)]
+
+mod gate;
+mod integer;
+mod lock;
+mod mem;
+mod process;
+
+pub use gate::Gate;
+pub use integer::{signed, signed_laws, word};
+pub use lock::{
+    OWNER_DIED, TID_MASK, WAITERS, has_died, has_waiters, lock_word_laws, locked_word, tid,
+};
+pub use mem::{Addr, Mem};
+pub use process::{MOST_PROCESSES, ProcessWord, block, block_laws};
+
+#[cfg(test)]
+mod tests;
