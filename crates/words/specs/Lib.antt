@@ -1,3 +1,4 @@
 pub mod LockWord
+pub mod Outcomes
 pub mod Process
 pub mod Signed

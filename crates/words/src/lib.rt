@@ -5,6 +5,7 @@ mod gate;
 mod integer;
 mod lock;
 mod mem;
+mod outcome;
 mod process;
 
 pub use gate::Gate;
@@ -13,6 +14,7 @@ pub use lock::{
     OWNER_DIED, TID_MASK, WAITERS, has_died, has_waiters, lock_word_laws, locked_word, tid,
 };
 pub use mem::{Addr, Mem};
+pub use outcome::{ENDED, Fault, Outcome, outcome_laws};
 pub use process::{MOST_PROCESSES, ProcessWord, block, block_laws};
 
 #[cfg(test)]
