@@ -3,6 +3,7 @@ ghost use Rattle.std.specs.Int.Bits.{bit_or};
 
 use std::alloc::{AllocError, Global};
 use std::marker::Model;
+use std::mem;
 
 /// The number of a word of the memory, from 0.
 #[derive(Clone, Copy, PartialEq, Eq, PartialOrd, Ord, Debug, Hash)]
@@ -51,7 +52,7 @@ impl Mem {
         requires { a.0 < length self.now }
         ensures { slice_get self.now a.0 ≡ Some result }
     {
-        self.words[a.0 as usize]
+        self.words.as_slice()[a.0 as usize]
     }
 
     /// Puts a word at an address.
@@ -81,9 +82,7 @@ impl Mem {
         ensures before { slice_get self.old a.0 ≡ Some result }
         ensures after { self.new ≡ slice_set self.old a.0 v }
     {
-        let old = self.words[a.0 as usize];
-        self.words[a.0 as usize] = v;
-        old
+        mem::replace(&mut self.words[a.0 as usize], v)
     }
 
     /// Sets the bits of `v` in the word at an address, and answers the word before.

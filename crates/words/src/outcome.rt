@@ -85,5 +85,4 @@ impl Outcome {
 /// Each word is that of the outcome that it tells.
 pub fn outcome_laws()
     ensures { (w : ℕ) → outcome_word (outcome_of w) ≡ w }
-{
-}
+{}
