@@ -1,9 +1,9 @@
 -- Actions and runs of the source: what a process does for itself, and what all share allows it.
-use Rattle.std.specs.Prelude.{ℕ, ℤ, ◌≡◌, ◌++◌, List, [], ◌∷◌, Option, Some, None}
+use Rattle.std.specs.Prelude.{ℕ, ◌≡◌, ◌++◌, List, [], ◌∷◌, Some}
 use Rattle.sourcemeaning.specs.declared.action.Action.{Action}
 use Rattle.sourcemeaning.specs.declared.action.ActionKind.{ActionKind}
 use Rattle.sourcemeaning.specs.declared.action.ActionKind.TheVariants.{Print, End}
-use Rattle.sourcemeaning.specs.Programs.{Source, Statement, Prints}
+use Rattle.sourcemeaning.specs.Programs.{Source, Prints}
 use Rattle.sourcemeaning.specs.States.{Process, Before, Leaving, Ended, standing, SourceState, with_process, opening}
 
 -- what a process can do, and what it is after it

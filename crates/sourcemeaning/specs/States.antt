@@ -31,3 +31,20 @@ opening p = record {
   process = λ n. if n == 1 then Some (standing p.main) else None;
   printed = [];
 }
+
+-- a state as its processes, by number from 1, and the numbers printed: all that differs in this fragment
+pub record KeptSource : Type 0 where
+  pub processes : List Process
+  pub printed : List ℤ
+
+-- the process of a number
+abbrev pub process_at : List Process → ℕ → Option Process
+process_at processes zero = None
+process_at processes (suc n) = slice_get processes n
+
+abbrev pub state_of : KeptSource → SourceState
+state_of k = record {
+  variable = λ m i. pos 0;
+  process = process_at k.processes;
+  printed = k.printed;
+}

@@ -2,8 +2,17 @@
 //! Monitors in Mesa", 1980).
 #![tactic(auto)]
 
+mod acceptance;
 mod action;
 mod checked;
+mod laws;
+mod state;
 
+pub use acceptance::accepts;
 pub use action::{Action, ActionKind};
 pub use checked::Checked;
+pub use laws::run_laws;
+pub use state::{MAIN, SourceState, movers};
+
+#[cfg(test)]
+mod tests;

@@ -1,0 +1,4 @@
+pub mod BucketCount
+pub mod Lists
+pub mod Places
+pub mod Sleepers

@@ -1,0 +1,35 @@
+-- What a contract sees of the buckets: who sleeps, and on which address. It is read by three functions alone.
+use Rattle.std.specs.Prelude.{◌≡◌, ℕ, ◌-◌, ◌≤◌, ◌==◌, if◌then◌else◌, Option, Some, None, List, length, slice_index_or, IsTrue, nat_eq}
+use Rattle.std.specs.List.{filter_map, IsDistinct}
+use Rattle.std.specs.Option.{option_map}
+use Rattle.words.specs.declared.mem.Addr.{Addr}
+use Rattle.buckets.specs.declared.sleeper.Sleeper.{Sleeper}
+use Rattle.buckets.specs.Places.{names}
+
+-- for each thread from 0 where it sleeps, and the sleepers, those of one address in the order of their arrival
+pub record Sleepers : Type 0 where
+  pub places : List (Option Addr)
+  pub waiting : List Sleeper
+
+-- the thread, where it sleeps on the address
+abbrev pub thread_on : ℕ → Sleeper → Option ℕ
+thread_on a s = if s.address.0 == a then Some s.thread else None
+
+-- the threads that sleep on an address, in the order in which they came to it
+unfoldable pub queue : Sleepers → ℕ → List ℕ
+queue s a = filter_map (thread_on a) s.waiting
+
+-- the address on which a thread sleeps
+unfoldable pub place_of : Sleepers → ℕ → Option ℕ
+place_of s t = option_map (λ a. a.0) (slice_index_or s.places t None)
+
+-- the greatest number of a thread; the least is 1
+unfoldable pub thread_count : Sleepers → ℕ
+thread_count s = length s.places - 1
+
+-- what is true of every value: a thread sleeps on an address exactly where it stands in that address's list, once
+pub record IsSound (s : Sleepers) : Type 0 where
+  pub in_range : (t a : ℕ) → place_of s t ≡ Some a → (1 ≤ t) × (t ≤ thread_count s)
+  pub stands : (t a : ℕ) → place_of s t ≡ Some a → IsTrue (names (queue s a) t)
+  pub sleeps : (t a : ℕ) → IsTrue (names (queue s a) t) → place_of s t ≡ Some a
+  pub distinct : (a : ℕ) → IsDistinct nat_eq (queue s a)

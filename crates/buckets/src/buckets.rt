@@ -1,0 +1,170 @@
+ghost use Rattle.std.specs.Prelude.{◌≡◌, ◌≢◌, ℕ, ◌<◌, ◌≤◌, ◌++◌, ◌∷◌, [], ◌↔◌, ◌==◌, not, None, Some, if◌then◌else◌, length, take, drop, slice_get, IfOk, IsTrue, nat_eq};
+ghost use Rattle.std.specs.List.{filter, IsDistinct};
+ghost use Rattle.std.specs.Option.{option_map};
+ghost use Rattle.buckets.specs.Places.{names, with_place};
+ghost use Rattle.buckets.specs.Sleepers.{queue, place_of, thread_count, IsSound};
+ghost use Rattle.buckets.specs.BucketCount.{IsBucketCount};
+
+use crate::list::{bucket_of, clear_places, count_on, empty_lists, nth_on, take_front};
+use crate::sleeper::Sleeper;
+use crate::thread_list::{MOST_THREADS, ThreadList};
+use std::alloc::{AllocError, Global};
+use std::marker::Model;
+use words::Addr;
+
+/// The threads that sleep, in buckets: for each address a list of its sleepers, in the order in which they came to it.
+/// A thread stands in at most one list. Contracts read the list of an address by `queue`, and the address on which a
+/// thread sleeps by `place_of`. After `new` no call takes memory.
+#[derive(Drop)]
+pub struct Buckets {
+    alloc: Global,
+    // The sleepers of each bucket, in the order of their arrival, with room for all threads in each.
+    lists: Vec<Vec<Sleeper>>,
+    // For each thread from 0 where it sleeps. There is no thread 0.
+    places: Vec<Option<Addr>>,
+}
+
+impl Model for Buckets {
+    ghost use Rattle.std.specs.Prelude.{◌+◌, ◌≤◌, map, vec_len, vec_capacity};
+    ghost use Rattle.std.specs.List.{All};
+    ghost use Rattle.buckets.specs.Sleepers.{Sleepers};
+    ghost use Rattle.buckets.specs.Lists.{joined, IsConsistent};
+
+    ghost Value = { Sleepers };
+
+    ghost view = { λ b. record {
+      places = b.places.items;
+      waiting = joined (map (λ v. v.items) b.lists.items);
+    } };
+
+    ghost invariant = { λ b. IsConsistent b.places.items (map (λ v. v.items) b.lists.items)
+        × All (λ v. vec_len b.places ≤ vec_capacity v + 1) b.lists.items };
+}
+
+impl Buckets {
+    /// Whether there can be `n` buckets: a power of two from 1 to 256.
+    pub fn allowed(n: u32) -> bool
+        ensures { IsTrue result ↔ IsBucketCount n }
+    {
+        matches!(n, 1 | 2 | 4 | 8 | 16 | 32 | 64 | 128 | 256)
+    }
+
+    /// `n` buckets, with nobody asleep, and room for `threads` threads, with the numbers from 1 to `threads`.
+    pub fn new(alloc: Global, n: u32, threads: u32) -> Result<Buckets, AllocError>
+        requires allowed { IsBucketCount n }
+        requires few { threads ≤ MOST_THREADS }
+        ensures empty { IfOk result (λ b. (a : ℕ) → queue b a ≡ []) }
+        ensures awake { IfOk result (λ b. (t : ℕ) → place_of b t ≡ None) }
+        ensures threads { IfOk result (λ b. thread_count b ≡ threads) }
+        ensures sound { IfOk result IsSound }
+    {
+        Ok(Buckets {
+            alloc,
+            lists: empty_lists(alloc, n, threads)?,
+            places: vec![in alloc; None; threads as usize + 1]?,
+        })
+    }
+
+    /// A list of no thread.
+    pub fn nobody(&self) -> ThreadList
+        ensures none { result ≡ [] }
+        ensures sound { IsSound self.now }
+    {
+        ThreadList::new(self.alloc)
+    }
+
+    /// How many threads sleep on `a`.
+    pub fn sleepers(&self, a: Addr) -> usize
+        ensures count { result ≡ length (queue self.now a.0) }
+        ensures sound { IsSound self.now }
+    {
+        count_on(&self.lists[bucket_of(a, self.lists.len())], a)
+    }
+
+    /// The thread at place `i`, from 0, of the list of `a`, if there are more than `i`.
+    pub fn sleeper(&self, a: Addr, i: usize) -> Option<u32>
+        ensures value { result ≡ slice_get (queue self.now a.0) i }
+        ensures sound { IsSound self.now }
+    {
+        nth_on(&self.lists[bucket_of(a, self.lists.len())], a, i)
+    }
+
+    /// Where the thread sleeps, if it does.
+    pub fn asleep(&self, thread: u32) -> Option<Addr>
+        requires { thread ≤ thread_count self.now }
+        ensures value { option_map (λ a. a.0) result ≡ place_of self.now thread }
+        ensures sound { IsSound self.now }
+    {
+        self.places[thread as usize]
+    }
+
+    /// Puts thread `t`, from 1 and asleep nowhere, at the end of the list of `a`.
+    pub fn enqueue(&mut self, t: u32, a: Addr)
+        requires in_range { (1 ≤ t) × (t ≤ thread_count self.old) }
+        requires awake { place_of self.old t ≡ None }
+        ensures last { queue self.new a.0 ≡ queue self.old a.0 ++ t ∷ [] }
+        ensures others { (b : ℕ) → b ≢ a.0 → queue self.new b ≡ queue self.old b }
+        ensures places { place_of self.new ≡ with_place (place_of self.old) (t ∷ []) (Some a.0) }
+        ensures threads { thread_count self.new ≡ thread_count self.old }
+        ensures sound { IsSound self.old × IsSound self.new }
+    {
+        let bucket = bucket_of(a, self.lists.len());
+        self.lists[bucket].push_reserved(Sleeper {
+            thread: t,
+            address: a,
+        });
+        self.places[t as usize] = Some(a);
+    }
+
+    /// Takes the first `n` sleepers out of the list of `a`, all where there are no more, and answers them in order.
+    pub fn take(&mut self, a: Addr, n: u32) -> ThreadList
+        ensures taken { result ≡ take n (queue self.old a.0) }
+        ensures rest { queue self.new a.0 ≡ drop n (queue self.old a.0) }
+        ensures others { (b : ℕ) → b ≢ a.0 → queue self.new b ≡ queue self.old b }
+        ensures places { place_of self.new ≡ with_place (place_of self.old) result None }
+        ensures threads { thread_count self.new ≡ thread_count self.old }
+        ensures sound { IsSound self.old × IsSound self.new }
+    {
+        let bucket = bucket_of(a, self.lists.len());
+        let taken = take_front(self.alloc, &mut self.lists[bucket], a, n);
+        clear_places(&mut self.places, taken.as_slice());
+        taken
+    }
+
+    /// Moves the first `n` sleepers of the list of `a`, all where there are no more, to the end of the list of `b`, and
+    /// answers them in order. Where `a` and `b` are the same nobody moves.
+    pub fn shift(&mut self, a: Addr, b: Addr, n: u32) -> ThreadList
+        ensures moved { result ≡ (if a.0 == b.0 then [] else take n (queue self.old a.0)) }
+        ensures rest { queue self.new a.0 ≡ drop (length result) (queue self.old a.0) }
+        ensures last { queue self.new b.0 ≡ queue self.old b.0 ++ result }
+        ensures others { (d : ℕ) → d ≢ a.0 → d ≢ b.0 → queue self.new d ≡ queue self.old d }
+        ensures places { place_of self.new ≡ with_place (place_of self.old) result (Some b.0) }
+        ensures same { a.0 ≡ b.0 → self.new ≡ self.old }
+        ensures threads { thread_count self.new ≡ thread_count self.old }
+        ensures sound { IsSound self.old × IsSound self.new }
+    {
+        if a.0 == b.0 {
+            return self.nobody();
+        }
+        let moved = self.take(a, n);
+        for t in moved.as_slice() {
+            self.enqueue(*t, b);
+        }
+        moved
+    }
+
+    /// Takes a thread out of its list, if it stands in one.
+    pub fn drop_out(&mut self, t: u32)
+        requires { t ≤ thread_count self.old }
+        ensures queues { (b : ℕ) → queue self.new b ≡ filter (λ u. not (u == t)) (queue self.old b) }
+        ensures places { place_of self.new ≡ with_place (place_of self.old) (t ∷ []) None }
+        ensures threads { thread_count self.new ≡ thread_count self.old }
+        ensures sound { IsSound self.old × IsSound self.new }
+    {
+        if let Some(a) = self.places[t as usize] {
+            let bucket = bucket_of(a, self.lists.len());
+            self.lists[bucket].retain(|s| s.thread != t);
+            self.places[t as usize] = None;
+        }
+    }
+}

@@ -1,0 +1,13 @@
+//! Who sleeps on which address: a list of sleepers for each address, in the order in which they came to it.
+#![tactic(auto)]
+
+mod buckets;
+mod list;
+mod sleeper;
+mod thread_list;
+
+pub use buckets::Buckets;
+pub use thread_list::{MOST_THREADS, ThreadList};
+
+#[cfg(test)]
+mod tests;

@@ -1,0 +1,66 @@
+ghost use Rattle.std.specs.Prelude.{◌≡◌, ◌<◌, ◌≤◌, ◌==◌, [], ◌∷◌, ◌++◌, length};
+
+use smallvec::SmallVec;
+use std::alloc::Global;
+use std::marker::Model;
+
+/// The most threads that buckets can be made for.
+pub const MOST_THREADS: usize = 64;
+
+/// A list of threads by their numbers, with room for all threads in the value itself: it never takes memory.
+/// Contracts see the list of the numbers.
+#[derive(Drop, Debug)]
+pub struct ThreadList {
+    threads: SmallVec<u32, MOST_THREADS>,
+}
+
+impl Model for ThreadList {
+    ghost use Rattle.std.specs.Prelude.{◌≡◌, List, ℕ};
+
+    ghost Value = { List ℕ };
+
+    ghost view = { λ l. l.threads.items };
+
+    ghost invariant = { λ l. l.threads.capacity ≡ 64 };
+}
+
+impl ThreadList {
+    /// A list of no thread.
+    pub fn new(alloc: Global) -> ThreadList
+        ensures { result ≡ [] }
+    {
+        ThreadList {
+            threads: SmallVec::new(alloc),
+        }
+    }
+
+    /// Appends a thread.
+    pub fn push(&mut self, thread: u32)
+        requires { length self.old < MOST_THREADS }
+        ensures { self.new ≡ self.old ++ thread ∷ [] }
+    {
+        self.threads.push_reserved(thread);
+    }
+
+    /// How many threads there are.
+    pub fn len(&self) -> usize
+        ensures value { result ≡ length self.now }
+        ensures most { result ≤ MOST_THREADS }
+    {
+        self.threads.len()
+    }
+
+    /// Whether there is no thread.
+    pub fn is_empty(&self) -> bool
+        ensures { result ≡ (length self.now == 0) }
+    {
+        self.threads.is_empty()
+    }
+
+    /// The threads, in order.
+    pub fn as_slice(&self) -> &[u32]
+        ensures { result.now ≡ self.now }
+    {
+        self.threads.as_slice()
+    }
+}

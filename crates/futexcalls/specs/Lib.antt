@@ -1,0 +1,2 @@
+pub mod FutexCalls
+pub mod Answers

@@ -1,0 +1,11 @@
+//! The three futex calls, over a memory and its sleepers: wait, wake and compare-requeue.
+#![tactic(auto)]
+
+mod calls;
+mod woken;
+
+pub use calls::{Again, WaitAnswer, cmp_requeue, wait, wake};
+pub use woken::{Requeued, Woken};
+
+#[cfg(test)]
+mod tests;

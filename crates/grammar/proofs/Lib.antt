@@ -1,0 +1,12 @@
+pub mod Codes
+pub mod Steps
+pub mod Complete
+pub mod Starts
+pub mod Statements
+pub mod Whole
+pub mod Sound
+pub mod Halts
+pub mod Reading
+pub mod Deep
+pub mod Law
+pub mod Joins

@@ -1,0 +1,100 @@
+-- Reading an image from left to right, with the first fault that is met. A field is a value and the bytes after it.
+use Rattle.std.specs.Prelude.{◌≡◌, ◌≢◌, ℕ, zero, suc, ◌+◌, ◌-◌, ◌*◌, List, [], ◌∷◌, length, Option, Some, None, Result, Ok, Err, nat_lt, ◌==◌, if◌then◌else◌}
+use Rattle.isa.specs.declared.fault.DecodeFault.{DecodeFault}
+use Rattle.isa.specs.declared.fault.DecodeFault.TheVariants.{BadMagic, Version, Short, BadInstr, BadTarget, Trailing, Limit, Memory}
+use Rattle.isa.specs.declared.instr.Instr.{Instr}
+use Rattle.isa.specs.Opcodes.{Form, plain, with_number, opcodes, row_of}
+use Rattle.isa.specs.Programs.{Program}
+use Rattle.isa.specs.Spelling.{magic, version}
+
+infixl 10 ◌>>=◌
+abbrev pub ◌>>=◌ : {A B : Type 0} → Result A DecodeFault → (A → Result B DecodeFault) → Result B DecodeFault
+(Ok x) >>= f = f x
+(Err e) >>= f = Err e
+
+-- What a function returned, seen by view, is what reading gives, unless memory ran out.
+abbrev pub Gives : {X Y : Type 0} → (X → Y) → Result X DecodeFault → Result Y DecodeFault → Type 0
+Gives view (Ok x) read = read ≡ Ok (view x)
+Gives view (Err e) read = e ≢ Memory → read ≡ Err e
+
+-- these bytes and no others
+unfoldable pub fixed_at : List ℕ → DecodeFault → List ℕ → Result (List ℕ) DecodeFault
+fixed_at [] fault bytes = Ok bytes
+fixed_at (b ∷ wanted) fault [] = Err Short
+fixed_at (b ∷ wanted) fault (c ∷ rest) = if c == b then fixed_at wanted fault rest else Err fault
+
+-- a number with at most so many bytes before its last: there a byte past 0f is past 4294967295, and a last byte of 00
+-- means that fewer bytes would do
+unfoldable pub groups_at : ℕ → List ℕ → Result (ℕ × List ℕ) DecodeFault
+groups_at more [] = Err Short
+groups_at zero (b ∷ rest) = if nat_lt 15 b then Err Limit else Ok (b, rest)
+groups_at (suc more) (b ∷ rest) = if nat_lt b 128 then Ok (b, rest) else do
+  high ← groups_at more rest
+  if high.0 == 0 then Err BadInstr else Ok (b - 128 + 128 * high.0, high.1)
+
+abbrev pub number_at : List ℕ → Result (ℕ × List ℕ) DecodeFault
+number_at bytes = groups_at 4 bytes
+
+-- a number up to a limit, which is tested once the number is read
+unfoldable pub limited_at : ℕ → List ℕ → Result (ℕ × List ℕ) DecodeFault
+limited_at limit bytes = do
+  n ← number_at bytes
+  if nat_lt limit n.0 then Err Limit else Ok n
+
+-- so many numbers, whose sum is up to a limit
+unfoldable pub numbers_at : ℕ → ℕ → List ℕ → Result (List ℕ × List ℕ) DecodeFault
+numbers_at zero limit bytes = Ok ([], bytes)
+numbers_at (suc count) limit bytes = do
+  first ← limited_at limit bytes
+  others ← numbers_at count (limit - first.0) first.1
+  Ok (first.0 ∷ others.0, others.1)
+
+-- how many monitors, and the member words of each
+unfoldable pub monitors_at : List ℕ → Result (List ℕ × List ℕ) DecodeFault
+monitors_at bytes = do
+  count ← limited_at 64 bytes
+  numbers_at count.0 1024 count.1
+
+unfoldable pub operands_at : Option Form → List ℕ → Result (Instr × List ℕ) DecodeFault
+operands_at None bytes = Err BadInstr
+operands_at (Some (plain i)) bytes = Ok (i, bytes)
+operands_at (Some (with_number make)) bytes = do
+  n ← number_at bytes
+  Ok (make n.0, n.1)
+
+unfoldable pub instruction_at : List ℕ → Result (Instr × List ℕ) DecodeFault
+instruction_at [] = Err Short
+instruction_at (b ∷ rest) = operands_at (row_of opcodes b) rest
+
+unfoldable pub instructions_at : ℕ → List ℕ → Result (List Instr × List ℕ) DecodeFault
+instructions_at zero bytes = Ok ([], bytes)
+instructions_at (suc count) bytes = do
+  first ← instruction_at bytes
+  others ← instructions_at count first.1
+  Ok (first.0 ∷ others.0, others.1)
+
+-- how many instructions, and these
+unfoldable pub code_at : List ℕ → Result (List Instr × List ℕ) DecodeFault
+code_at bytes = do
+  count ← limited_at 65536 bytes
+  instructions_at count.0 count.1
+
+-- an image, whatever follows it
+unfoldable pub image_at : List ℕ → Result (Program × List ℕ) DecodeFault
+image_at bytes = do
+  marked ← fixed_at magic BadMagic bytes
+  versioned ← fixed_at version Version marked
+  monitors ← monitors_at versioned
+  start ← number_at monitors.1
+  code ← code_at start.1
+  Ok (record { monitors = monitors.0; start = start.0; code = code.0 }, code.1)
+
+-- behind the last instruction: no byte, and a start in the code
+abbrev pub ended : Program → List ℕ → Result Program DecodeFault
+ended p rest = if length rest == 0 then (if nat_lt p.start (length p.code) then Ok p else Err BadTarget) else Err Trailing
+
+-- all of the bytes
+unfoldable pub program_of : List ℕ → Result Program DecodeFault
+program_of bytes = do
+  image ← image_at bytes
+  ended image.0 image.1

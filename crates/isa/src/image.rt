@@ -1,0 +1,91 @@
+ghost use Rattle.std.specs.Prelude.{◌≡◌, ◌<◌, slice_get, IfSome, IfOk, length, vec_len, List, ℕ};
+ghost use Rattle.isa.specs.Programs.{Program, IsProgram, memory_size};
+
+use crate::instr::Instr;
+use std::alloc::{AllocError, Global};
+use std::marker::Model;
+
+/// The most monitors of an image.
+pub const MOST_MONITORS: usize = 64;
+
+/// The most member words of all monitors of an image together.
+pub const MOST_MEMBER_WORDS: u32 = 1024;
+
+/// The most instructions of an image.
+pub const MOST_INSTRUCTIONS: usize = 65536;
+
+/// The code of a program, where it begins, and how many member words each of its monitors has. Contracts see it as
+/// a `Program`, within the limits of `IsProgram`.
+#[derive(Drop)]
+pub struct Image {
+    monitors: Vec<u32>,
+    start: u32,
+    code: Vec<Instr>,
+}
+
+impl Model for Image {
+    ghost use Rattle.isa.specs.Programs.{Program, IsProgram};
+
+    ghost Value = { Program };
+
+    ghost view = { λ i. record { monitors = i.monitors.items; start = i.start; code = i.code.items } };
+
+    ghost invariant = { λ i. IsProgram (record { monitors = i.monitors.items; start = i.start; code = i.code.items }) };
+}
+
+impl Image {
+    /// The image of these parts, which are within the limits.
+    pub fn new(monitors: Vec<u32>, start: u32, code: Vec<Instr>) -> Image
+        requires { IsProgram (record { monitors = monitors.items; start = start; code = code.items }) }
+        ensures { result ≡ record { monitors = monitors.items; start = start; code = code.items } }
+    {
+        Image {
+            monitors,
+            start,
+            code,
+        }
+    }
+
+    /// The number of the first instruction of the first process.
+    pub fn start(&self) -> u32
+        ensures value { result ≡ self.now.start }
+        ensures within { IsProgram self.now }
+    {
+        self.start
+    }
+
+    /// How many member words each monitor has.
+    pub fn monitors(&self) -> &[u32]
+        ensures value { result.now ≡ self.now.monitors }
+        ensures within { IsProgram self.now }
+    {
+        self.monitors.as_slice()
+    }
+
+    /// The instructions.
+    pub fn code(&self) -> &[Instr]
+        ensures value { result.now ≡ self.now.code }
+        ensures within { IsProgram self.now }
+    {
+        self.code.as_slice()
+    }
+
+    /// The instruction at a place, if the place lies in the code.
+    pub fn at(&self, place: u32) -> Option<Instr>
+        ensures value { result ≡ slice_get self.now.code place }
+        ensures within { IfSome result (λ _. place < 65536) }
+    {
+        self.code.get(place as usize).copied()
+    }
+
+    /// A copy.
+    pub fn copy(&self, alloc: Global) -> Result<Image, AllocError>
+        ensures { IfOk result (λ i. i ≡ self.now) }
+    {
+        Ok(Image {
+            monitors: Vec::from_slice(alloc, self.monitors.as_slice())?,
+            start: self.start,
+            code: Vec::from_slice(alloc, self.code.as_slice())?,
+        })
+    }
+}

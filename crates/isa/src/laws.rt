@@ -1,0 +1,21 @@
+ghost use Rattle.std.specs.Prelude.{◌≡◌, ℕ, List, ◌∷◌, ◌++◌, Ok, Err};
+ghost use Rattle.isa.specs.declared.fault.DecodeFault.{DecodeFault};
+ghost use Rattle.isa.specs.FirstFault.{IsOfAByte, IsFirstFault};
+ghost use Rattle.isa.specs.Programs.{Program};
+ghost use Rattle.isa.specs.Spelling.{IsSpelled, spelling};
+ghost use Rattle.isa.specs.Reading.{program_of};
+
+/// No two programs have one spelling, and each spelling is read as its program.
+pub fn one_spelling()
+    ensures one { (p q : Program) → IsSpelled p → IsSpelled q → spelling p ≡ spelling q → p ≡ q }
+    ensures read { (p : Program) → IsSpelled p → program_of (spelling p) ≡ Ok p }
+{}
+
+/// A fault of one byte is the first: before that byte others are missing and nothing else is wrong, and nothing that
+/// follows mends it. Each proper beginning of an image is short.
+pub fn first_fault()
+    ensures first { (bytes : List ℕ) (fault : DecodeFault) → IsOfAByte fault → program_of bytes ≡ Err fault
+        → (place : ℕ) × IsFirstFault bytes fault place }
+    ensures short { (p : Program) (front : List ℕ) (b : ℕ) (behind : List ℕ)
+        → IsSpelled p → spelling p ≡ front ++ b ∷ behind → program_of front ≡ Err DecodeFault.Short }
+{}

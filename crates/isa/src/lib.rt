@@ -1,0 +1,21 @@
+//! The instructions of the machine, images of programs, and the bytes of an image.
+#![tactic(auto)]
+
+mod fault;
+mod format;
+mod image;
+mod instr;
+mod laws;
+mod opcode;
+mod reading;
+mod writing;
+
+pub use fault::DecodeFault;
+pub use image::{Image, MOST_INSTRUCTIONS, MOST_MEMBER_WORDS, MOST_MONITORS};
+pub use instr::Instr;
+pub use laws::{first_fault, one_spelling};
+pub use reading::decode;
+pub use writing::encode;
+
+#[cfg(test)]
+mod tests;

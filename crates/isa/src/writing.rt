@@ -1,0 +1,70 @@
+ghost use Rattle.std.specs.Prelude.{◌≡◌, ◌++◌, OnOk, IfOk};
+ghost use Rattle.isa.specs.Numbers.{number};
+ghost use Rattle.isa.specs.Spelling.{numbers, instruction, instructions, spelling};
+
+use crate::format::{MAGIC, VERSION};
+use crate::image::Image;
+use crate::instr::Instr;
+use crate::opcode;
+use std::alloc::{AllocError, Global};
+
+fn put_number(out: &mut Vec<u8>, value: u32) -> Result<(), AllocError>
+    ensures { OnOk result (out.new.items ≡ out.old.items ++ number value) }
+{
+    let mut rest = value;
+    while rest >= 128 {
+        out.push((rest % 128) as u8 + 128)?;
+        rest /= 128;
+    }
+    out.push(rest as u8)?;
+    Ok(())
+}
+
+fn put_numbers(out: &mut Vec<u8>, values: &[u32]) -> Result<(), AllocError>
+    ensures { OnOk result (out.new.items ≡ out.old.items ++ numbers values.now) }
+{
+    for value in values {
+        put_number(out, *value)?;
+    }
+    Ok(())
+}
+
+fn put_instruction(out: &mut Vec<u8>, instr: Instr) -> Result<(), AllocError>
+    ensures { OnOk result (out.new.items ≡ out.old.items ++ instruction instr) }
+{
+    match instr {
+        Instr::Push(n) => {
+            out.push(opcode::PUSH)?;
+            put_number(out, n)?;
+        }
+        Instr::Print => out.push(opcode::PRINT)?,
+        Instr::Ret => out.push(opcode::RET)?,
+    }
+    Ok(())
+}
+
+fn put_instructions(out: &mut Vec<u8>, code: &[Instr]) -> Result<(), AllocError>
+    ensures { OnOk result (out.new.items ≡ out.old.items ++ instructions code.now) }
+{
+    for instr in code {
+        put_instruction(out, *instr)?;
+    }
+    Ok(())
+}
+
+/// The one spelling of an image.
+pub fn encode(alloc: Global, image: &Image) -> Result<Vec<u8>, AllocError>
+    ensures { IfOk result (λ bytes. bytes.items ≡ spelling image.now) }
+{
+    let monitors = image.monitors();
+    let code = image.code();
+    let mut out = Vec::new(alloc);
+    out.extend_from_slice(&MAGIC)?;
+    out.extend_from_slice(&VERSION)?;
+    put_number(&mut out, monitors.len() as u32)?;
+    put_numbers(&mut out, monitors)?;
+    put_number(&mut out, image.start())?;
+    put_number(&mut out, code.len() as u32)?;
+    put_instructions(&mut out, code)?;
+    Ok(out)
+}

@@ -1,0 +1,5 @@
+pub mod Threads
+pub mod Looks
+pub mod Steps
+pub mod Requests
+pub mod Views

@@ -1,0 +1,125 @@
+ghost use Rattle.std.specs.Prelude.{◌≡◌, ◌≢◌, MatchBool, Some, None, is_some};
+ghost use Rattle.locals.specs.Threads.{Exits, opening_thread};
+ghost use Rattle.locals.specs.declared.exit.ExitPhase.TheVariants.{Ended};
+ghost use Rattle.locals.specs.Looks.{look};
+ghost use Rattle.locals.specs.Steps.{local_step};
+ghost use Rattle.locals.specs.Requests.{next_step_of, answered};
+
+use crate::activation::Activation;
+use crate::exit::ExitPhase;
+use crate::request::{NextStep, Request};
+use isa::Image;
+use std::marker::Model;
+use words::Fault;
+
+/// What a thread does, or is about to do.
+#[derive(Drop)]
+enum Stage {
+    Running(Activation),
+    Dying(Fault),
+    Exiting(ExitPhase),
+}
+
+/// The state of one thread, all but the words that it shares. Contracts see a `Thread`. It has a fixed size.
+#[derive(Drop)]
+pub struct Local {
+    stage: Stage,
+}
+
+impl Model for Local {
+    ghost use Rattle.locals.specs.Threads.{Thread};
+
+    ghost Value = { Thread };
+
+    ghost use Rattle.locals.specs.Views.{thread_of_stage};
+
+    ghost view = { λ l. thread_of_stage l.stage };
+}
+
+/// A thread at the start of a program.
+pub fn opening_local(start: u32) -> Local
+    ensures { result ≡ opening_thread start }
+{
+    Local {
+        stage: Stage::Running(Activation::start(start)),
+    }
+}
+
+impl Local {
+    /// A copy. It takes time in proportion to the operands and frames in use.
+    pub fn again(&self) -> Local
+        ensures { result ≡ self.now }
+    {
+        let stage = match &self.stage {
+            Stage::Running(activation) => Stage::Running(activation.again()),
+            Stage::Dying(fault) => Stage::Dying(*fault),
+            Stage::Exiting(phase) => Stage::Exiting(*phase),
+        };
+        Local { stage }
+    }
+
+    /// Whether it is the same state as the other.
+    pub fn is(&self, other: &Local) -> bool
+        ensures { MatchBool result (self.now ≡ other.now) (self.now ≢ other.now) }
+    {
+        match (&self.stage, &other.stage) {
+            (Stage::Running(a), Stage::Running(b)) => a.is(b),
+            (Stage::Dying(a), Stage::Dying(b)) => a == b,
+            (Stage::Exiting(a), Stage::Exiting(b)) => a == b,
+            _ => false,
+        }
+    }
+
+    /// Whether the thread has ended.
+    pub fn has_ended(&self) -> bool
+        ensures { MatchBool result (self.now ≡ Exits Ended) (self.now ≢ Exits Ended) }
+    {
+        matches!(&self.stage, Stage::Exiting(ExitPhase::Ended))
+    }
+
+    /// What the next step of this state of thread `t` is.
+    pub fn next_step(&self, image: &Image, t: u32) -> NextStep
+        ensures { result ≡ next_step_of (look image.now t self.now) }
+    {
+        match &self.stage {
+            Stage::Running(activation) => activation.next_step(image),
+            Stage::Dying(fault) => NextStep::Shared(Request::Fault(*fault)),
+            Stage::Exiting(ExitPhase::Pending) => NextStep::Shared(Request::Pending),
+            Stage::Exiting(ExitPhase::ClearId) => NextStep::Shared(Request::ClearId),
+            Stage::Exiting(ExitPhase::LastWake) => NextStep::Shared(Request::LastWake),
+            Stage::Exiting(ExitPhase::Ended) => NextStep::Ended,
+        }
+    }
+
+    /// Goes on with the answer to the request that it makes. Where it makes none it stays as it is.
+    pub fn go_on(&mut self, image: &Image, t: u32, answer: u32)
+        ensures { self.new ≡ answered (look image.now t self.old) answer self.old }
+    {
+        match &mut self.stage {
+            Stage::Running(activation) => {
+                if activation.go_on(image, answer) {
+                    self.stage = Stage::Exiting(ExitPhase::Pending);
+                }
+            }
+            Stage::Dying(_) => self.stage = Stage::Exiting(ExitPhase::Pending),
+            Stage::Exiting(phase) => *phase = phase.next(),
+        }
+    }
+
+    /// Takes a local step of thread `t` where the next one is, and says whether it did. Else it stays as it is.
+    pub fn take_step(&mut self, image: &Image, t: u32) -> bool
+        ensures { MatchBool result (local_step image.now t self.old ≡ Some self.new) ((local_step image.now t self.old ≡ None) × (self.new ≡ self.old)) }
+    {
+        match &mut self.stage {
+            Stage::Running(activation) => activation.take_step(image),
+            Stage::Dying(_) | Stage::Exiting(_) => false,
+        }
+    }
+
+    /// Whether the next step of this state of thread `t` is a local one.
+    pub fn is_before_local(&self, image: &Image, t: u32) -> bool
+        ensures { result ≡ is_some (local_step image.now t self.now) }
+    {
+        self.next_step(image, t) == NextStep::Local
+    }
+}

@@ -1,0 +1,64 @@
+-- The runs of the machine: any thread next, any choice of sleepers.
+use Rattle.std.specs.Prelude.{ℕ, ◌≡◌, List, [], ◌∷◌, Bool, true, false, Option, Some, None, is_some, ◌||◌}
+use Rattle.isa.specs.Programs.{Program}
+use Rattle.locals.specs.declared.exit.ExitPhase.TheVariants.{Ended}
+use Rattle.locals.specs.Threads.{Thread, Runs, Dies, Exits}
+use Rattle.locals.specs.Looks.{Look, Goes, Asks, Breaks, Rests, look}
+use Rattle.machine.specs.States.{State, opening_state, with_thread}
+use Rattle.machine.specs.Serving.{Serves}
+
+-- a step, by its thread and the sleepers that it woke; and whether the thread then sleeps or has ended
+pub record Step : Type 0 where
+  pub thread : ℕ
+  pub woken : List ℕ
+  pub pauses : Bool
+
+abbrev pub has_ended : Option Thread → Bool
+has_ended (Some (Exits Ended)) = true
+has_ended (Some (Exits phase)) = false
+has_ended (Some (Runs place operands callers)) = false
+has_ended (Some (Dies fault)) = false
+has_ended None = false
+
+-- the thread sleeps or has ended
+abbrev pub is_paused : State → ℕ → Bool
+is_paused s t = is_some (s.asleep t) || has_ended (s.thread t)
+
+-- what a thread that looks so does in one step
+abbrev pub Moves : State → ℕ → List ℕ → Look → State → Type 0
+Moves s t woken (Goes x) s' = (woken ≡ []) × (s' ≡ with_thread s t x)
+Moves s t woken (Asks request go) s' =
+    (answer : ℕ) × (mid : State) × Serves t request s woken answer mid × (s' ≡ with_thread mid t (go answer))
+Moves s t woken Breaks s' = ⊥
+Moves s t woken Rests s' = ⊥
+
+-- one step of a thread that was made and doesn't sleep
+pub record IsStep (p : Program) (s : State) (step : Step) (s' : State) : Type 0 where
+  pub thread : Thread
+  pub stands : s.thread step.thread ≡ Some thread
+  pub awake : s.asleep step.thread ≡ None
+  pub moves : Moves s step.thread step.woken (look p step.thread thread) s'
+  pub pauses : step.pauses ≡ is_paused s' step.thread
+
+-- steps from a state to another, one after another
+abbrev pub Goes_by : Program → State → List Step → State → Type 0
+Goes_by p s [] s' = s ≡ s'
+Goes_by p s (step ∷ steps) s' = (mid : State) × IsStep p s step mid × Goes_by p mid steps s'
+
+-- a run of the machine, from the opening state
+abbrev pub MachineRun : Program → List Step → State → Type 0
+MachineRun p steps s = Goes_by p (opening_state p) steps s
+
+-- the thread was made, doesn't sleep and has not ended
+pub record CanStep (s : State) (t : ℕ) : Type 0 where
+  pub thread : Thread
+  pub stands : s.thread t ≡ Some thread
+  pub awake : s.asleep t ≡ None
+  pub goes_on : has_ended (Some thread) ≡ false
+
+-- the thread's next step may not be: a missing operand, a 513th operand, or a place outside the code
+pub record NextIsBroken (p : Program) (s : State) (t : ℕ) : Type 0 where
+  pub thread : Thread
+  pub stands : s.thread t ≡ Some thread
+  pub awake : s.asleep t ≡ None
+  pub breaks : look p t thread ≡ Breaks

@@ -1,0 +1,66 @@
+-- A state of the machine: as what is kept, and as what it stands for.
+use Rattle.std.specs.Prelude.{ℕ, zero, suc, ◌==◌, List, [], ◌∷◌, length, slice_get, slice_index, slice_set, replicate, if◌then◌else◌, Option, Some, None, ℤ}
+use Rattle.isa.specs.Programs.{Program, memory_size}
+use Rattle.words.specs.Process.{process_word}
+use Rattle.locals.specs.Threads.{Thread, opening_thread}
+
+-- what threads share: the words, and the numbers printed
+pub record Common : Type 0 where
+  pub words : List ℕ
+  pub output : List ℤ
+
+-- what a machine keeps: threads by number, from 1
+pub record Kept : Type 0 where
+  pub common : Common
+  pub threads : List Thread
+
+-- a state: the word at each address below the size, each thread that was made, and where it sleeps, if it does
+pub record State : Type 0 where
+  pub word : ℕ → ℕ
+  pub size : ℕ
+  pub thread : ℕ → Option Thread
+  pub asleep : ℕ → Option ℕ
+  pub output : List ℤ
+
+-- another value at one place
+abbrev pub put : {A : Type 0} → (ℕ → A) → ℕ → A → ℕ → A
+put f i v j = if j == i then v else f j
+
+abbrev pub thread_at : List Thread → ℕ → Option Thread
+thread_at threads zero = None
+thread_at threads (suc t) = slice_get threads t
+
+abbrev pub thread_of : Kept → ℕ → Option Thread
+thread_of k t = thread_at k.threads t
+
+-- what is kept, as a state; in this fragment nobody sleeps
+abbrev pub state_of : Kept → State
+state_of k = record {
+  word = λ a. slice_index k.common.words a;
+  size = length k.common.words;
+  thread = thread_of k;
+  asleep = λ t. None;
+  output = k.common.output;
+}
+
+-- the first process stands at the start, and its id word is its number; all other words are 0
+abbrev pub opening_kept : Program → Kept
+opening_kept p = record {
+  common = record { words = slice_set (replicate (memory_size p) 0) 3 1; output = [] };
+  threads = opening_thread p.start ∷ [];
+}
+
+abbrev pub opening_state : Program → State
+opening_state p = record {
+  word = put (λ a. 0) (process_word 1 2) 1;
+  size = memory_size p;
+  thread = put (λ t. None) 1 (Some (opening_thread p.start));
+  asleep = λ t. None;
+  output = [];
+}
+
+abbrev pub with_thread : State → ℕ → Thread → State
+with_thread s t x = record s { thread = put s.thread t (Some x) }
+
+abbrev pub with_word : State → ℕ → ℕ → State
+with_word s a v = record s { word = put s.word a v }

@@ -1,0 +1,6 @@
+pub mod Grammar
+pub mod Accepts
+pub mod Reading
+pub mod Compiles
+pub mod Running
+pub mod Statuses

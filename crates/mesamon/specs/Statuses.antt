@@ -1,0 +1,13 @@
+-- The exit statuses.
+use Rattle.std.specs.Prelude.{ℕ}
+use Rattle.mesamon.specs.declared.status.Status.{Status}
+use Rattle.mesamon.specs.declared.status.Status.TheVariants.{Done, Refused, Usage, Stuck, Limit, Memory, Failed}
+
+abbrev pub status_code : Status → ℕ
+status_code Done = 0
+status_code Refused = 1
+status_code Usage = 2
+status_code Stuck = 3
+status_code Limit = 4
+status_code Memory = 5
+status_code Failed = 6

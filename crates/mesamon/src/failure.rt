@@ -1,0 +1,111 @@
+use crate::source_run::RunSourceFault;
+use crate::status::Status;
+use clap::error::ErrorKind;
+use runner::RunFault;
+use scanner::{Refusal, RefusalKind};
+use std::alloc::AllocError;
+use std::io;
+use thiserror::Error;
+
+/// Why a command was not done. It is shown as the line for standard error, or for `Usage` as lines.
+#[derive(Debug, Drop, Error)]
+pub enum Failure<'a> {
+    /// The words of the command line are no command, or ask for help.
+    #[error("{0}")]
+    Usage(clap::Error),
+    /// The file of this name could not be read.
+    #[error("cannot read {0}")]
+    Read(&'a str),
+    /// The file of this name could not be written.
+    #[error("cannot write {0}")]
+    Write(&'a str),
+    /// The source text was refused.
+    #[error("{0}")]
+    Refused(Refusal),
+    /// The run failed.
+    #[error("{0}")]
+    Run(RunFault),
+    /// Output could not be written.
+    #[error("cannot write output")]
+    Output,
+    /// There was no memory.
+    #[error("memory")]
+    Memory,
+}
+
+impl<'a> Failure<'a> {
+    /// The failure of reading a file.
+    pub fn of_read(name: &'a str, error: &io::Error) -> Failure<'a> {
+        if error.kind() == io::ErrorKind::OutOfMemory {
+            Failure::Memory
+        } else {
+            Failure::Read(name)
+        }
+    }
+
+    /// The failure of writing a file.
+    pub fn of_write(name: &'a str, error: &io::Error) -> Failure<'a> {
+        if error.kind() == io::ErrorKind::OutOfMemory {
+            Failure::Memory
+        } else {
+            Failure::Write(name)
+        }
+    }
+
+    /// The failure of writing output.
+    pub fn of_output(error: &io::Error) -> Failure<'a> {
+        if error.kind() == io::ErrorKind::OutOfMemory {
+            Failure::Memory
+        } else {
+            Failure::Output
+        }
+    }
+
+    /// How the command ended.
+    pub fn status(&self) -> Status {
+        match self {
+            Failure::Usage(_) => Status::Usage,
+            Failure::Refused(_) => Status::Refused,
+            Failure::Memory => Status::Memory,
+            Failure::Read(_) | Failure::Write(_) | Failure::Run(_) | Failure::Output => {
+                Status::Failed
+            }
+        }
+    }
+}
+
+impl From<clap::Error> for Failure<'_> {
+    fn from(error: clap::Error) -> Self {
+        if error.kind() == ErrorKind::OutOfMemory {
+            Failure::Memory
+        } else {
+            Failure::Usage(error)
+        }
+    }
+}
+
+impl From<Refusal> for Failure<'_> {
+    fn from(refusal: Refusal) -> Self {
+        if refusal.kind == RefusalKind::Memory {
+            Failure::Memory
+        } else {
+            Failure::Refused(refusal)
+        }
+    }
+}
+
+impl From<RunSourceFault> for Failure<'_> {
+    fn from(fault: RunSourceFault) -> Self {
+        match fault {
+            RunSourceFault::Refused(refusal) => Failure::from(refusal),
+            RunSourceFault::Run(RunFault::Memory) => Failure::Memory,
+            RunSourceFault::Run(fault) => Failure::Run(fault),
+        }
+    }
+}
+
+impl From<AllocError> for Failure<'_> {
+    fn from(_error: AllocError) -> Self {
+        Failure::Memory
+    }
+}

@@ -1,0 +1,16 @@
+ghost use Rattle.std.specs.Prelude.{◌≡◌, ℕ, List};
+ghost use Rattle.scanner.specs.declared.refusal.Refusal.{Refusal as RefusalOf};
+ghost use Rattle.sourcemeaning.specs.Programs.{Source};
+ghost use Rattle.mesamon.specs.Accepts.{Accepts, Fits, Refuses};
+
+use scanner::{fault_laws, token_laws};
+
+/// A text is at most one program and has at most one refusal, and a program whose code fits is not refused.
+pub fn text_laws()
+    ensures one_program { (text : List ℕ) (p q : Source) → Accepts text p → Accepts text q → p ≡ q }
+    ensures one_refusal { (text : List ℕ) (e f : RefusalOf) → Refuses text e → Refuses text f → e ≡ f }
+    ensures not_both { (text : List ℕ) (p : Source) (e : RefusalOf) → Accepts text p → Fits p → Refuses text e → ⊥ }
+{
+    token_laws();
+    fault_laws();
+}

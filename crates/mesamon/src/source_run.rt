@@ -1,0 +1,60 @@
+ghost use Rattle.std.specs.Prelude.{◌≡◌, IfOk, IfErr};
+ghost use Rattle.sourcemeaning.specs.Programs.{Source};
+ghost use Rattle.mesamon.specs.Accepts.{Accepts, Fits};
+ghost use Rattle.mesamon.specs.Running.{IsRunOf, IsRefusedRun, IsMemory};
+ghost use Rattle.mesamon.specs.declared.source_run.RunSourceFault.TheVariants.{Refused, Run};
+
+use crate::compiler::compile;
+use runner::{Report, RunFault, logs_are_machine_runs, run};
+use scanner::Refusal;
+use std::alloc::Global;
+use thiserror::Error;
+use words::Gate;
+
+/// Why a source text was not run to an end.
+#[derive(Clone, Copy, PartialEq, Eq, Debug, Error)]
+pub enum RunSourceFault {
+    /// The text is refused.
+    #[error("{0}")]
+    Refused(Refusal),
+    /// The run of its image is.
+    #[error("{0}")]
+    Run(RunFault),
+}
+
+impl From<Refusal> for RunSourceFault {
+    ghost from_gives = { λ e f. f ≡ Refused e };
+
+    fn from(refusal: Refusal) -> RunSourceFault {
+        RunSourceFault::Refused(refusal)
+    }
+}
+
+impl From<RunFault> for RunSourceFault {
+    ghost from_gives = { λ e f. f ≡ Run e };
+
+    fn from(fault: RunFault) -> RunSourceFault {
+        RunSourceFault::Run(fault)
+    }
+}
+
+/// Compiles a source text and runs its image within a limit of steps, as `run` does. The gate is passed before each
+/// entry of the log, with the number of its thread.
+///
+/// Some run of the text's program explains the report: it has the same output and the same ends of processes, and where
+/// no thread can move, none of its processes can. A text that `compile` refuses has the same refusal. The run's own fault is `Memory`, or `Broken` where some legal
+/// log of the text's code leads to a step that may not be.
+pub fn run_source<G: Gate>(
+    alloc: Global,
+    text: &[u8],
+    limit: u32,
+    gate: &G,
+) -> Result<Report, RunSourceFault>
+    ensures report { IfOk result (λ report. IsRunOf text.now limit report) }
+    ensures fault { IfErr result (λ fault. IsRefusedRun text.now fault) }
+    ensures only { (p : Source) → Accepts text.now p → Fits p → IfErr result (λ fault. IsMemory fault) }
+{
+    logs_are_machine_runs();
+    let image = compile(alloc, text)?;
+    Ok(run(alloc, &image, limit, gate)?)
+}

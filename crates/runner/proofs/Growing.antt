@@ -1,0 +1,70 @@
+-- A piece that came in is an entry of the log.
+use Rattle.std.proofs.Common.{◌≡◌, ℕ, ◌+◌, List, [], ◌∷◌, ◌++◌, Option, Some, None, Result, Ok, Err, is_some, refl, ap, sym, ◌∙◌, arith, subst}
+use Rattle.std.proofs.lemmas.List.Sums.{sum_by-append}
+use mir.Val.{bool_byte}
+use Rattle.isa.specs.Programs.{Program}
+use Rattle.locals.specs.Threads.{Thread}
+use Rattle.locals.specs.Steps.{local_step, local_after}
+use Rattle.machine.specs.declared.event.Event.{Event}
+use Rattle.machine.specs.declared.event.Entry.{Entry}
+use Rattle.machine.specs.declared.event.StepFault.{StepFault}
+use Rattle.machine.specs.States.{Kept, thread_of, opening_kept}
+use Rattle.machine.specs.Fronts.{step_of, put_thread}
+use Rattle.runner.specs.Views.{Away, Held}
+use Rattle.runner.specs.Logs.{Runs, Enters, Ends, event_cost, cost}
+use Rattle.runner.specs.Entries.{handed, handed_by, IsFine}
+use Rattle.runner.specs.Legal.{IsLegal}
+use Rattle.runner.proofs.Going.{runs_more}
+
+abbrev pub entry : ℕ → ℕ → Option Event → Entry
+entry t n e = record { thread = t; local = n; event = e }
+
+pub inside : (x y : Kept × Option Event) → (let R : Type 0 = Result (Kept × Option Event) StepFault in (let a : R = Ok x in a) ≡ (let b : R = Ok y in b)) → x ≡ y
+inside x y h = cc
+
+ends_by : (p : Program) (there : Kept) (t : ℕ) (here : Thread) (new : Kept) (event : Option Event) (r : Result (Kept × Event) StepFault) (ls : Option Thread)
+    → local_step p t here ≡ ls → step_of p there t ≡ r → handed_by there r ls ≡ Ok (new, event) → Ends p there t here event new
+ends_by p there t here new None r (Some to) is st h = sym (ap (λ (q : Kept × Option Event). q.0) (inside _ _ h))
+ends_by p there t here new (Some e) r (Some to) is st h = absurd (cc (ap (λ (q : Kept × Option Event). q.1) (inside _ _ h)))
+ends_by p there t here new None (Ok x) None is st h = absurd (cc (ap (λ (q : Kept × Option Event). q.1) (inside _ _ h)))
+ends_by p there t here new (Some e) (Ok x) None is st h =
+    let n : x.0 ≡ new = ap (λ (q : Kept × Option Event). q.0) (inside _ _ h) in
+    let o : Some x.1 ≡ Some e = ap (λ (q : Kept × Option Event). q.1) (inside _ _ h) in
+    let v : x.1 ≡ e = cc in
+    (is, st ∙ (λ i. Ok (n i, v i)))
+ends_by p there t here new event (Err f) None is st h = absurd cc
+
+pub enters : (p : Program) (k new : Kept) (t count : ℕ) (o here : Thread) (event : Option Event) → thread_of k t ≡ Some o → local_after p t count o ≡ Some here → handed p k t here ≡ Ok (new, event) → Enters p k (entry t count event) new
+enters p k new t count o here event stands goes gives =
+    record { origin = o; here = here; stands = stands; goes = goes; ends = ends_by p (put_thread k t here) t here new event _ _ refl refl gives }
+
+pub cost_more : (es : List Entry) (t n : ℕ) (e : Option Event) → cost (es ++ entry t n e ∷ []) ≡ cost es + (n + event_cost e)
+cost_more es t n e = omega (arith, sum_by-append (λ (x : Entry). x.local + event_cost x.event) es (entry t n e ∷ []))
+
+event_byte : (e : Option Event) → event_cost e ≡ bool_byte (is_some e)
+event_byte None = refl
+event_byte (Some e) = refl
+
+-- one event comes of a piece
+pub same_event : (r : Result (Kept × Option Event) StepFault) (k k' : Kept) (e e' : Option Event) → r ≡ Ok (k, e) → r ≡ Ok (k', e') → e ≡ e'
+same_event r k k' e e' a b = ap (λ (q : Kept × Option Event). q.1) (inside _ _ (sym a ∙ b))
+
+pub keeps : (p q q' : Program) (limit : ℕ) (h : Held) (log : List Entry) (new : Kept) (a : Away) (t steps limited extra : ℕ) (event : Option Event)
+    → q' ≡ q → IsLegal p limit q h.kept h.log steps limited → local_after p a.thread a.count a.origin ≡ Some a.here
+    → IsFine p limit h t a → handed q h.kept t a.here ≡ Ok (new, event) → log ≡ h.log ++ entry t a.count event ∷ [] → extra ≡ bool_byte (is_some event)
+    → IsLegal p limit q' new log (steps + (a.count + extra)) limited
+keeps p q q' limit h log new a t steps limited extra event is' legal goes fine gives grows is_extra =
+    let gives' : handed p h.kept t a.here ≡ Ok (new, event) = ap (λ x. handed x h.kept t a.here) (sym legal.program) ∙ gives in
+    let goes' : local_after p t a.count a.origin ≡ Some a.here = ap (λ k. local_after p k a.count a.origin) (sym fine.stands.0) ∙ goes in
+    let same : fine.event ≡ event = same_event _ _ _ _ _ fine.gives gives' in
+    let costs : event_cost fine.event ≡ extra = ap event_cost same ∙ event_byte event ∙ sym is_extra in
+    let all : cost log ≡ cost h.log + (a.count + event_cost event) = ap cost grows ∙ cost_more h.log t a.count event in
+    let here : event_cost event ≡ extra = event_byte event ∙ sym is_extra in
+    let runs' = runs_more p (opening_kept p) h.kept new h.log (entry t a.count event) legal.legal (enters p h.kept new t a.count a.origin a.here event fine.stands.1 goes' gives') in
+    record {
+      program = is' ∙ legal.program;
+      legal = (let P : List Entry → Type 0 = λ l. Runs p (opening_kept p) l new in subst P (sym grows) runs');
+      counted = omega (arith, legal.counted);
+      limit_is = legal.limit_is;
+      within = omega (arith, fine.within, legal.counted, legal.limit_is);
+    }

@@ -1,0 +1,5 @@
+pub mod Going
+pub mod Handing
+pub mod Growing
+pub mod Passing
+pub mod Unrolling

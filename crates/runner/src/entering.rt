@@ -1,0 +1,52 @@
+ghost use Rattle.std.specs.Prelude.{◌≡◌, ◌≤◌, ◌<◌, ◌++◌, ◌∷◌, [], true, Ok, IfOk, OnErr, IsOk, length};
+ghost use Rattle.machine.specs.Fronts.{can_move};
+ghost use Rattle.runner.specs.Entries.{handed};
+
+use locals::Local;
+use machine::{Entry, Event, Machine};
+use std::alloc::{AllocError, Global};
+
+/// Takes in where thread `t` has come after `count` local steps, as one entry of the log.
+pub fn enter(
+    machine: &mut Machine,
+    log: &mut Vec<Entry>,
+    t: u32,
+    here: Local,
+    count: u32,
+) -> Result<Option<Event>, AllocError>
+    requires thread { can_move machine.old.kept t ≡ true }
+    requires fine { IsOk (handed machine.old.program machine.old.kept t here) }
+    ensures gives { IfOk result (λ event. handed machine.old.program machine.old.kept t here ≡ Ok (machine.new.kept, event)) }
+    ensures log { IfOk result (λ event. log.new.items ≡ log.old.items ++ record { thread = t; local = count; event = event } ∷ []) }
+    ensures err { OnErr result ((machine.new.kept ≡ machine.old.kept) × (log.new.items ≡ log.old.items)) }
+    ensures program { machine.new.program ≡ machine.old.program }
+{
+    log.reserve(1)?;
+    machine.make_room(1)?;
+    let event = hand_in(machine, t, here);
+    log.push_reserved(Entry {
+        thread: t,
+        local: count,
+        event,
+    });
+    Ok(event)
+}
+
+// Puts a thread where it has come, and takes the shared step that it stands before, if any.
+fn hand_in(machine: &mut Machine, t: u32, here: Local) -> Option<Event>
+    requires thread { can_move machine.old.kept t ≡ true }
+    requires fine { IsOk (handed machine.old.program machine.old.kept t here) }
+    requires room { 1 ≤ machine.old.room }
+    ensures gives { handed machine.old.program machine.old.kept t here ≡ Ok (machine.new.kept, result) }
+    ensures program { machine.new.program ≡ machine.old.program }
+{
+    let turn = machine.is_before_local(t, &here);
+    machine.put_local(t, here);
+    if turn {
+        return None;
+    }
+    match machine.step(t) {
+        Ok(event) => Some(event),
+        Err(_) => unreachable!(),
+    }
+}

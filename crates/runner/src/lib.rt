@@ -1,0 +1,25 @@
+//! Threads that make entries in one log, on one machine.
+#![tactic(auto)]
+
+mod entering;
+mod fault;
+mod laws;
+mod naming;
+mod next;
+mod piece;
+mod report;
+mod rounds;
+mod running;
+mod shared;
+
+pub use fault::RunFault;
+pub use laws::logs_are_machine_runs;
+pub use naming::RunName;
+pub use next::Next;
+pub use piece::{Piece, TURN};
+pub use report::{Report, Verdict};
+pub use running::run;
+pub use shared::Shared;
+
+#[cfg(test)]
+mod tests;

@@ -1,0 +1,19 @@
+use std::marker::Brand;
+
+/// The name of one run, with the program that it runs and its limit of steps. The caller picks it at one call.
+pub trait RunName {
+    ghost use Rattle.std.specs.Prelude.{ℕ};
+    ghost use Rattle.isa.specs.Programs.{Program};
+
+    ghost program: { Program };
+
+    ghost limit: { ℕ };
+}
+
+impl RunName for Brand {
+    ghost use Rattle.std.specs.Prelude.{[]};
+
+    ghost program = { record { monitors = []; start = 0; code = [] } };
+
+    ghost limit = { 0 };
+}

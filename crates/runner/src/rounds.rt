@@ -1,0 +1,87 @@
+ghost use Rattle.std.specs.Prelude.{◌≡◌, ◌≤◌, ◌<◌, ℕ, length, true, false, IfOk, IfErr, OnOk};
+ghost use Rattle.machine.specs.Fronts.{can_move};
+ghost use Rattle.runner.specs.Logs.{cost};
+ghost use Rattle.runner.specs.Reports.{CanFail, PassesLimit};
+ghost use Rattle.runner.specs.Rounds.{AllPast, Idle};
+
+use crate::fault::RunFault;
+use crate::naming::RunName;
+use crate::shared::Shared;
+use isa::Image;
+use machine::MOST_THREADS;
+use words::Gate;
+
+/// Makes entries, round after round, until no thread can make one. A round goes through the threads by rising number,
+/// those made in the round included. A thread that was refused with `Limit` is passed over from then on.
+pub fn run_rounds<J: RunName, G: Gate>(
+    shared: &mut Shared<J>,
+    image: &Image,
+    gate: &G,
+) -> Result<(), RunFault>
+    requires image { image.now ≡ J.program }
+    ensures ok { OnOk result (Idle J.program J.limit shared.new) }
+    ensures err { IfErr result (λ fault. CanFail J.program fault) }
+{
+    let mut refused = [false; MOST_THREADS as usize + 1];
+    while run_round(shared, &mut refused, image, gate)? {}
+    Ok(())
+}
+
+// Makes an entry for each thread that can move and wasn't refused before. Says whether it made any.
+fn run_round<J: RunName, G: Gate>(
+    shared: &mut Shared<J>,
+    refused: &mut [bool],
+    image: &Image,
+    gate: &G,
+) -> Result<bool, RunFault>
+    requires image { image.now ≡ J.program }
+    requires room { length refused.old ≡ 65 }
+    requires past { AllPast J.program J.limit shared.old refused.old }
+    ensures past { OnOk result (AllPast J.program J.limit shared.new refused.new) }
+    ensures made { IfOk result (λ made. made ≡ true → (cost shared.old.log < cost shared.new.log) × (cost shared.new.log ≤ J.limit)) }
+    ensures none { IfOk result (λ made. made ≡ false → Idle J.program J.limit shared.new) }
+    ensures err { IfErr result (λ fault. CanFail J.program fault) }
+{
+    let mut made = false;
+    let mut t = 1;
+    while t <= shared.machine().threads() {
+        made |= make_entry(shared, refused, image, gate, t)?;
+        t += 1;
+    }
+    Ok(made)
+}
+
+// Makes the next entry of thread `t`, if it can move and wasn't refused before. Says whether it did.
+fn make_entry<J: RunName, G: Gate>(
+    shared: &mut Shared<J>,
+    refused: &mut [bool],
+    image: &Image,
+    gate: &G,
+    t: u32,
+) -> Result<bool, RunFault>
+    requires image { image.now ≡ J.program }
+    requires room { length refused.old ≡ 65 }
+    requires thread { (0 < t) × (t ≤ 64) }
+    requires past { AllPast J.program J.limit shared.old refused.old }
+    ensures past { OnOk result (AllPast J.program J.limit shared.new refused.new) }
+    ensures made { IfOk result (λ made. made ≡ true → (cost shared.old.log < cost shared.new.log) × (cost shared.new.log ≤ J.limit)) }
+    ensures none { IfOk result (λ made. made ≡ false → (shared.new ≡ shared.old) × (can_move shared.new.kept t ≡ true → PassesLimit J.program J.limit shared.new.log shared.new.kept t)) }
+    ensures err { IfErr result (λ fault. CanFail J.program fault) }
+{
+    if refused[t as usize] {
+        return Ok(false);
+    }
+    let Some(piece) = shared.piece(t) else {
+        return Ok(false);
+    };
+    let piece = piece.run(image);
+    gate.pass(t);
+    match shared.step(t, piece) {
+        Ok(_) => Ok(true),
+        Err(RunFault::Limit) => {
+            refused[t as usize] = true;
+            Ok(false)
+        }
+        Err(fault) => Err(fault),
+    }
+}

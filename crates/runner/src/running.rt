@@ -1,0 +1,70 @@
+ghost use Rattle.std.specs.Prelude.{◌≡◌, IfOk, IfErr};
+ghost use Rattle.runner.specs.Reports.{IsReport, CanFail};
+ghost use Rattle.runner.specs.Rounds.{IsEnd};
+
+use crate::fault::RunFault;
+use crate::naming::RunName;
+use crate::report::{Report, Verdict};
+use crate::rounds::run_rounds;
+use crate::shared::Shared;
+use isa::Image;
+use machine::Machine;
+use std::alloc::Global;
+use std::marker::Brand;
+use words::Gate;
+
+/// Runs an image on the calling thread, within a limit of steps, from 0 to 2^32 - 1. The gate is passed with a
+/// thread's number before each entry of it.
+///
+/// It makes entries round after round. A round goes through the threads by rising number, those made in the round
+/// included, and makes one entry for each that can move; one whose entry would pass the limit is passed over from then
+/// on.
+///
+/// Refuses only with `Broken`, where some legal log leads to a step that may not be, and with `Memory`.
+pub fn run<G: Gate>(alloc: Global, image: &Image, limit: u32, gate: &G) -> Result<Report, RunFault>
+    ensures ok { IfOk result (λ report. IsReport image.now limit report) }
+    ensures err { IfErr result (λ fault. CanFail image.now fault) }
+{
+    run_as::<Brand, G>(alloc, image, limit, gate)
+}
+
+fn run_as<J: RunName, G: Gate>(
+    alloc: Global,
+    image: &Image,
+    limit: u32,
+    gate: &G,
+) -> Result<Report, RunFault>
+    requires image { image.now ≡ J.program }
+    requires limit { limit ≡ J.limit }
+    ensures ok { IfOk result (λ report. IsReport J.program J.limit report) }
+    ensures err { IfErr result (λ fault. CanFail J.program fault) }
+{
+    let Ok(mut shared) = Shared::<J>::new(alloc, image, limit) else {
+        return Err(RunFault::Memory);
+    };
+    run_rounds(&mut shared, image, gate)?;
+    let Ok(output) = Vec::from_slice(alloc, shared.machine().output()) else {
+        return Err(RunFault::Memory);
+    };
+    let verdict = verdict_of(shared.machine());
+    let (log, last) = shared.into_parts();
+    Ok(Report {
+        output,
+        log,
+        verdict,
+        last,
+    })
+}
+
+// What the machine says of the end of a run.
+fn verdict_of(machine: &Machine) -> Verdict
+    ensures { IsEnd machine.now.kept result }
+{
+    if !machine.quiet() {
+        Verdict::Limit
+    } else if machine.all_ended() {
+        Verdict::Done
+    } else {
+        Verdict::Stuck
+    }
+}

@@ -1,0 +1,175 @@
+ghost use Rattle.std.specs.Prelude.{◌≡◌, ◌≢◌, ◌≤◌, ◌<◌, ◌+◌, [], length, true, false, Some, None, Ok, IfOk, IfErr, IfSome, IfNone, MatchBool, MatchOption};
+ghost use Rattle.machine.specs.States.{thread_of, opening_kept};
+ghost use Rattle.machine.specs.Fronts.{can_move};
+ghost use Rattle.runner.specs.Logs.{Runs, cost};
+ghost use Rattle.runner.specs.Entries.{Takes, Refuses, IsFine, Stands};
+ghost use Rattle.runner.specs.Nexts.{IsNext};
+
+use crate::entering::enter;
+use crate::fault::RunFault;
+use crate::naming::RunName;
+use crate::next::Next;
+use crate::piece::Piece;
+use isa::Image;
+use machine::{Entry, Machine, StepFault};
+use std::alloc::{AllocError, Global};
+use std::marker::{Model, PhantomData};
+
+/// The machine of run `J` and its log. Its type keeps that the log is legal for the run's program, that the machine is
+/// where the log leads, and that the log's cost is within the run's limit.
+#[derive(Drop)]
+pub struct Shared<J: RunName> {
+    machine: Machine,
+    log: Vec<Entry>,
+    steps: u32,
+    limit: u32,
+    of: PhantomData<J>,
+}
+
+impl<J: RunName> Model for Shared<J> {
+    ghost use Rattle.runner.specs.Views.{Held};
+    ghost use Rattle.runner.specs.Legal.{IsLegal};
+
+    ghost Value = { Held };
+
+    ghost view = { λ s. record { log = s.log.items; kept = s.machine.kept } };
+
+    ghost invariant = { λ s. IsLegal J.program J.limit s.machine.program s.machine.kept s.log.items s.steps s.limit };
+}
+
+impl<J: RunName> Shared<J> {
+    /// A machine at the start of the run's image, with an empty log.
+    pub fn new(alloc: Global, image: &Image, limit: u32) -> Result<Shared<J>, AllocError>
+        requires image { image.now ≡ J.program }
+        requires limit { limit ≡ J.limit }
+        ensures { IfOk result (λ s. (s.log ≡ []) × (s.kept ≡ opening_kept J.program)) }
+    {
+        Ok(Shared {
+            machine: Machine::new(alloc, image)?,
+            log: Vec::new(alloc),
+            steps: 0,
+            limit,
+            of: PhantomData,
+        })
+    }
+
+    /// The machine, which is where the log leads.
+    pub fn machine(&self) -> &Machine
+        ensures kept { result.now.kept ≡ self.now.kept }
+        ensures program { result.now.program ≡ J.program }
+        ensures legal { Runs J.program (opening_kept J.program) self.now.log self.now.kept }
+    {
+        &self.machine
+    }
+
+    /// The log.
+    pub fn log(&self) -> &[Entry]
+        ensures value { result.now ≡ self.now.log }
+        ensures legal { Runs J.program (opening_kept J.program) self.now.log self.now.kept }
+    {
+        self.log.as_slice()
+    }
+
+    /// How many steps were taken: the cost of the log.
+    pub fn steps(&self) -> u32
+        ensures value { result ≡ cost self.now.log }
+        ensures within { result ≤ J.limit }
+    {
+        self.steps
+    }
+
+    /// What a run leaves: its log and its machine.
+    pub fn into_parts(self) -> (Vec<Entry>, Machine)
+        ensures log { result.0.items ≡ self.log }
+        ensures kept { result.1.kept ≡ self.kept }
+        ensures program { result.1.program ≡ J.program }
+        ensures legal { Runs J.program (opening_kept J.program) self.log self.kept }
+        ensures within { cost self.log ≤ J.limit }
+    {
+        let Shared { log, machine, .. } = self;
+        (log, machine)
+    }
+
+    /// The piece that thread `t` goes on from, if it can move.
+    pub fn piece(&self, t: u32) -> Option<Piece<J>>
+        ensures some { IfSome result (λ p. (p.thread ≡ t) × (p.count ≡ 0) × (p.here ≡ p.origin) × (thread_of self.now.kept t ≡ Some p.origin)) }
+        ensures variant { MatchOption result (can_move self.now.kept t ≡ false) (λ _. can_move self.now.kept t ≡ true) }
+    {
+        if !self.machine.can_move(t) {
+            return None;
+        }
+        let local = self.machine.local(t);
+        Some(Piece {
+            thread: t,
+            origin: local.again(),
+            here: local.again(),
+            count: 0,
+            of: PhantomData,
+        })
+    }
+
+    /// Takes in what thread `t` did, as one entry of the log: the piece's local steps, and the shared step that it
+    /// stands before, if any.
+    ///
+    /// Refuses in this order: `Stray`, `CannotMove`, `Broken`, `Limit`, `Memory`; then nothing has changed.
+    pub fn step(&mut self, t: u32, piece: Piece<J>) -> Result<Next<J>, RunFault>
+        ensures ok { IfOk result (λ next. Takes J.program J.limit self.old t piece self.new × IsNext self.new.kept t next) }
+        ensures err { IfErr result (λ fault. (self.new ≡ self.old) × Refuses J.program J.limit self.old t piece fault) }
+        ensures legal { Runs J.program (opening_kept J.program) self.new.log self.new.kept }
+    {
+        if let Some(fault) = self.refusal(t, &piece) {
+            return Err(fault);
+        }
+        let Piece { here, count, .. } = piece;
+        let Ok(event) = enter(&mut self.machine, &mut self.log, t, here, count) else {
+            return Err(RunFault::Memory);
+        };
+        self.steps += count + u32::from(event.is_some());
+        Ok(self.next(t))
+    }
+
+    // What thread `t` does next.
+    fn next(&self, t: u32) -> Next<J>
+        ensures next { IsNext self.now.kept t result }
+        ensures legal { Runs J.program (opening_kept J.program) self.now.log self.now.kept }
+    {
+        match self.piece(t) {
+            Some(piece) => Next::Go(piece),
+            None if self.machine.has_ended(t) => Next::End,
+            None => Next::Sleep,
+        }
+    }
+
+    // Why the piece is refused, if not for memory.
+    fn refusal(&self, t: u32, piece: &Piece<J>) -> Option<RunFault>
+        ensures some { IfSome result (λ fault. Refuses J.program J.limit self.now t piece.now fault) }
+        ensures none { IfNone result (IsFine J.program J.limit self.now t piece.now) }
+    {
+        if !self.stands(t, piece) {
+            return Some(RunFault::Stray);
+        }
+        if !self.machine.can_move(t) {
+            return Some(RunFault::CannotMove);
+        }
+        match self.machine.refusal_at(t, &piece.here) {
+            Some(StepFault::Broken) => return Some(RunFault::Broken),
+            Some(StepFault::CannotMove) => return Some(RunFault::CannotMove),
+            None => {}
+        }
+        let shared = !self.machine.is_before_local(t, &piece.here);
+        if self.limit - self.steps < piece.count + u32::from(shared) {
+            return Some(RunFault::Limit);
+        }
+        None
+    }
+
+    // Whether the piece is the thread's, and began where the thread is.
+    fn stands(&self, t: u32, piece: &Piece<J>) -> bool
+        ensures { MatchBool result (Stands self.now t piece.now) (Stands self.now t piece.now → ⊥) }
+    {
+        piece.thread == t
+            && t > 0
+            && t <= self.machine.threads()
+            && self.machine.local(t).is(&piece.origin)
+    }
+}

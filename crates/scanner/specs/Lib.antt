@@ -1,0 +1,9 @@
+pub mod Bytes
+pub mod Faults
+pub mod Gaps
+pub mod Joined
+pub mod Lexemes
+pub mod Places
+pub mod Refusals
+pub mod Steps
+pub mod Tokens

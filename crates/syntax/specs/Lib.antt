@@ -1,0 +1,6 @@
+pub mod Lexeme
+pub mod Tree
+pub mod Spelling
+pub mod Nesting
+pub mod View
+pub mod Whole

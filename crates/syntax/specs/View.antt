@@ -1,0 +1,214 @@
+-- What the trees of the code say, without pointers.
+use Rattle.std.specs.Prelude.{List, [], ◌∷◌, Option, Some, None, map, Vec}
+use Rattle.std.specs.Global.{Global}
+use Rattle.std.specs.Prelude.{Box}
+use Rattle.syntax.specs.declared.leaf.Name.{Name}
+use Rattle.syntax.specs.declared.expression.Factor.TheBlock.{Number, Truth, Variable as VariableFactor, Group', Minus', Not', struct-Comparison, struct-Conjunction, struct-Expression, struct-Relation, struct-Sum, struct-Summand, struct-Term, struct-Variable, Row_of-Relation, end_of-Relation, more_of-Relation, Row_of-Conjunction, end_of-Conjunction, more_of-Conjunction, Held-Relation-comparison, Relation-comparison-None', Relation-comparison-Some', Row_of-Summand, end_of-Summand, more_of-Summand, Row_of-Multiplier, end_of-Multiplier, more_of-Multiplier, Held-Variable-index, Variable-index-None', Variable-index-Some'}
+use Rattle.syntax.specs.declared.expression.Expression.{Expression}
+use Rattle.syntax.specs.declared.expression.Conjunction.{Conjunction}
+use Rattle.syntax.specs.declared.expression.Relation.{Relation}
+use Rattle.syntax.specs.declared.expression.Comparison.{Comparison}
+use Rattle.syntax.specs.declared.expression.Sum.{Sum}
+use Rattle.syntax.specs.declared.expression.Summand.{Summand}
+use Rattle.syntax.specs.declared.expression.Term.{Term}
+use Rattle.syntax.specs.declared.expression.Multiplier.{Multiplier}
+use Rattle.syntax.specs.declared.expression.Factor.{Factor}
+use Rattle.syntax.specs.declared.expression.Variable.{Variable}
+use Rattle.syntax.specs.declared.statement.Callee.{Callee}
+use Rattle.syntax.specs.declared.statement.Statement.{Statement}
+use Rattle.syntax.specs.declared.statement.Statement.TheBlock.{Assign as Assign', If', While', Call as Call', Fork as Fork', Join', Return as Return', Wait as Wait', Notify as Notify', Broadcast as Broadcast', Print as Print', Abort as Abort', Row_of-Statement, end_of-Statement, more_of-Statement, Held-Statement-If-3, None', Some'}
+use Rattle.syntax.specs.declared.declaration.Local.{Local}
+use Rattle.syntax.specs.declared.declaration.Parameter.{Parameter}
+use Rattle.syntax.specs.declared.declaration.Member.{Member}
+use Rattle.syntax.specs.declared.declaration.Body.{Body}
+use Rattle.syntax.specs.declared.declaration.Procedure.{Procedure}
+use Rattle.syntax.specs.declared.declaration.MonitorProcedure.{MonitorProcedure}
+use Rattle.syntax.specs.declared.declaration.Recover.{Recover}
+use Rattle.syntax.specs.declared.declaration.Monitor.{Monitor}
+use Rattle.syntax.specs.declared.declaration.Main.{Main}
+use Rattle.syntax.specs.Lexeme.{NameTree}
+use Rattle.syntax.specs.Tree.{ExpressionTree, AnyOf, ConjunctionTrees, NoConjunctions, OrElse, ConjunctionTree, AllOf, RelationTrees, NoRelations, AndAlso, RelationTree, Relates, ComparisonTree, NoComparison, Compares, SumTree, Total, SummandTrees, NoSummands, Adds, TermTree, Product, MultiplierTrees, NoMultipliers, Scales, FactorTree, Constant, Truthful, Reads, Group, Minus, Not, IndexTree, NoIndex, At, VariableTree, CalleeTree, StatementTree, Assign, If, While, Call, Fork, Join, Return, Wait, Notify, Broadcast, Print, Abort, StatementTrees, NoStatements, Then, PartTree, NoPart, Part, LocalTree, ParameterTree, MemberTree, BodyTree, ProcedureTree, MonitorProcedureTree, RecoverTree, MonitorTree, UnitTree}
+
+abbrev pub name_of : Name → NameTree
+name_of n = record { text = n.text.now; place = n.place }
+
+abbrev mutual
+  pub expression_of : Expression → ExpressionTree
+  expression_of (struct-Expression c n row) = AnyOf (conjunction_of c) (conjunctions_of row)
+
+  pub conjunctions_of : {n : _} → Row_of-Conjunction n → ConjunctionTrees
+  conjunctions_of end_of-Conjunction = NoConjunctions
+  conjunctions_of (more_of-Conjunction c row) = OrElse (conjunction_of c) (conjunctions_of row)
+
+  pub conjunction_of : Conjunction → ConjunctionTree
+  conjunction_of (struct-Conjunction r n row) = AllOf (relation_of r) (relations_of row)
+
+  pub relations_of : {n : _} → Row_of-Relation n → RelationTrees
+  relations_of end_of-Relation = NoRelations
+  relations_of (more_of-Relation r row) = AndAlso (relation_of r) (relations_of row)
+
+  pub relation_of : Relation → RelationTree
+  relation_of (struct-Relation s c) = Relates (sum_of s) (comparison_of c)
+
+  pub comparison_of : Held-Relation-comparison → ComparisonTree
+  comparison_of Relation-comparison-None' = NoComparison
+  comparison_of (Relation-comparison-Some' c) = compared_of c
+
+  pub compared_of : Comparison → ComparisonTree
+  compared_of (struct-Comparison op s) = Compares op (sum_of s)
+
+  pub sum_of : Sum → SumTree
+  sum_of (struct-Sum t n row) = Total (term_of t) (summands_of row)
+
+  pub summands_of : {n : _} → Row_of-Summand n → SummandTrees
+  summands_of end_of-Summand = NoSummands
+  summands_of (more_of-Summand s row) = summand_of s (summands_of row)
+
+  pub summand_of : Summand → SummandTrees → SummandTrees
+  summand_of (struct-Summand op place t) later = Adds op place (term_of t) later
+
+  pub term_of : Term → TermTree
+  term_of (struct-Term f n row) = Product (factor_of f) (multipliers_of row)
+
+  pub multipliers_of : {n : _} → Row_of-Multiplier n → MultiplierTrees
+  multipliers_of end_of-Multiplier = NoMultipliers
+  multipliers_of (more_of-Multiplier op f row) = Scales op (factor_of f) (multipliers_of row)
+
+  pub factor_of : Factor → FactorTree
+  factor_of (Number n) = Constant n
+  factor_of (Truth t) = Truthful t
+  factor_of (VariableFactor v) = read_of v
+  factor_of (Group' place p e) = Group place (expression_of e)
+  factor_of (Minus' place p f) = Minus place (factor_of f)
+  factor_of (Not' place p f) = Not place (factor_of f)
+
+  pub read_of : Variable → FactorTree
+  read_of (struct-Variable name index) = Reads (name_of name) (index_of index)
+
+  pub index_of : Held-Variable-index → IndexTree
+  index_of Variable-index-None' = NoIndex
+  index_of (Variable-index-Some' p e) = At (expression_of e)
+
+abbrev pub variable_of : Variable → VariableTree
+variable_of (struct-Variable name index) = record { name = name_of name; index = index_of index }
+
+abbrev pub option_name : Option Name → Option NameTree
+option_name None = None
+option_name (Some n) = Some (name_of n)
+
+abbrev pub option_expression : Option Expression → Option ExpressionTree
+option_expression None = None
+option_expression (Some e) = Some (expression_of e)
+
+-- the first name of a callee, and the name after a dot: of a monitor and a procedure, or of a procedure alone
+abbrev pub first_name : Option Name → Name → NameTree
+first_name None procedure = name_of procedure
+first_name (Some monitor) procedure = name_of monitor
+
+abbrev pub dotted_name : Option Name → Name → Option NameTree
+dotted_name None procedure = None
+dotted_name (Some monitor) procedure = Some (name_of procedure)
+
+abbrev pub callee_of : Callee → CalleeTree
+callee_of c = record { name = first_name c.monitor c.procedure; dotted = dotted_name c.monitor c.procedure; open_place = c.open_place; arguments = map expression_of c.arguments.items }
+
+abbrev mutual
+  pub statement_of : Statement → StatementTree
+  statement_of (Assign' v e) = Assign (variable_of v) (expression_of e)
+  statement_of (If' place e n ss part) = If place (expression_of e) (statements_of ss) (part_of part)
+  statement_of (While' place e n ss) = While place (expression_of e) (statements_of ss)
+  statement_of (Call' place c into) = Call place (callee_of c) (option_name into)
+  statement_of (Fork' place c into) = Fork place (callee_of c) (name_of into)
+  statement_of (Join' place e into part) = Join place (expression_of e) (option_name into) (part_of part)
+  statement_of (Return' place value) = Return place (option_expression value)
+  statement_of (Wait' place name) = Wait place (name_of name)
+  statement_of (Notify' place name) = Notify place (name_of name)
+  statement_of (Broadcast' place name) = Broadcast place (name_of name)
+  statement_of (Print' place e) = Print place (expression_of e)
+  statement_of (Abort' place) = Abort place
+
+  pub statements_of : {n : _} → Row_of-Statement n → StatementTrees
+  statements_of end_of-Statement = NoStatements
+  statements_of (more_of-Statement s row) = Then (statement_of s) (statements_of row)
+
+  pub part_of : Held-Statement-If-3 → PartTree
+  part_of None' = NoPart
+  part_of (Some' n row) = Part (statements_of row)
+
+-- the same of the elements of a `Vec`, before others
+abbrev pub conjunctions_before : List Conjunction → ConjunctionTrees → ConjunctionTrees
+conjunctions_before [] later = later
+conjunctions_before (c ∷ cs) later = OrElse (conjunction_of c) (conjunctions_before cs later)
+
+abbrev pub conjunctions_in : List Conjunction → ConjunctionTrees
+conjunctions_in cs = conjunctions_before cs NoConjunctions
+
+abbrev pub relations_before : List Relation → RelationTrees → RelationTrees
+relations_before [] later = later
+relations_before (r ∷ rs) later = AndAlso (relation_of r) (relations_before rs later)
+
+abbrev pub relations_in : List Relation → RelationTrees
+relations_in rs = relations_before rs NoRelations
+
+abbrev pub summands_before : List Summand → SummandTrees → SummandTrees
+summands_before [] later = later
+summands_before (s ∷ ss) later = summand_of s (summands_before ss later)
+
+abbrev pub summands_in : List Summand → SummandTrees
+summands_in ss = summands_before ss NoSummands
+
+abbrev pub multipliers_before : List Multiplier → MultiplierTrees → MultiplierTrees
+multipliers_before [] later = later
+multipliers_before (m ∷ ms) later = Scales m.operator (factor_of m.factor) (multipliers_before ms later)
+
+abbrev pub multipliers_in : List Multiplier → MultiplierTrees
+multipliers_in ms = multipliers_before ms NoMultipliers
+
+-- and of what may be left out
+abbrev pub comparison_in : Option Comparison → ComparisonTree
+comparison_in None = NoComparison
+comparison_in (Some c) = compared_of c
+
+abbrev pub index_in : Option (Box Expression Global) → IndexTree
+index_in None = NoIndex
+index_in (Some e) = At (expression_of e.value)
+
+abbrev pub statements_before : List Statement → StatementTrees → StatementTrees
+statements_before [] later = later
+statements_before (s ∷ ss) later = Then (statement_of s) (statements_before ss later)
+
+abbrev pub statements_in : List Statement → StatementTrees
+statements_in ss = statements_before ss NoStatements
+
+abbrev pub part_in : Option (Vec Statement Global) → PartTree
+part_in None = NoPart
+part_in (Some v) = Part (statements_in v.items)
+
+abbrev pub local_of : Local → LocalTree
+local_of l = record { place = l.place; name = name_of l.name; kind = l.kind }
+
+abbrev pub parameter_of : Parameter → ParameterTree
+parameter_of p = record { name = name_of p.name; kind = p.kind }
+
+abbrev pub member_of : Member → MemberTree
+member_of m = record { place = m.place; name = name_of m.name; kind = m.kind }
+
+abbrev pub body_of : Body → BodyTree
+body_of b = record { locals = map local_of b.locals.items; statements = statements_in b.statements.items }
+
+abbrev pub procedure_of : Procedure → ProcedureTree
+procedure_of p = record { place = p.place; name = name_of p.name; open_place = p.open_place; parameters = map parameter_of p.parameters.items; returns = p.returns; body = body_of p.body }
+
+abbrev pub monitor_procedure_of : MonitorProcedure → MonitorProcedureTree
+monitor_procedure_of p = record { access = p.access; procedure = procedure_of p.procedure }
+
+abbrev pub recover_of : Option Recover → Option RecoverTree
+recover_of None = None
+recover_of (Some r) = Some (record { place = r.place; body = body_of r.body })
+
+abbrev pub monitor_of : Monitor → MonitorTree
+monitor_of m = record { place = m.place; name = name_of m.name; members = map member_of m.members.items; procedures = map monitor_procedure_of m.procedures.items; recover = recover_of m.recover }
+
+-- the parts of a unit
+abbrev pub whole : Name → List Monitor → List Procedure → Main → UnitTree
+whole name monitors procedures main = record { name = name_of name; monitors = map monitor_of monitors; procedures = map procedure_of procedures; place = main.place; body = body_of main.body }

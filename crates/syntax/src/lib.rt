@@ -1,0 +1,20 @@
+//! The trees of the language, what each is spelled as, and how deep it is nested.
+#![tactic(auto)]
+
+mod declaration;
+mod expression;
+mod leaf;
+mod statement;
+mod unit;
+
+pub use declaration::{
+    Access, Body, Local, LocalType, Main, Member, MemberType, Monitor, MonitorProcedure, Parameter,
+    Procedure, Recover, ResultType,
+};
+pub use expression::{
+    Comparator, Comparison, Conjunction, Expression, Factor, Multiplier, ProductOperator, Relation,
+    Sum, SumOperator, Summand, Term, Variable,
+};
+pub use leaf::{Name, Number, Truth};
+pub use statement::{Callee, Statement};
+pub use unit::Unit;
