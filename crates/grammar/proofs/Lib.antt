@@ -10,3 +10,4 @@ pub mod Reading
 pub mod Deep
 pub mod Law
 pub mod Joins
+pub mod Parts

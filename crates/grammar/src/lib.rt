@@ -1,6 +1,8 @@
 //! The laws of the grammar: each list of tokens has one tree or one refusal.
 #![tactic(auto)]
 
+pub mod productions;
+
 ghost use Rattle.std.specs.Prelude.{◌≡◌, ◌≤◌, List};
 ghost use Rattle.scanner.specs.declared.token.Token.{Token as TokenOf};
 ghost use Rattle.scanner.specs.declared.refusal.Refusal.{Refusal as RefusalOf};

@@ -1,0 +1,5 @@
+pub mod Small
+pub mod Levels
+pub mod Chains
+pub mod Factors
+pub mod Callees

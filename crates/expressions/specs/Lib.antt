@@ -1,0 +1,4 @@
+pub mod Ahead
+pub mod Taking
+pub mod Levels
+pub mod Openers

@@ -1,0 +1,45 @@
+-- What the operators and the beginnings of factors are, as the lexemes say.
+use Rattle.std.specs.Prelude.{◌≡◌, Option, Some, None}
+use Rattle.scanner.specs.declared.token.Place.{Place}
+use Rattle.scanner.specs.declared.token.Sign.TheVariants as S
+use Rattle.scanner.specs.declared.token.Keyword.TheVariants as K
+use Rattle.syntax.specs.declared.expression.Comparator.{Comparator}
+use Rattle.syntax.specs.declared.expression.SumOperator.{SumOperator}
+use Rattle.syntax.specs.declared.expression.ProductOperator.{ProductOperator}
+use Rattle.syntax.specs.Lexeme.{Lexeme, WordAt, MarkAt, Named, Numbered}
+use Rattle.syntax.specs.Spelling.{truth_text}
+use Rattle.syntax.specs.Tree.{NoMultipliers, MultiplierTrees, NoSummands, SummandTrees, NoComparison, ComparisonTree}
+use Rattle.syntax.specs.View.{name_of}
+use Rattle.grammar.specs.Machine.{Reply, Skip, NoFactor, scales, adds, compares, factor_begin}
+use Rattle.expressions.specs.declared.operators.FactorStart.{FactorStart}
+use Rattle.expressions.specs.declared.operators.FactorStart.TheVariants.{Number, Truth, Name, Paren, Minus, Not}
+
+-- what stands where a term may go on, where a sum may, and where a comparison may
+abbrev pub product_reply : Option ProductOperator → Reply MultiplierTrees
+product_reply (Some op) = scales op
+product_reply None = Skip NoMultipliers
+
+abbrev pub sum_signed : Option SumOperator → Place → Reply SummandTrees
+sum_signed (Some op) place = adds op place
+sum_signed None place = Skip NoSummands
+
+abbrev pub sum_reply : Option (SumOperator × Place) → Reply SummandTrees
+sum_reply (Some p) = adds p.0 p.1
+sum_reply None = Skip NoSummands
+
+abbrev pub comparison_reply : Option Comparator → Reply ComparisonTree
+comparison_reply (Some op) = compares op
+comparison_reply None = Skip NoComparison
+
+abbrev pub start_lexeme : FactorStart → Lexeme
+start_lexeme (Number n) = Numbered n
+start_lexeme (Truth t) = truth_text t
+start_lexeme (Name n) = Named (name_of n)
+start_lexeme (Paren place) = MarkAt S.OpenParen place
+start_lexeme (Minus place) = MarkAt S.Minus place
+start_lexeme (Not place) = WordAt K.Not place
+
+-- a factor starts so with this lexeme, or none does
+abbrev pub Starts : Option FactorStart → Lexeme → Type 0
+Starts (Some s) k = k ≡ start_lexeme s
+Starts None k = factor_begin k ≡ NoFactor

@@ -1,0 +1,100 @@
+-- What each part of a unit is spelled as, with nothing behind it.
+use Rattle.std.specs.Prelude.{List, [], ◌∷◌, Option}
+use Rattle.syntax.specs.declared.declaration.MemberType.{MemberType}
+use Rattle.syntax.specs.declared.declaration.ResultType.{ResultType}
+use Rattle.syntax.specs.Lexeme.{NameTree, Lexeme}
+use Rattle.syntax.specs.Tree.{ExpressionTree, ConjunctionTrees, ConjunctionTree, RelationTrees, RelationTree, ComparisonTree, SumTree, SummandTrees, TermTree, MultiplierTrees, FactorTree, IndexTree, CalleeTree, StatementTree, StatementTrees, PartTree, LocalTree, ParameterTree, MemberTree, BodyTree, ProcedureTree, MonitorProcedureTree, RecoverTree, MonitorTree}
+use Rattle.syntax.specs.Spelling.{expression_text, conjunctions_text, conjunction_text, relations_text, relation_text, comparison_text, sum_text, summands_text, term_text, multipliers_text, factor_text, index_text, arguments_text, dotted_text, callee_text, into_text, statement_text, statements_text, else_text, aborted_text, member_type_text, locals_text, members_text, parameters_text, returns_text, body_text, procedure_text, monitor_procedures_text, recover_text, monitors_text}
+
+abbrev pub expression : ExpressionTree → List Lexeme
+expression e = expression_text e []
+
+abbrev pub more_conjunctions : ConjunctionTrees → List Lexeme
+more_conjunctions cs = conjunctions_text cs []
+
+abbrev pub conjunction : ConjunctionTree → List Lexeme
+conjunction c = conjunction_text c []
+
+abbrev pub more_relations : RelationTrees → List Lexeme
+more_relations rs = relations_text rs []
+
+abbrev pub relation : RelationTree → List Lexeme
+relation r = relation_text r []
+
+abbrev pub comparison : ComparisonTree → List Lexeme
+comparison c = comparison_text c []
+
+abbrev pub sum_of_terms : SumTree → List Lexeme
+sum_of_terms s = sum_text s []
+
+abbrev pub more_terms : SummandTrees → List Lexeme
+more_terms ts = summands_text ts []
+
+abbrev pub term : TermTree → List Lexeme
+term t = term_text t []
+
+abbrev pub more_factors : MultiplierTrees → List Lexeme
+more_factors fs = multipliers_text fs []
+
+abbrev pub factor : FactorTree → List Lexeme
+factor f = factor_text f []
+
+abbrev pub index : IndexTree → List Lexeme
+index i = index_text i []
+
+abbrev pub arguments : List ExpressionTree → List Lexeme
+arguments es = arguments_text es []
+
+abbrev pub dotted : Option NameTree → List Lexeme
+dotted name = dotted_text name []
+
+abbrev pub callee : CalleeTree → List Lexeme
+callee c = callee_text c []
+
+abbrev pub into : Option NameTree → List Lexeme
+into name = into_text name []
+
+abbrev pub statement : StatementTree → List Lexeme
+statement s = statement_text s []
+
+abbrev pub statements : StatementTrees → List Lexeme
+statements ss = statements_text ss []
+
+abbrev pub else_part : PartTree → List Lexeme
+else_part part = else_text part []
+
+abbrev pub aborted_part : PartTree → List Lexeme
+aborted_part part = aborted_text part []
+
+abbrev pub member_type : MemberType → List Lexeme
+member_type t = member_type_text t []
+
+abbrev pub local : LocalTree → List Lexeme
+local l = locals_text (l ∷ []) []
+
+abbrev pub member : MemberTree → List Lexeme
+member m = members_text (m ∷ []) []
+
+abbrev pub parameter : ParameterTree → List Lexeme
+parameter p = parameters_text (p ∷ []) []
+
+abbrev pub parameters : List ParameterTree → List Lexeme
+parameters ps = parameters_text ps []
+
+abbrev pub result_part : Option ResultType → List Lexeme
+result_part t = returns_text t []
+
+abbrev pub body : BodyTree → List Lexeme
+body b = body_text b []
+
+abbrev pub procedure : ProcedureTree → List Lexeme
+procedure p = procedure_text p []
+
+abbrev pub access_procedure : MonitorProcedureTree → List Lexeme
+access_procedure p = monitor_procedures_text (p ∷ []) []
+
+abbrev pub recover : Option RecoverTree → List Lexeme
+recover r = recover_text r []
+
+abbrev pub monitor : MonitorTree → List Lexeme
+monitor m = monitors_text (m ∷ []) []

@@ -1,0 +1,5 @@
+pub mod Loops
+pub mod Skips
+pub mod Steps
+pub mod Begun
+pub mod Units

@@ -1,0 +1,4 @@
+pub mod Kinds
+pub mod Chains
+pub mod Steps
+pub mod Starts

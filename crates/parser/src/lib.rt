@@ -1,0 +1,13 @@
+//! From the tokens of a source text to its tree.
+#![tactic(auto)]
+
+mod declaration;
+mod kinds;
+mod monitor;
+mod procedure;
+mod simple;
+mod start;
+mod statement;
+mod unit;
+
+pub use unit::parse;

@@ -1,0 +1,68 @@
+// Monitors.
+
+ghost use Rattle.std.specs.Prelude.{◌≤◌, ◌<◌, length, map, [], ◌∷◌, IfOk, IfErr, IfSome};
+ghost use Rattle.syntax.specs.View.{recover_of, monitor_of};
+ghost use Rattle.grammar.specs.Machine.{ARecover, Monitors};
+ghost use Rattle.grammar.specs.Reading.{Passes, Fails};
+ghost use Rattle.expressions.specs.Ahead.{ahead};
+ghost use Rattle.parser.specs.Steps.{ReadsNext, add_monitor};
+
+use crate::declaration::members;
+use crate::procedure::{body, monitor_procedures};
+use expressions::Parser;
+use scanner::{Keyword, Refusal, Sign};
+use syntax::{Monitor, Recover};
+
+// The recover part, if there is one.
+fn recover<'a>(parser: &mut Parser<'_, 'a>) -> Result<Option<Recover<'a>>, Refusal>
+    ensures ok { IfOk result (λ r. Passes 0 (ARecover ∷ []) (recover_of r, tt) (ahead parser.old) (ahead parser.new)) }
+    ensures err { IfErr result (λ e. Fails 0 (ARecover ∷ []) (ahead parser.old) e) }
+    ensures within { IfOk result (λ _. length (ahead parser.new) ≤ length (ahead parser.old)) }
+{
+    let Some(place) = parser.eat_placed(Keyword::Recover) else {
+        return Ok(None);
+    };
+    let body = body(parser)?;
+    parser.expect_sign(Sign::Semicolon)?;
+    Ok(Some(Recover { place, body }))
+}
+
+// A monitor, if one begins.
+fn monitor<'a>(parser: &mut Parser<'_, 'a>) -> Result<Option<Monitor<'a>>, Refusal>
+    ensures ok { IfOk result (λ m. ReadsNext 0 Monitors add_monitor [] m (ahead parser.old) (ahead parser.new)) }
+    ensures err { IfErr result (λ e. Fails 0 (Monitors ∷ []) (ahead parser.old) e) }
+    ensures within { IfOk result (λ _. length (ahead parser.new) ≤ length (ahead parser.old)) }
+    ensures shorter { IfOk result (λ m. IfSome m (λ _. length (ahead parser.new) < length (ahead parser.old))) }
+{
+    let Some(place) = parser.eat_placed(Keyword::Monitor) else {
+        return Ok(None);
+    };
+    let name = parser.expect_name()?;
+    parser.expect_sign(Sign::Semicolon)?;
+    let members = members(parser)?;
+    let procedures = monitor_procedures(parser)?;
+    let recover = recover(parser)?;
+    parser.expect_keyword(Keyword::End)?;
+    parser.expect_sign(Sign::Semicolon)?;
+    Ok(Some(Monitor {
+        place,
+        name,
+        members,
+        procedures,
+        recover,
+    }))
+}
+
+// Monitors, as many as there are.
+pub fn monitors<'a>(parser: &mut Parser<'_, 'a>) -> Result<Vec<Monitor<'a>>, Refusal>
+    ensures ok { IfOk result (λ v.
+        Passes 0 (Monitors ∷ []) (map monitor_of v.items, tt) (ahead parser.old) (ahead parser.new)) }
+    ensures err { IfErr result (λ e. Fails 0 (Monitors ∷ []) (ahead parser.old) e) }
+    ensures within { IfOk result (λ _. length (ahead parser.new) ≤ length (ahead parser.old)) }
+{
+    let mut monitors = Vec::new(parser.alloc);
+    'monitors: while let Some(monitor) = monitor(parser)? {
+        monitors.push(monitor)?;
+    }
+    Ok(monitors)
+}

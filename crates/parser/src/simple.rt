@@ -1,0 +1,203 @@
+// Statements that hold no others.
+
+ghost use Rattle.std.specs.Prelude.{◌≡◌, ◌≤◌, ◌<◌, length, [], ◌∷◌, IfOk, IfErr};
+ghost use Rattle.scanner.specs.declared.token.Keyword.TheVariants as K;
+ghost use Rattle.syntax.specs.Lexeme.{Named, WordAt};
+ghost use Rattle.syntax.specs.View.{name_of, option_name};
+ghost use Rattle.grammar.specs.Machine.{AnInto, Statements};
+ghost use Rattle.grammar.specs.Reading.{lexeme_at, Passes, Fails};
+ghost use Rattle.expressions.specs.Ahead.{ahead};
+ghost use Rattle.parser.specs.Steps.{ReadsStatement};
+
+use expressions::Parser;
+use scanner::{Keyword, Place, Refusal, Sign};
+use syntax::{Name, Statement, Variable};
+
+// The name behind INTO, if there is one.
+pub fn into_name<'a>(parser: &mut Parser<'_, 'a>, depth: u8) -> Result<Option<Name<'a>>, Refusal>
+    requires { depth ≤ 64 }
+    ensures ok { IfOk result (λ n.
+        Passes depth (AnInto ∷ []) (option_name n, tt) (ahead parser.old) (ahead parser.new)) }
+    ensures err { IfErr result (λ e. Fails depth (AnInto ∷ []) (ahead parser.old) e) }
+    ensures within { IfOk result (λ _. length (ahead parser.new) ≤ length (ahead parser.old)) }
+{
+    if !parser.eat_keyword(Keyword::Into) {
+        return Ok(None);
+    }
+    let name = parser.expect_name()?;
+    Ok(Some(name))
+}
+
+// An assignment.
+pub fn assignment<'a>(
+    parser: &mut Parser<'_, 'a>,
+    depth: u8,
+    name: Name<'a>,
+) -> Result<Statement<'a>, Refusal>
+    requires depth { depth ≤ 64 }
+    requires first { lexeme_at (ahead parser.old) ≡ Named (name_of name) }
+    ensures ok { IfOk result (λ s. ReadsStatement depth s (ahead parser.old) (ahead parser.new)) }
+    ensures err { IfErr result (λ e. Fails depth (Statements ∷ []) (ahead parser.old) e) }
+    ensures shorter { IfOk result (λ _. length (ahead parser.new) < length (ahead parser.old)) }
+{
+    parser.pass();
+    let index = parser.index(depth)?;
+    parser.expect_sign(Sign::Assign)?;
+    let value = parser.expression(depth)?;
+    parser.expect_sign(Sign::Semicolon)?;
+    Ok(Statement::Assign(Variable { name, index }, value))
+}
+
+// A call.
+pub fn call<'a>(
+    parser: &mut Parser<'_, 'a>,
+    depth: u8,
+    place: Place,
+) -> Result<Statement<'a>, Refusal>
+    requires depth { depth ≤ 64 }
+    requires first { lexeme_at (ahead parser.old) ≡ WordAt K.Call place }
+    ensures ok { IfOk result (λ s. ReadsStatement depth s (ahead parser.old) (ahead parser.new)) }
+    ensures err { IfErr result (λ e. Fails depth (Statements ∷ []) (ahead parser.old) e) }
+    ensures shorter { IfOk result (λ _. length (ahead parser.new) < length (ahead parser.old)) }
+{
+    parser.pass();
+    let callee = parser.callee(depth)?;
+    let into = into_name(parser, depth)?;
+    parser.expect_sign(Sign::Semicolon)?;
+    Ok(Statement::Call {
+        place,
+        callee,
+        into,
+    })
+}
+
+// A fork.
+pub fn fork<'a>(
+    parser: &mut Parser<'_, 'a>,
+    depth: u8,
+    place: Place,
+) -> Result<Statement<'a>, Refusal>
+    requires depth { depth ≤ 64 }
+    requires first { lexeme_at (ahead parser.old) ≡ WordAt K.Fork place }
+    ensures ok { IfOk result (λ s. ReadsStatement depth s (ahead parser.old) (ahead parser.new)) }
+    ensures err { IfErr result (λ e. Fails depth (Statements ∷ []) (ahead parser.old) e) }
+    ensures shorter { IfOk result (λ _. length (ahead parser.new) < length (ahead parser.old)) }
+{
+    parser.pass();
+    let callee = parser.callee(depth)?;
+    parser.expect_keyword(Keyword::Into)?;
+    let into = parser.expect_name()?;
+    parser.expect_sign(Sign::Semicolon)?;
+    Ok(Statement::Fork {
+        place,
+        callee,
+        into,
+    })
+}
+
+// A return.
+pub fn return_statement<'a>(
+    parser: &mut Parser<'_, 'a>,
+    depth: u8,
+    place: Place,
+) -> Result<Statement<'a>, Refusal>
+    requires depth { depth ≤ 64 }
+    requires first { lexeme_at (ahead parser.old) ≡ WordAt K.Return place }
+    ensures ok { IfOk result (λ s. ReadsStatement depth s (ahead parser.old) (ahead parser.new)) }
+    ensures err { IfErr result (λ e. Fails depth (Statements ∷ []) (ahead parser.old) e) }
+    ensures shorter { IfOk result (λ _. length (ahead parser.new) < length (ahead parser.old)) }
+{
+    parser.pass();
+    let value = parser.value(depth)?;
+    parser.expect_sign(Sign::Semicolon)?;
+    Ok(Statement::Return { place, value })
+}
+
+// A wait.
+pub fn wait<'a>(
+    parser: &mut Parser<'_, 'a>,
+    depth: u8,
+    place: Place,
+) -> Result<Statement<'a>, Refusal>
+    requires depth { depth ≤ 64 }
+    requires first { lexeme_at (ahead parser.old) ≡ WordAt K.Wait place }
+    ensures ok { IfOk result (λ s. ReadsStatement depth s (ahead parser.old) (ahead parser.new)) }
+    ensures err { IfErr result (λ e. Fails depth (Statements ∷ []) (ahead parser.old) e) }
+    ensures shorter { IfOk result (λ _. length (ahead parser.new) < length (ahead parser.old)) }
+{
+    parser.pass();
+    let condition = parser.expect_name()?;
+    parser.expect_sign(Sign::Semicolon)?;
+    Ok(Statement::Wait { place, condition })
+}
+
+// A notify.
+pub fn notify<'a>(
+    parser: &mut Parser<'_, 'a>,
+    depth: u8,
+    place: Place,
+) -> Result<Statement<'a>, Refusal>
+    requires depth { depth ≤ 64 }
+    requires first { lexeme_at (ahead parser.old) ≡ WordAt K.Notify place }
+    ensures ok { IfOk result (λ s. ReadsStatement depth s (ahead parser.old) (ahead parser.new)) }
+    ensures err { IfErr result (λ e. Fails depth (Statements ∷ []) (ahead parser.old) e) }
+    ensures shorter { IfOk result (λ _. length (ahead parser.new) < length (ahead parser.old)) }
+{
+    parser.pass();
+    let condition = parser.expect_name()?;
+    parser.expect_sign(Sign::Semicolon)?;
+    Ok(Statement::Notify { place, condition })
+}
+
+// A broadcast.
+pub fn broadcast<'a>(
+    parser: &mut Parser<'_, 'a>,
+    depth: u8,
+    place: Place,
+) -> Result<Statement<'a>, Refusal>
+    requires depth { depth ≤ 64 }
+    requires first { lexeme_at (ahead parser.old) ≡ WordAt K.Broadcast place }
+    ensures ok { IfOk result (λ s. ReadsStatement depth s (ahead parser.old) (ahead parser.new)) }
+    ensures err { IfErr result (λ e. Fails depth (Statements ∷ []) (ahead parser.old) e) }
+    ensures shorter { IfOk result (λ _. length (ahead parser.new) < length (ahead parser.old)) }
+{
+    parser.pass();
+    let condition = parser.expect_name()?;
+    parser.expect_sign(Sign::Semicolon)?;
+    Ok(Statement::Broadcast { place, condition })
+}
+
+// A print.
+pub fn print<'a>(
+    parser: &mut Parser<'_, 'a>,
+    depth: u8,
+    place: Place,
+) -> Result<Statement<'a>, Refusal>
+    requires depth { depth ≤ 64 }
+    requires first { lexeme_at (ahead parser.old) ≡ WordAt K.Print place }
+    ensures ok { IfOk result (λ s. ReadsStatement depth s (ahead parser.old) (ahead parser.new)) }
+    ensures err { IfErr result (λ e. Fails depth (Statements ∷ []) (ahead parser.old) e) }
+    ensures shorter { IfOk result (λ _. length (ahead parser.new) < length (ahead parser.old)) }
+{
+    parser.pass();
+    let value = parser.expression(depth)?;
+    parser.expect_sign(Sign::Semicolon)?;
+    Ok(Statement::Print { place, value })
+}
+
+// An abort.
+pub fn abort<'a>(
+    parser: &mut Parser<'_, 'a>,
+    depth: u8,
+    place: Place,
+) -> Result<Statement<'a>, Refusal>
+    requires depth { depth ≤ 64 }
+    requires first { lexeme_at (ahead parser.old) ≡ WordAt K.Abort place }
+    ensures ok { IfOk result (λ s. ReadsStatement depth s (ahead parser.old) (ahead parser.new)) }
+    ensures err { IfErr result (λ e. Fails depth (Statements ∷ []) (ahead parser.old) e) }
+    ensures shorter { IfOk result (λ _. length (ahead parser.new) < length (ahead parser.old)) }
+{
+    parser.pass();
+    parser.expect_sign(Sign::Semicolon)?;
+    Ok(Statement::Abort { place })
+}

@@ -1,0 +1,5 @@
+//! What programs `parse` takes and refuses, by examples.
+#![tactic(auto)]
+
+#[cfg(test)]
+mod tests;
