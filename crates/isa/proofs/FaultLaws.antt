@@ -1,5 +1,5 @@
 -- The first fault of bytes that are no image, and the proper beginnings of an image.
-use Rattle.std.proofs.Common.{◌≡◌, ◌≢◌, ℕ, zero, suc, ◌≤◌, false, cond, ltb, eqb, ◌⊎◌, inl, inr, List, [], ◌∷◌, ◌++◌, length, take, drop, Result, Ok, Err, refl, sym, ap, subst, ◌∙◌, add-one, arith, length-append}
+use Rattle.std.proofs.Common.{◌≡◌, ◌≢◌, ℕ, zero, suc, ◌≤◌, false, cond, eqb, ◌⊎◌, inl, inr, List, [], ◌∷◌, ◌++◌, length, take, drop, Result, Ok, Err, refl, sym, ap, subst, ◌∙◌, add-one, arith, length-append}
 use Rattle.std.proofs.Math.Seq.{take-length}
 use Rattle.std.proofs.lemmas.Bool.{cases_eq, ne_eqb}
 use Rattle.std.proofs.lemmas.List.{append-nil, take-append-drop}
@@ -8,7 +8,7 @@ use Rattle.isa.specs.declared.fault.DecodeFault.TheVariants.{BadMagic, Version, 
 use Rattle.isa.specs.FirstFault.{IsOfAByte, IsFirstFault}
 use Rattle.isa.specs.Programs.{Program}
 use Rattle.isa.specs.Spelling.{IsSpelled, spelling}
-use Rattle.isa.specs.Reading.{◌>>=◌, fixed_at, image_at, ended, program_of}
+use Rattle.isa.specs.Reading.{◌>>=◌, fixed_at, image_at, stays_inside, ended, program_of}
 use Rattle.isa.proofs.Parts.{chosen}
 use Rattle.isa.proofs.ProgramLaws.{program_again}
 use Rattle.isa.proofs.Stands.{StandsAt, image-stands}
@@ -47,8 +47,8 @@ stays (Err d) longer more e stands byte is =
     let other : d ≢ Short = λ short. subst (λ (f : DecodeFault). IsOfAByte f) (sym same ∙ short) byte in
     rw (stands other) (ap (λ (f : DecodeFault). Err f) same)
 stays (Ok x) longer more e stands byte is =
-    elim (chosen (eqb (length x.1) 0) (cond (ltb x.0.start (length x.0.code)) (Ok x.0) (Err BadTarget)) (Err Trailing) (Err e) is) [
-      | inl w ↦ elim (chosen (ltb x.0.start (length x.0.code)) (Ok x.0) (Err BadTarget) (Err e) w.1) [
+    elim (chosen (eqb (length x.1) 0) (cond (stays_inside x.0) (Ok x.0) (Err BadTarget)) (Err Trailing) (Err e) is) [
+      | inl w ↦ elim (chosen (stays_inside x.0) (Ok x.0) (Err BadTarget) (Err e) w.1) [
         | inl v ↦ absurd (cc (v.1))
         | inr v ↦ let same : e ≡ BadTarget = cc in absurd (subst (λ (f : DecodeFault). IsOfAByte f) same byte)
       ]

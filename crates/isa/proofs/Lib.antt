@@ -6,3 +6,4 @@ pub mod NumberLoop
 pub mod Parts
 pub mod ProgramLaws
 pub mod Stands
+pub mod TargetLaws

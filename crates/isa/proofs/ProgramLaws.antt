@@ -1,25 +1,26 @@
 -- The laws of whole images: what is read is spelled so, and what is spelled so is read.
-use Rattle.std.proofs.Common.{◌≡◌, ℕ, ◌≤◌, ◌<◌, cond, ltb, eqb, inl, inr, List, [], ◌++◌, length, sum, Result, Ok, Err, refl, sym, ap, subst, ◌∙◌, append_assoc, arith}
+use Rattle.std.proofs.Common.{◌≡◌, ℕ, ◌≤◌, true, cond, eqb, inl, inr, List, [], ◌++◌, length, sum, Result, Ok, Err, refl, sym, ap, subst, ◌∙◌, append_assoc, arith}
 use Rattle.std.specs.List.{AllByRecursion}
 use Rattle.std.specs.Prelude.{IfOk, MatchResult}
-use Rattle.std.proofs.lemmas.Bool.{eqb-true, ltb-true, lt-ltb}
+use Rattle.std.proofs.lemmas.Bool.{eqb-true}
 use Rattle.std.proofs.lemmas.List.{append-nil, nil_from_length}
 use Rattle.isa.specs.declared.fault.DecodeFault.{DecodeFault}
 use Rattle.isa.specs.declared.fault.DecodeFault.TheVariants.{BadMagic, Version, Short, BadInstr, BadTarget, Trailing, Limit, Memory}
 use Rattle.isa.specs.Numbers.{number}
-use Rattle.isa.specs.Opcodes.{operands}
+use Rattle.isa.specs.Instructions.{operands, IsInstruction}
 use Rattle.isa.specs.Programs.{Program, IsProgram}
 use Rattle.isa.specs.Spelling.{AreWords, magic, version, monitor_table, code_table, spelling, IsSpelled}
-use Rattle.isa.specs.Reading.{◌>>=◌, Gives, fixed_at, number_at, monitors_at, code_at, image_at, ended, program_of}
-use Rattle.isa.proofs.FieldLaws.{number_takes, number_again, fixed_takes, fixed_again, monitors_take, monitors_bound, monitors_again, code_takes, code_bound, code_again}
+use Rattle.isa.specs.Reading.{◌>>=◌, Gives, fixed_at, number_at, monitors_at, code_at, image_at, stays_inside, ended, program_of}
+use Rattle.isa.proofs.FieldLaws.{number_takes, number_again, fixed_takes, fixed_again, monitors_take, monitors_bound, monitors_again, code_takes, code_bound, code_limit, code_again}
+use Rattle.isa.proofs.TargetLaws.{lies, lies_again}
 use Rattle.isa.proofs.Parts.{bind_ok, chosen, done, ok_is, IsBytes, Takes, Takes-then}
 
 -- what stands behind an image that was read
-ended_ok : (rest : List ℕ) (p q : Program) → ended p rest ≡ Ok q → (rest ≡ []) × (p.start < length p.code) × (p ≡ q)
+ended_ok : (rest : List ℕ) (p q : Program) → ended p rest ≡ Ok q → (rest ≡ []) × (stays_inside p ≡ true) × (p ≡ q)
 ended_ok rest p q e =
-    elim (chosen (eqb (length rest) 0) (cond (ltb p.start (length p.code)) (Ok p) (Err BadTarget)) (Err Trailing) (Ok q) e) [
-      | inl w ↦ elim (chosen (ltb p.start (length p.code)) (Ok p) (Err BadTarget) (Ok q) w.1) [
-        | inl v ↦ (nil_from_length rest (eqb-true (length rest) 0 w.0), ltb-true p.start (length p.code) v.0, ok_is p q v.1)
+    elim (chosen (eqb (length rest) 0) (cond (stays_inside p) (Ok p) (Err BadTarget)) (Err Trailing) (Ok q) e) [
+      | inl w ↦ elim (chosen (stays_inside p) (Ok p) (Err BadTarget) (Ok q) w.1) [
+        | inl v ↦ (nil_from_length rest (eqb-true (length rest) 0 w.0), v.0, ok_is p q v.1)
         | inr v ↦ absurd (cc (v.1))
       ]
       | inr w ↦ absurd (cc (w.1))
@@ -28,11 +29,12 @@ ended_ok rest p q e =
 nothing_left : (bytes text rest : List ℕ) → bytes ≡ text ++ rest → rest ≡ [] → text ≡ bytes
 nothing_left bytes text rest parts none = sym (parts ∙ ap (λ (left : List ℕ). text ++ left) none ∙ append-nil text)
 
--- what was read, but for the start
+-- what was read, but for the start and the targets
 record IsShort (p : Program) : Type 0 where
   few_monitors : length p.monitors ≤ 64
   few_members : sum p.monitors ≤ 1024
   short : length p.code ≤ 65536
+  instructions : AllByRecursion IsInstruction p.code
   words : AllByRecursion (λ i. AreWords (operands i)) p.code
 
 image_takes : (bytes : List ℕ) (x : Program × List ℕ) → IsBytes bytes → image_at bytes ≡ Ok x → Takes bytes (spelling x.0) x.1 × IsShort x.0
@@ -53,7 +55,7 @@ image_takes bytes x fits e =
     let to3 = Takes-then bytes (magic ++ version ++ monitor_table m.0.0) m.0.1 (number s.0.0) s.0.1 to2 t3.0 in
     let to4 = Takes-then bytes (magic ++ version ++ monitor_table m.0.0 ++ number s.0.0) s.0.1 (code_table i.0.0) i.0.1 to3 t4.0 in
     let few = monitors_bound b.0 m.0 m.1 in
-    is_read bytes (record { monitors = m.0.0; start = s.0.0; code = i.0.0 }, i.0.1) x i.2 to4 (record { few_monitors = few.0; few_members = few.1; short = code_bound s.0.1 i.0 i.1; words = t4.1 })
+    is_read bytes (record { monitors = m.0.0; start = s.0.0; code = i.0.0 }, i.0.1) x i.2 to4 (record { few_monitors = few.0; few_members = few.1; short = code_bound s.0.1 i.0 i.1; instructions = code_limit s.0.1 i.0 i.1; words = t4.1 })
   where
     is_read : (bytes : List ℕ) (made x : Program × List ℕ) → done made ≡ Ok x → Takes bytes (spelling made.0) made.1 → IsShort made.0 → Takes bytes (spelling x.0) x.1 × IsShort x.0
     is_read bytes made x same taken short = subst (λ (y : Program × List ℕ). Takes bytes (spelling y.0) y.1 × IsShort y.0) (ok_is made x same) (taken, short)
@@ -65,13 +67,14 @@ program_takes bytes p fits e =
     let last = ended_ok a.0.1 a.0.0 p a.2 in
     let t = image_takes bytes a.0 fits a.1 in
     let whole : spelling a.0.0 ≡ bytes = nothing_left bytes (spelling a.0.0) a.0.1 t.0.parts last.0 in
-    let within : IsProgram a.0.0 = record { few_monitors = t.1.few_monitors; few_members = t.1.few_members; short = t.1.short; starts = last.1 } in
+    let inside = lies a.0.0 last.1 in
+    let within : IsProgram a.0.0 = record { few_monitors = t.1.few_monitors; few_members = t.1.few_members; short = t.1.short; starts = inside.0; instructions = t.1.instructions; targets = inside.1 } in
     subst (λ (q : Program). IsSpelled q × (spelling q ≡ bytes)) last.2 (record { within = within; words = t.1.words }, whole)
 
 pub image_again : (p : Program) (rest : List ℕ) → IsSpelled p → image_at (spelling p ++ rest) ≡ Ok (p, rest)
 unfolding image_at
 image_again p rest is =
-    let code : code_at (code_table p.code ++ rest) ≡ Ok (p.code, rest) = code_again p.code rest is.within.short is.words in
+    let code : code_at (code_table p.code ++ rest) ≡ Ok (p.code, rest) = code_again p.code rest is.within.short is.words is.within.instructions in
     let start : number_at (number p.start ++ (code_table p.code ++ rest)) ≡ Ok (p.start, code_table p.code ++ rest) = number_again p.start (code_table p.code ++ rest) (omega (arith, is.within.starts, is.within.short)) in
     let monitors : monitors_at (monitor_table p.monitors ++ (number p.start ++ (code_table p.code ++ rest))) ≡ Ok (p.monitors, number p.start ++ (code_table p.code ++ rest)) = monitors_again p.monitors (number p.start ++ (code_table p.code ++ rest)) is.within.few_monitors is.within.few_members in
     let behind : List ℕ = monitor_table p.monitors ++ (number p.start ++ (code_table p.code ++ rest)) in
@@ -82,7 +85,7 @@ pub program_again : (p : Program) → IsSpelled p → program_of (spelling p) �
 unfolding program_of
 program_again p is =
     let read : image_at (spelling p) ≡ Ok (p, []) = ap image_at (sym (append-nil (spelling p))) ∙ image_again p [] is in
-    rw read (rw (lt-ltb p.start (length p.code) is.within.starts) refl)
+    rw read (rw (lies_again p is.within) refl)
 
 -- ---- what decoding answers
 

@@ -2,10 +2,11 @@
 use Rattle.std.proofs.Common.{◌≡◌, ◌≢◌, ℕ, zero, suc, ◌+◌, ◌-◌, ◌*◌, Bool, true, false, cond, ltb, eqb, List, [], ◌∷◌, ◌++◌, Option, Some, None, Result, Ok, Err, refl}
 use Rattle.isa.specs.declared.fault.DecodeFault.{DecodeFault}
 use Rattle.isa.specs.declared.fault.DecodeFault.TheVariants.{BadMagic, Version, Short, BadInstr, Limit}
-use Rattle.isa.specs.Opcodes.{Form, plain, with_number, opcodes, row_of}
+use Rattle.isa.specs.declared.instr.Instr.{Instr}
+use Rattle.isa.specs.Opcodes.{Form, with_one, with_two, plain_opcodes, operand_opcodes, row_of}
 use Rattle.isa.specs.Programs.{Program}
 use Rattle.isa.specs.Spelling.{magic, version}
-use Rattle.isa.specs.Reading.{◌>>=◌, fixed_at, groups_at, number_at, limited_at, numbers_at, monitors_at, operands_at, instruction_at, instructions_at, code_at, image_at}
+use Rattle.isa.specs.Reading.{◌>>=◌, fixed_at, groups_at, number_at, limited_at, numbers_at, monitors_at, made_at, operands_at, behind_opcode, instruction_at, instructions_at, code_at, image_at}
 
 -- of one answer, and the answer with more bytes behind
 abbrev pub StandsAt : {A : Type 0} → Result (A × List ℕ) DecodeFault → Result (A × List ℕ) DecodeFault → List ℕ → Type 0
@@ -66,16 +67,27 @@ monitors-stand : Stands monitors_at
 unfolding monitors_at
 monitors-stand bytes more = then-stands (limited_at 64 bytes) (limited_at 64 (bytes ++ more)) more (λ count rest. numbers_at count 1024 rest) (limited-stands 64 bytes more) (λ count. numbers-stand count 1024)
 
+made-stands : (made : Option Instr) → Stands (made_at made)
+made-stands None bytes more = λ other. refl
+made-stands (Some i) bytes more = refl
+
 operands-stand : (form : Option Form) → Stands (operands_at form)
 unfolding operands_at
 operands-stand None bytes more = λ other. refl
-operands-stand (Some (plain i)) bytes more = refl
-operands-stand (Some (with_number make)) bytes more = then-stands (number_at bytes) (number_at (bytes ++ more)) more (λ n rest. Ok (make n, rest)) (number-stands bytes more) (λ n rest after. refl)
+operands-stand (Some (with_one make)) bytes more = then-stands (number_at bytes) (number_at (bytes ++ more)) more (λ n rest. made_at (make n) rest) (number-stands bytes more) (λ n. made-stands (make n))
+operands-stand (Some (with_two make)) bytes more =
+    then-stands (number_at bytes) (number_at (bytes ++ more)) more (λ n rest. number_at rest >>= λ m. made_at (make n m.0) m.1) (number-stands bytes more)
+    (λ n rest after. then-stands (number_at rest) (number_at (rest ++ after)) after (λ m left. made_at (make n m) left) (number-stands rest after) (λ m. made-stands (make n m)))
+
+behind-stands : (plain : Option Instr) (form : Option Form) → Stands (behind_opcode plain form)
+unfolding behind_opcode
+behind-stands None form bytes more = operands-stand form bytes more
+behind-stands (Some i) form bytes more = refl
 
 instruction-stands : Stands instruction_at
 unfolding instruction_at
 instruction-stands [] more = λ other. absurd (other refl)
-instruction-stands (b ∷ bytes) more = operands-stand (row_of opcodes b) bytes more
+instruction-stands (b ∷ bytes) more = behind-stands (row_of plain_opcodes b) (row_of operand_opcodes b) bytes more
 
 instructions-stand : (count : ℕ) → Stands (instructions_at count)
 unfolding instructions_at

@@ -1,5 +1,6 @@
 pub mod Faults
 pub mod FirstFault
+pub mod Instructions
 pub mod Numbers
 pub mod Opcodes
 pub mod Programs

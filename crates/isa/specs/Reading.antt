@@ -1,9 +1,10 @@
 -- Reading an image from left to right, with the first fault that is met. A field is a value and the bytes after it.
-use Rattle.std.specs.Prelude.{◌≡◌, ◌≢◌, ℕ, zero, suc, ◌+◌, ◌-◌, ◌*◌, List, [], ◌∷◌, length, Option, Some, None, Result, Ok, Err, nat_lt, ◌==◌, if◌then◌else◌}
+use Rattle.std.specs.Prelude.{◌≡◌, ◌≢◌, ℕ, zero, suc, ◌+◌, ◌-◌, ◌*◌, List, [], ◌∷◌, length, Option, Some, None, Result, Ok, Err, Bool, true, false, nat_lt, ◌==◌, if◌then◌else◌}
 use Rattle.isa.specs.declared.fault.DecodeFault.{DecodeFault}
 use Rattle.isa.specs.declared.fault.DecodeFault.TheVariants.{BadMagic, Version, Short, BadInstr, BadTarget, Trailing, Limit, Memory}
 use Rattle.isa.specs.declared.instr.Instr.{Instr}
-use Rattle.isa.specs.Opcodes.{Form, plain, with_number, opcodes, row_of}
+use Rattle.isa.specs.Instructions.{target}
+use Rattle.isa.specs.Opcodes.{Form, with_one, with_two, plain_opcodes, operand_opcodes, row_of}
 use Rattle.isa.specs.Programs.{Program}
 use Rattle.isa.specs.Spelling.{magic, version}
 
@@ -55,16 +56,29 @@ monitors_at bytes = do
   count ← limited_at 64 bytes
   numbers_at count.0 1024 count.1
 
+-- an instruction, if its operands are within their limits
+abbrev pub made_at : Option Instr → List ℕ → Result (Instr × List ℕ) DecodeFault
+made_at None bytes = Err Limit
+made_at (Some i) bytes = Ok (i, bytes)
+
 unfoldable pub operands_at : Option Form → List ℕ → Result (Instr × List ℕ) DecodeFault
 operands_at None bytes = Err BadInstr
-operands_at (Some (plain i)) bytes = Ok (i, bytes)
-operands_at (Some (with_number make)) bytes = do
+operands_at (Some (with_one make)) bytes = do
   n ← number_at bytes
-  Ok (make n.0, n.1)
+  made_at (make n.0) n.1
+operands_at (Some (with_two make)) bytes = do
+  n ← number_at bytes
+  m ← number_at n.1
+  made_at (make n.0 m.0) m.1
+
+-- an instruction without operands, else what stands behind the opcode
+unfoldable pub behind_opcode : Option Instr → Option Form → List ℕ → Result (Instr × List ℕ) DecodeFault
+behind_opcode (Some i) form bytes = Ok (i, bytes)
+behind_opcode None form bytes = operands_at form bytes
 
 unfoldable pub instruction_at : List ℕ → Result (Instr × List ℕ) DecodeFault
 instruction_at [] = Err Short
-instruction_at (b ∷ rest) = operands_at (row_of opcodes b) rest
+instruction_at (b ∷ rest) = behind_opcode (row_of plain_opcodes b) (row_of operand_opcodes b) rest
 
 unfoldable pub instructions_at : ℕ → List ℕ → Result (List Instr × List ℕ) DecodeFault
 instructions_at zero bytes = Ok ([], bytes)
@@ -89,9 +103,22 @@ image_at bytes = do
   code ← code_at start.1
   Ok (record { monitors = monitors.0; start = start.0; code = code.0 }, code.1)
 
--- behind the last instruction: no byte, and a start in the code
+-- whether a place that an instruction names, if any, is one of so many; and whether all of them are
+abbrev pub leads_below : ℕ → Option ℕ → Bool
+leads_below count None = true
+leads_below count (Some place) = nat_lt place count
+
+abbrev pub lead_below : ℕ → List Instr → Bool
+lead_below count [] = true
+lead_below count (i ∷ is) = if leads_below count (target i) then lead_below count is else false
+
+-- whether the start and all places that are named lie in the code
+abbrev pub stays_inside : Program → Bool
+stays_inside p = if nat_lt p.start (length p.code) then lead_below (length p.code) p.code else false
+
+-- behind the last instruction: no byte, and a start and targets in the code
 abbrev pub ended : Program → List ℕ → Result Program DecodeFault
-ended p rest = if length rest == 0 then (if nat_lt p.start (length p.code) then Ok p else Err BadTarget) else Err Trailing
+ended p rest = if length rest == 0 then (if stays_inside p then Ok p else Err BadTarget) else Err Trailing
 
 -- all of the bytes
 unfoldable pub program_of : List ℕ → Result Program DecodeFault

@@ -3,7 +3,8 @@ use Rattle.std.specs.Prelude.{ℕ, ◌<◌, ◌^◌, List, [], ◌∷◌, ◌++�
 use Rattle.std.specs.List.{flat_map, AllByRecursion}
 use Rattle.isa.specs.declared.instr.Instr.{Instr}
 use Rattle.isa.specs.Numbers.{number}
-use Rattle.isa.specs.Opcodes.{opcode, operands}
+use Rattle.isa.specs.Instructions.{operands}
+use Rattle.isa.specs.Opcodes.{opcode}
 use Rattle.isa.specs.Programs.{Program, IsProgram}
 
 abbrev pub magic : List ℕ

@@ -22,7 +22,7 @@ pub enum DecodeFault {
     /// An unknown opcode, or a number that is not in its shortest spelling.
     #[error("image error 4 BadInstr")]
     BadInstr = 4,
-    /// The start is not below the number of instructions.
+    /// The start, or a place that an instruction names, is not below the number of instructions.
     #[error("image error 5 BadTarget")]
     BadTarget = 5,
     /// Bytes stand after the last instruction.

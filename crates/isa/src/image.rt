@@ -1,4 +1,5 @@
 ghost use Rattle.std.specs.Prelude.{◌≡◌, ◌<◌, slice_get, IfSome, IfOk, length, vec_len, List, ℕ};
+ghost use Rattle.isa.specs.Instructions.{IsInstruction, LeadsBelow};
 ghost use Rattle.isa.specs.Programs.{Program, IsProgram, memory_size};
 
 use crate::instr::Instr;
@@ -15,7 +16,7 @@ pub const MOST_MEMBER_WORDS: u32 = 1024;
 pub const MOST_INSTRUCTIONS: usize = 65536;
 
 /// The code of a program, where it begins, and how many member words each of its monitors has. Contracts see it as
-/// a `Program`, within the limits of `IsProgram`.
+/// a `Program`, within the limits of `IsProgram`: each local, count of arguments and place in it is one that may be.
 #[derive(Drop)]
 pub struct Image {
     monitors: Vec<u32>,
@@ -70,10 +71,13 @@ impl Image {
         self.code.as_slice()
     }
 
-    /// The instruction at a place, if the place lies in the code.
+    /// The instruction at a place, if the place lies in the code. Its operands are within their limits, and the place
+    /// that it names, if any, lies in the code too.
     pub fn at(&self, place: u32) -> Option<Instr>
         ensures value { result ≡ slice_get self.now.code place }
         ensures within { IfSome result (λ _. place < 65536) }
+        ensures limits { IfSome result IsInstruction }
+        ensures leads { IfSome result (LeadsBelow (length self.now.code)) }
     {
         self.code.get(place as usize).copied()
     }

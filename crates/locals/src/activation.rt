@@ -1,14 +1,9 @@
-ghost use Rattle.std.specs.Prelude.{◌≡◌, ◌≢◌, MatchBool, Some, None, [], slice_get, true, false, if◌then◌else◌};
-ghost use Rattle.locals.specs.Threads.{Runs, Exits};
-ghost use Rattle.locals.specs.Looks.{look_at};
-ghost use Rattle.locals.specs.Steps.{gone};
-ghost use Rattle.locals.specs.declared.exit.ExitPhase.TheVariants.{Pending};
-ghost use Rattle.locals.specs.Requests.{next_step_of, answered};
+ghost use Rattle.std.specs.Prelude.{◌≡◌, ◌≢◌, ◌≤◌, MatchBool, length, reverse};
+ghost use Rattle.locals.specs.Threads.{opening_thread};
+ghost use Rattle.locals.specs.Views.{running};
 
-use crate::frame::Frame;
-use crate::request::{NextStep, Request};
+use crate::frame::{Frame, Locals};
 use crate::stack::Stack;
-use isa::{Image, Instr};
 
 /// The most operands of a thread.
 pub const MOST_OPERANDS: usize = 512;
@@ -23,18 +18,22 @@ pub struct Activation {
     pub place: u32,
     /// The operands.
     pub operands: Stack<u32, MOST_OPERANDS>,
+    /// The locals of its frame.
+    pub locals: Locals,
     /// The frames that its frame returns to, the innermost on top.
     pub callers: Stack<Frame, MOST_CALLERS>,
 }
 
 impl Activation {
-    /// The start of a program.
-    pub fn start(start: u32) -> Activation
-        ensures { Runs result.place result.operands result.callers ≡ Runs start [] [] }
+    /// The start of a procedure, with its arguments from the lowest operand up.
+    pub fn start(place: u32, arguments: &[u32]) -> Activation
+        requires { length arguments.now ≤ 512 }
+        ensures { running result ≡ opening_thread place (reverse arguments.now) }
     {
         Activation {
-            place: start,
-            operands: Stack::new(),
+            place,
+            operands: Stack::of(arguments),
+            locals: Locals::fresh(),
             callers: Stack::new(),
         }
     }
@@ -46,6 +45,7 @@ impl Activation {
         Activation {
             place: self.place,
             operands: self.operands.again(),
+            locals: self.locals,
             callers: self.callers.again(),
         }
     }
@@ -56,66 +56,8 @@ impl Activation {
     {
         self.place == other.place
             && same_operands(&self.operands, &other.operands)
+            && self.locals == other.locals
             && same_callers(&self.callers, &other.callers)
-    }
-
-    /// What its next step is.
-    pub fn next_step(&self, image: &Image) -> NextStep
-        ensures { result ≡ next_step_of (look_at (slice_get image.now.code self.now.place) self.now.place self.now.operands self.now.callers) }
-    {
-        match image.at(self.place) {
-            Some(Instr::Push(_)) if self.operands.has_room() => NextStep::Local,
-            Some(Instr::Print) => match self.operands.top() {
-                Some(number) => NextStep::Shared(Request::Print(number)),
-                None => NextStep::Broken,
-            },
-            Some(Instr::Ret) => match self.callers.top() {
-                Some(_) => NextStep::Local,
-                None => NextStep::Shared(Request::Return),
-            },
-            Some(Instr::Push(_)) | None => NextStep::Broken,
-        }
-    }
-
-    /// Takes a local step where the next one is, and says whether it did.
-    pub fn take_step(&mut self, image: &Image) -> bool
-        ensures { let next = gone (look_at (slice_get image.now.code self.old.place) self.old.place self.old.operands self.old.callers) in MatchBool result (next ≡ Some (Runs self.new.place self.new.operands self.new.callers)) ((next ≡ None) × (self.new ≡ self.old)) }
-    {
-        match image.at(self.place) {
-            Some(Instr::Push(number)) => {
-                if !self.operands.has_room() {
-                    return false;
-                }
-                self.operands.push(number);
-                self.place += 1;
-                true
-            }
-            Some(Instr::Ret) => match self.callers.pop() {
-                Some(frame) => {
-                    self.place = frame.back;
-                    true
-                }
-                None => false,
-            },
-            Some(Instr::Print) | None => false,
-        }
-    }
-
-    /// Goes on with the answer to the request that it makes, if it makes one, and says whether it has returned from
-    /// its last frame.
-    pub fn go_on(&mut self, image: &Image, answer: u32) -> bool
-        ensures { answered (look_at (slice_get image.now.code self.old.place) self.old.place self.old.operands self.old.callers) answer (Runs self.old.place self.old.operands self.old.callers) ≡ (if result then Exits Pending else Runs self.new.place self.new.operands self.new.callers) }
-    {
-        match image.at(self.place) {
-            Some(Instr::Print) => {
-                if self.operands.pop().is_some() {
-                    self.place += 1;
-                }
-                false
-            }
-            Some(Instr::Ret) => self.callers.is_empty(),
-            Some(Instr::Push(_)) | None => false,
-        }
     }
 }
 

@@ -2,14 +2,17 @@
 #![tactic(auto)]
 
 mod activation;
-mod exit;
+mod answering;
+mod arithmetic;
+mod asking;
 mod frame;
 mod local;
 mod local_run;
+mod progress;
 mod request;
 mod stack;
+mod stepping;
 
-pub use exit::ExitPhase;
 pub use local::{Local, opening_local};
 pub use local_run::run_local;
 pub use request::{NextStep, Request};

@@ -1,14 +1,15 @@
-ghost use Rattle.std.specs.Prelude.{◌≡◌, ◌≢◌, MatchBool, Some, None, is_some};
+ghost use Rattle.std.specs.Prelude.{◌≡◌, ◌≢◌, ◌≤◌, MatchBool, Some, None, is_some, length, reverse};
+ghost use Rattle.robustexit.specs.declared.phase.ExitPhase.TheVariants.{Ended};
 ghost use Rattle.locals.specs.Threads.{Exits, opening_thread};
-ghost use Rattle.locals.specs.declared.exit.ExitPhase.TheVariants.{Ended};
 ghost use Rattle.locals.specs.Looks.{look};
 ghost use Rattle.locals.specs.Steps.{local_step};
-ghost use Rattle.locals.specs.Requests.{next_step_of, answered};
+ghost use Rattle.locals.specs.Requests.{next_step_of, answered, forked, CanBeAnswered};
 
 use crate::activation::Activation;
-use crate::exit::ExitPhase;
+use crate::progress::{Answered, Progress};
 use crate::request::{NextStep, Request};
 use isa::Image;
+use robustexit::{ExitPhase, phase_at};
 use std::marker::Model;
 use words::Fault;
 
@@ -36,16 +37,34 @@ impl Model for Local {
     ghost view = { λ l. thread_of_stage l.stage };
 }
 
-/// A thread at the start of a program.
-pub fn opening_local(start: u32) -> Local
-    ensures { result ≡ opening_thread start }
+/// A thread at the start of a procedure, with at most 512 arguments from the lowest operand up. The first thread of a
+/// program has none.
+pub fn opening_local(start: u32, arguments: &[u32]) -> Local
+    requires { length arguments.now ≤ 512 }
+    ensures { result ≡ opening_thread start (reverse arguments.now) }
 {
     Local {
-        stage: Stage::Running(Activation::start(start)),
+        stage: Stage::Running(Activation::start(start, arguments)),
     }
 }
 
 impl Local {
+    /// A thread in a phase of its exit.
+    pub fn exiting(phase: ExitPhase) -> Local
+        ensures { result ≡ Exits phase }
+    {
+        Local {
+            stage: Stage::Exiting(phase),
+        }
+    }
+
+    /// Goes into a phase of its exit.
+    pub fn enter_phase(&mut self, phase: ExitPhase)
+        ensures { self.new ≡ Exits phase }
+    {
+        self.stage = Stage::Exiting(phase);
+    }
+
     /// A copy. It takes time in proportion to the operands and frames in use.
     pub fn again(&self) -> Local
         ensures { result ≡ self.now }
@@ -82,27 +101,42 @@ impl Local {
         ensures { result ≡ next_step_of (look image.now t self.now) }
     {
         match &self.stage {
-            Stage::Running(activation) => activation.next_step(image),
+            Stage::Running(activation) => activation.next_step(image, t),
             Stage::Dying(fault) => NextStep::Shared(Request::Fault(*fault)),
-            Stage::Exiting(ExitPhase::Pending) => NextStep::Shared(Request::Pending),
-            Stage::Exiting(ExitPhase::ClearId) => NextStep::Shared(Request::ClearId),
-            Stage::Exiting(ExitPhase::LastWake) => NextStep::Shared(Request::LastWake),
             Stage::Exiting(ExitPhase::Ended) => NextStep::Ended,
+            Stage::Exiting(phase) => NextStep::Exit(*phase),
         }
     }
 
-    /// Goes on with the answer to the request that it makes. Where it makes none it stays as it is.
+    /// The thread that it forks, where that is what it asks for.
+    pub fn forked(&self, image: &Image, t: u32) -> Option<Local>
+        ensures { result ≡ forked (look image.now t self.now) }
+    {
+        match &self.stage {
+            Stage::Running(activation) => match activation.forked(image, t) {
+                Some(child) => Some(Local {
+                    stage: Stage::Running(child),
+                }),
+                None => None,
+            },
+            Stage::Dying(_) | Stage::Exiting(_) => None,
+        }
+    }
+
+    /// Goes on with the answer to the request that it makes. Where it makes none it stays as it is. A fork whose answer
+    /// has no room is answered by 0 alone, that no thread can be made.
     pub fn go_on(&mut self, image: &Image, t: u32, answer: u32)
+        requires { CanBeAnswered (look image.now t self.old) answer }
         ensures { self.new ≡ answered (look image.now t self.old) answer self.old }
     {
         match &mut self.stage {
-            Stage::Running(activation) => {
-                if activation.go_on(image, answer) {
-                    self.stage = Stage::Exiting(ExitPhase::Pending);
-                }
-            }
-            Stage::Dying(_) => self.stage = Stage::Exiting(ExitPhase::Pending),
-            Stage::Exiting(phase) => *phase = phase.next(),
+            Stage::Running(activation) => match activation.go_on(image, t, answer) {
+                Answered::GoesOn => {}
+                Answered::Fails(fault) => self.stage = Stage::Dying(fault),
+                Answered::Leaves(phase) => self.stage = Stage::Exiting(phase),
+            },
+            Stage::Dying(_) => self.stage = Stage::Exiting(phase_at(answer, 0)),
+            Stage::Exiting(_) => {}
         }
     }
 
@@ -111,7 +145,14 @@ impl Local {
         ensures { MatchBool result (local_step image.now t self.old ≡ Some self.new) ((local_step image.now t self.old ≡ None) × (self.new ≡ self.old)) }
     {
         match &mut self.stage {
-            Stage::Running(activation) => activation.take_step(image),
+            Stage::Running(activation) => match activation.take_step(image, t) {
+                Progress::Went => true,
+                Progress::Failed(fault) => {
+                    self.stage = Stage::Dying(fault);
+                    true
+                }
+                Progress::Stayed => false,
+            },
             Stage::Dying(_) | Stage::Exiting(_) => false,
         }
     }

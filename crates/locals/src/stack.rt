@@ -1,4 +1,4 @@
-ghost use Rattle.std.specs.Prelude.{◌≡◌, ◌<◌, ◌==◌, [], ◌∷◌, length, reverse, nat_lt, slice_get, Some, IfSome, IfNone};
+ghost use Rattle.std.specs.Prelude.{◌≡◌, ◌+◌, ◌<◌, ◌≤◌, ◌==◌, [], ◌∷◌, drop, length, reverse, take, nat_lt, slice_get, IfSome, IfNone};
 
 use arrayvec::ArrayVec;
 use std::marker::Model;
@@ -27,6 +27,17 @@ impl<T: Copy + Default + Drop, const N: usize> Stack<T, N> {
         }
     }
 
+    /// The stack of these items, the last one on top.
+    pub fn of(items: &[T]) -> Stack<T, N>
+        requires { length items.now ≤ N }
+        ensures { result ≡ reverse items.now }
+    {
+        match ArrayVec::try_from(items) {
+            Ok(items) => Stack { items },
+            Err(_) => unreachable!(),
+        }
+    }
+
     /// A copy.
     pub fn again(&self) -> Stack<T, N>
         ensures { result ≡ self.now }
@@ -35,6 +46,14 @@ impl<T: Copy + Default + Drop, const N: usize> Stack<T, N> {
             Ok(items) => Stack { items },
             Err(_) => unreachable!(),
         }
+    }
+
+    /// How many items it has.
+    pub fn len(&self) -> usize
+        ensures value { result ≡ length self.now }
+        ensures within { result ≤ N }
+    {
+        self.items.as_slice().len()
     }
 
     /// Whether one more item fits.
@@ -54,9 +73,51 @@ impl<T: Copy + Default + Drop, const N: usize> Stack<T, N> {
     /// The top item.
     pub fn top(&self) -> Option<T>
         ensures none { IfNone result (self.now ≡ []) }
-        ensures some { IfSome result (λ x. slice_get self.now 0 ≡ Some x) }
+        ensures some { IfSome result (λ item. self.now ≡ item ∷ drop 1 self.now) }
     {
-        self.items.as_slice().last().copied()
+        self.below_top(0)
+    }
+
+    /// The two uppermost items, the lower one first.
+    pub fn top_two(&self) -> Option<(T, T)>
+        ensures none { IfNone result (length self.now < 2) }
+        ensures some { IfSome result (λ items. self.now ≡ items.1 ∷ items.0 ∷ drop 2 self.now) }
+    {
+        Some((self.below_top(1)?, self.below_top(0)?))
+    }
+
+    /// The three uppermost items, from the lowest one up.
+    pub fn top_three(&self) -> Option<(T, T, T)>
+        ensures none { IfNone result (length self.now < 3) }
+        ensures some { IfSome result (λ items. self.now ≡ items.2 ∷ items.1 ∷ items.0 ∷ drop 3 self.now) }
+    {
+        Some((self.below_top(2)?, self.below_top(1)?, self.below_top(0)?))
+    }
+
+    /// The five uppermost items, from the lowest one up.
+    pub fn top_five(&self) -> Option<(T, T, T, T, T)>
+        ensures none { IfNone result (length self.now < 5) }
+        ensures some { IfSome result (λ items. self.now ≡ items.4 ∷ items.3 ∷ items.2 ∷ items.1 ∷ items.0 ∷ drop 5 self.now) }
+    {
+        Some((
+            self.below_top(4)?,
+            self.below_top(3)?,
+            self.below_top(2)?,
+            self.below_top(1)?,
+            self.below_top(0)?,
+        ))
+    }
+
+    // The item so far below the top one.
+    fn below_top(&self, depth: usize) -> Option<T>
+        ensures { result ≡ slice_get self.now depth }
+    {
+        let items = self.items.as_slice();
+        if depth < items.len() {
+            Some(items[items.len() - 1 - depth])
+        } else {
+            None
+        }
     }
 
     /// Puts an item on top.
@@ -71,8 +132,36 @@ impl<T: Copy + Default + Drop, const N: usize> Stack<T, N> {
     pub fn pop(&mut self) -> Option<T>
         ensures none { IfNone result ((self.old ≡ []) × (self.new ≡ [])) }
         ensures some { IfSome result (λ item. self.old ≡ item ∷ self.new) }
+        ensures room { IfSome result (λ item. length self.new < N) }
     {
+        prove!(self.items.len() <= N);
         self.items.pop()
+    }
+
+    /// Takes the two uppermost items, the lower one first. Where there is one, it stays.
+    pub fn pop_two(&mut self) -> Option<(T, T)>
+        ensures none { IfNone result ((length self.old < 2) × (self.new ≡ self.old)) }
+        ensures some { IfSome result (λ items. self.old ≡ items.1 ∷ items.0 ∷ self.new) }
+        ensures room { IfSome result (λ items. length self.new < N) }
+    {
+        let upper = self.pop()?;
+        match self.pop() {
+            Some(lower) => Some((lower, upper)),
+            None => {
+                self.push(upper);
+                None
+            }
+        }
+    }
+
+    /// Takes so many items off the top.
+    pub fn drop_top(&mut self, count: usize)
+        requires { count ≤ length self.old }
+        ensures value { self.new ≡ drop count self.old }
+        ensures room { length self.new + count ≤ N }
+    {
+        prove!(self.items.len() <= N);
+        self.items.truncate(self.items.len() - count);
     }
 
     /// The items from the lowest one up.
@@ -80,5 +169,15 @@ impl<T: Copy + Default + Drop, const N: usize> Stack<T, N> {
         ensures { result.now ≡ reverse self.now }
     {
         self.items.as_slice()
+    }
+
+    /// So many uppermost items, from the lowest one up.
+    pub fn uppermost(&self, count: usize) -> &[T]
+        requires { count ≤ length self.now }
+        ensures value { result.now ≡ reverse (take count self.now) }
+        ensures within { length result.now ≤ N }
+    {
+        let items = self.items.as_slice();
+        &items[items.len() - count..]
     }
 }

@@ -47,3 +47,10 @@ threads_put threads t x y h u =
 pub words_put : (ws : List ℕ) (a v : ℕ) → a < length ws → (b : ℕ) → slice_index (slice_set ws a v) b ≡ put (λ c. slice_index ws c) a v b
 words_put ws a v h b =
     by_place (λ c. slice_index ws c) a v b _ (λ e. ap (slice_index (slice_set ws a v)) e ∙ get_or-set_same ws a v 0 h) (get_or-set_other ws a b v 0)
+
+-- the value at the place, and those at the others
+pub put-here : {A : Type 0} → (f : ℕ → A) (i : ℕ) (v : A) (j : ℕ) → j ≡ i → put f i v j ≡ v
+put-here f i v j e = elim (eqb_tells j i) [ inl same ↦ ap (λ (b : Bool). if b then v else f j) same.0 | inr apart ↦ absurd (apart.1 e) ]
+
+pub put-there : {A : Type 0} → (f : ℕ → A) (i : ℕ) (v : A) (j : ℕ) → j ≢ i → put f i v j ≡ f j
+put-there f i v j ne = elim (eqb_tells j i) [ inl same ↦ absurd (ne same.1) | inr apart ↦ ap (λ (b : Bool). if b then v else f j) apart.0 ]

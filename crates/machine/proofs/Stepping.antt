@@ -1,121 +1,133 @@
--- The machine's own steps are steps of the relation.
-use Rattle.std.proofs.Common.{◌≡◌, ℕ, zero, suc, ◌-◌, ◌<◌, List, [], ◌∷◌, length, Option, Some, None, Result, Ok, Contains, slice_set, replicate, refl, ap, sym, ◌∙◌, arith, length-set}
-use Rattle.std.specs.Prelude.{slice_index, ℤ}
+-- The machine's own steps are steps of the relation, from its opening on.
+use Rattle.std.proofs.Common.{◌≡◌, ℕ, zero, suc, ◌+◌, ltb, ◌<◌, Bool, true, false, List, [], ◌∷◌, length, Option, Some, None, Ok, slice_set, replicate, refl, ◌∙◌, arith, length-set}
+use Rattle.std.specs.Prelude.{slice_index}
+use Rattle.std.specs.List.{IsDistinct}
 use Rattle.std.proofs.lemmas.List.{length-replicate}
-use Rattle.std.proofs.lemmas.Option.{slice_get_within}
-use Rattle.words.specs.Process.{process_word}
-use Rattle.words.specs.Outcomes.{fault_number}
 use Rattle.isa.specs.Programs.{Program, memory_size}
-use Rattle.locals.specs.Threads.{Thread, opening_thread}
-use Rattle.locals.specs.Looks.{Look, Goes, Asks, Breaks, Rests, look}
-use Rattle.locals.specs.Looks.{AskPrint, AskReturn, AskFault, AskPending, AskClearId, AskLastWake}
+use Rattle.isa.specs.declared.instr.Instr.{Instr}
+use Rattle.words.specs.declared.outcome.Fault.{Fault}
+use Rattle.robustexit.specs.declared.phase.ExitPhase.TheVariants.{Entry, Pending, ClearId, LastWake, Ended}
+use Rattle.locals.specs.declared.frame.Frame.{Frame}
+use Rattle.locals.specs.declared.frame.Locals.{Locals}
+use Rattle.locals.specs.Threads.{Thread, Runs, Dies, Exits, fresh, opening_thread}
+use Rattle.locals.specs.Looks.{Request, AskFork, Look, Goes, Asks, Leaves, Breaks, Rests, look, look_at, at_place, returned, if_so, or_dies, effect, Effect, Then, Keeps, To, Tests, Asking, Trying, Calls, Returns, ReturnsValue, Fails, Misses, Guards, Checks}
 use Rattle.machine.specs.declared.event.Event.{Event}
-use Rattle.machine.specs.declared.event.StepFault.{StepFault}
-use Rattle.machine.specs.States.{Kept, put, thread_at, thread_of, state_of, with_word, with_thread}
-use Rattle.machine.specs.Runs.{Moves, IsStep, is_paused}
-use Rattle.machine.specs.Serving.{IsWake}
-use Rattle.machine.specs.Fronts.{thread_step, lifted, step_thread}
-use Rattle.machine.specs.Views.{IsKept}
+use Rattle.machine.specs.States.{Kept, put, thread_at, thread_of, state_of, with_thread}
+use Rattle.machine.specs.Fronts.{thread_step, lifted, leave, step_thread, step_awake}
+use Rattle.machine.specs.Views.{IsKept, IsSoundly}
 use Rattle.machine.specs.Determined.{OpensSo, StepsSo}
-use Rattle.machine.proofs.Placing.{by_place, threads_put, words_put}
+use Rattle.machine.proofs.Placing.{by_place, words_put}
+use Rattle.machine.proofs.Keeping.{holds-kept}
+use Rattle.machine.proofs.Landing.{Steps, lands, has_place}
+use Rattle.machine.proofs.Serves.{serves_so}
+use Rattle.machine.proofs.Forks.{forks}
+use Rattle.machine.proofs.Leaving.{leaving, IsUnderWay}
 
-inside : (x y : Kept × Event) → (let R : Type 0 = Result (Kept × Event) StepFault in (let a : R = Ok x in a) ≡ (let b : R = Ok y in b)) → x ≡ y
-inside x y h = cc
+-- what a thread can come to: no step of an exit that is over
+abbrev pub IsNext : Look → Type 0
+IsNext (Goes x) = Unit {0}
+IsNext (Asks request go) = Unit {0}
+IsNext (Leaves phase) = IsUnderWay phase
+IsNext Breaks = Unit {0}
+IsNext Rests = Unit {0}
 
-kept_is : (x : Kept × Event) (k : Kept) (e : Event) → (let R : Type 0 = Result (Kept × Event) StepFault in (let a : R = Ok x in a) ≡ (let b : R = Ok (k, e) in b)) → k ≡ x.0
-kept_is x k e h = ap (λ (q : Kept × Event). q.0) (sym (inside x (k, e) h))
+-- what an instruction can come to
+abbrev pub IsOfCode : Look → Type 0
+IsOfCode (Goes x) = Unit {0}
+IsOfCode (Asks request go) = Unit {0}
+IsOfCode (Leaves phase) = ⊥
+IsOfCode Breaks = Unit {0}
+IsOfCode Rests = ⊥
 
--- a state after words, output and one thread changed
-state_is : (k : Kept) (t : ℕ) (x y : Thread) (words : List ℕ) (output : List ℤ) (w : ℕ → ℕ) → thread_of k t ≡ Some y → ((b : ℕ) → slice_index words b ≡ w b) → length words ≡ length k.common.words
-    → state_of (record { common = record { words = words; output = output }; threads = slice_set k.threads (t - 1) x }) ≡ record { word = w; size = length k.common.words; thread = put (thread_of k) t (Some x); asleep = λ u. None; output = output }
-state_is k t x y words output w stands word same = λ i. record {
-  word = λ b. word b i;
-  size = same i;
-  thread = λ u. threads_put k.threads t x y stands u i;
-  asleep = λ u. None;
-  output = output;
-}
+if_so_code : (b : Bool) (l : Look) → IsOfCode l → IsOfCode (if_so b l)
+if_so_code true l h = h
+if_so_code false l h = tt
 
-nothing : (t : ℕ) → Contains [] t → ⊥
-nothing t h = let n : h.0 < 0 = h.1 in omega arith
+or_dies_code : (b : Bool) (fault : Fault) (l : Look) → IsOfCode l → IsOfCode (or_dies b fault l)
+or_dies_code true fault l h = h
+or_dies_code false fault l h = tt
 
--- nobody sleeps, so nobody is woken
-none_woken : (a : ℕ) → IsWake (λ t. None) a 1 []
-none_woken a = record { distinct = tt; slept = λ t h. absurd (nothing t h); few = omega arith; all = λ h t e. absurd cc }
+returned_code : (request : Request) (operands : List ℕ) (callers : List Frame) → IsOfCode (returned request operands callers)
+returned_code request operands [] = tt
+returned_code request operands (f ∷ fs) = tt
 
--- a thread's words lie in the memory
-in_memory : (p : Program) (k : Kept) (t : ℕ) (y : Thread) → IsKept p k → thread_of k t ≡ Some y → (0 < t) × (process_word t 5 < length k.common.words)
-in_memory p k zero y kept stands = absurd cc
-in_memory p k (suc t) y kept stands =
-    let few : t < length k.threads = slice_get_within k.threads t y stands in
-    (omega arith, omega (arith, kept.sized, kept.few))
+place_code : (place : ℕ) (locals : Locals) (callers : List Frame) (e : Effect) → IsOfCode (at_place place locals callers e)
+place_code place locals callers (Then operands) = tt
+place_code place locals callers (Keeps locals' operands) = tt
+place_code place locals callers (To place' operands) = tt
+place_code place locals callers (Tests value place' operands) = tt
+place_code place locals callers (Asking request answered) = tt
+place_code place locals callers (Trying request fault answered) = tt
+place_code place locals callers (Calls place' operands) = if_so_code (ltb (length callers) 15) (Goes (Runs place' operands fresh (record { back = place + 1; locals = locals } ∷ callers))) tt
+place_code place locals callers (Returns operands) = returned_code _ operands callers
+place_code place locals callers (ReturnsValue v operands) = returned_code _ operands callers
+place_code place locals callers (Fails fault) = tt
+place_code place locals callers Misses = tt
+place_code place locals callers (Guards test e) = if_so_code test _ (place_code place locals callers e)
+place_code place locals callers (Checks test fault e) = or_dies_code test fault _ (place_code place locals callers e)
 
--- what a step of a thread leaves
-record Steps (p : Program) (k k' : Kept) (t : ℕ) (l : Look) : Type 0 where
-  pub moves : Moves (state_of k) t [] l (state_of k')
-  pub threads : length k'.threads ≡ length k.threads
-  pub words : length k'.common.words ≡ length k.common.words
+pub look_code : (t : ℕ) (i : Option Instr) (place : ℕ) (operands : List ℕ) (locals : Locals) (callers : List Frame) → IsOfCode (look_at t i place operands locals callers)
+look_code t None place operands locals callers = tt
+look_code t (Some i) place operands locals callers = place_code place locals callers (effect t i operands locals)
 
-word_set : (k : Kept) (t a v : ℕ) (x y : Thread) → thread_of k t ≡ Some y → a < length k.common.words
-    → state_of (record { common = record k.common { words = slice_set k.common.words a v }; threads = slice_set k.threads (t - 1) x }) ≡ with_thread (with_word (state_of k) a v) t x
-word_set k t a v x y stands within =
-    state_is k t x y (slice_set k.common.words a v) k.common.output (put (λ b. slice_index k.common.words b) a v) stands (words_put k.common.words a v within) (length-set k.common.words a v)
+next_of_code : (l : Look) → IsOfCode l → IsNext l
+next_of_code (Goes x) h = tt
+next_of_code (Asks request go) h = tt
+next_of_code (Leaves phase) h = absurd h
+next_of_code Breaks h = tt
+next_of_code Rests h = tt
 
-word_step : (p : Program) (k k' : Kept) (t a v : ℕ) (x y : Thread) → thread_of k t ≡ Some y → a < length k.common.words → k' ≡ record { common = record k.common { words = slice_set k.common.words a v }; threads = slice_set k.threads (t - 1) x }
-    → (state_of k' ≡ with_thread (with_word (state_of k) a v) t x) × (length k'.threads ≡ length k.threads) × (length k'.common.words ≡ length k.common.words)
-word_step p k k' t a v x y stands within is = (
-  ap state_of is ∙ word_set k t a v x y stands within,
-  ap (λ (q : Kept). length q.threads) is ∙ length-set k.threads (t - 1) x,
-  ap (λ (q : Kept). length q.common.words) is ∙ length-set k.common.words a v,
-)
+pub is_next : (p : Program) (t : ℕ) (x : Thread) → IsNext (look p t x)
+is_next p t (Runs place operands locals callers) = next_of_code _ (look_code t _ place operands locals callers)
+is_next p t (Dies fault) = tt
+is_next p t (Exits (Entry e seen)) = tt
+is_next p t (Exits Pending) = tt
+is_next p t (Exits ClearId) = tt
+is_next p t (Exits LastWake) = tt
+is_next p t (Exits Ended) = tt
 
-still_step : (k k' : Kept) (t : ℕ) (output : List ℤ) (x y : Thread) → thread_of k t ≡ Some y → k' ≡ record { common = record k.common { output = output }; threads = slice_set k.threads (t - 1) x }
-    → (state_of k' ≡ with_thread (record (state_of k) { output = output }) t x) × (length k'.threads ≡ length k.threads) × (length k'.common.words ≡ length k.common.words)
-still_step k k' t output x y stands is = (
-  ap state_of is ∙ state_is k t x y k.common.words output (λ b. slice_index k.common.words b) stands (λ b. refl) refl,
-  ap (λ (q : Kept). length q.threads) is ∙ length-set k.threads (t - 1) x,
-  ap (λ (q : Kept). length q.common.words) is,
-)
+steps_by : (p : Program) (k k' : Kept) (t : ℕ) (e : Event) (y : Thread) (l : Look) → IsNext l → IsKept p k → thread_of k t ≡ Some y → k.common.asleep t ≡ None
+    → lifted k t (thread_step (length k.threads) t k.common l) ≡ Ok (k', e) → Steps p k k' t e l
+steps_by p k k' t e y (Goes x) next kept stands awake h =
+    let r = lands p k k' t e _ x y k.common (λ b. slice_index k.common.words b) kept stands (holds-kept p k kept) (λ b. refl) h in
+    record { woken = []; set = r.event; moves = (refl, r.state); kept = r.kept }
+steps_by p k k' t e y (Asks (AskFork entry arguments has_room) go) next kept stands awake h =
+    forks p k k' t e y go entry arguments has_room kept stands (has_place p k t y kept stands) h
+steps_by p k k' t e y (Asks request go) next kept stands awake h =
+    serves_so p k k' t e y request go tt kept stands awake (has_place p k t y kept stands) h
+steps_by p k k' t e y (Leaves phase) next kept stands awake h =
+    let l = leave t phase k.common in
+    let g = leaving p k t phase next kept (has_place p k t y kept stands) in
+    let r = lands p k k' t e l.event (Exits l.next) y l.common g.word kept stands g.holds g.words h in
+    record {
+      woken = g.woken;
+      set = r.event ∙ g.set;
+      moves = (record { word = g.word; asleep = l.common.asleep }, l.next, g.step, r.state ∙ (λ i. with_thread (record (state_of k) { word = g.word; asleep = l.common.asleep; output = g.output i }) t (Exits l.next)));
+      kept = r.kept;
+    }
+steps_by p k k' t e y Breaks next kept stands awake h = absurd cc
+steps_by p k k' t e y Rests next kept stands awake h = absurd cc
 
-steps_by : (p : Program) (k k' : Kept) (t : ℕ) (e : Event) (y : Thread) (l : Look) → IsKept p k → thread_of k t ≡ Some y → lifted k t (thread_step t k.common l) ≡ Ok (k', e) → Steps p k k' t l
-steps_by p k k' t e y (Goes x) kept stands gives =
-    let r = still_step k k' t k.common.output x y stands (kept_is _ k' e gives) in
-    record { moves = (refl, r.0); threads = r.1; words = r.2 }
-steps_by p k k' t e y (Asks (AskPrint number) go) kept stands gives =
-    let r = still_step k k' t _ (go 0) y stands (kept_is _ k' e gives) in
-    record { moves = (0, _, (refl, refl, refl), r.0); threads = r.1; words = r.2 }
-steps_by p k k' t e y (Asks AskReturn go) kept stands gives =
-    let w = in_memory p k t y kept stands in
-    let r = word_step p k k' t (process_word t 5) 16 (go 0) y stands w.1 (kept_is _ k' e gives) in
-    record { moves = (0, _, (refl, refl, refl), r.0); threads = r.1; words = r.2 }
-steps_by p k k' t e y (Asks (AskFault fault) go) kept stands gives =
-    let w = in_memory p k t y kept stands in
-    let r = word_step p k k' t (process_word t 5) (fault_number fault) (go 0) y stands w.1 (kept_is _ k' e gives) in
-    record { moves = (0, _, (refl, refl, refl), r.0); threads = r.1; words = r.2 }
-steps_by p k k' t e y (Asks AskPending go) kept stands gives =
-    let r = still_step k k' t k.common.output (go 0) y stands (kept_is _ k' e gives) in
-    record { moves = (0, _, (refl, refl, refl), r.0); threads = r.1; words = r.2 }
-steps_by p k k' t e y (Asks AskClearId go) kept stands gives =
-    let w = in_memory p k t y kept stands in
-    let r = word_step p k k' t (process_word t 2) 0 (go 0) y stands (omega arith) (kept_is _ k' e gives) in
-    record { moves = (0, _, (refl, refl, refl), r.0); threads = r.1; words = r.2 }
-steps_by p k k' t e y (Asks AskLastWake go) kept stands gives =
-    let r = still_step k k' t k.common.output (go 0) y stands (kept_is _ k' e gives) in
-    record { moves = (0, _, (none_woken (process_word t 2), refl, refl), r.0); threads = r.1; words = r.2 }
-steps_by p k k' t e y Breaks kept stands gives = absurd cc
-steps_by p k k' t e y Rests kept stands gives = absurd cc
+-- with what a step is done
+record Done (p : Program) (k k' : Kept) (t : ℕ) (e : Event) : Type 0 where
+  pub thread : Thread
+  pub stands : thread_of k t ≡ Some thread
+  pub awake : k.common.asleep t ≡ None
+  pub done : lifted k t (thread_step (length k.threads) t k.common (look p t thread)) ≡ Ok (k', e)
 
-step_of_thread : (p : Program) (k k' : Kept) (t : ℕ) (e : Event) (o : Option Thread) → IsKept p k → thread_of k t ≡ o → step_thread p k t o ≡ Ok (k', e)
-    → IsStep p (state_of k) (record { thread = t; woken = []; pauses = is_paused (state_of k') t }) (state_of k') × IsKept p k'
-step_of_thread p k k' t e None kept stands gives = absurd cc
-step_of_thread p k k' t e (Some x) kept stands gives =
-    let s = steps_by p k k' t e x (look p t x) kept stands gives in (
-      record { thread = x; stands = stands; awake = refl; moves = s.moves; pauses = refl },
-      record { sized = s.words ∙ kept.sized; some = omega (arith, s.threads, kept.some); few = omega (arith, s.threads, kept.few) },
-    )
+done_awake : (p : Program) (k k' : Kept) (t : ℕ) (e : Event) (x : Thread) (o : Option ℕ) → thread_of k t ≡ Some x → k.common.asleep t ≡ o → step_awake p k t x o ≡ Ok (k', e) → Done p k k' t e
+done_awake p k k' t e x None stands awake h = record { thread = x; stands = stands; awake = awake; done = h }
+done_awake p k k' t e x (Some a) stands awake h = absurd cc
+
+done_by : (p : Program) (k k' : Kept) (t : ℕ) (e : Event) (o : Option Thread) → thread_of k t ≡ o → step_thread p k t o ≡ Ok (k', e) → Done p k k' t e
+done_by p k k' t e None stands h = absurd cc
+done_by p k k' t e (Some x) stands h = done_awake p k k' t e x (k.common.asleep t) stands refl h
 
 pub steps_so : StepsSo
-steps_so p k k' t e kept gives = step_of_thread p k k' t e (thread_of k t) kept refl gives
+steps_so p k k' t e kept h =
+    let d = done_by p k k' t e (thread_of k t) refl h in
+    let s = steps_by p k k' t e d.thread (look p t d.thread) (is_next p t d.thread) kept d.stands d.awake d.done in
+    (s.woken, s.set, record { thread = d.thread; stands = d.stands; awake = d.awake; moves = s.moves; pauses = refl }, s.kept)
 
 zeros : (n b : ℕ) → slice_index (replicate n 0) b ≡ 0
 zeros zero b = refl
@@ -139,14 +151,20 @@ opening_words n some b = words_put (zero_words n) 3 1 (omega (arith, long n)) b 
 opening_size : (n : ℕ) → length (slice_set (zero_words n) 3 1) ≡ n
 opening_size n = length-set (zero_words n) 3 1 ∙ long n
 
+-- nobody sleeps
+sound_opening : IsSoundly (λ a. []) (λ t. None)
+unfolding IsDistinct
+sound_opening = record { stands = λ t a h. absurd cc; sleeps = λ t a h. absurd cc; distinct = λ a. tt }
+
 pub opens_so : OpensSo
 opens_so p = (
   (λ i. record {
     word = λ b. opening_words (memory_size p) (omega arith) b i;
     size = opening_size (memory_size p) i;
-    thread = λ u. one_thread (opening_thread p.start) u i;
+    made = 1;
+    thread = λ u. one_thread (opening_thread p.start []) u i;
     asleep = λ t. None;
     output = [];
   }),
-  record { sized = opening_size (memory_size p); some = omega arith; few = omega arith },
+  record { sized = opening_size (memory_size p); some = omega arith; few = omega arith; sound = sound_opening; made = λ t a h. absurd cc },
 )

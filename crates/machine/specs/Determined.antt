@@ -1,8 +1,9 @@
 -- The machine's own steps are steps of the relation.
-use Rattle.std.specs.Prelude.{ℕ, ◌≡◌, ◌↔◌, [], true, Ok, Err}
+use Rattle.std.specs.Prelude.{ℕ, ◌≡◌, ◌↔◌, List, true, Ok, Err}
 use Rattle.isa.specs.Programs.{Program}
 use Rattle.machine.specs.declared.event.Event.{Event}
 use Rattle.machine.specs.declared.event.StepFault.TheVariants.{CannotMove, Broken}
+use Rattle.machine.specs.ThreadSets.{set_of}
 use Rattle.machine.specs.States.{Kept, opening_kept, opening_state, state_of}
 use Rattle.machine.specs.Runs.{IsStep, CanStep, NextIsBroken, is_paused}
 use Rattle.machine.specs.Fronts.{step_of, can_move}
@@ -12,15 +13,16 @@ use Rattle.machine.specs.Views.{IsKept}
 abbrev pub OpensSo : Type 0
 OpensSo = (p : Program) → (state_of (opening_kept p) ≡ opening_state p) × IsKept p (opening_kept p)
 
--- a step that is done is a step of the relation, and keeps the sizes
+-- a step that is done is a step of the relation that wakes those of its event, and keeps what always holds
 abbrev pub StepsSo : Type 0
 StepsSo =
     (p : Program) (k k' : Kept) (t : ℕ) (e : Event) → IsKept p k → step_of p k t ≡ Ok (k', e)
-    → IsStep p (state_of k) (record { thread = t; woken = []; pauses = is_paused (state_of k') t }) (state_of k') × IsKept p k'
+    → (woken : List ℕ) × (e.woken ≡ set_of woken)
+    × IsStep p (state_of k) (record { thread = t; woken = woken; pauses = is_paused (state_of k') t }) (state_of k') × IsKept p k'
 
 -- a step is Broken exactly where the thread's next step may not be
 abbrev pub BreaksSo : Type 0
-BreaksSo = (p : Program) (k : Kept) (t : ℕ) → (step_of p k t ≡ Err Broken) ↔ NextIsBroken p (state_of k) t
+BreaksSo = (p : Program) (k : Kept) (t : ℕ) → IsKept p k → (step_of p k t ≡ Err Broken) ↔ NextIsBroken p (state_of k) t
 
 -- a step is refused with CannotMove exactly where the thread can't step
 abbrev pub RefusesSo : Type 0

@@ -1,11 +1,13 @@
 -- The runs of the machine: any thread next, any choice of sleepers.
 use Rattle.std.specs.Prelude.{ℕ, ◌≡◌, List, [], ◌∷◌, Bool, true, false, Option, Some, None, is_some, ◌||◌}
 use Rattle.isa.specs.Programs.{Program}
-use Rattle.locals.specs.declared.exit.ExitPhase.TheVariants.{Ended}
+use Rattle.robustexit.specs.declared.phase.ExitPhase.{ExitPhase}
+use Rattle.robustexit.specs.declared.phase.ExitPhase.TheVariants.{Ended}
+use Rattle.robustexit.specs.RobustExit.{Shared, ExitStep}
 use Rattle.locals.specs.Threads.{Thread, Runs, Dies, Exits}
-use Rattle.locals.specs.Looks.{Look, Goes, Asks, Breaks, Rests, look}
+use Rattle.locals.specs.Looks.{Look, Goes, Asks, Leaves, Breaks, Rests, look}
 use Rattle.machine.specs.States.{State, opening_state, with_thread}
-use Rattle.machine.specs.Serving.{Serves}
+use Rattle.machine.specs.Serving.{Serves, IsUnserved, shared_of, with_shared}
 
 -- a step, by its thread and the sleepers that it woke; and whether the thread then sleeps or has ended
 pub record Step : Type 0 where
@@ -16,7 +18,7 @@ pub record Step : Type 0 where
 abbrev pub has_ended : Option Thread → Bool
 has_ended (Some (Exits Ended)) = true
 has_ended (Some (Exits phase)) = false
-has_ended (Some (Runs place operands callers)) = false
+has_ended (Some (Runs place operands locals callers)) = false
 has_ended (Some (Dies fault)) = false
 has_ended None = false
 
@@ -29,6 +31,9 @@ abbrev pub Moves : State → ℕ → List ℕ → Look → State → Type 0
 Moves s t woken (Goes x) s' = (woken ≡ []) × (s' ≡ with_thread s t x)
 Moves s t woken (Asks request go) s' =
     (answer : ℕ) × (mid : State) × Serves t request s woken answer mid × (s' ≡ with_thread mid t (go answer))
+Moves s t woken (Leaves phase) s' =
+    (after : Shared) × (next : ExitPhase) × ExitStep s.size t phase (shared_of s) woken after next
+    × (s' ≡ with_thread (with_shared s after) t (Exits next))
 Moves s t woken Breaks s' = ⊥
 Moves s t woken Rests s' = ⊥
 
@@ -56,9 +61,18 @@ pub record CanStep (s : State) (t : ℕ) : Type 0 where
   pub awake : s.asleep t ≡ None
   pub goes_on : has_ended (Some thread) ≡ false
 
--- the thread's next step may not be: a missing operand, a 513th operand, or a place outside the code
+-- what may not be: a missing operand, a 513th operand, a 17th frame, a place outside the code, a process number out of
+-- range, an address outside the memory
+abbrev pub IsBroken : State → Look → Type 0
+IsBroken s (Goes x) = ⊥
+IsBroken s (Asks request go) = IsUnserved request s
+IsBroken s (Leaves phase) = ⊥
+IsBroken s Breaks = Unit {0}
+IsBroken s Rests = ⊥
+
+-- the thread's next step may not be
 pub record NextIsBroken (p : Program) (s : State) (t : ℕ) : Type 0 where
   pub thread : Thread
   pub stands : s.thread t ≡ Some thread
   pub awake : s.asleep t ≡ None
-  pub breaks : look p t thread ≡ Breaks
+  pub breaks : IsBroken s (look p t thread)

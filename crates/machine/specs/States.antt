@@ -4,9 +4,12 @@ use Rattle.isa.specs.Programs.{Program, memory_size}
 use Rattle.words.specs.Process.{process_word}
 use Rattle.locals.specs.Threads.{Thread, opening_thread}
 
--- what threads share: the words, and the numbers printed
+-- what threads share: the words; who sleeps on each address, in the order of their arrival, and where each sleeps; and
+-- the numbers printed
 pub record Common : Type 0 where
   pub words : List ℕ
+  pub queue : ℕ → List ℕ
+  pub asleep : ℕ → Option ℕ
   pub output : List ℤ
 
 -- what a machine keeps: threads by number, from 1
@@ -14,10 +17,12 @@ pub record Kept : Type 0 where
   pub common : Common
   pub threads : List Thread
 
--- a state: the word at each address below the size, each thread that was made, and where it sleeps, if it does
+-- a state: the word at each address below the size, how many threads were made, each of them, and where it sleeps, if it
+-- does
 pub record State : Type 0 where
   pub word : ℕ → ℕ
   pub size : ℕ
+  pub made : ℕ
   pub thread : ℕ → Option Thread
   pub asleep : ℕ → Option ℕ
   pub output : List ℤ
@@ -33,28 +38,35 @@ thread_at threads (suc t) = slice_get threads t
 abbrev pub thread_of : Kept → ℕ → Option Thread
 thread_of k t = thread_at k.threads t
 
--- what is kept, as a state; in this fragment nobody sleeps
+-- what is kept, as a state
 abbrev pub state_of : Kept → State
 state_of k = record {
   word = λ a. slice_index k.common.words a;
   size = length k.common.words;
+  made = length k.threads;
   thread = thread_of k;
-  asleep = λ t. None;
+  asleep = k.common.asleep;
   output = k.common.output;
 }
 
--- the first process stands at the start, and its id word is its number; all other words are 0
+-- the first process stands at the start, and its id word is its number; all other words are 0, and nobody sleeps
 abbrev pub opening_kept : Program → Kept
 opening_kept p = record {
-  common = record { words = slice_set (replicate (memory_size p) 0) 3 1; output = [] };
-  threads = opening_thread p.start ∷ [];
+  common = record {
+    words = slice_set (replicate (memory_size p) 0) 3 1;
+    queue = λ a. [];
+    asleep = λ t. None;
+    output = [];
+  };
+  threads = opening_thread p.start [] ∷ [];
 }
 
 abbrev pub opening_state : Program → State
 opening_state p = record {
   word = put (λ a. 0) (process_word 1 2) 1;
   size = memory_size p;
-  thread = put (λ t. None) 1 (Some (opening_thread p.start));
+  made = 1;
+  thread = put (λ t. None) 1 (Some (opening_thread p.start []));
   asleep = λ t. None;
   output = [];
 }
@@ -64,3 +76,6 @@ with_thread s t x = record s { thread = put s.thread t (Some x) }
 
 abbrev pub with_word : State → ℕ → ℕ → State
 with_word s a v = record s { word = put s.word a v }
+
+abbrev pub with_sleepers : State → (ℕ → Option ℕ) → State
+with_sleepers s asleep = record s { asleep = asleep }

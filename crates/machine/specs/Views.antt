@@ -1,7 +1,10 @@
 -- A machine as contracts see it.
-use Rattle.std.specs.Prelude.{ℕ, ◌+◌, ◌*◌, ◌<◌, ◌≤◌, ◌≡◌, true, false, List, ℤ, length, take, sum, Option, Some, None}
+use Rattle.std.specs.Prelude.{ℕ, ◌+◌, ◌*◌, ◌<◌, ◌≤◌, ◌≡◌, true, false, List, ℤ, length, take, sum, Option, Some, None, IsTrue, nat_eq}
+use Rattle.std.specs.List.{IsDistinct}
 use Rattle.words.specs.declared.mem.Addr.{Addr}
 use Rattle.isa.specs.Programs.{Program, memory_size}
+use Rattle.buckets.specs.Places.{names}
+use Rattle.buckets.specs.Sleepers.{Sleepers, queue, place_of}
 use Rattle.machine.specs.declared.event.Event.{Event}
 use Rattle.machine.specs.declared.event.EventName.{EventName}
 use Rattle.machine.specs.declared.event.EventName.TheVariants as name
@@ -9,12 +12,6 @@ use Rattle.locals.specs.Threads.{Thread}
 use Rattle.machine.specs.States.{Common, Kept, thread_of}
 use Rattle.machine.specs.Runs.{has_ended}
 use Rattle.machine.specs.Fronts.{can_move}
-
--- the program that runs, what is kept, and how many numbers can be printed without taking memory
-pub record View : Type 0 where
-  pub program : Program
-  pub kept : Kept
-  pub room : ℕ
 
 -- no thread can move
 abbrev pub IsQuiet : Kept → Type 0
@@ -24,17 +21,40 @@ IsQuiet k = (t : ℕ) → can_move k t ≡ false
 abbrev pub AllEnded : Kept → Type 0
 AllEnded k = (t : ℕ) → 0 < t → t ≤ length k.threads → has_ended (thread_of k t) ≡ true
 
--- what always holds of what is kept: the memory has the program's size, and there are 1 to 64 threads
+-- who sleeps and where: a thread sleeps on an address exactly where it stands in that address's list, once
+pub record IsSoundly (queue : ℕ → List ℕ) (asleep : ℕ → Option ℕ) : Type 0 where
+  pub stands : (t a : ℕ) → asleep t ≡ Some a → IsTrue (names (queue a) t)
+  pub sleeps : (t a : ℕ) → IsTrue (names (queue a) t) → asleep t ≡ Some a
+  pub distinct : (a : ℕ) → IsDistinct nat_eq (queue a)
+
+-- what always holds of what is kept: the memory has the program's size, there are 1 to 64 threads, and who sleeps is
+-- one of them
 pub record IsKept (p : Program) (k : Kept) : Type 0 where
   pub sized : length k.common.words ≡ memory_size p
   pub some : 1 ≤ length k.threads
   pub few : length k.threads ≤ 64
+  pub sound : IsSoundly k.common.queue k.common.asleep
+  pub made : (t a : ℕ) → k.common.asleep t ≡ Some a → (1 ≤ t) × (t ≤ length k.threads)
 
-abbrev pub common_of : List ℕ → List ℤ → Common
-common_of words output = record { words = words; output = output }
+abbrev pub common_of : List ℕ → Sleepers → List ℤ → Common
+common_of words sleepers output =
+    record { words = words; queue = queue sleepers; asleep = place_of sleepers; output = output }
 
-abbrev pub kept_of : List ℕ → List Thread → List ℤ → Kept
-kept_of words threads output = record { common = common_of words output; threads = threads }
+abbrev pub kept_of : List ℕ → Sleepers → List Thread → List ℤ → Kept
+kept_of words sleepers threads output = record { common = common_of words sleepers output; threads = threads }
+
+-- the program that runs, the parts of what is kept, and how many numbers can be printed without taking memory
+pub record View : Type 0 where
+  pub program : Program
+  pub words : List ℕ
+  pub sleepers : Sleepers
+  pub threads : List Thread
+  pub output : List ℤ
+  pub room : ℕ
+
+-- what a machine keeps
+abbrev pub kept : View → Kept
+kept v = kept_of v.words v.sleepers v.threads v.output
 
 -- the address of a member word of a monitor: before it stand the words of processes, the link word, the lock word and
 -- the members of each earlier monitor, and the monitor's own link word and lock word
@@ -50,8 +70,20 @@ address_of (Some a) = Some a.0
 abbrev pub printed_by_name : EventName → ℕ
 printed_by_name name.Print = 1
 printed_by_name name.Turn = 0
+printed_by_name name.Load = 0
+printed_by_name name.Store = 0
+printed_by_name name.Swap = 0
+printed_by_name name.Cas = 0
+printed_by_name name.Or = 0
+printed_by_name name.Add = 0
+printed_by_name name.Fork = 0
+printed_by_name name.Wait = 0
+printed_by_name name.Wake = 0
+printed_by_name name.Requeue = 0
 printed_by_name name.Ret = 0
+printed_by_name name.RetValue = 0
 printed_by_name name.Die = 0
+printed_by_name name.Entry = 0
 printed_by_name name.Pending = 0
 printed_by_name name.Clear = 0
 printed_by_name name.Last = 0

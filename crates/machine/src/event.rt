@@ -1,6 +1,9 @@
 ghost use Rattle.std.specs.Prelude.{◌≡◌};
-ghost use Rattle.machine.specs.Fronts.{event_of};
+ghost use Rattle.std.specs.List.{All};
+ghost use Rattle.machine.specs.ThreadSets.{IsThread};
+ghost use Rattle.machine.specs.Fronts.{plain, event_of};
 
+use crate::thread_set::ThreadSet;
 use thiserror::Error;
 
 /// What one step of a thread was, as a line of the log names it.
@@ -8,12 +11,36 @@ use thiserror::Error;
 pub enum EventName {
     /// A local step.
     Turn,
+    /// A word read: the word.
+    Load,
+    /// A word stored: the word.
+    Store,
+    /// A word swapped: the word before.
+    Swap,
+    /// A compare-and-swap: the word before.
+    Cas,
+    /// Bits set in a word: the word before.
+    Or,
+    /// A number added to a word: the word before.
+    Add,
+    /// A new thread: its number, or 0 where no more can be made.
+    Fork,
     /// A number printed: the number's word.
     Print,
+    /// A wait: 0 for a sleep, 1 for Again (futex(2), FUTEX_WAIT).
+    Wait,
+    /// A wake: how many were woken (futex(2), FUTEX_WAKE).
+    Wake,
+    /// A compare-requeue: how many were woken or moved, or 4294967295 for Again (futex(2), FUTEX_CMP_REQUEUE).
+    Requeue,
     /// The return of the last frame: 16, the outcome word of a process that ended.
     Ret,
+    /// The return of the last frame with a value: the value.
+    RetValue,
     /// A fault written: its number.
     Die,
+    /// The step of an exit at an entry of the robust list: the entry's address.
+    Entry,
     /// The step of an exit that treats the pending entry: its address, 0 for none.
     Pending,
     /// The step of an exit that clears the id word: 0.
@@ -29,14 +56,37 @@ pub struct Event {
     pub name: EventName,
     /// Its value, as `EventName` says.
     pub value: u32,
+    /// The threads that it woke.
+    pub woken: ThreadSet,
+    /// The threads that it moved to another address.
+    pub moved: ThreadSet,
 }
 
 impl Event {
-    /// An event of this name and value.
+    /// An event that wakes and moves nobody.
     pub fn new(name: EventName, value: u32) -> Event
-        ensures { result ≡ event_of name value }
+        ensures { result ≡ plain name value }
     {
-        Event { name, value }
+        Event {
+            name,
+            value,
+            woken: ThreadSet::new(),
+            moved: ThreadSet::new(),
+        }
+    }
+
+    /// An event that wakes and moves these threads.
+    pub fn with_threads(name: EventName, value: u32, woken: &[u32], moved: &[u32]) -> Event
+        requires woken { All IsThread woken.now }
+        requires moved { All IsThread moved.now }
+        ensures { result ≡ event_of name value woken.now moved.now }
+    {
+        Event {
+            name,
+            value,
+            woken: ThreadSet::of(woken),
+            moved: ThreadSet::of(moved),
+        }
     }
 }
 
@@ -57,7 +107,8 @@ pub enum StepFault {
     /// There is no such thread, it sleeps, or it has ended.
     #[error("fault 1")]
     CannotMove = 1,
-    /// The step may not be: a missing operand, a 513th operand, or a place outside the code.
+    /// The step may not be: a missing operand, a 513th operand, a 17th frame, a place outside the code, a process
+    /// number out of range, or an address outside the memory.
     #[error("fault 2")]
     Broken = 2,
 }

@@ -1,7 +1,7 @@
 ghost use Rattle.machine.specs.Determined.{OpensSo, StepsSo, BreaksSo, RefusesSo, MovesSo};
 
 /// What `Machine` keeps at the start stands for the opening state, and each of its steps is one step of the machine's
-/// relation, in which wakes may choose any sleepers. A step is refused exactly where the relation has none.
+/// relation, in which wakes and moves may choose any sleepers. A step is refused exactly where the relation has none.
 pub fn steps_are_machine_steps()
     ensures opening { OpensSo }
     ensures step { StepsSo }

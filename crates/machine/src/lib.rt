@@ -1,14 +1,22 @@
 //! The machine: any number of threads over one memory, and its steps.
 #![tactic(auto)]
 
+mod accesses;
+mod ends;
 mod event;
+mod exits;
+mod futexes;
 mod laws;
 mod machine;
 mod parts;
+mod refusals;
+mod served;
 mod serving;
+mod thread_set;
 mod thread_step;
 
 pub use event::{Entry, Event, EventName, StepFault};
 pub use laws::steps_are_machine_steps;
 pub use machine::Machine;
 pub use parts::MOST_THREADS;
+pub use thread_set::{ThreadSet, thread_set_laws};

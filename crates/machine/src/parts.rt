@@ -1,13 +1,17 @@
-ghost use Rattle.std.specs.Prelude.{◌≡◌, ◌^◌, sum, ◌≤◌, ◌<◌, ◌+◌, Ok, Err, IfOk, IfErr, OnErr, length, slice_index, vec_len, vec_capacity};
+ghost use Rattle.std.specs.Prelude.{◌≡◌, ◌^◌, sum, ◌≤◌, ◌<◌, None, Ok, Err, IfOk, IfErr, OnErr, [], ◌∷◌, length, replicate, slice_index, slice_set, vec_len, vec_capacity};
 ghost use Rattle.isa.specs.Programs.{memory_size};
+ghost use Rattle.locals.specs.Threads.{opening_thread};
+ghost use Rattle.buckets.specs.Sleepers.{place_of, thread_count};
 ghost use Rattle.machine.specs.Fronts.{step_of};
-ghost use Rattle.machine.specs.Views.{kept_of, printed_by, variable_address};
+ghost use Rattle.machine.specs.Views.{IsKept, kept_of, variable_address};
 
 use crate::event::{Event, StepFault};
 use crate::thread_step::take_thread_step;
+use buckets::Buckets;
 use isa::Image;
-use locals::Local;
-use words::{Addr, Mem};
+use locals::{Local, opening_local};
+use std::alloc::{AllocError, Global};
+use words::{Addr, Mem, ProcessWord, block};
 
 /// The most threads of a machine.
 pub const MOST_THREADS: u32 = 64;
@@ -29,6 +33,25 @@ pub fn memory_len(image: &Image) -> usize
     FIRST_MONITOR as usize + 2 * image.monitors().len() + total(image.monitors()) as usize
 }
 
+/// The words at the start of an image: all 0, but for the id word of the first process, which is its number.
+pub fn opening_words(alloc: Global, image: &Image) -> Result<Mem, AllocError>
+    ensures { IfOk result (λ words. words ≡ slice_set (replicate (memory_size image.now) 0) 3 1) }
+{
+    let mut words = Mem::new(alloc, memory_len(image))?;
+    words.store(block(1, ProcessWord::Id), 1);
+    Ok(words)
+}
+
+/// The threads at the start of an image: the first, with room for all that can be made.
+pub fn opening_threads(alloc: Global, image: &Image) -> Result<Vec<Local>, AllocError>
+    ensures threads { IfOk result (λ threads. threads.items ≡ opening_thread image.now.start [] ∷ []) }
+    ensures space { IfOk result (λ threads. 64 ≤ vec_capacity threads) }
+{
+    let mut threads = Vec::with_capacity(alloc, MOST_THREADS as usize)?;
+    threads.push_reserved(opening_local(image.start(), &[]));
+    Ok(threads)
+}
+
 /// The address of a member word of a monitor.
 #[tactic(auto, using(crate::proofs::Members::member_within))]
 pub fn variable(image: &Image, monitor: u32, index: u32) -> Addr
@@ -41,23 +64,33 @@ pub fn variable(image: &Image, monitor: u32, index: u32) -> Addr
     Addr(FIRST_MONITOR + 2 * monitor + members + 2 + index)
 }
 
-/// One step of thread `t`, which was made, on the parts of a machine.
+/// One step of thread `t`, which was made and is awake, on the parts of a machine.
 pub fn step_parts(
     image: &Image,
     words: &mut Mem,
+    buckets: &mut Buckets,
     threads: &mut Vec<Local>,
     output: &mut Vec<i32>,
     t: u32,
 ) -> Result<Event, StepFault>
     requires room { vec_len output.old < vec_capacity output.old }
-    requires thread { (0 < t) × (t ≤ vec_len threads.old) × (t ≤ 64) }
-    requires words { 385 ≤ length words.old }
-    ensures done { IfOk result (λ e. step_of image.now (kept_of words.old threads.old.items output.old.items) t ≡ Ok (kept_of words.new threads.new.items output.new.items, e)) }
-    ensures room { IfOk result (λ e. (vec_capacity output.new ≡ vec_capacity output.old) × (vec_len output.new ≡ vec_len output.old + printed_by e)) }
-    ensures err { IfErr result (λ f. step_of image.now (kept_of words.old threads.old.items output.old.items) t ≡ Err f) }
-    ensures same { OnErr result ((words.new ≡ words.old) × (threads.new.items ≡ threads.old.items) × (output.new.items ≡ output.old.items) × (vec_capacity output.new ≡ vec_capacity output.old)) }
-    ensures kept { (length words.new ≡ length words.old) × (vec_len threads.new ≡ vec_len threads.old) }
+    requires thread { (0 < t) × (t ≤ vec_len threads.old) }
+    requires kept { IsKept image.now (kept_of words.old buckets.old threads.old.items output.old.items) }
+    requires awake { place_of buckets.old t ≡ None }
+    requires places { thread_count buckets.old ≡ 64 }
+    requires space { 64 ≤ vec_capacity threads.old }
+    ensures done { IfOk result (λ e. step_of image.now (kept_of words.old buckets.old threads.old.items output.old.items) t ≡ Ok (kept_of words.new buckets.new threads.new.items output.new.items, e)) }
+    ensures err { IfErr result (λ f. step_of image.now (kept_of words.old buckets.old threads.old.items output.old.items) t ≡ Err f) }
+    ensures same { OnErr result ((words.new ≡ words.old) × (buckets.new ≡ buckets.old) × (threads.new.items ≡ threads.old.items) × (output.new.items ≡ output.old.items)) }
+    ensures room { vec_capacity output.new ≡ vec_capacity output.old }
+    ensures places { thread_count buckets.new ≡ thread_count buckets.old }
+    ensures space { vec_capacity threads.new ≡ vec_capacity threads.old }
 {
+    let made = threads.len() as u32;
     let local = &mut threads[t as usize - 1];
-    take_thread_step(image, words, output, t, local)
+    let (child, event) = take_thread_step(image, words, buckets, output, made, t, local)?;
+    if let Some(child) = child {
+        threads.push_reserved(child);
+    }
+    Ok(event)
 }

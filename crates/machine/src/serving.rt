@@ -1,49 +1,65 @@
-ghost use Rattle.std.specs.Prelude.{◌≡◌, ◌≤◌, ◌<◌, ◌+◌, length, vec_len, vec_capacity};
-ghost use Rattle.locals.specs.Requests.{request_of};
+ghost use Rattle.std.specs.Prelude.{◌≡◌, ◌≤◌, ◌<◌, ℕ, None, OnErr, length, vec_len, vec_capacity};
+ghost use Rattle.buckets.specs.Sleepers.{place_of, thread_count};
 ghost use Rattle.machine.specs.Fronts.{serve};
-ghost use Rattle.machine.specs.Views.{common_of, printed_by};
+ghost use Rattle.machine.specs.Told.{asked_of, given, MakesNone};
+ghost use Rattle.machine.specs.Views.{common_of};
 
-use crate::event::{Event, EventName};
+use crate::accesses::{compare_and_swap, fetch_add, fetch_or, load, store, swap};
+use crate::ends::{die, end, end_with, print};
+use crate::event::StepFault;
+use crate::futexes::{serve_requeue, serve_wait, serve_wake};
+use crate::served::Served;
+use buckets::Buckets;
 use locals::Request;
-use words::{ENDED, Mem, ProcessWord, block, signed};
+use words::Mem;
 
-/// What comes of serving a request.
-#[derive(Clone, Copy, PartialEq, Eq, Debug)]
-pub struct Served {
-    /// The answer to the thread.
-    pub answer: u32,
-    /// What others can see.
-    pub event: Event,
-}
-
-/// Serves a request of thread `t`.
-pub fn serve_request(words: &mut Mem, output: &mut Vec<i32>, t: u32, request: Request) -> Served
+/// Serves a request of thread `t`, which is awake, other than a fork.
+pub fn serve_request(
+    words: &mut Mem,
+    buckets: &mut Buckets,
+    output: &mut Vec<i32>,
+    t: u32,
+    request: Request,
+) -> Result<Served, StepFault>
     requires room { vec_len output.old < vec_capacity output.old }
     requires thread { (0 < t) × (t ≤ 64) }
     requires words { 385 ≤ length words.old }
-    ensures gives { serve t (request_of request) (common_of words.old output.old.items) ≡ record { answer = result.answer; common = common_of words.new output.new.items; event = result.event } }
-    ensures size { length words.new ≡ length words.old }
-    ensures room { (vec_capacity output.new ≡ vec_capacity output.old) × (vec_len output.new ≡ vec_len output.old + printed_by result.event) }
+    requires threads { thread_count buckets.old ≡ 64 }
+    requires awake { place_of buckets.old t ≡ None }
+    requires makes_none { MakesNone request }
+    ensures gives { (made : ℕ) → serve made t (asked_of request) (common_of words.old buckets.old output.old.items) ≡ given result (common_of words.new buckets.new output.new.items) }
+    ensures threads { thread_count buckets.new ≡ thread_count buckets.old }
+    ensures room { vec_capacity output.new ≡ vec_capacity output.old }
+    ensures same { OnErr result ((words.new ≡ words.old) × (buckets.new ≡ buckets.old) × (output.new.items ≡ output.old.items)) }
 {
-    let event = match request {
-        Request::Print(number) => {
-            output.push_reserved(signed(number));
-            Event::new(EventName::Print, number)
-        }
-        Request::Return => {
-            words.store(block(t, ProcessWord::Outcome), ENDED);
-            Event::new(EventName::Ret, ENDED)
-        }
-        Request::Fault(fault) => {
-            words.store(block(t, ProcessWord::Outcome), fault.number());
-            Event::new(EventName::Die, fault.number())
-        }
-        Request::Pending => Event::new(EventName::Pending, 0),
-        Request::ClearId => {
-            words.store(block(t, ProcessWord::Id), 0);
-            Event::new(EventName::Clear, 0)
-        }
-        Request::LastWake => Event::new(EventName::Last, 0),
-    };
-    Served { answer: 0, event }
+    match request {
+        Request::Load(a) => load(words, a),
+        Request::Store(a, v) => store(words, a, v),
+        Request::Swap(a, v) => swap(words, a, v),
+        Request::Cas {
+            address,
+            expected,
+            new,
+        } => compare_and_swap(words, address, expected, new),
+        Request::Or(a, v) => fetch_or(words, a, v),
+        Request::Add(a, v) => fetch_add(words, a, v),
+        Request::Fork {
+            entry: _,
+            count: _,
+            has_room: _,
+        } => unreachable!(),
+        Request::Print(number) => Ok(print(output, number)),
+        Request::Wait { address, expected } => serve_wait(words, buckets, t, address, expected),
+        Request::Wake { address, count } => serve_wake(words, buckets, address, count),
+        Request::Requeue {
+            from,
+            to,
+            wake,
+            moves,
+            expected,
+        } => serve_requeue(words, buckets, from, to, wake, moves, expected),
+        Request::Return => Ok(end(words, t)),
+        Request::ReturnValue(value) => Ok(end_with(words, t, value)),
+        Request::Fault(fault) => Ok(die(words, t, fault)),
+    }
 }

@@ -1,12 +1,10 @@
 -- One step of the exit of a thread t, as a relation (Documentation/locking/robust-futex-ABI; clone(2)), over the words,
 -- as a function from addresses, and the sleepers. The first entry of t's list, its pending entry and its id are words
 -- of its own.
-use Rattle.std.specs.Prelude.{◌≡◌, ◌≢◌, ℕ, ◌+◌, ◌^◌, ◌<◌, ◌==◌, true, if◌then◌else◌, Option, List, [], take, drop, length, ◌⊎◌}
+use Rattle.std.specs.Prelude.{◌≡◌, ◌≢◌, ℕ, ◌+◌, ◌^◌, ◌<◌, ◌==◌, true, if◌then◌else◌, Option, List, [], ◌⊎◌}
 use Rattle.words.specs.LockWord.{lock_word, owner_of, waiters_of}
 use Rattle.words.specs.Process.{process_word}
-use Rattle.buckets.specs.Sleepers.{Sleepers, queue, place_of}
 use Rattle.futexcalls.specs.FutexCalls.{Wakes}
-use Rattle.futexcalls.specs.Answers.{word_of}
 use Rattle.robustexit.specs.declared.phase.ExitPhase.{ExitPhase}
 use Rattle.robustexit.specs.declared.phase.ExitPhase.TheVariants.{Entry, Pending, ClearId, LastWake, Ended}
 use Rattle.robustexit.specs.Phases.{next_entry}

@@ -7,7 +7,4 @@ mod exit;
 mod phase;
 
 pub use exit::{exit_step, first_phase};
-pub use phase::{ExitPhase, MOST_ENTRIES};
-
-#[cfg(test)]
-mod tests;
+pub use phase::{ExitPhase, MOST_ENTRIES, phase_at};

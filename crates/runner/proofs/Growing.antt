@@ -1,5 +1,5 @@
 -- A piece that came in is an entry of the log.
-use Rattle.std.proofs.Common.{◌≡◌, ℕ, ◌+◌, List, [], ◌∷◌, ◌++◌, Option, Some, None, Result, Ok, Err, is_some, refl, ap, sym, ◌∙◌, arith, subst}
+use Rattle.std.proofs.Common.{◌≡◌, ℕ, ◌+◌, List, [], ◌∷◌, ◌++◌, true, Option, Some, None, Result, Ok, Err, is_some, refl, ap, sym, ◌∙◌, arith, subst}
 use Rattle.std.proofs.lemmas.List.Sums.{sum_by-append}
 use mir.Val.{bool_byte}
 use Rattle.isa.specs.Programs.{Program}
@@ -9,7 +9,7 @@ use Rattle.machine.specs.declared.event.Event.{Event}
 use Rattle.machine.specs.declared.event.Entry.{Entry}
 use Rattle.machine.specs.declared.event.StepFault.{StepFault}
 use Rattle.machine.specs.States.{Kept, thread_of, opening_kept}
-use Rattle.machine.specs.Fronts.{step_of, put_thread}
+use Rattle.machine.specs.Fronts.{step_of, put_thread, can_move}
 use Rattle.runner.specs.Views.{Away, Held}
 use Rattle.runner.specs.Logs.{Runs, Enters, Ends, event_cost, cost}
 use Rattle.runner.specs.Entries.{handed, handed_by, IsFine}
@@ -34,9 +34,12 @@ ends_by p there t here new (Some e) (Ok x) None is st h =
     (is, st ∙ (λ i. Ok (n i, v i)))
 ends_by p there t here new event (Err f) None is st h = absurd cc
 
-pub enters : (p : Program) (k new : Kept) (t count : ℕ) (o here : Thread) (event : Option Event) → thread_of k t ≡ Some o → local_after p t count o ≡ Some here → handed p k t here ≡ Ok (new, event) → Enters p k (entry t count event) new
-enters p k new t count o here event stands goes gives =
-    record { origin = o; here = here; stands = stands; goes = goes; ends = ends_by p (put_thread k t here) t here new event _ _ refl refl gives }
+pub ends : (p : Program) (k new : Kept) (t : ℕ) (here : Thread) (event : Option Event) → handed p k t here ≡ Ok (new, event) → Ends p (put_thread k t here) t here event new
+ends p k new t here event gives = ends_by p (put_thread k t here) t here new event _ _ refl refl gives
+
+pub enters : (p : Program) (k new : Kept) (t count : ℕ) (o here : Thread) (event : Option Event) → thread_of k t ≡ Some o → can_move k t ≡ true → local_after p t count o ≡ Some here → handed p k t here ≡ Ok (new, event) → Enters p k (entry t count event) new
+enters p k new t count o here event stands moves goes gives =
+    record { origin = o; here = here; stands = stands; moves = moves; goes = goes; ends = ends p k new t here event gives }
 
 pub cost_more : (es : List Entry) (t n : ℕ) (e : Option Event) → cost (es ++ entry t n e ∷ []) ≡ cost es + (n + event_cost e)
 cost_more es t n e = omega (arith, sum_by-append (λ (x : Entry). x.local + event_cost x.event) es (entry t n e ∷ []))
@@ -60,7 +63,7 @@ keeps p q q' limit h log new a t steps limited extra event is' legal goes fine g
     let costs : event_cost fine.event ≡ extra = ap event_cost same ∙ event_byte event ∙ sym is_extra in
     let all : cost log ≡ cost h.log + (a.count + event_cost event) = ap cost grows ∙ cost_more h.log t a.count event in
     let here : event_cost event ≡ extra = event_byte event ∙ sym is_extra in
-    let runs' = runs_more p (opening_kept p) h.kept new h.log (entry t a.count event) legal.legal (enters p h.kept new t a.count a.origin a.here event fine.stands.1 goes' gives') in
+    let runs' = runs_more p (opening_kept p) h.kept new h.log (entry t a.count event) legal.legal (enters p h.kept new t a.count a.origin a.here event fine.stands.1 fine.moves goes' gives') in
     record {
       program = is' ∙ legal.program;
       legal = (let P : List Entry → Type 0 = λ l. Runs p (opening_kept p) l new in subst P (sym grows) runs');

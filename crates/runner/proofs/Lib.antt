@@ -1,5 +1,7 @@
 pub mod Going
 pub mod Handing
+pub mod Beside
 pub mod Growing
-pub mod Passing
 pub mod Unrolling
+pub mod Passing
+pub mod Lives

@@ -1,101 +1,195 @@
 -- A thread whose next entry would pass the limit keeps that through the entries of others.
-use Rattle.std.proofs.Common.{◌≡◌, ◌≢◌, ℕ, zero, suc, ◌+◌, ◌<◌, ◌≤◌, Bool, true, false, not, ◌||◌, List, length, Option, Some, None, Result, Ok, is_some, slice_get, slice_set, replicate, inl, inr, refl, ap, sym, ◌∙◌, arith, subst}
-use Rattle.std.specs.Prelude.{if◌then◌else◌}
-use Rattle.std.proofs.lemmas.Bool.{cases_eq}
+use Rattle.std.proofs.Common.{◌≡◌, ◌≢◌, ℕ, zero, suc, ◌+◌, ◌-◌, ◌<◌, ◌≤◌, ◌==◌, Bool, true, false, cond, not, ◌||◌, List, length, Option, Some, None, Result, Ok, Err, is_some, slice_get, slice_set, replicate, inl, inr, refl, ap, sym, ◌∙◌, arith, subst, length-set}
+use Rattle.std.specs.Prelude.{if◌then◌else◌, nat_lt}
+use Rattle.std.proofs.lemmas.Bool.{cases_eq, eqb-true, eq-eqb}
 use Rattle.std.proofs.lemmas.Option.{slice_get_within}
 use Rattle.isa.specs.Programs.{Program}
 use Rattle.locals.specs.Threads.{Thread}
-use Rattle.locals.specs.Looks.{Look, Goes, Asks, Breaks, Rests, look}
+use Rattle.locals.specs.Looks.{Request, AskLoad, AskStore, AskSwap, AskCas, AskOr, AskAdd, AskFork, AskPrint, AskWait, AskWake, AskRequeue, AskReturn, AskReturnValue, AskFault, Look, Goes, Asks, Leaves, Breaks, Rests, look}
 use Rattle.locals.specs.Steps.{local_step, local_after, gone}
 use Rattle.machine.specs.declared.event.Event.{Event}
 use Rattle.machine.specs.declared.event.StepFault.{StepFault}
-use Rattle.machine.specs.States.{Common, Kept, thread_of}
-use Rattle.machine.specs.Fronts.{thread_step, lifted, fault_of, fault_at, put_thread, can_move, thread_can_move}
-use Rattle.machine.proofs.Placing.{get_set_other, thread_at-put, thread_at-other}
+use Rattle.machine.specs.declared.event.StepFault.TheVariants as step
+use Rattle.machine.specs.States.{Common, Kept, thread_of, state_of}
+use Rattle.machine.specs.Fronts.{Served, Stepped, serve, within, requeued, load, went_on, thread_step, lifted, fault_of, put_thread, can_move, thread_can_move}
+use Rattle.machine.specs.Views.{IsKept}
+use Rattle.machine.proofs.Placing.{get_set_other, thread_at-other}
 use Rattle.runner.specs.declared.fault.RunFault.TheVariants.{Limit}
 use Rattle.runner.specs.Views.{Away, Held}
-use Rattle.runner.specs.Logs.{event_cost, cost}
+use Rattle.runner.specs.Logs.{Ends, event_cost, cost}
 use Rattle.runner.specs.Entries.{handed, handed_by, Takes, Refuses}
 use Rattle.runner.specs.Reports.{IsNextEntry, PassesLimit}
 use Rattle.runner.specs.Rounds.{AllPast}
-use Rattle.runner.proofs.Handing.{step_there, comes_in}
-use Rattle.runner.proofs.Growing.{inside, cost_more}
+use Rattle.machine.proofs.Stepping.{steps_so}
+use Rattle.runner.proofs.Handing.{step_there, comes_in, up}
+use Rattle.runner.proofs.Growing.{inside, cost_more, ends}
+use Rattle.runner.proofs.Beside.{Beside, beside}
+use Rattle.runner.proofs.Unrolling.{kept_put}
 
--- a piece that comes in moves its own thread alone, and what it costs is told by where it stands
-record Moved (p : Program) (k : Kept) (t : ℕ) (here : Thread) (k' : Kept) (event : Option Event) : Type 0 where
-  pub others : (u : ℕ) → u ≢ t → thread_of k' u ≡ thread_of k u
-  pub free : None ≡ fault_at p k t here
-  pub costs : event_cost event ≡ (if not (is_some (local_step p t here)) then 1 else 0)
+-- what an entry leaves to the other threads
+record Apart (p : Program) (k k' : Kept) (t : ℕ) : Type 0 where
+  pub beside : Beside t (state_of k) (state_of k')
+  pub kept : IsKept p k'
 
-fault_alike : (l : Look) (t : ℕ) (c d : Common) → fault_of (thread_step t c l) ≡ fault_of (thread_step t d l)
-fault_alike (Goes x) t c d = refl
-fault_alike (Asks request go) t c d = refl
-fault_alike Breaks t c d = refl
-fault_alike Rests t c d = refl
+numbered : (k : Kept) (u : ℕ) (x : Thread) → thread_of k u ≡ Some x → u ≤ length k.threads
+numbered k zero x h = absurd cc
+numbered k (suc u) x h = let w = slice_get_within k.threads u x h in omega arith
 
-clash : (let O : Type 0 = Option Bool in (let x : O = Some true in x) ≡ (let y : O = Some false in y)) → ⊥
-clash h = cc
+put_beside : (k : Kept) (t : ℕ) (o here : Thread) → thread_of k t ≡ Some o → Beside t (state_of k) (state_of (put_thread k t here))
+put_beside k t o here stands = record {
+  stay = λ u x other h. thread_at-other k.threads t u here o stands other ∙ h;
+  awake = λ u other h. h;
+  made = omega (arith, length-set k.threads (t - 1) here);
+}
 
-record MovedBy (k : Kept) (t : ℕ) (r : Result (Common × Thread × Event) StepFault) (ls : Option Thread) (k' : Kept) (event : Option Event) : Type 0 where
-  pub others : (u : ℕ) → u ≢ t → thread_of k' u ≡ thread_of k u
-  pub free : None ≡ fault_of r
+both : (t : ℕ) (k mid k' : Kept) → Beside t (state_of k) (state_of mid) → Beside t (state_of mid) (state_of k') → Beside t (state_of k) (state_of k')
+both t k mid k' a b = record {
+  stay = λ u x other h. b.stay u x other (a.stay u x other h);
+  awake = λ u other h. b.awake u other (a.awake u other h);
+  made = omega (arith, a.made, b.made);
+}
+
+ends_apart : (p : Program) (k k' : Kept) (t : ℕ) (o here : Thread) (event : Option Event) → IsKept p k → thread_of k t ≡ Some o → Ends p (put_thread k t here) t here event k' → Apart p k k' t
+ends_apart p k k' t o here None kept stands is =
+    subst (λ (q : Kept). Apart p k q t) (sym is) (record { beside = put_beside k t o here stands; kept = kept_put p k t here kept })
+ends_apart p k k' t o here (Some e) kept stands is =
+    let there = put_thread k t here in
+    let s = steps_so p there k' t e (kept_put p k t here kept) is.1 in
+    record {
+      beside = both t k there k' (put_beside k t o here stands) (beside t (state_of there) s.0 _ (state_of k') (numbered there) s.2.moves);
+      kept = s.3;
+    }
+
+apart : (p : Program) (k k' : Kept) (t : ℕ) (o here : Thread) (event : Option Event) → IsKept p k → thread_of k t ≡ Some o → handed p k t here ≡ Ok (k', event) → Apart p k k' t
+apart p k k' t o here event kept stands given = ends_apart p k k' t o here event kept stands (ends p k k' t here event given)
+
+-- no fault
+record Fine (r : Result Served StepFault) : Type 0 where
+  pub is : None ≡ fault_of r
+
+fine_ok : (x : Served) → Fine (Ok x)
+fine_ok x = record { is = refl }
+
+within_by : (b b' : Bool) (x y : Result Served StepFault) → b ≡ b' → (Fine x → Fine y) → Fine (cond b x (Err step.Broken)) → Fine (cond b' y (Err step.Broken))
+within_by true true x y e f h = f h
+within_by true false x y e f h = absurd cc
+within_by false true x y e f h = absurd cc
+within_by false false x y e f h = h
+
+within_stays : (a n m : ℕ) (x y : Result Served StepFault) → n ≡ m → (Fine x → Fine y) → Fine (cond (nat_lt a n) x (Err step.Broken)) → Fine (cond (nat_lt a m) y (Err step.Broken))
+within_stays a n m x y e f h = within_by (nat_lt a n) (nat_lt a m) x y (ap (nat_lt a) e) f h
+
+either : (b : Bool) (x y : Served) → Fine (cond b (Ok x) (Ok y))
+either true x y = fine_ok x
+either false x y = fine_ok y
+
+fork_stays : (b b' room : Bool) (x x' y y' : Served) → (b ≡ true → b' ≡ true) → Fine (cond b (Ok x) (cond room (Ok y) (Err step.Broken))) → Fine (cond b' (Ok x') (cond room (Ok y') (Err step.Broken)))
+fork_stays b true room x x' y y' full h = fine_ok x'
+fork_stays true false room x x' y y' full h = absurd (cc (full refl))
+fork_stays false false true x x' y y' full h = fine_ok y'
+fork_stays false false false x x' y y' full h = h
+
+full_by : (made made' : ℕ) → (made ≡ 64 → made' ≡ 64) → (made == 64) ≡ true → (made' == 64) ≡ true
+full_by made made' full e = eq-eqb made' 64 (full (eqb-true made 64 e))
+
+-- a request that could be served can be, whatever other threads did since
+serve_stays : (made made' t : ℕ) (r : Request) (c d : Common) → length c.words ≡ length d.words → (made ≡ 64 → made' ≡ 64) → Fine (serve made t r c) → Fine (serve made' t r d)
+serve_stays made made' t (AskLoad a) c d e full h = within_stays a (length c.words) (length d.words) _ _ e (λ _. fine_ok _) h
+serve_stays made made' t (AskStore a v) c d e full h = within_stays a (length c.words) (length d.words) _ _ e (λ _. fine_ok _) h
+serve_stays made made' t (AskSwap a v) c d e full h = within_stays a (length c.words) (length d.words) _ _ e (λ _. fine_ok _) h
+serve_stays made made' t (AskCas a expected new) c d e full h = within_stays a (length c.words) (length d.words) _ _ e (λ _. fine_ok _) h
+serve_stays made made' t (AskOr a v) c d e full h = within_stays a (length c.words) (length d.words) _ _ e (λ _. fine_ok _) h
+serve_stays made made' t (AskAdd a v) c d e full h = within_stays a (length c.words) (length d.words) _ _ e (λ _. fine_ok _) h
+serve_stays made made' t (AskFork entry arguments has_room) c d e full h = fork_stays (made == 64) (made' == 64) has_room _ _ _ _ (full_by made made' full) h
+serve_stays made made' t (AskPrint number) c d e full h = fine_ok _
+serve_stays made made' t (AskWait a expected) c d e full h = within_stays a (length c.words) (length d.words) _ _ e (λ _. either _ _ _) h
+serve_stays made made' t (AskWake a n) c d e full h = within_stays a (length c.words) (length d.words) _ _ e (λ _. fine_ok _) h
+serve_stays made made' t (AskRequeue a b n m expected) c d e full h =
+    within_stays a (length c.words) (length d.words) (within c b (requeued c a b n m expected)) (within d b (requeued d a b n m expected)) e (within_stays b (length c.words) (length d.words) (requeued c a b n m expected) (requeued d a b n m expected) e (λ _. either (load d a == expected) _ _)) h
+serve_stays made made' t AskReturn c d e full h = fine_ok _
+serve_stays made made' t (AskReturnValue v) c d e full h = fine_ok _
+serve_stays made made' t (AskFault fault) c d e full h = fine_ok _
+
+went_fine : (go : ℕ → Thread) (r : Result Served StepFault) → Fine r → None ≡ fault_of (went_on go r)
+went_fine go (Ok r) h = refl
+went_fine go (Err fault) h = absurd (cc h.is)
+
+fine_went : (go : ℕ → Thread) (r : Result Served StepFault) → None ≡ fault_of (went_on go r) → Fine r
+fine_went go (Ok r) h = fine_ok r
+fine_went go (Err fault) h = absurd cc
+
+fault_stays : (made made' t : ℕ) (c d : Common) (l : Look) → length c.words ≡ length d.words → (made ≡ 64 → made' ≡ 64) → None ≡ fault_of (thread_step made t c l) → None ≡ fault_of (thread_step made' t d l)
+fault_stays made made' t c d (Goes x) e full h = refl
+fault_stays made made' t c d (Asks request go) e full h =
+    went_fine go (serve made' t request d) (serve_stays made made' t request c d e full (fine_went go (serve made t request c) h))
+fault_stays made made' t c d (Leaves phase) e full h = refl
+fault_stays made made' t c d Breaks e full h = h
+fault_stays made made' t c d Rests e full h = h
+
+-- a piece that comes in meets no fault, and what it costs is told by where it stands
+record IsFree (f : Option StepFault) (ls : Option Thread) (event : Option Event) : Type 0 where
+  pub free : None ≡ f
   pub costs : event_cost event ≡ (if not (is_some ls) then 1 else 0)
 
-moved_by : (k k' : Kept) (t : ℕ) (o here : Thread) (c : Common) (l : Look) (event : Option Event) → thread_of k t ≡ Some o
-    → handed_by (put_thread k t here) (lifted (put_thread k t here) t (thread_step t c l)) (gone l) ≡ Ok (k', event) → MovedBy k t (thread_step t c l) (gone l) k' event
-moved_by k k' t o here c (Goes x) event stands gives =
-    let e = inside _ _ gives in record {
-      others = λ u other. ap (λ (q : Kept × Option Event). thread_of q.0 u) (sym e) ∙ thread_at-other k.threads t u here o stands other;
-      free = refl;
-      costs = ap (λ (q : Kept × Option Event). event_cost q.1) (sym e);
-    }
-moved_by k k' t o here c (Asks request go) event stands gives =
-    let e = inside _ _ gives in
-    let there : thread_of (put_thread k t here) t ≡ Some here = thread_at-put k.threads t o here stands in record {
-      others = λ u other. ap (λ (q : Kept × Option Event). thread_of q.0 u) (sym e) ∙ thread_at-other (put_thread k t here).threads t u _ here there other ∙ thread_at-other k.threads t u here o stands other;
-      free = refl;
-      costs = ap (λ (q : Kept × Option Event). event_cost q.1) (sym e);
-    }
-moved_by k k' t o here c Breaks event stands gives = absurd cc
-moved_by k k' t o here c Rests event stands gives = absurd cc
+free_step : (there k' : Kept) (t : ℕ) (r : Result Stepped StepFault) (event : Option Event) → handed_by there (lifted there t r) None ≡ Ok (k', event) → IsFree (fault_of r) None event
+free_step there k' t (Ok r) event given = record { free = refl; costs = ap (λ (q : Kept × Option Event). event_cost q.1) (sym (inside _ _ given)) }
+free_step there k' t (Err fault) event given = absurd cc
 
-moved : (p : Program) (k k' : Kept) (t : ℕ) (o here : Thread) (event : Option Event) → thread_of k t ≡ Some o → handed p k t here ≡ Ok (k', event) → Moved p k t here k' event
-moved p k k' t o here event stands gives =
-    let there = put_thread k t here in
-    let m = moved_by k k' t o here k.common (look p t here) event stands (ap (λ d. handed_by there d (local_step p t here)) (sym (step_there p k t o here stands)) ∙ gives) in
-    record { others = m.others; free = m.free; costs = m.costs }
+free_by : (there k' : Kept) (made t : ℕ) (c : Common) (l : Look) (event : Option Event) → handed_by there (lifted there t (thread_step made t c l)) (gone l) ≡ Ok (k', event) → IsFree (fault_of (thread_step made t c l)) (gone l) event
+free_by there k' made t c (Goes x) event given = record { free = refl; costs = ap (λ (q : Kept × Option Event). event_cost q.1) (sym (inside _ _ given)) }
+free_by there k' made t c (Asks request go) event given = free_step there k' t (went_on go (serve made t request c)) event given
+free_by there k' made t c (Leaves phase) event given = free_step there k' t (thread_step made t c (Leaves phase)) event given
+free_by there k' made t c Breaks event given = absurd cc
+free_by there k' made t c Rests event given = absurd cc
 
--- the next entry of a thread that was left alone
-entry_stays : (p : Program) (k k' : Kept) (u count : ℕ) (event : Option Event) → thread_of k' u ≡ thread_of k u → IsNextEntry p k u count event
+-- a thread that can move still can after another's entry
+moves_stay : (p : Program) (k k' : Kept) (t u : ℕ) → Apart p k k' t → u ≢ t → can_move k u ≡ true → can_move k' u ≡ true
+moves_stay p k k' t u a other moves =
+    let is = up k u moves in
+    let awake = a.beside.awake u other is.awake in
+    let stands = a.beside.stay u is.thread other is.stands in
+    (λ i. thread_can_move (awake i) (stands i)) ∙ ap not is.lives
+
+-- and so does its next entry
+entry_stays : (p : Program) (k k' : Kept) (t u count : ℕ) (event : Option Event) → IsKept p k → Apart p k k' t → u ≢ t → can_move k u ≡ true → IsNextEntry p k u count event
     → (event' : Option Event) × IsNextEntry p k' u count event' × (event_cost event' ≡ event_cost event)
-entry_stays p k k' u count event same e =
-    let m = moved p k e.kept u e.origin e.here event e.stands e.gives in
-    let stands : thread_of k' u ≡ Some e.origin = same ∙ e.stands in
-    let free : None ≡ fault_at p k' u e.here = m.free ∙ fault_alike (look p u e.here) u k.common k'.common in
-    let r = comes_in p k' u e.origin e.here stands free in (
+entry_stays p k k' t u count event kept a other moves e =
+    let is = up k u moves in
+    let there = put_thread k u e.here in
+    let made = length k.threads in
+    let m = free_by there e.kept made u k.common (look p u e.here) event (ap (λ d. handed_by there d (local_step p u e.here)) (sym (step_there p k u e.origin e.here is.awake e.stands)) ∙ e.gives) in
+    let awake = a.beside.awake u other is.awake in
+    let stands = a.beside.stay u e.origin other e.stands in
+    let full : made ≡ 64 → length k'.threads ≡ 64 = λ h. omega (arith, a.beside.made, a.kept.few) in
+    let free = fault_stays made (length k'.threads) u k.common k'.common (look p u e.here) (kept.sized ∙ sym a.kept.sized) full m.free in
+    let r = comes_in p k' u e.origin e.here awake stands free in (
       r.1,
       record { origin = e.origin; here = e.here; kept = r.0; stands = stands; goes = e.goes; turn = e.turn; whole = e.whole; gives = r.2 },
       r.3 ∙ sym m.costs,
     )
 
-past_stays : (p : Program) (limit : ℕ) (h h' : Held) (u : ℕ) → thread_of h'.kept u ≡ thread_of h.kept u → cost h.log ≤ cost h'.log → PassesLimit p limit h.log h.kept u → PassesLimit p limit h'.log h'.kept u
-past_stays p limit h h' u same more past =
-    let r = entry_stays p h.kept h'.kept u past.count past.event same past.entry in
-    record { count = past.count; event = r.0; entry = r.1; past = omega (arith, past.past, r.2) }
+past_stays : (p : Program) (limit : ℕ) (h h' : Held) (t u : ℕ) → IsKept p h.kept → Apart p h.kept h'.kept t → u ≢ t → cost h.log ≤ cost h'.log → (can_move h.kept u ≡ true) × PassesLimit p limit h.log h.kept u
+    → (can_move h'.kept u ≡ true) × PassesLimit p limit h'.log h'.kept u
+past_stays p limit h h' t u kept a other more (moves, past) =
+    let r = entry_stays p h.kept h'.kept t u past.count past.event kept a other moves past.entry in
+    (moves_stay p h.kept h'.kept t u a other moves, record { count = past.count; event = r.0; entry = r.1; past = omega (arith, past.past, r.2) })
+
+clash : (let O : Type 0 = Option Bool in (let x : O = Some true in x) ≡ (let y : O = Some false in y)) → ⊥
+clash h = cc
 
 -- an entry of a thread that wasn't refused
-pub all_past : (p : Program) (limit : ℕ) (old new : Held) (t : ℕ) (a : Away) (refused : List Bool) → Takes p limit old t a new → slice_get refused t ≡ Some false → AllPast p limit old refused → AllPast p limit new refused
-all_past p limit old new t a refused takes free past u is =
-    let m = moved p old.kept new.kept t a.origin a.here takes.event takes.stands.1 takes.gives in
+pub all_past : (p : Program) (limit : ℕ) (old new : Held) (t : ℕ) (a : Away) (refused : List Bool) → IsKept p old.kept → Takes p limit old t a new → slice_get refused t ≡ Some false → AllPast p limit old refused → AllPast p limit new refused
+all_past p limit old new t a refused kept takes free past u is =
+    let m = apart p old.kept new.kept t a.origin a.here takes.event kept takes.stands.1 takes.gives in
     let other : u ≢ t = λ e. clash (sym is ∙ ap (slice_get refused) e ∙ free) in
     let more : cost new.log ≡ cost old.log + (a.count + event_cost takes.event) = ap cost takes.log ∙ cost_more old.log t a.count takes.event in
-    past_stays p limit old new u (m.others u other) (omega arith) (past u is)
+    past_stays p limit old new t u kept m other (omega arith) (past u is)
 
 -- a thread that is refused now
-pub one_past : (p : Program) (limit : ℕ) (h : Held) (t : ℕ) (refused : List Bool) → PassesLimit p limit h.log h.kept t → AllPast p limit h refused → AllPast p limit h (slice_set refused t true)
+pub one_past : (p : Program) (limit : ℕ) (h : Held) (t : ℕ) (refused : List Bool) → (can_move h.kept t ≡ true) × PassesLimit p limit h.log h.kept t → AllPast p limit h refused → AllPast p limit h (slice_set refused t true)
 one_past p limit h t refused now past u is =
     elim (cases_eq u t) [
-      | inl e ↦ subst (λ (v : ℕ). PassesLimit p limit h.log h.kept v) (sym e) now
+      | inl e ↦ subst (λ (v : ℕ). (can_move h.kept v ≡ true) × PassesLimit p limit h.log h.kept v) (sym e) now
       | inr other ↦ past u (sym (get_set_other refused t u true other) ∙ is)
     ]
 
@@ -154,11 +248,6 @@ same_step start old new true one before same still = absurd cc
 same_step start old new false true before same still = absurd cc
 same_step start old new false false before same still = before refl ∙ sym (same refl)
 
-within_by : (threads : List Thread) (u : ℕ) (o : Option Thread) → slice_get threads u ≡ o → thread_can_move o ≡ true → u < length threads
-within_by threads u None is moves = absurd cc
-within_by threads u (Some x) is moves = slice_get_within threads u x is
-
 -- a thread that can move was made
 pub made_within : (k : Kept) (u : ℕ) → can_move k u ≡ true → u ≤ length k.threads
-made_within k zero moves = omega arith
-made_within k (suc u) moves = let h = within_by k.threads u _ refl moves in omega arith
+made_within k u moves = let is = up k u moves in numbered k u is.thread is.stands

@@ -2,10 +2,10 @@
 use Rattle.std.specs.Prelude.{ℕ, ◌≡◌, ◌+◌, ◌++◌, ◌≤◌, ◌<◌, [], ◌∷◌, true, false, Option, Some, None, Result, Ok, Err}
 use Rattle.isa.specs.Programs.{Program}
 use Rattle.locals.specs.Threads.{Thread}
-use Rattle.locals.specs.Looks.{Breaks, look}
 use Rattle.locals.specs.Steps.{local_step}
 use Rattle.machine.specs.declared.event.Event.{Event}
 use Rattle.machine.specs.declared.event.StepFault.{StepFault}
+use Rattle.machine.specs.declared.event.StepFault.TheVariants as step
 use Rattle.machine.specs.States.{Kept, thread_of}
 use Rattle.machine.specs.Fronts.{step_of, put_thread, can_move}
 use Rattle.runner.specs.declared.fault.RunFault.{RunFault}
@@ -49,7 +49,8 @@ pub record Takes (p : Program) (limit : ℕ) (old : Held) (t : ℕ) (a : Away) (
 abbrev pub Refuses : Program → ℕ → Held → ℕ → Away → RunFault → Type 0
 Refuses p limit h t a Stray = Stands h t a → ⊥
 Refuses p limit h t a CannotMove = Stands h t a × (can_move h.kept t ≡ false)
-Refuses p limit h t a Broken = Stands h t a × (can_move h.kept t ≡ true) × (look p t a.here ≡ Breaks)
+Refuses p limit h t a Broken =
+    Stands h t a × (can_move h.kept t ≡ true) × (handed p h.kept t a.here ≡ Err step.Broken)
 Refuses p limit h t a Limit =
     Stands h t a × (can_move h.kept t ≡ true)
     × (kept : Kept) × (event : Option Event) × (handed p h.kept t a.here ≡ Ok (kept, event))

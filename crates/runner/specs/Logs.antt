@@ -1,5 +1,5 @@
 -- Which logs are legal, where they lead, and what they cost.
-use Rattle.std.specs.Prelude.{ℕ, ◌≡◌, ◌+◌, List, [], ◌∷◌, Option, Some, None, Ok}
+use Rattle.std.specs.Prelude.{ℕ, ◌≡◌, ◌+◌, List, [], ◌∷◌, true, Option, Some, None, Ok}
 use Rattle.std.specs.List.{sum_by}
 use Rattle.isa.specs.Programs.{Program}
 use Rattle.locals.specs.Threads.{Thread}
@@ -7,18 +7,19 @@ use Rattle.locals.specs.Steps.{local_step, local_after}
 use Rattle.machine.specs.declared.event.Entry.{Entry}
 use Rattle.machine.specs.declared.event.Event.{Event}
 use Rattle.machine.specs.States.{Kept, thread_of}
-use Rattle.machine.specs.Fronts.{step_of, put_thread}
+use Rattle.machine.specs.Fronts.{step_of, put_thread, can_move}
 
 -- the end of an entry: nothing more, or a shared step of the thread with this event
 abbrev pub Ends : Program → Kept → ℕ → Thread → Option Event → Kept → Type 0
 Ends p k t here None k' = k' ≡ k
 Ends p k t here (Some event) k' = (local_step p t here ≡ None) × (step_of p k t ≡ Ok (k', event))
 
--- the entry takes the machine from one state to another: the thread's local steps, and then its end
+-- the entry takes the machine from one state to another: the local steps of a thread that can move, and then its end
 pub record Enters (p : Program) (k : Kept) (e : Entry) (k' : Kept) : Type 0 where
   pub origin : Thread
   pub here : Thread
   pub stands : thread_of k e.thread ≡ Some origin
+  pub moves : can_move k e.thread ≡ true
   pub goes : local_after p e.thread e.local origin ≡ Some here
   pub ends : Ends p (put_thread k e.thread here) e.thread here e.event k'
 

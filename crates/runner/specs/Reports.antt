@@ -1,15 +1,15 @@
 -- What the report of a run says.
-use Rattle.std.specs.Prelude.{ℕ, ◌≡◌, ◌≤◌, ◌<◌, ◌+◌, true, false, List, length, Option, Some, None, Ok}
+use Rattle.std.specs.Prelude.{ℕ, ◌≡◌, ◌≤◌, ◌<◌, ◌+◌, true, false, List, length, Option, Some, None, Ok, Err}
 use Rattle.isa.specs.Programs.{Program}
 use Rattle.locals.specs.Threads.{Thread}
-use Rattle.locals.specs.Looks.{Breaks, look}
 use Rattle.locals.specs.Steps.{local_step, local_after}
 use Rattle.machine.specs.declared.event.Entry.{Entry}
 use Rattle.machine.specs.declared.event.Event.{Event}
+use Rattle.machine.specs.declared.event.StepFault.TheVariants as step
 use Rattle.machine.specs.States.{Kept, thread_of, opening_kept}
 use Rattle.machine.specs.Runs.{has_ended}
 use Rattle.machine.specs.Fronts.{can_move}
-use Rattle.machine.specs.Views.{IsQuiet, AllEnded}
+use Rattle.machine.specs.Views.{IsQuiet, AllEnded, kept}
 use Rattle.runner.specs.declared.fault.RunFault.{RunFault}
 use Rattle.runner.specs.declared.fault.RunFault.TheVariants.{Stray, CannotMove, Broken, Memory}
 use Rattle.runner.specs.declared.fault.RunFault.TheVariants.{Limit as Limit'}
@@ -48,29 +48,32 @@ IsVerdict p limit log k Limit = (t : ℕ) × (can_move k t ≡ true) × PassesLi
 -- the log is legal for the program and within the limit, the machine is where it leads, the output is the machine's, and
 -- the verdict holds
 pub record IsReport (p : Program) (limit : ℕ) (r : Report) : Type 0 where
-  pub legal : Runs p (opening_kept p) r.log.items r.last.kept
+  pub legal : Runs p (opening_kept p) r.log.items (kept r.last)
   pub program : r.last.program ≡ p
   pub within : cost r.log.items ≤ limit
-  pub output : r.output.items ≡ r.last.kept.common.output
-  pub verdict : IsVerdict p limit r.log.items r.last.kept r.verdict
+  pub output : r.output.items ≡ (kept r.last).common.output
+  pub verdict : IsVerdict p limit r.log.items (kept r.last) r.verdict
 
--- some legal log leads a thread to a step that may not be
-pub record MeetsBroken (p : Program) : Type 0 where
+-- some legal log within the limit leads to where a thread comes, within a turn of local steps, to a step that may not be
+pub record MeetsBroken (p : Program) (limit : ℕ) : Type 0 where
   pub log : List Entry
   pub kept : Kept
   pub legal : Runs p (opening_kept p) log kept
+  pub within : cost log ≤ limit
   pub thread : ℕ
   pub origin : Thread
   pub here : Thread
   pub count : ℕ
   pub stands : thread_of kept thread ≡ Some origin
+  pub moves : can_move kept thread ≡ true
   pub goes : local_after p thread count origin ≡ Some here
-  pub breaks : look p thread here ≡ Breaks
+  pub turn : count ≤ 256
+  pub breaks : handed p kept thread here ≡ Err step.Broken
 
 -- what a run may be refused for
-abbrev pub CanFail : Program → RunFault → Type 0
-CanFail p Memory = Unit {0}
-CanFail p Broken = MeetsBroken p
-CanFail p Stray = ⊥
-CanFail p CannotMove = ⊥
-CanFail p Limit' = ⊥
+abbrev pub CanFail : Program → ℕ → RunFault → Type 0
+CanFail p limit Memory = Unit {0}
+CanFail p limit Broken = MeetsBroken p limit
+CanFail p limit Stray = ⊥
+CanFail p limit CannotMove = ⊥
+CanFail p limit Limit' = ⊥

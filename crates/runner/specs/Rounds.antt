@@ -10,10 +10,11 @@ use Rattle.runner.specs.declared.report.Verdict.TheVariants.{Done, Stuck, Limit}
 use Rattle.runner.specs.Views.{Held}
 use Rattle.runner.specs.Reports.{PassesLimit}
 
--- the next entry of each thread that was refused would pass the limit
+-- each thread that was refused can move, and its next entry would pass the limit
 abbrev pub AllPast : Program → ℕ → Held → List Bool → Type 0
 AllPast p limit h refused =
-    (t : ℕ) → slice_get refused t ≡ Some true → PassesLimit p limit h.log h.kept t
+    (t : ℕ) → slice_get refused t ≡ Some true
+    → (can_move h.kept t ≡ true) × PassesLimit p limit h.log h.kept t
 
 -- no thread can make an entry within the limit
 abbrev pub Idle : Program → ℕ → Held → Type 0

@@ -1,5 +1,6 @@
 ghost use Rattle.std.specs.Prelude.{◌≡◌, ◌≤◌, ◌<◌, ◌++◌, ◌∷◌, [], true, Ok, IfOk, OnErr, IsOk, length};
 ghost use Rattle.machine.specs.Fronts.{can_move};
+ghost use Rattle.machine.specs.Views.{kept};
 ghost use Rattle.runner.specs.Entries.{handed};
 
 use locals::Local;
@@ -14,11 +15,11 @@ pub fn enter(
     here: Local,
     count: u32,
 ) -> Result<Option<Event>, AllocError>
-    requires thread { can_move machine.old.kept t ≡ true }
-    requires fine { IsOk (handed machine.old.program machine.old.kept t here) }
-    ensures gives { IfOk result (λ event. handed machine.old.program machine.old.kept t here ≡ Ok (machine.new.kept, event)) }
+    requires thread { can_move (kept machine.old) t ≡ true }
+    requires fine { IsOk (handed machine.old.program (kept machine.old) t here) }
+    ensures gives { IfOk result (λ event. handed machine.old.program (kept machine.old) t here ≡ Ok (kept machine.new, event)) }
     ensures log { IfOk result (λ event. log.new.items ≡ log.old.items ++ record { thread = t; local = count; event = event } ∷ []) }
-    ensures err { OnErr result ((machine.new.kept ≡ machine.old.kept) × (log.new.items ≡ log.old.items)) }
+    ensures err { OnErr result ((kept machine.new ≡ kept machine.old) × (log.new.items ≡ log.old.items)) }
     ensures program { machine.new.program ≡ machine.old.program }
 {
     log.reserve(1)?;
@@ -34,10 +35,10 @@ pub fn enter(
 
 // Puts a thread where it has come, and takes the shared step that it stands before, if any.
 fn hand_in(machine: &mut Machine, t: u32, here: Local) -> Option<Event>
-    requires thread { can_move machine.old.kept t ≡ true }
-    requires fine { IsOk (handed machine.old.program machine.old.kept t here) }
+    requires thread { can_move (kept machine.old) t ≡ true }
+    requires fine { IsOk (handed machine.old.program (kept machine.old) t here) }
     requires room { 1 ≤ machine.old.room }
-    ensures gives { handed machine.old.program machine.old.kept t here ≡ Ok (machine.new.kept, result) }
+    ensures gives { handed machine.old.program (kept machine.old) t here ≡ Ok (kept machine.new, result) }
     ensures program { machine.new.program ≡ machine.old.program }
 {
     let turn = machine.is_before_local(t, &here);

@@ -20,6 +20,3 @@ pub use piece::{Piece, TURN};
 pub use report::{Report, Verdict};
 pub use running::run;
 pub use shared::Shared;
-
-#[cfg(test)]
-mod tests;

@@ -3,6 +3,7 @@ ghost use Rattle.machine.specs.Fronts.{can_move};
 ghost use Rattle.runner.specs.Logs.{cost};
 ghost use Rattle.runner.specs.Reports.{CanFail, PassesLimit};
 ghost use Rattle.runner.specs.Rounds.{AllPast, Idle};
+ghost use Rattle.runner.specs.Views.{held};
 
 use crate::fault::RunFault;
 use crate::naming::RunName;
@@ -19,8 +20,8 @@ pub fn run_rounds<J: RunName, G: Gate>(
     gate: &G,
 ) -> Result<(), RunFault>
     requires image { image.now ≡ J.program }
-    ensures ok { OnOk result (Idle J.program J.limit shared.new) }
-    ensures err { IfErr result (λ fault. CanFail J.program fault) }
+    ensures ok { OnOk result (Idle J.program J.limit (held shared.new)) }
+    ensures err { IfErr result (λ fault. CanFail J.program J.limit fault) }
 {
     let mut refused = [false; MOST_THREADS as usize + 1];
     while run_round(shared, &mut refused, image, gate)? {}
@@ -36,11 +37,11 @@ fn run_round<J: RunName, G: Gate>(
 ) -> Result<bool, RunFault>
     requires image { image.now ≡ J.program }
     requires room { length refused.old ≡ 65 }
-    requires past { AllPast J.program J.limit shared.old refused.old }
-    ensures past { OnOk result (AllPast J.program J.limit shared.new refused.new) }
+    requires past { AllPast J.program J.limit (held shared.old) refused.old }
+    ensures past { OnOk result (AllPast J.program J.limit (held shared.new) refused.new) }
     ensures made { IfOk result (λ made. made ≡ true → (cost shared.old.log < cost shared.new.log) × (cost shared.new.log ≤ J.limit)) }
-    ensures none { IfOk result (λ made. made ≡ false → Idle J.program J.limit shared.new) }
-    ensures err { IfErr result (λ fault. CanFail J.program fault) }
+    ensures none { IfOk result (λ made. made ≡ false → Idle J.program J.limit (held shared.new)) }
+    ensures err { IfErr result (λ fault. CanFail J.program J.limit fault) }
 {
     let mut made = false;
     let mut t = 1;
@@ -62,11 +63,11 @@ fn make_entry<J: RunName, G: Gate>(
     requires image { image.now ≡ J.program }
     requires room { length refused.old ≡ 65 }
     requires thread { (0 < t) × (t ≤ 64) }
-    requires past { AllPast J.program J.limit shared.old refused.old }
-    ensures past { OnOk result (AllPast J.program J.limit shared.new refused.new) }
+    requires past { AllPast J.program J.limit (held shared.old) refused.old }
+    ensures past { OnOk result (AllPast J.program J.limit (held shared.new) refused.new) }
     ensures made { IfOk result (λ made. made ≡ true → (cost shared.old.log < cost shared.new.log) × (cost shared.new.log ≤ J.limit)) }
-    ensures none { IfOk result (λ made. made ≡ false → (shared.new ≡ shared.old) × (can_move shared.new.kept t ≡ true → PassesLimit J.program J.limit shared.new.log shared.new.kept t)) }
-    ensures err { IfErr result (λ fault. CanFail J.program fault) }
+    ensures none { IfOk result (λ made. made ≡ false → (held shared.new ≡ held shared.old) × (can_move (held shared.new).kept t ≡ true → PassesLimit J.program J.limit shared.new.log (held shared.new).kept t)) }
+    ensures err { IfErr result (λ fault. CanFail J.program J.limit fault) }
 {
     if refused[t as usize] {
         return Ok(false);

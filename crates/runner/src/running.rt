@@ -1,4 +1,5 @@
 ghost use Rattle.std.specs.Prelude.{◌≡◌, IfOk, IfErr};
+ghost use Rattle.machine.specs.Views.{kept};
 ghost use Rattle.runner.specs.Reports.{IsReport, CanFail};
 ghost use Rattle.runner.specs.Rounds.{IsEnd};
 
@@ -20,10 +21,11 @@ use words::Gate;
 /// included, and makes one entry for each that can move; one whose entry would pass the limit is passed over from then
 /// on.
 ///
-/// Refuses only with `Broken`, where some legal log leads to a step that may not be, and with `Memory`.
+/// Refuses only with `Memory` and with `Broken`, where some legal log within the limit leads a thread, by at most 256
+/// local steps, to a step that may not be.
 pub fn run<G: Gate>(alloc: Global, image: &Image, limit: u32, gate: &G) -> Result<Report, RunFault>
     ensures ok { IfOk result (λ report. IsReport image.now limit report) }
-    ensures err { IfErr result (λ fault. CanFail image.now fault) }
+    ensures err { IfErr result (λ fault. CanFail image.now limit fault) }
 {
     run_as::<Brand, G>(alloc, image, limit, gate)
 }
@@ -37,7 +39,7 @@ fn run_as<J: RunName, G: Gate>(
     requires image { image.now ≡ J.program }
     requires limit { limit ≡ J.limit }
     ensures ok { IfOk result (λ report. IsReport J.program J.limit report) }
-    ensures err { IfErr result (λ fault. CanFail J.program fault) }
+    ensures err { IfErr result (λ fault. CanFail J.program J.limit fault) }
 {
     let Ok(mut shared) = Shared::<J>::new(alloc, image, limit) else {
         return Err(RunFault::Memory);
@@ -58,7 +60,7 @@ fn run_as<J: RunName, G: Gate>(
 
 // What the machine says of the end of a run.
 fn verdict_of(machine: &Machine) -> Verdict
-    ensures { IsEnd machine.now.kept result }
+    ensures { IsEnd (kept machine.now) result }
 {
     if !machine.quiet() {
         Verdict::Limit

@@ -4,6 +4,8 @@ ghost use Rattle.machine.specs.Fronts.{can_move};
 ghost use Rattle.runner.specs.Logs.{Runs, cost};
 ghost use Rattle.runner.specs.Entries.{Takes, Refuses, IsFine, Stands};
 ghost use Rattle.runner.specs.Nexts.{IsNext};
+ghost use Rattle.machine.specs.Views.{kept};
+ghost use Rattle.runner.specs.Views.{held};
 
 use crate::entering::enter;
 use crate::fault::RunFault;
@@ -11,9 +13,12 @@ use crate::naming::RunName;
 use crate::next::Next;
 use crate::piece::Piece;
 use isa::Image;
-use machine::{Entry, Machine, StepFault};
+use machine::{Entry, Machine};
 use std::alloc::{AllocError, Global};
 use std::marker::{Model, PhantomData};
+
+// How many buckets its sleepers are kept in: one for each thread that there can be.
+const BUCKETS: u32 = 64;
 
 /// The machine of run `J` and its log. Its type keeps that the log is legal for the run's program, that the machine is
 /// where the log leads, and that the log's cost is within the run's limit.
@@ -27,14 +32,15 @@ pub struct Shared<J: RunName> {
 }
 
 impl<J: RunName> Model for Shared<J> {
-    ghost use Rattle.runner.specs.Views.{Held};
+    ghost use Rattle.machine.specs.Views.{kept};
+    ghost use Rattle.runner.specs.Views.{Stored};
     ghost use Rattle.runner.specs.Legal.{IsLegal};
 
-    ghost Value = { Held };
+    ghost Value = { Stored };
 
-    ghost view = { λ s. record { log = s.log.items; kept = s.machine.kept } };
+    ghost view = { λ s. record { log = s.log.items; machine = s.machine } };
 
-    ghost invariant = { λ s. IsLegal J.program J.limit s.machine.program s.machine.kept s.log.items s.steps s.limit };
+    ghost invariant = { λ s. IsLegal J.program J.limit s.machine.program (kept s.machine) s.log.items s.steps s.limit };
 }
 
 impl<J: RunName> Shared<J> {
@@ -42,10 +48,10 @@ impl<J: RunName> Shared<J> {
     pub fn new(alloc: Global, image: &Image, limit: u32) -> Result<Shared<J>, AllocError>
         requires image { image.now ≡ J.program }
         requires limit { limit ≡ J.limit }
-        ensures { IfOk result (λ s. (s.log ≡ []) × (s.kept ≡ opening_kept J.program)) }
+        ensures { IfOk result (λ s. (s.log ≡ []) × ((held s).kept ≡ opening_kept J.program)) }
     {
         Ok(Shared {
-            machine: Machine::new(alloc, image)?,
+            machine: Machine::new(alloc, image, BUCKETS)?,
             log: Vec::new(alloc),
             steps: 0,
             limit,
@@ -55,9 +61,9 @@ impl<J: RunName> Shared<J> {
 
     /// The machine, which is where the log leads.
     pub fn machine(&self) -> &Machine
-        ensures kept { result.now.kept ≡ self.now.kept }
+        ensures kept { kept result.now ≡ (held self.now).kept }
         ensures program { result.now.program ≡ J.program }
-        ensures legal { Runs J.program (opening_kept J.program) self.now.log self.now.kept }
+        ensures legal { Runs J.program (opening_kept J.program) self.now.log (held self.now).kept }
     {
         &self.machine
     }
@@ -65,7 +71,7 @@ impl<J: RunName> Shared<J> {
     /// The log.
     pub fn log(&self) -> &[Entry]
         ensures value { result.now ≡ self.now.log }
-        ensures legal { Runs J.program (opening_kept J.program) self.now.log self.now.kept }
+        ensures legal { Runs J.program (opening_kept J.program) self.now.log (held self.now).kept }
     {
         self.log.as_slice()
     }
@@ -81,9 +87,9 @@ impl<J: RunName> Shared<J> {
     /// What a run leaves: its log and its machine.
     pub fn into_parts(self) -> (Vec<Entry>, Machine)
         ensures log { result.0.items ≡ self.log }
-        ensures kept { result.1.kept ≡ self.kept }
+        ensures kept { kept result.1 ≡ (held self).kept }
         ensures program { result.1.program ≡ J.program }
-        ensures legal { Runs J.program (opening_kept J.program) self.log self.kept }
+        ensures legal { Runs J.program (opening_kept J.program) self.log (held self).kept }
         ensures within { cost self.log ≤ J.limit }
     {
         let Shared { log, machine, .. } = self;
@@ -92,8 +98,9 @@ impl<J: RunName> Shared<J> {
 
     /// The piece that thread `t` goes on from, if it can move.
     pub fn piece(&self, t: u32) -> Option<Piece<J>>
-        ensures some { IfSome result (λ p. (p.thread ≡ t) × (p.count ≡ 0) × (p.here ≡ p.origin) × (thread_of self.now.kept t ≡ Some p.origin)) }
-        ensures variant { MatchOption result (can_move self.now.kept t ≡ false) (λ _. can_move self.now.kept t ≡ true) }
+        ensures some { IfSome result (λ p. (p.thread ≡ t) × (p.count ≡ 0) × (p.here ≡ p.origin) × (thread_of (held self.now).kept t ≡ Some p.origin)) }
+        ensures legal { Runs J.program (opening_kept J.program) self.now.log (held self.now).kept }
+        ensures variant { MatchOption result (can_move (held self.now).kept t ≡ false) (λ _. can_move (held self.now).kept t ≡ true) }
     {
         if !self.machine.can_move(t) {
             return None;
@@ -113,9 +120,10 @@ impl<J: RunName> Shared<J> {
     ///
     /// Refuses in this order: `Stray`, `CannotMove`, `Broken`, `Limit`, `Memory`; then nothing has changed.
     pub fn step(&mut self, t: u32, piece: Piece<J>) -> Result<Next<J>, RunFault>
-        ensures ok { IfOk result (λ next. Takes J.program J.limit self.old t piece self.new × IsNext self.new.kept t next) }
-        ensures err { IfErr result (λ fault. (self.new ≡ self.old) × Refuses J.program J.limit self.old t piece fault) }
-        ensures legal { Runs J.program (opening_kept J.program) self.new.log self.new.kept }
+        ensures ok { IfOk result (λ next. Takes J.program J.limit (held self.old) t piece (held self.new) × IsNext (held self.new).kept t next) }
+        ensures err { IfErr result (λ fault. (held self.new ≡ held self.old) × Refuses J.program J.limit (held self.old) t piece fault) }
+        ensures legal { Runs J.program (opening_kept J.program) self.new.log (held self.new).kept }
+        ensures within { cost self.new.log ≤ J.limit }
     {
         if let Some(fault) = self.refusal(t, &piece) {
             return Err(fault);
@@ -130,8 +138,8 @@ impl<J: RunName> Shared<J> {
 
     // What thread `t` does next.
     fn next(&self, t: u32) -> Next<J>
-        ensures next { IsNext self.now.kept t result }
-        ensures legal { Runs J.program (opening_kept J.program) self.now.log self.now.kept }
+        ensures next { IsNext (held self.now).kept t result }
+        ensures legal { Runs J.program (opening_kept J.program) self.now.log (held self.now).kept }
     {
         match self.piece(t) {
             Some(piece) => Next::Go(piece),
@@ -142,8 +150,8 @@ impl<J: RunName> Shared<J> {
 
     // Why the piece is refused, if not for memory.
     fn refusal(&self, t: u32, piece: &Piece<J>) -> Option<RunFault>
-        ensures some { IfSome result (λ fault. Refuses J.program J.limit self.now t piece.now fault) }
-        ensures none { IfNone result (IsFine J.program J.limit self.now t piece.now) }
+        ensures some { IfSome result (λ fault. Refuses J.program J.limit (held self.now) t piece.now fault) }
+        ensures none { IfNone result (IsFine J.program J.limit (held self.now) t piece.now) }
     {
         if !self.stands(t, piece) {
             return Some(RunFault::Stray);
@@ -151,10 +159,9 @@ impl<J: RunName> Shared<J> {
         if !self.machine.can_move(t) {
             return Some(RunFault::CannotMove);
         }
-        match self.machine.refusal_at(t, &piece.here) {
-            Some(StepFault::Broken) => return Some(RunFault::Broken),
-            Some(StepFault::CannotMove) => return Some(RunFault::CannotMove),
-            None => {}
+        // A thread that can move comes to no end by local steps: the machine has no other cause.
+        if self.machine.refusal_at(t, &piece.here).is_some() {
+            return Some(RunFault::Broken);
         }
         let shared = !self.machine.is_before_local(t, &piece.here);
         if self.limit - self.steps < piece.count + u32::from(shared) {
@@ -165,7 +172,7 @@ impl<J: RunName> Shared<J> {
 
     // Whether the piece is the thread's, and began where the thread is.
     fn stands(&self, t: u32, piece: &Piece<J>) -> bool
-        ensures { MatchBool result (Stands self.now t piece.now) (Stands self.now t piece.now → ⊥) }
+        ensures { MatchBool result (Stands (held self.now) t piece.now) (Stands (held self.now) t piece.now → ⊥) }
     {
         piece.thread == t
             && t > 0

@@ -7,11 +7,14 @@ use Rattle.std.proofs.lemmas.Int.{to_z-of_z}
 use Rattle.words.specs.Signed.{word_of, signed_of}
 use Rattle.isa.specs.declared.instr.Instr.{Instr}
 use Rattle.isa.specs.Programs.{Program}
-use Rattle.locals.specs.declared.exit.ExitPhase.TheVariants.{Pending, ClearId, LastWake, Ended as Ended'}
-use Rattle.locals.specs.Threads.{Thread, Runs, Exits}
-use Rattle.locals.specs.Looks.{Look, Goes, Asks, Rests, look, look_at, AskPrint, AskReturn, AskPending, AskClearId, AskLastWake}
+use Rattle.robustexit.specs.declared.phase.ExitPhase.{ExitPhase}
+use Rattle.robustexit.specs.declared.phase.ExitPhase.TheVariants.{Pending, ClearId, LastWake, Ended as Ended'}
+use Rattle.robustexit.specs.RobustExit.{Shared, IsIdle, PendingStep, NoEntry, IsForeign, IsOwned}
+use Rattle.locals.specs.Threads.{Thread, Runs, Exits, fresh}
+use Rattle.locals.specs.Looks.{Look, Goes, Asks, Leaves, Rests, look, look_at, begun, AskPrint, AskReturn}
 use Rattle.machine.specs.States.{State, put, with_thread}
-use Rattle.machine.specs.Serving.{IsWake, awake}
+use Rattle.machine.specs.Serving.{shared_of, with_shared}
+use Rattle.futexcalls.specs.FutexCalls.{Wakes}
 use Rattle.machine.specs.Runs.{Step, IsStep, Moves, Goes_by}
 use Rattle.sourcemeaning.specs.Programs.{Source, Statement, Prints}
 use Rattle.simulation.specs.Code.{code_of, HasWords}
@@ -43,7 +46,7 @@ again_by false u v w = refl
 pub replaced : (p : Source) (words : ℕ → ℕ) (x y : Thread) (output : List ℤ) → with_thread (machine_with p words x output) 1 y ≡ machine_with p words y output
 replaced p words x y output =
     let e : put (alone x) 1 (Some y) ≡ alone y = λ i t. again_by (t == 1) (Some x) (Some y) None i in
-    ap (λ (f : ℕ → Option Thread). record { word = words; size = (machine_with p words x output).size; thread = f; asleep = λ t. None; output = output }) e
+    ap (λ (f : ℕ → Option Thread). record { word = words; size = (machine_with p words x output).size; made = 1; thread = f; asleep = λ t. None; output = output }) e
 
 -- the point after a step, and the machine there
 pub record Next (p : Source) (from : Point) (l : Step) (s' : State) : Type 0 where
@@ -55,9 +58,9 @@ pub record Next (p : Source) (from : Point) (l : Step) (s' : State) : Type 0 whe
 
 from_push : (p : Source) (done : List Statement) (number : ℤ) (rest : List Statement) (l : Step) (s' : State) → p.main ≡ done ++ Prints number ∷ rest → IsStep (code_of p) (machine_at p (Boundary done (Prints number ∷ rest))) l s' → Next p (Boundary done (Prints number ∷ rest)) l s'
 from_push p done number rest l s' h st =
-    let x = Runs (place_of done) [] [] in
-    let y = Runs (place_of done + 1) (word_of number ∷ []) [] in
-    let is : look (code_of p) 1 x ≡ Goes y = ap (λ (i : Option Instr). look_at i (place_of done) [] []) (at_push p done number rest h) in
+    let x = Runs (place_of done) [] fresh [] in
+    let y = Runs (place_of done + 1) (word_of number ∷ []) fresh [] in
+    let is : look (code_of p) 1 x ≡ Goes y = ap (λ (i : Option Instr). look_at 1 i (place_of done) [] fresh []) (at_push p done number rest h) in
     let g = gets (code_of p) (machine_with p first_words x (numbers_of done)) l s' x (Goes y) (λ t z. only x z t) is st in
     record {
       to = Pushed done number rest;
@@ -69,9 +72,9 @@ from_push p done number rest l s' h st =
 
 from_print : (p : Source) (done : List Statement) (number : ℤ) (rest : List Statement) (l : Step) (s' : State) → HasWords p → p.main ≡ done ++ Prints number ∷ rest → IsStep (code_of p) (machine_at p (Pushed done number rest)) l s' → Next p (Pushed done number rest) l s'
 from_print p done number rest l s' fits h st =
-    let x = Runs (place_of done + 1) (word_of number ∷ []) [] in
-    let y = Runs (place_of done + 1 + 1) [] [] in
-    let is : look (code_of p) 1 x ≡ Asks (AskPrint (word_of number)) (λ v. y) = ap (λ (i : Option Instr). look_at i (place_of done + 1) (word_of number ∷ []) []) (at_print p done number rest h) in
+    let x = Runs (place_of done + 1) (word_of number ∷ []) fresh [] in
+    let y = Runs (place_of done + 1 + 1) [] fresh [] in
+    let is : look (code_of p) 1 x ≡ Asks (AskPrint (word_of number)) (λ v. y) = ap (λ (i : Option Instr). look_at 1 i (place_of done + 1) (word_of number ∷ []) fresh []) (at_print p done number rest h) in
     let g = gets (code_of p) (machine_with p first_words x (numbers_of done)) l s' x (Asks (AskPrint (word_of number)) (λ v. y)) (λ t z. only x z t) is st in
     let fit : FitsSigned w32 number = fits_at done number rest (subst (λ (ss : List Statement). HasWords (record { monitors = p.monitors; main = ss })) h fits) in
     let out : numbers_of done ++ signed_of (word_of number) ∷ [] ≡ numbers_of (done ++ Prints number ∷ []) = ap (λ z. numbers_of done ++ z ∷ []) (to_z-of_z w32 number fit) ∙ sym (numbers_of-push done number) in
@@ -79,35 +82,47 @@ from_print p done number rest l s' fits h st =
     record {
       to = Boundary (done ++ Prints number ∷ []) rest;
       at = h ∙ push_out done number rest;
-      is = g.1.3 ∙ ap (λ m. with_thread m 1 y) g.1.2.2 ∙ replaced p first_words x y (numbers_of done ++ signed_of (word_of number) ∷ []) ∙ (λ i. machine_with p first_words (Runs (place i) [] []) (out i));
+      is = g.1.3 ∙ ap (λ m. with_thread m 1 y) g.1.2.1.1 ∙ replaced p first_words x y (numbers_of done ++ signed_of (word_of number) ∷ []) ∙ (λ i. machine_with p first_words (Runs (place i) [] fresh []) (out i));
       count = omega (arith, place_of-push done number);
       thread = g.0;
     }
 
 from_return : (p : Source) (done : List Statement) (l : Step) (s' : State) → p.main ≡ done ++ [] → IsStep (code_of p) (machine_at p (Boundary done [])) l s' → Next p (Boundary done []) l s'
 from_return p done l s' h st =
-    let x = Runs (place_of done) [] [] in
+    let x = Runs (place_of done) [] fresh [] in
     let y = Exits Pending in
-    let is : look (code_of p) 1 x ≡ Asks AskReturn (λ v. y) = ap (λ (i : Option Instr). look_at i (place_of done) [] []) (at_return p done h) in
-    let g = gets (code_of p) (machine_with p first_words x (numbers_of done)) l s' x (Asks AskReturn (λ v. y)) (λ t z. only x z t) is st in
+    let is : look (code_of p) 1 x ≡ Asks AskReturn begun = ap (λ (i : Option Instr). look_at 1 i (place_of done) [] fresh []) (at_return p done h) in
+    let g = gets (code_of p) (machine_with p first_words x (numbers_of done)) l s' x (Asks AskReturn begun) (λ t z. only x z t) is st in
     let all : done ≡ p.main = sym (append-nil done) ∙ sym h in
     record {
       to = AtPending;
       at = tt;
-      is = g.1.3 ∙ ap (λ m. with_thread m 1 y) g.1.2.2 ∙ replaced p returned_words x y (numbers_of done) ∙ ap (λ ss. machine_with p returned_words y (numbers_of ss)) all;
+      is = g.1.3 ∙ (λ i. with_thread (g.1.2.1.1 i) 1 (begun (g.1.2.1.0 i))) ∙ replaced p returned_words x y (numbers_of done) ∙ ap (λ ss. machine_with p returned_words y (numbers_of ss)) all;
       count = ap (λ ss. place_of ss + 1) (sym all);
       thread = g.0;
     }
+
+-- a step of an exit, from what is shared after it and the phase
+abbrev left : (m : State) → Shared → ExitPhase → State
+left m after phase = with_thread (with_shared m after) 1 (Exits phase)
+
+-- 0 is no entry, so nothing happens at the pending one
+idle : (size t : ℕ) (before : Shared) (woken : List ℕ) (after : Shared) → PendingStep size t 0 before woken after → IsIdle before woken after
+idle size t before woken after (NoEntry none is) = is
+idle size t before woken after (IsForeign entry other wakes) = absurd (omega (arith, entry.0))
+idle size t before woken after (IsOwned entry abandons) = absurd (omega (arith, entry.0))
 
 from_pending : (p : Source) (l : Step) (s' : State) → IsStep (code_of p) (machine_at p AtPending) l s' → Next p AtPending l s'
 from_pending p l s' st =
     let x = Exits Pending in
     let y = Exits ClearId in
-    let g = gets (code_of p) (machine_at p AtPending) l s' x (Asks AskPending (λ v. y)) (λ t z. only x z t) refl st in
+    let m = machine_at p AtPending in
+    let g = gets (code_of p) m l s' x (Leaves Pending) (λ t z. only x z t) refl st in
+    let same = idle m.size 1 (shared_of m) l.woken g.1.0 g.1.2.0 in
     record {
       to = AtClear;
       at = tt;
-      is = g.1.3 ∙ ap (λ m. with_thread m 1 y) g.1.2.2 ∙ replaced p returned_words x y (numbers_of p.main);
+      is = g.1.3 ∙ (λ i. left m (same.same i) (g.1.2.1 i)) ∙ replaced p returned_words x y (numbers_of p.main);
       count = omega arith;
       thread = g.0;
     }
@@ -116,33 +131,38 @@ from_clear : (p : Source) (l : Step) (s' : State) → IsStep (code_of p) (machin
 from_clear p l s' st =
     let x = Exits ClearId in
     let y = Exits LastWake in
-    let g = gets (code_of p) (machine_at p AtClear) l s' x (Asks AskClearId (λ v. y)) (λ t z. only x z t) refl st in
+    let m = machine_at p AtClear in
+    let g = gets (code_of p) m l s' x (Leaves ClearId) (λ t z. only x z t) refl st in
     record {
       to = AtLast;
       at = tt;
-      is = g.1.3 ∙ ap (λ m. with_thread m 1 y) g.1.2.2 ∙ replaced p cleared_words x y (numbers_of p.main);
+      is = g.1.3 ∙ (λ i. left m (g.1.2.1 i) (g.1.2.2 i)) ∙ replaced p cleared_words x y (numbers_of p.main);
       count = omega arith;
       thread = g.0;
     }
 
+abbrev nowhere : ℕ → Option ℕ
+nowhere t = None
+
 -- nobody sleeps, so nobody is woken
-nobody : (a n : ℕ) (woken : List ℕ) → IsWake (λ t. None) a n woken → woken ≡ []
-nobody a n [] w = refl
-nobody a n (t ∷ ts) w = absurd (none_sleeps t a (w.slept t (search rules)))
+nobody : (a n : ℕ) (woken : List ℕ) (after : ℕ → Option ℕ) → Wakes nowhere a n woken after → after ≡ nowhere
+nobody a n [] after w = w.awake
+nobody a n (t ∷ ts) after w = absurd (none_sleeps t a (w.choice.slept t (search rules)))
   where
-    none_sleeps : (t a : ℕ) → (let o : Option ℕ = None in o) ≡ Some a → ⊥
+    none_sleeps : (t a : ℕ) → nowhere t ≡ Some a → ⊥
     none_sleeps t a h = cc
 
 from_last : (p : Source) (l : Step) (s' : State) → IsStep (code_of p) (machine_at p AtLast) l s' → Next p AtLast l s'
 from_last p l s' st =
     let x = Exits LastWake in
     let y = Exits Ended' in
-    let g = gets (code_of p) (machine_at p AtLast) l s' x (Asks AskLastWake (λ v. y)) (λ t z. only x z t) refl st in
-    let none = nobody 3 1 l.woken g.1.2.0 in
+    let m = machine_at p AtLast in
+    let g = gets (code_of p) m l s' x (Leaves LastWake) (λ t z. only x z t) refl st in
+    let none = nobody 3 1 l.woken g.1.0.asleep g.1.2.0.wakes in
     record {
       to = Over;
       at = tt;
-      is = g.1.3 ∙ ap (λ m. with_thread m 1 y) (g.1.2.2 ∙ ap (λ (ws : List ℕ). record (machine_at p AtLast) { asleep = awake (λ t. None) ws }) none) ∙ replaced p cleared_words x y (numbers_of p.main);
+      is = g.1.3 ∙ (λ i. left m (record { word = g.1.2.0.same i; asleep = none i }) (g.1.2.1 i)) ∙ replaced p cleared_words x y (numbers_of p.main);
       count = omega arith;
       thread = g.0;
     }

@@ -3,8 +3,8 @@ use Rattle.std.proofs.Common.{◌≡◌, ℕ, ◌+◌, ◌==◌, List, [], ◌�
 use Rattle.std.specs.Prelude.{if◌then◌else◌}
 use Rattle.words.specs.Signed.{word_of}
 use Rattle.isa.specs.Programs.{memory_size}
-use Rattle.locals.specs.declared.exit.ExitPhase.TheVariants.{Pending, ClearId, LastWake, Ended as Ended'}
-use Rattle.locals.specs.Threads.{Thread, Runs, Exits}
+use Rattle.robustexit.specs.declared.phase.ExitPhase.TheVariants.{Pending, ClearId, LastWake, Ended as Ended'}
+use Rattle.locals.specs.Threads.{Thread, Runs, Exits, fresh}
 use Rattle.machine.specs.States.{State, put}
 use Rattle.sourcemeaning.specs.declared.action.Action.{Action}
 use Rattle.sourcemeaning.specs.declared.action.ActionKind.{ActionKind}
@@ -53,12 +53,12 @@ alone x = put (λ t. None) 1 (Some x)
 
 abbrev pub machine_with : Source → (ℕ → ℕ) → Thread → List ℤ → State
 machine_with p words x output =
-    record { word = words; size = memory_size (code_of p); thread = alone x; asleep = λ t. None; output = output }
+    record { word = words; size = memory_size (code_of p); made = 1; thread = alone x; asleep = λ t. None; output = output }
 
 abbrev pub machine_at : Source → Point → State
-machine_at p (Boundary done rest) = machine_with p first_words (Runs (place_of done) [] []) (numbers_of done)
+machine_at p (Boundary done rest) = machine_with p first_words (Runs (place_of done) [] fresh []) (numbers_of done)
 machine_at p (Pushed done number rest) =
-    machine_with p first_words (Runs (place_of done + 1) (word_of number ∷ []) []) (numbers_of done)
+    machine_with p first_words (Runs (place_of done + 1) (word_of number ∷ []) fresh []) (numbers_of done)
 machine_at p AtPending = machine_with p returned_words (Exits Pending) (numbers_of p.main)
 machine_at p AtClear = machine_with p returned_words (Exits ClearId) (numbers_of p.main)
 machine_at p AtLast = machine_with p cleared_words (Exits LastWake) (numbers_of p.main)

@@ -7,11 +7,11 @@ use Rattle.words.specs.declared.outcome.Outcome.TheVariants as outcome
 use Rattle.std.proofs.lemmas.Bool.{eqb-true}
 use Rattle.sourcemeaning.specs.declared.action.ActionKind.TheVariants.{End}
 use Rattle.isa.specs.declared.instr.Instr.{Instr}
-use Rattle.locals.specs.declared.exit.ExitPhase.TheVariants.{Pending, ClearId, LastWake, Ended as Ended'}
-use Rattle.locals.specs.Threads.{Thread, Runs, Exits}
-use Rattle.locals.specs.Looks.{Breaks, look, look_at}
+use Rattle.robustexit.specs.declared.phase.ExitPhase.TheVariants.{Pending, ClearId, LastWake, Ended as Ended'}
+use Rattle.locals.specs.Threads.{Thread, Runs, Exits, fresh}
+use Rattle.locals.specs.Looks.{Look, Goes, Asks, Leaves, Rests, AskPrint, AskReturn, begun, look, look_at}
 use Rattle.machine.specs.States.{State}
-use Rattle.machine.specs.Runs.{Step, CanStep, NextIsBroken}
+use Rattle.machine.specs.Runs.{Step, CanStep, IsBroken, NextIsBroken}
 use Rattle.sourcemeaning.specs.declared.action.Action.{Action}
 use Rattle.sourcemeaning.specs.Programs.{Source, Statement, Prints}
 use Rattle.sourcemeaning.specs.States.{Before, Leaving, Ended}
@@ -27,26 +27,38 @@ use Rattle.simulation.proofs.Explaining.{runs, none_moves}
 use Rattle.simulation.proofs.Paces.{AllActionsByOne, keeps_pace}
 
 -- what the thread does next is never what may not be
-look_of : (p : Source) (at : Point) → IsAt p at → (x : Thread) → (machine_at p at).thread 1 ≡ Some x → look (code_of p) 1 x ≡ Breaks → ⊥
+fine : (p : Source) (s : State) (x y : Thread) (l : Look) → x ≡ y → look (code_of p) 1 x ≡ l → (IsBroken s l → ⊥) → IsBroken s (look (code_of p) 1 y) → ⊥
+fine p s x y l same is ok broken =
+    ok (subst (λ (k : Look). IsBroken s k) (ap (look (code_of p) 1) (sym same) ∙ is) broken)
+
+look_of : (p : Source) (at : Point) → IsAt p at → (x : Thread) → (machine_at p at).thread 1 ≡ Some x → IsBroken (machine_at p at) (look (code_of p) 1 x) → ⊥
 look_of p (Boundary done []) h x is broken =
-    let e : Runs (place_of done) [] [] ≡ x = cc in
-    absurd (cc (ap (look (code_of p) 1) e ∙ broken, ap (λ (i : Option Instr). look_at i (place_of done) [] []) (at_return p done h)))
+    let e : Runs (place_of done) [] fresh [] ≡ x = cc in
+    fine p (machine_at p (Boundary done [])) (Runs (place_of done) [] fresh []) x (Asks AskReturn begun) e (ap (λ (i : Option Instr). look_at 1 i (place_of done) [] fresh []) (at_return p done h)) (λ b. b) broken
 look_of p (Boundary done (Prints number ∷ rest)) h x is broken =
-    let e : Runs (place_of done) [] [] ≡ x = cc in
-    absurd (cc (ap (look (code_of p) 1) e ∙ broken, ap (λ (i : Option Instr). look_at i (place_of done) [] []) (at_push p done number rest h)))
+    let e : Runs (place_of done) [] fresh [] ≡ x = cc in
+    fine p (machine_at p (Boundary done (Prints number ∷ rest))) (Runs (place_of done) [] fresh []) x (Goes (Runs (place_of done + 1) (word_of number ∷ []) fresh [])) e (ap (λ (i : Option Instr). look_at 1 i (place_of done) [] fresh []) (at_push p done number rest h)) (λ b. b) broken
 look_of p (Pushed done number rest) h x is broken =
-    let e : Runs (place_of done + 1) (word_of number ∷ []) [] ≡ x = cc in
-    absurd (cc (ap (look (code_of p) 1) e ∙ broken, ap (λ (i : Option Instr). look_at i (place_of done + 1) (word_of number ∷ []) []) (at_print p done number rest h)))
-look_of p AtPending h x is broken = let e : Exits Pending ≡ x = cc in absurd (cc (ap (look (code_of p) 1) e ∙ broken))
-look_of p AtClear h x is broken = let e : Exits ClearId ≡ x = cc in absurd (cc (ap (look (code_of p) 1) e ∙ broken))
-look_of p AtLast h x is broken = let e : Exits LastWake ≡ x = cc in absurd (cc (ap (look (code_of p) 1) e ∙ broken))
-look_of p Over h x is broken = let e : Exits Ended' ≡ x = cc in absurd (cc (ap (look (code_of p) 1) e ∙ broken))
+    let e : Runs (place_of done + 1) (word_of number ∷ []) fresh [] ≡ x = cc in
+    fine p (machine_at p (Pushed done number rest)) (Runs (place_of done + 1) (word_of number ∷ []) fresh []) x (Asks (AskPrint (word_of number)) (λ v. Runs (place_of done + 1 + 1) [] fresh [])) e (ap (λ (i : Option Instr). look_at 1 i (place_of done + 1) (word_of number ∷ []) fresh []) (at_print p done number rest h)) (λ b. b) broken
+look_of p AtPending h x is broken =
+    let e : Exits Pending ≡ x = cc in
+    fine p (machine_at p AtPending) (Exits Pending) x (Leaves Pending) e refl (λ b. b) broken
+look_of p AtClear h x is broken =
+    let e : Exits ClearId ≡ x = cc in
+    fine p (machine_at p AtClear) (Exits ClearId) x (Leaves ClearId) e refl (λ b. b) broken
+look_of p AtLast h x is broken =
+    let e : Exits LastWake ≡ x = cc in
+    fine p (machine_at p AtLast) (Exits LastWake) x (Leaves LastWake) e refl (λ b. b) broken
+look_of p Over h x is broken =
+    let e : Exits Ended' ≡ x = cc in
+    fine p (machine_at p Over) (Exits Ended') x Rests e refl (λ b. b) broken
 
 sound_at : (p : Source) (at : Point) → IsAt p at → (t : ℕ) → NextIsBroken (code_of p) (machine_at p at) t → ⊥
 sound_at p at h t b =
     let o = one p at b.thread t b.stands in
     let stands : (machine_at p at).thread 1 ≡ Some b.thread = subst (λ (u : ℕ). (machine_at p at).thread u ≡ Some b.thread) o b.stands in
-    look_of p at h b.thread stands (subst (λ (u : ℕ). look (code_of p) u b.thread ≡ Breaks) o b.breaks)
+    look_of p at h b.thread stands (subst (λ (u : ℕ). IsBroken (machine_at p at) (look (code_of p) u b.thread)) o b.breaks)
   where
     one : (p : Source) (at : Point) (x : Thread) (t : ℕ) → (machine_at p at).thread t ≡ Some x → t ≡ 1
     one p (Boundary done rest) x t h = (only _ x t h).0
@@ -103,17 +115,17 @@ ended_word t e = let one = eqb-true t 1 e in ap (λ n. outcome_of (cleared_words
 same_end : (p : Source) (at : Point) (t : ℕ) → machine_end (machine_at p at) t ≡ source_end (source_at p at) t
 same_end p (Boundary done []) t = by_cases (t == 1)
   where
-    by_cases : (b : Bool) → end_by (first_words (process_word t 5)) (cond b (Some (Runs (place_of done) [] [])) None) ≡ process_end (cond b (Some Leaving) None)
+    by_cases : (b : Bool) → end_by (first_words (process_word t 5)) (cond b (Some (Runs (place_of done) [] fresh [])) None) ≡ process_end (cond b (Some Leaving) None)
     by_cases true = refl
     by_cases false = refl
 same_end p (Boundary done (s ∷ rest)) t = by_cases (t == 1)
   where
-    by_cases : (b : Bool) → end_by (first_words (process_word t 5)) (cond b (Some (Runs (place_of done) [] [])) None) ≡ process_end (cond b (Some (Before s rest)) None)
+    by_cases : (b : Bool) → end_by (first_words (process_word t 5)) (cond b (Some (Runs (place_of done) [] fresh [])) None) ≡ process_end (cond b (Some (Before s rest)) None)
     by_cases true = refl
     by_cases false = refl
 same_end p (Pushed done number rest) t = by_cases (t == 1)
   where
-    by_cases : (b : Bool) → end_by (first_words (process_word t 5)) (cond b (Some (Runs (place_of done + 1) (word_of number ∷ []) [])) None) ≡ process_end (cond b (Some (Before (Prints number) rest)) None)
+    by_cases : (b : Bool) → end_by (first_words (process_word t 5)) (cond b (Some (Runs (place_of done + 1) (word_of number ∷ []) fresh [])) None) ≡ process_end (cond b (Some (Before (Prints number) rest)) None)
     by_cases true = refl
     by_cases false = refl
 same_end p AtPending t = by_cases (t == 1)
@@ -139,8 +151,8 @@ same_end p Over t = by_cases (t == 1) refl
 
 -- where the thread can't move, the process has ended
 at_rest_at : (p : Source) (at : Point) → ((t : ℕ) → CanStep (machine_at p at) t → ⊥) → (q : ℕ) → CanMove (source_at p at) q → ⊥
-at_rest_at p (Boundary done rest) still q can = still 1 (record { thread = Runs (place_of done) [] []; stands = refl; awake = refl; goes_on = refl })
-at_rest_at p (Pushed done number rest) still q can = still 1 (record { thread = Runs (place_of done + 1) (word_of number ∷ []) []; stands = refl; awake = refl; goes_on = refl })
+at_rest_at p (Boundary done rest) still q can = still 1 (record { thread = Runs (place_of done) [] fresh []; stands = refl; awake = refl; goes_on = refl })
+at_rest_at p (Pushed done number rest) still q can = still 1 (record { thread = Runs (place_of done + 1) (word_of number ∷ []) fresh []; stands = refl; awake = refl; goes_on = refl })
 at_rest_at p AtPending still q can = still 1 (record { thread = Exits Pending; stands = refl; awake = refl; goes_on = refl })
 at_rest_at p AtClear still q can = still 1 (record { thread = Exits ClearId; stands = refl; awake = refl; goes_on = refl })
 at_rest_at p AtLast still q can = still 1 (record { thread = Exits LastWake; stands = refl; awake = refl; goes_on = refl })

@@ -3,6 +3,7 @@ use Rattle.std.specs.Prelude.{ℕ, ◌≡◌, ◌<◌, ◌^◌, ◌⊎◌, Bool,
 use Rattle.words.specs.Process.{process_word}
 use Rattle.words.specs.Signed.{word_of}
 use Rattle.isa.specs.Programs.{Program}
+use Rattle.locals.specs.declared.frame.Locals.{Locals}
 use Rattle.locals.specs.declared.frame.Frame.{Frame}
 use Rattle.locals.specs.Threads.{Thread, Runs}
 use Rattle.machine.specs.States.{State}
@@ -24,8 +25,8 @@ HasEnded s t = has_ended (s.thread t) ≡ true
 -- the thread runs code, and its pending word is 0
 abbrev pub RunsFreely : State → ℕ → Type 0
 RunsFreely s t =
-    (place : ℕ) × (operands : List ℕ) × (callers : List Frame)
-    × (s.thread t ≡ Some (Runs place operands callers)) × (s.word (process_word t 1) ≡ 0)
+    (place : ℕ) × (operands : List ℕ) × (locals : Locals) × (callers : List Frame)
+    × (s.thread t ≡ Some (Runs place operands locals callers)) × (s.word (process_word t 1) ≡ 0)
 
 -- actions that come from outside, a wake that nobody called for and a kill: in this fragment there are none
 abbrev pub is_stray : Action → Bool

@@ -4,7 +4,7 @@ use Rattle.words.specs.declared.outcome.Outcome.{Outcome}
 use Rattle.words.specs.declared.outcome.Outcome.TheVariants as outcome
 use Rattle.words.specs.Outcomes.{outcome_of}
 use Rattle.words.specs.Process.{process_word}
-use Rattle.locals.specs.declared.exit.ExitPhase.TheVariants.{Pending, ClearId, LastWake, Ended as Ended'}
+use Rattle.robustexit.specs.declared.phase.ExitPhase.TheVariants.{Entry, Pending, ClearId, LastWake, Ended as Ended'}
 use Rattle.locals.specs.Threads.{Thread, Runs, Dies, Exits}
 use Rattle.machine.specs.States.{State}
 use Rattle.sourcemeaning.specs.Programs.{Source, Monitor}
@@ -33,8 +33,9 @@ IsVariable p m i = (monitor : Monitor) × (slice_get p.monitors m ≡ Some monit
 -- how a process has ended, if it has: on the machine a thread is past the clearing of its id word, with its outcome
 abbrev pub end_by : ℕ → Option Thread → Option Outcome
 end_by word None = None
-end_by word (Some (Runs place operands callers)) = None
+end_by word (Some (Runs place operands locals callers)) = None
 end_by word (Some (Dies fault)) = None
+end_by word (Some (Exits (Entry entry seen))) = None
 end_by word (Some (Exits Pending)) = None
 end_by word (Some (Exits ClearId)) = None
 end_by word (Some (Exits LastWake)) = Some (outcome_of word)

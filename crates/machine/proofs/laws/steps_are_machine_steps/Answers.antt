@@ -1,4 +1,5 @@
 use Rattle.machine.proofs.Stepping.{opens_so, steps_so}
+use Rattle.machine.proofs.Refusing.{breaks_so, refuses_so, moves_so}
 use Rattle.machine.proofs.laws.steps_are_machine_steps.Goals as goal
 
 pub returns-clause-opening : goal.returns-clause-opening
@@ -6,3 +7,12 @@ returns-clause-opening c = opens_so
 
 pub returns-clause-step : goal.returns-clause-step
 returns-clause-step c = steps_so
+
+pub returns-clause-broken : goal.returns-clause-broken
+returns-clause-broken c = breaks_so
+
+pub returns-clause-cannot_move : goal.returns-clause-cannot_move
+returns-clause-cannot_move c = refuses_so
+
+pub returns-clause-can_move : goal.returns-clause-can_move
+returns-clause-can_move c = moves_so

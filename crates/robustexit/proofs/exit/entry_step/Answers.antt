@@ -1,5 +1,5 @@
 -- A lock that the thread owns, at an entry that isn't the pending one.
-use Rattle.std.proofs.Common.{◌≡◌, ◌≢◌, ◌+◌, ◌<◌, ◌-◌, length, refl, sym, ap, ◌∙◌, arith, inl}
+use Rattle.std.proofs.Common.{◌≡◌, ◌≢◌, ◌+◌, sym, ap, ◌∙◌, arith, inl}
 use Rattle.words.specs.LockWord.{owner_of}
 use Rattle.words.specs.Process.{process_word}
 use Rattle.futexcalls.proofs.Choices.{word-got}

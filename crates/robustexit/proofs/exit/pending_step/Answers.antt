@@ -1,5 +1,5 @@
 -- A lock that the thread owns is marked, and at another one sleeper is woken.
-use Rattle.std.proofs.Common.{◌≡◌, ◌+◌, ◌<◌, length, refl, sym, ap, ◌∙◌, arith}
+use Rattle.std.proofs.Common.{◌≡◌, refl, sym, ap, ◌∙◌, arith}
 use Rattle.words.specs.LockWord.{owner_of}
 use Rattle.words.specs.Process.{process_word}
 use Rattle.futexcalls.proofs.Choices.{word-got}

@@ -1,9 +1,11 @@
-use Rattle.std.proofs.Common.{◌≡◌, true, sym, subst}
-use Rattle.machine.specs.Fronts.{can_move}
-use Rattle.runner.specs.declared.fault.RunFault.TheVariants.{Limit}
-use Rattle.runner.specs.Views.{Away, Held}
+use Rattle.std.proofs.Common.{◌≡◌, true, false, is_some, ap, ◌∙◌, sym, subst}
+use Rattle.machine.specs.Fronts.{can_move, fault_at}
+use Rattle.machine.specs.Views.{kept}
+use Rattle.runner.specs.declared.fault.RunFault.TheVariants.{Limit, Broken}
+use Rattle.runner.specs.Views.{Away, Held, Stored, held}
 use Rattle.runner.specs.Entries.{Refuses, IsFine, Stands}
 use Rattle.runner.proofs.Handing.{past_limit, in_limit}
+use Rattle.runner.proofs.Lives.{refuses_broken, no_fault}
 use Rattle.runner.proofs.shared.Shared.refusal.Goals as goal
 
 pub returns-then-self-piece-clause-some : goal.returns-then-self-piece-clause-some
@@ -12,12 +14,14 @@ returns-then-self-piece-clause-some g c =
     let p = g.J.RunName.program in
     let limit = g.J.RunName.limit in
     let v = c.self.invariant in
-    let h : Held = record { log = s.log.items; kept = s.machine.kept } in
+    let h : Held = record { log = s.log.items; kept = kept s.machine } in
     let i = c.piece.inside in
     let a : Away = record { thread = i.thread; origin = i.origin; here = i.here; count = i.count } in
-    let stands : Stands h c.args.t a = subst (λ (x : Away). Stands h c.args.t x) (sym c.piece.view_is) (subst (λ (x : Held). Stands x c.args.t c.args.piece.now) (sym c.self.view_is) c.if-not-stands.ensures) in
+    let stands : Stands h c.args.t a = subst (λ (x : Away). Stands h c.args.t x) (sym c.piece.view_is) (subst (λ (x : Stored). Stands (held x) c.args.t c.args.piece.now) (sym c.self.view_is) c.if-not-stands.ensures) in
     let moves : can_move h.kept c.args.t ≡ true = cc in
-    subst (λ (x : Held). Refuses p limit x c.args.t c.args.piece.now Limit) c.self.view_is (subst (λ (x : Away). Refuses p limit h c.args.t x Limit) c.piece.view_is (past_limit p s.machine.program limit h a c.args.t s.steps s.limit c.from.result c.is_before_local-shared.result v.program stands moves c.in-None.ensures c.is_before_local-shared.ensures c.from.ensures v.counted v.limit_is v.within c.if-self-piece.true))
+    let free : is_some (fault_at s.machine.program h.kept c.args.t a.here) ≡ false = sym (ap is_some c.refusal_at.ensures) ∙ sym c.is_some.ensures ∙ c.if-is_some.false in
+    let none = no_fault (fault_at s.machine.program h.kept c.args.t a.here) free in
+    subst (λ (x : Stored). Refuses p limit (held x) c.args.t c.args.piece.now Limit) c.self.view_is (subst (λ (x : Away). Refuses p limit h c.args.t x Limit) c.piece.view_is (past_limit p s.machine.program limit h a c.args.t s.steps s.limit c.from.result c.is_before_local-shared.result v.program stands moves none c.is_before_local-shared.ensures c.from.ensures v.counted v.limit_is v.within c.if-self-piece.true))
 
 pub returns-clause-none : goal.returns-clause-none
 returns-clause-none g c =
@@ -25,9 +29,25 @@ returns-clause-none g c =
     let p = g.J.RunName.program in
     let limit = g.J.RunName.limit in
     let v = c.self.invariant in
-    let h : Held = record { log = s.log.items; kept = s.machine.kept } in
+    let h : Held = record { log = s.log.items; kept = kept s.machine } in
     let i = c.piece.inside in
     let a : Away = record { thread = i.thread; origin = i.origin; here = i.here; count = i.count } in
-    let stands : Stands h c.args.t a = subst (λ (x : Away). Stands h c.args.t x) (sym c.piece.view_is) (subst (λ (x : Held). Stands x c.args.t c.args.piece.now) (sym c.self.view_is) c.if-not-stands.ensures) in
+    let stands : Stands h c.args.t a = subst (λ (x : Away). Stands h c.args.t x) (sym c.piece.view_is) (subst (λ (x : Stored). Stands (held x) c.args.t c.args.piece.now) (sym c.self.view_is) c.if-not-stands.ensures) in
     let moves : can_move h.kept c.args.t ≡ true = cc in
-    subst (λ (x : Held). IsFine p limit x c.args.t c.args.piece.now) c.self.view_is (subst (λ (x : Away). IsFine p limit h c.args.t x) c.piece.view_is (in_limit p s.machine.program limit h a c.args.t s.steps s.limit c.from.result c.is_before_local-shared.result v.program stands moves c.in-None.ensures c.is_before_local-shared.ensures c.from.ensures v.counted v.limit_is v.within c.if-self-piece.false))
+    let free : is_some (fault_at s.machine.program h.kept c.args.t a.here) ≡ false = sym (ap is_some c.refusal_at.ensures) ∙ sym c.is_some.ensures ∙ c.if-is_some.false in
+    let none = no_fault (fault_at s.machine.program h.kept c.args.t a.here) free in
+    subst (λ (x : Stored). IsFine p limit (held x) c.args.t c.args.piece.now) c.self.view_is (subst (λ (x : Away). IsFine p limit h c.args.t x) c.piece.view_is (in_limit p s.machine.program limit h a c.args.t s.steps s.limit c.from.result c.is_before_local-shared.result v.program stands moves none c.is_before_local-shared.ensures c.from.ensures v.counted v.limit_is v.within c.if-self-piece.false))
+
+pub returns-then-is_some-clause-some : goal.returns-then-is_some-clause-some
+returns-then-is_some-clause-some g c =
+    let s = c.self.inside in
+    let p = g.J.RunName.program in
+    let limit = g.J.RunName.limit in
+    let v = c.self.invariant in
+    let h : Held = record { log = s.log.items; kept = kept s.machine } in
+    let i = c.piece.inside in
+    let a : Away = record { thread = i.thread; origin = i.origin; here = i.here; count = i.count } in
+    let stands : Stands h c.args.t a = subst (λ (x : Away). Stands h c.args.t x) (sym c.piece.view_is) (subst (λ (x : Stored). Stands (held x) c.args.t c.args.piece.now) (sym c.self.view_is) c.if-not-stands.ensures) in
+    let moves : can_move h.kept c.args.t ≡ true = cc in
+    let fault : is_some (fault_at s.machine.program h.kept c.args.t a.here) ≡ true = sym (ap is_some c.refusal_at.ensures) ∙ sym c.is_some.ensures ∙ c.if-is_some.true in
+    subst (λ (x : Stored). Refuses p limit (held x) c.args.t c.args.piece.now Broken) c.self.view_is (subst (λ (x : Away). Refuses p limit h c.args.t x Broken) c.piece.view_is (refuses_broken p s.machine.program limit h a c.args.t v.program stands moves c.piece.invariant.0 fault))

@@ -1,0 +1,42 @@
+ghost use Rattle.std.specs.Prelude.{◌≡◌};
+ghost use Rattle.isa.specs.Instructions.{slot_number};
+
+use std::fmt;
+
+/// The most locals of a frame, besides the one of the templates.
+pub const MOST_LOCALS: u32 = 64;
+
+/// A local of a frame.
+///
+/// It is shown by its number.
+#[derive(Clone, Copy, PartialEq, Eq, Debug)]
+pub enum Slot {
+    /// A parameter or a variable by its number, which is below 64 in an image.
+    Local(u32),
+    /// The one that the code templates keep for themselves, with the number 64.
+    Template,
+}
+
+impl Slot {
+    /// Its number, 64 for the one of the templates.
+    pub fn number(self) -> u32
+        ensures { result ≡ slot_number self }
+    {
+        match self {
+            Slot::Local(n) => n,
+            Slot::Template => MOST_LOCALS,
+        }
+    }
+}
+
+impl fmt::Display for Slot {
+    ghost use Rattle.std.specs.Prelude.{Some};
+    ghost use Rattle.std.specs.Fmt.{decimal};
+    ghost use Rattle.isa.specs.Instructions.{slot_number};
+
+    ghost output = { λ s. Some (decimal (slot_number s)) };
+
+    fn fmt<W: fmt::Write>(&self, f: &mut fmt::Formatter<W>) -> fmt::Result {
+        write!(f, "{}", self.number())
+    }
+}

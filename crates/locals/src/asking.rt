@@ -1,0 +1,178 @@
+//! What the next step of an activation is, and what it asks the shared part of the machine for.
+ghost use Rattle.std.specs.Prelude.{◌≡◌, ◌∷◌, ℕ, List, Some, slice_get};
+ghost use Rattle.isa.specs.declared.instr.Instr.TheVariants.{Fork, RetValue};
+ghost use Rattle.locals.specs.Threads.{Locals as LocalsOf, Frame as FrameOf};
+ghost use Rattle.locals.specs.Looks.{Request as RequestOf, look_at, returned};
+ghost use Rattle.locals.specs.Requests.{next_step_of, told_of};
+ghost use Rattle.locals.specs.Views.{asked, local_where, looks, IsRequest, TakesTwo};
+
+use crate::activation::{Activation, MOST_OPERANDS};
+use crate::request::{NextStep, Request};
+use crate::stepping::MOST_THREADS;
+use isa::{Image, Instr};
+use words::Addr;
+
+impl Activation {
+    /// What the next step of thread `t` is.
+    pub fn next_step(&self, image: &Image, t: u32) -> NextStep
+        ensures { result ≡ next_step_of (looks t (slice_get image.now.code self.now.place) self.now) }
+    {
+        match image.at(self.place) {
+            Some(instr) => self.next(instr, t),
+            None => NextStep::Broken,
+        }
+    }
+
+    fn next(&self, instr: Instr, t: u32) -> NextStep
+        ensures { result ≡ next_step_of (looks t (Some instr) self.now) }
+    {
+        match instr {
+            Instr::Push(_) | Instr::GetLocal(_) | Instr::OwnNumber => local_where(
+                self.operands.has_room(),
+            ),
+            Instr::SetLocal(_)
+            | Instr::Pop
+            | Instr::Negate
+            | Instr::Not
+            | Instr::JumpIfZero(_)
+            | Instr::Index(..) => match self.operands.top() {
+                Some(_) => NextStep::Local,
+                None => NextStep::Broken,
+            },
+            Instr::Operate(_) => match self.operands.top_two() {
+                Some(_) => NextStep::Local,
+                None => NextStep::Broken,
+            },
+            Instr::ProcessAddress(_) => match self.operands.top() {
+                Some(1..=MOST_THREADS) => NextStep::Local,
+                Some(_) | None => NextStep::Broken,
+            },
+            Instr::Jump(_) | Instr::Raise(_) => NextStep::Local,
+            Instr::Call(_) => local_where(self.callers.has_room()),
+            Instr::Ret => self.leaving(Request::Return),
+            Instr::RetValue => self.leaving_with_value(),
+            Instr::Fork(entry, count) => self.forking(entry, count),
+            Instr::Load
+            | Instr::Store
+            | Instr::Swap
+            | Instr::CompareAndSwap
+            | Instr::FetchOr
+            | Instr::FetchAdd
+            | Instr::Print
+            | Instr::FutexWait
+            | Instr::FutexWake
+            | Instr::FutexRequeue => self.asking(instr),
+        }
+    }
+
+    // A return, which is local where there is a caller.
+    fn leaving(&self, request: Request) -> NextStep
+        ensures { (asked : RequestOf) → request ≡ told_of asked → result ≡ next_step_of (returned asked self.now.operands self.now.callers) }
+    {
+        if self.callers.is_empty() {
+            NextStep::Shared(request)
+        } else {
+            NextStep::Local
+        }
+    }
+
+    fn leaving_with_value(&self) -> NextStep
+        ensures { result ≡ next_step_of (looks 0 (Some RetValue) self.now) }
+    {
+        match self.operands.top() {
+            Some(value) => self.leaving(Request::ReturnValue(value)),
+            None => NextStep::Broken,
+        }
+    }
+
+    // A new thread takes its arguments before the answer comes.
+    fn forking(&self, entry: u32, count: u32) -> NextStep
+        ensures { result ≡ next_step_of (looks 0 (Some (Fork entry count)) self.now) }
+    {
+        let operands = self.operands.len();
+        if (count as usize) > operands {
+            return NextStep::Broken;
+        }
+        NextStep::Shared(Request::Fork {
+            entry,
+            count,
+            has_room: operands - (count as usize) < MOST_OPERANDS,
+        })
+    }
+
+    fn asking(&self, instr: Instr) -> NextStep
+        requires { IsRequest instr }
+        ensures { (t : ℕ) → result ≡ next_step_of (looks t (Some instr) self.now) }
+    {
+        match self.request(instr) {
+            Some(request) => NextStep::Shared(request),
+            None => NextStep::Broken,
+        }
+    }
+
+    // What the instruction asks for with the operands that it takes, where there are so many.
+    fn request(&self, instr: Instr) -> Option<Request>
+        requires { IsRequest instr }
+        ensures { (t : ℕ) → next_step_of (looks t (Some instr) self.now) ≡ asked result }
+    {
+        match instr {
+            Instr::Load => Some(Request::Load(Addr(self.operands.top()?))),
+            Instr::Print => Some(Request::Print(self.operands.top()?)),
+            Instr::CompareAndSwap => {
+                let (address, expected, new) = self.operands.top_three()?;
+                Some(Request::Cas {
+                    address: Addr(address),
+                    expected,
+                    new,
+                })
+            }
+            Instr::FutexRequeue => {
+                let (from, to, wake, moves, expected) = self.operands.top_five()?;
+                Some(Request::Requeue {
+                    from: Addr(from),
+                    to: Addr(to),
+                    wake,
+                    moves,
+                    expected,
+                })
+            }
+            _ => {
+                let (a, number) = self.operands.top_two()?;
+                Some(request_of_two(instr, Addr(a), number))
+            }
+        }
+    }
+}
+
+// The request of an instruction that takes an address and a number.
+fn request_of_two(instr: Instr, address: Addr, number: u32) -> Request
+    requires { TakesTwo instr }
+    ensures { (t place : ℕ) (rest : List ℕ) (locals : LocalsOf) (callers : List FrameOf) → next_step_of (look_at t (Some instr) place (number ∷ address.0 ∷ rest) locals callers) ≡ asked (Some result) }
+{
+    match instr {
+        Instr::Store => Request::Store(address, number),
+        Instr::Swap => Request::Swap(address, number),
+        Instr::FetchOr => Request::Or(address, number),
+        Instr::FetchAdd => Request::Add(address, number),
+        Instr::FutexWait => Request::Wait {
+            address,
+            expected: number,
+        },
+        Instr::FutexWake => Request::Wake {
+            address,
+            count: number,
+        },
+        _ => unreachable!(),
+    }
+}
+
+// A local step where it may be.
+fn local_where(may_be: bool) -> NextStep
+    ensures { result ≡ local_where may_be }
+{
+    if may_be {
+        NextStep::Local
+    } else {
+        NextStep::Broken
+    }
+}

@@ -1,0 +1,24 @@
+use robustexit::ExitPhase;
+use words::Fault;
+
+/// What came of the next step of a thread, taken where it is a local one.
+#[derive(Clone, Copy, PartialEq, Eq, Debug)]
+pub enum Progress {
+    /// The step was taken.
+    Went,
+    /// The step was taken, and failed.
+    Failed(Fault),
+    /// The next step is no local one, so none was taken.
+    Stayed,
+}
+
+/// What becomes of a thread that runs its code, once its request is answered.
+#[derive(Clone, Copy, PartialEq, Eq, Debug)]
+pub enum Answered {
+    /// It goes on, or stays as it is where it makes no request.
+    GoesOn,
+    /// It fails.
+    Fails(Fault),
+    /// It has returned from its last frame.
+    Leaves(ExitPhase),
+}
