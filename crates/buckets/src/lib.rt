@@ -8,6 +8,3 @@ mod thread_list;
 
 pub use buckets::Buckets;
 pub use thread_list::{MOST_THREADS, ThreadList};
-
-#[cfg(test)]
-mod tests;

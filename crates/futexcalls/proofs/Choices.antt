@@ -1,13 +1,13 @@
 -- The front of a list is a choice of the sleepers on its address.
-use Rattle.std.proofs.Common.{◌≡◌, ◌≢◌, ℕ, zero, suc, ◌<◌, ◌≤◌, true, cond, eqb, Option, Some, None, List, [], ◌∷◌, length, take, slice_get, slice_index, get_or, min, refl, sym, ap, ◌∙◌, arith}
+use Rattle.std.proofs.Common.{◌≡◌, ℕ, zero, suc, cond, eqb, Some, None, List, [], ◌∷◌, take, slice_get, refl, ◌∙◌, arith}
 use Rattle.std.proofs.lemmas.Bool.{cond-true, cond-false, eq-eqb, ne_eqb}
 use Rattle.std.proofs.lemmas.List.{length-take, take_all}
-use Rattle.buckets.specs.Places.{names, with_place}
+use Rattle.buckets.specs.Places.{with_place}
 use Rattle.buckets.specs.Sleepers.{Sleepers, queue, place_of, IsSound}
 use Rattle.buckets.proofs.Takes.{names-take}
 use Rattle.buckets.proofs.Moves.{IsDistinct-take}
 use Rattle.futexcalls.specs.Answers.{word_of}
-use Rattle.futexcalls.specs.FutexCalls.{IsChoice, Wakes, Moves, Requeues}
+use Rattle.futexcalls.specs.FutexCalls.{IsChoice, Wakes, Requeues}
 
 pub choice-front : (s : Sleepers) (a n : ℕ) → IsSound s → IsChoice (place_of s) a n (take n (queue s a))
 choice-front s a n ok = record {

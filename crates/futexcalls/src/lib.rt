@@ -6,6 +6,3 @@ mod woken;
 
 pub use calls::{Again, WaitAnswer, cmp_requeue, wait, wake};
 pub use woken::{Requeued, Woken};
-
-#[cfg(test)]
-mod tests;

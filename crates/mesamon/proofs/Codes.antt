@@ -1,9 +1,11 @@
 -- The code of a program.
-use Rattle.std.proofs.Common.{◌≡◌, ◌≤◌, ◌<◌, ◌+◌, ℕ, ℤ, pos, List, [], ◌∷◌, ◌++◌, map, take, get_or, length, Result, Ok, Err, MatchResult, IfOk, refl, subst, ap, ◌∙◌, sym, append_assoc, arith}
+use Rattle.std.proofs.Common.{◌≡◌, ◌≤◌, ◌<◌, ◌+◌, ℕ, ℤ, List, [], ◌∷◌, ◌++◌, map, take, get_or, length, Result, Ok, Err, MatchResult, IfOk, refl, subst, ap, ◌∙◌, sym, append_assoc, arith}
+use Rattle.std.specs.List.{AllByRecursion}
 use Rattle.std.proofs.lemmas.List.{map-append, take_more}
 use Rattle.words.specs.Signed.{word_of}
 use Rattle.isa.specs.declared.instr.Instr.{Instr}
 use Rattle.isa.specs.declared.instr.Instr.TheVariants.{Push, Print, Ret}
+use Rattle.isa.specs.Instructions.{IsInstruction, LeadsBelow}
 use Rattle.isa.specs.Programs.{Program}
 use Rattle.scanner.specs.declared.refusal.Refusal.{Refusal}
 use Rattle.scanner.specs.Refusals.{out_of_memory}
@@ -28,6 +30,14 @@ statement_more xs i d w code h same e =
     let more = statements_code-append (map Prints (take i xs)) (Prints z ∷ []) in
     let one : Push (word_of z) ∷ Print ∷ [] ≡ Push w ∷ Print ∷ [] = rw same refl in
     rw (take_more xs i d h) (append_assoc code (Push w ∷ []) (Print ∷ []) ∙ (ap (λ (c : List Instr). c ++ Push w ∷ Print ∷ []) e ∙ (ap (λ (c : List Instr). statements_code (map Prints (take i xs)) ++ c) (sym one) ∙ (sym more ∙ ap statements_code (sym split)))))
+
+-- each instruction is within its limits, and none names a place
+limits : (n : ℕ) (ss : List Statement) → AllByRecursion IsInstruction (statements_code ss ++ Ret ∷ []) × AllByRecursion (LeadsBelow n) (statements_code ss ++ Ret ∷ [])
+limits n [] = ((tt, tt), (tt, tt))
+limits n (Prints number ∷ ss) = let rest = limits n ss in ((tt, (tt, rest.0)), (tt, (tt, rest.1)))
+
+pub within_limits : (p : Source) (code : List Instr) (n : ℕ) → code ≡ (code_of p).code → AllByRecursion IsInstruction code × AllByRecursion (LeadsBelow n) code
+within_limits p code n e = rw e (limits n p.main)
 
 -- the image of a unit's program
 pub image_of_unit : (tokens : List TokenView) (p : Source) (code : List Instr) → IsUnit tokens p → code ≡ (code_of p).code → record { monitors = []; start = 0; code = code } ≡ code_of p

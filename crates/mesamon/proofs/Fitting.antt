@@ -1,5 +1,5 @@
 -- The numbers of a unit have words.
-use Rattle.std.proofs.Common.{◌≡◌, ◌<◌, ◌^◌, ◌⊎◌, inl, inr, rules, ℕ, ℤ, pos, List, [], ◌∷◌, ◌++◌, map, FitsSigned, refl, ap, subst, ◌∙◌, sym, arith}
+use Rattle.std.proofs.Common.{◌<◌, ◌^◌, inl, inr, rules, ℕ, pos, List, [], ◌∷◌, ◌++◌, map, FitsSigned, subst}
 use Rattle.std.specs.Int.{w32}
 use Rattle.scanner.specs.declared.token.Kind.{Kind}
 use Rattle.scanner.specs.declared.token.Kind.TheVariants.{Keyword, Sign, Name, Number, End}

@@ -6,3 +6,5 @@ pub mod OneAnswer
 pub mod Codes
 pub mod Fitting
 pub mod RunsExplained
+mod Endings
+mod Lines

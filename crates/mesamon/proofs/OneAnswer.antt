@@ -1,5 +1,5 @@
 -- A text is one program or has one refusal.
-use Rattle.std.proofs.Common.{◌≡◌, ◌≢◌, arith, length, ◌⊎◌, inl, inr, ℕ, pos, List, [], ◌∷◌, ◌++◌, map, refl, ap, subst, ◌∙◌, sym, append_assoc}
+use Rattle.std.proofs.Common.{◌≡◌, arith, length, ◌⊎◌, inl, inr, ℕ, pos, List, [], ◌∷◌, ◌++◌, map, refl, ap, subst, ◌∙◌, sym, append_assoc}
 use Rattle.std.proofs.lemmas.List.{map-append}
 use Rattle.scanner.specs.declared.refusal.Refusal.{Refusal}
 use Rattle.scanner.specs.declared.token.Kind.{Kind}
@@ -9,7 +9,7 @@ use Rattle.scanner.specs.declared.token.Sign.TheVariants.{Dot}
 use Rattle.scanner.specs.Faults.{IsFault}
 use Rattle.scanner.specs.Tokens.{IsTokens, TokenView}
 use Rattle.sourcemeaning.specs.Programs.{Source, printing}
-use Rattle.mesamon.specs.Accepts.{kinds, Accepts, Fits, IsExpected, IsNoUnit, IsTooLong, IsUnit, Refuses}
+use Rattle.mesamon.specs.Accepts.{kinds, Accepts, Fits, IsExpected, IsNoUnit, IsUnit, Refuses}
 use Rattle.simulation.specs.Code.{code_of}
 use Rattle.mesamon.specs.Reading.{expected_at}
 use Rattle.mesamon.specs.Grammar.{statements_kinds, unit_kinds, Begins}

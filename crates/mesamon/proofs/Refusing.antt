@@ -1,18 +1,15 @@
 -- Where tokens stop being the beginning of a unit.
-use Rattle.std.proofs.Common.{◌≡◌, ◌≢◌, ◌⊎◌, inl, inr, ℕ, ℤ, pos, List, [], ◌∷◌, ◌++◌, map, refl, ap, subst, ◌∙◌, sym, append_assoc}
-use Rattle.std.proofs.lemmas.List.{map-append}
+use Rattle.std.proofs.Common.{◌≡◌, ◌≢◌, inl, inr, ℕ, List, [], ◌∷◌, ◌++◌, refl, ap, subst, ◌∙◌, sym, append_assoc}
 use Rattle.scanner.specs.declared.refusal.Refusal.{Refusal}
 use Rattle.scanner.specs.declared.token.Kind.{Kind}
-use Rattle.scanner.specs.declared.token.Kind.TheVariants.{Keyword, Sign, Name, Number, End}
-use Rattle.scanner.specs.declared.token.Keyword.TheVariants.{Program, Main, Print}
-use Rattle.scanner.specs.declared.token.Keyword.TheVariants as words
-use Rattle.scanner.specs.declared.token.Sign.TheVariants.{Semicolon, Dot}
+use Rattle.scanner.specs.declared.token.Kind.TheVariants.{Keyword, Sign, Number, End}
+use Rattle.scanner.specs.declared.token.Keyword.TheVariants.{Print}
+use Rattle.scanner.specs.declared.token.Sign.TheVariants.{Semicolon}
 use Rattle.scanner.specs.Tokens.{TokenView}
-use Rattle.sourcemeaning.specs.Programs.{Source, printing}
 use Rattle.mesamon.specs.declared.fragment.TheConstants.{HEADER, FOOTER}
-use Rattle.mesamon.specs.Accepts.{kinds, IsExpected, IsUnit}
-use Rattle.mesamon.specs.Grammar.{statement_kinds, statements_kinds, unit_kinds, Begins}
-use Rattle.mesamon.specs.Reading.{Differs, IsReadable, Passes, RefusesFirst, StandsNoNumber, StandsOther, StatementFails, StatementsFail, first_kind}
+use Rattle.mesamon.specs.Accepts.{kinds, IsExpected}
+use Rattle.mesamon.specs.Grammar.{statement_kinds, statements_kinds, Begins}
+use Rattle.mesamon.specs.Reading.{Differs, Passes, RefusesFirst, StatementFails, StatementsFail, first_kind}
 use Rattle.mesamon.proofs.Passing.{passes_then}
 
 -- a refusal behind what begins a unit, at a token with which that begins none

@@ -1,14 +1,15 @@
 -- A report of a run of compiled code is explained by a run of the program.
-use Rattle.std.proofs.Common.{◌≡◌, ◌≤◌, ◌<◌, ◌^◌, ℕ, List, length, subst, sym, arith, ap}
+use Rattle.std.proofs.Common.{◌≢◌, ◌<◌, ◌+◌, ◌^◌, ℕ, List, length, subst, arith}
 use Rattle.isa.specs.Programs.{Program}
-use Rattle.machine.specs.Runs.{MachineRun, Step}
 use Rattle.machine.specs.States.{state_of}
+use Rattle.machine.specs.Views.{kept}
 use Rattle.simulation.specs.Code.{code_of}
 use Rattle.simulation.specs.Refines.{Refines}
 use Rattle.runner.specs.declared.fault.RunFault.{RunFault}
+use Rattle.runner.specs.declared.fault.RunFault.TheVariants.{Broken, Memory, Stray, CannotMove, Limit}
 use Rattle.runner.specs.declared.report.Report.{Report}
-use Rattle.runner.specs.LogRuns.{RunsSo}
-use Rattle.runner.specs.Reports.{IsReport, CanFail}
+use Rattle.runner.specs.LogRuns.{RunsSo, MeetsSo}
+use Rattle.runner.specs.Reports.{IsReport, CanFail, MeetsBroken}
 use Rattle.mesamon.specs.Compiles.{IsCompiled}
 use Rattle.mesamon.specs.Running.{IsFailedRun, IsRunOf}
 
@@ -16,7 +17,7 @@ pub run_explained : RunsSo → (text : List ℕ) (image : Program) (limit : ℕ)
 run_explained runs text image limit r c below report =
     let reported : IsReport (code_of c.program) limit r = subst (λ (p : Program). IsReport p limit r) c.code report in
     let refines : Refines c.program (code_of c.program) = subst (λ (p : Program). Refines c.program p) c.code c.refines in
-    let (steps, run, count) = runs (code_of c.program) r.log.items r.last.kept reported.legal in
+    let (steps, run, count) = runs (code_of c.program) r.log.items (kept r.last) reported.legal in
     let within = reported.within in
     let few : length steps < 2 ^ 32 = omega arith in
     record {
@@ -25,12 +26,25 @@ run_explained runs text image limit r c below report =
       is_report = reported;
       steps = steps;
       machine_run = run;
-      explained = refines.follows steps (state_of r.last.kept) run few;
+      explained = refines.follows steps (state_of (kept r.last)) run few;
     }
 
-pub run_fails : (text : List ℕ) (image : Program) (fault : RunFault) → IsCompiled text image → CanFail image fault → IsFailedRun text fault
-run_fails text image fault c fails = record {
+pub run_fails : (text : List ℕ) (image : Program) (limit : ℕ) (fault : RunFault) → IsCompiled text image → CanFail image limit fault → IsFailedRun text limit fault
+run_fails text image limit fault c fails = record {
   program = c.program;
   accepts = c.accepts;
-  fails = subst (λ (p : Program). CanFail p fault) c.code fails;
+  fails = subst (λ (p : Program). CanFail p limit fault) c.code fails;
 }
+
+-- compiled code meets no step that may not be in fewer than 2^32 steps
+pub run_sound : MeetsSo → (text : List ℕ) (image : Program) (limit : ℕ) (fault : RunFault) → IsCompiled text image → CanFail image limit fault → limit + 256 < 2 ^ 32 → fault ≢ Broken
+run_sound meets text image limit Broken c fails small e =
+    let m : MeetsBroken (code_of c.program) limit = subst (λ (p : Program). MeetsBroken p limit) c.code fails in
+    let refines : Refines c.program (code_of c.program) = subst (λ (p : Program). Refines c.program p) c.code c.refines in
+    let (steps, s, run, count, broken) = meets (code_of c.program) limit m in
+    let few : length steps < 2 ^ 32 = omega (arith, m.within, m.turn, count) in
+    (refines.follows steps s run few).sound m.thread broken
+run_sound meets text image limit Memory c fails small e = absurd cc
+run_sound meets text image limit Stray c fails small e = absurd cc
+run_sound meets text image limit CannotMove c fails small e = absurd cc
+run_sound meets text image limit Limit c fails small e = absurd cc

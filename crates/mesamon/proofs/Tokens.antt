@@ -1,5 +1,5 @@
 -- What the tokens of a text are.
-use Rattle.std.proofs.Common.{◌≡◌, ◌≤◌, ◌<◌, ◌^◌, ◌⊎◌, inl, inr, ℕ, List, [], ◌∷◌, ◌++◌, refl, subst, sym, arith}
+use Rattle.std.proofs.Common.{◌≤◌, inl, inr, ℕ, List, [], ◌∷◌, ◌++◌, refl, subst, sym, arith}
 use Rattle.scanner.specs.declared.token.Kind.{Kind}
 use Rattle.scanner.specs.declared.token.Kind.TheVariants.{Keyword, Sign, Name, Number, End}
 use Rattle.scanner.specs.declared.token.Place.{Place}

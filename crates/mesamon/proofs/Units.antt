@@ -1,5 +1,5 @@
 -- Tokens that are a unit.
-use Rattle.std.proofs.Common.{◌≡◌, ◌≢◌, ◌⊎◌, inl, inr, ℕ, ℤ, pos, List, [], ◌∷◌, ◌++◌, map, refl, ap, subst, ◌∙◌, sym, append_assoc}
+use Rattle.std.proofs.Common.{◌≡◌, inl, inr, ℕ, ℤ, pos, List, [], ◌∷◌, ◌++◌, map, refl, ap, subst, ◌∙◌, append_assoc}
 use Rattle.std.proofs.lemmas.List.{map-append}
 use Rattle.scanner.specs.declared.token.Kind.{Kind}
 use Rattle.scanner.specs.declared.token.Kind.TheVariants.{End}
@@ -7,7 +7,7 @@ use Rattle.scanner.specs.Tokens.{TokenView}
 use Rattle.sourcemeaning.specs.Programs.{Source, printing}
 use Rattle.mesamon.specs.declared.fragment.TheConstants.{HEADER, FOOTER}
 use Rattle.mesamon.specs.Accepts.{kinds, IsUnit}
-use Rattle.mesamon.specs.Grammar.{statements_kinds, unit_kinds}
+use Rattle.mesamon.specs.Grammar.{statements_kinds}
 use Rattle.mesamon.specs.Reading.{IsInner, IsReadable, Passes, first_kind}
 use Rattle.mesamon.proofs.Passing.{passes_then}
 

@@ -4,3 +4,6 @@ pub mod Reading
 pub mod Compiles
 pub mod Running
 pub mod Statuses
+pub mod Accounts
+pub mod Failures
+pub mod Commands

@@ -1,7 +1,7 @@
 -- What the functions of the parser pass, and where they stop.
 use Rattle.std.specs.Prelude.{◌≡◌, ◌≢◌, ◌<◌, ◌^◌, ◌⊎◌, ℕ, ℤ, pos, Bool, true, false, List, [], ◌∷◌, ◌++◌, Option, Some, None}
 use Rattle.scanner.specs.declared.token.Kind.{Kind}
-use Rattle.scanner.specs.declared.token.Kind.TheVariants.{Keyword, Sign, Name, Number, End}
+use Rattle.scanner.specs.declared.token.Kind.TheVariants.{Keyword, Sign, Number, End}
 use Rattle.scanner.specs.declared.token.Keyword.TheVariants.{Print}
 use Rattle.scanner.specs.declared.token.Sign.TheVariants.{Semicolon}
 use Rattle.scanner.specs.declared.refusal.Refusal.{Refusal}

@@ -1,9 +1,9 @@
 -- What a run of a source text answers.
 use Rattle.std.specs.Prelude.{◌≡◌, ◌⊎◌, ℕ, List}
-use Rattle.scanner.specs.declared.refusal.Refusal.{Refusal}
 use Rattle.scanner.specs.Refusals.{out_of_memory}
 use Rattle.machine.specs.Runs.{MachineRun, Step}
 use Rattle.machine.specs.States.{state_of}
+use Rattle.machine.specs.Views.{kept}
 use Rattle.sourcemeaning.specs.Programs.{Source}
 use Rattle.simulation.specs.Code.{code_of}
 use Rattle.simulation.specs.Refines.{Explained}
@@ -20,19 +20,19 @@ pub record IsRunOf (text : List ℕ) (limit : ℕ) (report : Report) : Type 0 wh
   pub accepts : Accepts text program
   pub is_report : IsReport (code_of program) limit report
   pub steps : List Step
-  pub machine_run : MachineRun (code_of program) steps (state_of report.last.kept)
-  pub explained : Explained program (code_of program) steps (state_of report.last.kept)
+  pub machine_run : MachineRun (code_of program) steps (state_of (kept report.last))
+  pub explained : Explained program (code_of program) steps (state_of (kept report.last))
 
 -- the run of that code can fail so
-pub record IsFailedRun (text : List ℕ) (fault : RunFault) : Type 0 where
+pub record IsFailedRun (text : List ℕ) (limit : ℕ) (fault : RunFault) : Type 0 where
   pub program : Source
   pub accepts : Accepts text program
-  pub fails : CanFail (code_of program) fault
+  pub fails : CanFail (code_of program) limit fault
 
 -- the text's refusal, or want of memory, or a fault of the run
-abbrev pub IsRefusedRun : List ℕ → RunSourceFault → Type 0
-IsRefusedRun text (Refused e) = (e ≡ out_of_memory) ⊎ Refuses text e
-IsRefusedRun text (Run fault) = IsFailedRun text fault
+abbrev pub IsRefusedRun : List ℕ → ℕ → RunSourceFault → Type 0
+IsRefusedRun text limit (Refused e) = (e ≡ out_of_memory) ⊎ Refuses text e
+IsRefusedRun text limit (Run fault) = IsFailedRun text limit fault
 
 -- no refusal but for want of memory
 abbrev pub IsMemory : RunSourceFault → Type 0

@@ -1,10 +1,14 @@
-ghost use Rattle.std.specs.Prelude.{◌≤◌};
+ghost use Rattle.std.specs.Prelude.{◌≡◌, ◌≤◌, ◌⊎◌, ℕ, List, IfOk, IfErr, OnOk};
+ghost use Rattle.std.specs.Io.KnownBytes.{Appends};
+ghost use Rattle.mesamon.specs.Accounts.{output_lines, account};
+ghost use Rattle.mesamon.specs.Commands.{HasCompiled, HasDone, HasRun, status_of_verdict};
+ghost use Rattle.mesamon.specs.Running.{IsRunOf};
 
 use crate::command::{Job, read_job};
 use crate::compiler::compile;
 use crate::failure::Failure;
 use crate::files::{read_source, write_image};
-use crate::report::{write_account, write_output};
+use crate::report::{write_account, write_image_line, write_output};
 use crate::source_run::run_source;
 use crate::status::Status;
 use isa::encode;
@@ -25,22 +29,31 @@ impl Gate for OpenGate {
 /// `errors` stand for standard output and standard error.
 ///
 /// The first fault decides: of the words, of reading the file, of its source text, of its run, of writing.
+///
+/// The status is 0 where the command was done, 1 where the source text is refused, 2 for words that are no command, 3
+/// where the run was stuck, 4 where it reached its limit, 5 where memory ran out, and 6 for any other failure.
 pub fn perform<R: Files + AllocGlobal, O: Write, E: Write>(
     rt: &R,
     words: &[&str],
     output: &mut O,
     errors: &mut E,
 ) -> u8
-    ensures { result ≤ 6 }
+    ensures known { result ≤ 6 }
+    ensures done { result ≡ 0 → HasCompiled (Appends (O.contents output.old) (O.contents output.new))
+        ⊎ HasRun (Appends (O.contents output.old) (O.contents output.new))
+        (Appends (E.contents errors.old) (E.contents errors.new)) Status.Done }
+    ensures stuck { result ≡ 3 → HasRun (Appends (O.contents output.old) (O.contents output.new))
+        (Appends (E.contents errors.old) (E.contents errors.new)) Status.Stuck }
+    ensures limit { result ≡ 4 → HasRun (Appends (O.contents output.old) (O.contents output.new))
+        (Appends (E.contents errors.old) (E.contents errors.new)) Status.Limit }
 {
-    let status = match do_job(rt, words, output, errors) {
-        Ok(status) => status,
+    match do_job(rt, words, output, errors) {
+        Ok(status) => status.code(),
         Err(failure) => {
             let _told = tell(errors, &failure);
-            failure.status()
+            failure.status().code()
         }
-    };
-    status.code()
+    }
 }
 
 // Writes what is to be said of a failure.
@@ -57,12 +70,19 @@ fn do_job<'a, R: Files + AllocGlobal, O: Write, E: Write>(
     words: &'a [&'a str],
     output: &mut O,
     errors: &mut E,
-) -> Result<Status, Failure<'a>> {
+) -> Result<Status, Failure<'a>>
+    ensures { IfOk result (λ s. HasDone (Appends (O.contents output.old) (O.contents output.new))
+        (Appends (E.contents errors.old) (E.contents errors.new)) s) }
+{
     match read_job(rt.alloc(), words)? {
-        Job::Compile { file, out } => compile_file(rt, file, out, output),
+        Job::Compile { file, out } => {
+            compile_file(rt, file, out, output)?;
+            Ok(Status::Done)
+        }
         Job::Run { file, steps, trace } => {
             let report = run_file(rt, file, steps)?;
-            show(rt, &report, trace, output, errors)
+            show(rt, &report, trace, output, errors)?;
+            Ok(status_of(report.verdict))
         }
     }
 }
@@ -73,14 +93,16 @@ fn compile_file<'a, R: Files + AllocGlobal, O: Write>(
     file: &'a str,
     out: &'a str,
     output: &mut O,
-) -> Result<Status, Failure<'a>> {
+) -> Result<(), Failure<'a>>
+    ensures { OnOk result (HasCompiled (Appends (O.contents output.old) (O.contents output.new))) }
+{
     let text = read_source(rt, file).map_err(|error| Failure::of_read(file, &error))?;
     let image = compile(rt.alloc(), text.as_slice())?;
     let bytes = encode(rt.alloc(), &image)?;
     write_image(rt, out, bytes.as_slice()).map_err(|error| Failure::of_write(out, &error))?;
     let count = image.code().len();
-    writeln!(output, "ok {count} instructions").map_err(|error| Failure::of_output(&error))?;
-    Ok(Status::Done)
+    write_image_line(output, count).map_err(|error| Failure::of_output(&error))?;
+    Ok(())
 }
 
 // Runs a file.
@@ -88,7 +110,9 @@ fn run_file<'a, R: Files + AllocGlobal>(
     rt: &R,
     file: &'a str,
     steps: u32,
-) -> Result<Report, Failure<'a>> {
+) -> Result<Report, Failure<'a>>
+    ensures { IfOk result (λ report. (text : List ℕ) × IsRunOf text steps report) }
+{
     let text = read_source(rt, file).map_err(|error| Failure::of_read(file, &error))?;
     Ok(run_source(rt.alloc(), text.as_slice(), steps, &OpenGate)?)
 }
@@ -100,14 +124,26 @@ fn show<'a, R: AllocGlobal, O: Write, E: Write>(
     trace: bool,
     output: &mut O,
     errors: &mut E,
-) -> Result<Status, Failure<'a>> {
+) -> Result<(), Failure<'a>>
+    ensures output { OnOk result (Appends (O.contents output.old) (O.contents output.new)
+        (output_lines report.now.output.items)) }
+    ensures errors { OnOk result (Appends (E.contents errors.old) (E.contents errors.new)
+        (account report.now trace)) }
+{
     let printed = write_output(rt.alloc(), output, report.output.as_slice());
     let told = write_account(rt.alloc(), errors, report, trace);
     printed.map_err(|error| Failure::of_output(&error))?;
     told.map_err(|error| Failure::of_output(&error))?;
-    Ok(match report.verdict {
+    Ok(())
+}
+
+// How a run that came to its end so ended.
+fn status_of(verdict: Verdict) -> Status
+    ensures { result ≡ status_of_verdict verdict }
+{
+    match verdict {
         Verdict::Done => Status::Done,
         Verdict::Stuck => Status::Stuck,
         Verdict::Limit => Status::Limit,
-    })
+    }
 }

@@ -1,3 +1,8 @@
+ghost use Rattle.std.specs.Prelude.{◌≡◌};
+ghost use Rattle.std.specs.IoError.{error_kind};
+ghost use Rattle.mesamon.specs.declared.failure.Failure.TheVariants.{Memory as memory};
+ghost use Rattle.mesamon.specs.Failures.{status_of, OfIo, OfWords, OfRefusal, OfRun};
+
 use crate::source_run::RunSourceFault;
 use crate::status::Status;
 use clap::error::ErrorKind;
@@ -35,7 +40,9 @@ pub enum Failure<'a> {
 
 impl<'a> Failure<'a> {
     /// The failure of reading a file.
-    pub fn of_read(name: &'a str, error: &io::Error) -> Failure<'a> {
+    pub fn of_read(name: &'a str, error: &io::Error) -> Failure<'a>
+        ensures { OfIo (error_kind error.now) (Failure.Read name.entry) result }
+    {
         if error.kind() == io::ErrorKind::OutOfMemory {
             Failure::Memory
         } else {
@@ -44,7 +51,9 @@ impl<'a> Failure<'a> {
     }
 
     /// The failure of writing a file.
-    pub fn of_write(name: &'a str, error: &io::Error) -> Failure<'a> {
+    pub fn of_write(name: &'a str, error: &io::Error) -> Failure<'a>
+        ensures { OfIo (error_kind error.now) (Failure.Write name.entry) result }
+    {
         if error.kind() == io::ErrorKind::OutOfMemory {
             Failure::Memory
         } else {
@@ -53,7 +62,9 @@ impl<'a> Failure<'a> {
     }
 
     /// The failure of writing output.
-    pub fn of_output(error: &io::Error) -> Failure<'a> {
+    pub fn of_output(error: &io::Error) -> Failure<'a>
+        ensures { OfIo (error_kind error.now) (Failure.Output) result }
+    {
         if error.kind() == io::ErrorKind::OutOfMemory {
             Failure::Memory
         } else {
@@ -62,7 +73,9 @@ impl<'a> Failure<'a> {
     }
 
     /// How the command ended.
-    pub fn status(&self) -> Status {
+    pub fn status(&self) -> Status
+        ensures { result ≡ status_of self.now }
+    {
         match self {
             Failure::Usage(_) => Status::Usage,
             Failure::Refused(_) => Status::Refused,
@@ -75,6 +88,8 @@ impl<'a> Failure<'a> {
 }
 
 impl From<clap::Error> for Failure<'_> {
+    ghost from_gives = { OfWords };
+
     fn from(error: clap::Error) -> Self {
         if error.kind() == ErrorKind::OutOfMemory {
             Failure::Memory
@@ -85,6 +100,8 @@ impl From<clap::Error> for Failure<'_> {
 }
 
 impl From<Refusal> for Failure<'_> {
+    ghost from_gives = { OfRefusal };
+
     fn from(refusal: Refusal) -> Self {
         if refusal.kind == RefusalKind::Memory {
             Failure::Memory
@@ -95,6 +112,8 @@ impl From<Refusal> for Failure<'_> {
 }
 
 impl From<RunSourceFault> for Failure<'_> {
+    ghost from_gives = { OfRun };
+
     fn from(fault: RunSourceFault) -> Self {
         match fault {
             RunSourceFault::Refused(refusal) => Failure::from(refusal),
@@ -105,6 +124,8 @@ impl From<RunSourceFault> for Failure<'_> {
 }
 
 impl From<AllocError> for Failure<'_> {
+    ghost from_gives = { λ _ f. f ≡ memory };
+
     fn from(_error: AllocError) -> Self {
         Failure::Memory
     }

@@ -1,4 +1,7 @@
+ghost use Rattle.std.specs.Prelude.{◌≡◌, ◌+◌, IfOk, IfSome, take};
+
 use scanner::MOST_BYTES;
+use std::alloc::Global;
 use std::io::Read;
 use std::rt::Files;
 use std::{fs, io};
@@ -7,9 +10,15 @@ use std::{fs, io};
 ///
 /// A text of so many bytes is refused as too long, so no more of it is needed.
 pub fn read_source<R: Files + AllocGlobal>(rt: &R, name: &str) -> io::Result<Vec<u8>> {
-    let file = fs::open(rt, name)?;
-    let mut bytes = Vec::new(rt.alloc());
-    file.take(MOST_BYTES as u64 + 1).read_to_end(&mut bytes)?;
+    read_front(rt.alloc(), fs::open(rt, name)?)
+}
+
+// The bytes that a reader gives, or the first `MOST_BYTES + 1` where there are more.
+fn read_front<R: Read + Drop>(alloc: Global, reader: R) -> io::Result<Vec<u8>>
+    ensures { IfOk result (λ bytes. IfSome (R.remaining reader) (λ xs. bytes.items ≡ take (MOST_BYTES + 1) xs)) }
+{
+    let mut bytes = Vec::new(alloc);
+    reader.take(MOST_BYTES as u64 + 1).read_to_end(&mut bytes)?;
     Ok(bytes)
 }
 

@@ -1,4 +1,6 @@
 ghost use Rattle.std.specs.Prelude.{◌≡◌, ◌<◌, ◌≤◌, [], length, vec_len, IfOk, MatchResult};
+ghost use Rattle.std.specs.List.{AllByRecursion};
+ghost use Rattle.isa.specs.Instructions.{IsInstruction, LeadsBelow};
 ghost use Rattle.isa.specs.Programs.{Program};
 ghost use Rattle.mesamon.specs.Accepts.{too_long};
 ghost use Rattle.simulation.specs.Code.{code_of};
@@ -22,11 +24,13 @@ pub fn generate(alloc: Global, program: &Checked) -> Result<Vec<Instr>, AllocErr
     Ok(code)
 }
 
-/// The image of a program without monitors, of which this is the code.
+/// The image of a program without monitors, of which this is the code, within the limits of each instruction.
 ///
 /// Code of more than `MOST_INSTRUCTIONS` is refused with `Limit` at 1:1.
 pub fn link(alloc: Global, code: Vec<Instr>) -> Result<Image, Refusal>
-    requires { 0 < vec_len code }
+    requires some { 0 < vec_len code }
+    requires instructions { AllByRecursion IsInstruction code.items }
+    requires targets { AllByRecursion (LeadsBelow (length code.items)) code.items }
     ensures fits { length code.items ≤ 65536 → IfOk result (λ i. i ≡ record { monitors = []; start = 0; code = code.items }) }
     ensures long { MatchResult result (λ _. length code.items ≤ 65536) (λ e. (65536 < length code.items) × (e ≡ too_long)) }
 {

@@ -17,6 +17,3 @@ pub use commands::perform;
 pub use compiler::compile;
 pub use laws::text_laws;
 pub use source_run::{RunSourceFault, run_source};
-
-#[cfg(test)]
-mod tests;

@@ -1,22 +1,30 @@
-use machine::{Entry, EventName, Machine};
-use runner::{Report, Verdict};
-use std::alloc::Global;
-use std::io;
-use std::io::{BufWriter, Write};
-use words::{Outcome, signed};
+ghost use Rattle.std.specs.Prelude.{◌≡◌, ◌++◌, ◌≤◌, true, false, length, OnOk, IfOk, string_bytes};
+ghost use Rattle.std.specs.Io.KnownBytes.{Appends};
+ghost use Rattle.mesamon.specs.Accounts.{account, aborted_line, asleep_line, entry_line, image_line, log_lines, name_text, output_lines, set_text, step_text, thread_lines, threads_lines, value_text, verdict_line};
+ghost use Rattle.machine.specs.Views.{address_of, kept};
 
-/// Writes each number of the output on a line of its own.
-pub fn write_output<W: Write>(alloc: Global, writer: &mut W, output: &[i32]) -> io::Result<()> {
-    let mut buffered = BufWriter::new(alloc, writer)?;
-    let result = write_numbers(&mut buffered, output);
-    let _parts = buffered.into_parts();
-    result
+use machine::{Entry, Event, EventName, MOST_THREADS, Machine, ThreadSet};
+use runner::{Report, Verdict};
+use std::alloc::{AllocError, Global};
+use std::fmt::Write as _;
+use std::io;
+use std::io::Write;
+use words::{Addr, Outcome, signed};
+
+/// Writes the line that tells of an image of so many instructions.
+pub fn write_image_line<W: Write>(writer: &mut W, count: usize) -> io::Result<()>
+    ensures { OnOk result (Appends (W.contents writer.old) (W.contents writer.new) (image_line count)) }
+{
+    writeln!(writer, "ok {count} instructions")
 }
 
-fn write_numbers<W: Write>(writer: &mut W, output: &[i32]) -> io::Result<()> {
-    for number in output {
-        writeln!(writer, "{number}")?;
-    }
+/// Writes each number of the output on a line of its own.
+pub fn write_output<W: Write>(alloc: Global, writer: &mut W, output: &[i32]) -> io::Result<()>
+    ensures { OnOk result (Appends (W.contents writer.old) (W.contents writer.new) (output_lines output.now)) }
+{
+    let mut text = String::new(alloc);
+    append_output(&mut text, output)?;
+    writer.write_all(text.as_bytes())?;
     writer.flush()
 }
 
@@ -27,57 +35,124 @@ pub fn write_account<W: Write>(
     writer: &mut W,
     report: &Report,
     trace: bool,
-) -> io::Result<()> {
-    let mut buffered = BufWriter::new(alloc, writer)?;
-    let result = write_lines(&mut buffered, report, trace);
-    let _parts = buffered.into_parts();
-    result
-}
-
-fn write_lines<W: Write>(writer: &mut W, report: &Report, trace: bool) -> io::Result<()> {
-    if trace {
-        write_log(writer, report.log.as_slice())?;
-    }
-    match report.verdict {
-        Verdict::Done => {}
-        Verdict::Stuck => writeln!(writer, "stuck")?,
-        Verdict::Limit => writeln!(writer, "limit")?,
-    }
-    write_threads(writer, &report.last, report.verdict == Verdict::Stuck)?;
+) -> io::Result<()>
+    ensures { OnOk result (Appends (W.contents writer.old) (W.contents writer.new) (account report.now trace)) }
+{
+    let mut text = String::new(alloc);
+    append_account(&mut text, report, trace)?;
+    writer.write_all(text.as_bytes())?;
     writer.flush()
 }
 
-fn write_log<W: Write>(writer: &mut W, log: &[Entry]) -> io::Result<()> {
+fn append_output(text: &mut String, output: &[i32]) -> Result<(), AllocError>
+    ensures { OnOk result (string_bytes text.new ≡ string_bytes text.old ++ output_lines output.now) }
+{
+    for number in output {
+        writeln!(text, "{number}")?;
+    }
+    Ok(())
+}
+
+fn append_account(text: &mut String, report: &Report, trace: bool) -> Result<(), AllocError>
+    ensures { OnOk result (string_bytes text.new ≡ string_bytes text.old ++ account report.now trace) }
+{
+    if trace {
+        append_log(text, report.log.as_slice())?;
+    }
+    match report.verdict {
+        Verdict::Done => {}
+        Verdict::Stuck => writeln!(text, "stuck")?,
+        Verdict::Limit => writeln!(text, "limit")?,
+    }
+    append_threads(text, &report.last, report.verdict == Verdict::Stuck)
+}
+
+fn append_log(text: &mut String, log: &[Entry]) -> Result<(), AllocError>
+    ensures { OnOk result (string_bytes text.new ≡ string_bytes text.old ++ log_lines log.now) }
+{
     for entry in log {
-        write_entry(writer, entry)?;
+        append_entry(text, entry)?;
     }
     Ok(())
 }
 
 // A line of the log: the thread, its local steps, and what came then.
-fn write_entry<W: Write>(writer: &mut W, entry: &Entry) -> io::Result<()> {
+fn append_entry(text: &mut String, entry: &Entry) -> Result<(), AllocError>
+    ensures { OnOk result (string_bytes text.new ≡ string_bytes text.old ++ entry_line entry.now) }
+{
     let thread = entry.thread;
     let local = entry.local;
-    let Some(event) = entry.event else {
-        return writeln!(writer, "{thread} {local} TURN 0");
+    write!(text, "{thread} {local} ")?;
+    append_step(text, entry.event)?;
+    writeln!(text)
+}
+
+// The shared step of an entry, and the threads that it woke and moved; none is a turn.
+fn append_step(text: &mut String, event: Option<Event>) -> Result<(), AllocError>
+    ensures { OnOk result (string_bytes text.new ≡ string_bytes text.old ++ step_text event) }
+{
+    let Some(event) = event else {
+        return write!(text, "TURN 0");
     };
     let name = name_of(event.name);
+    write!(text, "{name} ")?;
+    append_value(text, event)?;
+    append_set(text, " woke", event.woken)?;
+    append_set(text, " moved", event.moved)
+}
+
+// A step's value: of a printed word the number that it stands for.
+fn append_value(text: &mut String, event: Event) -> Result<(), AllocError>
+    ensures { OnOk result (string_bytes text.new ≡ string_bytes text.old ++ value_text event.name event.value) }
+{
     let value = event.value;
     if event.name == EventName::Print {
         let number = signed(value);
-        writeln!(writer, "{thread} {local} {name} {number}")
+        write!(text, "{number}")
     } else {
-        writeln!(writer, "{thread} {local} {name} {value}")
+        write!(text, "{value}")
     }
 }
 
+// The threads of a set by rising number, after a word, where there are any.
+fn append_set(text: &mut String, word: &str, set: ThreadSet) -> Result<(), AllocError>
+    ensures { OnOk result (string_bytes text.new ≡ string_bytes text.old ++ set_text word.now set) }
+{
+    let mut any = false;
+    for before in 0..MOST_THREADS {
+        let thread = before + 1;
+        if set.contains(thread) {
+            if !any {
+                write!(text, "{word}")?;
+            }
+            write!(text, " {thread}")?;
+            any = true;
+        }
+    }
+    Ok(())
+}
+
 // How the log names a step.
-fn name_of(name: EventName) -> &'static str {
+fn name_of(name: EventName) -> &'static str
+    ensures { result.now ≡ name_text name }
+{
     match name {
         EventName::Turn => "TURN",
+        EventName::Load => "LOAD",
+        EventName::Store => "STORE",
+        EventName::Swap => "SWAP",
+        EventName::Cas => "CAS",
+        EventName::Or => "AOR",
+        EventName::Add => "AADD",
+        EventName::Fork => "FORK",
         EventName::Print => "PRINT",
+        EventName::Wait => "FWAIT",
+        EventName::Wake => "FWAKE",
+        EventName::Requeue => "FREQ",
         EventName::Ret => "RET",
+        EventName::RetValue => "RETV",
         EventName::Die => "DIE",
+        EventName::Entry => "ENTRY",
         EventName::Pending => "PENDING",
         EventName::Clear => "CLEAR",
         EventName::Last => "LAST",
@@ -85,17 +160,36 @@ fn name_of(name: EventName) -> &'static str {
 }
 
 // The threads that have aborted, and, where nothing can move, those that sleep, by rising number.
-fn write_threads<W: Write>(writer: &mut W, last: &Machine, stuck: bool) -> io::Result<()> {
+fn append_threads(text: &mut String, last: &Machine, stuck: bool) -> Result<(), AllocError>
+    ensures { OnOk result (string_bytes text.new
+        ≡ string_bytes text.old ++ threads_lines (kept last.now) stuck (length (kept last.now).threads)) }
+{
     for before in 0..last.threads() {
         let thread = before + 1;
-        if let Outcome::Aborted(fault) = last.outcome(thread) {
-            let number = fault.number();
-            writeln!(writer, "process {thread} aborted: fault {number}")?;
+        append_end(text, thread, last.outcome(thread))?;
+        if stuck {
+            append_sleep(text, thread, last.asleep(thread))?;
         }
-        if stuck && let Some(address) = last.asleep(thread) {
-            let word = address.0;
-            writeln!(writer, "process {thread} sleeps on word {word}")?;
-        }
+    }
+    Ok(())
+}
+
+fn append_end(text: &mut String, thread: u32, outcome: Outcome) -> Result<(), AllocError>
+    ensures { OnOk result (string_bytes text.new ≡ string_bytes text.old ++ aborted_line thread outcome) }
+{
+    if let Outcome::Aborted(fault) = outcome {
+        let number = fault.number();
+        writeln!(text, "process {thread} aborted: fault {number}")?;
+    }
+    Ok(())
+}
+
+fn append_sleep(text: &mut String, thread: u32, address: Option<Addr>) -> Result<(), AllocError>
+    ensures { OnOk result (string_bytes text.new ≡ string_bytes text.old ++ asleep_line thread (address_of address)) }
+{
+    if let Some(address) = address {
+        let word = address.0;
+        writeln!(text, "process {thread} sleeps on word {word}")?;
     }
     Ok(())
 }

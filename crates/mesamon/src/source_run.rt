@@ -1,4 +1,5 @@
-ghost use Rattle.std.specs.Prelude.{◌≡◌, IfOk, IfErr};
+ghost use Rattle.std.specs.Prelude.{◌≡◌, ◌≢◌, ◌<◌, ◌+◌, ◌^◌, IfOk, IfErr};
+ghost use Rattle.runner.specs.declared.fault.RunFault.TheVariants.{Broken};
 ghost use Rattle.sourcemeaning.specs.Programs.{Source};
 ghost use Rattle.mesamon.specs.Accepts.{Accepts, Fits};
 ghost use Rattle.mesamon.specs.Running.{IsRunOf, IsRefusedRun, IsMemory};
@@ -41,9 +42,10 @@ impl From<RunFault> for RunSourceFault {
 /// Compiles a source text and runs its image within a limit of steps, as `run` does. The gate is passed before each
 /// entry of the log, with the number of its thread.
 ///
-/// Some run of the text's program explains the report: it has the same output and the same ends of processes, and where
-/// no thread can move, none of its processes can. A text that `compile` refuses has the same refusal. The run's own fault is `Memory`, or `Broken` where some legal
-/// log of the text's code leads to a step that may not be.
+/// Some run of the text's program explains the report: it has the same output and the same ends of processes, and
+/// where no thread can move, none of its processes can. A text that `compile` refuses has the same refusal. The run's
+/// own fault is `Memory`. `Broken` comes of no text as long as the limit is at most 2^32 - 257: a run is explained as
+/// long as it has fewer than 2^32 steps, and a thread may take 256 local steps beyond the limit before it is refused.
 pub fn run_source<G: Gate>(
     alloc: Global,
     text: &[u8],
@@ -51,7 +53,8 @@ pub fn run_source<G: Gate>(
     gate: &G,
 ) -> Result<Report, RunSourceFault>
     ensures report { IfOk result (λ report. IsRunOf text.now limit report) }
-    ensures fault { IfErr result (λ fault. IsRefusedRun text.now fault) }
+    ensures fault { IfErr result (λ fault. IsRefusedRun text.now limit fault) }
+    ensures sound { limit + 256 < 2 ^ 32 → IfErr result (λ fault. fault ≢ Run Broken) }
     ensures only { (p : Source) → Accepts text.now p → Fits p → IfErr result (λ fault. IsMemory fault) }
 {
     logs_are_machine_runs();

@@ -1,5 +1,6 @@
 -- What a refusal shows.
-use Rattle.std.specs.Prelude.{ℕ, List, codes}
+use Rattle.std.specs.Prelude.{ℕ, List, ◌++◌, codes}
+use Rattle.std.specs.Fmt.{decimal}
 use Rattle.scanner.specs.declared.refusal.Refusal.{Refusal}
 use Rattle.scanner.specs.declared.refusal.RefusalKind.{RefusalKind}
 use Rattle.scanner.specs.declared.refusal.RefusalKind.TheVariants.{NotAscii, BadToken, Expected, Redeclared, Unknown, TypeMismatch, WrongPlace, DirectReentry, Recursion, Limit, Memory, StrayPiece}
@@ -36,3 +37,8 @@ name_of Recursion = codes "Recursion"
 name_of Limit = codes "Limit"
 name_of Memory = codes "Memory"
 name_of StrayPiece = codes "StrayPiece"
+
+-- LINE:COLUMN: error N NAME
+abbrev pub refusal_text : Refusal → List ℕ
+refusal_text refusal = decimal refusal.place.line ++ codes ":" ++ decimal refusal.place.column
+    ++ codes ": error " ++ decimal (number_of refusal.kind) ++ codes " " ++ name_of refusal.kind

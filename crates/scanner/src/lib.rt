@@ -17,6 +17,3 @@ pub use laws::{fault_laws, token_laws};
 pub use refusal::{Refusal, RefusalKind};
 pub use text::{MOST_BYTES, scan};
 pub use token::{Keyword, Kind, Place, Sign, Token};
-
-#[cfg(test)]
-mod tests;

@@ -65,8 +65,12 @@ impl RefusalKind {
 }
 
 impl fmt::Display for RefusalKind {
+    ghost use Rattle.std.specs.Prelude.{Some};
+
+    ghost output = { λ kind. Some (name_of kind) };
+
     fn fmt<W: fmt::Write>(&self, f: &mut fmt::Formatter<W>) -> fmt::Result {
-        write!(f, "{}", self.name())
+        f.write_str(self.name())
     }
 }
 
@@ -74,7 +78,6 @@ impl fmt::Display for RefusalKind {
 ///
 /// It is shown as `LINE:COLUMN: error N NAME`.
 #[derive(Clone, Copy, PartialEq, Eq, Debug, Error)]
-#[error("{}:{}: error {} {}", .place.line, .place.column, .kind.number(), .kind)]
 pub struct Refusal {
     pub kind: RefusalKind,
     pub place: Place,
@@ -89,6 +92,23 @@ impl Refusal {
             kind: RefusalKind::Memory,
             place: Place::START,
         }
+    }
+}
+
+impl fmt::Display for Refusal {
+    ghost use Rattle.std.specs.Prelude.{Some};
+    ghost use Rattle.scanner.specs.Refusals.{refusal_text};
+
+    ghost output = { λ refusal. Some (refusal_text refusal) };
+
+    fn fmt<W: fmt::Write>(&self, f: &mut fmt::Formatter<W>) -> fmt::Result {
+        let Place { line, column } = self.place;
+        write!(
+            f,
+            "{line}:{column}: error {} {}",
+            self.kind.number(),
+            self.kind
+        )
     }
 }
 

@@ -13,6 +13,3 @@ pub use action::{Action, ActionKind};
 pub use checked::Checked;
 pub use laws::run_laws;
 pub use state::{MAIN, SourceState, movers};
-
-#[cfg(test)]
-mod tests;

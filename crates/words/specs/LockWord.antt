@@ -1,7 +1,7 @@
 -- The word of a lock, as its three parts (robust-futex ABI): the owner's number below 2^30, whether the owner died
 -- with it, and whether threads may wait for it.
-use Rattle.std.specs.Prelude.{ℕ, ◌+◌, ◌^◌, ◌==◌, Bool, true, false, not, if◌then◌else◌}
-use Rattle.std.specs.Int.Bits.{bit_and, bit_or}
+use Rattle.std.specs.Prelude.{ℕ, ◌+◌, ◌==◌, Bool, not, if◌then◌else◌}
+use Rattle.std.specs.Int.Bits.{bit_and}
 
 -- a lock word by its parts
 abbrev pub lock_word : ℕ → Bool → Bool → ℕ

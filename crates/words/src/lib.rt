@@ -16,6 +16,3 @@ pub use lock::{
 pub use mem::{Addr, Mem};
 pub use outcome::{ENDED, Fault, Outcome, outcome_laws};
 pub use process::{MOST_PROCESSES, ProcessWord, block, block_laws};
-
-#[cfg(test)]
-mod tests;

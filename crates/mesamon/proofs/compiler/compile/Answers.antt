@@ -1,11 +1,11 @@
-use Rattle.std.proofs.Common.{◌≡◌, ◌≤◌, List, length, subst, ap, ◌∙◌, sym, inl, inr, rules}
+use Rattle.std.proofs.Common.{◌≡◌, ◌≤◌, List, length, subst, ap, ◌∙◌, sym, inl, inr}
 use Rattle.std.proofs.lemmas.Result.{err_from_is_err_and}
 use Rattle.scanner.specs.Tokens.{TokenView, views}
 use Rattle.isa.specs.declared.instr.Instr.{Instr}
 use Rattle.sourcemeaning.specs.Programs.{Source}
 use Rattle.mesamon.specs.Accepts.{IsUnit}
 use Rattle.simulation.specs.Code.{code_of}
-use Rattle.mesamon.proofs.Codes.{compiled, image_of_unit, linked}
+use Rattle.mesamon.proofs.Codes.{within_limits, compiled, image_of_unit, linked}
 use Rattle.mesamon.proofs.OneAnswer.{one_unit, unit_not_refused}
 use Rattle.mesamon.proofs.Tokens.{tokens_readable}
 use Rattle.mesamon.proofs.compiler.compile.Goals as goal
@@ -41,3 +41,9 @@ returns-clause-accepted c =
     let read = c.in_ok-program.program in
     let unit : IsUnit (views c.in_ok-tokens.tokens.items) read = subst (λ (ts : List TokenView). IsUnit ts read) (ap views c.as_slice.ensures.value) c.in_ok-program.ensures.unit in
     compiled _ _ read _ c.link.result c.in_ok-tokens.ensures.tokens unit c.in_ok-code.ensures c.code_refines.ensures c.link.ensures.fits c.link.ensures.long
+
+pub link-requires-clause-instructions : goal.link-requires-clause-instructions
+link-requires-clause-instructions c = (within_limits c.in_ok-program.program c.in_ok-code.code.items 0 c.in_ok-code.ensures).0
+
+pub link-requires-clause-targets : goal.link-requires-clause-targets
+link-requires-clause-targets c = (within_limits c.in_ok-program.program c.in_ok-code.code.items (length c.in_ok-code.code.items) c.in_ok-code.ensures).1

@@ -1,4 +1,4 @@
-use Rattle.std.proofs.Common.{◌≡◌, arith, get_or, pos, ◌∙◌, ap, ℤ}
+use Rattle.std.proofs.Common.{◌≡◌, arith, get_or, pos, ◌∙◌, ap}
 use Rattle.std.proofs.lemmas.Int.{ints, to_z-of_z}
 use Rattle.words.specs.Signed.{word_of}
 use Rattle.mesamon.proofs.Codes.{statement_more}

@@ -2,9 +2,6 @@
 use Rattle.std.proofs.Common.{◌≤◌, length, get_or, refl, sym, ◌∙◌}
 use Rattle.std.proofs.lemmas.Bool.{eq-eqb, ne_eqb, cond-true, cond-false}
 use Rattle.std.proofs.lemmas.List.{append-nil, get_or_default}
-use Rattle.buckets.specs.Sleepers.{IsSound}
-use Rattle.buckets.proofs.Outcomes.{rows}
-use Rattle.buckets.proofs.Rows.{sound}
 use Rattle.buckets.proofs.Moves.{Moved-none, Moved-more, Moved-next, Moved-all}
 use Rattle.buckets.proofs.buckets.Buckets.shift.Goals as goal
 

@@ -1,4 +1,4 @@
-use Rattle.std.proofs.Common.{◌≡◌, take}
+use Rattle.std.proofs.Common.{take}
 use Rattle.scanner.specs.Tokens.{views}
 use Rattle.mesamon.specs.Reading.{IsReadable, Passes}
 use Rattle.mesamon.proofs.fragment.Reader.expect_all.Given as goal

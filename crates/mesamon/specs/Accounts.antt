@@ -1,0 +1,125 @@
+-- What is written of a run: its output, and its account, which is the log where it is wanted, the verdict where not all
+-- threads have ended, and the threads that have aborted or sleep.
+use Rattle.std.specs.Prelude.{ℕ, zero, suc, ℤ, Bool, true, false, List, [], ◌∷◌, ◌++◌, Option, Some, None, codes, length, if◌then◌else◌}
+use Rattle.std.specs.List.{flat_map}
+use Rattle.std.specs.Fmt.{decimal, signed_decimal}
+use Rattle.words.specs.Signed.{signed_of}
+use Rattle.words.specs.Process.{process_word}
+use Rattle.words.specs.Outcomes.{fault_number, outcome_of}
+use Rattle.words.specs.declared.outcome.Outcome.{Outcome}
+use Rattle.words.specs.declared.outcome.Outcome.TheVariants.{Aborted}
+use Rattle.machine.specs.declared.event.Entry.{Entry}
+use Rattle.machine.specs.declared.event.Event.{Event}
+use Rattle.machine.specs.declared.event.EventName.{EventName}
+use Rattle.machine.specs.declared.event.EventName.TheVariants.{Turn, Load, Store, Swap, Cas, Or, Add, Fork, Print, Wait, Wake, Requeue, Ret, RetValue, Die, Entry as Entry', Pending, Clear, Last}
+use Rattle.machine.specs.ThreadSets.{has}
+use Rattle.machine.specs.declared.thread_set.ThreadSet.{ThreadSet}
+use Rattle.machine.specs.States.{Kept, state_of}
+use Rattle.machine.specs.Views.{kept}
+use Rattle.runner.specs.declared.report.Verdict.{Verdict}
+use Rattle.runner.specs.declared.report.Verdict.TheVariants.{Done, Stuck, Limit}
+use Rattle.runner.specs.declared.report.Report.{Report}
+
+abbrev pub line_feed : List ℕ
+line_feed = 10 ∷ []
+
+-- the line that tells of an image of so many instructions
+abbrev pub image_line : ℕ → List ℕ
+image_line count = codes "ok " ++ decimal count ++ codes " instructions" ++ line_feed
+
+-- each number on a line of its own
+abbrev pub output_lines : List ℤ → List ℕ
+output_lines output = flat_map (λ z. signed_decimal z ++ line_feed) output
+
+abbrev pub name_text : EventName → List ℕ
+name_text Turn = codes "TURN"
+name_text Load = codes "LOAD"
+name_text Store = codes "STORE"
+name_text Swap = codes "SWAP"
+name_text Cas = codes "CAS"
+name_text Or = codes "AOR"
+name_text Add = codes "AADD"
+name_text Fork = codes "FORK"
+name_text Print = codes "PRINT"
+name_text Wait = codes "FWAIT"
+name_text Wake = codes "FWAKE"
+name_text Requeue = codes "FREQ"
+name_text Ret = codes "RET"
+name_text RetValue = codes "RETV"
+name_text Die = codes "DIE"
+name_text Entry' = codes "ENTRY"
+name_text Pending = codes "PENDING"
+name_text Clear = codes "CLEAR"
+name_text Last = codes "LAST"
+
+-- a printed word is shown as the number that it stands for
+abbrev pub value_text : EventName → ℕ → List ℕ
+value_text Print v = signed_decimal (signed_of v)
+value_text _ v = decimal v
+
+-- the threads of a set, by rising number, up to a number
+abbrev pub members : ThreadSet → ℕ → List ℕ
+members set zero = []
+members set (suc t) = members set t ++ (if has set (suc t) then suc t ∷ [] else [])
+
+-- each number after a space
+abbrev pub numbers_text : List ℕ → List ℕ
+numbers_text numbers = flat_map (λ n. codes " " ++ decimal n) numbers
+
+-- a word and the numbers after it, where there are any
+abbrev pub list_text : List ℕ → List ℕ → List ℕ
+list_text word [] = []
+list_text word (n ∷ ns) = word ++ numbers_text (n ∷ ns)
+
+abbrev pub set_text : List ℕ → ThreadSet → List ℕ
+set_text word set = list_text word (members set 64)
+
+-- a step's name and value, and the threads that it woke and moved
+abbrev pub event_text : Event → List ℕ
+event_text e =
+    name_text e.name ++ codes " " ++ value_text e.name e.value
+    ++ set_text (codes " woke") e.woken ++ set_text (codes " moved") e.moved
+
+abbrev pub step_text : Option Event → List ℕ
+step_text None = codes "TURN 0"
+step_text (Some e) = event_text e
+
+-- the thread, its local steps, and what came then
+abbrev pub entry_line : Entry → List ℕ
+entry_line e = decimal e.thread ++ codes " " ++ decimal e.local ++ codes " " ++ step_text e.event ++ line_feed
+
+abbrev pub log_lines : List Entry → List ℕ
+log_lines log = flat_map entry_line log
+
+abbrev pub verdict_line : Verdict → List ℕ
+verdict_line Done = []
+verdict_line Stuck = codes "stuck" ++ line_feed
+verdict_line Limit = codes "limit" ++ line_feed
+
+abbrev pub is_stuck : Verdict → Bool
+is_stuck Stuck = true
+is_stuck _ = false
+
+abbrev pub aborted_line : ℕ → Outcome → List ℕ
+aborted_line t (Aborted fault) = codes "process " ++ decimal t ++ codes " aborted: fault " ++ decimal (fault_number fault) ++ line_feed
+aborted_line t _ = []
+
+abbrev pub asleep_line : ℕ → Option ℕ → List ℕ
+asleep_line t None = []
+asleep_line t (Some a) = codes "process " ++ decimal t ++ codes " sleeps on word " ++ decimal a ++ line_feed
+
+-- the lines of one thread
+abbrev pub thread_lines : Kept → Bool → ℕ → List ℕ
+thread_lines k stuck t =
+    aborted_line t (outcome_of ((state_of k).word (process_word t 5)))
+    ++ (if stuck then asleep_line t ((state_of k).asleep t) else [])
+
+-- those of the threads up to a number
+abbrev pub threads_lines : Kept → Bool → ℕ → List ℕ
+threads_lines k stuck zero = []
+threads_lines k stuck (suc t) = threads_lines k stuck t ++ thread_lines k stuck (suc t)
+
+abbrev pub account : Report → Bool → List ℕ
+account r trace =
+    (if trace then log_lines r.log.items else []) ++ verdict_line r.verdict
+    ++ threads_lines (kept r.last) (is_stuck r.verdict) (length (kept r.last).threads)

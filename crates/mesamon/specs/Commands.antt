@@ -1,0 +1,41 @@
+-- What a command that ended well has done: it wrote of some text, whose bytes a file gave.
+use Rattle.std.specs.Prelude.{◌≡◌, ◌⊎◌, ℕ, Bool, List, length}
+use Rattle.isa.specs.Programs.{Program}
+use Rattle.runner.specs.declared.report.Verdict.{Verdict}
+use Rattle.runner.specs.declared.report.Verdict.TheVariants as verdict
+use Rattle.runner.specs.declared.report.Report.{Report}
+use Rattle.mesamon.specs.declared.status.Status.{Status}
+use Rattle.mesamon.specs.declared.status.Status.TheVariants.{Done, Stuck, Limit}
+use Rattle.mesamon.specs.Compiles.{IsCompiled}
+use Rattle.mesamon.specs.Running.{IsRunOf}
+use Rattle.mesamon.specs.Accounts.{account, image_line, output_lines}
+
+-- some text was compiled, and the line of its image was written
+pub record HasCompiled (Wrote : List ℕ → Type 0) : Type 0 where
+  pub text : List ℕ
+  pub image : Program
+  pub compiled : IsCompiled text image
+  pub wrote : Wrote (image_line (length image.code))
+
+abbrev pub status_of_verdict : Verdict → Status
+status_of_verdict verdict.Done = Done
+status_of_verdict verdict.Stuck = Stuck
+status_of_verdict verdict.Limit = Limit
+
+-- some text was run, and its output and its account were written
+pub record HasRun (Wrote WroteErrors : List ℕ → Type 0) (status : Status) : Type 0 where
+  pub text : List ℕ
+  pub limit : ℕ
+  pub trace : Bool
+  pub report : Report
+  pub run : IsRunOf text limit report
+  pub ended : status ≡ status_of_verdict report.verdict
+  pub wrote : Wrote (output_lines report.output.items)
+  pub told : WroteErrors (account report trace)
+
+-- a command that ended well has compiled or has run
+abbrev pub HasDone : (Wrote WroteErrors : List ℕ → Type 0) → Status → Type 0
+HasDone Wrote WroteErrors Done = HasCompiled Wrote ⊎ HasRun Wrote WroteErrors Done
+HasDone Wrote WroteErrors Stuck = HasRun Wrote WroteErrors Stuck
+HasDone Wrote WroteErrors Limit = HasRun Wrote WroteErrors Limit
+HasDone Wrote WroteErrors _ = ⊥

@@ -1,0 +1,42 @@
+-- What a failure comes of, and the exit status that it has.
+use Rattle.std.specs.Prelude.{◌≡◌, ◌≢◌, ◌⊎◌}
+use Rattle.std.specs.declared.io.ErrorKind.{ErrorKind}
+use Rattle.std.specs.declared.io.ErrorKind.TheVariants as io
+use Rattle.clap.specs.declared.error.Error.{Error}
+use Rattle.clap.specs.declared.error.kind.ErrorKind.TheVariants as words
+use Rattle.clap.specs.Words.{kind_of}
+use Rattle.scanner.specs.declared.refusal.Refusal.{Refusal}
+use Rattle.scanner.specs.declared.refusal.RefusalKind.TheVariants as kind
+use Rattle.runner.specs.declared.fault.RunFault.TheVariants as fault
+use Rattle.mesamon.specs.declared.source_run.RunSourceFault.{RunSourceFault}
+use Rattle.mesamon.specs.declared.source_run.RunSourceFault.TheVariants as source
+use Rattle.mesamon.specs.declared.failure.Failure.{Failure}
+use Rattle.mesamon.specs.declared.failure.Failure.TheVariants.{Usage, Read, Write, Refused, Run, Output, Memory}
+use Rattle.mesamon.specs.declared.status.Status.{Status}
+use Rattle.mesamon.specs.declared.status.Status.TheVariants as status
+
+abbrev pub status_of : Failure → Status
+status_of (Usage e) = status.Usage
+status_of (Read name) = status.Failed
+status_of (Write name) = status.Failed
+status_of (Refused e) = status.Refused
+status_of (Run e) = status.Failed
+status_of Output = status.Failed
+status_of Memory = status.Memory
+
+-- an error of input or output is this failure, but for want of memory that of memory
+abbrev pub OfIo : ErrorKind → Failure → Failure → Type 0
+OfIo k other f = ((k ≡ io.OutOfMemory) × (f ≡ Memory)) ⊎ ((k ≢ io.OutOfMemory) × (f ≡ other))
+
+-- so is what is said of words of a command line
+abbrev pub OfWords : Error → Failure → Type 0
+OfWords e f = ((kind_of e ≡ words.OutOfMemory) × (f ≡ Memory)) ⊎ ((kind_of e ≢ words.OutOfMemory) × (f ≡ Usage e))
+
+-- and so is a refusal
+abbrev pub OfRefusal : Refusal → Failure → Type 0
+OfRefusal e f = ((e.kind ≡ kind.Memory) × (f ≡ Memory)) ⊎ ((e.kind ≢ kind.Memory) × (f ≡ Refused e))
+
+abbrev pub OfRun : RunSourceFault → Failure → Type 0
+OfRun (source.Refused e) f = OfRefusal e f
+OfRun (source.Run fault.Memory) f = f ≡ Memory
+OfRun (source.Run e) f = f ≡ Run e
