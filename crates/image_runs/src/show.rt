@@ -1,0 +1,87 @@
+use machine::{Entry, EventName, Machine, ThreadSet};
+use runner::Report;
+use std::io;
+
+// The most entries of a log that is printed.
+const SHORT: usize = 24;
+
+/// Prints what came of a run: how it ended and how long it was, its log where that is short, its output, and the
+/// threads that sleep or have aborted.
+pub fn show(rt: &HostRuntime, report: &Report) -> io::Result<()> {
+    let log = report.log.as_slice();
+    let verdict = report.verdict;
+    let entries = log.len();
+    let steps = steps_of(log);
+    let walked = events_of(log, EventName::Entry);
+    let forked = events_of(log, EventName::Fork);
+    println!(rt; "  {verdict:?}, {steps} steps, {entries} entries, {walked} ENTRY, {forked} FORK")?;
+    if entries <= SHORT {
+        show_log(rt, log)?;
+    }
+    for number in report.output.as_slice() {
+        println!(rt; "  output {number}")?;
+    }
+    show_threads(rt, &report.last)
+}
+
+fn show_log(rt: &HostRuntime, log: &[Entry]) -> io::Result<()> {
+    for entry in log {
+        let thread = entry.thread;
+        let local = entry.local;
+        match entry.event {
+            None => println!(rt; "  {thread} {local} turn")?,
+            Some(event) => {
+                let name = event.name;
+                let value = event.value;
+                println!(rt; "  {thread} {local} {name:?} {value}")?;
+                show_set(rt, "woke", event.woken)?;
+                show_set(rt, "moved", event.moved)?;
+            }
+        }
+    }
+    Ok(())
+}
+
+// The threads of a set, each on a line.
+fn show_set(rt: &HostRuntime, what: &str, set: ThreadSet) -> io::Result<()> {
+    for before in 0..64 {
+        let thread = before + 1;
+        if set.contains(thread) {
+            println!(rt; "    {what} {thread}")?;
+        }
+    }
+    Ok(())
+}
+
+// The threads that have aborted, and those that sleep.
+fn show_threads(rt: &HostRuntime, last: &Machine) -> io::Result<()> {
+    for before in 0..last.threads() {
+        let thread = before + 1;
+        let outcome = last.outcome(thread);
+        if let words::Outcome::Aborted(fault) = outcome {
+            println!(rt; "  thread {thread}: {fault:?}")?;
+        }
+        if let Some(address) = last.asleep(thread) {
+            let word = address.0;
+            println!(rt; "  thread {thread} sleeps on word {word}")?;
+        }
+    }
+    Ok(())
+}
+
+// How many steps a log has.
+fn steps_of(log: &[Entry]) -> u64 {
+    let mut steps: u64 = 0;
+    for entry in log {
+        let shared = if entry.event.is_some() { 1 } else { 0 };
+        steps = steps.saturating_add(u64::from(entry.local) + shared);
+    }
+    steps
+}
+
+// How many events of a name a log has.
+fn events_of(log: &[Entry], name: EventName) -> usize {
+    log.iter()
+        .filter(|entry| entry.event.is_some_and(|event| event.name == name))
+        .count()
+}
