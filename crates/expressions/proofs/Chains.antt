@@ -1,4 +1,4 @@
--- Chains of operators, one more link at a time.
+-- Chains of operators: no link, the first link and those behind it, and a loop's one more link at a time.
 use Rattle.std.proofs.Common.{◌≡◌, ◌≤◌, ℕ, List, [], ◌∷◌, ◌++◌, refl, ap, sym, subst, ◌∙◌, arith}
 use Rattle.scanner.specs.declared.token.Place.{Place}
 use Rattle.scanner.specs.declared.token.Keyword.TheVariants as K
@@ -7,88 +7,151 @@ use Rattle.syntax.specs.declared.expression.Conjunction.{Conjunction}
 use Rattle.syntax.specs.declared.expression.Relation.{Relation}
 use Rattle.syntax.specs.declared.expression.Summand.{Summand}
 use Rattle.syntax.specs.declared.expression.SumOperator.{SumOperator}
+use Rattle.syntax.specs.declared.expression.ProductOperator.{ProductOperator}
 use Rattle.syntax.specs.declared.expression.Multiplier.{Multiplier}
 use Rattle.syntax.specs.Lexeme.{Lexeme, Word}
-use Rattle.syntax.specs.Tree.{ConjunctionTrees, OrElse, NoConjunctions, RelationTrees, AndAlso, NoRelations, TermTree, SummandTrees, Adds, NoSummands, FactorTree, MultiplierTrees, Scales, NoMultipliers}
-use Rattle.syntax.specs.View.{factor_of, relation_of, conjunction_of, summand_of, multipliers_before, summands_before, relations_before, conjunctions_before}
-use Rattle.grammar.specs.Machine.{Symbol, AFactor, Multipliers, Summands, Relations, Conjunctions, Trees, Skip, Item, term, relation, conjunction, scales, adds, reply_multipliers, reply_summands, reply_relations, reply_conjunctions}
+use Rattle.syntax.specs.Tree.{AnyOf, ConjunctionTree, AllOf, Total, TermTree, Product, RelationTree, ConjunctionTrees, OrElse, NoConjunctions, RelationTrees, AndAlso, NoRelations, SummandTrees, Adds, FactorTree, MultiplierTrees, Scales}
+use Rattle.syntax.specs.View.{factor_of, term_of, relation_of, conjunction_of, multipliers_before, summands_before, relations_before, conjunctions_before}
+use Rattle.grammar.specs.Machine.{AFactor, Multipliers, Summands, Relations, Conjunctions, Skip, Item, term, sum, relation, conjunction, expression, scales, adds, reply_multipliers, reply_summands, reply_relations, reply_conjunctions, relation_tree, conjunction_tree}
 use Rattle.grammar.specs.Reading.{lexeme_at, rest_after, Passes, Fails, Leads}
-use Rattle.grammar.proofs.Joins.{skip, done, leads_as, onto, then1, then2, then4, then5, fail2, fail4, fail5}
+use Rattle.grammar.proofs.Joins.{here, skip, done, leads_as, onto, then1, then2, then4, then5, fail1, fail2, fail4, fail5}
 use Rattle.expressions.specs.Taking.{Found, Absent}
-use Rattle.expressions.specs.Levels.{term_trees, relation_trees, conjunction_trees}
+use Rattle.expressions.specs.Levels.{term_trees, sum_trees, relation_trees, conjunction_trees, expression_trees}
 use Rattle.expressions.proofs.Small.{pushes}
 use Rattle.expressions.proofs.Levels.{term_back, relation_back, conjunction_back}
 
-pub multipliers_more : (ms : List Multiplier) (m : Multiplier) (later : MultiplierTrees) → multipliers_before (ms ++ m ∷ []) later ≡ multipliers_before ms (Scales m.operator (factor_of m.factor) later)
+multipliers_more : (ms : List Multiplier) (m : Multiplier) (later : MultiplierTrees) → multipliers_before (ms ++ m ∷ []) later ≡ multipliers_before ms (Scales m.operator (factor_of m.factor) later)
 multipliers_more [] m later = refl
 multipliers_more (n ∷ ms) m later = ap (Scales n.operator (factor_of n.factor)) (multipliers_more ms m later)
 
-pub summands_more : (ms : List Summand) (m : Summand) (later : SummandTrees) → summands_before (ms ++ m ∷ []) later ≡ summands_before ms (summand_of m later)
+summands_more : (ms : List Summand) (m : Summand) (later : SummandTrees) → summands_before (ms ++ m ∷ []) later ≡ summands_before ms (Adds m.operator m.place (term_of m.term) later)
 summands_more [] m later = refl
-summands_more (n ∷ ms) m later = ap (summand_of n) (summands_more ms m later)
+summands_more (n ∷ ms) m later = ap (Adds n.operator n.place (term_of n.term)) (summands_more ms m later)
 
-pub relations_more : (rs : List Relation) (r : Relation) (later : RelationTrees) → relations_before (rs ++ r ∷ []) later ≡ relations_before rs (AndAlso (relation_of r) later)
+relations_more : (rs : List Relation) (r : Relation) (later : RelationTrees) → relations_before (rs ++ r ∷ []) later ≡ relations_before rs (AndAlso (relation_of r) later)
 relations_more [] r later = refl
 relations_more (q ∷ rs) r later = ap (AndAlso (relation_of q)) (relations_more rs r later)
 
-pub conjunctions_more : (cs : List Conjunction) (c : Conjunction) (later : ConjunctionTrees) → conjunctions_before (cs ++ c ∷ []) later ≡ conjunctions_before cs (OrElse (conjunction_of c) later)
+conjunctions_more : (cs : List Conjunction) (c : Conjunction) (later : ConjunctionTrees) → conjunctions_before (cs ++ c ∷ []) later ≡ conjunctions_before cs (OrElse (conjunction_of c) later)
 conjunctions_more [] c later = refl
 conjunctions_more (b ∷ cs) c later = ap (OrElse (conjunction_of b)) (conjunctions_more cs c later)
 
 -- no further relation, and no further conjunction
-pub relations_end : (k : Lexeme) → (k ≡ Word K.And → ⊥) → reply_relations k ≡ Skip NoRelations
+relations_end : (k : Lexeme) → (k ≡ Word K.And → ⊥) → reply_relations k ≡ Skip NoRelations
 relations_end (Word K.And) h = absurd (h refl)
 relations_end _ h = refl
 
-pub conjunctions_end : (k : Lexeme) → (k ≡ Word K.Or → ⊥) → reply_conjunctions k ≡ Skip NoConjunctions
+conjunctions_end : (k : Lexeme) → (k ≡ Word K.Or → ⊥) → reply_conjunctions k ≡ Skip NoConjunctions
 conjunctions_end (Word K.Or) h = absurd (h refl)
 conjunctions_end _ h = refl
 
--- a further factor
-pub term_goes_on : {d : ℕ} {x : FactorTree} {a n p b : List Item} (ms all : List Multiplier) (m : Multiplier) → all ≡ ms ++ m ∷ [] → d ≤ 64 → Leads d (term []) (Multipliers ∷ []) (λ y. (x, (multipliers_before ms y.0, tt))) a n → reply_multipliers (lexeme_at n) ≡ scales m.operator → p ≡ rest_after n → Passes d (AFactor ∷ []) (factor_of m.factor, tt) p b → Leads d (term []) (Multipliers ∷ []) (λ y. (x, (multipliers_before all y.0, tt))) a b
-term_goes_on {d} {x} ms all m e le l r q f =
-    leads_as (λ y. ap (λ z. (x, (z, tt))) (sym (ap (λ l. multipliers_before l y.0) e ∙ multipliers_more ms m y.0)))
-    (then1 f (onto (pushes {s = Multipliers} r q (omega arith)) l) (omega arith))
+pub no_relations : {d : ℕ} {n b : List Item} → Absent (Word K.And) n b → Passes d (Relations ∷ []) (NoRelations, tt) n b
+no_relations {d} {n} {b} w =
+    let P : List Item → Type 0 = λ i. Passes d (Relations ∷ []) (NoRelations, tt) n i in
+    subst P (sym w.same) (skip {s = Relations} (relations_end (lexeme_at n) w.first))
 
-pub term_ends : {d : ℕ} {x : FactorTree} {a n : List Item} (ms : List Multiplier) → Leads d (term []) (Multipliers ∷ []) (λ y. (x, (multipliers_before ms y.0, tt))) a n → reply_multipliers (lexeme_at n) ≡ Skip NoMultipliers → Passes d (term []) (x, (multipliers_before ms NoMultipliers, tt)) a n
-term_ends {d} ms l r = done (then1 {d = d} {d' = d} (skip {s = Multipliers} r) l (omega arith))
+pub no_conjunctions : {d : ℕ} {n b : List Item} → Absent (Word K.Or) n b → Passes d (Conjunctions ∷ []) (NoConjunctions, tt) n b
+no_conjunctions {d} {n} {b} w =
+    let P : List Item → Type 0 = λ i. Passes d (Conjunctions ∷ []) (NoConjunctions, tt) n i in
+    subst P (sym w.same) (skip {s = Conjunctions} (conjunctions_end (lexeme_at n) w.first))
 
--- a further term
-pub sum_goes_on : {d : ℕ} {σ : List Symbol} {a n p b : List Item} (h : SummandTrees → Trees σ) (ms all : List Summand) (m : Summand) (op : SumOperator) (place : Place) (t : TermTree) → ((later : SummandTrees) → summand_of m later ≡ Adds op place t later) → all ≡ ms ++ m ∷ [] → d ≤ 64 → Leads d σ (Summands ∷ []) (λ y. h (summands_before ms y.0)) a n → reply_summands (lexeme_at n) ≡ adds op place → p ≡ rest_after n → Passes d (term []) (term_trees t) p b → Leads d σ (Summands ∷ []) (λ y. h (summands_before all y.0)) a b
-sum_goes_on h ms all m op place t made e le l r q f =
-    leads_as (λ y. ap h (sym (ap (λ l. summands_before l y.0) e ∙ summands_more ms m y.0 ∙ ap (summands_before ms) (made y.0 ∙ ap (λ z. Adds op place z y.0) (sym (term_back t))))))
-    (then2 f (onto (pushes {s = Summands} r q (omega arith)) l) (omega arith))
+-- the operator of a link that comes first, and what is expected behind it
+factor_next : {d : ℕ} {n p : List Item} {op : ProductOperator} → d ≤ 64 → reply_multipliers (lexeme_at n) ≡ scales op → p ≡ rest_after n → Leads d (Multipliers ∷ []) (AFactor ∷ Multipliers ∷ []) (λ t. (Scales op t.0 t.1.0, tt)) n p
+factor_next le r q = pushes {s = Multipliers} r q (omega arith)
 
-pub sum_fails : {d : ℕ} {σ : List Symbol} {g : Trees (Summands ∷ []) → Trees σ} {a n p : List Item} {x : Refusal} (op : SumOperator) (place : Place) → d ≤ 64 → Leads d σ (Summands ∷ []) g a n → reply_summands (lexeme_at n) ≡ adds op place → p ≡ rest_after n → Fails d (term []) p x → Fails d σ a x
-sum_fails op place le l r q f = fail2 f (onto (pushes {s = Summands} r q (omega arith)) l) (omega arith)
+-- a further factor, and those behind it
+pub multipliers_pass : {d : ℕ} {n p m b : List Item} {op : ProductOperator} {f : FactorTree} {fs : MultiplierTrees} → d ≤ 64 → reply_multipliers (lexeme_at n) ≡ scales op → p ≡ rest_after n → Passes d (AFactor ∷ []) (f, tt) p m → Passes d (Multipliers ∷ []) (fs, tt) m b → Passes d (Multipliers ∷ []) (Scales op f fs, tt) n b
+multipliers_pass le r q x y = done (then1 y (then1 x (factor_next le r q) (omega arith)) (omega arith))
 
-pub sum_ends : {d : ℕ} {σ : List Symbol} {a n : List Item} (h : SummandTrees → Trees σ) (ms : List Summand) → Leads d σ (Summands ∷ []) (λ y. h (summands_before ms y.0)) a n → reply_summands (lexeme_at n) ≡ Skip NoSummands → Passes d σ (h (summands_before ms NoSummands)) a n
-sum_ends {d} h ms l r = done (then1 {d = d} {d' = d} (skip {s = Summands} r) l (omega arith))
+pub multipliers_fail : {d : ℕ} {n p : List Item} {op : ProductOperator} {e : Refusal} → d ≤ 64 → reply_multipliers (lexeme_at n) ≡ scales op → p ≡ rest_after n → Fails d (AFactor ∷ []) p e → Fails d (Multipliers ∷ []) n e
+multipliers_fail le r q x = fail1 x (factor_next le r q) (omega arith)
 
--- a further relation
-pub conjunction_goes_on : {d : ℕ} {σ : List Symbol} {a n p b : List Item} (h : RelationTrees → Trees σ) (rs all : List Relation) (r : Relation) → all ≡ rs ++ r ∷ [] → d ≤ 64 → Leads d σ (Relations ∷ []) (λ y. h (relations_before rs y.0)) a n → Found (Word K.And) n p → Passes d (relation []) (relation_trees (relation_of r)) p b → Leads d σ (Relations ∷ []) (λ y. h (relations_before all y.0)) a b
-conjunction_goes_on h rs all r e le l w f =
-    leads_as (λ y. ap h (sym (ap (λ l. relations_before l y.0) e ∙ relations_more rs r y.0 ∙ ap (λ z. relations_before rs (AndAlso z y.0)) (sym (relation_back (relation_of r))))))
-    (then4 f (onto (pushes {s = Relations} (ap reply_relations w.first) w.rest (omega arith)) l) (omega arith))
+pub multipliers_fail_behind : {d : ℕ} {n p m : List Item} {op : ProductOperator} {f : FactorTree} {e : Refusal} → d ≤ 64 → reply_multipliers (lexeme_at n) ≡ scales op → p ≡ rest_after n → Passes d (AFactor ∷ []) (f, tt) p m → Fails d (Multipliers ∷ []) m e → Fails d (Multipliers ∷ []) n e
+multipliers_fail_behind le r q x y = fail1 y (then1 x (factor_next le r q) (omega arith)) (omega arith)
 
-pub conjunction_fails : {d : ℕ} {σ : List Symbol} {g : Trees (Relations ∷ []) → Trees σ} {a n p : List Item} {x : Refusal} → d ≤ 64 → Leads d σ (Relations ∷ []) g a n → Found (Word K.And) n p → Fails d (relation []) p x → Fails d σ a x
-conjunction_fails le l w f = fail4 f (onto (pushes {s = Relations} (ap reply_relations w.first) w.rest (omega arith)) l) (omega arith)
+pub multipliers_go_on : {d : ℕ} {a n p b : List Item} (ms all : List Multiplier) (m : Multiplier) → all ≡ ms ++ m ∷ [] → d ≤ 64 → Leads d (Multipliers ∷ []) (Multipliers ∷ []) (λ y. (multipliers_before ms y.0, tt)) a n → reply_multipliers (lexeme_at n) ≡ scales m.operator → p ≡ rest_after n → Passes d (AFactor ∷ []) (factor_of m.factor, tt) p b → Leads d (Multipliers ∷ []) (Multipliers ∷ []) (λ y. (multipliers_before all y.0, tt)) a b
+multipliers_go_on ms all m e le l r q f =
+    leads_as (λ y. ap (λ z. (z, tt)) (sym (ap (λ l. multipliers_before l y.0) e ∙ multipliers_more ms m y.0)))
+    (then1 f (onto (factor_next le r q) l) (omega arith))
 
-pub conjunction_ends : {d : ℕ} {σ : List Symbol} {a n b : List Item} (h : RelationTrees → Trees σ) (rs : List Relation) → Leads d σ (Relations ∷ []) (λ y. h (relations_before rs y.0)) a n → Absent (Word K.And) n b → Passes d σ (h (relations_before rs NoRelations)) a b
-conjunction_ends {d} {σ} {a} {n} {b} h rs l w =
-    let P : List Item → Type 0 = λ i. Passes d σ (h (relations_before rs NoRelations)) a i in
-    subst P (sym w.same) (done (then1 {d = d} {d' = d} (skip {s = Relations} (relations_end (lexeme_at n) w.first)) l (omega arith)))
+-- a term is a factor, and those behind it
+pub term_joins : {d : ℕ} {a n b : List Item} (f : FactorTree) (fs : MultiplierTrees) → Passes d (AFactor ∷ []) (f, tt) a n → Passes d (Multipliers ∷ []) (fs, tt) n b → Passes d (term []) (term_trees (Product f fs)) a b
+term_joins {d} f fs x y = done (then1 {d = d} {d' = d} y (then1 {d = d} {d' = d} x (here {σ = term []}) (omega arith)) (omega arith))
 
--- a further conjunction
-pub expression_goes_on : {d : ℕ} {σ : List Symbol} {a n p b : List Item} (h : ConjunctionTrees → Trees σ) (cs all : List Conjunction) (c : Conjunction) → all ≡ cs ++ c ∷ [] → d ≤ 64 → Leads d σ (Conjunctions ∷ []) (λ y. h (conjunctions_before cs y.0)) a n → Found (Word K.Or) n p → Passes d (conjunction []) (conjunction_trees (conjunction_of c)) p b → Leads d σ (Conjunctions ∷ []) (λ y. h (conjunctions_before all y.0)) a b
-expression_goes_on h cs all c e le l w f =
-    leads_as (λ y. ap h (sym (ap (λ l. conjunctions_before l y.0) e ∙ conjunctions_more cs c y.0 ∙ ap (λ z. conjunctions_before cs (OrElse z y.0)) (sym (conjunction_back (conjunction_of c))))))
-    (then5 f (onto (pushes {s = Conjunctions} (ap reply_conjunctions w.first) w.rest (omega arith)) l) (omega arith))
+pub term_fails : {d : ℕ} {a n : List Item} {f : FactorTree} {e : Refusal} → Passes d (AFactor ∷ []) (f, tt) a n → Fails d (Multipliers ∷ []) n e → Fails d (term []) a e
+term_fails {d} x y = fail1 {d = d} {d' = d} y (then1 {d = d} {d' = d} x (here {σ = term []}) (omega arith)) (omega arith)
 
-pub expression_fails : {d : ℕ} {σ : List Symbol} {g : Trees (Conjunctions ∷ []) → Trees σ} {a n p : List Item} {x : Refusal} → d ≤ 64 → Leads d σ (Conjunctions ∷ []) g a n → Found (Word K.Or) n p → Fails d (conjunction []) p x → Fails d σ a x
-expression_fails le l w f = fail5 f (onto (pushes {s = Conjunctions} (ap reply_conjunctions w.first) w.rest (omega arith)) l) (omega arith)
+-- the same of terms
+term_next : {d : ℕ} {n p : List Item} {op : SumOperator} {place : Place} → d ≤ 64 → reply_summands (lexeme_at n) ≡ adds op place → p ≡ rest_after n → Leads d (Summands ∷ []) (term (Summands ∷ [])) (λ t. (Adds op place (Product t.0 t.1.0) t.1.1.0, tt)) n p
+term_next le r q = pushes {s = Summands} r q (omega arith)
 
-pub expression_ends : {d : ℕ} {σ : List Symbol} {a n b : List Item} (h : ConjunctionTrees → Trees σ) (cs : List Conjunction) → Leads d σ (Conjunctions ∷ []) (λ y. h (conjunctions_before cs y.0)) a n → Absent (Word K.Or) n b → Passes d σ (h (conjunctions_before cs NoConjunctions)) a b
-expression_ends {d} {σ} {a} {n} {b} h cs l w =
-    let P : List Item → Type 0 = λ i. Passes d σ (h (conjunctions_before cs NoConjunctions)) a i in
-    subst P (sym w.same) (done (then1 {d = d} {d' = d} (skip {s = Conjunctions} (conjunctions_end (lexeme_at n) w.first)) l (omega arith)))
+pub summands_pass : {d : ℕ} {n p m b : List Item} {op : SumOperator} {place : Place} {ts : SummandTrees} (t : TermTree) → d ≤ 64 → reply_summands (lexeme_at n) ≡ adds op place → p ≡ rest_after n → Passes d (term []) (term_trees t) p m → Passes d (Summands ∷ []) (ts, tt) m b → Passes d (Summands ∷ []) (Adds op place t ts, tt) n b
+summands_pass {d} {op = op} {place = place} {ts = ts} t le r q x y =
+    done (leads_as (λ _. ap (λ z. (Adds op place z ts, tt)) (term_back t)) (then1 {d = d} {d' = d} y (then2 {d = d} {d' = d} x (term_next le r q) (omega arith)) (omega arith)))
+
+pub summands_fail : {d : ℕ} {n p : List Item} {op : SumOperator} {place : Place} {e : Refusal} → d ≤ 64 → reply_summands (lexeme_at n) ≡ adds op place → p ≡ rest_after n → Fails d (term []) p e → Fails d (Summands ∷ []) n e
+summands_fail le r q x = fail2 x (term_next le r q) (omega arith)
+
+pub summands_fail_behind : {d : ℕ} {n p m : List Item} {op : SumOperator} {place : Place} {e : Refusal} (t : TermTree) → d ≤ 64 → reply_summands (lexeme_at n) ≡ adds op place → p ≡ rest_after n → Passes d (term []) (term_trees t) p m → Fails d (Summands ∷ []) m e → Fails d (Summands ∷ []) n e
+summands_fail_behind {d} t le r q x y = fail1 {d = d} {d' = d} y (then2 {d = d} {d' = d} x (term_next le r q) (omega arith)) (omega arith)
+
+pub summands_go_on : {d : ℕ} {a n p b : List Item} (ms all : List Summand) (m : Summand) → all ≡ ms ++ m ∷ [] → d ≤ 64 → Leads d (Summands ∷ []) (Summands ∷ []) (λ y. (summands_before ms y.0, tt)) a n → reply_summands (lexeme_at n) ≡ adds m.operator m.place → p ≡ rest_after n → Passes d (term []) (term_trees (term_of m.term)) p b → Leads d (Summands ∷ []) (Summands ∷ []) (λ y. (summands_before all y.0, tt)) a b
+summands_go_on ms all m e le l r q f =
+    leads_as (λ y. ap (λ z. (z, tt)) (sym (ap (λ l. summands_before l y.0) e ∙ summands_more ms m y.0 ∙ ap (λ z. summands_before ms (Adds m.operator m.place z y.0)) (sym (term_back (term_of m.term))))))
+    (then2 f (onto (term_next le r q) l) (omega arith))
+
+pub sum_joins : {d : ℕ} {a n b : List Item} (t : TermTree) (ts : SummandTrees) → Passes d (term []) (term_trees t) a n → Passes d (Summands ∷ []) (ts, tt) n b → Passes d (sum []) (sum_trees (Total t ts)) a b
+sum_joins {d} t ts x y = done (then1 {d = d} {d' = d} y (then2 {d = d} {d' = d} x (here {σ = sum []}) (omega arith)) (omega arith))
+
+pub sum_fails : {d : ℕ} {a n : List Item} {e : Refusal} (t : TermTree) → Passes d (term []) (term_trees t) a n → Fails d (Summands ∷ []) n e → Fails d (sum []) a e
+sum_fails {d} t x y = fail1 {d = d} {d' = d} y (then2 {d = d} {d' = d} x (here {σ = sum []}) (omega arith)) (omega arith)
+
+-- the same of relations
+relation_next : {d : ℕ} {n p : List Item} → d ≤ 64 → Found (Word K.And) n p → Leads d (Relations ∷ []) (relation (Relations ∷ [])) (λ t. (AndAlso (relation_tree t.0 t.1.0 t.1.1.0 t.1.1.1.0) t.1.1.1.1.0, tt)) n p
+relation_next le w = pushes {s = Relations} (ap reply_relations w.first) w.rest (omega arith)
+
+pub relations_pass : {d : ℕ} {n p m b : List Item} {rs : RelationTrees} (r : RelationTree) → d ≤ 64 → Found (Word K.And) n p → Passes d (relation []) (relation_trees r) p m → Passes d (Relations ∷ []) (rs, tt) m b → Passes d (Relations ∷ []) (AndAlso r rs, tt) n b
+relations_pass {d} {rs = rs} r le w x y =
+    done (leads_as (λ _. ap (λ z. (AndAlso z rs, tt)) (relation_back r)) (then1 {d = d} {d' = d} y (then4 {d = d} {d' = d} x (relation_next le w) (omega arith)) (omega arith)))
+
+pub relations_fail : {d : ℕ} {n p : List Item} {e : Refusal} → d ≤ 64 → Found (Word K.And) n p → Fails d (relation []) p e → Fails d (Relations ∷ []) n e
+relations_fail le w x = fail4 x (relation_next le w) (omega arith)
+
+pub relations_fail_behind : {d : ℕ} {n p m : List Item} {e : Refusal} (r : RelationTree) → d ≤ 64 → Found (Word K.And) n p → Passes d (relation []) (relation_trees r) p m → Fails d (Relations ∷ []) m e → Fails d (Relations ∷ []) n e
+relations_fail_behind {d} r le w x y = fail1 {d = d} {d' = d} y (then4 {d = d} {d' = d} x (relation_next le w) (omega arith)) (omega arith)
+
+pub relations_go_on : {d : ℕ} {a n p b : List Item} (rs all : List Relation) (r : Relation) → all ≡ rs ++ r ∷ [] → d ≤ 64 → Leads d (Relations ∷ []) (Relations ∷ []) (λ y. (relations_before rs y.0, tt)) a n → Found (Word K.And) n p → Passes d (relation []) (relation_trees (relation_of r)) p b → Leads d (Relations ∷ []) (Relations ∷ []) (λ y. (relations_before all y.0, tt)) a b
+relations_go_on rs all r e le l w f =
+    leads_as (λ y. ap (λ z. (z, tt)) (sym (ap (λ l. relations_before l y.0) e ∙ relations_more rs r y.0 ∙ ap (λ z. relations_before rs (AndAlso z y.0)) (sym (relation_back (relation_of r))))))
+    (then4 f (onto (relation_next le w) l) (omega arith))
+
+pub conjunction_joins : {d : ℕ} {a n b : List Item} (r : RelationTree) (rs : RelationTrees) → Passes d (relation []) (relation_trees r) a n → Passes d (Relations ∷ []) (rs, tt) n b → Passes d (conjunction []) (conjunction_trees (AllOf r rs)) a b
+conjunction_joins {d} r rs x y = done (then1 {d = d} {d' = d} y (then4 {d = d} {d' = d} x (here {σ = conjunction []}) (omega arith)) (omega arith))
+
+pub conjunction_fails : {d : ℕ} {a n : List Item} {e : Refusal} (r : RelationTree) → Passes d (relation []) (relation_trees r) a n → Fails d (Relations ∷ []) n e → Fails d (conjunction []) a e
+conjunction_fails {d} r x y = fail1 {d = d} {d' = d} y (then4 {d = d} {d' = d} x (here {σ = conjunction []}) (omega arith)) (omega arith)
+
+-- the same of conjunctions
+conjunction_next : {d : ℕ} {n p : List Item} → d ≤ 64 → Found (Word K.Or) n p → Leads d (Conjunctions ∷ []) (conjunction (Conjunctions ∷ [])) (λ t. (OrElse (conjunction_tree t.0 t.1.0 t.1.1.0 t.1.1.1.0 t.1.1.1.1.0) t.1.1.1.1.1.0, tt)) n p
+conjunction_next le w = pushes {s = Conjunctions} (ap reply_conjunctions w.first) w.rest (omega arith)
+
+pub conjunctions_pass : {d : ℕ} {n p m b : List Item} {cs : ConjunctionTrees} (c : ConjunctionTree) → d ≤ 64 → Found (Word K.Or) n p → Passes d (conjunction []) (conjunction_trees c) p m → Passes d (Conjunctions ∷ []) (cs, tt) m b → Passes d (Conjunctions ∷ []) (OrElse c cs, tt) n b
+conjunctions_pass {d} {cs = cs} c le w x y =
+    done (leads_as (λ _. ap (λ z. (OrElse z cs, tt)) (conjunction_back c)) (then1 {d = d} {d' = d} y (then5 {d = d} {d' = d} x (conjunction_next le w) (omega arith)) (omega arith)))
+
+pub conjunctions_fail : {d : ℕ} {n p : List Item} {e : Refusal} → d ≤ 64 → Found (Word K.Or) n p → Fails d (conjunction []) p e → Fails d (Conjunctions ∷ []) n e
+conjunctions_fail le w x = fail5 x (conjunction_next le w) (omega arith)
+
+pub conjunctions_fail_behind : {d : ℕ} {n p m : List Item} {e : Refusal} (c : ConjunctionTree) → d ≤ 64 → Found (Word K.Or) n p → Passes d (conjunction []) (conjunction_trees c) p m → Fails d (Conjunctions ∷ []) m e → Fails d (Conjunctions ∷ []) n e
+conjunctions_fail_behind {d} c le w x y = fail1 {d = d} {d' = d} y (then5 {d = d} {d' = d} x (conjunction_next le w) (omega arith)) (omega arith)
+
+pub conjunctions_go_on : {d : ℕ} {a n p b : List Item} (cs all : List Conjunction) (c : Conjunction) → all ≡ cs ++ c ∷ [] → d ≤ 64 → Leads d (Conjunctions ∷ []) (Conjunctions ∷ []) (λ y. (conjunctions_before cs y.0, tt)) a n → Found (Word K.Or) n p → Passes d (conjunction []) (conjunction_trees (conjunction_of c)) p b → Leads d (Conjunctions ∷ []) (Conjunctions ∷ []) (λ y. (conjunctions_before all y.0, tt)) a b
+conjunctions_go_on cs all c e le l w f =
+    leads_as (λ y. ap (λ z. (z, tt)) (sym (ap (λ l. conjunctions_before l y.0) e ∙ conjunctions_more cs c y.0 ∙ ap (λ z. conjunctions_before cs (OrElse z y.0)) (sym (conjunction_back (conjunction_of c))))))
+    (then5 f (onto (conjunction_next le w) l) (omega arith))
+
+pub expression_joins : {d : ℕ} {a n b : List Item} (c : ConjunctionTree) (cs : ConjunctionTrees) → Passes d (conjunction []) (conjunction_trees c) a n → Passes d (Conjunctions ∷ []) (cs, tt) n b → Passes d (expression []) (expression_trees (AnyOf c cs)) a b
+expression_joins {d} c cs x y = done (then1 {d = d} {d' = d} y (then5 {d = d} {d' = d} x (here {σ = expression []}) (omega arith)) (omega arith))
+
+pub expression_fails : {d : ℕ} {a n : List Item} {e : Refusal} (c : ConjunctionTree) → Passes d (conjunction []) (conjunction_trees c) a n → Fails d (Conjunctions ∷ []) n e → Fails d (expression []) a e
+expression_fails {d} c x y = fail1 {d = d} {d' = d} y (then5 {d = d} {d' = d} x (here {σ = expression []}) (omega arith)) (omega arith)

@@ -1,8 +1,10 @@
 ghost use Rattle.std.specs.Prelude.{◌≡◌, ◌≤◌, ◌<◌, [], ◌∷◌, IfOk, IfErr, length};
 ghost use Rattle.scanner.specs.declared.token.Place.{Place as PlaceOf};
 ghost use Rattle.syntax.specs.Lexeme.{sign_lexeme, Mark};
-ghost use Rattle.syntax.specs.View.{factor_of, index_in, term_of, sum_of, relation_of, conjunction_of, expression_of};
-ghost use Rattle.grammar.specs.Machine.{AFactor, AnIndex, AMark, term as a_term, sum as a_sum};
+ghost use Rattle.syntax.specs.View.{factor_of, term_of, sum_of, relation_of, conjunction_of, expression_of};
+ghost use Rattle.syntax.specs.View.{variable_of, name_of, multipliers_in, summands_in, relations_in, conjunctions_in};
+ghost use Rattle.grammar.specs.Machine.{AFactor, AnIndex, AMark, Multipliers, Summands, Relations, Conjunctions};
+ghost use Rattle.grammar.specs.Machine.{term as a_term, sum as a_sum};
 ghost use Rattle.grammar.specs.Machine.{relation as a_relation, conjunction as a_conjunction};
 ghost use Rattle.grammar.specs.Machine.{expression as an_expression};
 ghost use Rattle.grammar.specs.Reading.{Passes, Fails};
@@ -10,11 +12,13 @@ ghost use Rattle.expressions.specs.Ahead.{ahead};
 ghost use Rattle.expressions.specs.Levels.{term_trees, sum_trees, relation_trees, conjunction_trees};
 ghost use Rattle.expressions.specs.Levels.{expression_trees, enclosed_trees};
 
+use crate::alone::{conjunction_alone, expression_alone, reading, relation_alone, sum_alone};
 use crate::operators::FactorStart;
 use crate::parser::Parser;
 use scanner::{Keyword, Kind, Refusal, RefusalKind, Sign};
 use syntax::{
-    Comparison, Conjunction, Expression, Factor, Multiplier, Relation, Sum, Summand, Term, Variable,
+    AllOf, AnyOf, Comparison, Conjunction, Element, Expression, Factor, Multiplier, Name, Product,
+    Relation, Sum, Summand, Term, Total, Variable,
 };
 
 impl<'a> Parser<'_, 'a> {
@@ -32,12 +36,33 @@ impl<'a> Parser<'_, 'a> {
         ensures shorter { IfOk result (λ _. length (ahead self.new) < length (ahead self.old)) }
     {
         let first = self.conjunction(depth)?;
+        if !self.eat_keyword(Keyword::Or) {
+            return Ok(expression_alone(first));
+        }
+        let second = self.conjunction(depth)?;
+        let rest = self.conjunctions(depth)?;
+        let any_of = AnyOf {
+            first,
+            second,
+            rest,
+        };
+        Ok(Expression::AnyOf(Box::new(self.alloc, any_of)?))
+    }
+
+    // Further conjunctions, each behind an OR.
+    #[cycle(expression)]
+    fn conjunctions(&mut self, depth: u8) -> Result<Vec<Conjunction<'a>>, Refusal>
+        requires { depth ≤ 64 }
+        ensures ok { IfOk result (λ v. Passes depth (Conjunctions ∷ []) (conjunctions_in v.items, tt) (ahead self.old) (ahead self.new)) }
+        ensures err { IfErr result (λ e. Fails depth (Conjunctions ∷ []) (ahead self.old) e) }
+        ensures within { IfOk result (λ _. length (ahead self.new) ≤ length (ahead self.old)) }
+    {
         let mut rest = Vec::new(self.alloc);
         'conjunctions: while self.eat_keyword(Keyword::Or) {
             let conjunction = self.conjunction(depth)?;
             rest.push(conjunction)?;
         }
-        Ok(Expression { first, rest })
+        Ok(rest)
     }
 
     // Relations with AND between them.
@@ -50,12 +75,33 @@ impl<'a> Parser<'_, 'a> {
         ensures shorter { IfOk result (λ _. length (ahead self.new) < length (ahead self.old)) }
     {
         let first = self.relation(depth)?;
+        if !self.eat_keyword(Keyword::And) {
+            return Ok(conjunction_alone(first));
+        }
+        let second = self.relation(depth)?;
+        let rest = self.relations(depth)?;
+        let all_of = AllOf {
+            first,
+            second,
+            rest,
+        };
+        Ok(Conjunction::AllOf(Box::new(self.alloc, all_of)?))
+    }
+
+    // Further relations, each behind an AND.
+    #[cycle(expression)]
+    fn relations(&mut self, depth: u8) -> Result<Vec<Relation<'a>>, Refusal>
+        requires { depth ≤ 64 }
+        ensures ok { IfOk result (λ v. Passes depth (Relations ∷ []) (relations_in v.items, tt) (ahead self.old) (ahead self.new)) }
+        ensures err { IfErr result (λ e. Fails depth (Relations ∷ []) (ahead self.old) e) }
+        ensures within { IfOk result (λ _. length (ahead self.new) ≤ length (ahead self.old)) }
+    {
         let mut rest = Vec::new(self.alloc);
         'relations: while self.eat_keyword(Keyword::And) {
             let relation = self.relation(depth)?;
             rest.push(relation)?;
         }
-        Ok(Conjunction { first, rest })
+        Ok(rest)
     }
 
     // A sum, or a comparison of two.
@@ -69,17 +115,16 @@ impl<'a> Parser<'_, 'a> {
     {
         let left = self.sum(depth)?;
         let Some(comparator) = self.comparator() else {
-            return Ok(Relation {
-                left,
-                comparison: None,
-            });
+            return Ok(relation_alone(left));
         };
         self.pass();
         let right = self.sum(depth)?;
-        Ok(Relation {
+        let comparison = Comparison {
             left,
-            comparison: Some(Comparison { comparator, right }),
-        })
+            comparator,
+            right,
+        };
+        Ok(Relation::Comparison(Box::new(self.alloc, comparison)?))
     }
 
     // Terms with `+` or `-` between them.
@@ -92,6 +137,33 @@ impl<'a> Parser<'_, 'a> {
         ensures shorter { IfOk result (λ _. length (ahead self.new) < length (ahead self.old)) }
     {
         let first = self.term(depth)?;
+        let Some((operator, place)) = self.sum_sign() else {
+            return Ok(sum_alone(first));
+        };
+        self.pass();
+        let term = self.term(depth)?;
+        let rest = self.summands(depth)?;
+        let second = Summand {
+            operator,
+            place,
+            term,
+        };
+        let total = Total {
+            first,
+            second,
+            rest,
+        };
+        Ok(Sum::Total(Box::new(self.alloc, total)?))
+    }
+
+    // Further terms, each behind its sign.
+    #[cycle(expression)]
+    fn summands(&mut self, depth: u8) -> Result<Vec<Summand<'a>>, Refusal>
+        requires { depth ≤ 64 }
+        ensures ok { IfOk result (λ v. Passes depth (Summands ∷ []) (summands_in v.items, tt) (ahead self.old) (ahead self.new)) }
+        ensures err { IfErr result (λ e. Fails depth (Summands ∷ []) (ahead self.old) e) }
+        ensures within { IfOk result (λ _. length (ahead self.new) ≤ length (ahead self.old)) }
+    {
         let mut rest = Vec::new(self.alloc);
         'summands: while let Some((operator, place)) = self.sum_sign() {
             self.pass();
@@ -102,7 +174,7 @@ impl<'a> Parser<'_, 'a> {
                 term,
             })?;
         }
-        Ok(Sum { first, rest })
+        Ok(rest)
     }
 
     // Factors with `*`, `/` or MOD between them.
@@ -115,13 +187,36 @@ impl<'a> Parser<'_, 'a> {
         ensures shorter { IfOk result (λ _. length (ahead self.new) < length (ahead self.old)) }
     {
         let first = self.factor(depth)?;
+        let Some(operator) = self.product_sign() else {
+            return Ok(Term::Factor(first));
+        };
+        self.pass();
+        let factor = self.factor(depth)?;
+        let rest = self.multipliers(depth)?;
+        let second = Multiplier { operator, factor };
+        let product = Product {
+            first,
+            second,
+            rest,
+        };
+        Ok(Term::Product(Box::new(self.alloc, product)?))
+    }
+
+    // Further factors, each behind its operator.
+    #[cycle(expression)]
+    fn multipliers(&mut self, depth: u8) -> Result<Vec<Multiplier<'a>>, Refusal>
+        requires { depth ≤ 64 }
+        ensures ok { IfOk result (λ v. Passes depth (Multipliers ∷ []) (multipliers_in v.items, tt) (ahead self.old) (ahead self.new)) }
+        ensures err { IfErr result (λ e. Fails depth (Multipliers ∷ []) (ahead self.old) e) }
+        ensures within { IfOk result (λ _. length (ahead self.new) ≤ length (ahead self.old)) }
+    {
         let mut rest = Vec::new(self.alloc);
         'multipliers: while let Some(operator) = self.product_sign() {
             self.pass();
             let factor = self.factor(depth)?;
             rest.push(Multiplier { operator, factor })?;
         }
-        Ok(Term { first, rest })
+        Ok(rest)
     }
 
     #[cycle(expression)]
@@ -146,12 +241,12 @@ impl<'a> Parser<'_, 'a> {
             }
             FactorStart::Name(name) => {
                 self.pass();
-                let index = self.index(depth)?;
-                Ok(Factor::Variable(Variable { name, index }))
+                Ok(reading(self.variable(depth, name)?))
             }
             FactorStart::Paren(place) => {
                 let inner = self.open(depth)?;
-                Ok(Factor::Group(place, self.enclosed(inner, Sign::CloseParen)?))
+                let expression = self.enclosed(inner, Sign::CloseParen)?;
+                Ok(Factor::Group(place, Box::new(self.alloc, expression)?))
             }
             FactorStart::Minus(place) => {
                 let inner = self.open(depth)?;
@@ -179,34 +274,38 @@ impl<'a> Parser<'_, 'a> {
 
     // An expression, and the sign that closes it.
     #[cycle(expression)]
-    fn enclosed(&mut self, depth: u8, close: Sign) -> Result<Box<Expression<'a>>, Refusal>
+    fn enclosed(&mut self, depth: u8, close: Sign) -> Result<Expression<'a>, Refusal>
         requires depth { depth ≤ 64 }
         requires close { (place : PlaceOf) → sign_lexeme close place ≡ Mark close }
         ensures ok { IfOk result (λ x. Passes depth (an_expression (AMark close ∷ []))
-            (enclosed_trees close (expression_of x.value)) (ahead self.old) (ahead self.new)) }
+            (enclosed_trees close (expression_of x)) (ahead self.old) (ahead self.new)) }
         ensures err { IfErr result (λ e. Fails depth (an_expression (AMark close ∷ [])) (ahead self.old) e) }
         ensures shorter { IfOk result (λ _. length (ahead self.new) < length (ahead self.old)) }
     {
         let expression = self.expression(depth)?;
         self.expect_sign(close)?;
-        Ok(Box::new(self.alloc, expression)?)
+        Ok(expression)
     }
 
-    /// Reads an index in brackets, or nothing where no bracket stands first.
+    /// Reads what stands behind a name that was passed: an index in brackets, or nothing where no bracket
+    /// stands first.
     ///
     /// Refuses as `expression` does.
     #[cycle(expression)]
-    pub fn index(&mut self, depth: u8) -> Result<Option<Box<Expression<'a>>>, Refusal>
+    pub fn variable(&mut self, depth: u8, name: Name<'a>) -> Result<Variable<'a>, Refusal>
         requires { depth ≤ 64 }
-        ensures ok { IfOk result (λ x. Passes depth (AnIndex ∷ []) (index_in x, tt)
+        ensures name { IfOk result (λ v. (variable_of v).name ≡ name_of name.entry) }
+        ensures ok { IfOk result (λ v. Passes depth (AnIndex ∷ []) ((variable_of v).index, tt)
             (ahead self.old) (ahead self.new)) }
         ensures err { IfErr result (λ e. Fails depth (AnIndex ∷ []) (ahead self.old) e) }
         ensures within { IfOk result (λ _. length (ahead self.new) ≤ length (ahead self.old)) }
     {
         if self.peek().kind != Kind::Sign(Sign::OpenBracket) {
-            return Ok(None);
+            return Ok(Variable::Name(name));
         }
         let inner = self.open(depth)?;
-        Ok(Some(self.enclosed(inner, Sign::CloseBracket)?))
+        let index = self.enclosed(inner, Sign::CloseBracket)?;
+        let element = Box::new(self.alloc, Element { name, index })?;
+        Ok(Variable::Element(element))
     }
 }

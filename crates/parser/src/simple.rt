@@ -11,7 +11,7 @@ ghost use Rattle.parser.specs.Steps.{ReadsStatement};
 
 use expressions::Parser;
 use scanner::{Keyword, Place, Refusal, Sign};
-use syntax::{Name, Statement, Variable};
+use syntax::{Name, Statement};
 
 // The name behind INTO, if there is one.
 pub fn into_name<'a>(parser: &mut Parser<'_, 'a>, depth: u8) -> Result<Option<Name<'a>>, Refusal>
@@ -41,11 +41,11 @@ pub fn assignment<'a>(
     ensures shorter { IfOk result (λ _. length (ahead parser.new) < length (ahead parser.old)) }
 {
     parser.pass();
-    let index = parser.index(depth)?;
+    let variable = parser.variable(depth, name)?;
     parser.expect_sign(Sign::Assign)?;
     let value = parser.expression(depth)?;
     parser.expect_sign(Sign::Semicolon)?;
-    Ok(Statement::Assign(Variable { name, index }, value))
+    Ok(Statement::Assign(variable, value))
 }
 
 // A call.

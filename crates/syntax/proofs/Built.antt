@@ -1,25 +1,28 @@
 -- Trees that are built, as the definitions see them.
 use Rattle.std.proofs.Common.{Box, ◌≡◌, Option, Some, None, Vec, Global, refl, ap, ◌∙◌}
 use Rattle.scanner.specs.declared.token.Place.{Place}
-use Rattle.syntax.specs.declared.expression.Factor.TheBlock.{Row_of-Conjunction, end_of-Conjunction, more_of-Conjunction, items-the_row-Conjunction, hidden-the_row-Conjunction-1, items_hidden-the_row-Conjunction-1, Row_of-Relation, end_of-Relation, more_of-Relation, items-the_row-Relation, hidden-the_row-Relation-0, items_hidden-the_row-Relation-0, Row_of-Summand, end_of-Summand, more_of-Summand, items-the_row-Summand, hidden-the_row-Summand-2, items_hidden-the_row-Summand-2, Row_of-Multiplier, end_of-Multiplier, more_of-Multiplier, items-the_row-Multiplier, hidden-the_row-Multiplier-3, items_hidden-the_row-Multiplier-3}
-use Rattle.syntax.specs.declared.expression.Factor.TheViews.{roll-Expression, roll-Conjunction, roll-Relation, roll-Comparison, roll-Sum, roll-Summand, roll-Term, roll-Variable}
+use Rattle.syntax.specs.declared.expression.Conjunction.TheBlock.{Row_of-Conjunction, end_of-Conjunction, more_of-Conjunction, items-the_row-Conjunction, hidden-the_row-Conjunction-1, items_hidden-the_row-Conjunction-1, Row_of-Relation, end_of-Relation, more_of-Relation, items-the_row-Relation, hidden-the_row-Relation-0, items_hidden-the_row-Relation-0, Row_of-Summand, end_of-Summand, more_of-Summand, items-the_row-Summand, hidden-the_row-Summand-3, items_hidden-the_row-Summand-3, Row_of-Multiplier, end_of-Multiplier, more_of-Multiplier, items-the_row-Multiplier, hidden-the_row-Multiplier-2, items_hidden-the_row-Multiplier-2}
+use Rattle.syntax.specs.declared.expression.Conjunction.TheViews.{AnyOf as AnyOfMade, Conjunction::AllOf as AllOfMade, Relation::Comparison as ComparisonMade, Sum::Total as TotalMade, Term::Product as ProductMade, roll-AnyOf, roll-AllOf, roll-Comparison, roll-Total, roll-Product}
 use Rattle.syntax.specs.declared.expression.Expression.{Expression}
-use Rattle.syntax.specs.declared.expression.Conjunction.{Conjunction}
-use Rattle.syntax.specs.declared.expression.Relation.{Relation}
-use Rattle.syntax.specs.declared.expression.Comparison.{Comparison}
-use Rattle.syntax.specs.declared.expression.Comparator.{Comparator}
-use Rattle.syntax.specs.declared.expression.SumOperator.{SumOperator}
-use Rattle.syntax.specs.declared.expression.Sum.{Sum}
+use Rattle.syntax.specs.declared.expression.AnyOf.{AnyOf as AnyOfType}
+use Rattle.syntax.specs.declared.expression.AllOf.{AllOf as AllOfType}
 use Rattle.syntax.specs.declared.expression.Summand.{Summand}
 use Rattle.syntax.specs.declared.expression.Term.{Term}
 use Rattle.syntax.specs.declared.expression.Multiplier.{Multiplier}
 use Rattle.syntax.specs.declared.expression.Factor.{Factor}
 use Rattle.syntax.specs.declared.leaf.Name.{Name}
+use Rattle.syntax.specs.declared.expression.Comparison.{Comparison as ComparisonType}
+use Rattle.syntax.specs.declared.expression.Total.{Total as TotalType}
+use Rattle.syntax.specs.declared.expression.Product.{Product as ProductType}
+use Rattle.syntax.specs.declared.expression.Comparator.{Comparator}
+use Rattle.syntax.specs.declared.expression.Sum.{Sum}
+use Rattle.syntax.specs.declared.expression.Conjunction.{Conjunction}
+use Rattle.syntax.specs.declared.expression.Relation.{Relation}
 use Rattle.syntax.specs.declared.statement.Statement.{Statement}
 use Rattle.syntax.specs.declared.statement.Statement.TheBlock.{Row_of-Statement, end_of-Statement, more_of-Statement, items-the_row-Statement, hidden-the_row-Statement-0, items_hidden-the_row-Statement-0}
 use Rattle.syntax.specs.declared.statement.Statement.TheViews.{If as IfOf, While as WhileOf, Join as JoinOf}
-use Rattle.syntax.specs.Tree.{Reads, Then, If, While, Join, NoPart, Part, AnyOf, OrElse, AllOf, AndAlso, Relates, Compares, Total, Adds, Product, Scales, SummandTrees}
-use Rattle.syntax.specs.View.{name_of, option_name, read_of, variable_of, index_in, statement_of, statements_of, statements_in, part_in, expression_of, conjunction_of, conjunctions_of, relation_of, relations_of, sum_of, summand_of, summands_of, term_of, factor_of, multipliers_of, compared_of, comparison_in, conjunctions_in, relations_in, summands_in, multipliers_in}
+use Rattle.syntax.specs.Tree.{Then, If, While, Join, NoPart, Part, AnyOf, OrElse, AllOf, AndAlso, Relates, Compares, Total, Adds, Product, Scales}
+use Rattle.syntax.specs.View.{option_name, statement_of, statements_of, statements_in, part_in, expression_of, conjunction_of, conjunctions_of, relation_of, relations_of, sum_of, total_of, summands_of, term_of, product_of, factor_of, multipliers_of, conjunctions_in, relations_in, summands_in, multipliers_in}
 
 row_conjunctions : {n : _} (row : Row_of-Conjunction n) → conjunctions_of row ≡ conjunctions_in (items-the_row-Conjunction _ row)
 row_conjunctions end_of-Conjunction = refl
@@ -31,50 +34,38 @@ row_relations (more_of-Relation r row) = ap (AndAlso (relation_of r)) (row_relat
 
 row_summands : {n : _} (row : Row_of-Summand n) → summands_of row ≡ summands_in (items-the_row-Summand _ row)
 row_summands end_of-Summand = refl
-row_summands (more_of-Summand s row) = ap (summand_of s) (row_summands row)
+row_summands (more_of-Summand op place t row) = ap (Adds op place (term_of t)) (row_summands row)
 
 row_multipliers : {n : _} (row : Row_of-Multiplier n) → multipliers_of row ≡ multipliers_in (items-the_row-Multiplier _ row)
 row_multipliers end_of-Multiplier = refl
 row_multipliers (more_of-Multiplier op f row) = ap (Scales op (factor_of f)) (row_multipliers row)
 
-pub expression_made : (c : Conjunction) (v : Vec Conjunction Global) → expression_of (roll-Expression (record { first = c; rest = v })) ≡ AnyOf (conjunction_of c) (conjunctions_in v.items)
-unfolding roll-Expression denote.Hole.Carrier.roll
-expression_made c v = ap (AnyOf (conjunction_of c)) (row_conjunctions (hidden-the_row-Conjunction-1 v) ∙ ap conjunctions_in (items_hidden-the_row-Conjunction-1 v))
+pub any_of_made : (x : Box AnyOfType Global) (c d : Conjunction) (v : Vec Conjunction Global) → x.value ≡ roll-AnyOf (record { first = c; second = d; rest = v }) → expression_of (AnyOfMade x) ≡ AnyOf (conjunction_of c) (OrElse (conjunction_of d) (conjunctions_in v.items))
+any_of_made x c d v h =
+    ap (λ y. AnyOf (conjunction_of y.first) (OrElse (conjunction_of y.second) (conjunctions_of (hidden-the_row-Conjunction-1 y.rest)))) h
+    ∙ ap (λ cs. AnyOf (conjunction_of c) (OrElse (conjunction_of d) cs)) (row_conjunctions (hidden-the_row-Conjunction-1 v) ∙ ap conjunctions_in (items_hidden-the_row-Conjunction-1 v))
 
-pub conjunction_made : (c : Relation) (v : Vec Relation Global) → conjunction_of (roll-Conjunction (record { first = c; rest = v })) ≡ AllOf (relation_of c) (relations_in v.items)
-unfolding roll-Conjunction denote.Hole.Carrier.roll
-conjunction_made c v = ap (AllOf (relation_of c)) (row_relations (hidden-the_row-Relation-0 v) ∙ ap relations_in (items_hidden-the_row-Relation-0 v))
+pub all_of_made : (x : Box AllOfType Global) (r q : Relation) (v : Vec Relation Global) → x.value ≡ roll-AllOf (record { first = r; second = q; rest = v }) → conjunction_of (AllOfMade x) ≡ AllOf (relation_of r) (AndAlso (relation_of q) (relations_in v.items))
+all_of_made x r q v h =
+    ap (λ y. AllOf (relation_of y.first) (AndAlso (relation_of y.second) (relations_of (hidden-the_row-Relation-0 y.rest)))) h
+    ∙ ap (λ rs. AllOf (relation_of r) (AndAlso (relation_of q) rs)) (row_relations (hidden-the_row-Relation-0 v) ∙ ap relations_in (items_hidden-the_row-Relation-0 v))
 
-pub sum_made : (c : Term) (v : Vec Summand Global) → sum_of (roll-Sum (record { first = c; rest = v })) ≡ Total (term_of c) (summands_in v.items)
-unfolding roll-Sum denote.Hole.Carrier.roll
-sum_made c v = ap (Total (term_of c)) (row_summands (hidden-the_row-Summand-2 v) ∙ ap summands_in (items_hidden-the_row-Summand-2 v))
+pub comparison_made : (x : Box ComparisonType Global) (l r : Sum) (op : Comparator) → x.value ≡ roll-Comparison (record { left = l; comparator = op; right = r }) → relation_of (ComparisonMade x) ≡ Relates (sum_of l) (Compares op (sum_of r))
+comparison_made x l r op h = ap (λ y. Relates (sum_of y.left) (Compares y.comparator (sum_of y.right))) h
 
-pub term_made : (c : Factor) (v : Vec Multiplier Global) → term_of (roll-Term (record { first = c; rest = v })) ≡ Product (factor_of c) (multipliers_in v.items)
-unfolding roll-Term denote.Hole.Carrier.roll
-term_made c v = ap (Product (factor_of c)) (row_multipliers (hidden-the_row-Multiplier-3 v) ∙ ap multipliers_in (items_hidden-the_row-Multiplier-3 v))
+total_of_made : (t : Term) (s : Summand) (v : Vec Summand Global) → total_of (roll-Total (record { first = t; second = s; rest = v })) ≡ Total (term_of t) (Adds s.operator s.place (term_of s.term) (summands_in v.items))
+unfolding roll-Total denote.Hole.Carrier.roll
+total_of_made t s v = ap (λ ts. Total (term_of t) (Adds s.operator s.place (term_of s.term) ts)) (row_summands (hidden-the_row-Summand-3 v) ∙ ap summands_in (items_hidden-the_row-Summand-3 v))
 
-pub summand_made : (op : SumOperator) (place : Place) (t : Term) (later : SummandTrees) → summand_of (roll-Summand (record { operator = op; place = place; term = t })) later ≡ Adds op place (term_of t) later
-unfolding roll-Summand denote.Hole.Carrier.roll
-summand_made op place t later = refl
+pub total_made : (x : Box TotalType Global) (t : Term) (s : Summand) (v : Vec Summand Global) → x.value ≡ roll-Total (record { first = t; second = s; rest = v }) → sum_of (TotalMade x) ≡ Total (term_of t) (Adds s.operator s.place (term_of s.term) (summands_in v.items))
+total_made x t s v h = ap total_of h ∙ total_of_made t s v
 
-pub comparison_made : (op : Comparator) (s : Sum) → compared_of (roll-Comparison (record { comparator = op; right = s })) ≡ Compares op (sum_of s)
-unfolding roll-Comparison denote.Hole.Carrier.roll
-comparison_made op s = refl
+product_of_made : (f : Factor) (m : Multiplier) (v : Vec Multiplier Global) → product_of (roll-Product (record { first = f; second = m; rest = v })) ≡ Product (factor_of f) (Scales m.operator (factor_of m.factor) (multipliers_in v.items))
+unfolding roll-Product denote.Hole.Carrier.roll
+product_of_made f m v = ap (λ fs. Product (factor_of f) (Scales m.operator (factor_of m.factor) fs)) (row_multipliers (hidden-the_row-Multiplier-2 v) ∙ ap multipliers_in (items_hidden-the_row-Multiplier-2 v))
 
-pub relation_made : (s : Sum) (c : Option Comparison) → relation_of (roll-Relation (record { left = s; comparison = c })) ≡ Relates (sum_of s) (comparison_in c)
-unfolding roll-Relation denote.Hole.Carrier.roll
-relation_made s None = refl
-relation_made s (Some c) = refl
-
-pub read_made : (name : Name) (i : Option (Box Expression Global)) → read_of (roll-Variable (record { name = name; index = i })) ≡ Reads (name_of name) (index_in i)
-unfolding roll-Variable denote.Hole.Carrier.roll
-read_made name None = refl
-read_made name (Some e) = refl
-
-pub variable_made : (name : Name) (i : Option (Box Expression Global)) → variable_of (roll-Variable (record { name = name; index = i })) ≡ record { name = name_of name; index = index_in i }
-unfolding roll-Variable denote.Hole.Carrier.roll
-variable_made name None = refl
-variable_made name (Some e) = refl
+pub product_made : (x : Box ProductType Global) (f : Factor) (m : Multiplier) (v : Vec Multiplier Global) → x.value ≡ roll-Product (record { first = f; second = m; rest = v }) → term_of (ProductMade x) ≡ Product (factor_of f) (Scales m.operator (factor_of m.factor) (multipliers_in v.items))
+product_made x f m v h = ap product_of h ∙ product_of_made f m v
 
 row_statements : {n : _} (row : Row_of-Statement n) → statements_of row ≡ statements_in (items-the_row-Statement _ row)
 row_statements end_of-Statement = refl

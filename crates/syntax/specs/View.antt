@@ -1,19 +1,20 @@
 -- What the trees of the code say, without pointers.
 use Rattle.std.specs.Prelude.{List, [], ◌∷◌, Option, Some, None, map, Vec}
 use Rattle.std.specs.Global.{Global}
-use Rattle.std.specs.Prelude.{Box}
 use Rattle.syntax.specs.declared.leaf.Name.{Name}
-use Rattle.syntax.specs.declared.expression.Factor.TheBlock.{Number, Truth, Variable as VariableFactor, Group', Minus', Not', struct-Comparison, struct-Conjunction, struct-Expression, struct-Relation, struct-Sum, struct-Summand, struct-Term, struct-Variable, Row_of-Relation, end_of-Relation, more_of-Relation, Row_of-Conjunction, end_of-Conjunction, more_of-Conjunction, Held-Relation-comparison, Relation-comparison-None', Relation-comparison-Some', Row_of-Summand, end_of-Summand, more_of-Summand, Row_of-Multiplier, end_of-Multiplier, more_of-Multiplier, Held-Variable-index, Variable-index-None', Variable-index-Some'}
+use Rattle.syntax.specs.declared.expression.Conjunction.TheBlock.{Number, Truth, Name as NameFactor, Element', Group', Minus', Not', Term::Factor, Term::Product', Sum::Factor, Sum::Product', Sum::Total', Relation::Factor, Relation::Product', Relation::Total', Relation::Comparison', Conjunction::Factor, Conjunction::Product', Conjunction::Total', Conjunction::Comparison', Conjunction::AllOf', Expression::Factor, Expression::Product', Expression::Total', Expression::Comparison', Expression::AllOf', AnyOf', struct-Product, struct-Total, Row_of-Relation, end_of-Relation, more_of-Relation, Row_of-Conjunction, end_of-Conjunction, more_of-Conjunction, Row_of-Summand, end_of-Summand, more_of-Summand, Row_of-Multiplier, end_of-Multiplier, more_of-Multiplier}
 use Rattle.syntax.specs.declared.expression.Expression.{Expression}
 use Rattle.syntax.specs.declared.expression.Conjunction.{Conjunction}
 use Rattle.syntax.specs.declared.expression.Relation.{Relation}
-use Rattle.syntax.specs.declared.expression.Comparison.{Comparison}
 use Rattle.syntax.specs.declared.expression.Sum.{Sum}
+use Rattle.syntax.specs.declared.expression.Total.{Total as TotalOf}
 use Rattle.syntax.specs.declared.expression.Summand.{Summand}
 use Rattle.syntax.specs.declared.expression.Term.{Term}
+use Rattle.syntax.specs.declared.expression.Product.{Product as ProductOf}
 use Rattle.syntax.specs.declared.expression.Multiplier.{Multiplier}
 use Rattle.syntax.specs.declared.expression.Factor.{Factor}
 use Rattle.syntax.specs.declared.expression.Variable.{Variable}
+use Rattle.syntax.specs.declared.expression.Variable.TheVariants.{Name as NameVariable, Element as ElementVariable}
 use Rattle.syntax.specs.declared.statement.Callee.{Callee}
 use Rattle.syntax.specs.declared.statement.Statement.{Statement}
 use Rattle.syntax.specs.declared.statement.Statement.TheBlock.{Assign as Assign', If', While', Call as Call', Fork as Fork', Join', Return as Return', Wait as Wait', Notify as Notify', Broadcast as Broadcast', Print as Print', Abort as Abort', Row_of-Statement, end_of-Statement, more_of-Statement, Held-Statement-If-3, None', Some'}
@@ -27,48 +28,75 @@ use Rattle.syntax.specs.declared.declaration.Recover.{Recover}
 use Rattle.syntax.specs.declared.declaration.Monitor.{Monitor}
 use Rattle.syntax.specs.declared.declaration.Main.{Main}
 use Rattle.syntax.specs.Lexeme.{NameTree}
-use Rattle.syntax.specs.Tree.{ExpressionTree, AnyOf, ConjunctionTrees, NoConjunctions, OrElse, ConjunctionTree, AllOf, RelationTrees, NoRelations, AndAlso, RelationTree, Relates, ComparisonTree, NoComparison, Compares, SumTree, Total, SummandTrees, NoSummands, Adds, TermTree, Product, MultiplierTrees, NoMultipliers, Scales, FactorTree, Constant, Truthful, Reads, Group, Minus, Not, IndexTree, NoIndex, At, VariableTree, CalleeTree, StatementTree, Assign, If, While, Call, Fork, Join, Return, Wait, Notify, Broadcast, Print, Abort, StatementTrees, NoStatements, Then, PartTree, NoPart, Part, LocalTree, ParameterTree, MemberTree, BodyTree, ProcedureTree, MonitorProcedureTree, RecoverTree, MonitorTree, UnitTree}
+use Rattle.syntax.specs.Tree.{ExpressionTree, AnyOf, ConjunctionTrees, NoConjunctions, OrElse, ConjunctionTree, AllOf, RelationTrees, NoRelations, AndAlso, RelationTree, Relates, NoComparison, Compares, SumTree, Total, SummandTrees, NoSummands, Adds, TermTree, Product, MultiplierTrees, NoMultipliers, Scales, FactorTree, Constant, Truthful, Reads, Group, Minus, Not, NoIndex, At, VariableTree, CalleeTree, StatementTree, Assign, If, While, Call, Fork, Join, Return, Wait, Notify, Broadcast, Print, Abort, StatementTrees, NoStatements, Then, PartTree, NoPart, Part, LocalTree, ParameterTree, MemberTree, BodyTree, ProcedureTree, MonitorProcedureTree, RecoverTree, MonitorTree, UnitTree}
 
 abbrev pub name_of : Name → NameTree
 name_of n = record { text = n.text.now; place = n.place }
 
+-- a level's tree of a factor alone, or of what is alone at a level below
+abbrev pub lone_term : FactorTree → TermTree
+lone_term f = Product f NoMultipliers
+
+abbrev pub lone_sum : TermTree → SumTree
+lone_sum t = Total t NoSummands
+
+abbrev pub lone_relation : SumTree → RelationTree
+lone_relation s = Relates s NoComparison
+
+abbrev pub lone_conjunction : RelationTree → ConjunctionTree
+lone_conjunction r = AllOf r NoRelations
+
+abbrev pub lone_expression : ConjunctionTree → ExpressionTree
+lone_expression c = AnyOf c NoConjunctions
+
 abbrev mutual
   pub expression_of : Expression → ExpressionTree
-  expression_of (struct-Expression c n row) = AnyOf (conjunction_of c) (conjunctions_of row)
+  expression_of (Expression::Factor f) = lone_expression (lone_conjunction (lone_relation (lone_sum (lone_term (factor_of f)))))
+  expression_of (Expression::Product' p x) = lone_expression (lone_conjunction (lone_relation (lone_sum (product_of x))))
+  expression_of (Expression::Total' p x) = lone_expression (lone_conjunction (lone_relation (total_of x)))
+  expression_of (Expression::Comparison' p l op r) = lone_expression (lone_conjunction (Relates (sum_of l) (Compares op (sum_of r))))
+  expression_of (Expression::AllOf' p a b n row) = lone_expression (AllOf (relation_of a) (AndAlso (relation_of b) (relations_of row)))
+  expression_of (AnyOf' p a b n row) = AnyOf (conjunction_of a) (OrElse (conjunction_of b) (conjunctions_of row))
 
   pub conjunctions_of : {n : _} → Row_of-Conjunction n → ConjunctionTrees
   conjunctions_of end_of-Conjunction = NoConjunctions
   conjunctions_of (more_of-Conjunction c row) = OrElse (conjunction_of c) (conjunctions_of row)
 
   pub conjunction_of : Conjunction → ConjunctionTree
-  conjunction_of (struct-Conjunction r n row) = AllOf (relation_of r) (relations_of row)
+  conjunction_of (Conjunction::Factor f) = lone_conjunction (lone_relation (lone_sum (lone_term (factor_of f))))
+  conjunction_of (Conjunction::Product' p x) = lone_conjunction (lone_relation (lone_sum (product_of x)))
+  conjunction_of (Conjunction::Total' p x) = lone_conjunction (lone_relation (total_of x))
+  conjunction_of (Conjunction::Comparison' p l op r) = lone_conjunction (Relates (sum_of l) (Compares op (sum_of r)))
+  conjunction_of (Conjunction::AllOf' p a b n row) = AllOf (relation_of a) (AndAlso (relation_of b) (relations_of row))
 
   pub relations_of : {n : _} → Row_of-Relation n → RelationTrees
   relations_of end_of-Relation = NoRelations
   relations_of (more_of-Relation r row) = AndAlso (relation_of r) (relations_of row)
 
   pub relation_of : Relation → RelationTree
-  relation_of (struct-Relation s c) = Relates (sum_of s) (comparison_of c)
-
-  pub comparison_of : Held-Relation-comparison → ComparisonTree
-  comparison_of Relation-comparison-None' = NoComparison
-  comparison_of (Relation-comparison-Some' c) = compared_of c
-
-  pub compared_of : Comparison → ComparisonTree
-  compared_of (struct-Comparison op s) = Compares op (sum_of s)
+  relation_of (Relation::Factor f) = lone_relation (lone_sum (lone_term (factor_of f)))
+  relation_of (Relation::Product' p x) = lone_relation (lone_sum (product_of x))
+  relation_of (Relation::Total' p x) = lone_relation (total_of x)
+  relation_of (Relation::Comparison' p l op r) = Relates (sum_of l) (Compares op (sum_of r))
 
   pub sum_of : Sum → SumTree
-  sum_of (struct-Sum t n row) = Total (term_of t) (summands_of row)
+  sum_of (Sum::Factor f) = lone_sum (lone_term (factor_of f))
+  sum_of (Sum::Product' p x) = lone_sum (product_of x)
+  sum_of (Sum::Total' p x) = total_of x
+
+  pub total_of : TotalOf → SumTree
+  total_of (struct-Total t op place u n row) = Total (term_of t) (Adds op place (term_of u) (summands_of row))
 
   pub summands_of : {n : _} → Row_of-Summand n → SummandTrees
   summands_of end_of-Summand = NoSummands
-  summands_of (more_of-Summand s row) = summand_of s (summands_of row)
-
-  pub summand_of : Summand → SummandTrees → SummandTrees
-  summand_of (struct-Summand op place t) later = Adds op place (term_of t) later
+  summands_of (more_of-Summand op place t row) = Adds op place (term_of t) (summands_of row)
 
   pub term_of : Term → TermTree
-  term_of (struct-Term f n row) = Product (factor_of f) (multipliers_of row)
+  term_of (Term::Factor f) = lone_term (factor_of f)
+  term_of (Term::Product' p x) = product_of x
+
+  pub product_of : ProductOf → TermTree
+  product_of (struct-Product f op g n row) = Product (factor_of f) (Scales op (factor_of g) (multipliers_of row))
 
   pub multipliers_of : {n : _} → Row_of-Multiplier n → MultiplierTrees
   multipliers_of end_of-Multiplier = NoMultipliers
@@ -77,20 +105,15 @@ abbrev mutual
   pub factor_of : Factor → FactorTree
   factor_of (Number n) = Constant n
   factor_of (Truth t) = Truthful t
-  factor_of (VariableFactor v) = read_of v
+  factor_of (NameFactor name) = Reads (name_of name) NoIndex
+  factor_of (Element' p name e) = Reads (name_of name) (At (expression_of e))
   factor_of (Group' place p e) = Group place (expression_of e)
   factor_of (Minus' place p f) = Minus place (factor_of f)
   factor_of (Not' place p f) = Not place (factor_of f)
 
-  pub read_of : Variable → FactorTree
-  read_of (struct-Variable name index) = Reads (name_of name) (index_of index)
-
-  pub index_of : Held-Variable-index → IndexTree
-  index_of Variable-index-None' = NoIndex
-  index_of (Variable-index-Some' p e) = At (expression_of e)
-
 abbrev pub variable_of : Variable → VariableTree
-variable_of (struct-Variable name index) = record { name = name_of name; index = index_of index }
+variable_of (NameVariable name) = record { name = name_of name; index = NoIndex }
+variable_of (ElementVariable e) = record { name = name_of e.value.name; index = At (expression_of e.value.index) }
 
 abbrev pub option_name : Option Name → Option NameTree
 option_name None = None
@@ -152,7 +175,7 @@ relations_in rs = relations_before rs NoRelations
 
 abbrev pub summands_before : List Summand → SummandTrees → SummandTrees
 summands_before [] later = later
-summands_before (s ∷ ss) later = summand_of s (summands_before ss later)
+summands_before (s ∷ ss) later = Adds s.operator s.place (term_of s.term) (summands_before ss later)
 
 abbrev pub summands_in : List Summand → SummandTrees
 summands_in ss = summands_before ss NoSummands
@@ -163,15 +186,6 @@ multipliers_before (m ∷ ms) later = Scales m.operator (factor_of m.factor) (mu
 
 abbrev pub multipliers_in : List Multiplier → MultiplierTrees
 multipliers_in ms = multipliers_before ms NoMultipliers
-
--- and of what may be left out
-abbrev pub comparison_in : Option Comparison → ComparisonTree
-comparison_in None = NoComparison
-comparison_in (Some c) = compared_of c
-
-abbrev pub index_in : Option (Box Expression Global) → IndexTree
-index_in None = NoIndex
-index_in (Some e) = At (expression_of e.value)
 
 abbrev pub statements_before : List Statement → StatementTrees → StatementTrees
 statements_before [] later = later

@@ -12,8 +12,8 @@ pub use declaration::{
     Procedure, Recover, ResultType,
 };
 pub use expression::{
-    Comparator, Comparison, Conjunction, Expression, Factor, Multiplier, ProductOperator, Relation,
-    Sum, SumOperator, Summand, Term, Variable,
+    AllOf, AnyOf, Comparator, Comparison, Conjunction, Element, Expression, Factor, Multiplier,
+    Product, ProductOperator, Relation, Sum, SumOperator, Summand, Term, Total, Variable,
 };
 pub use leaf::{Name, Number, Truth};
 pub use statement::{Callee, Statement};
