@@ -6,3 +6,4 @@ pub mod Fronts
 pub mod Told
 pub mod Views
 pub mod Determined
+pub mod LocalRuns

@@ -5,6 +5,8 @@ use Rattle.robustexit.specs.declared.phase.ExitPhase.{ExitPhase}
 use Rattle.robustexit.specs.declared.phase.ExitPhase.TheVariants.{Entry, Pending, ClearId, LastWake, Ended}
 use Rattle.locals.specs.declared.request.Request.{Request as Told}
 use Rattle.locals.specs.declared.request.Request.TheVariants as told
+use Rattle.locals.specs.declared.request.NextStep.{NextStep}
+use Rattle.locals.specs.declared.request.NextStep.TheVariants as next
 use Rattle.locals.specs.Looks.{Request, AskLoad, AskStore, AskSwap, AskCas, AskOr, AskAdd, AskFork, AskPrint, AskWait, AskWake, AskRequeue, AskReturn, AskReturnValue, AskFault, Look, Asks}
 use Rattle.machine.specs.declared.served.Served.{Served as Given}
 use Rattle.machine.specs.declared.event.EventName.{EventName}
@@ -34,6 +36,11 @@ asked_of (told.Fault fault) = AskFault fault
 abbrev pub MakesNone : Told → Type 0
 MakesNone (told.Fork entry count has_room) = ⊥
 MakesNone request = Unit {0}
+
+-- a step that makes no thread
+abbrev pub StepMakesNone : NextStep → Type 0
+StepMakesNone (next.Shared request) = MakesNone request
+StepMakesNone step = Unit {0}
 
 -- what the code gave, with what is shared after it
 abbrev pub given : Result Given StepFault → Common → Result Served StepFault

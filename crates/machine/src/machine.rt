@@ -6,6 +6,7 @@ ghost use Rattle.locals.specs.Steps.{local_step};
 ghost use Rattle.machine.specs.States.{thread_of, state_of, opening_kept};
 ghost use Rattle.machine.specs.Runs.{has_ended};
 ghost use Rattle.machine.specs.Fronts.{step_of, can_move, fault_at};
+ghost use Rattle.machine.specs.LocalRuns.{RunsOn};
 ghost use Rattle.machine.specs.Views.{kept, AllEnded, IsQuiet, variable_address, address_of, printed_by};
 
 use crate::event::{Event, StepFault};
@@ -192,6 +193,15 @@ impl Machine {
         ensures { self.new ≡ record self.old { threads = slice_set self.old.threads (t - 1) local } }
     {
         self.threads[t as usize - 1] = local;
+    }
+
+    /// Takes local steps of thread `t`, which can move, in its place, until another step comes or the budget is used.
+    /// Answers how many.
+    pub fn run_local(&mut self, t: u32, budget: u32) -> u32
+        requires { can_move (kept self.old) t ≡ true }
+        ensures { RunsOn self.old t budget result self.new }
+    {
+        self.threads[t as usize - 1].run(&self.image, t, budget)
     }
 
     /// One step of thread `t`, local or shared. A printed number lowers the room by one.

@@ -1,15 +1,18 @@
-ghost use Rattle.std.specs.Prelude.{◌≡◌, ◌^◌, sum, ◌≤◌, ◌<◌, None, Ok, Err, IfOk, IfErr, OnErr, [], ◌∷◌, length, replicate, slice_index, slice_set, vec_len, vec_capacity};
+ghost use Rattle.std.specs.Prelude.{◌≡◌, ◌^◌, sum, ◌≤◌, ◌<◌, ℤ, List, Some, None, Ok, Err, IfOk, IfErr, OnErr, [], ◌∷◌, length, replicate, slice_index, slice_set, vec_len, vec_capacity};
 ghost use Rattle.isa.specs.Programs.{memory_size};
-ghost use Rattle.locals.specs.Threads.{opening_thread};
-ghost use Rattle.buckets.specs.Sleepers.{place_of, thread_count};
+ghost use Rattle.locals.specs.Threads.{Thread, opening_thread};
+ghost use Rattle.locals.specs.Looks.{look};
+ghost use Rattle.buckets.specs.Sleepers.{Sleepers, place_of, thread_count};
+ghost use Rattle.machine.specs.States.{thread_at};
 ghost use Rattle.machine.specs.Fronts.{step_of};
+ghost use Rattle.machine.specs.Told.{AsksFork};
 ghost use Rattle.machine.specs.Views.{IsKept, kept_of, variable_address};
 
 use crate::event::{Event, StepFault};
-use crate::thread_step::take_thread_step;
+use crate::thread_step::{take_fork, take_thread_step};
 use buckets::Buckets;
 use isa::Image;
-use locals::{Local, opening_local};
+use locals::{Local, NextStep, Request, opening_local};
 use std::alloc::{AllocError, Global};
 use words::{Addr, Mem, ProcessWord, block};
 
@@ -86,9 +89,44 @@ pub fn step_parts(
     ensures places { thread_count buckets.new ≡ thread_count buckets.old }
     ensures space { vec_capacity threads.new ≡ vec_capacity threads.old }
 {
+    match threads[t as usize - 1].next_step(image, t) {
+        NextStep::Shared(
+            Request::Fork {
+                entry: _,
+                count: _,
+                has_room,
+            },
+        ) => fork_parts(image, words, threads, t, has_room),
+        step => {
+            let local = &mut threads[t as usize - 1];
+            take_thread_step(image, words, buckets, output, t, local, step)
+        }
+    }
+}
+
+// A fork of thread `t`, which was made, on the parts of a machine. It stands apart so that no other step pays for the
+// place of the thread that it makes.
+#[inline(never)]
+fn fork_parts(
+    image: &Image,
+    words: &mut Mem,
+    threads: &mut Vec<Local>,
+    t: u32,
+    has_room: bool,
+) -> Result<Event, StepFault>
+    requires thread { (0 < t) × (t ≤ vec_len threads.old) }
+    requires words { 385 ≤ length words.old }
+    requires few { vec_len threads.old ≤ 64 }
+    requires asks { (x : Thread) → thread_at threads.old.items t ≡ Some x → AsksFork (look image.now t x) has_room }
+    requires space { 64 ≤ vec_capacity threads.old }
+    ensures done { IfOk result (λ e. (s : Sleepers) (o : List ℤ) → place_of s t ≡ None → step_of image.now (kept_of words.old s threads.old.items o) t ≡ Ok (kept_of words.new s threads.new.items o, e)) }
+    ensures err { IfErr result (λ f. (s : Sleepers) (o : List ℤ) → place_of s t ≡ None → step_of image.now (kept_of words.old s threads.old.items o) t ≡ Err f) }
+    ensures same { OnErr result ((words.new ≡ words.old) × (threads.new.items ≡ threads.old.items)) }
+    ensures space { vec_capacity threads.new ≡ vec_capacity threads.old }
+{
     let made = threads.len() as u32;
     let local = &mut threads[t as usize - 1];
-    let (child, event) = take_thread_step(image, words, buckets, output, made, t, local)?;
+    let (child, event) = take_fork(image, words, made, t, local, has_room)?;
     if let Some(child) = child {
         threads.push_reserved(child);
     }

@@ -5,7 +5,7 @@ ghost use Rattle.locals.specs.Requests.{next_step_of};
 ghost use Rattle.locals.specs.declared.request.NextStep.TheVariants as next;
 ghost use Rattle.machine.specs.ThreadSets.{IsThread};
 ghost use Rattle.machine.specs.Fronts.{thread_step};
-ghost use Rattle.machine.specs.Told.{AsksFork, MakesNone};
+ghost use Rattle.machine.specs.Told.{AsksFork, MakesNone, StepMakesNone};
 ghost use Rattle.machine.specs.Views.{IsSoundly, common_of};
 
 use crate::event::{Event, EventName, StepFault};
@@ -17,52 +17,44 @@ use isa::Image;
 use locals::{Local, NextStep, Request};
 use words::{Mem, ProcessWord, block};
 
-/// One step of thread `t`, which is awake, on what it touches. It answers the thread that it made, if it made one.
+/// A step of thread `t`, which is awake, other than a fork, on what it touches.
 pub fn take_thread_step(
     image: &Image,
     words: &mut Mem,
     buckets: &mut Buckets,
     output: &mut Vec<i32>,
-    made: u32,
     t: u32,
     local: &mut Local,
-) -> Result<(Option<Local>, Event), StepFault>
+    step: NextStep,
+) -> Result<Event, StepFault>
     requires room { vec_len output.old < vec_capacity output.old }
     requires thread { (0 < t) × (t ≤ 64) }
     requires words { 385 ≤ length words.old }
     requires threads { thread_count buckets.old ≡ 64 }
-    requires few { made ≤ 64 }
     requires sound { IsSoundly (queue buckets.old) (place_of buckets.old) }
     requires known { (u a : ℕ) → place_of buckets.old u ≡ Some a → IsThread u }
     requires awake { place_of buckets.old t ≡ None }
-    ensures done { IfOk result (λ r. thread_step made t (common_of words.old buckets.old output.old.items) (look image.now t local.old)
-        ≡ Ok (record { common = common_of words.new buckets.new output.new.items; thread = local.new; child = r.0; event = r.1 })) }
-    ensures err { IfErr result (λ f. thread_step made t (common_of words.old buckets.old output.old.items) (look image.now t local.old) ≡ Err f) }
-    ensures child { IfOk result (λ r. IsSome r.0 → made < 64) }
+    requires asks { next_step_of (look image.now t local.old) ≡ step }
+    requires makes_none { StepMakesNone step }
+    ensures done { IfOk result (λ e. (made : ℕ) → thread_step made t (common_of words.old buckets.old output.old.items) (look image.now t local.old)
+        ≡ Ok (record { common = common_of words.new buckets.new output.new.items; thread = local.new; child = None; event = e })) }
+    ensures err { IfErr result (λ f. (made : ℕ) → thread_step made t (common_of words.old buckets.old output.old.items) (look image.now t local.old) ≡ Err f) }
     ensures same { OnErr result ((local.new ≡ local.old) × (words.new ≡ words.old) × (buckets.new ≡ buckets.old) × (output.new.items ≡ output.old.items)) }
     ensures threads { thread_count buckets.new ≡ thread_count buckets.old }
     ensures room { vec_capacity output.new ≡ vec_capacity output.old }
 {
-    match local.next_step(image, t) {
+    match step {
         NextStep::Local => {
             local.take_step(image, t);
-            Ok((None, Event::new(EventName::Turn, 0)))
+            Ok(Event::new(EventName::Turn, 0))
         }
-        NextStep::Shared(
-            Request::Fork {
-                entry: _,
-                count: _,
-                has_room,
-            },
-        ) => take_fork(image, words, made, t, local, has_room),
         NextStep::Shared(request) => {
-            let event = take_request(image, words, buckets, output, t, local, request)?;
-            Ok((None, event))
+            take_request(image, words, buckets, output, t, local, request)
         }
         NextStep::Exit(phase) => {
             let (next, event) = leave(words, buckets, t, phase);
             local.enter_phase(next);
-            Ok((None, event))
+            Ok(event)
         }
         NextStep::Broken => Err(StepFault::Broken),
         NextStep::Ended => Err(StepFault::CannotMove),
@@ -98,8 +90,9 @@ fn take_request(
     Ok(served.event)
 }
 
-// A fork of thread `t`. Where 64 threads were made the answer is 0, whether or not it has room.
-fn take_fork(
+/// A fork of thread `t`, which answers the thread that it made. Where 64 threads were made the answer is 0, whether or
+/// not it has room.
+pub fn take_fork(
     image: &Image,
     words: &mut Mem,
     made: u32,

@@ -1,5 +1,5 @@
 -- A piece that came in is an entry of the log.
-use Rattle.std.proofs.Common.{◌≡◌, ℕ, ◌+◌, List, [], ◌∷◌, ◌++◌, true, Option, Some, None, Result, Ok, Err, is_some, refl, ap, sym, ◌∙◌, arith, subst}
+use Rattle.std.proofs.Common.{◌≡◌, ℕ, ◌+◌, ◌≤◌, List, [], ◌∷◌, ◌++◌, true, Option, Some, None, Result, Ok, Err, is_some, refl, ap, sym, ◌∙◌, arith, subst}
 use Rattle.std.proofs.lemmas.List.Sums.{sum_by-append}
 use mir.Val.{bool_byte}
 use Rattle.isa.specs.Programs.{Program}
@@ -70,4 +70,27 @@ keeps p q q' limit h log new a t steps limited extra event is' legal goes fine g
       counted = omega (arith, legal.counted);
       limit_is = legal.limit_is;
       within = omega (arith, fine.within, legal.counted, legal.limit_is);
+    }
+
+cost_small : (e : Option Event) → event_cost e ≤ 1
+cost_small None = omega arith
+cost_small (Some e) = omega arith
+
+-- an entry is one more of a legal log, where the limit leaves room for any
+pub keeps_entry : (p q q' q'' : Program) (limit : ℕ) (k k' new : Kept) (log log' log'' : List Entry) (e : Entry) (steps limited extra : ℕ)
+    → IsLegal p limit q k log steps limited → cost log + 257 ≤ limit → q' ≡ q → k' ≡ k → log' ≡ log
+    → q'' ≡ q' → Enters q' k' e new → e.local ≤ 256 → log'' ≡ log' ++ e ∷ [] → extra ≡ bool_byte (is_some e.event)
+    → IsLegal p limit q'' new log'' (steps + (e.local + extra)) limited
+keeps_entry p q q' q'' limit k k' new log log' log'' e steps limited extra legal room same there before same' one turn grows is_extra =
+    let program : q' ≡ p = same ∙ legal.program in
+    let enters : Enters p k e new = subst (λ (x : Program). Enters x k e new) program (subst (λ (x : Kept). Enters q' x e new) there one) in
+    let grown : log'' ≡ log ++ e ∷ [] = grows ∙ ap (λ (l : List Entry). l ++ e ∷ []) before in
+    let all : cost log'' ≡ cost log + (e.local + event_cost e.event) = ap cost grown ∙ cost_more log e.thread e.local e.event in
+    let last : event_cost e.event ≡ extra = event_byte e.event ∙ sym is_extra in
+    record {
+      program = same' ∙ program;
+      legal = subst (λ (l : List Entry). Runs p (opening_kept p) l new) (sym grown) (runs_more p (opening_kept p) k new log e legal.legal enters);
+      counted = omega (arith, legal.counted, all, last);
+      limit_is = legal.limit_is;
+      within = omega (arith, legal.counted, legal.limit_is, room, turn, last, cost_small e.event);
     }

@@ -5,3 +5,4 @@ pub mod Growing
 pub mod Unrolling
 pub mod Passing
 pub mod Lives
+pub mod InPlace

@@ -2,7 +2,7 @@
 use Rattle.std.specs.Prelude.{ℕ, ◌≡◌, ◌+◌, ◌++◌, ◌≤◌, ◌<◌, [], ◌∷◌, true, false, Option, Some, None, Result, Ok, Err}
 use Rattle.isa.specs.Programs.{Program}
 use Rattle.locals.specs.Threads.{Thread}
-use Rattle.locals.specs.Steps.{local_step}
+use Rattle.locals.specs.Steps.{local_step, local_after}
 use Rattle.machine.specs.declared.event.Event.{Event}
 use Rattle.machine.specs.declared.event.StepFault.{StepFault}
 use Rattle.machine.specs.declared.event.StepFault.TheVariants as step
@@ -22,6 +22,14 @@ handed_by k (Err fault) None = Err fault
 abbrev pub handed : Program → Kept → ℕ → Thread → Result (Kept × Option Event) StepFault
 handed p k t here =
     let there = put_thread k t here in handed_by there (step_of p there t) (local_step p t here)
+
+-- a thread comes by so many local steps to a step that may not be
+pub record BreaksAfter (p : Program) (k : Kept) (t count : ℕ) : Type 0 where
+  pub origin : Thread
+  pub here : Thread
+  pub stands : thread_of k t ≡ Some origin
+  pub goes : local_after p t count origin ≡ Some here
+  pub breaks : handed p k t here ≡ Err step.Broken
 
 -- the piece is the thread's, and began where the thread is
 abbrev pub Stands : Held → ℕ → Away → Type 0

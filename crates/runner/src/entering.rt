@@ -1,4 +1,4 @@
-ghost use Rattle.std.specs.Prelude.{◌≡◌, ◌≤◌, ◌<◌, ◌++◌, ◌∷◌, [], true, Ok, IfOk, OnErr, IsOk, length};
+ghost use Rattle.std.specs.Prelude.{◌≡◌, ◌≤◌, ◌<◌, ◌++◌, ◌∷◌, [], true, Ok, IfOk, OnOk, OnErr, IsOk, length, vec_len, vec_capacity};
 ghost use Rattle.machine.specs.Fronts.{can_move};
 ghost use Rattle.machine.specs.Views.{kept};
 ghost use Rattle.runner.specs.Entries.{handed};
@@ -22,8 +22,7 @@ pub fn enter(
     ensures err { OnErr result ((kept machine.new ≡ kept machine.old) × (log.new.items ≡ log.old.items)) }
     ensures program { machine.new.program ≡ machine.old.program }
 {
-    log.reserve(1)?;
-    machine.make_room(1)?;
+    make_room(machine, log)?;
     let event = hand_in(machine, t, here);
     log.push_reserved(Entry {
         thread: t,
@@ -31,6 +30,16 @@ pub fn enter(
         event,
     });
     Ok(event)
+}
+
+/// Makes room for one more entry, and for the number that it may print.
+pub fn make_room(machine: &mut Machine, log: &mut Vec<Entry>) -> Result<(), AllocError>
+    ensures room { OnOk result ((1 ≤ machine.new.room) × (vec_len log.new < vec_capacity log.new)) }
+    ensures same { (kept machine.new ≡ kept machine.old) × (log.new.items ≡ log.old.items) }
+    ensures program { machine.new.program ≡ machine.old.program }
+{
+    log.reserve(1)?;
+    machine.make_room(1)
 }
 
 // Puts a thread where it has come, and takes the shared step that it stands before, if any.

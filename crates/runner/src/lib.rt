@@ -3,6 +3,7 @@
 
 mod entering;
 mod fault;
+mod in_place;
 mod laws;
 mod naming;
 mod next;

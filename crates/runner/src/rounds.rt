@@ -69,6 +69,34 @@ fn make_entry<J: RunName, G: Gate>(
     ensures none { IfOk result (λ made. made ≡ false → (held shared.new ≡ held shared.old) × (can_move (held shared.new).kept t ≡ true → PassesLimit J.program J.limit shared.new.log (held shared.new).kept t)) }
     ensures err { IfErr result (λ fault. CanFail J.program J.limit fault) }
 {
+    if !shared.has_room() {
+        return try_entry(shared, refused, image, gate, t);
+    }
+    if !shared.machine().can_move(t) {
+        return Ok(false);
+    }
+    gate.pass(t);
+    shared.go_on(t)?;
+    Ok(true)
+}
+
+// The same near the limit: a piece goes on, away from the machine, since its entry may be refused.
+fn try_entry<J: RunName, G: Gate>(
+    shared: &mut Shared<J>,
+    refused: &mut [bool],
+    image: &Image,
+    gate: &G,
+    t: u32,
+) -> Result<bool, RunFault>
+    requires image { image.now ≡ J.program }
+    requires room { length refused.old ≡ 65 }
+    requires thread { (0 < t) × (t ≤ 64) }
+    requires past { AllPast J.program J.limit (held shared.old) refused.old }
+    ensures past { OnOk result (AllPast J.program J.limit (held shared.new) refused.new) }
+    ensures made { IfOk result (λ made. made ≡ true → (cost shared.old.log < cost shared.new.log) × (cost shared.new.log ≤ J.limit)) }
+    ensures none { IfOk result (λ made. made ≡ false → (held shared.new ≡ held shared.old) × (can_move (held shared.new).kept t ≡ true → PassesLimit J.program J.limit shared.new.log (held shared.new).kept t)) }
+    ensures err { IfErr result (λ fault. CanFail J.program J.limit fault) }
+{
     if refused[t as usize] {
         return Ok(false);
     }

@@ -1,17 +1,19 @@
-ghost use Rattle.std.specs.Prelude.{◌≡◌, ◌≢◌, ◌≤◌, ◌<◌, ◌+◌, [], length, true, false, Some, None, Ok, IfOk, IfErr, IfSome, IfNone, MatchBool, MatchOption};
+ghost use Rattle.std.specs.Prelude.{◌≡◌, ◌≢◌, ◌≤◌, ◌<◌, ◌+◌, [], length, true, false, Some, None, Ok, IfOk, IfErr, OnOk, IfSome, IfNone, MatchBool, MatchOption};
 ghost use Rattle.machine.specs.States.{thread_of, opening_kept};
 ghost use Rattle.machine.specs.Fronts.{can_move};
 ghost use Rattle.runner.specs.Logs.{Runs, cost};
 ghost use Rattle.runner.specs.Entries.{Takes, Refuses, IsFine, Stands};
 ghost use Rattle.runner.specs.Nexts.{IsNext};
+ghost use Rattle.runner.specs.Reports.{CanFail};
 ghost use Rattle.machine.specs.Views.{kept};
 ghost use Rattle.runner.specs.Views.{held};
 
-use crate::entering::enter;
+use crate::entering::{enter, make_room};
 use crate::fault::RunFault;
+use crate::in_place::take_entry;
 use crate::naming::RunName;
 use crate::next::Next;
-use crate::piece::Piece;
+use crate::piece::{Piece, TURN};
 use isa::Image;
 use machine::{Entry, Machine};
 use std::alloc::{AllocError, Global};
@@ -134,6 +136,33 @@ impl<J: RunName> Shared<J> {
         };
         self.steps += count + u32::from(event.is_some());
         Ok(self.next(t))
+    }
+
+    /// Whether the limit leaves room for any thread's next entry.
+    pub(crate) fn has_room(&self) -> bool
+        ensures { MatchBool result (cost self.now.log + 257 ≤ J.limit) (J.limit < cost self.now.log + 257) }
+    {
+        self.limit - self.steps > TURN
+    }
+
+    /// Takes the next entry of thread `t`, which can move, in its place on the machine, so that nothing is copied: its
+    /// local steps until another step comes or 256 are done, and the shared step that it stands before, if any.
+    ///
+    /// Refuses with `Memory`, and then nothing has changed; and with `Broken`, and then the local steps are an entry.
+    pub(crate) fn go_on(&mut self, t: u32) -> Result<(), RunFault>
+        requires thread { can_move (held self.old).kept t ≡ true }
+        requires room { cost self.old.log + 257 ≤ J.limit }
+        ensures ok { OnOk result (cost self.old.log < cost self.new.log) }
+        ensures err { IfErr result (λ fault. CanFail J.program J.limit fault) }
+        ensures within { cost self.new.log ≤ J.limit }
+    {
+        if make_room(&mut self.machine, &mut self.log).is_err() {
+            return Err(RunFault::Memory);
+        }
+        let (entry, outcome) = take_entry(&mut self.machine, t);
+        self.log.push_reserved(entry);
+        self.steps += entry.local + u32::from(entry.event.is_some());
+        outcome
     }
 
     // What thread `t` does next.

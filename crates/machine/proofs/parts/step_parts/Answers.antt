@@ -1,42 +1,43 @@
--- A step of the thread is one of the machine, and a thread that it made stands behind the others.
-use Rattle.std.proofs.Common.{◌≡◌, ◌≤◌, length, rules, sym, ◌∙◌, Ok}
-use Rattle.machine.specs.Fronts.{lifted}
-use Rattle.machine.specs.Views.{kept_of, common_of}
-use Rattle.machine.proofs.Steps.{handed}
+-- A step of the thread is one of the machine.
+use Rattle.std.proofs.Common.{◌≡◌, ◌≤◌, Some, Result, Ok, Err, length, rules, sym, ◌∙◌, subst, refl}
+use Rattle.std.specs.Prelude.{IfOk, IfErr}
+use Rattle.locals.specs.Threads.{Thread}
+use Rattle.locals.specs.Looks.{look}
+use Rattle.machine.specs.declared.event.Event.{Event}
+use Rattle.machine.specs.declared.event.StepFault.{StepFault}
+use Rattle.machine.specs.Told.{AsksFork}
+use Rattle.machine.specs.Views.{kept_of}
 use Rattle.machine.proofs.Whole.{stands_at, stepped}
 use Rattle.machine.proofs.parts.step_parts.Goals as goal
 
-pub returns-in_err-child-clause-err : goal.returns-in_err-child-clause-err
-returns-in_err-child-clause-err c =
-    let k = kept_of c.args.words.now c.args.buckets.now c.args.threads.now.items c.args.output.now.items in
-    let counted : c.len-made.result ≡ length c.args.threads.now.items = search rules in
-    let within : c.args.t ≤ length c.args.threads.now.items = search rules in
-    handed c.from_residual.result c.in_err-child.field-0.0 _ c.from_residual.ensures.1
-    (stepped c.args.image.now k c.args.t c.len-made.result c.index_mut-local.result.now _ (stands_at c.args.threads.now.items c.args.t c.index_mut-local.result.now c.index_mut-local.result.now c.requires.thread.0 within c.index_mut-local.ensures.value) c.requires.awake counted c.in_err-child.ensures.err)
+inside : (x y : Thread) → Some x ≡ Some y → x ≡ y
+inside x y h = cc
 
-pub returns-in-Some-clause-done : goal.returns-in-Some-clause-done
-returns-in-Some-clause-done c =
-    let k = kept_of c.args.words.now c.args.buckets.now c.args.threads.now.items c.args.output.now.items in
-    let counted : c.len-made.result ≡ length c.args.threads.now.items = search rules in
+pub fork_parts-requires-clause-asks : goal.fork_parts-requires-clause-asks
+fork_parts-requires-clause-asks c = λ x at.
     let within : c.args.t ≤ length c.args.threads.now.items = search rules in
-    stepped c.args.image.now k c.args.t c.len-made.result c.index_mut-local.result.now _ (stands_at c.args.threads.now.items c.args.t c.index_mut-local.result.now c.index_mut-local.result.now c.requires.thread.0 within c.index_mut-local.ensures.value) c.requires.awake counted c.in_ok-child.ensures.done
-    ∙ (λ i. lifted k c.args.t (Ok (record {
-      common = common_of c.take_thread_step.new.words c.take_thread_step.new.buckets c.take_thread_step.new.output.items;
-      thread = c.take_thread_step.new.local;
-      child = c.in-Some.is i;
-      event = c.in_ok-child.event;
-    })))
-    ∙ (λ i. Ok (kept_of c.take_thread_step.new.words c.take_thread_step.new.buckets (sym c.push_reserved.ensures.items i) c.take_thread_step.new.output.items, c.in_ok-child.event))
+    let stands = stands_at c.args.threads.now.items c.args.t c.index.result.now c.index.result.now c.requires.thread.0 within c.index.ensures in
+    let here : AsksFork (look c.args.image.now c.args.t c.index.result.now) c.in-Shared-Fork.has_room = search rules in
+    subst (λ (y : Thread). AsksFork (look c.args.image.now c.args.t y) c.in-Shared-Fork.has_room) (inside _ _ (sym stands ∙ at)) here
+
+if_ok : (r : Result Event StepFault) (P Q : Event → Type 0) → ((e : Event) → P e → Q e) → IfOk r P → IfOk r Q
+if_ok (Ok e) P Q f h = f e h
+if_ok (Err g) P Q f h = tt
+
+if_err : (r : Result Event StepFault) (P Q : StepFault → Type 0) → ((g : StepFault) → P g → Q g) → IfErr r P → IfErr r Q
+if_err (Ok e) P Q f h = tt
+if_err (Err g) P Q f h = f g h
 
 pub returns-in_default-clause-done : goal.returns-in_default-clause-done
 returns-in_default-clause-done c =
     let k = kept_of c.args.words.now c.args.buckets.now c.args.threads.now.items c.args.output.now.items in
-    let counted : c.len-made.result ≡ length c.args.threads.now.items = search rules in
     let within : c.args.t ≤ length c.args.threads.now.items = search rules in
-    stepped c.args.image.now k c.args.t c.len-made.result c.index_mut-local.result.now _ (stands_at c.args.threads.now.items c.args.t c.index_mut-local.result.now c.index_mut-local.result.now c.requires.thread.0 within c.index_mut-local.ensures.value) c.requires.awake counted c.in_ok-child.ensures.done
-    ∙ (λ i. lifted k c.args.t (Ok (record {
-      common = common_of c.take_thread_step.new.words c.take_thread_step.new.buckets c.take_thread_step.new.output.items;
-      thread = c.take_thread_step.new.local;
-      child = c.in_default.is i;
-      event = c.in_ok-child.event;
-    })))
+    let stands = stands_at c.args.threads.now.items c.args.t c.index_mut-local.result.now c.index_mut-local.result.now c.requires.thread.0 within c.index_mut-local.ensures.value in
+    if_ok c.take_thread_step.result _ _ (λ e done. stepped c.args.image.now k c.args.t (length k.threads) c.index_mut-local.result.now _ stands c.requires.awake refl (done (length k.threads))) c.take_thread_step.ensures.done
+
+pub returns-in_default-clause-err : goal.returns-in_default-clause-err
+returns-in_default-clause-err c =
+    let k = kept_of c.args.words.now c.args.buckets.now c.args.threads.now.items c.args.output.now.items in
+    let within : c.args.t ≤ length c.args.threads.now.items = search rules in
+    let stands = stands_at c.args.threads.now.items c.args.t c.index_mut-local.result.now c.index_mut-local.result.now c.requires.thread.0 within c.index_mut-local.ensures.value in
+    if_err c.take_thread_step.result _ _ (λ f err. stepped c.args.image.now k c.args.t (length k.threads) c.index_mut-local.result.now _ stands c.requires.awake refl (err (length k.threads))) c.take_thread_step.ensures.err

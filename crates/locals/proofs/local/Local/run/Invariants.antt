@@ -1,10 +1,10 @@
 use Rattle.std.proofs.Common.{◌-◌, ◌≡◌, ◌≤◌, Some}
 use Rattle.locals.specs.Steps.{local_after}
-use Rattle.locals.proofs.local_run.run_local.Given as goal
+use Rattle.locals.proofs.local.Local.run.Given as goal
 
 abbrev pub invariant-loop-count : goal.invariant-loop-count
 invariant-loop-count l = record {
-  reached : local_after l.image l.t l.count l.fn.local ≡ Some l.local;
+  reached : local_after l.image l.t l.count l.fn.self ≡ Some l.self;
   within : l.count ≤ l.budget;
 }
 

@@ -6,7 +6,7 @@ use Rattle.runner.specs.Entries.{Refuses}
 use Rattle.runner.specs.Rounds.{AllPast}
 use Rattle.runner.proofs.Passing.{all_past, one_past, passes}
 use Rattle.runner.proofs.Unrolling.{led}
-use Rattle.runner.proofs.rounds.make_entry.Goals as goal
+use Rattle.runner.proofs.rounds.try_entry.Goals as goal
 
 pub returns-in-Ok-clause-past : goal.returns-in-Ok-clause-past
 returns-in-Ok-clause-past g c =
