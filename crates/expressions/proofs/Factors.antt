@@ -5,16 +5,15 @@ use Rattle.scanner.specs.declared.token.Sign.{Sign}
 use Rattle.scanner.specs.declared.token.Sign.TheVariants as S
 use Rattle.scanner.specs.declared.token.Keyword.TheVariants as K
 use Rattle.scanner.specs.declared.refusal.Refusal.{Refusal}
-use Rattle.syntax.specs.declared.expression.Comparator.{Comparator}
 use Rattle.syntax.specs.Lexeme.{Mark, MarkAt, WordAt}
-use Rattle.syntax.specs.Tree.{ExpressionTree, FactorTree, Group, Minus, Not, At, SumTree, Relates, NoComparison, Compares}
-use Rattle.grammar.specs.Machine.{AFactor, AnIndex, AComparison, AMark, Skip, Item, sum, relation, expression, compares, reply_factor, reply_index, reply_comparison}
+use Rattle.syntax.specs.Tree.{ExpressionTree, FactorTree, Group, Minus, Not, At}
+use Rattle.grammar.specs.Machine.{AFactor, AnIndex, AMark, Item, expression, reply_factor, reply_index}
 use Rattle.grammar.specs.Reading.{lexeme_at, rest_after, Passes, Fails}
-use Rattle.grammar.proofs.Joins.{here, skip, done, close, leads_as, onto, then1, then3, then6, then7, fail1, fail3}
+use Rattle.grammar.proofs.Joins.{here, done, close, leads_as, then1, then6, then7, fail1}
 use Rattle.expressions.specs.Taking.{Takes, Rejects}
-use Rattle.expressions.specs.Levels.{sum_trees, relation_trees, expression_trees, enclosed_trees}
+use Rattle.expressions.specs.Levels.{expression_trees, enclosed_trees}
 use Rattle.expressions.proofs.Small.{pushes, takes, rejects}
-use Rattle.expressions.proofs.Levels.{sum_back, enclosed_back}
+use Rattle.expressions.proofs.Levels.{enclosed_back}
 
 -- an expression and the sign behind it
 pub enclosed_passes : {d : ℕ} {s : Sign} {a n b : List Item} (e : ExpressionTree) → d ≤ 64 → Passes d (expression []) (expression_trees e) a n → Takes (AMark s) tt n b → Passes d (expression (AMark s ∷ [])) (enclosed_trees s e) a b
@@ -40,16 +39,3 @@ not_passes {d} {i} place f eq le h q x =
 pub index_passes : {d i : ℕ} {a p b : List Item} (e : ExpressionTree) → i ≡ d + 1 → i ≤ 64 → lexeme_at a ≡ Mark S.OpenBracket → p ≡ rest_after a → Passes i (expression (AMark S.CloseBracket ∷ [])) (enclosed_trees S.CloseBracket e) p b → Passes d (AnIndex ∷ []) (At e, tt) a b
 index_passes {d} {i} e eq le h q x =
     done (leads_as (λ y. ap (λ z. (At z, tt)) (enclosed_back S.CloseBracket e)) (close (then7 {d = d} {d' = i} x (pushes {s = AnIndex} (ap reply_index h) q (omega arith)) (omega arith))))
-
--- a sum alone, and a sum that is compared with another
-pub relation_alone : {d : ℕ} {a b : List Item} (s : SumTree) → Passes d (sum []) (sum_trees s) a b → reply_comparison (lexeme_at b) ≡ Skip NoComparison → Passes d (relation []) (relation_trees (Relates s NoComparison)) a b
-relation_alone {d} s p r = done (then1 {d = d} {d' = d} (skip {s = AComparison} r) (then3 {d = d} {d' = d} p (here {σ = relation []}) (omega arith)) (omega arith))
-
-pub relation_compares : {d : ℕ} {a n p b : List Item} (s s' : SumTree) (op : Comparator) → d ≤ 64 → Passes d (sum []) (sum_trees s) a n → reply_comparison (lexeme_at n) ≡ compares op → p ≡ rest_after n → Passes d (sum []) (sum_trees s') p b → Passes d (relation []) (relation_trees (Relates s (Compares op s'))) a b
-relation_compares {d} s s' op le x r q y =
-    done (leads_as (λ _. ap (λ z. relation_trees (Relates s (Compares op z))) (sum_back s'))
-    (then3 {d = d} {d' = d} y (onto (pushes {s = AComparison} r q (omega arith)) (then3 {d = d} {d' = d} x (here {σ = relation []}) (omega arith))) (omega arith)))
-
-pub relation_fails : {d : ℕ} {a n p : List Item} {e : Refusal} (s : SumTree) (op : Comparator) → d ≤ 64 → Passes d (sum []) (sum_trees s) a n → reply_comparison (lexeme_at n) ≡ compares op → p ≡ rest_after n → Fails d (sum []) p e → Fails d (relation []) a e
-relation_fails {d} s op le x r q y =
-    fail3 {d = d} {d' = d} y (onto (pushes {s = AComparison} r q (omega arith)) (then3 {d = d} {d' = d} x (here {σ = relation []}) (omega arith))) (omega arith)

@@ -1,5 +1,5 @@
 -- The trees of the symbols that each level of an expression is expected as.
-use Rattle.syntax.specs.Tree.{ExpressionTree, AnyOf, ConjunctionTree, AllOf, RelationTree, Relates, SumTree, Total, TermTree, Product, CalleeTree}
+use Rattle.syntax.specs.Tree.{ExpressionTree, AnyOf, ConjunctionTree, AllOf, RelationTree, Relates, SumTree, Total, TermTree, Product, FactorTree, MultiplierTrees, SummandTrees, ComparisonTree, RelationTrees, ConjunctionTrees, CalleeTree}
 use Rattle.std.specs.Prelude.{[], ◌∷◌}
 use Rattle.scanner.specs.declared.token.Sign.{Sign}
 use Rattle.grammar.specs.Machine.{Trees, AMark, term, sum, relation, conjunction, expression, callee}
@@ -18,6 +18,37 @@ conjunction_trees (AllOf r rs) = ((relation_trees r).0, ((relation_trees r).1.0,
 
 abbrev pub expression_trees : ExpressionTree → Trees (expression [])
 expression_trees (AnyOf c cs) = ((conjunction_trees c).0, ((conjunction_trees c).1.0, ((conjunction_trees c).1.1.0, ((conjunction_trees c).1.1.1.0, ((conjunction_trees c).1.1.1.1.0, (cs, tt))))))
+
+-- what stands first at each level, and what is behind it
+abbrev pub first_factor : TermTree → FactorTree
+first_factor (Product f fs) = f
+
+abbrev pub further_factors : TermTree → MultiplierTrees
+further_factors (Product f fs) = fs
+
+abbrev pub first_term : SumTree → TermTree
+first_term (Total t ts) = t
+
+abbrev pub further_terms : SumTree → SummandTrees
+further_terms (Total t ts) = ts
+
+abbrev pub left_sum : RelationTree → SumTree
+left_sum (Relates s c) = s
+
+abbrev pub compared : RelationTree → ComparisonTree
+compared (Relates s c) = c
+
+abbrev pub first_relation : ConjunctionTree → RelationTree
+first_relation (AllOf r rs) = r
+
+abbrev pub further_relations : ConjunctionTree → RelationTrees
+further_relations (AllOf r rs) = rs
+
+abbrev pub first_conjunction : ExpressionTree → ConjunctionTree
+first_conjunction (AnyOf c cs) = c
+
+abbrev pub further_conjunctions : ExpressionTree → ConjunctionTrees
+further_conjunctions (AnyOf c cs) = cs
 
 -- an expression, and a sign behind it
 abbrev pub enclosed_trees : (s : Sign) → ExpressionTree → Trees (expression (AMark s ∷ []))

@@ -8,9 +8,9 @@ use Rattle.syntax.specs.declared.expression.SumOperator.{SumOperator}
 use Rattle.syntax.specs.declared.expression.ProductOperator.{ProductOperator}
 use Rattle.syntax.specs.Lexeme.{Lexeme, WordAt, MarkAt, Named, Numbered}
 use Rattle.syntax.specs.Spelling.{truth_text}
-use Rattle.syntax.specs.Tree.{NoMultipliers, MultiplierTrees, NoSummands, SummandTrees, NoComparison, ComparisonTree}
+use Rattle.syntax.specs.Tree.{NoMultipliers, MultiplierTrees, NoSummands, SummandTrees, NoComparison, ComparisonTree, NoRelations, NoConjunctions}
 use Rattle.syntax.specs.View.{name_of}
-use Rattle.grammar.specs.Machine.{Reply, Skip, NoFactor, scales, adds, compares, factor_begin}
+use Rattle.grammar.specs.Machine.{Reply, Skip, NoFactor, scales, adds, compares, factor_begin, reply_multipliers, reply_summands, reply_comparison, reply_relations, reply_conjunctions}
 use Rattle.expressions.specs.declared.operators.FactorStart.{FactorStart}
 use Rattle.expressions.specs.declared.operators.FactorStart.TheVariants.{Number, Truth, Name, Paren, Minus, Not}
 
@@ -43,3 +43,14 @@ start_lexeme (Not place) = WordAt K.Not place
 abbrev pub Starts : Option FactorStart → Lexeme → Type 0
 Starts (Some s) k = k ≡ start_lexeme s
 Starts None k = factor_begin k ≡ NoFactor
+
+-- no further factor and no further term begins with this lexeme
+pub record EndsSum (k : Lexeme) : Type 0 where
+  pub factors : reply_multipliers k ≡ Skip NoMultipliers
+  pub terms : reply_summands k ≡ Skip NoSummands
+
+-- a comparison doesn't, nor a further relation or conjunction
+pub record EndsExpression (k : Lexeme) : Type 0 where
+  pub compared : reply_comparison k ≡ Skip NoComparison
+  pub relations : reply_relations k ≡ Skip NoRelations
+  pub conjunctions : reply_conjunctions k ≡ Skip NoConjunctions

@@ -3,7 +3,8 @@ ghost use Rattle.scanner.specs.declared.token.Place.{Place as PlaceOf};
 ghost use Rattle.syntax.specs.Lexeme.{sign_lexeme, Mark};
 ghost use Rattle.syntax.specs.View.{factor_of, term_of, sum_of, relation_of, conjunction_of, expression_of};
 ghost use Rattle.syntax.specs.View.{variable_of, name_of, multipliers_in, summands_in, relations_in, conjunctions_in};
-ghost use Rattle.grammar.specs.Machine.{AFactor, AnIndex, AMark, Multipliers, Summands, Relations, Conjunctions};
+ghost use Rattle.grammar.specs.Machine.{AFactor, AnIndex, AMark, AComparison};
+ghost use Rattle.grammar.specs.Machine.{Multipliers, Summands, Relations, Conjunctions};
 ghost use Rattle.grammar.specs.Machine.{term as a_term, sum as a_sum};
 ghost use Rattle.grammar.specs.Machine.{relation as a_relation, conjunction as a_conjunction};
 ghost use Rattle.grammar.specs.Machine.{expression as an_expression};
@@ -11,6 +12,9 @@ ghost use Rattle.grammar.specs.Reading.{Passes, Fails};
 ghost use Rattle.expressions.specs.Ahead.{ahead};
 ghost use Rattle.expressions.specs.Levels.{term_trees, sum_trees, relation_trees, conjunction_trees};
 ghost use Rattle.expressions.specs.Levels.{expression_trees, enclosed_trees};
+ghost use Rattle.expressions.specs.Levels.{first_factor, first_term, left_sum, first_relation, first_conjunction};
+ghost use Rattle.expressions.specs.Levels.{further_factors, further_terms, compared};
+ghost use Rattle.expressions.specs.Levels.{further_relations, further_conjunctions};
 
 use crate::alone::{conjunction_alone, expression_alone, reading, relation_alone, sum_alone};
 use crate::operators::FactorStart;
@@ -35,7 +39,30 @@ impl<'a> Parser<'_, 'a> {
         ensures err { IfErr result (λ e. Fails depth (an_expression []) (ahead self.old) e) }
         ensures shorter { IfOk result (λ _. length (ahead self.new) < length (ahead self.old)) }
     {
-        let first = self.conjunction(depth)?;
+        let sum = self.sum(depth)?;
+        // Most expressions end here, and needn't go through each level.
+        if !self.relates() {
+            return Ok(expression_alone(conjunction_alone(relation_alone(sum))));
+        }
+        let relation = self.relation_from(sum, depth)?;
+        let conjunction = self.conjunction_from(relation, depth)?;
+        self.expression_from(conjunction, depth)
+    }
+
+    // What an expression is that begins with a conjunction, which was passed.
+    #[cycle(expression)]
+    fn expression_from(
+        &mut self,
+        first: Conjunction<'a>,
+        depth: u8,
+    ) -> Result<Expression<'a>, Refusal>
+        requires { depth ≤ 64 }
+        ensures front { IfOk result (λ x. first_conjunction (expression_of x) ≡ conjunction_of first.entry) }
+        ensures ok { IfOk result (λ x. Passes depth (Conjunctions ∷ []) (further_conjunctions (expression_of x), tt)
+            (ahead self.old) (ahead self.new)) }
+        ensures err { IfErr result (λ e. Fails depth (Conjunctions ∷ []) (ahead self.old) e) }
+        ensures within { IfOk result (λ _. length (ahead self.new) ≤ length (ahead self.old)) }
+    {
         if !self.eat_keyword(Keyword::Or) {
             return Ok(expression_alone(first));
         }
@@ -53,7 +80,8 @@ impl<'a> Parser<'_, 'a> {
     #[cycle(expression)]
     fn conjunctions(&mut self, depth: u8) -> Result<Vec<Conjunction<'a>>, Refusal>
         requires { depth ≤ 64 }
-        ensures ok { IfOk result (λ v. Passes depth (Conjunctions ∷ []) (conjunctions_in v.items, tt) (ahead self.old) (ahead self.new)) }
+        ensures ok { IfOk result (λ v. Passes depth (Conjunctions ∷ []) (conjunctions_in v.items, tt)
+            (ahead self.old) (ahead self.new)) }
         ensures err { IfErr result (λ e. Fails depth (Conjunctions ∷ []) (ahead self.old) e) }
         ensures within { IfOk result (λ _. length (ahead self.new) ≤ length (ahead self.old)) }
     {
@@ -75,6 +103,23 @@ impl<'a> Parser<'_, 'a> {
         ensures shorter { IfOk result (λ _. length (ahead self.new) < length (ahead self.old)) }
     {
         let first = self.relation(depth)?;
+        self.conjunction_from(first, depth)
+    }
+
+    // What a conjunction is that begins with a relation, which was passed.
+    #[cycle(expression)]
+    fn conjunction_from(
+        &mut self,
+        first: Relation<'a>,
+        depth: u8,
+    ) -> Result<Conjunction<'a>, Refusal>
+        requires { depth ≤ 64 }
+        ensures front { IfOk result (λ x. first_relation (conjunction_of x) ≡ relation_of first.entry) }
+        ensures ok { IfOk result (λ x. Passes depth (Relations ∷ []) (further_relations (conjunction_of x), tt)
+            (ahead self.old) (ahead self.new)) }
+        ensures err { IfErr result (λ e. Fails depth (Relations ∷ []) (ahead self.old) e) }
+        ensures within { IfOk result (λ _. length (ahead self.new) ≤ length (ahead self.old)) }
+    {
         if !self.eat_keyword(Keyword::And) {
             return Ok(conjunction_alone(first));
         }
@@ -92,7 +137,8 @@ impl<'a> Parser<'_, 'a> {
     #[cycle(expression)]
     fn relations(&mut self, depth: u8) -> Result<Vec<Relation<'a>>, Refusal>
         requires { depth ≤ 64 }
-        ensures ok { IfOk result (λ v. Passes depth (Relations ∷ []) (relations_in v.items, tt) (ahead self.old) (ahead self.new)) }
+        ensures ok { IfOk result (λ v. Passes depth (Relations ∷ []) (relations_in v.items, tt)
+            (ahead self.old) (ahead self.new)) }
         ensures err { IfErr result (λ e. Fails depth (Relations ∷ []) (ahead self.old) e) }
         ensures within { IfOk result (λ _. length (ahead self.new) ≤ length (ahead self.old)) }
     {
@@ -114,6 +160,19 @@ impl<'a> Parser<'_, 'a> {
         ensures shorter { IfOk result (λ _. length (ahead self.new) < length (ahead self.old)) }
     {
         let left = self.sum(depth)?;
+        self.relation_from(left, depth)
+    }
+
+    // What a relation is that begins with a sum, which was passed.
+    #[cycle(expression)]
+    fn relation_from(&mut self, left: Sum<'a>, depth: u8) -> Result<Relation<'a>, Refusal>
+        requires { depth ≤ 64 }
+        ensures front { IfOk result (λ x. left_sum (relation_of x) ≡ sum_of left.entry) }
+        ensures ok { IfOk result (λ x. Passes depth (AComparison ∷ []) (compared (relation_of x), tt)
+            (ahead self.old) (ahead self.new)) }
+        ensures err { IfErr result (λ e. Fails depth (AComparison ∷ []) (ahead self.old) e) }
+        ensures within { IfOk result (λ _. length (ahead self.new) ≤ length (ahead self.old)) }
+    {
         let Some(comparator) = self.comparator() else {
             return Ok(relation_alone(left));
         };
@@ -136,7 +195,25 @@ impl<'a> Parser<'_, 'a> {
         ensures err { IfErr result (λ e. Fails depth (a_sum []) (ahead self.old) e) }
         ensures shorter { IfOk result (λ _. length (ahead self.new) < length (ahead self.old)) }
     {
-        let first = self.term(depth)?;
+        let factor = self.factor(depth)?;
+        // Most sums end here, as above.
+        if !self.reckons() {
+            return Ok(Sum::Factor(factor));
+        }
+        let term = self.term_from(factor, depth)?;
+        self.sum_from(term, depth)
+    }
+
+    // What a sum is that begins with a term, which was passed.
+    #[cycle(expression)]
+    fn sum_from(&mut self, first: Term<'a>, depth: u8) -> Result<Sum<'a>, Refusal>
+        requires { depth ≤ 64 }
+        ensures front { IfOk result (λ x. first_term (sum_of x) ≡ term_of first.entry) }
+        ensures ok { IfOk result (λ x. Passes depth (Summands ∷ []) (further_terms (sum_of x), tt)
+            (ahead self.old) (ahead self.new)) }
+        ensures err { IfErr result (λ e. Fails depth (Summands ∷ []) (ahead self.old) e) }
+        ensures within { IfOk result (λ _. length (ahead self.new) ≤ length (ahead self.old)) }
+    {
         let Some((operator, place)) = self.sum_sign() else {
             return Ok(sum_alone(first));
         };
@@ -160,7 +237,8 @@ impl<'a> Parser<'_, 'a> {
     #[cycle(expression)]
     fn summands(&mut self, depth: u8) -> Result<Vec<Summand<'a>>, Refusal>
         requires { depth ≤ 64 }
-        ensures ok { IfOk result (λ v. Passes depth (Summands ∷ []) (summands_in v.items, tt) (ahead self.old) (ahead self.new)) }
+        ensures ok { IfOk result (λ v. Passes depth (Summands ∷ []) (summands_in v.items, tt)
+            (ahead self.old) (ahead self.new)) }
         ensures err { IfErr result (λ e. Fails depth (Summands ∷ []) (ahead self.old) e) }
         ensures within { IfOk result (λ _. length (ahead self.new) ≤ length (ahead self.old)) }
     {
@@ -187,6 +265,19 @@ impl<'a> Parser<'_, 'a> {
         ensures shorter { IfOk result (λ _. length (ahead self.new) < length (ahead self.old)) }
     {
         let first = self.factor(depth)?;
+        self.term_from(first, depth)
+    }
+
+    // What a term is that begins with a factor, which was passed.
+    #[cycle(expression)]
+    fn term_from(&mut self, first: Factor<'a>, depth: u8) -> Result<Term<'a>, Refusal>
+        requires { depth ≤ 64 }
+        ensures front { IfOk result (λ x. first_factor (term_of x) ≡ factor_of first.entry) }
+        ensures ok { IfOk result (λ x. Passes depth (Multipliers ∷ []) (further_factors (term_of x), tt)
+            (ahead self.old) (ahead self.new)) }
+        ensures err { IfErr result (λ e. Fails depth (Multipliers ∷ []) (ahead self.old) e) }
+        ensures within { IfOk result (λ _. length (ahead self.new) ≤ length (ahead self.old)) }
+    {
         let Some(operator) = self.product_sign() else {
             return Ok(Term::Factor(first));
         };
@@ -206,7 +297,8 @@ impl<'a> Parser<'_, 'a> {
     #[cycle(expression)]
     fn multipliers(&mut self, depth: u8) -> Result<Vec<Multiplier<'a>>, Refusal>
         requires { depth ≤ 64 }
-        ensures ok { IfOk result (λ v. Passes depth (Multipliers ∷ []) (multipliers_in v.items, tt) (ahead self.old) (ahead self.new)) }
+        ensures ok { IfOk result (λ v. Passes depth (Multipliers ∷ []) (multipliers_in v.items, tt)
+            (ahead self.old) (ahead self.new)) }
         ensures err { IfErr result (λ e. Fails depth (Multipliers ∷ []) (ahead self.old) e) }
         ensures within { IfOk result (λ _. length (ahead self.new) ≤ length (ahead self.old)) }
     {

@@ -1,10 +1,10 @@
-ghost use Rattle.std.specs.Prelude.{◌≡◌, ◌<◌, List, ℕ, IfSome, length};
+ghost use Rattle.std.specs.Prelude.{◌≡◌, ◌<◌, List, ℕ, false, IfSome, length};
 ghost use Rattle.scanner.specs.declared.token.Place.{Place as PlaceOf};
 ghost use Rattle.syntax.specs.Lexeme.{lexeme, lexeme_of};
 ghost use Rattle.grammar.specs.Machine.{reply_multipliers, reply_summands, reply_comparison};
 ghost use Rattle.grammar.specs.Reading.{lexeme_at};
 ghost use Rattle.expressions.specs.Ahead.{ahead};
-ghost use Rattle.expressions.specs.Openers.{product_reply, sum_signed, sum_reply, comparison_reply, Starts};
+ghost use Rattle.expressions.specs.Openers.{product_reply, sum_signed, sum_reply, comparison_reply, Starts, EndsSum, EndsExpression};
 
 use crate::parser::Parser;
 use scanner::{Keyword, Kind, Place, Sign, Token};
@@ -86,6 +86,35 @@ fn start_of(token: Token) -> Option<FactorStart>
     Some(start)
 }
 
+// Whether a token stands between factors or terms.
+fn is_operator(kind: Kind) -> bool
+    ensures { result ≡ false → (text : List ℕ) (place : PlaceOf) → EndsSum (lexeme kind text place) }
+{
+    match kind {
+        Kind::Sign(Sign::Times | Sign::Divide | Sign::Plus | Sign::Minus) => true,
+        Kind::Keyword(Keyword::Mod) => true,
+        _ => false,
+    }
+}
+
+// Whether a token stands between sums, relations or conjunctions.
+fn is_relation(kind: Kind) -> bool
+    ensures { result ≡ false → (text : List ℕ) (place : PlaceOf) → EndsExpression (lexeme kind text place) }
+{
+    match kind {
+        Kind::Sign(
+            Sign::Equal
+            | Sign::NotEqual
+            | Sign::Less
+            | Sign::LessEqual
+            | Sign::Greater
+            | Sign::GreaterEqual,
+        ) => true,
+        Kind::Keyword(Keyword::And | Keyword::Or) => true,
+        _ => false,
+    }
+}
+
 impl<'a> Parser<'_, 'a> {
     // The operator between factors that stands first.
     pub(crate) fn product_sign(&self) -> Option<ProductOperator>
@@ -103,6 +132,20 @@ impl<'a> Parser<'_, 'a> {
         let token = self.peek();
         let operator = sum_operator(token.kind)?;
         Some((operator, token.place))
+    }
+
+    // Whether what stands first stands between factors or terms.
+    pub(crate) fn reckons(&self) -> bool
+        ensures { result ≡ false → EndsSum (lexeme_at (ahead self.now)) }
+    {
+        is_operator(self.peek().kind)
+    }
+
+    // Whether what stands first stands between sums, relations or conjunctions.
+    pub(crate) fn relates(&self) -> bool
+        ensures { result ≡ false → EndsExpression (lexeme_at (ahead self.now)) }
+    {
+        is_relation(self.peek().kind)
     }
 
     // The comparison that stands first.

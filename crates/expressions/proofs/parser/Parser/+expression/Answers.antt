@@ -6,15 +6,14 @@ use Rattle.expressions.specs.Openers.{start_lexeme}
 use Rattle.syntax.specs.View.{factor_of, term_of, relation_of, conjunction_of, expression_of}
 use Rattle.syntax.proofs.Built.{product_made, total_made, all_of_made, any_of_made}
 use Rattle.expressions.specs.Ahead.{ahead}
-use Rattle.expressions.proofs.Chains.{multipliers_pass, multipliers_go_on, term_joins, summands_pass, summands_go_on, sum_joins, relations_pass, relations_go_on, conjunction_joins, conjunctions_pass, conjunctions_go_on, expression_joins}
-use Rattle.expressions.proofs.Levels.{term_as, sum_as, conjunction_as, expression_as}
+use Rattle.expressions.proofs.Chains.{multipliers_pass, multipliers_go_on, multipliers_as, summands_pass, summands_go_on, summands_as, relations_pass, relations_go_on, relations_as, conjunctions_pass, conjunctions_go_on, conjunctions_as}
 use Rattle.expressions.proofs.Factors.{paren_passes, minus_passes, not_passes, index_passes}
 use Rattle.expressions.proofs.parser.Parser.+expression.Goals as goal
 
-pub expression-returns-clause-ok : goal.expression-returns-clause-ok
-expression-returns-clause-ok t c =
-    expression_as (any_of_made c.in_ok-new.field-0 _ _ _ c.in_ok-new.ensures.ok)
-    (expression_joins (conjunction_of c.in_ok-first.first) _ c.in_ok-first.ensures.ok (conjunctions_pass (conjunction_of c.in_ok-second.second) c.requires c.if-not-eat_keyword.ensures c.in_ok-second.ensures.ok c.in_ok-rest.ensures.ok))
+pub expression_from-returns-clause-ok : goal.expression_from-returns-clause-ok
+expression_from-returns-clause-ok t c =
+    conjunctions_as (any_of_made c.in_ok-new.field-0 _ _ _ c.in_ok-new.ensures.ok)
+    (conjunctions_pass (conjunction_of c.in_ok-second.second) c.requires c.if-not-eat_keyword.ensures c.in_ok-second.ensures.ok c.in_ok-rest.ensures.ok)
 
 pub conjunctions-conjunctions-preserved : goal.conjunctions-conjunctions-preserved
 conjunctions-conjunctions-preserved t c = record {
@@ -22,10 +21,10 @@ conjunctions-conjunctions-preserved t c = record {
   within = omega (arith, c.conjunctions.invariant.within, c.in_ok-conjunction.ensures.shorter, c.conjunctions-test.ensures.shorter);
 }
 
-pub conjunction-returns-clause-ok : goal.conjunction-returns-clause-ok
-conjunction-returns-clause-ok t c =
-    conjunction_as (all_of_made c.in_ok-new.field-0 _ _ _ c.in_ok-new.ensures.ok)
-    (conjunction_joins (relation_of c.in_ok-first.first) _ c.in_ok-first.ensures.ok (relations_pass (relation_of c.in_ok-second.second) c.requires c.if-not-eat_keyword.ensures c.in_ok-second.ensures.ok c.in_ok-rest.ensures.ok))
+pub conjunction_from-returns-clause-ok : goal.conjunction_from-returns-clause-ok
+conjunction_from-returns-clause-ok t c =
+    relations_as (all_of_made c.in_ok-new.field-0 _ _ _ c.in_ok-new.ensures.ok)
+    (relations_pass (relation_of c.in_ok-second.second) c.requires c.if-not-eat_keyword.ensures c.in_ok-second.ensures.ok c.in_ok-rest.ensures.ok)
 
 pub relations-relations-preserved : goal.relations-relations-preserved
 relations-relations-preserved t c = record {
@@ -33,10 +32,10 @@ relations-relations-preserved t c = record {
   within = omega (arith, c.relations.invariant.within, c.in_ok-relation.ensures.shorter, c.relations-test.ensures.shorter);
 }
 
-pub sum-returns-clause-ok : goal.sum-returns-clause-ok
-sum-returns-clause-ok t c =
-    sum_as (total_made c.in_ok-new.field-0 _ _ _ c.in_ok-new.ensures.ok)
-    (sum_joins (term_of c.in_ok-first.first) _ c.in_ok-first.ensures.ok (summands_pass (term_of c.in_ok-term.term) c.requires c.in-Some.ensures.reply c.pass.ensures.rest c.in_ok-term.ensures.ok c.in_ok-rest.ensures.ok))
+pub sum_from-returns-clause-ok : goal.sum_from-returns-clause-ok
+sum_from-returns-clause-ok t c =
+    summands_as (total_made c.in_ok-new.field-0 _ _ _ c.in_ok-new.ensures.ok)
+    (summands_pass (term_of c.in_ok-term.term) c.requires c.in-Some.ensures.reply c.pass.ensures.rest c.in_ok-term.ensures.ok c.in_ok-rest.ensures.ok)
 
 pub summands-summands-preserved : goal.summands-summands-preserved
 summands-summands-preserved t c = record {
@@ -44,10 +43,10 @@ summands-summands-preserved t c = record {
   within = omega (arith, c.summands.invariant.within, c.in_ok-term.ensures.shorter, c.pass.ensures.shorter);
 }
 
-pub term-returns-clause-ok : goal.term-returns-clause-ok
-term-returns-clause-ok t c =
-    term_as (product_made c.in_ok-new.field-0 _ _ _ c.in_ok-new.ensures.ok)
-    (term_joins (factor_of c.in_ok-first.first) _ c.in_ok-first.ensures.ok (multipliers_pass c.requires c.in-Some.ensures.reply c.pass.ensures.rest c.in_ok-factor.ensures.ok c.in_ok-rest.ensures.ok))
+pub term_from-returns-clause-ok : goal.term_from-returns-clause-ok
+term_from-returns-clause-ok t c =
+    multipliers_as (product_made c.in_ok-new.field-0 _ _ _ c.in_ok-new.ensures.ok)
+    (multipliers_pass c.requires c.in-Some.ensures.reply c.pass.ensures.rest c.in_ok-factor.ensures.ok c.in_ok-rest.ensures.ok)
 
 pub multipliers-multipliers-preserved : goal.multipliers-multipliers-preserved
 multipliers-multipliers-preserved t c = record {

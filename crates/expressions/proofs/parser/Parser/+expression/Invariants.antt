@@ -14,32 +14,47 @@ decreases-factor l = 7 * length (ahead l.self.now)
 abbrev pub decreases-operand : goal.decreases-operand
 decreases-operand l = 7 * length (ahead l.self.now) + 1
 
-abbrev pub decreases-term : goal.decreases-term
-decreases-term l = 7 * length (ahead l.self.now) + 1
+abbrev pub decreases-term_from : goal.decreases-term_from
+decreases-term_from l = 7 * length (ahead l.self.now)
 
 abbrev pub decreases-multipliers : goal.decreases-multipliers
 decreases-multipliers l = 7 * length (ahead l.self.now) + 1
 
-abbrev pub decreases-sum : goal.decreases-sum
-decreases-sum l = 7 * length (ahead l.self.now) + 2
+abbrev pub decreases-term : goal.decreases-term
+decreases-term l = 7 * length (ahead l.self.now) + 1
+
+abbrev pub decreases-sum_from : goal.decreases-sum_from
+decreases-sum_from l = 7 * length (ahead l.self.now)
 
 abbrev pub decreases-summands : goal.decreases-summands
 decreases-summands l = 7 * length (ahead l.self.now) + 2
 
+abbrev pub decreases-sum : goal.decreases-sum
+decreases-sum l = 7 * length (ahead l.self.now) + 2
+
+abbrev pub decreases-relation_from : goal.decreases-relation_from
+decreases-relation_from l = 7 * length (ahead l.self.now)
+
 abbrev pub decreases-relation : goal.decreases-relation
 decreases-relation l = 7 * length (ahead l.self.now) + 3
 
-abbrev pub decreases-conjunction : goal.decreases-conjunction
-decreases-conjunction l = 7 * length (ahead l.self.now) + 4
+abbrev pub decreases-conjunction_from : goal.decreases-conjunction_from
+decreases-conjunction_from l = 7 * length (ahead l.self.now)
 
 abbrev pub decreases-relations : goal.decreases-relations
 decreases-relations l = 7 * length (ahead l.self.now) + 4
 
-abbrev pub decreases-expression : goal.decreases-expression
-decreases-expression l = 7 * length (ahead l.self.now) + 5
+abbrev pub decreases-conjunction : goal.decreases-conjunction
+decreases-conjunction l = 7 * length (ahead l.self.now) + 4
+
+abbrev pub decreases-expression_from : goal.decreases-expression_from
+decreases-expression_from l = 7 * length (ahead l.self.now)
 
 abbrev pub decreases-conjunctions : goal.decreases-conjunctions
 decreases-conjunctions l = 7 * length (ahead l.self.now) + 5
+
+abbrev pub decreases-expression : goal.decreases-expression
+decreases-expression l = 7 * length (ahead l.self.now) + 5
 
 abbrev pub decreases-enclosed : goal.decreases-enclosed
 decreases-enclosed l = 7 * length (ahead l.self.now) + 6
