@@ -24,59 +24,56 @@ fn tell(rt: &HostRuntime, words: &[&str]) -> Told {
     }
 }
 
+// What `run` with a trace leaves of a text.
+fn traced(rt: &HostRuntime, text: &[u8], steps: &str) -> Result<Told, Fail> {
+    fs::write(rt, "run.mesa", text)?;
+    let told = tell(rt, &["run", "run.mesa", "--steps", steps, "--trace"]);
+    fs::remove_file(rt, "run.mesa")?;
+    Ok(told)
+}
+
 #[test]
 fn runs_programs(rt: HostRuntime) -> Result<(), Fail> {
+    let empty = "1 0 RET 16\n1 0 PENDING 0\n1 0 CLEAR 0\n1 0 LAST 0\n";
     let seven = "1 1 PRINT 7\n1 0 RET 16\n1 0 PENDING 0\n1 0 CLEAR 0\n1 0 LAST 0\n";
+    let seven_cut = "1 1 PRINT 7\n1 0 RET 16\n1 0 PENDING 0\n1 0 CLEAR 0\nlimit\n";
     let two = "1 1 PRINT 7\n1 1 PRINT 128\n1 0 RET 16\n1 0 PENDING 0\n1 0 CLEAR 0\n1 0 LAST 0\n";
-    let cases: [(&[u8], &str, &str, &str, u8); 9] = [
-        (
-            EMPTY,
-            "4",
-            "",
-            "1 0 RET 16\n1 0 PENDING 0\n1 0 CLEAR 0\n1 0 LAST 0\n",
-            0,
-        ),
+    let cases: [(&[u8], &str, &str, &str, u8); 5] = [
+        (EMPTY, "4", "", empty, 0),
         (EMPTY, "1", "", "1 0 RET 16\nlimit\n", 4),
         (SEVEN, "6", "7\n", seven, 0),
-        (
-            SEVEN,
-            "5",
-            "7\n",
-            "1 1 PRINT 7\n1 0 RET 16\n1 0 PENDING 0\n1 0 CLEAR 0\nlimit\n",
-            4,
-        ),
+        (SEVEN, "5", "7\n", seven_cut, 4),
         (TWO, "8", "7\n128\n", two, 0),
-        (b"", "9", "", "1:1: error 3 Expected\n", 1),
-        (
-            b"PROGRAM P; MAIN PRINT 2147483648; END.",
-            "9",
-            "",
-            "1:23: error 2 BadToken\n",
-            1,
-        ),
-        (
-            b"PROGRAM P; -- \xc3\xa9\nMAIN END.",
-            "9",
-            "",
-            "1:15: error 1 NotAscii\n",
-            1,
-        ),
-        (
-            b"PROGRAM P; MAIN PRINT P; END.",
-            "9",
-            "",
-            "1:23: error 3 Expected\n",
-            1,
-        ),
     ];
     for (text, steps, output, errors, status) in cases {
-        fs::write(&rt, "run.mesa", text)?;
-        let told = tell(&rt, &["run", "run.mesa", "--steps", steps, "--trace"]);
+        let told = traced(&rt, text, steps)?;
         assert_eq!(rt; told.output.as_slice(), output.as_bytes());
         assert_eq!(rt; told.errors.as_slice(), errors.as_bytes());
         assert_eq!(rt; told.status, status, "of {errors:?}");
     }
-    fs::remove_file(&rt, "run.mesa")?;
+    Ok(())
+}
+
+#[test]
+fn runs_no_refused_text(rt: HostRuntime) -> Result<(), Fail> {
+    let cases: [(&[u8], &str); 4] = [
+        (b"", "1:1: error 3 Expected\n"),
+        (
+            b"PROGRAM P; MAIN PRINT 2147483648; END.",
+            "1:23: error 2 BadToken\n",
+        ),
+        (
+            b"PROGRAM P; -- \xc3\xa9\nMAIN END.",
+            "1:15: error 1 NotAscii\n",
+        ),
+        (b"PROGRAM P; MAIN PRINT P; END.", "1:23: error 3 Expected\n"),
+    ];
+    for (text, errors) in cases {
+        let told = traced(&rt, text, "9")?;
+        assert_eq!(rt; told.output.as_slice(), b"".as_slice());
+        assert_eq!(rt; told.errors.as_slice(), errors.as_bytes());
+        assert_eq!(rt; told.status, 1, "of {errors:?}");
+    }
     Ok(())
 }
 
