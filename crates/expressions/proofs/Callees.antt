@@ -7,8 +7,8 @@ use Rattle.syntax.specs.declared.expression.Expression.{Expression}
 use Rattle.syntax.specs.Lexeme.{NameTree, Lexeme, Mark}
 use Rattle.syntax.specs.Spelling.{bool_lexeme}
 use Rattle.syntax.specs.Tree.{ExpressionTree, Constant, Truthful, Reads, Group, Minus, Not}
-use Rattle.syntax.specs.View.{expression_of, name_of}
-use Rattle.std.proofs.Common.{Bool, true, false}
+use Rattle.syntax.specs.View.{expression_of}
+use Rattle.std.proofs.Common.{Bool, true, false, is_some}
 use Rattle.grammar.specs.Machine.{AFactor, AnIndex, AMark, Closed, AValue, Arguments, MoreArguments, AName, ADottedName, AnOpening, Skip, NoFactor, Trees, Item, expression, expression_in, behind_expression, callee, factor_begin, reply_more_arguments, reply_dotted, started, expression_rest, expression_from, behind_rest}
 use Rattle.grammar.specs.Reading.{StartsFactor, lexeme_at, Passes, Fails, Leads}
 use Rattle.grammar.proofs.Joins.{here, skip, done, leads_as, onto, then1, then6, fail1, fail6}
@@ -16,7 +16,7 @@ use Rattle.grammar.proofs.Starts.{arguments_begin, value_begins}
 use Rattle.expressions.specs.declared.operators.FactorStart.{FactorStart}
 use Rattle.expressions.specs.declared.operators.FactorStart.TheVariants as F
 use Rattle.expressions.specs.Taking.{Takes, Rejects, Found, Absent}
-use Rattle.expressions.specs.Openers.{start_lexeme}
+use Rattle.expressions.specs.Openers.{start_lexeme, Starts}
 use Rattle.expressions.specs.Levels.{expression_trees}
 use Rattle.expressions.proofs.Small.{pushes, takes, rejects}
 use Rattle.expressions.proofs.Levels.{expression_back}
@@ -25,16 +25,18 @@ truth_starts : (value : Bool) (place : Place) → StartsFactor (bool_lexeme valu
 truth_starts true place = record { symbols = []; make = λ _. Truthful (record { value = true; place = place }); begins = refl }
 truth_starts false place = record { symbols = []; make = λ _. Truthful (record { value = false; place = place }); begins = refl }
 
-start_starts : (s : FactorStart) → StartsFactor (start_lexeme s)
-start_starts (F.Number n) = record { symbols = []; make = λ _. Constant n; begins = refl }
-start_starts (F.Truth t) = truth_starts t.value t.place
-start_starts (F.Name n) = record { symbols = AnIndex ∷ []; make = λ t. Reads (name_of n) t.0; begins = refl }
-start_starts (F.Paren place) = record { symbols = expression (AMark S.CloseParen ∷ Closed ∷ []); make = λ t. Group place (expression_in t); begins = refl }
-start_starts (F.Minus place) = record { symbols = AFactor ∷ Closed ∷ []; make = λ t. Minus place t.0; begins = refl }
-start_starts (F.Not place) = record { symbols = AFactor ∷ Closed ∷ []; make = λ t. Not place t.0; begins = refl }
+start_starts : (s : FactorStart) (text : List ℕ) (place : Place) → StartsFactor (start_lexeme s text place)
+start_starts (F.Number n) text place = record { symbols = []; make = λ _. Constant (record { value = n; place = place }); begins = refl }
+start_starts (F.Truth value) text place = truth_starts value place
+start_starts F.Name text place = record { symbols = AnIndex ∷ []; make = λ t. Reads (record { text = text; place = place }) t.0; begins = refl }
+start_starts F.Paren text place = record { symbols = expression (AMark S.CloseParen ∷ Closed ∷ []); make = λ t. Group place (expression_in t); begins = refl }
+start_starts F.Minus text place = record { symbols = AFactor ∷ Closed ∷ []; make = λ t. Minus place t.0; begins = refl }
+start_starts F.Not text place = record { symbols = AFactor ∷ Closed ∷ []; make = λ t. Not place t.0; begins = refl }
 
-pub starts_factor : (s : FactorStart) (k : Lexeme) → k ≡ start_lexeme s → StartsFactor k
-starts_factor s k h = subst StartsFactor (sym h) (start_starts s)
+-- whether a factor starts
+pub starts : (o : Option FactorStart) (text : List ℕ) (place : Place) (k : Lexeme) → Starts o text place k → is_some o ≡ true → StartsFactor k
+starts (Some s) text place k h e = subst StartsFactor (sym h) (start_starts s text place)
+starts None text place k h e = absurd cc
 
 -- an expression that may be left out
 value_begun : {d : ℕ} {a : List Item} → StartsFactor (lexeme_at a) → Leads d (AValue ∷ []) (expression []) (λ y. (Some (expression_in y), tt)) a a

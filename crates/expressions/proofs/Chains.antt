@@ -1,4 +1,4 @@
--- Chains of operators: no link, the first link and those behind it, and a loop's one more link at a time.
+-- Chains of operators: the first link with those behind it, and a loop's one more link at a time.
 use Rattle.std.proofs.Common.{◌≡◌, ◌≤◌, ℕ, List, [], ◌∷◌, ◌++◌, refl, ap, sym, subst, ◌∙◌, arith}
 use Rattle.scanner.specs.declared.token.Place.{Place}
 use Rattle.scanner.specs.declared.token.Keyword.TheVariants as K

@@ -1,5 +1,5 @@
 -- What the operators and the beginnings of factors are, as the lexemes say.
-use Rattle.std.specs.Prelude.{◌≡◌, Option, Some, None}
+use Rattle.std.specs.Prelude.{◌≡◌, ℕ, List, Option, Some, None}
 use Rattle.scanner.specs.declared.token.Place.{Place}
 use Rattle.scanner.specs.declared.token.Sign.TheVariants as S
 use Rattle.scanner.specs.declared.token.Keyword.TheVariants as K
@@ -7,10 +7,9 @@ use Rattle.syntax.specs.declared.expression.Comparator.{Comparator}
 use Rattle.syntax.specs.declared.expression.SumOperator.{SumOperator}
 use Rattle.syntax.specs.declared.expression.ProductOperator.{ProductOperator}
 use Rattle.syntax.specs.Lexeme.{Lexeme, WordAt, MarkAt, Named, Numbered}
-use Rattle.syntax.specs.Spelling.{truth_text}
+use Rattle.syntax.specs.Spelling.{bool_lexeme}
 use Rattle.syntax.specs.Tree.{NoMultipliers, MultiplierTrees, NoSummands, SummandTrees, NoComparison, ComparisonTree, NoRelations, NoConjunctions}
-use Rattle.syntax.specs.View.{name_of}
-use Rattle.grammar.specs.Machine.{Reply, Skip, NoFactor, scales, adds, compares, factor_begin, reply_multipliers, reply_summands, reply_comparison, reply_relations, reply_conjunctions}
+use Rattle.grammar.specs.Machine.{Reply, Skip, NoFactor, scales, adds, compares, factor_begin, reply_comparison, reply_relations, reply_conjunctions}
 use Rattle.expressions.specs.declared.operators.FactorStart.{FactorStart}
 use Rattle.expressions.specs.declared.operators.FactorStart.TheVariants.{Number, Truth, Name, Paren, Minus, Not}
 
@@ -31,25 +30,20 @@ abbrev pub comparison_reply : Option Comparator → Reply ComparisonTree
 comparison_reply (Some op) = compares op
 comparison_reply None = Skip NoComparison
 
-abbrev pub start_lexeme : FactorStart → Lexeme
-start_lexeme (Number n) = Numbered n
-start_lexeme (Truth t) = truth_text t
-start_lexeme (Name n) = Named (name_of n)
-start_lexeme (Paren place) = MarkAt S.OpenParen place
-start_lexeme (Minus place) = MarkAt S.Minus place
-start_lexeme (Not place) = WordAt K.Not place
+abbrev pub start_lexeme : FactorStart → List ℕ → Place → Lexeme
+start_lexeme (Number value) text place = Numbered (record { value = value; place = place })
+start_lexeme (Truth value) text place = bool_lexeme value place
+start_lexeme Name text place = Named (record { text = text; place = place })
+start_lexeme Paren text place = MarkAt S.OpenParen place
+start_lexeme Minus text place = MarkAt S.Minus place
+start_lexeme Not text place = WordAt K.Not place
 
--- a factor starts so with this lexeme, or none does
-abbrev pub Starts : Option FactorStart → Lexeme → Type 0
-Starts (Some s) k = k ≡ start_lexeme s
-Starts None k = factor_begin k ≡ NoFactor
+-- a factor starts so with this lexeme of a text at a place, or none does
+abbrev pub Starts : Option FactorStart → List ℕ → Place → Lexeme → Type 0
+Starts (Some s) text place k = k ≡ start_lexeme s text place
+Starts None text place k = factor_begin k ≡ NoFactor
 
--- no further factor and no further term begins with this lexeme
-pub record EndsSum (k : Lexeme) : Type 0 where
-  pub factors : reply_multipliers k ≡ Skip NoMultipliers
-  pub terms : reply_summands k ≡ Skip NoSummands
-
--- a comparison doesn't, nor a further relation or conjunction
+-- no comparison and no further relation or conjunction begins with this lexeme
 pub record EndsExpression (k : Lexeme) : Type 0 where
   pub compared : reply_comparison k ≡ Skip NoComparison
   pub relations : reply_relations k ≡ Skip NoRelations

@@ -32,10 +32,10 @@ impl<'a> Parser<'_, 'a> {
         ensures err { IfErr result (λ e. Fails depth (AValue ∷ []) (ahead self.old) e) }
         ensures within { IfOk result (λ _. length (ahead self.new) ≤ length (ahead self.old)) }
     {
-        match self.factor_start() {
-            None => Ok(None),
-            Some(_) => Ok(Some(self.expression(depth)?)),
+        if !self.starts_factor() {
+            return Ok(None);
         }
+        Ok(Some(self.expression(depth)?))
     }
 
     // The arguments of a call, which may be none.
@@ -47,9 +47,9 @@ impl<'a> Parser<'_, 'a> {
         ensures within { IfOk result (λ _. length (ahead self.new) ≤ length (ahead self.old)) }
     {
         let mut arguments = Vec::new(self.alloc);
-        let Some(_) = self.factor_start() else {
+        if !self.starts_factor() {
             return Ok(arguments);
-        };
+        }
         let first = self.expression(depth)?;
         arguments.push(first)?;
         'more: while self.eat_sign(Sign::Comma) {

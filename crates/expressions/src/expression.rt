@@ -3,12 +3,13 @@ ghost use Rattle.scanner.specs.declared.token.Place.{Place as PlaceOf};
 ghost use Rattle.syntax.specs.Lexeme.{sign_lexeme, Mark};
 ghost use Rattle.syntax.specs.View.{factor_of, term_of, sum_of, relation_of, conjunction_of, expression_of};
 ghost use Rattle.syntax.specs.View.{variable_of, name_of, multipliers_in, summands_in, relations_in, conjunctions_in};
-ghost use Rattle.grammar.specs.Machine.{AFactor, AnIndex, AMark, AComparison};
+ghost use Rattle.grammar.specs.Machine.{AFactor, AnIndex, AMark, AComparison, scales, adds};
+ghost use Rattle.grammar.specs.Machine.{reply_multipliers, reply_summands};
 ghost use Rattle.grammar.specs.Machine.{Multipliers, Summands, Relations, Conjunctions};
 ghost use Rattle.grammar.specs.Machine.{term as a_term, sum as a_sum};
 ghost use Rattle.grammar.specs.Machine.{relation as a_relation, conjunction as a_conjunction};
 ghost use Rattle.grammar.specs.Machine.{expression as an_expression};
-ghost use Rattle.grammar.specs.Reading.{Passes, Fails};
+ghost use Rattle.grammar.specs.Reading.{lexeme_at, Passes, Fails};
 ghost use Rattle.expressions.specs.Ahead.{ahead};
 ghost use Rattle.expressions.specs.Levels.{term_trees, sum_trees, relation_trees, conjunction_trees};
 ghost use Rattle.expressions.specs.Levels.{expression_trees, enclosed_trees};
@@ -17,12 +18,12 @@ ghost use Rattle.expressions.specs.Levels.{further_factors, further_terms, compa
 ghost use Rattle.expressions.specs.Levels.{further_relations, further_conjunctions};
 
 use crate::alone::{conjunction_alone, expression_alone, reading, relation_alone, sum_alone};
-use crate::operators::FactorStart;
+use crate::operators::{FactorStart, start_of};
 use crate::parser::Parser;
-use scanner::{Keyword, Kind, Refusal, RefusalKind, Sign};
+use scanner::{Keyword, Kind, Place, Refusal, RefusalKind, Sign};
 use syntax::{
-    AllOf, AnyOf, Comparison, Conjunction, Element, Expression, Factor, Multiplier, Name, Product,
-    Relation, Sum, Summand, Term, Total, Variable,
+    AllOf, AnyOf, Comparison, Conjunction, Element, Expression, Factor, Multiplier, Name, Number,
+    Product, ProductOperator, Relation, Sum, SumOperator, Summand, Term, Total, Truth, Variable,
 };
 
 impl<'a> Parser<'_, 'a> {
@@ -196,27 +197,34 @@ impl<'a> Parser<'_, 'a> {
         ensures shorter { IfOk result (λ _. length (ahead self.new) < length (ahead self.old)) }
     {
         let factor = self.factor(depth)?;
-        // Most sums end here, as above.
-        if !self.reckons() {
-            return Ok(Sum::Factor(factor));
+        let first = match self.product_sign() {
+            Some(operator) => self.product(factor, operator, depth)?,
+            None => Term::Factor(factor),
+        };
+        match self.sum_sign() {
+            Some((operator, place)) => self.total(first, operator, place, depth),
+            None => Ok(sum_alone(first)),
         }
-        let term = self.term_from(factor, depth)?;
-        self.sum_from(term, depth)
     }
 
-    // What a sum is that begins with a term, which was passed.
+    // A sum of two terms or more. The first was passed, and the sign behind it stands first.
     #[cycle(expression)]
-    fn sum_from(&mut self, first: Term<'a>, depth: u8) -> Result<Sum<'a>, Refusal>
-        requires { depth ≤ 64 }
+    fn total(
+        &mut self,
+        first: Term<'a>,
+        operator: SumOperator,
+        place: Place,
+        depth: u8,
+    ) -> Result<Sum<'a>, Refusal>
+        requires depth { depth ≤ 64 }
+        requires sign { reply_summands (lexeme_at (ahead self.old)) ≡ adds operator place }
+        requires some { 0 < length (ahead self.old) }
         ensures front { IfOk result (λ x. first_term (sum_of x) ≡ term_of first.entry) }
         ensures ok { IfOk result (λ x. Passes depth (Summands ∷ []) (further_terms (sum_of x), tt)
             (ahead self.old) (ahead self.new)) }
         ensures err { IfErr result (λ e. Fails depth (Summands ∷ []) (ahead self.old) e) }
-        ensures within { IfOk result (λ _. length (ahead self.new) ≤ length (ahead self.old)) }
+        ensures shorter { IfOk result (λ _. length (ahead self.new) < length (ahead self.old)) }
     {
-        let Some((operator, place)) = self.sum_sign() else {
-            return Ok(sum_alone(first));
-        };
         self.pass();
         let term = self.term(depth)?;
         let rest = self.summands(depth)?;
@@ -265,22 +273,29 @@ impl<'a> Parser<'_, 'a> {
         ensures shorter { IfOk result (λ _. length (ahead self.new) < length (ahead self.old)) }
     {
         let first = self.factor(depth)?;
-        self.term_from(first, depth)
+        match self.product_sign() {
+            Some(operator) => self.product(first, operator, depth),
+            None => Ok(Term::Factor(first)),
+        }
     }
 
-    // What a term is that begins with a factor, which was passed.
+    // A term of two factors or more. The first was passed, and the operator behind it stands first.
     #[cycle(expression)]
-    fn term_from(&mut self, first: Factor<'a>, depth: u8) -> Result<Term<'a>, Refusal>
-        requires { depth ≤ 64 }
+    fn product(
+        &mut self,
+        first: Factor<'a>,
+        operator: ProductOperator,
+        depth: u8,
+    ) -> Result<Term<'a>, Refusal>
+        requires depth { depth ≤ 64 }
+        requires operator { reply_multipliers (lexeme_at (ahead self.old)) ≡ scales operator }
+        requires some { 0 < length (ahead self.old) }
         ensures front { IfOk result (λ x. first_factor (term_of x) ≡ factor_of first.entry) }
         ensures ok { IfOk result (λ x. Passes depth (Multipliers ∷ []) (further_factors (term_of x), tt)
             (ahead self.old) (ahead self.new)) }
         ensures err { IfErr result (λ e. Fails depth (Multipliers ∷ []) (ahead self.old) e) }
-        ensures within { IfOk result (λ _. length (ahead self.new) ≤ length (ahead self.old)) }
+        ensures shorter { IfOk result (λ _. length (ahead self.new) < length (ahead self.old)) }
     {
-        let Some(operator) = self.product_sign() else {
-            return Ok(Term::Factor(first));
-        };
         self.pass();
         let factor = self.factor(depth)?;
         let rest = self.multipliers(depth)?;
@@ -319,32 +334,38 @@ impl<'a> Parser<'_, 'a> {
         ensures err { IfErr result (λ e. Fails depth (AFactor ∷ []) (ahead self.old) e) }
         ensures shorter { IfOk result (λ _. length (ahead self.new) < length (ahead self.old)) }
     {
-        let Some(start) = self.factor_start() else {
+        let token = self.peek();
+        let Some(start) = start_of(token.kind) else {
             return Err(self.refusal(RefusalKind::Expected));
         };
+        let place = token.place;
         match start {
-            FactorStart::Number(number) => {
+            FactorStart::Number(value) => {
                 self.pass();
-                Ok(Factor::Number(number))
+                Ok(Factor::Number(Number { value, place }))
             }
-            FactorStart::Truth(truth) => {
+            FactorStart::Truth(value) => {
                 self.pass();
-                Ok(Factor::Truth(truth))
+                Ok(Factor::Truth(Truth { value, place }))
             }
-            FactorStart::Name(name) => {
+            FactorStart::Name => {
                 self.pass();
+                let name = Name {
+                    text: token.text,
+                    place,
+                };
                 Ok(reading(self.variable(depth, name)?))
             }
-            FactorStart::Paren(place) => {
+            FactorStart::Paren => {
                 let inner = self.open(depth)?;
                 let expression = self.enclosed(inner, Sign::CloseParen)?;
                 Ok(Factor::Group(place, Box::new(self.alloc, expression)?))
             }
-            FactorStart::Minus(place) => {
+            FactorStart::Minus => {
                 let inner = self.open(depth)?;
                 Ok(Factor::Minus(place, self.operand(inner)?))
             }
-            FactorStart::Not(place) => {
+            FactorStart::Not => {
                 let inner = self.open(depth)?;
                 Ok(Factor::Not(place, self.operand(inner)?))
             }

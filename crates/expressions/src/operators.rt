@@ -1,24 +1,24 @@
-ghost use Rattle.std.specs.Prelude.{◌≡◌, ◌<◌, List, ℕ, false, IfSome, length};
+ghost use Rattle.std.specs.Prelude.{◌≡◌, ◌<◌, List, ℕ, true, false, IfSome, length};
 ghost use Rattle.scanner.specs.declared.token.Place.{Place as PlaceOf};
-ghost use Rattle.syntax.specs.Lexeme.{lexeme, lexeme_of};
-ghost use Rattle.grammar.specs.Machine.{reply_multipliers, reply_summands, reply_comparison};
-ghost use Rattle.grammar.specs.Reading.{lexeme_at};
+ghost use Rattle.syntax.specs.Lexeme.{lexeme};
+ghost use Rattle.grammar.specs.Machine.{reply_multipliers, reply_summands, reply_comparison, factor_begin, NoFactor};
+ghost use Rattle.grammar.specs.Reading.{lexeme_at, StartsFactor};
 ghost use Rattle.expressions.specs.Ahead.{ahead};
-ghost use Rattle.expressions.specs.Openers.{product_reply, sum_signed, sum_reply, comparison_reply, Starts, EndsSum, EndsExpression};
+ghost use Rattle.expressions.specs.Openers.{product_reply, sum_signed, sum_reply, comparison_reply, Starts, EndsExpression};
 
 use crate::parser::Parser;
-use scanner::{Keyword, Kind, Place, Sign, Token};
-use syntax::{Comparator, Name, Number, ProductOperator, SumOperator, Truth};
+use scanner::{Keyword, Kind, Place, Sign};
+use syntax::{Comparator, ProductOperator, SumOperator};
 
 // What a factor starts with.
 #[derive(Clone, Copy)]
-pub enum FactorStart<'a> {
-    Number(Number),
-    Truth(Truth),
-    Name(Name<'a>),
-    Paren(Place),
-    Minus(Place),
-    Not(Place),
+pub enum FactorStart {
+    Number(u32),
+    Truth(bool),
+    Name,
+    Paren,
+    Minus,
+    Not,
 }
 
 // The operator between factors that a token is.
@@ -63,37 +63,18 @@ fn comparison(kind: Kind) -> Option<Comparator>
 }
 
 // What a factor starts with at a token, if one does.
-fn start_of(token: Token) -> Option<FactorStart>
-    ensures { Starts result (lexeme_of token.entry) }
-{
-    let place = token.place;
-    let start = match token.kind {
-        Kind::Number(value) => FactorStart::Number(Number { value, place }),
-        Kind::Name => FactorStart::Name(Name {
-            text: token.text,
-            place,
-        }),
-        Kind::Keyword(Keyword::True) => FactorStart::Truth(Truth { value: true, place }),
-        Kind::Keyword(Keyword::False) => FactorStart::Truth(Truth {
-            value: false,
-            place,
-        }),
-        Kind::Keyword(Keyword::Not) => FactorStart::Not(place),
-        Kind::Sign(Sign::OpenParen) => FactorStart::Paren(place),
-        Kind::Sign(Sign::Minus) => FactorStart::Minus(place),
-        _ => return None,
-    };
-    Some(start)
-}
-
-// Whether a token stands between factors or terms.
-fn is_operator(kind: Kind) -> bool
-    ensures { result ≡ false → (text : List ℕ) (place : PlaceOf) → EndsSum (lexeme kind text place) }
+pub fn start_of(kind: Kind) -> Option<FactorStart>
+    ensures { (text : List ℕ) (place : PlaceOf) → Starts result text place (lexeme kind text place) }
 {
     match kind {
-        Kind::Sign(Sign::Times | Sign::Divide | Sign::Plus | Sign::Minus) => true,
-        Kind::Keyword(Keyword::Mod) => true,
-        _ => false,
+        Kind::Number(value) => Some(FactorStart::Number(value)),
+        Kind::Name => Some(FactorStart::Name),
+        Kind::Keyword(Keyword::True) => Some(FactorStart::Truth(true)),
+        Kind::Keyword(Keyword::False) => Some(FactorStart::Truth(false)),
+        Kind::Keyword(Keyword::Not) => Some(FactorStart::Not),
+        Kind::Sign(Sign::OpenParen) => Some(FactorStart::Paren),
+        Kind::Sign(Sign::Minus) => Some(FactorStart::Minus),
+        _ => None,
     }
 }
 
@@ -134,13 +115,6 @@ impl<'a> Parser<'_, 'a> {
         Some((operator, token.place))
     }
 
-    // Whether what stands first stands between factors or terms.
-    pub(crate) fn reckons(&self) -> bool
-        ensures { result ≡ false → EndsSum (lexeme_at (ahead self.now)) }
-    {
-        is_operator(self.peek().kind)
-    }
-
     // Whether what stands first stands between sums, relations or conjunctions.
     pub(crate) fn relates(&self) -> bool
         ensures { result ≡ false → EndsExpression (lexeme_at (ahead self.now)) }
@@ -156,11 +130,11 @@ impl<'a> Parser<'_, 'a> {
         comparison(self.peek().kind)
     }
 
-    // What a factor that stands first starts with.
-    pub(crate) fn factor_start(&self) -> Option<FactorStart<'a>>
-        ensures starts { Starts result (lexeme_at (ahead self.now)) }
-        ensures some { IfSome result (λ _. 0 < length (ahead self.now)) }
+    // Whether a factor starts with what stands first.
+    pub(crate) fn starts_factor(&self) -> bool
+        ensures yes { result ≡ true → StartsFactor (lexeme_at (ahead self.now)) }
+        ensures no { result ≡ false → factor_begin (lexeme_at (ahead self.now)) ≡ NoFactor }
     {
-        start_of(self.peek())
+        start_of(self.peek().kind).is_some()
     }
 }

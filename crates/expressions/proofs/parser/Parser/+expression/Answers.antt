@@ -1,4 +1,4 @@
-use Rattle.std.proofs.Common.{arith, rules, ap, ◌≡◌, ◌∙◌}
+use Rattle.std.proofs.Common.{arith, rules, ap, sym, ◌≡◌, ◌∙◌}
 use Rattle.scanner.specs.declared.token.Sign.TheVariants as S
 use Rattle.syntax.specs.Lexeme.{Mark}
 use Rattle.grammar.specs.Reading.{lexeme_at}
@@ -32,10 +32,10 @@ relations-relations-preserved t c = record {
   within = omega (arith, c.relations.invariant.within, c.in_ok-relation.ensures.shorter, c.relations-test.ensures.shorter);
 }
 
-pub sum_from-returns-clause-ok : goal.sum_from-returns-clause-ok
-sum_from-returns-clause-ok t c =
+pub total-returns-clause-ok : goal.total-returns-clause-ok
+total-returns-clause-ok t c =
     summands_as (total_made c.in_ok-new.field-0 _ _ _ c.in_ok-new.ensures.ok)
-    (summands_pass (term_of c.in_ok-term.term) c.requires c.in-Some.ensures.reply c.pass.ensures.rest c.in_ok-term.ensures.ok c.in_ok-rest.ensures.ok)
+    (summands_pass (term_of c.in_ok-term.term) c.requires.depth c.requires.sign c.pass.ensures.rest c.in_ok-term.ensures.ok c.in_ok-rest.ensures.ok)
 
 pub summands-summands-preserved : goal.summands-summands-preserved
 summands-summands-preserved t c = record {
@@ -43,10 +43,10 @@ summands-summands-preserved t c = record {
   within = omega (arith, c.summands.invariant.within, c.in_ok-term.ensures.shorter, c.pass.ensures.shorter);
 }
 
-pub term_from-returns-clause-ok : goal.term_from-returns-clause-ok
-term_from-returns-clause-ok t c =
+pub product-returns-clause-ok : goal.product-returns-clause-ok
+product-returns-clause-ok t c =
     multipliers_as (product_made c.in_ok-new.field-0 _ _ _ c.in_ok-new.ensures.ok)
-    (multipliers_pass c.requires c.in-Some.ensures.reply c.pass.ensures.rest c.in_ok-factor.ensures.ok c.in_ok-rest.ensures.ok)
+    (multipliers_pass c.requires.depth c.requires.operator c.pass.ensures.rest c.in_ok-factor.ensures.ok c.in_ok-rest.ensures.ok)
 
 pub multipliers-multipliers-preserved : goal.multipliers-multipliers-preserved
 multipliers-multipliers-preserved t c = record {
@@ -57,15 +57,15 @@ multipliers-multipliers-preserved t c = record {
 pub factor-returns-in_ok-new-in-Paren-clause-ok : goal.factor-returns-in_ok-new-in-Paren-clause-ok
 factor-returns-in_ok-new-in-Paren-clause-ok t c =
     rw (c.in_ok-new-in-Paren.ensures.ok)
-    (paren_passes c.in-Paren.place (expression_of c.in_ok-expression-in-Paren.expression) c.in_ok-inner-in-Paren.ensures.ok.0 c.in_ok-inner-in-Paren.ensures.ok.1 (c.in-Some.ensures.starts ∙ ap start_lexeme c.in-Paren.is) c.in_ok-inner-in-Paren.ensures.rest c.in_ok-expression-in-Paren.ensures.ok)
+    (paren_passes c.peek-token.result.place (expression_of c.in_ok-expression-in-Paren.expression) c.in_ok-inner-in-Paren.ensures.ok.0 c.in_ok-inner-in-Paren.ensures.ok.1 (sym c.peek-token.ensures.lexeme ∙ c.in-Some.ensures c.peek-token.result.text.now c.peek-token.result.place ∙ ap (λ s. start_lexeme s c.peek-token.result.text.now c.peek-token.result.place) c.in-Paren.is) c.in_ok-inner-in-Paren.ensures.rest c.in_ok-expression-in-Paren.ensures.ok)
 
 pub factor-returns-in_ok-operand-in-Minus-clause-ok : goal.factor-returns-in_ok-operand-in-Minus-clause-ok
 factor-returns-in_ok-operand-in-Minus-clause-ok t c =
-    minus_passes c.in-Minus.place (factor_of c.in_ok-operand-in-Minus.field-0.value) c.in_ok-inner-in-Minus.ensures.ok.0 c.in_ok-inner-in-Minus.ensures.ok.1 (c.in-Some.ensures.starts ∙ ap start_lexeme c.in-Minus.is) c.in_ok-inner-in-Minus.ensures.rest c.in_ok-operand-in-Minus.ensures.ok
+    minus_passes c.peek-token.result.place (factor_of c.in_ok-operand-in-Minus.field-0.value) c.in_ok-inner-in-Minus.ensures.ok.0 c.in_ok-inner-in-Minus.ensures.ok.1 (sym c.peek-token.ensures.lexeme ∙ c.in-Some.ensures c.peek-token.result.text.now c.peek-token.result.place ∙ ap (λ s. start_lexeme s c.peek-token.result.text.now c.peek-token.result.place) c.in-Minus.is) c.in_ok-inner-in-Minus.ensures.rest c.in_ok-operand-in-Minus.ensures.ok
 
 pub factor-returns-in_ok-operand-in-Not-clause-ok : goal.factor-returns-in_ok-operand-in-Not-clause-ok
 factor-returns-in_ok-operand-in-Not-clause-ok t c =
-    not_passes c.in-Not.place (factor_of c.in_ok-operand-in-Not.field-0.value) c.in_ok-inner-in-Not.ensures.ok.0 c.in_ok-inner-in-Not.ensures.ok.1 (c.in-Some.ensures.starts ∙ ap start_lexeme c.in-Not.is) c.in_ok-inner-in-Not.ensures.rest c.in_ok-operand-in-Not.ensures.ok
+    not_passes c.peek-token.result.place (factor_of c.in_ok-operand-in-Not.field-0.value) c.in_ok-inner-in-Not.ensures.ok.0 c.in_ok-inner-in-Not.ensures.ok.1 (sym c.peek-token.ensures.lexeme ∙ c.in-Some.ensures c.peek-token.result.text.now c.peek-token.result.place ∙ ap (λ s. start_lexeme s c.peek-token.result.text.now c.peek-token.result.place) c.in-Not.is) c.in_ok-inner-in-Not.ensures.rest c.in_ok-operand-in-Not.ensures.ok
 
 pub variable-returns-clause-ok : goal.variable-returns-clause-ok
 variable-returns-clause-ok t c =

@@ -14,8 +14,8 @@ decreases-factor l = 7 * length (ahead l.self.now)
 abbrev pub decreases-operand : goal.decreases-operand
 decreases-operand l = 7 * length (ahead l.self.now) + 1
 
-abbrev pub decreases-term_from : goal.decreases-term_from
-decreases-term_from l = 7 * length (ahead l.self.now)
+abbrev pub decreases-product : goal.decreases-product
+decreases-product l = 7 * length (ahead l.self.now)
 
 abbrev pub decreases-multipliers : goal.decreases-multipliers
 decreases-multipliers l = 7 * length (ahead l.self.now) + 1
@@ -23,8 +23,8 @@ decreases-multipliers l = 7 * length (ahead l.self.now) + 1
 abbrev pub decreases-term : goal.decreases-term
 decreases-term l = 7 * length (ahead l.self.now) + 1
 
-abbrev pub decreases-sum_from : goal.decreases-sum_from
-decreases-sum_from l = 7 * length (ahead l.self.now)
+abbrev pub decreases-total : goal.decreases-total
+decreases-total l = 7 * length (ahead l.self.now)
 
 abbrev pub decreases-summands : goal.decreases-summands
 decreases-summands l = 7 * length (ahead l.self.now) + 2

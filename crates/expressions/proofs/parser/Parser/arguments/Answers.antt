@@ -1,18 +1,15 @@
-use Rattle.std.proofs.Common.{arith}
+use Rattle.std.proofs.Common.{arith, refl}
 use Rattle.expressions.proofs.Small.{exit_fails}
-use Rattle.expressions.proofs.Callees.{starts_factor, arguments_start, arguments_fail, arguments_absent, arguments_more, arguments_end}
+use Rattle.expressions.proofs.Callees.{arguments_start, arguments_fail, arguments_more, arguments_end}
 use Rattle.expressions.proofs.parser.Parser.arguments.Goals as goal
 
 pub returns-in_err-first-clause-err : goal.returns-in_err-first-clause-err
 returns-in_err-first-clause-err c =
-    exit_fails c.from_residual.result c.from_residual.ensures.1 (arguments_fail (starts_factor _ _ c.in-Some.ensures.starts) c.in_err-first.ensures.err)
-
-pub returns-in_default-clause-ok : goal.returns-in_default-clause-ok
-returns-in_default-clause-ok c = arguments_absent _ c.new-arguments.ensures.items c.in_default.ensures.starts
+    exit_fails c.from_residual.result c.from_residual.ensures.1 (arguments_fail (c.if-not-starts_factor.ensures.yes refl) c.in_err-first.ensures.err)
 
 pub more-init : goal.more-init
 more-init c = record {
-  read = arguments_start _ _ c.in_ok-first.first c.new-arguments.ensures.items c.in_ok-push.ensures.items (starts_factor _ _ c.in-Some.ensures.starts) c.in_ok-first.ensures.ok;
+  read = arguments_start _ _ c.in_ok-first.first c.new-arguments.ensures.items c.in_ok-push.ensures.items (c.if-not-starts_factor.ensures.yes refl) c.in_ok-first.ensures.ok;
   within = omega (arith, c.in_ok-first.ensures.shorter);
 }
 
