@@ -3,19 +3,13 @@ use runner::{RunFault, Verdict};
 use scanner::RefusalKind;
 use std::io;
 use std::test::Fail;
-use words::Gate;
+use words::OpenGate;
 
 pub const EMPTY: &[u8] = b"PROGRAM P; MAIN END.";
 
 pub const SEVEN: &[u8] = b"PROGRAM P; MAIN PRINT 7; END.";
 
 pub const TWO: &[u8] = b"PROGRAM P; MAIN PRINT 7; PRINT 128; END.";
-
-struct Open;
-
-impl Gate for Open {
-    fn pass(&self, _who: u32) {}
-}
 
 // A program that prints so many numbers.
 fn printing(rt: &HostRuntime, count: u32) -> io::Result<Vec<u8>> {
@@ -49,11 +43,11 @@ fn limits_texts_and_code(rt: HostRuntime) -> Result<(), Fail> {
 
 #[test]
 fn runs_source(rt: HostRuntime) -> Result<(), Fail> {
-    let report = run_source(rt.alloc(), TWO, 8, &Open)?;
+    let report = run_source(rt.alloc(), TWO, 8, &OpenGate)?;
     assert_eq!(rt; report.output.as_slice(), [7, 128].as_slice());
     assert_eq!(rt; report.log.len(), 6);
     assert_eq!(rt; report.verdict, Verdict::Done);
-    let report = run_source(rt.alloc(), TWO, 0, &Open)?;
+    let report = run_source(rt.alloc(), TWO, 0, &OpenGate)?;
     assert_eq!(rt; report.output.len(), 0);
     assert_eq!(rt; report.verdict, Verdict::Limit);
     text_laws();
@@ -68,7 +62,7 @@ fn names_want_of_memory(rt: HostRuntime) {
         Ok(image) => assert_eq!(rt; image.code().len(), 5),
         Err(refusal) => assert_eq!(rt; refusal.kind, RefusalKind::Memory),
     }
-    match run_source(rt.alloc(), TWO, 8, &Open) {
+    match run_source(rt.alloc(), TWO, 8, &OpenGate) {
         Ok(report) => assert_eq!(rt; report.output.as_slice(), [7, 128].as_slice()),
         Err(RunSourceFault::Refused(refusal)) => assert_eq!(rt; refusal.kind, RefusalKind::Memory),
         Err(RunSourceFault::Run(fault)) => assert_eq!(rt; fault, RunFault::Memory),

@@ -12,14 +12,7 @@ use crate::show::show;
 use isa::decode;
 use runner::run;
 use std::io;
-use words::Gate;
-
-// A gate that holds nobody up.
-struct OpenGate;
-
-impl Gate for OpenGate {
-    fn pass(&self, _who: u32) {}
-}
+use words::OpenGate;
 
 fn main(rt: HostRuntime) -> io::Result<()> {
     for line in rt.lines(rt.alloc()) {

@@ -1,7 +1,7 @@
 use std::test::Fail;
 use words::{
-    Addr, Gate, Mem, OWNER_DIED, ProcessWord, TID_MASK, WAITERS, block, block_laws, has_died,
-    has_waiters, lock_word_laws, locked_word, signed, signed_laws, tid, word,
+    Addr, Gate, Mem, OWNER_DIED, OpenGate, ProcessWord, TID_MASK, WAITERS, block, block_laws,
+    has_died, has_waiters, lock_word_laws, locked_word, signed, signed_laws, tid, word,
 };
 
 #[test]
@@ -38,15 +38,9 @@ fn word_parts(rt: HostRuntime) {
     assert_eq!(rt; block(64, ProcessWord::Outcome), Addr(384));
 }
 
-struct Unmanned;
-
-impl Gate for Unmanned {
-    fn pass(&self, _who: u32) {}
-}
-
 #[test]
 fn a_gate_is_passed() {
-    Unmanned.pass(1);
+    OpenGate.pass(1);
     lock_word_laws();
     block_laws();
     signed_laws();

@@ -16,11 +16,10 @@ use Rattle.futexcalls.specs.Answers.{word_of}
 use Rattle.robustexit.specs.declared.phase.ExitPhase.{ExitPhase}
 use Rattle.robustexit.specs.declared.phase.ExitPhase.TheVariants.{Entry, Pending, ClearId, LastWake, Ended}
 use Rattle.robustexit.specs.Phases.{next_entry}
-use Rattle.robustexit.specs.RobustExit.{Shared, IsEntry, IsIdle, Abandons, WakesOne, EntryStep, PendingStep, ExitStep, IsPending, IsForeign, IsOwned, NoEntry}
+use Rattle.robustexit.specs.RobustExit.{Shared, IsEntry, IsIdle, Abandons, WakesOne, EntryStep, PendingStep, ExitStep, IsPending, IsForeign, IsOwned, NoEntry, put}
 use Rattle.robustexit.specs.Fronts.{shared, wake_word, TakesFront}
 use Rattle.robustexit.proofs.Steps.{word_of-set}
 use Rattle.machine.specs.ThreadSets.{IsThread}
-use Rattle.machine.specs.States.{put}
 use Rattle.machine.specs.declared.event.EventName.TheVariants as name
 use Rattle.machine.specs.Fronts.{Left, leave, left_entry, left_pending, front, woken_on, abandoned, woken_by_abandoning, event_of}
 use Rattle.machine.specs.Told.{name_at, value_at}

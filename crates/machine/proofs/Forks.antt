@@ -11,7 +11,8 @@ use Rattle.machine.specs.declared.event.Event.{Event}
 use Rattle.machine.specs.declared.event.EventName.TheVariants as name
 use Rattle.machine.specs.declared.event.StepFault.{StepFault}
 use Rattle.machine.specs.declared.event.StepFault.TheVariants.{Broken}
-use Rattle.machine.specs.States.{Common, Kept, put, thread_at, thread_of, state_of, with_thread}
+use Rattle.robustexit.specs.RobustExit.{put}
+use Rattle.machine.specs.States.{Common, Kept, thread_at, thread_of, state_of, with_thread}
 use Rattle.machine.specs.Serving.{with_child}
 use Rattle.machine.specs.Fronts.{Served, went_on, lifted, forked, plain, set_word}
 use Rattle.machine.specs.Views.{IsKept}

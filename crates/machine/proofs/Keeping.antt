@@ -8,7 +8,8 @@ use Rattle.locals.specs.Threads.{Thread}
 use Rattle.buckets.specs.Places.{names, with_place}
 use Rattle.buckets.proofs.Takes.{names-take}
 use Rattle.buckets.proofs.Moves.{IsDistinct-take, with_place-again}
-use Rattle.machine.specs.States.{Common, Kept, put}
+use Rattle.robustexit.specs.RobustExit.{put}
+use Rattle.machine.specs.States.{Common, Kept}
 use Rattle.machine.specs.Fronts.{set_word, woken_on, sleeping_on, moved_to, front}
 use Rattle.machine.specs.Views.{IsSoundly, IsKept}
 use Rattle.machine.proofs.Placing.{put-there}

@@ -9,7 +9,8 @@ use Rattle.locals.specs.Looks.{Look}
 use Rattle.machine.specs.declared.event.Event.{Event}
 use Rattle.machine.specs.declared.event.StepFault.{StepFault}
 use Rattle.machine.specs.ThreadSets.{set_of}
-use Rattle.machine.specs.States.{Common, Kept, put, thread_of, state_of}
+use Rattle.robustexit.specs.RobustExit.{put}
+use Rattle.machine.specs.States.{Common, Kept, thread_of, state_of}
 use Rattle.machine.specs.Runs.{Moves}
 use Rattle.machine.specs.Views.{IsKept}
 use Rattle.machine.proofs.Placing.{threads_put}

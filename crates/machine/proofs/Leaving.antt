@@ -10,9 +10,9 @@ use Rattle.futexcalls.specs.FutexCalls.{IsChoice}
 use Rattle.robustexit.specs.declared.phase.ExitPhase.{ExitPhase}
 use Rattle.robustexit.specs.declared.phase.ExitPhase.TheVariants.{Entry, Pending, ClearId, LastWake, Ended}
 use Rattle.robustexit.specs.Phases.{next_entry}
-use Rattle.robustexit.specs.RobustExit.{IsEntry, Abandons, ExitStep, IsPending, IsForeign, IsOwned, NoEntry}
+use Rattle.robustexit.specs.RobustExit.{IsEntry, Abandons, ExitStep, IsPending, IsForeign, IsOwned, NoEntry, put}
 use Rattle.machine.specs.ThreadSets.{set_of}
-use Rattle.machine.specs.States.{Common, Kept, put, state_of}
+use Rattle.machine.specs.States.{Common, Kept, state_of}
 use Rattle.machine.specs.Serving.{shared_of}
 use Rattle.machine.specs.Fronts.{Left, leave, is_entry, load, set_word, front, woken_on, abandoned, woken_by_abandoning, plain, event_of}
 use Rattle.machine.specs.declared.event.EventName.TheVariants as name

@@ -4,7 +4,8 @@ use Rattle.std.specs.Prelude.{if◌then◌else◌, slice_index}
 use Rattle.std.proofs.lemmas.Bool.Decides.{eqb_tells}
 use Rattle.std.proofs.lemmas.List.{get_or-set_same, get_or-set_other}
 use Rattle.locals.specs.Threads.{Thread}
-use Rattle.machine.specs.States.{put, thread_at}
+use Rattle.robustexit.specs.RobustExit.{put}
+use Rattle.machine.specs.States.{thread_at}
 
 get_set : {A : Type 0} → (xs : List A) (i : ℕ) (x y : A) → slice_get xs i ≡ Some x → slice_get (slice_set xs i y) i ≡ Some y
 get_set [] i x y h = absurd cc

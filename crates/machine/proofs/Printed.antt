@@ -14,7 +14,8 @@ use Rattle.machine.specs.declared.event.EventName.{EventName}
 use Rattle.machine.specs.declared.event.EventName.TheVariants as name
 use Rattle.machine.specs.declared.event.StepFault.{StepFault}
 use Rattle.machine.specs.declared.event.StepFault.TheVariants.{Broken}
-use Rattle.machine.specs.States.{Common, Kept, put, thread_of}
+use Rattle.robustexit.specs.RobustExit.{put}
+use Rattle.machine.specs.States.{Common, Kept, thread_of}
 use Rattle.machine.specs.Fronts.{Served, Stepped, Left, serve, leave, load, is_entry, set_word, front, woken_on, moved_to, abandoned, thread_step, went_on, lifted, step_awake, step_thread, step_of}
 use Rattle.machine.specs.Views.{printed_by, printed_by_name}
 

@@ -11,7 +11,8 @@ use Rattle.buckets.proofs.Moves.{drop-take_length}
 use Rattle.buckets.proofs.Outcomes.{names-get_or}
 use Rattle.futexcalls.specs.FutexCalls.{Requeues}
 use Rattle.machine.specs.ThreadSets.{IsThread}
-use Rattle.machine.specs.States.{Common, put}
+use Rattle.robustexit.specs.RobustExit.{put}
+use Rattle.machine.specs.States.{Common}
 use Rattle.futexcalls.specs.Answers.{word_of}
 use Rattle.machine.specs.declared.event.Event.{Event}
 use Rattle.machine.specs.declared.event.EventName.TheVariants as name

@@ -17,7 +17,8 @@ use Rattle.machine.specs.declared.event.EventName.TheVariants as name
 use Rattle.machine.specs.declared.event.StepFault.{StepFault}
 use Rattle.machine.specs.declared.event.StepFault.TheVariants.{Broken}
 use Rattle.futexcalls.specs.FutexCalls as futex
-use Rattle.machine.specs.States.{Common, Kept, put, thread_of, state_of, with_word, with_thread}
+use Rattle.robustexit.specs.RobustExit.{put}
+use Rattle.machine.specs.States.{Common, Kept, thread_of, state_of, with_word, with_thread}
 use Rattle.machine.specs.Serving.{Serves}
 use Rattle.machine.specs.Fronts.{Served, serve, gives, went_on, lifted, load, set_word, plain, event_of, front, woken_on, sleeping_on, moved_to, moves_of, waited, woke, requeued}
 use Rattle.machine.specs.Views.{IsKept}

@@ -8,7 +8,7 @@ use Rattle.buckets.specs.Places.{names, with_place}
 use Rattle.buckets.proofs.Takes.{names-take}
 use Rattle.buckets.proofs.Moves.{IsDistinct-take}
 use Rattle.futexcalls.specs.FutexCalls.{IsChoice}
-use Rattle.machine.specs.States.{put}
+use Rattle.robustexit.specs.RobustExit.{put}
 use Rattle.machine.specs.Views.{IsSoundly}
 use Rattle.machine.proofs.Placing.{put-here, put-there}
 

@@ -12,7 +12,8 @@ use Rattle.locals.specs.declared.frame.Locals.{Locals}
 use Rattle.locals.specs.Threads.{Thread, Runs, Dies, Exits, fresh, opening_thread}
 use Rattle.locals.specs.Looks.{Request, AskFork, Look, Goes, Asks, Leaves, Breaks, Rests, look, look_at, at_place, returned, if_so, or_dies, effect, Effect, Then, Keeps, To, Tests, Asking, Trying, Calls, Returns, ReturnsValue, Fails, Misses, Guards, Checks}
 use Rattle.machine.specs.declared.event.Event.{Event}
-use Rattle.machine.specs.States.{Kept, put, thread_at, thread_of, state_of, with_thread}
+use Rattle.robustexit.specs.RobustExit.{put}
+use Rattle.machine.specs.States.{Kept, thread_at, thread_of, state_of, with_thread}
 use Rattle.machine.specs.Fronts.{thread_step, lifted, leave, step_thread, step_awake}
 use Rattle.machine.specs.Views.{IsKept, IsSoundly}
 use Rattle.machine.specs.Determined.{OpensSo, StepsSo}

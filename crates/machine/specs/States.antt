@@ -1,7 +1,8 @@
 -- A state of the machine: as what is kept, and as what it stands for.
-use Rattle.std.specs.Prelude.{ℕ, zero, suc, ◌==◌, List, [], ◌∷◌, length, slice_get, slice_index, slice_set, replicate, if◌then◌else◌, Option, Some, None, ℤ}
+use Rattle.std.specs.Prelude.{ℕ, zero, suc, List, [], ◌∷◌, length, slice_get, slice_index, slice_set, replicate, if◌then◌else◌, Option, Some, None, ℤ}
 use Rattle.isa.specs.Programs.{Program, memory_size}
 use Rattle.words.specs.Process.{process_word}
+use Rattle.robustexit.specs.RobustExit.{put}
 use Rattle.locals.specs.Threads.{Thread, opening_thread}
 
 -- what threads share: the words; who sleeps on each address, in the order of their arrival, and where each sleeps; and
@@ -26,10 +27,6 @@ pub record State : Type 0 where
   pub thread : ℕ → Option Thread
   pub asleep : ℕ → Option ℕ
   pub output : List ℤ
-
--- another value at one place
-abbrev pub put : {A : Type 0} → (ℕ → A) → ℕ → A → ℕ → A
-put f i v j = if j == i then v else f j
 
 abbrev pub thread_at : List Thread → ℕ → Option Thread
 thread_at threads zero = None

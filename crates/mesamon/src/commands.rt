@@ -16,14 +16,7 @@ use runner::{Report, Verdict};
 use std::io;
 use std::io::Write;
 use std::rt::Files;
-use words::Gate;
-
-// A gate that holds nobody up.
-struct OpenGate;
-
-impl Gate for OpenGate {
-    fn pass(&self, _who: u32) {}
-}
+use words::OpenGate;
 
 /// Does the command that these words ask for, those after the program's name, and answers the exit status. `output` and
 /// `errors` stand for standard output and standard error.

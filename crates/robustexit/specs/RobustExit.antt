@@ -14,9 +14,9 @@ pub record Shared : Type 0 where
   pub word : ℕ → ℕ
   pub asleep : ℕ → Option ℕ
 
--- the words after a store
-abbrev pub put : (ℕ → ℕ) → ℕ → ℕ → ℕ → ℕ
-put word a v b = if b == a then v else word b
+-- another value at one place, as words after a store
+abbrev pub put : {A : Type 0} → (ℕ → A) → ℕ → A → ℕ → A
+put f i v j = if j == i then v else f j
 
 -- an entry: its first word is the link to the next, the word after that the lock word; both lie in the memory
 abbrev pub IsEntry : ℕ → ℕ → Type 0

@@ -4,12 +4,12 @@ use Rattle.std.specs.Prelude.{ℤ, ◌||◌}
 use Rattle.std.proofs.lemmas.Bool.{cases_eq, ne_eqb}
 use Rattle.robustexit.specs.declared.phase.ExitPhase.{ExitPhase}
 use Rattle.robustexit.specs.declared.phase.ExitPhase.TheVariants.{Entry, Pending, ClearId, LastWake, Ended}
-use Rattle.robustexit.specs.RobustExit.{Shared, IsIdle, EntryStep, PendingStep, NoEntry, IsPending, IsForeign, IsOwned, ExitStep}
+use Rattle.robustexit.specs.RobustExit.{Shared, IsIdle, EntryStep, PendingStep, NoEntry, IsPending, IsForeign, IsOwned, ExitStep, put}
 use Rattle.buckets.specs.Places.{names, with_place}
 use Rattle.futexcalls.specs.FutexCalls.{Wakes, Moves as Requeued, Requeues, Sleeps}
 use Rattle.locals.specs.Threads.{Thread, opening_thread}
 use Rattle.locals.specs.Looks.{Request, AskLoad, AskStore, AskSwap, AskCas, AskOr, AskAdd, AskFork, AskPrint, AskWait, AskWake, AskRequeue, AskReturn, AskReturnValue, AskFault, Look, Goes, Asks, Leaves, Breaks, Rests}
-use Rattle.machine.specs.States.{State, put, with_thread, with_word, with_sleepers}
+use Rattle.machine.specs.States.{State, with_thread, with_word, with_sleepers}
 use Rattle.machine.specs.Serving.{Serves, with_child, shared_of, with_shared}
 use Rattle.machine.specs.Runs.{Moves}
 

@@ -9,10 +9,10 @@ use Rattle.isa.specs.declared.instr.Instr.{Instr}
 use Rattle.isa.specs.Programs.{Program}
 use Rattle.robustexit.specs.declared.phase.ExitPhase.{ExitPhase}
 use Rattle.robustexit.specs.declared.phase.ExitPhase.TheVariants.{Pending, ClearId, LastWake, Ended as Ended'}
-use Rattle.robustexit.specs.RobustExit.{Shared, IsIdle, PendingStep, NoEntry, IsForeign, IsOwned}
+use Rattle.robustexit.specs.RobustExit.{Shared, IsIdle, PendingStep, NoEntry, IsForeign, IsOwned, put}
 use Rattle.locals.specs.Threads.{Thread, Runs, Exits, fresh}
 use Rattle.locals.specs.Looks.{Look, Goes, Asks, Leaves, Rests, look, look_at, begun, AskPrint, AskReturn}
-use Rattle.machine.specs.States.{State, put, with_thread}
+use Rattle.machine.specs.States.{State, with_thread}
 use Rattle.machine.specs.Serving.{shared_of, with_shared}
 use Rattle.futexcalls.specs.FutexCalls.{Wakes}
 use Rattle.machine.specs.Runs.{Step, IsStep, Moves, Goes_by}

@@ -5,7 +5,8 @@ use Rattle.words.specs.Signed.{word_of}
 use Rattle.isa.specs.Programs.{memory_size}
 use Rattle.robustexit.specs.declared.phase.ExitPhase.TheVariants.{Pending, ClearId, LastWake, Ended as Ended'}
 use Rattle.locals.specs.Threads.{Thread, Runs, Exits, fresh}
-use Rattle.machine.specs.States.{State, put}
+use Rattle.robustexit.specs.RobustExit.{put}
+use Rattle.machine.specs.States.{State}
 use Rattle.sourcemeaning.specs.declared.action.Action.{Action}
 use Rattle.sourcemeaning.specs.declared.action.ActionKind.{ActionKind}
 use Rattle.sourcemeaning.specs.declared.action.ActionKind.TheVariants.{Print, End}

@@ -8,7 +8,7 @@ mod mem;
 mod outcome;
 mod process;
 
-pub use gate::Gate;
+pub use gate::{Gate, OpenGate};
 pub use integer::{signed, signed_laws, word};
 pub use lock::{
     OWNER_DIED, TID_MASK, WAITERS, has_died, has_waiters, lock_word_laws, locked_word, tid,
