@@ -15,3 +15,4 @@ pub mod Steps
 pub mod Members
 pub mod Printed
 pub mod Whole
+pub mod FrontRuns

@@ -110,7 +110,7 @@ steps_by p k k' t e y Breaks next kept stands awake h = absurd cc
 steps_by p k k' t e y Rests next kept stands awake h = absurd cc
 
 -- with what a step is done
-record Done (p : Program) (k k' : Kept) (t : ℕ) (e : Event) : Type 0 where
+pub record Done (p : Program) (k k' : Kept) (t : ℕ) (e : Event) : Type 0 where
   pub thread : Thread
   pub stands : thread_of k t ≡ Some thread
   pub awake : k.common.asleep t ≡ None
@@ -120,7 +120,7 @@ done_awake : (p : Program) (k k' : Kept) (t : ℕ) (e : Event) (x : Thread) (o :
 done_awake p k k' t e x None stands awake h = record { thread = x; stands = stands; awake = awake; done = h }
 done_awake p k k' t e x (Some a) stands awake h = absurd cc
 
-done_by : (p : Program) (k k' : Kept) (t : ℕ) (e : Event) (o : Option Thread) → thread_of k t ≡ o → step_thread p k t o ≡ Ok (k', e) → Done p k k' t e
+pub done_by : (p : Program) (k k' : Kept) (t : ℕ) (e : Event) (o : Option Thread) → thread_of k t ≡ o → step_thread p k t o ≡ Ok (k', e) → Done p k k' t e
 done_by p k k' t e None stands h = absurd cc
 done_by p k k' t e (Some x) stands h = done_awake p k k' t e x (k.common.asleep t) stands refl h
 

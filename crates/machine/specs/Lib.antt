@@ -3,6 +3,7 @@ pub mod ThreadSets
 pub mod Serving
 pub mod Runs
 pub mod Fronts
+pub mod FrontRuns
 pub mod Told
 pub mod Views
 pub mod Determined

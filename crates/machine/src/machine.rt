@@ -7,7 +7,7 @@ ghost use Rattle.machine.specs.States.{thread_of, state_of, opening_kept};
 ghost use Rattle.machine.specs.Runs.{has_ended};
 ghost use Rattle.machine.specs.Fronts.{step_of, can_move, fault_at};
 ghost use Rattle.machine.specs.LocalRuns.{RunsOn};
-ghost use Rattle.machine.specs.Views.{kept, AllEnded, IsQuiet, variable_address, address_of, printed_by};
+ghost use Rattle.machine.specs.Views.{kept, AllEnded, IsQuiet, variable_address, address_of, printed_by, IsKept};
 
 use crate::event::{Event, StepFault};
 use crate::parts::{MOST_THREADS, opening_threads, opening_words, step_parts, variable};
@@ -58,6 +58,7 @@ impl Machine {
         requires { IsBucketCount buckets }
         ensures program { IfOk result (λ m. m.program ≡ image.now) }
         ensures opening { IfOk result (λ m. kept m ≡ opening_kept image.now) }
+        ensures holds { IfOk result (λ m. IsKept image.now (kept m)) }
     {
         Ok(Machine {
             image: image.copy(alloc)?,
@@ -84,10 +85,11 @@ impl Machine {
         self.output.capacity() - self.output.len()
     }
 
-    /// How many threads were made, from 1 to 64.
+    /// How many threads were made, from 1 to 64. With it comes what always holds of a machine.
     pub fn threads(&self) -> u32
         ensures value { result ≡ length self.now.threads }
         ensures within { (1 ≤ result) × (result ≤ 64) }
+        ensures holds { IsKept self.now.program (kept self.now) }
     {
         self.threads.len() as u32
     }
@@ -127,11 +129,13 @@ impl Machine {
         true
     }
 
-    /// Where thread `t` sleeps, if it does.
+    /// Where thread `t` sleeps, if it was made and does.
     pub fn asleep(&self, t: u32) -> Option<Addr>
-        requires { (0 < t) × (t ≤ length self.now.threads) }
         ensures { address_of result ≡ (state_of (kept self.now)).asleep t }
     {
+        if t == 0 || t as usize > self.threads.len() {
+            return None;
+        }
         self.buckets.asleep(t)
     }
 
@@ -214,6 +218,7 @@ impl Machine {
         ensures room { IfOk result (λ e. self.old.room ≡ self.new.room + printed_by e) }
         ensures err { IfErr result (λ f. (step_of self.old.program (kept self.old) t ≡ Err f) × (self.new ≡ self.old)) }
         ensures program { self.new.program ≡ self.old.program }
+        ensures holds { IsKept self.new.program (kept self.new) }
     {
         if t == 0 || t as usize > self.threads.len() || self.asleep(t).is_some() {
             return Err(StepFault::CannotMove);

@@ -17,7 +17,7 @@ pub run_explained : RunsSo → (text : List ℕ) (image : Program) (limit : ℕ)
 run_explained runs text image limit r c below report =
     let reported : IsReport (code_of c.program) limit r = subst (λ (p : Program). IsReport p limit r) c.code report in
     let refines : Refines c.program (code_of c.program) = subst (λ (p : Program). Refines c.program p) c.code c.refines in
-    let (steps, run, count) = runs (code_of c.program) r.log.items (kept r.last) reported.legal in
+    let (steps, run, count, same) = runs (code_of c.program) r.log.items (kept r.last) reported.legal in
     let within = reported.within in
     let few : length steps < 2 ^ 32 = omega arith in
     record {
@@ -41,7 +41,7 @@ pub run_sound : MeetsSo → (text : List ℕ) (image : Program) (limit : ℕ) (f
 run_sound meets text image limit Broken c fails small e =
     let m : MeetsBroken (code_of c.program) limit = subst (λ (p : Program). MeetsBroken p limit) c.code fails in
     let refines : Refines c.program (code_of c.program) = subst (λ (p : Program). Refines c.program p) c.code c.refines in
-    let (steps, s, run, count, broken) = meets (code_of c.program) limit m in
+    let (steps, s, run, count, broken, same) = meets (code_of c.program) limit m in
     let few : length steps < 2 ^ 32 = omega (arith, m.within, m.turn, count) in
     (refines.follows steps s run few).sound m.thread broken
 run_sound meets text image limit Memory c fails small e = absurd cc

@@ -3,6 +3,7 @@ pub mod Handing
 pub mod Beside
 pub mod Growing
 pub mod Unrolling
+pub mod OneByOne
 pub mod Passing
 pub mod Lives
 pub mod InPlace

@@ -1,5 +1,6 @@
--- A legal log, unrolled into the steps of a machine run.
-use Rattle.std.proofs.Common.{◌≡◌, ℕ, zero, suc, ◌+◌, ◌-◌, List, [], ◌∷◌, ◌++◌, length, Option, Some, None, Result, Ok, Err, slice_get, slice_set, refl, ap, sym, ◌∙◌, arith, subst, length-append, length-set}
+-- A legal log, unrolled into the steps of a run of the machine itself, and so into those of a run of the relation.
+use Rattle.std.proofs.Common.{◌≡◌, ℕ, zero, suc, ◌+◌, ◌-◌, List, [], ◌∷◌, ◌++◌, length, Option, Some, None, Result, Ok, Err, slice_get, slice_set, replicate, map, refl, ap, sym, ◌∙◌, arith, subst, length-append, length-set}
+use Rattle.std.proofs.lemmas.List.{length-replicate, length-map, replicate_more}
 use Rattle.std.proofs.lemmas.List.Sums.{sum_by-cons}
 use Rattle.isa.specs.Programs.{Program}
 use Rattle.locals.specs.Threads.{Thread}
@@ -10,25 +11,26 @@ use Rattle.machine.specs.declared.event.Entry.{Entry}
 use Rattle.machine.specs.declared.event.EventName.TheVariants as name
 use Rattle.machine.specs.declared.event.StepFault.{StepFault}
 use Rattle.machine.specs.declared.event.StepFault.TheVariants as step
-use Rattle.machine.specs.States.{State, Common, Kept, thread_of, state_of, opening_kept, opening_state}
-use Rattle.machine.specs.Runs.{Step, IsStep, Goes_by, is_paused}
+use Rattle.machine.specs.States.{Common, Kept, thread_of, state_of, opening_kept}
+use Rattle.machine.specs.Runs.{Step}
 use Rattle.machine.specs.Fronts.{Stepped, thread_step, lifted, step_of, put_thread, plain}
+use Rattle.machine.specs.FrontRuns.{EventStep, FrontRun, label_of, event_label}
 use Rattle.machine.specs.Views.{IsKept}
 use Rattle.runner.specs.Logs.{Runs, Enters, Ends, event_cost, cost}
-use Rattle.runner.specs.LogRuns.{RunsSo, MeetsSo}
+use Rattle.runner.specs.LogRuns.{StepsSo, RunsSo, MeetsSo, local_step_of, shared_step_of, steps_of}
 use Rattle.runner.specs.Entries.{handed_by}
-use Rattle.machine.proofs.Stepping.{opens_so, steps_so}
+use Rattle.machine.proofs.Stepping.{opens_so}
+use Rattle.machine.proofs.FrontRuns.{run_of, fronts_run_so}
 use Rattle.machine.proofs.Refusing.{breaks_so}
 use Rattle.runner.proofs.Handing.{step_there, up}
 
 -- one step more at the end, and steps after steps
-goes_more : (p : Program) (a b c : State) (xs : List Step) (s : Step) → Goes_by p a xs b → IsStep p b s c → Goes_by p a (xs ++ s ∷ []) c
-goes_more p a b c [] s same step = (c, (let P : State → Type 0 = λ q. IsStep p q s c in subst P (sym same) step), refl)
-goes_more p a b c (x ∷ xs) s goes step = (goes.0, goes.1, goes_more p goes.0 b c xs s goes.2 step)
+run_on : (p : Program) (a b c : Kept) (xs ys : List EventStep) → FrontRun p a xs b → FrontRun p b ys c → FrontRun p a (xs ++ ys) c
+run_on p a b c [] ys same more = subst (λ (q : Kept). FrontRun p q ys c) (sym same) more
+run_on p a b c (x ∷ xs) ys runs more = (runs.0, runs.1, run_on p runs.0 b c xs ys runs.2 more)
 
-goes_on : (p : Program) (a b c : State) (xs ys : List Step) → Goes_by p a xs b → Goes_by p b ys c → Goes_by p a (xs ++ ys) c
-goes_on p a b c [] ys same goes = let P : State → Type 0 = λ q. Goes_by p q ys c in subst P (sym same) goes
-goes_on p a b c (x ∷ xs) ys goes more = (goes.0, goes.1, goes_on p goes.0 b c xs ys goes.2 more)
+run_more : (p : Program) (a b c : Kept) (xs : List EventStep) (s : EventStep) → FrontRun p a xs b → step_of p b s.thread ≡ Ok (c, s.event) → FrontRun p a (xs ++ s ∷ []) c
+run_more p a b c xs s runs gives = run_on p a b c xs (s ∷ []) runs (c, gives, refl)
 
 -- a thread that is put where it is, and put twice
 set_back : {A : Type 0} → (xs : List A) (i : ℕ) (x : A) → slice_get xs i ≡ Some x → slice_set xs i x ≡ xs
@@ -36,7 +38,7 @@ set_back [] i x h = refl
 set_back (y ∷ ys) zero x h = let e : y ≡ x = cc in ap (λ z. z ∷ ys) (sym e)
 set_back (y ∷ ys) (suc i) x h = ap (λ zs. y ∷ zs) (set_back ys i x h)
 
-put_back : (k : Kept) (t : ℕ) (x : Thread) → thread_of k t ≡ Some x → put_thread k t x ≡ k
+pub put_back : (k : Kept) (t : ℕ) (x : Thread) → thread_of k t ≡ Some x → put_thread k t x ≡ k
 put_back k zero x h = absurd cc
 put_back k (suc t) x h =
     let e : suc t - 1 ≡ t = omega arith in
@@ -71,86 +73,72 @@ kept_put p k t x kept =
       made = λ u a h. let m = kept.made u a h in (m.0, omega (arith, m.1, many));
     }
 
--- where a number of steps led
-pub record Led (p : Program) (k : Kept) (n : ℕ) (k' : Kept) : Type 0 where
-  pub steps : List Step
-  pub goes : Goes_by p (state_of k) steps (state_of k')
-  pub many : length steps ≡ n
-  pub kept : IsKept p k'
-
-stays : (p : Program) (k k' : Kept) → k ≡ k' → IsKept p k → Led p k 0 k'
-stays p k k' e kept = record { steps = []; goes = ap state_of e; many = refl; kept = (let P : Kept → Type 0 = λ q. IsKept p q in subst P e kept) }
-
-one_more : (p : Program) (k mid k' : Kept) (n t : ℕ) (e : Event) → Led p k n mid → step_of p mid t ≡ Ok (k', e) → Led p k (n + 1) k'
-one_more p k mid k' n t e led gives =
-    let s = steps_so p mid k' t e led.kept gives in
-    let step : Step = record { thread = t; woken = s.0; pauses = is_paused (state_of k') t } in record {
-      steps = led.steps ++ step ∷ [];
-      goes = goes_more p (state_of k) (state_of mid) (state_of k') led.steps step led.goes s.2;
-      many = omega (arith, led.many, length-append led.steps (step ∷ []));
-      kept = s.3;
-    }
-
 -- the local steps of an entry
-last_leads : (p : Program) (k : Kept) (t n : ℕ) (o here : Thread) (mid : Option Thread) → k.common.asleep t ≡ None → thread_of k t ≡ Some o → ((m : Thread) → mid ≡ Some m → Led p k n (put_thread k t m)) → and_step p t mid ≡ Some here
-    → Led p k (suc n) (put_thread k t here)
+last_leads : (p : Program) (k : Kept) (t n : ℕ) (o here : Thread) (mid : Option Thread) → k.common.asleep t ≡ None → thread_of k t ≡ Some o
+    → ((m : Thread) → mid ≡ Some m → FrontRun p k (replicate n (local_step_of t)) (put_thread k t m)) → and_step p t mid ≡ Some here
+    → FrontRun p k (replicate (suc n) (local_step_of t)) (put_thread k t here)
 last_leads p k t n o here None awake stands before after = absurd cc
 last_leads p k t n o here (Some m) awake stands before after =
     let there = put_thread k t m in
     let gives : step_of p there t ≡ Ok (put_thread there t here, plain name.Turn 0) =
     step_there p k t o m awake stands ∙ ap (lifted there t) (goes_local (length k.threads) t k.common (look p t m) here after) in
-    let r = one_more p k there (put_thread there t here) n t _ (before m refl) gives in
-    let e : n + 1 ≡ suc n = omega arith in
-    subst (λ (q : Kept). Led p k (suc n) q) (put_twice k t m here) (subst (λ (j : ℕ). Led p k j (put_thread there t here)) e r)
+    let r = run_more p k there (put_thread there t here) (replicate n (local_step_of t)) (local_step_of t) (before m refl) gives in
+    let count : n + 1 ≡ suc n = omega arith in
+    let e : replicate n (local_step_of t) ++ local_step_of t ∷ [] ≡ replicate (suc n) (local_step_of t) =
+    replicate_more n (local_step_of t) ∙ ap (λ (j : ℕ). replicate j (local_step_of t)) count in
+    subst (λ (q : Kept). FrontRun p k (replicate (suc n) (local_step_of t)) q) (put_twice k t m here) (subst (λ (xs : List EventStep). FrontRun p k xs (put_thread there t here)) e r)
 
-pub locals_lead : (p : Program) (k : Kept) (t n : ℕ) (o here : Thread) → IsKept p k → k.common.asleep t ≡ None → thread_of k t ≡ Some o → local_after p t n o ≡ Some here → Led p k n (put_thread k t here)
-locals_lead p k t zero o here kept awake stands after =
-    let e : o ≡ here = cc in stays p k _ (sym (put_back k t here (stands ∙ ap Some e))) kept
-locals_lead p k t (suc n) o here kept awake stands after =
-    last_leads p k t n o here (local_after p t n o) awake stands (λ m before. locals_lead p k t n o m kept awake stands before) after
+locals_lead : (p : Program) (k : Kept) (t n : ℕ) (o here : Thread) → k.common.asleep t ≡ None → thread_of k t ≡ Some o → local_after p t n o ≡ Some here → FrontRun p k (replicate n (local_step_of t)) (put_thread k t here)
+locals_lead p k t zero o here awake stands after = let e : o ≡ here = cc in sym (put_back k t here (stands ∙ ap Some e))
+locals_lead p k t (suc n) o here awake stands after =
+    last_leads p k t n o here (local_after p t n o) awake stands (λ m before. locals_lead p k t n o m awake stands before) after
 
 -- the end of an entry
-ends_lead : (p : Program) (k k' : Kept) (t n : ℕ) (here : Thread) (event : Option Event) → Led p k n (put_thread k t here) → Ends p (put_thread k t here) t here event k' → Led p k (n + event_cost event) k'
-ends_lead p k k' t n here None led ends =
-    let e : n ≡ n + 0 = omega arith in
-    subst (λ (q : Kept). Led p k (n + 0) q) (sym ends) (subst (λ (j : ℕ). Led p k j (put_thread k t here)) e led)
-ends_lead p k k' t n here (Some event) led ends = one_more p k (put_thread k t here) k' n t event led ends.1
+ends_lead : (p : Program) (there k' : Kept) (t : ℕ) (here : Thread) (event : Option Event) → Ends p there t here event k' → FrontRun p there (shared_step_of t event) k'
+ends_lead p there k' t here None ends = sym ends
+ends_lead p there k' t here (Some event) ends = (k', ends.1, refl)
 
 -- an entry
-entry_leads : (p : Program) (k k' : Kept) (e : Entry) → IsKept p k → Enters p k e k' → Led p k (e.local + event_cost e.event) k'
-entry_leads p k k' e kept enters =
+entry_leads : (p : Program) (k k' : Kept) (e : Entry) → Enters p k e k' → FrontRun p k (replicate e.local (local_step_of e.thread) ++ shared_step_of e.thread e.event) k'
+entry_leads p k k' e enters =
     let u = up k e.thread enters.moves in
-    ends_lead p k k' e.thread e.local enters.here e.event (locals_lead p k e.thread e.local enters.origin enters.here kept u.awake enters.stands enters.goes) enters.ends
+    let there = put_thread k e.thread enters.here in
+    run_on p k there k' (replicate e.local (local_step_of e.thread)) (shared_step_of e.thread e.event)
+    (locals_lead p k e.thread e.local enters.origin enters.here u.awake enters.stands enters.goes) (ends_lead p there k' e.thread enters.here e.event enters.ends)
+
+-- a log
+pub steps_so : StepsSo
+steps_so p k k' [] same = same
+steps_so p k k' (e ∷ es) runs =
+    run_on p k runs.0 k' (replicate e.local (local_step_of e.thread) ++ shared_step_of e.thread e.event) (steps_of es) (entry_leads p k runs.0 e runs.1) (steps_so p runs.0 k' es runs.2)
+
+-- a log has as many steps as it costs
+shared_many : (t : ℕ) (event : Option Event) → length (shared_step_of t event) ≡ event_cost event
+shared_many t None = refl
+shared_many t (Some event) = refl
 
 cost_cons : (e : Entry) (es : List Entry) → cost (e ∷ es) ≡ (e.local + event_cost e.event) + cost es
 cost_cons e es = sum_by-cons (λ (x : Entry). x.local + event_cost x.event) e es
 
-and_then : (p : Program) (k mid k' : Kept) (n m : ℕ) → Led p k n mid → Led p mid m k' → Led p k (n + m) k'
-and_then p k mid k' n m first rest = record {
-  steps = first.steps ++ rest.steps;
-  goes = goes_on p (state_of k) (state_of mid) (state_of k') first.steps rest.steps first.goes rest.goes;
-  many = omega (arith, first.many, rest.many, length-append first.steps rest.steps);
-  kept = rest.kept;
-}
+many : (log : List Entry) → length (steps_of log) ≡ cost log
+many [] = refl
+many (e ∷ es) =
+    let locals = replicate e.local (local_step_of e.thread) in
+    let shared = shared_step_of e.thread e.event in
+    omega (arith, length-append (locals ++ shared) (steps_of es), length-append locals shared, length-replicate e.local (local_step_of e.thread), shared_many e.thread e.event, many es, cost_cons e es)
 
--- a log
-log_leads : (p : Program) (k k' : Kept) (log : List Entry) → IsKept p k → Runs p k log k' → Led p k (cost log) k'
-log_leads p k k' [] kept same = stays p k k' same kept
-log_leads p k k' (e ∷ es) kept runs =
-    let first = entry_leads p k runs.0 e kept runs.1 in
-    let rest = log_leads p runs.0 k' es first.kept runs.2 in
-    subst (λ (n : ℕ). Led p k n k') (sym (cost_cons e es)) (and_then p k runs.0 k' (e.local + event_cost e.event) (cost es) first rest)
+-- steps of a run that are seen as others are as many
+as_many : (run : List Step) (steps : List EventStep) → map label_of run ≡ map event_label steps → length run ≡ length steps
+as_many run steps same = sym (length-map run label_of) ∙ ap length same ∙ length-map steps event_label
 
--- a log from the start
-pub led : (p : Program) (log : List Entry) (k : Kept) → Runs p (opening_kept p) log k → Led p (opening_kept p) (cost log) k
-led p log k runs = log_leads p (opening_kept p) k log (opens_so p).1 runs
-
-from_start : (p : Program) (steps : List Step) (s : State) → Goes_by p (state_of (opening_kept p)) steps s → Goes_by p (opening_state p) steps s
-from_start p steps s goes = let P : State → Type 0 = λ q. Goes_by p q steps s in subst P (opens_so p).0 goes
+-- what is kept where a log leads always holds
+pub holds : (p : Program) (log : List Entry) (k : Kept) → Runs p (opening_kept p) log k → IsKept p k
+holds p log k runs = (run_of p (opening_kept p) k (steps_of log) (opens_so p).1 (steps_so p (opening_kept p) k log runs)).kept
 
 pub runs_so : RunsSo
 runs_so p log k runs =
-    let l = led p log k runs in (l.steps, from_start p l.steps (state_of k) l.goes, l.many)
+    let r = fronts_run_so p k (steps_of log) (steps_so p (opening_kept p) k log runs) in
+    (r.0, r.1, as_many r.0 (steps_of log) r.2 ∙ many log, r.2)
 
 -- a piece that may not come in stands before a step that may not be
 breaks_by : (there : Kept) (r : Result (Kept × Event) StepFault) (ls : Option Thread) → (let R : Type 0 = Result (Kept × Option Event) StepFault in (let a : R = handed_by there r ls in a) ≡ (let b : R = Err step.Broken in b)) → r ≡ Err step.Broken
@@ -160,10 +148,14 @@ breaks_by there (Err f) None h = let e : f ≡ step.Broken = cc in ap Err e
 
 pub meets_so : MeetsSo
 meets_so p limit m =
-    let l = led p m.log m.kept m.legal in
     let u = up m.kept m.thread m.moves in
     let there = put_thread m.kept m.thread m.here in
-    let more = locals_lead p m.kept m.thread m.count m.origin m.here l.kept u.awake m.stands m.goes in
-    let all = and_then p (opening_kept p) m.kept there (cost m.log) m.count l more in
+    let more = replicate m.count (local_step_of m.thread) in
+    let all = steps_of m.log ++ more in
+    let runs = run_on p (opening_kept p) m.kept there (steps_of m.log) more (steps_so p (opening_kept p) m.kept m.log m.legal)
+    (locals_lead p m.kept m.thread m.count m.origin m.here u.awake m.stands m.goes) in
+    let r = fronts_run_so p there all runs in
+    let kept = kept_put p m.kept m.thread m.here (holds p m.log m.kept m.legal) in
     let broken = breaks_by there (step_of p there m.thread) (local_step p m.thread m.here) m.breaks in
-    (all.steps, state_of there, from_start p all.steps (state_of there) all.goes, all.many, (breaks_so p there m.thread all.kept).0 broken)
+    let long = omega (arith, as_many r.0 all r.2, length-append (steps_of m.log) more, many m.log, length-replicate m.count (local_step_of m.thread)) in
+    (r.0, state_of there, r.1, long, (breaks_so p there m.thread kept).0 broken, r.2)

@@ -1,21 +1,50 @@
--- A legal log is a run of the machine's relation, and a step that a run may not take is one of that relation too.
-use Rattle.std.specs.Prelude.{◌≡◌, ◌+◌, ℕ, List, length}
+-- A legal log is a run of the machine, step by step, and each run of the machine itself is a log's.
+use Rattle.std.specs.Prelude.{◌≡◌, ◌+◌, ◌++◌, ℕ, List, [], ◌∷◌, length, map, replicate, Option, Some, None}
 use Rattle.isa.specs.Programs.{Program}
 use Rattle.machine.specs.declared.event.Entry.{Entry}
+use Rattle.machine.specs.declared.event.Event.{Event}
+use Rattle.machine.specs.declared.event.EventName.TheVariants as name
 use Rattle.machine.specs.States.{State, Kept, opening_kept, state_of}
+use Rattle.machine.specs.Fronts.{plain}
 use Rattle.machine.specs.Runs.{Step, MachineRun, NextIsBroken}
+use Rattle.machine.specs.FrontRuns.{EventStep, FrontRun, label_of, event_label}
 use Rattle.runner.specs.Logs.{Runs, cost}
 use Rattle.runner.specs.Reports.{MeetsBroken}
 
--- a run of as many steps as the log costs leads to where the log leads
+-- a local step of a thread, and the shared step of an entry, if any
+abbrev pub local_step_of : ℕ → EventStep
+local_step_of t = record { thread = t; event = plain name.Turn 0 }
+
+abbrev pub shared_step_of : ℕ → Option Event → List EventStep
+shared_step_of t None = []
+shared_step_of t (Some event) = record { thread = t; event = event } ∷ []
+
+-- the steps of a log, one by one: of each entry its local steps, and then its shared step, if any
+abbrev pub steps_of : List Entry → List EventStep
+steps_of [] = []
+steps_of (e ∷ es) = (replicate e.local (local_step_of e.thread) ++ shared_step_of e.thread e.event) ++ steps_of es
+
+-- where a log leads, its steps lead
+abbrev pub StepsSo : Type 0
+StepsSo = (p : Program) (k k' : Kept) (log : List Entry) → Runs p k log k' → FrontRun p k (steps_of log) k'
+
+-- and a run of the machine itself is that of a log, which has its steps
+abbrev pub LogsSo : Type 0
+LogsSo =
+    (p : Program) (k k' : Kept) (steps : List EventStep) → FrontRun p k steps k'
+    → (log : List Entry) × Runs p k log k' × (steps_of log ≡ steps)
+
+-- a run of the relation, of as many steps as the log costs, which are the log's own, leads to where the log leads
 abbrev pub RunsSo : Type 0
 RunsSo =
     (p : Program) (log : List Entry) (k : Kept) → Runs p (opening_kept p) log k
     → (steps : List Step) × MachineRun p steps (state_of k) × (length steps ≡ cost log)
+    × (map label_of steps ≡ map event_label (steps_of log))
 
--- a run of as many steps as the log costs and the thread took behind it leads to where the thread's next step may not be
+-- a run of the log's steps and of the local steps of the thread behind it leads to where the thread's next step may not be
 abbrev pub MeetsSo : Type 0
 MeetsSo =
     (p : Program) (limit : ℕ) (m : MeetsBroken p limit)
     → (steps : List Step) × (s : State)
     × MachineRun p steps s × (length steps ≡ cost m.log + m.count) × NextIsBroken p s m.thread
+    × (map label_of steps ≡ map event_label (steps_of m.log ++ replicate m.count (local_step_of m.thread)))

@@ -38,12 +38,14 @@ pub record PassesLimit (p : Program) (limit : ℕ) (log : List Entry) (k : Kept)
   pub entry : IsNextEntry p k t count event
   pub past : limit < cost log + (count + event_cost event)
 
--- all threads have ended; not all have, and none can move; or one can move, but its next entry would pass the limit
+-- all threads have ended; not all have, and none can move; or some can move, and the next entry of each of them would pass
+-- the limit
 abbrev pub IsVerdict : Program → ℕ → List Entry → Kept → Verdict → Type 0
 IsVerdict p limit log k Done = AllEnded k
 IsVerdict p limit log k Stuck =
     IsQuiet k × (t : ℕ) × (0 < t) × (t ≤ length k.threads) × (has_ended (thread_of k t) ≡ false)
-IsVerdict p limit log k Limit = (t : ℕ) × (can_move k t ≡ true) × PassesLimit p limit log k t
+IsVerdict p limit log k Limit =
+    ((t : ℕ) × (can_move k t ≡ true)) × ((t : ℕ) → can_move k t ≡ true → PassesLimit p limit log k t)
 
 -- the log is legal for the program and within the limit, the machine is where it leads, the output is the machine's, and
 -- the verdict holds

@@ -1,8 +1,10 @@
-ghost use Rattle.runner.specs.LogRuns.{RunsSo, MeetsSo};
+ghost use Rattle.runner.specs.LogRuns.{StepsSo, LogsSo, RunsSo, MeetsSo};
 
-/// A legal log is a run of the machine, of as many steps as the log costs, to the state where the log leads. And where a
-/// run meets a step that may not be, so does a run of the machine.
+/// A legal log is a run of the machine: its own steps, one by one, lead where the log leads, and each run of the machine
+/// itself is that of a log. And where a run meets a step that may not be, so does a run of the machine.
 pub fn logs_are_machine_runs()
+    ensures steps { StepsSo }
+    ensures logs { LogsSo }
     ensures runs { RunsSo }
     ensures broken { MeetsSo }
 {}

@@ -7,7 +7,7 @@ pub enum Verdict {
     Done,
     /// Not all threads have ended, and none can move.
     Stuck,
-    /// Some thread can move, but its next entry would pass the limit of steps.
+    /// Some threads can move, but the next entry of each of them would pass the limit of steps.
     Limit,
 }
 

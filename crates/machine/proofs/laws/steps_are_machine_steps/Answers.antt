@@ -1,5 +1,6 @@
 use Rattle.machine.proofs.Stepping.{opens_so, steps_so}
 use Rattle.machine.proofs.Refusing.{breaks_so, refuses_so, moves_so}
+use Rattle.machine.proofs.FrontRuns.{fronts_run_so}
 use Rattle.machine.proofs.laws.steps_are_machine_steps.Goals as goal
 
 pub returns-clause-opening : goal.returns-clause-opening
@@ -16,3 +17,6 @@ returns-clause-cannot_move c = refuses_so
 
 pub returns-clause-can_move : goal.returns-clause-can_move
 returns-clause-can_move c = moves_so
+
+pub returns-clause-runs : goal.returns-clause-runs
+returns-clause-runs c = fronts_run_so

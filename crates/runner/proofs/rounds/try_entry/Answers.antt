@@ -5,13 +5,13 @@ use Rattle.runner.specs.Views.{Held, held}
 use Rattle.runner.specs.Entries.{Refuses}
 use Rattle.runner.specs.Rounds.{AllPast}
 use Rattle.runner.proofs.Passing.{all_past, one_past, passes}
-use Rattle.runner.proofs.Unrolling.{led}
+use Rattle.runner.proofs.Unrolling.{holds}
 use Rattle.runner.proofs.rounds.try_entry.Goals as goal
 
 pub returns-in-Ok-clause-past : goal.returns-in-Ok-clause-past
 returns-in-Ok-clause-past g c =
     let free : slice_get c.args.refused.now c.args.t ≡ Some false = slice_get-get_or c.args.refused.now c.args.t false (omega arith) ∙ ap Some c.if-refused-t.false in
-    all_past g.J.RunName.program g.J.RunName.limit (held c.args.shared.now) (held c.step.new.self) c.args.t c.run-piece.result c.args.refused.now (led _ _ _ c.piece.ensures.legal).kept c.in-Ok.ensures.ok.0 free c.requires.past
+    all_past g.J.RunName.program g.J.RunName.limit (held c.args.shared.now) (held c.step.new.self) c.args.t c.run-piece.result c.args.refused.now (holds _ _ _ c.piece.ensures.legal) c.in-Ok.ensures.ok.0 free c.requires.past
 
 pub returns-in-Err-Limit-clause-past : goal.returns-in-Err-Limit-clause-past
 returns-in-Err-Limit-clause-past g c =
