@@ -37,3 +37,6 @@ returns-clause-room c =
     if_ok c.step_parts.result _ _ (λ e done.
     let more : length c.step_parts.new.output.items ≡ length c.self.inside.output.items + printed_by e = printed_so c.self.inside.image k k' c.args.t e done in
     omega (arith, was, old, new, more, at_most_one e, s.room, c.requires)) s.done
+
+pub returns-clause-holds : goal.returns-clause-holds
+returns-clause-holds c = (invariant_of-self c).0
