@@ -25,8 +25,8 @@ done_or_not q h = cc
 -- a thread that took a step could move
 moved : (p : Program) (k k' : Kept) (t : ℕ) (e : Event) → step_of p k t ≡ Ok (k', e) → can_move k t ≡ true
 moved p k k' t e h = elim (cases_Bool (can_move k t)) [
-  | inl yes ↦ yes
-  | inr no ↦ absurd (done_or_not (k', e) (sym h ∙ (refuses_so p k t).1 (λ can. both_ways (can_move k t) no ((moves_so k t).1 can))))
+  | inl moves ↦ moves
+  | inr rests ↦ absurd (done_or_not (k', e) (sym h ∙ (refuses_so p k t).1 (λ can. both_ways (can_move k t) rests ((moves_so k t).1 can))))
 ]
 
 -- a turn of one local step, or no local step and a shared one

@@ -157,5 +157,5 @@ meets_so p limit m =
     let r = fronts_run_so p there all runs in
     let kept = kept_put p m.kept m.thread m.here (holds p m.log m.kept m.legal) in
     let broken = breaks_by there (step_of p there m.thread) (local_step p m.thread m.here) m.breaks in
-    let long = omega (arith, as_many r.0 all r.2, length-append (steps_of m.log) more, many m.log, length-replicate m.count (local_step_of m.thread)) in
+    let long : length r.0 ≡ cost m.log + m.count = omega (arith, as_many r.0 all r.2, length-append (steps_of m.log) more, many m.log, length-replicate m.count (local_step_of m.thread)) in
     (r.0, state_of there, r.1, long, (breaks_so p there m.thread kept).0 broken, r.2)
