@@ -1,19 +1,11 @@
 ghost use Rattle.std.specs.Prelude.{◌≡◌, ◌<◌, slice_get, IfSome, IfOk, length, vec_len, List, ℕ};
 ghost use Rattle.isa.specs.Instructions.{IsInstruction, LeadsBelow};
+ghost use Rattle.isa.specs.Limits.{most_instructions};
 ghost use Rattle.isa.specs.Programs.{Program, IsProgram, memory_size};
 
 use crate::instr::Instr;
 use std::alloc::{AllocError, Global};
 use std::marker::Model;
-
-/// The most monitors of an image.
-pub const MOST_MONITORS: usize = 64;
-
-/// The most member words of all monitors of an image together.
-pub const MOST_MEMBER_WORDS: u32 = 1024;
-
-/// The most instructions of an image.
-pub const MOST_INSTRUCTIONS: usize = 65536;
 
 /// The code of a program, where it begins, and how many member words each of its monitors has. Contracts see it as
 /// a `Program`, within the limits of `IsProgram`: each local, count of arguments and place in it is one that may be.
@@ -75,7 +67,7 @@ impl Image {
     /// that it names, if any, lies in the code too.
     pub fn at(&self, place: u32) -> Option<Instr>
         ensures value { result ≡ slice_get self.now.code place }
-        ensures within { IfSome result (λ _. place < 65536) }
+        ensures within { IfSome result (λ _. place < most_instructions) }
         ensures limits { IfSome result IsInstruction }
         ensures leads { IfSome result (LeadsBelow (length self.now.code)) }
     {

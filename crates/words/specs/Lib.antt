@@ -1,3 +1,4 @@
+pub mod Limits
 pub mod LockWord
 pub mod Outcomes
 pub mod Process
