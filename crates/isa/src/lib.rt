@@ -16,7 +16,7 @@ mod writing;
 pub use fault::DecodeFault;
 pub use image::Image;
 pub use instr::Instr;
-pub use laws::{first_fault, one_spelling};
+pub use laws::{first_fault, one_spelling, read_back};
 pub use limits::{
     MOST_ARGUMENTS, MOST_INSTRUCTIONS, MOST_LOCALS, MOST_MEMBER_WORDS, MOST_MONITORS, limit_laws,
 };
