@@ -1,5 +1,5 @@
 -- Checked programs, without pointers.
-use Rattle.std.specs.Prelude.{ℕ, Bool, List, [], ◌∷◌, Option, ◌++◌}
+use Rattle.std.specs.Prelude.{ℕ, Bool, List, Option, ◌++◌}
 use Rattle.program.specs.declared.kinds.ValueType.{ValueType}
 use Rattle.program.specs.declared.kinds.MemberType.{MemberType}
 use Rattle.program.specs.declared.kinds.Member.{Member as MemberOf}
