@@ -3,3 +3,4 @@ pub mod LockWord
 pub mod Outcomes
 pub mod Process
 pub mod Signed
+pub mod Updates
