@@ -6,6 +6,7 @@ use Rattle.std.proofs.lemmas.Bool.{ltb-true, ltb-false, lt-ltb, le-ltb, eqb-true
 use Rattle.std.proofs.lemmas.List.{append-nil}
 use Rattle.std.proofs.lemmas.List.Concat.{flat_map-cons}
 use Rattle.std.proofs.lemmas.List.Sums.{sum_by-cons}
+use Rattle.isa.specs.Limits.{most_monitors, most_member_words, most_instructions, most_locals}
 use Rattle.isa.specs.declared.fault.DecodeFault.{DecodeFault}
 use Rattle.isa.specs.declared.fault.DecodeFault.TheVariants.{Limit}
 use Rattle.isa.specs.declared.instr.Instr.{Instr}
@@ -104,23 +105,23 @@ numbers_again (n ∷ ns) limit rest le lt =
 pub monitors_take : (bytes : List ℕ) (x : List ℕ × List ℕ) → IsBytes bytes → monitors_at bytes ≡ Ok x → Takes bytes (monitor_table x.0) x.1
 unfolding monitors_at
 monitors_take bytes x fits e =
-    let a = bind_ok (limited_at 64 bytes) (λ count. numbers_at count.0 1024 count.1) x e in
-    let first = number_takes bytes a.0 fits (limited_is 64 bytes a.0 a.1).0 in
-    let second = numbers_take a.0.0 1024 a.0.1 x first.0.rest_fits a.2 in
-    rw (numbers_bound a.0.0 1024 a.0.1 x a.2).0 (Takes-then bytes (number a.0.0) a.0.1 (numbers x.0) x.1 first.0 second)
+    let a = bind_ok (limited_at most_monitors bytes) (λ count. numbers_at count.0 most_member_words count.1) x e in
+    let first = number_takes bytes a.0 fits (limited_is most_monitors bytes a.0 a.1).0 in
+    let second = numbers_take a.0.0 most_member_words a.0.1 x first.0.rest_fits a.2 in
+    rw (numbers_bound a.0.0 most_member_words a.0.1 x a.2).0 (Takes-then bytes (number a.0.0) a.0.1 (numbers x.0) x.1 first.0 second)
 
-pub monitors_bound : (bytes : List ℕ) (x : List ℕ × List ℕ) → monitors_at bytes ≡ Ok x → (length x.0 ≤ 64) × (sum x.0 ≤ 1024)
+pub monitors_bound : (bytes : List ℕ) (x : List ℕ × List ℕ) → monitors_at bytes ≡ Ok x → (length x.0 ≤ most_monitors) × (sum x.0 ≤ most_member_words)
 unfolding monitors_at
 monitors_bound bytes x e =
-    let a = bind_ok (limited_at 64 bytes) (λ count. numbers_at count.0 1024 count.1) x e in
-    let within = (limited_is 64 bytes a.0 a.1).1 in
-    let b = numbers_bound a.0.0 1024 a.0.1 x a.2 in
+    let a = bind_ok (limited_at most_monitors bytes) (λ count. numbers_at count.0 most_member_words count.1) x e in
+    let within = (limited_is most_monitors bytes a.0 a.1).1 in
+    let b = numbers_bound a.0.0 most_member_words a.0.1 x a.2 in
     (omega (arith, b.0, within), b.1)
 
-pub monitors_again : (ns rest : List ℕ) → length ns ≤ 64 → sum ns ≤ 1024 → monitors_at (monitor_table ns ++ rest) ≡ Ok (ns, rest)
+pub monitors_again : (ns rest : List ℕ) → length ns ≤ most_monitors → sum ns ≤ most_member_words → monitors_at (monitor_table ns ++ rest) ≡ Ok (ns, rest)
 unfolding monitors_at
 monitors_again ns rest few small =
-    ap monitors_at (append_assoc (number (length ns)) (numbers ns) rest) ∙ rw (limited_again 64 (length ns) (numbers ns ++ rest) few (omega arith)) (numbers_again ns 1024 rest small (omega arith))
+    ap monitors_at (append_assoc (number (length ns)) (numbers ns) rest) ∙ rw (limited_again most_monitors (length ns) (numbers ns ++ rest) few (omega arith)) (numbers_again ns most_member_words rest small (omega arith))
 
 -- ---- a row of a table
 
@@ -146,16 +147,16 @@ mapped make (Some x) i e = (x, refl, some_is (make x) i e)
 
 slot_is : (n : ℕ) (s : Slot) → slot_of n ≡ Some s → (slot_number s ≡ n) × IsSlot s
 slot_is n s e =
-    elim (chosen (ltb n 64) (Some (Local n)) (cond (eqb n 64) (Some Template) None) (Some s) e) [
-      | inl w ↦ subst (λ (t : Slot). (slot_number t ≡ n) × IsSlot t) (some_is (Local n) s w.1) (refl, ltb-true n 64 w.0)
-      | inr w ↦ elim (chosen (eqb n 64) (Some Template) None (Some s) w.1) [
-        | inl v ↦ subst (λ (t : Slot). (slot_number t ≡ n) × IsSlot t) (some_is Template s v.1) (sym (eqb-true n 64 v.0), tt)
+    elim (chosen (ltb n most_locals) (Some (Local n)) (cond (eqb n most_locals) (Some Template) None) (Some s) e) [
+      | inl w ↦ subst (λ (t : Slot). (slot_number t ≡ n) × IsSlot t) (some_is (Local n) s w.1) (refl, ltb-true n most_locals w.0)
+      | inr w ↦ elim (chosen (eqb n most_locals) (Some Template) None (Some s) w.1) [
+        | inl v ↦ subst (λ (t : Slot). (slot_number t ≡ n) × IsSlot t) (some_is Template s v.1) (sym (eqb-true n most_locals v.0), tt)
         | inr v ↦ absurd (cc (v.1))
       ]
     ]
 
 slot_again : (s : Slot) → IsSlot s → slot_of (slot_number s) ≡ Some s
-slot_again (Local n) lt = rw (lt-ltb n 64 lt) refl
+slot_again (Local n) lt = rw (lt-ltb n most_locals lt) refl
 slot_again Template is = refl
 
 word_is : (k : ℕ) (w : ProcessWord) → row_of process_words k ≡ Some w → number_of w ≡ k
@@ -420,24 +421,24 @@ instructions_again (i ∷ is) rest words limits =
 pub code_takes : (bytes : List ℕ) (x : List Instr × List ℕ) → IsBytes bytes → code_at bytes ≡ Ok x → Takes bytes (code_table x.0) x.1 × AllByRecursion (λ i. AreWords (operands i)) x.0
 unfolding code_at
 code_takes bytes x fits e =
-    let a = bind_ok (limited_at 65536 bytes) (λ count. instructions_at count.0 count.1) x e in
-    let first = number_takes bytes a.0 fits (limited_is 65536 bytes a.0 a.1).0 in
+    let a = bind_ok (limited_at most_instructions bytes) (λ count. instructions_at count.0 count.1) x e in
+    let first = number_takes bytes a.0 fits (limited_is most_instructions bytes a.0 a.1).0 in
     let second = instructions_take a.0.0 a.0.1 x first.0.rest_fits a.2 in
     (rw (second.1) (Takes-then bytes (number a.0.0) a.0.1 (instructions x.0) x.1 first.0 second.0), second.2)
 
-pub code_bound : (bytes : List ℕ) (x : List Instr × List ℕ) → code_at bytes ≡ Ok x → length x.0 ≤ 65536
+pub code_bound : (bytes : List ℕ) (x : List Instr × List ℕ) → code_at bytes ≡ Ok x → length x.0 ≤ most_instructions
 unfolding code_at
 code_bound bytes x e =
-    let a = bind_ok (limited_at 65536 bytes) (λ count. instructions_at count.0 count.1) x e in
-    rw (instructions_count a.0.0 a.0.1 x a.2) (limited_is 65536 bytes a.0 a.1).1
+    let a = bind_ok (limited_at most_instructions bytes) (λ count. instructions_at count.0 count.1) x e in
+    rw (instructions_count a.0.0 a.0.1 x a.2) (limited_is most_instructions bytes a.0 a.1).1
 
 pub code_limit : (bytes : List ℕ) (x : List Instr × List ℕ) → code_at bytes ≡ Ok x → AllByRecursion IsInstruction x.0
 unfolding code_at
 code_limit bytes x e =
-    let a = bind_ok (limited_at 65536 bytes) (λ count. instructions_at count.0 count.1) x e in
+    let a = bind_ok (limited_at most_instructions bytes) (λ count. instructions_at count.0 count.1) x e in
     instructions_limit a.0.0 a.0.1 x a.2
 
-pub code_again : (is : List Instr) (rest : List ℕ) → length is ≤ 65536 → AllByRecursion (λ i. AreWords (operands i)) is → AllByRecursion IsInstruction is → code_at (code_table is ++ rest) ≡ Ok (is, rest)
+pub code_again : (is : List Instr) (rest : List ℕ) → length is ≤ most_instructions → AllByRecursion (λ i. AreWords (operands i)) is → AllByRecursion IsInstruction is → code_at (code_table is ++ rest) ≡ Ok (is, rest)
 unfolding code_at
 code_again is rest short words limits =
-    ap code_at (append_assoc (number (length is)) (instructions is) rest) ∙ rw (limited_again 65536 (length is) (instructions is ++ rest) short (omega arith)) (instructions_again is rest words limits)
+    ap code_at (append_assoc (number (length is)) (instructions is) rest) ∙ rw (limited_again most_instructions (length is) (instructions is ++ rest) short (omega arith)) (instructions_again is rest words limits)

@@ -4,6 +4,7 @@ use Rattle.std.specs.List.{AllByRecursion}
 use Rattle.std.specs.Prelude.{IfOk, MatchResult}
 use Rattle.std.proofs.lemmas.Bool.{eqb-true}
 use Rattle.std.proofs.lemmas.List.{append-nil, nil_from_length}
+use Rattle.isa.specs.Limits.{most_monitors, most_member_words, most_instructions}
 use Rattle.isa.specs.declared.fault.DecodeFault.{DecodeFault}
 use Rattle.isa.specs.declared.fault.DecodeFault.TheVariants.{BadMagic, Version, Short, BadInstr, BadTarget, Trailing, Limit, Memory}
 use Rattle.isa.specs.Numbers.{number}
@@ -31,9 +32,9 @@ nothing_left bytes text rest parts none = sym (parts ∙ ap (λ (left : List ℕ
 
 -- what was read, but for the start and the targets
 record IsShort (p : Program) : Type 0 where
-  few_monitors : length p.monitors ≤ 64
-  few_members : sum p.monitors ≤ 1024
-  short : length p.code ≤ 65536
+  few_monitors : length p.monitors ≤ most_monitors
+  few_members : sum p.monitors ≤ most_member_words
+  short : length p.code ≤ most_instructions
   instructions : AllByRecursion IsInstruction p.code
   words : AllByRecursion (λ i. AreWords (operands i)) p.code
 

@@ -1,5 +1,6 @@
 -- What is read of some bytes stands when more follow, but for a byte that is missing.
 use Rattle.std.proofs.Common.{◌≡◌, ◌≢◌, ℕ, zero, suc, ◌+◌, ◌-◌, ◌*◌, Bool, true, false, cond, ltb, eqb, List, [], ◌∷◌, ◌++◌, Option, Some, None, Result, Ok, Err, refl}
+use Rattle.isa.specs.Limits.{most_monitors, most_member_words, most_instructions}
 use Rattle.isa.specs.declared.fault.DecodeFault.{DecodeFault}
 use Rattle.isa.specs.declared.fault.DecodeFault.TheVariants.{BadMagic, Version, Short, BadInstr, Limit}
 use Rattle.isa.specs.declared.instr.Instr.{Instr}
@@ -65,7 +66,7 @@ numbers-stand (suc count) limit bytes more =
 
 monitors-stand : Stands monitors_at
 unfolding monitors_at
-monitors-stand bytes more = then-stands (limited_at 64 bytes) (limited_at 64 (bytes ++ more)) more (λ count rest. numbers_at count 1024 rest) (limited-stands 64 bytes more) (λ count. numbers-stand count 1024)
+monitors-stand bytes more = then-stands (limited_at most_monitors bytes) (limited_at most_monitors (bytes ++ more)) more (λ count rest. numbers_at count most_member_words rest) (limited-stands most_monitors bytes more) (λ count. numbers-stand count most_member_words)
 
 made-stands : (made : Option Instr) → Stands (made_at made)
 made-stands None bytes more = λ other. refl
@@ -98,7 +99,7 @@ instructions-stand (suc count) bytes more =
 
 code-stands : Stands code_at
 unfolding code_at
-code-stands bytes more = then-stands (limited_at 65536 bytes) (limited_at 65536 (bytes ++ more)) more (λ count rest. instructions_at count rest) (limited-stands 65536 bytes more) (λ count. instructions-stand count)
+code-stands bytes more = then-stands (limited_at most_instructions bytes) (limited_at most_instructions (bytes ++ more)) more (λ count rest. instructions_at count rest) (limited-stands most_instructions bytes more) (λ count. instructions-stand count)
 
 pub image-stands : Stands image_at
 unfolding image_at

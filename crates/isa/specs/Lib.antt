@@ -1,6 +1,7 @@
 pub mod Faults
 pub mod FirstFault
 pub mod Instructions
+pub mod Limits
 pub mod Numbers
 pub mod Opcodes
 pub mod Programs

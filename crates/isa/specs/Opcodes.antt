@@ -4,6 +4,7 @@ use Rattle.words.specs.declared.outcome.Fault.{Fault}
 use Rattle.words.specs.declared.outcome.Fault.TheVariants.{ResultOutOfRange, DivisionByZero, IndexOutOfRange, HandleNotJoinable, ProcessTableFull, AbortStatement, AbandonedMonitor, JoinedAborted}
 use Rattle.words.specs.declared.process.ProcessWord.{ProcessWord}
 use Rattle.words.specs.declared.process.ProcessWord.TheVariants.{Head, Pending, Id, Claim, Result, Outcome}
+use Rattle.isa.specs.Limits.{most_locals, most_arguments}
 use Rattle.isa.specs.declared.slot.Slot.{Slot}
 use Rattle.isa.specs.declared.slot.Slot.TheVariants.{Local, Template}
 use Rattle.isa.specs.declared.operator.Operator.{Operator}
@@ -29,7 +30,7 @@ faults =
 
 -- the local with a number
 abbrev pub slot_of : ℕ → Option Slot
-slot_of n = if nat_lt n 64 then Some (Local n) else if n == 64 then Some Template else None
+slot_of n = if nat_lt n most_locals then Some (Local n) else if n == most_locals then Some Template else None
 
 -- the instructions without operands
 abbrev pub plain_opcodes : List (ℕ × Instr)
@@ -75,7 +76,7 @@ place_opcodes =
     (0x14, with_one (λ place. Some (Jump place))) ∷
     (0x15, with_one (λ place. Some (JumpIfZero place))) ∷
     (0x16, with_one (λ place. Some (Call place))) ∷
-    (0x26, with_two (λ place n. if nat_lt 16 n then None else Some (Fork place n))) ∷ []
+    (0x26, with_two (λ place n. if nat_lt most_arguments n then None else Some (Fork place n))) ∷ []
 
 -- the instructions with operands
 abbrev pub operand_opcodes : List (ℕ × Form)

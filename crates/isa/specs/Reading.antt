@@ -4,6 +4,7 @@ use Rattle.isa.specs.declared.fault.DecodeFault.{DecodeFault}
 use Rattle.isa.specs.declared.fault.DecodeFault.TheVariants.{BadMagic, Version, Short, BadInstr, BadTarget, Trailing, Limit, Memory}
 use Rattle.isa.specs.declared.instr.Instr.{Instr}
 use Rattle.isa.specs.Instructions.{target}
+use Rattle.isa.specs.Limits.{most_monitors, most_member_words, most_instructions}
 use Rattle.isa.specs.Opcodes.{Form, with_one, with_two, plain_opcodes, operand_opcodes, row_of}
 use Rattle.isa.specs.Programs.{Program}
 use Rattle.isa.specs.Spelling.{magic, version}
@@ -53,8 +54,8 @@ numbers_at (suc count) limit bytes = do
 -- how many monitors, and the member words of each
 unfoldable pub monitors_at : List ℕ → Result (List ℕ × List ℕ) DecodeFault
 monitors_at bytes = do
-  count ← limited_at 64 bytes
-  numbers_at count.0 1024 count.1
+  count ← limited_at most_monitors bytes
+  numbers_at count.0 most_member_words count.1
 
 -- an instruction, if its operands are within their limits
 abbrev pub made_at : Option Instr → List ℕ → Result (Instr × List ℕ) DecodeFault
@@ -90,7 +91,7 @@ instructions_at (suc count) bytes = do
 -- how many instructions, and these
 unfoldable pub code_at : List ℕ → Result (List Instr × List ℕ) DecodeFault
 code_at bytes = do
-  count ← limited_at 65536 bytes
+  count ← limited_at most_instructions bytes
   instructions_at count.0 count.1
 
 -- an image, whatever follows it

@@ -1,22 +1,16 @@
 ghost use Rattle.std.specs.Prelude.{◌≡◌, ◌<◌, slice_get, IfSome, IfOk, length, vec_len, List, ℕ};
-ghost use Rattle.isa.specs.Instructions.{IsInstruction, LeadsBelow};
+ghost use Rattle.std.specs.List.{AllByRecursion};
+ghost use Rattle.isa.specs.Instructions.{operands, IsInstruction, LeadsBelow};
+ghost use Rattle.isa.specs.Spelling.{AreWords, IsSpelled};
+ghost use Rattle.isa.specs.Limits.{most_instructions};
 ghost use Rattle.isa.specs.Programs.{Program, IsProgram, memory_size};
 
 use crate::instr::Instr;
 use std::alloc::{AllocError, Global};
 use std::marker::Model;
 
-/// The most monitors of an image.
-pub const MOST_MONITORS: usize = 64;
-
-/// The most member words of all monitors of an image together.
-pub const MOST_MEMBER_WORDS: u32 = 1024;
-
-/// The most instructions of an image.
-pub const MOST_INSTRUCTIONS: usize = 65536;
-
 /// The code of a program, where it begins, and how many member words each of its monitors has. Contracts see it as
-/// a `Program`, within the limits of `IsProgram`: each local, count of arguments and place in it is one that may be.
+/// a `Program` that has a spelling: within the limits, each operand below 2^32.
 #[derive(Drop)]
 pub struct Image {
     monitors: Vec<u32>,
@@ -25,13 +19,32 @@ pub struct Image {
 }
 
 impl Model for Image {
-    ghost use Rattle.isa.specs.Programs.{Program, IsProgram};
+    ghost use Rattle.isa.specs.Programs.{Program};
+    ghost use Rattle.isa.specs.Spelling.{IsSpelled};
 
     ghost Value = { Program };
 
     ghost view = { λ i. record { monitors = i.monitors.items; start = i.start; code = i.code.items } };
 
-    ghost invariant = { λ i. IsProgram (record { monitors = i.monitors.items; start = i.start; code = i.code.items }) };
+    ghost invariant = { λ i. IsSpelled (record { monitors = i.monitors.items; start = i.start; code = i.code.items }) };
+}
+
+// The operands of an instruction are words, as their types say. Nothing is done when it runs.
+fn operand_words(instr: Instr)
+    ensures { AreWords (operands instr) }
+{
+    if let Instr::GetLocal(slot) | Instr::SetLocal(slot) = instr {
+        slot.number();
+    }
+}
+
+// The same of each instruction.
+fn code_words(code: &[Instr])
+    ensures { AllByRecursion (λ i. AreWords (operands i)) code.now }
+{
+    for instr in code {
+        operand_words(*instr);
+    }
 }
 
 impl Image {
@@ -40,6 +53,7 @@ impl Image {
         requires { IsProgram (record { monitors = monitors.items; start = start; code = code.items }) }
         ensures { result ≡ record { monitors = monitors.items; start = start; code = code.items } }
     {
+        code_words(code.as_slice());
         Image {
             monitors,
             start,
@@ -51,6 +65,7 @@ impl Image {
     pub fn start(&self) -> u32
         ensures value { result ≡ self.now.start }
         ensures within { IsProgram self.now }
+        ensures spelled { IsSpelled self.now }
     {
         self.start
     }
@@ -75,7 +90,7 @@ impl Image {
     /// that it names, if any, lies in the code too.
     pub fn at(&self, place: u32) -> Option<Instr>
         ensures value { result ≡ slice_get self.now.code place }
-        ensures within { IfSome result (λ _. place < 65536) }
+        ensures within { IfSome result (λ _. place < most_instructions) }
         ensures limits { IfSome result IsInstruction }
         ensures leads { IfSome result (LeadsBelow (length self.now.code)) }
     {

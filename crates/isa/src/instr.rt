@@ -8,9 +8,6 @@ use crate::slot::Slot;
 use std::fmt;
 use words::{Fault, ProcessWord};
 
-/// The most arguments that an instruction hands to a new thread.
-pub const MOST_ARGUMENTS: u32 = 16;
-
 /// An instruction of the machine. A stack effect is written `before -> after`, the top to the right; the place goes on
 /// by one where nothing else is said.
 ///

@@ -1,9 +1,23 @@
-ghost use Rattle.std.specs.Prelude.{◌≡◌, ℕ, List, ◌∷◌, ◌++◌, Ok, Err};
-ghost use Rattle.isa.specs.declared.fault.DecodeFault.{DecodeFault};
+ghost use Rattle.std.specs.Prelude.{◌≡◌, ℕ, List, ◌∷◌, ◌++◌, Ok, Err, MatchResult};
+ghost use Rattle.isa.specs.declared.fault.DecodeFault.{DecodeFault as DecodeFaultOf};
 ghost use Rattle.isa.specs.FirstFault.{IsOfAByte, IsFirstFault};
 ghost use Rattle.isa.specs.Programs.{Program};
 ghost use Rattle.isa.specs.Spelling.{IsSpelled, spelling};
 ghost use Rattle.isa.specs.Reading.{program_of};
+
+use crate::fault::DecodeFault;
+use crate::image::Image;
+use crate::reading::decode;
+use crate::writing::encode;
+use std::alloc::Global;
+
+/// The bytes of any image are read as that image, unless memory runs out.
+pub fn read_back(alloc: Global, image: &Image) -> Result<Image, DecodeFault>
+    ensures { MatchResult result (λ i. i ≡ image.now) (λ e. e ≡ DecodeFault.Memory) }
+{
+    let bytes = encode(alloc, image)?;
+    decode(alloc, bytes.as_slice())
+}
 
 /// No two programs have one spelling, and each spelling is read as its program.
 pub fn one_spelling()
@@ -14,7 +28,7 @@ pub fn one_spelling()
 /// A fault of one byte is the first: before that byte others are missing and nothing else is wrong, and nothing that
 /// follows mends it. Each proper beginning of an image is short.
 pub fn first_fault()
-    ensures first { (bytes : List ℕ) (fault : DecodeFault) → IsOfAByte fault → program_of bytes ≡ Err fault
+    ensures first { (bytes : List ℕ) (fault : DecodeFaultOf) → IsOfAByte fault → program_of bytes ≡ Err fault
         → (place : ℕ) × IsFirstFault bytes fault place }
     ensures short { (p : Program) (front : List ℕ) (b : ℕ) (behind : List ℕ)
         → IsSpelled p → spelling p ≡ front ++ b ∷ behind → program_of front ≡ Err DecodeFault.Short }

@@ -6,6 +6,7 @@ mod format;
 mod image;
 mod instr;
 mod laws;
+mod limits;
 mod opcode;
 mod operator;
 mod reading;
@@ -13,10 +14,13 @@ mod slot;
 mod writing;
 
 pub use fault::DecodeFault;
-pub use image::{Image, MOST_INSTRUCTIONS, MOST_MEMBER_WORDS, MOST_MONITORS};
-pub use instr::{Instr, MOST_ARGUMENTS};
-pub use laws::{first_fault, one_spelling};
+pub use image::Image;
+pub use instr::Instr;
+pub use laws::{first_fault, one_spelling, read_back};
+pub use limits::{
+    MOST_ARGUMENTS, MOST_INSTRUCTIONS, MOST_LOCALS, MOST_MEMBER_WORDS, MOST_MONITORS, limit_laws,
+};
 pub use operator::Operator;
 pub use reading::decode;
-pub use slot::{MOST_LOCALS, Slot};
+pub use slot::Slot;
 pub use writing::encode;

@@ -7,11 +7,14 @@ ghost use Rattle.isa.specs.Spelling.{IsSpelled, spelling};
 
 use crate::fault::DecodeFault;
 use crate::format::{MAGIC, VERSION};
-use crate::image::{Image, MOST_INSTRUCTIONS, MOST_MEMBER_WORDS, MOST_MONITORS};
-use crate::instr::{Instr, MOST_ARGUMENTS};
+use crate::image::Image;
+use crate::instr::Instr;
+use crate::limits::{
+    MOST_ARGUMENTS, MOST_INSTRUCTIONS, MOST_LOCALS, MOST_MEMBER_WORDS, MOST_MONITORS,
+};
 use crate::opcode;
 use crate::operator::Operator;
-use crate::slot::{MOST_LOCALS, Slot};
+use crate::slot::Slot;
 use std::alloc::Global;
 use words::{Fault, ProcessWord};
 

@@ -1,24 +1,22 @@
 ghost use Rattle.std.specs.Prelude.{◌≡◌};
 ghost use Rattle.isa.specs.Instructions.{slot_number};
 
+use crate::limits::MOST_LOCALS;
 use std::fmt;
-
-/// The most locals of a frame, besides the one of the templates.
-pub const MOST_LOCALS: u32 = 64;
 
 /// A local of a frame.
 ///
 /// It is shown by its number.
 #[derive(Clone, Copy, PartialEq, Eq, Debug)]
 pub enum Slot {
-    /// A parameter or a variable by its number, which is below 64 in an image.
+    /// A parameter or a variable by its number, which is below `MOST_LOCALS` in an image.
     Local(u32),
-    /// The one that the code templates keep for themselves, with the number 64.
+    /// The one that the code templates keep for themselves, with the number `MOST_LOCALS`.
     Template,
 }
 
 impl Slot {
-    /// Its number, 64 for the one of the templates.
+    /// Its number, `MOST_LOCALS` for the one of the templates.
     pub fn number(self) -> u32
         ensures { result ≡ slot_number self }
     {

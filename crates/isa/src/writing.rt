@@ -1,6 +1,6 @@
 ghost use Rattle.std.specs.Prelude.{◌≡◌, ◌++◌, OnOk, IfOk};
 ghost use Rattle.isa.specs.Numbers.{number};
-ghost use Rattle.isa.specs.Spelling.{numbers, instruction, instructions, spelling};
+ghost use Rattle.isa.specs.Spelling.{numbers, instruction, instructions, spelling, IsSpelled};
 
 use crate::format::{MAGIC, VERSION};
 use crate::image::Image;
@@ -62,10 +62,12 @@ fn put_instructions(out: &mut Vec<u8>, code: &[Instr]) -> Result<(), AllocError>
     Ok(())
 }
 
-/// The one spelling of an image.
+/// The one spelling of an image. Each image has one.
 pub fn encode(alloc: Global, image: &Image) -> Result<Vec<u8>, AllocError>
-    ensures { IfOk result (λ bytes. bytes.items ≡ spelling image.now) }
+    ensures spelled { IsSpelled image.now }
+    ensures bytes { IfOk result (λ bytes. bytes.items ≡ spelling image.now) }
 {
+    let start = image.start();
     let monitors = image.monitors();
     let code = image.code();
     let mut out = Vec::new(alloc);
@@ -73,7 +75,7 @@ pub fn encode(alloc: Global, image: &Image) -> Result<Vec<u8>, AllocError>
     out.extend_from_slice(&VERSION)?;
     put_number(&mut out, monitors.len() as u32)?;
     put_numbers(&mut out, monitors)?;
-    put_number(&mut out, image.start())?;
+    put_number(&mut out, start)?;
     put_number(&mut out, code.len() as u32)?;
     put_instructions(&mut out, code)?;
     Ok(out)

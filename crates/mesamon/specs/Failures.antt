@@ -2,9 +2,8 @@
 use Rattle.std.specs.Prelude.{◌≡◌, ◌≢◌, ◌⊎◌}
 use Rattle.std.specs.declared.io.ErrorKind.{ErrorKind}
 use Rattle.std.specs.declared.io.ErrorKind.TheVariants as io
-use Rattle.clap.specs.declared.error.Error.{Error}
-use Rattle.clap.specs.declared.error.kind.ErrorKind.TheVariants as words
-use Rattle.clap.specs.Words.{kind_of}
+use Rattle.commandline.specs.declared.fault.WordsFault.{WordsFault}
+use Rattle.commandline.specs.declared.fault.WordsFault.TheVariants as words
 use Rattle.scanner.specs.declared.refusal.Refusal.{Refusal}
 use Rattle.scanner.specs.declared.refusal.RefusalKind.TheVariants as kind
 use Rattle.runner.specs.declared.fault.RunFault.TheVariants as fault
@@ -28,9 +27,10 @@ status_of Memory = status.Memory
 abbrev pub OfIo : ErrorKind → Failure → Failure → Type 0
 OfIo k other f = ((k ≡ io.OutOfMemory) × (f ≡ Memory)) ⊎ ((k ≢ io.OutOfMemory) × (f ≡ other))
 
--- so is what is said of words of a command line
-abbrev pub OfWords : Error → Failure → Type 0
-OfWords e f = ((kind_of e ≡ words.OutOfMemory) × (f ≡ Memory)) ⊎ ((kind_of e ≢ words.OutOfMemory) × (f ≡ Usage e))
+-- so is the fault of the words of a command line
+abbrev pub OfWords : WordsFault → Failure → Type 0
+OfWords (words.Usage text) f = f ≡ Usage text
+OfWords words.Memory f = f ≡ Memory
 
 -- and so is a refusal
 abbrev pub OfRefusal : Refusal → Failure → Type 0

@@ -4,13 +4,13 @@ ghost use Rattle.mesamon.specs.Accounts.{output_lines, account};
 ghost use Rattle.mesamon.specs.Commands.{HasCompiled, HasDone, HasRun, status_of_verdict};
 ghost use Rattle.mesamon.specs.Running.{IsRunOf};
 
-use crate::command::{Job, read_job};
 use crate::compiler::compile;
 use crate::failure::Failure;
 use crate::files::{read_source, write_image};
 use crate::report::{write_account, write_image_line, write_output};
 use crate::source_run::run_source;
 use crate::status::Status;
+use commandline::{Job, read_job};
 use isa::encode;
 use runner::{Report, Verdict};
 use std::io;
@@ -52,7 +52,7 @@ pub fn perform<R: Files + AllocGlobal, O: Write, E: Write>(
 // Writes what is to be said of a failure.
 fn tell<E: Write>(errors: &mut E, failure: &Failure<'_>) -> io::Result<()> {
     match failure {
-        Failure::Usage(error) => write!(errors, "{error}"),
+        Failure::Usage(text) => write!(errors, "{text}"),
         Failure::Output => Ok(()),
         other => writeln!(errors, "{other}"),
     }

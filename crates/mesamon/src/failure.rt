@@ -5,7 +5,7 @@ ghost use Rattle.mesamon.specs.Failures.{status_of, OfIo, OfWords, OfRefusal, Of
 
 use crate::source_run::RunSourceFault;
 use crate::status::Status;
-use clap::error::ErrorKind;
+use commandline::WordsFault;
 use runner::RunFault;
 use scanner::{Refusal, RefusalKind};
 use std::alloc::AllocError;
@@ -15,9 +15,9 @@ use thiserror::Error;
 /// Why a command was not done. It is shown as the line for standard error, or for `Usage` as lines.
 #[derive(Debug, Drop, Error)]
 pub enum Failure<'a> {
-    /// The words of the command line are no command, or ask for help.
+    /// The words of the command line are no command, or ask for help: what the user is told.
     #[error("{0}")]
-    Usage(clap::Error),
+    Usage(String),
     /// The file of this name could not be read.
     #[error("cannot read {0}")]
     Read(&'a str),
@@ -87,14 +87,13 @@ impl<'a> Failure<'a> {
     }
 }
 
-impl From<clap::Error> for Failure<'_> {
+impl From<WordsFault> for Failure<'_> {
     ghost from_gives = { OfWords };
 
-    fn from(error: clap::Error) -> Self {
-        if error.kind() == ErrorKind::OutOfMemory {
-            Failure::Memory
-        } else {
-            Failure::Usage(error)
+    fn from(fault: WordsFault) -> Self {
+        match fault {
+            WordsFault::Usage(text) => Failure::Usage(text),
+            WordsFault::Memory => Failure::Memory,
         }
     }
 }

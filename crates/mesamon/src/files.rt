@@ -23,6 +23,30 @@ fn read_front<R: Read + Drop>(alloc: Global, reader: R) -> io::Result<Vec<u8>>
 }
 
 /// Writes a file of these bytes, in place of what it held.
-pub fn write_image<R: Files>(rt: &R, name: &str, bytes: &[u8]) -> io::Result<()> {
-    fs::write(rt, name, bytes)
+///
+/// A regular file holds either all of them or what it held before: they are written to a file beside it, named by a
+/// further `.part`, which then takes its name. What is no regular file, as a device, is written as it stands.
+pub fn write_image<R: Files + AllocGlobal>(rt: &R, name: &str, bytes: &[u8]) -> io::Result<()> {
+    if is_special(rt, name) {
+        return fs::write(rt, name, bytes);
+    }
+    let part = format!(in rt.alloc(); "{name}.part")?;
+    let written = write_and_rename(rt, part.as_str(), name, bytes);
+    if written.is_err() {
+        let _removed = fs::remove_file(rt, part.as_str());
+    }
+    written
+}
+
+// Whether something of this name stands that is no regular file.
+fn is_special<R: Files>(rt: &R, name: &str) -> bool {
+    match fs::metadata(rt, name) {
+        Ok(metadata) => !metadata.is_file(),
+        Err(_) => false,
+    }
+}
+
+fn write_and_rename<R: Files>(rt: &R, part: &str, name: &str, bytes: &[u8]) -> io::Result<()> {
+    fs::write(rt, part, bytes)?;
+    fs::rename(rt, part, name)
 }

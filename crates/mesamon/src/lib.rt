@@ -1,7 +1,6 @@
 //! From the bytes of a source text to its image, its runs, and the commands of the program.
 #![tactic(auto)]
 
-mod command;
 mod commands;
 mod compiler;
 mod failure;
@@ -17,3 +16,4 @@ pub use commands::perform;
 pub use compiler::compile;
 pub use laws::text_laws;
 pub use source_run::{RunSourceFault, run_source};
+pub use status::Status;

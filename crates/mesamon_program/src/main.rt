@@ -1,23 +1,31 @@
 //! The program mesamon: it hands its words to `mesamon::perform`.
 #![tactic(auto)]
 
-use mesamon::perform;
+use mesamon::{Status, perform};
 use std::process::ExitCode;
 use std::{env, io};
 
 fn main(rt: HostRuntime) -> ExitCode {
     match perform_words(&rt) {
         Ok(status) => ExitCode::from(status),
-        Err(_) => {
-            let _told = rt.eprintln("memory");
-            ExitCode::from(5)
-        }
+        Err(error) => ExitCode::from(refuse(&rt, &error).code()),
     }
 }
 
-// Does what the words of the command line ask for. The words are texts, and there is memory for them.
+// Does what the words of the command line ask for.
 fn perform_words(rt: &HostRuntime) -> io::Result<u8> {
     let words: Vec<String> = env::args(rt)?.skip(1).collect(rt.alloc())?;
     let texts: Vec<&str> = words.iter().map(|word| word.as_str()).collect(rt.alloc())?;
     Ok(perform(rt, texts.as_slice(), &mut rt.stdout(), &mut rt.stderr()))
+}
+
+// Says why there are no words: one of them is no UTF-8, or there was no memory for them.
+fn refuse(rt: &HostRuntime, error: &io::Error) -> Status {
+    if error.kind() == io::ErrorKind::InvalidData {
+        let _told = rt.eprintln("error: a word of the command line is not UTF-8");
+        Status::Usage
+    } else {
+        let _told = rt.eprintln("memory");
+        Status::Memory
+    }
 }

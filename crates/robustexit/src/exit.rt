@@ -10,11 +10,11 @@ use crate::abandon::{abandon, lock_of};
 use crate::phase::{ExitPhase, phase_at};
 use buckets::Buckets;
 use futexcalls::{Woken, wake};
-use words::{Addr, MOST_PROCESSES, Mem, ProcessWord, block, tid};
+use words::{Addr, MOST_BLOCKS, Mem, ProcessWord, block, tid};
 
 /// The phase in which the exit of thread `t` begins: at the first entry of its robust list, if it has one.
 pub fn first_phase(mem: &Mem, t: u32) -> ExitPhase
-    requires thread { (0 < t) × (t ≤ MOST_PROCESSES) }
+    requires thread { (0 < t) × (t ≤ MOST_BLOCKS) }
     requires block { process_word t 5 < length mem.now }
     ensures { result ≡ next_entry (word_of mem.now (process_word t 0)) 0 }
 {
@@ -29,7 +29,7 @@ pub fn exit_step(
     t: u32,
     phase: ExitPhase,
 ) -> (ExitPhase, Woken)
-    requires thread { (0 < t) × (t ≤ MOST_PROCESSES) }
+    requires thread { (0 < t) × (t ≤ MOST_BLOCKS) }
     requires block { process_word t 5 < length mem.old }
     requires running { phase ≢ ExitPhase.Ended }
     ensures step { ExitStep (length mem.old) t phase (shared mem.old buckets.old) result.1.threads
@@ -72,7 +72,7 @@ fn entry_step(
     entry: Addr,
     seen: u32,
 ) -> (ExitPhase, Woken)
-    requires thread { (0 < t) × (t ≤ MOST_PROCESSES) }
+    requires thread { (0 < t) × (t ≤ MOST_BLOCKS) }
     requires block { process_word t 5 < length mem.old }
     ensures step { (IsEntry (length mem.old) entry.0
         × EntryStep (length mem.old) t entry.0 (shared mem.old buckets.old) result.1.threads (shared mem.new buckets.new)
@@ -98,7 +98,7 @@ fn entry_step(
 
 // A lock that another thread owns, or none, gets a wake: the one that `t` was given, or that it owed when it gave up.
 fn pending_step(mem: &mut Mem, buckets: &mut Buckets, t: u32) -> Woken
-    requires thread { (0 < t) × (t ≤ MOST_PROCESSES) }
+    requires thread { (0 < t) × (t ≤ MOST_BLOCKS) }
     requires block { process_word t 5 < length mem.old }
     ensures step { PendingStep (length mem.old) t (word_of mem.old (process_word t 1))
         (shared mem.old buckets.old) result.threads (shared mem.new buckets.new) }

@@ -1,4 +1,6 @@
+pub mod Limits
 pub mod LockWord
 pub mod Outcomes
 pub mod Process
 pub mod Signed
+pub mod Updates

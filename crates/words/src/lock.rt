@@ -47,12 +47,16 @@ pub fn lock_word_laws()
     ensures waiters { (o : ℕ) (d w : Bool) → o < 2 ^ 30 → waiters_of (lock_word o d w) ≡ w }
 
     // Setting the waiters bit, or the bit of a dead owner.
-    ensures set_waiters { (o : ℕ) (d w : Bool) → o < 2 ^ 30 → bit_or (lock_word o d w) 2147483648 ≡ lock_word o d true }
-    ensures set_died { (o : ℕ) (d w : Bool) → o < 2 ^ 30 → bit_or (lock_word o d w) 1073741824 ≡ lock_word o true w }
+    ensures set_waiters { (o : ℕ) (d w : Bool) → o < 2 ^ 30
+        → bit_or (lock_word o d w) 2147483648 ≡ lock_word o d true }
+    ensures set_died { (o : ℕ) (d w : Bool) → o < 2 ^ 30
+        → bit_or (lock_word o d w) 1073741824 ≡ lock_word o true w }
 
     // The masks alone.
-    ensures mask_waiters { (o : ℕ) (d w : Bool) → o < 2 ^ 30 → bit_and (lock_word o d w) 2147483648 ≡ (if w then 2147483648 else 0) }
-    ensures mask_died { (o : ℕ) (d w : Bool) → o < 2 ^ 30 → bit_and (lock_word o d w) 1073741824 ≡ (if d then 1073741824 else 0) }
+    ensures mask_waiters { (o : ℕ) (d w : Bool) → o < 2 ^ 30
+        → bit_and (lock_word o d w) 2147483648 ≡ (if w then 2147483648 else 0) }
+    ensures mask_died { (o : ℕ) (d w : Bool) → o < 2 ^ 30
+        → bit_and (lock_word o d w) 1073741824 ≡ (if d then 1073741824 else 0) }
 
     // Every word is a lock word, of its own parts, and of no others.
     ensures parts { (v : ℕ) → v < 2 ^ 32 → v ≡ lock_word (owner_of v) (died_of v) (waiters_of v) }

@@ -64,7 +64,7 @@ impl Mem {
     }
 
     /// Puts `new` at an address where the word is `expected`, and answers the word before.
-    pub fn cas(&mut self, a: Addr, expected: u32, new: u32) -> u32
+    pub fn compare_swap(&mut self, a: Addr, expected: u32, new: u32) -> u32
         requires { a.0 < length self.old }
         ensures before { slice_get self.old a.0 ≡ Some result }
         ensures after { self.new ≡ (if result == expected then slice_set self.old a.0 new else self.old) }
@@ -86,7 +86,7 @@ impl Mem {
     }
 
     /// Sets the bits of `v` in the word at an address, and answers the word before.
-    pub fn or(&mut self, a: Addr, v: u32) -> u32
+    pub fn fetch_or(&mut self, a: Addr, v: u32) -> u32
         requires { a.0 < length self.old }
         ensures before { slice_get self.old a.0 ≡ Some result }
         ensures after { self.new ≡ slice_set self.old a.0 (bit_or result v) }
@@ -97,7 +97,7 @@ impl Mem {
     }
 
     /// Adds `v` to the word at an address, modulo 2^32, and answers the word before.
-    pub fn add(&mut self, a: Addr, v: u32) -> u32
+    pub fn fetch_add(&mut self, a: Addr, v: u32) -> u32
         requires { a.0 < length self.old }
         ensures before { slice_get self.old a.0 ≡ Some result }
         ensures after { self.new ≡ slice_set self.old a.0 ((result + v) % 2 ^ 32) }

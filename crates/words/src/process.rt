@@ -1,11 +1,12 @@
 ghost use Rattle.std.specs.Prelude.{◌≡◌, ◌≢◌, ◌+◌, ◌-◌, ◌*◌, ◌^◌, ◌<◌, ◌≤◌, ℕ};
 ghost use Rattle.words.specs.declared.mem.Addr.{Addr as AddrOf};
+ghost use Rattle.words.specs.Limits.{most_processes, monitors_base};
 ghost use Rattle.words.specs.Process.{process_word, number_of};
 
 use crate::mem::Addr;
 
-/// The most processes that a memory can have words for.
-pub const MOST_PROCESSES: u32 = 1 << 24;
+/// The most processes whose words have addresses.
+pub const MOST_BLOCKS: u32 = 1 << 24;
 
 /// One of the words that each process has.
 #[derive(Clone, Copy, PartialEq, Eq, PartialOrd, Ord, Debug, Hash)]
@@ -26,7 +27,7 @@ pub enum ProcessWord {
 
 /// The address of a word of process `t`, from 1. Process t has the six words from 1 + 6 * (t - 1).
 pub fn block(t: u32, word: ProcessWord) -> Addr
-    requires { (0 < t) × (t ≤ MOST_PROCESSES) }
+    requires { (0 < t) × (t ≤ MOST_BLOCKS) }
     ensures { result.0 ≡ process_word t (number_of word) }
 {
     Addr(1 + 6 * (t - 1) + word as u32)
@@ -34,6 +35,10 @@ pub fn block(t: u32, word: ProcessWord) -> Addr
 
 /// No two words of processes have one address, and none has the address 0.
 pub fn block_laws()
-    ensures apart { (t u k j : ℕ) → 0 < t → 0 < u → k < 6 → j < 6 → process_word t k ≡ process_word u j → (t ≡ u) × (k ≡ j) }
+    ensures apart { (t u k j : ℕ) → 0 < t → 0 < u → k < 6 → j < 6
+        → process_word t k ≡ process_word u j → (t ≡ u) × (k ≡ j) }
     ensures null { (t k : ℕ) → 0 < process_word t k }
+
+    // The words of the last process are followed by the monitors.
+    ensures base { process_word most_processes 5 + 1 ≡ monitors_base }
 {}

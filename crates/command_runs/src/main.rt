@@ -1,0 +1,35 @@
+//! Runs commands of mesamon that stand as rows on standard input, prints what came out otherwise than its row says, and
+//! at last how many rows there were. A row is a block of lines, each a key and what it says:
+//!
+//! ```text
+//! row NAME            a row of this name begins
+//! text LINE           a line of the file program.mesa
+//! times COUNT TEXT    this text so many times, in program.mesa
+//! words WORD ..       the words of the command line
+//! output LINE         a line that standard output has to have
+//! errors LINE         a line that standard error has to have
+//! image DIGITS        the bytes that program.image has to have afterwards, in hexadecimal digits
+//! status NUMBER       the exit status that is wanted, where it isn't 0
+//! ```
+//!
+//! Empty lines and lines that begin with `#` say nothing. With no `text` and no `times` there is no program.mesa, and
+//! with no `image` there may be no program.image afterwards.
+#![tactic(auto)]
+
+mod fault;
+mod outcome;
+mod row;
+mod tally;
+
+use crate::tally::Tally;
+use std::io;
+use std::process::ExitCode;
+
+fn main(rt: HostRuntime) -> io::Result<ExitCode> {
+    let mut tally = Tally::new();
+    for line in rt.lines(rt.alloc()) {
+        let line = line?;
+        tally.take_line(&rt, line.as_str())?;
+    }
+    tally.finish(&rt)
+}

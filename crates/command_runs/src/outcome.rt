@@ -1,0 +1,71 @@
+use crate::fault::RowFault;
+use crate::row::Row;
+use mesamon::perform;
+use std::alloc::Global;
+use std::{fs, io};
+
+// The file that a row's source text is written to.
+const SOURCE: &str = "program.mesa";
+
+// The file whose bytes a row tells.
+const IMAGE: &str = "program.image";
+
+/// What a command left.
+#[derive(Drop)]
+pub struct Outcome {
+    /// The exit status.
+    pub status: u8,
+    /// What was written to standard output.
+    pub output: Vec<u8>,
+    /// What was written to standard error.
+    pub errors: Vec<u8>,
+    /// The bytes of program.image, where there is that file.
+    pub image: Option<Vec<u8>>,
+}
+
+impl Outcome {
+    /// That of a command that writes nothing, and is done.
+    pub fn new(alloc: Global) -> Outcome {
+        Outcome {
+            status: 0,
+            output: Vec::new(alloc),
+            errors: Vec::new(alloc),
+            image: None,
+        }
+    }
+
+    /// That of a row's command.
+    pub fn of_row(rt: &HostRuntime, row: &Row) -> Result<Outcome, RowFault> {
+        if let Some(source) = &row.source {
+            fs::write(rt, SOURCE, source.as_slice())?;
+        }
+        let mut outcome = Outcome::of_words(rt, row.words.as_slice())?;
+        outcome.image = take_file(rt, IMAGE)?;
+        if row.source.is_some() {
+            fs::remove_file(rt, SOURCE)?;
+        }
+        Ok(outcome)
+    }
+
+    fn of_words(rt: &HostRuntime, words: &[String]) -> Result<Outcome, RowFault> {
+        let words: Vec<&str> = words.iter().map(|word| word.as_str()).collect(rt.alloc())?;
+        let mut outcome = Outcome::new(rt.alloc());
+        outcome.status = perform(
+            rt,
+            words.as_slice(),
+            &mut outcome.output,
+            &mut outcome.errors,
+        );
+        Ok(outcome)
+    }
+}
+
+// The bytes of a file, which is removed, where it stands.
+fn take_file(rt: &HostRuntime, name: &str) -> io::Result<Option<Vec<u8>>> {
+    if !fs::exists(rt, name)? {
+        return Ok(None);
+    }
+    let bytes = fs::read(rt, name)?;
+    fs::remove_file(rt, name)?;
+    Ok(Some(bytes))
+}

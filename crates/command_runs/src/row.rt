@@ -1,0 +1,86 @@
+use crate::fault::RowFault;
+use crate::outcome::Outcome;
+use std::alloc::{AllocError, Global};
+
+/// A command, and what has to come of it.
+#[derive(Drop)]
+pub struct Row {
+    /// The row's name.
+    pub name: String,
+    /// The source text, where there is one.
+    pub source: Option<Vec<u8>>,
+    /// The words of the command line.
+    pub words: Vec<String>,
+    /// What has to come of it.
+    pub wanted: Outcome,
+    alloc: Global,
+}
+
+impl Row {
+    /// A row of this name, with nothing said yet.
+    pub fn new(alloc: Global, name: &str) -> Result<Row, AllocError> {
+        Ok(Row {
+            name: String::from_str(alloc, name)?,
+            source: None,
+            words: Vec::new(alloc),
+            wanted: Outcome::new(alloc),
+            alloc,
+        })
+    }
+
+    /// Takes a line of the row: its key, and what it says.
+    pub fn take_line(&mut self, key: &str, said: &str) -> Result<(), RowFault> {
+        match key {
+            "text" => self.add_text(said),
+            "times" => self.add_repeated(said),
+            "words" => self.add_words(said),
+            "output" => add_line(&mut self.wanted.output, said),
+            "errors" => add_line(&mut self.wanted.errors, said),
+            "image" => self.set_image(said),
+            "status" => self.set_status(said),
+            _ => Err(RowFault::Key),
+        }
+    }
+
+    fn add_text(&mut self, said: &str) -> Result<(), RowFault> {
+        let mut source = self.source.take().unwrap_or(Vec::new(self.alloc));
+        add_line(&mut source, said)?;
+        self.source = Some(source);
+        Ok(())
+    }
+
+    fn add_repeated(&mut self, said: &str) -> Result<(), RowFault> {
+        let (count, text) = said.split_once(' ').ok_or(RowFault::Number)?;
+        let count: u32 = count.parse().map_err(|_| RowFault::Number)?;
+        let mut source = self.source.take().unwrap_or(Vec::new(self.alloc));
+        for _ in 0..count {
+            source.extend_from_slice(text.as_bytes())?;
+        }
+        self.source = Some(source);
+        Ok(())
+    }
+
+    fn add_words(&mut self, said: &str) -> Result<(), RowFault> {
+        for word in said.split_whitespace() {
+            self.words.push(String::from_str(self.alloc, word)?)?;
+        }
+        Ok(())
+    }
+
+    fn set_image(&mut self, digits: &str) -> Result<(), RowFault> {
+        let image = hex::decode(self.alloc, digits).map_err(|_| RowFault::Number)?;
+        self.wanted.image = Some(image);
+        Ok(())
+    }
+
+    fn set_status(&mut self, said: &str) -> Result<(), RowFault> {
+        self.wanted.status = said.parse().map_err(|_| RowFault::Number)?;
+        Ok(())
+    }
+}
+
+fn add_line(text: &mut Vec<u8>, line: &str) -> Result<(), RowFault> {
+    text.extend_from_slice(line.as_bytes())?;
+    text.push(b'\n')?;
+    Ok(())
+}

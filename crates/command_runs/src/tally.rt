@@ -1,0 +1,105 @@
+use crate::fault::RowFault;
+use crate::outcome::Outcome;
+use crate::row::Row;
+use std::io;
+use std::process::ExitCode;
+
+/// The rows so far: how many there were, how many of them failed, and the row that is being read.
+#[derive(Drop)]
+pub struct Tally {
+    rows: u32,
+    failures: u32,
+    row: Option<Row>,
+}
+
+impl Tally {
+    /// No row.
+    pub fn new() -> Tally {
+        Tally {
+            rows: 0,
+            failures: 0,
+            row: None,
+        }
+    }
+
+    /// Takes a line of standard input. Where a row begins, the one before it is run.
+    pub fn take_line(&mut self, rt: &HostRuntime, line: &str) -> io::Result<()> {
+        if line.trim().is_empty() || line.starts_with('#') {
+            return Ok(());
+        }
+        let (key, said) = line.split_once(' ').unwrap_or((line, ""));
+        if key == "row" {
+            self.run_row(rt)?;
+            self.row = Some(Row::new(rt.alloc(), said)?);
+            return Ok(());
+        }
+        let taken = match &mut self.row {
+            Some(row) => row.take_line(key, said),
+            None => Err(RowFault::Row),
+        };
+        if let Err(fault) = taken {
+            self.failures = self.failures.saturating_add(1);
+            println!(rt; "{line}: {fault}")?;
+        }
+        Ok(())
+    }
+
+    /// Runs the last row, and tells how many there were.
+    pub fn finish(mut self, rt: &HostRuntime) -> io::Result<ExitCode> {
+        self.run_row(rt)?;
+        let rows = self.rows;
+        let failures = self.failures;
+        println!(rt; "{rows} rows, {failures} failures")?;
+        Ok(ExitCode::from(u8::from(failures > 0)))
+    }
+
+    // Runs the row that was read, where there is one, and tells what came out otherwise.
+    fn run_row(&mut self, rt: &HostRuntime) -> io::Result<()> {
+        let Some(row) = self.row.take() else {
+            return Ok(());
+        };
+        self.rows = self.rows.saturating_add(1);
+        let is_well = match Outcome::of_row(rt, &row) {
+            Ok(outcome) => compare(rt, &row, &outcome)?,
+            Err(fault) => {
+                let name = row.name.as_str();
+                println!(rt; "{name}: {fault}")?;
+                false
+            }
+        };
+        if !is_well {
+            self.failures = self.failures.saturating_add(1);
+        }
+        Ok(())
+    }
+}
+
+// Whether a row's command left what is wanted; prints what it left otherwise.
+fn compare(rt: &HostRuntime, row: &Row, outcome: &Outcome) -> io::Result<bool> {
+    let wanted = &row.wanted;
+    let is_well = outcome.status == wanted.status
+        && outcome.output == wanted.output
+        && outcome.errors == wanted.errors
+        && outcome.image == wanted.image;
+    if !is_well {
+        let name = row.name.as_str();
+        let status = outcome.status;
+        println!(rt; "{name}: status {status}")?;
+        show(rt, "output", outcome.output.as_slice())?;
+        show(rt, "errors", outcome.errors.as_slice())?;
+        if let Some(image) = &outcome.image {
+            let digits = hex::encode(rt.alloc(), image.as_slice())?;
+            println!(rt; "image {digits}")?;
+        }
+    }
+    Ok(is_well)
+}
+
+// Prints what was written to a device, each line after the device's key.
+fn show(rt: &HostRuntime, key: &str, written: &[u8]) -> io::Result<()> {
+    let text = String::from_utf8_lossy(rt.alloc(), written)?;
+    for line in text.as_str().lines() {
+        println!(rt; "{key} {line}")?;
+    }
+    Ok(())
+}

@@ -1,0 +1,9 @@
+//! The command line: which job its words ask for.
+#![tactic(auto)]
+
+mod builder;
+mod fault;
+mod job;
+
+pub use fault::WordsFault;
+pub use job::{Job, read_job};
