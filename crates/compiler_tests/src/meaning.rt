@@ -2,9 +2,9 @@ use sourcemeaning::{Action, ActionKind, Checked, MAIN, accepts, movers, run_laws
 use std::alloc::Global;
 use std::test::*;
 
-// The program that prints these numbers.
-fn program(alloc: Global, numbers: &[i32]) -> Result<Checked, Fail> {
-    Ok(Checked::new(Vec::from_slice(alloc, numbers)?))
+// The program that prints 7.
+fn seven(alloc: Global) -> Result<Checked, Fail> {
+    Ok(Checked::new(Vec::from_slice(alloc, &[7])?))
 }
 
 fn print(process: u32, number: i32) -> Action {
@@ -21,43 +21,47 @@ fn end(process: u32) -> Action {
     }
 }
 
+// Whether the actions are a run of the program that prints 7, to a state that has printed this, and where just these
+// processes can move: none, once the main process has ended.
+fn leads(alloc: Global, actions: &[Action], printed: &[i32], can: &[u32]) -> Result<bool, Fail> {
+    let Some(state) = accepts(alloc, &seven(alloc)?, actions)? else {
+        return Ok(false);
+    };
+    let found = movers(alloc, &state)?;
+    let ends_well = state.has_ended(MAIN) == can.is_empty() && !state.has_ended(2);
+    Ok(ends_well && state.printed() == printed && found.as_slice() == can)
+}
+
 #[test]
 fn runs(rt: HostRuntime) -> Result<(), Fail> {
     run_laws();
-    let seven = program(rt.alloc(), &[7])?;
-    assert_eq!(rt; seven.numbers(), [7].as_slice());
-    let opening = accepts(rt.alloc(), &seven, &[])?.ok_or("no action is a run")?;
-    assert_eq!(rt; opening.printed().len(), 0);
-    assert!(rt; !opening.has_ended(MAIN));
-    assert_eq!(rt; movers(rt.alloc(), &opening)?.as_slice(), [1].as_slice());
-    let printed = accepts(rt.alloc(), &seven, &[print(1, 7)])?.ok_or("7 is printed")?;
-    assert_eq!(rt; printed.printed(), [7].as_slice());
-    assert_eq!(rt; movers(rt.alloc(), &printed)?.as_slice(), [1].as_slice());
-    let ended = accepts(rt.alloc(), &seven, &[print(1, 7), end(1)])?.ok_or("the end comes next")?;
-    assert_eq!(rt; ended.printed(), [7].as_slice());
-    assert!(rt; ended.has_ended(MAIN));
-    assert!(rt; !ended.has_ended(2));
-    assert_eq!(rt; movers(rt.alloc(), &ended)?.len(), 0);
+    let rows: [(&[Action], &[i32], &[u32]); 3] = [
+        (&[], &[], &[1]),
+        (&[print(1, 7)], &[7], &[1]),
+        (&[print(1, 7), end(1)], &[7], &[]),
+    ];
+    for (actions, printed, can) in rows {
+        assert!(rt; leads(rt.alloc(), actions, printed, can)?, "at {actions:?}");
+    }
     Ok(())
+}
+
+// Whether the actions are a run of the program that prints 7.
+fn is_run(alloc: Global, actions: &[Action]) -> Result<bool, Fail> {
+    Ok(accepts(alloc, &seven(alloc)?, actions)?.is_some())
 }
 
 #[test]
 fn no_runs(rt: HostRuntime) -> Result<(), Fail> {
-    let seven = program(rt.alloc(), &[7])?;
-    let others: [&[Action]; 5] = [
+    let rows: [&[Action]; 5] = [
         &[print(1, 8)],
         &[end(1)],
         &[print(2, 7)],
         &[print(1, 7), print(1, 7)],
         &[print(1, 7), end(1), end(1)],
     ];
-    for actions in others {
-        assert!(rt;
-            accepts(rt.alloc(), &seven, actions)?.is_none(),
-            "at {actions:?}"
-        );
+    for actions in rows {
+        assert!(rt; !is_run(rt.alloc(), actions)?, "at {actions:?}");
     }
-    let nothing = program(rt.alloc(), &[])?;
-    assert!(rt; accepts(rt.alloc(), &nothing, &[end(1)])?.is_some());
     Ok(())
 }

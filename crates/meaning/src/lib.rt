@@ -1,0 +1,3 @@
+//! The meaning of source programs (Lampson and Redell, "Experience with Processes and Monitors in Mesa", 1980): states,
+//! actions and runs, as definitions, with their laws.
+#![tactic(auto)]
