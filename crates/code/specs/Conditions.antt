@@ -13,11 +13,13 @@ use Rattle.code.specs.Locks.{waiters, take_at, got_at, leave_at}
 abbrev pub everyone : ℕ
 everyone = 4294967295
 
--- the sequence word is read under the lock; the process sleeps where it is still the same, and takes the lock again
+-- the sequence word is read under the lock, which is given up, and the process sleeps where that word is still the same
+abbrev pub sleep_code : Member → ℕ → ℕ → List Marked
+sleep_code c e s = plainly (Push s ∷ Push s ∷ Load ∷ []) ++ (leave_at (Wait c) e 3 ++ plainly (FutexWait ∷ Pop ∷ []))
+
+-- then it takes the lock again
 abbrev pub wait_code : Member → ℕ → ℕ → Instr → List Marked
-wait_code c e s recover =
-    plainly (Push s ∷ Push s ∷ Load ∷ []) ++ (leave_at (Wait c) e 3 ++ (plainly (FutexWait ∷ Pop ∷ []) ++
-    (take_at (Resume c.monitor) e 24 ++ got_at e recover 56)))
+wait_code c e s recover = sleep_code c e s ++ (take_at (Resume c.monitor) e 24 ++ got_at e recover 56)
 
 -- the sequence word goes on by one, and one sleeper is woken
 abbrev pub notify_code : Member → ℕ → List Marked

@@ -64,12 +64,14 @@ got_at e recover start =
 abbrev pub got_code : ℕ → Instr → List Marked
 got_code e recover = got_at e recover 0
 
--- a monitor is entered, by its number and its link word
-abbrev pub enter_code : ℕ → ℕ → Instr → List Marked
-enter_code m e recover =
+-- a monitor is entered, by its number and its link word: at once where the lock is free
+abbrev pub try_code : ℕ → ℕ → List Marked
+try_code m e =
     plainly (own Pending ++ (Push e ∷ Store ∷ Push (e + 1) ∷ Push 0 ∷ OwnNumber ∷ [])) ++
-    (marked (Enter m) CompareAndSwap ∷ (plainly (keep ∷ get ∷ JumpIfZero 43 ∷ []) ++
-    (take_at (Enter m) e 11 ++ got_at e recover 43)))
+    (marked (Enter m) CompareAndSwap ∷ plainly (keep ∷ get ∷ JumpIfZero 43 ∷ []))
+
+abbrev pub enter_code : ℕ → ℕ → Instr → List Marked
+enter_code m e recover = try_code m e ++ (take_at (Enter m) e 11 ++ got_at e recover 43)
 
 -- the lock is given up, from a place on, and one waiter is woken where there may be any; the mark stands where it is given up
 abbrev pub leave_at : Mark → ℕ → ℕ → List Marked

@@ -20,15 +20,22 @@ abbrev pub into_code : Option ℕ → Instr
 into_code (Some slot) = SetLocal (Local slot)
 into_code None = Pop
 
--- with the handle as its operand, up to where the process has ended by its return and its result is taken; a process that
--- aborted is found at place 30, behind a jump past what is done then
-abbrev pub join_code : Option ℕ → List Marked
-join_code into =
+-- with the handle as its operand: the process is claimed, and its end awaited
+abbrev pub await_code : List Marked
+await_code =
     plainly (keep ∷ get ∷ JumpIfZero 8 ∷ get ∷ ProcessAddress Claim ∷ Push 1 ∷ []) ++ (marked Claims Swap ∷
     (plainly (JumpIfZero 9 ∷ Raise HandleNotJoinable ∷ get ∷ ProcessAddress Id ∷ []) ++ (marked Joins Load ∷
-    plainly (JumpIfZero 19 ∷ get ∷ ProcessAddress Id ∷ get ∷ FutexWait ∷ Pop ∷ Jump 9 ∷
-    get ∷ ProcessAddress Outcome ∷ Load ∷ Push 16 ∷ Operate Eq ∷ JumpIfZero 30 ∷
-    get ∷ ProcessAddress Result ∷ Load ∷ into_code into ∷ []))))
+    plainly (JumpIfZero 19 ∷ get ∷ ProcessAddress Id ∷ get ∷ FutexWait ∷ Pop ∷ Jump 9 ∷ []))))
+
+-- then, where it has ended by its return, its result is read
+abbrev pub ended_code : List Marked
+ended_code =
+    plainly (get ∷ ProcessAddress Outcome ∷ Load ∷ Push 16 ∷ Operate Eq ∷ JumpIfZero 30 ∷ get ∷ ProcessAddress Result ∷ Load ∷ [])
+
+-- all of it, up to where the result is taken; a process that aborted is found at place 30, behind a jump past what is done
+-- then
+abbrev pub join_code : Option ℕ → List Marked
+join_code into = await_code ++ (ended_code ++ plain (into_code into) ∷ [])
 
 -- behind its arguments: a process of so many arguments is forked at a place, and its handle goes into a local
 abbrev pub fork_code : ℕ → ℕ → ℕ → List Marked

@@ -2,6 +2,8 @@
 //! expressions, statements and pieces, and the source action that stands at each instruction.
 #![tactic(auto)]
 
+mod appending;
 mod mark;
 
+pub use appending::{append, append_plain};
 pub use mark::{Mark, Marked};
