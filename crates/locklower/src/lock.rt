@@ -33,7 +33,13 @@ pub fn recovery(place: Option<u32>) -> Instr
 }
 
 /// The lock of the monitor with this link word is taken, in a template that begins at `start`, from its place `a` on.
-pub fn take_from(code: &mut Vec<Marked>, mark: Mark, link: u32, start: u32, a: u32) -> Result<(), AllocError>
+pub fn take_from(
+    code: &mut Vec<Marked>,
+    mark: Mark,
+    link: u32,
+    start: u32,
+    a: u32,
+) -> Result<(), AllocError>
     requires { (link < 2 ^ 16) × (start ≤ 2 ^ 17) × (a < 100) }
     ensures { OnOk result (code.new.items ≡ code.old.items ++ placed start (locks.take_at mark link a)) }
 {
@@ -117,7 +123,13 @@ pub fn got_from(
 }
 
 /// The lock of the monitor with this link word is given up, in a template that begins at `start`, from its place `a` on.
-pub fn leave_from(code: &mut Vec<Marked>, mark: Mark, link: u32, start: u32, a: u32) -> Result<(), AllocError>
+pub fn leave_from(
+    code: &mut Vec<Marked>,
+    mark: Mark,
+    link: u32,
+    start: u32,
+    a: u32,
+) -> Result<(), AllocError>
     requires { (link < 2 ^ 16) × (start ≤ 2 ^ 17) × (a < 100) }
     ensures { OnOk result (code.new.items ≡ code.old.items ++ placed start (locks.leave_at mark link a)) }
 {
@@ -219,7 +231,12 @@ fn enter_from(
 }
 
 /// A monitor is entered, by its number and its link word, with the place of its RECOVER part.
-pub fn enter(code: &mut Vec<Marked>, monitor: u32, link: u32, recover: Option<u32>) -> Result<(), AllocError>
+pub fn enter(
+    code: &mut Vec<Marked>,
+    monitor: u32,
+    link: u32,
+    recover: Option<u32>,
+) -> Result<(), AllocError>
     requires { (link < 2 ^ 16) × (length code.old.items ≤ 2 ^ 17) }
     ensures { OnOk result (code.new.items
         ≡ code.old.items ++ placed (length code.old.items) (locks.enter_code monitor link (locks.recovery recover))) }
@@ -236,5 +253,8 @@ pub fn exit(code: &mut Vec<Marked>, monitor: u32, link: u32) -> Result<(), Alloc
 {
     let start = code.len() as u32;
     leave_from(code, Mark::Exit(monitor), link, start, 0)?;
-    append_plain(code, &[Instr::OwnNumber, PENDING, Instr::Push(0), Instr::Store])
+    append_plain(
+        code,
+        &[Instr::OwnNumber, PENDING, Instr::Push(0), Instr::Store],
+    )
 }

@@ -1,0 +1,117 @@
+ghost use Rattle.std.specs.Prelude.{◌≡◌, ◌<◌, ◌≤◌, ◌+◌, ◌^◌, ◌++◌, OnOk, length};
+ghost use Rattle.code.specs.Marks.{placed};
+ghost use Rattle.code.specs.Locks.{recovery};
+ghost use Rattle.code.specs.Conditions as conditions;
+
+use code::{Mark, Marked, append, append_plain};
+use isa::Instr;
+use locklower::{got_from, leave_from, take_from};
+use program::Member;
+use std::alloc::AllocError;
+use words::WAITERS;
+
+// The beginning of `wait`, at this place: the sequence word is read, the lock is given up, and the process sleeps.
+fn sleep_from(
+    code: &mut Vec<Marked>,
+    condition: Member,
+    link: u32,
+    sequence: u32,
+    start: u32,
+) -> Result<(), AllocError>
+    requires { (link < 2 ^ 16) × (start ≤ 2 ^ 17) }
+    ensures { OnOk result (code.new.items ≡ code.old.items ++ placed start (conditions.sleep_code condition link sequence)) }
+{
+    append_plain(
+        code,
+        &[Instr::Push(sequence), Instr::Push(sequence), Instr::Load],
+    )?;
+    leave_from(code, Mark::Wait(condition), link, start, 3)?;
+    append_plain(code, &[Instr::FutexWait, Instr::Pop])
+}
+
+// The same as `wait`, at this place.
+fn wait_from(
+    code: &mut Vec<Marked>,
+    condition: Member,
+    link: u32,
+    sequence: u32,
+    recover: Option<u32>,
+    start: u32,
+) -> Result<(), AllocError>
+    requires { (link < 2 ^ 16) × (start ≤ 2 ^ 17) }
+    ensures { OnOk result (code.new.items
+        ≡ code.old.items ++ placed start (conditions.wait_code condition link sequence (recovery recover))) }
+{
+    sleep_from(code, condition, link, sequence, start)?;
+    take_from(code, Mark::Resume(condition.monitor), link, start, 24)?;
+    got_from(code, link, recover, start, 56)
+}
+
+/// WAIT on a condition, with the link word of its monitor, its own sequence word, and the place of the monitor's RECOVER
+/// part.
+pub fn wait(
+    code: &mut Vec<Marked>,
+    condition: Member,
+    link: u32,
+    sequence: u32,
+    recover: Option<u32>,
+) -> Result<(), AllocError>
+    requires { (link < 2 ^ 16) × (length code.old.items ≤ 2 ^ 17) }
+    ensures { OnOk result (code.new.items ≡ code.old.items
+        ++ placed (length code.old.items) (conditions.wait_code condition link sequence (recovery recover))) }
+{
+    let start = code.len() as u32;
+    wait_from(code, condition, link, sequence, recover, start)
+}
+
+/// NOTIFY of a condition, with its sequence word.
+pub fn notify(code: &mut Vec<Marked>, condition: Member, sequence: u32) -> Result<(), AllocError>
+    ensures { OnOk result (code.new.items ≡ code.old.items ++ conditions.notify_code condition sequence) }
+{
+    append_plain(
+        code,
+        &[
+            Instr::Push(sequence),
+            Instr::Push(1),
+            Instr::FetchAdd,
+            Instr::Pop,
+            Instr::Push(sequence),
+            Instr::Push(1),
+        ],
+    )?;
+    append(code, Mark::Notify(condition), Instr::FutexWake)?;
+    append(code, Mark::Plain, Instr::Pop)
+}
+
+/// BROADCAST of a condition, with the link word of its monitor and its sequence word.
+pub fn broadcast(
+    code: &mut Vec<Marked>,
+    condition: Member,
+    link: u32,
+    sequence: u32,
+) -> Result<(), AllocError>
+    requires { link < 2 ^ 16 }
+    ensures { OnOk result (code.new.items ≡ code.old.items ++ conditions.broadcast_code condition link sequence) }
+{
+    append_plain(
+        code,
+        &[
+            Instr::Push(sequence),
+            Instr::Push(1),
+            Instr::FetchAdd,
+            Instr::Pop,
+            Instr::Push(link + 1),
+            Instr::Push(WAITERS),
+            Instr::FetchOr,
+            Instr::Pop,
+            Instr::Push(sequence),
+            Instr::Push(link + 1),
+            Instr::Push(0),
+            Instr::Push(u32::MAX),
+            Instr::Push(sequence),
+            Instr::Load,
+        ],
+    )?;
+    append(code, Mark::Broadcast(condition), Instr::FutexRequeue)?;
+    append(code, Mark::Plain, Instr::Pop)
+}

@@ -1,0 +1,6 @@
+//! The templates of conditions, behind other code: wait, notify, broadcast.
+#![tactic(auto)]
+
+mod condition;
+
+pub use condition::{broadcast, notify, wait};
