@@ -4,9 +4,9 @@ use Rattle.std.proofs.lemmas.Bool.{cases_eq}
 use Rattle.std.proofs.lemmas.List.{get_or-set_same, get_or-set_other, length-set}
 use Rattle.words.specs.declared.mem.Addr.{Addr}
 use Rattle.buckets.specs.declared.sleeper.Sleeper.{Sleeper}
-use Rattle.buckets.specs.Lists.{joined, among, Stand, IsConsistent}
+use Rattle.buckets.specs.Lists.{concatenation, among, Stand, IsConsistent}
 use Rattle.buckets.proofs.Fronts.{on}
-use Rattle.buckets.proofs.Rows.{on-joined}
+use Rattle.buckets.proofs.Rows.{on-concatenation}
 
 -- what a new table and a new list of bucket k owe, where n buckets are
 pub record Replaces (places places' : List (Option Addr)) (n k : ℕ) (row : List Sleeper) : Type 0 where
@@ -17,11 +17,20 @@ pub record Replaces (places places' : List (Option Addr)) (n k : ℕ) (row : Lis
   pub stand : Stand places' n k row
   pub found : (t : ℕ) (a : Addr) → get_or places' t None ≡ Some a → a.0 % n ≡ k → among t row ≡ true
 
-stand-kept : (places places' : List (Option Addr)) (n j k : ℕ) (ss : List Sleeper) → ((t : ℕ) (a : Addr) → get_or places t None ≡ Some a → a.0 % n ≢ k → get_or places' t None ≡ Some a) → j ≢ k → Stand places n j ss → Stand places' n j ss
+stand-kept : (places places' : List (Option Addr)) (n j k : ℕ) (ss : List Sleeper)
+    → ((t : ℕ) (a : Addr) → get_or places t None ≡ Some a → a.0 % n ≢ k → get_or places' t None ≡ Some a) → j ≢ k
+    → Stand places n j ss → Stand places' n j ss
 stand-kept places places' n j k [] kept ne st = tt
-stand-kept places places' n j k (s ∷ ss) kept ne st = (st.0, kept s.thread s.address st.1 (λ e. ne (sym st.0 ∙ e)), st.2, stand-kept places places' n j k ss kept ne st.3)
+stand-kept places places' n j k (s ∷ ss) kept ne st = (
+  st.0,
+  kept s.thread s.address st.1 (λ e. ne (sym st.0 ∙ e)),
+  st.2,
+  stand-kept places places' n j k ss kept ne st.3,
+)
 
-pub replaced : (places places' : List (Option Addr)) (rows : List (List Sleeper)) (k : ℕ) (row : List Sleeper) → IsConsistent places rows → k < length rows → Replaces places places' (length rows) k row → IsConsistent places' (set rows k row)
+pub replaced : (places places' : List (Option Addr)) (rows : List (List Sleeper)) (k : ℕ) (row : List Sleeper)
+    → IsConsistent places rows → k < length rows → Replaces places places' (length rows) k row → IsConsistent places'
+    (set rows k row)
 replaced places places' rows k row i l r =
     let n : length (set rows k row) ≡ length rows = length-set rows k row in
     record {
@@ -31,7 +40,8 @@ replaced places places' rows k row i l r =
       some = omega (arith, n, i.some);
       stand = λ j h. rw n (elim (cases_eq j k) [
         | inl e ↦ rw (e, get_or-set_same rows k row [] l) r.stand
-        | inr ne ↦ rw (get_or-set_other rows k j row [] ne) (stand-kept places places' (length rows) j k _ r.kept ne (i.stand j (omega arith)))
+        | inr ne ↦ rw (get_or-set_other rows k j row [] ne) (stand-kept places places' (length rows) j k _ r.kept ne
+            (i.stand j (omega arith)))
       ]);
       found = λ t a h. rw n (elim (cases_eq (a.0 % length rows) k) [
         | inl e ↦ rw (e, get_or-set_same rows k row [] l) (r.found t a h e)
@@ -40,10 +50,13 @@ replaced places places' rows k row i l r =
     }
 
 -- the sleepers on an address after the change, by whether its bucket changed
-pub on-replaced : (places places' : List (Option Addr)) (rows : List (List Sleeper)) (k : ℕ) (row : List Sleeper) → IsConsistent places rows → IsConsistent places' (set rows k row) → k < length rows → (b : ℕ) (ys : List ℕ) → (b % length rows ≡ k → on b row ≡ ys) → (b % length rows ≢ k → on b (joined rows) ≡ ys) → on b (joined (set rows k row)) ≡ ys
+pub on-replaced : (places places' : List (Option Addr)) (rows : List (List Sleeper)) (k : ℕ) (row : List Sleeper)
+    → IsConsistent places rows → IsConsistent places' (set rows k row) → k < length rows → (b : ℕ) (ys : List ℕ)
+    → (b % length rows ≡ k → on b row ≡ ys) → (b % length rows ≢ k → on b (concatenation rows) ≡ ys) → on b
+    (concatenation (set rows k row)) ≡ ys
 on-replaced places places' rows k row i i' l b ys here there =
     let n : length (set rows k row) ≡ length rows = length-set rows k row in
-    on-joined places' (set rows k row) i' b ∙ rw n (elim (cases_eq (b % length rows) k) [
+    on-concatenation places' (set rows k row) i' b ∙ rw n (elim (cases_eq (b % length rows) k) [
       | inl e ↦ rw (e, get_or-set_same rows k row [] l) (here e)
-      | inr ne ↦ rw (get_or-set_other rows k (b % length rows) row [] ne) (sym (on-joined places rows i b) ∙ there ne)
+      | inr ne ↦ rw (get_or-set_other rows k (b % length rows) row [] ne) (sym (on-concatenation places rows i b) ∙ there ne)
     ])

@@ -35,7 +35,8 @@ on-others b t (s ∷ ss) = elim (cases_eq s.thread t) [
     | inr q ↦ rw (on-elsewhere b s ss q) refl
   ])
   | inr ne ↦ rw (others-kept t s ss ne) (elim (cases_eq s.address.0 b) [
-    | inl q ↦ rw (on-here b s (others t ss) q, on-here b s ss q, ne_eqb s.thread t ne) (ap (λ ys. s.thread ∷ ys) (on-others b t ss))
+    | inl q ↦ rw (on-here b s (others t ss) q, on-here b s ss q, ne_eqb s.thread t ne) (ap (λ ys. s.thread ∷ ys)
+        (on-others b t ss))
     | inr q ↦ rw (on-elsewhere b s (others t ss) q, on-elsewhere b s ss q) (on-others b t ss)
   ])
 ]
@@ -63,7 +64,8 @@ others-rest t u (s ∷ ss) ne h = elim (cases_eq s.thread t) [
   ])
 ]
 
-stand-others : (places : List (Option Addr)) (n k t : ℕ) (ss : List Sleeper) → Stand places n k ss → Stand (set places t None) n k (others t ss)
+stand-others : (places : List (Option Addr)) (n k t : ℕ) (ss : List Sleeper) → Stand places n k ss → Stand
+    (set places t None) n k (others t ss)
 stand-others places n k t [] st = tt
 stand-others places n k t (s ∷ ss) st = elim (cases_eq s.thread t) [
   | inl e ↦ rw (others-same t s ss e) (stand-others places n k t ss st.3)
@@ -75,14 +77,24 @@ stand-others places n k t (s ∷ ss) st = elim (cases_eq s.thread t) [
   )
 ]
 
-pub drops : (places : List (Option Addr)) (rows : List (List Sleeper)) (t : ℕ) (a : Addr) → IsConsistent places rows → t < length places → get_or places t None ≡ Some a → Replaces places (set places t None) (length rows) (a.0 % length rows) (others t (get_or rows (a.0 % length rows) []))
+pub drops : (places : List (Option Addr)) (rows : List (List Sleeper)) (t : ℕ) (a : Addr) → IsConsistent places rows
+    → t < length places → get_or places t None ≡ Some a → Replaces places (set places t None) (length rows)
+    (a.0 % length rows) (others t (get_or rows (a.0 % length rows) []))
 drops places rows t a i l sleeps = record {
   long = length-set places t None;
-  no_zero = elim (cases_eq 0 t) [ inl e ↦ rw e (get_or-set_same places t None None l) | inr o ↦ get_or-set_other places t 0 None None o ∙ i.no_zero ];
-  kept = λ u b h ne. get_or-set_other places t u None None (λ e. let at : get_or places t None ≡ Some b = rw e at h in let is : a ≡ b = cc in absurd (ne (ap (λ x. x.0 % length rows) (sym is)))) ∙ h;
+  no_zero = elim (cases_eq 0 t) [
+    | inl e ↦ rw e (get_or-set_same places t None None l)
+    | inr o ↦ get_or-set_other
+        places t 0 None None o ∙ i.no_zero
+  ];
+  kept = λ u b h ne. get_or-set_other places t u None None (λ e. let at : get_or places t None ≡ Some b = rw e at h
+      in let is : a ≡ b = cc in absurd (ne (ap (λ x. x.0 % length rows) (sym is)))) ∙ h;
   back = λ u b h ne. sym (get_or-set_other places t u None None (apart u b h)) ∙ h;
-  stand = stand-others places (length rows) (a.0 % length rows) t _ (i.stand (a.0 % length rows) (mod_lt a.0 (length rows) i.some));
-  found = λ u b h e. others-rest t u _ (apart u b h) (rw e at (i.found u b (sym (get_or-set_other places t u None None (apart u b h)) ∙ h)));
+  stand = stand-others places (length rows) (a.0 % length rows) t _ (i.stand (a.0 % length rows)
+      (mod_lt a.0 (length rows) i.some));
+  found = λ u b h e. others-rest t u _ (apart u b h)
+      (rw e at (i.found u b (sym (get_or-set_other places t u None None (apart u b h)) ∙ h)));
 } where
   apart : (u : ℕ) (b : Addr) → get_or (set places t None) u None ≡ Some b → u ≢ t
-  apart u b h e = let at : get_or (set places t None) t None ≡ Some b = rw e at h in let no = get_or-set_same places t None None l in cc
+  apart u b h e = let at : get_or (set places t None) t None ≡ Some b = rw e at h in let no = get_or-set_same places
+      t None None l in cc

@@ -28,13 +28,13 @@ impl Model for Buckets {
     ghost use Rattle.std.specs.Prelude.{◌+◌, ◌≤◌, map, vec_len, vec_capacity};
     ghost use Rattle.std.specs.List.{All};
     ghost use Rattle.buckets.specs.Sleepers.{Sleepers};
-    ghost use Rattle.buckets.specs.Lists.{joined, IsConsistent};
+    ghost use Rattle.buckets.specs.Lists.{concatenation, IsConsistent};
 
     ghost Value = { Sleepers };
 
     ghost view = { λ b. record {
       places = b.places.items;
-      waiting = joined (map (λ v. v.items) b.lists.items);
+      waiting = concatenation (map (λ v. v.items) b.lists.items);
     } };
 
     ghost invariant = { λ b. IsConsistent b.places.items (map (λ v. v.items) b.lists.items)

@@ -1,5 +1,5 @@
-//! Runs commands of mesamon that stand as rows on standard input, prints what came out otherwise than its row says, and
-//! at last how many rows there were. A row is a block of lines, each a key and what it says:
+//! Runs commands of mesamon that stand as rows on standard input, prints what came out otherwise than its row says,
+//! and at last how many rows there were. A row is a block of lines, each a key and what it says:
 //!
 //! ```text
 //! row NAME            a row of this name begins

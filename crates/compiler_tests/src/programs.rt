@@ -14,8 +14,8 @@ fn is_done(report: &Report) -> bool {
         && report.log.len() == 6
 }
 
-// Where an allocation is refused, as by `rt try --test --fail-alloc N`, the answer is that of ample memory or names the
-// want of it.
+// Where an allocation is refused, as by `rt try --test --fail-alloc N`, the answer is that of ample memory or names
+// the want of it.
 #[test]
 fn compiles_or_names_want_of_memory(rt: HostRuntime) {
     text_laws();

@@ -48,7 +48,9 @@ fn shows_tokens_and_refusals(rt: HostRuntime) -> Result<(), Fail> {
         ),
         (
             b";,.()[]=#",
-            "1:1 Sign(Semicolon) ;; 1:2 Sign(Comma) ,; 1:3 Sign(Dot) .; 1:4 Sign(OpenParen) (; 1:5 Sign(CloseParen) ); 1:6 Sign(OpenBracket) [; 1:7 Sign(CloseBracket) ]; 1:8 Sign(Equal) =; 1:9 Sign(NotEqual) #; 1:10 End ; ",
+            "1:1 Sign(Semicolon) ;; 1:2 Sign(Comma) ,; 1:3 Sign(Dot) .; 1:4 Sign(OpenParen) (; 1:5 \
+             Sign(CloseParen) ); 1:6 Sign(OpenBracket) [; 1:7 Sign(CloseBracket) ]; 1:8 Sign(Equal) =; 1:9 \
+             Sign(NotEqual) #; 1:10 End ; ",
         ),
         (
             b"+-*/",
@@ -67,7 +69,9 @@ fn shows_tokens_and_refusals(rt: HostRuntime) -> Result<(), Fail> {
 }
 
 const WORDS: &[u8] =
-    b"PROGRAM MONITOR VAR CONDITION ARRAY OF INTEGER BOOLEAN PROCESS ENTRY INTERNAL PROCEDURE END RECOVER MAIN IF THEN ELSE ENDIF WHILE DO ENDLOOP CALL INTO FORK JOIN ABORTED RETURN WAIT NOTIFY BROADCAST PRINT ABORT OR AND MOD NOT TRUE FALSE";
+    b"PROGRAM MONITOR VAR CONDITION ARRAY OF INTEGER BOOLEAN PROCESS ENTRY INTERNAL PROCEDURE END \
+      RECOVER MAIN IF THEN ELSE ENDIF WHILE DO ENDLOOP CALL INTO FORK JOIN ABORTED RETURN WAIT NOTIFY \
+      BROADCAST PRINT ABORT OR AND MOD NOT TRUE FALSE";
 
 // Each keyword is the one of that name.
 #[test]

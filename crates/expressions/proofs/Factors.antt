@@ -10,32 +10,48 @@ use Rattle.syntax.specs.Tree.{ExpressionTree, FactorTree, Group, Minus, Not, At}
 use Rattle.grammar.specs.Machine.{AFactor, AnIndex, AMark, Item, expression, reply_factor, reply_index}
 use Rattle.grammar.specs.Reading.{lexeme_at, rest_after, Passes, Fails}
 use Rattle.grammar.proofs.Joins.{here, done, close, leads_as, then1, then6, then7, fail1}
-use Rattle.expressions.specs.Taking.{Takes, Rejects}
+use Rattle.steps.specs.Taking.{Takes, Rejects}
 use Rattle.expressions.specs.Levels.{expression_trees, enclosed_trees}
-use Rattle.expressions.proofs.Small.{pushes, takes, rejects}
-use Rattle.expressions.proofs.Levels.{enclosed_back}
+use Rattle.steps.proofs.Small.{pushes, takes, rejects}
+use Rattle.expressions.proofs.LevelLaws.{enclosed_back}
 
 -- an expression and the sign behind it
-pub enclosed_passes : {d : ℕ} {s : Sign} {a n b : List Item} (e : ExpressionTree) → d ≤ 64 → Passes d (expression []) (expression_trees e) a n → Takes (AMark s) tt n b → Passes d (expression (AMark s ∷ [])) (enclosed_trees s e) a b
-enclosed_passes {d} {s} e le p t = done (then1 {d = d} {d' = d} (takes t le) (then6 {d = d} {d' = d} p (here {σ = expression (AMark s ∷ [])}) (omega arith)) (omega arith))
+pub enclosed_passes : {d : ℕ} {s : Sign} {a n b : List Item} (e : ExpressionTree) → d ≤ 64
+    → Passes d (expression []) (expression_trees e) a n → Takes (AMark s) tt n b
+    → Passes d (expression (AMark s ∷ [])) (enclosed_trees s e) a b
+enclosed_passes {d} {s} e le p t = done (then1 {d = d} {d' = d} (takes t le)
+    (then6 {d = d} {d' = d} p (here {σ = expression (AMark s ∷ [])}) (omega arith)) (omega arith))
 
-pub enclosed_fails : {d : ℕ} {s : Sign} {a n : List Item} {x : Refusal} (e : ExpressionTree) → Passes d (expression []) (expression_trees e) a n → Rejects (AMark s) n x → Fails d (expression (AMark s ∷ [])) a x
-enclosed_fails {d} {s} e p r = fail1 {d = d} {d' = d} (rejects r) (then6 {d = d} {d' = d} p (here {σ = expression (AMark s ∷ [])}) (omega arith)) (omega arith)
+pub enclosed_fails : {d : ℕ} {s : Sign} {a n : List Item} {x : Refusal} (e : ExpressionTree)
+    → Passes d (expression []) (expression_trees e) a n → Rejects (AMark s) n x
+    → Fails d (expression (AMark s ∷ [])) a x
+enclosed_fails {d} {s} e p r = fail1 {d = d} {d' = d} (rejects r)
+    (then6 {d = d} {d' = d} p (here {σ = expression (AMark s ∷ [])}) (omega arith)) (omega arith)
 
 -- a factor in parentheses, and one behind `-` or NOT
-pub paren_passes : {d i : ℕ} {a p b : List Item} (place : Place) (e : ExpressionTree) → i ≡ d + 1 → i ≤ 64 → lexeme_at a ≡ MarkAt S.OpenParen place → p ≡ rest_after a → Passes i (expression (AMark S.CloseParen ∷ [])) (enclosed_trees S.CloseParen e) p b → Passes d (AFactor ∷ []) (Group place e, tt) a b
+pub paren_passes : {d i : ℕ} {a p b : List Item} (place : Place) (e : ExpressionTree) → i ≡ d + 1 → i ≤ 64
+    → lexeme_at a ≡ MarkAt S.OpenParen place → p ≡ rest_after a → Passes i (expression (AMark S.CloseParen ∷ []))
+    (enclosed_trees S.CloseParen e) p b → Passes d (AFactor ∷ []) (Group place e, tt) a b
 paren_passes {d} {i} place e eq le h q x =
-    done (leads_as (λ y. ap (λ z. (Group place z, tt)) (enclosed_back S.CloseParen e)) (close (then7 {d = d} {d' = i} x (pushes {s = AFactor} (ap reply_factor h) q (omega arith)) (omega arith))))
+    done (leads_as (λ y. ap (λ z. (Group place z, tt)) (enclosed_back S.CloseParen e))
+    (close (then7 {d = d} {d' = i} x (pushes {s = AFactor} (ap reply_factor h) q (omega arith)) (omega arith))))
 
-pub minus_passes : {d i : ℕ} {a p b : List Item} (place : Place) (f : FactorTree) → i ≡ d + 1 → i ≤ 64 → lexeme_at a ≡ MarkAt S.Minus place → p ≡ rest_after a → Passes i (AFactor ∷ []) (f, tt) p b → Passes d (AFactor ∷ []) (Minus place f, tt) a b
+pub minus_passes : {d i : ℕ} {a p b : List Item} (place : Place) (f : FactorTree) → i ≡ d + 1 → i ≤ 64
+    → lexeme_at a ≡ MarkAt S.Minus place → p ≡ rest_after a → Passes i (AFactor ∷ []) (f, tt) p b
+    → Passes d (AFactor ∷ []) (Minus place f, tt) a b
 minus_passes {d} {i} place f eq le h q x =
     done (close (then1 {d = d} {d' = i} x (pushes {s = AFactor} (ap reply_factor h) q (omega arith)) (omega arith)))
 
-pub not_passes : {d i : ℕ} {a p b : List Item} (place : Place) (f : FactorTree) → i ≡ d + 1 → i ≤ 64 → lexeme_at a ≡ WordAt K.Not place → p ≡ rest_after a → Passes i (AFactor ∷ []) (f, tt) p b → Passes d (AFactor ∷ []) (Not place f, tt) a b
+pub not_passes : {d i : ℕ} {a p b : List Item} (place : Place) (f : FactorTree) → i ≡ d + 1 → i ≤ 64
+    → lexeme_at a ≡ WordAt K.Not place → p ≡ rest_after a → Passes i (AFactor ∷ []) (f, tt) p b
+    → Passes d (AFactor ∷ []) (Not place f, tt) a b
 not_passes {d} {i} place f eq le h q x =
     done (close (then1 {d = d} {d' = i} x (pushes {s = AFactor} (ap reply_factor h) q (omega arith)) (omega arith)))
 
 -- an index in brackets
-pub index_passes : {d i : ℕ} {a p b : List Item} (e : ExpressionTree) → i ≡ d + 1 → i ≤ 64 → lexeme_at a ≡ Mark S.OpenBracket → p ≡ rest_after a → Passes i (expression (AMark S.CloseBracket ∷ [])) (enclosed_trees S.CloseBracket e) p b → Passes d (AnIndex ∷ []) (At e, tt) a b
+pub index_passes : {d i : ℕ} {a p b : List Item} (e : ExpressionTree) → i ≡ d + 1 → i ≤ 64
+    → lexeme_at a ≡ Mark S.OpenBracket → p ≡ rest_after a → Passes i (expression (AMark S.CloseBracket ∷ []))
+    (enclosed_trees S.CloseBracket e) p b → Passes d (AnIndex ∷ []) (At e, tt) a b
 index_passes {d} {i} e eq le h q x =
-    done (leads_as (λ y. ap (λ z. (At z, tt)) (enclosed_back S.CloseBracket e)) (close (then7 {d = d} {d' = i} x (pushes {s = AnIndex} (ap reply_index h) q (omega arith)) (omega arith))))
+    done (leads_as (λ y. ap (λ z. (At z, tt)) (enclosed_back S.CloseBracket e))
+    (close (then7 {d = d} {d' = i} x (pushes {s = AnIndex} (ap reply_index h) q (omega arith)) (omega arith))))

@@ -1,5 +1,4 @@
-pub mod Small
-pub mod Levels
+pub mod LevelLaws
 pub mod Chains
 pub mod Factors
 pub mod Callees

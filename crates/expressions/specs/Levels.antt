@@ -1,5 +1,7 @@
 -- The trees of the symbols that each level of an expression is expected as.
-use Rattle.syntax.specs.Tree.{ExpressionTree, AnyOf, ConjunctionTree, AllOf, RelationTree, Relates, SumTree, Total, TermTree, Product, FactorTree, MultiplierTrees, SummandTrees, ComparisonTree, RelationTrees, ConjunctionTrees, CalleeTree}
+use Rattle.syntax.specs.Tree.{ExpressionTree, AnyOf, ConjunctionTree, AllOf, RelationTree, Relates, SumTree, Total}
+use Rattle.syntax.specs.Tree.{TermTree, Product, FactorTree, MultiplierTrees, SummandTrees, ComparisonTree}
+use Rattle.syntax.specs.Tree.{RelationTrees, ConjunctionTrees, CalleeTree}
 use Rattle.std.specs.Prelude.{[], ◌∷◌}
 use Rattle.scanner.specs.declared.token.Sign.{Sign}
 use Rattle.grammar.specs.Machine.{Trees, AMark, term, sum, relation, conjunction, expression, callee}
@@ -14,10 +16,22 @@ abbrev pub relation_trees : RelationTree → Trees (relation [])
 relation_trees (Relates s c) = ((sum_trees s).0, ((sum_trees s).1.0, ((sum_trees s).1.1.0, (c, tt))))
 
 abbrev pub conjunction_trees : ConjunctionTree → Trees (conjunction [])
-conjunction_trees (AllOf r rs) = ((relation_trees r).0, ((relation_trees r).1.0, ((relation_trees r).1.1.0, ((relation_trees r).1.1.1.0, (rs, tt)))))
+conjunction_trees (AllOf r rs) = (
+  (relation_trees r).0,
+  (
+    (relation_trees r).1.0,
+    ((relation_trees r).1.1.0, ((relation_trees r).1.1.1.0, (rs, tt))),
+  ),
+)
 
 abbrev pub expression_trees : ExpressionTree → Trees (expression [])
-expression_trees (AnyOf c cs) = ((conjunction_trees c).0, ((conjunction_trees c).1.0, ((conjunction_trees c).1.1.0, ((conjunction_trees c).1.1.1.0, ((conjunction_trees c).1.1.1.1.0, (cs, tt))))))
+expression_trees (AnyOf c cs) = (
+  (conjunction_trees c).0,
+  (
+    (conjunction_trees c).1.0,
+    ((conjunction_trees c).1.1.0, ((conjunction_trees c).1.1.1.0, ((conjunction_trees c).1.1.1.1.0, (cs, tt)))),
+  ),
+)
 
 -- what stands first at each level, and what is behind it
 abbrev pub first_factor : TermTree → FactorTree
@@ -52,7 +66,8 @@ further_conjunctions (AnyOf c cs) = cs
 
 -- an expression, and a sign behind it
 abbrev pub enclosed_trees : (s : Sign) → ExpressionTree → Trees (expression (AMark s ∷ []))
-enclosed_trees s e = let x = expression_trees e in (x.0, (x.1.0, (x.1.1.0, (x.1.1.1.0, (x.1.1.1.1.0, (x.1.1.1.1.1.0, (tt, tt)))))))
+enclosed_trees s e = let x = expression_trees e in
+    (x.0, (x.1.0, (x.1.1.0, (x.1.1.1.0, (x.1.1.1.1.0, (x.1.1.1.1.1.0, (tt, tt)))))))
 
 abbrev pub callee_trees : CalleeTree → Trees (callee [])
 callee_trees c = (c.name, (c.dotted, (c.open_place, (c.arguments, (tt, tt)))))

@@ -1,4 +1,1 @@
-pub mod Ahead
-pub mod Taking
 pub mod Levels
-pub mod Openers

@@ -1,11 +1,12 @@
-//! From tokens to the trees of expressions, with the small steps that the rest of a parser is made of.
+//! From tokens to the trees of expressions, of targets and of what is called.
+//!
+//! Each function reads its tree from the front of a parser's tokens and passes it. Where it refuses, the parser is
+//! of no further use: the tokens before the refused one may be passed already.
 #![tactic(auto)]
 
 mod alone;
-mod callee;
-mod expression;
-mod operators;
-mod parser;
-mod steps;
+mod calls;
+mod levels;
 
-pub use parser::{MOST_NESTINGS, Parser};
+pub use calls::{callee, value};
+pub use levels::{expression, expression_before, variable};

@@ -17,10 +17,14 @@ choice-front s a n ok = record {
   all = λ l t h. rw (take_all n (queue s a) (omega (arith, length-take n (queue s a)))) (ok.stands t a h);
 }
 
-pub wakes-front : (s s' : Sleepers) (a n : ℕ) (front : List ℕ) → IsSound s → front ≡ take n (queue s a) → place_of s' ≡ with_place (place_of s) front None → Wakes (place_of s) a n front (place_of s')
+pub wakes-front : (s s' : Sleepers) (a n : ℕ) (front : List ℕ) → IsSound s → front ≡ take n (queue s a) → place_of s'
+    ≡ with_place (place_of s) front None → Wakes (place_of s) a n front (place_of s')
 wakes-front s s' a n front ok f p = record { choice = rw f (choice-front s a n ok); awake = p }
 
-pub requeues-front : (word : ℕ → ℕ) (s s1 s2 : Sleepers) (a b n m expected : ℕ) (woken moved : List ℕ) → word a ≡ expected → IsSound s → IsSound s1 → woken ≡ take n (queue s a) → place_of s1 ≡ with_place (place_of s) woken None → moved ≡ cond (eqb a b) [] (take m (queue s1 a)) → place_of s2 ≡ with_place (place_of s1) moved (Some b) → Requeues word (place_of s) a b n m expected woken moved (place_of s2)
+pub requeues-front : (word : ℕ → ℕ) (s s1 s2 : Sleepers) (a b n m expected : ℕ) (woken moved : List ℕ) → word a
+    ≡ expected → IsSound s → IsSound s1 → woken ≡ take n (queue s a) → place_of s1 ≡ with_place (place_of s) woken
+    None → moved ≡ cond (eqb a b) [] (take m (queue s1 a)) → place_of s2 ≡ with_place (place_of s1) moved (Some b)
+    → Requeues word (place_of s) a b n m expected woken moved (place_of s2)
 requeues-front word s s1 s2 a b n m expected woken moved equal ok ok1 front p1 rest p2 = record {
   equal = equal;
   wakes = record { choice = rw front (choice-front s a n ok); awake = refl };

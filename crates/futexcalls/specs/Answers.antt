@@ -9,6 +9,7 @@ abbrev pub word_of : List ℕ → ℕ → ℕ
 word_of words a = slice_index words a
 
 -- a wait: it sleeps, or answers at once that the word differs, and changes nothing
-abbrev pub Waits : (word : ℕ → ℕ) (asleep : ℕ → Option ℕ) (t a expected : ℕ) → WaitAnswer → (after : ℕ → Option ℕ) → Type 0
+abbrev pub Waits : (word : ℕ → ℕ) (asleep : ℕ → Option ℕ) (t a expected : ℕ) → WaitAnswer → (after : ℕ → Option ℕ)
+    → Type 0
 Waits word asleep t a expected Sleeps after = futex.Sleeps word asleep t a expected after
 Waits word asleep t a expected Again after = (word a ≢ expected) × (after ≡ asleep)

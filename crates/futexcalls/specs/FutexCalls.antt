@@ -29,7 +29,8 @@ pub record Moves (asleep : ℕ → Option ℕ) (a b n : ℕ) (moved : List ℕ) 
 
 -- a compare-requeue (FUTEX_CMP_REQUEUE) that finds the first word as expected: a wake of at most n on it, and then a
 -- move of at most m of the rest
-pub record Requeues (word : ℕ → ℕ) (asleep : ℕ → Option ℕ) (a b n m expected : ℕ) (woken moved : List ℕ) (after : ℕ → Option ℕ) : Type 0 where
+pub record Requeues (word : ℕ → ℕ) (asleep : ℕ → Option ℕ) (a b n m expected : ℕ) (woken moved : List ℕ)
+    (after : ℕ → Option ℕ) : Type 0 where
   pub equal : word a ≡ expected
   pub wakes : Wakes asleep a n woken (with_place asleep woken None)
   pub moves : Moves (with_place asleep woken None) a b m moved after

@@ -55,8 +55,8 @@ pub fn wake(buckets: &mut Buckets, a: Addr, n: u32) -> Woken
     }
 }
 
-/// Where the word at `a` is as expected, wakes the first `wake` sleepers on `a`, and moves the first `moves` of the rest
-/// to the end of the list of `b` (futex(2), FUTEX_CMP_REQUEUE). Where `a` and `b` are the same nobody moves.
+/// Where the word at `a` is as expected, wakes the first `wake` sleepers on `a`, and moves the first `moves` of the
+/// rest to the end of the list of `b` (futex(2), FUTEX_CMP_REQUEUE). Where `a` and `b` are the same nobody moves.
 pub fn cmp_requeue(
     mem: &Mem,
     buckets: &mut Buckets,
@@ -77,7 +77,8 @@ pub fn cmp_requeue(
     ensures woken { IfOk result (λ r. r.woken ≡ take wake (queue buckets.old a.0)) }
     ensures moved { IfOk result (λ r. r.moved
         ≡ (if a.0 == b.0 then [] else take moves (drop wake (queue buckets.old a.0)))) }
-    ensures rest { IfOk result (λ r. queue buckets.new a.0 ≡ drop (length r.moved) (drop wake (queue buckets.old a.0))) }
+    ensures rest { IfOk result (λ r. queue buckets.new a.0
+        ≡ drop (length r.moved) (drop wake (queue buckets.old a.0))) }
     ensures last { IfOk result (λ r. a.0 ≢ b.0 → queue buckets.new b.0 ≡ queue buckets.old b.0 ++ r.moved) }
     ensures others { (d : ℕ) → d ≢ a.0 → d ≢ b.0 → queue buckets.new d ≡ queue buckets.old d }
     ensures threads { thread_count buckets.new ≡ thread_count buckets.old }

@@ -5,6 +5,7 @@ use buckets::ThreadList;
 /// The threads that a call woke, in the order in which they came to the address.
 #[derive(Drop, Debug)]
 pub struct Woken {
+    /// In the order in which they came.
     pub threads: ThreadList,
 }
 
@@ -20,7 +21,9 @@ impl Woken {
 /// The threads that a compare-requeue woke, and those that it moved, each in the order in which they came.
 #[derive(Drop, Debug)]
 pub struct Requeued {
+    /// Those woken.
     pub woken: ThreadList,
+    /// Those moved.
     pub moved: ThreadList,
 }
 

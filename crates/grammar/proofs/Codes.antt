@@ -13,7 +13,10 @@ equal_of : (a b : ℕ) → nat_eq a b ≡ true → a ≡ b
 equal_of a b h = grind (arith, nat_tests)
 
 words : List Keyword
-words = K.Program ∷ K.Monitor ∷ K.Var ∷ K.Condition ∷ K.Array ∷ K.Of ∷ K.Integer ∷ K.Boolean ∷ K.Process ∷ K.Entry ∷ K.Internal ∷ K.Procedure ∷ K.End ∷ K.Recover ∷ K.Main ∷ K.If ∷ K.Then ∷ K.Else ∷ K.Endif ∷ K.While ∷ K.Do ∷ K.Endloop ∷ K.Call ∷ K.Into ∷ K.Fork ∷ K.Join ∷ K.Aborted ∷ K.Return ∷ K.Wait ∷ K.Notify ∷ K.Broadcast ∷ K.Print ∷ K.Abort ∷ K.Or ∷ K.And ∷ K.Mod ∷ K.Not ∷ K.True ∷ K.False ∷ []
+words = K.Program ∷ K.Monitor ∷ K.Var ∷ K.Condition ∷ K.Array ∷ K.Of ∷ K.Integer ∷ K.Boolean ∷ K.Process ∷ K.Entry ∷
+    K.Internal ∷ K.Procedure ∷ K.End ∷ K.Recover ∷ K.Main ∷ K.If ∷ K.Then ∷ K.Else ∷ K.Endif ∷ K.While ∷ K.Do ∷
+    K.Endloop ∷ K.Call ∷ K.Into ∷ K.Fork ∷ K.Join ∷ K.Aborted ∷ K.Return ∷ K.Wait ∷ K.Notify ∷ K.Broadcast ∷ K.Print ∷
+    K.Abort ∷ K.Or ∷ K.And ∷ K.Mod ∷ K.Not ∷ K.True ∷ K.False ∷ []
 
 word_back : (w : Keyword) → get_or words (word_code w) K.Program ≡ w
 unfolding words
@@ -58,10 +61,13 @@ word_back K.True = refl
 word_back K.False = refl
 
 pub same_word : (w v : Keyword) → nat_eq (word_code w) (word_code v) ≡ true → w ≡ v
-same_word w v h = sym (word_back w) ∙ ap (λ n. get_or words n K.Program) (equal_of (word_code w) (word_code v) h) ∙ word_back v
+same_word w v h = sym (word_back w) ∙ ap (λ n. get_or words n K.Program)
+    (equal_of (word_code w) (word_code v) h) ∙ word_back v
 
 signs : List Sign
-signs = S.Assign ∷ S.Colon ∷ S.Semicolon ∷ S.Comma ∷ S.Dot ∷ S.OpenParen ∷ S.CloseParen ∷ S.OpenBracket ∷ S.CloseBracket ∷ S.Equal ∷ S.NotEqual ∷ S.Less ∷ S.LessEqual ∷ S.Greater ∷ S.GreaterEqual ∷ S.Plus ∷ S.Minus ∷ S.Times ∷ S.Divide ∷ []
+signs = S.Assign ∷ S.Colon ∷ S.Semicolon ∷ S.Comma ∷ S.Dot ∷ S.OpenParen ∷ S.CloseParen ∷ S.OpenBracket ∷
+    S.CloseBracket ∷ S.Equal ∷ S.NotEqual ∷ S.Less ∷ S.LessEqual ∷ S.Greater ∷ S.GreaterEqual ∷ S.Plus ∷ S.Minus ∷
+    S.Times ∷ S.Divide ∷ []
 
 sign_back : (s : Sign) → get_or signs (sign_code s) S.Assign ≡ s
 unfolding signs
@@ -86,7 +92,8 @@ sign_back S.Times = refl
 sign_back S.Divide = refl
 
 pub same_sign : (s r : Sign) → nat_eq (sign_code s) (sign_code r) ≡ true → s ≡ r
-same_sign s r h = sym (sign_back s) ∙ ap (λ n. get_or signs n S.Assign) (equal_of (sign_code s) (sign_code r) h) ∙ sign_back r
+same_sign s r h = sym (sign_back s) ∙ ap (λ n. get_or signs n S.Assign)
+    (equal_of (sign_code s) (sign_code r) h) ∙ sign_back r
 
 pub word_reply : (w : Keyword) → reply_word w (Word w) ≡ Push [] (λ _. tt)
 word_reply w = rw (eq-eqb (word_code w) (word_code w) refl) refl

@@ -1,12 +1,24 @@
 -- How deep the trees go that a stack leaves room for.
-use Rattle.std.proofs.Common.{◌≡◌, ◌≤◌, ℕ, ◌+◌, Bool, true, false, List, [], ◌∷◌, ◌++◌, Some, None, nat_eq, nat_lt, cond, refl, ap, subst, ◌∙◌, arith, max}
+use Rattle.std.proofs.Common.{◌≡◌, ◌≤◌, ℕ, ◌+◌, Bool, true, false, List, [], ◌∷◌, ◌++◌, Some, None, nat_eq, nat_lt}
+use Rattle.std.proofs.Common.{cond, refl, ap, subst, ◌∙◌, arith, max}
 use Rattle.scanner.specs.declared.token.Keyword.TheVariants as K
 use Rattle.scanner.specs.declared.token.Sign.TheVariants as S
 use Rattle.scanner.specs.declared.refusal.RefusalKind.{RefusalKind}
 use Rattle.scanner.specs.declared.refusal.RefusalKind.TheVariants.{Limit}
 use Rattle.syntax.specs.Lexeme.{Lexeme, Word, WordAt, Mark, MarkAt, Named, Numbered, Finish}
-use Rattle.syntax.specs.Nesting.{expression_nesting, conjunctions_nesting, relations_nesting, comparison_nesting, summands_nesting, multipliers_nesting, factor_nesting, index_nesting, arguments_nesting, value_nesting, statements_nesting, else_nesting, aborted_nesting, procedures_nesting, monitor_procedures_nesting, recover_nesting, monitors_nesting}
-use Rattle.grammar.specs.Machine.{Symbol, AWord, AMark, AWordAt, AnOpening, AName, ANumber, AFactor, AnIndex, Multipliers, Summands, AComparison, Relations, Conjunctions, Arguments, MoreArguments, ADottedName, AnInto, AValue, Statements, AnElse, AnAborted, ALocalType, AMemberType, AResultType, AReturns, Locals, Members, Parameters, MoreParameters, Procedures, MonitorProcedures, ARecover, Monitors, Closed, Tree, Trees, Reply, Push, Start, Skip, Reject, Beginning, Begins, NoFactor, Step, Onto, Over, Stuck, Item, Read, split, begun, started, factor_begin, expression, expression_rest, expression_in, expression_from, behind_rest, at_end, step_by, step, reply, word_code, sign_code, nestings, reads, onwards, refusal_at}
+use Rattle.syntax.specs.Nesting.{expression_nesting, conjunctions_nesting, relations_nesting, comparison_nesting}
+use Rattle.syntax.specs.Nesting.{summands_nesting, multipliers_nesting, factor_nesting, index_nesting}
+use Rattle.syntax.specs.Nesting.{arguments_nesting, value_nesting, statements_nesting, else_nesting, aborted_nesting}
+use Rattle.syntax.specs.Nesting.{procedures_nesting, monitor_procedures_nesting, recover_nesting, monitors_nesting}
+use Rattle.grammar.specs.Machine.{Symbol, AWord, AMark, AWordAt, AnOpening, AName, ANumber, AFactor, AnIndex}
+use Rattle.grammar.specs.Machine.{Multipliers, Summands, AComparison, Relations, Conjunctions, Arguments}
+use Rattle.grammar.specs.Machine.{MoreArguments, ADottedName, AnInto, AValue, Statements, AnElse, AnAborted}
+use Rattle.grammar.specs.Machine.{ALocalType, AMemberType, AResultType, AReturns, Locals, Members, Parameters}
+use Rattle.grammar.specs.Machine.{MoreParameters, Procedures, MonitorProcedures, ARecover, Monitors, Closed, Tree}
+use Rattle.grammar.specs.Machine.{Trees, Reply, Push, Start, Skip, Reject, Beginning, Begins, NoFactor, Step, Onto}
+use Rattle.grammar.specs.Machine.{Over, Stuck, Item, Read, split, begun, started, factor_begin, expression}
+use Rattle.grammar.specs.Machine.{expression_rest, expression_in, expression_from, behind_rest, at_end, step_by, step}
+use Rattle.grammar.specs.Machine.{reply, word_code, sign_code, nestings, reads, onwards, refusal_at}
 use Rattle.grammar.proofs.Sound.{trees_text, least, leasts, Undone, undone}
 use Rattle.grammar.proofs.Halts.{Halts, stuck, full, goes, read_on, within}
 
@@ -58,8 +70,10 @@ nest_append (_ ∷ ρ) σ = nest_append ρ σ
 
 -- of a symbol that isn't the end of a nesting
 abbrev Lower : (s : Symbol) → Reply (Tree s) → Type 0
-Lower s (Push ρ f) = (nestings (s ∷ []) ≡ 0) × ((m n : ℕ) (y : Trees ρ) → n ≤ m → Within m n ρ y → tree_nesting s (f y) + n ≤ m)
-Lower s (Start ρ f τ g) = (nestings (s ∷ []) ≡ 0) × ((m n : ℕ) (y : Trees ρ) (z : Trees τ) → n ≤ m → Within m (nestings τ + n) ρ y → Within m n τ z → tree_nesting s (g (f y) z) + n ≤ m)
+Lower s (Push ρ f) = (nestings (s ∷ []) ≡ 0) × ((m n : ℕ) (y : Trees ρ) → n ≤ m → Within m n ρ y
+    → tree_nesting s (f y) + n ≤ m)
+Lower s (Start ρ f τ g) = (nestings (s ∷ []) ≡ 0) × ((m n : ℕ) (y : Trees ρ) (z : Trees τ) → n ≤ m
+    → Within m (nestings τ + n) ρ y → Within m n τ z → tree_nesting s (g (f y) z) + n ≤ m)
 Lower s (Skip x) = tree_nesting s x ≡ 0
 Lower s Reject = Unit {0}
 
@@ -80,20 +94,27 @@ inner : (a n m : ℕ) → a + (1 + n) ≤ m → a + 1 + n ≤ m
 inner a n m h = omega arith
 
 -- six trees in a row make an expression
-expression_room : (f fs ts c rs cs n m : ℕ) → f + n ≤ m → fs + n ≤ m → ts + n ≤ m → c + n ≤ m → rs + n ≤ m → cs + n ≤ m → max (max (max (max (max f fs) ts) c) rs) cs + n ≤ m
+expression_room : (f fs ts c rs cs n m : ℕ) → f + n ≤ m → fs + n ≤ m → ts + n ≤ m → c + n ≤ m → rs + n ≤ m → cs + n ≤ m
+    → max (max (max (max (max f fs) ts) c) rs) cs + n ≤ m
 expression_room f fs ts c rs cs n m h1 h2 h3 h4 h5 h6 =
-    both (max (max (max (max f fs) ts) c) rs) cs n m (both (max (max (max f fs) ts) c) rs n m (both (max (max f fs) ts) c n m (both (max f fs) ts n m (both f fs n m h1 h2) h3) h4) h5) h6
+    both (max (max (max (max f fs) ts) c) rs) cs n m
+    (both (max (max (max f fs) ts) c) rs n m
+    (both (max (max f fs) ts) c n m (both (max f fs) ts n m (both f fs n m h1 h2) h3) h4) h5) h6
 
-expression_within : (m n : ℕ) (σ : List Symbol) (t : Trees (expression σ)) → Within m n (expression σ) t → expression_nesting (expression_in t) + (nestings σ + n) ≤ m
+expression_within : (m n : ℕ) (σ : List Symbol) (t : Trees (expression σ)) → Within m n (expression σ) t
+    → expression_nesting (expression_in t) + (nestings σ + n) ≤ m
 expression_within m n σ t w =
-    expression_room (factor_nesting t.0) (multipliers_nesting t.1.0) (summands_nesting t.1.1.0) (comparison_nesting t.1.1.1.0) (relations_nesting t.1.1.1.1.0) (conjunctions_nesting t.1.1.1.1.1.0) (nestings σ + n) m w.0 w.1.0 w.1.1.0 w.1.1.1.0 w.1.1.1.1.0 w.1.1.1.1.1.0
+    expression_room (factor_nesting t.0) (multipliers_nesting t.1.0) (summands_nesting t.1.1.0)
+    (comparison_nesting t.1.1.1.0) (relations_nesting t.1.1.1.1.0) (conjunctions_nesting t.1.1.1.1.1.0)
+    (nestings σ + n) m w.0 w.1.0 w.1.1.0 w.1.1.1.0 w.1.1.1.1.0 w.1.1.1.1.1.0
 
 beginning_lower : (k : Lexeme) → LowerBeginning (factor_begin k)
 beginning_lower (Numbered x) = λ m n y le w. none n m le
 beginning_lower (WordAt K.True place) = λ m n y le w. none n m le
 beginning_lower (WordAt K.False place) = λ m n y le w. none n m le
 beginning_lower (Named name) = λ m n y le w. bare _ n m w.0
-beginning_lower (MarkAt S.OpenParen place) = λ m n y le w. inner _ n m (expression_within m n (AMark S.CloseParen ∷ Closed ∷ []) y w)
+beginning_lower (MarkAt S.OpenParen place) = λ m n y le w. inner _ n m
+    (expression_within m n (AMark S.CloseParen ∷ Closed ∷ []) y w)
 beginning_lower (MarkAt S.Minus place) = λ m n y le w. inner _ n m w.0
 beginning_lower (WordAt K.Not place) = λ m n y le w. inner _ n m w.0
 beginning_lower _ = tt
@@ -102,21 +123,28 @@ factor_lower : (b : Beginning) → LowerBeginning b → Lower AFactor (begun b)
 factor_lower (Begins ρ f) h = (refl, h)
 factor_lower NoFactor h = tt
 
-arguments_lower : (b : Beginning) → LowerBeginning b → Lower Arguments (started b (expression_rest (MoreArguments ∷ [])) (λ f t. expression_from f t ∷ (behind_rest t).0) [])
+arguments_lower : (b : Beginning) → LowerBeginning b → Lower Arguments
+    (started b (expression_rest (MoreArguments ∷ [])) (λ f t. expression_from f t ∷ (behind_rest t).0) [])
 arguments_lower (Begins ρ f) h = (
   refl,
   λ m n y z le w v.
       let e = h m (0 + n) y (none n m le) w in
-      both _ (arguments_nesting z.1.1.1.1.1.0) n m (bare _ n m (expression_room (factor_nesting (f y)) (multipliers_nesting z.0) (summands_nesting z.1.0) (comparison_nesting z.1.1.0) (relations_nesting z.1.1.1.0) (conjunctions_nesting z.1.1.1.1.0) (0 + n) m e v.0 v.1.0 v.1.1.0 v.1.1.1.0 v.1.1.1.1.0)) (bare _ n m v.1.1.1.1.1.0),
+      both _ (arguments_nesting z.1.1.1.1.1.0) n m
+      (bare _ n m (expression_room (factor_nesting (f y)) (multipliers_nesting z.0) (summands_nesting z.1.0)
+      (comparison_nesting z.1.1.0) (relations_nesting z.1.1.1.0) (conjunctions_nesting z.1.1.1.1.0) (0 + n) m e v.0
+      v.1.0 v.1.1.0 v.1.1.1.0 v.1.1.1.1.0)) (bare _ n m v.1.1.1.1.1.0),
 )
 arguments_lower NoFactor h = refl
 
-value_lower : (b : Beginning) → LowerBeginning b → Lower AValue (started b (expression_rest []) (λ f t. Some (expression_from f t)) None)
+value_lower : (b : Beginning) → LowerBeginning b
+    → Lower AValue (started b (expression_rest []) (λ f t. Some (expression_from f t)) None)
 value_lower (Begins ρ f) h = (
   refl,
   λ m n y z le w v.
       let e = h m (0 + n) y (none n m le) w in
-      bare _ n m (expression_room (factor_nesting (f y)) (multipliers_nesting z.0) (summands_nesting z.1.0) (comparison_nesting z.1.1.0) (relations_nesting z.1.1.1.0) (conjunctions_nesting z.1.1.1.1.0) (0 + n) m e v.0 v.1.0 v.1.1.0 v.1.1.1.0 v.1.1.1.1.0),
+      bare _ n m (expression_room (factor_nesting (f y)) (multipliers_nesting z.0) (summands_nesting z.1.0)
+      (comparison_nesting z.1.1.0) (relations_nesting z.1.1.1.0) (conjunctions_nesting z.1.1.1.1.0) (0 + n) m e v.0
+      v.1.0 v.1.1.0 v.1.1.1.0 v.1.1.1.1.0),
 )
 value_lower NoFactor h = refl
 
@@ -124,10 +152,12 @@ word_lower : (s : Symbol) (b : Bool) (r q : Reply (Tree s)) → Lower s r → Lo
 word_lower s true r q h i = h
 word_lower s false r q h i = i
 
-if_room : (e a part rest n m : ℕ) → e + (1 + n) ≤ m → a + (1 + n) ≤ m → part + (1 + n) ≤ m → rest + (0 + n) ≤ m → max (max e (max a part) + 1) rest + n ≤ m
+if_room : (e a part rest n m : ℕ) → e + (1 + n) ≤ m → a + (1 + n) ≤ m → part + (1 + n) ≤ m → rest + (0 + n) ≤ m
+    → max (max e (max a part) + 1) rest + n ≤ m
 if_room e a part rest n m h1 h2 h3 h4 = omega arith
 
-while_room : (e a rest n m : ℕ) → e + (1 + n) ≤ m → a + (1 + n) ≤ m → rest + (0 + n) ≤ m → max (max e a + 1) rest + n ≤ m
+while_room : (e a rest n m : ℕ) → e + (1 + n) ≤ m → a + (1 + n) ≤ m → rest + (0 + n) ≤ m
+    → max (max e a + 1) rest + n ≤ m
 while_room e a rest n m h1 h2 h3 = omega arith
 
 two_room : (a rest n m : ℕ) → a + (0 + n) ≤ m → rest + (0 + n) ≤ m → max a rest + n ≤ m
@@ -140,11 +170,14 @@ rest_room : (rest n m : ℕ) → rest + (0 + n) ≤ m → max 0 rest + n ≤ m
 rest_room rest n m h = omega arith
 
 lower : (s : Symbol) (k : Lexeme) → Lower s (reply s k)
-lower (AWord w) (Word v) = word_lower (AWord w) (nat_eq (word_code w) (word_code v)) (Push [] (λ _. tt)) Reject (refl, λ m n y le w. none n m le) tt
+lower (AWord w) (Word v) = word_lower (AWord w) (nat_eq (word_code w) (word_code v)) (Push [] (λ _. tt)) Reject
+    (refl, λ m n y le w. none n m le) tt
 lower (AWord w) _ = tt
-lower (AMark s) (Mark r) = word_lower (AMark s) (nat_eq (sign_code s) (sign_code r)) (Push [] (λ _. tt)) Reject (refl, λ m n y le w. none n m le) tt
+lower (AMark s) (Mark r) = word_lower (AMark s) (nat_eq (sign_code s) (sign_code r)) (Push [] (λ _. tt)) Reject
+    (refl, λ m n y le w. none n m le) tt
 lower (AMark s) _ = tt
-lower (AWordAt w) (WordAt v place) = word_lower (AWordAt w) (nat_eq (word_code w) (word_code v)) (Push [] (λ _. place)) Reject (refl, λ m n y le w. none n m le) tt
+lower (AWordAt w) (WordAt v place) = word_lower (AWordAt w) (nat_eq (word_code w) (word_code v)) (Push [] (λ _. place))
+    Reject (refl, λ m n y le w. none n m le) tt
 lower (AWordAt w) _ = tt
 lower AnOpening (MarkAt S.OpenParen place) = (refl, λ m n y le w. none n m le)
 lower AnOpening _ = tt
@@ -153,7 +186,8 @@ lower AName _ = tt
 lower ANumber (Numbered x) = (refl, λ m n y le w. none n m le)
 lower ANumber _ = tt
 lower AFactor k = factor_lower (factor_begin k) (beginning_lower k)
-lower AnIndex (Mark S.OpenBracket) = (refl, λ m n y le w. inner _ n m (expression_within m n (AMark S.CloseBracket ∷ Closed ∷ []) y w))
+lower AnIndex (Mark S.OpenBracket) =
+    (refl, λ m n y le w. inner _ n m (expression_within m n (AMark S.CloseBracket ∷ Closed ∷ []) y w))
 lower AnIndex _ = refl
 lower Multipliers (Mark S.Times) = (refl, λ m n y le w. two_room _ _ n m w.0 w.1.0)
 lower Multipliers (Mark S.Divide) = (refl, λ m n y le w. two_room _ _ n m w.0 w.1.0)
@@ -169,29 +203,62 @@ lower AComparison (Mark S.LessEqual) = (refl, λ m n y le w. three_room _ _ _ n 
 lower AComparison (Mark S.Greater) = (refl, λ m n y le w. three_room _ _ _ n m w.0 w.1.0 w.1.1.0)
 lower AComparison (Mark S.GreaterEqual) = (refl, λ m n y le w. three_room _ _ _ n m w.0 w.1.0 w.1.1.0)
 lower AComparison _ = refl
-lower Relations (Word K.And) = (refl, λ m n y le w. bare _ n m (both _ _ (0 + n) m (both _ _ (0 + n) m (both _ _ (0 + n) m (both _ _ (0 + n) m w.0 w.1.0) w.1.1.0) w.1.1.1.0) w.1.1.1.1.0))
+lower Relations (Word K.And) = (
+  refl,
+  λ m n y le w. bare _ n m (both _ _ (0 + n) m
+      (both _ _ (0 + n) m (both _ _ (0 + n) m (both _ _ (0 + n) m w.0 w.1.0) w.1.1.0) w.1.1.1.0) w.1.1.1.1.0),
+)
 lower Relations _ = refl
 lower Conjunctions (Word K.Or) = (refl, λ m n y le w. bare _ n m (expression_within m n [] y w))
 lower Conjunctions _ = refl
 lower Arguments k = arguments_lower (factor_begin k) (beginning_lower k)
-lower MoreArguments (Mark S.Comma) = (refl, λ m n y le w. two_room _ _ n m (expression_within m n (MoreArguments ∷ []) y w) w.1.1.1.1.1.1.0)
+lower MoreArguments (Mark S.Comma) = (
+  refl,
+  λ m n y le w. two_room _ _ n m
+      (expression_within m n (MoreArguments ∷ []) y w) w.1.1.1.1.1.1.0,
+)
 lower MoreArguments _ = refl
 lower ADottedName (Mark S.Dot) = (refl, λ m n y le w. none n m le)
 lower ADottedName _ = refl
 lower AnInto (Word K.Into) = (refl, λ m n y le w. none n m le)
 lower AnInto _ = refl
 lower AValue k = value_lower (factor_begin k) (beginning_lower k)
-lower Statements (Named x) = (refl, λ m n y le w. three_room _ _ _ n m w.0 (expression_within m n (AMark S.Semicolon ∷ Statements ∷ []) y.1.1 w.1.1) w.1.1.1.1.1.1.1.1.1.0)
-lower Statements (WordAt K.If place) = (refl, λ m n y le w. let u = w.1.1.1.1.1.1 in if_room _ _ _ _ n m (expression_within m n (AWord K.Then ∷ Statements ∷ AnElse ∷ AWord K.Endif ∷ Closed ∷ AMark S.Semicolon ∷ Statements ∷ []) y w) u.1.0 u.1.1.0 u.1.1.1.1.1.1.0)
-lower Statements (WordAt K.While place) = (refl, λ m n y le w. let u = w.1.1.1.1.1.1 in while_room _ _ _ n m (expression_within m n (AWord K.Do ∷ Statements ∷ AWord K.Endloop ∷ Closed ∷ AMark S.Semicolon ∷ Statements ∷ []) y w) u.1.0 u.1.1.1.1.1.0)
+lower Statements (Named x) = (
+  refl,
+  λ m n y le w. three_room _ _ _ n m w.0
+      (expression_within m n (AMark S.Semicolon ∷ Statements ∷ []) y.1.1 w.1.1) w.1.1.1.1.1.1.1.1.1.0,
+)
+lower Statements (WordAt K.If place) = (
+  refl,
+  λ m n y le w. let u = w.1.1.1.1.1.1 in
+      if_room _ _ _ _ n m (expression_within m n
+      (AWord K.Then ∷ Statements ∷ AnElse ∷ AWord K.Endif ∷ Closed ∷ AMark S.Semicolon ∷ Statements ∷ []) y w) u.1.0
+      u.1.1.0 u.1.1.1.1.1.1.0,
+)
+lower Statements (WordAt K.While place) = (
+  refl,
+  λ m n y le w. let u = w.1.1.1.1.1.1 in
+      while_room _ _ _ n m (expression_within m n
+      (AWord K.Do ∷ Statements ∷ AWord K.Endloop ∷ Closed ∷ AMark S.Semicolon ∷ Statements ∷ []) y w) u.1.0
+      u.1.1.1.1.1.0,
+)
 lower Statements (WordAt K.Call place) = (refl, λ m n y le w. two_room _ _ n m w.1.1.1.0 w.1.1.1.1.1.1.1.0)
 lower Statements (WordAt K.Fork place) = (refl, λ m n y le w. two_room _ _ n m w.1.1.1.0 w.1.1.1.1.1.1.1.1.0)
-lower Statements (WordAt K.Join place) = (refl, λ m n y le w. let u = w.1.1.1.1.1.1 in three_room _ _ _ n m (expression_within m n (AnInto ∷ AnAborted ∷ AMark S.Semicolon ∷ Statements ∷ []) y w) u.1.0 u.1.1.1.0)
+lower Statements (WordAt K.Join place) = (
+  refl,
+  λ m n y le w. let u = w.1.1.1.1.1.1 in
+      three_room _ _ _ n m (expression_within m n (AnInto ∷ AnAborted ∷ AMark S.Semicolon ∷ Statements ∷ []) y w) u.1.0
+      u.1.1.1.0,
+)
 lower Statements (WordAt K.Return place) = (refl, λ m n y le w. two_room _ _ n m w.0 w.1.1.0)
 lower Statements (WordAt K.Wait place) = (refl, λ m n y le w. rest_room _ n m w.1.1.0)
 lower Statements (WordAt K.Notify place) = (refl, λ m n y le w. rest_room _ n m w.1.1.0)
 lower Statements (WordAt K.Broadcast place) = (refl, λ m n y le w. rest_room _ n m w.1.1.0)
-lower Statements (WordAt K.Print place) = (refl, λ m n y le w. two_room _ _ n m (expression_within m n (AMark S.Semicolon ∷ Statements ∷ []) y w) w.1.1.1.1.1.1.1.0)
+lower Statements (WordAt K.Print place) = (
+  refl,
+  λ m n y le w. two_room _ _ n m
+      (expression_within m n (AMark S.Semicolon ∷ Statements ∷ []) y w) w.1.1.1.1.1.1.1.0,
+)
 lower Statements (WordAt K.Abort place) = (refl, λ m n y le w. rest_room _ n m w.1.0)
 lower Statements _ = refl
 lower AnElse (Word K.Else) = (refl, λ m n y le w. bare _ n m w.0)
@@ -221,18 +288,32 @@ lower Parameters (Named x) = (refl, λ m n y le w. none n m le)
 lower Parameters _ = refl
 lower MoreParameters (Mark S.Comma) = (refl, λ m n y le w. none n m le)
 lower MoreParameters _ = refl
-lower Procedures (WordAt K.Procedure place) = (refl, λ m n y le w. let u = w.1.1.1.1.1.1.1 in two_room _ _ n m u.0 u.1.1.1.0)
+lower Procedures (WordAt K.Procedure place) =
+    (refl, λ m n y le w. let u = w.1.1.1.1.1.1.1 in two_room _ _ n m u.0 u.1.1.1.0)
 lower Procedures _ = refl
-lower MonitorProcedures (Word K.Entry) = (refl, λ m n y le w. let u = w.1.1.1.1.1.1.1.1 in two_room _ _ n m u.0 u.1.1.1.0)
-lower MonitorProcedures (Word K.Internal) = (refl, λ m n y le w. let u = w.1.1.1.1.1.1.1.1 in two_room _ _ n m u.0 u.1.1.1.0)
+lower MonitorProcedures (Word K.Entry) = (
+  refl,
+  λ m n y le w. let u = w.1.1.1.1.1.1.1.1 in
+      two_room _ _ n m u.0 u.1.1.1.0,
+)
+lower MonitorProcedures (Word K.Internal) = (
+  refl,
+  λ m n y le w. let u = w.1.1.1.1.1.1.1.1 in
+      two_room _ _ n m u.0 u.1.1.1.0,
+)
 lower MonitorProcedures _ = refl
 lower ARecover (WordAt K.Recover place) = (refl, λ m n y le w. bare _ n m w.1.0)
 lower ARecover _ = refl
-lower Monitors (WordAt K.Monitor place) = (refl, λ m n y le w. three_room _ _ _ n m w.1.1.1.0 w.1.1.1.1.0 w.1.1.1.1.1.1.1.0)
+lower Monitors (WordAt K.Monitor place) = (
+  refl,
+  λ m n y le w. three_room _ _ _ n m w.1.1.1.0 w.1.1.1.1.0
+      w.1.1.1.1.1.1.1.0,
+)
 lower Monitors _ = refl
 lower Closed k = refl
 
-within_split : (m n : ℕ) (ρ σ : List Symbol) (y : Trees (ρ ++ σ)) → Within m n (ρ ++ σ) y → Within m (nestings σ + n) ρ (split ρ σ y).0 × Within m n σ (split ρ σ y).1
+within_split : (m n : ℕ) (ρ σ : List Symbol) (y : Trees (ρ ++ σ)) → Within m n (ρ ++ σ) y
+    → Within m (nestings σ + n) ρ (split ρ σ y).0 × Within m n σ (split ρ σ y).1
 within_split m n [] σ y w = (tt, w)
 within_split m n (s ∷ ρ) σ y w =
     let h = within_split m n ρ σ y.1 w.1 in
@@ -253,7 +334,8 @@ at_skip a o m e h = omega arith
 below : (o s t m : ℕ) → o ≡ s + t → o ≤ m → t + 0 ≤ m
 below o s t m e h = omega arith
 
-by_lower : (m : ℕ) (s : Symbol) (σ : List Symbol) (r : Reply (Tree s)) (st : Step (Trees σ)) → nestings (s ∷ σ) ≤ m → Lower s r → Lowers m σ st → Lowers m (s ∷ σ) (step_by σ r st)
+by_lower : (m : ℕ) (s : Symbol) (σ : List Symbol) (r : Reply (Tree s)) (st : Step (Trees σ)) → nestings (s ∷ σ) ≤ m
+    → Lower s r → Lowers m σ st → Lowers m (s ∷ σ) (step_by σ r st)
 by_lower m s σ (Push ρ f) st le h i = λ y w.
     let p = within_split m 0 ρ σ y w in
     let e : nestings (s ∷ σ) ≡ nestings (s ∷ []) + nestings σ = nest_append (s ∷ []) σ in
@@ -265,7 +347,8 @@ by_lower m s σ (Start ρ f τ g) st le h i = λ y w.
     let e : nestings (s ∷ σ) ≡ nestings (s ∷ []) + nestings σ = nest_append (s ∷ []) σ in
     let P : ℕ → Type 0 = λ o. Within m o ρ (split ρ (τ ++ σ) y).0 in
     let d : nestings (τ ++ σ) + 0 ≡ nestings τ + (nestings σ + 0) = omega (arith, nest_append τ σ) in
-    let q = h.1 m (nestings σ + 0) (split ρ (τ ++ σ) y).0 (split τ σ (split ρ (τ ++ σ) y).1).0 (below _ _ _ m e le) (subst P d p.0) u.0 in
+    let q = h.1 m (nestings σ + 0) (split ρ (τ ++ σ) y).0 (split τ σ (split ρ (τ ++ σ) y).1).0 (below _ _ _ m e le)
+    (subst P d p.0) u.0 in
     (at_head _ _ (nestings σ) m (e ∙ ap (λ o. o + nestings σ) h.0) q, u.1)
 by_lower m s σ (Skip x) (Onto τ f) le h i = λ y w. (at_skip _ _ m h le, i y w)
 by_lower m s σ (Skip x) (Over z) le h i = (at_skip _ _ m h le, i)
@@ -295,7 +378,9 @@ least_within m [] le = tt
 least_within m (s ∷ σ) le = (at_skip _ _ m (least_nesting s) le, least_within m σ (under m s σ le))
 
 -- what stands before a refusal begins a text within the limit
-pub begins : {m : ℕ} {σ : List Symbol} {front : List Lexeme} {k : Lexeme} {kind : RefusalKind} → nestings σ ≤ m → Halts m σ front k kind → (x : Trees σ) × (rest : List Lexeme) × (trees_text σ x (Finish ∷ []) ≡ front ++ rest) × Within m 0 σ x
+pub begins : {m : ℕ} {σ : List Symbol} {front : List Lexeme} {k : Lexeme} {kind : RefusalKind} → nestings σ ≤ m
+    → Halts m σ front k kind → (x : Trees σ) × (rest : List Lexeme) × (trees_text σ x (Finish ∷ []) ≡ front ++ rest) ×
+    Within m 0 σ x
 begins {m = m} low (stuck {σ = σ} h) = (leasts σ, trees_text σ (leasts σ) (Finish ∷ []), refl, least_within m σ low)
 begins {m = m} low (full {σ = σ} h lt) = (leasts σ, trees_text σ (leasts σ) (Finish ∷ []), refl, least_within m σ low)
 begins {m = m} low (goes {σ = σ} {τ = τ} {j = j} {f = f} h le next) =
@@ -306,7 +391,9 @@ begins {m = m} low (goes {σ = σ} {τ = τ} {j = j} {f = f} h le next) =
     (f x.0, x.1, subst Q h (undone σ j) x.0 (Finish ∷ []) ∙ ap (λ l. j ∷ l) x.2, d x.3)
 
 -- a lexeme that would open one nesting too many could stand there
-pub could : {m : ℕ} {σ : List Symbol} {front : List Lexeme} {k : Lexeme} {kind : RefusalKind} → kind ≡ Limit → Halts m σ front k kind → (x : Trees σ) × (rest : List Lexeme) × (trees_text σ x (Finish ∷ []) ≡ front ++ k ∷ rest)
+pub could : {m : ℕ} {σ : List Symbol} {front : List Lexeme} {k : Lexeme} {kind : RefusalKind} → kind ≡ Limit
+    → Halts m σ front k kind → (x : Trees σ) × (rest : List Lexeme) ×
+    (trees_text σ x (Finish ∷ []) ≡ front ++ k ∷ rest)
 could l (stuck h) = cc
 could l (full {σ = σ} {τ = τ} {k = k} {f = f} h lt) =
     let Q : Step (Trees σ) → Type 0 = Undone σ k in
@@ -316,7 +403,9 @@ could l (goes {σ = σ} {j = j} {f = f} h le next) =
     let Q : Step (Trees σ) → Type 0 = Undone σ j in
     (f x.0, x.1, subst Q h (undone σ j) x.0 (Finish ∷ []) ∙ ap (λ l. j ∷ l) x.2)
 
-step_within : (m : ℕ) (σ : List Symbol) (st : Step (Trees σ)) (t : Item) (ts : List Item) (x : Trees σ) → Lowers m σ st → ((τ : List Symbol) (y : Trees τ) → nestings τ ≤ m → reads m ts τ ≡ Read y → Within m 0 τ y) → onwards m st (reads m ts) (t ∷ ts) ≡ Read x → Within m 0 σ x
+step_within : (m : ℕ) (σ : List Symbol) (st : Step (Trees σ)) (t : Item) (ts : List Item) (x : Trees σ) → Lowers m σ st
+    → ((τ : List Symbol) (y : Trees τ) → nestings τ ≤ m → reads m ts τ ≡ Read y → Within m 0 τ y)
+    → onwards m st (reads m ts) (t ∷ ts) ≡ Read x → Within m 0 σ x
 step_within m σ (Onto τ f) t ts x l next h =
     let z = read_on (nat_lt m (nestings τ)) f (reads m ts τ) (refusal_at Limit (t ∷ ts)) x h in
     let P : Trees σ → Type 0 = Within m 0 σ in
@@ -328,6 +417,8 @@ step_within m σ (Over y) t ts x l next h =
 step_within m σ Stuck t ts x l next h = absurd (cc)
 
 -- what is read is within the limit
-pub read_within : (m : ℕ) (ts : List Item) (σ : List Symbol) (x : Trees σ) → nestings σ ≤ m → reads m ts σ ≡ Read x → Within m 0 σ x
+pub read_within : (m : ℕ) (ts : List Item) (σ : List Symbol) (x : Trees σ) → nestings σ ≤ m → reads m ts σ ≡ Read x
+    → Within m 0 σ x
 read_within m [] σ x le h = absurd (cc)
-read_within m (t ∷ ts) σ x le h = step_within m σ (step σ t.lexeme) t ts x (lowers m σ t.lexeme le) (λ τ y. read_within m ts τ y) h
+read_within m (t ∷ ts) σ x le h = step_within m σ (step σ t.lexeme) t ts x (lowers m σ t.lexeme le)
+    (λ τ y. read_within m ts τ y) h

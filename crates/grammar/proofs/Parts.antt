@@ -8,8 +8,22 @@ use Rattle.syntax.specs.declared.declaration.MemberType.{MemberType}
 use Rattle.syntax.specs.declared.declaration.MemberType.TheVariants as M
 use Rattle.syntax.specs.declared.declaration.ResultType.{ResultType}
 use Rattle.syntax.specs.Lexeme.{NameTree, Lexeme, Word, WordAt, Mark, MarkAt, Named, Numbered, Finish}
-use Rattle.syntax.specs.Tree.{ExpressionTree, AnyOf, ConjunctionTrees, NoConjunctions, OrElse, ConjunctionTree, AllOf, RelationTrees, NoRelations, AndAlso, RelationTree, Relates, ComparisonTree, NoComparison, Compares, SumTree, Total, SummandTrees, NoSummands, Adds, TermTree, Product, MultiplierTrees, NoMultipliers, Scales, FactorTree, Constant, Truthful, Reads, Group, Minus, Not, IndexTree, NoIndex, At, CalleeTree, StatementTree, Assign, If, While, Call, Fork, Join, Return, Wait, Notify, Broadcast, Print, Abort, StatementTrees, NoStatements, Then, PartTree, NoPart, Part, LocalTree, ParameterTree, MemberTree, BodyTree, ProcedureTree, MonitorProcedureTree, RecoverTree, MonitorTree, UnitTree}
-use Rattle.syntax.specs.Spelling.{comparator_text, sum_sign, product_sign, truth_text, expression_text, conjunctions_text, conjunction_text, relations_text, relation_text, comparison_text, sum_text, summands_text, term_text, multipliers_text, factor_text, index_text, more_arguments_text, arguments_text, dotted_text, callee_text, into_text, value_text, statement_text, statements_text, else_text, aborted_text, local_type_text, result_type_text, member_type_text, locals_text, members_text, more_parameters_text, parameters_text, returns_text, body_text, procedure_text, procedures_text, access_text, monitor_procedures_text, recover_text, monitors_text, unit_text}
+use Rattle.syntax.specs.Tree.{ExpressionTree, AnyOf, ConjunctionTrees, NoConjunctions, OrElse, ConjunctionTree, AllOf}
+use Rattle.syntax.specs.Tree.{RelationTrees, NoRelations, AndAlso, RelationTree, Relates, ComparisonTree, NoComparison}
+use Rattle.syntax.specs.Tree.{Compares, SumTree, Total, SummandTrees, NoSummands, Adds, TermTree, Product}
+use Rattle.syntax.specs.Tree.{MultiplierTrees, NoMultipliers, Scales, FactorTree, Constant, Truthful, Reads, Group}
+use Rattle.syntax.specs.Tree.{Minus, Not, IndexTree, NoIndex, At, CalleeTree, StatementTree, Assign, If, While, Call}
+use Rattle.syntax.specs.Tree.{Fork, Join, Return, Wait, Notify, Broadcast, Print, Abort, StatementTrees, NoStatements}
+use Rattle.syntax.specs.Tree.{Then, PartTree, NoPart, Part, LocalTree, ParameterTree, MemberTree, BodyTree}
+use Rattle.syntax.specs.Tree.{ProcedureTree, MonitorProcedureTree, RecoverTree, MonitorTree, UnitTree}
+use Rattle.syntax.specs.Spelling.{comparator_text, sum_sign, product_sign, truth_text, expression_text}
+use Rattle.syntax.specs.Spelling.{conjunctions_text, conjunction_text, relations_text, relation_text, comparison_text}
+use Rattle.syntax.specs.Spelling.{sum_text, summands_text, term_text, multipliers_text, factor_text, index_text}
+use Rattle.syntax.specs.Spelling.{more_arguments_text, arguments_text, dotted_text, callee_text, into_text, value_text}
+use Rattle.syntax.specs.Spelling.{statement_text, statements_text, else_text, aborted_text, local_type_text}
+use Rattle.syntax.specs.Spelling.{result_type_text, member_type_text, locals_text, members_text, more_parameters_text}
+use Rattle.syntax.specs.Spelling.{parameters_text, returns_text, body_text, procedure_text, procedures_text}
+use Rattle.syntax.specs.Spelling.{access_text, monitor_procedures_text, recover_text, monitors_text, unit_text}
 use Rattle.grammar.specs.Productions.{expression, parameter, procedure, access_procedure, local, member, monitor}
 
 -- what is written before what follows
@@ -20,15 +34,20 @@ pub nothing : Spells (λ ks. ks) []
 nothing = record { before = λ ks. refl }
 
 -- a lexeme, and then a part
-pub lead : {f : List Lexeme → List Lexeme} {a : List Lexeme} (k : Lexeme) → Spells f a → Spells (λ ks. k ∷ f ks) (k ∷ a)
+pub lead : {f : List Lexeme → List Lexeme} {a : List Lexeme} (k : Lexeme) → Spells f a
+    → Spells (λ ks. k ∷ f ks) (k ∷ a)
 lead k s = record { before = λ ks. ap (λ z. k ∷ z) (s.before ks) }
 
 pub one : (k : Lexeme) → Spells (λ ks. k ∷ ks) (k ∷ [])
 one k = lead k nothing
 
 -- a part, and then another
-pub next : {f g : List Lexeme → List Lexeme} {a b : List Lexeme} → Spells f a → Spells g b → Spells (λ ks. f (g ks)) (a ++ b)
-next {f} {g} {a} {b} s t = record { before = λ ks. s.before (g ks) ∙ ap (λ z. a ++ z) (t.before ks) ∙ sym (append_assoc a b ks) }
+pub next : {f g : List Lexeme → List Lexeme} {a b : List Lexeme} → Spells f a → Spells g b
+    → Spells (λ ks. f (g ks)) (a ++ b)
+next {f} {g} {a} {b} s t = record {
+  before = λ ks. s.before (g ks) ∙ ap (λ z. a ++ z) (t.before ks) ∙ sym
+      (append_assoc a b ks);
+}
 
 -- with nothing behind it
 pub alone : {f : List Lexeme → List Lexeme} {a : List Lexeme} → Spells f a → f [] ≡ a
@@ -77,7 +96,8 @@ mutual
   factor_is (Constant n) = one (Numbered n)
   factor_is (Truthful t) = one (truth_text t)
   factor_is (Reads name index) = whole (lead (Named name) (index_is index))
-  factor_is (Group place e) = whole (next (lead (MarkAt S.OpenParen place) (expression_is e)) (one (Mark S.CloseParen)))
+  factor_is (Group place e) = whole (next (lead (MarkAt S.OpenParen place) (expression_is e))
+      (one (Mark S.CloseParen)))
   factor_is (Minus place f) = whole (lead (MarkAt S.Minus place) (factor_is f))
   factor_is (Not place f) = whole (lead (WordAt K.Not place) (factor_is f))
 
@@ -85,7 +105,8 @@ mutual
   index_is NoIndex = nothing
   index_is (At e) = whole (next (lead (Mark S.OpenBracket) (expression_is e)) (one (Mark S.CloseBracket)))
 
-pub more_arguments_are : (es : List ExpressionTree) → Spells (more_arguments_text es) (flat_map (λ e. Mark S.Comma ∷ expression e) es)
+pub more_arguments_are : (es : List ExpressionTree) → Spells (more_arguments_text es)
+    (flat_map (λ e. Mark S.Comma ∷ expression e) es)
 more_arguments_are [] = nothing
 more_arguments_are (e ∷ es) = next (lead (Mark S.Comma) (expression_is e)) (more_arguments_are es)
 
@@ -97,8 +118,12 @@ pub dotted_is : (name : Option NameTree) → Spells (dotted_text name) (dotted_t
 dotted_is None = nothing
 dotted_is (Some name) = lead (Mark S.Dot) (one (Named name))
 
-pub callee_has : (c : CalleeTree) → Spells (callee_text c) (Named c.name ∷ dotted_text c.dotted [] ++ MarkAt S.OpenParen c.open_place ∷ arguments_text c.arguments [] ++ Mark S.CloseParen ∷ [])
-callee_has c = next (next (lead (Named c.name) (dotted_is c.dotted)) (lead (MarkAt S.OpenParen c.open_place) (arguments_are c.arguments))) (one (Mark S.CloseParen))
+pub callee_has : (c : CalleeTree) → Spells (callee_text c)
+    (Named c.name ∷ dotted_text c.dotted [] ++ MarkAt S.OpenParen c.open_place ∷ arguments_text c.arguments [] ++ Mark
+    S.CloseParen ∷ [])
+callee_has c =
+    next (next (lead (Named c.name) (dotted_is c.dotted))
+    (lead (MarkAt S.OpenParen c.open_place) (arguments_are c.arguments))) (one (Mark S.CloseParen))
 
 pub callee_is : (c : CalleeTree) → Spells (callee_text c) (callee_text c [])
 callee_is c = whole (callee_has c)
@@ -113,13 +138,24 @@ value_is (Some e) = expression_is e
 
 mutual
   pub statement_is : (s : StatementTree) → Spells (statement_text s) (statement_text s [])
-  statement_is (Assign v e) = whole (next (next (lead (Named v.name) (index_is v.index)) (lead (Mark S.Assign) (expression_is e))) (one (Mark S.Semicolon)))
-  statement_is (If place e ss part) = whole (next (next (next (lead (WordAt K.If place) (expression_is e)) (lead (Word K.Then) (statements_are ss))) (else_is part)) (lead (Word K.Endif) (one (Mark S.Semicolon))))
-  statement_is (While place e ss) = whole (next (next (lead (WordAt K.While place) (expression_is e)) (lead (Word K.Do) (statements_are ss))) (lead (Word K.Endloop) (one (Mark S.Semicolon))))
-  statement_is (Call place c into) = whole (next (next (lead (WordAt K.Call place) (callee_is c)) (into_is into)) (one (Mark S.Semicolon)))
-  statement_is (Fork place c into) = whole (next (lead (WordAt K.Fork place) (callee_is c)) (lead (Word K.Into) (lead (Named into) (one (Mark S.Semicolon)))))
-  statement_is (Join place e into part) = whole (next (next (next (lead (WordAt K.Join place) (expression_is e)) (into_is into)) (aborted_is part)) (one (Mark S.Semicolon)))
-  statement_is (Return place value) = whole (next (lead (WordAt K.Return place) (value_is value)) (one (Mark S.Semicolon)))
+  statement_is (Assign v e) =
+      whole (next (next (lead (Named v.name) (index_is v.index)) (lead (Mark S.Assign) (expression_is e)))
+      (one (Mark S.Semicolon)))
+  statement_is (If place e ss part) =
+      whole (next (next (next (lead (WordAt K.If place) (expression_is e)) (lead (Word K.Then) (statements_are ss)))
+      (else_is part)) (lead (Word K.Endif) (one (Mark S.Semicolon))))
+  statement_is (While place e ss) =
+      whole (next (next (lead (WordAt K.While place) (expression_is e)) (lead (Word K.Do) (statements_are ss)))
+      (lead (Word K.Endloop) (one (Mark S.Semicolon))))
+  statement_is (Call place c into) = whole (next (next (lead (WordAt K.Call place) (callee_is c)) (into_is into))
+      (one (Mark S.Semicolon)))
+  statement_is (Fork place c into) = whole (next (lead (WordAt K.Fork place) (callee_is c))
+      (lead (Word K.Into) (lead (Named into) (one (Mark S.Semicolon)))))
+  statement_is (Join place e into part) = whole
+      (next (next (next (lead (WordAt K.Join place) (expression_is e)) (into_is into)) (aborted_is part))
+      (one (Mark S.Semicolon)))
+  statement_is (Return place value) = whole (next (lead (WordAt K.Return place) (value_is value))
+      (one (Mark S.Semicolon)))
   statement_is (Wait place name) = lead (WordAt K.Wait place) (lead (Named name) (one (Mark S.Semicolon)))
   statement_is (Notify place name) = lead (WordAt K.Notify place) (lead (Named name) (one (Mark S.Semicolon)))
   statement_is (Broadcast place name) = lead (WordAt K.Broadcast place) (lead (Named name) (one (Mark S.Semicolon)))
@@ -147,21 +183,31 @@ member_type_is (M.Array n) = lead (Word K.Array) (lead (Numbered n) (lead (Word 
 
 pub locals_are : (ls : List LocalTree) → Spells (locals_text ls) (flat_map local ls)
 locals_are [] = nothing
-locals_are (l ∷ ls) = next (lead (WordAt K.Var l.place) (lead (Named l.name) (lead (Mark S.Colon) (lead (local_type_text l.kind) (one (Mark S.Semicolon)))))) (locals_are ls)
+locals_are (l ∷ ls) =
+    next
+    (lead (WordAt K.Var l.place) (lead (Named l.name)
+    (lead (Mark S.Colon) (lead (local_type_text l.kind) (one (Mark S.Semicolon)))))) (locals_are ls)
 
-pub member_has : (m : MemberTree) → Spells (members_text (m ∷ [])) (WordAt K.Var m.place ∷ Named m.name ∷ Mark S.Colon ∷ member_type_text m.kind [] ++ Mark S.Semicolon ∷ [])
-member_has m = next (lead (WordAt K.Var m.place) (lead (Named m.name) (lead (Mark S.Colon) (member_type_is m.kind)))) (one (Mark S.Semicolon))
+pub member_has : (m : MemberTree) → Spells (members_text (m ∷ []))
+    (WordAt K.Var m.place ∷ Named m.name ∷ Mark S.Colon ∷ member_type_text m.kind [] ++ Mark S.Semicolon ∷ [])
+member_has m = next (lead (WordAt K.Var m.place) (lead (Named m.name) (lead (Mark S.Colon) (member_type_is m.kind))))
+    (one (Mark S.Semicolon))
 
 pub members_are : (ms : List MemberTree) → Spells (members_text ms) (flat_map member ms)
 members_are [] = nothing
 members_are (m ∷ ms) = next (whole (member_has m)) (members_are ms)
 
-pub more_parameters_are : (ps : List ParameterTree) → Spells (more_parameters_text ps) (flat_map (λ p. Mark S.Comma ∷ parameter p) ps)
+pub more_parameters_are : (ps : List ParameterTree) → Spells (more_parameters_text ps)
+    (flat_map (λ p. Mark S.Comma ∷ parameter p) ps)
 more_parameters_are [] = nothing
-more_parameters_are (p ∷ ps) = next (lead (Mark S.Comma) (lead (Named p.name) (lead (Mark S.Colon) (one (local_type_text p.kind))))) (more_parameters_are ps)
+more_parameters_are (p ∷ ps) =
+    next (lead (Mark S.Comma) (lead (Named p.name) (lead (Mark S.Colon) (one (local_type_text p.kind)))))
+    (more_parameters_are ps)
 
-pub parameters_have : (p : ParameterTree) (ps : List ParameterTree) → Spells (parameters_text (p ∷ ps)) (parameter p ++ flat_map (λ p. Mark S.Comma ∷ parameter p) ps)
-parameters_have p ps = next (lead (Named p.name) (lead (Mark S.Colon) (one (local_type_text p.kind)))) (more_parameters_are ps)
+pub parameters_have : (p : ParameterTree) (ps : List ParameterTree) → Spells (parameters_text (p ∷ ps))
+    (parameter p ++ flat_map (λ p. Mark S.Comma ∷ parameter p) ps)
+parameters_have p ps = next (lead (Named p.name) (lead (Mark S.Colon) (one (local_type_text p.kind))))
+    (more_parameters_are ps)
 
 pub parameters_are : (ps : List ParameterTree) → Spells (parameters_text ps) (parameters_text ps [])
 parameters_are [] = nothing
@@ -171,34 +217,60 @@ pub returns_is : (t : Option ResultType) → Spells (returns_text t) (returns_te
 returns_is None = nothing
 returns_is (Some t) = lead (Mark S.Colon) (one (result_type_text t))
 
-pub body_has : (b : BodyTree) → Spells (body_text b) (flat_map local b.locals ++ statements_text b.statements [] ++ Word K.End ∷ [])
+pub body_has : (b : BodyTree) → Spells (body_text b)
+    (flat_map local b.locals ++ statements_text b.statements [] ++ Word K.End ∷ [])
 body_has b = next (next (locals_are b.locals) (statements_are b.statements)) (one (Word K.End))
 
-pub procedure_has : (p : ProcedureTree) → Spells (procedure_text p) (WordAt K.Procedure p.place ∷ Named p.name ∷ MarkAt S.OpenParen p.open_place ∷ parameters_text p.parameters [] ++ Mark S.CloseParen ∷ returns_text p.returns [] ++ Mark S.Semicolon ∷ body_text p.body [] ++ Mark S.Semicolon ∷ [])
-procedure_has p = next (next (next (lead (WordAt K.Procedure p.place) (lead (Named p.name) (lead (MarkAt S.OpenParen p.open_place) (parameters_are p.parameters)))) (lead (Mark S.CloseParen) (returns_is p.returns))) (lead (Mark S.Semicolon) (whole (body_has p.body)))) (one (Mark S.Semicolon))
+pub procedure_has : (p : ProcedureTree) → Spells (procedure_text p)
+    (WordAt K.Procedure p.place ∷ Named p.name ∷ MarkAt S.OpenParen p.open_place ∷ parameters_text p.parameters
+    [] ++ Mark S.CloseParen ∷ returns_text p.returns [] ++ Mark S.Semicolon ∷ body_text p.body [] ++ Mark
+    S.Semicolon ∷ [])
+procedure_has p =
+    next
+    (next
+    (next
+    (lead (WordAt K.Procedure p.place) (lead (Named p.name)
+    (lead (MarkAt S.OpenParen p.open_place) (parameters_are p.parameters))))
+    (lead (Mark S.CloseParen) (returns_is p.returns))) (lead (Mark S.Semicolon) (whole (body_has p.body))))
+    (one (Mark S.Semicolon))
 
 pub procedures_are : (ps : List ProcedureTree) → Spells (procedures_text ps) (flat_map procedure ps)
 procedures_are [] = nothing
 procedures_are (p ∷ ps) = next (whole (procedure_has p)) (procedures_are ps)
 
-pub access_procedures_are : (ps : List MonitorProcedureTree) → Spells (monitor_procedures_text ps) (flat_map access_procedure ps)
+pub access_procedures_are : (ps : List MonitorProcedureTree) → Spells (monitor_procedures_text ps)
+    (flat_map access_procedure ps)
 access_procedures_are [] = nothing
-access_procedures_are (p ∷ ps) = next (lead (access_text p.access) (whole (procedure_has p.procedure))) (access_procedures_are ps)
+access_procedures_are (p ∷ ps) = next (lead (access_text p.access) (whole (procedure_has p.procedure)))
+    (access_procedures_are ps)
 
-pub recover_has : (r : RecoverTree) → Spells (recover_text (Some r)) (WordAt K.Recover r.place ∷ body_text r.body [] ++ Mark S.Semicolon ∷ [])
+pub recover_has : (r : RecoverTree) → Spells (recover_text (Some r))
+    (WordAt K.Recover r.place ∷ body_text r.body [] ++ Mark S.Semicolon ∷ [])
 recover_has r = next (lead (WordAt K.Recover r.place) (whole (body_has r.body))) (one (Mark S.Semicolon))
 
 pub recover_is : (r : Option RecoverTree) → Spells (recover_text r) (recover_text r [])
 recover_is None = nothing
 recover_is (Some r) = whole (recover_has r)
 
-pub monitor_has : (m : MonitorTree) → Spells (monitors_text (m ∷ [])) (WordAt K.Monitor m.place ∷ Named m.name ∷ Mark S.Semicolon ∷ flat_map member m.members ++ flat_map access_procedure m.procedures ++ recover_text m.recover [] ++ Word K.End ∷ Mark S.Semicolon ∷ [])
-monitor_has m = next (next (next (lead (WordAt K.Monitor m.place) (lead (Named m.name) (lead (Mark S.Semicolon) (members_are m.members)))) (access_procedures_are m.procedures)) (recover_is m.recover)) (lead (Word K.End) (one (Mark S.Semicolon)))
+pub monitor_has : (m : MonitorTree) → Spells (monitors_text (m ∷ []))
+    (WordAt K.Monitor m.place ∷ Named m.name ∷ Mark S.Semicolon ∷ flat_map member m.members ++ flat_map
+    access_procedure m.procedures ++ recover_text m.recover [] ++ Word K.End ∷ Mark S.Semicolon ∷ [])
+monitor_has m =
+    next
+    (next
+    (next (lead (WordAt K.Monitor m.place) (lead (Named m.name) (lead (Mark S.Semicolon) (members_are m.members))))
+    (access_procedures_are m.procedures)) (recover_is m.recover)) (lead (Word K.End) (one (Mark S.Semicolon)))
 
 pub monitors_are : (ms : List MonitorTree) → Spells (monitors_text ms) (flat_map monitor ms)
 monitors_are [] = nothing
 monitors_are (m ∷ ms) = next (whole (monitor_has m)) (monitors_are ms)
 
 -- a unit ends with its text, so that its end is what follows
-pub unit_has : (u : UnitTree) → unit_text u ≡ Word K.Program ∷ Named u.name ∷ Mark S.Semicolon ∷ flat_map monitor u.monitors ++ flat_map procedure u.procedures ++ WordAt K.Main u.place ∷ body_text u.body [] ++ Mark S.Dot ∷ Finish ∷ []
-unit_has u = alone (next (next (next (lead (Word K.Program) (lead (Named u.name) (lead (Mark S.Semicolon) (monitors_are u.monitors)))) (procedures_are u.procedures)) (lead (WordAt K.Main u.place) (whole (body_has u.body)))) (lead (Mark S.Dot) (one Finish)))
+pub unit_has : (u : UnitTree) → unit_text u ≡ Word K.Program ∷ Named u.name ∷ Mark S.Semicolon ∷ flat_map monitor
+    u.monitors ++ flat_map procedure u.procedures ++ WordAt K.Main u.place ∷ body_text u.body [] ++ Mark
+    S.Dot ∷ Finish ∷ []
+unit_has u =
+    alone
+    (next (next (next (lead (Word K.Program) (lead (Named u.name) (lead (Mark S.Semicolon) (monitors_are u.monitors))))
+    (procedures_are u.procedures)) (lead (WordAt K.Main u.place) (whole (body_has u.body))))
+    (lead (Mark S.Dot) (one Finish)))

@@ -1,5 +1,6 @@
 -- What is read is spelled so.
-use Rattle.std.proofs.Common.{◌≡◌, Bool, true, false, List, [], ◌∷◌, ◌++◌, Some, None, nat_eq, cond, refl, ap, sym, ◌∙◌}
+use Rattle.std.proofs.Common.{◌≡◌, Bool, true, false, List, [], ◌∷◌, ◌++◌, Some, None, nat_eq, cond, refl, ap, sym}
+use Rattle.std.proofs.Common.{◌∙◌}
 use Rattle.scanner.specs.declared.token.Keyword.{Keyword}
 use Rattle.scanner.specs.declared.token.Keyword.TheVariants as K
 use Rattle.scanner.specs.declared.token.Sign.{Sign}
@@ -9,9 +10,22 @@ use Rattle.syntax.specs.declared.declaration.LocalType.TheVariants as L
 use Rattle.syntax.specs.declared.declaration.MemberType.TheVariants as M
 use Rattle.syntax.specs.declared.declaration.ResultType.TheVariants as R
 use Rattle.syntax.specs.Lexeme.{Lexeme, Word, WordAt, Mark, MarkAt, Named, Numbered, Finish}
-use Rattle.syntax.specs.Tree.{NoConjunctions, NoRelations, NoComparison, NoSummands, NoMultipliers, Constant, NoIndex, NoStatements, NoPart}
-use Rattle.syntax.specs.Spelling.{conjunctions_text, relations_text, comparison_text, summands_text, multipliers_text, factor_text, index_text, arguments_text, more_arguments_text, dotted_text, into_text, value_text, statements_text, else_text, aborted_text, local_type_text, result_type_text, member_type_text, locals_text, members_text, parameters_text, more_parameters_text, returns_text, procedures_text, monitor_procedures_text, recover_text, monitors_text}
-use Rattle.grammar.specs.Machine.{Symbol, AWord, AMark, AWordAt, AnOpening, AName, ANumber, AFactor, AnIndex, Multipliers, Summands, AComparison, Relations, Conjunctions, Arguments, MoreArguments, ADottedName, AnInto, AValue, Statements, AnElse, AnAborted, ALocalType, AMemberType, AResultType, AReturns, Locals, Members, Parameters, MoreParameters, Procedures, MonitorProcedures, ARecover, Monitors, Closed, Tree, Trees, Reply, Push, Start, Skip, Reject, Beginning, Begins, NoFactor, Step, Onto, Over, Stuck, split, begun, started, factor_begin, expression_rest, expression_from, behind_rest, at_end, step_by, step, reply, word_code, sign_code}
+use Rattle.syntax.specs.Tree.{NoConjunctions, NoRelations, NoComparison, NoSummands, NoMultipliers, Constant, NoIndex}
+use Rattle.syntax.specs.Tree.{NoStatements, NoPart}
+use Rattle.syntax.specs.Spelling.{conjunctions_text, relations_text, comparison_text, summands_text, multipliers_text}
+use Rattle.syntax.specs.Spelling.{factor_text, index_text, arguments_text, more_arguments_text, dotted_text, into_text}
+use Rattle.syntax.specs.Spelling.{value_text, statements_text, else_text, aborted_text, local_type_text}
+use Rattle.syntax.specs.Spelling.{result_type_text, member_type_text, locals_text, members_text, parameters_text}
+use Rattle.syntax.specs.Spelling.{more_parameters_text, returns_text, procedures_text, monitor_procedures_text}
+use Rattle.syntax.specs.Spelling.{recover_text, monitors_text}
+use Rattle.grammar.specs.Machine.{Symbol, AWord, AMark, AWordAt, AnOpening, AName, ANumber, AFactor, AnIndex}
+use Rattle.grammar.specs.Machine.{Multipliers, Summands, AComparison, Relations, Conjunctions, Arguments}
+use Rattle.grammar.specs.Machine.{MoreArguments, ADottedName, AnInto, AValue, Statements, AnElse, AnAborted}
+use Rattle.grammar.specs.Machine.{ALocalType, AMemberType, AResultType, AReturns, Locals, Members, Parameters}
+use Rattle.grammar.specs.Machine.{MoreParameters, Procedures, MonitorProcedures, ARecover, Monitors, Closed, Tree}
+use Rattle.grammar.specs.Machine.{Trees, Reply, Push, Start, Skip, Reject, Beginning, Begins, NoFactor, Step, Onto}
+use Rattle.grammar.specs.Machine.{Over, Stuck, split, begun, started, factor_begin, expression_rest, expression_from}
+use Rattle.grammar.specs.Machine.{behind_rest, at_end, step_by, step, reply, word_code, sign_code}
 use Rattle.grammar.proofs.Codes.{same_word, same_sign}
 
 -- what the tree of a symbol, and the trees of a stack, are spelled as before what follows
@@ -102,7 +116,8 @@ leasts (s ∷ σ) = (least s, leasts σ)
 -- a reply spells the lexeme
 abbrev Undo : (s : Symbol) → Lexeme → Reply (Tree s) → Type 0
 Undo s k (Push ρ f) = (y : Trees ρ) (ks : List Lexeme) → tree_text s (f y) ks ≡ k ∷ trees_text ρ y ks
-Undo s k (Start ρ f τ g) = (y : Trees ρ) (z : Trees τ) (ks : List Lexeme) → tree_text s (g (f y) z) ks ≡ k ∷ trees_text ρ y (trees_text τ z ks)
+Undo s k (Start ρ f τ g) = (y : Trees ρ) (z : Trees τ) (ks : List Lexeme)
+    → tree_text s (g (f y) z) ks ≡ k ∷ trees_text ρ y (trees_text τ z ks)
 Undo s k (Skip x) = (ks : List Lexeme) → tree_text s x ks ≡ ks
 Undo s k Reject = Unit {0}
 
@@ -110,7 +125,8 @@ abbrev UndoBeginning : Lexeme → Beginning → Type 0
 UndoBeginning k (Begins ρ f) = (y : Trees ρ) (ks : List Lexeme) → factor_text (f y) ks ≡ k ∷ trees_text ρ y ks
 UndoBeginning k NoFactor = Unit {0}
 
-word_undo : (w v : Keyword) (b : Bool) → (b ≡ true → w ≡ v) → Undo (AWord w) (Word v) (cond b (Push [] (λ _. tt)) Reject)
+word_undo : (w v : Keyword) (b : Bool) → (b ≡ true → w ≡ v) → Undo (AWord w) (Word v)
+    (cond b (Push [] (λ _. tt)) Reject)
 word_undo w v true h = λ y ks. ap (λ u. Word u ∷ ks) (h refl)
 word_undo w v false h = tt
 
@@ -118,7 +134,8 @@ mark_undo : (s r : Sign) (b : Bool) → (b ≡ true → s ≡ r) → Undo (AMark
 mark_undo s r true h = λ y ks. ap (λ u. Mark u ∷ ks) (h refl)
 mark_undo s r false h = tt
 
-word_at_undo : (w v : Keyword) (place : Place) (b : Bool) → (b ≡ true → w ≡ v) → Undo (AWordAt w) (WordAt v place) (cond b (Push [] (λ _. place)) Reject)
+word_at_undo : (w v : Keyword) (place : Place) (b : Bool) → (b ≡ true → w ≡ v)
+    → Undo (AWordAt w) (WordAt v place) (cond b (Push [] (λ _. place)) Reject)
 word_at_undo w v place true h = λ y ks. ap (λ u. WordAt u place ∷ ks) (h refl)
 word_at_undo w v place false h = tt
 
@@ -136,11 +153,13 @@ factor_undo : (k : Lexeme) (b : Beginning) → UndoBeginning k b → Undo AFacto
 factor_undo k (Begins ρ f) h = h
 factor_undo k NoFactor h = tt
 
-arguments_undo : (k : Lexeme) (b : Beginning) → UndoBeginning k b → Undo Arguments k (started b (expression_rest (MoreArguments ∷ [])) (λ f t. expression_from f t ∷ (behind_rest t).0) [])
+arguments_undo : (k : Lexeme) (b : Beginning) → UndoBeginning k b → Undo Arguments k
+    (started b (expression_rest (MoreArguments ∷ [])) (λ f t. expression_from f t ∷ (behind_rest t).0) [])
 arguments_undo k (Begins ρ f) h = λ y z ks. h y (trees_text (expression_rest (MoreArguments ∷ [])) z ks)
 arguments_undo k NoFactor h = λ ks. refl
 
-value_undo : (k : Lexeme) (b : Beginning) → UndoBeginning k b → Undo AValue k (started b (expression_rest []) (λ f t. Some (expression_from f t)) None)
+value_undo : (k : Lexeme) (b : Beginning) → UndoBeginning k b → Undo AValue k
+    (started b (expression_rest []) (λ f t. Some (expression_from f t)) None)
 value_undo k (Begins ρ f) h = λ y z ks. h y (trees_text (expression_rest []) z ks)
 value_undo k NoFactor h = λ ks. refl
 
@@ -237,7 +256,8 @@ undo Monitors (WordAt K.Monitor place) = λ y ks. refl
 undo Monitors _ = λ ks. refl
 undo Closed k = λ ks. refl
 
-pub split_text : (ρ σ : List Symbol) (y : Trees (ρ ++ σ)) (ks : List Lexeme) → trees_text (ρ ++ σ) y ks ≡ trees_text ρ (split ρ σ y).0 (trees_text σ (split ρ σ y).1 ks)
+pub split_text : (ρ σ : List Symbol) (y : Trees (ρ ++ σ)) (ks : List Lexeme)
+    → trees_text (ρ ++ σ) y ks ≡ trees_text ρ (split ρ σ y).0 (trees_text σ (split ρ σ y).1 ks)
 split_text [] σ y ks = refl
 split_text (s ∷ ρ) σ y ks = ap (λ l. tree_text s y.0 l) (split_text ρ σ y.1 ks)
 
@@ -247,8 +267,10 @@ Undone σ k (Onto τ f) = (y : Trees τ) (ks : List Lexeme) → trees_text σ (f
 Undone σ k (Over x) = (k ≡ Finish) × ((ks : List Lexeme) → trees_text σ x ks ≡ ks)
 Undone σ k Stuck = Unit {0}
 
-by_undo : (s : Symbol) (σ : List Symbol) (k : Lexeme) (r : Reply (Tree s)) (st : Step (Trees σ)) → Undo s k r → Undone σ k st → Undone (s ∷ σ) k (step_by σ r st)
-by_undo s σ k (Push ρ f) st h i = λ y ks. h (split ρ σ y).0 (trees_text σ (split ρ σ y).1 ks) ∙ ap (λ l. k ∷ l) (sym (split_text ρ σ y ks))
+by_undo : (s : Symbol) (σ : List Symbol) (k : Lexeme) (r : Reply (Tree s)) (st : Step (Trees σ)) → Undo s k r
+    → Undone σ k st → Undone (s ∷ σ) k (step_by σ r st)
+by_undo s σ k (Push ρ f) st h i = λ y ks. h (split ρ σ y).0 (trees_text σ (split ρ σ y).1 ks) ∙ ap (λ l. k ∷ l)
+    (sym (split_text ρ σ y ks))
 by_undo s σ k (Start ρ f τ g) st h i = λ y ks.
     let u = (split ρ (τ ++ σ) y).1 in
     h (split ρ (τ ++ σ) y).0 (split τ σ u).0 (trees_text σ (split τ σ u).1 ks)

@@ -1,5 +1,6 @@
 -- What may stand next, as a machine: a stack of what is expected, and for each lexeme what the stack is replaced by.
-use Rattle.std.specs.Prelude.{true, false, ℕ, ◌+◌, List, [], ◌∷◌, ◌++◌, Option, Some, None, nat_lt, nat_eq, if◌then◌else◌}
+use Rattle.std.specs.Prelude.{true, false, ℕ, ◌+◌, List, [], ◌∷◌, ◌++◌, Option, Some, None, nat_lt, nat_eq}
+use Rattle.std.specs.Prelude.{if◌then◌else◌}
 use Rattle.scanner.specs.declared.token.Keyword.{Keyword}
 use Rattle.scanner.specs.declared.token.Keyword.TheVariants as K
 use Rattle.scanner.specs.declared.token.Sign.{Sign}
@@ -25,7 +26,14 @@ use Rattle.syntax.specs.declared.declaration.ResultType.TheVariants as R
 use Rattle.syntax.specs.declared.declaration.Access.{Access}
 use Rattle.syntax.specs.declared.declaration.Access.TheVariants as A
 use Rattle.syntax.specs.Lexeme.{NameTree, Lexeme, Word, WordAt, Mark, MarkAt, Named, Numbered, Finish, lexeme_of}
-use Rattle.syntax.specs.Tree.{ExpressionTree, AnyOf, ConjunctionTrees, NoConjunctions, OrElse, ConjunctionTree, AllOf, RelationTrees, NoRelations, AndAlso, RelationTree, Relates, ComparisonTree, NoComparison, Compares, SumTree, Total, SummandTrees, NoSummands, Adds, TermTree, Product, MultiplierTrees, NoMultipliers, Scales, FactorTree, Constant, Truthful, Reads, Group, Minus, Not, IndexTree, NoIndex, At, CalleeTree, StatementTree, Assign, If, While, Call, Fork, Join, Return, Wait, Notify, Broadcast, Print, Abort, StatementTrees, NoStatements, Then, PartTree, NoPart, Part, LocalTree, ParameterTree, MemberTree, ProcedureTree, MonitorProcedureTree, RecoverTree, MonitorTree, UnitTree}
+use Rattle.syntax.specs.Tree.{ExpressionTree, AnyOf, ConjunctionTrees, NoConjunctions, OrElse, ConjunctionTree, AllOf}
+use Rattle.syntax.specs.Tree.{RelationTrees, NoRelations, AndAlso, RelationTree, Relates, ComparisonTree, NoComparison}
+use Rattle.syntax.specs.Tree.{Compares, SumTree, Total, SummandTrees, NoSummands, Adds, TermTree, Product}
+use Rattle.syntax.specs.Tree.{MultiplierTrees, NoMultipliers, Scales, FactorTree, Constant, Truthful, Reads, Group}
+use Rattle.syntax.specs.Tree.{Minus, Not, IndexTree, NoIndex, At, CalleeTree, StatementTree, Assign, If, While, Call}
+use Rattle.syntax.specs.Tree.{Fork, Join, Return, Wait, Notify, Broadcast, Print, Abort, StatementTrees, NoStatements}
+use Rattle.syntax.specs.Tree.{Then, PartTree, NoPart, Part, LocalTree, ParameterTree, MemberTree, ProcedureTree}
+use Rattle.syntax.specs.Tree.{MonitorProcedureTree, RecoverTree, MonitorTree, UnitTree}
 
 -- what can be expected
 pub data Symbol : Type 0 where
@@ -107,7 +115,8 @@ abbrev pub Trees : List Symbol → Type 0
 Trees [] = Unit {0}
 Trees (s ∷ σ) = Tree s × Trees σ
 
--- at a lexeme a symbol is replaced by others, with its tree made of theirs; or a factor begins, and behind it come others; or the symbol is over, with an empty tree; or the lexeme can't stand there
+-- at a lexeme a symbol is replaced by others, with its tree made of theirs; or a factor begins, and behind it come
+-- others; or the symbol is over, with an empty tree; or the lexeme can't stand there
 pub data Reply (A : Type 0) : Type 0 where
   Push : (σ : List Symbol) → (Trees σ → A) → Reply A
   Start : (ρ : List Symbol) → (Trees ρ → FactorTree) → (τ : List Symbol) → (FactorTree → Trees τ → A) → Reply A
@@ -210,15 +219,18 @@ sum_tree f fs ts = Total (Product f fs) ts
 abbrev pub relation_tree : FactorTree → MultiplierTrees → SummandTrees → ComparisonTree → RelationTree
 relation_tree f fs ts c = Relates (Total (Product f fs) ts) c
 
-abbrev pub conjunction_tree : FactorTree → MultiplierTrees → SummandTrees → ComparisonTree → RelationTrees → ConjunctionTree
+abbrev pub conjunction_tree : FactorTree → MultiplierTrees → SummandTrees → ComparisonTree → RelationTrees
+    → ConjunctionTree
 conjunction_tree f fs ts c rs = AllOf (Relates (Total (Product f fs) ts) c) rs
 
-abbrev pub expression_tree : FactorTree → MultiplierTrees → SummandTrees → ComparisonTree → RelationTrees → ConjunctionTrees → ExpressionTree
+abbrev pub expression_tree : FactorTree → MultiplierTrees → SummandTrees → ComparisonTree → RelationTrees
+    → ConjunctionTrees → ExpressionTree
 expression_tree f fs ts c rs cs = AnyOf (AllOf (Relates (Total (Product f fs) ts) c) rs) cs
 
 -- what an expression is made of, with what is behind it
 abbrev pub Expressed : Type 0 → Type 0
-Expressed A = FactorTree × (MultiplierTrees × (SummandTrees × (ComparisonTree × (RelationTrees × (ConjunctionTrees × A)))))
+Expressed A =
+    FactorTree × (MultiplierTrees × (SummandTrees × (ComparisonTree × (RelationTrees × (ConjunctionTrees × A)))))
 
 abbrev pub expression_in : {A : Type 0} → Expressed A → ExpressionTree
 expression_in t = expression_tree t.0 t.1.0 t.1.1.0 t.1.1.1.0 t.1.1.1.1.0 t.1.1.1.1.1.0
@@ -266,7 +278,8 @@ factor_begin (Numbered n) = Begins [] (λ _. Constant n)
 factor_begin (WordAt K.True place) = Begins [] (λ _. Truthful (record { value = true; place = place }))
 factor_begin (WordAt K.False place) = Begins [] (λ _. Truthful (record { value = false; place = place }))
 factor_begin (Named name) = Begins (AnIndex ∷ []) (λ t. Reads name t.0)
-factor_begin (MarkAt S.OpenParen place) = Begins (expression (AMark S.CloseParen ∷ Closed ∷ [])) (λ t. Group place (expression_in t))
+factor_begin (MarkAt S.OpenParen place) = Begins (expression (AMark S.CloseParen ∷ Closed ∷ []))
+    (λ t. Group place (expression_in t))
 factor_begin (MarkAt S.Minus place) = Begins (AFactor ∷ Closed ∷ []) (λ t. Minus place t.0)
 factor_begin (WordAt K.Not place) = Begins (AFactor ∷ Closed ∷ []) (λ t. Not place t.0)
 factor_begin _ = NoFactor
@@ -312,11 +325,13 @@ reply_comparison (Mark S.GreaterEqual) = compares C.GreaterEqual
 reply_comparison _ = Skip NoComparison
 
 abbrev pub reply_relations : Lexeme → Reply RelationTrees
-reply_relations (Word K.And) = Push (relation (Relations ∷ [])) (λ t. AndAlso (relation_tree t.0 t.1.0 t.1.1.0 t.1.1.1.0) t.1.1.1.1.0)
+reply_relations (Word K.And) = Push (relation (Relations ∷ []))
+    (λ t. AndAlso (relation_tree t.0 t.1.0 t.1.1.0 t.1.1.1.0) t.1.1.1.1.0)
 reply_relations _ = Skip NoRelations
 
 abbrev pub reply_conjunctions : Lexeme → Reply ConjunctionTrees
-reply_conjunctions (Word K.Or) = Push (conjunction (Conjunctions ∷ [])) (λ t. OrElse (conjunction_tree t.0 t.1.0 t.1.1.0 t.1.1.1.0 t.1.1.1.1.0) t.1.1.1.1.1.0)
+reply_conjunctions (Word K.Or) = Push (conjunction (Conjunctions ∷ []))
+    (λ t. OrElse (conjunction_tree t.0 t.1.0 t.1.1.0 t.1.1.1.0 t.1.1.1.1.0) t.1.1.1.1.1.0)
 reply_conjunctions _ = Skip NoConjunctions
 
 -- an expression where a factor begins, or else nothing
@@ -325,10 +340,12 @@ started (Begins ρ f) τ g x = Start ρ f τ g
 started NoFactor τ g x = Skip x
 
 abbrev pub reply_arguments : Lexeme → Reply (List ExpressionTree)
-reply_arguments k = started (factor_begin k) (expression_rest (MoreArguments ∷ [])) (λ f t. expression_from f t ∷ (behind_rest t).0) []
+reply_arguments k = started (factor_begin k) (expression_rest (MoreArguments ∷ []))
+    (λ f t. expression_from f t ∷ (behind_rest t).0) []
 
 abbrev pub reply_more_arguments : Lexeme → Reply (List ExpressionTree)
-reply_more_arguments (Mark S.Comma) = Push (expression (MoreArguments ∷ [])) (λ t. expression_in t ∷ (behind_expression t).0)
+reply_more_arguments (Mark S.Comma) = Push (expression (MoreArguments ∷ []))
+    (λ t. expression_in t ∷ (behind_expression t).0)
 reply_more_arguments _ = Skip []
 
 abbrev pub reply_dotted : Lexeme → Reply (Option NameTree)
@@ -364,7 +381,8 @@ reply_statements (Named name) =
     Push (AnIndex ∷ AMark S.Assign ∷ expression (AMark S.Semicolon ∷ Statements ∷ []))
     (λ t. Then (Assign (record { name = name; index = t.0 }) (expression_in t.1.1)) (behind_expression t.1.1).1.0)
 reply_statements (WordAt K.If place) =
-    Push (expression (AWord K.Then ∷ Statements ∷ AnElse ∷ AWord K.Endif ∷ Closed ∷ AMark S.Semicolon ∷ Statements ∷ []))
+    Push (expression (AWord K.Then ∷ Statements ∷ AnElse ∷ AWord K.Endif ∷ Closed ∷ AMark
+    S.Semicolon ∷ Statements ∷ []))
     (λ t. let u = behind_expression t in Then (If place (expression_in t) u.1.0 u.1.1.0) u.1.1.1.1.1.1.0)
 reply_statements (WordAt K.While place) =
     Push (expression (AWord K.Do ∷ Statements ∷ AWord K.Endloop ∷ Closed ∷ AMark S.Semicolon ∷ Statements ∷ []))
@@ -384,7 +402,8 @@ reply_statements (WordAt K.Wait place) = of_name (Wait place)
 reply_statements (WordAt K.Notify place) = of_name (Notify place)
 reply_statements (WordAt K.Broadcast place) = of_name (Broadcast place)
 reply_statements (WordAt K.Print place) =
-    Push (expression (AMark S.Semicolon ∷ Statements ∷ [])) (λ t. Then (Print place (expression_in t)) (behind_expression t).1.0)
+    Push (expression (AMark S.Semicolon ∷ Statements ∷ []))
+    (λ t. Then (Print place (expression_in t)) (behind_expression t).1.0)
 reply_statements (WordAt K.Abort place) = Push (AMark S.Semicolon ∷ Statements ∷ []) (λ t. Then (Abort place) t.1.0)
 reply_statements _ = Skip NoStatements
 
@@ -432,28 +451,45 @@ reply_members (WordAt K.Var place) =
 reply_members _ = Skip []
 
 abbrev pub reply_parameters : Lexeme → Reply (List ParameterTree)
-reply_parameters (Named name) = Push (AMark S.Colon ∷ ALocalType ∷ MoreParameters ∷ []) (λ t. record { name = name; kind = t.1.0 } ∷ t.1.1.0)
+reply_parameters (Named name) = Push (AMark S.Colon ∷ ALocalType ∷ MoreParameters ∷ [])
+    (λ t. record { name = name; kind = t.1.0 } ∷ t.1.1.0)
 reply_parameters _ = Skip []
 
 abbrev pub reply_more_parameters : Lexeme → Reply (List ParameterTree)
-reply_more_parameters (Mark S.Comma) = Push (AName ∷ AMark S.Colon ∷ ALocalType ∷ MoreParameters ∷ []) (λ t. record { name = t.0; kind = t.1.1.0 } ∷ t.1.1.1.0)
+reply_more_parameters (Mark S.Comma) = Push (AName ∷ AMark S.Colon ∷ ALocalType ∷ MoreParameters ∷ [])
+    (λ t. record { name = t.0; kind = t.1.1.0 } ∷ t.1.1.1.0)
 reply_more_parameters _ = Skip []
 
 -- a procedure without the word PROCEDURE, before other symbols
 abbrev pub procedure : List Symbol → List Symbol
-procedure σ = AName ∷ AnOpening ∷ Parameters ∷ AMark S.CloseParen ∷ AReturns ∷ AMark S.Semicolon ∷ Locals ∷ Statements ∷ AWord K.End ∷ AMark S.Semicolon ∷ σ
+procedure σ = AName ∷ AnOpening ∷ Parameters ∷ AMark S.CloseParen ∷ AReturns ∷ AMark
+    S.Semicolon ∷ Locals ∷ Statements ∷ AWord K.End ∷ AMark S.Semicolon ∷ σ
 
 abbrev pub Proceeds : Type 0 → Type 0
-Proceeds A = NameTree × (Place × (List ParameterTree × (Unit {0} × (Option ResultType × (Unit {0} × (List LocalTree × (StatementTrees × (Unit {0} × (Unit {0} × A)))))))))
+Proceeds A =
+    NameTree ×
+    (Place ×
+    (List
+    ParameterTree ×
+    (Unit {0} × (Option ResultType × (Unit {0} × (List LocalTree × (StatementTrees × (Unit {0} × (Unit {0} × A)))))))))
 
 abbrev pub procedure_in : {A : Type 0} → Place → Proceeds A → ProcedureTree
-procedure_in place t = record { place = place; name = t.0; open_place = t.1.0; parameters = t.1.1.0; returns = t.1.1.1.1.0; body = record { locals = t.1.1.1.1.1.1.0; statements = t.1.1.1.1.1.1.1.0 } }
+procedure_in place t = record {
+  place = place;
+  name = t.0;
+  open_place = t.1.0;
+  parameters = t.1.1.0;
+  returns =
+      t.1.1.1.1.0;
+  body = record { locals = t.1.1.1.1.1.1.0; statements = t.1.1.1.1.1.1.1.0 };
+}
 
 abbrev pub behind_procedure : {A : Type 0} → Proceeds A → A
 behind_procedure t = t.1.1.1.1.1.1.1.1.1.1
 
 abbrev pub reply_procedures : Lexeme → Reply (List ProcedureTree)
-reply_procedures (WordAt K.Procedure place) = Push (procedure (Procedures ∷ [])) (λ t. procedure_in place t ∷ (behind_procedure t).0)
+reply_procedures (WordAt K.Procedure place) =
+    Push (procedure (Procedures ∷ [])) (λ t. procedure_in place t ∷ (behind_procedure t).0)
 reply_procedures _ = Skip []
 
 abbrev pub of_access : Access → Reply (List MonitorProcedureTree)
@@ -468,13 +504,16 @@ reply_monitor_procedures _ = Skip []
 
 abbrev pub reply_recover : Lexeme → Reply (Option RecoverTree)
 reply_recover (WordAt K.Recover place) =
-    Push (Locals ∷ Statements ∷ AWord K.End ∷ AMark S.Semicolon ∷ []) (λ t. Some (record { place = place; body = record { locals = t.0; statements = t.1.0 } }))
+    Push (Locals ∷ Statements ∷ AWord K.End ∷ AMark S.Semicolon ∷ [])
+    (λ t. Some (record { place = place; body = record { locals = t.0; statements = t.1.0 } }))
 reply_recover _ = Skip None
 
 abbrev pub reply_monitors : Lexeme → Reply (List MonitorTree)
 reply_monitors (WordAt K.Monitor place) =
-    Push (AName ∷ AMark S.Semicolon ∷ Members ∷ MonitorProcedures ∷ ARecover ∷ AWord K.End ∷ AMark S.Semicolon ∷ Monitors ∷ [])
-    (λ t. record { place = place; name = t.0; members = t.1.1.0; procedures = t.1.1.1.0; recover = t.1.1.1.1.0 } ∷ t.1.1.1.1.1.1.1.0)
+    Push (AName ∷ AMark S.Semicolon ∷ Members ∷ MonitorProcedures ∷ ARecover ∷ AWord K.End ∷ AMark
+    S.Semicolon ∷ Monitors ∷ [])
+    (λ t. record { place = place; name = t.0; members = t.1.1.0; procedures = t.1.1.1.0; recover = t.1.1.1.1.0 } ∷
+    t.1.1.1.1.1.1.1.0)
 reply_monitors _ = Skip []
 
 abbrev pub reply : (s : Symbol) → Lexeme → Reply (Tree s)
@@ -513,7 +552,8 @@ reply ARecover k = reply_recover k
 reply Monitors k = reply_monitors k
 reply Closed k = Skip tt
 
--- the stack after a lexeme, and its trees made of those that are still to come; or all is read; or the lexeme can't stand there
+-- the stack after a lexeme, and its trees made of those that are still to come; or all is read; or the lexeme can't
+-- stand there
 pub data Step (A : Type 0) : Type 0 where
   Onto : (σ : List Symbol) → (Trees σ → A) → Step A
   Over : A → Step A
@@ -529,12 +569,14 @@ split [] τ t = (tt, t)
 split (s ∷ σ) τ t = ((t.0, (split σ τ t.1).0), (split σ τ t.1).1)
 
 -- a factor and what follows it, before the trees of a stack
-abbrev pub led : {A : Type 0} → (τ σ : List Symbol) → (FactorTree → Trees τ → A) → FactorTree → Trees (τ ++ σ) → A × Trees σ
+abbrev pub led : {A : Type 0} → (τ σ : List Symbol) → (FactorTree → Trees τ → A) → FactorTree → Trees (τ ++ σ)
+    → A × Trees σ
 led τ σ g f t = (g f (split τ σ t).0, (split τ σ t).1)
 
 abbrev pub step_by : {A : Type 0} → (σ : List Symbol) → Reply A → Step (Trees σ) → Step (A × Trees σ)
 step_by σ (Push τ f) later = Onto (τ ++ σ) (λ t. (f (split τ σ t).0, (split τ σ t).1))
-step_by σ (Start ρ f τ g) later = Onto (ρ ++ (τ ++ σ)) (λ t. led τ σ g (f (split ρ (τ ++ σ) t).0) (split ρ (τ ++ σ) t).1)
+step_by σ (Start ρ f τ g) later = Onto (ρ ++ (τ ++ σ))
+    (λ t. led τ σ g (f (split ρ (τ ++ σ) t).0) (split ρ (τ ++ σ) t).1)
 step_by σ (Skip x) later = on_step (λ y. (x, y)) later
 step_by σ Reject later = Stuck
 
@@ -601,7 +643,15 @@ abbrev pub unit : List Symbol
 unit = AWord K.Program ∷ AName ∷ AMark S.Semicolon ∷ Monitors ∷ Procedures ∷ AWordAt K.Main ∷ body (AMark S.Dot ∷ [])
 
 abbrev pub unit_trees : UnitTree → Trees unit
-unit_trees u = (tt, (u.name, (tt, (u.monitors, (u.procedures, (u.place, (u.body.locals, (u.body.statements, (tt, (tt, tt))))))))))
+unit_trees u =
+    (tt, (u.name, (tt, (u.monitors, (u.procedures, (u.place, (u.body.locals, (u.body.statements, (tt, (tt, tt))))))))))
 
 abbrev pub unit_in : Trees unit → UnitTree
-unit_in t = record { name = t.1.0; monitors = t.1.1.1.0; procedures = t.1.1.1.1.0; place = t.1.1.1.1.1.0; body = record { locals = t.1.1.1.1.1.1.0; statements = t.1.1.1.1.1.1.1.0 } }
+unit_in t = record {
+  name = t.1.0;
+  monitors = t.1.1.1.0;
+  procedures = t.1.1.1.1.0;
+  place = t.1.1.1.1.1.0;
+  body =
+      record { locals = t.1.1.1.1.1.1.0; statements = t.1.1.1.1.1.1.1.0 };
+}

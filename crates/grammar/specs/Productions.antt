@@ -3,8 +3,16 @@ use Rattle.std.specs.Prelude.{List, [], ◌∷◌, Option}
 use Rattle.syntax.specs.declared.declaration.MemberType.{MemberType}
 use Rattle.syntax.specs.declared.declaration.ResultType.{ResultType}
 use Rattle.syntax.specs.Lexeme.{NameTree, Lexeme}
-use Rattle.syntax.specs.Tree.{ExpressionTree, ConjunctionTrees, ConjunctionTree, RelationTrees, RelationTree, ComparisonTree, SumTree, SummandTrees, TermTree, MultiplierTrees, FactorTree, IndexTree, CalleeTree, StatementTree, StatementTrees, PartTree, LocalTree, ParameterTree, MemberTree, BodyTree, ProcedureTree, MonitorProcedureTree, RecoverTree, MonitorTree}
-use Rattle.syntax.specs.Spelling.{expression_text, conjunctions_text, conjunction_text, relations_text, relation_text, comparison_text, sum_text, summands_text, term_text, multipliers_text, factor_text, index_text, arguments_text, dotted_text, callee_text, into_text, statement_text, statements_text, else_text, aborted_text, member_type_text, locals_text, members_text, parameters_text, returns_text, body_text, procedure_text, monitor_procedures_text, recover_text, monitors_text}
+use Rattle.syntax.specs.Tree.{ExpressionTree, ConjunctionTrees, ConjunctionTree, RelationTrees, RelationTree}
+use Rattle.syntax.specs.Tree.{ComparisonTree, SumTree, SummandTrees, TermTree, MultiplierTrees, FactorTree, IndexTree}
+use Rattle.syntax.specs.Tree.{CalleeTree, StatementTree, StatementTrees, PartTree, LocalTree, ParameterTree}
+use Rattle.syntax.specs.Tree.{MemberTree, BodyTree, ProcedureTree, MonitorProcedureTree, RecoverTree, MonitorTree}
+use Rattle.syntax.specs.Spelling.{expression_text, conjunctions_text, conjunction_text, relations_text, relation_text}
+use Rattle.syntax.specs.Spelling.{comparison_text, sum_text, summands_text, term_text, multipliers_text, factor_text}
+use Rattle.syntax.specs.Spelling.{index_text, arguments_text, dotted_text, callee_text, into_text, statement_text}
+use Rattle.syntax.specs.Spelling.{statements_text, else_text, aborted_text, member_type_text, locals_text}
+use Rattle.syntax.specs.Spelling.{members_text, parameters_text, returns_text, body_text, procedure_text}
+use Rattle.syntax.specs.Spelling.{monitor_procedures_text, recover_text, monitors_text}
 
 abbrev pub expression : ExpressionTree → List Lexeme
 expression e = expression_text e []

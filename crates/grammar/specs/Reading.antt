@@ -2,6 +2,7 @@
 use Rattle.std.specs.Prelude.{◌≡◌, ◌⊎◌, ◌++◌, ℕ, List, [], ◌∷◌}
 use Rattle.scanner.specs.declared.refusal.Refusal.{Refusal}
 use Rattle.scanner.specs.declared.refusal.RefusalKind.TheVariants.{Memory}
+use Rattle.syntax.specs.Limits.{most_nestings}
 use Rattle.syntax.specs.Lexeme.{Lexeme, Finish}
 use Rattle.syntax.specs.Tree.{FactorTree}
 use Rattle.grammar.specs.Machine.{Symbol, Trees, Begins, factor_begin, Item, Refused, reads, on_read, nestings, split}
@@ -28,11 +29,12 @@ joined (s ∷ σ) τ x y = (x.0, joined σ τ x.1 y)
 
 -- what stands first is read as these symbols, with these trees, whatever is expected behind it
 pub record Passes (depth : ℕ) (σ : List Symbol) (x : Trees σ) (before after : List Item) : Type 0 where
-  pub passes : (κ : List Symbol) → nestings κ ≡ depth → reads 64 before (σ ++ κ) ≡ on_read (joined σ κ x) (reads 64 after κ)
+  pub passes : (κ : List Symbol) → nestings κ ≡ depth → reads most_nestings before (σ ++ κ) ≡ on_read (joined σ κ x)
+      (reads most_nestings after κ)
 
 -- this is the refusal, whatever is expected behind these symbols
 pub record Refuses (depth : ℕ) (σ : List Symbol) (before : List Item) (e : Refusal) : Type 0 where
-  pub refuses : (κ : List Symbol) → nestings κ ≡ depth → reads 64 before (σ ++ κ) ≡ Refused e
+  pub refuses : (κ : List Symbol) → nestings κ ≡ depth → reads most_nestings before (σ ++ κ) ≡ Refused e
 
 -- memory ran out, or this is the refusal
 pub record Fails (depth : ℕ) (σ : List Symbol) (before : List Item) (e : Refusal) : Type 0 where
@@ -40,4 +42,5 @@ pub record Fails (depth : ℕ) (σ : List Symbol) (before : List Item) (e : Refu
 
 -- what was read so far leads from these symbols to those, whose trees make theirs
 pub record Leads (depth : ℕ) (σ ρ : List Symbol) (g : Trees ρ → Trees σ) (before after : List Item) : Type 0 where
-  pub leads : (κ : List Symbol) → nestings κ ≡ depth → reads 64 before (σ ++ κ) ≡ on_read (λ y. joined σ κ (g (split ρ κ y).0) (split ρ κ y).1) (reads 64 after (ρ ++ κ))
+  pub leads : (κ : List Symbol) → nestings κ ≡ depth → reads most_nestings before (σ ++ κ) ≡ on_read
+      (λ y. joined σ κ (g (split ρ κ y).0) (split ρ κ y).1) (reads most_nestings after (ρ ++ κ))

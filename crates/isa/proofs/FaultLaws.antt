@@ -8,18 +8,19 @@ use Rattle.isa.specs.declared.fault.DecodeFault.TheVariants.{BadMagic, Version, 
 use Rattle.isa.specs.FirstFault.{IsOfAByte, IsFirstFault}
 use Rattle.isa.specs.Programs.{Program}
 use Rattle.isa.specs.Spelling.{IsSpelled, spelling}
-use Rattle.isa.specs.Reading.{◌>>=◌, fixed_at, image_at, stays_inside, ended, program_of}
+use Rattle.isa.specs.Reading.{◌>>=◌, fixed_at, image_at, stays_inside, at_end, program_of}
 use Rattle.isa.proofs.Parts.{chosen}
 use Rattle.isa.proofs.ProgramLaws.{program_again}
 use Rattle.isa.proofs.Stands.{StandsAt, image-stands}
 
 abbrev whole : Result (Program × List ℕ) DecodeFault → Result Program DecodeFault
-whole read = read >>= λ image. ended image.0 image.1
+whole read = read >>= λ image. at_end image.0 image.1
 
 -- bytes behind an image
-behind : (p : Program) (rest : List ℕ) (b : ℕ) (more : List ℕ) → ended p (rest ++ b ∷ more) ≡ Err Trailing
+behind : (p : Program) (rest : List ℕ) (b : ℕ) (more : List ℕ) → at_end p (rest ++ b ∷ more) ≡ Err Trailing
 behind p rest b more =
-    let some : eqb (length (rest ++ b ∷ more)) 0 ≡ false = ne_eqb (length (rest ++ b ∷ more)) 0 (λ e. omega (arith, e, length-append rest (b ∷ more))) in
+    let some : eqb (length (rest ++ b ∷ more)) 0 ≡ false = ne_eqb (length (rest ++ b ∷ more)) 0
+    (λ e. omega (arith, e, length-append rest (b ∷ more))) in
     rw some refl
 
 -- a fault that isn't that bytes are missing stays, but where an image was read to its last instruction
@@ -36,12 +37,14 @@ later (Err Limit) longer b more stands = inr (Limit, rw (stands (λ e. absurd cc
 later (Err Memory) longer b more stands = inr (Memory, rw (stands (λ e. absurd cc)) refl, λ _. refl)
 
 program-later : (a : List ℕ) (b : ℕ) (more : List ℕ)
-    → (program_of a ≡ Err Short) ⊎ ((d : DecodeFault) × (program_of (a ++ b ∷ more) ≡ Err d) × (IsOfAByte d → program_of a ≡ Err d))
+    → (program_of a ≡ Err Short) ⊎ ((d : DecodeFault) × (program_of (a ++ b ∷ more) ≡ Err d)
+    × (IsOfAByte d → program_of a ≡ Err d))
 unfolding program_of
 program-later a b more = later (image_at a) (image_at (a ++ b ∷ more)) b more (image-stands a (b ∷ more))
 
 -- the other way: a fault of a byte is there whatever follows
-stays : (read longer : Result (Program × List ℕ) DecodeFault) (more : List ℕ) (e : DecodeFault) → StandsAt read longer more → IsOfAByte e → whole read ≡ Err e → whole longer ≡ Err e
+stays : (read longer : Result (Program × List ℕ) DecodeFault) (more : List ℕ) (e : DecodeFault) → StandsAt read
+    longer more → IsOfAByte e → whole read ≡ Err e → whole longer ≡ Err e
 stays (Err d) longer more e stands byte is =
     let same : d ≡ e = cc in
     let other : d ≢ Short = λ short. subst (λ (f : DecodeFault). IsOfAByte f) (sym same ∙ short) byte in
@@ -55,11 +58,13 @@ stays (Ok x) longer more e stands byte is =
       | inr w ↦ let same : e ≡ Trailing = cc in absurd (subst (λ (f : DecodeFault). IsOfAByte f) same byte)
     ]
 
-program-stays : (a more : List ℕ) (e : DecodeFault) → IsOfAByte e → program_of a ≡ Err e → program_of (a ++ more) ≡ Err e
+program-stays : (a more : List ℕ) (e : DecodeFault) → IsOfAByte e → program_of a ≡ Err e → program_of (a ++ more)
+    ≡ Err e
 unfolding program_of
 program-stays a more e byte is = stays (image_at a) (image_at (a ++ more)) more e (image-stands a more) byte is
 
-pub short_beginning : (p : Program) (front : List ℕ) (b : ℕ) (behind : List ℕ) → IsSpelled p → spelling p ≡ front ++ b ∷ behind → program_of front ≡ Err Short
+pub short_beginning : (p : Program) (front : List ℕ) (b : ℕ) (behind : List ℕ) → IsSpelled p → spelling p ≡ front ++
+    b ∷ behind → program_of front ≡ Err Short
 short_beginning p front b behind is parts =
     elim (program-later front b behind) [
       | inl short ↦ short
@@ -67,7 +72,8 @@ short_beginning p front b behind is parts =
     ]
 
 -- where these are the first bytes of what has a fault of a byte
-beginning : (a b : List ℕ) (e : DecodeFault) → IsOfAByte e → program_of (a ++ b) ≡ Err e → (program_of a ≡ Err Short) ⊎ (program_of a ≡ Err e)
+beginning : (a b : List ℕ) (e : DecodeFault) → IsOfAByte e → program_of (a ++ b) ≡ Err e → (program_of a ≡ Err Short)
+    ⊎ (program_of a ≡ Err e)
 beginning a [] e byte is = inr (ap program_of (sym (append-nil a)) ∙ is)
 beginning a (c ∷ b) e byte is =
     elim (program-later a c b) [
@@ -91,17 +97,32 @@ sought bytes e byte is (suc n) le =
     elim (sought bytes e byte is n (omega arith)) [
       | inr found ↦ inr found
       | inl before ↦
-          elim (beginning (take (suc n) bytes) (drop (suc n) bytes) e byte (ap program_of (take-append-drop (suc n) bytes) ∙ is)) [
-            | inl short ↦ inl (λ k small. elim (cases_eq k (suc n)) [ inl last ↦ rw last short | inr ne ↦ before k (omega (arith, ne)) ])
-            | inr there ↦ inr (n, record { within = le; before = before; from = λ rest. rw add-one (program-stays (take (suc n) bytes) rest e byte there) })
+          elim (beginning (take (suc n) bytes) (drop (suc n) bytes) e byte
+          (ap program_of (take-append-drop (suc n) bytes) ∙ is)) [
+            | inl short ↦ inl (λ k small. elim (cases_eq k (suc n)) [
+              | inl last ↦ rw last short
+              | inr ne ↦ before k
+                  (omega (arith, ne))
+            ])
+            | inr there ↦ inr (
+              n,
+              record {
+                within = le;
+                before = before;
+                from = λ rest. rw add-one
+                    (program-stays (take (suc n) bytes) rest e byte there);
+              },
+            )
           ]
     ]
 
-pub first_fault : (bytes : List ℕ) (e : DecodeFault) → IsOfAByte e → program_of bytes ≡ Err e → (place : ℕ) × IsFirstFault bytes e place
+pub first_fault : (bytes : List ℕ) (e : DecodeFault) → IsOfAByte e → program_of bytes ≡ Err e → (place : ℕ)
+    × IsFirstFault bytes e place
 first_fault bytes e byte is =
     elim (sought bytes e byte is (length bytes) (omega arith)) [
       | inl short ↦
-          let all : program_of bytes ≡ Err Short = ap program_of (sym (take-length bytes)) ∙ short (length bytes) (omega arith) in
+          let all : program_of bytes ≡ Err Short = ap program_of (sym (take-length bytes)) ∙ short (length bytes)
+          (omega arith) in
           let both : Err e ≡ Err Short = sym is ∙ all in
           let same : e ≡ Short = cc in
           absurd (subst (λ (f : DecodeFault). IsOfAByte f) same byte)

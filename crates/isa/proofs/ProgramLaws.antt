@@ -11,14 +11,14 @@ use Rattle.isa.specs.Numbers.{number}
 use Rattle.isa.specs.Instructions.{operands, IsInstruction}
 use Rattle.isa.specs.Programs.{Program, IsProgram}
 use Rattle.isa.specs.Spelling.{AreWords, magic, version, monitor_table, code_table, spelling, IsSpelled}
-use Rattle.isa.specs.Reading.{◌>>=◌, Gives, fixed_at, number_at, monitors_at, code_at, image_at, stays_inside, ended, program_of}
+use Rattle.isa.specs.Reading.{◌>>=◌, Gives, fixed_at, number_at, monitors_at, code_at, image_at, stays_inside, at_end, program_of}
 use Rattle.isa.proofs.FieldLaws.{number_takes, number_again, fixed_takes, fixed_again, monitors_take, monitors_bound, monitors_again, code_takes, code_bound, code_limit, code_again}
 use Rattle.isa.proofs.TargetLaws.{lies, lies_again}
 use Rattle.isa.proofs.Parts.{bind_ok, chosen, done, ok_is, IsBytes, Takes, Takes-then}
 
 -- what stands behind an image that was read
-ended_ok : (rest : List ℕ) (p q : Program) → ended p rest ≡ Ok q → (rest ≡ []) × (stays_inside p ≡ true) × (p ≡ q)
-ended_ok rest p q e =
+at_end_ok : (rest : List ℕ) (p q : Program) → at_end p rest ≡ Ok q → (rest ≡ []) × (stays_inside p ≡ true) × (p ≡ q)
+at_end_ok rest p q e =
     elim (chosen (eqb (length rest) 0) (cond (stays_inside p) (Ok p) (Err BadTarget)) (Err Trailing) (Ok q) e) [
       | inl w ↦ elim (chosen (stays_inside p) (Ok p) (Err BadTarget) (Ok q) w.1) [
         | inl v ↦ (nil_from_length rest (eqb-true (length rest) 0 w.0), v.0, ok_is p q v.1)
@@ -38,14 +38,22 @@ record IsShort (p : Program) : Type 0 where
   instructions : AllByRecursion IsInstruction p.code
   words : AllByRecursion (λ i. AreWords (operands i)) p.code
 
-image_takes : (bytes : List ℕ) (x : Program × List ℕ) → IsBytes bytes → image_at bytes ≡ Ok x → Takes bytes (spelling x.0) x.1 × IsShort x.0
+image_takes : (bytes : List ℕ) (x : Program × List ℕ) → IsBytes bytes → image_at bytes ≡ Ok x → Takes bytes
+    (spelling x.0) x.1 × IsShort x.0
 unfolding image_at
 image_takes bytes x fits e =
-    let a = bind_ok (fixed_at magic BadMagic bytes) (λ marked. fixed_at version Version marked >>= λ versioned. monitors_at versioned >>= λ monitors. number_at monitors.1 >>= λ start. code_at start.1 >>= λ code. Ok (record { monitors = monitors.0; start = start.0; code = code.0 }, code.1)) x e in
-    let b = bind_ok (fixed_at version Version a.0) (λ versioned. monitors_at versioned >>= λ monitors. number_at monitors.1 >>= λ start. code_at start.1 >>= λ code. Ok (record { monitors = monitors.0; start = start.0; code = code.0 }, code.1)) x a.2 in
-    let m = bind_ok (monitors_at b.0) (λ monitors. number_at monitors.1 >>= λ start. code_at start.1 >>= λ code. Ok (record { monitors = monitors.0; start = start.0; code = code.0 }, code.1)) x b.2 in
-    let s = bind_ok (number_at m.0.1) (λ start. code_at start.1 >>= λ code. Ok (record { monitors = m.0.0; start = start.0; code = code.0 }, code.1)) x m.2 in
-    let i = bind_ok (code_at s.0.1) (λ code. Ok (record { monitors = m.0.0; start = s.0.0; code = code.0 }, code.1)) x s.2 in
+    let a = bind_ok (fixed_at magic BadMagic bytes) (λ marked. fixed_at version Version marked >>= λ versioned.
+    monitors_at versioned >>= λ monitors. number_at monitors.1 >>= λ start. code_at start.1 >>= λ code. Ok
+    (record { monitors = monitors.0; start = start.0; code = code.0 }, code.1)) x e in
+    let b = bind_ok (fixed_at version Version a.0) (λ versioned. monitors_at versioned >>= λ monitors. number_at
+    monitors.1 >>= λ start. code_at start.1 >>= λ code. Ok
+    (record { monitors = monitors.0; start = start.0; code = code.0 }, code.1)) x a.2 in
+    let m = bind_ok (monitors_at b.0) (λ monitors. number_at monitors.1 >>= λ start. code_at start.1 >>= λ code. Ok
+    (record { monitors = monitors.0; start = start.0; code = code.0 }, code.1)) x b.2 in
+    let s = bind_ok (number_at m.0.1) (λ start. code_at start.1 >>= λ code. Ok
+    (record { monitors = m.0.0; start = start.0; code = code.0 }, code.1)) x m.2 in
+    let i = bind_ok (code_at s.0.1) (λ code. Ok (record { monitors = m.0.0; start = s.0.0; code = code.0 }, code.1))
+    x s.2 in
     let t0 = fixed_takes magic BadMagic bytes a.0 fits a.1 in
     let t1 = fixed_takes version Version a.0 b.0 t0.rest_fits b.1 in
     let t2 = monitors_take b.0 m.0 t1.rest_fits m.1 in
@@ -54,33 +62,65 @@ image_takes bytes x fits e =
     let to1 = Takes-then bytes magic a.0 version b.0 t0 t1 in
     let to2 = Takes-then bytes (magic ++ version) b.0 (monitor_table m.0.0) m.0.1 to1 t2 in
     let to3 = Takes-then bytes (magic ++ version ++ monitor_table m.0.0) m.0.1 (number s.0.0) s.0.1 to2 t3.0 in
-    let to4 = Takes-then bytes (magic ++ version ++ monitor_table m.0.0 ++ number s.0.0) s.0.1 (code_table i.0.0) i.0.1 to3 t4.0 in
+    let to4 = Takes-then bytes (magic ++ version ++ monitor_table m.0.0 ++ number s.0.0) s.0.1 (code_table i.0.0)
+    i.0.1 to3 t4.0 in
     let few = monitors_bound b.0 m.0 m.1 in
-    is_read bytes (record { monitors = m.0.0; start = s.0.0; code = i.0.0 }, i.0.1) x i.2 to4 (record { few_monitors = few.0; few_members = few.1; short = code_bound s.0.1 i.0 i.1; instructions = code_limit s.0.1 i.0 i.1; words = t4.1 })
+    is_read bytes (record { monitors = m.0.0; start = s.0.0; code = i.0.0 }, i.0.1) x i.2 to4
+    (record {
+      few_monitors = few.0;
+      few_members = few.1;
+      short = code_bound s.0.1 i.0 i.1;
+      instructions = code_limit s.0.1 i.0 i.1;
+      words = t4.1;
+    })
   where
-    is_read : (bytes : List ℕ) (made x : Program × List ℕ) → done made ≡ Ok x → Takes bytes (spelling made.0) made.1 → IsShort made.0 → Takes bytes (spelling x.0) x.1 × IsShort x.0
-    is_read bytes made x same taken short = subst (λ (y : Program × List ℕ). Takes bytes (spelling y.0) y.1 × IsShort y.0) (ok_is made x same) (taken, short)
+    is_read : (bytes : List ℕ) (made x : Program × List ℕ) → done made ≡ Ok x → Takes bytes (spelling made.0) made.1
+        → IsShort made.0 → Takes bytes (spelling x.0) x.1 × IsShort x.0
+    is_read bytes made x same taken short = subst (λ (y : Program × List ℕ). Takes bytes (spelling y.0) y.1 × IsShort
+        y.0) (ok_is made x same) (taken, short)
 
-pub program_takes : (bytes : List ℕ) (p : Program) → IsBytes bytes → program_of bytes ≡ Ok p → IsSpelled p × (spelling p ≡ bytes)
+pub program_takes : (bytes : List ℕ) (p : Program) → IsBytes bytes → program_of bytes ≡ Ok p → IsSpelled p
+    × (spelling p ≡ bytes)
 unfolding program_of
 program_takes bytes p fits e =
-    let a = bind_ok (image_at bytes) (λ image. ended image.0 image.1) p e in
-    let last = ended_ok a.0.1 a.0.0 p a.2 in
+    let a = bind_ok (image_at bytes) (λ image. at_end image.0 image.1) p e in
+    let last = at_end_ok a.0.1 a.0.0 p a.2 in
     let t = image_takes bytes a.0 fits a.1 in
     let whole : spelling a.0.0 ≡ bytes = nothing_left bytes (spelling a.0.0) a.0.1 t.0.parts last.0 in
     let inside = lies a.0.0 last.1 in
-    let within : IsProgram a.0.0 = record { few_monitors = t.1.few_monitors; few_members = t.1.few_members; short = t.1.short; starts = inside.0; instructions = t.1.instructions; targets = inside.1 } in
-    subst (λ (q : Program). IsSpelled q × (spelling q ≡ bytes)) last.2 (record { within = within; words = t.1.words }, whole)
+    let within : IsProgram a.0.0 = record {
+      few_monitors = t.1.few_monitors;
+      few_members = t.1.few_members;
+      short = t.1.short;
+      starts = inside.0;
+      instructions = t.1.instructions;
+      targets = inside.1;
+    } in
+    subst (λ (q : Program). IsSpelled q × (spelling q ≡ bytes)) last.2
+    (record { within = within; words = t.1.words }, whole)
 
 pub image_again : (p : Program) (rest : List ℕ) → IsSpelled p → image_at (spelling p ++ rest) ≡ Ok (p, rest)
 unfolding image_at
 image_again p rest is =
-    let code : code_at (code_table p.code ++ rest) ≡ Ok (p.code, rest) = code_again p.code rest is.within.short is.words is.within.instructions in
-    let start : number_at (number p.start ++ (code_table p.code ++ rest)) ≡ Ok (p.start, code_table p.code ++ rest) = number_again p.start (code_table p.code ++ rest) (omega (arith, is.within.starts, is.within.short)) in
-    let monitors : monitors_at (monitor_table p.monitors ++ (number p.start ++ (code_table p.code ++ rest))) ≡ Ok (p.monitors, number p.start ++ (code_table p.code ++ rest)) = monitors_again p.monitors (number p.start ++ (code_table p.code ++ rest)) is.within.few_monitors is.within.few_members in
+    let code : code_at (code_table p.code ++ rest) ≡ Ok (p.code, rest) = code_again p.code rest is.within.short
+    is.words is.within.instructions in
+    let start : number_at (number p.start ++ (code_table p.code ++ rest)) ≡ Ok (
+      p.start,
+      code_table p.code ++
+          rest,
+    ) = number_again p.start (code_table p.code ++ rest) (omega (arith, is.within.starts, is.within.short)) in
+    let monitors : monitors_at (monitor_table p.monitors ++ (number p.start ++ (code_table p.code ++ rest)))
+    ≡ Ok (p.monitors, number p.start ++ (code_table p.code ++ rest)) = monitors_again p.monitors
+    (number p.start ++ (code_table p.code ++ rest)) is.within.few_monitors is.within.few_members in
     let behind : List ℕ = monitor_table p.monitors ++ (number p.start ++ (code_table p.code ++ rest)) in
     let regrouped : spelling p ++ rest ≡ magic ++ (version ++ behind) = simp append_assoc in
-    ap image_at regrouped ∙ rw (fixed_again magic BadMagic (version ++ behind), fixed_again version Version behind, monitors, start, code) refl
+    ap image_at regrouped ∙ rw (
+      fixed_again magic BadMagic (version ++ behind),
+      fixed_again version Version behind,
+      monitors,
+      start,
+      code,
+    ) refl
 
 pub program_again : (p : Program) → IsSpelled p → program_of (spelling p) ≡ Ok p
 unfolding program_of
@@ -90,7 +130,8 @@ program_again p is =
 
 -- ---- what decoding answers
 
-pub is_found : (bytes : List ℕ) (r : Result Program DecodeFault) → IsBytes bytes → Gives (λ p. p) r (program_of bytes) → IfOk r (λ p. IsSpelled p × (spelling p ≡ bytes))
+pub is_found : (bytes : List ℕ) (r : Result Program DecodeFault) → IsBytes bytes → Gives (λ p. p) r
+    (program_of bytes) → IfOk r (λ p. IsSpelled p × (spelling p ≡ bytes))
 is_found bytes (Ok p) fits given = program_takes bytes p fits given
 is_found bytes (Err e) fits given = tt
 
@@ -104,9 +145,11 @@ is_memory Trailing h = absurd (h (λ e. absurd cc))
 is_memory Limit h = absurd (h (λ e. absurd cc))
 is_memory Memory h = refl
 
-pub is_only : (bytes : List ℕ) (r : Result Program DecodeFault) → Gives (λ p. p) r (program_of bytes) → (p : Program) → IsSpelled p → spelling p ≡ bytes → MatchResult r (λ i. i ≡ p) (λ e. e ≡ Memory)
+pub is_only : (bytes : List ℕ) (r : Result Program DecodeFault) → Gives (λ p. p) r (program_of bytes) → (p : Program)
+    → IsSpelled p → spelling p ≡ bytes → MatchResult r (λ i. i ≡ p) (λ e. e ≡ Memory)
 is_only bytes (Ok i) given p is same = ok_is i p (sym given ∙ ap program_of (sym same) ∙ program_again p is)
-is_only bytes (Err e) given p is same = is_memory e (λ other. let both : Err e ≡ Ok p = sym (given other) ∙ ap program_of (sym same) ∙ program_again p is in absurd cc)
+is_only bytes (Err e) given p is same = is_memory e (λ other. let both : Err e ≡ Ok p = sym (given other)
+    ∙ ap program_of (sym same) ∙ program_again p is in absurd cc)
 
 -- an image has one spelling
 pub one_program : (p q : Program) → IsSpelled p → IsSpelled q → spelling p ≡ spelling q → p ≡ q

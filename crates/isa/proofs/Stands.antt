@@ -17,23 +17,29 @@ StandsAt (Err e) longer more = e ≢ Short → longer ≡ Err e
 abbrev pub Stands : {A : Type 0} → (List ℕ → Result (A × List ℕ) DecodeFault) → Type 0
 Stands read = (bytes more : List ℕ) → StandsAt (read bytes) (read (bytes ++ more)) more
 
-then-stands : {A B : Type 0} (r longer : Result (A × List ℕ) DecodeFault) (more : List ℕ) (next : A → List ℕ → Result (B × List ℕ) DecodeFault) → StandsAt r longer more → ((x : A) → Stands (next x))
+then-stands : {A B : Type 0} (r longer : Result (A × List ℕ) DecodeFault) (more : List ℕ) (next : A → List ℕ → Result
+    (B × List ℕ) DecodeFault) → StandsAt r longer more → ((x : A) → Stands (next x))
     → StandsAt (r >>= λ x. next x.0 x.1) (longer >>= λ x. next x.0 x.1) more
 then-stands (Ok x) longer more next first each = rw first (each x.0 x.1 more)
 then-stands (Err e) longer more next first each = λ other. rw (first other) refl
 
-cond-stands : {A : Type 0} (b : Bool) (x longer_x y longer_y : Result (A × List ℕ) DecodeFault) (more : List ℕ) → StandsAt x longer_x more → StandsAt y longer_y more → StandsAt (cond b x y) (cond b longer_x longer_y) more
+cond-stands : {A : Type 0} (b : Bool) (x longer_x y longer_y : Result (A × List ℕ) DecodeFault) (more : List ℕ)
+    → StandsAt x longer_x more → StandsAt y longer_y more → StandsAt (cond b x y) (cond b longer_x longer_y) more
 cond-stands true x longer_x y longer_y more first second = first
 cond-stands false x longer_x y longer_y more first second = second
 
-fixed-stands : {A : Type 0} (wanted : List ℕ) (fault : DecodeFault) (bytes more : List ℕ) (next : List ℕ → Result (A × List ℕ) DecodeFault) → Stands next → StandsAt (fixed_at wanted fault bytes >>= next) (fixed_at wanted fault (bytes ++ more) >>= next) more
+fixed-stands : {A : Type 0} (wanted : List ℕ) (fault : DecodeFault) (bytes more : List ℕ)
+    (next : List ℕ → Result (A × List ℕ) DecodeFault) → Stands next → StandsAt (fixed_at wanted fault bytes >>= next)
+    (fixed_at wanted fault (bytes ++ more) >>= next) more
 unfolding fixed_at
 fixed-stands [] fault bytes more next each = each bytes more
 fixed-stands (b ∷ wanted) fault [] more next each = λ other. absurd (other refl)
 fixed-stands (b ∷ wanted) fault (c ∷ bytes) more next each =
-    test-stands (eqb c b) (fixed_at wanted fault bytes) (fixed_at wanted fault (bytes ++ more)) (fixed-stands wanted fault bytes more next each)
+    test-stands (eqb c b) (fixed_at wanted fault bytes) (fixed_at wanted fault (bytes ++ more))
+    (fixed-stands wanted fault bytes more next each)
   where
-    test-stands : (test : Bool) (x longer : Result (List ℕ) DecodeFault) → StandsAt (x >>= next) (longer >>= next) more → StandsAt (cond test x (Err fault) >>= next) (cond test longer (Err fault) >>= next) more
+    test-stands : (test : Bool) (x longer : Result (List ℕ) DecodeFault) → StandsAt (x >>= next) (longer >>= next)
+        more → StandsAt (cond test x (Err fault) >>= next) (cond test longer (Err fault) >>= next) more
     test-stands true x longer first = first
     test-stands false x longer first = λ other. refl
 
@@ -41,11 +47,16 @@ groups-stand : (left : ℕ) → Stands (groups_at left)
 unfolding groups_at
 groups-stand zero [] more = λ other. absurd (other refl)
 groups-stand (suc left) [] more = λ other. absurd (other refl)
-groups-stand zero (b ∷ bytes) more = cond-stands (ltb 15 b) (Err Limit) (Err Limit) (Ok (b, bytes)) (Ok (b, bytes ++ more)) more (λ other. refl) refl
+groups-stand zero (b ∷ bytes) more = cond-stands (ltb 15 b) (Err Limit) (Err Limit) (Ok (b, bytes))
+    (Ok (b, bytes ++ more)) more (λ other. refl) refl
 groups-stand (suc left) (b ∷ bytes) more =
-    let next : ℕ → List ℕ → Result (ℕ × List ℕ) DecodeFault = λ high rest. cond (eqb high 0) (Err BadInstr) (Ok (b - 128 + 128 * high, rest)) in
-    let each : (high : ℕ) → Stands (next high) = λ high rest after. cond-stands (eqb high 0) (Err BadInstr) (Err BadInstr) (Ok (b - 128 + 128 * high, rest)) (Ok (b - 128 + 128 * high, rest ++ after)) after (λ other. refl) refl in
-    cond-stands (ltb b 128) (Ok (b, bytes)) (Ok (b, bytes ++ more)) (groups_at left bytes >>= λ x. next x.0 x.1) (groups_at left (bytes ++ more) >>= λ x. next x.0 x.1) more refl
+    let next : ℕ → List ℕ → Result (ℕ × List ℕ) DecodeFault = λ high rest. cond (eqb high 0) (Err BadInstr)
+    (Ok (b - 128 + 128 * high, rest)) in
+    let each : (high : ℕ) → Stands (next high) = λ high rest after. cond-stands (eqb high 0) (Err BadInstr)
+    (Err BadInstr) (Ok (b - 128 + 128 * high, rest)) (Ok (b - 128 + 128 * high, rest ++ after)) after
+    (λ other. refl) refl in
+    cond-stands (ltb b 128) (Ok (b, bytes)) (Ok (b, bytes ++ more)) (groups_at left bytes >>= λ x. next x.0 x.1)
+    (groups_at left (bytes ++ more) >>= λ x. next x.0 x.1) more refl
     (then-stands (groups_at left bytes) (groups_at left (bytes ++ more)) more next (groups-stand left bytes more) each)
 
 number-stands : Stands number_at
@@ -54,19 +65,26 @@ number-stands bytes more = groups-stand 4 bytes more
 limited-stands : (limit : ℕ) → Stands (limited_at limit)
 unfolding limited_at
 limited-stands limit bytes more =
-    then-stands (number_at bytes) (number_at (bytes ++ more)) more (λ n rest. cond (ltb limit n) (Err Limit) (Ok (n, rest))) (number-stands bytes more)
-    (λ n rest after. cond-stands (ltb limit n) (Err Limit) (Err Limit) (Ok (n, rest)) (Ok (n, rest ++ after)) after (λ other. refl) refl)
+    then-stands (number_at bytes) (number_at (bytes ++ more)) more (λ n rest. cond (ltb limit n) (Err Limit)
+    (Ok (n, rest))) (number-stands bytes more)
+    (λ n rest after. cond-stands (ltb limit n) (Err Limit) (Err Limit) (Ok (n, rest)) (Ok (n, rest ++ after)) after
+    (λ other. refl) refl)
 
 numbers-stand : (count limit : ℕ) → Stands (numbers_at count limit)
 unfolding numbers_at
 numbers-stand zero limit bytes more = refl
 numbers-stand (suc count) limit bytes more =
-    then-stands (limited_at limit bytes) (limited_at limit (bytes ++ more)) more (λ n rest. numbers_at count (limit - n) rest >>= λ others. Ok (n ∷ others.0, others.1)) (limited-stands limit bytes more)
-    (λ n rest after. then-stands (numbers_at count (limit - n) rest) (numbers_at count (limit - n) (rest ++ after)) after (λ others left. Ok (n ∷ others, left)) (numbers-stand count (limit - n) rest after) (λ others left behind. refl))
+    then-stands (limited_at limit bytes) (limited_at limit (bytes ++ more)) more (λ n rest. numbers_at count
+    (limit - n) rest >>= λ others. Ok (n ∷ others.0, others.1)) (limited-stands limit bytes more)
+    (λ n rest after. then-stands (numbers_at count (limit - n) rest) (numbers_at count (limit - n) (rest ++ after))
+    after (λ others left. Ok (n ∷ others, left)) (numbers-stand count (limit - n) rest after)
+    (λ others left behind. refl))
 
 monitors-stand : Stands monitors_at
 unfolding monitors_at
-monitors-stand bytes more = then-stands (limited_at most_monitors bytes) (limited_at most_monitors (bytes ++ more)) more (λ count rest. numbers_at count most_member_words rest) (limited-stands most_monitors bytes more) (λ count. numbers-stand count most_member_words)
+monitors-stand bytes more = then-stands (limited_at most_monitors bytes) (limited_at most_monitors (bytes ++ more))
+    more (λ count rest. numbers_at count most_member_words rest) (limited-stands most_monitors bytes more)
+    (λ count. numbers-stand count most_member_words)
 
 made-stands : (made : Option Instr) → Stands (made_at made)
 made-stands None bytes more = λ other. refl
@@ -75,10 +93,13 @@ made-stands (Some i) bytes more = refl
 operands-stand : (form : Option Form) → Stands (operands_at form)
 unfolding operands_at
 operands-stand None bytes more = λ other. refl
-operands-stand (Some (with_one make)) bytes more = then-stands (number_at bytes) (number_at (bytes ++ more)) more (λ n rest. made_at (make n) rest) (number-stands bytes more) (λ n. made-stands (make n))
+operands-stand (Some (with_one make)) bytes more = then-stands (number_at bytes) (number_at (bytes ++ more)) more
+    (λ n rest. made_at (make n) rest) (number-stands bytes more) (λ n. made-stands (make n))
 operands-stand (Some (with_two make)) bytes more =
-    then-stands (number_at bytes) (number_at (bytes ++ more)) more (λ n rest. number_at rest >>= λ m. made_at (make n m.0) m.1) (number-stands bytes more)
-    (λ n rest after. then-stands (number_at rest) (number_at (rest ++ after)) after (λ m left. made_at (make n m) left) (number-stands rest after) (λ m. made-stands (make n m)))
+    then-stands (number_at bytes) (number_at (bytes ++ more)) more (λ n rest. number_at rest >>= λ m. made_at
+    (make n m.0) m.1) (number-stands bytes more)
+    (λ n rest after. then-stands (number_at rest) (number_at (rest ++ after)) after (λ m left. made_at (make n m)
+    left) (number-stands rest after) (λ m. made-stands (make n m)))
 
 behind-stands : (plain : Option Instr) (form : Option Form) → Stands (behind_opcode plain form)
 unfolding behind_opcode
@@ -94,24 +115,55 @@ instructions-stand : (count : ℕ) → Stands (instructions_at count)
 unfolding instructions_at
 instructions-stand zero bytes more = refl
 instructions-stand (suc count) bytes more =
-    then-stands (instruction_at bytes) (instruction_at (bytes ++ more)) more (λ i rest. instructions_at count rest >>= λ others. Ok (i ∷ others.0, others.1)) (instruction-stands bytes more)
-    (λ i rest after. then-stands (instructions_at count rest) (instructions_at count (rest ++ after)) after (λ others left. Ok (i ∷ others, left)) (instructions-stand count rest after) (λ others left behind. refl))
+    then-stands (instruction_at bytes) (instruction_at (bytes ++ more)) more (λ i rest. instructions_at count rest
+    >>= λ others. Ok (i ∷ others.0, others.1)) (instruction-stands bytes more)
+    (λ i rest after. then-stands (instructions_at count rest) (instructions_at count (rest ++ after)) after
+    (λ others left. Ok (i ∷ others, left)) (instructions-stand count rest after) (λ others left behind. refl))
 
 code-stands : Stands code_at
 unfolding code_at
-code-stands bytes more = then-stands (limited_at most_instructions bytes) (limited_at most_instructions (bytes ++ more)) more (λ count rest. instructions_at count rest) (limited-stands most_instructions bytes more) (λ count. instructions-stand count)
+code-stands bytes more = then-stands (limited_at most_instructions bytes) (limited_at most_instructions
+    (bytes ++ more)) more (λ count rest. instructions_at count rest) (limited-stands most_instructions bytes more)
+    (λ count. instructions-stand count)
 
 pub image-stands : Stands image_at
 unfolding image_at
 image-stands bytes more =
-    fixed-stands {A = Program} magic BadMagic bytes more (λ marked. fixed_at version Version marked >>= λ versioned. monitors_at versioned >>= λ monitors. number_at monitors.1 >>= λ start. code_at start.1 >>= λ code. Ok (record { monitors = monitors.0; start = start.0; code = code.0 }, code.1))
-    (λ marked after. fixed-stands {A = Program} version Version marked after (λ versioned. monitors_at versioned >>= λ monitors. number_at monitors.1 >>= λ start. code_at start.1 >>= λ code. Ok (record { monitors = monitors.0; start = start.0; code = code.0 }, code.1)) behind-version)
+    fixed-stands {A = Program} magic BadMagic bytes more (λ marked. fixed_at version Version marked >>= λ versioned.
+    monitors_at versioned >>= λ monitors. number_at monitors.1 >>= λ start. code_at start.1 >>= λ code. Ok
+    (record { monitors = monitors.0; start = start.0; code = code.0 }, code.1))
+    (λ marked after. fixed-stands {A = Program} version Version marked after (λ versioned. monitors_at versioned >>=
+    λ monitors. number_at monitors.1 >>= λ start. code_at start.1 >>= λ code. Ok
+    (record { monitors = monitors.0; start = start.0; code = code.0 }, code.1)) behind-version)
   where
-    behind-start : (monitors : List ℕ) (start : ℕ) → Stands {A = Program} (λ rest. code_at rest >>= λ code. Ok (record { monitors = monitors; start = start; code = code.0 }, code.1))
-    behind-start monitors start rest after = then-stands {B = Program} (code_at rest) (code_at (rest ++ after)) after (λ code left. Ok (record { monitors = monitors; start = start; code = code }, left)) (code-stands rest after) (λ code left behind. refl)
+    behind-start : (monitors : List ℕ) (start : ℕ) → Stands {A = Program} (λ rest. code_at rest >>= λ code. Ok
+        (record { monitors = monitors; start = start; code = code.0 }, code.1))
+    behind-start monitors start rest after = then-stands {B = Program} (code_at rest) (code_at (rest ++ after)) after
+        (λ code left. Ok (record { monitors = monitors; start = start; code = code }, left)) (code-stands rest after)
+        (λ code left behind. refl)
 
-    behind-monitors : (monitors : List ℕ) → Stands {A = Program} (λ rest. number_at rest >>= λ start. code_at start.1 >>= λ code. Ok (record { monitors = monitors; start = start.0; code = code.0 }, code.1))
-    behind-monitors monitors rest after = then-stands {B = Program} (number_at rest) (number_at (rest ++ after)) after (λ start left. code_at left >>= λ code. Ok (record { monitors = monitors; start = start; code = code.0 }, code.1)) (number-stands rest after) (behind-start monitors)
+    behind-monitors : (monitors : List ℕ) → Stands {A = Program} (λ rest. number_at rest >>= λ start. code_at start.1
+        >>= λ code. Ok (record { monitors = monitors; start = start.0; code = code.0 }, code.1))
+    behind-monitors monitors rest after = then-stands {B = Program} (number_at rest) (number_at (rest ++ after))
+        after (λ start left. code_at left >>= λ code. Ok (
+          record {
+            monitors = monitors;
+            start = start;
+            code = code.0;
+          },
+          code.1,
+        )) (number-stands rest after) (behind-start monitors)
 
-    behind-version : Stands {A = Program} (λ versioned. monitors_at versioned >>= λ monitors. number_at monitors.1 >>= λ start. code_at start.1 >>= λ code. Ok (record { monitors = monitors.0; start = start.0; code = code.0 }, code.1))
-    behind-version versioned after = then-stands {B = Program} (monitors_at versioned) (monitors_at (versioned ++ after)) after (λ monitors left. number_at left >>= λ start. code_at start.1 >>= λ code. Ok (record { monitors = monitors; start = start.0; code = code.0 }, code.1)) (monitors-stand versioned after) behind-monitors
+    behind-version : Stands {A = Program} (λ versioned. monitors_at versioned >>= λ monitors. number_at monitors.1
+        >>= λ start. code_at start.1 >>= λ code. Ok (
+          record {
+            monitors = monitors.0;
+            start = start.0;
+            code = code.0;
+          },
+          code.1,
+        ))
+    behind-version versioned after = then-stands {B = Program} (monitors_at versioned)
+        (monitors_at (versioned ++ after)) after (λ monitors left. number_at left >>= λ start. code_at start.1 >>=
+        λ code. Ok (record { monitors = monitors; start = start.0; code = code.0 }, code.1))
+        (monitors-stand versioned after) behind-monitors

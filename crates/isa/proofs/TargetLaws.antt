@@ -29,7 +29,8 @@ lead_all : (count : ℕ) (code : List Instr) → AllByRecursion (LeadsBelow coun
 lead_all count [] each = refl
 lead_all count (i ∷ code) each = rw (below_place count (target i) each.0) (lead_all count code each.1)
 
-pub lies : (p : Program) → stays_inside p ≡ true → (p.start < length p.code) × AllByRecursion (LeadsBelow (length p.code)) p.code
+pub lies : (p : Program) → stays_inside p ≡ true → (p.start < length p.code) × AllByRecursion
+    (LeadsBelow (length p.code)) p.code
 lies p e =
     elim (chosen (ltb p.start (length p.code)) (lead_below (length p.code) p.code) false true e) [
       | inl w ↦ (ltb-true p.start (length p.code) w.0, all_lead (length p.code) p.code w.1)
@@ -40,7 +41,8 @@ pub lies_again : (p : Program) → IsProgram p → stays_inside p ≡ true
 lies_again p is = rw (lt-ltb p.start (length p.code) is.starts) (lead_all (length p.code) p.code is.targets)
 
 -- a test of all instructions, in a slice of them, that was passed
-pub passed : (answer : Bool) (count len : ℕ) (slice code : List Instr) → answer ≡ true → answer ≡ lead_below count slice → count ≡ len → slice ≡ code → length slice ≡ len → AllByRecursion (LeadsBelow (length code)) code
+pub passed : (answer : Bool) (count len : ℕ) (slice code : List Instr) → answer ≡ true → answer ≡ lead_below count
+    slice → count ≡ len → slice ≡ code → length slice ≡ len → AllByRecursion (LeadsBelow (length code)) code
 passed answer count len slice code held test is same long =
     let all : length code ≡ count = ap length (sym same) ∙ long ∙ sym is in
     rw all (all_lead count code (ap (lead_below count) (sym same) ∙ sym test ∙ held))

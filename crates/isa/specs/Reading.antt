@@ -118,11 +118,11 @@ abbrev pub stays_inside : Program → Bool
 stays_inside p = if nat_lt p.start (length p.code) then lead_below (length p.code) p.code else false
 
 -- behind the last instruction: no byte, and a start and targets in the code
-abbrev pub ended : Program → List ℕ → Result Program DecodeFault
-ended p rest = if length rest == 0 then (if stays_inside p then Ok p else Err BadTarget) else Err Trailing
+abbrev pub at_end : Program → List ℕ → Result Program DecodeFault
+at_end p rest = if length rest == 0 then (if stays_inside p then Ok p else Err BadTarget) else Err Trailing
 
 -- all of the bytes
 unfoldable pub program_of : List ℕ → Result Program DecodeFault
 program_of bytes = do
   image ← image_at bytes
-  ended image.0 image.1
+  at_end image.0 image.1

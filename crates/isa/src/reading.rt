@@ -104,7 +104,8 @@ fn monitors(alloc: Global, bytes: &[u8]) -> Result<(Vec<u32>, &[u8]), DecodeFaul
 }
 
 fn slot(n: u32) -> Result<Slot, DecodeFault>
-    ensures { MatchResult result (λ s. slot_of n ≡ Some s) (λ e. (e ≡ DecodeFault.Limit) × (slot_of n ≡ None)) }
+    ensures { MatchResult result (λ s. slot_of n ≡ Some s)
+        (λ e. (e ≡ DecodeFault.Limit) × (slot_of n ≡ None)) }
 {
     if n < MOST_LOCALS {
         return Ok(Slot::Local(n));

@@ -70,7 +70,7 @@ chosen false b c = c
 
 -- what comes of a JOIN: the result, or the ABORTED part, or a fault where there is none
 abbrev pub joined_part : Part → Frame → List Caller → Process
-joined_part NoPart f callers = Failing JoinedAborted f callers
+joined_part NoPart f callers = Failing JoinedAborted None f callers
 joined_part (SomePart b) f callers = goes_on None (record f { rest = followed_by b f.rest }) callers
 
 abbrev pub joined : Option ℕ → Part → Frame → List Caller → End → Process
@@ -132,7 +132,7 @@ offer p v (Before entered f callers) = rest_offer p v f callers f.rest
 offer p v (Suspended c f callers) = Takes (Resumes c.monitor) (goes_on (Some c.monitor) f callers) (recovers p c.monitor f callers)
 offer p v (Joining child into part f callers) = JoinsOne child (joined into part f callers)
 offer p v (Returning z callers) = Does (Alone L.Return) Nothing (hands_over z callers)
-offer p v (Failing fault f callers) = faults fault f callers
+offer p v (Failing fault entered f callers) = faults fault f callers
 offer p v (Dying cause []) = Does (Ends (Aborted cause)) Nothing (Over (Aborted cause))
 offer p v (Dying cause (m ∷ ms)) = Does (Abandons m) Nothing (Dying cause ms)
 offer p v (Leaving z) = Does (Ends (Ended z)) Nothing (Over (Ended z))

@@ -32,8 +32,8 @@ pub data Process : Type 0 where
   Joining : (child : ℕ) (into : Option ℕ) (aborted : Part) (frame : Frame) (callers : List Caller) → Process
   -- gave up the monitor at the end of an ENTRY procedure, and hands the result to the caller next
   Returning : (value : ℤ) (callers : List Caller) → Process
-  -- faults next
-  Failing : (fault : Fault) (frame : Frame) (callers : List Caller) → Process
+  -- faults next; and the monitor that its last action entered
+  Failing : (fault : Fault) (entered : Option ℕ) (frame : Frame) (callers : List Caller) → Process
   -- gives up the monitors that it held, one by one
   Dying : (cause : Cause) (monitors : List ℕ) → Process
   -- ends next
@@ -74,7 +74,7 @@ abbrev pub begins : Frame → List Caller → Process
 begins f callers = begins_by f.role f callers
 
 abbrev pub recovers_by : Program → Option ℕ → ℕ → Frame → List Caller → Process
-recovers_by p None m f callers = Failing AbandonedMonitor f callers
+recovers_by p None m f callers = Failing AbandonedMonitor (Some m) f callers
 recovers_by p (Some r) m f callers =
     goes_on (Some m) (opening_frame p r []) (record { into = None; frame = f } ∷ callers)
 
@@ -120,7 +120,7 @@ holds (Before entered f callers) = all_monitors f callers
 holds (Suspended c f callers) = without_monitor c.monitor (all_monitors f callers)
 holds (Joining child into part f callers) = all_monitors f callers
 holds (Returning z callers) = callers_monitors callers
-holds (Failing fault f callers) = all_monitors f callers
+holds (Failing fault entered f callers) = all_monitors f callers
 holds (Dying cause ms) = ms
 holds (Leaving z) = []
 holds (Over end) = []

@@ -6,7 +6,7 @@ use Rattle.program.specs.Trees.{Program}
 use Rattle.meaning.specs.Values.{Variables}
 use Rattle.meaning.specs.Labels.{Killed, Label, Exits, Waits, kind_of, Kind, Stray, Kill, Action}
 use Rattle.meaning.specs.Table.{Allows, AllowsStray, AllowsKill}
-use Rattle.meaning.specs.Processes.{Process, Entering, Before, Dying, Over, holds, without_monitor}
+use Rattle.meaning.specs.Processes.{Process, Entering, Before, Failing, Dying, Over, holds, without_monitor}
 use Rattle.meaning.specs.Offers.{Effect, Offer, Does, NotifiesSome, NotifiesAll, offer, TakesUp}
 use Rattle.meaning.specs.States.{SourceState, opening, variables_after, printed_after, processes_after}
 
@@ -47,6 +47,7 @@ GivesUp other n = ⊥
 abbrev pub Enters : Process → ℕ → Type 0
 Enters (Entering m f callers) n = m ≡ n
 Enters (Before (Some m) f callers) n = m ≡ n
+Enters (Failing fault (Some m) f callers) n = m ≡ n
 Enters other n = ⊥
 
 -- what a killed process abandons: what it holds, innermost first; but a monitor that it is just taking or giving up may

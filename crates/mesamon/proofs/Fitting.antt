@@ -35,11 +35,14 @@ readable_fit (t ∷ ts) (inr (inner, more)) = fit_more t.kind (kinds ts) inner (
 signed_word : (n : ℕ) → n < 2 ^ 31 → FitsSigned w32 (pos n)
 signed_word n h = search rules
 
-have_words : (ns : List ℕ) (rest : List Kind) → FitAll (statements_kinds ns ++ rest) → HaveWords (map Prints (map pos ns))
+have_words : (ns : List ℕ) (rest : List Kind) → FitAll (statements_kinds ns ++ rest)
+    → HaveWords (map Prints (map pos ns))
 have_words [] rest h = tt
 have_words (n ∷ ns) rest h = (signed_word n h.0, have_words ns rest h.1)
 
-pub unit_has_words : (text : List ℕ) (tokens : List TokenView) (p : Source) → IsTokens text tokens → IsUnit tokens p → HasWords p
+pub unit_has_words : (text : List ℕ) (tokens : List TokenView) (p : Source) → IsTokens text tokens → IsUnit tokens p
+    → HasWords p
 unit_has_words text tokens p scanned u =
-    let fit : FitAll (unit_kinds u.numbers) = subst FitAll u.spelled (readable_fit tokens (tokens_readable text tokens scanned)) in
+    let fit : FitAll (unit_kinds u.numbers) =
+    subst FitAll u.spelled (readable_fit tokens (tokens_readable text tokens scanned)) in
     rw u.program (have_words u.numbers _ fit)

@@ -1,5 +1,6 @@
 -- A text is one program or has one refusal.
-use Rattle.std.proofs.Common.{◌≡◌, arith, length, ◌⊎◌, inl, inr, ℕ, pos, List, [], ◌∷◌, ◌++◌, map, refl, ap, subst, ◌∙◌, sym, append_assoc}
+use Rattle.std.proofs.Common.{◌≡◌, arith, length, ◌⊎◌, inl, inr, ℕ, pos, List, [], ◌∷◌, ◌++◌, map, refl, ap, subst}
+use Rattle.std.proofs.Common.{◌∙◌, sym, append_assoc}
 use Rattle.std.proofs.lemmas.List.{map-append}
 use Rattle.scanner.specs.declared.refusal.Refusal.{Refusal}
 use Rattle.scanner.specs.declared.token.Kind.{Kind}
@@ -15,7 +16,8 @@ use Rattle.mesamon.specs.Reading.{expected_at}
 use Rattle.mesamon.specs.Grammar.{statements_kinds, unit_kinds, Begins}
 
 -- the numbers of a unit are its own
-one_list : (ns ms : List ℕ) (rest : List Kind) → statements_kinds ns ++ Keyword words.End ∷ rest ≡ statements_kinds ms ++ Keyword words.End ∷ rest → ns ≡ ms
+one_list : (ns ms : List ℕ) (rest : List Kind) → statements_kinds ns ++ Keyword words.End ∷ rest ≡ statements_kinds ms
+    ++ Keyword words.End ∷ rest → ns ≡ ms
 one_list [] [] rest e = refl
 one_list [] (m ∷ ms) rest e = cc
 one_list (n ∷ ns) [] rest e = cc
@@ -28,9 +30,11 @@ one_unit tokens p q u v =
     u.program ∙ (ap (λ (ns : List ℕ). printing (map pos ns)) numbers ∙ sym v.program)
 
 -- tokens up to one that stands in them, and it
-kinds_through : (tokens front back : List TokenView) (t : TokenView) → tokens ≡ front ++ t ∷ back → kinds tokens ≡ (kinds front ++ t.kind ∷ []) ++ kinds back
+kinds_through : (tokens front back : List TokenView) (t : TokenView) → tokens ≡ front ++ t ∷ back
+    → kinds tokens ≡ (kinds front ++ t.kind ∷ []) ++ kinds back
 kinds_through tokens front back t e =
-    let split : kinds (front ++ t ∷ back) ≡ kinds front ++ kinds (t ∷ back) = map-append (λ u. u.kind) front (t ∷ back) in
+    let split : kinds (front ++ t ∷ back) ≡ kinds front ++ kinds (t ∷ back) = map-append (λ u. u.kind) front
+    (t ∷ back) in
     ap kinds e ∙ (split ∙ sym (append_assoc (kinds front) (t.kind ∷ []) (kinds back)))
 
 -- a unit isn't refused
@@ -43,9 +47,11 @@ begins_less : (ks js : List Kind) → Begins (ks ++ js) → Begins ks
 begins_less ks js (ns, rest, e) = (ns, js ++ rest, e ∙ append_assoc ks js rest)
 
 -- no refusal stands before another one
-not_before : (tokens front more : List TokenView) (t : TokenView) (e : Refusal) (x : IsExpected tokens e) → x.front ≡ front ++ t ∷ more → (Begins (kinds front ++ t.kind ∷ []) → ⊥) → ⊥
+not_before : (tokens front more : List TokenView) (t : TokenView) (e : Refusal) (x : IsExpected tokens e)
+    → x.front ≡ front ++ t ∷ more → (Begins (kinds front ++ t.kind ∷ []) → ⊥) → ⊥
 not_before tokens front more t e x split stuck =
-    stuck (begins_less (kinds front ++ t.kind ∷ []) (kinds more) (subst Begins (kinds_through x.front front more t split) x.begins))
+    stuck (begins_less (kinds front ++ t.kind ∷ []) (kinds more)
+    (subst Begins (kinds_through x.front front more t split) x.begins))
 
 abbrev Compared : List TokenView → List TokenView → TokenView → TokenView → Type 0
 Compared a b t u =
@@ -79,12 +85,14 @@ pub record Scans : Type 0 where
 
 pub one_program : Scans → (text : List ℕ) (p q : Source) → Accepts text p → Accepts text q → p ≡ q
 one_program s text p q a b =
-    one_unit b.tokens p q (subst (λ (ts : List TokenView). IsUnit ts p) (s.one text a.tokens b.tokens a.scanned b.scanned) a.unit) b.unit
+    one_unit b.tokens p q (subst (λ (ts : List TokenView). IsUnit ts p)
+    (s.one text a.tokens b.tokens a.scanned b.scanned) a.unit) b.unit
 
 -- a program isn't one that is refused as no unit
 accepted_not_refused : Scans → (text : List ℕ) (p : Source) (e : Refusal) → Accepts text p → IsNoUnit text e → ⊥
 accepted_not_refused s text p e a n =
-    unit_not_refused n.tokens p e (subst (λ (ts : List TokenView). IsUnit ts p) (s.one text a.tokens n.tokens a.scanned n.scanned) a.unit) n.expected
+    unit_not_refused n.tokens p e (subst (λ (ts : List TokenView). IsUnit ts p)
+    (s.one text a.tokens n.tokens a.scanned n.scanned) a.unit) n.expected
 
 pub one_refusal : Scans → (text : List ℕ) (e f : Refusal) → Refuses text e → Refuses text f → e ≡ f
 one_refusal s text e f (inl x) (inl y) = s.fault text e f x y
@@ -92,7 +100,8 @@ one_refusal s text e f (inl x) (inr (inl y)) = absurd (s.either text y.tokens e 
 one_refusal s text e f (inl x) (inr (inr y)) = absurd (s.either text y.accepts.tokens e y.accepts.scanned x)
 one_refusal s text e f (inr (inl x)) (inl y) = absurd (s.either text x.tokens f x.scanned y)
 one_refusal s text e f (inr (inl x)) (inr (inl y)) =
-    one_expected y.tokens e f (subst (λ (ts : List TokenView). IsExpected ts e) (s.one text x.tokens y.tokens x.scanned y.scanned) x.expected) y.expected
+    one_expected y.tokens e f (subst (λ (ts : List TokenView). IsExpected ts e)
+    (s.one text x.tokens y.tokens x.scanned y.scanned) x.expected) y.expected
 one_refusal s text e f (inr (inl x)) (inr (inr y)) = absurd (accepted_not_refused s text y.program e y.accepts x)
 one_refusal s text e f (inr (inr x)) (inl y) = absurd (s.either text x.accepts.tokens f x.accepts.scanned y)
 one_refusal s text e f (inr (inr x)) (inr (inl y)) = absurd (accepted_not_refused s text x.program f x.accepts y)

@@ -13,10 +13,12 @@ use Rattle.runner.specs.Reports.{IsReport, CanFail, MeetsBroken}
 use Rattle.mesamon.specs.Compiles.{IsCompiled}
 use Rattle.mesamon.specs.Running.{IsFailedRun, IsRunOf}
 
-pub run_explained : RunsSo → (text : List ℕ) (image : Program) (limit : ℕ) (r : Report) → IsCompiled text image → limit < 2 ^ 32 → IsReport image limit r → IsRunOf text limit r
+pub run_explained : RunsSo → (text : List ℕ) (image : Program) (limit : ℕ) (r : Report) → IsCompiled text image
+    → limit < 2 ^ 32 → IsReport image limit r → IsRunOf text limit r
 run_explained runs text image limit r c below report =
     let reported : IsReport (code_of c.program) limit r = subst (λ (p : Program). IsReport p limit r) c.code report in
-    let refines : Refines c.program (code_of c.program) = subst (λ (p : Program). Refines c.program p) c.code c.refines in
+    let refines : Refines c.program (code_of c.program) = subst (λ (p : Program). Refines c.program p) c.code
+    c.refines in
     let (steps, run, count, same) = runs (code_of c.program) r.log.items (kept r.last) reported.legal in
     let within = reported.within in
     let few : length steps < 2 ^ 32 = omega arith in
@@ -29,7 +31,8 @@ run_explained runs text image limit r c below report =
       explained = refines.follows steps (state_of (kept r.last)) run few;
     }
 
-pub run_fails : (text : List ℕ) (image : Program) (limit : ℕ) (fault : RunFault) → IsCompiled text image → CanFail image limit fault → IsFailedRun text limit fault
+pub run_fails : (text : List ℕ) (image : Program) (limit : ℕ) (fault : RunFault) → IsCompiled text image
+    → CanFail image limit fault → IsFailedRun text limit fault
 run_fails text image limit fault c fails = record {
   program = c.program;
   accepts = c.accepts;
@@ -37,10 +40,12 @@ run_fails text image limit fault c fails = record {
 }
 
 -- compiled code meets no step that may not be in fewer than 2^32 steps
-pub run_sound : MeetsSo → (text : List ℕ) (image : Program) (limit : ℕ) (fault : RunFault) → IsCompiled text image → CanFail image limit fault → limit + 256 < 2 ^ 32 → fault ≢ Broken
+pub run_sound : MeetsSo → (text : List ℕ) (image : Program) (limit : ℕ) (fault : RunFault) → IsCompiled text image
+    → CanFail image limit fault → limit + 256 < 2 ^ 32 → fault ≢ Broken
 run_sound meets text image limit Broken c fails small e =
     let m : MeetsBroken (code_of c.program) limit = subst (λ (p : Program). MeetsBroken p limit) c.code fails in
-    let refines : Refines c.program (code_of c.program) = subst (λ (p : Program). Refines c.program p) c.code c.refines in
+    let refines : Refines c.program (code_of c.program) = subst (λ (p : Program). Refines c.program p) c.code
+    c.refines in
     let (steps, s, run, count, broken, same) = meets (code_of c.program) limit m in
     let few : length steps < 2 ^ 32 = omega (arith, m.within, m.turn, count) in
     (refines.follows steps s run few).sound m.thread broken

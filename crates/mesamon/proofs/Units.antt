@@ -22,10 +22,13 @@ all_kinds ks ts us p =
     let split : kinds (p.read ++ us) ≡ kinds p.read ++ kinds us = map-append (λ t. t.kind) p.read us in
     ap kinds p.parts ∙ (split ∙ ap (λ (js : List Kind). js ++ kinds us) p.spelled)
 
-pub unit_read : (tokens a b c : List TokenView) (zs : List ℤ) (p : Source) → Passes HEADER tokens a → ((ns : List ℕ) × (zs ≡ map pos ns) × Passes (statements_kinds ns) a b) → Passes FOOTER b c → IsReadable c → first_kind c ≡ End → p ≡ printing zs → IsUnit tokens p
+pub unit_read : (tokens a b c : List TokenView) (zs : List ℤ) (p : Source) → Passes HEADER tokens a
+    → ((ns : List ℕ) × (zs ≡ map pos ns) × Passes (statements_kinds ns) a b) → Passes FOOTER b c → IsReadable c
+    → first_kind c ≡ End → p ≡ printing zs → IsUnit tokens p
 unit_read tokens a b c zs p h (ns, e, s) f readable end made =
     let all = all_kinds _ tokens c (passes_then _ _ _ _ _ (passes_then _ _ _ _ _ h s) f) in
-    let ended : kinds tokens ≡ ((HEADER ++ statements_kinds ns) ++ FOOTER) ++ End ∷ [] = all ∙ ap (λ (js : List Kind). ((HEADER ++ statements_kinds ns) ++ FOOTER) ++ js) (end_alone c readable end) in
+    let ended : kinds tokens ≡ ((HEADER ++ statements_kinds ns) ++ FOOTER) ++ End ∷ [] =
+    all ∙ ap (λ (js : List Kind). ((HEADER ++ statements_kinds ns) ++ FOOTER) ++ js) (end_alone c readable end) in
     record {
       numbers = ns;
       spelled = ended ∙ append_assoc (HEADER ++ statements_kinds ns) FOOTER (End ∷ []);

@@ -6,6 +6,7 @@ use Rattle.scanner.specs.declared.refusal.RefusalKind.TheVariants.{Expected, Lim
 use Rattle.scanner.specs.Places.{start}
 use Rattle.scanner.specs.Tokens.{TokenView, IsTokens}
 use Rattle.scanner.specs.Faults.{IsFault}
+use Rattle.isa.specs.Limits.{most_instructions}
 use Rattle.sourcemeaning.specs.Programs.{Source, printing}
 use Rattle.simulation.specs.Code.{code_of}
 use Rattle.mesamon.specs.Grammar.{unit_kinds, Begins}
@@ -43,7 +44,7 @@ pub record IsNoUnit (text : List ℕ) (e : Refusal) : Type 0 where
 
 -- the code of a program is no longer than an image may have
 abbrev pub Fits : Source → Type 0
-Fits p = length (code_of p).code ≤ 65536
+Fits p = length (code_of p).code ≤ most_instructions
 
 -- the refusal of code that is longer
 abbrev pub too_long : Refusal
@@ -53,7 +54,7 @@ too_long = record { kind = Limit; place = start }
 pub record IsTooLong (text : List ℕ) (e : Refusal) : Type 0 where
   pub program : Source
   pub accepts : Accepts text program
-  pub long : 65536 < length (code_of program).code
+  pub long : most_instructions < length (code_of program).code
   pub refusal : e ≡ too_long
 
 -- a text's refusal, that of the earliest phase: it has no tokens, they are no unit, or its code is too long

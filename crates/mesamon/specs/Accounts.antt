@@ -1,9 +1,11 @@
--- What is written of a run: its output, and its account, which is the log where it is wanted, the verdict where not all
--- threads have ended, and the threads that have aborted or sleep.
-use Rattle.std.specs.Prelude.{ℕ, zero, suc, ℤ, Bool, true, false, List, [], ◌∷◌, ◌++◌, Option, Some, None, codes, length, if◌then◌else◌}
+-- What is written of a run: its output, and its account, which is the log where it is wanted, the verdict where not
+-- all threads have ended, and the threads that have aborted or sleep.
+use Rattle.std.specs.Prelude.{ℕ, zero, suc, ℤ, Bool, true, false, List, [], ◌∷◌, ◌++◌, Option, Some, None}
+use Rattle.std.specs.Prelude.{codes, length, if◌then◌else◌}
 use Rattle.std.specs.List.{flat_map}
 use Rattle.std.specs.Fmt.{decimal, signed_decimal}
 use Rattle.words.specs.Signed.{signed_of}
+use Rattle.words.specs.Limits.{most_processes}
 use Rattle.words.specs.Process.{process_word}
 use Rattle.words.specs.Outcomes.{fault_number, outcome_of}
 use Rattle.words.specs.declared.outcome.Outcome.{Outcome}
@@ -11,7 +13,9 @@ use Rattle.words.specs.declared.outcome.Outcome.TheVariants.{Aborted}
 use Rattle.machine.specs.declared.event.Entry.{Entry}
 use Rattle.machine.specs.declared.event.Event.{Event}
 use Rattle.machine.specs.declared.event.EventName.{EventName}
-use Rattle.machine.specs.declared.event.EventName.TheVariants.{Turn, Load, Store, Swap, Cas, Or, Add, Fork, Print, Wait, Wake, Requeue, Ret, RetValue, Die, Entry as Entry', Pending, Clear, Last}
+use Rattle.machine.specs.declared.event.EventName.TheVariants.{Turn, Load, Store, Swap, Cas, Or, Add, Fork, Print}
+use Rattle.machine.specs.declared.event.EventName.TheVariants.{Wait, Wake, Requeue, Ret, RetValue, Die}
+use Rattle.machine.specs.declared.event.EventName.TheVariants.{Entry as Entry', Pending, Clear, Last}
 use Rattle.machine.specs.ThreadSets.{has}
 use Rattle.machine.specs.declared.thread_set.ThreadSet.{ThreadSet}
 use Rattle.machine.specs.States.{Kept, state_of}
@@ -72,7 +76,7 @@ list_text word [] = []
 list_text word (n ∷ ns) = word ++ numbers_text (n ∷ ns)
 
 abbrev pub set_text : List ℕ → ThreadSet → List ℕ
-set_text word set = list_text word (members set 64)
+set_text word set = list_text word (members set most_processes)
 
 -- a step's name and value, and the threads that it woke and moved
 abbrev pub event_text : Event → List ℕ
@@ -101,7 +105,8 @@ is_stuck Stuck = true
 is_stuck _ = false
 
 abbrev pub aborted_line : ℕ → Outcome → List ℕ
-aborted_line t (Aborted fault) = codes "process " ++ decimal t ++ codes " aborted: fault " ++ decimal (fault_number fault) ++ line_feed
+aborted_line t (Aborted fault) =
+    codes "process " ++ decimal t ++ codes " aborted: fault " ++ decimal (fault_number fault) ++ line_feed
 aborted_line t _ = []
 
 abbrev pub asleep_line : ℕ → Option ℕ → List ℕ

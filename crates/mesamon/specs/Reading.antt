@@ -1,5 +1,6 @@
 -- What the functions of the parser pass, and where they stop.
-use Rattle.std.specs.Prelude.{◌≡◌, ◌≢◌, ◌<◌, ◌^◌, ◌⊎◌, ℕ, ℤ, pos, Bool, true, false, List, [], ◌∷◌, ◌++◌, Option, Some, None}
+use Rattle.std.specs.Prelude.{◌≡◌, ◌≢◌, ◌<◌, ◌^◌, ◌⊎◌, ℕ, ℤ, pos, Bool, true, false}
+use Rattle.std.specs.Prelude.{List, [], ◌∷◌, ◌++◌, Option, Some, None}
 use Rattle.scanner.specs.declared.token.Kind.{Kind}
 use Rattle.scanner.specs.declared.token.Kind.TheVariants.{Keyword, Sign, Number, End}
 use Rattle.scanner.specs.declared.token.Keyword.TheVariants.{Print}
@@ -71,11 +72,13 @@ abbrev pub ReadsStatement : Option ℤ → List TokenView → List TokenView →
 ReadsStatement None old new = (new ≡ old) × (first_kind old ≢ Keyword Print)
 ReadsStatement (Some z) old new = (n : ℕ) × (z ≡ pos n) × Passes (statement_kinds n) old new
 
--- PRINT was passed, and e refuses the next, which is no number; or PRINT and a number were, and e refuses what is no semicolon
+-- PRINT was passed, and e refuses the next, which is no number; or PRINT and a number were, and e refuses what is no
+-- semicolon
 abbrev pub StatementFails : List TokenView → Refusal → Type 0
 StatementFails tokens e =
     ((rest : List TokenView) × Passes (Keyword Print ∷ []) tokens rest × StandsNoNumber rest e)
-    ⊎ ((n : ℕ) × (rest : List TokenView) × Passes (Keyword Print ∷ Number n ∷ []) tokens rest × StandsOther (Sign Semicolon) rest e)
+    ⊎ ((n : ℕ) × (rest : List TokenView) × Passes (Keyword Print ∷ Number n ∷ []) tokens rest
+    × StandsOther (Sign Semicolon) rest e)
 
 -- statements were passed, and e refuses the next
 pub record StatementsFail (tokens : List TokenView) (e : Refusal) : Type 0 where

@@ -18,8 +18,8 @@ use std::io::Write;
 use std::rt::Files;
 use words::OpenGate;
 
-/// Does the command that these words ask for, those after the program's name, and answers the exit status. `output` and
-/// `errors` stand for standard output and standard error.
+/// Does the command that these words ask for, those after the program's name, and answers the exit status. `output`
+/// and `errors` stand for standard output and standard error.
 ///
 /// The first fault decides: of the words, of reading the file, of its source text, of its run, of writing.
 ///

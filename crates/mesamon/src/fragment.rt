@@ -1,11 +1,13 @@
-ghost use Rattle.std.specs.Prelude.{◌≡◌, ◌≢◌, ◌⊎◌, ◌<◌, ℕ, pos, true, [], ◌∷◌, List, OnOk, OnSome, IfOk, IfErr, IsTrue, length, map};
+ghost use Rattle.std.specs.Prelude.{◌≡◌, ◌≢◌, ◌⊎◌, ◌<◌, ℕ, pos, true, [], ◌∷◌, List, length, map};
+ghost use Rattle.std.specs.Prelude.{OnOk, OnSome, IfOk, IfErr, IsTrue};
 ghost use Rattle.std.specs.List.{list_all};
 ghost use Rattle.scanner.specs.Tokens.{views};
 ghost use Rattle.scanner.specs.Refusals.{out_of_memory};
 ghost use Rattle.scanner.specs.declared.token.Kind.TheVariants.{Number, End};
 ghost use Rattle.mesamon.specs.Accepts.{IsExpected, IsUnit};
 ghost use Rattle.mesamon.specs.Grammar.{statements_kinds};
-ghost use Rattle.mesamon.specs.Reading.{Differs, IsReadable, Passes, ReadsStatement, RefusesFirst, StandsNoNumber, StandsOther, StatementFails, StatementsFail, first_kind, is_inner};
+ghost use Rattle.mesamon.specs.Reading.{Differs, IsReadable, Passes, ReadsStatement, RefusesFirst, StandsNoNumber};
+ghost use Rattle.mesamon.specs.Reading.{StandsOther, StatementFails, StatementsFail, first_kind, is_inner};
 
 use scanner::{Keyword, Kind, Refusal, RefusalKind, Sign, Token};
 use sourcemeaning::Checked;
@@ -43,7 +45,8 @@ impl Reader<'_> {
     fn pass(&mut self)
         requires readable { IsReadable (views self.old.rest.now) }
         requires inner { first_kind (views self.old.rest.now) ≢ End }
-        ensures passes { Passes (first_kind (views self.old.rest.now) ∷ []) (views self.old.rest.now) (views self.new.rest.now) }
+        ensures passes { Passes (first_kind (views self.old.rest.now) ∷ [])
+            (views self.old.rest.now) (views self.new.rest.now) }
         ensures readable { IsReadable (views self.new.rest.now) }
         ensures shorter { length self.new.rest.now < length self.old.rest.now }
     {
@@ -97,7 +100,8 @@ impl Reader<'_> {
     // Passes a number.
     fn number(&mut self) -> Result<i32, Refusal>
         requires { IsReadable (views self.old.rest.now) }
-        ensures ok { IfOk result (λ z. (n : ℕ) × (z ≡ pos n) × Passes (Number n ∷ []) (views self.old.rest.now) (views self.new.rest.now)) }
+        ensures ok { IfOk result (λ z. (n : ℕ) × (z ≡ pos n)
+            × Passes (Number n ∷ []) (views self.old.rest.now) (views self.new.rest.now)) }
         ensures readable { OnOk result (IsReadable (views self.new.rest.now)) }
         ensures shorter { OnOk result (length self.new.rest.now < length self.old.rest.now) }
         ensures err { IfErr result (λ e. StandsNoNumber (views self.old.rest.now) e) }
@@ -131,7 +135,8 @@ impl Reader<'_> {
     // Passes statements up to what begins none, and answers the numbers that they print.
     fn statements(&mut self, alloc: Global) -> Result<Vec<i32>, Refusal>
         requires { IsReadable (views self.old.rest.now) }
-        ensures ok { IfOk result (λ v. (ns : List ℕ) × (v.items ≡ map pos ns) × Passes (statements_kinds ns) (views self.old.rest.now) (views self.new.rest.now)) }
+        ensures ok { IfOk result (λ v. (ns : List ℕ) × (v.items ≡ map pos ns)
+            × Passes (statements_kinds ns) (views self.old.rest.now) (views self.new.rest.now)) }
         ensures all { OnOk result (first_kind (views self.new.rest.now) ≢ Kind.Keyword Keyword.Print) }
         ensures readable { OnOk result (IsReadable (views self.new.rest.now)) }
         ensures err { IfErr result (λ e. (e ≡ out_of_memory) ⊎ StatementsFail (views self.old.rest.now) e) }

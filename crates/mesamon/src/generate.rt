@@ -1,6 +1,7 @@
 ghost use Rattle.std.specs.Prelude.{◌≡◌, ◌<◌, ◌≤◌, [], length, vec_len, IfOk, MatchResult};
 ghost use Rattle.std.specs.List.{AllByRecursion};
 ghost use Rattle.isa.specs.Instructions.{IsInstruction, LeadsBelow};
+ghost use Rattle.isa.specs.Limits.{most_instructions};
 ghost use Rattle.isa.specs.Programs.{Program};
 ghost use Rattle.mesamon.specs.Accepts.{too_long};
 ghost use Rattle.simulation.specs.Code.{code_of};
@@ -31,8 +32,10 @@ pub fn link(alloc: Global, code: Vec<Instr>) -> Result<Image, Refusal>
     requires some { 0 < vec_len code }
     requires instructions { AllByRecursion IsInstruction code.items }
     requires targets { AllByRecursion (LeadsBelow (length code.items)) code.items }
-    ensures fits { length code.items ≤ 65536 → IfOk result (λ i. i ≡ record { monitors = []; start = 0; code = code.items }) }
-    ensures long { MatchResult result (λ _. length code.items ≤ 65536) (λ e. (65536 < length code.items) × (e ≡ too_long)) }
+    ensures fits { length code.items ≤ most_instructions
+        → IfOk result (λ i. i ≡ record { monitors = []; start = 0; code = code.items }) }
+    ensures long { MatchResult result (λ _. length code.items ≤ most_instructions)
+        (λ e. (most_instructions < length code.items) × (e ≡ too_long)) }
 {
     if code.len() > MOST_INSTRUCTIONS {
         return Err(Refusal {

@@ -1,6 +1,8 @@
 ghost use Rattle.std.specs.Prelude.{◌≡◌, ◌++◌, ◌≤◌, true, false, length, OnOk, IfOk, string_bytes};
 ghost use Rattle.std.specs.Io.KnownBytes.{Appends};
-ghost use Rattle.mesamon.specs.Accounts.{account, aborted_line, asleep_line, entry_line, image_line, log_lines, name_text, output_lines, set_text, step_text, thread_lines, threads_lines, value_text, verdict_line};
+ghost use Rattle.mesamon.specs.Accounts.{account, entry_line, image_line, log_lines, output_lines, verdict_line};
+ghost use Rattle.mesamon.specs.Accounts.{name_text, set_text, step_text, value_text};
+ghost use Rattle.mesamon.specs.Accounts.{aborted_line, asleep_line, thread_lines, threads_lines};
 ghost use Rattle.machine.specs.Views.{address_of, kept};
 
 use machine::{Entry, Event, EventName, MOST_THREADS, Machine, ThreadSet};

@@ -1,5 +1,6 @@
 ghost use Rattle.std.specs.Prelude.{◌≡◌, ◌≢◌, ◌<◌, ◌+◌, ◌^◌, IfOk, IfErr};
 ghost use Rattle.runner.specs.declared.fault.RunFault.TheVariants.{Broken};
+ghost use Rattle.words.specs.Limits.{most_local_steps};
 ghost use Rattle.sourcemeaning.specs.Programs.{Source};
 ghost use Rattle.mesamon.specs.Accepts.{Accepts, Fits};
 ghost use Rattle.mesamon.specs.Running.{IsRunOf, IsRefusedRun, IsMemory};
@@ -54,7 +55,7 @@ pub fn run_source<G: Gate>(
 ) -> Result<Report, RunSourceFault>
     ensures report { IfOk result (λ report. IsRunOf text.now limit report) }
     ensures fault { IfErr result (λ fault. IsRefusedRun text.now limit fault) }
-    ensures sound { limit + 256 < 2 ^ 32 → IfErr result (λ fault. fault ≢ Run Broken) }
+    ensures sound { limit + most_local_steps < 2 ^ 32 → IfErr result (λ fault. fault ≢ Run Broken) }
     ensures only { (p : Source) → Accepts text.now p → Fits p → IfErr result (λ fault. IsMemory fault) }
 {
     logs_are_machine_runs();

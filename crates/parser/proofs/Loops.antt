@@ -9,7 +9,8 @@ use Rattle.syntax.specs.View.{statements_before}
 use Rattle.parser.specs.Chains.{chained}
 use Rattle.parser.specs.Steps.{add_statement}
 
-pub chained_more : {X A : Type 0} (add : X → A → A) (xs : List X) (x : X) (later : A) → chained add (xs ++ x ∷ []) later ≡ chained add xs (add x later)
+pub chained_more : {X A : Type 0} (add : X → A → A) (xs : List X) (x : X) (later : A)
+    → chained add (xs ++ x ∷ []) later ≡ chained add xs (add x later)
 chained_more add [] x later = refl
 chained_more add (y ∷ xs) x later = ap (add y) (chained_more add xs x later)
 
@@ -17,15 +18,21 @@ pub chained_map : {X T : Type 0} (view : X → T) (xs : List X) → chained (λ 
 chained_map view [] = refl
 chained_map view (x ∷ xs) = ap (λ l. view x ∷ l) (chained_map view xs)
 
-pub chained_statements : (xs : List Statement) (later : StatementTrees) → chained add_statement xs later ≡ statements_before xs later
+pub chained_statements : (xs : List Statement) (later : StatementTrees)
+    → chained add_statement xs later ≡ statements_before xs later
 chained_statements [] later = refl
 chained_statements (x ∷ xs) later = ap (add_statement x) (chained_statements xs later)
 
 -- one more element
-pub goes_on : {X : Type 0} {d : ℕ} {σ : List Symbol} {s : Symbol} (make : Tree s → Trees σ) (add : X → Tree s → Tree s) (xs ys : List X) (x : X) (a b c : List Item) → ys ≡ xs ++ x ∷ [] → Leads d σ (s ∷ []) (λ y. make (chained add xs y.0)) a b → Leads d (s ∷ []) (s ∷ []) (λ y. (add x y.0, tt)) b c → Leads d σ (s ∷ []) (λ y. make (chained add ys y.0)) a c
+pub goes_on : {X : Type 0} {d : ℕ} {σ : List Symbol} {s : Symbol} (make : Tree s → Trees σ)
+    (add : X → Tree s → Tree s) (xs ys : List X) (x : X) (a b c : List Item) → ys ≡ xs ++ x ∷ []
+    → Leads d σ (s ∷ []) (λ y. make (chained add xs y.0)) a b → Leads d (s ∷ []) (s ∷ []) (λ y. (add x y.0, tt)) b c
+    → Leads d σ (s ∷ []) (λ y. make (chained add ys y.0)) a c
 goes_on {d = d} {σ = σ} {s = s} make add xs ys x a b c e l m =
     leads_as (λ y. ap make (sym (chained_more add xs x y.0) ∙ ap (λ zs. chained add zs y.0) (sym e))) (onto m l)
 
 -- no more elements
-pub ends : {X : Type 0} {d : ℕ} {σ : List Symbol} {s : Symbol} (make : Tree s → Trees σ) (add : X → Tree s → Tree s) (xs : List X) (empty : Tree s) (a b c : List Item) → Leads d σ (s ∷ []) (λ y. make (chained add xs y.0)) a b → Passes d (s ∷ []) (empty, tt) b c → Passes d σ (make (chained add xs empty)) a c
+pub ends : {X : Type 0} {d : ℕ} {σ : List Symbol} {s : Symbol} (make : Tree s → Trees σ) (add : X → Tree s → Tree s)
+    (xs : List X) (empty : Tree s) (a b c : List Item) → Leads d σ (s ∷ []) (λ y. make (chained add xs y.0)) a b
+    → Passes d (s ∷ []) (empty, tt) b c → Passes d σ (make (chained add xs empty)) a c
 ends make add xs empty a b c l p = done (then1 p l (omega arith))

@@ -6,7 +6,8 @@ use Rattle.syntax.specs.Tree.{NoStatements}
 use Rattle.syntax.specs.View.{name_of}
 use Rattle.grammar.specs.Machine.{Skip, reply_statements}
 use Rattle.parser.specs.declared.start.StatementStart.{StatementStart}
-use Rattle.parser.specs.declared.start.StatementStart.TheVariants.{Assign, If, While, Call, Fork, Join, Return, Wait, Notify, Broadcast, Print, Abort}
+use Rattle.parser.specs.declared.start.StatementStart.TheVariants.{Assign, If, While, Call, Fork, Join, Return, Wait}
+use Rattle.parser.specs.declared.start.StatementStart.TheVariants.{Notify, Broadcast, Print, Abort}
 
 abbrev pub start_lexeme : StatementStart → Lexeme
 start_lexeme (Assign name) = Named (name_of name)

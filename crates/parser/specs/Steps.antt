@@ -1,4 +1,5 @@
 -- What the parts of the parser that read one more element lead to.
+use Rattle.scanner.specs.declared.token.Keyword.{Keyword}
 use Rattle.std.specs.Prelude.{ℕ, List, [], ◌∷◌, Option, Some, None}
 use Rattle.syntax.specs.declared.declaration.Local.{Local}
 use Rattle.syntax.specs.declared.declaration.Member.{Member}
@@ -7,13 +8,17 @@ use Rattle.syntax.specs.declared.statement.Statement.{Statement}
 use Rattle.syntax.specs.declared.declaration.Procedure.{Procedure}
 use Rattle.syntax.specs.declared.declaration.MonitorProcedure.{MonitorProcedure}
 use Rattle.syntax.specs.declared.declaration.Monitor.{Monitor}
-use Rattle.syntax.specs.Tree.{LocalTree, MemberTree, ParameterTree, StatementTrees, Then, BodyTree, ProcedureTree, MonitorProcedureTree, MonitorTree}
-use Rattle.syntax.specs.View.{local_of, member_of, parameter_of, statement_of, procedure_of, monitor_procedure_of, monitor_of}
-use Rattle.grammar.specs.Machine.{Symbol, Tree, Trees, Item, Statements, body, procedure}
+use Rattle.syntax.specs.Tree.{ExpressionTree, LocalTree, MemberTree, ParameterTree, StatementTrees, Then, BodyTree}
+use Rattle.syntax.specs.Tree.{ProcedureTree, MonitorProcedureTree, MonitorTree}
+use Rattle.syntax.specs.View.{local_of, member_of, parameter_of, statement_of, procedure_of, monitor_procedure_of}
+use Rattle.syntax.specs.View.{monitor_of}
+use Rattle.grammar.specs.Machine.{Symbol, Tree, Trees, Item, AWord, Statements, body, expression, procedure}
 use Rattle.grammar.specs.Reading.{Passes, Leads}
+use Rattle.expressions.specs.Levels.{expression_trees}
 
 -- one more element was read, or none begins and the symbol is over
-abbrev pub ReadsNext : {X : Type 0} → ℕ → (s : Symbol) → (X → Tree s → Tree s) → Tree s → Option X → List Item → List Item → Type 0
+abbrev pub ReadsNext : {X : Type 0} → ℕ → (s : Symbol) → (X → Tree s → Tree s) → Tree s → Option X → List Item
+    → List Item → Type 0
 ReadsNext depth s add empty (Some x) before after = Leads depth (s ∷ []) (s ∷ []) (λ y. (add x y.0, tt)) before after
 ReadsNext depth s add empty None before after = Passes depth (s ∷ []) (empty, tt) before after
 
@@ -31,7 +36,8 @@ add_statement s later = Then (statement_of s) later
 
 -- a statement was read
 abbrev pub ReadsStatement : ℕ → Statement → List Item → List Item → Type 0
-ReadsStatement depth s before after = Leads depth (Statements ∷ []) (Statements ∷ []) (λ y. (add_statement s y.0, tt)) before after
+ReadsStatement depth s before after = Leads depth (Statements ∷ []) (Statements ∷ []) (λ y. (add_statement s y.0, tt))
+    before after
 
 abbrev pub add_procedure : Procedure → List ProcedureTree → List ProcedureTree
 add_procedure p later = procedure_of p ∷ later
@@ -47,4 +53,13 @@ abbrev pub body_trees : BodyTree → Trees (body [])
 body_trees b = (b.locals, (b.statements, (tt, tt)))
 
 abbrev pub procedure_trees : ProcedureTree → Trees (procedure [])
-procedure_trees p = (p.name, (p.open_place, (p.parameters, (tt, (p.returns, (tt, (p.body.locals, (p.body.statements, (tt, (tt, tt))))))))))
+procedure_trees p = (
+  p.name,
+  (p.open_place, (p.parameters, (tt, (p.returns, (tt, (p.body.locals, (p.body.statements, (tt, (tt, tt))))))))),
+)
+
+-- the trees of the symbols that an expression and a keyword behind it are expected as
+abbrev pub condition_trees : (w : Keyword) → ExpressionTree → Trees (expression (AWord w ∷ []))
+condition_trees w e =
+    let x = expression_trees e in
+    (x.0, (x.1.0, (x.1.1.0, (x.1.1.1.0, (x.1.1.1.1.0, (x.1.1.1.1.1.0, (tt, tt)))))))

@@ -1,6 +1,7 @@
 //! From the tokens of a source text to its tree.
 #![tactic(auto)]
 
+mod condition;
 mod declaration;
 mod kinds;
 mod monitor;

@@ -4,13 +4,13 @@ ghost use Rattle.std.specs.Prelude.{◌≤◌, ◌<◌, length, map, [], ◌∷�
 ghost use Rattle.syntax.specs.View.{recover_of, monitor_of};
 ghost use Rattle.grammar.specs.Machine.{ARecover, Monitors};
 ghost use Rattle.grammar.specs.Reading.{Passes, Fails};
-ghost use Rattle.expressions.specs.Ahead.{ahead};
+ghost use Rattle.steps.specs.Ahead.{ahead};
 ghost use Rattle.parser.specs.Steps.{ReadsNext, add_monitor};
 
 use crate::declaration::members;
 use crate::procedure::{body, monitor_procedures};
-use expressions::Parser;
 use scanner::{Keyword, Refusal, Sign};
+use steps::Parser;
 use syntax::{Monitor, Recover};
 
 // The recover part, if there is one.

@@ -2,20 +2,24 @@
 
 ghost use Rattle.std.specs.Prelude.{◌≡◌, ◌≤◌, ◌<◌, length, [], ◌∷◌, IfOk, IfErr};
 ghost use Rattle.scanner.specs.declared.token.Keyword.TheVariants as K;
-ghost use Rattle.syntax.specs.Lexeme.{Named, WordAt};
+ghost use Rattle.scanner.specs.declared.token.Place.{Place as PlaceOf};
+ghost use Rattle.scanner.specs.declared.token.Sign.TheVariants as S;
+ghost use Rattle.syntax.specs.Lexeme.{keyword_lexeme, Named, Word, WordAt};
+ghost use Rattle.syntax.specs.Limits.{most_nestings};
 ghost use Rattle.syntax.specs.View.{name_of, option_name};
-ghost use Rattle.grammar.specs.Machine.{AnInto, Statements};
+ghost use Rattle.grammar.specs.Machine.{AWord, AMark, AnInto, Statements, Closed};
 ghost use Rattle.grammar.specs.Reading.{lexeme_at, Passes, Fails};
-ghost use Rattle.expressions.specs.Ahead.{ahead};
+ghost use Rattle.steps.specs.Ahead.{ahead};
 ghost use Rattle.parser.specs.Steps.{ReadsStatement};
 
-use expressions::Parser;
+use expressions::{callee, expression_before, value, variable};
 use scanner::{Keyword, Place, Refusal, Sign};
+use steps::Parser;
 use syntax::{Name, Statement};
 
 // The name behind INTO, if there is one.
 pub fn into_name<'a>(parser: &mut Parser<'_, 'a>, depth: u8) -> Result<Option<Name<'a>>, Refusal>
-    requires { depth ≤ 64 }
+    requires { depth ≤ most_nestings }
     ensures ok { IfOk result (λ n.
         Passes depth (AnInto ∷ []) (option_name n, tt) (ahead parser.old) (ahead parser.new)) }
     ensures err { IfErr result (λ e. Fails depth (AnInto ∷ []) (ahead parser.old) e) }
@@ -28,23 +32,37 @@ pub fn into_name<'a>(parser: &mut Parser<'_, 'a>, depth: u8) -> Result<Option<Na
     Ok(Some(name))
 }
 
+// The keyword that ends a nesting, and the semicolon behind it.
+pub fn ending(parser: &mut Parser<'_, '_>, depth: u8, word: Keyword) -> Result<(), Refusal>
+    requires depth { depth < most_nestings }
+    requires word { (place : PlaceOf) → keyword_lexeme word place ≡ Word word }
+    ensures ok { IfOk result (λ _. Passes depth (AWord word ∷ Closed ∷ AMark S.Semicolon ∷ []) (tt, (tt, (tt, tt)))
+        (ahead parser.old) (ahead parser.new)) }
+    ensures err { IfErr result (λ e.
+        Fails depth (AWord word ∷ Closed ∷ AMark S.Semicolon ∷ []) (ahead parser.old) e) }
+    ensures within { IfOk result (λ _. length (ahead parser.new) ≤ length (ahead parser.old)) }
+{
+    parser.expect_keyword(word)?;
+    parser.expect_sign(Sign::Semicolon)?;
+    Ok(())
+}
+
 // An assignment.
 pub fn assignment<'a>(
     parser: &mut Parser<'_, 'a>,
     depth: u8,
     name: Name<'a>,
 ) -> Result<Statement<'a>, Refusal>
-    requires depth { depth ≤ 64 }
+    requires depth { depth ≤ most_nestings }
     requires first { lexeme_at (ahead parser.old) ≡ Named (name_of name) }
     ensures ok { IfOk result (λ s. ReadsStatement depth s (ahead parser.old) (ahead parser.new)) }
     ensures err { IfErr result (λ e. Fails depth (Statements ∷ []) (ahead parser.old) e) }
     ensures shorter { IfOk result (λ _. length (ahead parser.new) < length (ahead parser.old)) }
 {
     parser.pass();
-    let variable = parser.variable(depth, name)?;
+    let variable = variable(parser, depth, name)?;
     parser.expect_sign(Sign::Assign)?;
-    let value = parser.expression(depth)?;
-    parser.expect_sign(Sign::Semicolon)?;
+    let value = expression_before(parser, depth, Sign::Semicolon)?;
     Ok(Statement::Assign(variable, value))
 }
 
@@ -54,14 +72,14 @@ pub fn call<'a>(
     depth: u8,
     place: Place,
 ) -> Result<Statement<'a>, Refusal>
-    requires depth { depth ≤ 64 }
+    requires depth { depth ≤ most_nestings }
     requires first { lexeme_at (ahead parser.old) ≡ WordAt K.Call place }
     ensures ok { IfOk result (λ s. ReadsStatement depth s (ahead parser.old) (ahead parser.new)) }
     ensures err { IfErr result (λ e. Fails depth (Statements ∷ []) (ahead parser.old) e) }
     ensures shorter { IfOk result (λ _. length (ahead parser.new) < length (ahead parser.old)) }
 {
     parser.pass();
-    let callee = parser.callee(depth)?;
+    let callee = callee(parser, depth)?;
     let into = into_name(parser, depth)?;
     parser.expect_sign(Sign::Semicolon)?;
     Ok(Statement::Call {
@@ -77,14 +95,14 @@ pub fn fork<'a>(
     depth: u8,
     place: Place,
 ) -> Result<Statement<'a>, Refusal>
-    requires depth { depth ≤ 64 }
+    requires depth { depth ≤ most_nestings }
     requires first { lexeme_at (ahead parser.old) ≡ WordAt K.Fork place }
     ensures ok { IfOk result (λ s. ReadsStatement depth s (ahead parser.old) (ahead parser.new)) }
     ensures err { IfErr result (λ e. Fails depth (Statements ∷ []) (ahead parser.old) e) }
     ensures shorter { IfOk result (λ _. length (ahead parser.new) < length (ahead parser.old)) }
 {
     parser.pass();
-    let callee = parser.callee(depth)?;
+    let callee = callee(parser, depth)?;
     parser.expect_keyword(Keyword::Into)?;
     let into = parser.expect_name()?;
     parser.expect_sign(Sign::Semicolon)?;
@@ -101,14 +119,14 @@ pub fn return_statement<'a>(
     depth: u8,
     place: Place,
 ) -> Result<Statement<'a>, Refusal>
-    requires depth { depth ≤ 64 }
+    requires depth { depth ≤ most_nestings }
     requires first { lexeme_at (ahead parser.old) ≡ WordAt K.Return place }
     ensures ok { IfOk result (λ s. ReadsStatement depth s (ahead parser.old) (ahead parser.new)) }
     ensures err { IfErr result (λ e. Fails depth (Statements ∷ []) (ahead parser.old) e) }
     ensures shorter { IfOk result (λ _. length (ahead parser.new) < length (ahead parser.old)) }
 {
     parser.pass();
-    let value = parser.value(depth)?;
+    let value = value(parser, depth)?;
     parser.expect_sign(Sign::Semicolon)?;
     Ok(Statement::Return { place, value })
 }
@@ -119,7 +137,7 @@ pub fn wait<'a>(
     depth: u8,
     place: Place,
 ) -> Result<Statement<'a>, Refusal>
-    requires depth { depth ≤ 64 }
+    requires depth { depth ≤ most_nestings }
     requires first { lexeme_at (ahead parser.old) ≡ WordAt K.Wait place }
     ensures ok { IfOk result (λ s. ReadsStatement depth s (ahead parser.old) (ahead parser.new)) }
     ensures err { IfErr result (λ e. Fails depth (Statements ∷ []) (ahead parser.old) e) }
@@ -137,7 +155,7 @@ pub fn notify<'a>(
     depth: u8,
     place: Place,
 ) -> Result<Statement<'a>, Refusal>
-    requires depth { depth ≤ 64 }
+    requires depth { depth ≤ most_nestings }
     requires first { lexeme_at (ahead parser.old) ≡ WordAt K.Notify place }
     ensures ok { IfOk result (λ s. ReadsStatement depth s (ahead parser.old) (ahead parser.new)) }
     ensures err { IfErr result (λ e. Fails depth (Statements ∷ []) (ahead parser.old) e) }
@@ -155,7 +173,7 @@ pub fn broadcast<'a>(
     depth: u8,
     place: Place,
 ) -> Result<Statement<'a>, Refusal>
-    requires depth { depth ≤ 64 }
+    requires depth { depth ≤ most_nestings }
     requires first { lexeme_at (ahead parser.old) ≡ WordAt K.Broadcast place }
     ensures ok { IfOk result (λ s. ReadsStatement depth s (ahead parser.old) (ahead parser.new)) }
     ensures err { IfErr result (λ e. Fails depth (Statements ∷ []) (ahead parser.old) e) }
@@ -173,15 +191,14 @@ pub fn print<'a>(
     depth: u8,
     place: Place,
 ) -> Result<Statement<'a>, Refusal>
-    requires depth { depth ≤ 64 }
+    requires depth { depth ≤ most_nestings }
     requires first { lexeme_at (ahead parser.old) ≡ WordAt K.Print place }
     ensures ok { IfOk result (λ s. ReadsStatement depth s (ahead parser.old) (ahead parser.new)) }
     ensures err { IfErr result (λ e. Fails depth (Statements ∷ []) (ahead parser.old) e) }
     ensures shorter { IfOk result (λ _. length (ahead parser.new) < length (ahead parser.old)) }
 {
     parser.pass();
-    let value = parser.expression(depth)?;
-    parser.expect_sign(Sign::Semicolon)?;
+    let value = expression_before(parser, depth, Sign::Semicolon)?;
     Ok(Statement::Print { place, value })
 }
 
@@ -191,7 +208,7 @@ pub fn abort<'a>(
     depth: u8,
     place: Place,
 ) -> Result<Statement<'a>, Refusal>
-    requires depth { depth ≤ 64 }
+    requires depth { depth ≤ most_nestings }
     requires first { lexeme_at (ahead parser.old) ≡ WordAt K.Abort place }
     ensures ok { IfOk result (λ s. ReadsStatement depth s (ahead parser.old) (ahead parser.new)) }
     ensures err { IfErr result (λ e. Fails depth (Statements ∷ []) (ahead parser.old) e) }

@@ -7,6 +7,7 @@ ghost use Rattle.scanner.specs.declared.token.Sign.TheVariants as S;
 ghost use Rattle.scanner.specs.Refusals.{out_of_memory};
 ghost use Rattle.scanner.specs.Tokens.{EndsOnce, views};
 ghost use Rattle.syntax.specs.Lexeme.{lexemes};
+ghost use Rattle.syntax.specs.Limits.{most_nestings};
 ghost use Rattle.syntax.specs.Tree.{UnitTree};
 ghost use Rattle.syntax.specs.Spelling.{unit_text};
 ghost use Rattle.syntax.specs.Nesting.{unit_nesting};
@@ -16,14 +17,14 @@ ghost use Rattle.grammar.specs.Accepts.{IsRefusalOf};
 ghost use Rattle.grammar.specs.Machine.{AWord, AMark, AName, AWordAt, body as a_body, unit as a_unit};
 ghost use Rattle.grammar.specs.Machine.{reads, unit_trees, Read, Refused};
 ghost use Rattle.grammar.specs.Reading.{Passes, Fails};
-ghost use Rattle.expressions.specs.Ahead.{ahead};
+ghost use Rattle.steps.specs.Ahead.{ahead};
 ghost use Rattle.parser.specs.Steps.{body_trees};
 
 use crate::monitor::monitors;
 use crate::procedure::{body, procedures};
-use expressions::Parser;
 use scanner::{Keyword, Refusal, RefusalKind, Sign, Token};
 use std::alloc::Global;
+use steps::Parser;
 use syntax::{Main, Name, Unit};
 
 // PROGRAM, and the program's name.
@@ -53,8 +54,8 @@ fn main_part<'a>(parser: &mut Parser<'_, 'a>) -> Result<Main<'a>, Refusal>
 
 // The last sign, and the end of the text.
 fn finish(parser: &mut Parser<'_, '_>) -> Result<(), Refusal>
-    ensures ok { IfOk result (λ _. reads 64 (ahead parser.old) (AMark S.Dot ∷ []) ≡ Read (tt, tt)) }
-    ensures err { IfErr result (λ e. reads 64 (ahead parser.old) (AMark S.Dot ∷ []) ≡ Refused e) }
+    ensures ok { IfOk result (λ _. reads most_nestings (ahead parser.old) (AMark S.Dot ∷ []) ≡ Read (tt, tt)) }
+    ensures err { IfErr result (λ e. reads most_nestings (ahead parser.old) (AMark S.Dot ∷ []) ≡ Refused e) }
 {
     parser.expect_sign(Sign::Dot)?;
     parser.expect_end()?;
@@ -63,8 +64,8 @@ fn finish(parser: &mut Parser<'_, '_>) -> Result<(), Refusal>
 
 // A whole unit, and the end of the text.
 fn unit<'a>(parser: &mut Parser<'_, 'a>) -> Result<Unit<'a>, Refusal>
-    ensures ok { IfOk result (λ u. reads 64 (ahead parser.old) a_unit ≡ Read (unit_trees (unit_of u))) }
-    ensures err { IfErr result (λ e. (e.kind ≡ Memory) ⊎ (reads 64 (ahead parser.old) a_unit ≡ Refused e)) }
+    ensures ok { IfOk result (λ u. reads most_nestings (ahead parser.old) a_unit ≡ Read (unit_trees (unit_of u))) }
+    ensures err { IfErr result (λ e. (e.kind ≡ Memory) ⊎ (reads most_nestings (ahead parser.old) a_unit ≡ Refused e)) }
 {
     let name = heading(parser)?;
     let monitors = monitors(parser)?;
@@ -93,9 +94,9 @@ fn unit<'a>(parser: &mut Parser<'_, 'a>) -> Result<Unit<'a>, Refusal>
 pub fn parse<'a>(alloc: Global, tokens: &[Token<'a>]) -> Result<Unit<'a>, Refusal>
     requires ends { EndsOnce (views tokens.now) }
     ensures tree { IfOk result (λ u. unit_text (unit_of u) ≡ lexemes tokens.now) }
-    ensures within { IfOk result (λ u. unit_nesting (unit_of u) ≤ 64) }
+    ensures within { IfOk result (λ u. unit_nesting (unit_of u) ≤ most_nestings) }
     // The tokens of a program are refused for memory alone.
-    ensures only { (t : UnitTree) → unit_text t ≡ lexemes tokens.now → unit_nesting t ≤ 64
+    ensures only { (t : UnitTree) → unit_text t ≡ lexemes tokens.now → unit_nesting t ≤ most_nestings
         → MatchResult result (λ u. unit_of u ≡ t) (λ e. e ≡ out_of_memory) }
     ensures refusal { IfErr result (λ e. (e ≡ out_of_memory) ⊎ IsRefusalOf tokens.now e) }
 {

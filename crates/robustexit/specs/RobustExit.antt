@@ -1,10 +1,11 @@
 -- One step of the exit of a thread t, as a relation (Documentation/locking/robust-futex-ABI; clone(2)), over the words,
 -- as a function from addresses, and the sleepers. The first entry of t's list, its pending entry and its id are words
 -- of its own.
-use Rattle.std.specs.Prelude.{◌≡◌, ◌≢◌, ℕ, ◌+◌, ◌^◌, ◌<◌, ◌==◌, true, if◌then◌else◌, Option, List, [], ◌⊎◌}
+use Rattle.std.specs.Prelude.{◌≡◌, ◌≢◌, ℕ, ◌+◌, ◌^◌, ◌<◌, true, if◌then◌else◌, Option, List, [], ◌⊎◌}
 use Rattle.words.specs.LockWord.{lock_word, owner_of, waiters_of}
 use Rattle.words.specs.Process.{process_word}
 use Rattle.futexcalls.specs.FutexCalls.{Wakes}
+pub use Rattle.words.specs.Updates.{put}
 use Rattle.robustexit.specs.declared.phase.ExitPhase.{ExitPhase}
 use Rattle.robustexit.specs.declared.phase.ExitPhase.TheVariants.{Entry, Pending, ClearId, LastWake, Ended}
 use Rattle.robustexit.specs.Phases.{next_entry}
@@ -13,10 +14,6 @@ use Rattle.robustexit.specs.Phases.{next_entry}
 pub record Shared : Type 0 where
   pub word : ℕ → ℕ
   pub asleep : ℕ → Option ℕ
-
--- another value at one place, as words after a store
-abbrev pub put : {A : Type 0} → (ℕ → A) → ℕ → A → ℕ → A
-put f i v j = if j == i then v else f j
 
 -- an entry: its first word is the link to the next, the word after that the lock word; both lie in the memory
 abbrev pub IsEntry : ℕ → ℕ → Type 0
@@ -44,12 +41,14 @@ pub data EntryStep (size t e : ℕ) (before : Shared) (woken : List ℕ) (after 
   IsPending : before.word (process_word t 1) ≡ e → IsIdle before woken after → EntryStep size t e before woken after
   -- another thread owns its lock, or none does
   IsForeign : owner_of (before.word (e + 1)) ≢ t → IsIdle before woken after → EntryStep size t e before woken after
-  IsOwned : before.word (process_word t 1) ≢ e → Abandons t (e + 1) before woken after → EntryStep size t e before woken after
+  IsOwned : before.word (process_word t 1) ≢ e → Abandons t (e + 1) before woken after → EntryStep size t e before
+      woken after
 
 -- the step at the pending entry e, which t was acquiring or releasing: t may have taken a wake and not passed it on
 pub data PendingStep (size t e : ℕ) (before : Shared) (woken : List ℕ) (after : Shared) : Type 0 where
   NoEntry : (IsEntry size e → ⊥) → IsIdle before woken after → PendingStep size t e before woken after
-  IsForeign : IsEntry size e → owner_of (before.word (e + 1)) ≢ t → WakesOne (e + 1) before woken after → PendingStep size t e before woken after
+  IsForeign : IsEntry size e → owner_of (before.word (e + 1)) ≢ t → WakesOne (e + 1) before woken after → PendingStep
+      size t e before woken after
   IsOwned : IsEntry size e → Abandons t (e + 1) before woken after → PendingStep size t e before woken after
 
 -- one step, phase by phase: what it does, and the next phase

@@ -39,7 +39,8 @@ fn died_word(waiters: bool) -> u32
 pub fn abandon(mem: &mut Mem, buckets: &mut Buckets, lock: Addr) -> Woken
     requires { lock.0 < length mem.old }
     ensures marks { mem.new ≡ slice_set mem.old lock.0 (lock_word 0 true (waiters_of (word_of mem.old lock.0))) }
-    ensures wakes { Wakes (place_of buckets.old) lock.0 (if waiters_of (word_of mem.old lock.0) then 1 else 0) result.threads (place_of buckets.new) }
+    ensures wakes { Wakes (place_of buckets.old) lock.0 (if waiters_of (word_of mem.old lock.0) then 1 else 0)
+        result.threads (place_of buckets.new) }
     ensures woken { result.threads
         ≡ take (if waiters_of (word_of mem.old lock.0) then 1 else 0) (queue buckets.old lock.0) }
     ensures rest { queue buckets.new lock.0

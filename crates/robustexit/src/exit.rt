@@ -75,7 +75,8 @@ fn entry_step(
     requires thread { (0 < t) × (t ≤ MOST_BLOCKS) }
     requires block { process_word t 5 < length mem.old }
     ensures step { (IsEntry (length mem.old) entry.0
-        × EntryStep (length mem.old) t entry.0 (shared mem.old buckets.old) result.1.threads (shared mem.new buckets.new)
+        × EntryStep (length mem.old) t entry.0
+        (shared mem.old buckets.old) result.1.threads (shared mem.new buckets.new)
         × (result.0 ≡ next_entry (word_of mem.old entry.0) (seen + 1)))
         ⊎ ((IsEntry (length mem.old) entry.0 → ⊥)
         × IsIdle (shared mem.old buckets.old) result.1.threads (shared mem.new buckets.new)

@@ -1,5 +1,5 @@
-//! The end of a thread, step by step: the walk of its robust list, the entry that it was acquiring or releasing, and the
-//! clearing of its id word.
+//! The end of a thread, step by step: the walk of its robust list, the entry that it was acquiring or releasing, and
+//! the clearing of its id word.
 #![tactic(auto)]
 
 mod abandon;

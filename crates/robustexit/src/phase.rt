@@ -10,8 +10,13 @@ pub const MOST_ENTRIES: u32 = 2048;
 /// How far the end of a thread has come: what its next step is at.
 #[derive(Clone, Copy, PartialEq, Eq, Debug)]
 pub enum ExitPhase {
-    /// An entry of its robust list, after `seen` others.
-    Entry { entry: Addr, seen: u32 },
+    /// An entry of its robust list.
+    Entry {
+        /// The address of the entry's link.
+        entry: Addr,
+        /// How many entries stood before it.
+        seen: u32,
+    },
     /// The entry that its pending word names.
     Pending,
     /// The clearing of its id word (clone(2), CLONE_CHILD_CLEARTID).

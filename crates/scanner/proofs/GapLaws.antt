@@ -1,5 +1,6 @@
 -- The gap that stands first in a text is determined, where what follows it begins with no blank.
-use Rattle.std.proofs.Common.{◌≡◌, ℕ, ◌<◌, ◌≤◌, true, false, List, [], ◌∷◌, ◌++◌, refl, sym, ap, ◌∙◌, inl, inr, arith, append_assoc, append-nil}
+use Rattle.std.proofs.Common.{◌≡◌, ℕ, ◌<◌, ◌≤◌, true, false, List, [], ◌∷◌, ◌++◌, refl, sym, ap, ◌∙◌, inl, inr, arith}
+use Rattle.std.proofs.Common.{append_assoc, append-nil}
 use Rattle.std.specs.Prelude.{nat_lt}
 use Rattle.std.specs.List.{list_all, flat_map}
 use Rattle.std.proofs.lemmas.Bool.{and_parts, both_ways, ltb-true, false≢true, false_from_ne_true}
@@ -21,7 +22,8 @@ past_no_comment b past = false_from_ne_true _ (λ e. let below : b < 128 = comme
 abbrev pub NoBlank : List ℕ → Type 0
 NoBlank a = (blank : Blank) (rest : List ℕ) → a ≡ blank_text blank ++ rest → ⊥
 
-blank_unique : (g h : Blank) (x y : List ℕ) → blank_text g ++ x ≡ blank_text h ++ y → (blank_text g ≡ blank_text h) × (x ≡ y)
+blank_unique : (g h : Blank) (x y : List ℕ) → blank_text g ++ x ≡ blank_text h ++ y → (blank_text g ≡ blank_text h)
+    × (x ≡ y)
 blank_unique (White b _) (White c _) x y e =
     let same : b ≡ c = cc in
     ((λ i. same i ∷ []), cc)
@@ -33,29 +35,40 @@ blank_unique (Comment body _) (White b white) x y e =
     absurd (both_ways _ (ap is_white dash) white)
 blank_unique (Comment body ok) (Comment other also) x y e =
     let tails : (body ++ 10 ∷ []) ++ x ≡ (other ++ 10 ∷ []) ++ y = cc in
-    let regrouped : body ++ 10 ∷ x ≡ other ++ 10 ∷ y = sym (append_assoc body (10 ∷ []) x) ∙ tails ∙ append_assoc other (10 ∷ []) y in
+    let regrouped : body ++ 10 ∷ x ≡ other ++ 10 ∷ y =
+    sym (append_assoc body (10 ∷ []) x) ∙ tails ∙ append_assoc other (10 ∷ []) y in
     let r = run_unique is_comment_byte body other 10 10 x y ok also refl refl regrouped in
     ((λ i. comment_mark ++ (r.0 i ++ 10 ∷ [])), r.2)
 
-blanks_unique : (gs hs : List Blank) (a b : List ℕ) → flat_map blank_text gs ++ a ≡ flat_map blank_text hs ++ b → NoBlank a → NoBlank b → (flat_map blank_text gs ≡ flat_map blank_text hs) × (a ≡ b)
+blanks_unique : (gs hs : List Blank) (a b : List ℕ) → flat_map blank_text gs ++ a ≡ flat_map blank_text hs ++ b
+    → NoBlank a → NoBlank b → (flat_map blank_text gs ≡ flat_map blank_text hs) × (a ≡ b)
 blanks_unique [] [] a b e na nb = (refl, e)
-blanks_unique [] (h ∷ hs) a b e na nb = absurd (na h (flat_map blank_text hs ++ b) (e ∙ append_assoc (blank_text h) (flat_map blank_text hs) b))
-blanks_unique (g ∷ gs) [] a b e na nb = absurd (nb g (flat_map blank_text gs ++ a) (sym e ∙ append_assoc (blank_text g) (flat_map blank_text gs) a))
+blanks_unique [] (h ∷ hs) a b e na nb = absurd
+    (na h (flat_map blank_text hs ++ b) (e ∙ append_assoc (blank_text h) (flat_map blank_text hs) b))
+blanks_unique (g ∷ gs) [] a b e na nb = absurd
+    (nb g (flat_map blank_text gs ++ a) (sym e ∙ append_assoc (blank_text g) (flat_map blank_text gs) a))
 blanks_unique (g ∷ gs) (h ∷ hs) a b e na nb =
-    let first = blank_unique g h (flat_map blank_text gs ++ a) (flat_map blank_text hs ++ b) (sym (append_assoc (blank_text g) (flat_map blank_text gs) a) ∙ e ∙ append_assoc (blank_text h) (flat_map blank_text hs) b) in
+    let first = blank_unique g h (flat_map blank_text gs ++ a) (flat_map blank_text hs ++ b)
+    (sym (append_assoc (blank_text g) (flat_map blank_text gs) a) ∙ e ∙ append_assoc (blank_text h)
+    (flat_map blank_text hs) b) in
     let r = blanks_unique gs hs a b first.1 na nb in
     ((λ i. first.0 i ++ r.0 i), r.1)
 
 pub gap_unique : (g h a b : List ℕ) → IsGap g → IsGap h → NoBlank a → NoBlank b → g ++ a ≡ h ++ b → (g ≡ h) × (a ≡ b)
 gap_unique g h a b is_g is_h na nb e =
-    let r = blanks_unique is_g.blanks is_h.blanks a b (ap (λ l. l ++ a) (sym is_g.text) ∙ e ∙ ap (λ l. l ++ b) is_h.text) na nb in
+    let r = blanks_unique is_g.blanks is_h.blanks a b
+    (ap (λ l. l ++ a) (sym is_g.text) ∙ e ∙ ap (λ l. l ++ b) is_h.text) na nb in
     (is_g.text ∙ r.0 ∙ sym is_h.text, r.1)
 
 pub gap_empty : IsGap []
 gap_empty = record { blanks = []; text = refl }
 
 pub gap_append : (a b : List ℕ) → IsGap a → IsGap b → IsGap (a ++ b)
-gap_append a b g h = record { blanks = g.blanks ++ h.blanks; text = (λ i. g.text i ++ h.text i) ∙ sym (flat_map-append blank_text g.blanks h.blanks) }
+gap_append a b g h = record {
+  blanks = g.blanks ++ h.blanks;
+  text =
+      (λ i. g.text i ++ h.text i) ∙ sym (flat_map-append blank_text g.blanks h.blanks);
+}
 
 pub gap_blank : (blank : Blank) → IsGap (blank_text blank)
 gap_blank blank = record { blanks = blank ∷ []; text = sym (append-nil (blank_text blank)) }
@@ -112,15 +125,18 @@ no_blank_open body ok (White c white) rest e =
     both_ways _ (ap is_white dash) white
 no_blank_open body ok (Comment other _) rest e =
     let tails : body ≡ (other ++ 10 ∷ []) ++ rest = cc in
-    false≢true (prefix_at is_comment_byte 10 other rest (ap (list_all is_comment_byte) (sym (tails ∙ append_assoc other (10 ∷ []) rest)) ∙ ok))
+    false≢true (prefix_at is_comment_byte 10 other rest
+    (ap (list_all is_comment_byte) (sym (tails ∙ append_assoc other (10 ∷ []) rest)) ∙ ok))
 
-pub no_blank_cut : (body : List ℕ) (b : ℕ) (bs : List ℕ) → list_all is_comment_byte body ≡ true → 128 ≤ b → NoBlank (comment_mark ++ (body ++ b ∷ bs))
+pub no_blank_cut : (body : List ℕ) (b : ℕ) (bs : List ℕ) → list_all is_comment_byte body ≡ true → 128 ≤ b
+    → NoBlank (comment_mark ++ (body ++ b ∷ bs))
 no_blank_cut body b bs ok past (White c white) rest e =
     let dash : c ≡ 45 = cc in
     both_ways _ (ap is_white dash) white
 no_blank_cut body b bs ok past (Comment other also) rest e =
     let tails : body ++ b ∷ bs ≡ (other ++ 10 ∷ []) ++ rest = cc in
     let not_comment : is_comment_byte b ≡ false = past_no_comment b past in
-    let r = run_unique is_comment_byte body other b 10 bs rest ok also not_comment refl (tails ∙ append_assoc other (10 ∷ []) rest) in
+    let r = run_unique is_comment_byte body other b 10 bs rest ok also not_comment refl
+    (tails ∙ append_assoc other (10 ∷ []) rest) in
     let same : b ≡ 10 = r.1 in
     omega arith

@@ -1,13 +1,20 @@
 -- What kind of token a lexeme is, is determined.
-use Rattle.std.proofs.Common.{◌≡◌, ℕ, ◌≤◌, arith, Bool, true, false, ◌&&◌, List, [], ◌∷◌, Option, Some, refl, sym, ap, ◌∙◌, eqb}
+use Rattle.std.proofs.Common.{◌≡◌, ℕ, ◌≤◌, arith, Bool, true, false, ◌&&◌, List, [], ◌∷◌, Option, Some, refl, sym, ap}
+use Rattle.std.proofs.Common.{◌∙◌, eqb}
 use Rattle.std.specs.List.{find}
 use Rattle.std.proofs.lemmas.Bool.{both_ways, and_parts, false≢true}
 use Rattle.std.specs.Char.{is_ascii_alphabetic, is_ascii_digit}
 use Rattle.scanner.specs.declared.token.Keyword.{Keyword as Word}
-use Rattle.scanner.specs.declared.token.Keyword.TheVariants.{Program, Monitor, Var, Condition, Array, Of, Integer, Boolean, Process, Entry, Internal, Procedure, Recover, Main, If, Then, Else, Endif, While, Do, Endloop, Call, Into, Fork, Join, Aborted, Return, Wait, Notify, Broadcast, Print, Abort, Or, And, Mod, Not, True, False}
+use Rattle.scanner.specs.declared.token.Keyword.TheVariants.{Program, Monitor, Var, Condition, Array, Of, Integer}
+use Rattle.scanner.specs.declared.token.Keyword.TheVariants.{Boolean, Process, Entry, Internal, Procedure, Recover}
+use Rattle.scanner.specs.declared.token.Keyword.TheVariants.{Main, If, Then, Else, Endif, While, Do, Endloop, Call}
+use Rattle.scanner.specs.declared.token.Keyword.TheVariants.{Into, Fork, Join, Aborted, Return, Wait, Notify}
+use Rattle.scanner.specs.declared.token.Keyword.TheVariants.{Broadcast, Print, Abort, Or, And, Mod, Not, True, False}
 use Rattle.scanner.specs.declared.token.Keyword.TheVariants as words
 use Rattle.scanner.specs.declared.token.Sign.{Sign as Mark}
-use Rattle.scanner.specs.declared.token.Sign.TheVariants.{Assign, Colon, Semicolon, Comma, Dot, OpenParen, CloseParen, OpenBracket, CloseBracket, Equal, NotEqual, Less, LessEqual, Greater, GreaterEqual, Plus, Minus, Times, Divide}
+use Rattle.scanner.specs.declared.token.Sign.TheVariants.{Assign, Colon, Semicolon, Comma, Dot, OpenParen, CloseParen}
+use Rattle.scanner.specs.declared.token.Sign.TheVariants.{OpenBracket, CloseBracket, Equal, NotEqual, Less, LessEqual}
+use Rattle.scanner.specs.declared.token.Sign.TheVariants.{Greater, GreaterEqual, Plus, Minus, Times, Divide}
 use Rattle.scanner.specs.declared.token.Kind.{Kind}
 use Rattle.scanner.specs.declared.token.Kind.TheVariants.{Keyword, Sign, Name, Number, End}
 use Rattle.scanner.specs.Lexemes.{keyword_text, sign_text, is_word, is_digits, value_of, Spells}
@@ -19,10 +26,13 @@ same_text (x ∷ xs) (y ∷ ys) = eqb x y && same_text xs ys
 same_text _ _ = false
 
 abbrev every_keyword : List Word
-every_keyword = Program ∷ Monitor ∷ Var ∷ Condition ∷ Array ∷ Of ∷ Integer ∷ Boolean ∷ Process ∷ Entry ∷ Internal ∷ Procedure ∷ words.End ∷ Recover ∷ Main ∷ If ∷ Then ∷ Else ∷ Endif ∷ While ∷ Do ∷ Endloop ∷ Call ∷ Into ∷ Fork ∷ Join ∷ Aborted ∷ Return ∷ Wait ∷ Notify ∷ Broadcast ∷ Print ∷ Abort ∷ Or ∷ And ∷ Mod ∷ Not ∷ True ∷ False ∷ []
+every_keyword = Program ∷ Monitor ∷ Var ∷ Condition ∷ Array ∷ Of ∷ Integer ∷ Boolean ∷ Process ∷ Entry ∷ Internal ∷
+    Procedure ∷ words.End ∷ Recover ∷ Main ∷ If ∷ Then ∷ Else ∷ Endif ∷ While ∷ Do ∷ Endloop ∷ Call ∷ Into ∷ Fork ∷
+    Join ∷ Aborted ∷ Return ∷ Wait ∷ Notify ∷ Broadcast ∷ Print ∷ Abort ∷ Or ∷ And ∷ Mod ∷ Not ∷ True ∷ False ∷ []
 
 abbrev every_sign : List Mark
-every_sign = Assign ∷ Colon ∷ Semicolon ∷ Comma ∷ Dot ∷ OpenParen ∷ CloseParen ∷ OpenBracket ∷ CloseBracket ∷ Equal ∷ NotEqual ∷ Less ∷ LessEqual ∷ Greater ∷ GreaterEqual ∷ Plus ∷ Minus ∷ Times ∷ Divide ∷ []
+every_sign = Assign ∷ Colon ∷ Semicolon ∷ Comma ∷ Dot ∷ OpenParen ∷ CloseParen ∷ OpenBracket ∷ CloseBracket ∷ Equal ∷
+    NotEqual ∷ Less ∷ LessEqual ∷ Greater ∷ GreaterEqual ∷ Plus ∷ Minus ∷ Times ∷ Divide ∷ []
 
 -- the keyword, or the sign, that is written so
 abbrev keyword_at : List ℕ → Option Word
@@ -106,15 +116,18 @@ sign_unique s t e =
 -- no text is of two of these: a word, digits and a sign
 word_no_digits : (bs : List ℕ) → is_word bs ≡ true → is_digits bs ≡ true → ⊥
 word_no_digits [] word digits = false≢true word
-word_no_digits (b ∷ bs) word digits = both_ways _ (letter_no_digit b (and_parts (is_ascii_alphabetic b) _ word).0) (and_parts (is_ascii_digit b) _ digits).0
+word_no_digits (b ∷ bs) word digits = both_ways _ (letter_no_digit b (and_parts (is_ascii_alphabetic b) _ word).0)
+    (and_parts (is_ascii_digit b) _ digits).0
 
 sign_no_word : (s : Mark) (bs : List ℕ) → bs ≡ sign_text s → is_word bs ≡ true → ⊥
 sign_no_word s [] e word = false≢true word
-sign_no_word s (b ∷ bs) e word = both_ways _ (sign_byte b (first_of_sign s b bs e)).no_letter (and_parts (is_ascii_alphabetic b) _ word).0
+sign_no_word s (b ∷ bs) e word = both_ways _ (sign_byte b (first_of_sign s b bs e)).no_letter
+    (and_parts (is_ascii_alphabetic b) _ word).0
 
 sign_no_digits : (s : Mark) (bs : List ℕ) → bs ≡ sign_text s → is_digits bs ≡ true → ⊥
 sign_no_digits s [] e digits = false≢true digits
-sign_no_digits s (b ∷ bs) e digits = both_ways _ (sign_byte b (first_of_sign s b bs e)).no_digit (and_parts (is_ascii_digit b) _ digits).0
+sign_no_digits s (b ∷ bs) e digits = both_ways _ (sign_byte b (first_of_sign s b bs e)).no_digit
+    (and_parts (is_ascii_digit b) _ digits).0
 
 keyword_is_word : (k : Word) (bs : List ℕ) → bs ≡ keyword_text k → is_word bs ≡ true
 keyword_is_word k bs e = ap is_word e ∙ keyword_word k

@@ -1,17 +1,26 @@
 -- What a lexeme begins with, and that the longest one is determined.
-use Rattle.std.proofs.Common.{◌≡◌, ◌≢◌, ◌⊎◌, ℕ, ◌<◌, ◌≤◌, Bool, true, false, not, ◌&&◌, ◌||◌, nat_lt, List, [], ◌∷◌, ◌++◌, get_or, leb, eqb, refl, sym, ap, ◌∙◌, inl, inr, ⊎_elim, subst, arith, append-nil}
+use Rattle.std.proofs.Common.{◌≡◌, ◌≢◌, ◌⊎◌, ℕ, ◌<◌, ◌≤◌, Bool, true, false, not, ◌&&◌, ◌||◌, nat_lt, List, [], ◌∷◌}
+use Rattle.std.proofs.Common.{◌++◌, get_or, leb, eqb, refl, sym, ap, ◌∙◌, inl, inr, ⊎_elim, subst, arith, append-nil}
 use Rattle.std.specs.Int.{is_in_range}
 use Rattle.std.specs.Char.{is_ascii_alphabetic, is_ascii_digit, is_ascii_alphanumeric}
-use Rattle.std.proofs.lemmas.Bool.{and_from, and_parts, both_ways, or_cases, leb-true, eqb-true, eq-eqb, ltb-true, false≢true, not-true, agree_below, agree_below_at}
+use Rattle.std.proofs.lemmas.Bool.{and_from, and_parts, both_ways, or_cases, leb-true, eqb-true, eq-eqb, ltb-true}
+use Rattle.std.proofs.lemmas.Bool.{false≢true, not-true, agree_below, agree_below_at}
 use Rattle.scanner.specs.declared.token.Keyword.{Keyword as Word}
-use Rattle.scanner.specs.declared.token.Keyword.TheVariants.{Program, Monitor, Var, Condition, Array, Of, Integer, Boolean, Process, Entry, Internal, Procedure, Recover, Main, If, Then, Else, Endif, While, Do, Endloop, Call, Into, Fork, Join, Aborted, Return, Wait, Notify, Broadcast, Print, Abort, Or, And, Mod, Not, True, False}
+use Rattle.scanner.specs.declared.token.Keyword.TheVariants.{Program, Monitor, Var, Condition, Array, Of, Integer}
+use Rattle.scanner.specs.declared.token.Keyword.TheVariants.{Boolean, Process, Entry, Internal, Procedure, Recover}
+use Rattle.scanner.specs.declared.token.Keyword.TheVariants.{Main, If, Then, Else, Endif, While, Do, Endloop, Call}
+use Rattle.scanner.specs.declared.token.Keyword.TheVariants.{Into, Fork, Join, Aborted, Return, Wait, Notify}
+use Rattle.scanner.specs.declared.token.Keyword.TheVariants.{Broadcast, Print, Abort, Or, And, Mod, Not, True, False}
 use Rattle.scanner.specs.declared.token.Keyword.TheVariants as words
 use Rattle.scanner.specs.declared.token.Sign.{Sign as Mark}
-use Rattle.scanner.specs.declared.token.Sign.TheVariants.{Assign, Colon, Semicolon, Comma, Dot, OpenParen, CloseParen, OpenBracket, CloseBracket, Equal, NotEqual, Less, LessEqual, Greater, GreaterEqual, Plus, Minus, Times, Divide}
+use Rattle.scanner.specs.declared.token.Sign.TheVariants.{Assign, Colon, Semicolon, Comma, Dot, OpenParen, CloseParen}
+use Rattle.scanner.specs.declared.token.Sign.TheVariants.{OpenBracket, CloseBracket, Equal, NotEqual, Less, LessEqual}
+use Rattle.scanner.specs.declared.token.Sign.TheVariants.{Greater, GreaterEqual, Plus, Minus, Times, Divide}
 use Rattle.scanner.specs.declared.token.Kind.{Kind}
 use Rattle.scanner.specs.declared.token.Kind.TheVariants.{Keyword, Sign, Name, Number, End}
 use Rattle.scanner.specs.Bytes.{is_white}
-use Rattle.scanner.specs.Lexemes.{keyword_text, sign_text, is_word, is_digits, comment_mark, IsLexeme, IsLongest, Spells}
+use Rattle.scanner.specs.Lexemes.{keyword_text, sign_text, is_word, is_digits, comment_mark, IsLexeme, IsLongest}
+use Rattle.scanner.specs.Lexemes.{Spells}
 use Rattle.scanner.specs.Steps.{can_grow, begins_minus}
 use Rattle.scanner.proofs.Runs.{Stops, prefix_at, one_within}
 
@@ -83,7 +92,8 @@ sign_begins Times = refl
 sign_begins Divide = refl
 
 -- a sign of two bytes
-pub sign_second : (s : Mark) (b c : ℕ) (more : List ℕ) → sign_text s ≡ b ∷ c ∷ more → (c ≡ 61) × (can_grow b ≡ true) × (more ≡ [])
+pub sign_second : (s : Mark) (b c : ℕ) (more : List ℕ) → sign_text s ≡ b ∷ c ∷ more → (c ≡ 61) × (can_grow b ≡ true)
+    × (more ≡ [])
 sign_second Assign b c more e = let first : b ≡ 58 = cc in (cc, ap can_grow first, cc)
 sign_second Colon b c more e = absurd (cc)
 sign_second Semicolon b c more e = absurd (cc)
@@ -149,19 +159,22 @@ range_below low high b small e =
     omega arith
 
 letter_below : (b : ℕ) → is_ascii_alphabetic b ≡ true → b < 128
-letter_below b e = ⊎_elim (range_below 65 90 b (omega arith)) (range_below 97 122 b (omega arith)) (or_cases (is_in_range 65 90 b) (is_in_range 97 122 b) e)
+letter_below b e = ⊎_elim (range_below 65 90 b (omega arith)) (range_below 97 122 b (omega arith))
+    (or_cases (is_in_range 65 90 b) (is_in_range 97 122 b) e)
 
 digit_below : (b : ℕ) → is_ascii_digit b ≡ true → b < 128
 digit_below b e = range_below 48 57 b (omega arith) e
 
 -- a test of bytes that implies another one, by its table
-implies : (f g : ℕ → Bool) (b : ℕ) → agree_below (λ c. not (f c) || g c) (λ _. true) 128 ≡ true → b < 128 → f b ≡ true → g b ≡ true
+implies : (f g : ℕ → Bool) (b : ℕ) → agree_below (λ c. not (f c) || g c) (λ _. true) 128 ≡ true → b < 128 → f b ≡ true
+    → g b ≡ true
 implies f g b table below e =
     ⊎_elim (λ n. absurd (both_ways (f b) (not-true _ n) e)) (λ h. h)
     (or_cases (not (f b)) (g b) (agree_below_at (λ c. not (f c) || g c) (λ _. true) 128 b table below))
 
 pub letter_no_digit : (b : ℕ) → is_ascii_alphabetic b ≡ true → is_ascii_digit b ≡ false
-letter_no_digit b e = not-true _ (implies is_ascii_alphabetic (λ c. not (is_ascii_digit c)) b refl (letter_below b e) e)
+letter_no_digit b e = not-true _ (implies is_ascii_alphabetic (λ c. not (is_ascii_digit c)) b refl (letter_below b e)
+    e)
 
 letter_no_white : (b : ℕ) → is_ascii_alphabetic b ≡ true → is_white b ≡ false
 letter_no_white b e = not-true _ (implies is_ascii_alphabetic (λ c. not (is_white c)) b refl (letter_below b e) e)
@@ -209,17 +222,21 @@ lexeme_nonempty (inr (inr (inr mark))) = cc
 -- a lexeme that begins with a letter is a word
 lexeme_word : (b : ℕ) (more : List ℕ) → IsLexeme (b ∷ more) → is_ascii_alphabetic b ≡ true → is_word (b ∷ more) ≡ true
 lexeme_word b more (inl word) letter = word
-lexeme_word b more (inr (inl digits)) letter = absurd (both_ways _ (letter_no_digit b letter) (and_parts (is_ascii_digit b) _ digits).0)
-lexeme_word b more (inr (inr (inl sign))) letter = absurd (both_ways _ (sign_byte b (first_of_sign sign.0 b more sign.1)).no_letter letter)
+lexeme_word b more (inr (inl digits)) letter =
+    absurd (both_ways _ (letter_no_digit b letter) (and_parts (is_ascii_digit b) _ digits).0)
+lexeme_word b more (inr (inr (inl sign))) letter =
+    absurd (both_ways _ (sign_byte b (first_of_sign sign.0 b more sign.1)).no_letter letter)
 lexeme_word b more (inr (inr (inr mark))) letter =
     let dash : b ≡ 45 = cc in
     absurd (both_ways _ (ap is_ascii_alphabetic dash) letter)
 
 -- one that begins with a digit is digits
 lexeme_digits : (b : ℕ) (more : List ℕ) → IsLexeme (b ∷ more) → is_ascii_digit b ≡ true → is_digits (b ∷ more) ≡ true
-lexeme_digits b more (inl word) digit = absurd (both_ways _ (letter_no_digit b (and_parts (is_ascii_alphabetic b) _ word).0) digit)
+lexeme_digits b more (inl word) digit = absurd
+    (both_ways _ (letter_no_digit b (and_parts (is_ascii_alphabetic b) _ word).0) digit)
 lexeme_digits b more (inr (inl digits)) digit = digits
-lexeme_digits b more (inr (inr (inl sign))) digit = absurd (both_ways _ (sign_byte b (first_of_sign sign.0 b more sign.1)).no_digit digit)
+lexeme_digits b more (inr (inr (inl sign))) digit =
+    absurd (both_ways _ (sign_byte b (first_of_sign sign.0 b more sign.1)).no_digit digit)
 lexeme_digits b more (inr (inr (inr mark))) digit =
     let dash : b ≡ 45 = cc in
     absurd (both_ways _ (ap is_ascii_digit dash) digit)
@@ -230,7 +247,8 @@ longest_word bs rest word stops [] behind e lexeme = refl
 longest_word [] rest word stops (m ∷ more) behind e lexeme = absurd (false≢true word)
 longest_word (b ∷ bs) rest word stops (m ∷ more) behind e lexeme =
     let longer = lexeme_word b (bs ++ m ∷ more) lexeme (and_parts (is_ascii_alphabetic b) _ word).0 in
-    absurd (both_ways _ (subst (Stops is_ascii_alphanumeric) e stops) (prefix_at is_ascii_alphanumeric m bs more (and_parts (is_ascii_alphabetic b) _ longer).1))
+    absurd (both_ways _ (subst (Stops is_ascii_alphanumeric) e stops)
+    (prefix_at is_ascii_alphanumeric m bs more (and_parts (is_ascii_alphabetic b) _ longer).1))
 
 -- digits are the longest where no digit follows
 pub longest_digits : (bs rest : List ℕ) → is_digits bs ≡ true → Stops is_ascii_digit rest → IsLongest bs rest
@@ -238,17 +256,23 @@ longest_digits bs rest digits stops [] behind e lexeme = refl
 longest_digits [] rest digits stops (m ∷ more) behind e lexeme = absurd (false≢true digits)
 longest_digits (b ∷ bs) rest digits stops (m ∷ more) behind e lexeme =
     let longer = lexeme_digits b (bs ++ m ∷ more) lexeme (and_parts (is_ascii_digit b) _ digits).0 in
-    absurd (both_ways _ (subst (Stops is_ascii_digit) e stops) (prefix_at is_ascii_digit m bs more (and_parts (is_ascii_digit b) _ longer).1))
+    absurd (both_ways _ (subst (Stops is_ascii_digit) e stops)
+    (prefix_at is_ascii_digit m bs more (and_parts (is_ascii_digit b) _ longer).1))
 
 -- what two bytes a lexeme may begin with that is no word and no digits
-two_bytes : (b m : ℕ) (more : List ℕ) → is_ascii_alphabetic b ≡ false → is_ascii_digit b ≡ false → IsLexeme (b ∷ m ∷ more) → ((m ≡ 61) × (can_grow b ≡ true) × (more ≡ [])) ⊎ ((b ≡ 45) × (m ≡ 45) × (more ≡ []))
-two_bytes b m more no_letter no_digit (inl word) = absurd (both_ways _ no_letter (and_parts (is_ascii_alphabetic b) _ word).0)
-two_bytes b m more no_letter no_digit (inr (inl digits)) = absurd (both_ways _ no_digit (and_parts (is_ascii_digit b) _ digits).0)
+two_bytes : (b m : ℕ) (more : List ℕ) → is_ascii_alphabetic b ≡ false → is_ascii_digit b ≡ false
+    → IsLexeme (b ∷ m ∷ more) → ((m ≡ 61) × (can_grow b ≡ true) × (more ≡ [])) ⊎ ((b ≡ 45) × (m ≡ 45) × (more ≡ []))
+two_bytes b m more no_letter no_digit (inl word) =
+    absurd (both_ways _ no_letter (and_parts (is_ascii_alphabetic b) _ word).0)
+two_bytes b m more no_letter no_digit (inr (inl digits)) =
+    absurd (both_ways _ no_digit (and_parts (is_ascii_digit b) _ digits).0)
 two_bytes b m more no_letter no_digit (inr (inr (inl sign))) = inl (sign_second sign.0 b m more (sym sign.1))
 two_bytes b m more no_letter no_digit (inr (inr (inr mark))) = inr (cc, cc, cc)
 
 -- a sign of one byte is the longest where what follows makes it no other sign and no comment
-pub longest_one : (b : ℕ) (rest : List ℕ) → is_ascii_alphabetic b ≡ false → is_ascii_digit b ≡ false → ((eqb b 45 && begins_minus rest) ≡ false) → (can_grow b ≡ true → Stops (λ c. eqb c 61) rest) → IsLongest (b ∷ []) rest
+pub longest_one : (b : ℕ) (rest : List ℕ) → is_ascii_alphabetic b ≡ false → is_ascii_digit b ≡ false
+    → ((eqb b 45 && begins_minus rest) ≡ false) → (can_grow b ≡ true → Stops (λ c. eqb c 61) rest)
+    → IsLongest (b ∷ []) rest
 longest_one b rest no_letter no_digit no_mark no_sign [] behind e lexeme = refl
 longest_one b rest no_letter no_digit no_mark no_sign (m ∷ more) behind e lexeme =
     absurd (⊎_elim
@@ -257,7 +281,8 @@ longest_one b rest no_letter no_digit no_mark no_sign (m ∷ more) behind e lexe
     (two_bytes b m more no_letter no_digit lexeme))
 
 -- a sign of two bytes is the longest
-pub longest_two : (b : ℕ) (rest : List ℕ) → is_ascii_alphabetic b ≡ false → is_ascii_digit b ≡ false → IsLongest (b ∷ 61 ∷ []) rest
+pub longest_two : (b : ℕ) (rest : List ℕ) → is_ascii_alphabetic b ≡ false → is_ascii_digit b ≡ false
+    → IsLongest (b ∷ 61 ∷ []) rest
 longest_two b rest no_letter no_digit [] behind e lexeme = refl
 longest_two b rest no_letter no_digit (m ∷ more) behind e lexeme =
     absurd (⊎_elim
@@ -266,10 +291,14 @@ longest_two b rest no_letter no_digit (m ∷ more) behind e lexeme =
     (two_bytes b 61 (m ∷ more) no_letter no_digit lexeme))
 
 -- a byte that is no letter, no digit and no sign begins no lexeme
-pub no_lexeme : (b : ℕ) (more : List ℕ) → is_ascii_alphabetic b ≡ false → is_ascii_digit b ≡ false → ((s : Mark) → get_or (sign_text s) 0 0 ≢ b) → IsLexeme (b ∷ more) → ⊥
-no_lexeme b more no_letter no_digit no_sign (inl word) = both_ways _ no_letter (and_parts (is_ascii_alphabetic b) _ word).0
-no_lexeme b more no_letter no_digit no_sign (inr (inl digits)) = both_ways _ no_digit (and_parts (is_ascii_digit b) _ digits).0
-no_lexeme b more no_letter no_digit no_sign (inr (inr (inl sign))) = no_sign sign.0 (sym (ap (λ l. get_or l 0 0) sign.1))
+pub no_lexeme : (b : ℕ) (more : List ℕ) → is_ascii_alphabetic b ≡ false → is_ascii_digit b ≡ false
+    → ((s : Mark) → get_or (sign_text s) 0 0 ≢ b) → IsLexeme (b ∷ more) → ⊥
+no_lexeme b more no_letter no_digit no_sign (inl word) =
+    both_ways _ no_letter (and_parts (is_ascii_alphabetic b) _ word).0
+no_lexeme b more no_letter no_digit no_sign (inr (inl digits)) =
+    both_ways _ no_digit (and_parts (is_ascii_digit b) _ digits).0
+no_lexeme b more no_letter no_digit no_sign (inr (inr (inl sign))) =
+    no_sign sign.0 (sym (ap (λ l. get_or l 0 0) sign.1))
 no_lexeme b more no_letter no_digit no_sign (inr (inr (inr mark))) =
     let dash : b ≡ 45 = cc in
     no_sign Minus (sym dash)
@@ -292,7 +321,8 @@ spells_no_mark (Number n) bs w mark = both_ways _ (ap is_digits mark) w.0
 spells_no_mark End bs w mark = w
 
 -- of two longest lexemes that stand first in one text each is the other
-pub longest_unique : (a b x y : List ℕ) → IsLexeme a → IsLexeme b → IsLongest a x → IsLongest b y → a ++ x ≡ b ++ y → (a ≡ b) × (x ≡ y)
+pub longest_unique : (a b x y : List ℕ) → IsLexeme a → IsLexeme b → IsLongest a x → IsLongest b y → a ++ x ≡ b ++ y
+    → (a ≡ b) × (x ≡ y)
 longest_unique a b x y la lb longest_a longest_b e =
     ⊎_elim
     (λ w.
@@ -309,7 +339,8 @@ no_mark [] x y lexeme other longest e = lexeme_nonempty lexeme
 no_mark (b ∷ []) x y lexeme other longest e =
     let dash : b ≡ 45 = cc in
     let behind : x ≡ 45 ∷ y = cc in
-    let none : ◌≡◌ {A = List ℕ} (45 ∷ []) [] = longest (45 ∷ []) y behind (inr (inr (inr (ap (λ c. c ∷ 45 ∷ []) dash)))) in
+    let none : ◌≡◌ {A = List ℕ} (45 ∷ []) [] =
+    longest (45 ∷ []) y behind (inr (inr (inr (ap (λ c. c ∷ 45 ∷ []) dash)))) in
     cc
 no_mark (b ∷ c ∷ more) x y lexeme other longest e =
     let first : b ≡ 45 = cc in

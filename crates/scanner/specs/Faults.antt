@@ -5,10 +5,11 @@ use Rattle.scanner.specs.declared.refusal.Refusal.{Refusal}
 use Rattle.scanner.specs.declared.refusal.RefusalKind.{RefusalKind}
 use Rattle.scanner.specs.declared.refusal.RefusalKind.TheVariants.{NotAscii, BadToken, Limit}
 use Rattle.scanner.specs.Bytes.{is_white}
+use Rattle.scanner.specs.Limits.{most_bytes, most_number}
 use Rattle.scanner.specs.Places.{start, place_after}
 use Rattle.scanner.specs.Lexemes.{is_digits, value_of, IsLexeme, IsLongest}
 use Rattle.scanner.specs.Gaps.{IsGap, IsLastGap}
-use Rattle.scanner.specs.Tokens.{TokenView, StandInOrder, most_bytes}
+use Rattle.scanner.specs.Tokens.{TokenView, StandInOrder}
 
 -- a byte past ASCII stands first
 abbrev pub BeginsPastAscii : List ℕ → Type 0
@@ -22,9 +23,11 @@ BeginsNoToken (b ∷ bs) = (b < 128) × IsFalse (is_white b) × ((more : List �
 
 -- a number stands first that is too great
 abbrev pub BeginsTooGreat : List ℕ → Type 0
-BeginsTooGreat bs = (digits rest : List ℕ) × (bs ≡ digits ++ rest) × IsTrue (is_digits digits) × IsLongest digits rest × (2147483647 < value_of digits)
+BeginsTooGreat bs = (digits rest : List ℕ) × (bs ≡ digits ++ rest) × IsTrue (is_digits digits) × IsLongest digits rest
+    × (most_number < value_of digits)
 
--- behind the last whole token stand `before`, which is a gap, and then what is wrong; a byte past ASCII may stand in a comment too
+-- behind the last whole token stand `before`, which is a gap, and then what is wrong; a byte past ASCII may stand in
+-- a comment too
 abbrev pub IsWrong : RefusalKind → List ℕ → List ℕ → Type 0
 IsWrong NotAscii before behind = IsLastGap before × BeginsPastAscii behind
 IsWrong BadToken before behind = IsGap before × (BeginsNoToken behind ⊎ BeginsTooGreat behind)

@@ -1,12 +1,20 @@
 -- The lexemes of the language, and what kind of token each is.
-use Rattle.std.specs.Prelude.{◌≡◌, ◌≢◌, ◌≤◌, ◌⊎◌, ℕ, ◌+◌, ◌-◌, ◌*◌, Bool, false, ◌&&◌, List, [], ◌∷◌, ◌++◌, IsTrue, codes}
+use Rattle.std.specs.Prelude.{◌≡◌, ◌≢◌, ◌≤◌, ◌⊎◌, ℕ, ◌+◌, ◌-◌, ◌*◌, Bool, false, ◌&&◌, List, [], ◌∷◌, ◌++◌, IsTrue}
+use Rattle.std.specs.Prelude.{codes}
 use Rattle.std.specs.List.{list_all}
 use Rattle.std.specs.Char.{is_ascii_alphabetic, is_ascii_digit, is_ascii_alphanumeric}
+use Rattle.scanner.specs.Limits.{most_number}
 use Rattle.scanner.specs.declared.token.Keyword.{Keyword as Word}
-use Rattle.scanner.specs.declared.token.Keyword.TheVariants.{Program, Monitor, Var, Condition, Array, Of, Integer, Boolean, Process, Entry, Internal, Procedure, Recover, Main, If, Then, Else, Endif, While, Do, Endloop, Call, Into, Fork, Join, Aborted, Return, Wait, Notify, Broadcast, Print, Abort, Or, And, Mod, Not, True, False}
+use Rattle.scanner.specs.declared.token.Keyword.TheVariants.{Program, Monitor, Var, Condition, Array, Of, Integer}
+use Rattle.scanner.specs.declared.token.Keyword.TheVariants.{Boolean, Process, Entry, Internal, Procedure, Recover}
+use Rattle.scanner.specs.declared.token.Keyword.TheVariants.{Main, If, Then, Else, Endif, While, Do, Endloop, Call}
+use Rattle.scanner.specs.declared.token.Keyword.TheVariants.{Into, Fork, Join, Aborted, Return, Wait, Notify}
+use Rattle.scanner.specs.declared.token.Keyword.TheVariants.{Broadcast, Print, Abort, Or, And, Mod, Not, True, False}
 use Rattle.scanner.specs.declared.token.Keyword.TheVariants as words
 use Rattle.scanner.specs.declared.token.Sign.{Sign as Mark}
-use Rattle.scanner.specs.declared.token.Sign.TheVariants.{Assign, Colon, Semicolon, Comma, Dot, OpenParen, CloseParen, OpenBracket, CloseBracket, Equal, NotEqual, Less, LessEqual, Greater, GreaterEqual, Plus, Minus, Times, Divide}
+use Rattle.scanner.specs.declared.token.Sign.TheVariants.{Assign, Colon, Semicolon, Comma, Dot, OpenParen, CloseParen}
+use Rattle.scanner.specs.declared.token.Sign.TheVariants.{OpenBracket, CloseBracket, Equal, NotEqual, Less, LessEqual}
+use Rattle.scanner.specs.declared.token.Sign.TheVariants.{Greater, GreaterEqual, Plus, Minus, Times, Divide}
 use Rattle.scanner.specs.declared.token.Kind.{Kind}
 use Rattle.scanner.specs.declared.token.Kind.TheVariants.{Keyword, Sign, Name, Number, End}
 
@@ -110,5 +118,5 @@ abbrev pub Spells : Kind → List ℕ → Type 0
 Spells (Keyword k) bs = bs ≡ keyword_text k
 Spells (Sign s) bs = bs ≡ sign_text s
 Spells Name bs = IsTrue (is_word bs) × ((k : Word) → bs ≢ keyword_text k)
-Spells (Number n) bs = IsTrue (is_digits bs) × (value_of bs ≡ n) × (n ≤ 2147483647)
+Spells (Number n) bs = IsTrue (is_digits bs) × (value_of bs ≡ n) × (n ≤ most_number)
 Spells End bs = ⊥

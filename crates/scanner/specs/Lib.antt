@@ -3,6 +3,7 @@ pub mod Faults
 pub mod Gaps
 pub mod Joined
 pub mod Lexemes
+pub mod Limits
 pub mod Places
 pub mod Refusals
 pub mod Steps

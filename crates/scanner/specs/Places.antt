@@ -8,7 +8,8 @@ start = record { line = 1; column = 1 }
 
 -- the place just after one byte
 abbrev pub next_place : Place → ℕ → Place
-next_place p b = if b == 10 then record { line = p.line + 1; column = 1 } else record { line = p.line; column = p.column + 1 }
+next_place p b = if b == 10 then record { line = p.line + 1; column = 1 } else
+    record { line = p.line; column = p.column + 1 }
 
 -- the place just after bytes, the first of which stands at p
 abbrev pub place_after : Place → List ℕ → Place

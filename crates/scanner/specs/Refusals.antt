@@ -3,7 +3,9 @@ use Rattle.std.specs.Prelude.{ℕ, List, ◌++◌, codes}
 use Rattle.std.specs.Fmt.{decimal}
 use Rattle.scanner.specs.declared.refusal.Refusal.{Refusal}
 use Rattle.scanner.specs.declared.refusal.RefusalKind.{RefusalKind}
-use Rattle.scanner.specs.declared.refusal.RefusalKind.TheVariants.{NotAscii, BadToken, Expected, Redeclared, Unknown, TypeMismatch, WrongPlace, DirectReentry, Recursion, Limit, Memory, StrayPiece}
+use Rattle.scanner.specs.declared.refusal.RefusalKind.TheVariants.{NotAscii, BadToken, Expected, Redeclared, Unknown}
+use Rattle.scanner.specs.declared.refusal.RefusalKind.TheVariants.{TypeMismatch, WrongPlace, DirectReentry, Recursion}
+use Rattle.scanner.specs.declared.refusal.RefusalKind.TheVariants.{Limit, Memory, StrayPiece}
 use Rattle.scanner.specs.Places.{start}
 
 -- memory has run out

@@ -4,13 +4,10 @@ use Rattle.scanner.specs.declared.token.Kind.{Kind}
 use Rattle.scanner.specs.declared.token.Kind.TheVariants.{End}
 use Rattle.scanner.specs.declared.token.Place.{Place}
 use Rattle.scanner.specs.declared.token.Token.{Token}
+use Rattle.scanner.specs.Limits.{most_bytes}
 use Rattle.scanner.specs.Places.{start, place_after}
 use Rattle.scanner.specs.Lexemes.{Spells, IsLongest}
 use Rattle.scanner.specs.Gaps.{IsGap, IsLastGap}
-
--- the bytes that a text may have
-abbrev pub most_bytes : ℕ
-most_bytes = 1048576
 
 -- a token by its bytes
 pub record TokenView : Type 0 where
@@ -36,7 +33,8 @@ pub record StandsFirst (p : Place) (bytes : List ℕ) (t : TokenView) (rest : Li
 -- the same of tokens one after another; the rest begins at the place q
 abbrev pub StandInOrder : Place → List ℕ → List TokenView → Place → List ℕ → Type 0
 StandInOrder p bytes [] q rest = (p ≡ q) × (bytes ≡ rest)
-StandInOrder p bytes (t ∷ ts) q rest = (behind : List ℕ) × StandsFirst p bytes t behind × StandInOrder (place_after t.place t.text) behind ts q rest
+StandInOrder p bytes (t ∷ ts) q rest = (behind : List ℕ) × StandsFirst p bytes t behind
+    × StandInOrder (place_after t.place t.text) behind ts q rest
 
 -- the last token
 abbrev pub end_at : Place → TokenView

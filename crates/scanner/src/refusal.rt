@@ -79,7 +79,9 @@ impl fmt::Display for RefusalKind {
 /// It is shown as `LINE:COLUMN: error N NAME`.
 #[derive(Clone, Copy, PartialEq, Eq, Debug, Error)]
 pub struct Refusal {
+    /// Why the text is refused.
     pub kind: RefusalKind,
+    /// The place of what is refused.
     pub place: Place,
 }
 

@@ -103,7 +103,9 @@ pub enum Kind {
 /// A line feed ends a line. Every other byte is one column.
 #[derive(Clone, Copy, PartialEq, Eq, Debug)]
 pub struct Place {
+    /// The line, from 1.
     pub line: u32,
+    /// The column in its line, from 1.
     pub column: u32,
 }
 
@@ -117,7 +119,10 @@ impl Place {
 /// The bytes of the end are none, and its place is just after the last byte of the text.
 #[derive(Clone, Copy, Debug)]
 pub struct Token<'a> {
+    /// What it is.
     pub kind: Kind,
+    /// Its bytes in the source text.
     pub text: &'a [u8],
+    /// The place of its first byte.
     pub place: Place,
 }

@@ -1,11 +1,14 @@
 -- What a tree says of each token: its kind, and for some kinds its place and its bytes.
 use Rattle.std.specs.Prelude.{ℕ, List, [], ◌∷◌}
 use Rattle.scanner.specs.declared.token.Keyword.{Keyword}
-use Rattle.scanner.specs.declared.token.Keyword.TheVariants.{Monitor, Var, Procedure, Recover, Main, If, While, Call, Fork, Join, Return, Wait, Notify, Broadcast, Print, Abort, Not, True, False}
+use Rattle.scanner.specs.declared.token.Keyword.TheVariants.{Monitor, Var, Procedure, Recover, Main, If, While, Call}
+use Rattle.scanner.specs.declared.token.Keyword.TheVariants.{Fork, Join, Return, Wait, Notify, Broadcast, Print, Abort}
+use Rattle.scanner.specs.declared.token.Keyword.TheVariants.{Not, True, False}
 use Rattle.scanner.specs.declared.token.Sign.{Sign}
 use Rattle.scanner.specs.declared.token.Sign.TheVariants.{OpenParen, Plus, Minus}
 use Rattle.scanner.specs.declared.token.Kind.{Kind}
-use Rattle.scanner.specs.declared.token.Kind.TheVariants.{Keyword as AKeyword, Sign as ASign, Name as AName, Number as ANumber, End as TheEnd}
+use Rattle.scanner.specs.declared.token.Kind.TheVariants.{Keyword as AKeyword, Sign as ASign, Name as AName}
+use Rattle.scanner.specs.declared.token.Kind.TheVariants.{Number as ANumber, End as TheEnd}
 use Rattle.scanner.specs.declared.token.Place.{Place}
 use Rattle.scanner.specs.declared.token.Token.{Token}
 use Rattle.syntax.specs.declared.leaf.Number.{Number}

@@ -1,6 +1,14 @@
--- How many nestings are open at once in a tree: of IF, WHILE, ABORTED, `(` and `[` in expressions and targets, and `-` and NOT before a factor.
+-- How many nestings are open at once in a tree: of IF, WHILE, ABORTED, `(` and `[` in expressions and targets, and `-`
+-- and NOT before a factor.
 use Rattle.std.specs.Prelude.{ℕ, ◌+◌, max, List, [], ◌∷◌, Option, Some, None}
-use Rattle.syntax.specs.Tree.{ExpressionTree, AnyOf, ConjunctionTrees, NoConjunctions, OrElse, ConjunctionTree, AllOf, RelationTrees, NoRelations, AndAlso, RelationTree, Relates, ComparisonTree, NoComparison, Compares, SumTree, Total, SummandTrees, NoSummands, Adds, TermTree, Product, MultiplierTrees, NoMultipliers, Scales, FactorTree, Constant, Truthful, Reads, Group, Minus, Not, IndexTree, NoIndex, At, StatementTree, Assign, If, While, Call, Fork, Join, Return, Wait, Notify, Broadcast, Print, Abort, StatementTrees, NoStatements, Then, PartTree, NoPart, Part, ProcedureTree, MonitorProcedureTree, RecoverTree, MonitorTree, UnitTree}
+use Rattle.syntax.specs.Tree.{ExpressionTree, AnyOf, ConjunctionTrees, NoConjunctions, OrElse, ConjunctionTree, AllOf}
+use Rattle.syntax.specs.Tree.{RelationTrees, NoRelations, AndAlso, RelationTree, Relates, ComparisonTree, NoComparison}
+use Rattle.syntax.specs.Tree.{Compares, SumTree, Total, SummandTrees, NoSummands, Adds, TermTree, Product}
+use Rattle.syntax.specs.Tree.{MultiplierTrees, NoMultipliers, Scales, FactorTree, Constant, Truthful, Reads, Group}
+use Rattle.syntax.specs.Tree.{Minus, Not, IndexTree, NoIndex, At, StatementTree, Assign, If, While, Call, Fork, Join}
+use Rattle.syntax.specs.Tree.{Return, Wait, Notify, Broadcast, Print, Abort, StatementTrees, NoStatements, Then}
+use Rattle.syntax.specs.Tree.{PartTree, NoPart, Part, ProcedureTree, MonitorProcedureTree, RecoverTree, MonitorTree}
+use Rattle.syntax.specs.Tree.{UnitTree}
 
 abbrev mutual
   pub expression_nesting : ExpressionTree → ℕ
@@ -61,7 +69,8 @@ value_nesting (Some e) = expression_nesting e
 abbrev mutual
   pub statement_nesting : StatementTree → ℕ
   statement_nesting (Assign v e) = max (index_nesting v.index) (expression_nesting e)
-  statement_nesting (If place e ss part) = max (expression_nesting e) (max (statements_nesting ss) (else_nesting part)) + 1
+  statement_nesting (If place e ss part) = max (expression_nesting e) (max (statements_nesting ss) (else_nesting part))
+      + 1
   statement_nesting (While place e ss) = max (expression_nesting e) (statements_nesting ss) + 1
   statement_nesting (Call place c into) = arguments_nesting c.arguments
   statement_nesting (Fork place c into) = arguments_nesting c.arguments
@@ -92,7 +101,8 @@ procedures_nesting (p ∷ ps) = max (statements_nesting p.body.statements) (proc
 
 abbrev pub monitor_procedures_nesting : List MonitorProcedureTree → ℕ
 monitor_procedures_nesting [] = 0
-monitor_procedures_nesting (p ∷ ps) = max (statements_nesting p.procedure.body.statements) (monitor_procedures_nesting ps)
+monitor_procedures_nesting (p ∷ ps) = max (statements_nesting p.procedure.body.statements)
+    (monitor_procedures_nesting ps)
 
 abbrev pub recover_nesting : Option RecoverTree → ℕ
 recover_nesting None = 0
@@ -100,7 +110,9 @@ recover_nesting (Some r) = statements_nesting r.body.statements
 
 abbrev pub monitors_nesting : List MonitorTree → ℕ
 monitors_nesting [] = 0
-monitors_nesting (m ∷ ms) = max (max (monitor_procedures_nesting m.procedures) (recover_nesting m.recover)) (monitors_nesting ms)
+monitors_nesting (m ∷ ms) = max (max (monitor_procedures_nesting m.procedures) (recover_nesting m.recover))
+    (monitors_nesting ms)
 
 abbrev pub unit_nesting : UnitTree → ℕ
-unit_nesting u = max (monitors_nesting u.monitors) (max (procedures_nesting u.procedures) (statements_nesting u.body.statements))
+unit_nesting u = max (monitors_nesting u.monitors)
+    (max (procedures_nesting u.procedures) (statements_nesting u.body.statements))

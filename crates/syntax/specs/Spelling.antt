@@ -19,7 +19,14 @@ use Rattle.syntax.specs.declared.declaration.ResultType.TheVariants as R
 use Rattle.syntax.specs.declared.declaration.Access.{Access}
 use Rattle.syntax.specs.declared.declaration.Access.TheVariants as A
 use Rattle.syntax.specs.Lexeme.{NameTree, Lexeme, Word, WordAt, Mark, MarkAt, Named, Numbered, Finish}
-use Rattle.syntax.specs.Tree.{ExpressionTree, AnyOf, ConjunctionTrees, NoConjunctions, OrElse, ConjunctionTree, AllOf, RelationTrees, NoRelations, AndAlso, RelationTree, Relates, ComparisonTree, NoComparison, Compares, SumTree, Total, SummandTrees, NoSummands, Adds, TermTree, Product, MultiplierTrees, NoMultipliers, Scales, FactorTree, Constant, Truthful, Reads, Group, Minus, Not, IndexTree, NoIndex, At, CalleeTree, StatementTree, Assign, If, While, Call, Fork, Join, Return, Wait, Notify, Broadcast, Print, Abort, StatementTrees, NoStatements, Then, PartTree, NoPart, Part, LocalTree, ParameterTree, MemberTree, BodyTree, ProcedureTree, MonitorProcedureTree, RecoverTree, MonitorTree, UnitTree}
+use Rattle.syntax.specs.Tree.{ExpressionTree, AnyOf, ConjunctionTrees, NoConjunctions, OrElse, ConjunctionTree, AllOf}
+use Rattle.syntax.specs.Tree.{RelationTrees, NoRelations, AndAlso, RelationTree, Relates, ComparisonTree, NoComparison}
+use Rattle.syntax.specs.Tree.{Compares, SumTree, Total, SummandTrees, NoSummands, Adds, TermTree, Product}
+use Rattle.syntax.specs.Tree.{MultiplierTrees, NoMultipliers, Scales, FactorTree, Constant, Truthful, Reads, Group}
+use Rattle.syntax.specs.Tree.{Minus, Not, IndexTree, NoIndex, At, CalleeTree, StatementTree, Assign, If, While, Call}
+use Rattle.syntax.specs.Tree.{Fork, Join, Return, Wait, Notify, Broadcast, Print, Abort, StatementTrees, NoStatements}
+use Rattle.syntax.specs.Tree.{Then, PartTree, NoPart, Part, LocalTree, ParameterTree, MemberTree, BodyTree}
+use Rattle.syntax.specs.Tree.{ProcedureTree, MonitorProcedureTree, RecoverTree, MonitorTree, UnitTree}
 
 abbrev pub bool_lexeme : Bool → Place → Lexeme
 bool_lexeme true place = WordAt K.True place
@@ -109,7 +116,8 @@ dotted_text (Some name) ks = Mark S.Dot ∷ Named name ∷ ks
 
 -- `p(..)`, or `M.p(..)`
 abbrev pub callee_text : CalleeTree → List Lexeme → List Lexeme
-callee_text c ks = Named c.name ∷ dotted_text c.dotted (MarkAt S.OpenParen c.open_place ∷ arguments_text c.arguments (Mark S.CloseParen ∷ ks))
+callee_text c ks = Named c.name ∷ dotted_text c.dotted
+    (MarkAt S.OpenParen c.open_place ∷ arguments_text c.arguments (Mark S.CloseParen ∷ ks))
 
 abbrev pub into_text : Option NameTree → List Lexeme → List Lexeme
 into_text None ks = ks
@@ -121,12 +129,17 @@ value_text (Some e) ks = expression_text e ks
 
 abbrev mutual
   pub statement_text : StatementTree → List Lexeme → List Lexeme
-  statement_text (Assign v e) ks = Named v.name ∷ index_text v.index (Mark S.Assign ∷ expression_text e (Mark S.Semicolon ∷ ks))
-  statement_text (If place e ss part) ks = WordAt K.If place ∷ expression_text e (Word K.Then ∷ statements_text ss (else_text part (Word K.Endif ∷ Mark S.Semicolon ∷ ks)))
-  statement_text (While place e ss) ks = WordAt K.While place ∷ expression_text e (Word K.Do ∷ statements_text ss (Word K.Endloop ∷ Mark S.Semicolon ∷ ks))
+  statement_text (Assign v e) ks = Named v.name ∷ index_text v.index
+      (Mark S.Assign ∷ expression_text e (Mark S.Semicolon ∷ ks))
+  statement_text (If place e ss part) ks = WordAt K.If place ∷ expression_text e
+      (Word K.Then ∷ statements_text ss (else_text part (Word K.Endif ∷ Mark S.Semicolon ∷ ks)))
+  statement_text (While place e ss) ks = WordAt K.While place ∷ expression_text e
+      (Word K.Do ∷ statements_text ss (Word K.Endloop ∷ Mark S.Semicolon ∷ ks))
   statement_text (Call place c into) ks = WordAt K.Call place ∷ callee_text c (into_text into (Mark S.Semicolon ∷ ks))
-  statement_text (Fork place c into) ks = WordAt K.Fork place ∷ callee_text c (Word K.Into ∷ Named into ∷ Mark S.Semicolon ∷ ks)
-  statement_text (Join place e into part) ks = WordAt K.Join place ∷ expression_text e (into_text into (aborted_text part (Mark S.Semicolon ∷ ks)))
+  statement_text (Fork place c into) ks = WordAt K.Fork place ∷ callee_text c
+      (Word K.Into ∷ Named into ∷ Mark S.Semicolon ∷ ks)
+  statement_text (Join place e into part) ks =
+      WordAt K.Join place ∷ expression_text e (into_text into (aborted_text part (Mark S.Semicolon ∷ ks)))
   statement_text (Return place value) ks = WordAt K.Return place ∷ value_text value (Mark S.Semicolon ∷ ks)
   statement_text (Wait place name) ks = WordAt K.Wait place ∷ Named name ∷ Mark S.Semicolon ∷ ks
   statement_text (Notify place name) ks = WordAt K.Notify place ∷ Named name ∷ Mark S.Semicolon ∷ ks
@@ -164,16 +177,19 @@ member_type_text (M.Array n) ks = Word K.Array ∷ Numbered n ∷ Word K.Of ∷ 
 
 abbrev pub locals_text : List LocalTree → List Lexeme → List Lexeme
 locals_text [] ks = ks
-locals_text (l ∷ ls) ks = WordAt K.Var l.place ∷ Named l.name ∷ Mark S.Colon ∷ local_type_text l.kind ∷ Mark S.Semicolon ∷ locals_text ls ks
+locals_text (l ∷ ls) ks = WordAt K.Var l.place ∷ Named l.name ∷ Mark S.Colon ∷ local_type_text l.kind ∷ Mark
+    S.Semicolon ∷ locals_text ls ks
 
 abbrev pub members_text : List MemberTree → List Lexeme → List Lexeme
 members_text [] ks = ks
-members_text (m ∷ ms) ks = WordAt K.Var m.place ∷ Named m.name ∷ Mark S.Colon ∷ member_type_text m.kind (Mark S.Semicolon ∷ members_text ms ks)
+members_text (m ∷ ms) ks = WordAt K.Var m.place ∷ Named m.name ∷ Mark S.Colon ∷ member_type_text m.kind
+    (Mark S.Semicolon ∷ members_text ms ks)
 
 -- further parameters, and then the parameters of a procedure
 abbrev pub more_parameters_text : List ParameterTree → List Lexeme → List Lexeme
 more_parameters_text [] ks = ks
-more_parameters_text (p ∷ ps) ks = Mark S.Comma ∷ Named p.name ∷ Mark S.Colon ∷ local_type_text p.kind ∷ more_parameters_text ps ks
+more_parameters_text (p ∷ ps) ks = Mark S.Comma ∷ Named p.name ∷ Mark S.Colon ∷ local_type_text
+    p.kind ∷ more_parameters_text ps ks
 
 abbrev pub parameters_text : List ParameterTree → List Lexeme → List Lexeme
 parameters_text [] ks = ks
@@ -189,7 +205,8 @@ body_text b ks = locals_text b.locals (statements_text b.statements (Word K.End 
 
 abbrev pub procedure_text : ProcedureTree → List Lexeme → List Lexeme
 procedure_text p ks =
-    WordAt K.Procedure p.place ∷ Named p.name ∷ MarkAt S.OpenParen p.open_place ∷ parameters_text p.parameters (Mark S.CloseParen ∷ returns_text p.returns (Mark S.Semicolon ∷ body_text p.body (Mark S.Semicolon ∷ ks)))
+    WordAt K.Procedure p.place ∷ Named p.name ∷ MarkAt S.OpenParen p.open_place ∷ parameters_text p.parameters
+    (Mark S.CloseParen ∷ returns_text p.returns (Mark S.Semicolon ∷ body_text p.body (Mark S.Semicolon ∷ ks)))
 
 abbrev pub procedures_text : List ProcedureTree → List Lexeme → List Lexeme
 procedures_text [] ks = ks
@@ -210,9 +227,12 @@ recover_text (Some r) ks = WordAt K.Recover r.place ∷ body_text r.body (Mark S
 abbrev pub monitors_text : List MonitorTree → List Lexeme → List Lexeme
 monitors_text [] ks = ks
 monitors_text (m ∷ ms) ks =
-    WordAt K.Monitor m.place ∷ Named m.name ∷ Mark S.Semicolon ∷ members_text m.members (monitor_procedures_text m.procedures (recover_text m.recover (Word K.End ∷ Mark S.Semicolon ∷ monitors_text ms ks)))
+    WordAt K.Monitor m.place ∷ Named m.name ∷ Mark S.Semicolon ∷ members_text m.members
+    (monitor_procedures_text m.procedures
+    (recover_text m.recover (Word K.End ∷ Mark S.Semicolon ∷ monitors_text ms ks)))
 
 -- a unit, up to the end of its text
 abbrev pub unit_text : UnitTree → List Lexeme
 unit_text u =
-    Word K.Program ∷ Named u.name ∷ Mark S.Semicolon ∷ monitors_text u.monitors (procedures_text u.procedures (WordAt K.Main u.place ∷ body_text u.body (Mark S.Dot ∷ Finish ∷ [])))
+    Word K.Program ∷ Named u.name ∷ Mark S.Semicolon ∷ monitors_text u.monitors
+    (procedures_text u.procedures (WordAt K.Main u.place ∷ body_text u.body (Mark S.Dot ∷ Finish ∷ [])))

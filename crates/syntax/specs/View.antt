@@ -2,7 +2,22 @@
 use Rattle.std.specs.Prelude.{List, [], ◌∷◌, Option, Some, None, map, Vec}
 use Rattle.std.specs.Global.{Global}
 use Rattle.syntax.specs.declared.leaf.Name.{Name}
-use Rattle.syntax.specs.declared.expression.Conjunction.TheBlock.{Number, Truth, Name as NameFactor, Element', Group', Minus', Not', Term::Factor, Term::Product', Sum::Factor, Sum::Product', Sum::Total', Relation::Factor, Relation::Product', Relation::Total', Relation::Comparison', Conjunction::Factor, Conjunction::Product', Conjunction::Total', Conjunction::Comparison', Conjunction::AllOf', Expression::Factor, Expression::Product', Expression::Total', Expression::Comparison', Expression::AllOf', AnyOf', struct-Product, struct-Total, Row_of-Relation, end_of-Relation, more_of-Relation, Row_of-Conjunction, end_of-Conjunction, more_of-Conjunction, Row_of-Summand, end_of-Summand, more_of-Summand, Row_of-Multiplier, end_of-Multiplier, more_of-Multiplier}
+use Rattle.syntax.specs.declared.expression.Conjunction.TheBlock.{Number, Truth, Name as NameFactor, Element', Group'}
+use Rattle.syntax.specs.declared.expression.Conjunction.TheBlock.{Minus', Not', Term::Factor, Term::Product'}
+use Rattle.syntax.specs.declared.expression.Conjunction.TheBlock.{Sum::Factor, Sum::Product', Sum::Total'}
+use Rattle.syntax.specs.declared.expression.Conjunction.TheBlock.{Relation::Factor, Relation::Product'}
+use Rattle.syntax.specs.declared.expression.Conjunction.TheBlock.{Relation::Total', Relation::Comparison'}
+use Rattle.syntax.specs.declared.expression.Conjunction.TheBlock.{Conjunction::Factor, Conjunction::Product'}
+use Rattle.syntax.specs.declared.expression.Conjunction.TheBlock.{Conjunction::Total', Conjunction::Comparison'}
+use Rattle.syntax.specs.declared.expression.Conjunction.TheBlock.{Conjunction::AllOf', Expression::Factor}
+use Rattle.syntax.specs.declared.expression.Conjunction.TheBlock.{Expression::Product', Expression::Total'}
+use Rattle.syntax.specs.declared.expression.Conjunction.TheBlock.{Expression::Comparison', Expression::AllOf', AnyOf'}
+use Rattle.syntax.specs.declared.expression.Conjunction.TheBlock.{struct-Product, struct-Total, Row_of-Relation}
+use Rattle.syntax.specs.declared.expression.Conjunction.TheBlock.{end_of-Relation, more_of-Relation}
+use Rattle.syntax.specs.declared.expression.Conjunction.TheBlock.{Row_of-Conjunction, end_of-Conjunction}
+use Rattle.syntax.specs.declared.expression.Conjunction.TheBlock.{more_of-Conjunction, Row_of-Summand, end_of-Summand}
+use Rattle.syntax.specs.declared.expression.Conjunction.TheBlock.{more_of-Summand, Row_of-Multiplier}
+use Rattle.syntax.specs.declared.expression.Conjunction.TheBlock.{end_of-Multiplier, more_of-Multiplier}
 use Rattle.syntax.specs.declared.expression.Expression.{Expression}
 use Rattle.syntax.specs.declared.expression.Conjunction.{Conjunction}
 use Rattle.syntax.specs.declared.expression.Relation.{Relation}
@@ -17,7 +32,12 @@ use Rattle.syntax.specs.declared.expression.Variable.{Variable}
 use Rattle.syntax.specs.declared.expression.Variable.TheVariants.{Name as NameVariable, Element as ElementVariable}
 use Rattle.syntax.specs.declared.statement.Callee.{Callee}
 use Rattle.syntax.specs.declared.statement.Statement.{Statement}
-use Rattle.syntax.specs.declared.statement.Statement.TheBlock.{Assign as Assign', If', While', Call as Call', Fork as Fork', Join', Return as Return', Wait as Wait', Notify as Notify', Broadcast as Broadcast', Print as Print', Abort as Abort', Row_of-Statement, end_of-Statement, more_of-Statement, Held-Statement-If-3, None', Some'}
+use Rattle.syntax.specs.declared.statement.Statement.TheBlock.{Assign as Assign', If', While', Call as Call'}
+use Rattle.syntax.specs.declared.statement.Statement.TheBlock.{Fork as Fork', Join', Return as Return', Wait as Wait'}
+use Rattle.syntax.specs.declared.statement.Statement.TheBlock.{Notify as Notify', Broadcast as Broadcast'}
+use Rattle.syntax.specs.declared.statement.Statement.TheBlock.{Print as Print', Abort as Abort', Row_of-Statement}
+use Rattle.syntax.specs.declared.statement.Statement.TheBlock.{end_of-Statement, more_of-Statement}
+use Rattle.syntax.specs.declared.statement.Statement.TheBlock.{Held-Statement-If-3, None', Some'}
 use Rattle.syntax.specs.declared.declaration.Local.{Local}
 use Rattle.syntax.specs.declared.declaration.Parameter.{Parameter}
 use Rattle.syntax.specs.declared.declaration.Member.{Member}
@@ -28,7 +48,14 @@ use Rattle.syntax.specs.declared.declaration.Recover.{Recover}
 use Rattle.syntax.specs.declared.declaration.Monitor.{Monitor}
 use Rattle.syntax.specs.declared.declaration.Main.{Main}
 use Rattle.syntax.specs.Lexeme.{NameTree}
-use Rattle.syntax.specs.Tree.{ExpressionTree, AnyOf, ConjunctionTrees, NoConjunctions, OrElse, ConjunctionTree, AllOf, RelationTrees, NoRelations, AndAlso, RelationTree, Relates, NoComparison, Compares, SumTree, Total, SummandTrees, NoSummands, Adds, TermTree, Product, MultiplierTrees, NoMultipliers, Scales, FactorTree, Constant, Truthful, Reads, Group, Minus, Not, NoIndex, At, VariableTree, CalleeTree, StatementTree, Assign, If, While, Call, Fork, Join, Return, Wait, Notify, Broadcast, Print, Abort, StatementTrees, NoStatements, Then, PartTree, NoPart, Part, LocalTree, ParameterTree, MemberTree, BodyTree, ProcedureTree, MonitorProcedureTree, RecoverTree, MonitorTree, UnitTree}
+use Rattle.syntax.specs.Tree.{ExpressionTree, AnyOf, ConjunctionTrees, NoConjunctions, OrElse, ConjunctionTree, AllOf}
+use Rattle.syntax.specs.Tree.{RelationTrees, NoRelations, AndAlso, RelationTree, Relates, NoComparison, Compares}
+use Rattle.syntax.specs.Tree.{SumTree, Total, SummandTrees, NoSummands, Adds, TermTree, Product, MultiplierTrees}
+use Rattle.syntax.specs.Tree.{NoMultipliers, Scales, FactorTree, Constant, Truthful, Reads, Group, Minus, Not, NoIndex}
+use Rattle.syntax.specs.Tree.{At, VariableTree, CalleeTree, StatementTree, Assign, If, While, Call, Fork, Join, Return}
+use Rattle.syntax.specs.Tree.{Wait, Notify, Broadcast, Print, Abort, StatementTrees, NoStatements, Then, PartTree}
+use Rattle.syntax.specs.Tree.{NoPart, Part, LocalTree, ParameterTree, MemberTree, BodyTree, ProcedureTree}
+use Rattle.syntax.specs.Tree.{MonitorProcedureTree, RecoverTree, MonitorTree, UnitTree}
 
 abbrev pub name_of : Name → NameTree
 name_of n = record { text = n.text.now; place = n.place }
@@ -51,11 +78,15 @@ lone_expression c = AnyOf c NoConjunctions
 
 abbrev mutual
   pub expression_of : Expression → ExpressionTree
-  expression_of (Expression::Factor f) = lone_expression (lone_conjunction (lone_relation (lone_sum (lone_term (factor_of f)))))
-  expression_of (Expression::Product' p x) = lone_expression (lone_conjunction (lone_relation (lone_sum (product_of x))))
+  expression_of (Expression::Factor f) = lone_expression
+      (lone_conjunction (lone_relation (lone_sum (lone_term (factor_of f)))))
+  expression_of (Expression::Product' p x) = lone_expression
+      (lone_conjunction (lone_relation (lone_sum (product_of x))))
   expression_of (Expression::Total' p x) = lone_expression (lone_conjunction (lone_relation (total_of x)))
-  expression_of (Expression::Comparison' p l op r) = lone_expression (lone_conjunction (Relates (sum_of l) (Compares op (sum_of r))))
-  expression_of (Expression::AllOf' p a b n row) = lone_expression (AllOf (relation_of a) (AndAlso (relation_of b) (relations_of row)))
+  expression_of (Expression::Comparison' p l op r) =
+      lone_expression (lone_conjunction (Relates (sum_of l) (Compares op (sum_of r))))
+  expression_of (Expression::AllOf' p a b n row) =
+      lone_expression (AllOf (relation_of a) (AndAlso (relation_of b) (relations_of row)))
   expression_of (AnyOf' p a b n row) = AnyOf (conjunction_of a) (OrElse (conjunction_of b) (conjunctions_of row))
 
   pub conjunctions_of : {n : _} → Row_of-Conjunction n → ConjunctionTrees
@@ -133,7 +164,13 @@ dotted_name None procedure = None
 dotted_name (Some monitor) procedure = Some (name_of procedure)
 
 abbrev pub callee_of : Callee → CalleeTree
-callee_of c = record { name = first_name c.monitor c.procedure; dotted = dotted_name c.monitor c.procedure; open_place = c.open_place; arguments = map expression_of c.arguments.items }
+callee_of c = record {
+  name = first_name c.monitor c.procedure;
+  dotted =
+      dotted_name c.monitor c.procedure;
+  open_place = c.open_place;
+  arguments = map expression_of c.arguments.items;
+}
 
 abbrev mutual
   pub statement_of : Statement → StatementTree
@@ -211,7 +248,15 @@ abbrev pub body_of : Body → BodyTree
 body_of b = record { locals = map local_of b.locals.items; statements = statements_in b.statements.items }
 
 abbrev pub procedure_of : Procedure → ProcedureTree
-procedure_of p = record { place = p.place; name = name_of p.name; open_place = p.open_place; parameters = map parameter_of p.parameters.items; returns = p.returns; body = body_of p.body }
+procedure_of p = record {
+  place = p.place;
+  name = name_of p.name;
+  open_place = p.open_place;
+  parameters =
+      map parameter_of p.parameters.items;
+  returns = p.returns;
+  body = body_of p.body;
+}
 
 abbrev pub monitor_procedure_of : MonitorProcedure → MonitorProcedureTree
 monitor_procedure_of p = record { access = p.access; procedure = procedure_of p.procedure }
@@ -221,8 +266,22 @@ recover_of None = None
 recover_of (Some r) = Some (record { place = r.place; body = body_of r.body })
 
 abbrev pub monitor_of : Monitor → MonitorTree
-monitor_of m = record { place = m.place; name = name_of m.name; members = map member_of m.members.items; procedures = map monitor_procedure_of m.procedures.items; recover = recover_of m.recover }
+monitor_of m = record {
+  place = m.place;
+  name = name_of m.name;
+  members = map member_of m.members.items;
+  procedures =
+      map monitor_procedure_of m.procedures.items;
+  recover = recover_of m.recover;
+}
 
 -- the parts of a unit
 abbrev pub whole : Name → List Monitor → List Procedure → Main → UnitTree
-whole name monitors procedures main = record { name = name_of name; monitors = map monitor_of monitors; procedures = map procedure_of procedures; place = main.place; body = body_of main.body }
+whole name monitors procedures main = record {
+  name = name_of name;
+  monitors = map monitor_of monitors;
+  procedures =
+      map procedure_of procedures;
+  place = main.place;
+  body = body_of main.body;
+}

@@ -47,11 +47,17 @@ pub enum ProductOperator {
 #[derive(Drop)]
 #[cycle(expression)]
 pub enum Expression<'a> {
+    /// A factor alone.
     Factor(Factor<'a>),
+    /// A product alone.
     Product(Box<Product<'a>>),
+    /// A total alone.
     Total(Box<Total<'a>>),
+    /// A comparison alone.
     Comparison(Box<Comparison<'a>>),
+    /// Relations with `AND` between them.
     AllOf(Box<AllOf<'a>>),
+    /// Conjunctions with `OR` between them.
     AnyOf(Box<AnyOf<'a>>),
 }
 
@@ -59,10 +65,15 @@ pub enum Expression<'a> {
 #[derive(Drop)]
 #[cycle(expression)]
 pub enum Conjunction<'a> {
+    /// A factor alone.
     Factor(Factor<'a>),
+    /// A product alone.
     Product(Box<Product<'a>>),
+    /// A total alone.
     Total(Box<Total<'a>>),
+    /// A comparison alone.
     Comparison(Box<Comparison<'a>>),
+    /// Relations with `AND` between them.
     AllOf(Box<AllOf<'a>>),
 }
 
@@ -70,9 +81,13 @@ pub enum Conjunction<'a> {
 #[derive(Drop)]
 #[cycle(expression)]
 pub enum Relation<'a> {
+    /// A factor alone.
     Factor(Factor<'a>),
+    /// A product alone.
     Product(Box<Product<'a>>),
+    /// A total alone.
     Total(Box<Total<'a>>),
+    /// Two sums with the sign of a comparison between them.
     Comparison(Box<Comparison<'a>>),
 }
 
@@ -80,8 +95,11 @@ pub enum Relation<'a> {
 #[derive(Drop)]
 #[cycle(expression)]
 pub enum Sum<'a> {
+    /// A factor alone.
     Factor(Factor<'a>),
+    /// A product alone.
     Product(Box<Product<'a>>),
+    /// Terms with `+` or `-` between them.
     Total(Box<Total<'a>>),
 }
 
@@ -89,7 +107,9 @@ pub enum Sum<'a> {
 #[derive(Drop)]
 #[cycle(expression)]
 pub enum Term<'a> {
+    /// A factor alone.
     Factor(Factor<'a>),
+    /// Factors with `*`, `/` or `MOD` between them.
     Product(Box<Product<'a>>),
 }
 
@@ -97,8 +117,11 @@ pub enum Term<'a> {
 #[derive(Drop)]
 #[cycle(expression)]
 pub struct AnyOf<'a> {
+    /// The first conjunction.
     pub first: Conjunction<'a>,
+    /// The one behind the first `OR`.
     pub second: Conjunction<'a>,
+    /// Those behind further ones, in their order.
     pub rest: Vec<Conjunction<'a>>,
 }
 
@@ -106,8 +129,11 @@ pub struct AnyOf<'a> {
 #[derive(Drop)]
 #[cycle(expression)]
 pub struct AllOf<'a> {
+    /// The first relation.
     pub first: Relation<'a>,
+    /// The one behind the first `AND`.
     pub second: Relation<'a>,
+    /// Those behind further ones, in their order.
     pub rest: Vec<Relation<'a>>,
 }
 
@@ -115,8 +141,11 @@ pub struct AllOf<'a> {
 #[derive(Drop)]
 #[cycle(expression)]
 pub struct Comparison<'a> {
+    /// The sum before the sign.
     pub left: Sum<'a>,
+    /// The sign.
     pub comparator: Comparator,
+    /// The sum behind it.
     pub right: Sum<'a>,
 }
 
@@ -124,8 +153,11 @@ pub struct Comparison<'a> {
 #[derive(Drop)]
 #[cycle(expression)]
 pub struct Total<'a> {
+    /// The first term.
     pub first: Term<'a>,
+    /// The next one, with its sign.
     pub second: Summand<'a>,
+    /// Further ones, in their order.
     pub rest: Vec<Summand<'a>>,
 }
 
@@ -133,8 +165,11 @@ pub struct Total<'a> {
 #[derive(Drop)]
 #[cycle(expression)]
 pub struct Summand<'a> {
+    /// The sign before the term.
     pub operator: SumOperator,
+    /// The place of the sign.
     pub place: Place,
+    /// The term.
     pub term: Term<'a>,
 }
 
@@ -142,8 +177,11 @@ pub struct Summand<'a> {
 #[derive(Drop)]
 #[cycle(expression)]
 pub struct Product<'a> {
+    /// The first factor.
     pub first: Factor<'a>,
+    /// The next one, with its operator.
     pub second: Multiplier<'a>,
+    /// Further ones, in their order.
     pub rest: Vec<Multiplier<'a>>,
 }
 
@@ -151,7 +189,9 @@ pub struct Product<'a> {
 #[derive(Drop)]
 #[cycle(expression)]
 pub struct Multiplier<'a> {
+    /// The operator before the factor.
     pub operator: ProductOperator,
+    /// The factor.
     pub factor: Factor<'a>,
 }
 
@@ -159,12 +199,19 @@ pub struct Multiplier<'a> {
 #[derive(Drop)]
 #[cycle(expression)]
 pub enum Factor<'a> {
+    /// A number.
     Number(Number),
+    /// `TRUE` or `FALSE`.
     Truth(Truth),
+    /// A variable.
     Name(Name<'a>),
+    /// An element of an array.
     Element(Box<Element<'a>>),
+    /// An expression in parentheses, with the place of the opening one.
     Group(Place, Box<Expression<'a>>),
+    /// `-` and its place, and what stands behind it.
     Minus(Place, Box<Factor<'a>>),
+    /// `NOT` and its place, and what stands behind it.
     Not(Place, Box<Factor<'a>>),
 }
 
@@ -172,13 +219,17 @@ pub enum Factor<'a> {
 #[derive(Drop)]
 #[cycle(expression)]
 pub struct Element<'a> {
+    /// The name of the array.
     pub name: Name<'a>,
+    /// What stands in brackets.
     pub index: Expression<'a>,
 }
 
 /// What is assigned to: a variable, or an element of an array.
 #[derive(Drop)]
 pub enum Variable<'a> {
+    /// A variable by its name.
     Name(Name<'a>),
+    /// An element of an array.
     Element(Box<Element<'a>>),
 }

@@ -4,6 +4,7 @@
 mod declaration;
 mod expression;
 mod leaf;
+mod limits;
 mod statement;
 mod unit;
 
@@ -16,5 +17,6 @@ pub use expression::{
     Product, ProductOperator, Relation, Sum, SumOperator, Summand, Term, Total, Variable,
 };
 pub use leaf::{Name, Number, Truth};
+pub use limits::{MOST_NESTINGS, limit_laws};
 pub use statement::{Callee, Statement};
 pub use unit::Unit;

@@ -13,7 +13,8 @@ owner_of-lock_word o false true h = omega (arith, and_mask (o + 0 + 2147483648) 
 owner_of-lock_word o true false h = omega (arith, and_mask (o + 1073741824 + 0) 30)
 owner_of-lock_word o false false h = omega (arith, and_mask (o + 0 + 0) 30)
 
-pub mask_waiters : (o : ℕ) (d w : Bool) → o < 2 ^ 30 → bit_and (lock_word o d w) 2147483648 ≡ (if w then 2147483648 else 0)
+pub mask_waiters : (o : ℕ) (d w : Bool) → o < 2 ^ 30 → bit_and (lock_word o d w) 2147483648
+    ≡ (if w then 2147483648 else 0)
 mask_waiters o true true h = omega (arith, and_pow (o + 1073741824 + 2147483648) 31)
 mask_waiters o false true h = omega (arith, and_pow (o + 0 + 2147483648) 31)
 mask_waiters o true false h = omega (arith, and_pow (o + 1073741824 + 0) 31)
@@ -37,7 +38,12 @@ pub waiters_of-lock_word : (o : ℕ) (d w : Bool) → o < 2 ^ 30 → waiters_of 
 waiters_of-lock_word o d w h = ap (λ n. not (n == 0)) (mask_waiters o d w h) ∙ flag w 2147483648 (omega arith)
 
 pub set_waiters : (o : ℕ) (d w : Bool) → o < 2 ^ 30 → bit_or (lock_word o d w) 2147483648 ≡ lock_word o d true
-set_waiters o true true h = omega (arith, mask_waiters o true true h, or_add_and (o + 1073741824 + 2147483648) 2147483648)
+set_waiters o true true h = omega (
+  arith,
+  mask_waiters o true true h,
+  or_add_and (o + 1073741824 + 2147483648)
+      2147483648,
+)
 set_waiters o false true h = omega (arith, mask_waiters o false true h, or_add_and (o + 0 + 2147483648) 2147483648)
 set_waiters o true false h = omega (arith, mask_waiters o true false h, or_add_and (o + 1073741824 + 0) 2147483648)
 set_waiters o false false h = omega (arith, mask_waiters o false false h, or_add_and (o + 0 + 0) 2147483648)

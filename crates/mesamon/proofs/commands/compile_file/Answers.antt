@@ -2,4 +2,10 @@ use Rattle.std.proofs.Common.{rules}
 use Rattle.mesamon.proofs.commands.compile_file.Goals as goal
 
 pub returns : goal.returns
-returns g c = record { text = _; image = _; compiled = c.in_ok-image.ensures.accepted; wrote = rw (← c.code-count.ensures.value) (search rules) }
+returns g c = record {
+  text = _;
+  image = _;
+  compiled = c.in_ok-image.ensures.accepted;
+  wrote =
+      rw (← c.code-count.ensures.value) (search rules);
+}

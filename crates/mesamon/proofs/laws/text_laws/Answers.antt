@@ -3,12 +3,27 @@ use Rattle.mesamon.proofs.laws.text_laws.Goals as goal
 
 pub returns-clause-one_program : goal.returns-clause-one_program
 returns-clause-one_program c =
-    one_program record { one = c.token_laws.ensures.one; fault = c.fault_laws.ensures.one; either = c.fault_laws.ensures.no_tokens }
+    one_program record {
+      one = c.token_laws.ensures.one;
+      fault = c.fault_laws.ensures.one;
+      either =
+          c.fault_laws.ensures.no_tokens;
+    }
 
 pub returns-clause-one_refusal : goal.returns-clause-one_refusal
 returns-clause-one_refusal c =
-    one_refusal record { one = c.token_laws.ensures.one; fault = c.fault_laws.ensures.one; either = c.fault_laws.ensures.no_tokens }
+    one_refusal record {
+      one = c.token_laws.ensures.one;
+      fault = c.fault_laws.ensures.one;
+      either =
+          c.fault_laws.ensures.no_tokens;
+    }
 
 pub returns-clause-not_both : goal.returns-clause-not_both
 returns-clause-not_both c =
-    not_both record { one = c.token_laws.ensures.one; fault = c.fault_laws.ensures.one; either = c.fault_laws.ensures.no_tokens }
+    not_both record {
+      one = c.token_laws.ensures.one;
+      fault = c.fault_laws.ensures.one;
+      either =
+          c.fault_laws.ensures.no_tokens;
+    }

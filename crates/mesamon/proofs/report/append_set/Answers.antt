@@ -5,4 +5,5 @@ use Rattle.mesamon.proofs.report.append_set.Goals as goal
 pub returns : goal.returns
 returns c =
     let all : c.loop-before.before ≡ 64 = omega arith in
-    c.loop-before.invariant.text ∙ ap (λ n. string_bytes c.args.text.now ++ list_text c.args.word.now (members c.args.set n)) all
+    c.loop-before.invariant.text ∙ ap (λ n. string_bytes c.args.text.now ++ list_text c.args.word.now
+    (members c.args.set n)) all

@@ -6,7 +6,8 @@ use Rattle.mesamon.proofs.report.append_threads.Goals as goal
 
 pub loop-before-preserved : goal.loop-before-preserved
 loop-before-preserved c =
-    threads_more (kept c.args.last.now) c.args.stuck c.loop-before.before _ _ _ _ _ c.loop-before.invariant c.outcome.ensures c.in_ok-append_end.ensures (elim c.if-stuck.branch [
+    threads_more (kept c.args.last.now) c.args.stuck c.loop-before.before _ _ _ _ _ c.loop-before.invariant
+    c.outcome.ensures c.in_ok-append_end.ensures (elim c.if-stuck.branch [
       | then-stuck+in_ok-append_sleep w ↦ search rules
       | else-stuck w ↦ search rules
     ])

@@ -4,4 +4,5 @@ use Rattle.mesamon.specs.Accounts.{threads_lines}
 use Rattle.mesamon.proofs.report.append_threads.Given as goal
 
 abbrev pub invariant-loop-before : goal.invariant-loop-before
-invariant-loop-before l = string_bytes l.text ≡ string_bytes l.initial.text ++ threads_lines (kept l.last) l.stuck l.before
+invariant-loop-before l = string_bytes l.text ≡ string_bytes l.initial.text ++ threads_lines (kept l.last) l.stuck
+    l.before

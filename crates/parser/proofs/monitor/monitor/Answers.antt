@@ -13,38 +13,68 @@ returns-in_default-clause-ok c =
 pub returns-in_err-name-clause-err : goal.returns-in_err-name-clause-err
 returns-in_err-name-clause-err c =
     let p = err_from_is_err_and c.from_residual.result c.from_residual.ensures.1 in
-    rw (p.1, p.2) (fail_rejects c.in_err-name.ensures.err (monitor_begins c.in-Some.ensures.first c.in-Some.ensures.rest))
+    rw (p.1, p.2) (fail_rejects c.in_err-name.ensures.err
+    (monitor_begins c.in-Some.ensures.first c.in-Some.ensures.rest))
 
 pub returns-in_err-expect_sign-clause-err : goal.returns-in_err-expect_sign-clause-err
 returns-in_err-expect_sign-clause-err c =
-    let p = err_from_is_err_and c.from_residual-in_err-expect_sign.result c.from_residual-in_err-expect_sign.ensures.1 in
-    rw (p.1, p.2) (fail_rejects c.in_err-expect_sign.ensures.err (then_takes c.in_ok-name.ensures.ok (monitor_begins c.in-Some.ensures.first c.in-Some.ensures.rest) (omega arith)))
+    let p = err_from_is_err_and c.from_residual-in_err-expect_sign.result
+    c.from_residual-in_err-expect_sign.ensures.1 in
+    rw (p.1, p.2) (fail_rejects c.in_err-expect_sign.ensures.err
+    (then_takes c.in_ok-name.ensures.ok (monitor_begins c.in-Some.ensures.first c.in-Some.ensures.rest)
+    (omega arith)))
 
 pub returns-in_err-members-clause-err : goal.returns-in_err-members-clause-err
 returns-in_err-members-clause-err c =
     let p = err_from_is_err_and c.from_residual-in_err-members.result c.from_residual-in_err-members.ensures.1 in
-    rw (p.1, p.2) (fail1 c.in_err-members.ensures.err (then_takes c.in_ok-expect_sign.ensures.ok (then_takes c.in_ok-name.ensures.ok (monitor_begins c.in-Some.ensures.first c.in-Some.ensures.rest) (omega arith)) (omega arith)) (omega arith))
+    rw (p.1, p.2) (fail1 c.in_err-members.ensures.err
+    (then_takes c.in_ok-expect_sign.ensures.ok
+    (then_takes c.in_ok-name.ensures.ok (monitor_begins c.in-Some.ensures.first c.in-Some.ensures.rest)
+    (omega arith)) (omega arith)) (omega arith))
 
 pub returns-in_err-procedures-clause-err : goal.returns-in_err-procedures-clause-err
 returns-in_err-procedures-clause-err c =
     let p = err_from_is_err_and c.from_residual-in_err-procedures.result c.from_residual-in_err-procedures.ensures.1 in
-    rw (p.1, p.2) (fail1 c.in_err-procedures.ensures.err (then1 c.in_ok-members.ensures.ok (then_takes c.in_ok-expect_sign.ensures.ok (then_takes c.in_ok-name.ensures.ok (monitor_begins c.in-Some.ensures.first c.in-Some.ensures.rest) (omega arith)) (omega arith)) (omega arith)) (omega arith))
+    rw (p.1, p.2) (fail1 c.in_err-procedures.ensures.err
+    (then1 c.in_ok-members.ensures.ok (then_takes c.in_ok-expect_sign.ensures.ok
+    (then_takes c.in_ok-name.ensures.ok (monitor_begins c.in-Some.ensures.first c.in-Some.ensures.rest)
+    (omega arith)) (omega arith)) (omega arith)) (omega arith))
 
 pub returns-in_err-recover-clause-err : goal.returns-in_err-recover-clause-err
 returns-in_err-recover-clause-err c =
     let p = err_from_is_err_and c.from_residual-in_err-recover.result c.from_residual-in_err-recover.ensures.1 in
-    rw (p.1, p.2) (fail1 c.in_err-recover.ensures.err (then1 c.in_ok-procedures.ensures.ok (then1 c.in_ok-members.ensures.ok (then_takes c.in_ok-expect_sign.ensures.ok (then_takes c.in_ok-name.ensures.ok (monitor_begins c.in-Some.ensures.first c.in-Some.ensures.rest) (omega arith)) (omega arith)) (omega arith)) (omega arith)) (omega arith))
+    rw (p.1, p.2) (fail1 c.in_err-recover.ensures.err
+    (then1 c.in_ok-procedures.ensures.ok (then1 c.in_ok-members.ensures.ok
+    (then_takes c.in_ok-expect_sign.ensures.ok
+    (then_takes c.in_ok-name.ensures.ok (monitor_begins c.in-Some.ensures.first c.in-Some.ensures.rest)
+    (omega arith)) (omega arith)) (omega arith)) (omega arith)) (omega arith))
 
 pub returns-in_err-expect_keyword-clause-err : goal.returns-in_err-expect_keyword-clause-err
 returns-in_err-expect_keyword-clause-err c =
-    let p = err_from_is_err_and c.from_residual-in_err-expect_keyword.result c.from_residual-in_err-expect_keyword.ensures.1 in
-    rw (p.1, p.2) (fail_rejects c.in_err-expect_keyword.ensures.err (then1 c.in_ok-recover.ensures.ok (then1 c.in_ok-procedures.ensures.ok (then1 c.in_ok-members.ensures.ok (then_takes c.in_ok-expect_sign.ensures.ok (then_takes c.in_ok-name.ensures.ok (monitor_begins c.in-Some.ensures.first c.in-Some.ensures.rest) (omega arith)) (omega arith)) (omega arith)) (omega arith)) (omega arith)))
+    let p = err_from_is_err_and c.from_residual-in_err-expect_keyword.result
+    c.from_residual-in_err-expect_keyword.ensures.1 in
+    rw (p.1, p.2) (fail_rejects c.in_err-expect_keyword.ensures.err
+    (then1 c.in_ok-recover.ensures.ok (then1 c.in_ok-procedures.ensures.ok
+    (then1 c.in_ok-members.ensures.ok (then_takes c.in_ok-expect_sign.ensures.ok
+    (then_takes c.in_ok-name.ensures.ok (monitor_begins c.in-Some.ensures.first c.in-Some.ensures.rest)
+    (omega arith)) (omega arith)) (omega arith)) (omega arith)) (omega arith)))
 
 pub returns-in_err-expect_sign-2-clause-err : goal.returns-in_err-expect_sign-2-clause-err
 returns-in_err-expect_sign-2-clause-err c =
-    let p = err_from_is_err_and c.from_residual-in_err-expect_sign-2.result c.from_residual-in_err-expect_sign-2.ensures.1 in
-    rw (p.1, p.2) (fail_rejects c.in_err-expect_sign-2.ensures.err (then_takes c.in_ok-expect_keyword.ensures.ok (then1 c.in_ok-recover.ensures.ok (then1 c.in_ok-procedures.ensures.ok (then1 c.in_ok-members.ensures.ok (then_takes c.in_ok-expect_sign.ensures.ok (then_takes c.in_ok-name.ensures.ok (monitor_begins c.in-Some.ensures.first c.in-Some.ensures.rest) (omega arith)) (omega arith)) (omega arith)) (omega arith)) (omega arith)) (omega arith)))
+    let p = err_from_is_err_and c.from_residual-in_err-expect_sign-2.result
+    c.from_residual-in_err-expect_sign-2.ensures.1 in
+    rw (p.1, p.2) (fail_rejects c.in_err-expect_sign-2.ensures.err
+    (then_takes c.in_ok-expect_keyword.ensures.ok
+    (then1 c.in_ok-recover.ensures.ok (then1 c.in_ok-procedures.ensures.ok
+    (then1 c.in_ok-members.ensures.ok (then_takes c.in_ok-expect_sign.ensures.ok
+    (then_takes c.in_ok-name.ensures.ok (monitor_begins c.in-Some.ensures.first c.in-Some.ensures.rest)
+    (omega arith)) (omega arith)) (omega arith)) (omega arith)) (omega arith)) (omega arith)))
 
 pub returns-clause-ok : goal.returns-clause-ok
 returns-clause-ok c =
-    then_takes c.in_ok-expect_sign-2.ensures.ok (then_takes c.in_ok-expect_keyword.ensures.ok (then1 c.in_ok-recover.ensures.ok (then1 c.in_ok-procedures.ensures.ok (then1 c.in_ok-members.ensures.ok (then_takes c.in_ok-expect_sign.ensures.ok (then_takes c.in_ok-name.ensures.ok (monitor_begins c.in-Some.ensures.first c.in-Some.ensures.rest) (omega arith)) (omega arith)) (omega arith)) (omega arith)) (omega arith)) (omega arith)) (omega arith)
+    then_takes c.in_ok-expect_sign-2.ensures.ok
+    (then_takes c.in_ok-expect_keyword.ensures.ok
+    (then1 c.in_ok-recover.ensures.ok (then1 c.in_ok-procedures.ensures.ok
+    (then1 c.in_ok-members.ensures.ok (then_takes c.in_ok-expect_sign.ensures.ok
+    (then_takes c.in_ok-name.ensures.ok (monitor_begins c.in-Some.ensures.first c.in-Some.ensures.rest)
+    (omega arith)) (omega arith)) (omega arith)) (omega arith)) (omega arith)) (omega arith)) (omega arith)

@@ -13,13 +13,18 @@ returns-in_default-clause-ok c =
 pub returns-in_err-body-clause-err : goal.returns-in_err-body-clause-err
 returns-in_err-body-clause-err c =
     let p = err_from_is_err_and c.from_residual.result c.from_residual.ensures.1 in
-    rw (p.1, p.2) (fail3 c.in_err-body.ensures.err (recover_begins c.in-Some.ensures.first c.in-Some.ensures.rest) (omega arith))
+    rw (p.1, p.2) (fail3 c.in_err-body.ensures.err (recover_begins c.in-Some.ensures.first c.in-Some.ensures.rest)
+    (omega arith))
 
 pub returns-in_err-expect_sign-clause-err : goal.returns-in_err-expect_sign-clause-err
 returns-in_err-expect_sign-clause-err c =
-    let p = err_from_is_err_and c.from_residual-in_err-expect_sign.result c.from_residual-in_err-expect_sign.ensures.1 in
-    rw (p.1, p.2) (fail_rejects c.in_err-expect_sign.ensures.err (then3 c.in_ok-body.ensures.ok (recover_begins c.in-Some.ensures.first c.in-Some.ensures.rest) (omega arith)))
+    let p = err_from_is_err_and c.from_residual-in_err-expect_sign.result
+    c.from_residual-in_err-expect_sign.ensures.1 in
+    rw (p.1, p.2) (fail_rejects c.in_err-expect_sign.ensures.err
+    (then3 c.in_ok-body.ensures.ok (recover_begins c.in-Some.ensures.first c.in-Some.ensures.rest) (omega arith)))
 
 pub returns-clause-ok : goal.returns-clause-ok
 returns-clause-ok c =
-    done (then_takes c.in_ok-expect_sign.ensures.ok (then3 c.in_ok-body.ensures.ok (recover_begins c.in-Some.ensures.first c.in-Some.ensures.rest) (omega arith)) (omega arith))
+    done (then_takes c.in_ok-expect_sign.ensures.ok
+    (then3 c.in_ok-body.ensures.ok (recover_begins c.in-Some.ensures.first c.in-Some.ensures.rest) (omega arith))
+    (omega arith))

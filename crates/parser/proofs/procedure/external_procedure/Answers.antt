@@ -18,4 +18,6 @@ returns-in_err-procedure-clause-err c =
 
 pub returns-clause-ok : goal.returns-clause-ok
 returns-clause-ok c =
-    procedure_reads (procedure_of c.in_ok-procedure.procedure) (c.in-Some.ensures.first ∙ ap (WordAt K.Procedure) (sym c.in_ok-procedure.ensures.place)) c.in-Some.ensures.rest c.in_ok-procedure.ensures.ok
+    procedure_reads (procedure_of c.in_ok-procedure.procedure)
+    (c.in-Some.ensures.first ∙ ap (WordAt K.Procedure) (sym c.in_ok-procedure.ensures.place))
+    c.in-Some.ensures.rest c.in_ok-procedure.ensures.ok

@@ -6,10 +6,13 @@ use Rattle.parser.proofs.procedure.monitor_procedures.Goals as goal
 
 pub procedures-preserved : goal.procedures-preserved
 procedures-preserved c = record {
-  read = goes_on (λ x. (x, tt)) add_monitor_procedure _ _ c.in-Some.procedure _ _ _ c.in_ok-push.ensures.items c.procedures.invariant.read (rw c.in-Some.is at c.in_ok-procedure.ensures.ok);
+  read = goes_on (λ x. (x, tt)) add_monitor_procedure _ _ c.in-Some.procedure _ _ _ c.in_ok-push.ensures.items
+      c.procedures.invariant.read (rw c.in-Some.is at c.in_ok-procedure.ensures.ok);
   within = omega (arith, c.procedures.invariant.within, c.in_ok-procedure.ensures.within);
 }
 
 pub returns-clause-ok : goal.returns-clause-ok
 returns-clause-ok c =
-    rw (← (chained_map monitor_procedure_of c.procedures.procedures.items)) (ends (λ x. (x, tt)) add_monitor_procedure c.procedures.procedures.items [] _ _ _ c.procedures.invariant.read (rw c.in_default.is at c.in_ok-procedure.ensures.ok))
+    rw (← (chained_map monitor_procedure_of c.procedures.procedures.items))
+    (ends (λ x. (x, tt)) add_monitor_procedure c.procedures.procedures.items [] _ _ _ c.procedures.invariant.read
+    (rw c.in_default.is at c.in_ok-procedure.ensures.ok))

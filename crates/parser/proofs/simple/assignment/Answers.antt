@@ -3,30 +3,37 @@ use Rattle.std.proofs.lemmas.Result.{err_from_is_err_and}
 use Rattle.syntax.specs.Tree.{Assign, Then}
 use Rattle.syntax.specs.View.{expression_of, name_of, variable_of}
 use Rattle.grammar.proofs.Joins.{then1, fail1, leads_as}
-use Rattle.parser.proofs.Steps.{then_takes, fail_rejects, then_expression, fail_expression}
+use Rattle.parser.proofs.Steps.{then_takes, fail_rejects, then_enclosed, fail_enclosed}
 use Rattle.parser.proofs.Begun.{assigns}
 use Rattle.parser.proofs.simple.assignment.Goals as goal
 
 pub returns-in_err-variable-clause-err : goal.returns-in_err-variable-clause-err
 returns-in_err-variable-clause-err c =
     let p = err_from_is_err_and c.from_residual.result c.from_residual.ensures.1 in
-    rw (p.1, p.2) (fail1 c.in_err-variable.ensures.err (assigns c.requires.first c.pass.ensures.rest c.requires.depth) (omega arith))
+    rw (p.1, p.2) (fail1 c.in_err-variable.ensures.err (assigns c.requires.first c.pass.ensures.rest c.requires.depth)
+    (omega arith))
 
 pub returns-in_err-expect_sign-clause-err : goal.returns-in_err-expect_sign-clause-err
 returns-in_err-expect_sign-clause-err c =
-    let p = err_from_is_err_and c.from_residual-in_err-expect_sign.result c.from_residual-in_err-expect_sign.ensures.1 in
-    rw (p.1, p.2) (fail_rejects c.in_err-expect_sign.ensures.err (then1 c.in_ok-variable.ensures.ok (assigns c.requires.first c.pass.ensures.rest c.requires.depth) (omega arith)))
+    let p = err_from_is_err_and c.from_residual-in_err-expect_sign.result
+    c.from_residual-in_err-expect_sign.ensures.1 in
+    rw (p.1, p.2) (fail_rejects c.in_err-expect_sign.ensures.err
+    (then1 c.in_ok-variable.ensures.ok (assigns c.requires.first c.pass.ensures.rest c.requires.depth)
+    (omega arith)))
 
 pub returns-in_err-value-clause-err : goal.returns-in_err-value-clause-err
 returns-in_err-value-clause-err c =
     let p = err_from_is_err_and c.from_residual-in_err-value.result c.from_residual-in_err-value.ensures.1 in
-    rw (p.1, p.2) (fail_expression c.in_err-value.ensures.err (then_takes c.in_ok-expect_sign.ensures.ok (then1 c.in_ok-variable.ensures.ok (assigns c.requires.first c.pass.ensures.rest c.requires.depth) (omega arith)) (omega arith)) (omega arith))
-
-pub returns-in_err-expect_sign-2-clause-err : goal.returns-in_err-expect_sign-2-clause-err
-returns-in_err-expect_sign-2-clause-err c =
-    let p = err_from_is_err_and c.from_residual-in_err-expect_sign-2.result c.from_residual-in_err-expect_sign-2.ensures.1 in
-    rw (p.1, p.2) (fail_rejects c.in_err-expect_sign-2.ensures.err (then_expression (λ x y. (Then (Assign (record { name = name_of c.args.name; index = (variable_of c.in_ok-variable.variable).index }) x) y.1.0, tt)) (expression_of c.in_ok-value.value) c.in_ok-value.ensures.ok (then_takes c.in_ok-expect_sign.ensures.ok (then1 c.in_ok-variable.ensures.ok (assigns c.requires.first c.pass.ensures.rest c.requires.depth) (omega arith)) (omega arith)) (omega arith)))
+    rw (p.1, p.2) (fail_enclosed c.in_err-value.ensures.err (then_takes c.in_ok-expect_sign.ensures.ok
+    (then1 c.in_ok-variable.ensures.ok (assigns c.requires.first c.pass.ensures.rest c.requires.depth) (omega arith))
+    (omega arith)) (omega arith))
 
 pub returns-clause-ok : goal.returns-clause-ok
 returns-clause-ok c =
-    leads_as (λ y. ap (λ v. (Then (Assign v (expression_of c.in_ok-value.value)) y.0, tt)) (ap (λ n. record { name = n; index = (variable_of c.in_ok-variable.variable).index }) (sym c.in_ok-variable.ensures.name))) (then_takes c.in_ok-expect_sign-2.ensures.ok (then_expression (λ x y. (Then (Assign (record { name = name_of c.args.name; index = (variable_of c.in_ok-variable.variable).index }) x) y.1.0, tt)) (expression_of c.in_ok-value.value) c.in_ok-value.ensures.ok (then_takes c.in_ok-expect_sign.ensures.ok (then1 c.in_ok-variable.ensures.ok (assigns c.requires.first c.pass.ensures.rest c.requires.depth) (omega arith)) (omega arith)) (omega arith)) (omega arith))
+    let index = (variable_of c.in_ok-variable.variable).index in
+    leads_as (λ y. ap (λ v. (Then (Assign v (expression_of c.in_ok-value.value)) y.0, tt))
+    (ap (λ n. record { name = n; index = index }) (sym c.in_ok-variable.ensures.name)))
+    (then_enclosed (λ x y. (Then (Assign (record { name = name_of c.args.name; index = index }) x) y.0, tt))
+    (expression_of c.in_ok-value.value) c.in_ok-value.ensures.ok (then_takes c.in_ok-expect_sign.ensures.ok
+    (then1 c.in_ok-variable.ensures.ok (assigns c.requires.first c.pass.ensures.rest c.requires.depth) (omega arith))
+    (omega arith)) (omega arith))

@@ -1,117 +1,187 @@
-use Rattle.std.proofs.Common.{◌≡◌, arith, rules, ap, sym}
+use Rattle.std.proofs.Common.{◌≡◌, [], ◌∷◌, arith, rules, ap, sym}
 use Rattle.std.proofs.lemmas.Result.{err_from_is_err_and}
 use Rattle.scanner.specs.declared.token.Keyword.TheVariants as K
+use Rattle.scanner.specs.declared.token.Sign.TheVariants as S
+use Rattle.grammar.specs.Machine.{AWord, AMark, AnInto, AnElse, AnAborted, Statements, Closed}
 use Rattle.syntax.specs.Lexeme.{Word}
 use Rattle.syntax.specs.Tree.{If, While, Join, Then, NoStatements}
 use Rattle.syntax.specs.View.{expression_of}
 use Rattle.syntax.proofs.Built.{if_made, while_made, join_made}
 use Rattle.grammar.specs.Reading.{lexeme_at}
-use Rattle.grammar.proofs.Joins.{then1, fail1, leads_as, close, done}
-use Rattle.expressions.specs.Ahead.{ahead}
+use Rattle.grammar.proofs.Joins.{here, then1, fail1, then3, fail3, then5, fail5, leads_as, close, done}
+use Rattle.steps.specs.Ahead.{ahead}
 use Rattle.parser.specs.Steps.{add_statement}
 use Rattle.parser.proofs.Loops.{goes_on, ends, chained_statements}
-use Rattle.parser.proofs.Steps.{then_takes, fail_rejects, then_expression, fail_expression}
+use Rattle.parser.proofs.Steps.{then_takes, fail_rejects, then_expression, fail_expression, then_condition}
+use Rattle.parser.proofs.Steps.{fail_condition}
 use Rattle.parser.proofs.Begun.{ifs, whiles, joins, aborts}
 use Rattle.parser.proofs.statement.+statements.Goals as goal
 
 pub aborted_statements-returns-clause-ok : goal.aborted_statements-returns-clause-ok
 aborted_statements-returns-clause-ok t c =
     let e : lexeme_at (ahead c.args.parser.now) ≡ Word K.Aborted = search rules in
-    done (close (then_takes c.in_ok-expect_keyword.ensures.ok (then1 c.in_ok-part.ensures.ok (aborts e c.in_ok-inner.ensures.rest (omega (arith, c.in_ok-inner.ensures.ok.0, c.in_ok-inner.ensures.ok.1))) (omega (arith, c.in_ok-inner.ensures.ok.0, c.in_ok-inner.ensures.ok.1))) (omega (arith, c.in_ok-inner.ensures.ok.0, c.in_ok-inner.ensures.ok.1))))
+    done (close (then_takes c.in_ok-expect_keyword.ensures.ok
+    (then1 c.in_ok-part.ensures.ok (aborts e c.in_ok-inner.ensures.rest
+    (omega (arith, c.in_ok-inner.ensures.ok.0, c.in_ok-inner.ensures.ok.1)))
+    (omega (arith, c.in_ok-inner.ensures.ok.0, c.in_ok-inner.ensures.ok.1)))
+    (omega (arith, c.in_ok-inner.ensures.ok.0, c.in_ok-inner.ensures.ok.1))))
 
 pub if_statement-returns-in_err-condition-clause-err : goal.if_statement-returns-in_err-condition-clause-err
 if_statement-returns-in_err-condition-clause-err t c =
     let p = err_from_is_err_and c.from_residual-in_err-condition.result c.from_residual-in_err-condition.ensures.1 in
-    rw (p.1, p.2) (fail_expression c.in_err-condition.ensures.err (ifs c.requires.first c.in_ok-inner.ensures.rest (omega (arith, c.in_ok-inner.ensures.ok.0, c.in_ok-inner.ensures.ok.1))) (omega (arith, c.in_ok-inner.ensures.ok.0, c.in_ok-inner.ensures.ok.1)))
+    rw (p.1, p.2) (fail_condition c.in_err-condition.ensures.err
+    (ifs c.requires.first c.in_ok-inner.ensures.rest
+    (omega (arith, c.in_ok-inner.ensures.ok.0, c.in_ok-inner.ensures.ok.1)))
+    (omega (arith, c.in_ok-inner.ensures.ok.0, c.in_ok-inner.ensures.ok.1)))
 
-pub if_statement-returns-in_err-expect_keyword-clause-err : goal.if_statement-returns-in_err-expect_keyword-clause-err
-if_statement-returns-in_err-expect_keyword-clause-err t c =
-    let p = err_from_is_err_and c.from_residual-in_err-expect_keyword.result c.from_residual-in_err-expect_keyword.ensures.1 in
-    rw (p.1, p.2) (fail_rejects c.in_err-expect_keyword.ensures.err (then_expression (λ x u. (Then (If c.args.place x u.1.0 u.1.1.0) u.1.1.1.1.1.1.0, tt)) (expression_of c.in_ok-condition.condition) c.in_ok-condition.ensures.ok (ifs c.requires.first c.in_ok-inner.ensures.rest (omega (arith, c.in_ok-inner.ensures.ok.0, c.in_ok-inner.ensures.ok.1))) (omega (arith, c.in_ok-inner.ensures.ok.0, c.in_ok-inner.ensures.ok.1))))
-
-pub if_statement-returns-in_err-then_part-clause-err : goal.if_statement-returns-in_err-then_part-clause-err
-if_statement-returns-in_err-then_part-clause-err t c =
-    let p = err_from_is_err_and c.from_residual-in_err-then_part.result c.from_residual-in_err-then_part.ensures.1 in
-    rw (p.1, p.2) (fail1 c.in_err-then_part.ensures.err (then_takes c.in_ok-expect_keyword.ensures.ok (then_expression (λ x u. (Then (If c.args.place x u.1.0 u.1.1.0) u.1.1.1.1.1.1.0, tt)) (expression_of c.in_ok-condition.condition) c.in_ok-condition.ensures.ok (ifs c.requires.first c.in_ok-inner.ensures.rest (omega (arith, c.in_ok-inner.ensures.ok.0, c.in_ok-inner.ensures.ok.1))) (omega (arith, c.in_ok-inner.ensures.ok.0, c.in_ok-inner.ensures.ok.1))) (omega (arith, c.in_ok-inner.ensures.ok.0, c.in_ok-inner.ensures.ok.1))) (omega (arith, c.in_ok-inner.ensures.ok.0, c.in_ok-inner.ensures.ok.1)))
-
-pub if_statement-returns-in_err-else_part-clause-err : goal.if_statement-returns-in_err-else_part-clause-err
-if_statement-returns-in_err-else_part-clause-err t c =
-    let p = err_from_is_err_and c.from_residual-in_err-else_part.result c.from_residual-in_err-else_part.ensures.1 in
-    rw (p.1, p.2) (fail1 c.in_err-else_part.ensures.err (then1 c.in_ok-then_part.ensures.ok (then_takes c.in_ok-expect_keyword.ensures.ok (then_expression (λ x u. (Then (If c.args.place x u.1.0 u.1.1.0) u.1.1.1.1.1.1.0, tt)) (expression_of c.in_ok-condition.condition) c.in_ok-condition.ensures.ok (ifs c.requires.first c.in_ok-inner.ensures.rest (omega (arith, c.in_ok-inner.ensures.ok.0, c.in_ok-inner.ensures.ok.1))) (omega (arith, c.in_ok-inner.ensures.ok.0, c.in_ok-inner.ensures.ok.1))) (omega (arith, c.in_ok-inner.ensures.ok.0, c.in_ok-inner.ensures.ok.1))) (omega (arith, c.in_ok-inner.ensures.ok.0, c.in_ok-inner.ensures.ok.1))) (omega (arith, c.in_ok-inner.ensures.ok.0, c.in_ok-inner.ensures.ok.1)))
-
-pub if_statement-returns-in_err-expect_keyword-2-clause-err : goal.if_statement-returns-in_err-expect_keyword-2-clause-err
-if_statement-returns-in_err-expect_keyword-2-clause-err t c =
-    let p = err_from_is_err_and c.from_residual-in_err-expect_keyword-2.result c.from_residual-in_err-expect_keyword-2.ensures.1 in
-    rw (p.1, p.2) (fail_rejects c.in_err-expect_keyword-2.ensures.err (then1 c.in_ok-else_part.ensures.ok (then1 c.in_ok-then_part.ensures.ok (then_takes c.in_ok-expect_keyword.ensures.ok (then_expression (λ x u. (Then (If c.args.place x u.1.0 u.1.1.0) u.1.1.1.1.1.1.0, tt)) (expression_of c.in_ok-condition.condition) c.in_ok-condition.ensures.ok (ifs c.requires.first c.in_ok-inner.ensures.rest (omega (arith, c.in_ok-inner.ensures.ok.0, c.in_ok-inner.ensures.ok.1))) (omega (arith, c.in_ok-inner.ensures.ok.0, c.in_ok-inner.ensures.ok.1))) (omega (arith, c.in_ok-inner.ensures.ok.0, c.in_ok-inner.ensures.ok.1))) (omega (arith, c.in_ok-inner.ensures.ok.0, c.in_ok-inner.ensures.ok.1))) (omega (arith, c.in_ok-inner.ensures.ok.0, c.in_ok-inner.ensures.ok.1))))
-
-pub if_statement-returns-in_err-expect_sign-clause-err : goal.if_statement-returns-in_err-expect_sign-clause-err
-if_statement-returns-in_err-expect_sign-clause-err t c =
-    let p = err_from_is_err_and c.from_residual-in_err-expect_sign.result c.from_residual-in_err-expect_sign.ensures.1 in
-    rw (p.1, p.2) (fail_rejects c.in_err-expect_sign.ensures.err (close (then_takes c.in_ok-expect_keyword-2.ensures.ok (then1 c.in_ok-else_part.ensures.ok (then1 c.in_ok-then_part.ensures.ok (then_takes c.in_ok-expect_keyword.ensures.ok (then_expression (λ x u. (Then (If c.args.place x u.1.0 u.1.1.0) u.1.1.1.1.1.1.0, tt)) (expression_of c.in_ok-condition.condition) c.in_ok-condition.ensures.ok (ifs c.requires.first c.in_ok-inner.ensures.rest (omega (arith, c.in_ok-inner.ensures.ok.0, c.in_ok-inner.ensures.ok.1))) (omega (arith, c.in_ok-inner.ensures.ok.0, c.in_ok-inner.ensures.ok.1))) (omega (arith, c.in_ok-inner.ensures.ok.0, c.in_ok-inner.ensures.ok.1))) (omega (arith, c.in_ok-inner.ensures.ok.0, c.in_ok-inner.ensures.ok.1))) (omega (arith, c.in_ok-inner.ensures.ok.0, c.in_ok-inner.ensures.ok.1))) (omega (arith, c.in_ok-inner.ensures.ok.0, c.in_ok-inner.ensures.ok.1)))))
+pub if_statement-returns-in_err-parts-clause-err : goal.if_statement-returns-in_err-parts-clause-err
+if_statement-returns-in_err-parts-clause-err t c =
+    let p = err_from_is_err_and c.from_residual-in_err-parts.result c.from_residual-in_err-parts.ensures.1 in
+    rw (p.1, p.2) (fail5 c.in_err-parts.ensures.err
+    (then_condition (λ x u. (Then (If c.args.place x u.0 u.1.0) u.1.1.1.1.1.0, tt))
+    (expression_of c.in_ok-condition.condition) c.in_ok-condition.ensures.ok
+    (ifs c.requires.first c.in_ok-inner.ensures.rest
+    (omega (arith, c.in_ok-inner.ensures.ok.0, c.in_ok-inner.ensures.ok.1)))
+    (omega (arith, c.in_ok-inner.ensures.ok.0, c.in_ok-inner.ensures.ok.1))) (omega arith))
 
 pub if_statement-returns-clause-ok : goal.if_statement-returns-clause-ok
 if_statement-returns-clause-ok t c =
-    leads_as (λ y. ap (λ s. (Then s y.0, tt)) (sym (if_made c.args.place c.in_ok-condition.condition c.in_ok-then_part.then_part c.in_ok-else_part.else_part))) (then_takes c.in_ok-expect_sign.ensures.ok (close (then_takes c.in_ok-expect_keyword-2.ensures.ok (then1 c.in_ok-else_part.ensures.ok (then1 c.in_ok-then_part.ensures.ok (then_takes c.in_ok-expect_keyword.ensures.ok (then_expression (λ x u. (Then (If c.args.place x u.1.0 u.1.1.0) u.1.1.1.1.1.1.0, tt)) (expression_of c.in_ok-condition.condition) c.in_ok-condition.ensures.ok (ifs c.requires.first c.in_ok-inner.ensures.rest (omega (arith, c.in_ok-inner.ensures.ok.0, c.in_ok-inner.ensures.ok.1))) (omega (arith, c.in_ok-inner.ensures.ok.0, c.in_ok-inner.ensures.ok.1))) (omega (arith, c.in_ok-inner.ensures.ok.0, c.in_ok-inner.ensures.ok.1))) (omega (arith, c.in_ok-inner.ensures.ok.0, c.in_ok-inner.ensures.ok.1))) (omega (arith, c.in_ok-inner.ensures.ok.0, c.in_ok-inner.ensures.ok.1))) (omega (arith, c.in_ok-inner.ensures.ok.0, c.in_ok-inner.ensures.ok.1)))) (omega (arith, c.in_ok-inner.ensures.ok.0, c.in_ok-inner.ensures.ok.1)))
+    leads_as (λ y. ap (λ s. (Then s y.0, tt))
+    (sym (if_made c.args.place c.in_ok-condition.condition c.in_ok-parts.parts.0 c.in_ok-parts.parts.1)))
+    (then5 c.in_ok-parts.ensures.ok (then_condition
+    (λ x u. (Then (If c.args.place x u.0 u.1.0) u.1.1.1.1.1.0, tt)) (expression_of c.in_ok-condition.condition)
+    c.in_ok-condition.ensures.ok (ifs c.requires.first c.in_ok-inner.ensures.rest
+    (omega (arith, c.in_ok-inner.ensures.ok.0, c.in_ok-inner.ensures.ok.1)))
+    (omega (arith, c.in_ok-inner.ensures.ok.0, c.in_ok-inner.ensures.ok.1))) (omega arith))
+
+pub branches-returns-in_err-then_part-clause-err : goal.branches-returns-in_err-then_part-clause-err
+branches-returns-in_err-then_part-clause-err t c =
+    let p = err_from_is_err_and c.from_residual.result c.from_residual.ensures.1 in
+    rw (p.1, p.2) (fail1 c.in_err-then_part.ensures.err
+    (here {σ = Statements ∷ AnElse ∷ AWord K.Endif ∷ Closed ∷ AMark S.Semicolon ∷ []}) (omega arith))
+
+pub branches-returns-in_err-else_part-clause-err : goal.branches-returns-in_err-else_part-clause-err
+branches-returns-in_err-else_part-clause-err t c =
+    let p = err_from_is_err_and c.from_residual-in_err-else_part.result c.from_residual-in_err-else_part.ensures.1 in
+    rw (p.1, p.2) (fail1 c.in_err-else_part.ensures.err
+    (then1 c.in_ok-then_part.ensures.ok (here
+    {σ = Statements ∷ AnElse ∷ AWord K.Endif ∷ Closed ∷ AMark S.Semicolon ∷ []}) (omega arith)) (omega arith))
+
+pub branches-returns-in_err-ending-clause-err : goal.branches-returns-in_err-ending-clause-err
+branches-returns-in_err-ending-clause-err t c =
+    let p = err_from_is_err_and c.from_residual-in_err-ending.result c.from_residual-in_err-ending.ensures.1 in
+    rw (p.1, p.2) (fail3 c.in_err-ending.ensures.err
+    (then1 c.in_ok-else_part.ensures.ok (then1 c.in_ok-then_part.ensures.ok
+    (here {σ = Statements ∷ AnElse ∷ AWord K.Endif ∷ Closed ∷ AMark S.Semicolon ∷ []}) (omega arith))
+    (omega arith)) (omega arith))
+
+pub branches-returns-clause-ok : goal.branches-returns-clause-ok
+branches-returns-clause-ok t c =
+    done (then3 c.in_ok-ending.ensures.ok (then1 c.in_ok-else_part.ensures.ok
+    (then1 c.in_ok-then_part.ensures.ok (here
+    {σ = Statements ∷ AnElse ∷ AWord K.Endif ∷ Closed ∷ AMark S.Semicolon ∷ []}) (omega arith)) (omega arith))
+    (omega arith))
 
 pub while_statement-returns-in_err-condition-clause-err : goal.while_statement-returns-in_err-condition-clause-err
 while_statement-returns-in_err-condition-clause-err t c =
     let p = err_from_is_err_and c.from_residual-in_err-condition.result c.from_residual-in_err-condition.ensures.1 in
-    rw (p.1, p.2) (fail_expression c.in_err-condition.ensures.err (whiles c.requires.first c.in_ok-inner.ensures.rest (omega (arith, c.in_ok-inner.ensures.ok.0, c.in_ok-inner.ensures.ok.1))) (omega (arith, c.in_ok-inner.ensures.ok.0, c.in_ok-inner.ensures.ok.1)))
-
-pub while_statement-returns-in_err-expect_keyword-clause-err : goal.while_statement-returns-in_err-expect_keyword-clause-err
-while_statement-returns-in_err-expect_keyword-clause-err t c =
-    let p = err_from_is_err_and c.from_residual-in_err-expect_keyword.result c.from_residual-in_err-expect_keyword.ensures.1 in
-    rw (p.1, p.2) (fail_rejects c.in_err-expect_keyword.ensures.err (then_expression (λ x u. (Then (While c.args.place x u.1.0) u.1.1.1.1.1.0, tt)) (expression_of c.in_ok-condition.condition) c.in_ok-condition.ensures.ok (whiles c.requires.first c.in_ok-inner.ensures.rest (omega (arith, c.in_ok-inner.ensures.ok.0, c.in_ok-inner.ensures.ok.1))) (omega (arith, c.in_ok-inner.ensures.ok.0, c.in_ok-inner.ensures.ok.1))))
+    rw (p.1, p.2) (fail_condition c.in_err-condition.ensures.err
+    (whiles c.requires.first c.in_ok-inner.ensures.rest
+    (omega (arith, c.in_ok-inner.ensures.ok.0, c.in_ok-inner.ensures.ok.1)))
+    (omega (arith, c.in_ok-inner.ensures.ok.0, c.in_ok-inner.ensures.ok.1)))
 
 pub while_statement-returns-in_err-body-clause-err : goal.while_statement-returns-in_err-body-clause-err
 while_statement-returns-in_err-body-clause-err t c =
     let p = err_from_is_err_and c.from_residual-in_err-body.result c.from_residual-in_err-body.ensures.1 in
-    rw (p.1, p.2) (fail1 c.in_err-body.ensures.err (then_takes c.in_ok-expect_keyword.ensures.ok (then_expression (λ x u. (Then (While c.args.place x u.1.0) u.1.1.1.1.1.0, tt)) (expression_of c.in_ok-condition.condition) c.in_ok-condition.ensures.ok (whiles c.requires.first c.in_ok-inner.ensures.rest (omega (arith, c.in_ok-inner.ensures.ok.0, c.in_ok-inner.ensures.ok.1))) (omega (arith, c.in_ok-inner.ensures.ok.0, c.in_ok-inner.ensures.ok.1))) (omega (arith, c.in_ok-inner.ensures.ok.0, c.in_ok-inner.ensures.ok.1))) (omega (arith, c.in_ok-inner.ensures.ok.0, c.in_ok-inner.ensures.ok.1)))
+    rw (p.1, p.2) (fail1 c.in_err-body.ensures.err
+    (then_condition (λ x u. (Then (While c.args.place x u.0) u.1.1.1.1.0, tt))
+    (expression_of c.in_ok-condition.condition) c.in_ok-condition.ensures.ok
+    (whiles c.requires.first c.in_ok-inner.ensures.rest
+    (omega (arith, c.in_ok-inner.ensures.ok.0, c.in_ok-inner.ensures.ok.1)))
+    (omega (arith, c.in_ok-inner.ensures.ok.0, c.in_ok-inner.ensures.ok.1)))
+    (omega (arith, c.in_ok-inner.ensures.ok.0, c.in_ok-inner.ensures.ok.1)))
 
-pub while_statement-returns-in_err-expect_keyword-2-clause-err : goal.while_statement-returns-in_err-expect_keyword-2-clause-err
-while_statement-returns-in_err-expect_keyword-2-clause-err t c =
-    let p = err_from_is_err_and c.from_residual-in_err-expect_keyword-2.result c.from_residual-in_err-expect_keyword-2.ensures.1 in
-    rw (p.1, p.2) (fail_rejects c.in_err-expect_keyword-2.ensures.err (then1 c.in_ok-body.ensures.ok (then_takes c.in_ok-expect_keyword.ensures.ok (then_expression (λ x u. (Then (While c.args.place x u.1.0) u.1.1.1.1.1.0, tt)) (expression_of c.in_ok-condition.condition) c.in_ok-condition.ensures.ok (whiles c.requires.first c.in_ok-inner.ensures.rest (omega (arith, c.in_ok-inner.ensures.ok.0, c.in_ok-inner.ensures.ok.1))) (omega (arith, c.in_ok-inner.ensures.ok.0, c.in_ok-inner.ensures.ok.1))) (omega (arith, c.in_ok-inner.ensures.ok.0, c.in_ok-inner.ensures.ok.1))) (omega (arith, c.in_ok-inner.ensures.ok.0, c.in_ok-inner.ensures.ok.1))))
-
-pub while_statement-returns-in_err-expect_sign-clause-err : goal.while_statement-returns-in_err-expect_sign-clause-err
-while_statement-returns-in_err-expect_sign-clause-err t c =
-    let p = err_from_is_err_and c.from_residual-in_err-expect_sign.result c.from_residual-in_err-expect_sign.ensures.1 in
-    rw (p.1, p.2) (fail_rejects c.in_err-expect_sign.ensures.err (close (then_takes c.in_ok-expect_keyword-2.ensures.ok (then1 c.in_ok-body.ensures.ok (then_takes c.in_ok-expect_keyword.ensures.ok (then_expression (λ x u. (Then (While c.args.place x u.1.0) u.1.1.1.1.1.0, tt)) (expression_of c.in_ok-condition.condition) c.in_ok-condition.ensures.ok (whiles c.requires.first c.in_ok-inner.ensures.rest (omega (arith, c.in_ok-inner.ensures.ok.0, c.in_ok-inner.ensures.ok.1))) (omega (arith, c.in_ok-inner.ensures.ok.0, c.in_ok-inner.ensures.ok.1))) (omega (arith, c.in_ok-inner.ensures.ok.0, c.in_ok-inner.ensures.ok.1))) (omega (arith, c.in_ok-inner.ensures.ok.0, c.in_ok-inner.ensures.ok.1))) (omega (arith, c.in_ok-inner.ensures.ok.0, c.in_ok-inner.ensures.ok.1)))))
+pub while_statement-returns-in_err-ending-clause-err : goal.while_statement-returns-in_err-ending-clause-err
+while_statement-returns-in_err-ending-clause-err t c =
+    let p = err_from_is_err_and c.from_residual-in_err-ending.result c.from_residual-in_err-ending.ensures.1 in
+    rw (p.1, p.2) (fail3 c.in_err-ending.ensures.err
+    (then1 c.in_ok-body.ensures.ok (then_condition (λ x u. (Then (While c.args.place x u.0) u.1.1.1.1.0, tt))
+    (expression_of c.in_ok-condition.condition) c.in_ok-condition.ensures.ok
+    (whiles c.requires.first c.in_ok-inner.ensures.rest
+    (omega (arith, c.in_ok-inner.ensures.ok.0, c.in_ok-inner.ensures.ok.1)))
+    (omega (arith, c.in_ok-inner.ensures.ok.0, c.in_ok-inner.ensures.ok.1)))
+    (omega (arith, c.in_ok-inner.ensures.ok.0, c.in_ok-inner.ensures.ok.1))) (omega arith))
 
 pub while_statement-returns-clause-ok : goal.while_statement-returns-clause-ok
 while_statement-returns-clause-ok t c =
-    leads_as (λ y. ap (λ s. (Then s y.0, tt)) (sym (while_made c.args.place c.in_ok-condition.condition c.in_ok-body.body))) (then_takes c.in_ok-expect_sign.ensures.ok (close (then_takes c.in_ok-expect_keyword-2.ensures.ok (then1 c.in_ok-body.ensures.ok (then_takes c.in_ok-expect_keyword.ensures.ok (then_expression (λ x u. (Then (While c.args.place x u.1.0) u.1.1.1.1.1.0, tt)) (expression_of c.in_ok-condition.condition) c.in_ok-condition.ensures.ok (whiles c.requires.first c.in_ok-inner.ensures.rest (omega (arith, c.in_ok-inner.ensures.ok.0, c.in_ok-inner.ensures.ok.1))) (omega (arith, c.in_ok-inner.ensures.ok.0, c.in_ok-inner.ensures.ok.1))) (omega (arith, c.in_ok-inner.ensures.ok.0, c.in_ok-inner.ensures.ok.1))) (omega (arith, c.in_ok-inner.ensures.ok.0, c.in_ok-inner.ensures.ok.1))) (omega (arith, c.in_ok-inner.ensures.ok.0, c.in_ok-inner.ensures.ok.1)))) (omega (arith, c.in_ok-inner.ensures.ok.0, c.in_ok-inner.ensures.ok.1)))
+    leads_as (λ y. ap (λ s. (Then s y.0, tt))
+    (sym (while_made c.args.place c.in_ok-condition.condition c.in_ok-body.body)))
+    (then3 c.in_ok-ending.ensures.ok (then1 c.in_ok-body.ensures.ok
+    (then_condition (λ x u. (Then (While c.args.place x u.0) u.1.1.1.1.0, tt))
+    (expression_of c.in_ok-condition.condition) c.in_ok-condition.ensures.ok
+    (whiles c.requires.first c.in_ok-inner.ensures.rest
+    (omega (arith, c.in_ok-inner.ensures.ok.0, c.in_ok-inner.ensures.ok.1)))
+    (omega (arith, c.in_ok-inner.ensures.ok.0, c.in_ok-inner.ensures.ok.1)))
+    (omega (arith, c.in_ok-inner.ensures.ok.0, c.in_ok-inner.ensures.ok.1))) (omega arith))
 
 pub join-returns-in_err-process-clause-err : goal.join-returns-in_err-process-clause-err
 join-returns-in_err-process-clause-err t c =
     let p = err_from_is_err_and c.from_residual.result c.from_residual.ensures.1 in
-    rw (p.1, p.2) (fail_expression c.in_err-process.ensures.err (joins c.requires.first c.pass.ensures.rest c.requires.depth) (omega arith))
+    rw (p.1, p.2) (fail_expression c.in_err-process.ensures.err
+    (joins c.requires.first c.pass.ensures.rest c.requires.depth) (omega arith))
 
-pub join-returns-in_err-into-clause-err : goal.join-returns-in_err-into-clause-err
-join-returns-in_err-into-clause-err t c =
-    let p = err_from_is_err_and c.from_residual-in_err-into.result c.from_residual-in_err-into.ensures.1 in
-    rw (p.1, p.2) (fail1 c.in_err-into.ensures.err (then_expression (λ x u. (Then (Join c.args.place x u.0 u.1.0) u.1.1.1.0, tt)) (expression_of c.in_ok-process.process) c.in_ok-process.ensures.ok (joins c.requires.first c.pass.ensures.rest c.requires.depth) (omega arith)) (omega arith))
-
-pub join-returns-in_err-aborted-clause-err : goal.join-returns-in_err-aborted-clause-err
-join-returns-in_err-aborted-clause-err t c =
-    let p = err_from_is_err_and c.from_residual-in_err-aborted.result c.from_residual-in_err-aborted.ensures.1 in
-    rw (p.1, p.2) (fail1 c.in_err-aborted.ensures.err (then1 c.in_ok-into.ensures.ok (then_expression (λ x u. (Then (Join c.args.place x u.0 u.1.0) u.1.1.1.0, tt)) (expression_of c.in_ok-process.process) c.in_ok-process.ensures.ok (joins c.requires.first c.pass.ensures.rest c.requires.depth) (omega arith)) (omega arith)) (omega arith))
-
-pub join-returns-in_err-expect_sign-clause-err : goal.join-returns-in_err-expect_sign-clause-err
-join-returns-in_err-expect_sign-clause-err t c =
-    let p = err_from_is_err_and c.from_residual-in_err-expect_sign.result c.from_residual-in_err-expect_sign.ensures.1 in
-    rw (p.1, p.2) (fail_rejects c.in_err-expect_sign.ensures.err (then1 c.in_ok-aborted.ensures.ok (then1 c.in_ok-into.ensures.ok (then_expression (λ x u. (Then (Join c.args.place x u.0 u.1.0) u.1.1.1.0, tt)) (expression_of c.in_ok-process.process) c.in_ok-process.ensures.ok (joins c.requires.first c.pass.ensures.rest c.requires.depth) (omega arith)) (omega arith)) (omega arith)))
+pub join-returns-in_err-parts-clause-err : goal.join-returns-in_err-parts-clause-err
+join-returns-in_err-parts-clause-err t c =
+    let p = err_from_is_err_and c.from_residual-in_err-parts.result c.from_residual-in_err-parts.ensures.1 in
+    rw (p.1, p.2) (fail3 c.in_err-parts.ensures.err
+    (then_expression (λ x u. (Then (Join c.args.place x u.0 u.1.0) u.1.1.1.0, tt))
+    (expression_of c.in_ok-process.process) c.in_ok-process.ensures.ok
+    (joins c.requires.first c.pass.ensures.rest c.requires.depth) (omega arith)) (omega arith))
 
 pub join-returns-clause-ok : goal.join-returns-clause-ok
 join-returns-clause-ok t c =
-    leads_as (λ y. ap (λ s. (Then s y.0, tt)) (sym (join_made c.args.place c.in_ok-process.process c.in_ok-into.into c.in_ok-aborted.aborted))) (then_takes c.in_ok-expect_sign.ensures.ok (then1 c.in_ok-aborted.ensures.ok (then1 c.in_ok-into.ensures.ok (then_expression (λ x u. (Then (Join c.args.place x u.0 u.1.0) u.1.1.1.0, tt)) (expression_of c.in_ok-process.process) c.in_ok-process.ensures.ok (joins c.requires.first c.pass.ensures.rest c.requires.depth) (omega arith)) (omega arith)) (omega arith)) (omega arith))
+    leads_as (λ y. ap (λ s. (Then s y.0, tt))
+    (sym (join_made c.args.place c.in_ok-process.process c.in_ok-parts.parts.0 c.in_ok-parts.parts.1)))
+    (then3 c.in_ok-parts.ensures.ok (then_expression (λ x u. (Then (Join c.args.place x u.0 u.1.0) u.1.1.1.0, tt))
+    (expression_of c.in_ok-process.process) c.in_ok-process.ensures.ok
+    (joins c.requires.first c.pass.ensures.rest c.requires.depth) (omega arith)) (omega arith))
+
+pub join_parts-returns-in_err-into-clause-err : goal.join_parts-returns-in_err-into-clause-err
+join_parts-returns-in_err-into-clause-err t c =
+    let p = err_from_is_err_and c.from_residual.result c.from_residual.ensures.1 in
+    rw (p.1, p.2) (fail1 c.in_err-into.ensures.err (here {σ = AnInto ∷ AnAborted ∷ AMark S.Semicolon ∷ []})
+    (omega arith))
+
+pub join_parts-returns-in_err-aborted-clause-err : goal.join_parts-returns-in_err-aborted-clause-err
+join_parts-returns-in_err-aborted-clause-err t c =
+    let p = err_from_is_err_and c.from_residual-in_err-aborted.result c.from_residual-in_err-aborted.ensures.1 in
+    rw (p.1, p.2) (fail1 c.in_err-aborted.ensures.err
+    (then1 c.in_ok-into.ensures.ok (here {σ = AnInto ∷ AnAborted ∷ AMark S.Semicolon ∷ []}) (omega arith))
+    (omega arith))
+
+pub join_parts-returns-in_err-expect_sign-clause-err : goal.join_parts-returns-in_err-expect_sign-clause-err
+join_parts-returns-in_err-expect_sign-clause-err t c =
+    let p = err_from_is_err_and c.from_residual-in_err-expect_sign.result
+    c.from_residual-in_err-expect_sign.ensures.1 in
+    rw (p.1, p.2) (fail_rejects c.in_err-expect_sign.ensures.err
+    (then1 c.in_ok-aborted.ensures.ok (then1 c.in_ok-into.ensures.ok
+    (here {σ = AnInto ∷ AnAborted ∷ AMark S.Semicolon ∷ []}) (omega arith)) (omega arith)))
+
+pub join_parts-returns-clause-ok : goal.join_parts-returns-clause-ok
+join_parts-returns-clause-ok t c =
+    done (then_takes c.in_ok-expect_sign.ensures.ok
+    (then1 c.in_ok-aborted.ensures.ok (then1 c.in_ok-into.ensures.ok
+    (here {σ = AnInto ∷ AnAborted ∷ AMark S.Semicolon ∷ []}) (omega arith)) (omega arith)) (omega arith))
 
 pub statements-statements-preserved : goal.statements-statements-preserved
 statements-statements-preserved t c = record {
-  read = goes_on (λ x. (x, tt)) add_statement _ _ c.in-Some.next _ _ _ c.in_ok-push.ensures.items c.statements.invariant.read (rw c.in-Some.is at c.in_ok-next.ensures.ok);
+  read = goes_on (λ x. (x, tt)) add_statement _ _ c.in-Some.next _ _ _ c.in_ok-push.ensures.items
+      c.statements.invariant.read (rw c.in-Some.is at c.in_ok-next.ensures.ok);
   within = omega (arith, c.statements.invariant.within, c.in_ok-next.ensures.within);
 }
 
 pub statements-returns-clause-ok : goal.statements-returns-clause-ok
 statements-returns-clause-ok t c =
-    rw (← (chained_statements c.statements.statements.items NoStatements)) (ends (λ x. (x, tt)) add_statement c.statements.statements.items NoStatements _ _ _ c.statements.invariant.read (rw c.in_default.is at c.in_ok-next.ensures.ok))
+    rw (← (chained_statements c.statements.statements.items NoStatements))
+    (ends (λ x. (x, tt)) add_statement c.statements.statements.items NoStatements _ _ _
+    c.statements.invariant.read (rw c.in_default.is at c.in_ok-next.ensures.ok))

@@ -20,11 +20,13 @@ returns-in_err-token-clause-only c = λ ts is. absurd (not_both c.args.text.now 
 pub loop-tokens-preserved : goal.loop-tokens-preserved
 loop-tokens-preserved c = record {
   short = c.loop-tokens.invariant.short;
-  in_order = order_more _ _ _ _ _ _ _ _ c.loop-tokens.invariant.in_order (rw c.in-Some.is at c.in_ok-token.ensures.token) c.in_ok-push.ensures.items;
+  in_order = order_more _ _ _ _ _ _ _ _ c.loop-tokens.invariant.in_order
+      (rw c.in-Some.is at c.in_ok-token.ensures.token) c.in_ok-push.ensures.items;
   fits = c.in_ok-token.ensures.fits;
 }
 
 pub returns-clause-only : goal.returns-clause-only
 returns-clause-only c = λ ts is.
-    let made = tokens_made _ _ _ _ _ _ _ c.loop-tokens.invariant.short c.loop-tokens.invariant.in_order (rw c.in_default.is at c.in_ok-token.ensures.end) c.in_ok-push-2.ensures.items refl in
+    let made = tokens_made _ _ _ _ _ _ _ c.loop-tokens.invariant.short c.loop-tokens.invariant.in_order
+    (rw c.in_default.is at c.in_ok-token.ensures.end) c.in_ok-push-2.ensures.items refl in
     tokens_unique c.args.text.now _ ts made is

@@ -20,6 +20,7 @@ returns c =
     let most : c.args.thread ≤ thread_count (shown b.places.items b.lists.items) = rw c.self.view_is c.requires in
     let l = in_places b.places.items b.lists.items c.args.thread c.self.invariant.0 most in
     rw (← c.self.view_is) (record {
-      value = ap (option_map (λ a. a.0)) (get_or_read b.places.items c.args.thread c.index.result.now l c.index.ensures None);
+      value = ap (option_map (λ a. a.0)) (get_or_read b.places.items c.args.thread c.index.result.now l
+          c.index.ensures None);
       sound = sound b.places.items (rows b.lists.items) c.self.invariant.0;
     })

@@ -11,20 +11,34 @@ loop-t-init c = Moved-none _ _ _ c.take-moved.ensures.sound.1
 pub enqueue-requires : goal.enqueue-requires
 enqueue-requires c =
     let t = c.take-moved.ensures in
-    let n = Moved-next c.args.self.now c.take-moved.new.self c.loop-t.self c.as_slice-t-items.result.now c.args.a.0 c.args.b.0 c.args.n c.loop-t.t-index _ t.sound.0 (c.as_slice-t-items.ensures ∙ t.taken) (rw c.as_slice-t-items.ensures t.places) t.threads c.loop-t.invariant c.loop-t-test.true (get_or_default c.as_slice-t-items.result.now c.loop-t.t-index 0 _ c.loop-t-test.true) in
+    let n = Moved-next c.args.self.now c.take-moved.new.self c.loop-t.self c.as_slice-t-items.result.now c.args.a.0
+    c.args.b.0 c.args.n c.loop-t.t-index _ t.sound.0 (c.as_slice-t-items.ensures ∙ t.taken)
+    (rw c.as_slice-t-items.ensures t.places) t.threads c.loop-t.invariant c.loop-t-test.true
+    (get_or_default c.as_slice-t-items.result.now c.loop-t.t-index 0 _ c.loop-t-test.true) in
     record { in_range = n.0; awake = n.1 }
 
 pub loop-t-preserved : goal.loop-t-preserved
 loop-t-preserved c =
     let e = c.enqueue.ensures in
-    Moved-more c.take-moved.new.self c.loop-t.self c.enqueue.new.self c.as_slice-t-items.result.now c.args.b.0 c.loop-t.t-index (get_or c.as_slice-t-items.result.now c.loop-t.t-index 0) c.loop-t.invariant c.loop-t-test.true (get_or_default c.as_slice-t-items.result.now c.loop-t.t-index 0 _ c.loop-t-test.true) e.last e.others e.places e.threads e.sound.1
+    Moved-more c.take-moved.new.self c.loop-t.self c.enqueue.new.self c.as_slice-t-items.result.now c.args.b.0
+    c.loop-t.t-index (get_or c.as_slice-t-items.result.now c.loop-t.t-index 0) c.loop-t.invariant
+    c.loop-t-test.true (get_or_default c.as_slice-t-items.result.now c.loop-t.t-index 0 _ c.loop-t-test.true)
+    e.last e.others e.places e.threads e.sound.1
 
 pub returns : goal.returns
 returns c =
     let t = c.take-moved.ensures in
     let m = rw c.as_slice-t-items.ensures at c.loop-t.invariant in
     let l : length c.take-moved.result ≤ c.loop-t.t-index = rw c.as_slice-t-items.ensures at c.loop-t-test.false in
-    let w = Moved-all c.args.self.now c.take-moved.new.self c.loop-t.self c.take-moved.result c.args.a.0 c.args.b.0 c.args.n c.loop-t.t-index c.if-a-b.false (record { taken = t.taken; rest = t.rest; others = t.others; places = t.places; threads = t.threads; sound = t.sound }) m l in
+    let w = Moved-all c.args.self.now c.take-moved.new.self c.loop-t.self c.take-moved.result c.args.a.0 c.args.b.0
+    c.args.n c.loop-t.t-index c.if-a-b.false (record {
+      taken = t.taken;
+      rest = t.rest;
+      others = t.others;
+      places = t.places;
+      threads = t.threads;
+      sound = t.sound;
+    }) m l in
     record {
       moved = t.taken ∙ sym (cond-false _ _ _ (ne_eqb c.args.a.0 c.args.b.0 c.if-a-b.false));
       rest = w.rest;

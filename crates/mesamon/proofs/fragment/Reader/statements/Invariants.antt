@@ -6,7 +6,8 @@ use Rattle.mesamon.proofs.fragment.Reader.statements.Given as goal
 
 abbrev pub invariant-loop-numbers : goal.invariant-loop-numbers
 invariant-loop-numbers l = record {
-  read : (ns : List ℕ) × (l.numbers.items ≡ map pos ns) × Passes (statements_kinds ns) (views l.fn.self.rest.now) (views l.self.rest.now);
+  read : (ns : List ℕ) × (l.numbers.items ≡ map pos ns) × Passes (statements_kinds ns) (views l.fn.self.rest.now)
+      (views l.self.rest.now);
   readable : IsReadable (views l.self.rest.now);
 }
 

@@ -4,4 +4,5 @@ use Rattle.scanner.proofs.source.Source.take.Goals as goal
 
 -- the column goes on by the count
 pub returns-clause-place : goal.returns-clause-place
-returns-clause-place c = sym (line_place c.args.self.now.place c.args.self.now.rest.now c.args.count c.requires.line.within c.requires.line.no_feed)
+returns-clause-place c = sym (line_place c.args.self.now.place c.args.self.now.rest.now c.args.count
+    c.requires.line.within c.requires.line.no_feed)

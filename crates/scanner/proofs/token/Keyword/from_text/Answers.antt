@@ -11,10 +11,13 @@ loop-keyword-init c = λ i d below. absurd (omega arith)
 -- the keyword that was just compared isn't it either
 pub loop-keyword-preserved : goal.loop-keyword-preserved
 loop-keyword-preserved c =
-    λ i d. below_more (λ j. c.args.text.now ≢ keyword_text (get_or c.beginning_with-keyword-items.result.now j d)) c.loop-keyword.keyword-index
+    λ i d. below_more (λ j. c.args.text.now ≢ keyword_text (get_or c.beginning_with-keyword-items.result.now j d))
+    c.loop-keyword.keyword-index
     (λ j below. c.loop-keyword.invariant j d below)
-    (λ is. not_from_Decides c.eq.result (slice_eq-Decides Decides-eqb c.args.text.now c.text.result.now c.eq.result c.eq.ensures) c.if-eq.false
-    (is ∙ ap keyword_text (get_or_default c.beginning_with-keyword-items.result.now c.loop-keyword.keyword-index _ _ c.loop-keyword-test.true) ∙ sym c.text.ensures))
+    (λ is. not_from_Decides c.eq.result (slice_eq-Decides Decides-eqb c.args.text.now c.text.result.now c.eq.result
+    c.eq.ensures) c.if-eq.false
+    (is ∙ ap keyword_text (get_or_default c.beginning_with-keyword-items.result.now c.loop-keyword.keyword-index _ _
+    c.loop-keyword-test.true) ∙ sym c.text.ensures))
     i
 
 -- a keyword that is written so begins with the first byte

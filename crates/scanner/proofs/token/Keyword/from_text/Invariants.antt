@@ -5,4 +5,5 @@ use Rattle.scanner.proofs.token.Keyword.from_text.Given as goal
 
 -- none of the keywords so far is written so
 abbrev pub invariant-loop-keyword : goal.invariant-loop-keyword
-invariant-loop-keyword l = (i : ℕ) (d : Word) → i < l.keyword-index → l.text ≢ keyword_text (get_or l.keyword-items i d)
+invariant-loop-keyword l = (i : ℕ) (d : Word) → i < l.keyword-index → l.text ≢ keyword_text
+    (get_or l.keyword-items i d)

@@ -1,0 +1,203 @@
+use crate::answer::Answer;
+use crate::failure::Failure;
+use crate::walk::walk;
+use buckets::Buckets;
+use futexcalls::{cmp_requeue, wait, wake};
+use std::alloc::Global;
+use std::marker::Model;
+use words::{Addr, MOST_PROCESSES, Mem};
+
+// How many words there are.
+const WORDS: usize = 512;
+
+/// 512 words, and who of 64 threads sleeps.
+#[derive(Drop)]
+pub struct Layers {
+    mem: Mem,
+    buckets: Buckets,
+}
+
+impl Model for Layers {
+    ghost use Rattle.std.specs.Prelude.{◌≡◌, List, ℕ, length};
+    ghost use Rattle.buckets.specs.Sleepers.{thread_count};
+
+    ghost Value = { List ℕ };
+
+    ghost view = { λ l. l.mem };
+
+    ghost invariant = { λ l. (length l.mem ≡ 512) × (thread_count l.buckets ≡ 64) };
+}
+
+impl Layers {
+    /// Words of 0, and nobody asleep, in so many buckets.
+    pub fn new(alloc: Global, buckets: u32) -> Result<Layers, Failure> {
+        if !Buckets::allowed(buckets) {
+            return Err(Failure::Outside);
+        }
+        Ok(Layers {
+            mem: Mem::new(alloc, WORDS)?,
+            buckets: Buckets::new(alloc, buckets, MOST_PROCESSES)?,
+        })
+    }
+
+    /// The call of this name with these numbers.
+    pub fn call(&mut self, alloc: Global, name: &str, numbers: &[u32]) -> Result<Answer, Failure> {
+        match numbers {
+            [a] => self.call_one(alloc, name, *a),
+            [a, b] => self.call_two(name, *a, *b),
+            [a, b, c] => self.call_three(name, *a, *b, *c),
+            [a, b, wake, moves, expected] => self.requeue(name, *a, *b, *wake, *moves, *expected),
+            _ => Err(Failure::Row),
+        }
+    }
+
+    fn call_one(&mut self, alloc: Global, name: &str, a: u32) -> Result<Answer, Failure> {
+        match name {
+            "buckets" => self.renew(alloc, a),
+            "load" => self.load(a),
+            "exit" => self.exit(a),
+            "asleep" => self.asleep(a),
+            "drop" => self.drop_out(a),
+            "list" => self.list(a),
+            _ => Err(Failure::Row),
+        }
+    }
+
+    fn call_two(&mut self, name: &str, a: u32, b: u32) -> Result<Answer, Failure> {
+        match name {
+            "store" => self.store(a, b),
+            "swap" | "or" | "add" => self.replace(name, a, b),
+            "sleep" => self.sleep(a, b),
+            "take" => Ok(Answer::Threads(self.buckets.take(Addr(a), b))),
+            "wake" => Ok(Answer::Threads(wake(&mut self.buckets, Addr(a), b).threads)),
+            _ => Err(Failure::Row),
+        }
+    }
+
+    fn call_three(&mut self, name: &str, a: u32, b: u32, c: u32) -> Result<Answer, Failure> {
+        match name {
+            "compare_swap" => self.compare_swap(a, b, c),
+            "shift" => Ok(Answer::Threads(self.buckets.shift(Addr(a), Addr(b), c))),
+            "wait" => self.wait(a, b, c),
+            _ => Err(Failure::Row),
+        }
+    }
+
+    fn renew(&mut self, alloc: Global, buckets: u32) -> Result<Answer, Failure> {
+        *self = Layers::new(alloc, buckets)?;
+        Ok(Answer::Done)
+    }
+
+    fn load(&self, a: u32) -> Result<Answer, Failure> {
+        if a as usize >= WORDS {
+            return Err(Failure::Outside);
+        }
+        Ok(Answer::Word(self.mem.load(Addr(a))))
+    }
+
+    fn store(&mut self, a: u32, v: u32) -> Result<Answer, Failure> {
+        if a as usize >= WORDS {
+            return Err(Failure::Outside);
+        }
+        self.mem.store(Addr(a), v);
+        Ok(Answer::Done)
+    }
+
+    fn replace(&mut self, name: &str, a: u32, v: u32) -> Result<Answer, Failure> {
+        if a as usize >= WORDS {
+            return Err(Failure::Outside);
+        }
+        let before = match name {
+            "swap" => self.mem.swap(Addr(a), v),
+            "or" => self.mem.fetch_or(Addr(a), v),
+            _ => self.mem.fetch_add(Addr(a), v),
+        };
+        Ok(Answer::Word(before))
+    }
+
+    fn compare_swap(&mut self, a: u32, expected: u32, new: u32) -> Result<Answer, Failure> {
+        if a as usize >= WORDS {
+            return Err(Failure::Outside);
+        }
+        Ok(Answer::Word(self.mem.compare_swap(Addr(a), expected, new)))
+    }
+
+    fn sleep(&mut self, t: u32, a: u32) -> Result<Answer, Failure> {
+        if t == 0 || t > MOST_PROCESSES || self.buckets.asleep(t).is_some() {
+            return Err(Failure::Outside);
+        }
+        self.buckets.enqueue(t, Addr(a));
+        Ok(Answer::Done)
+    }
+
+    fn asleep(&self, t: u32) -> Result<Answer, Failure> {
+        if t > MOST_PROCESSES {
+            return Err(Failure::Outside);
+        }
+        Ok(Answer::Place(self.buckets.asleep(t)))
+    }
+
+    fn drop_out(&mut self, t: u32) -> Result<Answer, Failure> {
+        if t > MOST_PROCESSES {
+            return Err(Failure::Outside);
+        }
+        self.buckets.drop_out(t);
+        Ok(Answer::Done)
+    }
+
+    fn list(&self, a: u32) -> Result<Answer, Failure> {
+        let mut threads = self.buckets.nobody();
+        for i in 0..self.buckets.sleepers(Addr(a)) {
+            if let Some(t) = self.buckets.sleeper(Addr(a), i)
+                && threads.len() < MOST_PROCESSES as usize
+            {
+                threads.push(t);
+            }
+        }
+        Ok(Answer::Threads(threads))
+    }
+
+    fn wait(&mut self, t: u32, a: u32, expected: u32) -> Result<Answer, Failure> {
+        if t == 0 || t > MOST_PROCESSES || self.buckets.asleep(t).is_some() {
+            return Err(Failure::Outside);
+        }
+        if a as usize >= WORDS {
+            return Err(Failure::Outside);
+        }
+        Ok(Answer::Waited(wait(&self.mem, &mut self.buckets, t, Addr(a), expected)))
+    }
+
+    fn requeue(
+        &mut self,
+        name: &str,
+        a: u32,
+        b: u32,
+        wake: u32,
+        moves: u32,
+        expected: u32,
+    ) -> Result<Answer, Failure> {
+        if name != "requeue" {
+            return Err(Failure::Row);
+        }
+        if a as usize >= WORDS {
+            return Err(Failure::Outside);
+        }
+        let both = cmp_requeue(
+            &self.mem,
+            &mut self.buckets,
+            Addr(a),
+            Addr(b),
+            wake,
+            moves,
+            expected,
+        );
+        Ok(Answer::Requeued(both.ok()))
+    }
+
+    fn exit(&mut self, t: u32) -> Result<Answer, Failure> {
+        if t == 0 || t > MOST_PROCESSES {
+            return Err(Failure::Outside);
+        }
+        Ok(Answer::Steps(walk(&mut self.mem, &mut self.buckets, t)))
+    }
+}

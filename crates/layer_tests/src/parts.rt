@@ -1,0 +1,71 @@
+use buckets::Buckets;
+use isa::{DecodeFault, Image, Instr, Operator, Slot, first_fault, one_spelling, read_back};
+use std::alloc::AllocError;
+use std::test::Fail;
+use words::{
+    Addr, Gate, OWNER_DIED, OpenGate, ProcessWord, TID_MASK, WAITERS, block, block_laws, has_died,
+    has_waiters, lock_word_laws, locked_word, signed, signed_laws, tid, word,
+};
+
+// The words and numbers of the robust-futex ABI and of two's complement.
+#[test]
+fn word_parts(rt: HostRuntime) {
+    assert_eq!(rt;
+        (WAITERS, OWNER_DIED, TID_MASK),
+        (2147483648, 1073741824, 1073741823)
+    );
+    assert_eq!(rt; locked_word(5, true), 0x8000_0005);
+    assert_eq!(rt; locked_word(5, false), 5);
+    assert_eq!(rt; tid(0xC000_0007), 7);
+    assert!(rt; has_waiters(0xC000_0007) && has_died(0x4000_0000));
+    assert!(rt; !has_waiters(0x4000_0007) && !has_died(0x8000_0007));
+    assert_eq!(rt; (signed(u32::MAX), word(-2)), (-1, 0xFFFF_FFFE));
+    assert_eq!(rt; block(1, ProcessWord::Id), Addr(3));
+    assert_eq!(rt; block(64, ProcessWord::Outcome), Addr(384));
+}
+
+#[test]
+fn a_gate_is_passed() {
+    OpenGate.pass(1);
+    lock_word_laws();
+    block_laws();
+    signed_laws();
+    one_spelling();
+    first_fault();
+}
+
+#[test]
+fn numbers_of_faults_and_slots(rt: HostRuntime) -> Result<(), Fail> {
+    let text = format!(in rt.alloc(); "{} {}", DecodeFault::Short, Operator::Mod)?;
+    assert_eq!(rt; text.as_str(), "image error 3 Short MOD");
+    assert_eq!(rt;
+        (
+            DecodeFault::Memory.number(),
+            Slot::Local(9).number(),
+            Slot::Template.number()
+        ),
+        (8, 9, 64)
+    );
+    Ok(())
+}
+
+#[test]
+fn an_image_of_its_parts(rt: HostRuntime) -> Result<(), Fail> {
+    let made = Image::new(Vec::new(rt.alloc()), 0, vec![in rt.alloc(); Instr::Ret]?);
+    let image = read_back(rt.alloc(), &made)?.copy(rt.alloc())?;
+    assert_eq!(rt; image.at(0), Some(Instr::Ret));
+    Ok(())
+}
+
+// `new` is refused for want of memory alone: where an allocation is refused, as by `rt try --test --fail-alloc N`, the
+// answer is that of ample memory or names the want of it.
+#[test]
+fn buckets_name_want_of_memory(rt: HostRuntime) {
+    match Buckets::new(rt.alloc(), 8, 64) {
+        Ok(buckets) => assert_eq!(rt;
+            (buckets.sleepers(Addr(387)), buckets.asleep(64)),
+            (0, None)
+        ),
+        Err(error) => assert_eq!(rt; error, AllocError),
+    }
+}
