@@ -17,7 +17,7 @@ use Rattle.futexcalls.specs.Answers.{word_of}
 use Rattle.machine.specs.declared.event.Event.{Event}
 use Rattle.machine.specs.declared.event.EventName.TheVariants as name
 use Rattle.machine.specs.Fronts.{woken_on, sleeping_on, moved_to, moves_of, front, within, requeued, gives, event_of}
-use Rattle.machine.specs.Views.{common_of}
+use Rattle.machine.specs.Views.{IsSoundly, common_of}
 use Rattle.machine.proofs.Placing.{by_place, put-here, put-there}
 use Rattle.machine.proofs.Sleeping.{names-drop}
 use Rattle.machine.proofs.Words.{inside}
@@ -113,3 +113,10 @@ requeue_gives ws s s' o a b n m expected woken moved count event la lb call fron
     ∙ (λ i. gives (length (sym front i) + length (r.1 i)) (r.0 i) (event_of name.Requeue (length (sym front i) + length (r.1 i)) (sym front i) (r.1 i)))
     ∙ (λ i. gives (sym counted i) (common_of ws s' o) (event_of name.Requeue (sym counted i) woken moved))
     ∙ (λ i. gives count (common_of ws s' o) (sym told i))
+
+-- a sound value of the buckets, as its lists and places are
+pub soundly : (s : Sleepers) → IsSound s → IsSoundly (queue s) (place_of s)
+soundly s ok = record { stands = ok.stands; sleeps = ok.sleeps; distinct = ok.distinct }
+
+pub known : (s : Sleepers) → IsSound s → thread_count s ≡ 64 → (u a : ℕ) → place_of s u ≡ Some a → IsThread u
+known s ok count u a at = let r = ok.in_range u a at in (r.0, omega (arith, r.1, count))

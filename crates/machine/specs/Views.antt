@@ -4,7 +4,8 @@ use Rattle.std.specs.List.{IsDistinct}
 use Rattle.words.specs.declared.mem.Addr.{Addr}
 use Rattle.isa.specs.Programs.{Program, memory_size}
 use Rattle.buckets.specs.Places.{names}
-use Rattle.buckets.specs.Sleepers.{Sleepers, queue, place_of}
+use Rattle.words.specs.Limits.{most_processes, monitors_base}
+use Rattle.buckets.specs.Sleepers.{Sleepers, IsSound, queue, place_of, thread_count}
 use Rattle.machine.specs.declared.event.Event.{Event}
 use Rattle.machine.specs.declared.event.EventName.{EventName}
 use Rattle.machine.specs.declared.event.EventName.TheVariants as name
@@ -42,6 +43,27 @@ common_of words sleepers output =
 
 abbrev pub kept_of : List ℕ → Sleepers → List Thread → List ℤ → Kept
 kept_of words sleepers threads output = record { common = common_of words sleepers output; threads = threads }
+
+-- what a `Common` stands for: the words, who sleeps, the numbers printed, and how many numbers there is room for in all
+pub record CommonView : Type 0 where
+  pub words : List ℕ
+  pub sleepers : Sleepers
+  pub output : List ℤ
+  pub capacity : ℕ
+
+-- what threads share, as a step sees it
+abbrev pub common : CommonView → Common
+common v = common_of v.words v.sleepers v.output
+
+-- what a machine keeps, of what its threads share and of them
+abbrev pub parts_of : CommonView → List Thread → Kept
+parts_of v threads = record { common = common v; threads = threads }
+
+-- what always holds of it: the words of all threads are there, and who sleeps is one of them
+pub record IsCommon (words : List ℕ) (sleepers : Sleepers) : Type 0 where
+  pub wide : monitors_base ≤ length words
+  pub sound : IsSound sleepers
+  pub places : thread_count sleepers ≡ most_processes
 
 -- the program that runs, the parts of what is kept, and how many numbers can be printed without taking memory
 pub record View : Type 0 where

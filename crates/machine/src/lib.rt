@@ -2,6 +2,7 @@
 #![tactic(auto)]
 
 mod accesses;
+mod common;
 mod ends;
 mod event;
 mod exits;
@@ -18,5 +19,5 @@ mod thread_step;
 pub use event::{Entry, Event, EventName, StepFault};
 pub use laws::steps_are_machine_steps;
 pub use machine::Machine;
-pub use parts::MOST_THREADS;
+pub use words::MOST_PROCESSES as MOST_THREADS;
 pub use thread_set::{ThreadSet, thread_set_laws};

@@ -9,46 +9,42 @@ ghost use Rattle.machine.specs.Fronts.{step_of, can_move, fault_at};
 ghost use Rattle.machine.specs.LocalRuns.{RunsOn};
 ghost use Rattle.machine.specs.Views.{kept, AllEnded, IsQuiet, variable_address, address_of, printed_by, IsKept};
 
+use crate::common::Common;
 use crate::event::{Event, StepFault};
-use crate::parts::{MOST_THREADS, opening_threads, opening_words, step_parts, variable};
-use crate::refusals::thread_refusal;
-use buckets::Buckets;
+use crate::parts::{opening_threads, step_parts, variable};
 use isa::Image;
 use locals::Local;
 use std::alloc::{AllocError, Global};
 use std::marker::Model;
-use words::{Addr, Mem, Outcome, ProcessWord, block};
+use words::{Addr, Outcome, ProcessWord, block};
 
 /// The machine of an image: the words, who sleeps on which address, the threads that were made, numbered from 1, and
 /// the numbers that were printed. Contracts see a `View`.
 #[derive(Drop)]
 pub struct Machine {
     image: Image,
-    words: Mem,
-    buckets: Buckets,
-    // With room for 64 threads, so that a fork takes no memory.
+    common: Common,
+    // With room for all threads that can be made, so that a fork takes no memory.
     threads: Vec<Local>,
-    output: Vec<i32>,
 }
 
 impl Model for Machine {
-    ghost use Rattle.std.specs.Prelude.{◌≡◌, ◌≤◌, ◌-◌, vec_capacity, vec_len};
-    ghost use Rattle.buckets.specs.Sleepers.{thread_count};
-    ghost use Rattle.machine.specs.Views.{View, IsKept, kept_of};
+    ghost use Rattle.std.specs.Prelude.{◌≤◌, ◌-◌, length, vec_capacity};
+    ghost use Rattle.words.specs.Limits.{most_processes};
+    ghost use Rattle.machine.specs.Views.{View, IsKept, parts_of};
 
     ghost Value = { View };
 
     ghost view = { λ m. record {
       program = m.image;
-      words = m.words;
-      sleepers = m.buckets;
+      words = m.common.words;
+      sleepers = m.common.sleepers;
       threads = m.threads.items;
-      output = m.output.items;
-      room = vec_capacity m.output - vec_len m.output;
+      output = m.common.output;
+      room = m.common.capacity - length m.common.output;
     } };
 
-    ghost invariant = { λ m. IsKept m.image (kept_of m.words m.buckets m.threads.items m.output.items)
-        × (thread_count m.buckets ≡ 64) × (64 ≤ vec_capacity m.threads) };
+    ghost invariant = { λ m. IsKept m.image (parts_of m.common m.threads.items) × (most_processes ≤ vec_capacity m.threads) };
 }
 
 impl Machine {
@@ -62,10 +58,8 @@ impl Machine {
     {
         Ok(Machine {
             image: image.copy(alloc)?,
-            words: opening_words(alloc, image)?,
-            buckets: Buckets::new(alloc, buckets, MOST_THREADS)?,
+            common: Common::new(alloc, image, buckets)?,
             threads: opening_threads(alloc, image)?,
-            output: Vec::new(alloc),
         })
     }
 
@@ -75,14 +69,14 @@ impl Machine {
         ensures err { OnErr result ((self.old.room < n) × (self.new.room ≡ self.old.room)) }
         ensures same { (self.new.program ≡ self.old.program) × (kept self.new ≡ kept self.old) }
     {
-        self.output.reserve(n)
+        self.common.make_room(n)
     }
 
     /// How many numbers can be printed before room has to be made.
     pub fn room(&self) -> usize
         ensures { result ≡ self.now.room }
     {
-        self.output.capacity() - self.output.len()
+        self.common.room()
     }
 
     /// How many threads were made, from 1 to 64. With it comes what always holds of a machine.
@@ -107,7 +101,7 @@ impl Machine {
         requires { (0 < t) × (t ≤ length self.now.threads) }
         ensures { result ≡ outcome_of ((state_of (kept self.now)).word (process_word t 5)) }
     {
-        Outcome::of_word(self.words.load(block(t, ProcessWord::Outcome)))
+        Outcome::of_word(self.common.word(block(t, ProcessWord::Outcome)))
     }
 
     /// Whether thread `t` was made and has ended.
@@ -136,7 +130,7 @@ impl Machine {
         if t == 0 || t as usize > self.threads.len() {
             return None;
         }
-        self.buckets.asleep(t)
+        self.common.asleep(t)
     }
 
     /// Whether thread `t` was made and can move: it neither sleeps nor has ended.
@@ -167,21 +161,21 @@ impl Machine {
         requires index { index < slice_index self.now.program.monitors monitor }
         ensures { result ≡ (state_of (kept self.now)).word (variable_address self.now.program monitor index) }
     {
-        self.words.load(variable(&self.image, monitor, index))
+        self.common.word(variable(&self.image, monitor, index))
     }
 
     /// The numbers that were printed.
     pub fn output(&self) -> &[i32]
         ensures { result.now ≡ self.now.output }
     {
-        self.output.as_slice()
+        self.common.output()
     }
 
     /// What a step of thread `t` would be refused for, if it stood at `here` and were awake.
     pub fn refusal_at(&self, t: u32, here: &Local) -> Option<StepFault>
         ensures { result ≡ fault_at self.now.program (kept self.now) t here.now }
     {
-        thread_refusal(&self.image, &self.words, self.threads(), t, here)
+        self.common.refusal(&self.image, self.threads(), t, here)
     }
 
     /// Whether the next step of thread `t` would be a local one, if it stood at `here`.
@@ -225,11 +219,9 @@ impl Machine {
         }
         let Machine {
             image,
-            words,
-            buckets,
+            common,
             threads,
-            output,
         } = self;
-        step_parts(image, words, buckets, threads, output, t)
+        step_parts(image, common, threads, t)
     }
 }

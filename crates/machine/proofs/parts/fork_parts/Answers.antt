@@ -1,7 +1,7 @@
 -- A fork of the thread is a step of the machine, and a thread that it made stands behind the others.
 use Rattle.std.proofs.Common.{◌≡◌, ◌≤◌, length, rules, sym, ◌∙◌, Ok}
 use Rattle.machine.specs.Fronts.{lifted}
-use Rattle.machine.specs.Views.{kept_of, common_of}
+use Rattle.machine.specs.Views.{parts_of, common}
 use Rattle.machine.proofs.Steps.{handed}
 use Rattle.machine.proofs.Whole.{stands_at, stepped}
 use Rattle.machine.proofs.parts.fork_parts.Goals as goal
@@ -10,23 +10,22 @@ pub returns-in_err-child-clause-err : goal.returns-in_err-child-clause-err
 returns-in_err-child-clause-err c =
     let counted : c.len-made.result ≡ length c.args.threads.now.items = search rules in
     let within : c.args.t ≤ length c.args.threads.now.items = search rules in
-    handed c.from_residual.result c.in_err-child.field-0.0 _ c.from_residual.ensures.1 (λ s o awake.
-    stepped c.args.image.now (kept_of c.args.words.now s c.args.threads.now.items o) c.args.t c.len-made.result c.index_mut-local.result.now _ (stands_at c.args.threads.now.items c.args.t c.index_mut-local.result.now c.index_mut-local.result.now c.requires.thread.0 within c.index_mut-local.ensures.value) awake counted (c.in_err-child.ensures.err s o))
+    handed c.from_residual.result c.in_err-child.field-0.0 _ c.from_residual.ensures.1 (stepped c.args.image.now (parts_of c.args.shared.now c.args.threads.now.items) c.args.t c.len-made.result c.index_mut-local.result.now _ (stands_at c.args.threads.now.items c.args.t c.index_mut-local.result.now c.index_mut-local.result.now c.requires.thread.0 within c.index_mut-local.ensures.value) c.requires.awake counted (c.in_err-child.ensures.err))
 
 pub returns-in-Some-clause-done : goal.returns-in-Some-clause-done
-returns-in-Some-clause-done c = λ s o awake.
-    let k = kept_of c.args.words.now s c.args.threads.now.items o in
+returns-in-Some-clause-done c =
+    let k = parts_of c.args.shared.now c.args.threads.now.items in
     let counted : c.len-made.result ≡ length c.args.threads.now.items = search rules in
     let within : c.args.t ≤ length c.args.threads.now.items = search rules in
     let event = c.in_ok-child.event in
-    stepped c.args.image.now k c.args.t c.len-made.result c.index_mut-local.result.now _ (stands_at c.args.threads.now.items c.args.t c.index_mut-local.result.now c.index_mut-local.result.now c.requires.thread.0 within c.index_mut-local.ensures.value) awake counted (c.in_ok-child.ensures.done s o)
-    ∙ (λ i. lifted k c.args.t (Ok (record { common = common_of c.take_fork.new.words s o; thread = c.take_fork.new.local; child = c.in-Some.is i; event = event })))
-    ∙ (λ i. Ok (kept_of c.take_fork.new.words s (sym c.push_reserved.ensures.items i) o, event))
+    stepped c.args.image.now k c.args.t c.len-made.result c.index_mut-local.result.now _ (stands_at c.args.threads.now.items c.args.t c.index_mut-local.result.now c.index_mut-local.result.now c.requires.thread.0 within c.index_mut-local.ensures.value) c.requires.awake counted (c.in_ok-child.ensures.done)
+    ∙ (λ i. lifted k c.args.t (Ok (record { common = common c.take_fork.new.shared; thread = c.take_fork.new.local; child = c.in-Some.is i; event = event })))
+    ∙ (λ i. Ok (parts_of c.take_fork.new.shared (sym c.push_reserved.ensures.items i), event))
 
 pub returns-in_default-clause-done : goal.returns-in_default-clause-done
-returns-in_default-clause-done c = λ s o awake.
-    let k = kept_of c.args.words.now s c.args.threads.now.items o in
+returns-in_default-clause-done c =
+    let k = parts_of c.args.shared.now c.args.threads.now.items in
     let counted : c.len-made.result ≡ length c.args.threads.now.items = search rules in
     let within : c.args.t ≤ length c.args.threads.now.items = search rules in
-    stepped c.args.image.now k c.args.t c.len-made.result c.index_mut-local.result.now _ (stands_at c.args.threads.now.items c.args.t c.index_mut-local.result.now c.index_mut-local.result.now c.requires.thread.0 within c.index_mut-local.ensures.value) awake counted (c.in_ok-child.ensures.done s o)
-    ∙ (λ i. lifted k c.args.t (Ok (record { common = common_of c.take_fork.new.words s o; thread = c.take_fork.new.local; child = c.in_default.is i; event = c.in_ok-child.event })))
+    stepped c.args.image.now k c.args.t c.len-made.result c.index_mut-local.result.now _ (stands_at c.args.threads.now.items c.args.t c.index_mut-local.result.now c.index_mut-local.result.now c.requires.thread.0 within c.index_mut-local.ensures.value) c.requires.awake counted (c.in_ok-child.ensures.done)
+    ∙ (λ i. lifted k c.args.t (Ok (record { common = common c.take_fork.new.shared; thread = c.take_fork.new.local; child = c.in_default.is i; event = c.in_ok-child.event })))

@@ -6,7 +6,7 @@ use Rattle.locals.specs.Looks.{look}
 use Rattle.machine.specs.declared.event.Event.{Event}
 use Rattle.machine.specs.declared.event.StepFault.{StepFault}
 use Rattle.machine.specs.Told.{AsksFork}
-use Rattle.machine.specs.Views.{kept_of}
+use Rattle.machine.specs.Views.{parts_of}
 use Rattle.machine.proofs.Whole.{stands_at, stepped}
 use Rattle.machine.proofs.parts.step_parts.Goals as goal
 
@@ -30,14 +30,14 @@ if_err (Err g) P Q f h = f g h
 
 pub returns-in_default-clause-done : goal.returns-in_default-clause-done
 returns-in_default-clause-done c =
-    let k = kept_of c.args.words.now c.args.buckets.now c.args.threads.now.items c.args.output.now.items in
+    let k = parts_of c.args.shared.now c.args.threads.now.items in
     let within : c.args.t ≤ length c.args.threads.now.items = search rules in
     let stands = stands_at c.args.threads.now.items c.args.t c.index_mut-local.result.now c.index_mut-local.result.now c.requires.thread.0 within c.index_mut-local.ensures.value in
     if_ok c.take_thread_step.result _ _ (λ e done. stepped c.args.image.now k c.args.t (length k.threads) c.index_mut-local.result.now _ stands c.requires.awake refl (done (length k.threads))) c.take_thread_step.ensures.done
 
 pub returns-in_default-clause-err : goal.returns-in_default-clause-err
 returns-in_default-clause-err c =
-    let k = kept_of c.args.words.now c.args.buckets.now c.args.threads.now.items c.args.output.now.items in
+    let k = parts_of c.args.shared.now c.args.threads.now.items in
     let within : c.args.t ≤ length c.args.threads.now.items = search rules in
     let stands = stands_at c.args.threads.now.items c.args.t c.index_mut-local.result.now c.index_mut-local.result.now c.requires.thread.0 within c.index_mut-local.ensures.value in
     if_err c.take_thread_step.result _ _ (λ f err. stepped c.args.image.now k c.args.t (length k.threads) c.index_mut-local.result.now _ stands c.requires.awake refl (err (length k.threads))) c.take_thread_step.ensures.err

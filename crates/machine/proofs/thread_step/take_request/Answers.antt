@@ -1,17 +1,17 @@
 -- The thread goes on with the answer, or the refusal is handed on.
 use Rattle.std.proofs.Common.{◌∙◌, sym, Ok, None}
 use Rattle.locals.specs.Looks.{look}
-use Rattle.machine.specs.Views.{common_of}
+use Rattle.machine.specs.Views.{common}
 use Rattle.machine.proofs.Steps.{shared_so, shared_err, handed}
 use Rattle.machine.proofs.thread_step.take_request.Goals as goal
 
 pub returns-in_err-served-clause-err : goal.returns-in_err-served-clause-err
 returns-in_err-served-clause-err c =
     handed c.from_residual.result c.in_err-served.field-0.0 _ c.from_residual.ensures.1 (λ made.
-    shared_err made c.args.t (common_of c.args.words.now c.args.buckets.now c.args.output.now.items) (common_of c.serve_request.new.words c.serve_request.new.buckets c.serve_request.new.output.items) (look c.args.image.now c.args.t c.args.local.now) c.args.request c.in_err-served.field-0.0 c.requires.asks c.requires.makes_none c.in_err-served.ensures.gives)
+    shared_err made c.args.t (common c.args.shared.now) (common c.serve.new.self) (look c.args.image.now c.args.t c.args.local.now) c.args.request c.in_err-served.field-0.0 c.requires.asks c.requires.makes_none c.in_err-served.ensures.gives)
 
 pub returns-clause-done : goal.returns-clause-done
 returns-clause-done c = λ made.
-    let after = common_of c.serve_request.new.words c.serve_request.new.buckets c.serve_request.new.output.items in
-    shared_so made c.args.t (common_of c.args.words.now c.args.buckets.now c.args.output.now.items) after (look c.args.image.now c.args.t c.args.local.now) c.args.local.now c.args.request c.in_ok-served.served c.requires.asks c.requires.makes_none c.in_ok-served.ensures.gives
+    let after = common c.serve.new.self in
+    shared_so made c.args.t (common c.args.shared.now) after (look c.args.image.now c.args.t c.args.local.now) c.args.local.now c.args.request c.in_ok-served.served c.requires.asks c.requires.makes_none c.in_ok-served.ensures.gives
     ∙ (λ i. Ok (record { common = after; thread = sym c.go_on.ensures i; child = None; event = c.in_ok-served.served.event }))

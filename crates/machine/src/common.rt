@@ -1,0 +1,93 @@
+ghost use Rattle.std.specs.Prelude.{◌≡◌, ◌-◌, ◌≤◌, ◌<◌, ◌+◌, ℕ, [], None, IfOk, OnOk, OnErr, length, replicate, slice_get, slice_set, Some};
+ghost use Rattle.isa.specs.Programs.{memory_size};
+ghost use Rattle.buckets.specs.BucketCount.{IsBucketCount};
+ghost use Rattle.buckets.specs.Sleepers.{queue, place_of};
+ghost use Rattle.machine.specs.Views.{address_of};
+
+use crate::parts::opening_words;
+use buckets::Buckets;
+use isa::Image;
+use std::alloc::{AllocError, Global};
+use std::marker::Model;
+use words::{Addr, MOST_PROCESSES, Mem};
+
+/// What threads share: the words, who sleeps on which address, and the numbers that were printed. Contracts see a
+/// `CommonView`. Its methods are what a thread asks of it: accesses, ends, futex calls and exits.
+#[derive(Drop)]
+pub struct Common {
+    pub(crate) words: Mem,
+    pub(crate) buckets: Buckets,
+    pub(crate) output: Vec<i32>,
+}
+
+impl Model for Common {
+    ghost use Rattle.std.specs.Prelude.{vec_capacity};
+    ghost use Rattle.machine.specs.Views.{CommonView, IsCommon};
+
+    ghost Value = { CommonView };
+
+    ghost view = { λ c. record {
+      words = c.words;
+      sleepers = c.buckets;
+      output = c.output.items;
+      capacity = vec_capacity c.output;
+    } };
+
+    ghost invariant = { λ c. IsCommon c.words c.buckets };
+}
+
+impl Common {
+    /// What is shared at the start of an image, over so many buckets of sleepers.
+    pub fn new(alloc: Global, image: &Image, buckets: u32) -> Result<Common, AllocError>
+        requires { IsBucketCount buckets }
+        ensures words { IfOk result (λ c. c.words ≡ slice_set (replicate (memory_size image.now) 0) 3 1) }
+        ensures empty { IfOk result (λ c. (a : ℕ) → queue c.sleepers a ≡ []) }
+        ensures awake { IfOk result (λ c. (t : ℕ) → place_of c.sleepers t ≡ None) }
+        ensures output { IfOk result (λ c. c.output ≡ []) }
+    {
+        Ok(Common {
+            words: opening_words(alloc, image)?,
+            buckets: Buckets::new(alloc, buckets, MOST_PROCESSES)?,
+            output: Vec::new(alloc),
+        })
+    }
+
+    /// Makes room for `n` printed numbers at least. It is refused only where there is less room.
+    pub fn make_room(&mut self, n: usize) -> Result<(), AllocError>
+        ensures room { OnOk result (n ≤ self.new.capacity - length self.new.output) }
+        ensures err { OnErr result ((self.old.capacity - length self.old.output < n) × (self.new.capacity ≡ self.old.capacity)) }
+        ensures same { (self.new.words ≡ self.old.words) × (self.new.sleepers ≡ self.old.sleepers) × (self.new.output ≡ self.old.output) }
+    {
+        self.output.reserve(n)
+    }
+
+    /// How many numbers can be printed before room has to be made.
+    pub fn room(&self) -> usize
+        ensures { result ≡ self.now.capacity - length self.now.output }
+    {
+        self.output.capacity() - self.output.len()
+    }
+
+    /// The word at an address.
+    pub fn word(&self, a: Addr) -> u32
+        requires { a.0 < length self.now.words }
+        ensures { slice_get self.now.words a.0 ≡ Some result }
+    {
+        self.words.load(a)
+    }
+
+    /// Where thread `t` sleeps, if it does.
+    pub fn asleep(&self, t: u32) -> Option<Addr>
+        requires { (0 < t) × (t ≤ 64) }
+        ensures { address_of result ≡ place_of self.now.sleepers t }
+    {
+        self.buckets.asleep(t)
+    }
+
+    /// The numbers that were printed.
+    pub fn output(&self) -> &[i32]
+        ensures { result.now ≡ self.now.output }
+    {
+        self.output.as_slice()
+    }
+}
