@@ -1,0 +1,19 @@
+//! Calls among procedures: how long the chains are that they form, and which procedures are on a cycle.
+#![tactic(auto)]
+
+mod chain;
+mod endless;
+mod reach;
+
+pub use chain::chains;
+pub use endless::endless_chains;
+pub use reach::reached;
+
+/// A call of a procedure by another. Procedures are numbered from 0.
+#[derive(Clone, Copy, PartialEq, Eq, Debug)]
+pub struct Call {
+    /// The procedure that calls.
+    pub caller: u32,
+    /// The procedure that is called.
+    pub callee: u32,
+}
