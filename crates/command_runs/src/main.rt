@@ -5,6 +5,7 @@
 //! row NAME            a row of this name begins
 //! text LINE           a line of the file program.mesa
 //! times COUNT TEXT    this text so many times, in program.mesa
+//! bytes DIGITS        these bytes, in hexadecimal digits, in program.mesa
 //! words WORD ..       the words of the command line
 //! output LINE         a line that standard output has to have
 //! errors LINE         a line that standard error has to have
@@ -12,8 +13,8 @@
 //! status NUMBER       the exit status that is wanted, where it isn't 0
 //! ```
 //!
-//! Empty lines and lines that begin with `#` say nothing. With no `text` and no `times` there is no program.mesa, and
-//! with no `image` there may be no program.image afterwards.
+//! Empty lines and lines that begin with `#` say nothing. With no `text`, `times` and
+//! `bytes` there is no program.mesa, and with no `image` there may be no program.image afterwards.
 #![tactic(auto)]
 
 mod fault;

@@ -33,6 +33,7 @@ impl Row {
         match key {
             "text" => self.add_text(said),
             "times" => self.add_repeated(said),
+            "bytes" => self.add_bytes(said),
             "words" => self.add_words(said),
             "output" => add_line(&mut self.wanted.output, said),
             "errors" => add_line(&mut self.wanted.errors, said),
@@ -56,6 +57,14 @@ impl Row {
         for _ in 0..count {
             source.extend_from_slice(text.as_bytes())?;
         }
+        self.source = Some(source);
+        Ok(())
+    }
+
+    fn add_bytes(&mut self, digits: &str) -> Result<(), RowFault> {
+        let bytes = hex::decode(self.alloc, digits).map_err(|_| RowFault::Number)?;
+        let mut source = self.source.take().unwrap_or(Vec::new(self.alloc));
+        source.extend_from_slice(bytes.as_slice())?;
         self.source = Some(source);
         Ok(())
     }

@@ -1,51 +1,61 @@
+ghost use Rattle.std.specs.Prelude.{◌≡◌, false, IfOk};
+ghost use Rattle.clap.specs.Words.{app_of, rule_of};
+ghost use Rattle.commandline.specs.CommandLine as line;
+
 use clap::builder::ValueParser;
-use clap::{Arg, ArgAction, Command, value_parser};
+use clap::{Arg, ArgAction, Command};
 use std::alloc::{AllocError, Global};
 
 // The limit of steps of a run that names none.
 const STEPS: &str = "1000000";
 
 /// The commands of the program, as the command line's parser takes them.
-pub fn command<'a>(alloc: Global) -> Result<Command<'a>, AllocError> {
+pub fn command<'a>(alloc: Global) -> Result<Command<'a>, AllocError>
+    ensures { IfOk result (λ c. app_of c ≡ line.command_line) }
+{
+    let compile = Command::new(alloc, "compile")
+        .about("Writes the image of a source text")
+        .arg(positional(alloc, "FILE", "The source text"))?
+        .arg(positional(alloc, "OUT", "Where the image is written"))?;
+    let run = Command::new(alloc, "run")
+        .about("Runs a source text and prints its output")
+        .arg(positional(alloc, "FILE", "The source text"))?
+        .arg(steps_option(alloc))?
+        .arg(trace_option(alloc))?;
     Command::new(alloc, "mesamon")
         .about("Compiles programs of processes and monitors, and runs them")
         .bin_name("mesamon")?
         .no_binary_name(true)
         .subcommand_required(true)
-        .subcommand(compile_command(alloc)?)?
-        .subcommand(run_command(alloc)?)
+        .subcommand(compile)?
+        .subcommand(run)
 }
 
-fn compile_command<'a>(alloc: Global) -> Result<Command<'a>, AllocError> {
-    let file = Arg::new(alloc, "FILE")
-        .required(true)
-        .help("The source text");
-    let out = Arg::new(alloc, "OUT")
-        .required(true)
-        .help("Where the image is written");
-    Command::new(alloc, "compile")
-        .about("Writes the image of a source text")
-        .arg(file)?
-        .arg(out)
+fn positional<'a>(alloc: Global, name: &'a str, help: &'a str) -> Arg<'a>
+    ensures rule { rule_of result ≡ line.positional name.entry.now }
+    ensures local { result.global ≡ false }
+{
+    Arg::new(alloc, name).required(true).help(help)
 }
 
-fn run_command<'a>(alloc: Global) -> Result<Command<'a>, AllocError> {
-    let file = Arg::new(alloc, "FILE")
-        .required(true)
-        .help("The source text");
-    let steps = Arg::new(alloc, "steps")
+fn steps_option<'a>(alloc: Global) -> Arg<'a>
+    ensures rule { rule_of result ≡ line.steps_option }
+    ensures local { result.global ≡ false }
+{
+    Arg::new(alloc, "steps")
         .long("steps")
         .value_name("N")
-        .value_parser(value_parser!(u32).range(1..))
+        .value_parser(ValueParser::unsigned(1, u32::MAX as u64))
         .default_value(STEPS)
-        .help("The most steps of the machine");
-    let trace = Arg::new(alloc, "trace")
+        .help("The most steps of the machine")
+}
+
+fn trace_option<'a>(alloc: Global) -> Arg<'a>
+    ensures rule { rule_of result ≡ line.trace_option }
+    ensures local { result.global ≡ false }
+{
+    Arg::new(alloc, "trace")
         .long("trace")
         .action(ArgAction::SetTrue)
-        .help("Shows each entry of the log on standard error");
-    Command::new(alloc, "run")
-        .about("Runs a source text and prints its output")
-        .arg(file)?
-        .arg(steps)?
-        .arg(trace)
+        .help("Shows each entry of the log on standard error")
 }

@@ -1,3 +1,8 @@
+ghost use Rattle.std.specs.Prelude.{IfOk, IfSome, map, Some, ◌≡◌};
+ghost use Rattle.clap.specs.Words.{found_of, subcommand_rows_of};
+ghost use Rattle.clap.specs.Walk.{rows_of};
+ghost use Rattle.commandline.specs.CommandLine.{AsksFor, IsAskedBy, IsCompileOf, IsRunOf};
+
 use crate::builder::command;
 use crate::fault::WordsFault;
 use clap::error::ErrorKind;
@@ -26,11 +31,17 @@ pub enum Job<'a> {
 }
 
 /// The job that the words of a command line ask for, those after the program's name.
-pub fn read_job<'a>(alloc: Global, words: &'a [&'a str]) -> Result<Job<'a>, WordsFault> {
+///
+/// When words ask for none is not said: rows of whole commands show it.
+pub fn read_job<'a>(alloc: Global, words: &'a [&'a str]) -> Result<Job<'a>, WordsFault>
+    ensures { IfOk result (AsksFor (map (λ w. w.now) words.now)) }
+{
     parse(alloc, words).map_err(|error| WordsFault::of_error(alloc, &error))
 }
 
-fn parse<'a>(alloc: Global, words: &'a [&'a str]) -> Result<Job<'a>, Error> {
+fn parse<'a>(alloc: Global, words: &'a [&'a str]) -> Result<Job<'a>, Error>
+    ensures { IfOk result (AsksFor (map (λ w. w.now) words.now)) }
+{
     let mut command = command(alloc)?;
     let matches = command.try_get_matches_from_mut(words)?;
     match job_of(&matches) {
@@ -40,14 +51,30 @@ fn parse<'a>(alloc: Global, words: &'a [&'a str]) -> Result<Job<'a>, Error> {
 }
 
 // What the matches ask for. A command that was met has its arguments.
-fn job_of<'a>(matches: &ArgMatches<'a>) -> Option<Job<'a>> {
+fn job_of<'a>(matches: &ArgMatches<'a>) -> Option<Job<'a>>
+    ensures { IfSome result (IsAskedBy (subcommand_rows_of matches.now)) }
+{
     let (name, inner) = matches.subcommand()?;
-    let file = inner.get_str("FILE")?;
-    if name == "compile" {
-        let out = inner.get_str("OUT")?;
-        return Some(Job::Compile { file, out });
+    match name {
+        "compile" => compile_of(inner),
+        "run" => run_of(inner),
+        _ => None,
     }
-    let steps = inner.get_one::<u32>("steps")?;
-    let trace = inner.get_flag("trace");
+}
+
+fn compile_of<'a>(matches: &ArgMatches<'a>) -> Option<Job<'a>>
+    ensures { IfSome result (IsCompileOf (rows_of (found_of matches.now))) }
+{
+    let file = matches.get_str("FILE")?;
+    let out = matches.get_str("OUT")?;
+    Some(Job::Compile { file, out })
+}
+
+fn run_of<'a>(matches: &ArgMatches<'a>) -> Option<Job<'a>>
+    ensures { IfSome result (IsRunOf (rows_of (found_of matches.now))) }
+{
+    let file = matches.get_str("FILE")?;
+    let steps = matches.get_one::<u32>("steps")?;
+    let trace = matches.get_flag("trace");
     Some(Job::Run { file, steps, trace })
 }

@@ -1,14 +1,14 @@
 -- An instruction as text.
 use Rattle.std.specs.Prelude.{List, ℕ, ◌++◌, codes}
+use Rattle.std.specs.List.{flat_map}
 use Rattle.std.specs.Fmt.{decimal}
-use Rattle.words.specs.Outcomes.{fault_number}
-use Rattle.words.specs.Process.{number_of}
 use Rattle.isa.specs.declared.operator.Operator.{Operator}
 use Rattle.isa.specs.declared.operator.Operator.TheVariants.{Add, Sub, Mul, Div, Mod, Eq, Ne, Lt, Le, Gt, Ge, BitAnd, BitOr}
 use Rattle.isa.specs.declared.instr.Instr.{Instr}
 use Rattle.isa.specs.declared.instr.Instr.TheVariants.{Push, GetLocal, SetLocal, Pop, Operate, Negate, Not, Jump, JumpIfZero, Call, Ret, RetValue, Index, OwnNumber, ProcessAddress, Raise, Load, Store, Swap, CompareAndSwap, FetchOr, FetchAdd, Fork, Print, FutexWait, FutexWake, FutexRequeue}
-use Rattle.isa.specs.Instructions.{slot_number}
+use Rattle.isa.specs.Instructions.{operands}
 
+-- the name of an operator
 abbrev pub operator_text : Operator → List ℕ
 operator_text Add = codes "ADD"
 operator_text Sub = codes "SUB"
@@ -24,31 +24,36 @@ operator_text Ge = codes "GE"
 operator_text BitAnd = codes "BAND"
 operator_text BitOr = codes "BOR"
 
+-- the name of an instruction
+abbrev pub mnemonic : Instr → List ℕ
+mnemonic (Push n) = codes "PUSH"
+mnemonic (GetLocal slot) = codes "GETL"
+mnemonic (SetLocal slot) = codes "SETL"
+mnemonic Pop = codes "POP"
+mnemonic (Operate operator) = operator_text operator
+mnemonic Negate = codes "NEG"
+mnemonic Not = codes "NOT"
+mnemonic (Jump place) = codes "JUMP"
+mnemonic (JumpIfZero place) = codes "JZ"
+mnemonic (Call place) = codes "CALL"
+mnemonic Ret = codes "RET"
+mnemonic RetValue = codes "RETV"
+mnemonic (Index base size) = codes "INDEX"
+mnemonic OwnNumber = codes "SELF"
+mnemonic (ProcessAddress word) = codes "PADDR"
+mnemonic (Raise fault) = codes "FAULT"
+mnemonic Load = codes "LOAD"
+mnemonic Store = codes "STORE"
+mnemonic Swap = codes "SWAP"
+mnemonic CompareAndSwap = codes "CAS"
+mnemonic FetchOr = codes "AOR"
+mnemonic FetchAdd = codes "AADD"
+mnemonic (Fork place arguments) = codes "FORK"
+mnemonic Print = codes "PRINT"
+mnemonic FutexWait = codes "FWAIT"
+mnemonic FutexWake = codes "FWAKE"
+mnemonic FutexRequeue = codes "FREQ"
+
+-- an instruction: its name, and behind it its operands
 abbrev pub instruction_text : Instr → List ℕ
-instruction_text (Push n) = codes "PUSH " ++ decimal n
-instruction_text (GetLocal slot) = codes "GETL " ++ decimal (slot_number slot)
-instruction_text (SetLocal slot) = codes "SETL " ++ decimal (slot_number slot)
-instruction_text Pop = codes "POP"
-instruction_text (Operate operator) = operator_text operator
-instruction_text Negate = codes "NEG"
-instruction_text Not = codes "NOT"
-instruction_text (Jump place) = codes "JUMP " ++ decimal place
-instruction_text (JumpIfZero place) = codes "JZ " ++ decimal place
-instruction_text (Call place) = codes "CALL " ++ decimal place
-instruction_text Ret = codes "RET"
-instruction_text RetValue = codes "RETV"
-instruction_text (Index base size) = codes "INDEX " ++ decimal base ++ codes " " ++ decimal size
-instruction_text OwnNumber = codes "SELF"
-instruction_text (ProcessAddress word) = codes "PADDR " ++ decimal (number_of word)
-instruction_text (Raise fault) = codes "FAULT " ++ decimal (fault_number fault)
-instruction_text Load = codes "LOAD"
-instruction_text Store = codes "STORE"
-instruction_text Swap = codes "SWAP"
-instruction_text CompareAndSwap = codes "CAS"
-instruction_text FetchOr = codes "AOR"
-instruction_text FetchAdd = codes "AADD"
-instruction_text (Fork place arguments) = codes "FORK " ++ decimal place ++ codes " " ++ decimal arguments
-instruction_text Print = codes "PRINT"
-instruction_text FutexWait = codes "FWAIT"
-instruction_text FutexWake = codes "FWAKE"
-instruction_text FutexRequeue = codes "FREQ"
+instruction_text i = mnemonic i ++ flat_map (λ n. codes " " ++ decimal n) (operands i)

@@ -1,8 +1,10 @@
 ghost use Rattle.std.specs.Prelude.{◌≡◌};
-ghost use Rattle.isa.specs.Instructions.{target};
+ghost use Rattle.isa.specs.Instructions.{numbers_of, operands, target};
 ghost use Rattle.isa.specs.Opcodes.{opcode};
+ghost use Rattle.isa.specs.Texts.{mnemonic};
 
 use crate::opcode;
+use crate::operands::Operands;
 use crate::operator::Operator;
 use crate::slot::Slot;
 use std::fmt;
@@ -123,6 +125,59 @@ impl Instr {
             _ => None,
         }
     }
+
+    // The numbers behind its opcode.
+    pub(crate) fn operands(self) -> Operands
+        ensures { numbers_of result ≡ operands self }
+    {
+        match self {
+            Instr::Push(n) => Operands::One(n),
+            Instr::GetLocal(slot) | Instr::SetLocal(slot) => Operands::One(slot.number()),
+            Instr::Jump(place) | Instr::JumpIfZero(place) | Instr::Call(place) => Operands::One(
+                place,
+            ),
+            Instr::Index(base, length) => Operands::Two(base, length),
+            Instr::ProcessAddress(word) => Operands::One(word as u32),
+            Instr::Raise(fault) => Operands::One(fault.number()),
+            Instr::Fork(place, arguments) => Operands::Two(place, arguments),
+            _ => Operands::Without,
+        }
+    }
+
+    // The name that it is shown with.
+    fn mnemonic(self) -> &'static str
+        ensures { result.now ≡ mnemonic self }
+    {
+        match self {
+            Instr::Push(_) => "PUSH",
+            Instr::GetLocal(_) => "GETL",
+            Instr::SetLocal(_) => "SETL",
+            Instr::Pop => "POP",
+            Instr::Operate(operator) => operator.mnemonic(),
+            Instr::Negate => "NEG",
+            Instr::Not => "NOT",
+            Instr::Jump(_) => "JUMP",
+            Instr::JumpIfZero(_) => "JZ",
+            Instr::Call(_) => "CALL",
+            Instr::Ret => "RET",
+            Instr::RetValue => "RETV",
+            Instr::Index(_, _) => "INDEX",
+            Instr::OwnNumber => "SELF",
+            Instr::ProcessAddress(_) => "PADDR",
+            Instr::Raise(_) => "FAULT",
+            Instr::Load => "LOAD",
+            Instr::Store => "STORE",
+            Instr::Swap => "SWAP",
+            Instr::CompareAndSwap => "CAS",
+            Instr::FetchOr => "AOR",
+            Instr::FetchAdd => "AADD",
+            Instr::Fork(_, _) => "FORK",
+            Instr::Print => "PRINT",
+            Instr::FutexWait => "FWAIT",
+            Instr::FutexWake => "FWAKE",
+            Instr::FutexRequeue => "FREQ",
+        }
+    }
 }
 
 impl fmt::Display for Instr {
@@ -132,34 +187,11 @@ impl fmt::Display for Instr {
     ghost output = { λ i. Some (instruction_text i) };
 
     fn fmt<W: fmt::Write>(&self, f: &mut fmt::Formatter<W>) -> fmt::Result {
-        match self {
-            Instr::Push(n) => write!(f, "PUSH {n}"),
-            Instr::GetLocal(slot) => write!(f, "GETL {slot}"),
-            Instr::SetLocal(slot) => write!(f, "SETL {slot}"),
-            Instr::Pop => write!(f, "POP"),
-            Instr::Operate(operator) => write!(f, "{operator}"),
-            Instr::Negate => write!(f, "NEG"),
-            Instr::Not => write!(f, "NOT"),
-            Instr::Jump(place) => write!(f, "JUMP {place}"),
-            Instr::JumpIfZero(place) => write!(f, "JZ {place}"),
-            Instr::Call(place) => write!(f, "CALL {place}"),
-            Instr::Ret => write!(f, "RET"),
-            Instr::RetValue => write!(f, "RETV"),
-            Instr::Index(base, length) => write!(f, "INDEX {base} {length}"),
-            Instr::OwnNumber => write!(f, "SELF"),
-            Instr::ProcessAddress(word) => write!(f, "PADDR {}", *word as u32),
-            Instr::Raise(fault) => write!(f, "FAULT {}", fault.number()),
-            Instr::Load => write!(f, "LOAD"),
-            Instr::Store => write!(f, "STORE"),
-            Instr::Swap => write!(f, "SWAP"),
-            Instr::CompareAndSwap => write!(f, "CAS"),
-            Instr::FetchOr => write!(f, "AOR"),
-            Instr::FetchAdd => write!(f, "AADD"),
-            Instr::Fork(place, arguments) => write!(f, "FORK {place} {arguments}"),
-            Instr::Print => write!(f, "PRINT"),
-            Instr::FutexWait => write!(f, "FWAIT"),
-            Instr::FutexWake => write!(f, "FWAKE"),
-            Instr::FutexRequeue => write!(f, "FREQ"),
+        let name = self.mnemonic();
+        match self.operands() {
+            Operands::Without => write!(f, "{name}"),
+            Operands::One(n) => write!(f, "{name} {n}"),
+            Operands::Two(n, m) => write!(f, "{name} {n} {m}"),
         }
     }
 }

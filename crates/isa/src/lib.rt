@@ -8,6 +8,7 @@ mod instr;
 mod laws;
 mod limits;
 mod opcode;
+mod operands;
 mod operator;
 mod reading;
 mod slot;

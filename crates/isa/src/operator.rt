@@ -1,5 +1,6 @@
 ghost use Rattle.std.specs.Prelude.{◌≡◌};
 ghost use Rattle.isa.specs.Opcodes.{operator_opcode};
+ghost use Rattle.isa.specs.Texts.{operator_text};
 
 use crate::opcode;
 use std::fmt;
@@ -58,6 +59,27 @@ impl Operator {
             Operator::BitOr => opcode::BOR,
         }
     }
+
+    // The name that it is shown with.
+    pub(crate) fn mnemonic(self) -> &'static str
+        ensures { result.now ≡ operator_text self }
+    {
+        match self {
+            Operator::Add => "ADD",
+            Operator::Sub => "SUB",
+            Operator::Mul => "MUL",
+            Operator::Div => "DIV",
+            Operator::Mod => "MOD",
+            Operator::Eq => "EQ",
+            Operator::Ne => "NE",
+            Operator::Lt => "LT",
+            Operator::Le => "LE",
+            Operator::Gt => "GT",
+            Operator::Ge => "GE",
+            Operator::BitAnd => "BAND",
+            Operator::BitOr => "BOR",
+        }
+    }
 }
 
 impl fmt::Display for Operator {
@@ -67,20 +89,6 @@ impl fmt::Display for Operator {
     ghost output = { λ o. Some (operator_text o) };
 
     fn fmt<W: fmt::Write>(&self, f: &mut fmt::Formatter<W>) -> fmt::Result {
-        match self {
-            Operator::Add => write!(f, "ADD"),
-            Operator::Sub => write!(f, "SUB"),
-            Operator::Mul => write!(f, "MUL"),
-            Operator::Div => write!(f, "DIV"),
-            Operator::Mod => write!(f, "MOD"),
-            Operator::Eq => write!(f, "EQ"),
-            Operator::Ne => write!(f, "NE"),
-            Operator::Lt => write!(f, "LT"),
-            Operator::Le => write!(f, "LE"),
-            Operator::Gt => write!(f, "GT"),
-            Operator::Ge => write!(f, "GE"),
-            Operator::BitAnd => write!(f, "BAND"),
-            Operator::BitOr => write!(f, "BOR"),
-        }
+        write!(f, "{}", self.mnemonic())
     }
 }

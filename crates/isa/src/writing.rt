@@ -5,6 +5,7 @@ ghost use Rattle.isa.specs.Spelling.{numbers, instruction, instructions, spellin
 use crate::format::{MAGIC, VERSION};
 use crate::image::Image;
 use crate::instr::Instr;
+use crate::operands::Operands;
 use std::alloc::{AllocError, Global};
 
 fn put_number(out: &mut Vec<u8>, value: u32) -> Result<(), AllocError>
@@ -32,23 +33,13 @@ fn put_instruction(out: &mut Vec<u8>, instr: Instr) -> Result<(), AllocError>
     ensures { OnOk result (out.new.items ≡ out.old.items ++ instruction instr) }
 {
     out.push(instr.opcode())?;
-    match instr {
-        Instr::Push(n) => put_number(out, n)?,
-        Instr::GetLocal(slot) | Instr::SetLocal(slot) => put_number(out, slot.number())?,
-        Instr::Jump(place) | Instr::JumpIfZero(place) | Instr::Call(place) => {
-            put_number(out, place)?;
+    match instr.operands() {
+        Operands::Without => {}
+        Operands::One(n) => put_number(out, n)?,
+        Operands::Two(n, m) => {
+            put_number(out, n)?;
+            put_number(out, m)?;
         }
-        Instr::Index(base, size) => {
-            put_number(out, base)?;
-            put_number(out, size)?;
-        }
-        Instr::ProcessAddress(word) => put_number(out, word as u32)?,
-        Instr::Raise(fault) => put_number(out, fault.number())?,
-        Instr::Fork(place, arguments) => {
-            put_number(out, place)?;
-            put_number(out, arguments)?;
-        }
-        _ => {}
     }
     Ok(())
 }

@@ -1,0 +1,79 @@
+-- The commands of the program, and which job the words of a command line ask for. How words are read as a command's
+-- arguments is the definition of the crate clap (`App`, `subcommand_of`).
+use Rattle.std.specs.Prelude.{◌≡◌, ℕ, Bool, true, false, List, [], ◌∷◌, Option, Some, None, ◌⊎◌, codes}
+use Rattle.std.specs.Str.Parse.{IsNumeral, digits_value, without_leading_plus}
+use Rattle.clap.specs.Words.{App, Row, Rule, Text, first_of, new_app, new_rule, one_of, with_rule, with_subcommand}
+use Rattle.clap.specs.Words.{subcommand_of}
+use Rattle.clap.specs.declared.builder.action.ArgAction.TheVariants.{SetTrue}
+use Rattle.clap.specs.declared.builder.value_parser.ValueParser.TheVariants.{Unsigned}
+use Rattle.commandline.specs.declared.job.Job.{Job}
+use Rattle.commandline.specs.declared.job.Job.TheVariants.{Compile, Run}
+
+-- an argument that has to stand, told by its position
+abbrev pub positional : Text → Rule
+positional name = record (new_rule name) { required = true }
+
+-- `--steps N`, from 1 to 4294967295, and 1000000 where it is left out
+abbrev pub steps_option : Rule
+steps_option = record (new_rule (codes "steps")) {
+  long = Some (codes "steps");
+  value_names = 1;
+  defaults = codes "1000000" ∷ [];
+  parser = Some (Unsigned 1 4294967295);
+}
+
+-- `--trace`
+abbrev pub trace_option : Rule
+trace_option = record (new_rule (codes "trace")) { long = Some (codes "trace"); action = Some SetTrue }
+
+-- `compile FILE OUT`
+abbrev pub compile_command : App
+compile_command = with_rule (with_rule (new_app (codes "compile")) (positional (codes "FILE")))
+    (positional (codes "OUT"))
+
+-- `run FILE [--steps N] [--trace]`
+abbrev pub run_command : App
+run_command =
+    with_rule (with_rule (with_rule (new_app (codes "run")) (positional (codes "FILE"))) steps_option) trace_option
+
+-- the text that stands for `--steps` is this number
+abbrev pub ReadsSteps : List Row → ℕ → Type 0
+ReadsSteps rows steps =
+    (t : Text) × (one_of (codes "steps") rows ≡ Some t) × IsNumeral 10 (without_leading_plus t)
+    × (steps ≡ digits_value 10 (without_leading_plus t))
+
+-- whether `--trace` stands
+abbrev pub ReadsTrace : List Row → Bool → Type 0
+ReadsTrace rows trace =
+    (one_of (codes "trace") rows ≡ Some (codes "true") → trace ≡ true)
+    × (one_of (codes "trace") rows ≡ Some (codes "false") → trace ≡ false)
+
+-- `mesamon`, and behind it one of the two; the words hold no name of the program
+abbrev pub command_line : App
+command_line =
+    let named = new_app (codes "mesamon") in
+    with_subcommand (with_subcommand (record named {
+      top = record named.top { no_binary_name = true; subcommand_required = true };
+    }) compile_command.top) run_command.top
+
+-- a job of compiling, from the values of its command's arguments
+abbrev pub IsCompileOf : List Row → Job → Type 0
+IsCompileOf rows (Compile file out) =
+    (first_of (codes "FILE") rows ≡ Some file.now) × (first_of (codes "OUT") rows ≡ Some out.now)
+IsCompileOf rows (Run file steps trace) = ⊥
+
+-- a job of running
+abbrev pub IsRunOf : List Row → Job → Type 0
+IsRunOf rows (Compile file out) = ⊥
+IsRunOf rows (Run file steps trace) =
+    (first_of (codes "FILE") rows ≡ Some file.now) × ReadsSteps rows steps × ReadsTrace rows trace
+
+-- the job that the command of a name asks for, with these values of its arguments
+abbrev pub IsAskedBy : Option (Text × List Row) → Job → Type 0
+IsAskedBy None job = ⊥
+IsAskedBy (Some (name, rows)) job =
+    ((name ≡ codes "compile") × IsCompileOf rows job) ⊎ ((name ≡ codes "run") × IsRunOf rows job)
+
+-- the words ask for this job
+abbrev pub AsksFor : List Text → Job → Type 0
+AsksFor words job = IsAskedBy (subcommand_of command_line words) job

@@ -1,0 +1,3 @@
+pub mod Typed
+pub mod Walks
+pub mod Evaluation

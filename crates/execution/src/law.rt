@@ -1,0 +1,13 @@
+ghost use Rattle.std.specs.Prelude.{ℕ, ℤ, List};
+ghost use Rattle.execution.specs.Evaluation.{Evaluates, IsEvaluated};
+ghost use Rattle.isa.specs.Programs.{Program};
+ghost use Rattle.locals.specs.declared.frame.Locals.{Locals};
+ghost use Rattle.meaning.specs.Values.{Variables};
+ghost use Rattle.program.specs.Scope.{Scope};
+
+/// The code of an expression leads a thread to the expression's value, or into its first fault, from any place, with
+/// any operands beneath, as long as the memory doesn't change.
+pub fn expressions_evaluate()
+    ensures { (image : Program) (t size : ℕ) (memory : ℕ → ℕ) (s : Scope) (v : Variables) (values : List ℤ) (l : Locals)
+        → IsEvaluated t size memory s v values l → Evaluates image t size memory s v values l }
+{}
