@@ -67,11 +67,11 @@ impl Local {
     }
 
     /// A copy. It takes time in proportion to the operands and frames in use.
-    pub fn again(&self) -> Local
+    pub fn copy(&self) -> Local
         ensures { result ≡ self.now }
     {
         let stage = match &self.stage {
-            Stage::Running(activation) => Stage::Running(activation.again()),
+            Stage::Running(activation) => Stage::Running(activation.copy()),
             Stage::Dying(fault) => Stage::Dying(*fault),
             Stage::Exiting(phase) => Stage::Exiting(*phase),
         };
@@ -79,11 +79,11 @@ impl Local {
     }
 
     /// Whether it is the same state as the other.
-    pub fn is(&self, other: &Local) -> bool
+    pub fn equals(&self, other: &Local) -> bool
         ensures { MatchBool result (self.now ≡ other.now) (self.now ≢ other.now) }
     {
         match (&self.stage, &other.stage) {
-            (Stage::Running(a), Stage::Running(b)) => a.is(b),
+            (Stage::Running(a), Stage::Running(b)) => a.equals(b),
             (Stage::Dying(a), Stage::Dying(b)) => a == b,
             (Stage::Exiting(a), Stage::Exiting(b)) => a == b,
             _ => false,

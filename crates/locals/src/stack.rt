@@ -39,7 +39,7 @@ impl<T: Copy + Default + Drop, const N: usize> Stack<T, N> {
     }
 
     /// A copy.
-    pub fn again(&self) -> Stack<T, N>
+    pub fn copy(&self) -> Stack<T, N>
         ensures { result ≡ self.now }
     {
         match ArrayVec::try_from(self.items.as_slice()) {

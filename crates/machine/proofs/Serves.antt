@@ -43,7 +43,7 @@ opens k t go false r q h = absurd cc
 -- a request that wakes nobody and changes no sleepers
 quiet : (p : Program) (k k' : ConcreteState) (t : ℕ) (e ev : Event) (y : Thread) (request : Request) (go : ℕ → Thread) (answer : ℕ) (c : Common) (w : ℕ → ℕ) → IsWellFormed p k → thread_of k t ≡ Some y
     → Holds (memory_size p) (length k.threads) c → ((b : ℕ) → slice_index c.words b ≡ w b) → c.asleep ≡ k.common.asleep
-    → ev.woken ≡ (plain name.Turn 0).woken
+    → ev.woken ≡ (plain name.Local 0).woken
     → Serves t request (state_of k) [] answer (record (state_of k) { word = w; output = c.output })
     → (let a : Outcome = on_machine k t (go_on_with go (gives answer c ev)) in a) ≡ Ok (k', e) → Steps p k k' t e (Asks request go)
 quiet p k k' t e ev y request go answer c w concrete stands holds word still nobody serves h =
@@ -57,7 +57,7 @@ quiet p k k' t e ev y request go answer c w concrete stands holds word still nob
 
 -- an access to one word
 pub accesses : (p : Program) (k k' : ConcreteState) (t : ℕ) (e ev : Event) (y : Thread) (request : Request) (go : ℕ → Thread) (a answer v : ℕ) → IsWellFormed p k → thread_of k t ≡ Some y → a < length k.common.words
-    → ev.woken ≡ (plain name.Turn 0).woken
+    → ev.woken ≡ (plain name.Local 0).woken
     → Serves t request (state_of k) [] answer (with_word (state_of k) a v)
     → (let o : Outcome = on_machine k t (go_on_with go (gives answer (set_word k.common a v) ev)) in o) ≡ Ok (k', e) → Steps p k k' t e (Asks request go)
 accesses p k k' t e ev y request go a answer v concrete stands inside nobody serves h =
@@ -65,7 +65,7 @@ accesses p k k' t e ev y request go a answer v concrete stands inside nobody ser
 
 -- nothing changes
 pub stays : (p : Program) (k k' : ConcreteState) (t : ℕ) (e ev : Event) (y : Thread) (request : Request) (go : ℕ → Thread) (answer : ℕ) → IsWellFormed p k → thread_of k t ≡ Some y
-    → ev.woken ≡ (plain name.Turn 0).woken
+    → ev.woken ≡ (plain name.Local 0).woken
     → Serves t request (state_of k) [] answer (state_of k)
     → (let o : Outcome = on_machine k t (go_on_with go (gives answer k.common ev)) in o) ≡ Ok (k', e) → Steps p k k' t e (Asks request go)
 stays p k k' t e ev y request go answer concrete stands nobody serves h =
@@ -73,7 +73,7 @@ stays p k k' t e ev y request go answer concrete stands nobody serves h =
 
 swaps_if : (p : Program) (k k' : ConcreteState) (t : ℕ) (e : Event) (y : Thread) (go : ℕ → Thread) (a expected new : ℕ) → IsWellFormed p k → thread_of k t ≡ Some y → a < length k.common.words
     → (b : Bool) → (eqb (load k.common a) expected ≡ b)
-    → (let o : Outcome = on_machine k t (go_on_with go (gives (load k.common a) (cond b (set_word k.common a new) k.common) (plain name.Cas (load k.common a)))) in o) ≡ Ok (k', e)
+    → (let o : Outcome = on_machine k t (go_on_with go (gives (load k.common a) (cond b (set_word k.common a new) k.common) (plain name.CompareSwap (load k.common a)))) in o) ≡ Ok (k', e)
     → Steps p k k' t e (Asks (AskCas a expected new) go)
 swaps_if p k k' t e y go a expected new concrete stands inside true is h =
     accesses p k k' t e _ y (AskCas a expected new) go a (load k.common a) new concrete stands inside refl (inside, (refl, (refl, λ i. cond (sym is i) (with_word (state_of k) a new) (state_of k)))) h

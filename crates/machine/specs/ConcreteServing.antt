@@ -109,10 +109,10 @@ serve made t (AskLoad a) c = within c a (gives (load c a) c (plain name.Load (lo
 serve made t (AskStore a v) c = within c a (gives 0 (set_word c a v) (plain name.Store v))
 serve made t (AskSwap a v) c = within c a (gives (load c a) (set_word c a v) (plain name.Swap (load c a)))
 serve made t (AskCas a expected new) c =
-    within c a (gives (load c a) (if load c a == expected then set_word c a new else c) (plain name.Cas (load c a)))
-serve made t (AskOr a v) c = within c a (gives (load c a) (set_word c a (bit_or (load c a) v)) (plain name.Or (load c a)))
+    within c a (gives (load c a) (if load c a == expected then set_word c a new else c) (plain name.CompareSwap (load c a)))
+serve made t (AskOr a v) c = within c a (gives (load c a) (set_word c a (bit_or (load c a) v)) (plain name.FetchOr (load c a)))
 serve made t (AskAdd a v) c =
-    within c a (gives (load c a) (set_word c a ((load c a + v) % 4294967296)) (plain name.Add (load c a)))
+    within c a (gives (load c a) (set_word c a ((load c a + v) % 4294967296)) (plain name.FetchAdd (load c a)))
 serve made t (AskFork entry arguments has_room) c = fork_at made c entry arguments has_room
 serve made t (AskPrint number) c =
     gives 0 (record c { output = c.output ++ signed_of number ∷ [] }) (plain name.Print number)

@@ -91,13 +91,13 @@ address_of (Some a) = Some a.0
 -- how many numbers a step printed
 abbrev pub printed_by_name : EventName → ℕ
 printed_by_name name.Print = 1
-printed_by_name name.Turn = 0
+printed_by_name name.Local = 0
 printed_by_name name.Load = 0
 printed_by_name name.Store = 0
 printed_by_name name.Swap = 0
-printed_by_name name.Cas = 0
-printed_by_name name.Or = 0
-printed_by_name name.Add = 0
+printed_by_name name.CompareSwap = 0
+printed_by_name name.FetchOr = 0
+printed_by_name name.FetchAdd = 0
 printed_by_name name.Fork = 0
 printed_by_name name.Wait = 0
 printed_by_name name.Wake = 0

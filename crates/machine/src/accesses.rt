@@ -50,7 +50,7 @@ impl Common {
     {
         check_address(&self.words, a)?;
         let before = self.words.compare_swap(a, expected, new);
-        Ok(Served::quietly(before, EventName::Cas, before))
+        Ok(Served::quietly(before, EventName::CompareSwap, before))
     }
 
     /// Sets bits in the word at an address; the answer is the word before.
@@ -61,7 +61,7 @@ impl Common {
     {
         check_address(&self.words, a)?;
         let before = self.words.fetch_or(a, v);
-        Ok(Served::quietly(before, EventName::Or, before))
+        Ok(Served::quietly(before, EventName::FetchOr, before))
     }
 
     /// Adds a number to the word at an address, modulo 2^32; the answer is the word before.
@@ -72,6 +72,6 @@ impl Common {
     {
         check_address(&self.words, a)?;
         let before = self.words.fetch_add(a, v);
-        Ok(Served::quietly(before, EventName::Add, before))
+        Ok(Served::quietly(before, EventName::FetchAdd, before))
     }
 }

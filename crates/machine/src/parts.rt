@@ -11,9 +11,9 @@ ghost use Rattle.machine.specs.Views.{parts_of, variable_address};
 
 use crate::common::Common;
 use crate::event::{Event, StepFault};
-use crate::thread_step::{take_fork, take_thread_step};
+use crate::thread_step::{take_exit, take_fork, take_local, take_request};
 use isa::Image;
-use locals::{Local, NextStep, Request, opening_local};
+use locals::{Local, NextStep, opening_local};
 use std::alloc::{AllocError, Global};
 use words::{Addr, MONITORS_BASE, MOST_PROCESSES, Mem, ProcessWord, block};
 
@@ -81,17 +81,20 @@ pub fn step_parts(
     ensures space { vec_capacity threads.new ≡ vec_capacity threads.old }
 {
     match threads[t as usize - 1].next_step(image, t) {
-        NextStep::Shared(
-            Request::Fork {
-                entry: _,
-                count: _,
-                has_room,
-            },
-        ) => fork_parts(image, shared, threads, t, has_room),
-        step => {
-            let local = &mut threads[t as usize - 1];
-            take_thread_step(image, shared, t, local, step)
+        NextStep::Local => Ok(take_local(image, t, &mut threads[t as usize - 1])),
+        NextStep::Shared(request) => {
+            take_request(image, shared, t, &mut threads[t as usize - 1], request)
         }
+        NextStep::Fork {
+            entry: _,
+            count: _,
+            has_room,
+        } => fork_parts(image, shared, threads, t, has_room),
+        NextStep::Exit(phase) => {
+            Ok(take_exit(image, shared, t, &mut threads[t as usize - 1], phase))
+        }
+        NextStep::Broken => Err(StepFault::Broken),
+        NextStep::Ended => Err(StepFault::CannotMove),
     }
 }
 

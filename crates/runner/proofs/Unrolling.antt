@@ -55,8 +55,8 @@ put_twice : (k : ConcreteState) (t : ℕ) (x y : Thread) → put_thread (put_thr
 put_twice k t x y = λ i. record { common = k.common; threads = set_twice k.threads (t - 1) x y i }
 
 goes_local : (made t : ℕ) (c : Common) (l : Look) (x : Thread) → gone l ≡ Some x
-    → (let R : Type 0 = Result Stepped StepFault in (let a : R = thread_step made t c l in a) ≡ (let b : R = Ok (record { common = c; thread = x; child = None; event = plain name.Turn 0 }) in b))
-goes_local made t c (Goes y) x h = let e : y ≡ x = cc in ap (λ z. Ok (record { common = c; thread = z; child = None; event = plain name.Turn 0 })) e
+    → (let R : Type 0 = Result Stepped StepFault in (let a : R = thread_step made t c l in a) ≡ (let b : R = Ok (record { common = c; thread = x; child = None; event = plain name.Local 0 }) in b))
+goes_local made t c (Goes y) x h = let e : y ≡ x = cc in ap (λ z. Ok (record { common = c; thread = z; child = None; event = plain name.Local 0 })) e
 goes_local made t c (Asks request go) x h = absurd cc
 goes_local made t c (Leaves phase) x h = absurd cc
 goes_local made t c Breaks x h = absurd cc
@@ -81,7 +81,7 @@ last_leads : (p : Program) (k : ConcreteState) (t n : ℕ) (o here : Thread) (mi
 last_leads p k t n o here None awake stands before after = absurd cc
 last_leads p k t n o here (Some m) awake stands before after =
     let there = put_thread k t m in
-    let gives : step_of p there t ≡ Ok (put_thread there t here, plain name.Turn 0) =
+    let gives : step_of p there t ≡ Ok (put_thread there t here, plain name.Local 0) =
     step_there p k t o m awake stands ∙ ap (on_machine there t) (goes_local (length k.threads) t k.common (look p t m) here after) in
     let r = run_more p k there (put_thread there t here) (replicate n (local_step_of t)) (local_step_of t) (before m refl) gives in
     let count : n + 1 ≡ suc n = omega arith in

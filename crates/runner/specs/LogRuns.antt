@@ -13,7 +13,7 @@ use Rattle.runner.specs.Reports.{MeetsBroken}
 
 -- a local step of a thread, and the shared step of an entry, if any
 abbrev pub local_step_of : ℕ → EventStep
-local_step_of t = record { thread = t; event = plain name.Turn 0 }
+local_step_of t = record { thread = t; event = plain name.Local 0 }
 
 abbrev pub shared_step_of : ℕ → Option Event → List EventStep
 shared_step_of t None = []

@@ -112,8 +112,8 @@ impl<J: RunName> Shared<J> {
         let local = self.machine.local(t);
         Some(Piece {
             thread: t,
-            origin: local.again(),
-            here: local.again(),
+            origin: local.copy(),
+            here: local.copy(),
             count: 0,
             of: PhantomData,
         })
@@ -208,6 +208,6 @@ impl<J: RunName> Shared<J> {
         piece.thread == t
             && t > 0
             && t <= self.machine.threads()
-            && self.machine.local(t).is(&piece.origin)
+            && self.machine.local(t).equals(&piece.origin)
     }
 }

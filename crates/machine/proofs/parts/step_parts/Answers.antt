@@ -17,8 +17,8 @@ pub fork_parts-requires-clause-asks : goal.fork_parts-requires-clause-asks
 fork_parts-requires-clause-asks c = λ x at.
     let within : c.args.t ≤ length c.args.threads.now.items = search rules in
     let stands = stands_at c.args.threads.now.items c.args.t c.index.result.now c.index.result.now c.requires.thread.0 within c.index.ensures in
-    let here : AsksFork (look c.args.image.now c.args.t c.index.result.now) c.in-Shared-Fork.has_room = search rules in
-    subst (λ (y : Thread). AsksFork (look c.args.image.now c.args.t y) c.in-Shared-Fork.has_room) (inside _ _ (sym stands ∙ at)) here
+    let here : AsksFork (look c.args.image.now c.args.t c.index.result.now) c.in-Fork.has_room = search rules in
+    subst (λ (y : Thread). AsksFork (look c.args.image.now c.args.t y) c.in-Fork.has_room) (inside _ _ (sym stands ∙ at)) here
 
 if_ok : (r : Result Event StepFault) (P Q : Event → Type 0) → ((e : Event) → P e → Q e) → IfOk r P → IfOk r Q
 if_ok (Ok e) P Q f h = f e h
@@ -27,17 +27,3 @@ if_ok (Err g) P Q f h = tt
 if_err : (r : Result Event StepFault) (P Q : StepFault → Type 0) → ((g : StepFault) → P g → Q g) → IfErr r P → IfErr r Q
 if_err (Ok e) P Q f h = tt
 if_err (Err g) P Q f h = f g h
-
-pub returns-in_default-clause-done : goal.returns-in_default-clause-done
-returns-in_default-clause-done c =
-    let k = parts_of c.args.shared.now c.args.threads.now.items in
-    let within : c.args.t ≤ length c.args.threads.now.items = search rules in
-    let stands = stands_at c.args.threads.now.items c.args.t c.index_mut-local.result.now c.index_mut-local.result.now c.requires.thread.0 within c.index_mut-local.ensures.value in
-    if_ok c.take_thread_step.result _ _ (λ e done. stepped c.args.image.now k c.args.t (length k.threads) c.index_mut-local.result.now _ stands c.requires.awake refl (done (length k.threads))) c.take_thread_step.ensures.done
-
-pub returns-in_default-clause-err : goal.returns-in_default-clause-err
-returns-in_default-clause-err c =
-    let k = parts_of c.args.shared.now c.args.threads.now.items in
-    let within : c.args.t ≤ length c.args.threads.now.items = search rules in
-    let stands = stands_at c.args.threads.now.items c.args.t c.index_mut-local.result.now c.index_mut-local.result.now c.requires.thread.0 within c.index_mut-local.ensures.value in
-    if_err c.take_thread_step.result _ _ (λ f err. stepped c.args.image.now k c.args.t (length k.threads) c.index_mut-local.result.now _ stands c.requires.awake refl (err (length k.threads))) c.take_thread_step.ensures.err
