@@ -170,7 +170,7 @@ asks_fork (AskFault fault) go e n room h = absurd cc
 
 pub forks_when : (l : Look) (e n : ℕ) (room : Bool) → next_step_of l ≡ next.Fork e n room → AsksFork l room
 forks_when (Goes y) e n room is = absurd cc
-forks_when (Asks r go) e n room is = asks_fork r go e n room (shared_is (told_of r) (told.Fork e n room) is)
+forks_when (Asks r go) e n room is = asks_fork r go e n room is
 forks_when (Leaves phase) e n room is = absurd cc
 forks_when Breaks e n room is = absurd cc
 forks_when Rests e n room is = absurd cc

@@ -17,17 +17,17 @@ pub returns-in-Swap-clause-gives : goal.returns-in-Swap-clause-gives
 returns-in-Swap-clause-gives c = λ made.
     ap (λ r. serve made c.args.t (asked_of r) (common c.args.self.now)) c.in-Swap.is ∙ c.swap.ensures.gives made c.args.t
 
-pub returns-in-Cas-clause-gives : goal.returns-in-Cas-clause-gives
-returns-in-Cas-clause-gives c = λ made.
-    ap (λ r. serve made c.args.t (asked_of r) (common c.args.self.now)) c.in-Cas.is ∙ c.compare_swap.ensures.gives made c.args.t
+pub returns-in-CompareSwap-clause-gives : goal.returns-in-CompareSwap-clause-gives
+returns-in-CompareSwap-clause-gives c = λ made.
+    ap (λ r. serve made c.args.t (asked_of r) (common c.args.self.now)) c.in-CompareSwap.is ∙ c.compare_swap.ensures.gives made c.args.t
 
-pub returns-in-Or-clause-gives : goal.returns-in-Or-clause-gives
-returns-in-Or-clause-gives c = λ made.
-    ap (λ r. serve made c.args.t (asked_of r) (common c.args.self.now)) c.in-Or.is ∙ c.fetch_or.ensures.gives made c.args.t
+pub returns-in-FetchOr-clause-gives : goal.returns-in-FetchOr-clause-gives
+returns-in-FetchOr-clause-gives c = λ made.
+    ap (λ r. serve made c.args.t (asked_of r) (common c.args.self.now)) c.in-FetchOr.is ∙ c.fetch_or.ensures.gives made c.args.t
 
-pub returns-in-Add-clause-gives : goal.returns-in-Add-clause-gives
-returns-in-Add-clause-gives c = λ made.
-    ap (λ r. serve made c.args.t (asked_of r) (common c.args.self.now)) c.in-Add.is ∙ c.fetch_add.ensures.gives made c.args.t
+pub returns-in-FetchAdd-clause-gives : goal.returns-in-FetchAdd-clause-gives
+returns-in-FetchAdd-clause-gives c = λ made.
+    ap (λ r. serve made c.args.t (asked_of r) (common c.args.self.now)) c.in-FetchAdd.is ∙ c.fetch_add.ensures.gives made c.args.t
 
 pub returns-in-Print-clause-gives : goal.returns-in-Print-clause-gives
 returns-in-Print-clause-gives c = λ made.
