@@ -67,7 +67,8 @@ impl Activation {
 
     // A return, which is local where there is a caller.
     fn leaving(&self, request: Request) -> NextStep
-        ensures { (asked : RequestOf) → request_step asked ≡ next.Shared request → result ≡ next_step_of (returned asked self.now.operands self.now.callers) }
+        ensures { (asked : RequestOf) → request_step asked ≡ next.Shared request
+            → result ≡ next_step_of (returned asked self.now.operands self.now.callers) }
     {
         if self.callers.is_empty() {
             NextStep::Shared(request)
@@ -147,7 +148,9 @@ impl Activation {
 // The request of an instruction that takes an address and a number.
 fn request_of_two(instr: Instr, address: Addr, number: u32) -> Request
     requires { TakesTwo instr }
-    ensures { (t place : ℕ) (rest : List ℕ) (locals : LocalsOf) (callers : List FrameOf) → next_step_of (look_at t (Some instr) place (number ∷ address.0 ∷ rest) locals callers) ≡ asked (Some result) }
+    ensures { (t place : ℕ) (rest : List ℕ) (locals : LocalsOf) (callers : List FrameOf)
+        → next_step_of (look_at t (Some instr) place (number ∷ address.0 ∷ rest) locals callers)
+        ≡ asked (Some result) }
 {
     match instr {
         Instr::Store => Request::Store(address, number),

@@ -38,8 +38,8 @@ impl Model for Local {
     ghost view = { λ l. thread_of_stage l.stage };
 }
 
-/// A thread at the start of a procedure, with at most `MOST_OPERANDS` arguments from the lowest operand up. The first thread of a
-/// program has none.
+/// A thread at the start of a procedure, with at most `MOST_OPERANDS` arguments from the lowest operand up. The first
+/// thread of a program has none.
 pub fn opening_local(start: u32, arguments: &[u32]) -> Local
     requires { length arguments.now ≤ most_operands }
     ensures { result ≡ opening_thread start (reverse arguments.now) }
@@ -143,7 +143,8 @@ impl Local {
 
     /// Takes a local step of thread `t` where the next one is, and says whether it did. Else it stays as it is.
     pub fn take_step(&mut self, image: &Image, t: u32) -> bool
-        ensures { MatchBool result (local_step image.now t self.old ≡ Some self.new) ((local_step image.now t self.old ≡ None) × (self.new ≡ self.old)) }
+        ensures { MatchBool result (local_step image.now t self.old ≡ Some self.new)
+            ((local_step image.now t self.old ≡ None) × (self.new ≡ self.old)) }
     {
         match &mut self.stage {
             Stage::Running(activation) => match activation.take_step(image, t) {

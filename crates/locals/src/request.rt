@@ -12,8 +12,11 @@ pub enum Request {
     Swap(Addr, u32),
     /// `new` put at an address where the word is `expected`; the answer is the word before.
     CompareSwap {
+        /// The address.
         address: Addr,
+        /// The word that has to be there.
         expected: u32,
+        /// The word that is put.
         new: u32,
     },
     /// Bits set in the word at an address; the answer is the word before.
@@ -25,21 +28,30 @@ pub enum Request {
     /// To sleep on an address where the word is `expected` (futex(2), FUTEX_WAIT); the answer is 0, or 1 where the word
     /// is another.
     Wait {
+        /// The address.
         address: Addr,
+        /// The word that has to be there.
         expected: u32,
     },
     /// To wake at most `count` sleepers on an address (futex(2), FUTEX_WAKE); the answer is how many.
     Wake {
+        /// The address.
         address: Addr,
+        /// How many are woken at most.
         count: u32,
     },
     /// To wake and move sleepers where the word is `expected` (futex(2), FUTEX_CMP_REQUEUE); the answer is how many of
     /// both, or 4294967295 where the word is another.
     Requeue {
+        /// The address whose sleepers are woken and moved.
         from: Addr,
+        /// The address that they are moved to.
         to: Addr,
+        /// How many are woken at most.
         wake: u32,
+        /// How many of the rest are moved at most.
         moves: u32,
+        /// The word that has to be at `from`.
         expected: u32,
     },
     /// Its end, by the return of its last frame; the answer is the first entry of its robust list.

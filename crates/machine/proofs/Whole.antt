@@ -1,5 +1,7 @@
 -- A step on the parts of a machine is a step of the machine.
-use Rattle.std.proofs.Common.{◌≡◌, ℕ, zero, suc, ◌-◌, ◌<◌, ◌≤◌, Bool, true, false, cond, eqb, List, [], ◌∷◌, length, get_or, Some, None, Result, Ok, Err, slice_get, slice_set, replicate, refl, sym, ap, ◌∙◌, arith}
+use Rattle.std.proofs.Common.{◌≡◌, ℕ, zero, suc, ◌-◌, ◌<◌, ◌≤◌, Bool, true, false, cond, eqb, List, [], ◌∷◌}
+use Rattle.std.proofs.Common.{length, get_or, Some, None, Result, Ok, Err, slice_get, slice_set, replicate, refl}
+use Rattle.std.proofs.Common.{sym, ap, ◌∙◌, arith}
 use Rattle.std.specs.Prelude.{IfOk, OnErr}
 use Rattle.std.proofs.Math.Path.{fun_ext}
 use Rattle.isa.specs.Programs.{Program, memory_size}
@@ -11,7 +13,8 @@ use Rattle.machine.specs.declared.event.StepFault.{StepFault}
 use Rattle.machine.specs.declared.event.StepFault.TheVariants.{Broken}
 use Rattle.machine.specs.States.{Common, ConcreteState, thread_at, thread_of, opening_concrete}
 use Rattle.machine.specs.ConcreteServing.{Served, serve}
-use Rattle.machine.specs.ConcreteSteps.{Stepped, go_on_with, thread_step, on_machine, step_awake, step_thread, step_of, fault_of}
+use Rattle.machine.specs.ConcreteSteps.{Stepped, go_on_with, thread_step, on_machine, step_awake, step_thread}
+use Rattle.machine.specs.ConcreteSteps.{step_of, fault_of}
 use Rattle.machine.specs.Views.{IsWellFormed, concrete_of}
 use Rattle.machine.proofs.Stepping.{steps_so}
 
@@ -20,20 +23,28 @@ got [] i x d l h = absurd (omega arith)
 got (y ∷ ts) zero x d l h = ap (λ z. Some z) (sym h)
 got (y ∷ ts) (suc i) x d l h = got ts i x d (omega arith) h
 
-pub stands_at : (ts : List Thread) (t : ℕ) (x d : Thread) → 0 < t → t ≤ length ts → x ≡ get_or ts (t - 1) d → thread_at ts t ≡ Some x
+pub stands_at : (ts : List Thread) (t : ℕ) (x d : Thread) → 0 < t → t ≤ length ts → x ≡ get_or ts (t - 1) d
+    → thread_at ts t ≡ Some x
 stands_at ts zero x d some few h = absurd (omega arith)
-stands_at ts (suc t) x d some few h = got ts t x d (omega arith) (h ∙ ap (λ i. get_or ts i d) (let e : suc t - 1 ≡ t = omega arith in e))
+stands_at ts (suc t) x d some few h =
+    got ts t x d (omega arith) (h ∙ ap (λ i. get_or ts i d) (let e : suc t - 1 ≡ t = omega arith in e))
 
-pub stepped : (p : Program) (k : ConcreteState) (t made : ℕ) (x : Thread) (r : Result Stepped StepFault) → thread_of k t ≡ Some x → k.common.asleep t ≡ None → made ≡ length k.threads → thread_step made t k.common (look p t x) ≡ r → step_of p k t ≡ on_machine k t r
+pub stepped : (p : Program) (k : ConcreteState) (t made : ℕ) (x : Thread) (r : Result Stepped StepFault)
+    → thread_of k t ≡ Some x → k.common.asleep t ≡ None → made ≡ length k.threads
+    → thread_step made t k.common (look p t x) ≡ r → step_of p k t ≡ on_machine k t r
 stepped p k t made x r stands awake counted done =
-    ap (step_thread p k t) stands ∙ ap (step_awake p k t x) awake ∙ ap (λ m. on_machine k t (thread_step m t k.common (look p t x))) (sym counted) ∙ ap (on_machine k t) done
+    ap (step_thread p k t) stands ∙ ap (step_awake p k t x) awake
+        ∙ ap (λ m. on_machine k t (thread_step m t k.common (look p t x))) (sym counted) ∙ ap (on_machine k t) done
 
-pub kept_after : (p : Program) (k k' : ConcreteState) (t : ℕ) (r : Result Event StepFault) → IsWellFormed p k → IfOk r (λ e. step_of p k t ≡ Ok (k', e)) → OnErr r (k' ≡ k) → IsWellFormed p k'
+pub kept_after : (p : Program) (k k' : ConcreteState) (t : ℕ) (r : Result Event StepFault) → IsWellFormed p k
+    → IfOk r (λ e. step_of p k t ≡ Ok (k', e)) → OnErr r (k' ≡ k) → IsWellFormed p k'
 kept_after p k k' t (Ok e) concrete done same = (steps_so p k k' t e concrete done).3
 kept_after p k k' t (Err f) concrete done same = rw same concrete
 
 -- the parts of a machine at the start of a program
-pub opened : (p : Program) (words : List ℕ) (s : Sleepers) (threads : List Thread) → words ≡ slice_set (replicate (memory_size p) 0) 3 1 → ((a : ℕ) → queue s a ≡ []) → ((t : ℕ) → place_of s t ≡ None) → threads ≡ opening_thread p.start [] ∷ []
+pub opened : (p : Program) (words : List ℕ) (s : Sleepers) (threads : List Thread)
+    → words ≡ slice_set (replicate (memory_size p) 0) 3 1 → ((a : ℕ) → queue s a ≡ [])
+    → ((t : ℕ) → place_of s t ≡ None) → threads ≡ opening_thread p.start [] ∷ []
     → concrete_of words s threads [] ≡ opening_concrete p
 opened p words s threads w q a t =
     let queues : queue s ≡ (λ b. []) = fun_ext q in

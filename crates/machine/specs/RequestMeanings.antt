@@ -5,7 +5,8 @@ use Rattle.robustexit.specs.declared.phase.ExitPhase.{ExitPhase}
 use Rattle.robustexit.specs.declared.phase.ExitPhase.TheVariants.{Entry, Pending, ClearId, LastWake, Ended}
 use Rattle.locals.specs.declared.request.Request.{Request as Told}
 use Rattle.locals.specs.declared.request.Request.TheVariants as told
-use Rattle.locals.specs.Looks.{Request, AskLoad, AskStore, AskSwap, AskCas, AskOr, AskAdd, AskFork, AskPrint, AskWait, AskWake, AskRequeue, AskReturn, AskReturnValue, AskFault, Look, Asks}
+use Rattle.locals.specs.Looks.{Request, AskLoad, AskStore, AskSwap, AskCas, AskOr, AskAdd, AskFork, AskPrint}
+use Rattle.locals.specs.Looks.{AskWait, AskWake, AskRequeue, AskReturn, AskReturnValue, AskFault, Look, Asks}
 use Rattle.machine.specs.declared.served.Served.{Served as Given}
 use Rattle.machine.specs.declared.event.EventName.{EventName}
 use Rattle.machine.specs.declared.event.EventName.TheVariants as name

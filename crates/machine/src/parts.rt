@@ -1,4 +1,5 @@
-ghost use Rattle.std.specs.Prelude.{◌≡◌, ◌^◌, sum, ◌≤◌, ◌<◌, Some, None, Ok, Err, IfOk, IfErr, OnErr, [], ◌∷◌, length, replicate, slice_index, slice_set, vec_len, vec_capacity};
+ghost use Rattle.std.specs.Prelude.{◌≡◌, ◌^◌, sum, ◌≤◌, ◌<◌, Some, None, Ok, Err, IfOk, IfErr, OnErr, [], ◌∷◌};
+ghost use Rattle.std.specs.Prelude.{length, replicate, slice_index, slice_set, vec_len, vec_capacity};
 ghost use Rattle.words.specs.Limits.{most_processes};
 ghost use Rattle.isa.specs.Programs.{memory_size};
 ghost use Rattle.locals.specs.Threads.{Thread, opening_thread};
@@ -74,7 +75,9 @@ pub fn step_parts(
     requires few { vec_len threads.old ≤ most_processes }
     requires awake { place_of shared.old.sleepers t ≡ None }
     requires space { most_processes ≤ vec_capacity threads.old }
-    ensures done { IfOk result (λ e. step_of image.now (parts_of shared.old threads.old.items) t ≡ Ok (parts_of shared.new threads.new.items, e)) }
+    ensures done { IfOk result
+        (λ e. step_of image.now (parts_of shared.old threads.old.items) t
+        ≡ Ok (parts_of shared.new threads.new.items, e)) }
     ensures err { IfErr result (λ f. step_of image.now (parts_of shared.old threads.old.items) t ≡ Err f) }
     ensures same { OnErr result ((shared.new ≡ shared.old) × (threads.new.items ≡ threads.old.items)) }
     ensures capacity { shared.new.capacity ≡ shared.old.capacity }
@@ -113,7 +116,9 @@ fn fork_parts(
     requires awake { place_of shared.old.sleepers t ≡ None }
     requires asks { (x : Thread) → thread_at threads.old.items t ≡ Some x → AsksFork (look image.now t x) has_room }
     requires space { most_processes ≤ vec_capacity threads.old }
-    ensures done { IfOk result (λ e. step_of image.now (parts_of shared.old threads.old.items) t ≡ Ok (parts_of shared.new threads.new.items, e)) }
+    ensures done { IfOk result
+        (λ e. step_of image.now (parts_of shared.old threads.old.items) t
+        ≡ Ok (parts_of shared.new threads.new.items, e)) }
     ensures err { IfErr result (λ f. step_of image.now (parts_of shared.old threads.old.items) t ≡ Err f) }
     ensures same { OnErr result ((shared.new ≡ shared.old) × (threads.new.items ≡ threads.old.items)) }
     ensures capacity { shared.new.capacity ≡ shared.old.capacity }

@@ -21,7 +21,8 @@ impl Common {
 
     // Whether a request would be served.
     fn can_serve(&self, request: Request) -> bool
-        ensures { (made t : ℕ) → fault_of (serve made t (asked_of request) (common self.now)) ≡ (if result then None else Some StepFault.Broken) }
+        ensures { (made t : ℕ) → fault_of (serve made t (asked_of request) (common self.now))
+            ≡ (if result then None else Some StepFault.Broken) }
     {
         match request {
             Request::Load(a)

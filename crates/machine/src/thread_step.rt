@@ -60,7 +60,8 @@ pub fn take_request(
     requires asks { next_step_of (look image.now t local.old) ≡ next.Shared request }
     ensures done { IfOk result (λ e. (made : ℕ) → thread_step made t (common shared.old) (look image.now t local.old)
         ≡ Ok (record { common = common shared.new; thread = local.new; child = None; event = e })) }
-    ensures err { IfErr result (λ f. (made : ℕ) → thread_step made t (common shared.old) (look image.now t local.old) ≡ Err f) }
+    ensures err { IfErr result (λ f. (made : ℕ)
+        → thread_step made t (common shared.old) (look image.now t local.old) ≡ Err f) }
     ensures same { OnErr result ((local.new ≡ local.old) × (shared.new ≡ shared.old)) }
     ensures capacity { shared.new.capacity ≡ shared.old.capacity }
 {

@@ -41,7 +41,8 @@ RunsSo =
     → (steps : List Step) × MachineRun p steps (state_of k) × (length steps ≡ cost log)
     × (map label_of steps ≡ map event_label (steps_of log))
 
--- a run of the log's steps and of the local steps of the thread behind it leads to where the thread's next step may not be
+-- a run of the log's steps and of the local steps of the thread behind it leads to where the thread's next step may
+-- not be
 abbrev pub MeetsSo : Type 0
 MeetsSo =
     (p : Program) (limit : ℕ) (m : MeetsBroken p limit)
