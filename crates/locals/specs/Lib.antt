@@ -1,4 +1,7 @@
+pub mod Limits
 pub mod Threads
+pub mod Effects
+pub mod InstructionEffects
 pub mod Looks
 pub mod Steps
 pub mod Requests

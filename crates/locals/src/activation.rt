@@ -1,4 +1,5 @@
 ghost use Rattle.std.specs.Prelude.{◌≡◌, ◌≢◌, ◌≤◌, MatchBool, length, reverse};
+ghost use Rattle.locals.specs.Limits.{most_operands};
 ghost use Rattle.locals.specs.Threads.{opening_thread};
 ghost use Rattle.locals.specs.Views.{running};
 
@@ -27,7 +28,7 @@ pub struct Activation {
 impl Activation {
     /// The start of a procedure, with its arguments from the lowest operand up.
     pub fn start(place: u32, arguments: &[u32]) -> Activation
-        requires { length arguments.now ≤ 512 }
+        requires { length arguments.now ≤ most_operands }
         ensures { running result ≡ opening_thread place (reverse arguments.now) }
     {
         Activation {

@@ -1,5 +1,6 @@
 //! How an activation goes on with the answer to what it asked for.
 ghost use Rattle.std.specs.Prelude.{◌≡◌, ◌<◌, ◌∷◌, ℕ, Some, None, slice_get, MatchOption};
+ghost use Rattle.isa.specs.Limits.{most_instructions};
 ghost use Rattle.isa.specs.declared.instr.Instr.TheVariants.{Fork, Store, Print};
 ghost use Rattle.locals.specs.Looks.{Request as RequestOf, Asking, returned, on_one, on_two, on_three, on_five};
 ghost use Rattle.locals.specs.Requests.{answered, forked, CanBeAnswered};
@@ -24,7 +25,7 @@ impl Activation {
     }
 
     fn answer(&mut self, instr: Instr, t: u32, answer: u32) -> Answered
-        requires place { self.old.place < 65536 }
+        requires place { self.old.place < most_instructions }
         requires fits { CanBeAnswered (looks t (Some instr) self.old) answer }
         ensures { Follows result (answered (looks t (Some instr) self.old) answer (running self.old)) self.new }
     {
@@ -50,7 +51,7 @@ impl Activation {
     }
 
     fn replace_one(&mut self, answer: u32) -> Answered
-        requires { self.old.place < 65536 }
+        requires { self.old.place < most_instructions }
         ensures { (asks : ℕ → RequestOf) → Follows result (answered (placed self.old (on_one self.old.operands (λ a rest. Asking (asks a) (λ v. v ∷ rest)))) answer (running self.old)) self.new }
     {
         if self.operands.pop().is_some() {
@@ -61,7 +62,7 @@ impl Activation {
     }
 
     fn replace_two(&mut self, answer: u32) -> Answered
-        requires { self.old.place < 65536 }
+        requires { self.old.place < most_instructions }
         ensures { (asks : ℕ → ℕ → RequestOf) → Follows result (answered (placed self.old (on_two self.old.operands (λ a b rest. Asking (asks a b) (λ v. v ∷ rest)))) answer (running self.old)) self.new }
     {
         if self.operands.pop_two().is_some() {
@@ -72,7 +73,7 @@ impl Activation {
     }
 
     fn replace_three(&mut self, answer: u32) -> Answered
-        requires { self.old.place < 65536 }
+        requires { self.old.place < most_instructions }
         ensures { (asks : ℕ → ℕ → ℕ → RequestOf) → Follows result (answered (placed self.old (on_three self.old.operands (λ a b c rest. Asking (asks a b c) (λ v. v ∷ rest)))) answer (running self.old)) self.new }
     {
         if self.operands.top_three().is_some() {
@@ -84,7 +85,7 @@ impl Activation {
     }
 
     fn replace_five(&mut self, answer: u32) -> Answered
-        requires { self.old.place < 65536 }
+        requires { self.old.place < most_instructions }
         ensures { (asks : ℕ → ℕ → ℕ → ℕ → ℕ → RequestOf) → Follows result (answered (placed self.old (on_five self.old.operands (λ a b c d e rest. Asking (asks a b c d e) (λ v. v ∷ rest)))) answer (running self.old)) self.new }
     {
         if self.operands.top_five().is_some() {
@@ -96,7 +97,7 @@ impl Activation {
     }
 
     fn stored(&mut self) -> Answered
-        requires { self.old.place < 65536 }
+        requires { self.old.place < most_instructions }
         ensures { (answer : ℕ) → Follows result (answered (looks 0 (Some Store) self.old) answer (running self.old)) self.new }
     {
         if self.operands.pop_two().is_some() {
@@ -106,7 +107,7 @@ impl Activation {
     }
 
     fn printed(&mut self) -> Answered
-        requires { self.old.place < 65536 }
+        requires { self.old.place < most_instructions }
         ensures { (answer : ℕ) → Follows result (answered (looks 0 (Some Print) self.old) answer (running self.old)) self.new }
     {
         if self.operands.pop().is_some() {
@@ -116,7 +117,7 @@ impl Activation {
     }
 
     fn answer_fork(&mut self, entry: u32, count: u32, answer: u32) -> Answered
-        requires place { self.old.place < 65536 }
+        requires place { self.old.place < most_instructions }
         requires fits { CanBeAnswered (looks 0 (Some (Fork entry count)) self.old) answer }
         ensures { Follows result (answered (looks 0 (Some (Fork entry count)) self.old) answer (running self.old)) self.new }
     {

@@ -8,9 +8,8 @@ ghost use Rattle.locals.specs.Views.{asked, local_where, looks, IsRequest, Takes
 
 use crate::activation::{Activation, MOST_OPERANDS};
 use crate::request::{NextStep, Request};
-use crate::stepping::MOST_THREADS;
 use isa::{Image, Instr};
-use words::Addr;
+use words::{Addr, MOST_PROCESSES};
 
 impl Activation {
     /// What the next step of thread `t` is.
@@ -44,7 +43,7 @@ impl Activation {
                 None => NextStep::Broken,
             },
             Instr::ProcessAddress(_) => match self.operands.top() {
-                Some(1..=MOST_THREADS) => NextStep::Local,
+                Some(1..=MOST_PROCESSES) => NextStep::Local,
                 Some(_) | None => NextStep::Broken,
             },
             Instr::Jump(_) | Instr::Raise(_) => NextStep::Local,

@@ -4,7 +4,7 @@ ghost use Rattle.locals.specs.Threads.{fresh, local_at, with_local};
 use isa::Slot;
 
 /// How many locals a frame has, besides the one of the templates.
-pub const LOCALS: usize = 64;
+pub const LOCALS: usize = isa::MOST_LOCALS as usize;
 
 /// The locals of a frame.
 #[derive(Clone, Copy, PartialEq, Eq, Debug)]

@@ -1,5 +1,6 @@
 ghost use Rattle.std.specs.Prelude.{◌≡◌, ◌≢◌, ◌≤◌, MatchBool, Some, None, is_some, length, reverse};
 ghost use Rattle.robustexit.specs.declared.phase.ExitPhase.TheVariants.{Ended};
+ghost use Rattle.locals.specs.Limits.{most_operands};
 ghost use Rattle.locals.specs.Threads.{Exits, opening_thread};
 ghost use Rattle.locals.specs.Looks.{look};
 ghost use Rattle.locals.specs.Steps.{local_step};
@@ -37,10 +38,10 @@ impl Model for Local {
     ghost view = { λ l. thread_of_stage l.stage };
 }
 
-/// A thread at the start of a procedure, with at most 512 arguments from the lowest operand up. The first thread of a
+/// A thread at the start of a procedure, with at most `MOST_OPERANDS` arguments from the lowest operand up. The first thread of a
 /// program has none.
 pub fn opening_local(start: u32, arguments: &[u32]) -> Local
-    requires { length arguments.now ≤ 512 }
+    requires { length arguments.now ≤ most_operands }
     ensures { result ≡ opening_thread start (reverse arguments.now) }
 {
     Local {

@@ -67,7 +67,7 @@ pub enum NextStep {
     /// A step of its exit.
     Exit(ExitPhase),
     /// A step that may not be: a missing operand, a 513th operand, a 17th frame, a place outside the code, or a process
-    /// number that is not from 1 to 64.
+    /// number that no thread can have.
     Broken,
     /// None, since the thread has ended.
     Ended,

@@ -21,8 +21,9 @@ use Rattle.robustexit.specs.Fronts.{shared, wake_word, TakesFront}
 use Rattle.robustexit.proofs.Steps.{word_of-set}
 use Rattle.machine.specs.ThreadSets.{IsThread}
 use Rattle.machine.specs.declared.event.EventName.TheVariants as name
-use Rattle.machine.specs.Fronts.{Left, leave, left_entry, left_pending, front, woken_on, abandoned, woken_by_abandoning, event_of}
-use Rattle.machine.specs.Told.{name_at, value_at}
+use Rattle.machine.specs.ConcreteServing.{front, wake_front, event_of}
+use Rattle.machine.specs.ConcreteExits.{Left, leave, leave_entry, leave_pending, abandon, abandon_wakes}
+use Rattle.machine.specs.RequestMeanings.{name_at, value_at}
 use Rattle.machine.specs.Views.{IsSoundly, common_of}
 use Rattle.machine.proofs.Queues.{one_list, no_list}
 use Rattle.machine.proofs.Leaving.{entry_so, entry_test}
@@ -68,8 +69,8 @@ no_threads [] h = refl
 no_threads (x ∷ xs) h = absurd (omega arith)
 
 record Marks (ws ws' : List ℕ) (s s' : Sleepers) (o : List ℤ) (l : ℕ) (woken : List ℕ) : Type 0 where
-  pub common : abandoned (common_of ws s o) l ≡ common_of ws' s' o
-  pub woke : woken_by_abandoning (common_of ws s o) l ≡ woken
+  pub common : abandon (common_of ws s o) l ≡ common_of ws' s' o
+  pub woke : abandon_wakes (common_of ws s o) l ≡ woken
 
 marks_if : (ws ws' : List ℕ) (s s' : Sleepers) (o : List ℤ) (t l : ℕ) (woken : List ℕ) → IsSoundly (queue s) (place_of s) → Abandons t l (shared ws s) woken (shared ws' s') → TakesFront s s' l woken → length ws' ≡ length ws → l < length ws
     → (w : Bool) → waiters_of (word_of ws l) ≡ w → Marks ws ws' s s' o l woken
@@ -99,7 +100,7 @@ marks : (ws ws' : List ℕ) (s s' : Sleepers) (o : List ℤ) (t l : ℕ) (woken 
 marks ws ws' s s' o t l woken ok gone takes long inside = marks_if ws ws' s s' o t l woken ok gone takes long inside (waiters_of (word_of ws l)) refl
 
 record WakesFront (ws ws' : List ℕ) (s s' : Sleepers) (o : List ℤ) (a : ℕ) (woken : List ℕ) : Type 0 where
-  pub common : woken_on (common_of ws s o) a 1 ≡ common_of ws' s' o
+  pub common : wake_front (common_of ws s o) a 1 ≡ common_of ws' s' o
   pub woke : front (common_of ws s o) a 1 ≡ woken
 
 one_woken : (ws ws' : List ℕ) (s s' : Sleepers) (o : List ℤ) (a : ℕ) (woken : List ℕ) → IsSoundly (queue s) (place_of s) → WakesOne a (shared ws s) woken (shared ws' s') → TakesFront s s' a woken → length ws' ≡ length ws → WakesFront ws ws' s s' o a woken
@@ -115,7 +116,7 @@ abbrev pub left : List ℕ → Sleepers → List ℤ → ExitPhase → ExitPhase
 left ws' s' o phase next value woken = record { common = common_of ws' s' o; next = next; event = event_of (name_at phase) value woken [] }
 
 at_entry : (ws ws' : List ℕ) (s s' : Sleepers) (o : List ℤ) (t e seen : ℕ) (next : ExitPhase) (woken : List ℕ) → IsSoundly (queue s) (place_of s) → EntryStep (length ws) t e (shared ws s) woken (shared ws' s') → TakesFront s s' (e + 1) woken → length ws' ≡ length ws
-    → IsEntry (length ws) e → next ≡ next_entry (word_of ws e) (seen + 1) → left_entry t e seen (common_of ws s o) ≡ left ws' s' o (Entry (record { 0 = e }) seen) next e woken
+    → IsEntry (length ws) e → next ≡ next_entry (word_of ws e) (seen + 1) → leave_entry t e seen (common_of ws s o) ≡ left ws' s' o (Entry (record { 0 = e }) seen) next e woken
 at_entry ws ws' s s' o t e seen next woken ok (IsPending is idle) takes long entry goes =
     cond-false _ _ _ (ap not (entry_test (common_of ws s o) e entry)) ∙ cond-true _ _ _ (or_left _ _ (eq-eqb _ _ is))
     ∙ (λ i. record { common = sym (idle_is ws ws' s s' o (e + 1) woken idle takes long) i; next = sym goes i; event = event_of name.Entry e (sym idle.nobody i) [] })
@@ -128,7 +129,7 @@ at_entry ws ws' s s' o t e seen next woken ok (IsOwned apart gone) takes long en
     ∙ (λ i. record { common = m.common i; next = sym goes i; event = event_of name.Entry e (m.woke i) [] })
 
 at_pending : (ws ws' : List ℕ) (s s' : Sleepers) (o : List ℤ) (t e : ℕ) (woken : List ℕ) → IsSoundly (queue s) (place_of s) → PendingStep (length ws) t e (shared ws s) woken (shared ws' s') → TakesFront s s' (e + 1) woken → length ws' ≡ length ws
-    → left_pending t e (common_of ws s o) ≡ left ws' s' o Pending ClearId e woken
+    → leave_pending t e (common_of ws s o) ≡ left ws' s' o Pending ClearId e woken
 at_pending ws ws' s s' o t e woken ok (NoEntry out idle) takes long =
     cond-true _ _ _ (ap not (false_from_ne_true _ (λ h. out (entry_so (common_of ws s o) e h))))
     ∙ (λ i. record { common = sym (idle_is ws ws' s s' o (e + 1) woken idle takes long) i; next = ClearId; event = event_of name.Pending e (sym idle.nobody i) [] })

@@ -12,12 +12,13 @@ use Rattle.machine.specs.declared.event.EventName.TheVariants as name
 use Rattle.machine.specs.declared.event.StepFault.{StepFault}
 use Rattle.machine.specs.declared.event.StepFault.TheVariants.{Broken}
 use Rattle.robustexit.specs.RobustExit.{put}
-use Rattle.machine.specs.States.{Common, Kept, thread_at, thread_of, state_of, with_thread}
-use Rattle.machine.specs.Serving.{with_child}
-use Rattle.machine.specs.Fronts.{Served, went_on, lifted, forked, plain, set_word}
-use Rattle.machine.specs.Views.{IsKept}
+use Rattle.machine.specs.States.{Common, ConcreteState, thread_at, thread_of, state_of, with_thread}
+use Rattle.machine.specs.AbstractServing.{with_child}
+use Rattle.machine.specs.ConcreteServing.{Served, fork_at, plain, set_word}
+use Rattle.machine.specs.ConcreteSteps.{go_on_with, on_machine}
+use Rattle.machine.specs.Views.{IsWellFormed}
 use Rattle.machine.proofs.Placing.{by_place, put-here, put-there, threads_put, words_put}
-use Rattle.machine.proofs.Keeping.{Holds, holds-kept, holds-set, holds-more}
+use Rattle.machine.proofs.Keeping.{Holds, holds-concrete, holds-set, holds-more}
 use Rattle.machine.proofs.Landing.{Steps, inside, HasPlace}
 use Rattle.machine.proofs.Serves.{stays}
 
@@ -54,28 +55,28 @@ new_thread ts t x y z u stands ne =
     thread-append (slice_set ts (t - 1) x) y u ∙ (λ i. put (f i) (suc (long i)) (Some y) u) ∙ put-swap (thread_at ts) t (suc (length ts)) (Some x) (Some y) u ne
 
 -- the place of a test that went well, or not
-made : (k : Kept) (t : ℕ) (go : ℕ → Thread) (b : Bool) (r : Result Served StepFault) (q : Kept × Event) → lifted k t (went_on go (cond b r (Err Broken))) ≡ Ok q → (b ≡ true) × (lifted k t (went_on go r) ≡ Ok q)
+made : (k : ConcreteState) (t : ℕ) (go : ℕ → Thread) (b : Bool) (r : Result Served StepFault) (q : ConcreteState × Event) → on_machine k t (go_on_with go (cond b r (Err Broken))) ≡ Ok q → (b ≡ true) × (on_machine k t (go_on_with go r) ≡ Ok q)
 made k t go true r q h = (refl, h)
 made k t go false r q h = absurd cc
 
-pub forks : (p : Program) (k k' : Kept) (t : ℕ) (e : Event) (y : Thread) (go : ℕ → Thread) (entry : ℕ) (arguments : List ℕ) (has_room : Bool) → IsKept p k → thread_of k t ≡ Some y → HasPlace k t
-    → lifted k t (went_on go (forked (length k.threads) k.common entry arguments has_room)) ≡ Ok (k', e) → Steps p k k' t e (Asks (AskFork entry arguments has_room) go)
-forks p k k' t e y go entry arguments has_room kept stands place h = elim (cases_eq (length k.threads) 64) [
-  | inl full ↦ stays p k k' t e (plain name.Fork 0) y (AskFork entry arguments has_room) go 0 kept stands refl (refl, inl (full, refl, refl)) (ap (λ o. lifted k t (went_on go o)) (sym (cond-true _ _ _ (eq-eqb _ _ full))) ∙ h)
+pub forks : (p : Program) (k k' : ConcreteState) (t : ℕ) (e : Event) (y : Thread) (go : ℕ → Thread) (entry : ℕ) (arguments : List ℕ) (has_room : Bool) → IsWellFormed p k → thread_of k t ≡ Some y → HasPlace k t
+    → on_machine k t (go_on_with go (fork_at (length k.threads) k.common entry arguments has_room)) ≡ Ok (k', e) → Steps p k k' t e (Asks (AskFork entry arguments has_room) go)
+forks p k k' t e y go entry arguments has_room concrete stands place h = elim (cases_eq (length k.threads) 64) [
+  | inl full ↦ stays p k k' t e (plain name.Fork 0) y (AskFork entry arguments has_room) go 0 concrete stands refl (refl, inl (full, refl, refl)) (ap (λ o. on_machine k t (go_on_with go o)) (sym (cond-true _ _ _ (eq-eqb _ _ full))) ∙ h)
   | inr ne ↦
       let child : ℕ = suc (length k.threads) in
-      let o = made k t go has_room _ (k', e) (ap (λ o. lifted k t (went_on go o)) (sym (cond-false _ _ _ (ne_eqb _ _ ne))) ∙ h) in
+      let o = made k t go has_room _ (k', e) (ap (λ o. on_machine k t (go_on_with go o)) (sym (cond-false _ _ _ (ne_eqb _ _ ne))) ∙ h) in
       let x : Thread = go child in
       let made_one : Thread = opening_thread entry arguments in
       let threads : List Thread = slice_set k.threads (t - 1) x ++ made_one ∷ [] in
       let c : Common = set_word k.common (process_word child 2) child in
       let is = inside _ (k', e) o.1 in
-      let k'-is : k' ≡ record { common = c; threads = threads } = ap (λ (q : Kept × Event). q.0) (sym is) in
+      let k'-is : k' ≡ record { common = c; threads = threads } = ap (λ (q : ConcreteState × Event). q.0) (sym is) in
       let long : length threads ≡ child = length-append (slice_set k.threads (t - 1) x) (made_one ∷ []) ∙ omega (arith, length-set k.threads (t - 1) x) in
-      let few : length k.threads < 64 = omega (arith, kept.few, ne) in
-      let lies : process_word child 2 < length k.common.words = omega (arith, kept.sized, few) in
+      let few : length k.threads < 64 = omega (arith, concrete.few, ne) in
+      let lies : process_word child 2 < length k.common.words = omega (arith, concrete.sized, few) in
       let size : length (slice_set k.common.words (process_word child 2) child) ≡ length k.common.words = length-set k.common.words (process_word child 2) child in
-      let holds : Holds (memory_size p) child c = holds-set _ _ k.common (process_word child 2) child (holds-more _ _ child k.common (omega arith) (holds-kept p k kept)) in
+      let holds : Holds (memory_size p) child c = holds-set _ _ k.common (process_word child 2) child (holds-more _ _ child k.common (omega arith) (holds-concrete p k concrete)) in
       let word : (b : ℕ) → slice_index c.words b ≡ put (λ d. slice_index k.common.words d) (process_word child 2) child b = words_put k.common.words (process_word child 2) child lies in
       let state : state_of (record { common = c; threads = threads }) ≡ with_thread (with_child (state_of k) entry arguments) t x = λ i. record {
         word = λ b. word b i;
@@ -87,9 +88,9 @@ forks p k k' t e y go entry arguments has_room kept stands place h = elim (cases
       } in
       record {
         woken = [];
-        set = ap (λ (q : Kept × Event). q.1.woken) (sym is);
+        set = ap (λ (q : ConcreteState × Event). q.1.woken) (sym is);
         moves = (child, with_child (state_of k) entry arguments, (refl, inr (few, o.0, refl, refl)), ap state_of k'-is ∙ state);
-        kept = rw k'-is (record {
+        concrete = rw k'-is (record {
           sized = holds.sized;
           some = omega (arith, long);
           few = omega (arith, long, few);

@@ -9,9 +9,9 @@ use Rattle.buckets.specs.Places.{names, with_place}
 use Rattle.buckets.proofs.Takes.{names-take}
 use Rattle.buckets.proofs.Moves.{IsDistinct-take, with_place-again}
 use Rattle.robustexit.specs.RobustExit.{put}
-use Rattle.machine.specs.States.{Common, Kept}
-use Rattle.machine.specs.Fronts.{set_word, woken_on, sleeping_on, moved_to, front}
-use Rattle.machine.specs.Views.{IsSoundly, IsKept}
+use Rattle.machine.specs.States.{Common, ConcreteState}
+use Rattle.machine.specs.ConcreteServing.{set_word, wake_front, sleep_on, move_front, front}
+use Rattle.machine.specs.Views.{IsSoundly, IsWellFormed}
 use Rattle.machine.proofs.Placing.{put-there}
 use Rattle.machine.proofs.Sleeping.{placed, unplaced, sound-wake, sound-arrive}
 
@@ -21,8 +21,8 @@ pub record Holds (size n : ℕ) (c : Common) : Type 0 where
   pub sound : IsSoundly c.queue c.asleep
   pub made : (t a : ℕ) → c.asleep t ≡ Some a → (1 ≤ t) × (t ≤ n)
 
-pub holds-kept : (p : Program) (k : Kept) → IsKept p k → Holds (memory_size p) (length k.threads) k.common
-holds-kept p k kept = record { sized = kept.sized; sound = kept.sound; made = kept.made }
+pub holds-concrete : (p : Program) (k : ConcreteState) → IsWellFormed p k → Holds (memory_size p) (length k.threads) k.common
+holds-concrete p k concrete = record { sized = concrete.sized; sound = concrete.sound; made = concrete.made }
 
 pub holds-more : (size n m : ℕ) (c : Common) → n ≤ m → Holds size n c → Holds size m c
 holds-more size n m c le h = record { sized = h.sized; sound = h.sound; made = λ t a e. let r = h.made t a e in (r.0, omega (arith, r.1)) }
@@ -33,7 +33,7 @@ holds-set size n c a v h = record { sized = length-set c.words a v ∙ h.sized; 
 pub holds-printed : (size n : ℕ) (c : Common) (output : List ℤ) → Holds size n c → Holds size n (record c { output = output })
 holds-printed size n c output h = record { sized = h.sized; sound = h.sound; made = h.made }
 
-pub holds-woke : (size n : ℕ) (c : Common) (a m : ℕ) → Holds size n c → Holds size n (woken_on c a m)
+pub holds-woke : (size n : ℕ) (c : Common) (a m : ℕ) → Holds size n c → Holds size n (wake_front c a m)
 holds-woke size n c a m h = record {
   sized = h.sized;
   sound = sound-wake c.queue c.asleep a m h.sound;
@@ -55,7 +55,7 @@ holds-arrived size n c b xs d free h = record {
   ];
 }
 
-pub holds-slept : (size n : ℕ) (c : Common) (t a : ℕ) → 1 ≤ t → t ≤ n → c.asleep t ≡ None → Holds size n c → Holds size n (sleeping_on c t a)
+pub holds-slept : (size n : ℕ) (c : Common) (t a : ℕ) → 1 ≤ t → t ≤ n → c.asleep t ≡ None → Holds size n c → Holds size n (sleep_on c t a)
 unfolding IsDistinct
 holds-slept size n c t a some few free h =
     holds-arrived size n c a (t ∷ []) (one t) (λ u y. let e : t ≡ u = sym (eqb-true u t (only u y)) in (ap c.asleep (sym e) ∙ free, (omega (arith, e), omega (arith, e)))) h where
@@ -66,21 +66,21 @@ holds-slept size n c t a some few free h =
       only u y = elim (or_cases (eqb u t) false y) [ inl e ↦ e | inr f ↦ absurd cc ]
 
 -- the front of a goes to the end of b
-pub holds-moved : (size n : ℕ) (c : Common) (a b m : ℕ) → Holds size n c → Holds size n (moved_to c a b m)
+pub holds-moved : (size n : ℕ) (c : Common) (a b m : ℕ) → Holds size n c → Holds size n (move_front c a b m)
 holds-moved size n c a b m h = elim (cases_eq a b) [
-  | inl e ↦ let is : moved_to c a b m ≡ c = cond-true _ _ _ (eq-eqb a b e) in rw is h
+  | inl e ↦ let is : move_front c a b m ≡ c = cond-true _ _ _ (eq-eqb a b e) in rw is h
   | inr ne ↦
-      let woke : Common = woken_on c a m in
+      let woke : Common = wake_front c a m in
       let xs : List ℕ = front c a m in
       let late : Holds size n (record woke { queue = put woke.queue b (woke.queue b ++ xs); asleep = with_place woke.asleep xs (Some b) }) =
       holds-arrived size n woke b xs (IsDistinct-take m (c.queue a) (h.sound.distinct a)) (λ t y. (placed c.asleep xs None t y, h.made t a (h.sound.sleeps t a (names-take m t (c.queue a) y)))) (holds-woke size n c a m h) in
       let was : woke.queue b ≡ c.queue b = put-there c.queue a (drop m (c.queue a)) b (λ q. ne (sym q)) in
       let places : with_place woke.asleep xs (Some b) ≡ with_place c.asleep xs (Some b) = with_place-again c.asleep xs None (Some b) in
-      let is : moved_to c a b m ≡ record woke { queue = put woke.queue b (woke.queue b ++ xs); asleep = with_place woke.asleep xs (Some b) } =
+      let is : move_front c a b m ≡ record woke { queue = put woke.queue b (woke.queue b ++ xs); asleep = with_place woke.asleep xs (Some b) } =
       cond-false _ _ _ (ne_eqb a b ne) ∙ (λ i. record c { queue = put woke.queue b (sym was i ++ xs); asleep = sym places i }) in
       rw is late
 ]
 
 -- a state of the machine after a step of thread t, with a thread more where it made one
-pub keeps : (p : Program) (k : Kept) (c : Common) (threads : List Thread) → IsKept p k → length k.threads ≤ length threads → length threads ≤ 64 → Holds (memory_size p) (length threads) c → IsKept p (record { common = c; threads = threads })
-keeps p k c threads kept more few h = record { sized = h.sized; some = omega (arith, kept.some); few = few; sound = h.sound; made = h.made }
+pub keeps : (p : Program) (k : ConcreteState) (c : Common) (threads : List Thread) → IsWellFormed p k → length k.threads ≤ length threads → length threads ≤ 64 → Holds (memory_size p) (length threads) c → IsWellFormed p (record { common = c; threads = threads })
+keeps p k c threads concrete more few h = record { sized = h.sized; some = omega (arith, concrete.some); few = few; sound = h.sound; made = h.made }

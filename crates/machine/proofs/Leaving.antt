@@ -12,18 +12,19 @@ use Rattle.robustexit.specs.declared.phase.ExitPhase.TheVariants.{Entry, Pending
 use Rattle.robustexit.specs.Phases.{next_entry}
 use Rattle.robustexit.specs.RobustExit.{IsEntry, Abandons, ExitStep, IsPending, IsForeign, IsOwned, NoEntry, put}
 use Rattle.machine.specs.ThreadSets.{set_of}
-use Rattle.machine.specs.States.{Common, Kept, state_of}
-use Rattle.machine.specs.Serving.{shared_of}
-use Rattle.machine.specs.Fronts.{Left, leave, is_entry, load, set_word, front, woken_on, abandoned, woken_by_abandoning, plain, event_of}
+use Rattle.machine.specs.States.{Common, ConcreteState, state_of}
+use Rattle.machine.specs.AbstractServing.{shared_of}
+use Rattle.machine.specs.ConcreteServing.{load, set_word, front, wake_front, plain, event_of}
+use Rattle.machine.specs.ConcreteExits.{Left, leave, is_entry, abandon, abandon_wakes}
 use Rattle.machine.specs.declared.event.EventName.TheVariants as name
-use Rattle.machine.specs.Views.{IsKept}
+use Rattle.machine.specs.Views.{IsWellFormed}
 use Rattle.machine.proofs.Placing.{words_put}
 use Rattle.machine.proofs.Sleeping.{choice-front}
-use Rattle.machine.proofs.Keeping.{Holds, holds-kept, holds-set, holds-woke}
+use Rattle.machine.proofs.Keeping.{Holds, holds-concrete, holds-set, holds-woke}
 use Rattle.machine.proofs.Landing.{HasPlace}
 
 -- what a step of an exit leaves
-pub record Leaving (p : Program) (k : Kept) (t : ℕ) (phase : ExitPhase) (l : Left) : Type 0 where
+pub record Leaving (p : Program) (k : ConcreteState) (t : ℕ) (phase : ExitPhase) (l : Left) : Type 0 where
   pub woken : List ℕ
   pub set : l.event.woken ≡ set_of woken
   pub word : ℕ → ℕ
@@ -59,35 +60,35 @@ nobody_chosen s a = record { distinct = tt; slept = λ t h. absurd cc; few = ome
 
 -- a lock whose owner dies, by whether there may be waiters
 abandoned_if : Common → ℕ → Bool → Common
-abandoned_if c l w = cond w (woken_on (set_word c l (lock_word 0 true w)) l 1) (set_word c l (lock_word 0 true w))
+abandoned_if c l w = cond w (wake_front (set_word c l (lock_word 0 true w)) l 1) (set_word c l (lock_word 0 true w))
 
-record Abandoning (p : Program) (k : Kept) (t l : ℕ) (c : Common) (woken : List ℕ) : Type 0 where
+record Abandoning (p : Program) (k : ConcreteState) (t l : ℕ) (c : Common) (woken : List ℕ) : Type 0 where
   pub word : ℕ → ℕ
   pub words : (b : ℕ) → slice_index c.words b ≡ word b
   pub holds : Holds (memory_size p) (length k.threads) c
   pub output : c.output ≡ k.common.output
   pub step : Abandons t l (shared_of (state_of k)) woken (record { word = word; asleep = c.asleep })
 
-abandoning_if : (p : Program) (k : Kept) (t l : ℕ) → IsKept p k → l < length k.common.words → owner_of (load k.common l) ≡ t → (w : Bool) → waiters_of (load k.common l) ≡ w
+abandoning_if : (p : Program) (k : ConcreteState) (t l : ℕ) → IsWellFormed p k → l < length k.common.words → owner_of (load k.common l) ≡ t → (w : Bool) → waiters_of (load k.common l) ≡ w
     → Abandoning p k t l (abandoned_if k.common l w) (cond w (front k.common l 1) [])
 unfolding abandoned_if
-abandoning_if p k t l kept inside owned true is =
+abandoning_if p k t l concrete inside owned true is =
     let f : ℕ → ℕ = λ b. slice_index k.common.words b in record {
       word = put f l (lock_word 0 true true);
       words = words_put k.common.words l (lock_word 0 true true) inside;
-      holds = holds-woke _ _ _ l 1 (holds-set _ _ k.common l (lock_word 0 true true) (holds-kept p k kept));
+      holds = holds-woke _ _ _ l 1 (holds-set _ _ k.common l (lock_word 0 true true) (holds-concrete p k concrete));
       output = refl;
       step = record {
         owned = owned;
         marks = λ i. put f l (lock_word 0 true (sym is i));
-        wakes = rw is (record { choice = choice-front k.common.queue k.common.asleep l 1 kept.sound; awake = refl });
+        wakes = rw is (record { choice = choice-front k.common.queue k.common.asleep l 1 concrete.sound; awake = refl });
       };
     }
-abandoning_if p k t l kept inside owned false is =
+abandoning_if p k t l concrete inside owned false is =
     let f : ℕ → ℕ = λ b. slice_index k.common.words b in record {
       word = put f l (lock_word 0 true false);
       words = words_put k.common.words l (lock_word 0 true false) inside;
-      holds = holds-set _ _ k.common l (lock_word 0 true false) (holds-kept p k kept);
+      holds = holds-set _ _ k.common l (lock_word 0 true false) (holds-concrete p k concrete);
       output = refl;
       step = record {
         owned = owned;
@@ -96,34 +97,34 @@ abandoning_if p k t l kept inside owned false is =
       };
     }
 
-abandoning : (p : Program) (k : Kept) (t l : ℕ) → IsKept p k → l < length k.common.words → owner_of (load k.common l) ≡ t → Abandoning p k t l (abandoned k.common l) (woken_by_abandoning k.common l)
+abandoning : (p : Program) (k : ConcreteState) (t l : ℕ) → IsWellFormed p k → l < length k.common.words → owner_of (load k.common l) ≡ t → Abandoning p k t l (abandon k.common l) (abandon_wakes k.common l)
 unfolding abandoned_if
-abandoning p k t l kept inside owned = abandoning_if p k t l kept inside owned (waiters_of (load k.common l)) refl
+abandoning p k t l concrete inside owned = abandoning_if p k t l concrete inside owned (waiters_of (load k.common l)) refl
 
 -- nothing changes
-idle : (p : Program) (k : Kept) → IsKept p k → Holds (memory_size p) (length k.threads) k.common
-idle p k kept = holds-kept p k kept
+idle : (p : Program) (k : ConcreteState) → IsWellFormed p k → Holds (memory_size p) (length k.threads) k.common
+idle p k concrete = holds-concrete p k concrete
 
-at_entry : (p : Program) (k : Kept) (t e seen : ℕ) → IsKept p k → HasPlace k t → (b : Bool) → is_entry k.common e ≡ b
+at_entry : (p : Program) (k : ConcreteState) (t e seen : ℕ) → IsWellFormed p k → HasPlace k t → (b : Bool) → is_entry k.common e ≡ b
     → (d : Bool) → (eqb (load k.common (process_word t 1)) e || not (eqb (owner_of (load k.common (e + 1))) t)) ≡ d
     → Leaving p k t (Entry (record { 0 = e }) seen) (cond (not b) (record { common = k.common; next = Pending; event = plain name.Entry e })
     (cond d (record { common = k.common; next = next_entry (load k.common e) (seen + 1); event = plain name.Entry e })
-    (record { common = abandoned k.common (e + 1); next = next_entry (load k.common e) (seen + 1); event = event_of name.Entry e (woken_by_abandoning k.common (e + 1)) [] })))
-at_entry p k t e seen kept place false is d so = record {
+    (record { common = abandon k.common (e + 1); next = next_entry (load k.common e) (seen + 1); event = event_of name.Entry e (abandon_wakes k.common (e + 1)) [] })))
+at_entry p k t e seen concrete place false is d so = record {
   woken = [];
   set = refl;
   word = λ b. slice_index k.common.words b;
   words = λ b. refl;
-  holds = idle p k kept;
+  holds = idle p k concrete;
   output = refl;
   step = inr (no_entry_so k.common e is, record { nobody = refl; same = refl }, refl);
 }
-at_entry p k t e seen kept place true is true so = record {
+at_entry p k t e seen concrete place true is true so = record {
   woken = [];
   set = refl;
   word = λ b. slice_index k.common.words b;
   words = λ b. refl;
-  holds = idle p k kept;
+  holds = idle p k concrete;
   output = refl;
   step = inl (
     entry_so k.common e is,
@@ -134,12 +135,12 @@ at_entry p k t e seen kept place true is true so = record {
     refl,
   );
 }
-at_entry p k t e seen kept place true is false so =
+at_entry p k t e seen concrete place true is false so =
     let i = entry_so k.common e is in
     let q = or_parts _ _ so in
     let owned : owner_of (load k.common (e + 1)) ≡ t = owner _ q.1 in
-    let a = abandoning p k t (e + 1) kept i.1 owned in record {
-      woken = woken_by_abandoning k.common (e + 1);
+    let a = abandoning p k t (e + 1) concrete i.1 owned in record {
+      woken = abandon_wakes k.common (e + 1);
       set = refl;
       word = a.word;
       words = a.words;
@@ -153,24 +154,24 @@ at_entry p k t e seen kept place true is false so =
         not_not true g = refl
         not_not false g = absurd cc
 
-at_pending : (p : Program) (k : Kept) (t e : ℕ) → IsKept p k → HasPlace k t → load k.common (process_word t 1) ≡ e → (b : Bool) → is_entry k.common e ≡ b
+at_pending : (p : Program) (k : ConcreteState) (t e : ℕ) → IsWellFormed p k → HasPlace k t → load k.common (process_word t 1) ≡ e → (b : Bool) → is_entry k.common e ≡ b
     → (d : Bool) → eqb (owner_of (load k.common (e + 1))) t ≡ d
     → Leaving p k t Pending (cond (not b) (record { common = k.common; next = ClearId; event = plain name.Pending e })
-    (cond d (record { common = abandoned k.common (e + 1); next = ClearId; event = event_of name.Pending e (woken_by_abandoning k.common (e + 1)) [] })
-    (record { common = woken_on k.common (e + 1) 1; next = ClearId; event = event_of name.Pending e (front k.common (e + 1) 1) [] })))
-at_pending p k t e kept place named false is d so = record {
+    (cond d (record { common = abandon k.common (e + 1); next = ClearId; event = event_of name.Pending e (abandon_wakes k.common (e + 1)) [] })
+    (record { common = wake_front k.common (e + 1) 1; next = ClearId; event = event_of name.Pending e (front k.common (e + 1) 1) [] })))
+at_pending p k t e concrete place named false is d so = record {
   woken = [];
   set = refl;
   word = λ b. slice_index k.common.words b;
   words = λ b. refl;
-  holds = idle p k kept;
+  holds = idle p k concrete;
   output = refl;
   step = (rw named (NoEntry (no_entry_so k.common e is) (record { nobody = refl; same = refl })), refl);
 }
-at_pending p k t e kept place named true is true so =
+at_pending p k t e concrete place named true is true so =
     let i = entry_so k.common e is in
-    let a = abandoning p k t (e + 1) kept i.1 (eqb-true _ _ so) in record {
-      woken = woken_by_abandoning k.common (e + 1);
+    let a = abandoning p k t (e + 1) concrete i.1 (eqb-true _ _ so) in record {
+      woken = abandon_wakes k.common (e + 1);
       set = refl;
       word = a.word;
       words = a.words;
@@ -178,15 +179,15 @@ at_pending p k t e kept place named true is true so =
       output = a.output;
       step = (rw named (IsOwned i a.step), refl);
     }
-at_pending p k t e kept place named true is false so =
+at_pending p k t e concrete place named true is false so =
     let i = entry_so k.common e is in record {
       woken = front k.common (e + 1) 1;
       set = refl;
       word = λ b. slice_index k.common.words b;
       words = λ b. refl;
-      holds = holds-woke _ _ k.common (e + 1) 1 (holds-kept p k kept);
+      holds = holds-woke _ _ k.common (e + 1) 1 (holds-concrete p k concrete);
       output = refl;
-      step = (rw named (IsForeign i (λ o. both_ways _ so (eq-eqb _ _ o)) (record { same = refl; wakes = record { choice = choice-front k.common.queue k.common.asleep (e + 1) 1 kept.sound; awake = refl } })), refl);
+      step = (rw named (IsForeign i (λ o. both_ways _ so (eq-eqb _ _ o)) (record { same = refl; wakes = record { choice = choice-front k.common.queue k.common.asleep (e + 1) 1 concrete.sound; awake = refl } })), refl);
     }
 
 -- an exit that isn't over
@@ -194,25 +195,25 @@ abbrev pub IsUnderWay : ExitPhase → Type 0
 IsUnderWay Ended = ⊥
 IsUnderWay phase = Unit {0}
 
-pub leaving : (p : Program) (k : Kept) (t : ℕ) (phase : ExitPhase) → IsUnderWay phase → IsKept p k → HasPlace k t → Leaving p k t phase (leave t phase k.common)
-leaving p k t (Entry e seen) runs kept place = at_entry p k t e.0 seen kept place (is_entry k.common e.0) refl _ refl
-leaving p k t Pending runs kept place = at_pending p k t (load k.common (process_word t 1)) kept place refl (is_entry k.common (load k.common (process_word t 1))) refl _ refl
-leaving p k t ClearId runs kept place = record {
+pub leaving : (p : Program) (k : ConcreteState) (t : ℕ) (phase : ExitPhase) → IsUnderWay phase → IsWellFormed p k → HasPlace k t → Leaving p k t phase (leave t phase k.common)
+leaving p k t (Entry e seen) runs concrete place = at_entry p k t e.0 seen concrete place (is_entry k.common e.0) refl _ refl
+leaving p k t Pending runs concrete place = at_pending p k t (load k.common (process_word t 1)) concrete place refl (is_entry k.common (load k.common (process_word t 1))) refl _ refl
+leaving p k t ClearId runs concrete place = record {
   woken = [];
   set = refl;
   word = put (λ b. slice_index k.common.words b) (process_word t 2) 0;
   words = words_put k.common.words (process_word t 2) 0 (omega (arith, place.words));
-  holds = holds-set _ _ k.common (process_word t 2) 0 (holds-kept p k kept);
+  holds = holds-set _ _ k.common (process_word t 2) 0 (holds-concrete p k concrete);
   output = refl;
   step = (refl, refl, refl);
 }
-leaving p k t LastWake runs kept place = record {
+leaving p k t LastWake runs concrete place = record {
   woken = front k.common (process_word t 2) 1;
   set = refl;
   word = λ b. slice_index k.common.words b;
   words = λ b. refl;
-  holds = holds-woke _ _ k.common (process_word t 2) 1 (holds-kept p k kept);
+  holds = holds-woke _ _ k.common (process_word t 2) 1 (holds-concrete p k concrete);
   output = refl;
-  step = (record { same = refl; wakes = record { choice = choice-front k.common.queue k.common.asleep (process_word t 2) 1 kept.sound; awake = refl } }, refl);
+  step = (record { same = refl; wakes = record { choice = choice-front k.common.queue k.common.asleep (process_word t 2) 1 concrete.sound; awake = refl } }, refl);
 }
-leaving p k t Ended runs kept place = absurd runs
+leaving p k t Ended runs concrete place = absurd runs

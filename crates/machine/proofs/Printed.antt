@@ -15,8 +15,10 @@ use Rattle.machine.specs.declared.event.EventName.TheVariants as name
 use Rattle.machine.specs.declared.event.StepFault.{StepFault}
 use Rattle.machine.specs.declared.event.StepFault.TheVariants.{Broken}
 use Rattle.robustexit.specs.RobustExit.{put}
-use Rattle.machine.specs.States.{Common, Kept, thread_of}
-use Rattle.machine.specs.Fronts.{Served, Stepped, Left, serve, leave, load, is_entry, set_word, front, woken_on, moved_to, abandoned, thread_step, went_on, lifted, step_awake, step_thread, step_of}
+use Rattle.machine.specs.States.{Common, ConcreteState, thread_of}
+use Rattle.machine.specs.ConcreteServing.{Served, serve, load, set_word, front, wake_front, move_front}
+use Rattle.machine.specs.ConcreteExits.{Left, leave, is_entry, abandon}
+use Rattle.machine.specs.ConcreteSteps.{Stepped, thread_step, go_on_with, on_machine, step_awake, step_thread, step_of}
 use Rattle.machine.specs.Views.{printed_by, printed_by_name}
 
 -- an outcome that prints what its event says
@@ -47,7 +49,7 @@ output_moved : (b : Bool) (c d : Common) → d.output ≡ c.output → (cond b c
 output_moved true c d h = refl
 output_moved false c d h = h
 
-moved_quiet : (c : Common) (a b n : ℕ) → (moved_to c a b n).output ≡ c.output
+moved_quiet : (c : Common) (a b n : ℕ) → (move_front c a b n).output ≡ c.output
 moved_quiet c a b n = output_moved (eqb a b) c (record c { queue = put (put c.queue a (drop n (c.queue a))) b (c.queue b ++ front c a n); asleep = with_place c.asleep (front c a n) (Some b) }) refl
 
 served : (made t : ℕ) (r : Request) (c : Common) → Prints c (serve made t r c)
@@ -62,7 +64,7 @@ served made t (AskPrint number) c = prints_ok c _ (length-append c.output (signe
 served made t (AskWait a expected) c = prints_if c _ _ _ (prints_if c _ _ _ (prints_ok c _ (still _)) (prints_ok c _ (still _))) (prints_err c _)
 served made t (AskWake a n) c = prints_if c _ _ _ (prints_ok c _ (still _)) (prints_err c _)
 served made t (AskRequeue a b n m expected) c =
-    prints_if c (ltb a (length c.words)) _ _ (prints_if c (ltb b (length c.words)) _ _ (prints_if c (eqb (load c a) expected) _ _ (prints_ok c _ (ap length (moved_quiet (woken_on c a n) a b m) ∙ still _)) (prints_ok c _ (still _))) (prints_err c Broken)) (prints_err c Broken)
+    prints_if c (ltb a (length c.words)) _ _ (prints_if c (ltb b (length c.words)) _ _ (prints_if c (eqb (load c a) expected) _ _ (prints_ok c _ (ap length (moved_quiet (wake_front c a n) a b m) ∙ still _)) (prints_ok c _ (still _))) (prints_err c Broken)) (prints_err c Broken)
 served made t AskReturn c = prints_ok c _ (still _)
 served made t (AskReturnValue v) c = prints_ok c _ (still _)
 served made t (AskFault fault) c = prints_ok c _ (still _)
@@ -79,9 +81,9 @@ quiet_so : (c : Common) (l : Left) → l.common.output ≡ c.output → printed_
 unfolding Quiet
 quiet_so c l h g = (h, g)
 
-abandoned_quiet : (c : Common) (l : ℕ) → (abandoned c l).output ≡ c.output
+abandoned_quiet : (c : Common) (l : ℕ) → (abandon c l).output ≡ c.output
 abandoned_quiet c l = both (waiters_of (load c l)) where
-  both : (b : Bool) → (cond b (woken_on (set_word c l (lock_word 0 true (waiters_of (load c l)))) l 1) (set_word c l (lock_word 0 true (waiters_of (load c l))))).output ≡ c.output
+  both : (b : Bool) → (cond b (wake_front (set_word c l (lock_word 0 true (waiters_of (load c l)))) l 1) (set_word c l (lock_word 0 true (waiters_of (load c l))))).output ≡ c.output
   both true = refl
   both false = refl
 
@@ -100,7 +102,7 @@ Steps : Common → Result Stepped StepFault → Type 0
 Steps c (Ok x) = length x.common.output ≡ length c.output + printed_by x.event
 Steps c (Err f) = Unit {0}
 
-went : (c : Common) (go : ℕ → Thread) (r : Result Served StepFault) → Prints c r → Steps c (went_on go r)
+went : (c : Common) (go : ℕ → Thread) (r : Result Served StepFault) → Prints c r → Steps c (go_on_with go r)
 unfolding Prints Steps
 went c go (Ok x) h = h
 went c go (Err f) h = tt
@@ -114,26 +116,26 @@ stepped made t c Breaks = tt
 stepped made t c Rests = tt
 
 -- and of a step of the machine
-Lengthens : Kept → Result (Kept × Event) StepFault → Type 0
+Lengthens : ConcreteState → Result (ConcreteState × Event) StepFault → Type 0
 Lengthens k (Ok q) = length q.0.common.output ≡ length k.common.output + printed_by q.1
 Lengthens k (Err f) = Unit {0}
 
-lengthens : (k : Kept) (t : ℕ) (r : Result Stepped StepFault) → Steps k.common r → Lengthens k (lifted k t r)
+lengthens : (k : ConcreteState) (t : ℕ) (r : Result Stepped StepFault) → Steps k.common r → Lengthens k (on_machine k t r)
 unfolding Steps Lengthens
 lengthens k t (Ok x) h = h
 lengthens k t (Err f) h = tt
 
-lengthens_awake : (p : Program) (k : Kept) (t : ℕ) (x : Thread) (o : Option ℕ) → Lengthens k (step_awake p k t x o)
+lengthens_awake : (p : Program) (k : ConcreteState) (t : ℕ) (x : Thread) (o : Option ℕ) → Lengthens k (step_awake p k t x o)
 unfolding Lengthens
 lengthens_awake p k t x None = lengthens k t _ (stepped (length k.threads) t k.common (look p t x))
 lengthens_awake p k t x (Some a) = tt
 
-lengthens_thread : (p : Program) (k : Kept) (t : ℕ) (o : Option Thread) → Lengthens k (step_thread p k t o)
+lengthens_thread : (p : Program) (k : ConcreteState) (t : ℕ) (o : Option Thread) → Lengthens k (step_thread p k t o)
 unfolding Lengthens
 lengthens_thread p k t None = tt
 lengthens_thread p k t (Some x) = lengthens_awake p k t x (k.common.asleep t)
 
-pub printed_so : (p : Program) (k k' : Kept) (t : ℕ) (e : Event) → step_of p k t ≡ Ok (k', e) → length k'.common.output ≡ length k.common.output + printed_by e
+pub printed_so : (p : Program) (k k' : ConcreteState) (t : ℕ) (e : Event) → step_of p k t ≡ Ok (k', e) → length k'.common.output ≡ length k.common.output + printed_by e
 unfolding Lengthens
 printed_so p k k' t e h = subst (Lengthens k) h (lengthens_thread p k t (thread_of k t))
 

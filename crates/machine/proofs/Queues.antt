@@ -16,7 +16,7 @@ use Rattle.machine.specs.States.{Common}
 use Rattle.futexcalls.specs.Answers.{word_of}
 use Rattle.machine.specs.declared.event.Event.{Event}
 use Rattle.machine.specs.declared.event.EventName.TheVariants as name
-use Rattle.machine.specs.Fronts.{woken_on, sleeping_on, moved_to, moves_of, front, within, requeued, gives, event_of}
+use Rattle.machine.specs.ConcreteServing.{wake_front, sleep_on, move_front, moves_of, front, within, requeue_to, gives, event_of}
 use Rattle.machine.specs.Views.{IsSoundly, common_of}
 use Rattle.machine.proofs.Placing.{by_place, put-here, put-there}
 use Rattle.machine.proofs.Sleeping.{names-drop}
@@ -34,11 +34,11 @@ pub common_is : (ws : List ℕ) (s s' : Sleepers) (o : List ℤ) (q : ℕ → Li
 common_is ws s s' o q p queues places = λ i. record { words = ws; queue = queues i; asleep = places i; output = o }
 
 pub slept_is : (ws : List ℕ) (s s' : Sleepers) (o : List ℤ) (t a : ℕ) → queue s' a ≡ queue s a ++ t ∷ [] → ((b : ℕ) → b ≢ a → queue s' b ≡ queue s b) → place_of s' ≡ with_place (place_of s) (t ∷ []) (Some a)
-    → sleeping_on (common_of ws s o) t a ≡ common_of ws s' o
+    → sleep_on (common_of ws s o) t a ≡ common_of ws s' o
 slept_is ws s s' o t a last others places = sym (common_is ws s s' o _ _ (one_list s s' a (queue s a ++ t ∷ []) last others) places)
 
 pub woke_is : (ws : List ℕ) (s s' : Sleepers) (o : List ℤ) (a n : ℕ) (woken : List ℕ) → woken ≡ take n (queue s a) → queue s' a ≡ drop n (queue s a) → ((b : ℕ) → b ≢ a → queue s' b ≡ queue s b) → place_of s' ≡ with_place (place_of s) woken None
-    → woken_on (common_of ws s o) a n ≡ common_of ws s' o
+    → wake_front (common_of ws s o) a n ≡ common_of ws s' o
 woke_is ws s s' o a n woken front rest others places =
     sym (common_is ws s s' o _ _ (one_list s s' a (drop n (queue s a)) rest others) (places ∙ ap (λ xs. with_place (place_of s) xs None) front))
 
@@ -56,11 +56,11 @@ requeue_list s s' a b n m moved is rest last others ne d =
 pub requeued_is : (word : ℕ → ℕ) (ws : List ℕ) (s s' : Sleepers) (o : List ℤ) (a b n m expected : ℕ) (woken moved : List ℕ) → Requeues word (place_of s) a b n m expected woken moved (place_of s')
     → woken ≡ take n (queue s a) → moved ≡ (cond (eqb a b) [] (take m (drop n (queue s a)))) → queue s' a ≡ drop (length moved) (drop n (queue s a)) → (a ≢ b → queue s' b ≡ queue s b ++ moved)
     → ((d : ℕ) → d ≢ a → d ≢ b → queue s' d ≡ queue s d)
-    → (moved_to (woken_on (common_of ws s o) a n) a b m ≡ common_of ws s' o) × (moves_of (woken_on (common_of ws s o) a n) a b m ≡ moved)
+    → (move_front (wake_front (common_of ws s o) a n) a b m ≡ common_of ws s' o) × (moves_of (wake_front (common_of ws s o) a n) a b m ≡ moved)
 requeued_is word ws s s' o a b n m expected woken moved call front is rest last others =
     let q : ℕ → List ℕ = put (queue s) a (drop n (queue s a)) in
     let here : q a ≡ drop n (queue s a) = put-here (queue s) a (drop n (queue s a)) a refl in
-    let c : Common = woken_on (common_of ws s o) a n in
+    let c : Common = wake_front (common_of ws s o) a n in
     let places : place_of s' ≡ with_place (with_place (place_of s) (take n (queue s a)) None) moved (Some b) = call.moves.goes ∙ ap (λ xs. with_place (with_place (place_of s) xs None) moved (Some b)) front in
     elim (cases_eq a b) [
       | inl e ↦
@@ -105,7 +105,7 @@ moved_threads s a b n m xs ok count is k d l =
 pub requeue_gives : (ws : List ℕ) (s s' : Sleepers) (o : List ℤ) (a b n m expected : ℕ) (woken moved : List ℕ) (count : ℕ) (event : Event) → a < length ws → b < length ws → Requeues (word_of ws) (place_of s) a b n m expected woken moved (place_of s')
     → woken ≡ take n (queue s a) → moved ≡ (cond (eqb a b) [] (take m (drop n (queue s a)))) → queue s' a ≡ drop (length moved) (drop n (queue s a)) → (a ≢ b → queue s' b ≡ queue s b ++ moved)
     → ((d : ℕ) → d ≢ a → d ≢ b → queue s' d ≡ queue s d) → count ≡ length woken + length moved → event ≡ event_of name.Requeue count woken moved
-    → within (common_of ws s o) a (within (common_of ws s o) b (requeued (common_of ws s o) a b n m expected)) ≡ gives count (common_of ws s' o) event
+    → within (common_of ws s o) a (within (common_of ws s o) b (requeue_to (common_of ws s o) a b n m expected)) ≡ gives count (common_of ws s' o) event
 requeue_gives ws s s' o a b n m expected woken moved count event la lb call front is rest last others counted told =
     let c : Common = common_of ws s o in
     let r = requeued_is (word_of ws) ws s s' o a b n m expected woken moved call front is rest last others in

@@ -7,10 +7,11 @@ use Rattle.locals.specs.Threads.{Thread, Runs, Dies, Exits}
 use Rattle.locals.specs.Looks.{Request, AskLoad, AskStore, AskSwap, AskCas, AskOr, AskAdd, AskFork, AskPrint, AskWait, AskWake, AskRequeue, AskReturn, AskReturnValue, AskFault, Look, Goes, Asks, Leaves, Breaks, Rests, look}
 use Rattle.machine.specs.declared.event.StepFault.{StepFault}
 use Rattle.machine.specs.declared.event.StepFault.TheVariants.{CannotMove, Broken}
-use Rattle.machine.specs.States.{Kept, thread_of, state_of}
-use Rattle.machine.specs.Serving.{IsUnserved}
+use Rattle.machine.specs.States.{ConcreteState, thread_of, state_of}
+use Rattle.machine.specs.AbstractServing.{IsUnserved}
 use Rattle.machine.specs.Runs.{CanStep, NextIsBroken, IsBroken, has_ended}
-use Rattle.machine.specs.Fronts.{Served, serve, went_on, lifted, thread_step, step_awake, step_thread, thread_can_move}
+use Rattle.machine.specs.ConcreteServing.{Served, serve}
+use Rattle.machine.specs.ConcreteSteps.{go_on_with, on_machine, thread_step, step_awake, step_thread, thread_can_move}
 use Rattle.machine.specs.Determined.{BreaksSo, RefusesSo, MovesSo}
 use Rattle.machine.proofs.Stepping.{IsOfCode, look_code}
 
@@ -48,7 +49,7 @@ forks_if made false false is x y =
     let ne : made ≢ 64 = λ e. both_ways (eqb made 64) is (eq-eqb made 64 e) in
     record { so = λ few e. (omega (arith, few, ne), λ q. absurd cc); back = λ a. refl; other = λ e. absurd cc }
 
-refuses : (k : Kept) (t : ℕ) (request : Request) → Refuses (length k.threads) (serve (length k.threads) t request k.common) (IsUnserved request (state_of k))
+refuses : (k : ConcreteState) (t : ℕ) (request : Request) → Refuses (length k.threads) (serve (length k.threads) t request k.common) (IsUnserved request (state_of k))
 refuses k t (AskLoad a) = inside _ a _ _ refl _ (λ f. served_is _ f)
 refuses k t (AskStore a v) = inside _ a _ _ refl _ (λ f. served_is _ f)
 refuses k t (AskSwap a v) = inside _ a _ _ refl _ (λ f. served_is _ f)
@@ -65,36 +66,36 @@ refuses k t (AskReturnValue v) = always _ _ (λ f. served_is _ f)
 refuses k t (AskFault fault) = always _ _ (λ f. served_is _ f)
 
 -- what the step of a thread comes to, by what came of its request
-err_of : (k : Kept) (t : ℕ) (go : ℕ → Thread) (r : Result Served StepFault) (f : StepFault) → lifted k t (went_on go r) ≡ Err f → r ≡ Err f
+err_of : (k : ConcreteState) (t : ℕ) (go : ℕ → Thread) (r : Result Served StepFault) (f : StepFault) → on_machine k t (go_on_with go r) ≡ Err f → r ≡ Err f
 err_of k t go (Ok x) f h = absurd cc
 err_of k t go (Err g) f h = let e : g ≡ f = cc in ap (λ x. Err x) e
 
-look_breaks : (k : Kept) (t : ℕ) (l : Look) → length k.threads ≤ 64 → lifted k t (thread_step (length k.threads) t k.common l) ≡ Err Broken → IsBroken (state_of k) l
+look_breaks : (k : ConcreteState) (t : ℕ) (l : Look) → length k.threads ≤ 64 → on_machine k t (thread_step (length k.threads) t k.common l) ≡ Err Broken → IsBroken (state_of k) l
 look_breaks k t (Goes x) few h = absurd cc
 look_breaks k t (Asks request go) few h = (refuses k t request).so few (err_of k t go _ Broken h)
 look_breaks k t (Leaves phase) few h = absurd cc
 look_breaks k t Breaks few h = tt
 look_breaks k t Rests few h = absurd cc
 
-breaks_look : (k : Kept) (t : ℕ) (l : Look) → length k.threads ≤ 64 → IsBroken (state_of k) l → lifted k t (thread_step (length k.threads) t k.common l) ≡ Err Broken
+breaks_look : (k : ConcreteState) (t : ℕ) (l : Look) → length k.threads ≤ 64 → IsBroken (state_of k) l → on_machine k t (thread_step (length k.threads) t k.common l) ≡ Err Broken
 breaks_look k t (Goes x) few h = absurd h
-breaks_look k t (Asks request go) few h = ap (λ r. lifted k t (went_on go r)) ((refuses k t request).back h)
+breaks_look k t (Asks request go) few h = ap (λ r. on_machine k t (go_on_with go r)) ((refuses k t request).back h)
 breaks_look k t (Leaves phase) few h = absurd h
 breaks_look k t Breaks few h = refl
 breaks_look k t Rests few h = absurd h
 
-awake_breaks : (p : Program) (k : Kept) (t : ℕ) (x : Thread) (o : Option ℕ) → length k.threads ≤ 64 → thread_of k t ≡ Some x → k.common.asleep t ≡ o → step_awake p k t x o ≡ Err Broken → NextIsBroken p (state_of k) t
+awake_breaks : (p : Program) (k : ConcreteState) (t : ℕ) (x : Thread) (o : Option ℕ) → length k.threads ≤ 64 → thread_of k t ≡ Some x → k.common.asleep t ≡ o → step_awake p k t x o ≡ Err Broken → NextIsBroken p (state_of k) t
 awake_breaks p k t x None few stands awake h = record { thread = x; stands = stands; awake = awake; breaks = look_breaks k t (look p t x) few h }
 awake_breaks p k t x (Some a) few stands awake h = absurd cc
 
-thread_breaks : (p : Program) (k : Kept) (t : ℕ) (o : Option Thread) → length k.threads ≤ 64 → thread_of k t ≡ o → step_thread p k t o ≡ Err Broken → NextIsBroken p (state_of k) t
+thread_breaks : (p : Program) (k : ConcreteState) (t : ℕ) (o : Option Thread) → length k.threads ≤ 64 → thread_of k t ≡ o → step_thread p k t o ≡ Err Broken → NextIsBroken p (state_of k) t
 thread_breaks p k t None few stands h = absurd cc
 thread_breaks p k t (Some x) few stands h = awake_breaks p k t x (k.common.asleep t) few stands refl h
 
 pub breaks_so : BreaksSo
-breaks_so p k t kept = (
-  thread_breaks p k t (thread_of k t) kept.few refl,
-  λ b. ap (step_thread p k t) b.stands ∙ ap (step_awake p k t b.thread) b.awake ∙ breaks_look k t (look p t b.thread) kept.few b.breaks,
+breaks_so p k t concrete = (
+  thread_breaks p k t (thread_of k t) concrete.few refl,
+  λ b. ap (step_thread p k t) b.stands ∙ ap (step_awake p k t b.thread) b.awake ∙ breaks_look k t (look p t b.thread) concrete.few b.breaks,
 )
 
 -- a thread rests exactly where it has ended
@@ -123,14 +124,14 @@ ended_rests p t (Exits ClearId) e = absurd cc
 ended_rests p t (Exits LastWake) e = absurd cc
 ended_rests p t (Exits Ended) e = refl
 
-look_rests : (k : Kept) (t : ℕ) (l : Look) → lifted k t (thread_step (length k.threads) t k.common l) ≡ Err CannotMove → l ≡ Rests
+look_rests : (k : ConcreteState) (t : ℕ) (l : Look) → on_machine k t (thread_step (length k.threads) t k.common l) ≡ Err CannotMove → l ≡ Rests
 look_rests k t (Goes x) h = absurd cc
 look_rests k t (Asks request go) h = absurd ((refuses k t request).other (err_of k t go _ CannotMove h))
 look_rests k t (Leaves phase) h = absurd cc
 look_rests k t Breaks h = absurd cc
 look_rests k t Rests h = refl
 
-awake_refuses : (p : Program) (k : Kept) (t : ℕ) (x : Thread) (o : Option ℕ) → thread_of k t ≡ Some x → k.common.asleep t ≡ o → step_awake p k t x o ≡ Err CannotMove → CanStep (state_of k) t → ⊥
+awake_refuses : (p : Program) (k : ConcreteState) (t : ℕ) (x : Thread) (o : Option ℕ) → thread_of k t ≡ Some x → k.common.asleep t ≡ o → step_awake p k t x o ≡ Err CannotMove → CanStep (state_of k) t → ⊥
 awake_refuses p k t x None stands awake h can =
     let same : x ≡ can.thread = some_is x can.thread (sym stands ∙ can.stands) in
     both_ways (has_ended (Some can.thread)) can.goes_on (ap (λ y. has_ended (Some y)) (sym same) ∙ rests_ended p t x (look_rests k t (look p t x) h)) where
@@ -140,28 +141,28 @@ awake_refuses p k t x (Some a) stands awake h can = asleep_both a (k.common.asle
   asleep_both : (c : ℕ) (o : Option ℕ) → o ≡ Some c → o ≡ None → ⊥
   asleep_both c o e f = absurd cc
 
-thread_refuses : (p : Program) (k : Kept) (t : ℕ) (o : Option Thread) → thread_of k t ≡ o → step_thread p k t o ≡ Err CannotMove → CanStep (state_of k) t → ⊥
+thread_refuses : (p : Program) (k : ConcreteState) (t : ℕ) (o : Option Thread) → thread_of k t ≡ o → step_thread p k t o ≡ Err CannotMove → CanStep (state_of k) t → ⊥
 thread_refuses p k t None stands h can = missing (thread_of k t) can.thread stands can.stands where
   missing : (o : Option Thread) (x : Thread) → o ≡ None → o ≡ Some x → ⊥
   missing o x e f = absurd cc
 thread_refuses p k t (Some x) stands h can = awake_refuses p k t x (k.common.asleep t) stands refl h can
 
-refused_awake : (p : Program) (k : Kept) (t : ℕ) (x : Thread) (o : Option ℕ) → thread_of k t ≡ Some x → k.common.asleep t ≡ o → (CanStep (state_of k) t → ⊥) → step_awake p k t x o ≡ Err CannotMove
+refused_awake : (p : Program) (k : ConcreteState) (t : ℕ) (x : Thread) (o : Option ℕ) → thread_of k t ≡ Some x → k.common.asleep t ≡ o → (CanStep (state_of k) t → ⊥) → step_awake p k t x o ≡ Err CannotMove
 refused_awake p k t x None stands awake out =
     elim (cases_Bool (has_ended (Some x))) [
-      | inl ended ↦ ap (λ l. lifted k t (thread_step (length k.threads) t k.common l)) (ended_rests p t x ended)
+      | inl ended ↦ ap (λ l. on_machine k t (thread_step (length k.threads) t k.common l)) (ended_rests p t x ended)
       | inr goes ↦ absurd (out (record { thread = x; stands = stands; awake = awake; goes_on = goes }))
     ]
 refused_awake p k t x (Some a) stands awake out = refl
 
-refused_thread : (p : Program) (k : Kept) (t : ℕ) (o : Option Thread) → thread_of k t ≡ o → (CanStep (state_of k) t → ⊥) → step_thread p k t o ≡ Err CannotMove
+refused_thread : (p : Program) (k : ConcreteState) (t : ℕ) (o : Option Thread) → thread_of k t ≡ o → (CanStep (state_of k) t → ⊥) → step_thread p k t o ≡ Err CannotMove
 refused_thread p k t None stands out = refl
 refused_thread p k t (Some x) stands out = refused_awake p k t x (k.common.asleep t) stands refl out
 
 pub refuses_so : RefusesSo
 refuses_so p k t = (thread_refuses p k t (thread_of k t) refl, refused_thread p k t (thread_of k t) refl)
 
-moves_thread : (k : Kept) (t : ℕ) (a : Option ℕ) (o : Option Thread) → k.common.asleep t ≡ a → thread_of k t ≡ o → thread_can_move a o ≡ true → CanStep (state_of k) t
+moves_thread : (k : ConcreteState) (t : ℕ) (a : Option ℕ) (o : Option Thread) → k.common.asleep t ≡ a → thread_of k t ≡ o → thread_can_move a o ≡ true → CanStep (state_of k) t
 moves_thread k t a None awake stands h = absurd cc
 moves_thread k t (Some b) (Some x) awake stands h = absurd cc
 moves_thread k t None (Some x) awake stands h = record { thread = x; stands = stands; awake = awake; goes_on = unended _ h } where

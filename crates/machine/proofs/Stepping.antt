@@ -13,12 +13,13 @@ use Rattle.locals.specs.Threads.{Thread, Runs, Dies, Exits, fresh, opening_threa
 use Rattle.locals.specs.Looks.{Request, AskFork, Look, Goes, Asks, Leaves, Breaks, Rests, look, look_at, at_place, returned, if_so, or_dies, effect, Effect, Then, Keeps, To, Tests, Asking, Trying, Calls, Returns, ReturnsValue, Fails, Misses, Guards, Checks}
 use Rattle.machine.specs.declared.event.Event.{Event}
 use Rattle.robustexit.specs.RobustExit.{put}
-use Rattle.machine.specs.States.{Kept, thread_at, thread_of, state_of, with_thread}
-use Rattle.machine.specs.Fronts.{thread_step, lifted, leave, step_thread, step_awake}
-use Rattle.machine.specs.Views.{IsKept, IsSoundly}
+use Rattle.machine.specs.States.{ConcreteState, thread_at, thread_of, state_of, with_thread}
+use Rattle.machine.specs.ConcreteExits.{leave}
+use Rattle.machine.specs.ConcreteSteps.{thread_step, on_machine, step_thread, step_awake}
+use Rattle.machine.specs.Views.{IsWellFormed, IsSoundly}
 use Rattle.machine.specs.Determined.{OpensSo, StepsSo}
 use Rattle.machine.proofs.Placing.{by_place, words_put}
-use Rattle.machine.proofs.Keeping.{holds-kept}
+use Rattle.machine.proofs.Keeping.{holds-concrete}
 use Rattle.machine.proofs.Landing.{Steps, lands, has_place}
 use Rattle.machine.proofs.Serves.{serves_so}
 use Rattle.machine.proofs.Forks.{forks}
@@ -87,48 +88,48 @@ is_next p t (Exits ClearId) = tt
 is_next p t (Exits LastWake) = tt
 is_next p t (Exits Ended) = tt
 
-steps_by : (p : Program) (k k' : Kept) (t : ℕ) (e : Event) (y : Thread) (l : Look) → IsNext l → IsKept p k → thread_of k t ≡ Some y → k.common.asleep t ≡ None
-    → lifted k t (thread_step (length k.threads) t k.common l) ≡ Ok (k', e) → Steps p k k' t e l
-steps_by p k k' t e y (Goes x) next kept stands awake h =
-    let r = lands p k k' t e _ x y k.common (λ b. slice_index k.common.words b) kept stands (holds-kept p k kept) (λ b. refl) h in
-    record { woken = []; set = r.event; moves = (refl, r.state); kept = r.kept }
-steps_by p k k' t e y (Asks (AskFork entry arguments has_room) go) next kept stands awake h =
-    forks p k k' t e y go entry arguments has_room kept stands (has_place p k t y kept stands) h
-steps_by p k k' t e y (Asks request go) next kept stands awake h =
-    serves_so p k k' t e y request go tt kept stands awake (has_place p k t y kept stands) h
-steps_by p k k' t e y (Leaves phase) next kept stands awake h =
+steps_by : (p : Program) (k k' : ConcreteState) (t : ℕ) (e : Event) (y : Thread) (l : Look) → IsNext l → IsWellFormed p k → thread_of k t ≡ Some y → k.common.asleep t ≡ None
+    → on_machine k t (thread_step (length k.threads) t k.common l) ≡ Ok (k', e) → Steps p k k' t e l
+steps_by p k k' t e y (Goes x) next concrete stands awake h =
+    let r = lands p k k' t e _ x y k.common (λ b. slice_index k.common.words b) concrete stands (holds-concrete p k concrete) (λ b. refl) h in
+    record { woken = []; set = r.event; moves = (refl, r.state); concrete = r.concrete }
+steps_by p k k' t e y (Asks (AskFork entry arguments has_room) go) next concrete stands awake h =
+    forks p k k' t e y go entry arguments has_room concrete stands (has_place p k t y concrete stands) h
+steps_by p k k' t e y (Asks request go) next concrete stands awake h =
+    serves_so p k k' t e y request go tt concrete stands awake (has_place p k t y concrete stands) h
+steps_by p k k' t e y (Leaves phase) next concrete stands awake h =
     let l = leave t phase k.common in
-    let g = leaving p k t phase next kept (has_place p k t y kept stands) in
-    let r = lands p k k' t e l.event (Exits l.next) y l.common g.word kept stands g.holds g.words h in
+    let g = leaving p k t phase next concrete (has_place p k t y concrete stands) in
+    let r = lands p k k' t e l.event (Exits l.next) y l.common g.word concrete stands g.holds g.words h in
     record {
       woken = g.woken;
       set = r.event ∙ g.set;
       moves = (record { word = g.word; asleep = l.common.asleep }, l.next, g.step, r.state ∙ (λ i. with_thread (record (state_of k) { word = g.word; asleep = l.common.asleep; output = g.output i }) t (Exits l.next)));
-      kept = r.kept;
+      concrete = r.concrete;
     }
-steps_by p k k' t e y Breaks next kept stands awake h = absurd cc
-steps_by p k k' t e y Rests next kept stands awake h = absurd cc
+steps_by p k k' t e y Breaks next concrete stands awake h = absurd cc
+steps_by p k k' t e y Rests next concrete stands awake h = absurd cc
 
 -- with what a step is done
-pub record Done (p : Program) (k k' : Kept) (t : ℕ) (e : Event) : Type 0 where
+pub record Done (p : Program) (k k' : ConcreteState) (t : ℕ) (e : Event) : Type 0 where
   pub thread : Thread
   pub stands : thread_of k t ≡ Some thread
   pub awake : k.common.asleep t ≡ None
-  pub done : lifted k t (thread_step (length k.threads) t k.common (look p t thread)) ≡ Ok (k', e)
+  pub done : on_machine k t (thread_step (length k.threads) t k.common (look p t thread)) ≡ Ok (k', e)
 
-done_awake : (p : Program) (k k' : Kept) (t : ℕ) (e : Event) (x : Thread) (o : Option ℕ) → thread_of k t ≡ Some x → k.common.asleep t ≡ o → step_awake p k t x o ≡ Ok (k', e) → Done p k k' t e
+done_awake : (p : Program) (k k' : ConcreteState) (t : ℕ) (e : Event) (x : Thread) (o : Option ℕ) → thread_of k t ≡ Some x → k.common.asleep t ≡ o → step_awake p k t x o ≡ Ok (k', e) → Done p k k' t e
 done_awake p k k' t e x None stands awake h = record { thread = x; stands = stands; awake = awake; done = h }
 done_awake p k k' t e x (Some a) stands awake h = absurd cc
 
-pub done_by : (p : Program) (k k' : Kept) (t : ℕ) (e : Event) (o : Option Thread) → thread_of k t ≡ o → step_thread p k t o ≡ Ok (k', e) → Done p k k' t e
+pub done_by : (p : Program) (k k' : ConcreteState) (t : ℕ) (e : Event) (o : Option Thread) → thread_of k t ≡ o → step_thread p k t o ≡ Ok (k', e) → Done p k k' t e
 done_by p k k' t e None stands h = absurd cc
 done_by p k k' t e (Some x) stands h = done_awake p k k' t e x (k.common.asleep t) stands refl h
 
 pub steps_so : StepsSo
-steps_so p k k' t e kept h =
+steps_so p k k' t e concrete h =
     let d = done_by p k k' t e (thread_of k t) refl h in
-    let s = steps_by p k k' t e d.thread (look p t d.thread) (is_next p t d.thread) kept d.stands d.awake d.done in
-    (s.woken, s.set, record { thread = d.thread; stands = d.stands; awake = d.awake; moves = s.moves; pauses = refl }, s.kept)
+    let s = steps_by p k k' t e d.thread (look p t d.thread) (is_next p t d.thread) concrete d.stands d.awake d.done in
+    (s.woken, s.set, record { thread = d.thread; stands = d.stands; awake = d.awake; moves = s.moves; pauses = refl }, s.concrete)
 
 zeros : (n b : ℕ) → slice_index (replicate n 0) b ≡ 0
 zeros zero b = refl

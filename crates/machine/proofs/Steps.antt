@@ -19,8 +19,10 @@ use Rattle.machine.specs.declared.event.EventName.TheVariants as name
 use Rattle.machine.specs.declared.event.StepFault.{StepFault}
 use Rattle.machine.specs.declared.event.StepFault.TheVariants.{CannotMove, Broken}
 use Rattle.machine.specs.States.{Common}
-use Rattle.machine.specs.Fronts.{Stepped, Left, serve, leave, thread_step, went_on, plain, set_word}
-use Rattle.machine.specs.Told.{asked_of, given, MakesNone, AsksFork}
+use Rattle.machine.specs.ConcreteServing.{serve, plain, set_word}
+use Rattle.machine.specs.ConcreteExits.{Left, leave}
+use Rattle.machine.specs.ConcreteSteps.{Stepped, thread_step, go_on_with}
+use Rattle.machine.specs.RequestMeanings.{asked_of, with_common, MakesNone, AsksFork}
 use Rattle.machine.proofs.Leaving.{IsUnderWay}
 use Rattle.machine.proofs.Stepping.{IsNext, is_next}
 
@@ -49,25 +51,25 @@ exit_is a b h = cc
 
 -- a request other than a fork that was served
 pub shared_so : (made t : ℕ) (c c' : Common) (l : Look) (x : Thread) (request : Told) (g : Given) → next_step_of l ≡ next.Shared request → MakesNone request
-    → ((m : ℕ) → serve m t (asked_of request) c ≡ given (Ok g) c')
+    → ((m : ℕ) → serve m t (asked_of request) c ≡ with_common (Ok g) c')
     → thread_step made t c l ≡ Ok (record { common = c'; thread = answered l g.answer x; child = None; event = g.event })
 shared_so made t c c' (Goes y) x request g is one gives = absurd cc
 shared_so made t c c' (Asks r go) x request g is one gives =
     let same : told_of r ≡ request = shared_is (told_of r) request is in
     let back : asked_of request ≡ r = ap asked_of (sym same) ∙ asked_back r (rw same one) in
-    ap (λ q. went_on go (serve made t q c)) (sym back) ∙ ap (went_on go) (gives made)
+    ap (λ q. go_on_with go (serve made t q c)) (sym back) ∙ ap (go_on_with go) (gives made)
 shared_so made t c c' (Leaves phase) x request g is one gives = absurd cc
 shared_so made t c c' Breaks x request g is one gives = absurd cc
 shared_so made t c c' Rests x request g is one gives = absurd cc
 
 -- and one that was refused
 pub shared_err : (made t : ℕ) (c c' : Common) (l : Look) (request : Told) (f : StepFault) → next_step_of l ≡ next.Shared request → MakesNone request
-    → ((m : ℕ) → serve m t (asked_of request) c ≡ given (Err f) c') → thread_step made t c l ≡ Err f
+    → ((m : ℕ) → serve m t (asked_of request) c ≡ with_common (Err f) c') → thread_step made t c l ≡ Err f
 shared_err made t c c' (Goes y) request f is one gives = absurd cc
 shared_err made t c c' (Asks r go) request f is one gives =
     let same : told_of r ≡ request = shared_is (told_of r) request is in
     let back : asked_of request ≡ r = ap asked_of (sym same) ∙ asked_back r (rw same one) in
-    ap (λ q. went_on go (serve made t q c)) (sym back) ∙ ap (went_on go) (gives made)
+    ap (λ q. go_on_with go (serve made t q c)) (sym back) ∙ ap (go_on_with go) (gives made)
 shared_err made t c c' (Leaves phase) request f is one gives = absurd cc
 shared_err made t c c' Breaks request f is one gives = absurd cc
 shared_err made t c c' Rests request f is one gives = absurd cc
@@ -133,18 +135,18 @@ fork_step t c Rests x made answer room r asks h = absurd asks
 
 pub fork_full : (made t : ℕ) (c : Common) (l : Look) (x : Thread) (room : Bool) → AsksFork l room → made ≡ 64 → thread_step made t c l ≡ Ok (record { common = c; thread = answered l 0 x; child = None; event = plain name.Fork 0 })
 fork_full made t c l x room asks full = fork_step t c l x made 0 room _ asks (λ entry arguments go is.
-    ap (went_on go) (cond-true _ _ _ (eq-eqb made 64 full)) ∙ (λ i. Ok (record { common = c; thread = answered (sym is i) 0 x; child = None; event = plain name.Fork 0 })))
+    ap (go_on_with go) (cond-true _ _ _ (eq-eqb made 64 full)) ∙ (λ i. Ok (record { common = c; thread = answered (sym is i) 0 x; child = None; event = plain name.Fork 0 })))
 
 pub fork_no_room : (made t : ℕ) (c : Common) (l : Look) (x : Thread) (room : Bool) → AsksFork l room → made ≢ 64 → room ≡ false → thread_step made t c l ≡ Err Broken
 fork_no_room made t c l x room asks ne none = fork_step t c l x made 0 room _ asks (λ entry arguments go is.
-    ap (went_on go) (cond-false _ _ _ (ne_eqb made 64 ne) ∙ cond-false _ _ _ none))
+    ap (go_on_with go) (cond-false _ _ _ (ne_eqb made 64 ne) ∙ cond-false _ _ _ none))
 
 pub fork_made : (made t number : ℕ) (c : Common) (l : Look) (x : Thread) (room : Bool) → AsksFork l room → made ≢ 64 → room ≡ true → number ≡ made + 1
     → thread_step made t c l ≡ Ok (record { common = set_word c (process_word number 2) number; thread = answered l number x; child = forked l; event = plain name.Fork number })
 fork_made made t number c l x room asks ne some is_number =
     let same : suc made ≡ number = omega (arith, is_number) in
     fork_step t c l x made number room _ asks (λ entry arguments go is.
-    ap (went_on go) (cond-false _ _ _ (ne_eqb made 64 ne) ∙ cond-true _ _ _ some)
+    ap (go_on_with go) (cond-false _ _ _ (ne_eqb made 64 ne) ∙ cond-true _ _ _ some)
     ∙ (λ i. Ok (record { common = set_word c (process_word (same i) 2) (same i); thread = answered (sym is i) (same i) x; child = forked (sym is i); event = plain name.Fork (same i) })))
 
 -- a local step
@@ -202,6 +204,6 @@ rests_when made t c Breaks is = absurd cc
 rests_when made t c Rests is = refl
 
 -- a refusal that is handed on
-pub handed : {A : Type 0} → (r : Result A StepFault) (f : StepFault) (Q : StepFault → Type 0) → IsErrAnd r (λ g. g ≡ f) → Q f → IfErr r Q
-handed (Ok x) f Q h q = tt
-handed (Err g) f Q h q = subst Q (sym h) q
+pub hand_on : {A : Type 0} → (r : Result A StepFault) (f : StepFault) (Q : StepFault → Type 0) → IsErrAnd r (λ g. g ≡ f) → Q f → IfErr r Q
+hand_on (Ok x) f Q h q = tt
+hand_on (Err g) f Q h q = subst Q (sym h) q

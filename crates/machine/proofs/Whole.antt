@@ -12,10 +12,11 @@ use Rattle.locals.specs.Requests.{told_of, next_step_of}
 use Rattle.machine.specs.declared.event.Event.{Event}
 use Rattle.machine.specs.declared.event.StepFault.{StepFault}
 use Rattle.machine.specs.declared.event.StepFault.TheVariants.{Broken}
-use Rattle.machine.specs.States.{Common, Kept, thread_at, thread_of, opening_kept}
-use Rattle.machine.specs.Fronts.{Served, Stepped, serve, went_on, thread_step, lifted, step_awake, step_thread, step_of, fault_of}
-use Rattle.machine.specs.Told.{asked_of}
-use Rattle.machine.specs.Views.{IsKept, kept_of}
+use Rattle.machine.specs.States.{Common, ConcreteState, thread_at, thread_of, opening_concrete}
+use Rattle.machine.specs.ConcreteServing.{Served, serve}
+use Rattle.machine.specs.ConcreteSteps.{Stepped, go_on_with, thread_step, on_machine, step_awake, step_thread, step_of, fault_of}
+use Rattle.machine.specs.RequestMeanings.{asked_of}
+use Rattle.machine.specs.Views.{IsWellFormed, concrete_of}
 use Rattle.machine.proofs.Stepping.{steps_so}
 use Rattle.machine.proofs.Steps.{asked_back, shared_is}
 
@@ -28,13 +29,13 @@ pub stands_at : (ts : List Thread) (t : ℕ) (x d : Thread) → 0 < t → t ≤ 
 stands_at ts zero x d some few h = absurd (omega arith)
 stands_at ts (suc t) x d some few h = got ts t x d (omega arith) (h ∙ ap (λ i. get_or ts i d) (let e : suc t - 1 ≡ t = omega arith in e))
 
-pub stepped : (p : Program) (k : Kept) (t made : ℕ) (x : Thread) (r : Result Stepped StepFault) → thread_of k t ≡ Some x → k.common.asleep t ≡ None → made ≡ length k.threads → thread_step made t k.common (look p t x) ≡ r → step_of p k t ≡ lifted k t r
+pub stepped : (p : Program) (k : ConcreteState) (t made : ℕ) (x : Thread) (r : Result Stepped StepFault) → thread_of k t ≡ Some x → k.common.asleep t ≡ None → made ≡ length k.threads → thread_step made t k.common (look p t x) ≡ r → step_of p k t ≡ on_machine k t r
 stepped p k t made x r stands awake counted done =
-    ap (step_thread p k t) stands ∙ ap (step_awake p k t x) awake ∙ ap (λ m. lifted k t (thread_step m t k.common (look p t x))) (sym counted) ∙ ap (lifted k t) done
+    ap (step_thread p k t) stands ∙ ap (step_awake p k t x) awake ∙ ap (λ m. on_machine k t (thread_step m t k.common (look p t x))) (sym counted) ∙ ap (on_machine k t) done
 
-pub kept_after : (p : Program) (k k' : Kept) (t : ℕ) (r : Result Event StepFault) → IsKept p k → IfOk r (λ e. step_of p k t ≡ Ok (k', e)) → OnErr r (k' ≡ k) → IsKept p k'
-kept_after p k k' t (Ok e) kept done same = (steps_so p k k' t e kept done).3
-kept_after p k k' t (Err f) kept done same = rw same kept
+pub kept_after : (p : Program) (k k' : ConcreteState) (t : ℕ) (r : Result Event StepFault) → IsWellFormed p k → IfOk r (λ e. step_of p k t ≡ Ok (k', e)) → OnErr r (k' ≡ k) → IsWellFormed p k'
+kept_after p k k' t (Ok e) concrete done same = (steps_so p k k' t e concrete done).3
+kept_after p k k' t (Err f) concrete done same = rw same concrete
 
 -- a request is refused for what the code tells of it
 fault_if : (b d : Bool) (x y z : Served) → fault_of (let r : Result Served StepFault = cond b (Ok x) (cond d (Ok y) (Err Broken)) in r) ≡ fault_of (let r : Result Served StepFault = cond b (Ok x) (cond d (Ok z) (Err Broken)) in r)
@@ -46,7 +47,7 @@ fault_asked : (made t : ℕ) (c : Common) (r : Request) → fault_of (serve made
 fault_asked made t c (AskFork entry arguments has_room) = fault_if (eqb made 64) has_room _ _ _
 fault_asked made t c r = ap (λ q. fault_of (serve made t q c)) (asked_back r tt)
 
-fault_went : (go : ℕ → Thread) (r : Result Served StepFault) → fault_of (went_on go r) ≡ fault_of r
+fault_went : (go : ℕ → Thread) (r : Result Served StepFault) → fault_of (go_on_with go r) ≡ fault_of r
 fault_went go (Ok x) = refl
 fault_went go (Err f) = refl
 
@@ -60,7 +61,7 @@ refused_so made t c Rests request is = absurd cc
 
 -- the parts of a machine at the start of a program
 pub opened : (p : Program) (words : List ℕ) (s : Sleepers) (threads : List Thread) → words ≡ slice_set (replicate (memory_size p) 0) 3 1 → ((a : ℕ) → queue s a ≡ []) → ((t : ℕ) → place_of s t ≡ None) → threads ≡ opening_thread p.start [] ∷ []
-    → kept_of words s threads [] ≡ opening_kept p
+    → concrete_of words s threads [] ≡ opening_concrete p
 opened p words s threads w q a t =
     let queues : queue s ≡ (λ b. []) = fun_ext q in
     let places : place_of s ≡ (λ u. None) = fun_ext a in

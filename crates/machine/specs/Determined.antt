@@ -4,30 +4,30 @@ use Rattle.isa.specs.Programs.{Program}
 use Rattle.machine.specs.declared.event.Event.{Event}
 use Rattle.machine.specs.declared.event.StepFault.TheVariants.{CannotMove, Broken}
 use Rattle.machine.specs.ThreadSets.{set_of}
-use Rattle.machine.specs.States.{Kept, opening_kept, opening_state, state_of}
+use Rattle.machine.specs.States.{ConcreteState, opening_concrete, opening_state, state_of}
 use Rattle.machine.specs.Runs.{IsStep, CanStep, NextIsBroken, is_paused}
-use Rattle.machine.specs.Fronts.{step_of, can_move}
-use Rattle.machine.specs.Views.{IsKept}
+use Rattle.machine.specs.ConcreteSteps.{step_of, can_move}
+use Rattle.machine.specs.Views.{IsWellFormed}
 
 -- what is kept at the start stands for the opening state
 abbrev pub OpensSo : Type 0
-OpensSo = (p : Program) → (state_of (opening_kept p) ≡ opening_state p) × IsKept p (opening_kept p)
+OpensSo = (p : Program) → (state_of (opening_concrete p) ≡ opening_state p) × IsWellFormed p (opening_concrete p)
 
 -- a step that is done is a step of the relation that wakes those of its event, and keeps what always holds
 abbrev pub StepsSo : Type 0
 StepsSo =
-    (p : Program) (k k' : Kept) (t : ℕ) (e : Event) → IsKept p k → step_of p k t ≡ Ok (k', e)
+    (p : Program) (k k' : ConcreteState) (t : ℕ) (e : Event) → IsWellFormed p k → step_of p k t ≡ Ok (k', e)
     → (woken : List ℕ) × (e.woken ≡ set_of woken)
-    × IsStep p (state_of k) (record { thread = t; woken = woken; pauses = is_paused (state_of k') t }) (state_of k') × IsKept p k'
+    × IsStep p (state_of k) (record { thread = t; woken = woken; pauses = is_paused (state_of k') t }) (state_of k') × IsWellFormed p k'
 
 -- a step is Broken exactly where the thread's next step may not be
 abbrev pub BreaksSo : Type 0
-BreaksSo = (p : Program) (k : Kept) (t : ℕ) → IsKept p k → (step_of p k t ≡ Err Broken) ↔ NextIsBroken p (state_of k) t
+BreaksSo = (p : Program) (k : ConcreteState) (t : ℕ) → IsWellFormed p k → (step_of p k t ≡ Err Broken) ↔ NextIsBroken p (state_of k) t
 
 -- a step is refused with CannotMove exactly where the thread can't step
 abbrev pub RefusesSo : Type 0
-RefusesSo = (p : Program) (k : Kept) (t : ℕ) → (step_of p k t ≡ Err CannotMove) ↔ (CanStep (state_of k) t → ⊥)
+RefusesSo = (p : Program) (k : ConcreteState) (t : ℕ) → (step_of p k t ≡ Err CannotMove) ↔ (CanStep (state_of k) t → ⊥)
 
 -- a thread can move exactly where it can step
 abbrev pub MovesSo : Type 0
-MovesSo = (k : Kept) (t : ℕ) → (can_move k t ≡ true) ↔ CanStep (state_of k) t
+MovesSo = (k : ConcreteState) (t : ℕ) → (can_move k t ≡ true) ↔ CanStep (state_of k) t

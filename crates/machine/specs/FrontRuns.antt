@@ -4,9 +4,9 @@ use Rattle.isa.specs.Programs.{Program}
 use Rattle.machine.specs.declared.event.Event.{Event}
 use Rattle.machine.specs.declared.thread_set.ThreadSet.{ThreadSet}
 use Rattle.machine.specs.ThreadSets.{set_of}
-use Rattle.machine.specs.States.{Kept, state_of, opening_kept}
+use Rattle.machine.specs.States.{ConcreteState, state_of, opening_concrete}
 use Rattle.machine.specs.Runs.{Step, MachineRun}
-use Rattle.machine.specs.Fronts.{step_of}
+use Rattle.machine.specs.ConcreteSteps.{step_of}
 
 -- a step of the machine itself, by its thread and its event
 pub record EventStep : Type 0 where
@@ -14,9 +14,9 @@ pub record EventStep : Type 0 where
   pub event : Event
 
 -- steps of the machine itself, one after another
-abbrev pub FrontRun : Program → Kept → List EventStep → Kept → Type 0
+abbrev pub FrontRun : Program → ConcreteState → List EventStep → ConcreteState → Type 0
 FrontRun p k [] k' = k ≡ k'
-FrontRun p k (s ∷ steps) k' = (mid : Kept) × (step_of p k s.thread ≡ Ok (mid, s.event)) × FrontRun p mid steps k'
+FrontRun p k (s ∷ steps) k' = (mid : ConcreteState) × (step_of p k s.thread ≡ Ok (mid, s.event)) × FrontRun p mid steps k'
 
 -- what is seen of a step: its thread, and the threads that it woke
 pub record Label : Type 0 where
@@ -32,5 +32,5 @@ event_label s = record { thread = s.thread; woken = s.event.woken }
 -- a run of the machine itself is a run of the relation, step by step: of the same threads, which wake the same
 abbrev pub FrontsRunSo : Type 0
 FrontsRunSo =
-    (p : Program) (k : Kept) (steps : List EventStep) → FrontRun p (opening_kept p) steps k
+    (p : Program) (k : ConcreteState) (steps : List EventStep) → FrontRun p (opening_concrete p) steps k
     → (run : List Step) × MachineRun p run (state_of k) × (map label_of run ≡ map event_label steps)

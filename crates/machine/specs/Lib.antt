@@ -1,10 +1,12 @@
 pub mod States
 pub mod ThreadSets
-pub mod Serving
+pub mod AbstractServing
 pub mod Runs
-pub mod Fronts
+pub mod ConcreteServing
+pub mod ConcreteExits
+pub mod ConcreteSteps
 pub mod FrontRuns
-pub mod Told
+pub mod RequestMeanings
 pub mod Views
 pub mod Determined
 pub mod LocalRuns

@@ -3,13 +3,13 @@ use Rattle.std.specs.Prelude.{ℕ, ◌≡◌, ◌≤◌, ◌<◌, ◌-◌, Some,
 use Rattle.locals.specs.Threads.{Thread}
 use Rattle.locals.specs.Steps.{local_step, local_after}
 use Rattle.machine.specs.States.{thread_of}
-use Rattle.machine.specs.Views.{View, kept}
+use Rattle.machine.specs.Views.{View, concrete}
 
 -- the thread went on by so many local steps, the budget or until another step came, and nothing else changed
 pub record RunsOn (old : View) (t budget count : ℕ) (new : View) : Type 0 where
   pub origin : Thread
   pub here : Thread
-  pub stands : thread_of (kept old) t ≡ Some origin
+  pub stands : thread_of (concrete old) t ≡ Some origin
   pub goes : local_after old.program t count origin ≡ Some here
   pub within : count ≤ budget
   pub whole : count < budget → local_step old.program t here ≡ None

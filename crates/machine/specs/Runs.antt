@@ -7,7 +7,7 @@ use Rattle.robustexit.specs.RobustExit.{Shared, ExitStep}
 use Rattle.locals.specs.Threads.{Thread, Runs, Dies, Exits}
 use Rattle.locals.specs.Looks.{Look, Goes, Asks, Leaves, Breaks, Rests, look}
 use Rattle.machine.specs.States.{State, opening_state, with_thread}
-use Rattle.machine.specs.Serving.{Serves, IsUnserved, shared_of, with_shared}
+use Rattle.machine.specs.AbstractServing.{Serves, IsUnserved, shared_of, with_shared}
 
 -- a step, by its thread and the sleepers that it woke; and whether the thread then sleeps or has ended
 pub record Step : Type 0 where
@@ -46,13 +46,13 @@ pub record IsStep (p : Program) (s : State) (step : Step) (s' : State) : Type 0 
   pub pauses : step.pauses ≡ is_paused s' step.thread
 
 -- steps from a state to another, one after another
-abbrev pub Goes_by : Program → State → List Step → State → Type 0
-Goes_by p s [] s' = s ≡ s'
-Goes_by p s (step ∷ steps) s' = (mid : State) × IsStep p s step mid × Goes_by p mid steps s'
+abbrev pub GoesBy : Program → State → List Step → State → Type 0
+GoesBy p s [] s' = s ≡ s'
+GoesBy p s (step ∷ steps) s' = (mid : State) × IsStep p s step mid × GoesBy p mid steps s'
 
 -- a run of the machine, from the opening state
 abbrev pub MachineRun : Program → List Step → State → Type 0
-MachineRun p steps s = Goes_by p (opening_state p) steps s
+MachineRun p steps s = GoesBy p (opening_state p) steps s
 
 -- the thread was made, doesn't sleep and has not ended
 pub record CanStep (s : State) (t : ℕ) : Type 0 where

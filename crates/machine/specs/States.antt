@@ -14,7 +14,7 @@ pub record Common : Type 0 where
   pub output : List ℤ
 
 -- what a machine keeps: threads by number, from 1
-pub record Kept : Type 0 where
+pub record ConcreteState : Type 0 where
   pub common : Common
   pub threads : List Thread
 
@@ -32,11 +32,11 @@ abbrev pub thread_at : List Thread → ℕ → Option Thread
 thread_at threads zero = None
 thread_at threads (suc t) = slice_get threads t
 
-abbrev pub thread_of : Kept → ℕ → Option Thread
+abbrev pub thread_of : ConcreteState → ℕ → Option Thread
 thread_of k t = thread_at k.threads t
 
 -- what is kept, as a state
-abbrev pub state_of : Kept → State
+abbrev pub state_of : ConcreteState → State
 state_of k = record {
   word = λ a. slice_index k.common.words a;
   size = length k.common.words;
@@ -47,8 +47,8 @@ state_of k = record {
 }
 
 -- the first process stands at the start, and its id word is its number; all other words are 0, and nobody sleeps
-abbrev pub opening_kept : Program → Kept
-opening_kept p = record {
+abbrev pub opening_concrete : Program → ConcreteState
+opening_concrete p = record {
   common = record {
     words = slice_set (replicate (memory_size p) 0) 3 1;
     queue = λ a. [];

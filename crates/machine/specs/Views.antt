@@ -10,16 +10,16 @@ use Rattle.machine.specs.declared.event.Event.{Event}
 use Rattle.machine.specs.declared.event.EventName.{EventName}
 use Rattle.machine.specs.declared.event.EventName.TheVariants as name
 use Rattle.locals.specs.Threads.{Thread}
-use Rattle.machine.specs.States.{Common, Kept, thread_of}
+use Rattle.machine.specs.States.{Common, ConcreteState, thread_of}
 use Rattle.machine.specs.Runs.{has_ended}
-use Rattle.machine.specs.Fronts.{can_move}
+use Rattle.machine.specs.ConcreteSteps.{can_move}
 
 -- no thread can move
-abbrev pub IsQuiet : Kept → Type 0
+abbrev pub IsQuiet : ConcreteState → Type 0
 IsQuiet k = (t : ℕ) → can_move k t ≡ false
 
 -- each thread that was made has ended
-abbrev pub AllEnded : Kept → Type 0
+abbrev pub AllEnded : ConcreteState → Type 0
 AllEnded k = (t : ℕ) → 0 < t → t ≤ length k.threads → has_ended (thread_of k t) ≡ true
 
 -- who sleeps and where: a thread sleeps on an address exactly where it stands in that address's list, once
@@ -28,12 +28,12 @@ pub record IsSoundly (queue : ℕ → List ℕ) (asleep : ℕ → Option ℕ) : 
   pub sleeps : (t a : ℕ) → IsTrue (names (queue a) t) → asleep t ≡ Some a
   pub distinct : (a : ℕ) → IsDistinct nat_eq (queue a)
 
--- what always holds of what is kept: the memory has the program's size, there are 1 to 64 threads, and who sleeps is
+-- what always holds of what is kept: the memory has the program's size, there are some threads, as many as can be, and who sleeps is
 -- one of them
-pub record IsKept (p : Program) (k : Kept) : Type 0 where
+pub record IsWellFormed (p : Program) (k : ConcreteState) : Type 0 where
   pub sized : length k.common.words ≡ memory_size p
   pub some : 1 ≤ length k.threads
-  pub few : length k.threads ≤ 64
+  pub few : length k.threads ≤ most_processes
   pub sound : IsSoundly k.common.queue k.common.asleep
   pub made : (t a : ℕ) → k.common.asleep t ≡ Some a → (1 ≤ t) × (t ≤ length k.threads)
 
@@ -41,8 +41,8 @@ abbrev pub common_of : List ℕ → Sleepers → List ℤ → Common
 common_of words sleepers output =
     record { words = words; queue = queue sleepers; asleep = place_of sleepers; output = output }
 
-abbrev pub kept_of : List ℕ → Sleepers → List Thread → List ℤ → Kept
-kept_of words sleepers threads output = record { common = common_of words sleepers output; threads = threads }
+abbrev pub concrete_of : List ℕ → Sleepers → List Thread → List ℤ → ConcreteState
+concrete_of words sleepers threads output = record { common = common_of words sleepers output; threads = threads }
 
 -- what a `Common` stands for: the words, who sleeps, the numbers printed, and how many numbers there is room for in all
 pub record CommonView : Type 0 where
@@ -56,7 +56,7 @@ abbrev pub common : CommonView → Common
 common v = common_of v.words v.sleepers v.output
 
 -- what a machine keeps, of what its threads share and of them
-abbrev pub parts_of : CommonView → List Thread → Kept
+abbrev pub parts_of : CommonView → List Thread → ConcreteState
 parts_of v threads = record { common = common v; threads = threads }
 
 -- what always holds of it: the words of all threads are there, and who sleeps is one of them
@@ -75,13 +75,13 @@ pub record View : Type 0 where
   pub room : ℕ
 
 -- what a machine keeps
-abbrev pub kept : View → Kept
-kept v = kept_of v.words v.sleepers v.threads v.output
+abbrev pub concrete : View → ConcreteState
+concrete v = concrete_of v.words v.sleepers v.threads v.output
 
 -- the address of a member word of a monitor: before it stand the words of processes, the link word, the lock word and
 -- the members of each earlier monitor, and the monitor's own link word and lock word
 abbrev pub variable_address : Program → ℕ → ℕ → ℕ
-variable_address p monitor index = 385 + 2 * monitor + sum (take monitor p.monitors) + 2 + index
+variable_address p monitor index = monitors_base + 2 * monitor + sum (take monitor p.monitors) + 2 + index
 
 -- an address as a number
 abbrev pub address_of : Option Addr → Option ℕ

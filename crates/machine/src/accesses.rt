@@ -1,8 +1,8 @@
 //! The accesses of threads to the words.
 ghost use Rattle.std.specs.Prelude.{◌≡◌, ◌≤◌, ◌<◌, ℕ, length, OnErr};
 ghost use Rattle.locals.specs.Looks.{AskLoad, AskStore, AskSwap, AskCas, AskOr, AskAdd};
-ghost use Rattle.machine.specs.Fronts.{serve};
-ghost use Rattle.machine.specs.Told.{given};
+ghost use Rattle.machine.specs.ConcreteServing.{serve};
+ghost use Rattle.machine.specs.RequestMeanings.{with_common};
 ghost use Rattle.machine.specs.Views.{common};
 
 use crate::common::Common;
@@ -13,7 +13,7 @@ use words::Addr;
 impl Common {
     /// Reads the word at an address.
     pub fn load(&self, a: Addr) -> Result<Served, StepFault>
-        ensures gives { (made t : ℕ) → serve made t (AskLoad a.0) (common self.now) ≡ given result (common self.now) }
+        ensures gives { (made t : ℕ) → serve made t (AskLoad a.0) (common self.now) ≡ with_common result (common self.now) }
     {
         check_address(&self.words, a)?;
         let word = self.words.load(a);
@@ -22,7 +22,7 @@ impl Common {
 
     /// Puts a word at an address.
     pub fn store(&mut self, a: Addr, v: u32) -> Result<Served, StepFault>
-        ensures gives { (made t : ℕ) → serve made t (AskStore a.0 v) (common self.old) ≡ given result (common self.new) }
+        ensures gives { (made t : ℕ) → serve made t (AskStore a.0 v) (common self.old) ≡ with_common result (common self.new) }
         ensures capacity { self.new.capacity ≡ self.old.capacity }
         ensures same { OnErr result (self.new ≡ self.old) }
     {
@@ -33,7 +33,7 @@ impl Common {
 
     /// Puts a word at an address; the answer is the word before.
     pub fn swap(&mut self, a: Addr, v: u32) -> Result<Served, StepFault>
-        ensures gives { (made t : ℕ) → serve made t (AskSwap a.0 v) (common self.old) ≡ given result (common self.new) }
+        ensures gives { (made t : ℕ) → serve made t (AskSwap a.0 v) (common self.old) ≡ with_common result (common self.new) }
         ensures capacity { self.new.capacity ≡ self.old.capacity }
         ensures same { OnErr result (self.new ≡ self.old) }
     {
@@ -44,7 +44,7 @@ impl Common {
 
     /// Puts `new` at an address where the word is `expected`; the answer is the word before.
     pub fn compare_swap(&mut self, a: Addr, expected: u32, new: u32) -> Result<Served, StepFault>
-        ensures gives { (made t : ℕ) → serve made t (AskCas a.0 expected new) (common self.old) ≡ given result (common self.new) }
+        ensures gives { (made t : ℕ) → serve made t (AskCas a.0 expected new) (common self.old) ≡ with_common result (common self.new) }
         ensures capacity { self.new.capacity ≡ self.old.capacity }
         ensures same { OnErr result (self.new ≡ self.old) }
     {
@@ -55,7 +55,7 @@ impl Common {
 
     /// Sets bits in the word at an address; the answer is the word before.
     pub fn fetch_or(&mut self, a: Addr, v: u32) -> Result<Served, StepFault>
-        ensures gives { (made t : ℕ) → serve made t (AskOr a.0 v) (common self.old) ≡ given result (common self.new) }
+        ensures gives { (made t : ℕ) → serve made t (AskOr a.0 v) (common self.old) ≡ with_common result (common self.new) }
         ensures capacity { self.new.capacity ≡ self.old.capacity }
         ensures same { OnErr result (self.new ≡ self.old) }
     {
@@ -66,7 +66,7 @@ impl Common {
 
     /// Adds a number to the word at an address, modulo 2^32; the answer is the word before.
     pub fn fetch_add(&mut self, a: Addr, v: u32) -> Result<Served, StepFault>
-        ensures gives { (made t : ℕ) → serve made t (AskAdd a.0 v) (common self.old) ≡ given result (common self.new) }
+        ensures gives { (made t : ℕ) → serve made t (AskAdd a.0 v) (common self.old) ≡ with_common result (common self.new) }
         ensures capacity { self.new.capacity ≡ self.old.capacity }
         ensures same { OnErr result (self.new ≡ self.old) }
     {

@@ -1,4 +1,5 @@
 ghost use Rattle.std.specs.Prelude.{◌≡◌, ◌-◌, ◌≤◌, ◌<◌, ◌+◌, ℕ, [], None, IfOk, OnOk, OnErr, length, replicate, slice_get, slice_set, Some};
+ghost use Rattle.words.specs.Limits.{most_processes};
 ghost use Rattle.isa.specs.Programs.{memory_size};
 ghost use Rattle.buckets.specs.BucketCount.{IsBucketCount};
 ghost use Rattle.buckets.specs.Sleepers.{queue, place_of};
@@ -78,7 +79,7 @@ impl Common {
 
     /// Where thread `t` sleeps, if it does.
     pub fn asleep(&self, t: u32) -> Option<Addr>
-        requires { (0 < t) × (t ≤ 64) }
+        requires { (0 < t) × (t ≤ most_processes) }
         ensures { address_of result ≡ place_of self.now.sleepers t }
     {
         self.buckets.asleep(t)

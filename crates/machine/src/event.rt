@@ -1,7 +1,7 @@
 ghost use Rattle.std.specs.Prelude.{◌≡◌};
 ghost use Rattle.std.specs.List.{All};
 ghost use Rattle.machine.specs.ThreadSets.{IsThread};
-ghost use Rattle.machine.specs.Fronts.{plain, event_of};
+ghost use Rattle.machine.specs.ConcreteServing.{plain, event_of};
 
 use crate::thread_set::ThreadSet;
 use thiserror::Error;

@@ -2,8 +2,8 @@
 ghost use Rattle.std.specs.Prelude.{◌≡◌, ◌≢◌, ◌≤◌, ◌<◌, length};
 ghost use Rattle.words.specs.Limits.{monitors_base};
 ghost use Rattle.machine.specs.ThreadSets.{IsThread};
-ghost use Rattle.machine.specs.Fronts.{leave};
-ghost use Rattle.machine.specs.Told.{value_at, name_at};
+ghost use Rattle.machine.specs.ConcreteExits.{leave};
+ghost use Rattle.machine.specs.RequestMeanings.{value_at, name_at};
 ghost use Rattle.machine.specs.Views.{common};
 
 use crate::common::Common;

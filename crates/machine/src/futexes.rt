@@ -3,8 +3,8 @@ ghost use Rattle.std.specs.Prelude.{◌≡◌, ◌≤◌, ℕ, None, OnErr};
 ghost use Rattle.buckets.specs.Sleepers.{place_of};
 ghost use Rattle.locals.specs.Looks.{AskWait, AskWake, AskRequeue};
 ghost use Rattle.machine.specs.ThreadSets.{IsThread};
-ghost use Rattle.machine.specs.Fronts.{serve};
-ghost use Rattle.machine.specs.Told.{given};
+ghost use Rattle.machine.specs.ConcreteServing.{serve};
+ghost use Rattle.machine.specs.RequestMeanings.{with_common};
 ghost use Rattle.machine.specs.Views.{common};
 
 use crate::common::Common;
@@ -20,7 +20,7 @@ impl Common {
     pub fn wait(&mut self, t: u32, a: Addr, expected: u32) -> Result<Served, StepFault>
         requires thread { IsThread t }
         requires awake { place_of self.old.sleepers t ≡ None }
-        ensures gives { (made : ℕ) → serve made t (AskWait a.0 expected) (common self.old) ≡ given result (common self.new) }
+        ensures gives { (made : ℕ) → serve made t (AskWait a.0 expected) (common self.old) ≡ with_common result (common self.new) }
         ensures capacity { self.new.capacity ≡ self.old.capacity }
         ensures same { OnErr result (self.new ≡ self.old) }
     {
@@ -33,7 +33,7 @@ impl Common {
 
     /// Wakes the first `n` sleepers on an address; the answer is how many.
     pub fn wake(&mut self, a: Addr, n: u32) -> Result<Served, StepFault>
-        ensures gives { (made t : ℕ) → serve made t (AskWake a.0 n) (common self.old) ≡ given result (common self.new) }
+        ensures gives { (made t : ℕ) → serve made t (AskWake a.0 n) (common self.old) ≡ with_common result (common self.new) }
         ensures capacity { self.new.capacity ≡ self.old.capacity }
         ensures same { OnErr result (self.new ≡ self.old) }
     {
@@ -56,7 +56,7 @@ impl Common {
         moves: u32,
         expected: u32,
     ) -> Result<Served, StepFault>
-        ensures gives { (made t : ℕ) → serve made t (AskRequeue a.0 b.0 wake moves expected) (common self.old) ≡ given result (common self.new) }
+        ensures gives { (made t : ℕ) → serve made t (AskRequeue a.0 b.0 wake moves expected) (common self.old) ≡ with_common result (common self.new) }
         ensures capacity { self.new.capacity ≡ self.old.capacity }
         ensures same { OnErr result (self.new ≡ self.old) }
     {

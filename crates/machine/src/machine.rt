@@ -1,13 +1,14 @@
 ghost use Rattle.std.specs.Prelude.{◌≡◌, ◌≢◌, ◌≤◌, ◌<◌, ◌+◌, ℕ, length, slice_get, slice_index, slice_set, ◌-◌, true, false, Some, None, Ok, Err, IfOk, IfErr, OnOk, OnErr, MatchBool, is_some};
+ghost use Rattle.words.specs.Limits.{most_processes};
 ghost use Rattle.words.specs.Process.{process_word};
 ghost use Rattle.words.specs.Outcomes.{outcome_of};
 ghost use Rattle.buckets.specs.BucketCount.{IsBucketCount};
 ghost use Rattle.locals.specs.Steps.{local_step};
-ghost use Rattle.machine.specs.States.{thread_of, state_of, opening_kept};
+ghost use Rattle.machine.specs.States.{thread_of, state_of, opening_concrete};
 ghost use Rattle.machine.specs.Runs.{has_ended};
-ghost use Rattle.machine.specs.Fronts.{step_of, can_move, fault_at};
+ghost use Rattle.machine.specs.ConcreteSteps.{step_of, can_move, fault_at};
 ghost use Rattle.machine.specs.LocalRuns.{RunsOn};
-ghost use Rattle.machine.specs.Views.{kept, AllEnded, IsQuiet, variable_address, address_of, printed_by, IsKept};
+ghost use Rattle.machine.specs.Views.{concrete, AllEnded, IsQuiet, variable_address, address_of, printed_by, IsWellFormed};
 
 use crate::common::Common;
 use crate::event::{Event, StepFault};
@@ -31,7 +32,7 @@ pub struct Machine {
 impl Model for Machine {
     ghost use Rattle.std.specs.Prelude.{◌≤◌, ◌-◌, length, vec_capacity};
     ghost use Rattle.words.specs.Limits.{most_processes};
-    ghost use Rattle.machine.specs.Views.{View, IsKept, parts_of};
+    ghost use Rattle.machine.specs.Views.{View, IsWellFormed, parts_of};
 
     ghost Value = { View };
 
@@ -44,7 +45,7 @@ impl Model for Machine {
       room = m.common.capacity - length m.common.output;
     } };
 
-    ghost invariant = { λ m. IsKept m.image (parts_of m.common m.threads.items) × (most_processes ≤ vec_capacity m.threads) };
+    ghost invariant = { λ m. IsWellFormed m.image (parts_of m.common m.threads.items) × (most_processes ≤ vec_capacity m.threads) };
 }
 
 impl Machine {
@@ -53,8 +54,8 @@ impl Machine {
     pub fn new(alloc: Global, image: &Image, buckets: u32) -> Result<Machine, AllocError>
         requires { IsBucketCount buckets }
         ensures program { IfOk result (λ m. m.program ≡ image.now) }
-        ensures opening { IfOk result (λ m. kept m ≡ opening_kept image.now) }
-        ensures holds { IfOk result (λ m. IsKept image.now (kept m)) }
+        ensures opening { IfOk result (λ m. concrete m ≡ opening_concrete image.now) }
+        ensures holds { IfOk result (λ m. IsWellFormed image.now (concrete m)) }
     {
         Ok(Machine {
             image: image.copy(alloc)?,
@@ -67,7 +68,7 @@ impl Machine {
     pub fn make_room(&mut self, n: usize) -> Result<(), AllocError>
         ensures room { OnOk result (n ≤ self.new.room) }
         ensures err { OnErr result ((self.old.room < n) × (self.new.room ≡ self.old.room)) }
-        ensures same { (self.new.program ≡ self.old.program) × (kept self.new ≡ kept self.old) }
+        ensures same { (self.new.program ≡ self.old.program) × (concrete self.new ≡ concrete self.old) }
     {
         self.common.make_room(n)
     }
@@ -79,11 +80,11 @@ impl Machine {
         self.common.room()
     }
 
-    /// How many threads were made, from 1 to 64. With it comes what always holds of a machine.
+    /// How many threads were made, from 1 to `MOST_PROCESSES`. With it comes what always holds of a machine.
     pub fn threads(&self) -> u32
         ensures value { result ≡ length self.now.threads }
-        ensures within { (1 ≤ result) × (result ≤ 64) }
-        ensures holds { IsKept self.now.program (kept self.now) }
+        ensures within { (1 ≤ result) × (result ≤ most_processes) }
+        ensures holds { IsWellFormed self.now.program (concrete self.now) }
     {
         self.threads.len() as u32
     }
@@ -91,7 +92,7 @@ impl Machine {
     /// The state of thread `t`.
     pub fn local(&self, t: u32) -> &Local
         requires { (0 < t) × (t ≤ length self.now.threads) }
-        ensures { thread_of (kept self.now) t ≡ Some result.now }
+        ensures { thread_of (concrete self.now) t ≡ Some result.now }
     {
         &self.threads[t as usize - 1]
     }
@@ -99,21 +100,21 @@ impl Machine {
     /// How thread `t` ended, as its outcome word tells.
     pub fn outcome(&self, t: u32) -> Outcome
         requires { (0 < t) × (t ≤ length self.now.threads) }
-        ensures { result ≡ outcome_of ((state_of (kept self.now)).word (process_word t 5)) }
+        ensures { result ≡ outcome_of ((state_of (concrete self.now)).word (process_word t 5)) }
     {
         Outcome::of_word(self.common.word(block(t, ProcessWord::Outcome)))
     }
 
     /// Whether thread `t` was made and has ended.
     pub fn has_ended(&self, t: u32) -> bool
-        ensures { result ≡ has_ended (thread_of (kept self.now) t) }
+        ensures { result ≡ has_ended (thread_of (concrete self.now) t) }
     {
         t > 0 && t as usize <= self.threads.len() && self.threads[t as usize - 1].has_ended()
     }
 
     /// Whether all threads that were made have ended.
     pub fn all_ended(&self) -> bool
-        ensures { MatchBool result (AllEnded (kept self.now)) ((t : ℕ) × (0 < t) × (t ≤ length self.now.threads) × (has_ended (thread_of (kept self.now) t) ≡ false)) }
+        ensures { MatchBool result (AllEnded (concrete self.now)) ((t : ℕ) × (0 < t) × (t ≤ length self.now.threads) × (has_ended (thread_of (concrete self.now) t) ≡ false)) }
     {
         for t in 0..self.threads() {
             if !self.has_ended(t + 1) {
@@ -125,7 +126,7 @@ impl Machine {
 
     /// Where thread `t` sleeps, if it was made and does.
     pub fn asleep(&self, t: u32) -> Option<Addr>
-        ensures { address_of result ≡ (state_of (kept self.now)).asleep t }
+        ensures { address_of result ≡ (state_of (concrete self.now)).asleep t }
     {
         if t == 0 || t as usize > self.threads.len() {
             return None;
@@ -135,7 +136,7 @@ impl Machine {
 
     /// Whether thread `t` was made and can move: it neither sleeps nor has ended.
     pub fn can_move(&self, t: u32) -> bool
-        ensures { result ≡ can_move (kept self.now) t }
+        ensures { result ≡ can_move (concrete self.now) t }
     {
         if t == 0 || t as usize > self.threads.len() {
             return false;
@@ -145,7 +146,7 @@ impl Machine {
 
     /// Whether no thread can move.
     pub fn quiet(&self) -> bool
-        ensures { MatchBool result (IsQuiet (kept self.now)) ((t : ℕ) × (can_move (kept self.now) t ≡ true)) }
+        ensures { MatchBool result (IsQuiet (concrete self.now)) ((t : ℕ) × (can_move (concrete self.now) t ≡ true)) }
     {
         for t in 0..self.threads() {
             if self.can_move(t + 1) {
@@ -159,7 +160,7 @@ impl Machine {
     pub fn var(&self, monitor: u32, index: u32) -> u32
         requires monitor { monitor < length self.now.program.monitors }
         requires index { index < slice_index self.now.program.monitors monitor }
-        ensures { result ≡ (state_of (kept self.now)).word (variable_address self.now.program monitor index) }
+        ensures { result ≡ (state_of (concrete self.now)).word (variable_address self.now.program monitor index) }
     {
         self.common.word(variable(&self.image, monitor, index))
     }
@@ -173,7 +174,7 @@ impl Machine {
 
     /// What a step of thread `t` would be refused for, if it stood at `here` and were awake.
     pub fn refusal_at(&self, t: u32, here: &Local) -> Option<StepFault>
-        ensures { result ≡ fault_at self.now.program (kept self.now) t here.now }
+        ensures { result ≡ fault_at self.now.program (concrete self.now) t here.now }
     {
         self.common.refusal(&self.image, self.threads(), t, here)
     }
@@ -187,7 +188,7 @@ impl Machine {
 
     /// Puts thread `t`, which can move, where its local steps led.
     pub fn put_local(&mut self, t: u32, local: Local)
-        requires { can_move (kept self.old) t ≡ true }
+        requires { can_move (concrete self.old) t ≡ true }
         ensures { self.new ≡ record self.old { threads = slice_set self.old.threads (t - 1) local } }
     {
         self.threads[t as usize - 1] = local;
@@ -196,7 +197,7 @@ impl Machine {
     /// Takes local steps of thread `t`, which can move, in its place, until another step comes or the budget is used.
     /// Answers how many.
     pub fn run_local(&mut self, t: u32, budget: u32) -> u32
-        requires { can_move (kept self.old) t ≡ true }
+        requires { can_move (concrete self.old) t ≡ true }
         ensures { RunsOn self.old t budget result self.new }
     {
         self.threads[t as usize - 1].run(&self.image, t, budget)
@@ -208,11 +209,11 @@ impl Machine {
     /// step may not be; then nothing has changed.
     pub fn step(&mut self, t: u32) -> Result<Event, StepFault>
         requires { 1 ≤ self.old.room }
-        ensures done { IfOk result (λ e. step_of self.old.program (kept self.old) t ≡ Ok (kept self.new, e)) }
+        ensures done { IfOk result (λ e. step_of self.old.program (concrete self.old) t ≡ Ok (concrete self.new, e)) }
         ensures room { IfOk result (λ e. self.old.room ≡ self.new.room + printed_by e) }
-        ensures err { IfErr result (λ f. (step_of self.old.program (kept self.old) t ≡ Err f) × (self.new ≡ self.old)) }
+        ensures err { IfErr result (λ f. (step_of self.old.program (concrete self.old) t ≡ Err f) × (self.new ≡ self.old)) }
         ensures program { self.new.program ≡ self.old.program }
-        ensures holds { IsKept self.new.program (kept self.new) }
+        ensures holds { IsWellFormed self.new.program (concrete self.new) }
     {
         if t == 0 || t as usize > self.threads.len() || self.asleep(t).is_some() {
             return Err(StepFault::CannotMove);

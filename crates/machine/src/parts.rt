@@ -5,8 +5,8 @@ ghost use Rattle.locals.specs.Threads.{Thread, opening_thread};
 ghost use Rattle.locals.specs.Looks.{look};
 ghost use Rattle.buckets.specs.Sleepers.{place_of};
 ghost use Rattle.machine.specs.States.{thread_at};
-ghost use Rattle.machine.specs.Fronts.{step_of};
-ghost use Rattle.machine.specs.Told.{AsksFork};
+ghost use Rattle.machine.specs.ConcreteSteps.{step_of};
+ghost use Rattle.machine.specs.RequestMeanings.{AsksFork};
 ghost use Rattle.machine.specs.Views.{parts_of, variable_address};
 
 use crate::common::Common;

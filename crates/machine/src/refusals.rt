@@ -1,7 +1,8 @@
 ghost use Rattle.std.specs.Prelude.{◌≡◌, ℕ, Some, None, if◌then◌else◌, nat_lt, length};
 ghost use Rattle.locals.specs.Looks.{look};
-ghost use Rattle.machine.specs.Fronts.{serve, thread_step, fault_of};
-ghost use Rattle.machine.specs.Told.{asked_of};
+ghost use Rattle.machine.specs.ConcreteServing.{serve};
+ghost use Rattle.machine.specs.ConcreteSteps.{thread_step, fault_of};
+ghost use Rattle.machine.specs.RequestMeanings.{asked_of};
 ghost use Rattle.machine.specs.Views.{common};
 
 use crate::common::Common;

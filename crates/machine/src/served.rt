@@ -1,5 +1,5 @@
 ghost use Rattle.std.specs.Prelude.{◌≡◌, ◌≤◌, ◌<◌, length, IfOk, IfErr};
-ghost use Rattle.machine.specs.Fronts.{plain};
+ghost use Rattle.machine.specs.ConcreteServing.{plain};
 
 use crate::event::{Event, EventName, StepFault};
 use words::{Addr, Mem};

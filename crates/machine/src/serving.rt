@@ -1,8 +1,8 @@
 ghost use Rattle.std.specs.Prelude.{◌≡◌, ◌<◌, ℕ, None, OnErr, length};
 ghost use Rattle.buckets.specs.Sleepers.{place_of};
 ghost use Rattle.machine.specs.ThreadSets.{IsThread};
-ghost use Rattle.machine.specs.Fronts.{serve};
-ghost use Rattle.machine.specs.Told.{asked_of, given, MakesNone};
+ghost use Rattle.machine.specs.ConcreteServing.{serve};
+ghost use Rattle.machine.specs.RequestMeanings.{asked_of, with_common, MakesNone};
 ghost use Rattle.machine.specs.Views.{common};
 
 use crate::common::Common;
@@ -17,7 +17,7 @@ impl Common {
         requires thread { IsThread t }
         requires awake { place_of self.old.sleepers t ≡ None }
         requires makes_none { MakesNone request }
-        ensures gives { (made : ℕ) → serve made t (asked_of request) (common self.old) ≡ given result (common self.new) }
+        ensures gives { (made : ℕ) → serve made t (asked_of request) (common self.old) ≡ with_common result (common self.new) }
         ensures capacity { self.new.capacity ≡ self.old.capacity }
         ensures same { OnErr result (self.new ≡ self.old) }
     {

@@ -5,8 +5,8 @@ ghost use Rattle.locals.specs.Looks.{look};
 ghost use Rattle.locals.specs.Requests.{next_step_of};
 ghost use Rattle.locals.specs.declared.request.NextStep.TheVariants as next;
 ghost use Rattle.machine.specs.ThreadSets.{IsThread};
-ghost use Rattle.machine.specs.Fronts.{thread_step};
-ghost use Rattle.machine.specs.Told.{AsksFork, MakesNone, StepMakesNone};
+ghost use Rattle.machine.specs.ConcreteSteps.{thread_step};
+ghost use Rattle.machine.specs.RequestMeanings.{AsksFork, MakesNone, StepMakesNone};
 ghost use Rattle.machine.specs.Views.{common};
 
 use crate::common::Common;

@@ -11,7 +11,7 @@ use Rattle.words.specs.Outcomes.{fault_number, outcome_of}
 use Rattle.words.specs.declared.outcome.Fault.{Fault}
 use Rattle.words.specs.declared.outcome.Outcome.{Outcome}
 use Rattle.words.specs.declared.outcome.Outcome.TheVariants.{Aborted}
-use Rattle.machine.specs.States.{Kept, state_of}
+use Rattle.machine.specs.States.{ConcreteState, state_of}
 use Rattle.machine.specs.declared.event.Event.{Event}
 use Rattle.mesamon.specs.Accounts.{aborted_line, asleep_line, name_text, set_text, step_text, value_text, line_feed}
 use Rattle.mesamon.specs.Accounts.{thread_lines, threads_lines}
@@ -24,7 +24,7 @@ lines_more f xs i d old before after l so next = rw (next, so, take_more xs i d 
     (flat_map_more f old (take i xs) (get_or xs i d))
 
 -- the lines of one thread more
-pub threads_more : (k : Kept) (stuck : Bool) (t : ℕ) (old before ended after : List ℕ) (o : Outcome)
+pub threads_more : (k : ConcreteState) (stuck : Bool) (t : ℕ) (old before ended after : List ℕ) (o : Outcome)
     → before ≡ old ++ threads_lines k stuck t → o ≡ outcome_of ((state_of k).word (process_word (t + 1) 5))
     → ended ≡ before ++ aborted_line (t + 1) o
     → after ≡ ended ++ (if stuck then asleep_line (t + 1) ((state_of k).asleep (t + 1)) else [])

@@ -2,7 +2,7 @@
 use Rattle.std.proofs.Common.{◌≢◌, ◌<◌, ◌+◌, ◌^◌, ℕ, List, length, subst, arith}
 use Rattle.isa.specs.Programs.{Program}
 use Rattle.machine.specs.States.{state_of}
-use Rattle.machine.specs.Views.{kept}
+use Rattle.machine.specs.Views.{concrete}
 use Rattle.simulation.specs.Code.{code_of}
 use Rattle.simulation.specs.Refines.{Refines}
 use Rattle.runner.specs.declared.fault.RunFault.{RunFault}
@@ -19,7 +19,7 @@ run_explained runs text image limit r c below report =
     let reported : IsReport (code_of c.program) limit r = subst (λ (p : Program). IsReport p limit r) c.code report in
     let refines : Refines c.program (code_of c.program) = subst (λ (p : Program). Refines c.program p) c.code
     c.refines in
-    let (steps, run, count, same) = runs (code_of c.program) r.log.items (kept r.last) reported.legal in
+    let (steps, run, count, same) = runs (code_of c.program) r.log.items (concrete r.last) reported.legal in
     let within = reported.within in
     let few : length steps < 2 ^ 32 = omega arith in
     record {
@@ -28,7 +28,7 @@ run_explained runs text image limit r c below report =
       is_report = reported;
       steps = steps;
       machine_run = run;
-      explained = refines.follows steps (state_of (kept r.last)) run few;
+      explained = refines.follows steps (state_of (concrete r.last)) run few;
     }
 
 pub run_fails : (text : List ℕ) (image : Program) (limit : ℕ) (fault : RunFault) → IsCompiled text image

@@ -18,8 +18,8 @@ use Rattle.machine.specs.declared.event.EventName.TheVariants.{Wait, Wake, Reque
 use Rattle.machine.specs.declared.event.EventName.TheVariants.{Entry as Entry', Pending, Clear, Last}
 use Rattle.machine.specs.ThreadSets.{has}
 use Rattle.machine.specs.declared.thread_set.ThreadSet.{ThreadSet}
-use Rattle.machine.specs.States.{Kept, state_of}
-use Rattle.machine.specs.Views.{kept}
+use Rattle.machine.specs.States.{ConcreteState, state_of}
+use Rattle.machine.specs.Views.{concrete}
 use Rattle.runner.specs.declared.report.Verdict.{Verdict}
 use Rattle.runner.specs.declared.report.Verdict.TheVariants.{Done, Stuck, Limit}
 use Rattle.runner.specs.declared.report.Report.{Report}
@@ -114,17 +114,17 @@ asleep_line t None = []
 asleep_line t (Some a) = codes "process " ++ decimal t ++ codes " sleeps on word " ++ decimal a ++ line_feed
 
 -- the lines of one thread
-abbrev pub thread_lines : Kept → Bool → ℕ → List ℕ
+abbrev pub thread_lines : ConcreteState → Bool → ℕ → List ℕ
 thread_lines k stuck t =
     aborted_line t (outcome_of ((state_of k).word (process_word t 5)))
     ++ (if stuck then asleep_line t ((state_of k).asleep t) else [])
 
 -- those of the threads up to a number
-abbrev pub threads_lines : Kept → Bool → ℕ → List ℕ
+abbrev pub threads_lines : ConcreteState → Bool → ℕ → List ℕ
 threads_lines k stuck zero = []
 threads_lines k stuck (suc t) = threads_lines k stuck t ++ thread_lines k stuck (suc t)
 
 abbrev pub account : Report → Bool → List ℕ
 account r trace =
     (if trace then log_lines r.log.items else []) ++ verdict_line r.verdict
-    ++ threads_lines (kept r.last) (is_stuck r.verdict) (length (kept r.last).threads)
+    ++ threads_lines (concrete r.last) (is_stuck r.verdict) (length (concrete r.last).threads)

@@ -3,7 +3,7 @@ use Rattle.std.specs.Prelude.{◌≡◌, ◌⊎◌, ℕ, List}
 use Rattle.scanner.specs.Refusals.{out_of_memory}
 use Rattle.machine.specs.Runs.{MachineRun, Step}
 use Rattle.machine.specs.States.{state_of}
-use Rattle.machine.specs.Views.{kept}
+use Rattle.machine.specs.Views.{concrete}
 use Rattle.sourcemeaning.specs.Programs.{Source}
 use Rattle.simulation.specs.Code.{code_of}
 use Rattle.simulation.specs.Refines.{Explained}
@@ -20,8 +20,8 @@ pub record IsRunOf (text : List ℕ) (limit : ℕ) (report : Report) : Type 0 wh
   pub accepts : Accepts text program
   pub is_report : IsReport (code_of program) limit report
   pub steps : List Step
-  pub machine_run : MachineRun (code_of program) steps (state_of (kept report.last))
-  pub explained : Explained program (code_of program) steps (state_of (kept report.last))
+  pub machine_run : MachineRun (code_of program) steps (state_of (concrete report.last))
+  pub explained : Explained program (code_of program) steps (state_of (concrete report.last))
 
 -- the run of that code can fail so
 pub record IsFailedRun (text : List ℕ) (limit : ℕ) (fault : RunFault) : Type 0 where

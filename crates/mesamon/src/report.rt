@@ -3,7 +3,7 @@ ghost use Rattle.std.specs.Io.KnownBytes.{Appends};
 ghost use Rattle.mesamon.specs.Accounts.{account, entry_line, image_line, log_lines, output_lines, verdict_line};
 ghost use Rattle.mesamon.specs.Accounts.{name_text, set_text, step_text, value_text};
 ghost use Rattle.mesamon.specs.Accounts.{aborted_line, asleep_line, thread_lines, threads_lines};
-ghost use Rattle.machine.specs.Views.{address_of, kept};
+ghost use Rattle.machine.specs.Views.{address_of, concrete};
 
 use machine::{Entry, Event, EventName, MOST_THREADS, Machine, ThreadSet};
 use runner::{Report, Verdict};
@@ -164,7 +164,7 @@ fn name_of(name: EventName) -> &'static str
 // The threads that have aborted, and, where nothing can move, those that sleep, by rising number.
 fn append_threads(text: &mut String, last: &Machine, stuck: bool) -> Result<(), AllocError>
     ensures { OnOk result (string_bytes text.new
-        ≡ string_bytes text.old ++ threads_lines (kept last.now) stuck (length (kept last.now).threads)) }
+        ≡ string_bytes text.old ++ threads_lines (concrete last.now) stuck (length (concrete last.now).threads)) }
 {
     for before in 0..last.threads() {
         let thread = before + 1;

@@ -10,7 +10,7 @@ use Rattle.futexcalls.specs.FutexCalls.{Wakes, Moves as Requeued, Requeues, Slee
 use Rattle.locals.specs.Threads.{Thread, opening_thread}
 use Rattle.locals.specs.Looks.{Request, AskLoad, AskStore, AskSwap, AskCas, AskOr, AskAdd, AskFork, AskPrint, AskWait, AskWake, AskRequeue, AskReturn, AskReturnValue, AskFault, Look, Goes, Asks, Leaves, Breaks, Rests}
 use Rattle.machine.specs.States.{State, with_thread, with_word, with_sleepers}
-use Rattle.machine.specs.Serving.{Serves, with_child, shared_of, with_shared}
+use Rattle.machine.specs.AbstractServing.{Serves, with_child, shared_of, with_shared}
 use Rattle.machine.specs.Runs.{Moves}
 
 -- who was awake, but for thread t, still is

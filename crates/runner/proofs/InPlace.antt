@@ -5,29 +5,29 @@ use Rattle.locals.specs.Threads.{Thread}
 use Rattle.locals.specs.Steps.{local_step, local_after}
 use Rattle.machine.specs.declared.event.Event.{Event}
 use Rattle.machine.specs.declared.event.StepFault.{StepFault}
-use Rattle.machine.specs.States.{Kept, thread_of}
-use Rattle.machine.specs.Fronts.{Stepped, lifted, fault_of, step_of, put_thread, can_move}
+use Rattle.machine.specs.States.{ConcreteState, thread_of}
+use Rattle.machine.specs.ConcreteSteps.{Stepped, on_machine, fault_of, step_of, put_thread, can_move}
 use Rattle.machine.proofs.Placing.{thread_at-put}
-use Rattle.runner.specs.Views.{Away, Held}
+use Rattle.runner.specs.Views.{PieceView, LogState}
 use Rattle.runner.specs.Logs.{Enters}
 use Rattle.runner.specs.Entries.{BreaksAfter}
 use Rattle.runner.proofs.Handing.{up, step_there}
 use Rattle.runner.proofs.Lives.{refuses_broken}
 use Rattle.runner.proofs.Growing.{entry}
 
-lifted_err : (there : Kept) (t : ℕ) (r : Result Stepped StepFault) (f : StepFault) → lifted there t r ≡ Err f → is_some (fault_of r) ≡ true
-lifted_err there t (Ok s) f h = absurd cc
-lifted_err there t (Err g) f h = refl
+on_machine_err : (there : ConcreteState) (t : ℕ) (r : Result Stepped StepFault) (f : StepFault) → on_machine there t r ≡ Err f → is_some (fault_of r) ≡ true
+on_machine_err there t (Ok s) f h = absurd cc
+on_machine_err there t (Err g) f h = refl
 
 -- where the step behind the local steps is refused, it may not be
-pub breaks_after : (p q : Program) (k mid : Kept) (t n : ℕ) (o here : Thread) (f : StepFault) → can_move k t ≡ true → thread_of k t ≡ Some o → local_after p t n o ≡ Some here
+pub breaks_after : (p q : Program) (k mid : ConcreteState) (t n : ℕ) (o here : Thread) (f : StepFault) → can_move k t ≡ true → thread_of k t ≡ Some o → local_after p t n o ≡ Some here
     → q ≡ p → mid ≡ put_thread k t here → step_of q mid t ≡ Err f → BreaksAfter p k t n
 breaks_after p q k mid t n o here f moves stands goes is there fails =
     let u = up k t moves in
-    let h : Held = record { log = []; kept = k } in
-    let a : Away = record { thread = t; origin = o; here = here; count = n } in
+    let h : LogState = record { log = []; concrete = k } in
+    let a : PieceView = record { thread = t; origin = o; here = here; count = n } in
     let fails' : step_of p (put_thread k t here) t ≡ Err f = sym (λ i. step_of (is i) (there i) t) ∙ fails in
-    let fault = lifted_err (put_thread k t here) t _ f (sym (step_there p k t o here u.awake stands) ∙ fails') in
+    let fault = on_machine_err (put_thread k t here) t _ f (sym (step_there p k t o here u.awake stands) ∙ fails') in
     let r = refuses_broken p p 0 h a t refl (refl, stands) moves goes fault in
     record { origin = o; here = here; stands = stands; goes = goes; breaks = r.2 }
 
@@ -36,7 +36,7 @@ no_step None h = refl
 no_step (Some x) h = absurd cc
 
 -- local steps, and a shared step behind them
-pub enters_by : (p q : Program) (k mid new : Kept) (t n : ℕ) (o here x : Thread) (e : Event) → can_move k t ≡ true → thread_of k t ≡ Some o → local_after p t n o ≡ Some here
+pub enters_by : (p q : Program) (k mid new : ConcreteState) (t n : ℕ) (o here x : Thread) (e : Event) → can_move k t ≡ true → thread_of k t ≡ Some o → local_after p t n o ≡ Some here
     → q ≡ p → mid ≡ put_thread k t here → thread_of mid t ≡ Some x → false ≡ is_some (local_step q t x) → step_of q mid t ≡ Ok (new, e) → Enters p k (entry t n (Some e)) new
 enters_by p q k mid new t n o here x e moves stands goes is there at shared steps =
     let same : Some x ≡ Some here = sym at ∙ ap (λ m. thread_of m t) there ∙ thread_at-put k.threads t o here stands in

@@ -13,12 +13,13 @@ use Rattle.locals.specs.Steps.{local_step, local_after, and_step, gone}
 use Rattle.machine.specs.declared.event.StepFault.{StepFault}
 use Rattle.machine.specs.declared.event.StepFault.TheVariants as step
 use Rattle.machine.specs.declared.event.Event.{Event}
-use Rattle.machine.specs.States.{Common, Kept}
+use Rattle.machine.specs.States.{Common, ConcreteState}
 use Rattle.machine.specs.Runs.{has_ended}
-use Rattle.machine.specs.Fronts.{Served, serve, within, requeued, load, went_on, thread_step, lifted, fault_of, fault_at, put_thread, can_move}
+use Rattle.machine.specs.ConcreteServing.{Served, serve, within, requeue_to, load}
+use Rattle.machine.specs.ConcreteSteps.{go_on_with, thread_step, on_machine, fault_of, fault_at, put_thread, can_move}
 use Rattle.runner.specs.declared.fault.RunFault.TheVariants.{Broken}
-use Rattle.runner.specs.Views.{Away, Held}
-use Rattle.runner.specs.Entries.{handed, handed_by, Stands, Refuses}
+use Rattle.runner.specs.Views.{PieceView, LogState}
+use Rattle.runner.specs.Entries.{entry_end, entry_end_by, Stands, Refuses}
 use Rattle.runner.proofs.Handing.{up, step_there}
 
 -- there is a next step, and a local one leads to no end
@@ -120,43 +121,43 @@ only_broken made t (AskPrint number) c = only_ok _
 only_broken made t (AskWait a expected) c = only_within _ _ (only_either _ _ _)
 only_broken made t (AskWake a n) c = only_within _ _ (only_ok _)
 only_broken made t (AskRequeue a b n m expected) c =
-    only_within (nat_lt a (length c.words)) (within c b (requeued c a b n m expected)) (only_within (nat_lt b (length c.words)) (requeued c a b n m expected) (only_either (load c a == expected) _ _))
+    only_within (nat_lt a (length c.words)) (within c b (requeue_to c a b n m expected)) (only_within (nat_lt b (length c.words)) (requeue_to c a b n m expected) (only_either (load c a == expected) _ _))
 only_broken made t AskReturn c = only_ok _
 only_broken made t (AskReturnValue v) c = only_ok _
 only_broken made t (AskFault fault) c = only_ok _
 
-abbrev IsBroken : Result (Kept × Option Event) StepFault → Type 0
+abbrev IsBroken : Result (ConcreteState × Option Event) StepFault → Type 0
 IsBroken r = r ≡ Err step.Broken
 
-broken_went : (there : Kept) (t : ℕ) (go : ℕ → Thread) (r : Result Served StepFault) (f : StepFault) → Only r → Some f ≡ fault_of (went_on go r) → IsBroken (handed_by there (lifted there t (went_on go r)) None)
+broken_went : (there : ConcreteState) (t : ℕ) (go : ℕ → Thread) (r : Result Served StepFault) (f : StepFault) → Only r → Some f ≡ fault_of (go_on_with go r) → IsBroken (entry_end_by there (on_machine there t (go_on_with go r)) None)
 broken_went there t go (Ok r) f only is = absurd cc
 broken_went there t go (Err fault) f only is = ap Err (only.broken fault refl)
 
-broken_by : (there : Kept) (made t : ℕ) (c : Common) (l : Look) (f : StepFault) → IsGoing l → Some f ≡ fault_of (thread_step made t c l) → IsBroken (handed_by there (lifted there t (thread_step made t c l)) (gone l))
+broken_by : (there : ConcreteState) (made t : ℕ) (c : Common) (l : Look) (f : StepFault) → IsGoing l → Some f ≡ fault_of (thread_step made t c l) → IsBroken (entry_end_by there (on_machine there t (thread_step made t c l)) (gone l))
 broken_by there made t c (Goes x) f h is = absurd cc
 broken_by there made t c (Asks request go) f h is = broken_went there t go (serve made t request c) f (only_broken made t request c) is
 broken_by there made t c (Leaves phase) f h is = absurd cc
 broken_by there made t c Breaks f h is = refl
 broken_by there made t c Rests f h is = absurd h
 
-refuses : (p q : Program) (limit : ℕ) (h : Held) (a : Away) (t : ℕ) (f : StepFault) → q ≡ p → Stands h t a → can_move h.kept t ≡ true → local_after p a.thread a.count a.origin ≡ Some a.here → Some f ≡ fault_at q h.kept t a.here
+refuses : (p q : Program) (limit : ℕ) (h : LogState) (a : PieceView) (t : ℕ) (f : StepFault) → q ≡ p → Stands h t a → can_move h.concrete t ≡ true → local_after p a.thread a.count a.origin ≡ Some a.here → Some f ≡ fault_at q h.concrete t a.here
     → Refuses p limit h t a Broken
 refuses p q limit h a t f same stands moves goes is =
-    let u = up h.kept t moves in
-    let there = put_thread h.kept t a.here in
+    let u = up h.concrete t moves in
+    let there = put_thread h.concrete t a.here in
     let origin : Some a.origin ≡ Some u.thread = sym stands.1 ∙ u.stands in
     let lives = after_lives p a.thread a.count a.origin a.here (ap has_ended origin ∙ u.lives) goes in
-    let b = broken_by there (length h.kept.threads) t h.kept.common (look q t a.here) f (going q t a.here lives) is in
-    (stands, moves, ap (λ x. handed x h.kept t a.here) (sym same) ∙ ap (λ d. handed_by there d (local_step q t a.here)) (step_there q h.kept t a.origin a.here u.awake stands.1) ∙ b)
+    let b = broken_by there (length h.concrete.threads) t h.concrete.common (look q t a.here) f (going q t a.here lives) is in
+    (stands, moves, ap (λ x. entry_end x h.concrete t a.here) (sym same) ∙ ap (λ d. entry_end_by there d (local_step q t a.here)) (step_there q h.concrete t a.origin a.here u.awake stands.1) ∙ b)
 
 fault_there : (o : Option StepFault) → is_some o ≡ true → (f : StepFault) × (Some f ≡ o)
 fault_there None h = absurd cc
 fault_there (Some f) h = (f, refl)
 
-pub refuses_broken : (p q : Program) (limit : ℕ) (h : Held) (a : Away) (t : ℕ) → q ≡ p → Stands h t a → can_move h.kept t ≡ true → local_after p a.thread a.count a.origin ≡ Some a.here → is_some (fault_at q h.kept t a.here) ≡ true
+pub refuses_broken : (p q : Program) (limit : ℕ) (h : LogState) (a : PieceView) (t : ℕ) → q ≡ p → Stands h t a → can_move h.concrete t ≡ true → local_after p a.thread a.count a.origin ≡ Some a.here → is_some (fault_at q h.concrete t a.here) ≡ true
     → Refuses p limit h t a Broken
 refuses_broken p q limit h a t same stands moves goes is =
-    let f = fault_there (fault_at q h.kept t a.here) is in refuses p q limit h a t f.0 same stands moves goes f.1
+    let f = fault_there (fault_at q h.concrete t a.here) is in refuses p q limit h a t f.0 same stands moves goes f.1
 
 pub no_fault : (o : Option StepFault) → is_some o ≡ false → None ≡ o
 no_fault None h = refl

@@ -11,25 +11,26 @@ use Rattle.machine.specs.declared.event.Entry.{Entry}
 use Rattle.machine.specs.declared.event.EventName.TheVariants as name
 use Rattle.machine.specs.declared.event.StepFault.{StepFault}
 use Rattle.machine.specs.declared.event.StepFault.TheVariants as step
-use Rattle.machine.specs.States.{Common, Kept, thread_of, state_of, opening_kept}
+use Rattle.machine.specs.States.{Common, ConcreteState, thread_of, state_of, opening_concrete}
 use Rattle.machine.specs.Runs.{Step}
-use Rattle.machine.specs.Fronts.{Stepped, thread_step, lifted, step_of, put_thread, plain}
+use Rattle.machine.specs.ConcreteServing.{plain}
+use Rattle.machine.specs.ConcreteSteps.{Stepped, thread_step, on_machine, step_of, put_thread}
 use Rattle.machine.specs.FrontRuns.{EventStep, FrontRun, label_of, event_label}
-use Rattle.machine.specs.Views.{IsKept}
+use Rattle.machine.specs.Views.{IsWellFormed}
 use Rattle.runner.specs.Logs.{Runs, Enters, Ends, event_cost, cost}
 use Rattle.runner.specs.LogRuns.{StepsSo, RunsSo, MeetsSo, local_step_of, shared_step_of, steps_of}
-use Rattle.runner.specs.Entries.{handed_by}
+use Rattle.runner.specs.Entries.{entry_end_by}
 use Rattle.machine.proofs.Stepping.{opens_so}
 use Rattle.machine.proofs.FrontRuns.{run_of, fronts_run_so}
 use Rattle.machine.proofs.Refusing.{breaks_so}
 use Rattle.runner.proofs.Handing.{step_there, up}
 
 -- one step more at the end, and steps after steps
-run_on : (p : Program) (a b c : Kept) (xs ys : List EventStep) → FrontRun p a xs b → FrontRun p b ys c → FrontRun p a (xs ++ ys) c
-run_on p a b c [] ys same more = subst (λ (q : Kept). FrontRun p q ys c) (sym same) more
+run_on : (p : Program) (a b c : ConcreteState) (xs ys : List EventStep) → FrontRun p a xs b → FrontRun p b ys c → FrontRun p a (xs ++ ys) c
+run_on p a b c [] ys same more = subst (λ (q : ConcreteState). FrontRun p q ys c) (sym same) more
 run_on p a b c (x ∷ xs) ys runs more = (runs.0, runs.1, run_on p runs.0 b c xs ys runs.2 more)
 
-run_more : (p : Program) (a b c : Kept) (xs : List EventStep) (s : EventStep) → FrontRun p a xs b → step_of p b s.thread ≡ Ok (c, s.event) → FrontRun p a (xs ++ s ∷ []) c
+run_more : (p : Program) (a b c : ConcreteState) (xs : List EventStep) (s : EventStep) → FrontRun p a xs b → step_of p b s.thread ≡ Ok (c, s.event) → FrontRun p a (xs ++ s ∷ []) c
 run_more p a b c xs s runs gives = run_on p a b c xs (s ∷ []) runs (c, gives, refl)
 
 -- a thread that is put where it is, and put twice
@@ -38,7 +39,7 @@ set_back [] i x h = refl
 set_back (y ∷ ys) zero x h = let e : y ≡ x = cc in ap (λ z. z ∷ ys) (sym e)
 set_back (y ∷ ys) (suc i) x h = ap (λ zs. y ∷ zs) (set_back ys i x h)
 
-pub put_back : (k : Kept) (t : ℕ) (x : Thread) → thread_of k t ≡ Some x → put_thread k t x ≡ k
+pub put_back : (k : ConcreteState) (t : ℕ) (x : Thread) → thread_of k t ≡ Some x → put_thread k t x ≡ k
 put_back k zero x h = absurd cc
 put_back k (suc t) x h =
     let e : suc t - 1 ≡ t = omega arith in
@@ -50,7 +51,7 @@ set_twice [] i x y = refl
 set_twice (z ∷ zs) zero x y = refl
 set_twice (z ∷ zs) (suc i) x y = ap (λ ws. z ∷ ws) (set_twice zs i x y)
 
-put_twice : (k : Kept) (t : ℕ) (x y : Thread) → put_thread (put_thread k t x) t y ≡ put_thread k t y
+put_twice : (k : ConcreteState) (t : ℕ) (x y : Thread) → put_thread (put_thread k t x) t y ≡ put_thread k t y
 put_twice k t x y = λ i. record { common = k.common; threads = set_twice k.threads (t - 1) x y i }
 
 goes_local : (made t : ℕ) (c : Common) (l : Look) (x : Thread) → gone l ≡ Some x
@@ -62,44 +63,44 @@ goes_local made t c Breaks x h = absurd cc
 goes_local made t c Rests x h = absurd cc
 
 -- what is kept after a thread was put somewhere
-pub kept_put : (p : Program) (k : Kept) (t : ℕ) (x : Thread) → IsKept p k → IsKept p (put_thread k t x)
-kept_put p k t x kept =
+pub kept_put : (p : Program) (k : ConcreteState) (t : ℕ) (x : Thread) → IsWellFormed p k → IsWellFormed p (put_thread k t x)
+kept_put p k t x concrete =
     let many = length-set k.threads (t - 1) x in
     record {
-      sized = kept.sized;
-      some = omega (arith, kept.some, many);
-      few = omega (arith, kept.few, many);
-      sound = kept.sound;
-      made = λ u a h. let m = kept.made u a h in (m.0, omega (arith, m.1, many));
+      sized = concrete.sized;
+      some = omega (arith, concrete.some, many);
+      few = omega (arith, concrete.few, many);
+      sound = concrete.sound;
+      made = λ u a h. let m = concrete.made u a h in (m.0, omega (arith, m.1, many));
     }
 
 -- the local steps of an entry
-last_leads : (p : Program) (k : Kept) (t n : ℕ) (o here : Thread) (mid : Option Thread) → k.common.asleep t ≡ None → thread_of k t ≡ Some o
+last_leads : (p : Program) (k : ConcreteState) (t n : ℕ) (o here : Thread) (mid : Option Thread) → k.common.asleep t ≡ None → thread_of k t ≡ Some o
     → ((m : Thread) → mid ≡ Some m → FrontRun p k (replicate n (local_step_of t)) (put_thread k t m)) → and_step p t mid ≡ Some here
     → FrontRun p k (replicate (suc n) (local_step_of t)) (put_thread k t here)
 last_leads p k t n o here None awake stands before after = absurd cc
 last_leads p k t n o here (Some m) awake stands before after =
     let there = put_thread k t m in
     let gives : step_of p there t ≡ Ok (put_thread there t here, plain name.Turn 0) =
-    step_there p k t o m awake stands ∙ ap (lifted there t) (goes_local (length k.threads) t k.common (look p t m) here after) in
+    step_there p k t o m awake stands ∙ ap (on_machine there t) (goes_local (length k.threads) t k.common (look p t m) here after) in
     let r = run_more p k there (put_thread there t here) (replicate n (local_step_of t)) (local_step_of t) (before m refl) gives in
     let count : n + 1 ≡ suc n = omega arith in
     let e : replicate n (local_step_of t) ++ local_step_of t ∷ [] ≡ replicate (suc n) (local_step_of t) =
     replicate_more n (local_step_of t) ∙ ap (λ (j : ℕ). replicate j (local_step_of t)) count in
-    subst (λ (q : Kept). FrontRun p k (replicate (suc n) (local_step_of t)) q) (put_twice k t m here) (subst (λ (xs : List EventStep). FrontRun p k xs (put_thread there t here)) e r)
+    subst (λ (q : ConcreteState). FrontRun p k (replicate (suc n) (local_step_of t)) q) (put_twice k t m here) (subst (λ (xs : List EventStep). FrontRun p k xs (put_thread there t here)) e r)
 
-locals_lead : (p : Program) (k : Kept) (t n : ℕ) (o here : Thread) → k.common.asleep t ≡ None → thread_of k t ≡ Some o → local_after p t n o ≡ Some here → FrontRun p k (replicate n (local_step_of t)) (put_thread k t here)
+locals_lead : (p : Program) (k : ConcreteState) (t n : ℕ) (o here : Thread) → k.common.asleep t ≡ None → thread_of k t ≡ Some o → local_after p t n o ≡ Some here → FrontRun p k (replicate n (local_step_of t)) (put_thread k t here)
 locals_lead p k t zero o here awake stands after = let e : o ≡ here = cc in sym (put_back k t here (stands ∙ ap Some e))
 locals_lead p k t (suc n) o here awake stands after =
     last_leads p k t n o here (local_after p t n o) awake stands (λ m before. locals_lead p k t n o m awake stands before) after
 
 -- the end of an entry
-ends_lead : (p : Program) (there k' : Kept) (t : ℕ) (here : Thread) (event : Option Event) → Ends p there t here event k' → FrontRun p there (shared_step_of t event) k'
+ends_lead : (p : Program) (there k' : ConcreteState) (t : ℕ) (here : Thread) (event : Option Event) → Ends p there t here event k' → FrontRun p there (shared_step_of t event) k'
 ends_lead p there k' t here None ends = sym ends
 ends_lead p there k' t here (Some event) ends = (k', ends.1, refl)
 
 -- an entry
-entry_leads : (p : Program) (k k' : Kept) (e : Entry) → Enters p k e k' → FrontRun p k (replicate e.local (local_step_of e.thread) ++ shared_step_of e.thread e.event) k'
+entry_leads : (p : Program) (k k' : ConcreteState) (e : Entry) → Enters p k e k' → FrontRun p k (replicate e.local (local_step_of e.thread) ++ shared_step_of e.thread e.event) k'
 entry_leads p k k' e enters =
     let u = up k e.thread enters.moves in
     let there = put_thread k e.thread enters.here in
@@ -132,30 +133,30 @@ as_many : (run : List Step) (steps : List EventStep) → map label_of run ≡ ma
 as_many run steps same = sym (length-map run label_of) ∙ ap length same ∙ length-map steps event_label
 
 -- what is kept where a log leads always holds
-pub holds : (p : Program) (log : List Entry) (k : Kept) → Runs p (opening_kept p) log k → IsKept p k
-holds p log k runs = (run_of p (opening_kept p) k (steps_of log) (opens_so p).1 (steps_so p (opening_kept p) k log runs)).kept
+pub holds : (p : Program) (log : List Entry) (k : ConcreteState) → Runs p (opening_concrete p) log k → IsWellFormed p k
+holds p log k runs = (run_of p (opening_concrete p) k (steps_of log) (opens_so p).1 (steps_so p (opening_concrete p) k log runs)).concrete
 
 pub runs_so : RunsSo
 runs_so p log k runs =
-    let r = fronts_run_so p k (steps_of log) (steps_so p (opening_kept p) k log runs) in
+    let r = fronts_run_so p k (steps_of log) (steps_so p (opening_concrete p) k log runs) in
     (r.0, r.1, as_many r.0 (steps_of log) r.2 ∙ many log, r.2)
 
 -- a piece that may not come in stands before a step that may not be
-breaks_by : (there : Kept) (r : Result (Kept × Event) StepFault) (ls : Option Thread) → (let R : Type 0 = Result (Kept × Option Event) StepFault in (let a : R = handed_by there r ls in a) ≡ (let b : R = Err step.Broken in b)) → r ≡ Err step.Broken
+breaks_by : (there : ConcreteState) (r : Result (ConcreteState × Event) StepFault) (ls : Option Thread) → (let R : Type 0 = Result (ConcreteState × Option Event) StepFault in (let a : R = entry_end_by there r ls in a) ≡ (let b : R = Err step.Broken in b)) → r ≡ Err step.Broken
 breaks_by there r (Some x) h = absurd cc
 breaks_by there (Ok x) None h = absurd cc
 breaks_by there (Err f) None h = let e : f ≡ step.Broken = cc in ap Err e
 
 pub meets_so : MeetsSo
 meets_so p limit m =
-    let u = up m.kept m.thread m.moves in
-    let there = put_thread m.kept m.thread m.here in
+    let u = up m.concrete m.thread m.moves in
+    let there = put_thread m.concrete m.thread m.here in
     let more = replicate m.count (local_step_of m.thread) in
     let all = steps_of m.log ++ more in
-    let runs = run_on p (opening_kept p) m.kept there (steps_of m.log) more (steps_so p (opening_kept p) m.kept m.log m.legal)
-    (locals_lead p m.kept m.thread m.count m.origin m.here u.awake m.stands m.goes) in
+    let runs = run_on p (opening_concrete p) m.concrete there (steps_of m.log) more (steps_so p (opening_concrete p) m.concrete m.log m.legal)
+    (locals_lead p m.concrete m.thread m.count m.origin m.here u.awake m.stands m.goes) in
     let r = fronts_run_so p there all runs in
-    let kept = kept_put p m.kept m.thread m.here (holds p m.log m.kept m.legal) in
+    let concrete = kept_put p m.concrete m.thread m.here (holds p m.log m.concrete m.legal) in
     let broken = breaks_by there (step_of p there m.thread) (local_step p m.thread m.here) m.breaks in
     let long : length r.0 ≡ cost m.log + m.count = omega (arith, as_many r.0 all r.2, length-append (steps_of m.log) more, many m.log, length-replicate m.count (local_step_of m.thread)) in
-    (r.0, state_of there, r.1, long, (breaks_so p there m.thread kept).0 broken, r.2)
+    (r.0, state_of there, r.1, long, (breaks_so p there m.thread concrete).0 broken, r.2)

@@ -4,8 +4,8 @@ use Rattle.isa.specs.Programs.{Program}
 use Rattle.machine.specs.declared.event.Entry.{Entry}
 use Rattle.machine.specs.declared.event.Event.{Event}
 use Rattle.machine.specs.declared.event.EventName.TheVariants as name
-use Rattle.machine.specs.States.{State, Kept, opening_kept, state_of}
-use Rattle.machine.specs.Fronts.{plain}
+use Rattle.machine.specs.States.{State, ConcreteState, opening_concrete, state_of}
+use Rattle.machine.specs.ConcreteServing.{plain}
 use Rattle.machine.specs.Runs.{Step, MachineRun, NextIsBroken}
 use Rattle.machine.specs.FrontRuns.{EventStep, FrontRun, label_of, event_label}
 use Rattle.runner.specs.Logs.{Runs, cost}
@@ -26,18 +26,18 @@ steps_of (e ∷ es) = (replicate e.local (local_step_of e.thread) ++ shared_step
 
 -- where a log leads, its steps lead
 abbrev pub StepsSo : Type 0
-StepsSo = (p : Program) (k k' : Kept) (log : List Entry) → Runs p k log k' → FrontRun p k (steps_of log) k'
+StepsSo = (p : Program) (k k' : ConcreteState) (log : List Entry) → Runs p k log k' → FrontRun p k (steps_of log) k'
 
 -- and a run of the machine itself is that of a log, which has its steps
 abbrev pub LogsSo : Type 0
 LogsSo =
-    (p : Program) (k k' : Kept) (steps : List EventStep) → FrontRun p k steps k'
+    (p : Program) (k k' : ConcreteState) (steps : List EventStep) → FrontRun p k steps k'
     → (log : List Entry) × Runs p k log k' × (steps_of log ≡ steps)
 
 -- a run of the relation, of as many steps as the log costs, which are the log's own, leads to where the log leads
 abbrev pub RunsSo : Type 0
 RunsSo =
-    (p : Program) (log : List Entry) (k : Kept) → Runs p (opening_kept p) log k
+    (p : Program) (log : List Entry) (k : ConcreteState) → Runs p (opening_concrete p) log k
     → (steps : List Step) × MachineRun p steps (state_of k) × (length steps ≡ cost log)
     × (map label_of steps ≡ map event_label (steps_of log))
 

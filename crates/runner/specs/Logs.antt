@@ -6,16 +6,16 @@ use Rattle.locals.specs.Threads.{Thread}
 use Rattle.locals.specs.Steps.{local_step, local_after}
 use Rattle.machine.specs.declared.event.Entry.{Entry}
 use Rattle.machine.specs.declared.event.Event.{Event}
-use Rattle.machine.specs.States.{Kept, thread_of}
-use Rattle.machine.specs.Fronts.{step_of, put_thread, can_move}
+use Rattle.machine.specs.States.{ConcreteState, thread_of}
+use Rattle.machine.specs.ConcreteSteps.{step_of, put_thread, can_move}
 
 -- the end of an entry: nothing more, or a shared step of the thread with this event
-abbrev pub Ends : Program → Kept → ℕ → Thread → Option Event → Kept → Type 0
+abbrev pub Ends : Program → ConcreteState → ℕ → Thread → Option Event → ConcreteState → Type 0
 Ends p k t here None k' = k' ≡ k
 Ends p k t here (Some event) k' = (local_step p t here ≡ None) × (step_of p k t ≡ Ok (k', event))
 
 -- the entry takes the machine from one state to another: the local steps of a thread that can move, and then its end
-pub record Enters (p : Program) (k : Kept) (e : Entry) (k' : Kept) : Type 0 where
+pub record Enters (p : Program) (k : ConcreteState) (e : Entry) (k' : ConcreteState) : Type 0 where
   pub origin : Thread
   pub here : Thread
   pub stands : thread_of k e.thread ≡ Some origin
@@ -24,9 +24,9 @@ pub record Enters (p : Program) (k : Kept) (e : Entry) (k' : Kept) : Type 0 wher
   pub ends : Ends p (put_thread k e.thread here) e.thread here e.event k'
 
 -- the entries take the machine from one state to another, one after the other
-abbrev pub Runs : Program → Kept → List Entry → Kept → Type 0
+abbrev pub Runs : Program → ConcreteState → List Entry → ConcreteState → Type 0
 Runs p k [] k' = k ≡ k'
-Runs p k (e ∷ es) k' = (mid : Kept) × Enters p k e mid × Runs p mid es k'
+Runs p k (e ∷ es) k' = (mid : ConcreteState) × Enters p k e mid × Runs p mid es k'
 
 -- an entry costs its local steps, and one for a shared step
 abbrev pub event_cost : Option Event → ℕ

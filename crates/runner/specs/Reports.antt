@@ -1,15 +1,16 @@
 -- What the report of a run says.
 use Rattle.std.specs.Prelude.{ℕ, ◌≡◌, ◌≤◌, ◌<◌, ◌+◌, true, false, List, length, Option, Some, None, Ok, Err}
+use Rattle.words.specs.Limits.{most_local_steps}
 use Rattle.isa.specs.Programs.{Program}
 use Rattle.locals.specs.Threads.{Thread}
 use Rattle.locals.specs.Steps.{local_step, local_after}
 use Rattle.machine.specs.declared.event.Entry.{Entry}
 use Rattle.machine.specs.declared.event.Event.{Event}
 use Rattle.machine.specs.declared.event.StepFault.TheVariants as step
-use Rattle.machine.specs.States.{Kept, thread_of, opening_kept}
+use Rattle.machine.specs.States.{ConcreteState, thread_of, opening_concrete}
 use Rattle.machine.specs.Runs.{has_ended}
-use Rattle.machine.specs.Fronts.{can_move}
-use Rattle.machine.specs.Views.{IsQuiet, AllEnded, kept}
+use Rattle.machine.specs.ConcreteSteps.{can_move}
+use Rattle.machine.specs.Views.{IsQuiet, AllEnded, concrete}
 use Rattle.runner.specs.declared.fault.RunFault.{RunFault}
 use Rattle.runner.specs.declared.fault.RunFault.TheVariants.{Stray, CannotMove, Broken, Memory}
 use Rattle.runner.specs.declared.fault.RunFault.TheVariants.{Limit as Limit'}
@@ -17,60 +18,59 @@ use Rattle.runner.specs.declared.report.Verdict.{Verdict}
 use Rattle.runner.specs.declared.report.Verdict.TheVariants.{Done, Stuck, Limit}
 use Rattle.runner.specs.declared.report.Report.{Report}
 use Rattle.runner.specs.Logs.{Runs, cost, event_cost}
-use Rattle.runner.specs.Entries.{handed}
+use Rattle.runner.specs.Entries.{entry_end}
 
--- the next entry of a thread: its local steps until another step comes or 256 are done, and then the shared step that it
+-- the next entry of a thread: its local steps until another step comes or its turn is over, and then the shared step that it
 -- stands before, if any
-pub record IsNextEntry (p : Program) (k : Kept) (t count : ℕ) (event : Option Event) : Type 0 where
+pub record IsNextEntry (p : Program) (k : ConcreteState) (t count : ℕ) (event : Option Event) : Type 0 where
   pub origin : Thread
   pub here : Thread
-  pub kept : Kept
+  pub concrete : ConcreteState
   pub stands : thread_of k t ≡ Some origin
   pub goes : local_after p t count origin ≡ Some here
-  pub turn : count ≤ 256
-  pub whole : count < 256 → local_step p t here ≡ None
-  pub gives : handed p k t here ≡ Ok (kept, event)
+  pub turn : count ≤ most_local_steps
+  pub whole : count < most_local_steps → local_step p t here ≡ None
+  pub gives : entry_end p k t here ≡ Ok (concrete, event)
 
 -- the next entry of a thread would pass the limit
-pub record PassesLimit (p : Program) (limit : ℕ) (log : List Entry) (k : Kept) (t : ℕ) : Type 0 where
+pub record PassesLimit (p : Program) (limit : ℕ) (log : List Entry) (k : ConcreteState) (t : ℕ) : Type 0 where
   pub count : ℕ
   pub event : Option Event
   pub entry : IsNextEntry p k t count event
   pub past : limit < cost log + (count + event_cost event)
 
--- all threads have ended; not all have, and none can move; or some can move, and the next entry of each of them would pass
--- the limit
-abbrev pub IsVerdict : Program → ℕ → List Entry → Kept → Verdict → Type 0
-IsVerdict p limit log k Done = AllEnded k
-IsVerdict p limit log k Stuck =
+-- all threads have ended; not all have, and none can move; or one can move
+abbrev pub IsVerdict : ConcreteState → Verdict → Type 0
+IsVerdict k Done = AllEnded k
+IsVerdict k Stuck =
     IsQuiet k × (t : ℕ) × (0 < t) × (t ≤ length k.threads) × (has_ended (thread_of k t) ≡ false)
-IsVerdict p limit log k Limit =
-    ((t : ℕ) × (can_move k t ≡ true)) × ((t : ℕ) → can_move k t ≡ true → PassesLimit p limit log k t)
+IsVerdict k Limit = (t : ℕ) × (can_move k t ≡ true)
 
 -- the log is legal for the program and within the limit, the machine is where it leads, the output is the machine's, and
--- the verdict holds
+-- the verdict holds: each thread that can move would pass the limit
 pub record IsReport (p : Program) (limit : ℕ) (r : Report) : Type 0 where
-  pub legal : Runs p (opening_kept p) r.log.items (kept r.last)
+  pub legal : Runs p (opening_concrete p) r.log.items (concrete r.last)
   pub program : r.last.program ≡ p
   pub within : cost r.log.items ≤ limit
-  pub output : r.output.items ≡ (kept r.last).common.output
-  pub verdict : IsVerdict p limit r.log.items (kept r.last) r.verdict
+  pub output : r.output.items ≡ (concrete r.last).common.output
+  pub verdict : IsVerdict (concrete r.last) r.verdict
+  pub over : (t : ℕ) → can_move (concrete r.last) t ≡ true → PassesLimit p limit r.log.items (concrete r.last) t
 
 -- some legal log within the limit leads to where a thread comes, within a turn of local steps, to a step that may not be
 pub record MeetsBroken (p : Program) (limit : ℕ) : Type 0 where
   pub log : List Entry
-  pub kept : Kept
-  pub legal : Runs p (opening_kept p) log kept
+  pub concrete : ConcreteState
+  pub legal : Runs p (opening_concrete p) log concrete
   pub within : cost log ≤ limit
   pub thread : ℕ
   pub origin : Thread
   pub here : Thread
   pub count : ℕ
-  pub stands : thread_of kept thread ≡ Some origin
-  pub moves : can_move kept thread ≡ true
+  pub stands : thread_of concrete thread ≡ Some origin
+  pub moves : can_move concrete thread ≡ true
   pub goes : local_after p thread count origin ≡ Some here
-  pub turn : count ≤ 256
-  pub breaks : handed p kept thread here ≡ Err step.Broken
+  pub turn : count ≤ most_local_steps
+  pub breaks : entry_end p concrete thread here ≡ Err step.Broken
 
 -- what a run may be refused for
 abbrev pub CanFail : Program → ℕ → RunFault → Type 0

@@ -1,27 +1,21 @@
 -- What the rounds of a run keep.
 use Rattle.std.specs.Prelude.{ℕ, ◌≡◌, ◌<◌, ◌≤◌, true, false, Bool, List, length, slice_get, Some}
 use Rattle.isa.specs.Programs.{Program}
-use Rattle.machine.specs.States.{Kept, thread_of}
+use Rattle.machine.specs.States.{ConcreteState, thread_of}
 use Rattle.machine.specs.Runs.{has_ended}
-use Rattle.machine.specs.Fronts.{can_move}
+use Rattle.machine.specs.ConcreteSteps.{can_move}
 use Rattle.machine.specs.Views.{IsQuiet, AllEnded}
 use Rattle.runner.specs.declared.report.Verdict.{Verdict}
 use Rattle.runner.specs.declared.report.Verdict.TheVariants.{Done, Stuck, Limit}
-use Rattle.runner.specs.Views.{Held}
+use Rattle.runner.specs.Views.{LogState}
 use Rattle.runner.specs.Reports.{PassesLimit}
 
 -- each thread that was refused can move, and its next entry would pass the limit
-abbrev pub AllPast : Program → ℕ → Held → List Bool → Type 0
+abbrev pub AllPast : Program → ℕ → LogState → List Bool → Type 0
 AllPast p limit h refused =
     (t : ℕ) → slice_get refused t ≡ Some true
-    → (can_move h.kept t ≡ true) × PassesLimit p limit h.log h.kept t
+    → (can_move h.concrete t ≡ true) × PassesLimit p limit h.log h.concrete t
 
 -- no thread can make an entry within the limit
-abbrev pub Idle : Program → ℕ → Held → Type 0
-Idle p limit h = (t : ℕ) → can_move h.kept t ≡ true → PassesLimit p limit h.log h.kept t
-
--- the verdict by what is kept alone
-abbrev pub IsEnd : Kept → Verdict → Type 0
-IsEnd k Done = AllEnded k
-IsEnd k Stuck = IsQuiet k × (t : ℕ) × (0 < t) × (t ≤ length k.threads) × (has_ended (thread_of k t) ≡ false)
-IsEnd k Limit = (t : ℕ) × (can_move k t ≡ true)
+abbrev pub Idle : Program → ℕ → LogState → Type 0
+Idle p limit h = (t : ℕ) → can_move h.concrete t ≡ true → PassesLimit p limit h.log h.concrete t

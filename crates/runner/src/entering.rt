@@ -1,7 +1,7 @@
 ghost use Rattle.std.specs.Prelude.{◌≡◌, ◌≤◌, ◌<◌, ◌++◌, ◌∷◌, [], true, Ok, IfOk, OnOk, OnErr, IsOk, length, vec_len, vec_capacity};
-ghost use Rattle.machine.specs.Fronts.{can_move};
-ghost use Rattle.machine.specs.Views.{kept};
-ghost use Rattle.runner.specs.Entries.{handed};
+ghost use Rattle.machine.specs.ConcreteSteps.{can_move};
+ghost use Rattle.machine.specs.Views.{concrete};
+ghost use Rattle.runner.specs.Entries.{entry_end};
 
 use locals::Local;
 use machine::{Entry, Event, Machine};
@@ -15,11 +15,11 @@ pub fn enter(
     here: Local,
     count: u32,
 ) -> Result<Option<Event>, AllocError>
-    requires thread { can_move (kept machine.old) t ≡ true }
-    requires fine { IsOk (handed machine.old.program (kept machine.old) t here) }
-    ensures gives { IfOk result (λ event. handed machine.old.program (kept machine.old) t here ≡ Ok (kept machine.new, event)) }
+    requires thread { can_move (concrete machine.old) t ≡ true }
+    requires fine { IsOk (entry_end machine.old.program (concrete machine.old) t here) }
+    ensures gives { IfOk result (λ event. entry_end machine.old.program (concrete machine.old) t here ≡ Ok (concrete machine.new, event)) }
     ensures log { IfOk result (λ event. log.new.items ≡ log.old.items ++ record { thread = t; local = count; event = event } ∷ []) }
-    ensures err { OnErr result ((kept machine.new ≡ kept machine.old) × (log.new.items ≡ log.old.items)) }
+    ensures err { OnErr result ((concrete machine.new ≡ concrete machine.old) × (log.new.items ≡ log.old.items)) }
     ensures program { machine.new.program ≡ machine.old.program }
 {
     make_room(machine, log)?;
@@ -35,7 +35,7 @@ pub fn enter(
 /// Makes room for one more entry, and for the number that it may print.
 pub fn make_room(machine: &mut Machine, log: &mut Vec<Entry>) -> Result<(), AllocError>
     ensures room { OnOk result ((1 ≤ machine.new.room) × (vec_len log.new < vec_capacity log.new)) }
-    ensures same { (kept machine.new ≡ kept machine.old) × (log.new.items ≡ log.old.items) }
+    ensures same { (concrete machine.new ≡ concrete machine.old) × (log.new.items ≡ log.old.items) }
     ensures program { machine.new.program ≡ machine.old.program }
 {
     log.reserve(1)?;
@@ -44,10 +44,10 @@ pub fn make_room(machine: &mut Machine, log: &mut Vec<Entry>) -> Result<(), Allo
 
 // Puts a thread where it has come, and takes the shared step that it stands before, if any.
 fn hand_in(machine: &mut Machine, t: u32, here: Local) -> Option<Event>
-    requires thread { can_move (kept machine.old) t ≡ true }
-    requires fine { IsOk (handed machine.old.program (kept machine.old) t here) }
+    requires thread { can_move (concrete machine.old) t ≡ true }
+    requires fine { IsOk (entry_end machine.old.program (concrete machine.old) t here) }
     requires room { 1 ≤ machine.old.room }
-    ensures gives { handed machine.old.program (kept machine.old) t here ≡ Ok (kept machine.new, result) }
+    ensures gives { entry_end machine.old.program (concrete machine.old) t here ≡ Ok (concrete machine.new, result) }
     ensures program { machine.new.program ≡ machine.old.program }
 {
     let turn = machine.is_before_local(t, &here);

@@ -17,7 +17,7 @@ pub use fault::RunFault;
 pub use laws::logs_are_machine_runs;
 pub use naming::RunName;
 pub use next::Next;
-pub use piece::{Piece, TURN};
+pub use piece::Piece;
 pub use report::{Report, Verdict};
 pub use running::run;
 pub use shared::Shared;

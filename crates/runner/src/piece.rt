@@ -1,3 +1,4 @@
+ghost use Rattle.words.specs.Limits.{most_local_steps};
 ghost use Rattle.std.specs.Prelude.{◌≡◌, ◌≤◌, ◌<◌, ◌+◌, Some, None};
 ghost use Rattle.locals.specs.Steps.{local_step, local_after};
 
@@ -5,9 +6,7 @@ use crate::naming::RunName;
 use isa::Image;
 use locals::{Local, run_local};
 use std::marker::{Model, PhantomData};
-
-/// How many local steps a thread takes before it makes an entry without a shared step.
-pub const TURN: u32 = 256;
+use words::MOST_LOCAL_STEPS;
 
 /// A thread away from the machine, between two entries of the log of run `J`. Its type keeps that it has come to where
 /// it is by as many local steps of the run's program as it counts.
@@ -22,24 +21,25 @@ pub struct Piece<J: RunName> {
 
 impl<J: RunName> Model for Piece<J> {
     ghost use Rattle.std.specs.Prelude.{◌≡◌, ◌≤◌, Some};
+    ghost use Rattle.words.specs.Limits.{most_local_steps};
     ghost use Rattle.locals.specs.Steps.{local_after};
-    ghost use Rattle.runner.specs.Views.{Away};
+    ghost use Rattle.runner.specs.Views.{PieceView};
 
-    ghost Value = { Away };
+    ghost Value = { PieceView };
 
     ghost view = { λ p. record { thread = p.thread; origin = p.origin; here = p.here; count = p.count } };
 
-    ghost invariant = { λ p. (local_after J.program p.thread p.count p.origin ≡ Some p.here) × (p.count ≤ 256) };
+    ghost invariant = { λ p. (local_after J.program p.thread p.count p.origin ≡ Some p.here) × (p.count ≤ most_local_steps) };
 }
 
 impl<J: RunName> Piece<J> {
-    /// Takes the thread's local steps until another step comes or 256 are done.
+    /// Takes the thread's local steps until another step comes or its turn is over.
     pub fn run(self, image: &Image) -> Piece<J>
         requires { image.now ≡ J.program }
         ensures same { (result.thread ≡ self.thread) × (result.origin ≡ self.origin) }
         ensures reached { local_after J.program result.thread result.count result.origin ≡ Some result.here }
-        ensures within { result.count ≤ 256 }
-        ensures whole { result.count < 256 → local_step J.program result.thread result.here ≡ None }
+        ensures within { result.count ≤ most_local_steps }
+        ensures whole { result.count < most_local_steps → local_step J.program result.thread result.here ≡ None }
     {
         let Piece {
             thread,
@@ -48,7 +48,7 @@ impl<J: RunName> Piece<J> {
             count,
             of,
         } = self;
-        let (here, more) = run_local(image, thread, here, TURN - count);
+        let (here, more) = run_local(image, thread, here, MOST_LOCAL_STEPS - count);
         Piece {
             thread,
             origin,

@@ -1,16 +1,16 @@
-ghost use Rattle.std.specs.Prelude.{◌≡◌, ◌≤◌, ◌<◌, ℕ, length, true, false, IfOk, IfErr, OnOk};
-ghost use Rattle.machine.specs.Fronts.{can_move};
+ghost use Rattle.words.specs.Limits.{most_processes};
+ghost use Rattle.std.specs.Prelude.{suc, ◌≡◌, ◌≤◌, ◌<◌, ℕ, length, true, false, IfOk, IfErr, OnOk};
+ghost use Rattle.machine.specs.ConcreteSteps.{can_move};
 ghost use Rattle.runner.specs.Logs.{cost};
 ghost use Rattle.runner.specs.Reports.{CanFail, PassesLimit};
 ghost use Rattle.runner.specs.Rounds.{AllPast, Idle};
-ghost use Rattle.runner.specs.Views.{held};
+ghost use Rattle.runner.specs.Views.{log_state};
 
 use crate::fault::RunFault;
 use crate::naming::RunName;
 use crate::shared::Shared;
 use isa::Image;
-use machine::MOST_THREADS;
-use words::Gate;
+use words::{Gate, MOST_PROCESSES};
 
 /// Makes entries, round after round, until no thread can make one. A round goes through the threads by rising number,
 /// those made in the round included. A thread that was refused with `Limit` is passed over from then on.
@@ -20,10 +20,10 @@ pub fn run_rounds<J: RunName, G: Gate>(
     gate: &G,
 ) -> Result<(), RunFault>
     requires image { image.now ≡ J.program }
-    ensures ok { OnOk result (Idle J.program J.limit (held shared.new)) }
+    ensures ok { OnOk result (Idle J.program J.limit (log_state shared.new)) }
     ensures err { IfErr result (λ fault. CanFail J.program J.limit fault) }
 {
-    let mut refused = [false; MOST_THREADS as usize + 1];
+    let mut refused = [false; MOST_PROCESSES as usize + 1];
     while run_round(shared, &mut refused, image, gate)? {}
     Ok(())
 }
@@ -36,11 +36,11 @@ fn run_round<J: RunName, G: Gate>(
     gate: &G,
 ) -> Result<bool, RunFault>
     requires image { image.now ≡ J.program }
-    requires room { length refused.old ≡ 65 }
-    requires past { AllPast J.program J.limit (held shared.old) refused.old }
-    ensures past { OnOk result (AllPast J.program J.limit (held shared.new) refused.new) }
+    requires room { length refused.old ≡ suc most_processes }
+    requires past { AllPast J.program J.limit (log_state shared.old) refused.old }
+    ensures past { OnOk result (AllPast J.program J.limit (log_state shared.new) refused.new) }
     ensures made { IfOk result (λ made. made ≡ true → (cost shared.old.log < cost shared.new.log) × (cost shared.new.log ≤ J.limit)) }
-    ensures none { IfOk result (λ made. made ≡ false → Idle J.program J.limit (held shared.new)) }
+    ensures none { IfOk result (λ made. made ≡ false → Idle J.program J.limit (log_state shared.new)) }
     ensures err { IfErr result (λ fault. CanFail J.program J.limit fault) }
 {
     let mut made = false;
@@ -61,12 +61,12 @@ fn make_entry<J: RunName, G: Gate>(
     t: u32,
 ) -> Result<bool, RunFault>
     requires image { image.now ≡ J.program }
-    requires room { length refused.old ≡ 65 }
-    requires thread { (0 < t) × (t ≤ 64) }
-    requires past { AllPast J.program J.limit (held shared.old) refused.old }
-    ensures past { OnOk result (AllPast J.program J.limit (held shared.new) refused.new) }
+    requires room { length refused.old ≡ suc most_processes }
+    requires thread { (0 < t) × (t ≤ most_processes) }
+    requires past { AllPast J.program J.limit (log_state shared.old) refused.old }
+    ensures past { OnOk result (AllPast J.program J.limit (log_state shared.new) refused.new) }
     ensures made { IfOk result (λ made. made ≡ true → (cost shared.old.log < cost shared.new.log) × (cost shared.new.log ≤ J.limit)) }
-    ensures none { IfOk result (λ made. made ≡ false → (held shared.new ≡ held shared.old) × (can_move (held shared.new).kept t ≡ true → PassesLimit J.program J.limit shared.new.log (held shared.new).kept t)) }
+    ensures none { IfOk result (λ made. made ≡ false → (log_state shared.new ≡ log_state shared.old) × (can_move (log_state shared.new).concrete t ≡ true → PassesLimit J.program J.limit shared.new.log (log_state shared.new).concrete t)) }
     ensures err { IfErr result (λ fault. CanFail J.program J.limit fault) }
 {
     if !shared.has_room() {
@@ -89,12 +89,12 @@ fn try_entry<J: RunName, G: Gate>(
     t: u32,
 ) -> Result<bool, RunFault>
     requires image { image.now ≡ J.program }
-    requires room { length refused.old ≡ 65 }
-    requires thread { (0 < t) × (t ≤ 64) }
-    requires past { AllPast J.program J.limit (held shared.old) refused.old }
-    ensures past { OnOk result (AllPast J.program J.limit (held shared.new) refused.new) }
+    requires room { length refused.old ≡ suc most_processes }
+    requires thread { (0 < t) × (t ≤ most_processes) }
+    requires past { AllPast J.program J.limit (log_state shared.old) refused.old }
+    ensures past { OnOk result (AllPast J.program J.limit (log_state shared.new) refused.new) }
     ensures made { IfOk result (λ made. made ≡ true → (cost shared.old.log < cost shared.new.log) × (cost shared.new.log ≤ J.limit)) }
-    ensures none { IfOk result (λ made. made ≡ false → (held shared.new ≡ held shared.old) × (can_move (held shared.new).kept t ≡ true → PassesLimit J.program J.limit shared.new.log (held shared.new).kept t)) }
+    ensures none { IfOk result (λ made. made ≡ false → (log_state shared.new ≡ log_state shared.old) × (can_move (log_state shared.new).concrete t ≡ true → PassesLimit J.program J.limit shared.new.log (log_state shared.new).concrete t)) }
     ensures err { IfErr result (λ fault. CanFail J.program J.limit fault) }
 {
     if refused[t as usize] {

@@ -1,7 +1,6 @@
 ghost use Rattle.std.specs.Prelude.{◌≡◌, IfOk, IfErr};
-ghost use Rattle.machine.specs.Views.{kept};
-ghost use Rattle.runner.specs.Reports.{IsReport, CanFail};
-ghost use Rattle.runner.specs.Rounds.{IsEnd};
+ghost use Rattle.machine.specs.Views.{concrete};
+ghost use Rattle.runner.specs.Reports.{IsReport, IsVerdict, CanFail};
 
 use crate::fault::RunFault;
 use crate::naming::RunName;
@@ -21,8 +20,8 @@ use words::Gate;
 /// included, and makes one entry for each that can move; one whose entry would pass the limit is passed over from then
 /// on.
 ///
-/// Refuses only with `Memory` and with `Broken`, where some legal log within the limit leads a thread, by at most 256
-/// local steps, to a step that may not be.
+/// Refuses only with `Memory` and with `Broken`, where some legal log within the limit leads a thread, within a turn
+/// of local steps, to a step that may not be.
 pub fn run<G: Gate>(alloc: Global, image: &Image, limit: u32, gate: &G) -> Result<Report, RunFault>
     ensures ok { IfOk result (λ report. IsReport image.now limit report) }
     ensures err { IfErr result (λ fault. CanFail image.now limit fault) }
@@ -60,7 +59,7 @@ fn run_as<J: RunName, G: Gate>(
 
 // What the machine says of the end of a run.
 fn verdict_of(machine: &Machine) -> Verdict
-    ensures { IsEnd (kept machine.now) result }
+    ensures { IsVerdict (concrete machine.now) result }
 {
     if !machine.quiet() {
         Verdict::Limit

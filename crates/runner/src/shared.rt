@@ -1,26 +1,28 @@
-ghost use Rattle.std.specs.Prelude.{◌≡◌, ◌≢◌, ◌≤◌, ◌<◌, ◌+◌, [], length, true, false, Some, None, Ok, IfOk, IfErr, OnOk, IfSome, IfNone, MatchBool, MatchOption};
-ghost use Rattle.machine.specs.States.{thread_of, opening_kept};
-ghost use Rattle.machine.specs.Fronts.{can_move};
+ghost use Rattle.words.specs.Limits.{most_local_steps};
+ghost use Rattle.std.specs.Prelude.{suc, ◌≡◌, ◌≢◌, ◌≤◌, ◌<◌, ◌+◌, [], length, true, false, Some, None, Ok, IfOk, IfErr, OnOk, IfSome, IfNone, MatchBool, MatchOption};
+ghost use Rattle.machine.specs.States.{thread_of, opening_concrete};
+ghost use Rattle.machine.specs.ConcreteSteps.{can_move};
 ghost use Rattle.runner.specs.Logs.{Runs, cost};
 ghost use Rattle.runner.specs.Entries.{Takes, Refuses, IsFine, Stands};
 ghost use Rattle.runner.specs.Nexts.{IsNext};
 ghost use Rattle.runner.specs.Reports.{CanFail};
-ghost use Rattle.machine.specs.Views.{kept};
-ghost use Rattle.runner.specs.Views.{held};
+ghost use Rattle.machine.specs.Views.{concrete};
+ghost use Rattle.runner.specs.Views.{log_state};
 
 use crate::entering::{enter, make_room};
 use crate::fault::RunFault;
 use crate::in_place::take_entry;
 use crate::naming::RunName;
 use crate::next::Next;
-use crate::piece::{Piece, TURN};
+use crate::piece::Piece;
 use isa::Image;
 use machine::{Entry, Machine};
 use std::alloc::{AllocError, Global};
 use std::marker::{Model, PhantomData};
+use words::{MOST_LOCAL_STEPS, MOST_PROCESSES};
 
 // How many buckets its sleepers are kept in: one for each thread that there can be.
-const BUCKETS: u32 = 64;
+const BUCKETS: u32 = MOST_PROCESSES;
 
 /// The machine of run `J` and its log. Its type keeps that the log is legal for the run's program, that the machine is
 /// where the log leads, and that the log's cost is within the run's limit.
@@ -34,15 +36,15 @@ pub struct Shared<J: RunName> {
 }
 
 impl<J: RunName> Model for Shared<J> {
-    ghost use Rattle.machine.specs.Views.{kept};
-    ghost use Rattle.runner.specs.Views.{Stored};
+    ghost use Rattle.machine.specs.Views.{concrete};
+    ghost use Rattle.runner.specs.Views.{SharedView};
     ghost use Rattle.runner.specs.Legal.{IsLegal};
 
-    ghost Value = { Stored };
+    ghost Value = { SharedView };
 
     ghost view = { λ s. record { log = s.log.items; machine = s.machine } };
 
-    ghost invariant = { λ s. IsLegal J.program J.limit s.machine.program (kept s.machine) s.log.items s.steps s.limit };
+    ghost invariant = { λ s. IsLegal J.program J.limit s.machine.program (concrete s.machine) s.log.items s.steps s.limit };
 }
 
 impl<J: RunName> Shared<J> {
@@ -50,7 +52,7 @@ impl<J: RunName> Shared<J> {
     pub fn new(alloc: Global, image: &Image, limit: u32) -> Result<Shared<J>, AllocError>
         requires image { image.now ≡ J.program }
         requires limit { limit ≡ J.limit }
-        ensures { IfOk result (λ s. (s.log ≡ []) × ((held s).kept ≡ opening_kept J.program)) }
+        ensures { IfOk result (λ s. (s.log ≡ []) × ((log_state s).concrete ≡ opening_concrete J.program)) }
     {
         Ok(Shared {
             machine: Machine::new(alloc, image, BUCKETS)?,
@@ -63,9 +65,9 @@ impl<J: RunName> Shared<J> {
 
     /// The machine, which is where the log leads.
     pub fn machine(&self) -> &Machine
-        ensures kept { kept result.now ≡ (held self.now).kept }
+        ensures concrete { concrete result.now ≡ (log_state self.now).concrete }
         ensures program { result.now.program ≡ J.program }
-        ensures legal { Runs J.program (opening_kept J.program) self.now.log (held self.now).kept }
+        ensures legal { Runs J.program (opening_concrete J.program) self.now.log (log_state self.now).concrete }
     {
         &self.machine
     }
@@ -73,7 +75,7 @@ impl<J: RunName> Shared<J> {
     /// The log.
     pub fn log(&self) -> &[Entry]
         ensures value { result.now ≡ self.now.log }
-        ensures legal { Runs J.program (opening_kept J.program) self.now.log (held self.now).kept }
+        ensures legal { Runs J.program (opening_concrete J.program) self.now.log (log_state self.now).concrete }
     {
         self.log.as_slice()
     }
@@ -89,9 +91,9 @@ impl<J: RunName> Shared<J> {
     /// What a run leaves: its log and its machine.
     pub fn into_parts(self) -> (Vec<Entry>, Machine)
         ensures log { result.0.items ≡ self.log }
-        ensures kept { kept result.1 ≡ (held self).kept }
+        ensures concrete { concrete result.1 ≡ (log_state self).concrete }
         ensures program { result.1.program ≡ J.program }
-        ensures legal { Runs J.program (opening_kept J.program) self.log (held self).kept }
+        ensures legal { Runs J.program (opening_concrete J.program) self.log (log_state self).concrete }
         ensures within { cost self.log ≤ J.limit }
     {
         let Shared { log, machine, .. } = self;
@@ -100,9 +102,9 @@ impl<J: RunName> Shared<J> {
 
     /// The piece that thread `t` goes on from, if it can move.
     pub fn piece(&self, t: u32) -> Option<Piece<J>>
-        ensures some { IfSome result (λ p. (p.thread ≡ t) × (p.count ≡ 0) × (p.here ≡ p.origin) × (thread_of (held self.now).kept t ≡ Some p.origin)) }
-        ensures legal { Runs J.program (opening_kept J.program) self.now.log (held self.now).kept }
-        ensures variant { MatchOption result (can_move (held self.now).kept t ≡ false) (λ _. can_move (held self.now).kept t ≡ true) }
+        ensures some { IfSome result (λ p. (p.thread ≡ t) × (p.count ≡ 0) × (p.here ≡ p.origin) × (thread_of (log_state self.now).concrete t ≡ Some p.origin)) }
+        ensures legal { Runs J.program (opening_concrete J.program) self.now.log (log_state self.now).concrete }
+        ensures variant { MatchOption result (can_move (log_state self.now).concrete t ≡ false) (λ _. can_move (log_state self.now).concrete t ≡ true) }
     {
         if !self.machine.can_move(t) {
             return None;
@@ -122,9 +124,9 @@ impl<J: RunName> Shared<J> {
     ///
     /// Refuses in this order: `Stray`, `CannotMove`, `Broken`, `Limit`, `Memory`; then nothing has changed.
     pub fn step(&mut self, t: u32, piece: Piece<J>) -> Result<Next<J>, RunFault>
-        ensures ok { IfOk result (λ next. Takes J.program J.limit (held self.old) t piece (held self.new) × IsNext (held self.new).kept t next) }
-        ensures err { IfErr result (λ fault. (held self.new ≡ held self.old) × Refuses J.program J.limit (held self.old) t piece fault) }
-        ensures legal { Runs J.program (opening_kept J.program) self.new.log (held self.new).kept }
+        ensures ok { IfOk result (λ next. Takes J.program J.limit (log_state self.old) t piece (log_state self.new) × IsNext (log_state self.new).concrete t next) }
+        ensures err { IfErr result (λ fault. (log_state self.new ≡ log_state self.old) × Refuses J.program J.limit (log_state self.old) t piece fault) }
+        ensures legal { Runs J.program (opening_concrete J.program) self.new.log (log_state self.new).concrete }
         ensures within { cost self.new.log ≤ J.limit }
     {
         if let Some(fault) = self.refusal(t, &piece) {
@@ -140,18 +142,18 @@ impl<J: RunName> Shared<J> {
 
     /// Whether the limit leaves room for any thread's next entry.
     pub(crate) fn has_room(&self) -> bool
-        ensures { MatchBool result (cost self.now.log + 257 ≤ J.limit) (J.limit < cost self.now.log + 257) }
+        ensures { MatchBool result (cost self.now.log + suc most_local_steps ≤ J.limit) (J.limit < cost self.now.log + suc most_local_steps) }
     {
-        self.limit - self.steps > TURN
+        self.limit - self.steps > MOST_LOCAL_STEPS
     }
 
     /// Takes the next entry of thread `t`, which can move, in its place on the machine, so that nothing is copied: its
-    /// local steps until another step comes or 256 are done, and the shared step that it stands before, if any.
+    /// local steps until another step comes or its turn is over, and the shared step that it stands before, if any.
     ///
     /// Refuses with `Memory`, and then nothing has changed; and with `Broken`, and then the local steps are an entry.
     pub(crate) fn go_on(&mut self, t: u32) -> Result<(), RunFault>
-        requires thread { can_move (held self.old).kept t ≡ true }
-        requires room { cost self.old.log + 257 ≤ J.limit }
+        requires thread { can_move (log_state self.old).concrete t ≡ true }
+        requires room { cost self.old.log + suc most_local_steps ≤ J.limit }
         ensures ok { OnOk result (cost self.old.log < cost self.new.log) }
         ensures err { IfErr result (λ fault. CanFail J.program J.limit fault) }
         ensures within { cost self.new.log ≤ J.limit }
@@ -167,8 +169,8 @@ impl<J: RunName> Shared<J> {
 
     // What thread `t` does next.
     fn next(&self, t: u32) -> Next<J>
-        ensures next { IsNext (held self.now).kept t result }
-        ensures legal { Runs J.program (opening_kept J.program) self.now.log (held self.now).kept }
+        ensures next { IsNext (log_state self.now).concrete t result }
+        ensures legal { Runs J.program (opening_concrete J.program) self.now.log (log_state self.now).concrete }
     {
         match self.piece(t) {
             Some(piece) => Next::Go(piece),
@@ -179,8 +181,8 @@ impl<J: RunName> Shared<J> {
 
     // Why the piece is refused, if not for memory.
     fn refusal(&self, t: u32, piece: &Piece<J>) -> Option<RunFault>
-        ensures some { IfSome result (λ fault. Refuses J.program J.limit (held self.now) t piece.now fault) }
-        ensures none { IfNone result (IsFine J.program J.limit (held self.now) t piece.now) }
+        ensures some { IfSome result (λ fault. Refuses J.program J.limit (log_state self.now) t piece.now fault) }
+        ensures none { IfNone result (IsFine J.program J.limit (log_state self.now) t piece.now) }
     {
         if !self.stands(t, piece) {
             return Some(RunFault::Stray);
@@ -201,7 +203,7 @@ impl<J: RunName> Shared<J> {
 
     // Whether the piece is the thread's, and began where the thread is.
     fn stands(&self, t: u32, piece: &Piece<J>) -> bool
-        ensures { MatchBool result (Stands (held self.now) t piece.now) (Stands (held self.now) t piece.now → ⊥) }
+        ensures { MatchBool result (Stands (log_state self.now) t piece.now) (Stands (log_state self.now) t piece.now → ⊥) }
     {
         piece.thread == t
             && t > 0

@@ -13,9 +13,9 @@ use Rattle.robustexit.specs.RobustExit.{Shared, IsIdle, PendingStep, NoEntry, Is
 use Rattle.locals.specs.Threads.{Thread, Runs, Exits, fresh}
 use Rattle.locals.specs.Looks.{Look, Goes, Asks, Leaves, Rests, look, look_at, begun, AskPrint, AskReturn}
 use Rattle.machine.specs.States.{State, with_thread}
-use Rattle.machine.specs.Serving.{shared_of, with_shared}
+use Rattle.machine.specs.AbstractServing.{shared_of, with_shared}
 use Rattle.futexcalls.specs.FutexCalls.{Wakes}
-use Rattle.machine.specs.Runs.{Step, IsStep, Moves, Goes_by}
+use Rattle.machine.specs.Runs.{Step, IsStep, Moves, GoesBy}
 use Rattle.sourcemeaning.specs.Programs.{Source, Statement, Prints}
 use Rattle.simulation.specs.Code.{code_of, HasWords}
 use Rattle.simulation.proofs.Points.{Point, Boundary, Pushed, AtPending, AtClear, AtLast, Over, IsAt, numbers_of, place_of, first_words, returned_words, cleared_words, alone, machine_with, machine_at, steps_at}
@@ -194,9 +194,9 @@ pub record Reached (p : Source) (from : Point) (steps : List Step) (s' : State) 
   pub count : steps_at p to ≡ steps_at p from + length steps
   pub by_one : AllByOne steps
 
-pub reached : (p : Source) → HasWords p → (from : Point) → IsAt p from → (steps : List Step) (s' : State) → Goes_by (code_of p) (machine_at p from) steps s' → Reached p from steps s'
+pub reached : (p : Source) → HasWords p → (from : Point) → IsAt p from → (steps : List Step) (s' : State) → GoesBy (code_of p) (machine_at p from) steps s' → Reached p from steps s'
 reached p fits from at [] s' run = record { to = from; at = at; is = sym run; count = omega arith; by_one = tt }
 reached p fits from at (l ∷ ls) s' run =
     let n = next p fits from at l run.0 run.1 in
-    let r = reached p fits n.to n.at ls s' (subst (λ (s : State). Goes_by (code_of p) s ls s') n.is run.2) in
+    let r = reached p fits n.to n.at ls s' (subst (λ (s : State). GoesBy (code_of p) s ls s') n.is run.2) in
     record { to = r.to; at = r.at; is = r.is; count = omega (arith, r.count, n.count); by_one = (n.thread, r.by_one) }

@@ -1,13 +1,14 @@
 -- The source goes on with the machine.
 use Rattle.std.specs.Prelude.{ℕ, ◌≡◌, ◌≤◌, ◌+◌, ◌*◌, ◌==◌, ◌&&◌, not, Bool, List, length, count_by}
 use Rattle.std.specs.List.{list_all, flat_map}
+use Rattle.words.specs.Limits.{most_local_steps}
 use Rattle.machine.specs.Runs.{Step}
 use Rattle.sourcemeaning.specs.declared.action.Action.{Action}
 use Rattle.sourcemeaning.specs.Programs.{Source, most_tokens}
 
 -- so many steps of a thread are a stretch
 abbrev pub stretch_length : Source → ℕ
-stretch_length p = 256 + 8 * most_tokens p
+stretch_length p = most_local_steps + 8 * most_tokens p
 
 -- a step of thread t in which it neither falls asleep nor ends
 abbrev pub goes_on : ℕ → Step → Bool

@@ -3,6 +3,7 @@ use Rattle.std.specs.Prelude.{ℕ, ◌≡◌, ◌<◌, ◌+◌, zero, suc, List,
 use Rattle.words.specs.declared.outcome.Outcome.{Outcome}
 use Rattle.words.specs.declared.outcome.Outcome.TheVariants as outcome
 use Rattle.words.specs.Outcomes.{outcome_of}
+use Rattle.words.specs.Limits.{monitors_base}
 use Rattle.words.specs.Process.{process_word}
 use Rattle.robustexit.specs.declared.phase.ExitPhase.TheVariants.{Entry, Pending, ClearId, LastWake, Ended as Ended'}
 use Rattle.locals.specs.Threads.{Thread, Runs, Dies, Exits}
@@ -21,10 +22,10 @@ words_before ms zero = 0
 words_before [] (suc n) = 0
 words_before (m ∷ ms) (suc n) = 2 + length m.variables + words_before ms n
 
--- the address of a monitor's variable, both by number from 0: monitors follow the words of 64 processes, each with its
+-- the address of a monitor's variable, both by number from 0: monitors follow the words of all processes, each with its
 -- link word, its lock word and its variables
 abbrev pub variable_address : Source → ℕ → ℕ → ℕ
-variable_address p m i = 385 + (words_before p.monitors m + (2 + i))
+variable_address p m i = monitors_base + (words_before p.monitors m + (2 + i))
 
 -- the monitor has such a variable
 abbrev pub IsVariable : Source → ℕ → ℕ → Type 0

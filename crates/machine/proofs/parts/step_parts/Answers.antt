@@ -5,7 +5,7 @@ use Rattle.locals.specs.Threads.{Thread}
 use Rattle.locals.specs.Looks.{look}
 use Rattle.machine.specs.declared.event.Event.{Event}
 use Rattle.machine.specs.declared.event.StepFault.{StepFault}
-use Rattle.machine.specs.Told.{AsksFork}
+use Rattle.machine.specs.RequestMeanings.{AsksFork}
 use Rattle.machine.specs.Views.{parts_of}
 use Rattle.machine.proofs.Whole.{stands_at, stepped}
 use Rattle.machine.proofs.parts.step_parts.Goals as goal

@@ -2,12 +2,12 @@
 use Rattle.std.proofs.Common.{◌∙◌, sym, Ok, None}
 use Rattle.locals.specs.Looks.{look}
 use Rattle.machine.specs.Views.{common}
-use Rattle.machine.proofs.Steps.{shared_so, shared_err, handed}
+use Rattle.machine.proofs.Steps.{shared_so, shared_err, hand_on}
 use Rattle.machine.proofs.thread_step.take_request.Goals as goal
 
 pub returns-in_err-served-clause-err : goal.returns-in_err-served-clause-err
 returns-in_err-served-clause-err c =
-    handed c.from_residual.result c.in_err-served.field-0.0 _ c.from_residual.ensures.1 (λ made.
+    hand_on c.from_residual.result c.in_err-served.field-0.0 _ c.from_residual.ensures.1 (λ made.
     shared_err made c.args.t (common c.args.shared.now) (common c.serve.new.self) (look c.args.image.now c.args.t c.args.local.now) c.args.request c.in_err-served.field-0.0 c.requires.asks c.requires.makes_none c.in_err-served.ensures.gives)
 
 pub returns-clause-done : goal.returns-clause-done

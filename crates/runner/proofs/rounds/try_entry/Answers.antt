@@ -1,7 +1,7 @@
 use Rattle.std.proofs.Common.{◌≡◌, ◌∙◌, Some, true, false, slice_set, ap, sym, slice_get, subst, arith}
 use Rattle.std.proofs.lemmas.Option.{slice_get-get_or}
 use Rattle.runner.specs.declared.fault.RunFault.{RunFault}
-use Rattle.runner.specs.Views.{Held, held}
+use Rattle.runner.specs.Views.{LogState, log_state}
 use Rattle.runner.specs.Entries.{Refuses}
 use Rattle.runner.specs.Rounds.{AllPast}
 use Rattle.runner.proofs.Passing.{all_past, one_past, passes}
@@ -11,7 +11,7 @@ use Rattle.runner.proofs.rounds.try_entry.Goals as goal
 pub returns-in-Ok-clause-past : goal.returns-in-Ok-clause-past
 returns-in-Ok-clause-past g c =
     let free : slice_get c.args.refused.now c.args.t ≡ Some false = slice_get-get_or c.args.refused.now c.args.t false (omega arith) ∙ ap Some c.if-refused-t.false in
-    all_past g.J.RunName.program g.J.RunName.limit (held c.args.shared.now) (held c.step.new.self) c.args.t c.run-piece.result c.args.refused.now (holds _ _ _ c.piece.ensures.legal) c.in-Ok.ensures.ok.0 free c.requires.past
+    all_past g.J.RunName.program g.J.RunName.limit (log_state c.args.shared.now) (log_state c.step.new.self) c.args.t c.run-piece.result c.args.refused.now (holds _ _ _ c.piece.ensures.legal) c.in-Ok.ensures.ok.0 free c.requires.past
 
 pub returns-in-Err-Limit-clause-past : goal.returns-in-Err-Limit-clause-past
 returns-in-Err-Limit-clause-past g c =
@@ -19,6 +19,6 @@ returns-in-Err-Limit-clause-past g c =
     let limit = g.J.RunName.limit in
     let h = c.in-Err-Limit.ensures.err in
     let r = c.run-piece.ensures in
-    let refused = subst (λ (f : RunFault). Refuses p limit (held c.args.shared.now) c.args.t c.run-piece.result f) c.in-Err-Limit.field-0-is h.1 in
-    let now = passes p limit (held c.args.shared.now) c.args.t c.run-piece.result refused r.reached r.within r.whole in
-    subst (λ (s : Held). AllPast p limit s (slice_set c.args.refused.now c.args.t true)) (sym h.0) (one_past p limit (held c.args.shared.now) c.args.t c.args.refused.now (refused.1, now) c.requires.past)
+    let refused = subst (λ (f : RunFault). Refuses p limit (log_state c.args.shared.now) c.args.t c.run-piece.result f) c.in-Err-Limit.field-0-is h.1 in
+    let now = passes p limit (log_state c.args.shared.now) c.args.t c.run-piece.result refused r.reached r.within r.whole in
+    subst (λ (s : LogState). AllPast p limit s (slice_set c.args.refused.now c.args.t true)) (sym h.0) (one_past p limit (log_state c.args.shared.now) c.args.t c.args.refused.now (refused.1, now) c.requires.past)

@@ -5,8 +5,9 @@ use Rattle.robustexit.specs.declared.phase.ExitPhase.{ExitPhase}
 use Rattle.robustexit.specs.declared.phase.ExitPhase.TheVariants.{Entry, Pending, ClearId, LastWake, Ended}
 use Rattle.robustexit.specs.Fronts.{wake_word}
 use Rattle.futexcalls.specs.Answers.{word_of}
-use Rattle.machine.specs.Fronts.{event_of, leave}
-use Rattle.machine.specs.Told.{name_at, value_at}
+use Rattle.machine.specs.ConcreteServing.{event_of}
+use Rattle.machine.specs.ConcreteExits.{leave}
+use Rattle.machine.specs.RequestMeanings.{name_at, value_at}
 use Rattle.machine.specs.Views.{common, common_of}
 use Rattle.machine.proofs.Queues.{soundly, known}
 use Rattle.machine.proofs.Determines.{left, left_is, left_threads, value_of}

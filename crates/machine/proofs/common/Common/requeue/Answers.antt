@@ -2,7 +2,7 @@
 use Rattle.std.proofs.Common.{◌∙◌, ap, sym}
 use Rattle.locals.specs.Looks.{AskRequeue}
 use Rattle.machine.specs.declared.event.EventName.TheVariants as name
-use Rattle.machine.specs.Fronts.{event_of, serve}
+use Rattle.machine.specs.ConcreteServing.{event_of, serve}
 use Rattle.machine.specs.Views.{common}
 use Rattle.machine.proofs.Queues.{woken_threads, moved_threads, requeue_gives}
 use Rattle.machine.proofs.common.Common.requeue.Goals as goal

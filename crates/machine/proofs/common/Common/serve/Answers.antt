@@ -1,7 +1,7 @@
 -- Each request is served by its own function.
 use Rattle.std.proofs.Common.{ap, ◌∙◌}
-use Rattle.machine.specs.Fronts.{serve}
-use Rattle.machine.specs.Told.{asked_of}
+use Rattle.machine.specs.ConcreteServing.{serve}
+use Rattle.machine.specs.RequestMeanings.{asked_of}
 use Rattle.machine.specs.Views.{common}
 use Rattle.machine.proofs.common.Common.serve.Goals as goal
 

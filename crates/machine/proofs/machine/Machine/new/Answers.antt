@@ -1,7 +1,7 @@
 -- The parts are those of the opening.
 use Rattle.std.proofs.Common.{◌≡◌, ap, ◌∙◌}
-use Rattle.machine.specs.States.{opening_kept}
-use Rattle.machine.specs.Views.{kept_of, parts_of}
+use Rattle.machine.specs.States.{opening_concrete}
+use Rattle.machine.specs.Views.{concrete_of, parts_of}
 use Rattle.machine.proofs.Stepping.{opens_so}
 use Rattle.machine.proofs.Whole.{opened}
 use Rattle.machine.proofs.machine.Machine.new.Goals as goal
@@ -11,9 +11,9 @@ returns-clause-opening c =
     let v = c.in_ok-new.field-0 in
     let e = c.in_ok-new.ensures in
     let threads = c.in_ok-opening_threads.field-0.items in
-    ap (kept_of v.words v.sleepers threads) e.output ∙ opened c.args.image.now v.words v.sleepers threads e.words e.empty e.awake c.in_ok-opening_threads.ensures.threads
+    ap (concrete_of v.words v.sleepers threads) e.output ∙ opened c.args.image.now v.words v.sleepers threads e.words e.empty e.awake c.in_ok-opening_threads.ensures.threads
 
 pub invariant_of-result : goal.invariant_of-result
 invariant_of-result c =
-    let is : parts_of c.in_ok-new.field-0 c.in_ok-opening_threads.field-0.items ≡ opening_kept c.args.image.now = returns-clause-opening c in
+    let is : parts_of c.in_ok-new.field-0 c.in_ok-opening_threads.field-0.items ≡ opening_concrete c.args.image.now = returns-clause-opening c in
     (rw (c.in_ok-copy.ensures, is) ((opens_so c.args.image.now).1), c.in_ok-opening_threads.ensures.space)

@@ -1,9 +1,9 @@
 -- The log has one entry more.
 use Rattle.std.proofs.Common.{◌≤◌, ◌+◌, ap, sym, subst, ◌∙◌}
 use mir.Val.{bool_byte}
-use Rattle.machine.specs.Views.{kept}
+use Rattle.machine.specs.Views.{concrete}
 use Rattle.runner.specs.Logs.{cost}
-use Rattle.runner.specs.Views.{Stored}
+use Rattle.runner.specs.Views.{SharedView}
 use Rattle.runner.proofs.Growing.{keeps_entry}
 use Rattle.runner.proofs.shared.Shared.go_on.Goals as goal
 
@@ -13,6 +13,6 @@ invariant_of-self-2 g c =
     let m = c.make_room in
     let e = c.take_entry-outcome in
     let limit = g.J.RunName.limit in
-    let room = subst (λ (x : Stored). cost x.log + 257 ≤ limit) (sym c.self.view_is) c.requires.room in
-    keeps_entry g.J.RunName.program s.machine.program m.new.machine.program e.new.machine.program limit (kept s.machine) (kept m.new.machine) (kept e.new.machine) s.log.items m.new.log.items c.push_reserved.new.self.items e.result.0 s.steps s.limit c.from.result
+    let room = subst (λ (x : SharedView). cost x.log + 257 ≤ limit) (sym c.self.view_is) c.requires.room in
+    keeps_entry g.J.RunName.program s.machine.program m.new.machine.program e.new.machine.program limit (concrete s.machine) (concrete m.new.machine) (concrete e.new.machine) s.log.items m.new.log.items c.push_reserved.new.self.items e.result.0 s.steps s.limit c.from.result
     c.self.invariant room m.ensures.program m.ensures.same.0 m.ensures.same.1 e.ensures.program e.ensures.enters e.ensures.turn c.push_reserved.ensures.items (c.from.ensures ∙ ap bool_byte c.is_some.ensures)

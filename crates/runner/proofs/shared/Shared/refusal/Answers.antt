@@ -1,8 +1,8 @@
 use Rattle.std.proofs.Common.{◌≡◌, true, false, is_some, ap, ◌∙◌, sym, subst}
-use Rattle.machine.specs.Fronts.{can_move, fault_at}
-use Rattle.machine.specs.Views.{kept}
+use Rattle.machine.specs.ConcreteSteps.{can_move, fault_at}
+use Rattle.machine.specs.Views.{concrete}
 use Rattle.runner.specs.declared.fault.RunFault.TheVariants.{Limit, Broken}
-use Rattle.runner.specs.Views.{Away, Held, Stored, held}
+use Rattle.runner.specs.Views.{PieceView, LogState, SharedView, log_state}
 use Rattle.runner.specs.Entries.{Refuses, IsFine, Stands}
 use Rattle.runner.proofs.Handing.{past_limit, in_limit}
 use Rattle.runner.proofs.Lives.{refuses_broken, no_fault}
@@ -14,14 +14,14 @@ returns-then-self-piece-clause-some g c =
     let p = g.J.RunName.program in
     let limit = g.J.RunName.limit in
     let v = c.self.invariant in
-    let h : Held = record { log = s.log.items; kept = kept s.machine } in
+    let h : LogState = record { log = s.log.items; concrete = concrete s.machine } in
     let i = c.piece.inside in
-    let a : Away = record { thread = i.thread; origin = i.origin; here = i.here; count = i.count } in
-    let stands : Stands h c.args.t a = subst (λ (x : Away). Stands h c.args.t x) (sym c.piece.view_is) (subst (λ (x : Stored). Stands (held x) c.args.t c.args.piece.now) (sym c.self.view_is) c.if-not-stands.ensures) in
-    let moves : can_move h.kept c.args.t ≡ true = cc in
-    let free : is_some (fault_at s.machine.program h.kept c.args.t a.here) ≡ false = sym (ap is_some c.refusal_at.ensures) ∙ sym c.is_some.ensures ∙ c.if-is_some.false in
-    let none = no_fault (fault_at s.machine.program h.kept c.args.t a.here) free in
-    subst (λ (x : Stored). Refuses p limit (held x) c.args.t c.args.piece.now Limit) c.self.view_is (subst (λ (x : Away). Refuses p limit h c.args.t x Limit) c.piece.view_is (past_limit p s.machine.program limit h a c.args.t s.steps s.limit c.from.result c.is_before_local-shared.result v.program stands moves none c.is_before_local-shared.ensures c.from.ensures v.counted v.limit_is v.within c.if-self-piece.true))
+    let a : PieceView = record { thread = i.thread; origin = i.origin; here = i.here; count = i.count } in
+    let stands : Stands h c.args.t a = subst (λ (x : PieceView). Stands h c.args.t x) (sym c.piece.view_is) (subst (λ (x : SharedView). Stands (log_state x) c.args.t c.args.piece.now) (sym c.self.view_is) c.if-not-stands.ensures) in
+    let moves : can_move h.concrete c.args.t ≡ true = cc in
+    let free : is_some (fault_at s.machine.program h.concrete c.args.t a.here) ≡ false = sym (ap is_some c.refusal_at.ensures) ∙ sym c.is_some.ensures ∙ c.if-is_some.false in
+    let none = no_fault (fault_at s.machine.program h.concrete c.args.t a.here) free in
+    subst (λ (x : SharedView). Refuses p limit (log_state x) c.args.t c.args.piece.now Limit) c.self.view_is (subst (λ (x : PieceView). Refuses p limit h c.args.t x Limit) c.piece.view_is (past_limit p s.machine.program limit h a c.args.t s.steps s.limit c.from.result c.is_before_local-shared.result v.program stands moves none c.is_before_local-shared.ensures c.from.ensures v.counted v.limit_is v.within c.if-self-piece.true))
 
 pub returns-clause-none : goal.returns-clause-none
 returns-clause-none g c =
@@ -29,14 +29,14 @@ returns-clause-none g c =
     let p = g.J.RunName.program in
     let limit = g.J.RunName.limit in
     let v = c.self.invariant in
-    let h : Held = record { log = s.log.items; kept = kept s.machine } in
+    let h : LogState = record { log = s.log.items; concrete = concrete s.machine } in
     let i = c.piece.inside in
-    let a : Away = record { thread = i.thread; origin = i.origin; here = i.here; count = i.count } in
-    let stands : Stands h c.args.t a = subst (λ (x : Away). Stands h c.args.t x) (sym c.piece.view_is) (subst (λ (x : Stored). Stands (held x) c.args.t c.args.piece.now) (sym c.self.view_is) c.if-not-stands.ensures) in
-    let moves : can_move h.kept c.args.t ≡ true = cc in
-    let free : is_some (fault_at s.machine.program h.kept c.args.t a.here) ≡ false = sym (ap is_some c.refusal_at.ensures) ∙ sym c.is_some.ensures ∙ c.if-is_some.false in
-    let none = no_fault (fault_at s.machine.program h.kept c.args.t a.here) free in
-    subst (λ (x : Stored). IsFine p limit (held x) c.args.t c.args.piece.now) c.self.view_is (subst (λ (x : Away). IsFine p limit h c.args.t x) c.piece.view_is (in_limit p s.machine.program limit h a c.args.t s.steps s.limit c.from.result c.is_before_local-shared.result v.program stands moves none c.is_before_local-shared.ensures c.from.ensures v.counted v.limit_is v.within c.if-self-piece.false))
+    let a : PieceView = record { thread = i.thread; origin = i.origin; here = i.here; count = i.count } in
+    let stands : Stands h c.args.t a = subst (λ (x : PieceView). Stands h c.args.t x) (sym c.piece.view_is) (subst (λ (x : SharedView). Stands (log_state x) c.args.t c.args.piece.now) (sym c.self.view_is) c.if-not-stands.ensures) in
+    let moves : can_move h.concrete c.args.t ≡ true = cc in
+    let free : is_some (fault_at s.machine.program h.concrete c.args.t a.here) ≡ false = sym (ap is_some c.refusal_at.ensures) ∙ sym c.is_some.ensures ∙ c.if-is_some.false in
+    let none = no_fault (fault_at s.machine.program h.concrete c.args.t a.here) free in
+    subst (λ (x : SharedView). IsFine p limit (log_state x) c.args.t c.args.piece.now) c.self.view_is (subst (λ (x : PieceView). IsFine p limit h c.args.t x) c.piece.view_is (in_limit p s.machine.program limit h a c.args.t s.steps s.limit c.from.result c.is_before_local-shared.result v.program stands moves none c.is_before_local-shared.ensures c.from.ensures v.counted v.limit_is v.within c.if-self-piece.false))
 
 pub returns-then-is_some-clause-some : goal.returns-then-is_some-clause-some
 returns-then-is_some-clause-some g c =
@@ -44,10 +44,10 @@ returns-then-is_some-clause-some g c =
     let p = g.J.RunName.program in
     let limit = g.J.RunName.limit in
     let v = c.self.invariant in
-    let h : Held = record { log = s.log.items; kept = kept s.machine } in
+    let h : LogState = record { log = s.log.items; concrete = concrete s.machine } in
     let i = c.piece.inside in
-    let a : Away = record { thread = i.thread; origin = i.origin; here = i.here; count = i.count } in
-    let stands : Stands h c.args.t a = subst (λ (x : Away). Stands h c.args.t x) (sym c.piece.view_is) (subst (λ (x : Stored). Stands (held x) c.args.t c.args.piece.now) (sym c.self.view_is) c.if-not-stands.ensures) in
-    let moves : can_move h.kept c.args.t ≡ true = cc in
-    let fault : is_some (fault_at s.machine.program h.kept c.args.t a.here) ≡ true = sym (ap is_some c.refusal_at.ensures) ∙ sym c.is_some.ensures ∙ c.if-is_some.true in
-    subst (λ (x : Stored). Refuses p limit (held x) c.args.t c.args.piece.now Broken) c.self.view_is (subst (λ (x : Away). Refuses p limit h c.args.t x Broken) c.piece.view_is (refuses_broken p s.machine.program limit h a c.args.t v.program stands moves c.piece.invariant.0 fault))
+    let a : PieceView = record { thread = i.thread; origin = i.origin; here = i.here; count = i.count } in
+    let stands : Stands h c.args.t a = subst (λ (x : PieceView). Stands h c.args.t x) (sym c.piece.view_is) (subst (λ (x : SharedView). Stands (log_state x) c.args.t c.args.piece.now) (sym c.self.view_is) c.if-not-stands.ensures) in
+    let moves : can_move h.concrete c.args.t ≡ true = cc in
+    let fault : is_some (fault_at s.machine.program h.concrete c.args.t a.here) ≡ true = sym (ap is_some c.refusal_at.ensures) ∙ sym c.is_some.ensures ∙ c.if-is_some.true in
+    subst (λ (x : SharedView). Refuses p limit (log_state x) c.args.t c.args.piece.now Broken) c.self.view_is (subst (λ (x : PieceView). Refuses p limit h c.args.t x Broken) c.piece.view_is (refuses_broken p s.machine.program limit h a c.args.t v.program stands moves c.piece.invariant.0 fault))

@@ -1,7 +1,7 @@
 use Rattle.std.proofs.Common.{sym, subst, ap, ◌∙◌}
 use mir.Val.{bool_byte}
-use Rattle.machine.specs.Views.{kept}
-use Rattle.runner.specs.Views.{Away, Held, Stored, held}
+use Rattle.machine.specs.Views.{concrete}
+use Rattle.runner.specs.Views.{PieceView, LogState, SharedView, log_state}
 use Rattle.runner.specs.Entries.{IsFine}
 use Rattle.runner.proofs.Growing.{keeps}
 use Rattle.runner.proofs.shared.Shared.step.Goals as goal
@@ -11,9 +11,9 @@ invariant_of-self-2 g c =
     let s = c.self.inside in
     let p = g.J.RunName.program in
     let limit = g.J.RunName.limit in
-    let h : Held = record { log = s.log.items; kept = kept s.machine } in
+    let h : LogState = record { log = s.log.items; concrete = concrete s.machine } in
     let i = c.piece.inside in
-    let a : Away = record { thread = i.thread; origin = i.origin; here = i.here; count = i.count } in
-    let fine : IsFine p limit h c.args.t a = subst (λ (x : Away). IsFine p limit h c.args.t x) (sym c.piece.view_is) (subst (λ (x : Stored). IsFine p limit (held x) c.args.t c.args.piece) (sym c.self.view_is) c.in_default.ensures.none) in
-    keeps p s.machine.program c.enter.new.machine.program limit h c.enter.new.log.items (kept c.enter.new.machine) a c.args.t s.steps s.limit c.from.result c.in-Ok.event
+    let a : PieceView = record { thread = i.thread; origin = i.origin; here = i.here; count = i.count } in
+    let fine : IsFine p limit h c.args.t a = subst (λ (x : PieceView). IsFine p limit h c.args.t x) (sym c.piece.view_is) (subst (λ (x : SharedView). IsFine p limit (log_state x) c.args.t c.args.piece) (sym c.self.view_is) c.in_default.ensures.none) in
+    keeps p s.machine.program c.enter.new.machine.program limit h c.enter.new.log.items (concrete c.enter.new.machine) a c.args.t s.steps s.limit c.from.result c.in-Ok.event
     c.in-Ok.ensures.program c.self.invariant c.piece.invariant.0 fine c.in-Ok.ensures.gives c.in-Ok.ensures.log (c.from.ensures ∙ ap bool_byte c.is_some.ensures)

@@ -13,7 +13,7 @@ use Rattle.machine.specs.declared.event.EventName.{EventName}
 use Rattle.machine.specs.declared.event.EventName.TheVariants as name
 use Rattle.machine.specs.declared.event.StepFault.{StepFault}
 use Rattle.machine.specs.States.{Common}
-use Rattle.machine.specs.Fronts.{Served}
+use Rattle.machine.specs.ConcreteServing.{Served}
 
 -- the request that the code tells so; a fork's operands stay with its thread
 abbrev pub asked_of : Told → Request
@@ -43,9 +43,9 @@ StepMakesNone (next.Shared request) = MakesNone request
 StepMakesNone step = Unit {0}
 
 -- what the code gave, with what is shared after it
-abbrev pub given : Result Given StepFault → Common → Result Served StepFault
-given (Ok g) c = Ok (record { answer = g.answer; common = c; child = None; event = g.event })
-given (Err fault) c = Err fault
+abbrev pub with_common : Result Given StepFault → Common → Result Served StepFault
+with_common (Ok g) c = Ok (record { answer = g.answer; common = c; child = None; event = g.event })
+with_common (Err fault) c = Err fault
 
 -- how a step of an exit is told, and the address that it names, or 0
 abbrev pub name_at : ExitPhase → EventName

@@ -1,0 +1,74 @@
+-- The machine's own step of a thread, which is determined.
+use Rattle.std.specs.Prelude.{ℕ, ◌+◌, ◌-◌, ◌++◌, ◌||◌, [], ◌∷◌, List, length, Bool, false, not, is_some, slice_set, Option, Some, None, Result, Ok, Err}
+use Rattle.isa.specs.Programs.{Program}
+use Rattle.locals.specs.Threads.{Thread, Exits}
+use Rattle.locals.specs.Looks.{Look, Goes, Asks, Leaves, Breaks, Rests, look}
+use Rattle.machine.specs.declared.event.Event.{Event}
+use Rattle.machine.specs.declared.event.EventName.TheVariants as name
+use Rattle.machine.specs.declared.event.StepFault.{StepFault}
+use Rattle.machine.specs.declared.event.StepFault.TheVariants.{CannotMove, Broken}
+use Rattle.machine.specs.States.{Common, ConcreteState, thread_of}
+use Rattle.machine.specs.Runs.{has_ended}
+use Rattle.machine.specs.ConcreteServing.{Served, plain, serve}
+use Rattle.machine.specs.ConcreteExits.{leave}
+
+-- what comes of a step of one thread: what is shared after it, the thread, the thread that it made, and the event
+pub record Stepped : Type 0 where
+  pub common : Common
+  pub thread : Thread
+  pub child : Option Thread
+  pub event : Event
+
+abbrev pub go_on_with : (ℕ → Thread) → Result Served StepFault → Result Stepped StepFault
+go_on_with go (Ok r) = Ok (record { common = r.common; thread = go r.answer; child = r.child; event = r.event })
+go_on_with go (Err fault) = Err fault
+
+-- a step of one thread on what it touches, where so many threads were made
+abbrev pub thread_step : ℕ → ℕ → Common → Look → Result Stepped StepFault
+thread_step made t c (Goes x) = Ok (record { common = c; thread = x; child = None; event = plain name.Turn 0 })
+thread_step made t c (Asks request go) = go_on_with go (serve made t request c)
+thread_step made t c (Leaves phase) =
+    let r = leave t phase c in Ok (record { common = r.common; thread = Exits r.next; child = None; event = r.event })
+thread_step made t c Breaks = Err Broken
+thread_step made t c Rests = Err CannotMove
+
+abbrev pub with_new : List Thread → Option Thread → List Thread
+with_new threads None = threads
+with_new threads (Some child) = threads ++ child ∷ []
+
+abbrev pub on_machine : ConcreteState → ℕ → Result Stepped StepFault → Result (ConcreteState × Event) StepFault
+on_machine k t (Ok r) =
+    Ok (record { common = r.common; threads = with_new (slice_set k.threads (t - 1) r.thread) r.child }, r.event)
+on_machine k t (Err fault) = Err fault
+
+-- a thread that sleeps can't move
+abbrev pub step_awake : Program → ConcreteState → ℕ → Thread → Option ℕ → Result (ConcreteState × Event) StepFault
+step_awake p k t x None = on_machine k t (thread_step (length k.threads) t k.common (look p t x))
+step_awake p k t x (Some a) = Err CannotMove
+
+abbrev pub step_thread : Program → ConcreteState → ℕ → Option Thread → Result (ConcreteState × Event) StepFault
+step_thread p k t None = Err CannotMove
+step_thread p k t (Some x) = step_awake p k t x (k.common.asleep t)
+
+-- one step of a thread
+abbrev pub step_of : Program → ConcreteState → ℕ → Result (ConcreteState × Event) StepFault
+step_of p k t = step_thread p k t (thread_of k t)
+
+-- a thread that was made can move unless it sleeps or has ended
+abbrev pub thread_can_move : Option ℕ → Option Thread → Bool
+thread_can_move place None = false
+thread_can_move place (Some x) = not (is_some place || has_ended (Some x))
+
+abbrev pub can_move : ConcreteState → ℕ → Bool
+can_move k t = thread_can_move (k.common.asleep t) (thread_of k t)
+
+abbrev pub put_thread : ConcreteState → ℕ → Thread → ConcreteState
+put_thread k t x = record { common = k.common; threads = slice_set k.threads (t - 1) x }
+
+abbrev pub fault_of : {A : Type 0} → Result A StepFault → Option StepFault
+fault_of (Ok r) = None
+fault_of (Err fault) = Some fault
+
+-- what the step of a thread that is awake would be refused for after it went on to x
+abbrev pub fault_at : Program → ConcreteState → ℕ → Thread → Option StepFault
+fault_at p k t x = fault_of (thread_step (length k.threads) t k.common (look p t x))
