@@ -54,7 +54,8 @@ enters places rows s i p l free =
       found = λ t a h e. list_any-append (λ y. eqb t y.thread) (get_or rows k []) (s ∷ []) ∙ elim
           (cases_eq t s.thread) [
             | inl q ↦ or_right _ _ (or_left (eqb t s.thread) false (eq-eqb t s.thread q))
-            | inr o ↦ or_left _ _ (rw e at (i.found t a (sym (get_or-set_other places s.thread t (Some s.address) None o)
+            | inr o ↦ or_left _ _ (rw e at (i.found t a
+                (sym (get_or-set_other places s.thread t (Some s.address) None o)
                 ∙ h)))
           ];
     }

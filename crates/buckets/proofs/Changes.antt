@@ -58,5 +58,6 @@ on-replaced places places' rows k row i i' l b ys here there =
     let n : length (set rows k row) ≡ length rows = length-set rows k row in
     on-concatenation places' (set rows k row) i' b ∙ rw n (elim (cases_eq (b % length rows) k) [
       | inl e ↦ rw (e, get_or-set_same rows k row [] l) (here e)
-      | inr ne ↦ rw (get_or-set_other rows k (b % length rows) row [] ne) (sym (on-concatenation places rows i b) ∙ there ne)
+      | inr ne ↦ rw (get_or-set_other rows k (b % length rows) row [] ne)
+          (sym (on-concatenation places rows i b) ∙ there ne)
     ])

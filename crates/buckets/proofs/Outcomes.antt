@@ -298,7 +298,8 @@ empty_joined (v ∷ vs) none = rw (
 ) refl
 
 pub opened : (places : List (Option Addr)) (lists : List (Vec Sleeper Global)) (threads : ℕ) → places ≡ replicate
-    (threads + 1) nobody_at → threads ≤ most_processes → 1 ≤ length lists → All (λ v. v.items ≡ []) lists → IsConsistent places
+    (threads + 1) nobody_at → threads ≤ most_processes → 1 ≤ length lists → All (λ v. v.items ≡ []) lists
+    → IsConsistent places
     (rows lists)
 opened places lists threads e few some none =
     let awake : (t : ℕ) → get_or places t None ≡ None = λ t. rw e (awake_all (threads + 1) t) in

@@ -28,7 +28,8 @@ on-joined_at b zero (row ∷ rows) away l =
       none : (rest : List (List Sleeper)) → ((j : ℕ) → j < length rest → on b (get_or rest j []) ≡ []) → on b
           (concatenation rest) ≡ []
       none [] out = refl
-      none (r ∷ rest) out = filter_map-append (thread_on b) r (concatenation rest) ∙ ap (λ x. x ++ on b (concatenation rest))
+      none (r ∷ rest) out = filter_map-append (thread_on b) r (concatenation rest)
+          ∙ ap (λ x. x ++ on b (concatenation rest))
           (out 0 (omega arith)) ∙ none rest (λ j h. out (suc j) (omega arith))
 on-joined_at b (suc k) (row ∷ rows) away l =
     filter_map-append (thread_on b) row (concatenation rows) ∙ ap (λ x. x ++ on b (concatenation rows))

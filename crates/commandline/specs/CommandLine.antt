@@ -1,6 +1,6 @@
 -- The commands of the program, and which job the words of a command line ask for. How words are read as a command's
 -- arguments is the definition of the crate clap (`App`, `subcommand_of`).
-use Rattle.std.specs.Prelude.{◌≡◌, ℕ, Bool, true, false, List, [], ◌∷◌, Option, Some, None, ◌⊎◌, codes}
+use Rattle.std.specs.Prelude.{◌≡◌, ◌<◌, ◌^◌, ℕ, Bool, true, false, List, [], ◌∷◌, Option, Some, None, ◌⊎◌, codes}
 use Rattle.std.specs.Str.Parse.{IsNumeral, digits_value, without_leading_plus}
 use Rattle.clap.specs.Words.{App, Row, Rule, Text, first_of, new_app, new_rule, one_of, with_rule, with_subcommand}
 use Rattle.clap.specs.Words.{subcommand_of}
@@ -40,7 +40,7 @@ run_command =
 abbrev pub ReadsSteps : List Row → ℕ → Type 0
 ReadsSteps rows steps =
     (t : Text) × (one_of (codes "steps") rows ≡ Some t) × IsNumeral 10 (without_leading_plus t)
-    × (steps ≡ digits_value 10 (without_leading_plus t))
+    × (steps ≡ digits_value 10 (without_leading_plus t)) × (steps < 2 ^ 32)
 
 -- whether `--trace` stands
 abbrev pub ReadsTrace : List Row → Bool → Type 0

@@ -1,3 +1,6 @@
+ghost use Rattle.std.specs.Prelude.{◌≡◌};
+ghost use Rattle.clap.specs.Words.{kind_of};
+
 use clap::Error;
 use clap::error::ErrorKind;
 use std::alloc::{AllocError, Global};
@@ -15,7 +18,9 @@ pub enum WordsFault {
 
 impl WordsFault {
     // What the command line's parser says.
-    pub(crate) fn of_error(alloc: Global, error: &Error) -> WordsFault {
+    pub(crate) fn of_error(alloc: Global, error: &Error) -> WordsFault
+        ensures { kind_of error.now ≡ ErrorKind.OutOfMemory → result ≡ WordsFault.Memory }
+    {
         if error.kind() == ErrorKind::OutOfMemory {
             return WordsFault::Memory;
         }

@@ -1,7 +1,8 @@
-ghost use Rattle.std.specs.Prelude.{IfOk, IfSome, map, Some, ◌≡◌};
-ghost use Rattle.clap.specs.Words.{found_of, subcommand_rows_of};
+ghost use Rattle.std.specs.Prelude.{IfOk, IfErr, IfSome, None, true, map, ◌≡◌};
+ghost use Rattle.clap.specs.Words.{found_of, kind_of, subcommand_rows_of, takes};
 ghost use Rattle.clap.specs.Walk.{rows_of};
-ghost use Rattle.commandline.specs.CommandLine.{AsksFor, IsAskedBy, IsCompileOf, IsRunOf};
+ghost use Rattle.commandline.specs.CommandLine.{AsksFor, IsAskedBy, IsCompileOf, IsRunOf, command_line};
+ghost use Rattle.commandline.specs.declared.job.Job.{Job as JobOf};
 
 use crate::builder::command;
 use crate::fault::WordsFault;
@@ -32,15 +33,19 @@ pub enum Job<'a> {
 
 /// The job that the words of a command line ask for, those after the program's name.
 ///
-/// When words ask for none is not said: rows of whole commands show it.
+/// Words that are taken and ask for a job are refused for want of memory alone.
 pub fn read_job<'a>(alloc: Global, words: &'a [&'a str]) -> Result<Job<'a>, WordsFault>
-    ensures { IfOk result (AsksFor (map (λ w. w.now) words.now)) }
+    ensures job { IfOk result (AsksFor (map (λ w. w.now) words.now)) }
+    ensures only { (job : JobOf) → takes command_line (map (λ w. w.now) words.now) ≡ true
+        → AsksFor (map (λ w. w.now) words.now) job → IfErr result (λ e. e ≡ WordsFault.Memory) }
 {
     parse(alloc, words).map_err(|error| WordsFault::of_error(alloc, &error))
 }
 
 fn parse<'a>(alloc: Global, words: &'a [&'a str]) -> Result<Job<'a>, Error>
-    ensures { IfOk result (AsksFor (map (λ w. w.now) words.now)) }
+    ensures job { IfOk result (AsksFor (map (λ w. w.now) words.now)) }
+    ensures only { (job : JobOf) → takes command_line (map (λ w. w.now) words.now) ≡ true
+        → AsksFor (map (λ w. w.now) words.now) job → IfErr result (λ e. kind_of e ≡ ErrorKind.OutOfMemory) }
 {
     let mut command = command(alloc)?;
     let matches = command.try_get_matches_from_mut(words)?;
@@ -52,7 +57,8 @@ fn parse<'a>(alloc: Global, words: &'a [&'a str]) -> Result<Job<'a>, Error>
 
 // What the matches ask for. A command that was met has its arguments.
 fn job_of<'a>(matches: &ArgMatches<'a>) -> Option<Job<'a>>
-    ensures { IfSome result (IsAskedBy (subcommand_rows_of matches.now)) }
+    ensures job { IfSome result (IsAskedBy (subcommand_rows_of matches.now)) }
+    ensures none { result ≡ None → (job : JobOf) → IsAskedBy (subcommand_rows_of matches.now) job → ⊥ }
 {
     let (name, inner) = matches.subcommand()?;
     match name {
@@ -63,7 +69,8 @@ fn job_of<'a>(matches: &ArgMatches<'a>) -> Option<Job<'a>>
 }
 
 fn compile_of<'a>(matches: &ArgMatches<'a>) -> Option<Job<'a>>
-    ensures { IfSome result (IsCompileOf (rows_of (found_of matches.now))) }
+    ensures job { IfSome result (IsCompileOf (rows_of (found_of matches.now))) }
+    ensures none { result ≡ None → (job : JobOf) → IsCompileOf (rows_of (found_of matches.now)) job → ⊥ }
 {
     let file = matches.get_str("FILE")?;
     let out = matches.get_str("OUT")?;
@@ -71,7 +78,8 @@ fn compile_of<'a>(matches: &ArgMatches<'a>) -> Option<Job<'a>>
 }
 
 fn run_of<'a>(matches: &ArgMatches<'a>) -> Option<Job<'a>>
-    ensures { IfSome result (IsRunOf (rows_of (found_of matches.now))) }
+    ensures job { IfSome result (IsRunOf (rows_of (found_of matches.now))) }
+    ensures none { result ≡ None → (job : JobOf) → IsRunOf (rows_of (found_of matches.now)) job → ⊥ }
 {
     let file = matches.get_str("FILE")?;
     let steps = matches.get_one::<u32>("steps")?;

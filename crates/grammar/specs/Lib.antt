@@ -1,3 +1,10 @@
+pub mod Symbols
+pub mod Codes
+pub mod ExpressionStack
+pub mod ExpressionReplies
+pub mod StatementReplies
+pub mod DeclarationReplies
+pub mod Replies
 pub mod Machine
 pub mod Reading
 pub mod Accepts

@@ -28,6 +28,18 @@ impl Model for Layers {
     ghost invariant = { λ l. (length l.mem ≡ 512) × (thread_count l.buckets ≡ 64) };
 }
 
+// The numbers of a call.
+fn numbers(alloc: Global, text: &str) -> Result<Vec<u32>, Failure> {
+    let mut numbers = Vec::new(alloc);
+    for word in text.split_whitespace() {
+        match word.parse::<u32>() {
+            Ok(number) => numbers.push(number)?,
+            Err(_) => return Err(Failure::Row),
+        }
+    }
+    Ok(numbers)
+}
+
 impl Layers {
     /// Words of 0, and nobody asleep, in so many buckets.
     pub fn new(alloc: Global, buckets: u32) -> Result<Layers, Failure> {
@@ -40,9 +52,10 @@ impl Layers {
         })
     }
 
-    /// The call of this name with these numbers.
-    pub fn call(&mut self, alloc: Global, name: &str, numbers: &[u32]) -> Result<Answer, Failure> {
-        match numbers {
+    /// The call of this name with the numbers of a text.
+    pub fn call(&mut self, alloc: Global, name: &str, text: &str) -> Result<Answer, Failure> {
+        let numbers = numbers(alloc, text)?;
+        match numbers.as_slice() {
             [a] => self.call_one(alloc, name, *a),
             [a, b] => self.call_two(name, *a, *b),
             [a, b, c] => self.call_three(name, *a, *b, *c),

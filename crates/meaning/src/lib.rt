@@ -1,3 +1,7 @@
 //! The meaning of source programs (Lampson and Redell, "Experience with Processes and Monitors in Mesa", 1980): states,
 //! actions and runs, as definitions, with their laws.
 #![tactic(auto)]
+
+mod laws;
+
+pub use laws::{end_laws, run_laws, wait_laws};

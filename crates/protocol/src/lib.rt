@@ -1,11 +1,14 @@
-// A protocol of locks and conditions over every schedule, with kills.
+//! The protocol of locks, conditions, joins and exits, at the grain of shared steps: what threads do to shared words and
+//! sleepers keeps the table of monitors, conditions and processes, and loses no wake.
 #![tactic(auto)]
 
-ghost use Rattle.std.specs.Prelude.{◌≡◌, ℕ, List, Option, None};
-ghost use Rattle.protocol.specs.World.{World, Mon, Status, Action, Move, Runs, SourceRuns, Calm, NoneLost, start, all_free, all_going};
+ghost use Rattle.std.specs.Prelude.{ℕ, List};
+ghost use Rattle.protocol.specs.World.{World, opening_world};
+ghost use Rattle.protocol.specs.Moves.{Move};
+ghost use Rattle.protocol.specs.Runs.{Leads, IsExplained};
 
-/// Every schedule is explained by a run of the source, and no wake is lost.
+/// Each run of moves is explained by the source: the labels that it carries, in order, are allowed one after another, to a
+/// table that is that of the last world, in which no wake was lost.
 pub fn no_wake_lost()
-    ensures { (home : ℕ → ℕ) (ss : List (ℕ × Move)) (w : World) → Runs (start home) ss w → (acts : List Action) × (mon : ℕ → Mon) × (st : ℕ → Status) × SourceRuns home all_free all_going acts mon st × (((t : ℕ) → w.asleep t ≡ None → Calm (w.at t).point (w.pending t)) → NoneLost w mon st) }
-{
-}
+    ensures { (ss : List (ℕ × Move)) (w : World) → Leads opening_world ss w → IsExplained ss w }
+{}

@@ -1,7 +1,12 @@
 pub mod Limits
 pub mod Lexeme
 pub mod Tree
+pub mod ExpressionSpelling
+pub mod StatementSpelling
 pub mod Spelling
 pub mod Nesting
+pub mod ExpressionView
+pub mod StatementView
+pub mod VecView
 pub mod View
 pub mod Whole

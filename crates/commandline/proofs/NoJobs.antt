@@ -1,0 +1,28 @@
+-- Where a value is missing, no job is asked for.
+use Rattle.std.proofs.Common.{◌≡◌, ◌<◌, ◌^◌, ◌⊎◌, inl, inr, ℕ, List, None, Some, codes}
+use Rattle.std.specs.Str.Parse.{IsNumeral, digits_value, without_leading_plus}
+use Rattle.clap.specs.Words.{Row, Text, first_of, one_of}
+use Rattle.commandline.specs.CommandLine.{IsCompileOf, IsRunOf}
+use Rattle.commandline.specs.declared.job.Job.{Job}
+use Rattle.commandline.specs.declared.job.Job.TheVariants.{Compile, Run}
+use Rattle.commandline.proofs.Numbers.{no_value}
+
+pub no_compile : (rows : List Row) (job : Job)
+    → (first_of (codes "FILE") rows ≡ None) ⊎ (first_of (codes "OUT") rows ≡ None) → IsCompileOf rows job → ⊥
+no_compile rows (Compile file out) (inl none) h = no_value _ _ none h.0
+no_compile rows (Compile file out) (inr none) h = no_value _ _ none h.1
+no_compile rows (Run file steps trace) missing h = h
+
+-- no number of 32 bits stands for `--steps`
+abbrev pub NoSteps : List Row → Type 0
+NoSteps rows =
+    (t : Text) (n : ℕ) → one_of (codes "steps") rows ≡ Some t → IsNumeral 10 (without_leading_plus t)
+    → n ≡ digits_value 10 (without_leading_plus t) → n < 2 ^ 32 → ⊥
+
+pub no_run : (rows : List Row) (job : Job) → (first_of (codes "FILE") rows ≡ None) ⊎ NoSteps rows → IsRunOf rows job
+    → ⊥
+no_run rows (Compile file out) missing h = h
+no_run rows (Run file steps trace) (inl none) h = no_value _ _ none h.0
+no_run rows (Run file steps trace) (inr none) h =
+    let s = h.1 in
+    none s.0 steps s.1 s.2 s.3 s.4

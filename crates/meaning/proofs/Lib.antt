@@ -1,0 +1,5 @@
+pub mod Offered
+pub mod Unique
+pub mod Waits
+pub mod Led
+pub mod Ends

@@ -1,0 +1,134 @@
+-- The labels of the source that moves carry, and what they make of the source's table.
+use Rattle.std.specs.Prelude.{◌≡◌, ℕ, zero, suc, ◌+◌, ◌==◌, ◌&&◌, not, Bool, true, false, Option, Some, None, List, [], ◌∷◌}
+use Rattle.words.specs.Updates.{put}
+use Rattle.program.specs.declared.kinds.Member.{Member}
+use Rattle.meaning.specs.Labels.{End, Kind, Label, Alone, Stores, Forks, FindsFull, Claims, FindsClaimed, Joins, Enters, Resumes, Exits, Waits, Notifies, Broadcasts, Abandons, Ends}
+use Rattle.meaning.specs.Labels as L
+use Rattle.meaning.specs.Table.{Table, Free, Abandoned, HeldBy, without_waiters, Allows, AllowsStray, AllowsKill}
+use Rattle.protocol.specs.Word.{died}
+use Rattle.protocol.specs.Points.{Purpose, ToEnter, ToReenter, ToResume, Release, ToExit, ToWait, Spot, OnLock, OnSequence, OnId, Point, NotifyWakes, BroadcastMarks, BroadcastReads, BroadcastMoves}
+use Rattle.protocol.specs.World.{World, same_member, awakened, requeued_sleep}
+use Rattle.protocol.specs.Moves.{Move, Own, Raise, CasGot, FreeGot, SwapWake, SwapAlone, WakeSeq, MoveAll, EntryAlone, EntryWake, PendAlone, PendWake, ClearId, Fork, ForkFull, Claim, ClaimTaken, IdGone, StraySeq, Kill}
+
+-- what a move is in the source: an action of a process, or one from outside
+pub data Event : Type 0 where
+  Acts : (process : ℕ) → Label → Event
+  Strays : (process : ℕ) (condition : Member) → Event
+  Kills : (process : ℕ) (notified : Option Member) (resumed : List ℕ) → Event
+
+abbrev pub on_sequence : Member → Option Spot → Bool
+on_sequence c None = false
+on_sequence c (Some (OnLock m)) = false
+on_sequence c (Some (OnSequence d)) = same_member d c
+on_sequence c (Some (OnId q)) = false
+
+abbrev pub waits_on : Member → Option Member → Bool
+waits_on c None = false
+waits_on c (Some d) = same_member d c
+
+-- who waits on the condition and isn't asleep on its word
+abbrev pub is_resumed : Member → (ℕ → Option Spot) → (ℕ → Option Member) → ℕ → Bool
+is_resumed c asleep waits u = waits_on c (waits u) && not (on_sequence c (asleep u))
+
+abbrev pub with_number : Bool → ℕ → List ℕ → List ℕ
+with_number true u us = u ∷ us
+with_number false u us = us
+
+-- the numbers from k on, n of them, of which a test holds
+abbrev pub chosen_from : (ℕ → Bool) → (n k : ℕ) → List ℕ
+chosen_from test zero k = []
+chosen_from test (suc n) k = with_number (test k) k (chosen_from test n (suc k))
+
+-- the processes that a notify, a broadcast or the death of a notifier resumes: those who wait and no longer sleep
+abbrev pub resumed_by : World → Table → Member → (ℕ → Option Spot) → List ℕ
+resumed_by w T c asleep = chosen_from (is_resumed c asleep T.waits) w.made 1
+
+abbrev pub has_died : ℕ → Bool
+has_died v = not (died v == 0)
+
+abbrev pub taking_label : Purpose → ℕ → Bool → Label
+taking_label ToEnter m was_abandoned = Enters m was_abandoned
+taking_label ToReenter m was_abandoned = Enters m was_abandoned
+taking_label (ToResume c) m was_abandoned = Resumes m was_abandoned
+
+abbrev pub release_label : Release → ℕ → Label
+release_label ToExit m = Exits m
+release_label (ToWait c s) m = Waits c
+
+-- a killed thread that has raised the sequence number and not yet woken resumes those who don't sleep any more
+abbrev pub death : World → Table → ℕ → Point → Event
+death w T t (NotifyWakes c) = Kills t (Some c) (resumed_by w T c (put w.asleep t None))
+death w T t (BroadcastMarks c) = Kills t (Some c) (resumed_by w T c (put w.asleep t None))
+death w T t (BroadcastReads c) = Kills t (Some c) (resumed_by w T c (put w.asleep t None))
+death w T t (BroadcastMoves c s) = Kills t (Some c) (resumed_by w T c (put w.asleep t None))
+death w T t p = Kills t None []
+
+-- what a move carries
+abbrev pub carried : World → Table → ℕ → Move → Option Event
+carried w T t (Own l) = Some (Acts t l)
+carried w T t (Raise fault) = Some (Acts t (Alone (L.Fails fault)))
+carried w T t (CasGot m) = Some (Acts t (Enters m false))
+carried w T t (FreeGot m v k) = Some (Acts t (taking_label k m (has_died v)))
+carried w T t (SwapWake m r) = Some (Acts t (release_label r m))
+carried w T t (SwapAlone m r) = Some (Acts t (release_label r m))
+carried w T t (WakeSeq c woken) = Some (Acts t (Notifies c (resumed_by w T c (awakened w.asleep woken))))
+carried w T t (MoveAll c s) = Some (Acts t (Broadcasts c (resumed_by w T c (requeued_sleep w.asleep c))))
+carried w T t (EntryAlone m x end) = Some (Acts t (Abandons m))
+carried w T t (EntryWake m x end woken) = Some (Acts t (Abandons m))
+carried w T t (PendAlone m end) = Some (Acts t (Abandons m))
+carried w T t (PendWake m end woken) = Some (Acts t (Abandons m))
+carried w T t (ClearId end) = Some (Acts t (Ends end))
+carried w T t (Fork parent) = Some (Acts parent (Forks t))
+carried w T t ForkFull = Some (Acts t FindsFull)
+carried w T t (Claim q) = Some (Acts t (Claims q))
+carried w T t (ClaimTaken q) = Some (Acts t (FindsClaimed q))
+carried w T t (IdGone q end) = Some (Acts t (Joins q end))
+carried w T t (StraySeq c p) = Some (Strays t c)
+carried w T t (Kill p) = Some (death w T t p)
+carried w T t m = None
+
+-- the source allows an event, which leads from one table to another
+abbrev pub Permits : Event → Table → Table → Type 0
+Permits (Acts p l) T T' = Allows p l T T'
+Permits (Strays p c) T T' = AllowsStray p c T T'
+Permits (Kills p notified resumed) T T' = AllowsKill p notified resumed T T'
+
+-- who waits after a release, and after a kill
+abbrev pub released_waits : Release → ℕ → (ℕ → Option Member) → ℕ → Option Member
+released_waits ToExit t waits = waits
+released_waits (ToWait c s) t waits = put waits t (Some c)
+
+abbrev pub killed_waits : World → Table → ℕ → Point → ℕ → Option Member
+killed_waits w T t (NotifyWakes c) = put (without_waiters (resumed_by w T c (put w.asleep t None)) T.waits) t None
+killed_waits w T t (BroadcastMarks c) = put (without_waiters (resumed_by w T c (put w.asleep t None)) T.waits) t None
+killed_waits w T t (BroadcastReads c) = put (without_waiters (resumed_by w T c (put w.asleep t None)) T.waits) t None
+killed_waits w T t (BroadcastMoves c s) = put (without_waiters (resumed_by w T c (put w.asleep t None)) T.waits) t None
+killed_waits w T t p = put T.waits t None
+
+-- the table after a move
+abbrev pub table_after : World → Table → ℕ → Move → Table
+table_after w T t (CasGot m) = record T { hold = put T.hold m (HeldBy t) }
+table_after w T t (FreeGot m v k) = record T { hold = put T.hold m (HeldBy t) }
+table_after w T t (SwapWake m r) = record T { hold = put T.hold m Free; waits = released_waits r t T.waits }
+table_after w T t (SwapAlone m r) = record T { hold = put T.hold m Free; waits = released_waits r t T.waits }
+table_after w T t (WakeSeq c woken) = record T { waits = without_waiters (resumed_by w T c (awakened w.asleep woken)) T.waits }
+table_after w T t (MoveAll c s) = record T { waits = without_waiters (resumed_by w T c (requeued_sleep w.asleep c)) T.waits }
+table_after w T t (EntryAlone m x end) = record T { hold = put T.hold m Abandoned }
+table_after w T t (EntryWake m x end woken) = record T { hold = put T.hold m Abandoned }
+table_after w T t (PendAlone m end) = record T { hold = put T.hold m Abandoned }
+table_after w T t (PendWake m end woken) = record T { hold = put T.hold m Abandoned }
+table_after w T t (ClearId end) = record T { over = put T.over t (Some end) }
+table_after w T t (Fork parent) = record T { made = T.made + 1 }
+table_after w T t (Claim q) = record T { claimed = put T.claimed q true }
+table_after w T t (StraySeq c p) = record T { waits = put T.waits t None }
+table_after w T t (Kill p) = record T { waits = killed_waits w T t p }
+table_after w T t m = T
+
+-- the source allows what a move carries
+abbrev pub PermitsMove : Option Event → Table → Table → Type 0
+PermitsMove None T T' = T' ≡ T
+PermitsMove (Some e) T T' = Permits e T T'
+
+abbrev pub with_event : Option Event → List Event → List Event
+with_event None es = es
+with_event (Some e) es = e ∷ es

@@ -1,0 +1,180 @@
+-- What each move finds in the world, and what it makes of it.
+use Rattle.std.specs.Prelude.{◌≡◌, ◌≢◌, ℕ, suc, ◌+◌, ◌<◌, ◌≤◌, true, false, Option, Some, None, List, [], ◌∷◌, ◌⊎◌}
+use Rattle.words.specs.Updates.{put}
+use Rattle.words.specs.Limits.{most_processes}
+use Rattle.words.specs.Outcomes.{fault_number}
+use Rattle.words.specs.Signed.{signed_of}
+use Rattle.words.specs.declared.outcome.Fault.TheVariants.{HandleNotJoinable, ProcessTableFull}
+use Rattle.meaning.specs.Labels.{Cause, Faulted, Killed, End, Ended, Aborted, Label, Alone, Stores}
+use Rattle.protocol.specs.Word.{owner, waiters, with_waiters, died_word}
+use Rattle.protocol.specs.Points.{ToEnter, ToReenter, ToResume, ToExit, ToWait, NoEntry, Owned, OnLock, OnSequence, OnId, Point, Runs, EnterPends, EnterTries, ReenterPends, ReenterTries, TakeReads, TakeMarks, TakeSleeps, TakeTries, GotReads, GotLinks, GotHeads, GotUnpends, WaitReads, NotifyAdds, NotifyWakes, BroadcastAdds, BroadcastMarks, BroadcastReads, BroadcastMoves, JoinReads, JoinSleeps, JoinLearns, JoinTakes, LeavePends, LeaveReads, LeaveHeads, LeaveSwaps, LeaveWakes, HasLeft, Dies, Walks, ClearsId, LastWakes, HasEnded, entry_at, IsLive, Thread, th}
+use Rattle.protocol.specs.World.{World, put_sequence, mem, awakened, requeued_sleep, tail, IsWake}
+use Rattle.protocol.specs.Moves.{Move, Own, Begin, Rebegin, Leave, Wait, Notify, Broadcast, Raise, SetPend, CasGot, CasBusy, SetPendHeld, CasHeld, LoadHeld, LoadFree, MarkDone, MarkFail, Sleep, Again, FreeGot, FreeFail, ReadHead, SetLink, SetHead, ClearPend, PendAgain, ReadLink, CutHead, SwapWake, SwapAlone, Wake, Finish, ReadSeq, SeqSleep, SeqAgain, AddSeq, WakeSeq, AddAll, OrLock, LoadSeq, MoveAll, Kill, Stray, StraySeq, StrayId, Return, WriteFault, SkipEntry, EntryAlone, EntryWake, PendNone, PendAlone, PendWake, PendForeign, ClearId, LastWake, Fork, ForkFull, Claim, ClaimTaken, IdGone, IdThere, IdSleep, IdAgain, LearnEnded, LearnAborted, TakeResult, from, Awake}
+
+-- a thread's innermost monitor
+abbrev pub HoldsFirst : Thread → ℕ → Type 0
+HoldsFirst thread m = thread.list ≡ m ∷ tail thread.list
+
+-- the outcome word of an aborted process: the fault's number, and 9 where it was killed
+abbrev pub cause_word : Cause → ℕ
+cause_word (Faulted fault) = fault_number fault
+cause_word Killed = 9
+
+-- the words tell how a process is over
+abbrev pub Tells : End → (outcome result : ℕ) → Type 0
+Tells (Ended z) outcome result = (outcome ≡ 16) × (signed_of result ≡ z)
+Tells (Aborted cause) outcome result = outcome ≡ cause_word cause
+
+-- the labels of a thread's own code
+abbrev pub IsOwn : Label → Type 0
+IsOwn (Alone kind) = Unit {0}
+IsOwn (Stores m) = Unit {0}
+IsOwn l = ⊥
+
+abbrev pub Finds : World → ℕ → Move → Type 0
+Finds w t (Own l) = IsOwn l
+Finds w t (Begin m) = mem m (w.at t).list ≡ false
+Finds w t (Rebegin m) = mem m (w.at t).list ≡ true
+Finds w t (Leave m) = HoldsFirst (w.at t) m
+Finds w t (Wait c) = HoldsFirst (w.at t) c.monitor
+Finds w t (Notify c) = HoldsFirst (w.at t) c.monitor
+Finds w t (Broadcast c) = HoldsFirst (w.at t) c.monitor
+Finds w t (CasGot m) = w.lock m ≡ 0
+Finds w t (CasBusy m) = w.lock m ≢ 0
+Finds w t (CasHeld m) = w.lock m ≢ 0
+Finds w t (LoadHeld m k) = owner (w.lock m) ≢ 0
+Finds w t (LoadFree m k) = owner (w.lock m) ≡ 0
+Finds w t (MarkDone m v k) = w.lock m ≡ v
+Finds w t (MarkFail m v k) = w.lock m ≢ v
+Finds w t (Sleep m v k) = w.lock m ≡ v
+Finds w t (Again m v k) = w.lock m ≢ v
+Finds w t (FreeGot m v k) = w.lock m ≡ v
+Finds w t (FreeFail m v k) = w.lock m ≢ v
+Finds w t (SwapWake m r) = waiters (w.lock m) ≢ 0
+Finds w t (SwapAlone m r) = waiters (w.lock m) ≡ 0
+Finds w t (Wake m r woken) = IsWake w.asleep (OnLock m) 1 woken
+Finds w t (SeqSleep m c s) = w.sequence c ≡ s
+Finds w t (SeqAgain m c s) = w.sequence c ≢ s
+Finds w t (WakeSeq c woken) = IsWake w.asleep (OnSequence c) 1 woken
+Finds w t (MoveAll c s) = w.sequence c ≡ s
+Finds w t (Kill p) = IsLive p
+Finds w t (EntryAlone m x end) = (x ≢ Owned m) × (waiters (w.lock m) ≡ 0)
+Finds w t (EntryWake m x end woken) = (x ≢ Owned m) × (waiters (w.lock m) ≢ 0) × IsWake w.asleep (OnLock m) 1 woken
+Finds w t (PendAlone m end) = waiters (w.lock m) ≡ 0
+Finds w t (PendWake m end woken) = (waiters (w.lock m) ≢ 0) × IsWake w.asleep (OnLock m) 1 woken
+Finds w t (PendForeign m end woken) = IsWake w.asleep (OnLock m) 1 woken
+Finds w t (LastWake end woken) = IsWake w.asleep (OnId t) 1 woken
+-- the thread that is made has the next number; its parent runs
+Finds w t (Fork parent) =
+    (t ≡ suc w.made) × (w.made < most_processes) × ((w.at parent).point ≡ Runs) × (w.asleep parent ≡ None)
+Finds w t ForkFull = most_processes ≤ w.made
+-- a handle that isn't empty names a process that was made
+Finds w t (Claim q) = (0 < q) × (q ≤ w.made) × (w.claim q ≡ 0)
+Finds w t (ClaimTaken q) = (0 < q) × (q ≤ w.made) × (w.claim q ≢ 0)
+Finds w t (IdGone q end) = (w.id q ≡ 0) × (((w.at q).point ≡ LastWakes end) ⊎ ((w.at q).point ≡ HasEnded end))
+Finds w t (IdThere q) = w.id q ≢ 0
+Finds w t (IdSleep q) = w.id q ≡ q
+Finds w t (IdAgain q) = w.id q ≢ q
+Finds w t (LearnEnded q end) = w.outcome q ≡ 16
+Finds w t (LearnAborted q end) = w.outcome q ≢ 16
+Finds w t m = Unit {0}
+
+-- the mover has the number of a thread that was made; a fork's gets it
+abbrev pub HasNumber : World → ℕ → Move → Type 0
+HasNumber w t (Fork parent) = Unit {0}
+HasNumber w t m = (0 < t) × (t ≤ w.made)
+
+pub record Can (w : World) (t : ℕ) (m : Move) : Type 0 where
+  pub number : HasNumber w t m
+  pub awake : Awake m (w.asleep t)
+  pub stands : (w.at t).point ≡ from m
+  pub finds : Finds w t m
+
+abbrev pub go_list : World → ℕ → Point → List ℕ → World
+go_list w t p l = record w { at = put w.at t (th p l) }
+
+-- the thread stands at another point
+abbrev pub go : World → ℕ → Point → World
+go w t p = go_list w t p (w.at t).list
+
+-- the outcome and the result that a return writes, and how the process will be over
+abbrev pub result_after : Option ℕ → ℕ → ℕ
+result_after None old = old
+result_after (Some v) old = v
+
+abbrev pub returned_end : World → ℕ → Option ℕ → End
+returned_end w t r = Ended (signed_of (result_after r (w.result t)))
+
+abbrev pub after : World → ℕ → Move → World
+after w t (Begin m) = go w t (EnterPends m)
+after w t (Rebegin m) = go w t (ReenterPends m)
+after w t (Leave m) = go w t (LeavePends m ToExit)
+after w t (Wait c) = go w t (WaitReads c)
+after w t (Notify c) = go w t (NotifyAdds c)
+after w t (Broadcast c) = go w t (BroadcastAdds c)
+after w t (Raise fault) = go w t (Dies (Faulted fault) NoEntry)
+after w t (SetPend m) = go (record w { pending = put w.pending t (suc m) }) t (EnterTries m)
+after w t (CasGot m) = go (record w { lock = put w.lock m t }) t (GotReads m 0)
+after w t (CasBusy m) = go w t (TakeReads m ToEnter)
+after w t (SetPendHeld m) = go (record w { pending = put w.pending t (suc m) }) t (ReenterTries m)
+after w t (CasHeld m) = go w t (TakeReads m ToReenter)
+after w t (LoadHeld m k) = go w t (TakeMarks m (w.lock m) k)
+after w t (LoadFree m k) = go w t (TakeTries m (w.lock m) k)
+after w t (MarkDone m v k) = go (record w { lock = put w.lock m (with_waiters v) }) t (TakeSleeps m (with_waiters v) k)
+after w t (MarkFail m v k) = go w t (TakeReads m k)
+after w t (Sleep m v k) = go (record w { asleep = put w.asleep t (Some (OnLock m)) }) t (TakeReads m k)
+after w t (Again m v k) = go w t (TakeReads m k)
+after w t (FreeGot m v k) = go (record w { lock = put w.lock m (with_waiters t) }) t (GotReads m v)
+after w t (FreeFail m v k) = go w t (TakeReads m k)
+after w t (ReadHead m v) = go w t (GotLinks m v (w.head t))
+after w t (SetLink m v h) = go (record w { link = put w.link m h }) t (GotHeads m v)
+after w t (SetHead m v) = go_list (record w { head = put w.head t (suc m) }) t (GotUnpends m v) (m ∷ (w.at t).list)
+after w t (ClearPend m v) = go (record w { pending = put w.pending t 0 }) t Runs
+after w t (PendAgain m r) = go (record w { pending = put w.pending t (suc m) }) t (LeaveReads m r)
+after w t (ReadLink m r) = go w t (LeaveHeads m (w.link m) r)
+after w t (CutHead m h r) = go_list (record w { head = put w.head t h }) t (LeaveSwaps m r) (tail (w.at t).list)
+after w t (SwapWake m r) = go (record w { lock = put w.lock m 0 }) t (LeaveWakes m r)
+after w t (SwapAlone m r) = go (record w { lock = put w.lock m 0 }) t (HasLeft m r)
+after w t (Wake m r woken) = go (record w { asleep = awakened w.asleep woken }) t (HasLeft m r)
+after w t (Finish m) = go (record w { pending = put w.pending t 0 }) t Runs
+after w t (ReadSeq c) = go w t (LeavePends c.monitor (ToWait c (w.sequence c)))
+after w t (SeqSleep m c s) = go (record w { asleep = put w.asleep t (Some (OnSequence c)) }) t (TakeReads m (ToResume c))
+after w t (SeqAgain m c s) = go w t (TakeReads m (ToResume c))
+after w t (AddSeq c) = go (record w { sequence = put_sequence w.sequence c (w.sequence c + 1) }) t (NotifyWakes c)
+after w t (WakeSeq c woken) = go (record w { asleep = awakened w.asleep woken }) t Runs
+after w t (AddAll c) = go (record w { sequence = put_sequence w.sequence c (w.sequence c + 1) }) t (BroadcastMarks c)
+after w t (OrLock c) = go (record w { lock = put w.lock c.monitor (with_waiters (w.lock c.monitor)) }) t (BroadcastReads c)
+after w t (LoadSeq c) = go w t (BroadcastMoves c (w.sequence c))
+after w t (MoveAll c s) = go (record w { asleep = requeued_sleep w.asleep c }) t Runs
+after w t (Kill p) = go (record w { asleep = put w.asleep t None }) t (Dies Killed (entry_at p))
+after w t (Stray m p) = go (record w { asleep = put w.asleep t None }) t p
+after w t (StraySeq c p) = go (record w { asleep = put w.asleep t None }) t p
+after w t (StrayId q p) = go (record w { asleep = put w.asleep t None }) t p
+after w t (Return r) =
+    go (record w { result = put w.result t (result_after r (w.result t)); outcome = put w.outcome t 16 }) t (Walks (w.head t) NoEntry (returned_end w t r))
+after w t (WriteFault cause x) =
+    go (record w { outcome = put w.outcome t (cause_word cause) }) t (Walks (w.head t) x (Aborted cause))
+after w t (SkipEntry m end) = go_list w t (Walks (w.link m) (Owned m) end) (tail (w.at t).list)
+after w t (EntryAlone m x end) =
+    go_list (record w { lock = put w.lock m (died_word (w.lock m)) }) t (Walks (w.link m) x end) (tail (w.at t).list)
+after w t (EntryWake m x end woken) =
+    go_list (record w { lock = put w.lock m (died_word (w.lock m)); asleep = awakened w.asleep woken }) t (Walks (w.link m) x end) (tail (w.at t).list)
+after w t (PendNone end) = go w t (ClearsId end)
+after w t (PendAlone m end) = go (record w { lock = put w.lock m (died_word (w.lock m)) }) t (ClearsId end)
+after w t (PendWake m end woken) =
+    go (record w { lock = put w.lock m (died_word (w.lock m)); asleep = awakened w.asleep woken }) t (ClearsId end)
+after w t (PendForeign m end woken) = go (record w { asleep = awakened w.asleep woken }) t (ClearsId end)
+after w t (ClearId end) = go (record w { id = put w.id t 0 }) t (LastWakes end)
+after w t (LastWake end woken) = go (record w { asleep = awakened w.asleep woken }) t (HasEnded end)
+after w t (Fork parent) = go_list (record w { id = put w.id t t; made = suc w.made }) t Runs []
+after w t ForkFull = go w t (Dies (Faulted ProcessTableFull) NoEntry)
+after w t (Claim q) = go (record w { claim = put w.claim q 1 }) t (JoinReads q)
+after w t (ClaimTaken q) = go (record w { claim = put w.claim q 1 }) t (Dies (Faulted HandleNotJoinable) NoEntry)
+after w t (IdGone q end) = go w t (JoinLearns q end)
+after w t (IdThere q) = go w t (JoinSleeps q)
+after w t (IdSleep q) = go (record w { asleep = put w.asleep t (Some (OnId q)) }) t (JoinReads q)
+after w t (IdAgain q) = go w t (JoinReads q)
+after w t (LearnEnded q end) = go w t (JoinTakes q end)
+after w t (LearnAborted q end) = go w t Runs
+after w t (TakeResult q end) = go w t Runs
+after w t m = go w t Runs

@@ -1,0 +1,15 @@
+pub mod Names
+pub mod Kinds
+pub mod Pieces
+pub mod Scope
+pub mod Expressions
+pub mod Statements
+pub mod Resolved
+pub mod Faults
+pub mod Typing
+pub mod ExpressionFaults
+pub mod StatementFaults
+pub mod CallFaults
+pub mod Limits
+pub mod Judgement
+pub mod Tables

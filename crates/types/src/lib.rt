@@ -1,0 +1,15 @@
+//! From a tree to a checked program: what its names mean, which types its expressions have, and what may stand where.
+//! `specs` says which program a tree is resolved to, and which faults it has; here stand the first steps of a checker.
+#![tactic(auto)]
+
+mod kinds;
+mod least;
+mod places;
+mod table;
+
+pub use kinds::{
+    comparison_operator, local_kind, member_kind, product_operator, result_kind, sum_operator,
+};
+pub use least::lesser;
+pub use places::expression_place;
+pub use table::Table;
