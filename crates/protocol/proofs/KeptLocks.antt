@@ -10,7 +10,7 @@ use Rattle.protocol.specs.Steps.{Can, after}
 use Rattle.protocol.specs.Carries.{table_after}
 use Rattle.protocol.proofs.Words.{owner-small, died-small, owner-with_waiters, waiters-with_waiters, died-with_waiters, owner-died_word, died-died_word}
 use Rattle.protocol.proofs.Sleeps.{put_other, put_less, awakened_less, awakened_none}
-use Rattle.protocol.proofs.Roles.{own, ListedFor, ListedFree, holds, helps, may_sleep, Knows, takes-same}
+use Rattle.protocol.proofs.Roles.{own, ListedFor, ListedFree, holds, helps, may_sleep, Knows, takes-same, entry_listed, entry_tail}
 use Rattle.protocol.proofs.Lock.{Inv, quiet, taken, marked, slept, released, woke, killed, abandoned, elsewhere, requeued}
 use Rattle.protocol.proofs.Chains.{chain_none, chain_some}
 use Rattle.protocol.proofs.Waits.{in_list, marks}
@@ -93,7 +93,7 @@ kept_locks w T t (Wake e m woken) inv can =
     woke _ _ _ _ t e 1 woken _ _ inv.locks can.awake (stands_at w t (Wake e m woken) can) (λ x. refl) (λ x n h. absurd (n (eqb-true x e h))) k (omega arith) can.finds
 kept_locks w T t (Kill p) inv can =
     let k = known_at w T t (Kill p) inv can in
-    killed _ _ _ _ t _ _ inv.locks (stands_at w t (Kill p) can) (λ x. refl) (λ x h. helps_left p x h) (k.0, tt)
+    killed _ _ _ _ t _ _ inv.locks (stands_at w t (Kill p) can) (λ x. refl) (λ x h. helps_left p x h) (k.0, entry_listed p (w.at t).list can.finds k.1)
 kept_locks w T t (Stray e p) inv can = killed _ _ _ _ t _ _ inv.locks (stands_at w t (Stray e p) can) (λ x. refl) (λ x h. h) (known_at w T t (Stray e p) inv can)
 kept_locks w T t (StraySeq c p) inv can = killed _ _ _ _ t _ _ inv.locks (stands_at w t (StraySeq c p) can) (λ x. refl) (λ x h. h) (known_at w T t (StraySeq c p) inv can)
 kept_locks w T t (StrayId q p) inv can = killed _ _ _ _ t _ _ inv.locks (stands_at w t (StrayId q p) can) (λ x. refl) (λ x h. h) (known_at w T t (StrayId q p) inv can)
@@ -105,12 +105,12 @@ kept_locks w T t (EntryAlone a y end) inv can =
     let l = (w.at t).list in
     let k = known_at w T t (EntryAlone a y end) inv can in
     let c = chain_some w.link a l (chain_at w T t (EntryAlone a y end) inv can) in
-    abandoned _ _ _ _ t a (died_word (w.lock a)) [] _ _ inv.locks can.awake (stands_at w t (EntryAlone a y end) can) (λ x n. tail_miss x a l (own y x) c.0 n) (head_in a l (own y a) c.0) (tail_out a l (own y a) c.0 k.0 (own_other a y can.finds.0)) (λ x h. h) (tail_known a l c.0 k.0, tt) (owner-died_word (w.lock a)) (died-died_word (w.lock a)) (inl (can.finds.1, refl))
+    abandoned _ _ _ _ t a (died_word (w.lock a)) [] _ _ inv.locks can.awake (stands_at w t (EntryAlone a y end) can) (λ x n. tail_miss x a l (own y x) c.0 n) (head_in a l (own y a) c.0) (tail_out a l (own y a) c.0 k.0 (own_other a y can.finds.0)) (λ x h. h) (tail_known a l c.0 k.0, entry_tail y a l c.0 k.1) (owner-died_word (w.lock a)) (died-died_word (w.lock a)) (inl (can.finds.1, refl))
 kept_locks w T t (EntryWake a y end woken) inv can =
     let l = (w.at t).list in
     let k = known_at w T t (EntryWake a y end woken) inv can in
     let c = chain_some w.link a l (chain_at w T t (EntryWake a y end woken) inv can) in
-    abandoned _ _ _ _ t a (died_word (w.lock a)) woken _ _ inv.locks can.awake (stands_at w t (EntryWake a y end woken) can) (λ x n. tail_miss x a l (own y x) c.0 n) (head_in a l (own y a) c.0) (tail_out a l (own y a) c.0 k.0 (own_other a y can.finds.0)) (λ x h. h) (tail_known a l c.0 k.0, tt) (owner-died_word (w.lock a)) (died-died_word (w.lock a)) (inr can.finds.2)
+    abandoned _ _ _ _ t a (died_word (w.lock a)) woken _ _ inv.locks can.awake (stands_at w t (EntryWake a y end woken) can) (λ x n. tail_miss x a l (own y x) c.0 n) (head_in a l (own y a) c.0) (tail_out a l (own y a) c.0 k.0 (own_other a y can.finds.0)) (λ x h. h) (tail_known a l c.0 k.0, entry_tail y a l c.0 k.1) (owner-died_word (w.lock a)) (died-died_word (w.lock a)) (inr can.finds.2)
 kept_locks w T t (PendAlone e end) inv can =
     let l = (w.at t).list in
     let k = known_at w T t (PendAlone e end) inv can in

@@ -1,5 +1,5 @@
 -- Whole runs, and what holds where threads sleep.
-use Rattle.std.proofs.Common.{◌≡◌, ℕ, suc, Bool, true, false, ◌==◌, ◌||◌, Option, Some, None, List, [], ◌∷◌, ◌⊎◌, inl, inr, refl, sym, ap, ◌∙◌, subst, arith}
+use Rattle.std.proofs.Common.{◌≡◌, ℕ, suc, Bool, true, false, ◌==◌, ◌||◌, Option, Some, None, List, [], ◌∷◌, ◌⊎◌, inl, inr, refl, sym, ap, ◌∙◌, subst, arith, ◌≤◌, ◌+◌}
 use Rattle.std.proofs.lemmas.Bool.{false≢true, eq-eqb, eqb-true, or_left, or_right, cases_Bool}
 use Rattle.meaning.specs.Labels.{End, Label, Joins, Enters, Resumes}
 use Rattle.meaning.specs.Table.{Hold, Free, Abandoned, HeldBy, Table, first_table, Allows}
@@ -9,6 +9,13 @@ use Rattle.protocol.specs.World.{World, mem, opening_world}
 use Rattle.protocol.specs.Moves.{Move}
 use Rattle.protocol.specs.Steps.{Tells, after}
 use Rattle.protocol.specs.Carries.{Event, PermitsMove, carried, table_after}
+use Rattle.std.specs.Prelude.{length}
+use Rattle.program.specs.declared.kinds.Member.{Member}
+use Rattle.std.proofs.lemmas.Bool.{cond_both}
+use Rattle.protocol.specs.World.{same_member}
+use Rattle.protocol.proofs.Sleeps.{same-true}
+use Rattle.protocol.specs.Steps.{after}
+use Rattle.protocol.specs.Moves.{AddSeq, AddAll}
 use Rattle.protocol.specs.Runs.{IsOver}
 use Rattle.protocol.proofs.Roles.{own, point_helps, point_sleeps, holds, helps, may_sleep, Tie}
 use Rattle.protocol.proofs.Lock.{tie_owner}
@@ -159,7 +166,20 @@ loses_none w T inv = record {
   ];
 }
 
+pub good_run : (ss : List (ℕ × Move)) (w : World) → Leads opening_world ss w → Good w (last_table opening_world first_table ss)
+good_run ss w run = (run_kept ss opening_world w first_table good_start run).1
+
+-- a sequence number is raised at most once by a move
+raised : (w : World) (t : ℕ) (m : Move) (d : Member) → (after w t m).sequence d ≤ suc (w.sequence d)
+raised w t (AddSeq c) d = cond_both (same_member d c) (w.sequence c + 1) (w.sequence d) (λ y. y ≤ suc (w.sequence d)) (λ h. omega (arith, ap w.sequence (same-true d c h))) (λ h. omega arith)
+raised w t (AddAll c) d = cond_both (same_member d c) (w.sequence c + 1) (w.sequence d) (λ y. y ≤ suc (w.sequence d)) (λ h. omega (arith, ap w.sequence (same-true d c h))) (λ h. omega arith)
+raised w t m d = omega arith
+
+all_raised : (ss : List (ℕ × Move)) (w w' : World) (d : Member) → Leads w ss w' → w'.sequence d ≤ w.sequence d + length ss
+all_raised [] w w' d run = let e : w'.sequence d ≡ w.sequence d = ap (λ x. x.sequence d) run in omega (arith, e)
+all_raised (s ∷ ss) w w' d run = omega (arith, raised w s.0 s.1 d, all_raised ss (after w s.0 s.1) w' d run.1)
+
 pub no_wake_lost : (ss : List (ℕ × Move)) (w : World) → Leads opening_world ss w → IsExplained ss w
 no_wake_lost ss w run =
     let k = run_kept ss opening_world w first_table good_start run in
-    record { permits = k.0; matches = matches w (last_table opening_world first_table ss) k.1; waking = loses_none w (last_table opening_world first_table ss) k.1 }
+    record { permits = k.0; matches = matches w (last_table opening_world first_table ss) k.1; waking = loses_none w (last_table opening_world first_table ss) k.1; numbers = λ d. omega (arith, all_raised ss opening_world w d run) }

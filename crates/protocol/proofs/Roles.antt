@@ -1,9 +1,9 @@
 -- The roles of a thread, by its point and its list: of these alone the facts about locks speak.
-use Rattle.std.proofs.Common.{◌≡◌, ◌≢◌, ℕ, Bool, true, false, ◌==◌, ◌||◌, List, [], ◌∷◌, ◌⊎◌, inl, inr, ap, ◌∙◌}
-use Rattle.std.proofs.lemmas.Bool.{false≢true, or_left, eqb-true}
+use Rattle.std.proofs.Common.{◌≡◌, ◌≢◌, ℕ, Bool, true, false, ◌==◌, ◌||◌, List, [], ◌∷◌, ◌⊎◌, inl, inr, ap, ◌∙◌, sym}
+use Rattle.std.proofs.lemmas.Bool.{false≢true, or_left, eqb-true, or_right, cases_Bool}
 use Rattle.meaning.specs.Table.{Hold}
 use Rattle.protocol.specs.Word.{owner, waiters}
-use Rattle.protocol.specs.Points.{Purpose, ToEnter, ToReenter, ToResume, Entry, Owned, Unowned, Thread, Point, Unmade, EnterPends, EnterTries, ReenterPends, ReenterTries, TakeReads, TakeMarks, TakeSleeps, TakeTries, GotReads, GotLinks, GotHeads, GotUnpends, WaitReads, NotifyAdds, NotifyWakes, BroadcastAdds, BroadcastMarks, BroadcastReads, BroadcastMoves, LeavePends, LeaveReads, LeaveHeads, LeaveSwaps, LeaveWakes, HasLeft, Dies, Walks, entry_at}
+use Rattle.protocol.specs.Points.{Purpose, ToEnter, ToReenter, ToResume, Entry, Owned, Unowned, Thread, Point, Unmade, EnterPends, EnterTries, ReenterPends, ReenterTries, TakeReads, TakeMarks, TakeSleeps, TakeTries, GotReads, GotLinks, GotHeads, GotUnpends, WaitReads, NotifyAdds, NotifyWakes, BroadcastAdds, BroadcastMarks, BroadcastReads, BroadcastMoves, LeavePends, LeaveReads, LeaveHeads, LeaveSwaps, LeaveWakes, HasLeft, Dies, Walks, entry_at, taking_entry, IsLive, NoEntry}
 use Rattle.protocol.specs.World.{mem, tail, Distinct}
 use Rattle.protocol.specs.Runs.{HoldIs}
 
@@ -47,6 +47,12 @@ ListedFree ToEnter m l = mem m l ≡ false
 ListedFree ToReenter m l = ⊥
 ListedFree (ToResume c) m l = mem m l ≡ false
 
+-- an entry that is pending and not owned is not on the list
+abbrev pub ListedEntry : Entry → List ℕ → Type 0
+ListedEntry NoEntry l = Unit {0}
+ListedEntry (Owned m) l = Unit {0}
+ListedEntry (Unowned m) l = mem m l ≡ false
+
 -- what a thread knows of the words in its hands and of its list
 abbrev pub Listed : Point → List ℕ → Type 0
 Listed Unmade l = l ≡ []
@@ -75,6 +81,8 @@ Listed (LeaveHeads m h r) l = l ≡ m ∷ tail l
 Listed (LeaveSwaps m r) l = mem m l ≡ false
 Listed (LeaveWakes m r) l = mem m l ≡ false
 Listed (HasLeft m r) l = mem m l ≡ false
+Listed (Dies cause x) l = ListedEntry x l
+Listed (Walks a x end) l = ListedEntry x l
 Listed p l = Unit {0}
 
 -- which locks a thread holds, which lock's sleepers it will help, where it may sleep, and what it knows
@@ -112,3 +120,32 @@ sleeper_at p x l known h = absurd (false≢true h)
 pub sleeper_role : (p : Thread) (x : ℕ) → Knows p → may_sleep p x ≡ true → (helps p x ≡ true) ⊎ (holds p x ≡ true)
 unfolding holds helps may_sleep Knows
 sleeper_role p x known h = sleeper_at p.point x p.list known.1 h
+
+entry_for : (k : Purpose) (m : ℕ) (l : List ℕ) → ListedFor k m l → ListedEntry (taking_entry m k) l
+entry_for ToEnter m l h = h
+entry_for ToReenter m l h = tt
+entry_for (ToResume c) m l h = h
+
+entry_free : (k : Purpose) (m : ℕ) (l : List ℕ) → ListedFree k m l → ListedEntry (taking_entry m k) l
+entry_free ToEnter m l h = h
+entry_free ToReenter m l h = absurd h
+entry_free (ToResume c) m l h = h
+
+-- what a killed thread knows of its pending entry
+pub entry_listed : (p : Point) (l : List ℕ) → IsLive p → Listed p l → ListedEntry (entry_at p) l
+entry_listed (EnterTries m) l live h = h
+entry_listed (TakeReads m k) l live h = entry_for k m l h
+entry_listed (TakeMarks m v k) l live h = entry_for k m l h.0
+entry_listed (TakeSleeps m v k) l live h = entry_for k m l h.0
+entry_listed (TakeTries m v k) l live h = entry_free k m l h.0
+entry_listed (LeaveWakes m r) l live h = h
+entry_listed (HasLeft m r) l live h = h
+entry_listed (Dies cause x) l live h = h
+entry_listed (Walks a x end) l live h = h
+entry_listed p l live h = tt
+
+-- the list without its first entry
+pub entry_tail : (x : Entry) (a : ℕ) (l : List ℕ) → l ≡ a ∷ tail l → ListedEntry x l → ListedEntry x (tail l)
+entry_tail NoEntry a l is h = tt
+entry_tail (Owned m) a l is h = tt
+entry_tail (Unowned m) a l is h = elim (cases_Bool (mem m (tail l))) [ inl y ↦ absurd (false≢true (sym (sym (ap (mem m) is) ∙ h) ∙ or_right (m == a) (mem m (tail l)) y)) | inr n ↦ n ]

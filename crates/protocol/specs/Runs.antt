@@ -1,5 +1,5 @@
 -- Runs of moves, what they carry in order, and what is owed to them.
-use Rattle.std.specs.Prelude.{◌≡◌, ℕ, ◌<◌, ◌≤◌, Bool, true, false, Some, None, List, [], ◌∷◌, ◌⊎◌}
+use Rattle.std.specs.Prelude.{◌≡◌, ℕ, ◌<◌, ◌≤◌, Bool, true, false, Some, None, List, [], ◌∷◌, ◌⊎◌, length}
 use Rattle.program.specs.declared.kinds.Member.{Member}
 use Rattle.meaning.specs.Labels.{End, Label, Enters, Resumes, Joins}
 use Rattle.meaning.specs.Table.{Hold, Free, Abandoned, HeldBy, Table, first_table, Allows}
@@ -117,3 +117,5 @@ pub record IsExplained (ss : List (ℕ × Move)) (w : World) : Type 0 where
   pub permits : PermitsAll (events opening_world first_table ss) first_table (last_table opening_world first_table ss)
   pub matches : Matches w (last_table opening_world first_table ss)
   pub waking : LosesNoWake w (last_table opening_world first_table ss)
+  -- a sequence number counts no more steps than were taken
+  pub numbers : (c : Member) → w.sequence c ≤ length ss

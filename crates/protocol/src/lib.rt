@@ -2,13 +2,23 @@
 //! sleepers keeps the table of monitors, conditions and processes, and loses no wake.
 #![tactic(auto)]
 
-ghost use Rattle.std.specs.Prelude.{ℕ, List};
+ghost use Rattle.std.specs.Prelude.{◌≡◌, ℕ, ◌<◌, ◌≤◌, List, None};
+ghost use Rattle.protocol.specs.Points.{Point};
 ghost use Rattle.protocol.specs.World.{World, opening_world};
 ghost use Rattle.protocol.specs.Moves.{Move};
 ghost use Rattle.protocol.specs.Runs.{Leads, IsExplained};
+ghost use Rattle.protocol.specs.Requests.{request, Serves};
+ghost use Rattle.protocol.specs.Served.{IsMove};
 
 /// Each run of moves is explained by the source: the labels that it carries, in order, are allowed one after another, to a
 /// table that is that of the last world, in which no wake was lost.
 pub fn no_wake_lost()
     ensures { (ss : List (ℕ × Move)) (w : World) → Leads opening_world ss w → IsExplained ss w }
+{}
+
+/// Where a run has come, each step of a thread inside a template is a move: what its point asks for, and the shared words
+/// answer, leads to the next point of the template.
+pub fn every_step_is_a_move()
+    ensures { (ss : List (ℕ × Move)) (w : World) → Leads opening_world ss w → (t : ℕ) (p : Point) (r : ℕ) (w' : World) →
+        0 < t → t ≤ w.made → w.asleep t ≡ None → (w.at t).point ≡ p → Serves w t p (request t p) r w' → IsMove w t p r w' }
 {}

@@ -1,2 +1,4 @@
 pub mod Stores
+pub mod Rests
+pub mod Frames
 pub mod Arguments

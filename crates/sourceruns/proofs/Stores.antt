@@ -26,7 +26,8 @@ and_assoc true b c = refl
 and_assoc false b c = refl
 
 is_at-place : (p : Place) (m n k : ℕ)
-    → is_at (place_cmp p) (record { monitor = m; member = n; index = k }) ≡ ((m == p.monitor) && (n == p.member) && (k == p.index))
+    → is_at (place_cmp p) (record { monitor = m; member = n; index = k }) ≡
+    ((m == p.monitor) && (n == p.member) && (k == p.index))
 is_at-place p m n k =
     is_eq-then (nat_cmp p.monitor m) (ordering_then (nat_cmp p.member n) (nat_cmp p.index k))
     ∙ (λ i. is_eq-nat_cmp p.monitor m i && is_eq-then (nat_cmp p.member n) (nat_cmp p.index k) i)

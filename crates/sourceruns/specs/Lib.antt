@@ -1,2 +1,5 @@
 pub mod Outcomes
 pub mod Stores
+pub mod Rests
+pub mod Frames
+pub mod Stages

@@ -2,9 +2,15 @@
 #![tactic(auto)]
 
 mod evaluation;
+mod frame;
 mod operators;
+mod process;
+mod rest;
 mod variables;
 
 pub use evaluation::{array_size, element, evaluate, evaluate_all};
+pub use frame::Frame;
 pub use operators::{both, unary};
+pub use process::{Cause, End, Process, Stage};
+pub use rest::{take_first, upcoming};
 pub use variables::{Place, Variables};

@@ -13,3 +13,4 @@ pub mod CallFaults
 pub mod Limits
 pub mod Judgement
 pub mod Tables
+pub mod Standings

@@ -5,6 +5,7 @@
 mod kinds;
 mod least;
 mod places;
+mod standing;
 mod table;
 
 pub use kinds::{
@@ -12,4 +13,5 @@ pub use kinds::{
 };
 pub use least::lesser;
 pub use places::expression_place;
+pub use standing::{Meaning, Members, Own, Standing};
 pub use table::Table;

@@ -1,0 +1,42 @@
+-- Positions in a body, one over the other.
+use Rattle.std.proofs.Common.{◌≡◌, Option, None, ℕ, zero, suc, ◌+◌, ◌<◌, ℤ, pos, List, [], ◌∷◌, ◌++◌, length, take, refl, ap, sym, ◌∙◌, arith, append_assoc, add-one}
+use Rattle.program.specs.declared.kinds.ValueType.{ValueType}
+use Rattle.meaning.specs.Processes.{zeros}
+use Rattle.program.specs.Trees.{Done}
+use Rattle.program.specs.declared.kinds.Role.TheVariants.{Recover}
+use Rattle.meaning.specs.Processes.{Frame, Caller, Process, Before, goes_on, goes_on_by, hands_over, with_result}
+use Rattle.sourceruns.specs.declared.frame.Frame.{Frame as FrameOf}
+use Rattle.sourceruns.specs.Frames.{frame_of, caller_of, callers_from, callers_of}
+
+-- a caller more
+pub callers-more : (fs : List FrameOf) (f : FrameOf) (callers : List Caller)
+    → callers_from (fs ++ f ∷ []) callers ≡ caller_of f ∷ callers_from fs callers
+callers-more [] f callers = refl
+callers-more (g ∷ gs) f callers = callers-more gs f (caller_of g ∷ callers)
+
+-- a RECOVER part that is done leads back
+pub goes_back : (entered : Option ℕ) (f : Frame) (m : ℕ) (fs gs : List FrameOf) (c : FrameOf)
+    → f.role ≡ Recover m → f.rest ≡ Done
+    → fs ≡ gs ++ c ∷ [] → Before entered (frame_of c) (callers_of gs) ≡ goes_on entered f (callers_of fs)
+goes_back entered f m fs gs c r d e =
+    sym ((λ i. goes_on_by (r i) (d i) entered f (callers_of (e i))) ∙ ap (goes_on_by (Recover m) Done entered f) (callers-more gs c []))
+
+pub hands : (x : Process) (z : ℤ) (g : Frame) (fs gs : List FrameOf) (c : FrameOf)
+    → x ≡ goes_on None g (callers_of gs)
+    → g ≡ with_result c.into z (frame_of c) → fs ≡ gs ++ c ∷ [] → x ≡ hands_over z (callers_of fs)
+hands x z g fs gs c is put e =
+    is ∙ ap (λ h. goes_on None h (callers_of gs)) put
+    ∙ sym (ap (hands_over z) (ap callers_of e ∙ callers-more gs c []))
+
+zeros-suc : (ts : List ValueType) (k : ℕ) → k < length ts → zeros (take (suc k) ts) ≡ zeros (take k ts) ++ pos 0 ∷ []
+zeros-suc [] k l = absurd (omega (arith, l))
+zeros-suc (t ∷ ts) zero l = refl
+zeros-suc (t ∷ ts) (suc k) l = ap (λ zs. pos 0 ∷ zs) (zeros-suc ts k (omega (arith, l)))
+
+-- a local more
+pub zeros-more : (before after arguments : List ℤ) (ts : List ValueType) (k : ℕ)
+    → before ≡ arguments ++ zeros (take k ts)
+    → after ≡ before ++ pos 0 ∷ [] → k < length ts → after ≡ arguments ++ zeros (take (k + 1) ts)
+zeros-more before after arguments ts k b a l =
+    a ∙ ap (λ zs. zs ++ pos 0 ∷ []) b ∙ append_assoc arguments (zeros (take k ts)) (pos 0 ∷ [])
+    ∙ ap (λ zs. arguments ++ zs) (sym (zeros-suc ts k l) ∙ ap (λ n. zeros (take n ts)) (sym (add-one k)))

@@ -1,0 +1,45 @@
+-- Positions in a body, one over the other.
+use Rattle.std.proofs.Common.{◌≡◌, Bor, ◌+◌, ◌-◌, ◌<◌, ◌≤◌, List, [], ◌∷◌, ◌++◌, length, take, drop, get_or, Some, refl, ap, sym, ◌∙◌, arith}
+use Rattle.std.proofs.lemmas.List.{take_all, take_more}
+use Rattle.program.specs.declared.statement.Statement.{Statement as StatementOf}
+use Rattle.program.specs.Trees.{Block, Done, Then}
+use Rattle.program.specs.Views.{block_before, statement_of}
+use Rattle.sourceruns.specs.Rests.{stacked, rest_in, IsTaken}
+
+-- a position more
+pub stacked-more : (xs : List (Bor (List StatementOf))) (x : Bor (List StatementOf)) (later : Block)
+    → stacked (xs ++ x ∷ []) later ≡ block_before x.now (stacked xs later)
+stacked-more [] x later = refl
+stacked-more (y ∷ ys) x later = stacked-more ys x (block_before y.now later)
+
+pub empty_list : {A : Type 0} (xs : List A) → length xs < 1 → xs ≡ []
+empty_list [] l = refl
+empty_list (x ∷ xs) l = absurd (omega (arith, l))
+
+pub first_split : {A : Type 0} (xs : List A) (x : A) → 1 ≤ length xs → x ≡ get_or xs 0 x → xs ≡ x ∷ drop 1 xs
+first_split [] x l e = absurd (omega (arith, l))
+first_split (y ∷ ys) x l e = ap (λ z. z ∷ ys) (sym e)
+
+last_split : {A : Type 0} (xs : List A) (x : A) → 1 ≤ length xs → x ≡ get_or xs (length xs - 1) x
+    → xs ≡ take (length xs - 1) xs ++ x ∷ []
+last_split xs x l e =
+    let all : length xs ≡ length xs - 1 + 1 = omega (arith, l) in
+    sym (take_all (length xs) xs (omega arith)) ∙ ap (λ n. take n xs) all
+    ∙ take_more xs (length xs - 1) x (omega (arith, l))
+    ∙ ap (λ y. take (length xs - 1) xs ++ y ∷ []) (sym e)
+
+-- the last position comes first
+pub rest_last : (xs : List (Bor (List StatementOf))) (x : Bor (List StatementOf)) → 1 ≤ length xs
+    → x ≡ get_or xs (length xs - 1) x
+    → rest_in xs ≡ block_before x.now (rest_in (take (length xs - 1) xs))
+rest_last xs x l e = ap rest_in (last_split xs x l e) ∙ stacked-more (take (length xs - 1) xs) x Done
+
+pub rest_pushed : (before after : List (Bor (List StatementOf))) (x : Bor (List StatementOf))
+    → after ≡ before ++ x ∷ []
+    → rest_in after ≡ block_before x.now (rest_in before)
+rest_pushed before after x e = ap rest_in e ∙ stacked-more before x Done
+
+pub taken : (before after below : Block) (ss : List StatementOf) → 1 ≤ length ss → before ≡ block_before ss below
+    → after ≡ block_before (drop 1 ss) below → IsTaken (Some ss) before after
+taken before after below [] l b a = absurd (omega (arith, l))
+taken before after below (s ∷ ss) l b a = b ∙ sym (ap (Then (statement_of s)) a)

@@ -1,0 +1,19 @@
+-- What the code keeps of a procedure that runs, as a frame of the meaning.
+use Rattle.std.specs.Prelude.{List, [], ◌∷◌}
+use Rattle.meaning.specs.Processes.{Frame, Caller}
+use Rattle.sourceruns.specs.declared.frame.Frame.{Frame as FrameOf}
+use Rattle.sourceruns.specs.Rests.{rest_in}
+
+abbrev pub frame_of : FrameOf → Frame
+frame_of f = record { role = f.role; locals = f.locals.items; rest = rest_in f.rest.items }
+
+abbrev pub caller_of : FrameOf → Caller
+caller_of f = record { into = f.into; frame = frame_of f }
+
+-- procedures that wait for one that they called, the innermost last
+abbrev pub callers_from : List FrameOf → List Caller → List Caller
+callers_from [] callers = callers
+callers_from (f ∷ fs) callers = callers_from fs (caller_of f ∷ callers)
+
+abbrev pub callers_of : List FrameOf → List Caller
+callers_of fs = callers_from fs []

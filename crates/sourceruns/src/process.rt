@@ -1,0 +1,114 @@
+ghost use Rattle.std.specs.Prelude.{◌≡◌, None, OnOk, Some};
+ghost use Rattle.program.specs.Views.{program_of};
+ghost use Rattle.meaning.specs.Processes.{begins, goes_on, hands_over, recovers};
+
+use crate::frame::Frame;
+use crate::rest::upcoming;
+use program::{Member, Program, Role, Statement};
+use std::alloc::{AllocError, Global};
+use words::Fault;
+
+/// Why a process aborts.
+#[derive(Clone, Copy, PartialEq, Eq, Debug)]
+pub enum Cause {
+    /// It faulted.
+    Faulted(Fault),
+    /// It was killed from outside.
+    Killed,
+}
+
+/// How a process is over.
+#[derive(Clone, Copy, PartialEq, Eq, Debug)]
+pub enum End {
+    /// By its return, with this value.
+    Ended(i64),
+    /// It aborted.
+    Aborted(Cause),
+}
+
+/// Where a process stands in its uppermost procedure, or past all of them.
+#[derive(Drop)]
+pub enum Stage<'a> {
+    /// Called an ENTRY procedure of this monitor, and hasn't entered it.
+    Entering(u32),
+    /// Before the next statement, with the monitor that its last action entered.
+    Before(Option<u32>),
+    /// Gave up the monitor at a WAIT.
+    Suspended(Member),
+    /// Claimed the child, and joins it.
+    Joining {
+        /// The child.
+        child: u64,
+        /// The local that takes the result.
+        into: Option<u32>,
+        /// What stands behind ABORTED, where there is one.
+        aborted: Option<&'a [Statement]>,
+    },
+    /// Gave up the monitor at the end of an ENTRY procedure, and hands this result to the caller next.
+    Returning(i64),
+    /// Faults next; with the monitor that its last action entered.
+    Failing(Fault, Option<u32>),
+    /// Gives up these monitors, one by one.
+    Dying(Cause, Vec<u32>),
+    /// Ends next, with this value.
+    Leaving(i64),
+    /// Is over.
+    Over(End),
+}
+
+/// A process. `process_of` makes it a process of the meaning.
+#[derive(Drop)]
+pub struct Process<'a> {
+    /// The procedure that runs.
+    pub frame: Frame<'a>,
+    /// Those that wait for one that they called, the innermost last.
+    pub callers: Vec<Frame<'a>>,
+    /// Where it stands.
+    pub stage: Stage<'a>,
+}
+
+impl<'a> Process<'a> {
+    ghost use Rattle.sourceruns.specs.Frames.{callers_of, frame_of};
+    ghost use Rattle.sourceruns.specs.Stages.{process_of};
+
+    /// Goes on before the next statement.
+    pub fn go_on(&mut self, entered: Option<u32>)
+        ensures { process_of self.new ≡ goes_on entered (frame_of self.old.frame) (callers_of self.old.callers.items) }
+    {
+        self.stage = Stage::Before(entered);
+        match (self.frame.role, upcoming(self.frame.rest.as_slice())) {
+            (Role::Recover(_), None) => match self.callers.pop() {
+                None => self.stage = Stage::Leaving(0),
+                Some(caller) => self.frame = caller,
+            },
+            (Role::Main, None) => self.stage = Stage::Leaving(0),
+            (Role::Main, Some(Statement::Return(_))) => self.stage = Stage::Leaving(0),
+            _ => {}
+        }
+    }
+
+    /// The uppermost procedure begins: an ENTRY procedure enters its monitor first.
+    pub fn begin(&mut self)
+        ensures { process_of self.new ≡ begins (frame_of self.old.frame) (callers_of self.old.callers.items) }
+    {
+        match self.frame.role {
+            Role::Entry(m) => self.stage = Stage::Entering(m),
+            _ => self.go_on(None),
+        }
+    }
+
+    /// Hands a result to the caller; without one, leaves with it.
+    pub fn hand_over(&mut self, value: i64)
+        ensures { process_of self.new ≡ hands_over value (callers_of self.old.callers.items) }
+    {
+        match self.callers.pop() {
+            None => self.stage = Stage::Leaving(value),
+            Some(caller) => {
+                self.frame = caller;
+                let into = self.frame.into;
+                self.frame.put(into, value);
+                self.go_on(None);
+            }
+        }
+    }
+}

@@ -1,0 +1,45 @@
+-- What the tables of a piece's names say of where it stands.
+use Rattle.std.specs.Prelude.{ℕ, ◌≡◌, List, Option, Some, None, map, slice_get}
+use Rattle.program.specs.Scope.{own_monitor}
+use Rattle.syntax.specs.Lexeme.{NameTree}
+use Rattle.syntax.specs.Tree.{MonitorTree, UnitTree, ParameterTree, LocalTree}
+use Rattle.types.specs.declared.standing.Members.{Members}
+use Rattle.types.specs.declared.standing.Own.{Own}
+use Rattle.types.specs.declared.standing.Standing.{Standing}
+use Rattle.types.specs.declared.standing.Meaning.{Meaning as MeaningOf}
+use Rattle.types.specs.declared.standing.Meaning.TheVariants.{Nothing as Nothing', Local, Member}
+use Rattle.types.specs.Names.{member_names, body_scope}
+use Rattle.types.specs.Kinds.{member_kind, slot_kinds}
+use Rattle.types.specs.Tables.{IsTable}
+use Rattle.types.specs.Scope.{Scope, Meaning, Nothing, ALocal, AMember, member_meaning, kind_in, member_number}
+
+-- what a meaning in code says
+abbrev pub meaning_of : MeaningOf → Meaning
+meaning_of Nothing' = Nothing
+meaning_of (Local slot kind) = ALocal slot kind
+meaning_of (Member member kind) = AMember member kind
+
+-- the names and types of a monitor's members
+abbrev pub IsMembers : MonitorTree → Members → Type 0
+IsMembers t m = IsTable (member_names t) m.names × (m.kinds.items ≡ map (λ x. member_kind x.kind) t.members)
+
+-- what a name means among the members of a monitor of this number
+abbrev pub member_of_number : ℕ → MonitorTree → Option ℕ → Meaning
+member_of_number m t None = Nothing
+member_of_number m t (Some i) = member_meaning m i (kind_in (Some t) i)
+
+abbrev pub member_in : ℕ → MonitorTree → NameTree → Meaning
+member_in m t name = member_of_number m t (member_number (Some t) name)
+
+-- the own monitor of a piece, none outside of monitors
+abbrev pub IsOwn : Scope → Option Own → Type 0
+IsOwn s None = own_monitor s.piece.role ≡ None
+IsOwn s (Some own) = (own_monitor s.piece.role ≡ Some own.monitor) × (t : MonitorTree)
+    × (slice_get s.unit.monitors own.monitor ≡ Some t) × IsMembers t own.members.now
+
+-- the names and types of a piece's parameters and locals
+abbrev pub IsLocals : List ParameterTree → List LocalTree → Standing → Type 0
+IsLocals ps ls st = IsTable (body_scope ps ls) st.locals × (st.kinds.items ≡ slot_kinds ps ls)
+
+abbrev pub IsStanding : Scope → Standing → Type 0
+IsStanding s st = IsLocals s.piece.parameters s.piece.body.locals st × IsOwn s st.own
