@@ -19,8 +19,8 @@ use Rattle.sourcemeaning.specs.declared.action.Action.{Action}
 use Rattle.sourcemeaning.specs.Programs.{Source, Statement, Prints}
 use Rattle.sourcemeaning.specs.States.{Before, Leaving, Ended}
 use Rattle.sourcemeaning.specs.Runs.{CanMove}
-use Rattle.simulation.specs.Code.{code_of, HasWords}
-use Rattle.simulation.specs.Seen.{member_counts, machine_end, source_end, end_by, process_end}
+use Rattle.simulation.specs.Code.{code_of, member_counts, HasWords}
+use Rattle.simulation.specs.Seen.{machine_end, source_end, end_by, process_end}
 use Rattle.simulation.specs.Pace.{stretch_length}
 use Rattle.simulation.specs.Refines.{Explained, Refines, Sleeps}
 use Rattle.simulation.proofs.Points.{Point, Boundary, Pushed, AtPending, AtClear, AtLast, Over, IsAt, numbers_of}

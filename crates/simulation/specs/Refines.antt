@@ -13,7 +13,8 @@ use Rattle.sourcemeaning.specs.declared.action.Action.{Action}
 use Rattle.sourcemeaning.specs.Programs.{Source}
 use Rattle.sourcemeaning.specs.States.{SourceState}
 use Rattle.sourcemeaning.specs.Runs.{IsRun, CanMove}
-use Rattle.simulation.specs.Seen.{member_counts, IsVariable, machine_end, source_end}
+use Rattle.simulation.specs.Code.{member_counts}
+use Rattle.simulation.specs.Seen.{IsVariable, machine_end, source_end}
 use Rattle.simulation.specs.Pace.{KeepsPace, stretch_length}
 
 -- the thread sleeps

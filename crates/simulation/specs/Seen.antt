@@ -1,5 +1,5 @@
 -- What is seen of a machine and of a source: variables and ends. (The output is a list in both.)
-use Rattle.std.specs.Prelude.{ℕ, ◌≡◌, ◌<◌, List, length, map, slice_get, Option, Some, None}
+use Rattle.std.specs.Prelude.{ℕ, ◌≡◌, ◌<◌, length, slice_get, Option, Some, None}
 use Rattle.words.specs.declared.outcome.Outcome.{Outcome}
 use Rattle.words.specs.declared.outcome.Outcome.TheVariants as outcome
 use Rattle.words.specs.Outcomes.{outcome_of}
@@ -9,10 +9,6 @@ use Rattle.locals.specs.Threads.{Thread, Runs, Dies, Exits}
 use Rattle.machine.specs.States.{State}
 use Rattle.sourcemeaning.specs.Programs.{Source, Monitor}
 use Rattle.sourcemeaning.specs.States.{SourceState, Process, Before, Leaving, Ended}
-
--- how many members each monitor has: its variables
-abbrev pub member_counts : Source → List ℕ
-member_counts p = map (λ m. length m.variables) p.monitors
 
 -- the monitor has such a variable
 abbrev pub IsVariable : Source → ℕ → ℕ → Type 0
