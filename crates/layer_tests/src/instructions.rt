@@ -345,8 +345,8 @@ fn forks(rt: HostRuntime) -> Result<(), Fail> {
         has_room: true,
     };
     assert_eq!(rt; parent.next_step(&image, THREAD), fork);
-    let child = parent.forked(&image, THREAD).ok_or("a child")?;
-    assert!(rt; child.equals(&opening_local(1, &[8, 9])) && child.forked(&image, THREAD).is_none());
+    let child = parent.child(&image, THREAD).ok_or("a child")?;
+    assert!(rt; child.equals(&opening_local(1, &[8, 9])) && child.child(&image, THREAD).is_none());
     let mut refused = parent.copy();
     give_zero(&image, &mut refused);
     let full = Fails(Fault::ProcessTableFull).step();

@@ -3,8 +3,8 @@ ghost use Rattle.std.specs.Prelude.{◌≡◌, ◌<◌, ◌∷◌, ℕ, Some, No
 ghost use Rattle.isa.specs.Limits.{most_instructions};
 ghost use Rattle.isa.specs.declared.instr.Instr.TheVariants.{Fork, Store, Print};
 ghost use Rattle.locals.specs.Looks.{Request as RequestOf, Asking, returned, on_one, on_two, on_three, on_five};
-ghost use Rattle.locals.specs.Requests.{answered, forked, CanBeAnswered};
-ghost use Rattle.locals.specs.Views.{running, looks, placed, Follows};
+ghost use Rattle.locals.specs.Requests.{after_answer, fork_child, CanBeAnswered};
+ghost use Rattle.locals.specs.Views.{running, looks, at_its_place, Follows};
 
 use crate::activation::Activation;
 use crate::progress::Answered;
@@ -16,7 +16,7 @@ impl Activation {
     /// Goes on with the answer to the request that it makes, if it makes one.
     pub fn go_on(&mut self, image: &Image, t: u32, answer: u32) -> Answered
         requires { CanBeAnswered (looks t (slice_get image.now.code self.old.place) self.old) answer }
-        ensures { Follows result (answered (looks t (slice_get image.now.code self.old.place) self.old) answer
+        ensures { Follows result (after_answer (looks t (slice_get image.now.code self.old.place) self.old) answer
             (running self.old)) self.new }
     {
         match image.at(self.place) {
@@ -28,7 +28,7 @@ impl Activation {
     fn answer(&mut self, instr: Instr, t: u32, answer: u32) -> Answered
         requires place { self.old.place < most_instructions }
         requires fits { CanBeAnswered (looks t (Some instr) self.old) answer }
-        ensures { Follows result (answered (looks t (Some instr) self.old) answer (running self.old)) self.new }
+        ensures { Follows result (after_answer (looks t (Some instr) self.old) answer (running self.old)) self.new }
     {
         match instr {
             Instr::Load => self.replace_one(answer),
@@ -54,8 +54,8 @@ impl Activation {
     fn replace_one(&mut self, answer: u32) -> Answered
         requires { self.old.place < most_instructions }
         ensures { (asks : ℕ → RequestOf)
-            → Follows result (answered
-            (placed self.old (on_one self.old.operands (λ a rest. Asking (asks a) (λ v. v ∷ rest)))) answer
+            → Follows result (after_answer
+            (at_its_place self.old (on_one self.old.operands (λ a rest. Asking (asks a) (λ v. v ∷ rest)))) answer
             (running self.old)) self.new }
     {
         if self.operands.pop().is_some() {
@@ -68,8 +68,8 @@ impl Activation {
     fn replace_two(&mut self, answer: u32) -> Answered
         requires { self.old.place < most_instructions }
         ensures { (asks : ℕ → ℕ → RequestOf)
-            → Follows result (answered
-            (placed self.old (on_two self.old.operands (λ a b rest. Asking (asks a b) (λ v. v ∷ rest)))) answer
+            → Follows result (after_answer
+            (at_its_place self.old (on_two self.old.operands (λ a b rest. Asking (asks a b) (λ v. v ∷ rest)))) answer
             (running self.old)) self.new }
     {
         if self.operands.pop_two().is_some() {
@@ -82,8 +82,8 @@ impl Activation {
     fn replace_three(&mut self, answer: u32) -> Answered
         requires { self.old.place < most_instructions }
         ensures { (asks : ℕ → ℕ → ℕ → RequestOf)
-            → Follows result (answered
-            (placed self.old (on_three self.old.operands (λ a b c rest. Asking (asks a b c) (λ v. v ∷ rest))))
+            → Follows result (after_answer
+            (at_its_place self.old (on_three self.old.operands (λ a b c rest. Asking (asks a b c) (λ v. v ∷ rest))))
             answer (running self.old)) self.new }
     {
         if self.operands.top_three().is_some() {
@@ -97,8 +97,8 @@ impl Activation {
     fn replace_five(&mut self, answer: u32) -> Answered
         requires { self.old.place < most_instructions }
         ensures { (asks : ℕ → ℕ → ℕ → ℕ → ℕ → RequestOf)
-            → Follows result (answered
-            (placed self.old (on_five self.old.operands
+            → Follows result (after_answer
+            (at_its_place self.old (on_five self.old.operands
             (λ a b c d e rest. Asking (asks a b c d e) (λ v. v ∷ rest)))) answer (running self.old)) self.new }
     {
         if self.operands.top_five().is_some() {
@@ -112,7 +112,7 @@ impl Activation {
     fn stored(&mut self) -> Answered
         requires { self.old.place < most_instructions }
         ensures { (answer : ℕ) → Follows result
-            (answered (looks 0 (Some Store) self.old) answer (running self.old)) self.new }
+            (after_answer (looks 0 (Some Store) self.old) answer (running self.old)) self.new }
     {
         if self.operands.pop_two().is_some() {
             self.place += 1;
@@ -123,7 +123,7 @@ impl Activation {
     fn printed(&mut self) -> Answered
         requires { self.old.place < most_instructions }
         ensures { (answer : ℕ) → Follows result
-            (answered (looks 0 (Some Print) self.old) answer (running self.old)) self.new }
+            (after_answer (looks 0 (Some Print) self.old) answer (running self.old)) self.new }
     {
         if self.operands.pop().is_some() {
             self.place += 1;
@@ -134,7 +134,7 @@ impl Activation {
     fn answer_fork(&mut self, entry: u32, count: u32, answer: u32) -> Answered
         requires place { self.old.place < most_instructions }
         requires fits { CanBeAnswered (looks 0 (Some (Fork entry count)) self.old) answer }
-        ensures { Follows result (answered (looks 0 (Some (Fork entry count)) self.old) answer (running self.old))
+        ensures { Follows result (after_answer (looks 0 (Some (Fork entry count)) self.old) answer (running self.old))
             self.new }
     {
         let count = count as usize;
@@ -152,7 +152,7 @@ impl Activation {
 
     fn answer_return(&mut self, answer: u32) -> Answered
         ensures { (request : RequestOf)
-            → Follows result (answered (returned request self.old.operands self.old.callers) answer
+            → Follows result (after_answer (returned request self.old.operands self.old.callers) answer
             (running self.old)) self.new }
     {
         if self.callers.is_empty() {
@@ -163,9 +163,9 @@ impl Activation {
     }
 
     /// The thread that it forks, where that is what it asks for.
-    pub fn forked(&self, image: &Image, t: u32) -> Option<Activation>
+    pub fn child(&self, image: &Image, t: u32) -> Option<Activation>
         ensures { let look = looks t (slice_get image.now.code self.now.place) self.now in
-            MatchOption result (forked look ≡ None) (λ child. forked look ≡ Some (running child)) }
+            MatchOption result (fork_child look ≡ None) (λ child. fork_child look ≡ Some (running child)) }
     {
         match image.at(self.place) {
             Some(Instr::Fork(entry, count)) if count as usize <= self.operands.len() => {

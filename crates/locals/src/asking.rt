@@ -5,7 +5,7 @@ ghost use Rattle.locals.specs.declared.request.NextStep.TheVariants as next;
 ghost use Rattle.locals.specs.Threads.{Locals as LocalsOf, Frame as FrameOf};
 ghost use Rattle.locals.specs.Looks.{Request as RequestOf, look_at, returned};
 ghost use Rattle.locals.specs.Requests.{next_step_of, request_step};
-ghost use Rattle.locals.specs.Views.{asked, local_where, looks, IsRequest, TakesTwo};
+ghost use Rattle.locals.specs.Views.{shared_where, local_where, looks, IsRequest, TakesTwo};
 
 use crate::activation::{Activation, MOST_OPERANDS};
 use crate::request::{NextStep, Request};
@@ -67,8 +67,8 @@ impl Activation {
 
     // A return, which is local where there is a caller.
     fn leaving(&self, request: Request) -> NextStep
-        ensures { (asked : RequestOf) → request_step asked ≡ next.Shared request
-            → result ≡ next_step_of (returned asked self.now.operands self.now.callers) }
+        ensures { (r : RequestOf) → request_step r ≡ next.Shared request
+            → result ≡ next_step_of (returned r self.now.operands self.now.callers) }
     {
         if self.callers.is_empty() {
             NextStep::Shared(request)
@@ -114,7 +114,7 @@ impl Activation {
     // What the instruction asks for with the operands that it takes, where there are so many.
     fn request(&self, instr: Instr) -> Option<Request>
         requires { IsRequest instr }
-        ensures { (t : ℕ) → next_step_of (looks t (Some instr) self.now) ≡ asked result }
+        ensures { (t : ℕ) → next_step_of (looks t (Some instr) self.now) ≡ shared_where result }
     {
         match instr {
             Instr::Load => Some(Request::Load(Addr(self.operands.top()?))),
@@ -150,7 +150,7 @@ fn request_of_two(instr: Instr, address: Addr, number: u32) -> Request
     requires { TakesTwo instr }
     ensures { (t place : ℕ) (rest : List ℕ) (locals : LocalsOf) (callers : List FrameOf)
         → next_step_of (look_at t (Some instr) place (number ∷ address.0 ∷ rest) locals callers)
-        ≡ asked (Some result) }
+        ≡ shared_where (Some result) }
 {
     match instr {
         Instr::Store => Request::Store(address, number),

@@ -4,7 +4,7 @@ ghost use Rattle.locals.specs.Limits.{most_operands};
 ghost use Rattle.locals.specs.Threads.{Exits, opening_thread};
 ghost use Rattle.locals.specs.Looks.{look};
 ghost use Rattle.locals.specs.Steps.{local_step};
-ghost use Rattle.locals.specs.Requests.{next_step_of, answered, forked, CanBeAnswered};
+ghost use Rattle.locals.specs.Requests.{next_step_of, after_answer, fork_child, CanBeAnswered};
 
 use crate::activation::Activation;
 use crate::progress::{Answered, Progress};
@@ -110,11 +110,11 @@ impl Local {
     }
 
     /// The thread that it forks, where that is what it asks for.
-    pub fn forked(&self, image: &Image, t: u32) -> Option<Local>
-        ensures { result ≡ forked (look image.now t self.now) }
+    pub fn child(&self, image: &Image, t: u32) -> Option<Local>
+        ensures { result ≡ fork_child (look image.now t self.now) }
     {
         match &self.stage {
-            Stage::Running(activation) => match activation.forked(image, t) {
+            Stage::Running(activation) => match activation.child(image, t) {
                 Some(child) => Some(Local {
                     stage: Stage::Running(child),
                 }),
@@ -128,7 +128,7 @@ impl Local {
     /// has no room is answered by 0 alone, that no thread can be made.
     pub fn go_on(&mut self, image: &Image, t: u32, answer: u32)
         requires { CanBeAnswered (look image.now t self.old) answer }
-        ensures { self.new ≡ answered (look image.now t self.old) answer self.old }
+        ensures { self.new ≡ after_answer (look image.now t self.old) answer self.old }
     {
         match &mut self.stage {
             Stage::Running(activation) => match activation.go_on(image, t, answer) {

@@ -11,11 +11,11 @@ use Rattle.robustexit.specs.declared.phase.ExitPhase.TheVariants.{Ended}
 use Rattle.locals.specs.declared.request.Request.{Request as Told}
 use Rattle.locals.specs.declared.request.NextStep.TheVariants as next
 use Rattle.locals.specs.Threads.{Thread, Exits}
-use Rattle.locals.specs.Steps.{gone}
+use Rattle.locals.specs.Steps.{local_next}
 use Rattle.locals.specs.Looks.{Request, AskLoad, AskStore, AskSwap, AskCas, AskOr, AskAdd, AskFork, AskPrint}
 use Rattle.locals.specs.Looks.{AskWait, AskWake, AskRequeue, AskReturn, AskReturnValue, AskFault, Look, Goes}
 use Rattle.locals.specs.Looks.{Asks, Leaves, Breaks, Rests, look}
-use Rattle.locals.specs.Requests.{request_step, next_step_of, answered, forked, CanBeAnswered, Answers}
+use Rattle.locals.specs.Requests.{request_step, next_step_of, after_answer, fork_child, CanBeAnswered, Answers}
 use Rattle.machine.specs.declared.served.Served.{Served as Given}
 use Rattle.machine.specs.declared.event.EventName.TheVariants as name
 use Rattle.machine.specs.declared.event.StepFault.{StepFault}
@@ -124,7 +124,7 @@ pub shared_so : (made t : ℕ) (c c' : Common) (l : Look) (x : Thread) (request 
     → next_step_of l ≡ next.Shared request
     → ((m : ℕ) → serve m t (asked_of request) c ≡ with_common (Ok g) c')
     → thread_step made t c l ≡ Ok
-        (record { common = c'; thread = answered l g.answer x; child = None; event = g.event })
+        (record { common = c'; thread = after_answer l g.answer x; child = None; event = g.event })
 shared_so made t c c' (Goes y) x request g is gives = absurd cc
 shared_so made t c c' (Asks r go) x request g is gives =
     ap (λ q. go_on_with go (serve made t q c)) (sym (asked_back r request is)) ∙ ap (go_on_with go) (gives made)
@@ -213,10 +213,10 @@ fork_step t c Rests x made answer room r asks h = absurd asks
 
 pub fork_full : (made t : ℕ) (c : Common) (l : Look) (x : Thread) (room : Bool) → AsksFork l room → made ≡ 64
     → thread_step made t c l ≡ Ok
-    (record { common = c; thread = answered l 0 x; child = None; event = plain name.Fork 0 })
+    (record { common = c; thread = after_answer l 0 x; child = None; event = plain name.Fork 0 })
 fork_full made t c l x room asks full = fork_step t c l x made 0 room _ asks (λ entry arguments go is.
     ap (go_on_with go) (cond-true _ _ _ (eq-eqb made 64 full))
-        ∙ (λ i. Ok (record { common = c; thread = answered (sym is i) 0 x; child = None; event =
+        ∙ (λ i. Ok (record { common = c; thread = after_answer (sym is i) 0 x; child = None; event =
         plain name.Fork 0 })))
 
 pub fork_no_room : (made t : ℕ) (c : Common) (l : Look) (x : Thread) (room : Bool) → AsksFork l room → made ≢ 64
@@ -227,17 +227,17 @@ fork_no_room made t c l x room asks ne none = fork_step t c l x made 0 room _ as
 pub fork_made : (made t number : ℕ) (c : Common) (l : Look) (x : Thread) (room : Bool) → AsksFork l room → made ≢ 64
     → room ≡ true → number ≡ made + 1
     → thread_step made t c l ≡ Ok
-        (record { common = set_word c (process_word number 2) number; thread = answered l number x; child =
-        forked l; event = plain name.Fork number })
+        (record { common = set_word c (process_word number 2) number; thread = after_answer l number x; child =
+        fork_child l; event = plain name.Fork number })
 fork_made made t number c l x room asks ne some is_number =
     let same : suc made ≡ number = omega (arith, is_number) in
     fork_step t c l x made number room _ asks (λ entry arguments go is.
     ap (go_on_with go) (cond-false _ _ _ (ne_eqb made 64 ne) ∙ cond-true _ _ _ some)
     ∙ (λ i. Ok (record { common = set_word c (process_word (same i) 2) (same i); thread =
-        answered (sym is i) (same i) x; child = forked (sym is i); event = plain name.Fork (same i) })))
+        after_answer (sym is i) (same i) x; child = fork_child (sym is i); event = plain name.Fork (same i) })))
 
 -- a local step
-pub local_so : (made t : ℕ) (c : Common) (l : Look) (x : Thread) → gone l ≡ Some x
+pub local_so : (made t : ℕ) (c : Common) (l : Look) (x : Thread) → local_next l ≡ Some x
     → thread_step made t c l ≡ Ok (record { common = c; thread = x; child = None; event = plain name.Local 0 })
 local_so made t c (Goes y) x h = let e : y ≡ x = cc in
     λ i. Ok (record { common = c; thread = e i; child = None; event = plain name.Local 0 })
@@ -246,7 +246,7 @@ local_so made t c (Leaves phase) x h = absurd cc
 local_so made t c Breaks x h = absurd cc
 local_so made t c Rests x h = absurd cc
 
-pub local_goes : (l : Look) → next_step_of l ≡ next.Local → gone l ≡ None → ⊥
+pub local_goes : (l : Look) → next_step_of l ≡ next.Local → local_next l ≡ None → ⊥
 local_goes (Goes y) is h = absurd cc
 local_goes (Asks r go) is h = no_local r is
 local_goes (Leaves phase) is h = absurd cc

@@ -81,8 +81,8 @@ concrete v = concrete_of v.words v.sleepers v.threads v.output
 
 -- the address of a member word of a monitor: before it stand the words of processes, the link word, the lock word and
 -- the members of each earlier monitor, and the monitor's own link word and lock word
-abbrev pub variable_address : Program → ℕ → ℕ → ℕ
-variable_address p monitor index = monitors_base + 2 * monitor + sum (take monitor p.monitors) + 2 + index
+abbrev pub variable_address : List ℕ → ℕ → ℕ → ℕ
+variable_address members monitor index = monitors_base + 2 * monitor + sum (take monitor members) + 2 + index
 
 -- an address as a number
 abbrev pub address_of : Option Addr → Option ℕ

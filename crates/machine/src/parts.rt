@@ -56,7 +56,7 @@ pub fn opening_threads(alloc: Global, image: &Image) -> Result<Vec<Local>, Alloc
 pub fn variable(image: &Image, monitor: u32, index: u32) -> Addr
     requires monitor { monitor < length image.now.monitors }
     requires index { index < slice_index image.now.monitors monitor }
-    ensures address { result.0 ≡ variable_address image.now monitor index }
+    ensures address { result.0 ≡ variable_address image.now.monitors monitor index }
     ensures within { result.0 < memory_size image.now }
 {
     let members = total(&image.monitors()[..monitor as usize]);

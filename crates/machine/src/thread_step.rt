@@ -98,7 +98,7 @@ pub fn take_fork(
     }
     let number = made + 1;
     shared.open_thread(number);
-    let child = local.forked(image, t);
+    let child = local.child(image, t);
     local.go_on(image, t, number);
     Ok((child, Event::new(EventName::Fork, number)))
 }

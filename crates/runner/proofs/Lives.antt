@@ -14,7 +14,7 @@ use Rattle.locals.specs.Looks.{AskWait, AskWake, AskRequeue, AskReturn, AskRetur
 use Rattle.locals.specs.Looks.{Asks, Leaves, Breaks, Rests, Effect, Then, Keeps, To, Tests, Asking, Trying, Calls}
 use Rattle.locals.specs.Looks.{Returns, ReturnsValue, Fails, Misses, Guards, Checks, effect, if_so, or_dies}
 use Rattle.locals.specs.Looks.{returned, at_place, look_at, look}
-use Rattle.locals.specs.Steps.{local_step, local_after, and_step, gone}
+use Rattle.locals.specs.Steps.{local_step, local_after, and_step, local_next}
 use Rattle.machine.specs.declared.event.StepFault.{StepFault}
 use Rattle.machine.specs.declared.event.StepFault.TheVariants as step
 use Rattle.machine.specs.declared.event.Event.{Event}
@@ -80,7 +80,7 @@ going p t (Exits ClearId) h = tt
 going p t (Exits LastWake) h = tt
 going p t (Exits Ended) h = absurd cc
 
-gone_lives : (l : Look) (x : Thread) → IsGoing l → gone l ≡ Some x → has_ended (Some x) ≡ false
+gone_lives : (l : Look) (x : Thread) → IsGoing l → local_next l ≡ Some x → has_ended (Some x) ≡ false
 gone_lives (Goes y) x h e = ap has_ended (sym e) ∙ h
 gone_lives (Asks request go) x h e = absurd cc
 gone_lives (Leaves phase) x h e = absurd cc
@@ -152,7 +152,7 @@ broken_went there t go (Err fault) f only is = ap Err (only.broken fault refl)
 
 broken_by : (there : ConcreteState) (made t : ℕ) (c : Common) (l : Look) (f : StepFault) → IsGoing l
     → Some f ≡ fault_of (thread_step made t c l)
-    → IsBroken (entry_end_by there (on_machine there t (thread_step made t c l)) (gone l))
+    → IsBroken (entry_end_by there (on_machine there t (thread_step made t c l)) (local_next l))
 broken_by there made t c (Goes x) f h is = absurd cc
 broken_by there made t c (Asks request go) f h is =
     broken_went there t go (serve made t request c) f (only_broken made t request c) is

@@ -5,7 +5,7 @@ use Rattle.std.proofs.lemmas.Bool.{cases_Bool, both_ways}
 use Rattle.isa.specs.Programs.{Program}
 use Rattle.locals.specs.Threads.{Thread}
 use Rattle.locals.specs.Looks.{Look, Goes, Asks, Leaves, Breaks, Rests, look}
-use Rattle.locals.specs.Steps.{gone}
+use Rattle.locals.specs.Steps.{local_next}
 use Rattle.machine.specs.declared.event.Event.{Event}
 use Rattle.machine.specs.declared.event.Entry.{Entry}
 use Rattle.machine.specs.declared.event.StepFault.{StepFault}
@@ -40,7 +40,7 @@ record IsEntry (p : Program) (k : ConcreteState) (s : EventStep) (k' : ConcreteS
   pub steps : replicate entry.local (local_step_of entry.thread) ++ shared_step_of entry.thread entry.event ≡ s ∷ []
 
 shared_entry : (p : Program) (k k' : ConcreteState) (s : EventStep) (x : Thread) → thread_of k s.thread ≡ Some x
-    → can_move k s.thread ≡ true → gone (look p s.thread x) ≡ None → step_of p k s.thread ≡ Ok (k', s.event)
+    → can_move k s.thread ≡ true → local_next (look p s.thread x) ≡ None → step_of p k s.thread ≡ Ok (k', s.event)
     → IsEntry p k s k'
 shared_entry p k k' s x stands moves shared gives = record {
   entry = record { thread = s.thread; local = 0; event = Some s.event };
@@ -66,15 +66,15 @@ entry_by p k k' s x (Goes y) is stands moves gives done =
         here = y;
         stands = stands;
         moves = moves;
-        goes = ap gone is;
+        goes = ap local_next is;
         ends = ap (λ (q : ConcreteState × Event). q.0) (sym same);
       };
       steps = λ i. record { thread = s.thread; event = (same i).1 } ∷ [];
     }
 entry_by p k k' s x (Asks request go) is stands moves gives done =
-    shared_entry p k k' s x stands moves (ap gone is) gives
+    shared_entry p k k' s x stands moves (ap local_next is) gives
 entry_by p k k' s x (Leaves phase) is stands moves gives done =
-    shared_entry p k k' s x stands moves (ap gone is) gives
+    shared_entry p k k' s x stands moves (ap local_next is) gives
 entry_by p k k' s x Breaks is stands moves gives done = absurd cc
 entry_by p k k' s x Rests is stands moves gives done = absurd cc
 

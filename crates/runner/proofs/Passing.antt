@@ -10,7 +10,7 @@ use Rattle.locals.specs.Threads.{Thread}
 use Rattle.locals.specs.Looks.{Request, AskLoad, AskStore, AskSwap, AskCas, AskOr, AskAdd, AskFork, AskPrint}
 use Rattle.locals.specs.Looks.{AskWait, AskWake, AskRequeue, AskReturn, AskReturnValue, AskFault, Look, Goes}
 use Rattle.locals.specs.Looks.{Asks, Leaves, Breaks, Rests, look}
-use Rattle.locals.specs.Steps.{local_step, local_after, gone}
+use Rattle.locals.specs.Steps.{local_step, local_after, local_next}
 use Rattle.machine.specs.declared.event.Event.{Event}
 use Rattle.machine.specs.declared.event.StepFault.{StepFault}
 use Rattle.machine.specs.declared.event.StepFault.TheVariants as step
@@ -170,8 +170,8 @@ free_step there k' t (Ok r) event given =
 free_step there k' t (Err fault) event given = absurd cc
 
 free_by : (there k' : ConcreteState) (made t : ℕ) (c : Common) (l : Look) (event : Option Event)
-    → entry_end_by there (on_machine there t (thread_step made t c l)) (gone l) ≡ Ok (k', event)
-    → IsFree (fault_of (thread_step made t c l)) (gone l) event
+    → entry_end_by there (on_machine there t (thread_step made t c l)) (local_next l) ≡ Ok (k', event)
+    → IsFree (fault_of (thread_step made t c l)) (local_next l) event
 free_by there k' made t c (Goes x) event given =
     record { free = refl; costs = ap (λ (q : ConcreteState × Option Event). event_cost q.1) (sym (inside _ _ given)) }
 free_by there k' made t c (Asks request go) event given =

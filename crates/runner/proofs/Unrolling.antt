@@ -7,7 +7,7 @@ use Rattle.std.proofs.lemmas.List.Sums.{sum_by-cons}
 use Rattle.isa.specs.Programs.{Program}
 use Rattle.locals.specs.Threads.{Thread}
 use Rattle.locals.specs.Looks.{Look, Goes, Asks, Leaves, Breaks, Rests, look}
-use Rattle.locals.specs.Steps.{local_step, local_after, and_step, gone}
+use Rattle.locals.specs.Steps.{local_step, local_after, and_step, local_next}
 use Rattle.machine.specs.declared.event.Event.{Event}
 use Rattle.machine.specs.declared.event.Entry.{Entry}
 use Rattle.machine.specs.declared.event.EventName.TheVariants as name
@@ -59,7 +59,7 @@ set_twice (z ∷ zs) (suc i) x y = ap (λ ws. z ∷ ws) (set_twice zs i x y)
 put_twice : (k : ConcreteState) (t : ℕ) (x y : Thread) → put_thread (put_thread k t x) t y ≡ put_thread k t y
 put_twice k t x y = λ i. record { common = k.common; threads = set_twice k.threads (t - 1) x y i }
 
-goes_local : (made t : ℕ) (c : Common) (l : Look) (x : Thread) → gone l ≡ Some x
+goes_local : (made t : ℕ) (c : Common) (l : Look) (x : Thread) → local_next l ≡ Some x
     → (let R : Type 0 = Result Stepped StepFault in
         (let a : R = thread_step made t c l in a)
         ≡ (let b : R = Ok (record { common = c; thread = x; child = None; event = plain name.Local 0 }) in b))

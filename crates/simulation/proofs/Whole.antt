@@ -13,13 +13,14 @@ use Rattle.robustexit.specs.declared.phase.ExitPhase.TheVariants.{Pending, Clear
 use Rattle.locals.specs.Threads.{Thread, Runs, Exits, fresh}
 use Rattle.locals.specs.Looks.{Look, Goes, Asks, Leaves, Rests, AskPrint, AskReturn, begun, look, look_at}
 use Rattle.machine.specs.States.{State}
+use Rattle.machine.specs.Views.{variable_address}
 use Rattle.machine.specs.Runs.{Step, CanStep, IsBroken, NextIsBroken}
 use Rattle.sourcemeaning.specs.declared.action.Action.{Action}
 use Rattle.sourcemeaning.specs.Programs.{Source, Statement, Prints}
 use Rattle.sourcemeaning.specs.States.{Before, Leaving, Ended}
 use Rattle.sourcemeaning.specs.Runs.{CanMove}
-use Rattle.simulation.specs.Code.{code_of, HasWords}
-use Rattle.simulation.specs.Seen.{variable_address, machine_end, source_end, end_by, process_end}
+use Rattle.simulation.specs.Code.{code_of, member_counts, HasWords}
+use Rattle.simulation.specs.Seen.{machine_end, source_end, end_by, process_end}
 use Rattle.simulation.specs.Pace.{stretch_length}
 use Rattle.simulation.specs.Refines.{Explained, Refines, Sleeps}
 use Rattle.simulation.proofs.Points.{Point, Boundary, Pushed, AtPending, AtClear, AtLast, Over, IsAt, numbers_of}
@@ -112,10 +113,10 @@ no_variable p AtLast m i = refl
 no_variable p Over m i = refl
 
 same_variable : (p : Source) (at : Point) (m i : ℕ)
-    → (machine_at p at).word (variable_address p m i) ≡ word_of ((source_at p at).variable m i)
+    → (machine_at p at).word (variable_address (member_counts p) m i) ≡ word_of ((source_at p at).variable m i)
 same_variable p at m i =
-    let a : 385 ≤ variable_address p m i = omega arith in
-    variable_word p at (variable_address p m i) a ∙ ap word_of (sym (no_variable p at m i))
+    let a : 385 ≤ variable_address (member_counts p) m i = omega arith in
+    variable_word p at (variable_address (member_counts p) m i) a ∙ ap word_of (sym (no_variable p at m i))
 
 same_output : (p : Source) (at : Point) → (machine_at p at).output ≡ (source_at p at).printed
 same_output p (Boundary done rest) = refl

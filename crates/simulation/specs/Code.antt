@@ -1,5 +1,5 @@
 -- The code of a source program.
-use Rattle.std.specs.Prelude.{List, [], ◌∷◌, ◌++◌, length, map, FitsSigned}
+use Rattle.std.specs.Prelude.{ℕ, List, [], ◌∷◌, ◌++◌, length, map, FitsSigned}
 use Rattle.std.specs.Int.{w32}
 use Rattle.words.specs.Signed.{word_of}
 use Rattle.isa.specs.declared.instr.Instr.{Instr}
@@ -15,10 +15,14 @@ abbrev pub statements_code : List Statement → List Instr
 statements_code [] = []
 statements_code (s ∷ ss) = statement_code s ++ statements_code ss
 
+-- how many members each monitor has: its variables
+abbrev pub member_counts : Source → List ℕ
+member_counts p = map (λ m. length m.variables) p.monitors
+
 -- a word for each variable of each monitor, and the main process's code from the start, up to its return
 abbrev pub code_of : Source → Program
 code_of p = record {
-  monitors = map (λ m. length m.variables) p.monitors;
+  monitors = member_counts p;
   start = 0;
   code = statements_code p.main ++ Ret ∷ [];
 }

@@ -7,12 +7,14 @@ use Rattle.locals.specs.declared.frame.Locals.{Locals}
 use Rattle.locals.specs.declared.frame.Frame.{Frame}
 use Rattle.locals.specs.Threads.{Thread, Runs}
 use Rattle.machine.specs.States.{State}
+use Rattle.machine.specs.Views.{variable_address}
 use Rattle.machine.specs.Runs.{Step, MachineRun, CanStep, NextIsBroken, has_ended}
 use Rattle.sourcemeaning.specs.declared.action.Action.{Action}
 use Rattle.sourcemeaning.specs.Programs.{Source}
 use Rattle.sourcemeaning.specs.States.{SourceState}
 use Rattle.sourcemeaning.specs.Runs.{IsRun, CanMove}
-use Rattle.simulation.specs.Seen.{variable_address, IsVariable, machine_end, source_end}
+use Rattle.simulation.specs.Code.{member_counts}
+use Rattle.simulation.specs.Seen.{IsVariable, machine_end, source_end}
 use Rattle.simulation.specs.Pace.{KeepsPace, stretch_length}
 
 -- the thread sleeps
@@ -54,7 +56,7 @@ pub record Explained (p : Source) (image : Program) (steps : List Step) (s : Sta
   pub run : IsRun p actions source
   -- the same is seen at both ends
   pub output : s.output ≡ source.printed
-  pub variables : (m i : ℕ) → IsVariable p m i → s.word (variable_address p m i) ≡ word_of (source.variable m i)
+  pub variables : (m i : ℕ) → IsVariable p m i → s.word (variable_address (member_counts p) m i) ≡ word_of (source.variable m i)
   pub ends : (q : ℕ) → machine_end s q ≡ source_end source q
   -- no wake was lost: where no thread can move, no process can
   pub at_rest : ((t : ℕ) → CanStep s t → ⊥) → (q : ℕ) → CanMove source q → ⊥

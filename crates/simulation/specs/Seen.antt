@@ -1,31 +1,14 @@
 -- What is seen of a machine and of a source: variables and ends. (The output is a list in both.)
-use Rattle.std.specs.Prelude.{ℕ, ◌≡◌, ◌<◌, ◌+◌, zero, suc, List, [], ◌∷◌, length, slice_get, Option, Some, None}
+use Rattle.std.specs.Prelude.{ℕ, ◌≡◌, ◌<◌, length, slice_get, Option, Some, None}
 use Rattle.words.specs.declared.outcome.Outcome.{Outcome}
 use Rattle.words.specs.declared.outcome.Outcome.TheVariants as outcome
 use Rattle.words.specs.Outcomes.{outcome_of}
-use Rattle.words.specs.Limits.{monitors_base}
 use Rattle.words.specs.Process.{process_word}
 use Rattle.robustexit.specs.declared.phase.ExitPhase.TheVariants.{Entry, Pending, ClearId, LastWake, Ended as Ended'}
 use Rattle.locals.specs.Threads.{Thread, Runs, Dies, Exits}
 use Rattle.machine.specs.States.{State}
 use Rattle.sourcemeaning.specs.Programs.{Source, Monitor}
 use Rattle.sourcemeaning.specs.States.{SourceState, Process, Before, Leaving, Ended}
-
--- how many words the monitors take
-abbrev pub words_of : List Monitor → ℕ
-words_of [] = 0
-words_of (m ∷ ms) = 2 + length m.variables + words_of ms
-
--- the words of the first so many of the monitors
-abbrev pub words_before : List Monitor → ℕ → ℕ
-words_before ms zero = 0
-words_before [] (suc n) = 0
-words_before (m ∷ ms) (suc n) = 2 + length m.variables + words_before ms n
-
--- the address of a monitor's variable, both by number from 0: monitors follow the words of all processes, each with its
--- link word, its lock word and its variables
-abbrev pub variable_address : Source → ℕ → ℕ → ℕ
-variable_address p m i = monitors_base + (words_before p.monitors m + (2 + i))
 
 -- the monitor has such a variable
 abbrev pub IsVariable : Source → ℕ → ℕ → Type 0
