@@ -37,7 +37,7 @@ one_bit x t some le = elim (cases_eq t x) [
   | inl e ↦ rw (e, eq-eqb x x refl, bit_at-pow_same (x - 1)) refl
   | inr ne ↦
       let apart : t - 1 ≢ x - 1 =
-          λ q. ne (let nz : x ≢ 0 = λ z. both_ways (eqb x 0) some (eq-eqb x 0 z) in omega (arith, q, nz, le)) in
+      λ q. ne (let nz : x ≢ 0 = λ z. both_ways (eqb x 0) some (eq-eqb x 0 z) in omega (arith, q, nz, le)) in
       rw (ne_eqb t x ne, bit_at-pow_other (x - 1) (t - 1) apart) refl
 ]
 
@@ -53,9 +53,9 @@ more_bits xs i bits is l all =
     let small : 2 ^ (t - 1) < 2 ^ 64 = pow-lt {i = t - 1} {j = 64} (omega (arith, in_range.0, in_range.1)) in
     let one : 1 * 2 ^ (t - 1) ≡ 2 ^ (t - 1) = omega arith in
     let fits : 1 * 2 ^ (t - 1) % 18446744073709551616 ≡ 2 ^ (t - 1) = ap (λ n. n % 18446744073709551616) one
-        ∙ mod-eq_of_lt small in
+    ∙ mod-eq_of_lt small in
     ap (bit_or bits) fits ∙ ap (λ n. bit_or n (2 ^ (t - 1))) is ∙ sym (bits_of-more (take i xs) t)
-        ∙ ap bits_of (sym (take_more xs i 0 l))
+    ∙ ap bits_of (sym (take_more xs i 0 l))
 
 pub sets_so : SetsSo
 sets_so [] t none le = ap (λ n. eqb n 1) (bit_at-zero (t - 1))

@@ -50,7 +50,7 @@ front_is q s a n woken ok choice is = elim (cases_lt (length woken) n) [
         let stands : names (q a) t ≡ true = names-get_or (q a) (length woken) 0 short in
         let chosen : names woken t ≡ true = choice.all less t (ok.sleeps t a stands) in
         absurd (both_ways (names (take (length woken) (q a)) t)
-            (names-front (q a) (length woken) 0 (ok.distinct a) short) (ap (λ xs. names xs t) (sym is) ∙ chosen))
+        (names-front (q a) (length woken) 0 (ok.distinct a) short) (ap (λ xs. names xs t) (sym is) ∙ chosen))
     | inr all ↦ is ∙ take_all (length woken) (q a) all ∙ sym (take_all n (q a) (omega (arith, all, less)))
   ]
   | inr more ↦ let e : length woken ≡ n = omega (arith, more, choice.few) in is ∙ ap (λ k. take k (q a)) e
@@ -60,7 +60,7 @@ rest_is : (s s' : Sleepers) (a n : ℕ) (woken : List ℕ) → TakesFront s s' a
     → queue s' ≡ put (queue s) a (drop n (queue s a))
 rest_is s s' a n woken takes is =
     one_list s s' a (drop n (queue s a)) (takes.rest ∙ ap (λ xs. drop (length xs) (queue s a)) is
-        ∙ sym (drop-take_length n (queue s a))) takes.others
+    ∙ sym (drop-take_length n (queue s a))) takes.others
 
 stays_list : (s s' : Sleepers) (a : ℕ) (woken : List ℕ) → TakesFront s s' a woken → woken ≡ [] → queue s' ≡ queue s
 stays_list s s' a woken takes none =
@@ -90,11 +90,11 @@ marks_if : (ws ws' : List ℕ) (s s' : Sleepers) (o : List ℤ) (t l : ℕ) (wok
 marks_if ws ws' s s' o t l woken ok gone takes long inside true is =
     let wakes : Wakes (place_of s) l 1 woken (place_of s') = rw is at gone.wakes in
     let words : ws' ≡ slice_set ws l (lock_word 0 true (waiters_of (word_of ws l))) =
-        set_is ws ws' l _ long inside gone.marks in
+    set_is ws ws' l _ long inside gone.marks in
     let one : woken ≡ take 1 (queue s l) = front_is (queue s) (place_of s) l 1 woken ok wakes.choice takes.front in
     let queues : queue s' ≡ put (queue s) l (drop 1 (queue s l)) = rest_is s s' l 1 woken takes one in
     let places : place_of s' ≡ with_place (place_of s) (take 1 (queue s l)) None = wakes.awake
-        ∙ ap (λ xs. with_place (place_of s) xs None) one in
+    ∙ ap (λ xs. with_place (place_of s) xs None) one in
     record {
       common = cond-true _ _ _ is
           ∙ (λ i. record { words = sym words i; queue = sym queues i; asleep = sym places i; output = o });
@@ -103,7 +103,7 @@ marks_if ws ws' s s' o t l woken ok gone takes long inside true is =
 marks_if ws ws' s s' o t l woken ok gone takes long inside false is =
     let wakes : Wakes (place_of s) l 0 woken (place_of s') = rw is at gone.wakes in
     let words : ws' ≡ slice_set ws l (lock_word 0 true (waiters_of (word_of ws l))) =
-        set_is ws ws' l _ long inside gone.marks in
+    set_is ws ws' l _ long inside gone.marks in
     let none : woken ≡ [] = no_threads woken wakes.choice.few in
     let queues : queue s' ≡ queue s = stays_list s s' l woken takes none in
     let places : place_of s' ≡ place_of s = wakes.awake ∙ ap (λ xs. with_place (place_of s) xs None) none in
@@ -130,12 +130,14 @@ one_woken : (ws ws' : List ℕ) (s s' : Sleepers) (o : List ℤ) (a : ℕ) (woke
 one_woken ws ws' s s' o a woken ok wakes takes long =
     let words : ws' ≡ ws = same_words ws ws' long wakes.same in
     let one : woken ≡ take 1 (queue s a) =
-        front_is (queue s) (place_of s) a 1 woken ok wakes.wakes.choice takes.front in
+    front_is (queue s) (place_of s) a 1 woken ok wakes.wakes.choice takes.front in
     let queues : queue s' ≡ put (queue s) a (drop 1 (queue s a)) = rest_is s s' a 1 woken takes one in
     let places : place_of s' ≡ with_place (place_of s) (take 1 (queue s a)) None = wakes.wakes.awake
-        ∙ ap (λ xs. with_place (place_of s) xs None) one in
-    record { common = λ i. record { words = sym words i; queue = sym queues i; asleep = sym places i; output = o };
-        woke = sym one }
+    ∙ ap (λ xs. with_place (place_of s) xs None) one in
+    record {
+      common = λ i. record { words = sym words i; queue = sym queues i; asleep = sym places i; output = o };
+      woke = sym one;
+    }
 
 -- what the code gives
 abbrev pub left : List ℕ → Sleepers → List ℤ → ExitPhase → ExitPhase → ℕ → List ℕ → Left
@@ -146,20 +148,28 @@ at_entry : (ws ws' : List ℕ) (s s' : Sleepers) (o : List ℤ) (t e seen : ℕ)
     → IsSoundly (queue s) (place_of s) → EntryStep (length ws) t e (shared ws s) woken (shared ws' s')
     → TakesFront s s' (e + 1) woken → length ws' ≡ length ws
     → IsEntry (length ws) e → next ≡ next_entry (word_of ws e) (seen + 1)
-        → leave_entry t e seen (common_of ws s o) ≡ left ws' s' o (Entry (record { 0 = e }) seen) next e woken
+    → leave_entry t e seen (common_of ws s o) ≡ left ws' s' o (Entry (record { 0 = e }) seen) next e woken
 at_entry ws ws' s s' o t e seen next woken ok (IsPending is idle) takes long entry goes =
     cond-false _ _ _ (ap not (entry_test (common_of ws s o) e entry)) ∙ cond-true _ _ _ (or_left _ _ (eq-eqb _ _ is))
-    ∙ (λ i. record { common = sym (idle_is ws ws' s s' o (e + 1) woken idle takes long) i; next =
-        sym goes i; event = event_of name.Entry e (sym idle.nobody i) [] })
+    ∙ (λ i. record {
+      common = sym (idle_is ws ws' s s' o (e + 1) woken idle takes long) i;
+      next =
+          sym goes i;
+      event = event_of name.Entry e (sym idle.nobody i) [];
+    })
 at_entry ws ws' s s' o t e seen next woken ok (IsForeign other idle) takes long entry goes =
     cond-false _ _ _ (ap not (entry_test (common_of ws s o) e entry))
-        ∙ cond-true _ _ _ (or_right _ _ (ap not (ne_eqb _ _ other)))
-    ∙ (λ i. record { common = sym (idle_is ws ws' s s' o (e + 1) woken idle takes long) i; next =
-        sym goes i; event = event_of name.Entry e (sym idle.nobody i) [] })
+    ∙ cond-true _ _ _ (or_right _ _ (ap not (ne_eqb _ _ other)))
+    ∙ (λ i. record {
+      common = sym (idle_is ws ws' s s' o (e + 1) woken idle takes long) i;
+      next =
+          sym goes i;
+      event = event_of name.Entry e (sym idle.nobody i) [];
+    })
 at_entry ws ws' s s' o t e seen next woken ok (IsOwned apart gone) takes long entry goes =
     let m = marks ws ws' s s' o t (e + 1) woken ok gone takes long entry.1 in
     cond-false _ _ _ (ap not (entry_test (common_of ws s o) e entry))
-        ∙ cond-false _ _ _ (or_from _ _ (ne_eqb _ _ apart) (ap not (eq-eqb _ _ gone.owned)))
+    ∙ cond-false _ _ _ (or_from _ _ (ne_eqb _ _ apart) (ap not (eq-eqb _ _ gone.owned)))
     ∙ (λ i. record { common = m.common i; next = sym goes i; event = event_of name.Entry e (m.woke i) [] })
 
 at_pending : (ws ws' : List ℕ) (s s' : Sleepers) (o : List ℤ) (t e : ℕ) (woken : List ℕ)
@@ -168,8 +178,12 @@ at_pending : (ws ws' : List ℕ) (s s' : Sleepers) (o : List ℤ) (t e : ℕ) (w
     → leave_pending t e (common_of ws s o) ≡ left ws' s' o Pending ClearId e woken
 at_pending ws ws' s s' o t e woken ok (NoEntry out idle) takes long =
     cond-true _ _ _ (ap not (false_from_ne_true _ (λ h. out (entry_so (common_of ws s o) e h))))
-    ∙ (λ i. record { common = sym (idle_is ws ws' s s' o (e + 1) woken idle takes long) i; next = ClearId; event =
-        event_of name.Pending e (sym idle.nobody i) [] })
+    ∙ (λ i. record {
+      common = sym (idle_is ws ws' s s' o (e + 1) woken idle takes long) i;
+      next = ClearId;
+      event =
+          event_of name.Pending e (sym idle.nobody i) [];
+    })
 at_pending ws ws' s s' o t e woken ok (IsForeign entry other wakes) takes long =
     let m = one_woken ws ws' s s' o (e + 1) woken ok wakes takes long in
     cond-false _ _ _ (ap not (entry_test (common_of ws s o) e entry)) ∙ cond-false _ _ _ (ne_eqb _ _ other)
@@ -187,28 +201,39 @@ value_of t phase ws woken = value_at t phase ws
 pub left_is : (ws ws' : List ℕ) (s s' : Sleepers) (o : List ℤ) (t : ℕ) (phase next : ExitPhase) (woken : List ℕ)
     → IsSoundly (queue s) (place_of s) → process_word t 5 < length ws
     → ExitStep (length ws) t phase (shared ws s) woken (shared ws' s') next
-        → TakesFront s s' (wake_word t phase (word_of ws)) woken → length ws' ≡ length ws
+    → TakesFront s s' (wake_word t phase (word_of ws)) woken → length ws' ≡ length ws
     → leave t phase (common_of ws s o) ≡ left ws' s' o phase next (value_of t phase ws woken) woken
 left_is ws ws' s s' o t (Entry e seen) next woken ok block (inl r) takes long =
     at_entry ws ws' s s' o t e.0 seen next woken ok r.1 takes long r.0 r.2
 left_is ws ws' s s' o t (Entry e seen) next woken ok block (inr r) takes long =
     cond-true _ _ _ (ap not (false_from_ne_true _ (λ h. r.0 (entry_so (common_of ws s o) e.0 h))))
-    ∙ (λ i. record { common = sym (idle_is ws ws' s s' o (e.0 + 1) woken r.1 takes long) i; next =
-        sym r.2 i; event = event_of name.Entry e.0 (sym r.1.nobody i) [] })
+    ∙ (λ i. record {
+      common = sym (idle_is ws ws' s s' o (e.0 + 1) woken r.1 takes long) i;
+      next =
+          sym r.2 i;
+      event = event_of name.Entry e.0 (sym r.1.nobody i) [];
+    })
 left_is ws ws' s s' o t Pending next woken ok block r takes long =
     at_pending ws ws' s s' o t (word_of ws (process_word t 1)) woken ok r.0 takes long
-        ∙ (λ i. left ws' s' o Pending (sym r.1 i) (word_of ws (process_word t 1)) woken)
+    ∙ (λ i. left ws' s' o Pending (sym r.1 i) (word_of ws (process_word t 1)) woken)
 left_is ws ws' s s' o t ClearId next woken ok block r takes long =
     let words : ws' ≡ slice_set ws (process_word t 2) 0 =
-        set_is ws ws' (process_word t 2) 0 long (omega (arith, block)) (ap (λ (x : Shared). x.word) r.1) in
+    set_is ws ws' (process_word t 2) 0 long (omega (arith, block)) (ap (λ (x : Shared). x.word) r.1) in
     let queues : queue s' ≡ queue s = stays_list s s' (process_word t 2) woken takes r.0 in
     let places : place_of s' ≡ place_of s = ap (λ (x : Shared). x.asleep) r.1 in
-    λ i. record { common = record { words = sym words i; queue = sym queues i; asleep = sym places i; output = o };
-        next = sym r.2 i; event = event_of name.Clear 0 (sym r.0 i) [] }
+    λ i. record {
+      common = record { words = sym words i; queue = sym queues i; asleep = sym places i; output = o };
+      next = sym r.2 i;
+      event = event_of name.Clear 0 (sym r.0 i) [];
+    }
 left_is ws ws' s s' o t LastWake next woken ok block r takes long =
     let m = one_woken ws ws' s s' o (process_word t 2) woken ok r.0 takes long in
-    λ i. record { common = m.common i; next = sym r.1 i; event =
-        event_of name.Last (length (m.woke i)) (m.woke i) [] }
+    λ i. record {
+      common = m.common i;
+      next = sym r.1 i;
+      event =
+          event_of name.Last (length (m.woke i)) (m.woke i) [];
+    }
 left_is ws ws' s s' o t Ended next woken ok block r takes long = absurd r
 
 -- those woken are threads
@@ -217,5 +242,5 @@ pub left_threads : (s s' : Sleepers) (a : ℕ) (woken : List ℕ) → IsSoundly 
 left_threads s s' a woken ok known takes = λ k d l.
     let t : ℕ = get_or woken k d in
     let named : names (take (length woken) (queue s a)) t ≡ true = ap (λ xs. names xs t) (sym takes.front)
-        ∙ names-get_or woken k d l in
+    ∙ names-get_or woken k d l in
     known t a (ok.sleeps t a (names-take (length woken) t (queue s a) named))

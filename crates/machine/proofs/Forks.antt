@@ -41,7 +41,7 @@ thread-append : (xs : List Thread) (y : Thread) (u : ℕ)
 thread-append xs y zero = sym (put-there (thread_at xs) (suc (length xs)) (Some y) zero (λ e. absurd (omega arith)))
 thread-append xs y (suc u) =
     by_place (thread_at xs) (suc (length xs)) (Some y) (suc u) _ (λ e. ap (slice_get (xs ++ y ∷ [])) (omega arith)
-        ∙ get-append xs y) (λ ne. get-append_other xs y u (λ e. ne (ap suc e)))
+    ∙ get-append xs y) (λ ne. get-append_other xs y u (λ e. ne (ap suc e)))
 
 -- two places are written in either order
 put-swap : {A : Type 0} → (f : ℕ → A) (i j : ℕ) (v w : A) (u : ℕ) → i ≢ j
@@ -61,9 +61,9 @@ new_thread : (ts : List Thread) (t : ℕ) (x y z : Thread) (u : ℕ) → thread_
 new_thread ts t x y z u stands ne =
     let long : length (slice_set ts (t - 1) x) ≡ length ts = length-set ts (t - 1) x in
     let f : thread_at (slice_set ts (t - 1) x) ≡ put (thread_at ts) t (Some x) =
-        fun_ext (threads_put ts t x z stands) in
+    fun_ext (threads_put ts t x z stands) in
     thread-append (slice_set ts (t - 1) x) y u ∙ (λ i. put (f i) (suc (long i)) (Some y) u)
-        ∙ put-swap (thread_at ts) t (suc (length ts)) (Some x) (Some y) u ne
+    ∙ put-swap (thread_at ts) t (suc (length ts)) (Some x) (Some y) u ne
 
 -- the place of a test that went well, or not
 made : (k : ConcreteState) (t : ℕ) (go : ℕ → Thread) (b : Bool) (r : Result Served StepFault)
@@ -75,7 +75,7 @@ made k t go false r q h = absurd cc
 pub forks : (p : Program) (k k' : ConcreteState) (t : ℕ) (e : Event) (y : Thread) (go : ℕ → Thread) (entry : ℕ)
     (arguments : List ℕ) (has_room : Bool) → IsWellFormed p k → thread_of k t ≡ Some y → HasPlace k t
     → on_machine k t (go_on_with go (fork_at (length k.threads) k.common entry arguments has_room)) ≡ Ok (k', e)
-        → Steps p k k' t e (Asks (AskFork entry arguments has_room) go)
+    → Steps p k k' t e (Asks (AskFork entry arguments has_room) go)
 forks p k k' t e y go entry arguments has_room concrete stands place h = elim (cases_eq (length k.threads) 64) [
   | inl full ↦ stays p k k' t e (plain name.Fork 0) y (AskFork entry arguments has_room) go 0 concrete stands refl
       (refl, inl (full, refl, refl))
@@ -83,7 +83,7 @@ forks p k k' t e y go entry arguments has_room concrete stands place h = elim (c
   | inr ne ↦
       let child : ℕ = suc (length k.threads) in
       let o = made k t go has_room _ (k', e)
-          (ap (λ o. on_machine k t (go_on_with go o)) (sym (cond-false _ _ _ (ne_eqb _ _ ne))) ∙ h) in
+      (ap (λ o. on_machine k t (go_on_with go o)) (sym (cond-false _ _ _ (ne_eqb _ _ ne))) ∙ h) in
       let x : Thread = go child in
       let made_one : Thread = opening_thread entry arguments in
       let threads : List Thread = slice_set k.threads (t - 1) x ++ made_one ∷ [] in
@@ -91,18 +91,18 @@ forks p k k' t e y go entry arguments has_room concrete stands place h = elim (c
       let is = inside _ (k', e) o.1 in
       let k'-is : k' ≡ record { common = c; threads = threads } = ap (λ (q : ConcreteState × Event). q.0) (sym is) in
       let long : length threads ≡ child = length-append (slice_set k.threads (t - 1) x) (made_one ∷ [])
-          ∙ omega (arith, length-set k.threads (t - 1) x) in
+      ∙ omega (arith, length-set k.threads (t - 1) x) in
       let few : length k.threads < 64 = omega (arith, concrete.few, ne) in
       let lies : process_word child 2 < length k.common.words = omega (arith, concrete.sized, few) in
       let size : length (slice_set k.common.words (process_word child 2) child) ≡ length k.common.words =
-          length-set k.common.words (process_word child 2) child in
+      length-set k.common.words (process_word child 2) child in
       let holds : Holds (memory_size p) child c =
-          holds-set _ _ k.common (process_word child 2) child
-          (holds-more _ _ child k.common (omega arith) (holds-concrete p k concrete)) in
+      holds-set _ _ k.common (process_word child 2) child
+      (holds-more _ _ child k.common (omega arith) (holds-concrete p k concrete)) in
       let word : (b : ℕ) → slice_index c.words b ≡ put (λ d. slice_index k.common.words d)
-          (process_word child 2) child b = words_put k.common.words (process_word child 2) child lies in
+      (process_word child 2) child b = words_put k.common.words (process_word child 2) child lies in
       let state : state_of (record { common = c; threads = threads })
-          ≡ with_thread (with_child (state_of k) entry arguments) t x = λ i. record {
+      ≡ with_thread (with_child (state_of k) entry arguments) t x = λ i. record {
         word = λ b. word b i;
         size = size i;
         made = long i;
@@ -114,8 +114,12 @@ forks p k k' t e y go entry arguments has_room concrete stands place h = elim (c
       record {
         woken = [];
         set = ap (λ (q : ConcreteState × Event). q.1.woken) (sym is);
-        moves = (child, with_child (state_of k) entry arguments, (refl, inr (few, o.0, refl, refl)),
-            ap state_of k'-is ∙ state);
+        moves = (
+          child,
+          with_child (state_of k) entry arguments,
+          (refl, inr (few, o.0, refl, refl)),
+          ap state_of k'-is ∙ state,
+        );
         concrete = rw k'-is (record {
           sized = holds.sized;
           some = omega (arith, long);

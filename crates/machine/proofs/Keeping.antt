@@ -65,7 +65,7 @@ pub holds-slept : (size n : ℕ) (c : Common) (t a : ℕ) → 1 ≤ t → t ≤ 
 unfolding IsDistinct
 holds-slept size n c t a some few free h =
     holds-arrived size n c a (t ∷ []) (one t) (λ u y. let e : t ≡ u = sym (eqb-true u t (only u y)) in
-        (ap c.asleep (sym e) ∙ free, (omega (arith, e), omega (arith, e)))) h where
+    (ap c.asleep (sym e) ∙ free, (omega (arith, e), omega (arith, e)))) h where
       one : (u : ℕ) → IsDistinct eqb (u ∷ [])
       one u = (tt, tt)
 
@@ -79,19 +79,25 @@ holds-moved size n c a b m h = elim (cases_eq a b) [
   | inr ne ↦
       let woke : Common = wake_front c a m in
       let xs : List ℕ = front c a m in
-      let late : Holds size n (record woke { queue = put woke.queue b (woke.queue b ++ xs); asleep =
-          with_place woke.asleep xs (Some b) }) =
+      let late : Holds size n (record woke {
+        queue = put woke.queue b (woke.queue b ++ xs);
+        asleep =
+            with_place woke.asleep xs (Some b);
+      }) =
       holds-arrived size n woke b xs (IsDistinct-take m (c.queue a) (h.sound.distinct a))
-          (λ t y. (placed c.asleep xs None t y, h.made t a (h.sound.sleeps t a (names-take m t (c.queue a) y))))
-          (holds-woke size n c a m h) in
+      (λ t y. (placed c.asleep xs None t y, h.made t a (h.sound.sleeps t a (names-take m t (c.queue a) y))))
+      (holds-woke size n c a m h) in
       let was : woke.queue b ≡ c.queue b = put-there c.queue a (drop m (c.queue a)) b (λ q. ne (sym q)) in
       let places : with_place woke.asleep xs (Some b) ≡ with_place c.asleep xs (Some b) =
-          with_place-again c.asleep xs None (Some b) in
+      with_place-again c.asleep xs None (Some b) in
       let is : move_front c a b m
-          ≡ record woke { queue = put woke.queue b (woke.queue b ++ xs); asleep =
-          with_place woke.asleep xs (Some b) } =
+      ≡ record woke {
+        queue = put woke.queue b (woke.queue b ++ xs);
+        asleep =
+            with_place woke.asleep xs (Some b);
+      } =
       cond-false _ _ _ (ne_eqb a b ne)
-          ∙ (λ i. record c { queue = put woke.queue b (sym was i ++ xs); asleep = sym places i }) in
+      ∙ (λ i. record c { queue = put woke.queue b (sym was i ++ xs); asleep = sym places i }) in
       rw is late
 ]
 

@@ -34,8 +34,15 @@ inside x y h = cc
 pub state_is : (k : ConcreteState) (t : ℕ) (x y : Thread) (c : Common) (w : ℕ → ℕ) → thread_of k t ≡ Some y
     → ((b : ℕ) → slice_index c.words b ≡ w b) → length c.words ≡ length k.common.words
     → state_of (record { common = c; threads = slice_set k.threads (t - 1) x })
-        ≡ record { word = w; size = length k.common.words; made = length k.threads; thread =
-        put (thread_of k) t (Some x); asleep = c.asleep; output = c.output }
+    ≡ record {
+      word = w;
+      size = length k.common.words;
+      made = length k.threads;
+      thread =
+          put (thread_of k) t (Some x);
+      asleep = c.asleep;
+      output = c.output;
+    }
 state_is k t x y c w stands word same = λ i. record {
   word = λ b. word b i;
   size = same i;
@@ -47,8 +54,15 @@ state_is k t x y c w stands word same = λ i. record {
 
 pub record Lands (p : Program) (k k' : ConcreteState) (t : ℕ) (e ev : Event) (x : Thread) (c : Common)
     (w : ℕ → ℕ) : Type 0 where
-  pub state : state_of k' ≡ record { word = w; size = length k.common.words; made = length k.threads; thread =
-      put (thread_of k) t (Some x); asleep = c.asleep; output = c.output }
+  pub state : state_of k' ≡ record {
+    word = w;
+    size = length k.common.words;
+    made = length k.threads;
+    thread =
+        put (thread_of k) t (Some x);
+    asleep = c.asleep;
+    output = c.output;
+  }
   pub event : e.woken ≡ ev.woken
   pub concrete : IsWellFormed p k'
 
@@ -56,12 +70,12 @@ pub lands : (p : Program) (k k' : ConcreteState) (t : ℕ) (e ev : Event) (x y :
     → IsWellFormed p k → thread_of k t ≡ Some y → Holds (memory_size p) (length k.threads) c
     → ((b : ℕ) → slice_index c.words b ≡ w b)
     → (let R : Type 0 = Result (ConcreteState × Event) StepFault in
-        (let a : R = Ok (record { common = c; threads = slice_set k.threads (t - 1) x }, ev) in a)
-        ≡ (let b : R = Ok (k', e) in b)) → Lands p k k' t e ev x c w
+    (let a : R = Ok (record { common = c; threads = slice_set k.threads (t - 1) x }, ev) in a)
+    ≡ (let b : R = Ok (k', e) in b)) → Lands p k k' t e ev x c w
 lands p k k' t e ev x y c w concrete stands holds word h =
     let is = inside _ (k', e) h in
     let k'-is : k' ≡ record { common = c; threads = slice_set k.threads (t - 1) x } =
-        ap (λ (q : ConcreteState × Event). q.0) (sym is) in
+    ap (λ (q : ConcreteState × Event). q.0) (sym is) in
     let long : length (slice_set k.threads (t - 1) x) ≡ length k.threads = length-set k.threads (t - 1) x in
     record {
       state = ap state_of k'-is ∙ state_is k t x y c w stands word (holds.sized ∙ sym concrete.sized);

@@ -51,16 +51,24 @@ entry_so c e h =
     (omega (arith, ne), ltb-true (e + 1) (length c.words) q.1, ltb-true (e + 1) 4294967296 r.1)
 
 pub entry_test : (c : Common) (e : ℕ) → IsEntry (length c.words) e → is_entry c e ≡ true
-entry_test c e h = rw (ne_eqb e 0 (λ z. absurd (let p = h.0 in omega (arith, p, z))),
-    lt-ltb (e + 1) (length c.words) h.1, lt-ltb (e + 1) 4294967296 h.2) refl
+entry_test c e h = rw (
+  ne_eqb e 0 (λ z. absurd (let p = h.0 in omega (arith, p, z))),
+  lt-ltb (e + 1) (length c.words) h.1,
+  lt-ltb (e + 1) 4294967296 h.2,
+) refl
 
 pub no_entry_so : (c : Common) (e : ℕ) → is_entry c e ≡ false → IsEntry (length c.words) e → ⊥
 no_entry_so c e h i = both_ways (is_entry c e) h (entry_test c e i)
 
 nobody_chosen : (s : ℕ → Option ℕ) (a : ℕ) → IsChoice s a 0 []
 unfolding IsDistinct
-nobody_chosen s a = record { distinct = tt; slept = λ t h. absurd cc; few = omega arith; all =
-    λ l. absurd (omega arith) }
+nobody_chosen s a = record {
+  distinct = tt;
+  slept = λ t h. absurd cc;
+  few = omega arith;
+  all =
+      λ l. absurd (omega arith);
+}
 
 -- a lock whose owner dies, by whether there may be waiters
 abandoned_if : Common → ℕ → Bool → Common
@@ -86,8 +94,11 @@ abandoning_if p k t l concrete inside owned true is =
       step = record {
         owned = owned;
         marks = λ i. put f l (lock_word 0 true (sym is i));
-        wakes = rw is (record { choice = choice-front k.common.queue k.common.asleep l 1 concrete.sound; awake =
-            refl });
+        wakes = rw is (record {
+          choice = choice-front k.common.queue k.common.asleep l 1 concrete.sound;
+          awake =
+              refl;
+        });
       };
     }
 abandoning_if p k t l concrete inside owned false is =
@@ -117,10 +128,14 @@ at_entry : (p : Program) (k : ConcreteState) (t e seen : ℕ) → IsWellFormed p
     → is_entry k.common e ≡ b
     → (d : Bool) → (eqb (load k.common (process_word t 1)) e || not (eqb (owner_of (load k.common (e + 1))) t)) ≡ d
     → Leaving p k t (Entry (record { 0 = e }) seen)
-        (cond (not b) (record { common = k.common; next = Pending; event = plain name.Entry e })
+    (cond (not b) (record { common = k.common; next = Pending; event = plain name.Entry e })
     (cond d (record { common = k.common; next = next_entry (load k.common e) (seen + 1); event = plain name.Entry e })
-    (record { common = abandon k.common (e + 1); next = next_entry (load k.common e) (seen + 1); event =
-        event_of name.Entry e (abandon_wakes k.common (e + 1)) [] })))
+    (record {
+      common = abandon k.common (e + 1);
+      next = next_entry (load k.common e) (seen + 1);
+      event =
+          event_of name.Entry e (abandon_wakes k.common (e + 1)) [];
+    })))
 at_entry p k t e seen concrete place false is d so = record {
   woken = [];
   set = refl;
@@ -169,10 +184,18 @@ at_pending : (p : Program) (k : ConcreteState) (t e : ℕ) → IsWellFormed p k 
     → load k.common (process_word t 1) ≡ e → (b : Bool) → is_entry k.common e ≡ b
     → (d : Bool) → eqb (owner_of (load k.common (e + 1))) t ≡ d
     → Leaving p k t Pending (cond (not b) (record { common = k.common; next = ClearId; event = plain name.Pending e })
-    (cond d (record { common = abandon k.common (e + 1); next = ClearId; event =
-        event_of name.Pending e (abandon_wakes k.common (e + 1)) [] })
-    (record { common = wake_front k.common (e + 1) 1; next = ClearId; event =
-        event_of name.Pending e (front k.common (e + 1) 1) [] })))
+    (cond d (record {
+      common = abandon k.common (e + 1);
+      next = ClearId;
+      event =
+          event_of name.Pending e (abandon_wakes k.common (e + 1)) [];
+    })
+    (record {
+      common = wake_front k.common (e + 1) 1;
+      next = ClearId;
+      event =
+          event_of name.Pending e (front k.common (e + 1) 1) [];
+    })))
 at_pending p k t e concrete place named false is d so = record {
   woken = [];
   set = refl;
@@ -201,10 +224,19 @@ at_pending p k t e concrete place named true is false so =
       words = λ b. refl;
       holds = holds-woke _ _ k.common (e + 1) 1 (holds-concrete p k concrete);
       output = refl;
-      step = (rw named (IsForeign i (λ o. both_ways _ so (eq-eqb _ _ o))
-          (record { same = refl; wakes =
-          record { choice = choice-front k.common.queue k.common.asleep (e + 1) 1 concrete.sound; awake =
-          refl } })), refl);
+      step = (
+        rw named (IsForeign i (λ o. both_ways _ so (eq-eqb _ _ o))
+            (record {
+              same = refl;
+              wakes =
+                  record {
+                    choice = choice-front k.common.queue k.common.asleep (e + 1) 1 concrete.sound;
+                    awake =
+                        refl;
+                  };
+            })),
+        refl,
+      );
     }
 
 -- an exit that isn't over
@@ -234,8 +266,17 @@ leaving p k t LastWake runs concrete place = record {
   words = λ b. refl;
   holds = holds-woke _ _ k.common (process_word t 2) 1 (holds-concrete p k concrete);
   output = refl;
-  step = (record { same = refl; wakes =
-      record { choice = choice-front k.common.queue k.common.asleep (process_word t 2) 1 concrete.sound; awake =
-      refl } }, refl);
+  step = (
+    record {
+      same = refl;
+      wakes =
+          record {
+            choice = choice-front k.common.queue k.common.asleep (process_word t 2) 1 concrete.sound;
+            awake =
+                refl;
+          };
+    },
+    refl,
+  );
 }
 leaving p k t Ended runs concrete place = absurd runs

@@ -52,13 +52,13 @@ pub threads_put : (threads : List Thread) (t : ℕ) (x y : Thread) → thread_at
     → thread_at (slice_set threads (t - 1) x) u ≡ put (thread_at threads) t (Some x) u
 threads_put threads t x y h u =
     by_place (thread_at threads) t (Some x) u _ (λ e. ap (thread_at (slice_set threads (t - 1) x)) e
-        ∙ thread_at-put threads t y x h) (thread_at-other threads t u x y h)
+    ∙ thread_at-put threads t y x h) (thread_at-other threads t u x y h)
 
 pub words_put : (ws : List ℕ) (a v : ℕ) → a < length ws → (b : ℕ)
     → slice_index (slice_set ws a v) b ≡ put (λ c. slice_index ws c) a v b
 words_put ws a v h b =
     by_place (λ c. slice_index ws c) a v b _ (λ e. ap (slice_index (slice_set ws a v)) e
-        ∙ get_or-set_same ws a v 0 h) (get_or-set_other ws a b v 0)
+    ∙ get_or-set_same ws a v 0 h) (get_or-set_other ws a b v 0)
 
 -- the value at the place, and those at the others
 pub put-here : {A : Type 0} → (f : ℕ → A) (i : ℕ) (v : A) (j : ℕ) → j ≡ i → put f i v j ≡ v

@@ -57,8 +57,11 @@ output_moved false c d h = h
 
 moved_quiet : (c : Common) (a b n : ℕ) → (move_front c a b n).output ≡ c.output
 moved_quiet c a b n = output_moved (eqb a b) c
-    (record c { queue = put (put c.queue a (drop n (c.queue a))) b (c.queue b ++ front c a n); asleep =
-    with_place c.asleep (front c a n) (Some b) }) refl
+    (record c {
+      queue = put (put c.queue a (drop n (c.queue a))) b (c.queue b ++ front c a n);
+      asleep =
+          with_place c.asleep (front c a n) (Some b);
+    }) refl
 
 served : (made t : ℕ) (r : Request) (c : Common) → Prints c (serve made t r c)
 served made t (AskLoad a) c = prints_if c _ _ _ (prints_ok c _ (still _)) (prints_err c _)
@@ -78,10 +81,10 @@ served made t (AskWait a expected) c =
 served made t (AskWake a n) c = prints_if c _ _ _ (prints_ok c _ (still _)) (prints_err c _)
 served made t (AskRequeue a b n m expected) c =
     prints_if c (ltb a (length c.words)) _ _
-        (prints_if c (ltb b (length c.words)) _ _
-        (prints_if c (eqb (load c a) expected) _ _
-        (prints_ok c _ (ap length (moved_quiet (wake_front c a n) a b m) ∙ still _)) (prints_ok c _ (still _)))
-        (prints_err c Broken)) (prints_err c Broken)
+    (prints_if c (ltb b (length c.words)) _ _
+    (prints_if c (eqb (load c a) expected) _ _
+    (prints_ok c _ (ap length (moved_quiet (wake_front c a n) a b m) ∙ still _)) (prints_ok c _ (still _)))
+    (prints_err c Broken)) (prints_err c Broken)
 served made t AskReturn c = prints_ok c _ (still _)
 served made t (AskReturnValue v) c = prints_ok c _ (still _)
 served made t (AskFault fault) c = prints_ok c _ (still _)
@@ -108,13 +111,13 @@ abandoned_quiet c l = both (waiters_of (load c l)) where
 left : (t : ℕ) (phase : ExitPhase) (c : Common) → Quiet c (leave t phase c)
 left t (Entry e seen) c =
     quiet_if c (not (is_entry c e.0)) _ _ (quiet_so c _ refl refl)
-        (quiet_if c (eqb (load c (process_word t 1)) e.0 || not (eqb (owner_of (load c (e.0 + 1))) t)) _ _
-        (quiet_so c _ refl refl) (quiet_so c _ (abandoned_quiet c (e.0 + 1)) refl))
+    (quiet_if c (eqb (load c (process_word t 1)) e.0 || not (eqb (owner_of (load c (e.0 + 1))) t)) _ _
+    (quiet_so c _ refl refl) (quiet_so c _ (abandoned_quiet c (e.0 + 1)) refl))
 left t Pending c =
     let e : ℕ = load c (process_word t 1) in
     quiet_if c (not (is_entry c e)) _ _ (quiet_so c _ refl refl)
-        (quiet_if c (eqb (owner_of (load c (e + 1))) t) _ _ (quiet_so c _ (abandoned_quiet c (e + 1)) refl)
-        (quiet_so c _ refl refl))
+    (quiet_if c (eqb (owner_of (load c (e + 1))) t) _ _ (quiet_so c _ (abandoned_quiet c (e + 1)) refl)
+    (quiet_so c _ refl refl))
 left t ClearId c = quiet_so c _ refl refl
 left t LastWake c = quiet_so c _ refl refl
 left t Ended c = quiet_so c _ refl refl

@@ -48,8 +48,11 @@ both_inside : (m a b n : ℕ) (x y : Bool) → ltb a n ≡ x → ltb b n ≡ y �
     → ((f : StepFault) → r ≡ Err f → ⊥)
     → Refuses m (cond x (cond y r (Err Broken)) (Err Broken)) (((a < n) × (b < n)) → ⊥)
 both_inside m a b n true true is is' r h =
-    record { so = λ few e. absurd (h Broken e); back = λ out. absurd (out (ltb-true a n is, ltb-true b n is'));
-    other = h CannotMove }
+    record {
+      so = λ few e. absurd (h Broken e);
+      back = λ out. absurd (out (ltb-true a n is, ltb-true b n is'));
+      other = h CannotMove;
+    }
 both_inside m a b n true false is is' r h =
     record { so = λ few e l. both_ways (ltb b n) is' (lt-ltb b n l.1); back = λ out. refl; other = λ e. absurd cc }
 both_inside m a b n false y is is' r h =
@@ -58,8 +61,12 @@ both_inside m a b n false y is is' r h =
 forks_if : (made : ℕ) (full room : Bool) → eqb made 64 ≡ full → (x y : Served)
     → Refuses made (cond full (Ok x) (cond room (Ok y) (Err Broken))) ((made < 64) × (room ≡ true → ⊥))
 forks_if made true room is x y =
-    record { so = λ few e. absurd cc; back =
-    λ a. absurd (let e = eqb-true made 64 is in let l = a.0 in omega (arith, e, l)); other = λ e. absurd cc }
+    record {
+      so = λ few e. absurd cc;
+      back =
+          λ a. absurd (let e = eqb-true made 64 is in let l = a.0 in omega (arith, e, l));
+      other = λ e. absurd cc;
+    }
 forks_if made false true is x y =
     record { so = λ few e. absurd cc; back = λ a. absurd (a.1 refl); other = λ e. absurd cc }
 forks_if made false false is x y =
@@ -165,7 +172,7 @@ awake_refuses : (p : Program) (k : ConcreteState) (t : ℕ) (x : Thread) (o : Op
 awake_refuses p k t x None stands awake h can =
     let same : x ≡ can.thread = some_is x can.thread (sym stands ∙ can.stands) in
     both_ways (has_ended (Some can.thread)) can.goes_on (ap (λ y. has_ended (Some y)) (sym same)
-        ∙ rests_ended p t x (look_rests k t (look p t x) h)) where
+    ∙ rests_ended p t x (look_rests k t (look p t x) h)) where
       some_is : (a b : Thread) → Some a ≡ Some b → a ≡ b
       some_is a b e = cc
 awake_refuses p k t x (Some a) stands awake h can = asleep_both a (k.common.asleep t) awake can.awake where
@@ -202,9 +209,9 @@ moves_thread k t a None awake stands h = absurd cc
 moves_thread k t (Some b) (Some x) awake stands h = absurd cc
 moves_thread k t None (Some x) awake stands h =
     record { thread = x; stands = stands; awake = awake; goes_on = unended _ h } where
-  unended : (b : Bool) → not b ≡ true → b ≡ false
-  unended true g = absurd cc
-  unended false g = refl
+      unended : (b : Bool) → not b ≡ true → b ≡ false
+      unended true g = absurd cc
+      unended false g = refl
 
 pub moves_so : MovesSo
 moves_so k t = (

@@ -32,7 +32,7 @@ names-split : (n t : ℕ) (xs : List ℕ) → names xs t ≡ true
     → (names (take n xs) t ≡ true) ⊎ (names (drop n xs) t ≡ true)
 names-split n t xs h =
     or_cases _ _ (sym (list_any-append (eqb t) (take n xs) (drop n xs))
-        ∙ ap (λ ys. names ys t) (take-append-drop n xs) ∙ h)
+    ∙ ap (λ ys. names ys t) (take-append-drop n xs) ∙ h)
 
 unnamed : (x : ℕ) (xs : List ℕ) → AllByRecursion (λ y. eqb x y ≡ false) xs → names xs x ≡ true → ⊥
 unnamed x [] a h = absurd cc
@@ -88,23 +88,23 @@ sound-wake q s a n ok = record {
     | inl y ↦ absurd (no_place b _ (placed s (take n (q a)) None t y) h)
     | inr out ↦ let stood : names (q b) t ≡ true = ok.stands t b (sym (unplaced s (take n (q a)) None t out) ∙ h) in
         elim (cases_eq b a) [
-      | inl e ↦ ap (λ xs. names xs t) (put-here q a (drop n (q a)) b e)
-          ∙ elim (names-split n t (q a) (ap (λ x. names (q x) t) (sym e) ∙ stood)) [
-        | inl f ↦ absurd (both_ways _ out f)
-        | inr r ↦ r
-      ]
-      | inr ne ↦ ap (λ xs. names xs t) (put-there q a (drop n (q a)) b ne) ∙ stood
-    ]
+          | inl e ↦ ap (λ xs. names xs t) (put-here q a (drop n (q a)) b e)
+              ∙ elim (names-split n t (q a) (ap (λ x. names (q x) t) (sym e) ∙ stood)) [
+                | inl f ↦ absurd (both_ways _ out f)
+                | inr r ↦ r
+              ]
+          | inr ne ↦ ap (λ xs. names xs t) (put-there q a (drop n (q a)) b ne) ∙ stood
+        ]
   ];
   sleeps = λ t b h. elim (cases_eq b a) [
     | inl e ↦ let r : names (drop n (q a)) t ≡ true = ap (λ xs. names xs t) (sym (put-here q a (drop n (q a)) b e))
         ∙ h in
         unplaced s (take n (q a)) None t (false_from_ne_true _ (λ f. names-apart n t (q a) (ok.distinct a) f r))
-            ∙ ok.sleeps t a (names-drop n t (q a) r) ∙ ap (λ x. Some x) (sym e)
+        ∙ ok.sleeps t a (names-drop n t (q a) r) ∙ ap (λ x. Some x) (sym e)
     | inr ne ↦ let sl : s t ≡ Some b =
         ok.sleeps t b (ap (λ xs. names xs t) (sym (put-there q a (drop n (q a)) b ne)) ∙ h) in
         unplaced s (take n (q a)) None t
-            (false_from_ne_true _ (λ f. ne (same_place b a (s t) sl (ok.sleeps t a (names-take n t (q a) f))))) ∙ sl
+        (false_from_ne_true _ (λ f. ne (same_place b a (s t) sl (ok.sleeps t a (names-take n t (q a) f))))) ∙ sl
   ];
   distinct = λ b. elim (cases_eq b a) [
     | inl e ↦ rw (put-here q a (drop n (q a)) b e) (IsDistinct-drop n (q a) (ok.distinct a))
@@ -121,19 +121,19 @@ sound-arrive q s b xs d free ok = record {
         ap (λ ys. names ys t) (put-here q b (q b ++ xs) c e) ∙ joined t ∙ or_right (names (q b) t) _ y
     | inr out ↦ let stood : names (q c) t ≡ true = ok.stands t c (sym (unplaced s xs (Some b) t out) ∙ h) in
         elim (cases_eq c b) [
-      | inl e ↦ ap (λ ys. names ys t) (put-here q b (q b ++ xs) c e) ∙ joined t
-          ∙ or_left (names (q b) t) _ (ap (λ x. names (q x) t) (sym e) ∙ stood)
-      | inr ne ↦ ap (λ ys. names ys t) (put-there q b (q b ++ xs) c ne) ∙ stood
-    ]
+          | inl e ↦ ap (λ ys. names ys t) (put-here q b (q b ++ xs) c e) ∙ joined t
+              ∙ or_left (names (q b) t) _ (ap (λ x. names (q x) t) (sym e) ∙ stood)
+          | inr ne ↦ ap (λ ys. names ys t) (put-there q b (q b ++ xs) c ne) ∙ stood
+        ]
   ];
   sleeps = λ t c h. elim (cases_eq c b) [
     | inl e ↦ elim (or_cases (names (q b) t) (names xs t) (sym (joined t)
         ∙ ap (λ ys. names ys t) (sym (put-here q b (q b ++ xs) c e)) ∙ h)) [
-      | inl old ↦ let sl : s t ≡ Some b = ok.sleeps t b old in
-          unplaced s xs (Some b) t (false_from_ne_true _ (λ y. no_place b (s t) (free t y) sl)) ∙ sl
+          | inl old ↦ let sl : s t ≡ Some b = ok.sleeps t b old in
+              unplaced s xs (Some b) t (false_from_ne_true _ (λ y. no_place b (s t) (free t y) sl)) ∙ sl
               ∙ ap (λ x. Some x) (sym e)
-      | inr y ↦ placed s xs (Some b) t y ∙ ap (λ x. Some x) (sym e)
-    ]
+          | inr y ↦ placed s xs (Some b) t y ∙ ap (λ x. Some x) (sym e)
+        ]
     | inr ne ↦ let sl : s t ≡ Some c =
         ok.sleeps t c (ap (λ ys. names ys t) (sym (put-there q b (q b ++ xs) c ne)) ∙ h) in
         unplaced s xs (Some b) t (false_from_ne_true _ (λ y. no_place c (s t) (free t y) sl)) ∙ sl

@@ -101,7 +101,7 @@ steps_by : (p : Program) (k k' : ConcreteState) (t : ℕ) (e : Event) (y : Threa
     → on_machine k t (thread_step (length k.threads) t k.common l) ≡ Ok (k', e) → Steps p k k' t e l
 steps_by p k k' t e y (Goes x) next concrete stands awake h =
     let r = lands p k k' t e _ x y k.common (λ b. slice_index k.common.words b) concrete stands
-        (holds-concrete p k concrete) (λ b. refl) h in
+    (holds-concrete p k concrete) (λ b. refl) h in
     record { woken = []; set = r.event; moves = (refl, r.state); concrete = r.concrete }
 steps_by p k k' t e y (Asks (AskFork entry arguments has_room) go) next concrete stands awake h =
     forks p k k' t e y go entry arguments has_room concrete stands (has_place p k t y concrete stands) h
@@ -114,9 +114,14 @@ steps_by p k k' t e y (Leaves phase) next concrete stands awake h =
     record {
       woken = g.woken;
       set = r.event ∙ g.set;
-      moves = (record { word = g.word; asleep = l.common.asleep }, l.next, g.step, r.state
-          ∙ (λ i. with_thread (record (state_of k) { word = g.word; asleep = l.common.asleep; output = g.output i })
-          t (Exits l.next)));
+      moves = (
+        record { word = g.word; asleep = l.common.asleep },
+        l.next,
+        g.step,
+        r.state
+            ∙ (λ i. with_thread (record (state_of k) { word = g.word; asleep = l.common.asleep; output = g.output i })
+            t (Exits l.next)),
+      );
       concrete = r.concrete;
     }
 steps_by p k k' t e y Breaks next concrete stands awake h = absurd cc
@@ -143,9 +148,19 @@ pub steps_so : StepsSo
 steps_so p k k' t e concrete h =
     let d = done_by p k k' t e (thread_of k t) refl h in
     let s = steps_by p k k' t e d.thread (look p t d.thread)
-        (is_next p t d.thread) concrete d.stands d.awake d.done in
-    (s.woken, s.set, record { thread = d.thread; stands = d.stands; awake = d.awake; moves = s.moves; pauses =
-        refl }, s.concrete)
+    (is_next p t d.thread) concrete d.stands d.awake d.done in (
+      s.woken,
+      s.set,
+      record {
+        thread = d.thread;
+        stands = d.stands;
+        awake = d.awake;
+        moves = s.moves;
+        pauses =
+            refl;
+      },
+      s.concrete,
+    )
 
 zeros : (n b : ℕ) → slice_index (replicate n 0) b ≡ 0
 zeros zero b = refl
@@ -185,6 +200,12 @@ opens_so p = (
     asleep = λ t. None;
     output = [];
   }),
-  record { sized = opening_size (memory_size p); some = omega arith; few = omega arith; sound =
-      sound_opening; made = λ t a h. absurd cc },
+  record {
+    sized = opening_size (memory_size p);
+    some = omega arith;
+    few = omega arith;
+    sound =
+        sound_opening;
+    made = λ t a h. absurd cc;
+  },
 )

@@ -124,7 +124,7 @@ pub shared_so : (made t : ℕ) (c c' : Common) (l : Look) (x : Thread) (request 
     → next_step_of l ≡ next.Shared request
     → ((m : ℕ) → serve m t (asked_of request) c ≡ with_common (Ok g) c')
     → thread_step made t c l ≡ Ok
-        (record { common = c'; thread = after_answer l g.answer x; child = None; event = g.event })
+    (record { common = c'; thread = after_answer l g.answer x; child = None; event = g.event })
 shared_so made t c c' (Goes y) x request g is gives = absurd cc
 shared_so made t c c' (Asks r go) x request g is gives =
     ap (λ q. go_on_with go (serve made t q c)) (sym (asked_back r request is)) ∙ ap (go_on_with go) (gives made)
@@ -201,10 +201,10 @@ can_answer_fork Rests room answer asks h = tt
 fork_step : (t : ℕ) (c : Common) (l : Look) (x : Thread) (made answer : ℕ) (room : Bool)
     (r : Result Stepped StepFault) → AsksFork l room
     → ((entry : ℕ) (arguments : List ℕ) (go : ℕ → Thread) → l ≡ Asks (AskFork entry arguments room) go
-        → thread_step made t c (Asks (AskFork entry arguments room) go) ≡ r) → thread_step made t c l ≡ r
+    → thread_step made t c (Asks (AskFork entry arguments room) go) ≡ r) → thread_step made t c l ≡ r
 fork_step t c (Asks (AskFork entry arguments has_room) go) x made answer room r asks h =
     ap (λ b. thread_step made t c (Asks (AskFork entry arguments b) go)) asks
-        ∙ h entry arguments go (ap (λ b. Asks (AskFork entry arguments b) go) asks)
+    ∙ h entry arguments go (ap (λ b. Asks (AskFork entry arguments b) go) asks)
 fork_step t c (Asks request go) x made answer room r asks h = absurd asks
 fork_step t c (Goes y) x made answer room r asks h = absurd asks
 fork_step t c (Leaves phase) x made answer room r asks h = absurd asks
@@ -216,8 +216,13 @@ pub fork_full : (made t : ℕ) (c : Common) (l : Look) (x : Thread) (room : Bool
     (record { common = c; thread = after_answer l 0 x; child = None; event = plain name.Fork 0 })
 fork_full made t c l x room asks full = fork_step t c l x made 0 room _ asks (λ entry arguments go is.
     ap (go_on_with go) (cond-true _ _ _ (eq-eqb made 64 full))
-        ∙ (λ i. Ok (record { common = c; thread = after_answer (sym is i) 0 x; child = None; event =
-        plain name.Fork 0 })))
+    ∙ (λ i. Ok (record {
+      common = c;
+      thread = after_answer (sym is i) 0 x;
+      child = None;
+      event =
+          plain name.Fork 0;
+    })))
 
 pub fork_no_room : (made t : ℕ) (c : Common) (l : Look) (x : Thread) (room : Bool) → AsksFork l room → made ≢ 64
     → room ≡ false → thread_step made t c l ≡ Err Broken
@@ -227,14 +232,24 @@ fork_no_room made t c l x room asks ne none = fork_step t c l x made 0 room _ as
 pub fork_made : (made t number : ℕ) (c : Common) (l : Look) (x : Thread) (room : Bool) → AsksFork l room → made ≢ 64
     → room ≡ true → number ≡ made + 1
     → thread_step made t c l ≡ Ok
-        (record { common = set_word c (process_word number 2) number; thread = after_answer l number x; child =
-        fork_child l; event = plain name.Fork number })
+    (record {
+      common = set_word c (process_word number 2) number;
+      thread = after_answer l number x;
+      child =
+          fork_child l;
+      event = plain name.Fork number;
+    })
 fork_made made t number c l x room asks ne some is_number =
     let same : suc made ≡ number = omega (arith, is_number) in
     fork_step t c l x made number room _ asks (λ entry arguments go is.
     ap (go_on_with go) (cond-false _ _ _ (ne_eqb made 64 ne) ∙ cond-true _ _ _ some)
-    ∙ (λ i. Ok (record { common = set_word c (process_word (same i) 2) (same i); thread =
-        after_answer (sym is i) (same i) x; child = fork_child (sym is i); event = plain name.Fork (same i) })))
+    ∙ (λ i. Ok (record {
+      common = set_word c (process_word (same i) 2) (same i);
+      thread =
+          after_answer (sym is i) (same i) x;
+      child = fork_child (sym is i);
+      event = plain name.Fork (same i);
+    })))
 
 -- a local step
 pub local_so : (made t : ℕ) (c : Common) (l : Look) (x : Thread) → local_next l ≡ Some x
@@ -262,8 +277,13 @@ exit_so made t c c' (Asks r go) phase nxt g is gives = absurd (no_exit r phase i
 exit_so made t c c' (Leaves p) phase nxt g is gives =
     let same : p ≡ phase = exit_is p phase is in
     (λ i. thread_step made t c (Leaves (same i)))
-        ∙ (λ i. Ok (record { common = (gives i).common; thread = Exits (gives i).next; child = None; event =
-        (gives i).event }))
+    ∙ (λ i. Ok (record {
+      common = (gives i).common;
+      thread = Exits (gives i).next;
+      child = None;
+      event =
+          (gives i).event;
+    }))
 exit_so made t c c' Breaks phase nxt g is gives = absurd cc
 exit_so made t c c' Rests phase nxt g is gives = absurd cc
 
@@ -321,7 +341,7 @@ pub fork_fault : (made t : ℕ) (c : Common) (l : Look) (room : Bool) → AsksFo
     → fault_of (thread_step made t c l) ≡ (if room || (made == 64) then None else Some Broken)
 fork_fault made t c (Asks (AskFork entry arguments has_room) go) room asks =
     fault_went go _ ∙ fork_fault_if (made == 64) has_room _ _
-        ∙ ap (λ (b : Bool). if b || (made == 64) then None else Some Broken) asks
+    ∙ ap (λ (b : Bool). if b || (made == 64) then None else Some Broken) asks
 fork_fault made t c (Asks request go) room asks = absurd asks
 fork_fault made t c (Goes y) room asks = absurd asks
 fork_fault made t c (Leaves phase) room asks = absurd asks

@@ -34,7 +34,7 @@ pub stepped : (p : Program) (k : ConcreteState) (t made : ℕ) (x : Thread) (r :
     → thread_step made t k.common (look p t x) ≡ r → step_of p k t ≡ on_machine k t r
 stepped p k t made x r stands awake counted done =
     ap (step_thread p k t) stands ∙ ap (step_awake p k t x) awake
-        ∙ ap (λ m. on_machine k t (thread_step m t k.common (look p t x))) (sym counted) ∙ ap (on_machine k t) done
+    ∙ ap (λ m. on_machine k t (thread_step m t k.common (look p t x))) (sym counted) ∙ ap (on_machine k t) done
 
 pub kept_after : (p : Program) (k k' : ConcreteState) (t : ℕ) (r : Result Event StepFault) → IsWellFormed p k
     → IfOk r (λ e. step_of p k t ≡ Ok (k', e)) → OnErr r (k' ≡ k) → IsWellFormed p k'

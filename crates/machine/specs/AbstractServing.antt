@@ -21,8 +21,10 @@ Lies s a = a < s.size
 abbrev pub with_child : State → ℕ → List ℕ → State
 with_child s entry arguments =
     let child = suc s.made in
-    record (with_word (with_thread s child (opening_thread entry arguments)) (process_word child 2) child) { made =
-        child }
+    record (with_word (with_thread s child (opening_thread entry arguments)) (process_word child 2) child) {
+      made =
+          child;
+    }
 
 -- a thread's outcome word is written
 abbrev pub with_outcome : State → ℕ → ℕ → State
@@ -50,11 +52,11 @@ Serves t (AskPrint number) s woken answer s' =
     Quietly woken ((answer ≡ 0) × (s' ≡ record s { output = s.output ++ signed_of number ∷ [] }))
 Serves t (AskWait a expected) s woken answer s' =
     Lies s a × Quietly woken (((after : ℕ → Option ℕ) × Sleeps s.word s.asleep t a expected after × (answer ≡ 0)
-        × (s' ≡ with_sleepers s after))
+    × (s' ≡ with_sleepers s after))
     ⊎ ((s.word a ≢ expected) × (answer ≡ 1) × (s' ≡ s)))
 Serves t (AskWake a n) s woken answer s' =
     Lies s a × (after : ℕ → Option ℕ) × Wakes s.asleep a n woken after × (answer ≡ length woken)
-        × (s' ≡ with_sleepers s after)
+    × (s' ≡ with_sleepers s after)
 Serves t (AskRequeue a b n m expected) s woken answer s' =
     Lies s a × Lies s b
     × (((moved : List ℕ) × (after : ℕ → Option ℕ) × Requeues s.word s.asleep a b n m expected woken moved after

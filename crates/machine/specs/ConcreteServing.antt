@@ -113,7 +113,7 @@ serve made t (AskStore a v) c = within c a (gives 0 (set_word c a v) (plain name
 serve made t (AskSwap a v) c = within c a (gives (load c a) (set_word c a v) (plain name.Swap (load c a)))
 serve made t (AskCas a expected new) c =
     within c a (gives (load c a) (if load c a == expected then set_word c a new else c)
-        (plain name.CompareSwap (load c a)))
+    (plain name.CompareSwap (load c a)))
 serve made t (AskOr a v) c =
     within c a (gives (load c a) (set_word c a (bit_or (load c a) v)) (plain name.FetchOr (load c a)))
 serve made t (AskAdd a v) c =

@@ -19,7 +19,7 @@ StepsSo =
     (p : Program) (k k' : ConcreteState) (t : ℕ) (e : Event) → IsWellFormed p k → step_of p k t ≡ Ok (k', e)
     → (woken : List ℕ) × (e.woken ≡ set_of woken)
     × IsStep p (state_of k) (record { thread = t; woken = woken; pauses = is_paused (state_of k') t }) (state_of k')
-        × IsWellFormed p k'
+    × IsWellFormed p k'
 
 -- a step is Broken exactly where the thread's next step may not be
 abbrev pub BreaksSo : Type 0

@@ -57,7 +57,8 @@ impl Common {
         ensures capacity { self.new.capacity ≡ self.old.capacity }
     {
         let head = self.words.load(block(t, ProcessWord::Head));
-        self.words.store(block(t, ProcessWord::Outcome), fault.number());
+        self.words
+            .store(block(t, ProcessWord::Outcome), fault.number());
         Served::quietly(head, EventName::Die, fault.number())
     }
 

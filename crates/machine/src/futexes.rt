@@ -65,7 +65,8 @@ impl Common {
     {
         check_address(&self.words, a)?;
         check_address(&self.words, b)?;
-        let Ok(requeued) = cmp_requeue(&self.words, &mut self.buckets, a, b, wake, moves, expected) else {
+        let Ok(requeued) = cmp_requeue(&self.words, &mut self.buckets, a, b, wake, moves, expected)
+        else {
             return Ok(Served::quietly(AGAIN, EventName::Requeue, AGAIN));
         };
         let count = requeued.count();

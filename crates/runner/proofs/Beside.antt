@@ -81,7 +81,7 @@ sleeps_awake : (t a expected : ℕ) (word : ℕ → ℕ) (before after : ℕ →
     → Sleeps word before t a expected after → StaysAwake t before after
 sleeps_awake t a expected word before after sleeps u other h =
     ap (λ (f : ℕ → Option ℕ). f u) sleeps.joins
-        ∙ ap (λ (b : Bool). cond (b || false) (Some a) (before u)) (ne_eqb u t other) ∙ h
+    ∙ ap (λ (b : Bool). cond (b || false) (Some a) (before u)) (ne_eqb u t other) ∙ h
 
 -- a move, of sleepers
 not_named : (b : ℕ) (n : Bool) (o : Option ℕ) → o ≡ None → (n ≡ true → ⊥) → cond n (Some b) o ≡ None
@@ -100,7 +100,7 @@ moves_awake : (t a b n : ℕ) (before after : ℕ → Option ℕ) (moved : List 
     → StaysAwake t before after
 moves_awake t a b n before after moved moves u other h =
     ap (λ (f : ℕ → Option ℕ). f u) moves.goes
-        ∙ not_named b (names moved u) (before u) h (λ named. elim (cases_eq a b) [
+    ∙ not_named b (names moved u) (before u) h (λ named. elim (cases_eq a b) [
       | inl e ↦ no_name moved u (moves.none e) named
       | inr apart ↦ clash (before u) a h ((moves.choice apart).slept u named)
     ])
@@ -109,7 +109,7 @@ requeues_awake : (t a b n m expected : ℕ) (word : ℕ → ℕ) (before after :
     → Requeues word before a b n m expected woken moved after → StaysAwake t before after
 requeues_awake t a b n m expected word before after woken moved r u other h =
     moves_awake t a b m (with_place before woken None) after moved r.moves u other
-        (wakes_awake t a n before (with_place before woken None) woken r.wakes u other h)
+    (wakes_awake t a n before (with_place before woken None) woken r.wakes u other h)
 
 -- what is served
 serves : (t : ℕ) (r : Request) (s : State) (woken : List ℕ) (answer : ℕ) (s' : State) → IsNumbered s

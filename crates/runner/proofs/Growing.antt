@@ -28,7 +28,7 @@ inside x y h = cc
 ends_by : (p : Program) (there : ConcreteState) (t : ℕ) (here : Thread) (new : ConcreteState) (event : Option Event)
     (r : Result (ConcreteState × Event) StepFault) (ls : Option Thread)
     → local_step p t here ≡ ls → step_of p there t ≡ r → entry_end_by there r ls ≡ Ok (new, event)
-        → Ends p there t here event new
+    → Ends p there t here event new
 ends_by p there t here new None r (Some to) is st h =
     sym (ap (λ (q : ConcreteState × Option Event). q.0) (inside _ _ h))
 ends_by p there t here new (Some e) r (Some to) is st h =
@@ -50,8 +50,15 @@ pub enters : (p : Program) (k new : ConcreteState) (t count : ℕ) (o here : Thr
     → thread_of k t ≡ Some o → can_move k t ≡ true → local_after p t count o ≡ Some here
     → entry_end p k t here ≡ Ok (new, event) → Enters p k (entry t count event) new
 enters p k new t count o here event stands moves goes gives =
-    record { origin = o; here = here; stands = stands; moves = moves; goes = goes; ends =
-        ends p k new t here event gives }
+    record {
+      origin = o;
+      here = here;
+      stands = stands;
+      moves = moves;
+      goes = goes;
+      ends =
+          ends p k new t here event gives;
+    }
 
 pub cost_more : (es : List Entry) (t n : ℕ) (e : Option Event)
     → cost (es ++ entry t n e ∷ []) ≡ cost es + (n + event_cost e)
@@ -69,22 +76,22 @@ same_event r k k' e e' a b = ap (λ (q : ConcreteState × Option Event). q.1) (i
 pub keeps : (p q q' : Program) (limit : ℕ) (h : LogState) (log : List Entry) (new : ConcreteState) (a : PieceView)
     (t steps limited extra : ℕ) (event : Option Event)
     → q' ≡ q → IsLegal p limit q h.concrete h.log steps limited
-        → local_after p a.thread a.count a.origin ≡ Some a.here
+    → local_after p a.thread a.count a.origin ≡ Some a.here
     → IsFine p limit h t a → entry_end q h.concrete t a.here ≡ Ok (new, event)
-        → log ≡ h.log ++ entry t a.count event ∷ [] → extra ≡ bool_byte (is_some event)
+    → log ≡ h.log ++ entry t a.count event ∷ [] → extra ≡ bool_byte (is_some event)
     → IsLegal p limit q' new log (steps + (a.count + extra)) limited
 keeps p q q' limit h log new a t steps limited extra event is' legal goes fine gives grows is_extra =
     let gives' : entry_end p h.concrete t a.here ≡ Ok (new, event) =
-        ap (λ x. entry_end x h.concrete t a.here) (sym legal.program) ∙ gives in
+    ap (λ x. entry_end x h.concrete t a.here) (sym legal.program) ∙ gives in
     let goes' : local_after p t a.count a.origin ≡ Some a.here =
-        ap (λ k. local_after p k a.count a.origin) (sym fine.stands.0) ∙ goes in
+    ap (λ k. local_after p k a.count a.origin) (sym fine.stands.0) ∙ goes in
     let same : fine.event ≡ event = same_event _ _ _ _ _ fine.gives gives' in
     let costs : event_cost fine.event ≡ extra = ap event_cost same ∙ event_byte event ∙ sym is_extra in
     let all : cost log ≡ cost h.log + (a.count + event_cost event) = ap cost grows
-        ∙ cost_more h.log t a.count event in
+    ∙ cost_more h.log t a.count event in
     let here : event_cost event ≡ extra = event_byte event ∙ sym is_extra in
     let runs' = runs_more p (opening_concrete p) h.concrete new h.log (entry t a.count event) legal.legal
-        (enters p h.concrete new t a.count a.origin a.here event fine.stands.1 fine.moves goes' gives') in
+    (enters p h.concrete new t a.count a.origin a.here event fine.stands.1 fine.moves goes' gives') in
     record {
       program = is' ∙ legal.program;
       legal = (let P : List Entry → Type 0 = λ l. Runs p (opening_concrete p) l new in subst P (sym grows) runs');
@@ -107,11 +114,11 @@ keeps_entry p q q' q'' limit k k' new log log' log'' e steps limited extra legal
     turn grows is_extra =
     let program : q' ≡ p = same ∙ legal.program in
     let enters : Enters p k e new =
-        subst (λ (x : Program). Enters x k e new) program
-        (subst (λ (x : ConcreteState). Enters q' x e new) there one) in
+    subst (λ (x : Program). Enters x k e new) program
+    (subst (λ (x : ConcreteState). Enters q' x e new) there one) in
     let grown : log'' ≡ log ++ e ∷ [] = grows ∙ ap (λ (l : List Entry). l ++ e ∷ []) before in
     let all : cost log'' ≡ cost log + (e.local + event_cost e.event) = ap cost grown
-        ∙ cost_more log e.thread e.local e.event in
+    ∙ cost_more log e.thread e.local e.event in
     let last : event_cost e.event ≡ extra = event_byte e.event ∙ sym is_extra in
     record {
       program = same' ∙ program;

@@ -42,13 +42,13 @@ no_step (Some x) h = absurd cc
 pub enters_by : (p q : Program) (k mid new : ConcreteState) (t n : ℕ) (o here x : Thread) (e : Event)
     → can_move k t ≡ true → thread_of k t ≡ Some o → local_after p t n o ≡ Some here
     → q ≡ p → mid ≡ put_thread k t here → thread_of mid t ≡ Some x → false ≡ is_some (local_step q t x)
-        → step_of q mid t ≡ Ok (new, e) → Enters p k (entry t n (Some e)) new
+    → step_of q mid t ≡ Ok (new, e) → Enters p k (entry t n (Some e)) new
 enters_by p q k mid new t n o here x e moves stands goes is there at shared steps =
     let same : Some x ≡ Some here = sym at ∙ ap (λ m. thread_of m t) there
-        ∙ thread_at-put k.threads t o here stands in
+    ∙ thread_at-put k.threads t o here stands in
     let x_is : x ≡ here = cc in
     let none : local_step p t here ≡ None = sym (λ i. local_step (is i) t (x_is i))
-        ∙ no_step (local_step q t x) shared in
+    ∙ no_step (local_step q t x) shared in
     record {
       origin = o;
       here = here;

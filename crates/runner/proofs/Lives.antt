@@ -58,7 +58,7 @@ going_at place locals callers (Asking request answered) = tt
 going_at place locals callers (Trying request fault answered) = tt
 going_at place locals callers (Calls place' operands) =
     going_if (nat_lt (length callers) 15)
-        (Goes (Runs place' operands fresh (record { back = place + 1; locals = locals } ∷ callers))) refl
+    (Goes (Runs place' operands fresh (record { back = place + 1; locals = locals } ∷ callers))) refl
 going_at place locals callers (Returns operands) = going_back AskReturn operands callers
 going_at place locals callers (ReturnsValue v operands) = going_back (AskReturnValue v) operands callers
 going_at place locals callers (Fails fault) = refl
@@ -135,8 +135,8 @@ only_broken made t (AskWait a expected) c = only_within _ _ (only_either _ _ _)
 only_broken made t (AskWake a n) c = only_within _ _ (only_ok _)
 only_broken made t (AskRequeue a b n m expected) c =
     only_within (nat_lt a (length c.words)) (within c b (requeue_to c a b n m expected))
-        (only_within (nat_lt b (length c.words)) (requeue_to c a b n m expected)
-        (only_either (load c a == expected) _ _))
+    (only_within (nat_lt b (length c.words)) (requeue_to c a b n m expected)
+    (only_either (load c a == expected) _ _))
 only_broken made t AskReturn c = only_ok _
 only_broken made t (AskReturnValue v) c = only_ok _
 only_broken made t (AskFault fault) c = only_ok _
@@ -170,10 +170,13 @@ refuses p q limit h a t f same stands moves goes is =
     let origin : Some a.origin ≡ Some u.thread = sym stands.1 ∙ u.stands in
     let lives = after_lives p a.thread a.count a.origin a.here (ap has_ended origin ∙ u.lives) goes in
     let b = broken_by there (length h.concrete.threads) t h.concrete.common (look q t a.here) f
-        (going q t a.here lives) is in
-    (stands, moves, ap (λ x. entry_end x h.concrete t a.here) (sym same)
-        ∙ ap (λ d. entry_end_by there d (local_step q t a.here))
-        (step_there q h.concrete t a.origin a.here u.awake stands.1) ∙ b)
+    (going q t a.here lives) is in (
+      stands,
+      moves,
+      ap (λ x. entry_end x h.concrete t a.here) (sym same)
+          ∙ ap (λ d. entry_end_by there d (local_step q t a.here))
+          (step_there q h.concrete t a.origin a.here u.awake stands.1) ∙ b,
+    )
 
 fault_there : (o : Option StepFault) → is_some o ≡ true → (f : StepFault) × (Some f ≡ o)
 fault_there None h = absurd cc

@@ -83,7 +83,7 @@ entry_of : (p : Program) (k k' : ConcreteState) (s : EventStep) → step_of p k 
 entry_of p k k' s gives =
     let d = done_by p k k' s.thread s.event (thread_of k s.thread) refl gives in
     entry_by p k k' s d.thread (look p s.thread d.thread) refl d.stands
-        (moved p k k' s.thread s.event gives) gives d.done
+    (moved p k k' s.thread s.event gives) gives d.done
 
 pub logs_so : LogsSo
 logs_so p k k' [] same = ([], same, refl)

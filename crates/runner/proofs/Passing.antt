@@ -61,7 +61,7 @@ ends_apart : (p : Program) (k k' : ConcreteState) (t : ℕ) (o here : Thread) (e
     → IsWellFormed p k → thread_of k t ≡ Some o → Ends p (put_thread k t here) t here event k' → Apart p k k' t
 ends_apart p k k' t o here None concrete stands is =
     subst (λ (q : ConcreteState). Apart p k q t) (sym is)
-        (record { beside = put_beside k t o here stands; concrete = kept_put p k t here concrete })
+    (record { beside = put_beside k t o here stands; concrete = kept_put p k t here concrete })
 ends_apart p k k' t o here (Some e) concrete stands is =
     let there = put_thread k t here in
     let s = steps_so p there k' t e (kept_put p k t here concrete) is.1 in
@@ -133,9 +133,9 @@ serve_stays made made' t (AskWake a n) c d e full h =
     within_stays a (length c.words) (length d.words) _ _ e (λ _. fine_ok _) h
 serve_stays made made' t (AskRequeue a b n m expected) c d e full h =
     within_stays a (length c.words) (length d.words) (within c b (requeue_to c a b n m expected))
-        (within d b (requeue_to d a b n m expected)) e
-        (within_stays b (length c.words) (length d.words) (requeue_to c a b n m expected)
-        (requeue_to d a b n m expected) e (λ _. either (load d a == expected) _ _)) h
+    (within d b (requeue_to d a b n m expected)) e
+    (within_stays b (length c.words) (length d.words) (requeue_to c a b n m expected)
+    (requeue_to d a b n m expected) e (λ _. either (load d a == expected) _ _)) h
 serve_stays made made' t AskReturn c d e full h = fine_ok _
 serve_stays made made' t (AskReturnValue v) c d e full h = fine_ok _
 serve_stays made made' t (AskFault fault) c d e full h = fine_ok _
@@ -153,7 +153,7 @@ fault_stays : (made made' t : ℕ) (c d : Common) (l : Look) → length c.words 
 fault_stays made made' t c d (Goes x) e full h = refl
 fault_stays made made' t c d (Asks request go) e full h =
     went_fine go (serve made' t request d)
-        (serve_stays made made' t request c d e full (fine_went go (serve made t request c) h))
+    (serve_stays made made' t request c d e full (fine_went go (serve made t request c) h))
 fault_stays made made' t c d (Leaves phase) e full h = refl
 fault_stays made made' t c d Breaks e full h = h
 fault_stays made made' t c d Rests e full h = h
@@ -199,17 +199,26 @@ entry_stays p k k' t u count event concrete a other moves e =
     let there = put_thread k u e.here in
     let made = length k.threads in
     let m = free_by there e.concrete made u k.common (look p u e.here) event
-        (ap (λ d. entry_end_by there d (local_step p u e.here))
-        (sym (step_there p k u e.origin e.here is.awake e.stands)) ∙ e.gives) in
+    (ap (λ d. entry_end_by there d (local_step p u e.here))
+    (sym (step_there p k u e.origin e.here is.awake e.stands)) ∙ e.gives) in
     let awake = a.beside.awake u other is.awake in
     let stands = a.beside.stay u e.origin other e.stands in
     let full : made ≡ 64 → length k'.threads ≡ 64 = λ h. omega (arith, a.beside.made, a.concrete.few) in
     let free = fault_stays made (length k'.threads) u k.common k'.common (look p u e.here) (concrete.sized
-        ∙ sym a.concrete.sized) full m.free in
+    ∙ sym a.concrete.sized) full m.free in
     let r = comes_in p k' u e.origin e.here awake stands free in (
       r.1,
-      record { origin = e.origin; here = e.here; concrete = r.0; stands = stands; goes = e.goes; turn =
-          e.turn; whole = e.whole; gives = r.2 },
+      record {
+        origin = e.origin;
+        here = e.here;
+        concrete = r.0;
+        stands = stands;
+        goes = e.goes;
+        turn =
+            e.turn;
+        whole = e.whole;
+        gives = r.2;
+      },
       r.3 ∙ sym m.costs,
     )
 
@@ -218,9 +227,10 @@ past_stays : (p : Program) (limit : ℕ) (h h' : LogState) (t u : ℕ) → IsWel
     → (can_move h.concrete u ≡ true) × PassesLimit p limit h.log h.concrete u
     → (can_move h'.concrete u ≡ true) × PassesLimit p limit h'.log h'.concrete u
 past_stays p limit h h' t u concrete a other more (moves, past) =
-    let r = entry_stays p h.concrete h'.concrete t u past.count past.event concrete a other moves past.entry in
-    (moves_stay p h.concrete h'.concrete t u a other moves,
-        record { count = past.count; event = r.0; entry = r.1; past = omega (arith, past.past, r.2) })
+    let r = entry_stays p h.concrete h'.concrete t u past.count past.event concrete a other moves past.entry in (
+      moves_stay p h.concrete h'.concrete t u a other moves,
+      record { count = past.count; event = r.0; entry = r.1; past = omega (arith, past.past, r.2) },
+    )
 
 clash : (let O : Type 0 = Option Bool in (let x : O = Some true in x) ≡ (let y : O = Some false in y)) → ⊥
 clash h = cc
@@ -233,7 +243,7 @@ all_past p limit old new t a refused concrete takes free past u is =
     let m = apart p old.concrete new.concrete t a.origin a.here takes.event concrete takes.stands.1 takes.gives in
     let other : u ≢ t = λ e. clash (sym is ∙ ap (slice_get refused) e ∙ free) in
     let more : cost new.log ≡ cost old.log + (a.count + event_cost takes.event) = ap cost takes.log
-        ∙ cost_more old.log t a.count takes.event in
+    ∙ cost_more old.log t a.count takes.event in
     past_stays p limit old new t u concrete m other (omega arith) (past u is)
 
 -- a thread that is refused now
@@ -281,7 +291,7 @@ pub none_step : (p : Program) (limit : ℕ) (old new : LogState) (was one : Bool
     → (was ≡ false → (u : ℕ) → u < t → can_move old.concrete u ≡ true → PassesLimit p limit old.log old.concrete u)
     → (one ≡ false → (new ≡ old) × (can_move new.concrete t ≡ true → PassesLimit p limit new.log new.concrete t))
     → (was || one) ≡ false → (u : ℕ) → u < t + 1 → can_move new.concrete u ≡ true
-        → PassesLimit p limit new.log new.concrete u
+    → PassesLimit p limit new.log new.concrete u
 none_step p limit old new true one t before here still u within moves = absurd cc
 none_step p limit old new false true t before here still u within moves = absurd cc
 none_step p limit old new false false t before here still u within moves =
@@ -296,7 +306,7 @@ none_step p limit old new false false t before here still u within moves =
 pub made_step : (limit : ℕ) (start old new : LogState) (was one : Bool)
     → (was ≡ true → (cost start.log < cost old.log) × (cost old.log ≤ limit))
     → (was ≡ false → start ≡ old) → (one ≡ false → new ≡ old)
-        → (one ≡ true → (cost old.log < cost new.log) × (cost new.log ≤ limit)) → (was || one) ≡ true
+    → (one ≡ true → (cost old.log < cost new.log) × (cost new.log ≤ limit)) → (was || one) ≡ true
     → (cost start.log < cost new.log) × (cost new.log ≤ limit)
 made_step limit start old new true true before none same here more = let a = before refl in let b = here refl in
     (omega arith, b.1)

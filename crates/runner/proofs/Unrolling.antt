@@ -48,7 +48,7 @@ put_back k zero x h = absurd cc
 put_back k (suc t) x h =
     let e : suc t - 1 ≡ t = omega arith in
     let s : slice_set k.threads (suc t - 1) x ≡ k.threads = ap (λ n. slice_set k.threads n x) e
-        ∙ set_back k.threads t x h in
+    ∙ set_back k.threads t x h in
     λ i. record { common = k.common; threads = s i }
 
 set_twice : {A : Type 0} → (xs : List A) (i : ℕ) (x y : A) → slice_set (slice_set xs i x) i y ≡ slice_set xs i y
@@ -61,8 +61,8 @@ put_twice k t x y = λ i. record { common = k.common; threads = set_twice k.thre
 
 goes_local : (made t : ℕ) (c : Common) (l : Look) (x : Thread) → local_next l ≡ Some x
     → (let R : Type 0 = Result Stepped StepFault in
-        (let a : R = thread_step made t c l in a)
-        ≡ (let b : R = Ok (record { common = c; thread = x; child = None; event = plain name.Local 0 }) in b))
+    (let a : R = thread_step made t c l in a)
+    ≡ (let b : R = Ok (record { common = c; thread = x; child = None; event = plain name.Local 0 }) in b))
 goes_local made t c (Goes y) x h = let e : y ≡ x = cc in
     ap (λ z. Ok (record { common = c; thread = z; child = None; event = plain name.Local 0 })) e
 goes_local made t c (Asks request go) x h = absurd cc
@@ -87,21 +87,21 @@ kept_put p k t x concrete =
 last_leads : (p : Program) (k : ConcreteState) (t n : ℕ) (o here : Thread) (mid : Option Thread)
     → k.common.asleep t ≡ None → thread_of k t ≡ Some o
     → ((m : Thread) → mid ≡ Some m → FrontRun p k (replicate n (local_step_of t)) (put_thread k t m))
-        → and_step p t mid ≡ Some here
+    → and_step p t mid ≡ Some here
     → FrontRun p k (replicate (suc n) (local_step_of t)) (put_thread k t here)
 last_leads p k t n o here None awake stands before after = absurd cc
 last_leads p k t n o here (Some m) awake stands before after =
     let there = put_thread k t m in
     let gives : step_of p there t ≡ Ok (put_thread there t here, plain name.Local 0) =
     step_there p k t o m awake stands
-        ∙ ap (on_machine there t) (goes_local (length k.threads) t k.common (look p t m) here after) in
+    ∙ ap (on_machine there t) (goes_local (length k.threads) t k.common (look p t m) here after) in
     let r = run_more p k there (put_thread there t here) (replicate n (local_step_of t)) (local_step_of t)
-        (before m refl) gives in
+    (before m refl) gives in
     let count : n + 1 ≡ suc n = omega arith in
     let e : replicate n (local_step_of t) ++ local_step_of t ∷ [] ≡ replicate (suc n) (local_step_of t) =
     replicate_more n (local_step_of t) ∙ ap (λ (j : ℕ). replicate j (local_step_of t)) count in
     subst (λ (q : ConcreteState). FrontRun p k (replicate (suc n) (local_step_of t)) q) (put_twice k t m here)
-        (subst (λ (xs : List EventStep). FrontRun p k xs (put_thread there t here)) e r)
+    (subst (λ (xs : List EventStep). FrontRun p k xs (put_thread there t here)) e r)
 
 locals_lead : (p : Program) (k : ConcreteState) (t n : ℕ) (o here : Thread) → k.common.asleep t ≡ None
     → thread_of k t ≡ Some o → local_after p t n o ≡ Some here
@@ -110,7 +110,7 @@ locals_lead p k t zero o here awake stands after = let e : o ≡ here = cc in
     sym (put_back k t here (stands ∙ ap Some e))
 locals_lead p k t (suc n) o here awake stands after =
     last_leads p k t n o here (local_after p t n o) awake stands
-        (λ m before. locals_lead p k t n o m awake stands before) after
+    (λ m before. locals_lead p k t n o m awake stands before) after
 
 -- the end of an entry
 ends_lead : (p : Program) (there k' : ConcreteState) (t : ℕ) (here : Thread) (event : Option Event)
@@ -126,14 +126,14 @@ entry_leads p k k' e enters =
     let there = put_thread k e.thread enters.here in
     run_on p k there k' (replicate e.local (local_step_of e.thread)) (shared_step_of e.thread e.event)
     (locals_lead p k e.thread e.local enters.origin enters.here u.awake enters.stands enters.goes)
-        (ends_lead p there k' e.thread enters.here e.event enters.ends)
+    (ends_lead p there k' e.thread enters.here e.event enters.ends)
 
 -- a log
 pub steps_so : StepsSo
 steps_so p k k' [] same = same
 steps_so p k k' (e ∷ es) runs =
     run_on p k runs.0 k' (replicate e.local (local_step_of e.thread) ++ shared_step_of e.thread e.event)
-        (steps_of es) (entry_leads p k runs.0 e runs.1) (steps_so p runs.0 k' es runs.2)
+    (steps_of es) (entry_leads p k runs.0 e runs.1) (steps_so p runs.0 k' es runs.2)
 
 -- a log has as many steps as it costs
 shared_many : (t : ℕ) (event : Option Event) → length (shared_step_of t event) ≡ event_cost event
@@ -148,8 +148,15 @@ many [] = refl
 many (e ∷ es) =
     let locals = replicate e.local (local_step_of e.thread) in
     let shared = shared_step_of e.thread e.event in
-    omega (arith, length-append (locals ++ shared) (steps_of es), length-append locals shared,
-        length-replicate e.local (local_step_of e.thread), shared_many e.thread e.event, many es, cost_cons e es)
+    omega (
+      arith,
+      length-append (locals ++ shared) (steps_of es),
+      length-append locals shared,
+      length-replicate e.local (local_step_of e.thread),
+      shared_many e.thread e.event,
+      many es,
+      cost_cons e es,
+    )
 
 -- steps of a run that are seen as others are as many
 as_many : (run : List Step) (steps : List EventStep) → map label_of run ≡ map event_label steps
@@ -182,12 +189,17 @@ meets_so p limit m =
     let more = replicate m.count (local_step_of m.thread) in
     let all = steps_of m.log ++ more in
     let runs = run_on p (opening_concrete p) m.concrete there (steps_of m.log) more
-        (steps_so p (opening_concrete p) m.concrete m.log m.legal)
+    (steps_so p (opening_concrete p) m.concrete m.log m.legal)
     (locals_lead p m.concrete m.thread m.count m.origin m.here u.awake m.stands m.goes) in
     let r = fronts_run_so p there all runs in
     let concrete = kept_put p m.concrete m.thread m.here (holds p m.log m.concrete m.legal) in
     let broken = breaks_by there (step_of p there m.thread) (local_step p m.thread m.here) m.breaks in
     let long : length r.0 ≡ cost m.log + m.count =
-        omega (arith, as_many r.0 all r.2, length-append (steps_of m.log) more, many m.log,
-        length-replicate m.count (local_step_of m.thread)) in
+    omega (
+      arith,
+      as_many r.0 all r.2,
+      length-append (steps_of m.log) more,
+      many m.log,
+      length-replicate m.count (local_step_of m.thread),
+    ) in
     (r.0, state_of there, r.1, long, (breaks_so p there m.thread concrete).0 broken, r.2)

@@ -21,7 +21,7 @@ pub statements_code-append : (ss ts : List Statement)
 statements_code-append [] ts = refl
 statements_code-append (s ∷ ss) ts =
     ap (λ c. statement_code s ++ c) (statements_code-append ss ts)
-        ∙ sym (append_assoc (statement_code s) (statements_code ss) (statements_code ts))
+    ∙ sym (append_assoc (statement_code s) (statements_code ss) (statements_code ts))
 
 -- the code from a boundary on
 behind : (p : Source) (done rest : List Statement) → p.main ≡ done ++ rest

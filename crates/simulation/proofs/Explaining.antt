@@ -15,9 +15,13 @@ use Rattle.simulation.proofs.Going.{again_by}
 replaced : (q r : Process) (printed : List ℤ) → with_process (source_with q printed) 1 r ≡ source_with r printed
 replaced q r printed =
     let e : (with_process (source_with q printed) 1 r).process ≡ (source_with r printed).process =
-        λ i n. again_by (n == 1) (Some q) (Some r) None i in
-    ap (λ (f : ℕ → Option Process). record { variable = (source_with q printed).variable; process = f; printed =
-        printed }) e
+    λ i n. again_by (n == 1) (Some q) (Some r) None i in
+    ap (λ (f : ℕ → Option Process). record {
+      variable = (source_with q printed).variable;
+      process = f;
+      printed =
+          printed;
+    }) e
 
 print_step : (number : ℤ) (rest : List Statement) (printed : List ℤ)
     → IsAction (source_with (Before (Prints number) rest) printed) (act (Print number))
@@ -51,7 +55,7 @@ leads [] rest printed = ap (source_with (standing rest)) (sym (append-nil printe
 leads (Prints number ∷ ss) rest printed =
     let more = leads ss rest (printed ++ number ∷ []) in
     let e : (printed ++ number ∷ []) ++ numbers_of ss ≡ printed ++ number ∷ numbers_of ss =
-        append_assoc printed (number ∷ []) (numbers_of ss) in (
+    append_assoc printed (number ∷ []) (numbers_of ss) in (
       source_with (standing (ss ++ rest)) (printed ++ number ∷ []),
       print_step number (ss ++ rest) printed,
       subst (λ (out : List ℤ). Leads (source_with (standing (ss ++ rest)) (printed ++ number ∷ [])) (prints ss)
@@ -67,7 +71,7 @@ to_boundary : (p : Source) (done rest : List Statement) → p.main ≡ done ++ r
     → IsRun p (prints done) (source_with (standing rest) (numbers_of done))
 to_boundary p done rest h =
     subst (λ (ss : List Statement). Leads (source_with (standing ss) []) (prints done)
-        (source_with (standing rest) (numbers_of done))) (sym h) (leads done rest [])
+    (source_with (standing rest) (numbers_of done))) (sym h) (leads done rest [])
 
 to_end : (p : Source) → IsRun p (prints p.main) (source_with Leaving (numbers_of p.main))
 to_end p = to_boundary p p.main [] (sym (append-nil p.main))

@@ -39,7 +39,7 @@ gets : (p : Program) (s : State) (l : Step) (s' : State) (x : Thread) (to : Look
 gets p s l s' x to one is st =
     let o = one l.thread st.thread st.stands in
     let m : Moves s l.thread l.woken (look p l.thread x) s' =
-        subst (λ (y : Thread). Moves s l.thread l.woken (look p l.thread y) s') (sym o.1) st.moves in
+    subst (λ (y : Thread). Moves s l.thread l.woken (look p l.thread y) s') (sym o.1) st.moves in
     let n : Moves s 1 l.woken (look p 1 x) s' = subst (λ (t : ℕ). Moves s t l.woken (look p t x) s') o.0 m in
     (o.0, subst (λ (k : Look). Moves s 1 l.woken k s') is n)
 
@@ -53,8 +53,15 @@ pub replaced : (p : Source) (words : ℕ → ℕ) (x y : Thread) (output : List 
     → with_thread (machine_with p words x output) 1 y ≡ machine_with p words y output
 replaced p words x y output =
     let e : put (alone x) 1 (Some y) ≡ alone y = λ i t. again_by (t == 1) (Some x) (Some y) None i in
-    ap (λ (f : ℕ → Option Thread). record { word = words; size = (machine_with p words x output).size; made =
-        1; thread = f; asleep = λ t. None; output = output }) e
+    ap (λ (f : ℕ → Option Thread). record {
+      word = words;
+      size = (machine_with p words x output).size;
+      made =
+          1;
+      thread = f;
+      asleep = λ t. None;
+      output = output;
+    }) e
 
 -- the point after a step, and the machine there
 pub record Next (p : Source) (from : Point) (l : Step) (s' : State) : Type 0 where
@@ -72,9 +79,9 @@ from_push p done number rest l s' h st =
     let x = Runs (place_of done) [] fresh [] in
     let y = Runs (place_of done + 1) (word_of number ∷ []) fresh [] in
     let is : look (code_of p) 1 x ≡ Goes y =
-        ap (λ (i : Option Instr). look_at 1 i (place_of done) [] fresh []) (at_push p done number rest h) in
+    ap (λ (i : Option Instr). look_at 1 i (place_of done) [] fresh []) (at_push p done number rest h) in
     let g = gets (code_of p) (machine_with p first_words x (numbers_of done)) l s' x (Goes y)
-        (λ t z. only x z t) is st in
+    (λ t z. only x z t) is st in
     record {
       to = Pushed done number rest;
       at = h;
@@ -90,17 +97,17 @@ from_print p done number rest l s' fits h st =
     let x = Runs (place_of done + 1) (word_of number ∷ []) fresh [] in
     let y = Runs (place_of done + 1 + 1) [] fresh [] in
     let is : look (code_of p) 1 x ≡ Asks (AskPrint (word_of number)) (λ v. y) =
-        ap (λ (i : Option Instr). look_at 1 i (place_of done + 1) (word_of number ∷ []) fresh [])
-        (at_print p done number rest h) in
+    ap (λ (i : Option Instr). look_at 1 i (place_of done + 1) (word_of number ∷ []) fresh [])
+    (at_print p done number rest h) in
     let g = gets (code_of p) (machine_with p first_words x (numbers_of done)) l s' x
-        (Asks (AskPrint (word_of number)) (λ v. y)) (λ t z. only x z t) is st in
+    (Asks (AskPrint (word_of number)) (λ v. y)) (λ t z. only x z t) is st in
     let fit : FitsSigned w32 number =
-        fits_at done number rest (subst
-        (λ (ss : List Statement). HasWords (record { monitors = p.monitors; main = ss })) h fits) in
+    fits_at done number rest (subst
+    (λ (ss : List Statement). HasWords (record { monitors = p.monitors; main = ss })) h fits) in
     let out : numbers_of done ++ signed_of (word_of number) ∷ [] ≡ numbers_of (done ++ Prints number ∷ []) =
-        ap (λ z. numbers_of done ++ z ∷ []) (to_z-of_z w32 number fit) ∙ sym (numbers_of-push done number) in
+    ap (λ z. numbers_of done ++ z ∷ []) (to_z-of_z w32 number fit) ∙ sym (numbers_of-push done number) in
     let place : place_of done + 1 + 1 ≡ place_of (done ++ Prints number ∷ []) =
-        omega (arith, place_of-push done number) in
+    omega (arith, place_of-push done number) in
     record {
       to = Boundary (done ++ Prints number ∷ []) rest;
       at = h ∙ push_out done number rest;
@@ -117,9 +124,9 @@ from_return p done l s' h st =
     let x = Runs (place_of done) [] fresh [] in
     let y = Exits Pending in
     let is : look (code_of p) 1 x ≡ Asks AskReturn begun =
-        ap (λ (i : Option Instr). look_at 1 i (place_of done) [] fresh []) (at_return p done h) in
+    ap (λ (i : Option Instr). look_at 1 i (place_of done) [] fresh []) (at_return p done h) in
     let g = gets (code_of p) (machine_with p first_words x (numbers_of done)) l s' x (Asks AskReturn begun)
-        (λ t z. only x z t) is st in
+    (λ t z. only x z t) is st in
     let all : done ≡ p.main = sym (append-nil done) ∙ sym h in
     record {
       to = AtPending;

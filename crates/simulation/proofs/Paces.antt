@@ -36,10 +36,10 @@ stretches_fit : (k t : ℕ) (parts : List (List Step))
 stretches_fit k t [] = omega arith
 stretches_fit k t (part ∷ parts) =
     let more = one_more k t part (count_by (is_stretch k t) parts) (length (flat_map (λ (p : List Step). p) parts))
-        (is_stretch k t part) refl (stretches_fit k t parts) in
+    (is_stretch k t part) refl (stretches_fit k t parts) in
     let counts = count_by-cons (is_stretch k t) part parts in
     subst (λ n. n * k ≤ length (part ++ flat_map (λ (p : List Step). p) parts)) (sym counts)
-        (omega (arith, more, length-append part (flat_map (λ (p : List Step). p) parts)))
+    (omega (arith, more, length-append part (flat_map (λ (p : List Step). p) parts)))
 
 all_by_front : (xs ys : List Step) → AllByOne (xs ++ ys) → AllByOne xs
 all_by_front [] ys h = tt
@@ -69,7 +69,7 @@ none_of_others k t (part ∷ parts) other some h =
     let no = not_stretch k t part (is_stretch k t part) other some (all_by_front part rest h) refl in
     let more = none_of_others k t parts other some (all_by_back part rest h) in
     count_by-cons (is_stretch k t) part parts ∙ ap (λ b. cond b 1 0 + count_by (is_stretch k t) parts) no
-        ∙ omega (arith, more)
+    ∙ omega (arith, more)
 
 -- all actions are process 1's
 abbrev pub AllActionsByOne : List Action → Type 0
@@ -94,9 +94,9 @@ by_thread k t parts steps actions true e big one acts bound cut =
     let is_one = eqb-true t 1 e in
     let fit = stretches_fit k 1 parts in
     let c = few (count_by (is_stretch k 1) parts) k (length steps) (length actions) big
-        (omega (arith, fit, ap length cut)) bound in
+    (omega (arith, fit, ap length cut)) bound in
     subst (λ (u : ℕ). count_by (is_stretch k u) parts ≤ count_by (is_action_of u) actions) (sym is_one)
-        (omega (arith, c, count_of_one actions acts))
+    (omega (arith, c, count_of_one actions acts))
 by_thread k t parts steps actions false e big one acts bound cut =
     let other : t ≢ 1 = λ h. absurd (cc (ap (λ n. n == 1) h)) in
     let none = none_of_others k t parts other (omega (arith, big)) (subst AllByOne (sym cut) one) in

@@ -42,19 +42,19 @@ look_of : (p : Source) (at : Point) → IsAt p at → (x : Thread) → (machine_
 look_of p (Boundary done []) h x is broken =
     let e : Runs (place_of done) [] fresh [] ≡ x = cc in
     fine p (machine_at p (Boundary done [])) (Runs (place_of done) [] fresh []) x (Asks AskReturn begun) e
-        (ap (λ (i : Option Instr). look_at 1 i (place_of done) [] fresh []) (at_return p done h)) (λ b. b) broken
+    (ap (λ (i : Option Instr). look_at 1 i (place_of done) [] fresh []) (at_return p done h)) (λ b. b) broken
 look_of p (Boundary done (Prints number ∷ rest)) h x is broken =
     let e : Runs (place_of done) [] fresh [] ≡ x = cc in
     fine p (machine_at p (Boundary done (Prints number ∷ rest))) (Runs (place_of done) [] fresh []) x
-        (Goes (Runs (place_of done + 1) (word_of number ∷ []) fresh [])) e
-        (ap (λ (i : Option Instr). look_at 1 i (place_of done) [] fresh []) (at_push p done number rest h))
-        (λ b. b) broken
+    (Goes (Runs (place_of done + 1) (word_of number ∷ []) fresh [])) e
+    (ap (λ (i : Option Instr). look_at 1 i (place_of done) [] fresh []) (at_push p done number rest h))
+    (λ b. b) broken
 look_of p (Pushed done number rest) h x is broken =
     let e : Runs (place_of done + 1) (word_of number ∷ []) fresh [] ≡ x = cc in
     fine p (machine_at p (Pushed done number rest)) (Runs (place_of done + 1) (word_of number ∷ []) fresh []) x
-        (Asks (AskPrint (word_of number)) (λ v. Runs (place_of done + 1 + 1) [] fresh [])) e
-        (ap (λ (i : Option Instr). look_at 1 i (place_of done + 1) (word_of number ∷ []) fresh [])
-        (at_print p done number rest h)) (λ b. b) broken
+    (Asks (AskPrint (word_of number)) (λ v. Runs (place_of done + 1 + 1) [] fresh [])) e
+    (ap (λ (i : Option Instr). look_at 1 i (place_of done + 1) (word_of number ∷ []) fresh [])
+    (at_print p done number rest h)) (λ b. b) broken
 look_of p AtPending h x is broken =
     let e : Exits Pending ≡ x = cc in
     fine p (machine_at p AtPending) (Exits Pending) x (Leaves Pending) e refl (λ b. b) broken
@@ -72,9 +72,9 @@ sound_at : (p : Source) (at : Point) → IsAt p at → (t : ℕ) → NextIsBroke
 sound_at p at h t b =
     let o = one p at b.thread t b.stands in
     let stands : (machine_at p at).thread 1 ≡ Some b.thread =
-        subst (λ (u : ℕ). (machine_at p at).thread u ≡ Some b.thread) o b.stands in
+    subst (λ (u : ℕ). (machine_at p at).thread u ≡ Some b.thread) o b.stands in
     look_of p at h b.thread stands
-        (subst (λ (u : ℕ). IsBroken (machine_at p at) (look (code_of p) u b.thread)) o b.breaks)
+    (subst (λ (u : ℕ). IsBroken (machine_at p at) (look (code_of p) u b.thread)) o b.breaks)
   where
     one : (p : Source) (at : Point) (x : Thread) (t : ℕ) → (machine_at p at).thread t ≡ Some x → t ≡ 1
     one p (Boundary done rest) x t h = (only _ x t h).0
@@ -182,8 +182,13 @@ at_rest_at : (p : Source) (at : Point) → ((t : ℕ) → CanStep (machine_at p 
 at_rest_at p (Boundary done rest) still q can =
     still 1 (record { thread = Runs (place_of done) [] fresh []; stands = refl; awake = refl; goes_on = refl })
 at_rest_at p (Pushed done number rest) still q can =
-    still 1 (record { thread = Runs (place_of done + 1) (word_of number ∷ []) fresh []; stands = refl; awake =
-    refl; goes_on = refl })
+    still 1 (record {
+      thread = Runs (place_of done + 1) (word_of number ∷ []) fresh [];
+      stands = refl;
+      awake =
+          refl;
+      goes_on = refl;
+    })
 at_rest_at p AtPending still q can =
     still 1 (record { thread = Exits Pending; stands = refl; awake = refl; goes_on = refl })
 at_rest_at p AtClear still q can =
@@ -257,5 +262,5 @@ refines p fits = record {
   follows = λ steps s run few.
       let r = reached p fits (Boundary [] p.main) refl steps s run in
       subst (λ (x : State). Explained p (code_of p) steps x) (sym r.is)
-          (explained_at p r.to steps r.at r.by_one (omega (arith, r.count)));
+      (explained_at p r.to steps r.at r.by_one (omega (arith, r.count)));
 }

@@ -18,10 +18,10 @@ pub fork_parts-requires-clause-asks : goal.fork_parts-requires-clause-asks
 fork_parts-requires-clause-asks c = λ x at.
     let within : c.args.t ≤ length c.args.threads.now.items = search rules in
     let stands = stands_at c.args.threads.now.items c.args.t c.index.result.now c.index.result.now
-        c.requires.thread.0 within c.index.ensures in
+    c.requires.thread.0 within c.index.ensures in
     let here : AsksFork (look c.args.image.now c.args.t c.index.result.now) c.in-Fork.has_room = search rules in
     subst (λ (y : Thread). AsksFork (look c.args.image.now c.args.t y) c.in-Fork.has_room)
-        (inside _ _ (sym stands ∙ at)) here
+    (inside _ _ (sym stands ∙ at)) here
 
 if_ok : (r : Result Event StepFault) (P Q : Event → Type 0) → ((e : Event) → P e → Q e) → IfOk r P → IfOk r Q
 if_ok (Ok e) P Q f h = f e h
@@ -37,9 +37,9 @@ returns-in-Local-clause-done c =
     let k = parts_of c.args.shared.now c.args.threads.now.items in
     let within : c.args.t ≤ length c.args.threads.now.items = search rules in
     let stands = stands_at c.args.threads.now.items c.args.t c.index_mut.result.now c.index_mut.result.now
-        c.requires.thread.0 within c.index_mut.ensures.value in
+    c.requires.thread.0 within c.index_mut.ensures.value in
     stepped c.args.image.now k c.args.t (length k.threads) c.index_mut.result.now _ stands c.requires.awake refl
-        (c.take_local.ensures (length k.threads) k.common)
+    (c.take_local.ensures (length k.threads) k.common)
 
 pub returns-in-Shared-clause-done : goal.returns-in-Shared-clause-done
 returns-in-Shared-clause-done c =
@@ -47,10 +47,10 @@ returns-in-Shared-clause-done c =
     let within : c.args.t ≤ length c.args.threads.now.items = search rules in
     let x = c.index_mut-in-Shared.result.now in
     let stands = stands_at c.args.threads.now.items c.args.t x x c.requires.thread.0 within
-        c.index_mut-in-Shared.ensures.value in
+    c.index_mut-in-Shared.ensures.value in
     if_ok c.take_request.result _ _
-        (λ e done. stepped c.args.image.now k c.args.t (length k.threads) x _ stands c.requires.awake refl
-        (done (length k.threads))) c.take_request.ensures.done
+    (λ e done. stepped c.args.image.now k c.args.t (length k.threads) x _ stands c.requires.awake refl
+    (done (length k.threads))) c.take_request.ensures.done
 
 pub returns-in-Shared-clause-err : goal.returns-in-Shared-clause-err
 returns-in-Shared-clause-err c =
@@ -58,10 +58,10 @@ returns-in-Shared-clause-err c =
     let within : c.args.t ≤ length c.args.threads.now.items = search rules in
     let x = c.index_mut-in-Shared.result.now in
     let stands = stands_at c.args.threads.now.items c.args.t x x c.requires.thread.0 within
-        c.index_mut-in-Shared.ensures.value in
+    c.index_mut-in-Shared.ensures.value in
     if_err c.take_request.result _ _
-        (λ f err. stepped c.args.image.now k c.args.t (length k.threads) x _ stands c.requires.awake refl
-        (err (length k.threads))) c.take_request.ensures.err
+    (λ f err. stepped c.args.image.now k c.args.t (length k.threads) x _ stands c.requires.awake refl
+    (err (length k.threads))) c.take_request.ensures.err
 
 pub returns-in-Exit-clause-done : goal.returns-in-Exit-clause-done
 returns-in-Exit-clause-done c =
@@ -69,9 +69,9 @@ returns-in-Exit-clause-done c =
     let within : c.args.t ≤ length c.args.threads.now.items = search rules in
     let x = c.index_mut-in-Exit.result.now in
     let stands = stands_at c.args.threads.now.items c.args.t x x c.requires.thread.0 within
-        c.index_mut-in-Exit.ensures.value in
+    c.index_mut-in-Exit.ensures.value in
     stepped c.args.image.now k c.args.t (length k.threads) x _ stands c.requires.awake refl
-        (c.take_exit.ensures.done (length k.threads))
+    (c.take_exit.ensures.done (length k.threads))
 
 pub returns-in-Broken-clause-err : goal.returns-in-Broken-clause-err
 returns-in-Broken-clause-err c =
@@ -80,8 +80,8 @@ returns-in-Broken-clause-err c =
     let x = c.index.result.now in
     let stands = stands_at c.args.threads.now.items c.args.t x x c.requires.thread.0 within c.index.ensures in
     stepped c.args.image.now k c.args.t (length k.threads) x _ stands c.requires.awake refl
-        (breaks_when (length k.threads) c.args.t k.common (look c.args.image.now c.args.t x)
-        (sym c.next_step.ensures ∙ c.in-Broken.is))
+    (breaks_when (length k.threads) c.args.t k.common (look c.args.image.now c.args.t x)
+    (sym c.next_step.ensures ∙ c.in-Broken.is))
 
 pub returns-in-Ended-clause-err : goal.returns-in-Ended-clause-err
 returns-in-Ended-clause-err c =
@@ -90,5 +90,5 @@ returns-in-Ended-clause-err c =
     let x = c.index.result.now in
     let stands = stands_at c.args.threads.now.items c.args.t x x c.requires.thread.0 within c.index.ensures in
     stepped c.args.image.now k c.args.t (length k.threads) x _ stands c.requires.awake refl
-        (rests_when (length k.threads) c.args.t k.common (look c.args.image.now c.args.t x) (sym c.next_step.ensures
-        ∙ c.in-Ended.is))
+    (rests_when (length k.threads) c.args.t k.common (look c.args.image.now c.args.t x) (sym c.next_step.ensures
+    ∙ c.in-Ended.is))

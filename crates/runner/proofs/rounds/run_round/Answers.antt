@@ -24,5 +24,8 @@ loop-t-preserved g c =
 pub returns-clause-none : goal.returns-clause-none
 returns-clause-none g c =
     λ still u moves. c.loop-t.invariant.none still u
-    (omega (arith, made_within (log_state c.loop-t.shared).concrete u moves,
-    ap (λ (k : ConcreteState). length k.threads) c.machine.ensures.concrete)) moves
+    (omega (
+      arith,
+      made_within (log_state c.loop-t.shared).concrete u moves,
+      ap (λ (k : ConcreteState). length k.threads) c.machine.ensures.concrete,
+    )) moves

@@ -9,13 +9,13 @@ use Rattle.machine.proofs.common.Common.refusal.Goals as goal
 pub returns-else-can_serve : goal.returns-else-can_serve
 returns-else-can_serve c =
     sym (refused_so c.args.made c.args.t (common c.args.self.now)
-        (look c.args.image.now c.args.t c.args.local.now) c.in-Shared.request (sym c.next_step.ensures
-        ∙ c.in-Shared.is)
+    (look c.args.image.now c.args.t c.args.local.now) c.in-Shared.request (sym c.next_step.ensures
+    ∙ c.in-Shared.is)
     ∙ c.can_serve.ensures c.args.made c.args.t ∙ ap (λ b. cond b None (Some Broken)) c.if-can_serve.false)
 
 pub returns-then-can_serve : goal.returns-then-can_serve
 returns-then-can_serve c =
     sym (refused_so c.args.made c.args.t (common c.args.self.now)
-        (look c.args.image.now c.args.t c.args.local.now) c.in-Shared.request (sym c.next_step.ensures
-        ∙ c.in-Shared.is)
+    (look c.args.image.now c.args.t c.args.local.now) c.in-Shared.request (sym c.next_step.ensures
+    ∙ c.in-Shared.is)
     ∙ c.can_serve.ensures c.args.made c.args.t ∙ ap (λ b. cond b None (Some Broken)) c.if-can_serve.true)

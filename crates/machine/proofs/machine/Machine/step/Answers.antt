@@ -36,7 +36,7 @@ returns-clause-room c =
     let was : c.args.self.now.room ≡ old.capacity - length old.output = ap (λ v. v.room) (sym c.self.view_is) in
     if_ok c.step_parts.result _ _ (λ e done.
     let more : length new.output ≡ length old.output + printed_by e =
-        printed_so c.self.inside.image k k' c.args.t e done in
+    printed_so c.self.inside.image k k' c.args.t e done in
     omega (arith, was, more, at_most_one e, s.capacity, c.requires)) s.done
 
 pub returns-clause-holds : goal.returns-clause-holds
