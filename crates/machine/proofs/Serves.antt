@@ -223,7 +223,10 @@ requeues p k k' t e y go a b n m expected concrete stands inside inside' h =
                   record {
                     equal = is;
                     wakes =
-                        record { choice = choice-front k.common.queue k.common.asleep a n concrete.sound; awake = refl };
+                        record {
+                          choice = choice-front k.common.queue k.common.asleep a n concrete.sound;
+                          awake = refl;
+                        };
                     moves = moves_on p k a b n m concrete;
                   },
                   refl,

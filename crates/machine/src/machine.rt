@@ -164,7 +164,8 @@ impl Machine {
     pub fn var(&self, monitor: u32, index: u32) -> u32
         requires monitor { monitor < length self.now.program.monitors }
         requires index { index < slice_index self.now.program.monitors monitor }
-        ensures { result ≡ (state_of (concrete self.now)).word (variable_address self.now.program.monitors monitor index) }
+        ensures { result
+            ≡ (state_of (concrete self.now)).word (variable_address self.now.program.monitors monitor index) }
     {
         self.common.word(variable(&self.image, monitor, index))
     }

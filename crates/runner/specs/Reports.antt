@@ -46,8 +46,8 @@ IsVerdict k Stuck =
     IsQuiet k × (t : ℕ) × (0 < t) × (t ≤ length k.threads) × (has_ended (thread_of k t) ≡ false)
 IsVerdict k Limit = (t : ℕ) × (can_move k t ≡ true)
 
--- the log is legal for the program and within the limit, the machine is where it leads, the output is the machine's, the
--- verdict holds, and the next entry of each thread that can move would pass the limit
+-- the log is legal for the program and within the limit, the machine is where it leads, the output is the machine's,
+-- the verdict holds, and the next entry of each thread that can move would pass the limit
 pub record IsReport (p : Program) (limit : ℕ) (r : Report) : Type 0 where
   pub legal : Runs p (opening_concrete p) r.log.items (concrete r.last)
   pub program : r.last.program ≡ p

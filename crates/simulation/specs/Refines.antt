@@ -56,7 +56,8 @@ pub record Explained (p : Source) (image : Program) (steps : List Step) (s : Sta
   pub run : IsRun p actions source
   -- the same is seen at both ends
   pub output : s.output ≡ source.printed
-  pub variables : (m i : ℕ) → IsVariable p m i → s.word (variable_address (member_counts p) m i) ≡ word_of (source.variable m i)
+  pub variables : (m i : ℕ) → IsVariable p m i → s.word (variable_address (member_counts p) m i)
+      ≡ word_of (source.variable m i)
   pub ends : (q : ℕ) → machine_end s q ≡ source_end source q
   -- no wake was lost: where no thread can move, no process can
   pub at_rest : ((t : ℕ) → CanStep s t → ⊥) → (q : ℕ) → CanMove source q → ⊥
