@@ -1,5 +1,6 @@
 //! Runs images of the machine that stand as rows on standard input, and prints what came of each. A row is a name, a
-//! limit of steps, and the bytes of an image in hexadecimal digits, between white space. The script ./benchmark times it.
+//! limit of steps, and the bytes of an image in hexadecimal digits, between white space. The script ./benchmark times
+//! it.
 #![tactic(auto)]
 
 mod failure;

@@ -254,15 +254,15 @@ const REQUESTS: [(u8, &[i32], Request, i32); 10] = [
     (
         0x23,
         &[385, 6, 7],
-        Request::Cas {
+        Request::CompareSwap {
             address: ADDRESS,
             expected: 6,
             new: 7,
         },
         0,
     ),
-    (0x24, &[385, 6], Request::Or(ADDRESS, 6), 0),
-    (0x25, &[385, 6], Request::Add(ADDRESS, 6), 0),
+    (0x24, &[385, 6], Request::FetchOr(ADDRESS, 6), 0),
+    (0x25, &[385, 6], Request::FetchAdd(ADDRESS, 6), 0),
     (PRINT, &[1, 6], Request::Print(6), 1),
     (
         0x28,
@@ -339,15 +339,15 @@ fn missing_operands(rt: HostRuntime) -> Result<(), Fail> {
 fn forks(rt: HostRuntime) -> Result<(), Fail> {
     let image = image_of(rt.alloc(), 2, &[0x26, 1, 2, PRINT])?;
     let parent = opening_local(0, &[7, 8, 9]);
-    let request = Request::Fork {
+    let fork = NextStep::Fork {
         entry: 1,
         count: 2,
         has_room: true,
     };
-    assert_eq!(rt; parent.next_step(&image, THREAD), NextStep::Shared(request));
+    assert_eq!(rt; parent.next_step(&image, THREAD), fork);
     let child = parent.forked(&image, THREAD).ok_or("a child")?;
-    assert!(rt; child.is(&opening_local(1, &[8, 9])) && child.forked(&image, THREAD).is_none());
-    let mut refused = parent.again();
+    assert!(rt; child.equals(&opening_local(1, &[8, 9])) && child.forked(&image, THREAD).is_none());
+    let mut refused = parent.copy();
     give_zero(&image, &mut refused);
     let full = Fails(Fault::ProcessTableFull).step();
     assert_eq!(rt; refused.next_step(&image, THREAD), full);
@@ -359,13 +359,13 @@ fn forks(rt: HostRuntime) -> Result<(), Fail> {
 fn forks_need_room(rt: HostRuntime) -> Result<(), Fail> {
     let rows: [(&[i32], bool); 2] = [(&[0; 511], true), (&[0; 512], false)];
     for (operands, has_room) in rows {
-        let request = Request::Fork {
+        let fork = NextStep::Fork {
             entry: 0,
             count: 0,
             has_room,
         };
         let came = stop(rt.alloc(), 1, &[0x26, 0, 0], operands)?;
-        assert_eq!(rt; came, NextStep::Shared(request));
+        assert_eq!(rt; came, fork);
     }
     Ok(())
 }
@@ -380,7 +380,7 @@ fn ends(rt: HostRuntime) -> Result<(), Fail> {
     );
     assert!(rt; !local.is_before_local(&image, THREAD) && !local.take_step(&image, THREAD));
     give_zero(&image, &mut local);
-    assert!(rt; local.is(&Local::exiting(ExitPhase::Pending)) && !local.has_ended());
+    assert!(rt; local.equals(&Local::exiting(ExitPhase::Pending)) && !local.has_ended());
     local.enter_phase(ExitPhase::Ended);
     assert!(rt; local.has_ended());
     assert_eq!(rt; local.next_step(&image, THREAD), NextStep::Ended);

@@ -40,19 +40,19 @@ impl Activation {
     }
 
     /// A copy.
-    pub fn again(&self) -> Activation
+    pub fn copy(&self) -> Activation
         ensures { result ≡ self.now }
     {
         Activation {
             place: self.place,
-            operands: self.operands.again(),
+            operands: self.operands.copy(),
             locals: self.locals,
-            callers: self.callers.again(),
+            callers: self.callers.copy(),
         }
     }
 
     /// Whether it is the other.
-    pub fn is(&self, other: &Activation) -> bool
+    pub fn equals(&self, other: &Activation) -> bool
         ensures { MatchBool result (self.now ≡ other.now) (self.now ≢ other.now) }
     {
         self.place == other.place

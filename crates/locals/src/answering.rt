@@ -16,7 +16,8 @@ impl Activation {
     /// Goes on with the answer to the request that it makes, if it makes one.
     pub fn go_on(&mut self, image: &Image, t: u32, answer: u32) -> Answered
         requires { CanBeAnswered (looks t (slice_get image.now.code self.old.place) self.old) answer }
-        ensures { Follows result (answered (looks t (slice_get image.now.code self.old.place) self.old) answer (running self.old)) self.new }
+        ensures { Follows result (answered (looks t (slice_get image.now.code self.old.place) self.old) answer
+            (running self.old)) self.new }
     {
         match image.at(self.place) {
             Some(instr) => self.answer(instr, t, answer),
@@ -52,7 +53,10 @@ impl Activation {
 
     fn replace_one(&mut self, answer: u32) -> Answered
         requires { self.old.place < most_instructions }
-        ensures { (asks : ℕ → RequestOf) → Follows result (answered (placed self.old (on_one self.old.operands (λ a rest. Asking (asks a) (λ v. v ∷ rest)))) answer (running self.old)) self.new }
+        ensures { (asks : ℕ → RequestOf)
+            → Follows result (answered
+            (placed self.old (on_one self.old.operands (λ a rest. Asking (asks a) (λ v. v ∷ rest)))) answer
+            (running self.old)) self.new }
     {
         if self.operands.pop().is_some() {
             self.operands.push(answer);
@@ -63,7 +67,10 @@ impl Activation {
 
     fn replace_two(&mut self, answer: u32) -> Answered
         requires { self.old.place < most_instructions }
-        ensures { (asks : ℕ → ℕ → RequestOf) → Follows result (answered (placed self.old (on_two self.old.operands (λ a b rest. Asking (asks a b) (λ v. v ∷ rest)))) answer (running self.old)) self.new }
+        ensures { (asks : ℕ → ℕ → RequestOf)
+            → Follows result (answered
+            (placed self.old (on_two self.old.operands (λ a b rest. Asking (asks a b) (λ v. v ∷ rest)))) answer
+            (running self.old)) self.new }
     {
         if self.operands.pop_two().is_some() {
             self.operands.push(answer);
@@ -74,7 +81,10 @@ impl Activation {
 
     fn replace_three(&mut self, answer: u32) -> Answered
         requires { self.old.place < most_instructions }
-        ensures { (asks : ℕ → ℕ → ℕ → RequestOf) → Follows result (answered (placed self.old (on_three self.old.operands (λ a b c rest. Asking (asks a b c) (λ v. v ∷ rest)))) answer (running self.old)) self.new }
+        ensures { (asks : ℕ → ℕ → ℕ → RequestOf)
+            → Follows result (answered
+            (placed self.old (on_three self.old.operands (λ a b c rest. Asking (asks a b c) (λ v. v ∷ rest))))
+            answer (running self.old)) self.new }
     {
         if self.operands.top_three().is_some() {
             self.operands.drop_top(3);
@@ -86,7 +96,10 @@ impl Activation {
 
     fn replace_five(&mut self, answer: u32) -> Answered
         requires { self.old.place < most_instructions }
-        ensures { (asks : ℕ → ℕ → ℕ → ℕ → ℕ → RequestOf) → Follows result (answered (placed self.old (on_five self.old.operands (λ a b c d e rest. Asking (asks a b c d e) (λ v. v ∷ rest)))) answer (running self.old)) self.new }
+        ensures { (asks : ℕ → ℕ → ℕ → ℕ → ℕ → RequestOf)
+            → Follows result (answered
+            (placed self.old (on_five self.old.operands
+            (λ a b c d e rest. Asking (asks a b c d e) (λ v. v ∷ rest)))) answer (running self.old)) self.new }
     {
         if self.operands.top_five().is_some() {
             self.operands.drop_top(5);
@@ -98,7 +111,8 @@ impl Activation {
 
     fn stored(&mut self) -> Answered
         requires { self.old.place < most_instructions }
-        ensures { (answer : ℕ) → Follows result (answered (looks 0 (Some Store) self.old) answer (running self.old)) self.new }
+        ensures { (answer : ℕ) → Follows result
+            (answered (looks 0 (Some Store) self.old) answer (running self.old)) self.new }
     {
         if self.operands.pop_two().is_some() {
             self.place += 1;
@@ -108,7 +122,8 @@ impl Activation {
 
     fn printed(&mut self) -> Answered
         requires { self.old.place < most_instructions }
-        ensures { (answer : ℕ) → Follows result (answered (looks 0 (Some Print) self.old) answer (running self.old)) self.new }
+        ensures { (answer : ℕ) → Follows result
+            (answered (looks 0 (Some Print) self.old) answer (running self.old)) self.new }
     {
         if self.operands.pop().is_some() {
             self.place += 1;
@@ -119,7 +134,8 @@ impl Activation {
     fn answer_fork(&mut self, entry: u32, count: u32, answer: u32) -> Answered
         requires place { self.old.place < most_instructions }
         requires fits { CanBeAnswered (looks 0 (Some (Fork entry count)) self.old) answer }
-        ensures { Follows result (answered (looks 0 (Some (Fork entry count)) self.old) answer (running self.old)) self.new }
+        ensures { Follows result (answered (looks 0 (Some (Fork entry count)) self.old) answer (running self.old))
+            self.new }
     {
         let count = count as usize;
         if count > self.operands.len() {
@@ -135,7 +151,9 @@ impl Activation {
     }
 
     fn answer_return(&mut self, answer: u32) -> Answered
-        ensures { (request : RequestOf) → Follows result (answered (returned request self.old.operands self.old.callers) answer (running self.old)) self.new }
+        ensures { (request : RequestOf)
+            → Follows result (answered (returned request self.old.operands self.old.callers) answer
+            (running self.old)) self.new }
     {
         if self.callers.is_empty() {
             Answered::Leaves(phase_at(answer, 0))
@@ -146,7 +164,8 @@ impl Activation {
 
     /// The thread that it forks, where that is what it asks for.
     pub fn forked(&self, image: &Image, t: u32) -> Option<Activation>
-        ensures { let look = looks t (slice_get image.now.code self.now.place) self.now in MatchOption result (forked look ≡ None) (λ child. forked look ≡ Some (running child)) }
+        ensures { let look = looks t (slice_get image.now.code self.now.place) self.now in
+            MatchOption result (forked look ≡ None) (λ child. forked look ≡ Some (running child)) }
     {
         match image.at(self.place) {
             Some(Instr::Fork(entry, count)) if count as usize <= self.operands.len() => {

@@ -11,7 +11,8 @@ use words::{Fault, signed, word};
 
 /// What an operator makes of two words, or the fault that it meets.
 pub fn operate(operator: Operator, a: u32, b: u32) -> Result<u32, Fault>
-    ensures { (place : ℕ) (rest : List ℕ) (locals : LocalsOf) (callers : List FrameOf) → at_place place locals callers (operated operator a b rest) ≡ settled result place rest locals callers }
+    ensures { (place : ℕ) (rest : List ℕ) (locals : LocalsOf) (callers : List FrameOf)
+        → at_place place locals callers (operated operator a b rest) ≡ settled result place rest locals callers }
 {
     match operator {
         Operator::Add => add(a, b),
@@ -39,7 +40,8 @@ pub fn negate(a: u32) -> Result<u32, Fault>
 
 /// The address of a word of an array of `size` words from `base` on, or that the array doesn't have the index.
 pub fn index(base: u32, size: u32, i: u32) -> Result<u32, Fault>
-    ensures { (place : ℕ) (rest : List ℕ) (locals : LocalsOf) (callers : List FrameOf) → at_place place locals callers (indexed base size i rest) ≡ settled result place rest locals callers }
+    ensures { (place : ℕ) (rest : List ℕ) (locals : LocalsOf) (callers : List FrameOf)
+        → at_place place locals callers (indexed base size i rest) ≡ settled result place rest locals callers }
 {
     if i < size && i < 1 << 31 {
         Ok(base.wrapping_add(i))

@@ -1,9 +1,10 @@
 //! What the next step of an activation is, and what it asks the shared part of the machine for.
 ghost use Rattle.std.specs.Prelude.{◌≡◌, ◌∷◌, ℕ, List, Some, slice_get};
 ghost use Rattle.isa.specs.declared.instr.Instr.TheVariants.{Fork, RetValue};
+ghost use Rattle.locals.specs.declared.request.NextStep.TheVariants as next;
 ghost use Rattle.locals.specs.Threads.{Locals as LocalsOf, Frame as FrameOf};
 ghost use Rattle.locals.specs.Looks.{Request as RequestOf, look_at, returned};
-ghost use Rattle.locals.specs.Requests.{next_step_of, told_of};
+ghost use Rattle.locals.specs.Requests.{next_step_of, request_step};
 ghost use Rattle.locals.specs.Views.{asked, local_where, looks, IsRequest, TakesTwo};
 
 use crate::activation::{Activation, MOST_OPERANDS};
@@ -66,7 +67,8 @@ impl Activation {
 
     // A return, which is local where there is a caller.
     fn leaving(&self, request: Request) -> NextStep
-        ensures { (asked : RequestOf) → request ≡ told_of asked → result ≡ next_step_of (returned asked self.now.operands self.now.callers) }
+        ensures { (asked : RequestOf) → request_step asked ≡ next.Shared request
+            → result ≡ next_step_of (returned asked self.now.operands self.now.callers) }
     {
         if self.callers.is_empty() {
             NextStep::Shared(request)
@@ -92,11 +94,11 @@ impl Activation {
         if (count as usize) > operands {
             return NextStep::Broken;
         }
-        NextStep::Shared(Request::Fork {
+        NextStep::Fork {
             entry,
             count,
             has_room: operands - (count as usize) < MOST_OPERANDS,
-        })
+        }
     }
 
     fn asking(&self, instr: Instr) -> NextStep
@@ -119,7 +121,7 @@ impl Activation {
             Instr::Print => Some(Request::Print(self.operands.top()?)),
             Instr::CompareAndSwap => {
                 let (address, expected, new) = self.operands.top_three()?;
-                Some(Request::Cas {
+                Some(Request::CompareSwap {
                     address: Addr(address),
                     expected,
                     new,
@@ -146,13 +148,15 @@ impl Activation {
 // The request of an instruction that takes an address and a number.
 fn request_of_two(instr: Instr, address: Addr, number: u32) -> Request
     requires { TakesTwo instr }
-    ensures { (t place : ℕ) (rest : List ℕ) (locals : LocalsOf) (callers : List FrameOf) → next_step_of (look_at t (Some instr) place (number ∷ address.0 ∷ rest) locals callers) ≡ asked (Some result) }
+    ensures { (t place : ℕ) (rest : List ℕ) (locals : LocalsOf) (callers : List FrameOf)
+        → next_step_of (look_at t (Some instr) place (number ∷ address.0 ∷ rest) locals callers)
+        ≡ asked (Some result) }
 {
     match instr {
         Instr::Store => Request::Store(address, number),
         Instr::Swap => Request::Swap(address, number),
-        Instr::FetchOr => Request::Or(address, number),
-        Instr::FetchAdd => Request::Add(address, number),
+        Instr::FetchOr => Request::FetchOr(address, number),
+        Instr::FetchAdd => Request::FetchAdd(address, number),
         Instr::FutexWait => Request::Wait {
             address,
             expected: number,

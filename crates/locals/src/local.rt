@@ -38,8 +38,8 @@ impl Model for Local {
     ghost view = { λ l. thread_of_stage l.stage };
 }
 
-/// A thread at the start of a procedure, with at most `MOST_OPERANDS` arguments from the lowest operand up. The first thread of a
-/// program has none.
+/// A thread at the start of a procedure, with at most `MOST_OPERANDS` arguments from the lowest operand up. The first
+/// thread of a program has none.
 pub fn opening_local(start: u32, arguments: &[u32]) -> Local
     requires { length arguments.now ≤ most_operands }
     ensures { result ≡ opening_thread start (reverse arguments.now) }
@@ -67,11 +67,11 @@ impl Local {
     }
 
     /// A copy. It takes time in proportion to the operands and frames in use.
-    pub fn again(&self) -> Local
+    pub fn copy(&self) -> Local
         ensures { result ≡ self.now }
     {
         let stage = match &self.stage {
-            Stage::Running(activation) => Stage::Running(activation.again()),
+            Stage::Running(activation) => Stage::Running(activation.copy()),
             Stage::Dying(fault) => Stage::Dying(*fault),
             Stage::Exiting(phase) => Stage::Exiting(*phase),
         };
@@ -79,11 +79,11 @@ impl Local {
     }
 
     /// Whether it is the same state as the other.
-    pub fn is(&self, other: &Local) -> bool
+    pub fn equals(&self, other: &Local) -> bool
         ensures { MatchBool result (self.now ≡ other.now) (self.now ≢ other.now) }
     {
         match (&self.stage, &other.stage) {
-            (Stage::Running(a), Stage::Running(b)) => a.is(b),
+            (Stage::Running(a), Stage::Running(b)) => a.equals(b),
             (Stage::Dying(a), Stage::Dying(b)) => a == b,
             (Stage::Exiting(a), Stage::Exiting(b)) => a == b,
             _ => false,
@@ -143,7 +143,8 @@ impl Local {
 
     /// Takes a local step of thread `t` where the next one is, and says whether it did. Else it stays as it is.
     pub fn take_step(&mut self, image: &Image, t: u32) -> bool
-        ensures { MatchBool result (local_step image.now t self.old ≡ Some self.new) ((local_step image.now t self.old ≡ None) × (self.new ≡ self.old)) }
+        ensures { MatchBool result (local_step image.now t self.old ≡ Some self.new)
+            ((local_step image.now t self.old ≡ None) × (self.new ≡ self.old)) }
     {
         match &mut self.stage {
             Stage::Running(activation) => match activation.take_step(image, t) {

@@ -1,4 +1,5 @@
-ghost use Rattle.std.specs.Prelude.{◌≡◌, ◌+◌, ◌<◌, ◌≤◌, ◌==◌, [], ◌∷◌, drop, length, reverse, take, nat_lt, slice_get, IfSome, IfNone};
+ghost use Rattle.std.specs.Prelude.{◌≡◌, ◌+◌, ◌<◌, ◌≤◌, ◌==◌, [], ◌∷◌, drop, length, reverse, take, nat_lt};
+ghost use Rattle.std.specs.Prelude.{slice_get, IfSome, IfNone};
 
 use arrayvec::ArrayVec;
 use std::marker::Model;
@@ -39,7 +40,7 @@ impl<T: Copy + Default + Drop, const N: usize> Stack<T, N> {
     }
 
     /// A copy.
-    pub fn again(&self) -> Stack<T, N>
+    pub fn copy(&self) -> Stack<T, N>
         ensures { result ≡ self.now }
     {
         match ArrayVec::try_from(self.items.as_slice()) {
@@ -97,7 +98,8 @@ impl<T: Copy + Default + Drop, const N: usize> Stack<T, N> {
     /// The five uppermost items, from the lowest one up.
     pub fn top_five(&self) -> Option<(T, T, T, T, T)>
         ensures none { IfNone result (length self.now < 5) }
-        ensures some { IfSome result (λ items. self.now ≡ items.4 ∷ items.3 ∷ items.2 ∷ items.1 ∷ items.0 ∷ drop 5 self.now) }
+        ensures some { IfSome result
+            (λ items. self.now ≡ items.4 ∷ items.3 ∷ items.2 ∷ items.1 ∷ items.0 ∷ drop 5 self.now) }
     {
         Some((
             self.below_top(4)?,

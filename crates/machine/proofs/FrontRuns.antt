@@ -14,7 +14,8 @@ pub record IsRunOf (p : Program) (k : ConcreteState) (steps : List EventStep) (k
   pub same : map label_of run ≡ map event_label steps
   pub concrete : IsWellFormed p k'
 
-pub run_of : (p : Program) (k k' : ConcreteState) (steps : List EventStep) → IsWellFormed p k → FrontRun p k steps k' → IsRunOf p k steps k'
+pub run_of : (p : Program) (k k' : ConcreteState) (steps : List EventStep) → IsWellFormed p k
+    → FrontRun p k steps k' → IsRunOf p k steps k'
 run_of p k k' [] concrete same = record {
   run = [];
   goes = ap state_of same;

@@ -1,5 +1,6 @@
 -- What always holds of what threads share, and how each change of it keeps that.
-use Rattle.std.proofs.Common.{◌≡◌, ℕ, ◌≤◌, true, false, eqb, Some, None, List, [], ◌∷◌, ◌++◌, length, drop, sym, ap, ◌∙◌, arith, inl, inr, length-set}
+use Rattle.std.proofs.Common.{◌≡◌, ℕ, ◌≤◌, true, false, eqb, Some, None, List, [], ◌∷◌, ◌++◌, length, drop, sym}
+use Rattle.std.proofs.Common.{ap, ◌∙◌, arith, inl, inr, length-set}
 use Rattle.std.specs.Prelude.{ℤ}
 use Rattle.std.specs.List.{IsDistinct}
 use Rattle.std.proofs.lemmas.Bool.{cases_eq, cases_Bool, or_cases, eqb-true, cond-true, cond-false, eq-eqb, ne_eqb}
@@ -21,16 +22,19 @@ pub record Holds (size n : ℕ) (c : Common) : Type 0 where
   pub sound : IsSoundly c.queue c.asleep
   pub made : (t a : ℕ) → c.asleep t ≡ Some a → (1 ≤ t) × (t ≤ n)
 
-pub holds-concrete : (p : Program) (k : ConcreteState) → IsWellFormed p k → Holds (memory_size p) (length k.threads) k.common
+pub holds-concrete : (p : Program) (k : ConcreteState) → IsWellFormed p k
+    → Holds (memory_size p) (length k.threads) k.common
 holds-concrete p k concrete = record { sized = concrete.sized; sound = concrete.sound; made = concrete.made }
 
 pub holds-more : (size n m : ℕ) (c : Common) → n ≤ m → Holds size n c → Holds size m c
-holds-more size n m c le h = record { sized = h.sized; sound = h.sound; made = λ t a e. let r = h.made t a e in (r.0, omega (arith, r.1)) }
+holds-more size n m c le h =
+    record { sized = h.sized; sound = h.sound; made = λ t a e. let r = h.made t a e in (r.0, omega (arith, r.1)) }
 
 pub holds-set : (size n : ℕ) (c : Common) (a v : ℕ) → Holds size n c → Holds size n (set_word c a v)
 holds-set size n c a v h = record { sized = length-set c.words a v ∙ h.sized; sound = h.sound; made = h.made }
 
-pub holds-printed : (size n : ℕ) (c : Common) (output : List ℤ) → Holds size n c → Holds size n (record c { output = output })
+pub holds-printed : (size n : ℕ) (c : Common) (output : List ℤ) → Holds size n c
+    → Holds size n (record c { output = output })
 holds-printed size n c output h = record { sized = h.sized; sound = h.sound; made = h.made }
 
 pub holds-woke : (size n : ℕ) (c : Common) (a m : ℕ) → Holds size n c → Holds size n (wake_front c a m)
@@ -44,7 +48,8 @@ holds-woke size n c a m h = record {
 }
 
 -- threads that were made, of which none sleeps, come to an address
-pub holds-arrived : (size n : ℕ) (c : Common) (b : ℕ) (xs : List ℕ) → IsDistinct eqb xs → ((t : ℕ) → names xs t ≡ true → (c.asleep t ≡ None) × ((1 ≤ t) × (t ≤ n))) → Holds size n c
+pub holds-arrived : (size n : ℕ) (c : Common) (b : ℕ) (xs : List ℕ) → IsDistinct eqb xs
+    → ((t : ℕ) → names xs t ≡ true → (c.asleep t ≡ None) × ((1 ≤ t) × (t ≤ n))) → Holds size n c
     → Holds size n (record c { queue = put c.queue b (c.queue b ++ xs); asleep = with_place c.asleep xs (Some b) })
 holds-arrived size n c b xs d free h = record {
   sized = h.sized;
@@ -55,10 +60,12 @@ holds-arrived size n c b xs d free h = record {
   ];
 }
 
-pub holds-slept : (size n : ℕ) (c : Common) (t a : ℕ) → 1 ≤ t → t ≤ n → c.asleep t ≡ None → Holds size n c → Holds size n (sleep_on c t a)
+pub holds-slept : (size n : ℕ) (c : Common) (t a : ℕ) → 1 ≤ t → t ≤ n → c.asleep t ≡ None → Holds size n c
+    → Holds size n (sleep_on c t a)
 unfolding IsDistinct
 holds-slept size n c t a some few free h =
-    holds-arrived size n c a (t ∷ []) (one t) (λ u y. let e : t ≡ u = sym (eqb-true u t (only u y)) in (ap c.asleep (sym e) ∙ free, (omega (arith, e), omega (arith, e)))) h where
+    holds-arrived size n c a (t ∷ []) (one t) (λ u y. let e : t ≡ u = sym (eqb-true u t (only u y)) in
+        (ap c.asleep (sym e) ∙ free, (omega (arith, e), omega (arith, e)))) h where
       one : (u : ℕ) → IsDistinct eqb (u ∷ [])
       one u = (tt, tt)
 
@@ -72,15 +79,25 @@ holds-moved size n c a b m h = elim (cases_eq a b) [
   | inr ne ↦
       let woke : Common = wake_front c a m in
       let xs : List ℕ = front c a m in
-      let late : Holds size n (record woke { queue = put woke.queue b (woke.queue b ++ xs); asleep = with_place woke.asleep xs (Some b) }) =
-      holds-arrived size n woke b xs (IsDistinct-take m (c.queue a) (h.sound.distinct a)) (λ t y. (placed c.asleep xs None t y, h.made t a (h.sound.sleeps t a (names-take m t (c.queue a) y)))) (holds-woke size n c a m h) in
+      let late : Holds size n (record woke { queue = put woke.queue b (woke.queue b ++ xs); asleep =
+          with_place woke.asleep xs (Some b) }) =
+      holds-arrived size n woke b xs (IsDistinct-take m (c.queue a) (h.sound.distinct a))
+          (λ t y. (placed c.asleep xs None t y, h.made t a (h.sound.sleeps t a (names-take m t (c.queue a) y))))
+          (holds-woke size n c a m h) in
       let was : woke.queue b ≡ c.queue b = put-there c.queue a (drop m (c.queue a)) b (λ q. ne (sym q)) in
-      let places : with_place woke.asleep xs (Some b) ≡ with_place c.asleep xs (Some b) = with_place-again c.asleep xs None (Some b) in
-      let is : move_front c a b m ≡ record woke { queue = put woke.queue b (woke.queue b ++ xs); asleep = with_place woke.asleep xs (Some b) } =
-      cond-false _ _ _ (ne_eqb a b ne) ∙ (λ i. record c { queue = put woke.queue b (sym was i ++ xs); asleep = sym places i }) in
+      let places : with_place woke.asleep xs (Some b) ≡ with_place c.asleep xs (Some b) =
+          with_place-again c.asleep xs None (Some b) in
+      let is : move_front c a b m
+          ≡ record woke { queue = put woke.queue b (woke.queue b ++ xs); asleep =
+          with_place woke.asleep xs (Some b) } =
+      cond-false _ _ _ (ne_eqb a b ne)
+          ∙ (λ i. record c { queue = put woke.queue b (sym was i ++ xs); asleep = sym places i }) in
       rw is late
 ]
 
 -- a state of the machine after a step of thread t, with a thread more where it made one
-pub keeps : (p : Program) (k : ConcreteState) (c : Common) (threads : List Thread) → IsWellFormed p k → length k.threads ≤ length threads → length threads ≤ 64 → Holds (memory_size p) (length threads) c → IsWellFormed p (record { common = c; threads = threads })
-keeps p k c threads concrete more few h = record { sized = h.sized; some = omega (arith, concrete.some); few = few; sound = h.sound; made = h.made }
+pub keeps : (p : Program) (k : ConcreteState) (c : Common) (threads : List Thread) → IsWellFormed p k
+    → length k.threads ≤ length threads → length threads ≤ 64 → Holds (memory_size p) (length threads) c
+    → IsWellFormed p (record { common = c; threads = threads })
+keeps p k c threads concrete more few h =
+    record { sized = h.sized; some = omega (arith, concrete.some); few = few; sound = h.sound; made = h.made }

@@ -1,5 +1,6 @@
 -- A step of an exit by the front is a step of the exit.
-use Rattle.std.proofs.Common.{◌≡◌, ◌≢◌, ℕ, ◌+◌, ◌<◌, Bool, true, false, ◌&&◌, ◌||◌, not, cond, eqb, ltb, List, [], length, Option, refl, sym, arith, inl, inr}
+use Rattle.std.proofs.Common.{◌≡◌, ◌≢◌, ℕ, ◌+◌, ◌<◌, Bool, true, false, ◌&&◌, ◌||◌, not, cond, eqb, ltb, List, []}
+use Rattle.std.proofs.Common.{length, Option, refl, sym, arith, inl, inr}
 use Rattle.std.specs.Prelude.{slice_index}
 use Rattle.std.specs.List.{IsDistinct}
 use Rattle.std.proofs.lemmas.Bool.{both_ways, eq-eqb, eqb-true, ne_eqb, ltb-true, lt-ltb, or_cases, or_parts}
@@ -31,7 +32,8 @@ pub record Leaving (p : Program) (k : ConcreteState) (t : ℕ) (phase : ExitPhas
   pub words : (b : ℕ) → slice_index l.common.words b ≡ word b
   pub holds : Holds (memory_size p) (length k.threads) l.common
   pub output : l.common.output ≡ k.common.output
-  pub step : ExitStep (length k.common.words) t phase (shared_of (state_of k)) woken (record { word = word; asleep = l.common.asleep }) l.next
+  pub step : ExitStep (length k.common.words) t phase (shared_of (state_of k)) woken
+      (record { word = word; asleep = l.common.asleep }) l.next
 
 both : (a b : Bool) → (a && b) ≡ true → (a ≡ true) × (b ≡ true)
 both true b h = (refl, h)
@@ -49,14 +51,16 @@ entry_so c e h =
     (omega (arith, ne), ltb-true (e + 1) (length c.words) q.1, ltb-true (e + 1) 4294967296 r.1)
 
 pub entry_test : (c : Common) (e : ℕ) → IsEntry (length c.words) e → is_entry c e ≡ true
-entry_test c e h = rw (ne_eqb e 0 (λ z. absurd (let p = h.0 in omega (arith, p, z))), lt-ltb (e + 1) (length c.words) h.1, lt-ltb (e + 1) 4294967296 h.2) refl
+entry_test c e h = rw (ne_eqb e 0 (λ z. absurd (let p = h.0 in omega (arith, p, z))),
+    lt-ltb (e + 1) (length c.words) h.1, lt-ltb (e + 1) 4294967296 h.2) refl
 
 pub no_entry_so : (c : Common) (e : ℕ) → is_entry c e ≡ false → IsEntry (length c.words) e → ⊥
 no_entry_so c e h i = both_ways (is_entry c e) h (entry_test c e i)
 
 nobody_chosen : (s : ℕ → Option ℕ) (a : ℕ) → IsChoice s a 0 []
 unfolding IsDistinct
-nobody_chosen s a = record { distinct = tt; slept = λ t h. absurd cc; few = omega arith; all = λ l. absurd (omega arith) }
+nobody_chosen s a = record { distinct = tt; slept = λ t h. absurd cc; few = omega arith; all =
+    λ l. absurd (omega arith) }
 
 -- a lock whose owner dies, by whether there may be waiters
 abandoned_if : Common → ℕ → Bool → Common
@@ -69,7 +73,8 @@ record Abandoning (p : Program) (k : ConcreteState) (t l : ℕ) (c : Common) (wo
   pub output : c.output ≡ k.common.output
   pub step : Abandons t l (shared_of (state_of k)) woken (record { word = word; asleep = c.asleep })
 
-abandoning_if : (p : Program) (k : ConcreteState) (t l : ℕ) → IsWellFormed p k → l < length k.common.words → owner_of (load k.common l) ≡ t → (w : Bool) → waiters_of (load k.common l) ≡ w
+abandoning_if : (p : Program) (k : ConcreteState) (t l : ℕ) → IsWellFormed p k → l < length k.common.words
+    → owner_of (load k.common l) ≡ t → (w : Bool) → waiters_of (load k.common l) ≡ w
     → Abandoning p k t l (abandoned_if k.common l w) (cond w (front k.common l 1) [])
 unfolding abandoned_if
 abandoning_if p k t l concrete inside owned true is =
@@ -81,7 +86,8 @@ abandoning_if p k t l concrete inside owned true is =
       step = record {
         owned = owned;
         marks = λ i. put f l (lock_word 0 true (sym is i));
-        wakes = rw is (record { choice = choice-front k.common.queue k.common.asleep l 1 concrete.sound; awake = refl });
+        wakes = rw is (record { choice = choice-front k.common.queue k.common.asleep l 1 concrete.sound; awake =
+            refl });
       };
     }
 abandoning_if p k t l concrete inside owned false is =
@@ -97,19 +103,24 @@ abandoning_if p k t l concrete inside owned false is =
       };
     }
 
-abandoning : (p : Program) (k : ConcreteState) (t l : ℕ) → IsWellFormed p k → l < length k.common.words → owner_of (load k.common l) ≡ t → Abandoning p k t l (abandon k.common l) (abandon_wakes k.common l)
+abandoning : (p : Program) (k : ConcreteState) (t l : ℕ) → IsWellFormed p k → l < length k.common.words
+    → owner_of (load k.common l) ≡ t → Abandoning p k t l (abandon k.common l) (abandon_wakes k.common l)
 unfolding abandoned_if
-abandoning p k t l concrete inside owned = abandoning_if p k t l concrete inside owned (waiters_of (load k.common l)) refl
+abandoning p k t l concrete inside owned =
+    abandoning_if p k t l concrete inside owned (waiters_of (load k.common l)) refl
 
 -- nothing changes
 idle : (p : Program) (k : ConcreteState) → IsWellFormed p k → Holds (memory_size p) (length k.threads) k.common
 idle p k concrete = holds-concrete p k concrete
 
-at_entry : (p : Program) (k : ConcreteState) (t e seen : ℕ) → IsWellFormed p k → HasPlace k t → (b : Bool) → is_entry k.common e ≡ b
+at_entry : (p : Program) (k : ConcreteState) (t e seen : ℕ) → IsWellFormed p k → HasPlace k t → (b : Bool)
+    → is_entry k.common e ≡ b
     → (d : Bool) → (eqb (load k.common (process_word t 1)) e || not (eqb (owner_of (load k.common (e + 1))) t)) ≡ d
-    → Leaving p k t (Entry (record { 0 = e }) seen) (cond (not b) (record { common = k.common; next = Pending; event = plain name.Entry e })
+    → Leaving p k t (Entry (record { 0 = e }) seen)
+        (cond (not b) (record { common = k.common; next = Pending; event = plain name.Entry e })
     (cond d (record { common = k.common; next = next_entry (load k.common e) (seen + 1); event = plain name.Entry e })
-    (record { common = abandon k.common (e + 1); next = next_entry (load k.common e) (seen + 1); event = event_of name.Entry e (abandon_wakes k.common (e + 1)) [] })))
+    (record { common = abandon k.common (e + 1); next = next_entry (load k.common e) (seen + 1); event =
+        event_of name.Entry e (abandon_wakes k.common (e + 1)) [] })))
 at_entry p k t e seen concrete place false is d so = record {
   woken = [];
   set = refl;
@@ -154,11 +165,14 @@ at_entry p k t e seen concrete place true is false so =
         not_not true g = refl
         not_not false g = absurd cc
 
-at_pending : (p : Program) (k : ConcreteState) (t e : ℕ) → IsWellFormed p k → HasPlace k t → load k.common (process_word t 1) ≡ e → (b : Bool) → is_entry k.common e ≡ b
+at_pending : (p : Program) (k : ConcreteState) (t e : ℕ) → IsWellFormed p k → HasPlace k t
+    → load k.common (process_word t 1) ≡ e → (b : Bool) → is_entry k.common e ≡ b
     → (d : Bool) → eqb (owner_of (load k.common (e + 1))) t ≡ d
     → Leaving p k t Pending (cond (not b) (record { common = k.common; next = ClearId; event = plain name.Pending e })
-    (cond d (record { common = abandon k.common (e + 1); next = ClearId; event = event_of name.Pending e (abandon_wakes k.common (e + 1)) [] })
-    (record { common = wake_front k.common (e + 1) 1; next = ClearId; event = event_of name.Pending e (front k.common (e + 1) 1) [] })))
+    (cond d (record { common = abandon k.common (e + 1); next = ClearId; event =
+        event_of name.Pending e (abandon_wakes k.common (e + 1)) [] })
+    (record { common = wake_front k.common (e + 1) 1; next = ClearId; event =
+        event_of name.Pending e (front k.common (e + 1) 1) [] })))
 at_pending p k t e concrete place named false is d so = record {
   woken = [];
   set = refl;
@@ -187,7 +201,10 @@ at_pending p k t e concrete place named true is false so =
       words = λ b. refl;
       holds = holds-woke _ _ k.common (e + 1) 1 (holds-concrete p k concrete);
       output = refl;
-      step = (rw named (IsForeign i (λ o. both_ways _ so (eq-eqb _ _ o)) (record { same = refl; wakes = record { choice = choice-front k.common.queue k.common.asleep (e + 1) 1 concrete.sound; awake = refl } })), refl);
+      step = (rw named (IsForeign i (λ o. both_ways _ so (eq-eqb _ _ o))
+          (record { same = refl; wakes =
+          record { choice = choice-front k.common.queue k.common.asleep (e + 1) 1 concrete.sound; awake =
+          refl } })), refl);
     }
 
 -- an exit that isn't over
@@ -195,9 +212,12 @@ abbrev pub IsUnderWay : ExitPhase → Type 0
 IsUnderWay Ended = ⊥
 IsUnderWay phase = Unit {0}
 
-pub leaving : (p : Program) (k : ConcreteState) (t : ℕ) (phase : ExitPhase) → IsUnderWay phase → IsWellFormed p k → HasPlace k t → Leaving p k t phase (leave t phase k.common)
-leaving p k t (Entry e seen) runs concrete place = at_entry p k t e.0 seen concrete place (is_entry k.common e.0) refl _ refl
-leaving p k t Pending runs concrete place = at_pending p k t (load k.common (process_word t 1)) concrete place refl (is_entry k.common (load k.common (process_word t 1))) refl _ refl
+pub leaving : (p : Program) (k : ConcreteState) (t : ℕ) (phase : ExitPhase) → IsUnderWay phase → IsWellFormed p k
+    → HasPlace k t → Leaving p k t phase (leave t phase k.common)
+leaving p k t (Entry e seen) runs concrete place =
+    at_entry p k t e.0 seen concrete place (is_entry k.common e.0) refl _ refl
+leaving p k t Pending runs concrete place = at_pending p k t (load k.common (process_word t 1)) concrete place refl
+    (is_entry k.common (load k.common (process_word t 1))) refl _ refl
 leaving p k t ClearId runs concrete place = record {
   woken = [];
   set = refl;
@@ -214,6 +234,8 @@ leaving p k t LastWake runs concrete place = record {
   words = λ b. refl;
   holds = holds-woke _ _ k.common (process_word t 2) 1 (holds-concrete p k concrete);
   output = refl;
-  step = (record { same = refl; wakes = record { choice = choice-front k.common.queue k.common.asleep (process_word t 2) 1 concrete.sound; awake = refl } }, refl);
+  step = (record { same = refl; wakes =
+      record { choice = choice-front k.common.queue k.common.asleep (process_word t 2) 1 concrete.sound; awake =
+      refl } }, refl);
 }
 leaving p k t Ended runs concrete place = absurd runs

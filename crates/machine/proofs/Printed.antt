@@ -1,5 +1,7 @@
 -- A step makes the output longer by what its event says.
-use Rattle.std.proofs.Common.{◌≡◌, ℕ, ◌+◌, ◌≤◌, Bool, true, false, ◌||◌, not, cond, eqb, ltb, [], ◌∷◌, ◌++◌, length, drop, Option, Some, None, Result, Ok, Err, refl, ap, subst, ◌∙◌, arith, length-append}
+use Rattle.std.proofs.Common.{◌≡◌, ℕ, ◌+◌, ◌≤◌, Bool, true, false, ◌||◌, not, cond, eqb, ltb, [], ◌∷◌, ◌++◌}
+use Rattle.std.proofs.Common.{length, drop, Option, Some, None, Result, Ok, Err, refl, ap, subst, ◌∙◌, arith}
+use Rattle.std.proofs.Common.{length-append}
 use Rattle.words.specs.LockWord.{lock_word, owner_of, waiters_of}
 use Rattle.words.specs.Process.{process_word}
 use Rattle.words.specs.Signed.{signed_of}
@@ -8,7 +10,9 @@ use Rattle.isa.specs.Programs.{Program}
 use Rattle.robustexit.specs.declared.phase.ExitPhase.{ExitPhase}
 use Rattle.robustexit.specs.declared.phase.ExitPhase.TheVariants.{Entry, Pending, ClearId, LastWake, Ended}
 use Rattle.locals.specs.Threads.{Thread}
-use Rattle.locals.specs.Looks.{Request, AskLoad, AskStore, AskSwap, AskCas, AskOr, AskAdd, AskFork, AskPrint, AskWait, AskWake, AskRequeue, AskReturn, AskReturnValue, AskFault, Look, Goes, Asks, Leaves, Breaks, Rests, look}
+use Rattle.locals.specs.Looks.{Request, AskLoad, AskStore, AskSwap, AskCas, AskOr, AskAdd, AskFork, AskPrint}
+use Rattle.locals.specs.Looks.{AskWait, AskWake, AskRequeue, AskReturn, AskReturnValue, AskFault, Look, Goes}
+use Rattle.locals.specs.Looks.{Asks, Leaves, Breaks, Rests, look}
 use Rattle.machine.specs.declared.event.Event.{Event}
 use Rattle.machine.specs.declared.event.EventName.{EventName}
 use Rattle.machine.specs.declared.event.EventName.TheVariants as name
@@ -18,7 +22,8 @@ use Rattle.robustexit.specs.RobustExit.{put}
 use Rattle.machine.specs.States.{Common, ConcreteState, thread_of}
 use Rattle.machine.specs.ConcreteServing.{Served, serve, load, set_word, front, wake_front, move_front}
 use Rattle.machine.specs.ConcreteExits.{Left, leave, is_entry, abandon}
-use Rattle.machine.specs.ConcreteSteps.{Stepped, thread_step, go_on_with, on_machine, step_awake, step_thread, step_of}
+use Rattle.machine.specs.ConcreteSteps.{Stepped, thread_step, go_on_with, on_machine, step_awake, step_thread}
+use Rattle.machine.specs.ConcreteSteps.{step_of}
 use Rattle.machine.specs.Views.{printed_by, printed_by_name}
 
 -- an outcome that prints what its event says
@@ -30,7 +35,8 @@ prints_if : (c : Common) (b : Bool) (r s : Result Served StepFault) → Prints c
 prints_if c true r s h g = h
 prints_if c false r s h g = g
 
-prints_ok : (c : Common) (x : Served) → length x.common.output ≡ length c.output + printed_by x.event → Prints c (Ok x)
+prints_ok : (c : Common) (x : Served) → length x.common.output ≡ length c.output + printed_by x.event
+    → Prints c (Ok x)
 unfolding Prints
 prints_ok c x h = h
 
@@ -50,21 +56,32 @@ output_moved true c d h = refl
 output_moved false c d h = h
 
 moved_quiet : (c : Common) (a b n : ℕ) → (move_front c a b n).output ≡ c.output
-moved_quiet c a b n = output_moved (eqb a b) c (record c { queue = put (put c.queue a (drop n (c.queue a))) b (c.queue b ++ front c a n); asleep = with_place c.asleep (front c a n) (Some b) }) refl
+moved_quiet c a b n = output_moved (eqb a b) c
+    (record c { queue = put (put c.queue a (drop n (c.queue a))) b (c.queue b ++ front c a n); asleep =
+    with_place c.asleep (front c a n) (Some b) }) refl
 
 served : (made t : ℕ) (r : Request) (c : Common) → Prints c (serve made t r c)
 served made t (AskLoad a) c = prints_if c _ _ _ (prints_ok c _ (still _)) (prints_err c _)
 served made t (AskStore a v) c = prints_if c _ _ _ (prints_ok c _ (still _)) (prints_err c _)
 served made t (AskSwap a v) c = prints_if c _ _ _ (prints_ok c _ (still _)) (prints_err c _)
-served made t (AskCas a expected new) c = prints_if c _ _ _ (prints_ok c _ (ap length (output_if c (set_word c a new) (eqb (load c a) expected) refl) ∙ still _)) (prints_err c _)
+served made t (AskCas a expected new) c =
+    prints_if c _ _ _ (prints_ok c _ (ap length (output_if c (set_word c a new) (eqb (load c a) expected) refl)
+    ∙ still _)) (prints_err c _)
 served made t (AskOr a v) c = prints_if c _ _ _ (prints_ok c _ (still _)) (prints_err c _)
 served made t (AskAdd a v) c = prints_if c _ _ _ (prints_ok c _ (still _)) (prints_err c _)
-served made t (AskFork entry arguments has_room) c = prints_if c (eqb made 64) _ _ (prints_ok c _ (still _)) (prints_if c has_room _ _ (prints_ok c _ (still _)) (prints_err c Broken))
+served made t (AskFork entry arguments has_room) c =
+    prints_if c (eqb made 64) _ _ (prints_ok c _ (still _))
+    (prints_if c has_room _ _ (prints_ok c _ (still _)) (prints_err c Broken))
 served made t (AskPrint number) c = prints_ok c _ (length-append c.output (signed_of number ∷ []))
-served made t (AskWait a expected) c = prints_if c _ _ _ (prints_if c _ _ _ (prints_ok c _ (still _)) (prints_ok c _ (still _))) (prints_err c _)
+served made t (AskWait a expected) c =
+    prints_if c _ _ _ (prints_if c _ _ _ (prints_ok c _ (still _)) (prints_ok c _ (still _))) (prints_err c _)
 served made t (AskWake a n) c = prints_if c _ _ _ (prints_ok c _ (still _)) (prints_err c _)
 served made t (AskRequeue a b n m expected) c =
-    prints_if c (ltb a (length c.words)) _ _ (prints_if c (ltb b (length c.words)) _ _ (prints_if c (eqb (load c a) expected) _ _ (prints_ok c _ (ap length (moved_quiet (wake_front c a n) a b m) ∙ still _)) (prints_ok c _ (still _))) (prints_err c Broken)) (prints_err c Broken)
+    prints_if c (ltb a (length c.words)) _ _
+        (prints_if c (ltb b (length c.words)) _ _
+        (prints_if c (eqb (load c a) expected) _ _
+        (prints_ok c _ (ap length (moved_quiet (wake_front c a n) a b m) ∙ still _)) (prints_ok c _ (still _)))
+        (prints_err c Broken)) (prints_err c Broken)
 served made t AskReturn c = prints_ok c _ (still _)
 served made t (AskReturnValue v) c = prints_ok c _ (still _)
 served made t (AskFault fault) c = prints_ok c _ (still _)
@@ -83,16 +100,21 @@ quiet_so c l h g = (h, g)
 
 abandoned_quiet : (c : Common) (l : ℕ) → (abandon c l).output ≡ c.output
 abandoned_quiet c l = both (waiters_of (load c l)) where
-  both : (b : Bool) → (cond b (wake_front (set_word c l (lock_word 0 true (waiters_of (load c l)))) l 1) (set_word c l (lock_word 0 true (waiters_of (load c l))))).output ≡ c.output
+  both : (b : Bool) → (cond b (wake_front (set_word c l (lock_word 0 true (waiters_of (load c l)))) l 1)
+      (set_word c l (lock_word 0 true (waiters_of (load c l))))).output ≡ c.output
   both true = refl
   both false = refl
 
 left : (t : ℕ) (phase : ExitPhase) (c : Common) → Quiet c (leave t phase c)
 left t (Entry e seen) c =
-    quiet_if c (not (is_entry c e.0)) _ _ (quiet_so c _ refl refl) (quiet_if c (eqb (load c (process_word t 1)) e.0 || not (eqb (owner_of (load c (e.0 + 1))) t)) _ _ (quiet_so c _ refl refl) (quiet_so c _ (abandoned_quiet c (e.0 + 1)) refl))
+    quiet_if c (not (is_entry c e.0)) _ _ (quiet_so c _ refl refl)
+        (quiet_if c (eqb (load c (process_word t 1)) e.0 || not (eqb (owner_of (load c (e.0 + 1))) t)) _ _
+        (quiet_so c _ refl refl) (quiet_so c _ (abandoned_quiet c (e.0 + 1)) refl))
 left t Pending c =
     let e : ℕ = load c (process_word t 1) in
-    quiet_if c (not (is_entry c e)) _ _ (quiet_so c _ refl refl) (quiet_if c (eqb (owner_of (load c (e + 1))) t) _ _ (quiet_so c _ (abandoned_quiet c (e + 1)) refl) (quiet_so c _ refl refl))
+    quiet_if c (not (is_entry c e)) _ _ (quiet_so c _ refl refl)
+        (quiet_if c (eqb (owner_of (load c (e + 1))) t) _ _ (quiet_so c _ (abandoned_quiet c (e + 1)) refl)
+        (quiet_so c _ refl refl))
 left t ClearId c = quiet_so c _ refl refl
 left t LastWake c = quiet_so c _ refl refl
 left t Ended c = quiet_so c _ refl refl
@@ -120,12 +142,14 @@ Lengthens : ConcreteState → Result (ConcreteState × Event) StepFault → Type
 Lengthens k (Ok q) = length q.0.common.output ≡ length k.common.output + printed_by q.1
 Lengthens k (Err f) = Unit {0}
 
-lengthens : (k : ConcreteState) (t : ℕ) (r : Result Stepped StepFault) → Steps k.common r → Lengthens k (on_machine k t r)
+lengthens : (k : ConcreteState) (t : ℕ) (r : Result Stepped StepFault) → Steps k.common r
+    → Lengthens k (on_machine k t r)
 unfolding Steps Lengthens
 lengthens k t (Ok x) h = h
 lengthens k t (Err f) h = tt
 
-lengthens_awake : (p : Program) (k : ConcreteState) (t : ℕ) (x : Thread) (o : Option ℕ) → Lengthens k (step_awake p k t x o)
+lengthens_awake : (p : Program) (k : ConcreteState) (t : ℕ) (x : Thread) (o : Option ℕ)
+    → Lengthens k (step_awake p k t x o)
 unfolding Lengthens
 lengthens_awake p k t x None = lengthens k t _ (stepped (length k.threads) t k.common (look p t x))
 lengthens_awake p k t x (Some a) = tt
@@ -135,7 +159,8 @@ unfolding Lengthens
 lengthens_thread p k t None = tt
 lengthens_thread p k t (Some x) = lengthens_awake p k t x (k.common.asleep t)
 
-pub printed_so : (p : Program) (k k' : ConcreteState) (t : ℕ) (e : Event) → step_of p k t ≡ Ok (k', e) → length k'.common.output ≡ length k.common.output + printed_by e
+pub printed_so : (p : Program) (k k' : ConcreteState) (t : ℕ) (e : Event) → step_of p k t ≡ Ok (k', e)
+    → length k'.common.output ≡ length k.common.output + printed_by e
 unfolding Lengthens
 printed_so p k k' t e h = subst (Lengthens k) h (lengthens_thread p k t (thread_of k t))
 

@@ -1,5 +1,6 @@
 -- The machine's own steps are steps of the relation, from its opening on.
-use Rattle.std.proofs.Common.{◌≡◌, ℕ, zero, suc, ◌+◌, ltb, ◌<◌, Bool, true, false, List, [], ◌∷◌, length, Option, Some, None, Ok, slice_set, replicate, refl, ◌∙◌, arith, length-set}
+use Rattle.std.proofs.Common.{◌≡◌, ℕ, zero, suc, ◌+◌, ltb, ◌<◌, Bool, true, false, List, [], ◌∷◌, length, Option}
+use Rattle.std.proofs.Common.{Some, None, Ok, slice_set, replicate, refl, ◌∙◌, arith, length-set}
 use Rattle.std.specs.Prelude.{slice_index}
 use Rattle.std.specs.List.{IsDistinct}
 use Rattle.std.proofs.lemmas.List.{length-replicate}
@@ -10,7 +11,9 @@ use Rattle.robustexit.specs.declared.phase.ExitPhase.TheVariants.{Entry, Pending
 use Rattle.locals.specs.declared.frame.Frame.{Frame}
 use Rattle.locals.specs.declared.frame.Locals.{Locals}
 use Rattle.locals.specs.Threads.{Thread, Runs, Dies, Exits, fresh, opening_thread}
-use Rattle.locals.specs.Looks.{Request, AskFork, Look, Goes, Asks, Leaves, Breaks, Rests, look, look_at, at_place, returned, if_so, or_dies, effect, Effect, Then, Keeps, To, Tests, Asking, Trying, Calls, Returns, ReturnsValue, Fails, Misses, Guards, Checks}
+use Rattle.locals.specs.Looks.{Request, AskFork, Look, Goes, Asks, Leaves, Breaks, Rests, look, look_at, at_place}
+use Rattle.locals.specs.Looks.{returned, if_so, or_dies, effect, Effect, Then, Keeps, To, Tests, Asking, Trying}
+use Rattle.locals.specs.Looks.{Calls, Returns, ReturnsValue, Fails, Misses, Guards, Checks}
 use Rattle.machine.specs.declared.event.Event.{Event}
 use Rattle.robustexit.specs.RobustExit.{put}
 use Rattle.machine.specs.States.{ConcreteState, thread_at, thread_of, state_of, with_thread}
@@ -49,18 +52,22 @@ or_dies_code : (b : Bool) (fault : Fault) (l : Look) → IsOfCode l → IsOfCode
 or_dies_code true fault l h = h
 or_dies_code false fault l h = tt
 
-returned_code : (request : Request) (operands : List ℕ) (callers : List Frame) → IsOfCode (returned request operands callers)
+returned_code : (request : Request) (operands : List ℕ) (callers : List Frame)
+    → IsOfCode (returned request operands callers)
 returned_code request operands [] = tt
 returned_code request operands (f ∷ fs) = tt
 
-place_code : (place : ℕ) (locals : Locals) (callers : List Frame) (e : Effect) → IsOfCode (at_place place locals callers e)
+place_code : (place : ℕ) (locals : Locals) (callers : List Frame) (e : Effect)
+    → IsOfCode (at_place place locals callers e)
 place_code place locals callers (Then operands) = tt
 place_code place locals callers (Keeps locals' operands) = tt
 place_code place locals callers (To place' operands) = tt
 place_code place locals callers (Tests value place' operands) = tt
 place_code place locals callers (Asking request answered) = tt
 place_code place locals callers (Trying request fault answered) = tt
-place_code place locals callers (Calls place' operands) = if_so_code (ltb (length callers) 15) (Goes (Runs place' operands fresh (record { back = place + 1; locals = locals } ∷ callers))) tt
+place_code place locals callers (Calls place' operands) =
+    if_so_code (ltb (length callers) 15)
+    (Goes (Runs place' operands fresh (record { back = place + 1; locals = locals } ∷ callers))) tt
 place_code place locals callers (Returns operands) = returned_code _ operands callers
 place_code place locals callers (ReturnsValue v operands) = returned_code _ operands callers
 place_code place locals callers (Fails fault) = tt
@@ -68,7 +75,8 @@ place_code place locals callers Misses = tt
 place_code place locals callers (Guards test e) = if_so_code test _ (place_code place locals callers e)
 place_code place locals callers (Checks test fault e) = or_dies_code test fault _ (place_code place locals callers e)
 
-pub look_code : (t : ℕ) (i : Option Instr) (place : ℕ) (operands : List ℕ) (locals : Locals) (callers : List Frame) → IsOfCode (look_at t i place operands locals callers)
+pub look_code : (t : ℕ) (i : Option Instr) (place : ℕ) (operands : List ℕ) (locals : Locals) (callers : List Frame)
+    → IsOfCode (look_at t i place operands locals callers)
 look_code t None place operands locals callers = tt
 look_code t (Some i) place operands locals callers = place_code place locals callers (effect t i operands locals)
 
@@ -88,10 +96,12 @@ is_next p t (Exits ClearId) = tt
 is_next p t (Exits LastWake) = tt
 is_next p t (Exits Ended) = tt
 
-steps_by : (p : Program) (k k' : ConcreteState) (t : ℕ) (e : Event) (y : Thread) (l : Look) → IsNext l → IsWellFormed p k → thread_of k t ≡ Some y → k.common.asleep t ≡ None
+steps_by : (p : Program) (k k' : ConcreteState) (t : ℕ) (e : Event) (y : Thread) (l : Look) → IsNext l
+    → IsWellFormed p k → thread_of k t ≡ Some y → k.common.asleep t ≡ None
     → on_machine k t (thread_step (length k.threads) t k.common l) ≡ Ok (k', e) → Steps p k k' t e l
 steps_by p k k' t e y (Goes x) next concrete stands awake h =
-    let r = lands p k k' t e _ x y k.common (λ b. slice_index k.common.words b) concrete stands (holds-concrete p k concrete) (λ b. refl) h in
+    let r = lands p k k' t e _ x y k.common (λ b. slice_index k.common.words b) concrete stands
+        (holds-concrete p k concrete) (λ b. refl) h in
     record { woken = []; set = r.event; moves = (refl, r.state); concrete = r.concrete }
 steps_by p k k' t e y (Asks (AskFork entry arguments has_room) go) next concrete stands awake h =
     forks p k k' t e y go entry arguments has_room concrete stands (has_place p k t y concrete stands) h
@@ -104,7 +114,9 @@ steps_by p k k' t e y (Leaves phase) next concrete stands awake h =
     record {
       woken = g.woken;
       set = r.event ∙ g.set;
-      moves = (record { word = g.word; asleep = l.common.asleep }, l.next, g.step, r.state ∙ (λ i. with_thread (record (state_of k) { word = g.word; asleep = l.common.asleep; output = g.output i }) t (Exits l.next)));
+      moves = (record { word = g.word; asleep = l.common.asleep }, l.next, g.step, r.state
+          ∙ (λ i. with_thread (record (state_of k) { word = g.word; asleep = l.common.asleep; output = g.output i })
+          t (Exits l.next)));
       concrete = r.concrete;
     }
 steps_by p k k' t e y Breaks next concrete stands awake h = absurd cc
@@ -117,19 +129,23 @@ pub record Done (p : Program) (k k' : ConcreteState) (t : ℕ) (e : Event) : Typ
   pub awake : k.common.asleep t ≡ None
   pub done : on_machine k t (thread_step (length k.threads) t k.common (look p t thread)) ≡ Ok (k', e)
 
-done_awake : (p : Program) (k k' : ConcreteState) (t : ℕ) (e : Event) (x : Thread) (o : Option ℕ) → thread_of k t ≡ Some x → k.common.asleep t ≡ o → step_awake p k t x o ≡ Ok (k', e) → Done p k k' t e
+done_awake : (p : Program) (k k' : ConcreteState) (t : ℕ) (e : Event) (x : Thread) (o : Option ℕ)
+    → thread_of k t ≡ Some x → k.common.asleep t ≡ o → step_awake p k t x o ≡ Ok (k', e) → Done p k k' t e
 done_awake p k k' t e x None stands awake h = record { thread = x; stands = stands; awake = awake; done = h }
 done_awake p k k' t e x (Some a) stands awake h = absurd cc
 
-pub done_by : (p : Program) (k k' : ConcreteState) (t : ℕ) (e : Event) (o : Option Thread) → thread_of k t ≡ o → step_thread p k t o ≡ Ok (k', e) → Done p k k' t e
+pub done_by : (p : Program) (k k' : ConcreteState) (t : ℕ) (e : Event) (o : Option Thread) → thread_of k t ≡ o
+    → step_thread p k t o ≡ Ok (k', e) → Done p k k' t e
 done_by p k k' t e None stands h = absurd cc
 done_by p k k' t e (Some x) stands h = done_awake p k k' t e x (k.common.asleep t) stands refl h
 
 pub steps_so : StepsSo
 steps_so p k k' t e concrete h =
     let d = done_by p k k' t e (thread_of k t) refl h in
-    let s = steps_by p k k' t e d.thread (look p t d.thread) (is_next p t d.thread) concrete d.stands d.awake d.done in
-    (s.woken, s.set, record { thread = d.thread; stands = d.stands; awake = d.awake; moves = s.moves; pauses = refl }, s.concrete)
+    let s = steps_by p k k' t e d.thread (look p t d.thread)
+        (is_next p t d.thread) concrete d.stands d.awake d.done in
+    (s.woken, s.set, record { thread = d.thread; stands = d.stands; awake = d.awake; moves = s.moves; pauses =
+        refl }, s.concrete)
 
 zeros : (n b : ℕ) → slice_index (replicate n 0) b ≡ 0
 zeros zero b = refl
@@ -139,7 +155,8 @@ zeros (suc n) (suc b) = zeros n b
 one_thread : (x : Thread) (u : ℕ) → thread_at (x ∷ []) u ≡ put (λ t. None) 1 (Some x) u
 one_thread x zero = refl
 one_thread x (suc zero) = refl
-one_thread x (suc (suc u)) = by_place (λ (t : ℕ). let o : Option Thread = None in o) 1 (Some x) (suc (suc u)) None (λ e. absurd (omega arith)) (λ n. refl)
+one_thread x (suc (suc u)) = by_place (λ (t : ℕ). let o : Option Thread = None in o) 1 (Some x) (suc (suc u)) None
+    (λ e. absurd (omega arith)) (λ n. refl)
 
 abbrev zero_words : ℕ → List ℕ
 zero_words n = replicate n 0
@@ -168,5 +185,6 @@ opens_so p = (
     asleep = λ t. None;
     output = [];
   }),
-  record { sized = opening_size (memory_size p); some = omega arith; few = omega arith; sound = sound_opening; made = λ t a h. absurd cc },
+  record { sized = opening_size (memory_size p); some = omega arith; few = omega arith; sound =
+      sound_opening; made = λ t a h. absurd cc },
 )

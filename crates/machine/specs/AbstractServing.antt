@@ -1,5 +1,6 @@
 -- What is shared serves a request of thread t. Where the standard leaves a choice, any will do.
-use Rattle.std.specs.Prelude.{ℕ, suc, ◌≡◌, ◌≢◌, ◌<◌, ◌+◌, ◌%◌, ◌==◌, ◌⊎◌, ◌++◌, List, [], ◌∷◌, length, true, Option, if◌then◌else◌}
+use Rattle.std.specs.Prelude.{ℕ, suc, ◌≡◌, ◌≢◌, ◌<◌, ◌+◌, ◌%◌, ◌==◌, ◌⊎◌, ◌++◌, List, [], ◌∷◌, length, true}
+use Rattle.std.specs.Prelude.{Option, if◌then◌else◌}
 use Rattle.std.specs.Int.Bits.{bit_or}
 use Rattle.words.specs.Limits.{most_processes}
 use Rattle.words.specs.Process.{process_word}
@@ -8,7 +9,8 @@ use Rattle.words.specs.Signed.{signed_of}
 use Rattle.futexcalls.specs.FutexCalls.{Sleeps, Wakes, Requeues}
 use Rattle.robustexit.specs.RobustExit.{Shared}
 use Rattle.locals.specs.Threads.{opening_thread}
-use Rattle.locals.specs.Looks.{Request, AskLoad, AskStore, AskSwap, AskCas, AskOr, AskAdd, AskFork, AskPrint, AskWait, AskWake, AskRequeue, AskReturn, AskReturnValue, AskFault}
+use Rattle.locals.specs.Looks.{Request, AskLoad, AskStore, AskSwap, AskCas, AskOr, AskAdd, AskFork, AskPrint}
+use Rattle.locals.specs.Looks.{AskWait, AskWake, AskRequeue, AskReturn, AskReturnValue, AskFault}
 use Rattle.machine.specs.States.{State, with_word, with_thread, with_sleepers}
 
 -- the address lies in the memory
@@ -19,7 +21,8 @@ Lies s a = a < s.size
 abbrev pub with_child : State → ℕ → List ℕ → State
 with_child s entry arguments =
     let child = suc s.made in
-    record (with_word (with_thread s child (opening_thread entry arguments)) (process_word child 2) child) { made = child }
+    record (with_word (with_thread s child (opening_thread entry arguments)) (process_word child 2) child) { made =
+        child }
 
 -- a thread's outcome word is written
 abbrev pub with_outcome : State → ℕ → ℕ → State
@@ -46,10 +49,12 @@ Serves t (AskFork entry arguments has_room) s woken answer s' =
 Serves t (AskPrint number) s woken answer s' =
     Quietly woken ((answer ≡ 0) × (s' ≡ record s { output = s.output ++ signed_of number ∷ [] }))
 Serves t (AskWait a expected) s woken answer s' =
-    Lies s a × Quietly woken (((after : ℕ → Option ℕ) × Sleeps s.word s.asleep t a expected after × (answer ≡ 0) × (s' ≡ with_sleepers s after))
+    Lies s a × Quietly woken (((after : ℕ → Option ℕ) × Sleeps s.word s.asleep t a expected after × (answer ≡ 0)
+        × (s' ≡ with_sleepers s after))
     ⊎ ((s.word a ≢ expected) × (answer ≡ 1) × (s' ≡ s)))
 Serves t (AskWake a n) s woken answer s' =
-    Lies s a × (after : ℕ → Option ℕ) × Wakes s.asleep a n woken after × (answer ≡ length woken) × (s' ≡ with_sleepers s after)
+    Lies s a × (after : ℕ → Option ℕ) × Wakes s.asleep a n woken after × (answer ≡ length woken)
+        × (s' ≡ with_sleepers s after)
 Serves t (AskRequeue a b n m expected) s woken answer s' =
     Lies s a × Lies s b
     × (((moved : List ℕ) × (after : ℕ → Option ℕ) × Requeues s.word s.asleep a b n m expected woken moved after

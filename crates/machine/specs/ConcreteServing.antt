@@ -1,6 +1,7 @@
--- How the machine itself serves a request: each wake and each move takes from the front of the address's list, so that what
--- comes of it is determined.
-use Rattle.std.specs.Prelude.{ℕ, suc, ◌+◌, ◌-◌, ◌%◌, ◌++◌, ◌==◌, [], ◌∷◌, List, length, take, drop, Bool, not, nat_lt, slice_index, slice_set, Option, Some, None, Result, Ok, Err, if◌then◌else◌}
+-- How the machine itself serves a request: each wake and each move takes from the front of the address's list, so
+-- that what comes of it is determined.
+use Rattle.std.specs.Prelude.{ℕ, suc, ◌+◌, ◌-◌, ◌%◌, ◌++◌, ◌==◌, [], ◌∷◌, List, length, take, drop, Bool, not}
+use Rattle.std.specs.Prelude.{nat_lt, slice_index, slice_set, Option, Some, None, Result, Ok, Err, if◌then◌else◌}
 use Rattle.std.specs.Int.Bits.{bit_or}
 use Rattle.words.specs.Limits.{most_processes}
 use Rattle.words.specs.Process.{process_word}
@@ -8,7 +9,8 @@ use Rattle.words.specs.Outcomes.{fault_number}
 use Rattle.words.specs.Signed.{signed_of}
 use Rattle.buckets.specs.Places.{with_place}
 use Rattle.locals.specs.Threads.{Thread, opening_thread}
-use Rattle.locals.specs.Looks.{Request, AskLoad, AskStore, AskSwap, AskCas, AskOr, AskAdd, AskFork, AskPrint, AskWait, AskWake, AskRequeue, AskReturn, AskReturnValue, AskFault}
+use Rattle.locals.specs.Looks.{Request, AskLoad, AskStore, AskSwap, AskCas, AskOr, AskAdd, AskFork, AskPrint}
+use Rattle.locals.specs.Looks.{AskWait, AskWake, AskRequeue, AskReturn, AskReturnValue, AskFault}
 use Rattle.machine.specs.declared.event.Event.{Event}
 use Rattle.machine.specs.declared.event.EventName.{EventName}
 use Rattle.machine.specs.declared.event.EventName.TheVariants as name
@@ -89,7 +91,8 @@ wait_on c t a expected =
     if load c a == expected then gives 0 (sleep_on c t a) (plain name.Wait 0) else gives 1 c (plain name.Wait 1)
 
 abbrev pub wake_on : Common → ℕ → ℕ → Result Served StepFault
-wake_on c a n = gives (length (front c a n)) (wake_front c a n) (event_of name.Wake (length (front c a n)) (front c a n) [])
+wake_on c a n = gives (length (front c a n)) (wake_front c a n)
+    (event_of name.Wake (length (front c a n)) (front c a n) [])
 
 abbrev pub requeue_to : Common → ℕ → ℕ → ℕ → ℕ → ℕ → Result Served StepFault
 requeue_to c a b n m expected =
@@ -109,10 +112,12 @@ serve made t (AskLoad a) c = within c a (gives (load c a) c (plain name.Load (lo
 serve made t (AskStore a v) c = within c a (gives 0 (set_word c a v) (plain name.Store v))
 serve made t (AskSwap a v) c = within c a (gives (load c a) (set_word c a v) (plain name.Swap (load c a)))
 serve made t (AskCas a expected new) c =
-    within c a (gives (load c a) (if load c a == expected then set_word c a new else c) (plain name.Cas (load c a)))
-serve made t (AskOr a v) c = within c a (gives (load c a) (set_word c a (bit_or (load c a) v)) (plain name.Or (load c a)))
+    within c a (gives (load c a) (if load c a == expected then set_word c a new else c)
+        (plain name.CompareSwap (load c a)))
+serve made t (AskOr a v) c =
+    within c a (gives (load c a) (set_word c a (bit_or (load c a) v)) (plain name.FetchOr (load c a)))
 serve made t (AskAdd a v) c =
-    within c a (gives (load c a) (set_word c a ((load c a + v) % 4294967296)) (plain name.Add (load c a)))
+    within c a (gives (load c a) (set_word c a ((load c a + v) % 4294967296)) (plain name.FetchAdd (load c a)))
 serve made t (AskFork entry arguments has_room) c = fork_at made c entry arguments has_room
 serve made t (AskPrint number) c =
     gives 0 (record c { output = c.output ++ signed_of number ∷ [] }) (plain name.Print number)

@@ -1,5 +1,6 @@
 -- The machine's own step of a thread, which is determined.
-use Rattle.std.specs.Prelude.{ℕ, ◌+◌, ◌-◌, ◌++◌, ◌||◌, [], ◌∷◌, List, length, Bool, false, not, is_some, slice_set, Option, Some, None, Result, Ok, Err}
+use Rattle.std.specs.Prelude.{ℕ, ◌+◌, ◌-◌, ◌++◌, ◌||◌, [], ◌∷◌, List, length, Bool, false, not, is_some}
+use Rattle.std.specs.Prelude.{slice_set, Option, Some, None, Result, Ok, Err}
 use Rattle.isa.specs.Programs.{Program}
 use Rattle.locals.specs.Threads.{Thread, Exits}
 use Rattle.locals.specs.Looks.{Look, Goes, Asks, Leaves, Breaks, Rests, look}
@@ -25,7 +26,7 @@ go_on_with go (Err fault) = Err fault
 
 -- a step of one thread on what it touches, where so many threads were made
 abbrev pub thread_step : ℕ → ℕ → Common → Look → Result Stepped StepFault
-thread_step made t c (Goes x) = Ok (record { common = c; thread = x; child = None; event = plain name.Turn 0 })
+thread_step made t c (Goes x) = Ok (record { common = c; thread = x; child = None; event = plain name.Local 0 })
 thread_step made t c (Asks request go) = go_on_with go (serve made t request c)
 thread_step made t c (Leaves phase) =
     let r = leave t phase c in Ok (record { common = r.common; thread = Exits r.next; child = None; event = r.event })

@@ -9,7 +9,7 @@ use Rattle.machine.specs.Runs.{IsStep, CanStep, NextIsBroken, is_paused}
 use Rattle.machine.specs.ConcreteSteps.{step_of, can_move}
 use Rattle.machine.specs.Views.{IsWellFormed}
 
--- what is kept at the start stands for the opening state
+-- the concrete state at the start stands for the opening state
 abbrev pub OpensSo : Type 0
 OpensSo = (p : Program) → (state_of (opening_concrete p) ≡ opening_state p) × IsWellFormed p (opening_concrete p)
 
@@ -18,15 +18,18 @@ abbrev pub StepsSo : Type 0
 StepsSo =
     (p : Program) (k k' : ConcreteState) (t : ℕ) (e : Event) → IsWellFormed p k → step_of p k t ≡ Ok (k', e)
     → (woken : List ℕ) × (e.woken ≡ set_of woken)
-    × IsStep p (state_of k) (record { thread = t; woken = woken; pauses = is_paused (state_of k') t }) (state_of k') × IsWellFormed p k'
+    × IsStep p (state_of k) (record { thread = t; woken = woken; pauses = is_paused (state_of k') t }) (state_of k')
+        × IsWellFormed p k'
 
 -- a step is Broken exactly where the thread's next step may not be
 abbrev pub BreaksSo : Type 0
-BreaksSo = (p : Program) (k : ConcreteState) (t : ℕ) → IsWellFormed p k → (step_of p k t ≡ Err Broken) ↔ NextIsBroken p (state_of k) t
+BreaksSo = (p : Program) (k : ConcreteState) (t : ℕ) → IsWellFormed p k
+    → (step_of p k t ≡ Err Broken) ↔ NextIsBroken p (state_of k) t
 
 -- a step is refused with CannotMove exactly where the thread can't step
 abbrev pub RefusesSo : Type 0
-RefusesSo = (p : Program) (k : ConcreteState) (t : ℕ) → (step_of p k t ≡ Err CannotMove) ↔ (CanStep (state_of k) t → ⊥)
+RefusesSo = (p : Program) (k : ConcreteState) (t : ℕ)
+    → (step_of p k t ≡ Err CannotMove) ↔ (CanStep (state_of k) t → ⊥)
 
 -- a thread can move exactly where it can step
 abbrev pub MovesSo : Type 0

@@ -16,7 +16,8 @@ pub record EventStep : Type 0 where
 -- steps of the machine itself, one after another
 abbrev pub FrontRun : Program → ConcreteState → List EventStep → ConcreteState → Type 0
 FrontRun p k [] k' = k ≡ k'
-FrontRun p k (s ∷ steps) k' = (mid : ConcreteState) × (step_of p k s.thread ≡ Ok (mid, s.event)) × FrontRun p mid steps k'
+FrontRun p k (s ∷ steps) k' = (mid : ConcreteState) × (step_of p k s.thread ≡ Ok (mid, s.event))
+    × FrontRun p mid steps k'
 
 -- what is seen of a step: its thread, and the threads that it woke
 pub record Label : Type 0 where

@@ -5,9 +5,8 @@ use Rattle.robustexit.specs.declared.phase.ExitPhase.{ExitPhase}
 use Rattle.robustexit.specs.declared.phase.ExitPhase.TheVariants.{Entry, Pending, ClearId, LastWake, Ended}
 use Rattle.locals.specs.declared.request.Request.{Request as Told}
 use Rattle.locals.specs.declared.request.Request.TheVariants as told
-use Rattle.locals.specs.declared.request.NextStep.{NextStep}
-use Rattle.locals.specs.declared.request.NextStep.TheVariants as next
-use Rattle.locals.specs.Looks.{Request, AskLoad, AskStore, AskSwap, AskCas, AskOr, AskAdd, AskFork, AskPrint, AskWait, AskWake, AskRequeue, AskReturn, AskReturnValue, AskFault, Look, Asks}
+use Rattle.locals.specs.Looks.{Request, AskLoad, AskStore, AskSwap, AskCas, AskOr, AskAdd, AskFork, AskPrint}
+use Rattle.locals.specs.Looks.{AskWait, AskWake, AskRequeue, AskReturn, AskReturnValue, AskFault, Look, Asks}
 use Rattle.machine.specs.declared.served.Served.{Served as Given}
 use Rattle.machine.specs.declared.event.EventName.{EventName}
 use Rattle.machine.specs.declared.event.EventName.TheVariants as name
@@ -15,15 +14,14 @@ use Rattle.machine.specs.declared.event.StepFault.{StepFault}
 use Rattle.machine.specs.States.{Common}
 use Rattle.machine.specs.ConcreteServing.{Served}
 
--- the request that the code tells so; a fork's operands stay with its thread
+-- the request that the code tells so
 abbrev pub asked_of : Told → Request
 asked_of (told.Load a) = AskLoad a.0
 asked_of (told.Store a v) = AskStore a.0 v
 asked_of (told.Swap a v) = AskSwap a.0 v
-asked_of (told.Cas a expected new) = AskCas a.0 expected new
-asked_of (told.Or a v) = AskOr a.0 v
-asked_of (told.Add a v) = AskAdd a.0 v
-asked_of (told.Fork entry count has_room) = AskFork entry [] has_room
+asked_of (told.CompareSwap a expected new) = AskCas a.0 expected new
+asked_of (told.FetchOr a v) = AskOr a.0 v
+asked_of (told.FetchAdd a v) = AskAdd a.0 v
 asked_of (told.Print number) = AskPrint number
 asked_of (told.Wait a expected) = AskWait a.0 expected
 asked_of (told.Wake a n) = AskWake a.0 n
@@ -31,16 +29,6 @@ asked_of (told.Requeue a b wake moves expected) = AskRequeue a.0 b.0 wake moves 
 asked_of told.Return = AskReturn
 asked_of (told.ReturnValue v) = AskReturnValue v
 asked_of (told.Fault fault) = AskFault fault
-
--- a request that makes no thread
-abbrev pub MakesNone : Told → Type 0
-MakesNone (told.Fork entry count has_room) = ⊥
-MakesNone request = Unit {0}
-
--- a step that makes no thread
-abbrev pub StepMakesNone : NextStep → Type 0
-StepMakesNone (next.Shared request) = MakesNone request
-StepMakesNone step = Unit {0}
 
 -- what the code gave, with what is shared after it
 abbrev pub with_common : Result Given StepFault → Common → Result Served StepFault

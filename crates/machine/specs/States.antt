@@ -1,5 +1,6 @@
--- A state of the machine: as what is kept, and as what it stands for.
-use Rattle.std.specs.Prelude.{ℕ, zero, suc, List, [], ◌∷◌, length, slice_get, slice_index, slice_set, replicate, if◌then◌else◌, Option, Some, None, ℤ}
+-- A state of the machine: the concrete one, which the code has, and the abstract one, which it stands for.
+use Rattle.std.specs.Prelude.{ℕ, zero, suc, List, [], ◌∷◌, length, slice_get, slice_index, slice_set, replicate}
+use Rattle.std.specs.Prelude.{if◌then◌else◌, Option, Some, None, ℤ}
 use Rattle.isa.specs.Programs.{Program, memory_size}
 use Rattle.words.specs.Process.{process_word}
 use Rattle.robustexit.specs.RobustExit.{put}
@@ -18,8 +19,8 @@ pub record ConcreteState : Type 0 where
   pub common : Common
   pub threads : List Thread
 
--- a state: the word at each address below the size, how many threads were made, each of them, and where it sleeps, if it
--- does
+-- a state: the word at each address below the size, how many threads were made, each of them, and where it sleeps, if
+-- it does
 pub record State : Type 0 where
   pub word : ℕ → ℕ
   pub size : ℕ
@@ -35,7 +36,7 @@ thread_at threads (suc t) = slice_get threads t
 abbrev pub thread_of : ConcreteState → ℕ → Option Thread
 thread_of k t = thread_at k.threads t
 
--- what is kept, as a state
+-- the abstract state that a concrete one stands for
 abbrev pub state_of : ConcreteState → State
 state_of k = record {
   word = λ a. slice_index k.common.words a;

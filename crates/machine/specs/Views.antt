@@ -1,5 +1,6 @@
 -- A machine as contracts see it.
-use Rattle.std.specs.Prelude.{ℕ, ◌+◌, ◌*◌, ◌<◌, ◌≤◌, ◌≡◌, true, false, List, ℤ, length, take, sum, Option, Some, None, IsTrue, nat_eq}
+use Rattle.std.specs.Prelude.{ℕ, ◌+◌, ◌*◌, ◌<◌, ◌≤◌, ◌≡◌, true, false, List, ℤ, length, take, sum, Option, Some}
+use Rattle.std.specs.Prelude.{None, IsTrue, nat_eq}
 use Rattle.std.specs.List.{IsDistinct}
 use Rattle.words.specs.declared.mem.Addr.{Addr}
 use Rattle.isa.specs.Programs.{Program, memory_size}
@@ -28,8 +29,8 @@ pub record IsSoundly (queue : ℕ → List ℕ) (asleep : ℕ → Option ℕ) : 
   pub sleeps : (t a : ℕ) → IsTrue (names (queue a) t) → asleep t ≡ Some a
   pub distinct : (a : ℕ) → IsDistinct nat_eq (queue a)
 
--- what always holds of what is kept: the memory has the program's size, there are some threads, as many as can be, and who sleeps is
--- one of them
+-- what always holds of a concrete state: the memory has the program's size, there are some threads, as many as can be,
+-- and who sleeps is one of them
 pub record IsWellFormed (p : Program) (k : ConcreteState) : Type 0 where
   pub sized : length k.common.words ≡ memory_size p
   pub some : 1 ≤ length k.threads
@@ -65,7 +66,7 @@ pub record IsCommon (words : List ℕ) (sleepers : Sleepers) : Type 0 where
   pub sound : IsSound sleepers
   pub places : thread_count sleepers ≡ most_processes
 
--- the program that runs, the parts of what is kept, and how many numbers can be printed without taking memory
+-- the program that runs, the parts of its concrete state, and how many numbers can be printed without taking memory
 pub record View : Type 0 where
   pub program : Program
   pub words : List ℕ
@@ -91,13 +92,13 @@ address_of (Some a) = Some a.0
 -- how many numbers a step printed
 abbrev pub printed_by_name : EventName → ℕ
 printed_by_name name.Print = 1
-printed_by_name name.Turn = 0
+printed_by_name name.Local = 0
 printed_by_name name.Load = 0
 printed_by_name name.Store = 0
 printed_by_name name.Swap = 0
-printed_by_name name.Cas = 0
-printed_by_name name.Or = 0
-printed_by_name name.Add = 0
+printed_by_name name.CompareSwap = 0
+printed_by_name name.FetchOr = 0
+printed_by_name name.FetchAdd = 0
 printed_by_name name.Fork = 0
 printed_by_name name.Wait = 0
 printed_by_name name.Wake = 0

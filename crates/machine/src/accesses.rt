@@ -13,7 +13,8 @@ use words::Addr;
 impl Common {
     /// Reads the word at an address.
     pub fn load(&self, a: Addr) -> Result<Served, StepFault>
-        ensures gives { (made t : ℕ) → serve made t (AskLoad a.0) (common self.now) ≡ with_common result (common self.now) }
+        ensures gives { (made t : ℕ)
+            → serve made t (AskLoad a.0) (common self.now) ≡ with_common result (common self.now) }
     {
         check_address(&self.words, a)?;
         let word = self.words.load(a);
@@ -22,7 +23,8 @@ impl Common {
 
     /// Puts a word at an address.
     pub fn store(&mut self, a: Addr, v: u32) -> Result<Served, StepFault>
-        ensures gives { (made t : ℕ) → serve made t (AskStore a.0 v) (common self.old) ≡ with_common result (common self.new) }
+        ensures gives { (made t : ℕ)
+            → serve made t (AskStore a.0 v) (common self.old) ≡ with_common result (common self.new) }
         ensures capacity { self.new.capacity ≡ self.old.capacity }
         ensures same { OnErr result (self.new ≡ self.old) }
     {
@@ -33,7 +35,8 @@ impl Common {
 
     /// Puts a word at an address; the answer is the word before.
     pub fn swap(&mut self, a: Addr, v: u32) -> Result<Served, StepFault>
-        ensures gives { (made t : ℕ) → serve made t (AskSwap a.0 v) (common self.old) ≡ with_common result (common self.new) }
+        ensures gives { (made t : ℕ)
+            → serve made t (AskSwap a.0 v) (common self.old) ≡ with_common result (common self.new) }
         ensures capacity { self.new.capacity ≡ self.old.capacity }
         ensures same { OnErr result (self.new ≡ self.old) }
     {
@@ -44,34 +47,37 @@ impl Common {
 
     /// Puts `new` at an address where the word is `expected`; the answer is the word before.
     pub fn compare_swap(&mut self, a: Addr, expected: u32, new: u32) -> Result<Served, StepFault>
-        ensures gives { (made t : ℕ) → serve made t (AskCas a.0 expected new) (common self.old) ≡ with_common result (common self.new) }
+        ensures gives { (made t : ℕ)
+            → serve made t (AskCas a.0 expected new) (common self.old) ≡ with_common result (common self.new) }
         ensures capacity { self.new.capacity ≡ self.old.capacity }
         ensures same { OnErr result (self.new ≡ self.old) }
     {
         check_address(&self.words, a)?;
         let before = self.words.compare_swap(a, expected, new);
-        Ok(Served::quietly(before, EventName::Cas, before))
+        Ok(Served::quietly(before, EventName::CompareSwap, before))
     }
 
     /// Sets bits in the word at an address; the answer is the word before.
     pub fn fetch_or(&mut self, a: Addr, v: u32) -> Result<Served, StepFault>
-        ensures gives { (made t : ℕ) → serve made t (AskOr a.0 v) (common self.old) ≡ with_common result (common self.new) }
+        ensures gives { (made t : ℕ)
+            → serve made t (AskOr a.0 v) (common self.old) ≡ with_common result (common self.new) }
         ensures capacity { self.new.capacity ≡ self.old.capacity }
         ensures same { OnErr result (self.new ≡ self.old) }
     {
         check_address(&self.words, a)?;
         let before = self.words.fetch_or(a, v);
-        Ok(Served::quietly(before, EventName::Or, before))
+        Ok(Served::quietly(before, EventName::FetchOr, before))
     }
 
     /// Adds a number to the word at an address, modulo 2^32; the answer is the word before.
     pub fn fetch_add(&mut self, a: Addr, v: u32) -> Result<Served, StepFault>
-        ensures gives { (made t : ℕ) → serve made t (AskAdd a.0 v) (common self.old) ≡ with_common result (common self.new) }
+        ensures gives { (made t : ℕ)
+            → serve made t (AskAdd a.0 v) (common self.old) ≡ with_common result (common self.new) }
         ensures capacity { self.new.capacity ≡ self.old.capacity }
         ensures same { OnErr result (self.new ≡ self.old) }
     {
         check_address(&self.words, a)?;
         let before = self.words.fetch_add(a, v);
-        Ok(Served::quietly(before, EventName::Add, before))
+        Ok(Served::quietly(before, EventName::FetchAdd, before))
     }
 }

@@ -1,4 +1,5 @@
-ghost use Rattle.std.specs.Prelude.{◌≡◌, ◌-◌, ◌≤◌, ◌<◌, ◌+◌, ℕ, [], None, IfOk, OnOk, OnErr, length, replicate, slice_get, slice_set, Some};
+ghost use Rattle.std.specs.Prelude.{◌≡◌, ◌-◌, ◌≤◌, ◌<◌, ◌+◌, ℕ, [], None, IfOk, OnOk, OnErr, length, replicate};
+ghost use Rattle.std.specs.Prelude.{slice_get, slice_set, Some};
 ghost use Rattle.words.specs.Limits.{most_processes};
 ghost use Rattle.isa.specs.Programs.{memory_size};
 ghost use Rattle.buckets.specs.BucketCount.{IsBucketCount};
@@ -56,8 +57,10 @@ impl Common {
     /// Makes room for `n` printed numbers at least. It is refused only where there is less room.
     pub fn make_room(&mut self, n: usize) -> Result<(), AllocError>
         ensures room { OnOk result (n ≤ self.new.capacity - length self.new.output) }
-        ensures err { OnErr result ((self.old.capacity - length self.old.output < n) × (self.new.capacity ≡ self.old.capacity)) }
-        ensures same { (self.new.words ≡ self.old.words) × (self.new.sleepers ≡ self.old.sleepers) × (self.new.output ≡ self.old.output) }
+        ensures err { OnErr result ((self.old.capacity - length self.old.output < n)
+            × (self.new.capacity ≡ self.old.capacity)) }
+        ensures same { (self.new.words ≡ self.old.words) × (self.new.sleepers ≡ self.old.sleepers)
+            × (self.new.output ≡ self.old.output) }
     {
         self.output.reserve(n)
     }

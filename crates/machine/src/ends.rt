@@ -16,7 +16,8 @@ impl Common {
     /// Prints a number, given as its word.
     pub fn print(&mut self, number: u32) -> Served
         requires { length self.old.output < self.old.capacity }
-        ensures gives { (made t : ℕ) → serve made t (AskPrint number) (common self.old) ≡ with_common (Ok result) (common self.new) }
+        ensures gives { (made t : ℕ)
+            → serve made t (AskPrint number) (common self.old) ≡ with_common (Ok result) (common self.new) }
         ensures capacity { self.new.capacity ≡ self.old.capacity }
     {
         self.output.push_reserved(signed(number));
@@ -26,7 +27,8 @@ impl Common {
     /// Thread `t` ends by the return of its last frame. The answer is the first entry of its robust list.
     pub fn end(&mut self, t: u32) -> Served
         requires { IsThread t }
-        ensures gives { (made : ℕ) → serve made t AskReturn (common self.old) ≡ with_common (Ok result) (common self.new) }
+        ensures gives { (made : ℕ)
+            → serve made t AskReturn (common self.old) ≡ with_common (Ok result) (common self.new) }
         ensures capacity { self.new.capacity ≡ self.old.capacity }
     {
         let head = self.words.load(block(t, ProcessWord::Head));
@@ -37,7 +39,8 @@ impl Common {
     /// Thread `t` ends by the return of its last frame with a value. The answer is the first entry of its robust list.
     pub fn end_with(&mut self, t: u32, value: u32) -> Served
         requires { IsThread t }
-        ensures gives { (made : ℕ) → serve made t (AskReturnValue value) (common self.old) ≡ with_common (Ok result) (common self.new) }
+        ensures gives { (made : ℕ)
+            → serve made t (AskReturnValue value) (common self.old) ≡ with_common (Ok result) (common self.new) }
         ensures capacity { self.new.capacity ≡ self.old.capacity }
     {
         self.words.store(block(t, ProcessWord::Result), value);
@@ -49,7 +52,8 @@ impl Common {
     /// Thread `t` ends by a fault. The answer is the first entry of its robust list.
     pub fn die(&mut self, t: u32, fault: Fault) -> Served
         requires { IsThread t }
-        ensures gives { (made : ℕ) → serve made t (AskFault fault) (common self.old) ≡ with_common (Ok result) (common self.new) }
+        ensures gives { (made : ℕ)
+            → serve made t (AskFault fault) (common self.old) ≡ with_common (Ok result) (common self.new) }
         ensures capacity { self.new.capacity ≡ self.old.capacity }
     {
         let head = self.words.load(block(t, ProcessWord::Head));

@@ -9,8 +9,8 @@ use thiserror::Error;
 /// What one step of a thread was, as a line of the log names it.
 #[derive(Clone, Copy, PartialEq, Eq, Debug)]
 pub enum EventName {
-    /// A local step.
-    Turn,
+    /// A local step. A log shows it as TURN.
+    Local,
     /// A word read: the word.
     Load,
     /// A word stored: the word.
@@ -18,11 +18,11 @@ pub enum EventName {
     /// A word swapped: the word before.
     Swap,
     /// A compare-and-swap: the word before.
-    Cas,
+    CompareSwap,
     /// Bits set in a word: the word before.
-    Or,
+    FetchOr,
     /// A number added to a word: the word before.
-    Add,
+    FetchAdd,
     /// A new thread: its number, or 0 where no more can be made.
     Fork,
     /// A number printed: the number's word.

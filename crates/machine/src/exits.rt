@@ -41,7 +41,8 @@ impl Common {
     pub fn leave(&mut self, t: u32, phase: ExitPhase) -> (ExitPhase, Event)
         requires thread { IsThread t }
         requires running { phase ≢ ExitPhase.Ended }
-        ensures gives { leave t phase (common self.old) ≡ record { common = common self.new; next = result.0; event = result.1 } }
+        ensures gives { leave t phase (common self.old)
+            ≡ record { common = common self.new; next = result.0; event = result.1 } }
         ensures capacity { self.new.capacity ≡ self.old.capacity }
     {
         let address = address_at(&self.words, t, phase);

@@ -20,7 +20,8 @@ impl Common {
     pub fn wait(&mut self, t: u32, a: Addr, expected: u32) -> Result<Served, StepFault>
         requires thread { IsThread t }
         requires awake { place_of self.old.sleepers t ≡ None }
-        ensures gives { (made : ℕ) → serve made t (AskWait a.0 expected) (common self.old) ≡ with_common result (common self.new) }
+        ensures gives { (made : ℕ)
+            → serve made t (AskWait a.0 expected) (common self.old) ≡ with_common result (common self.new) }
         ensures capacity { self.new.capacity ≡ self.old.capacity }
         ensures same { OnErr result (self.new ≡ self.old) }
     {
@@ -33,7 +34,8 @@ impl Common {
 
     /// Wakes the first `n` sleepers on an address; the answer is how many.
     pub fn wake(&mut self, a: Addr, n: u32) -> Result<Served, StepFault>
-        ensures gives { (made t : ℕ) → serve made t (AskWake a.0 n) (common self.old) ≡ with_common result (common self.new) }
+        ensures gives { (made t : ℕ)
+            → serve made t (AskWake a.0 n) (common self.old) ≡ with_common result (common self.new) }
         ensures capacity { self.new.capacity ≡ self.old.capacity }
         ensures same { OnErr result (self.new ≡ self.old) }
     {
@@ -56,7 +58,8 @@ impl Common {
         moves: u32,
         expected: u32,
     ) -> Result<Served, StepFault>
-        ensures gives { (made t : ℕ) → serve made t (AskRequeue a.0 b.0 wake moves expected) (common self.old) ≡ with_common result (common self.new) }
+        ensures gives { (made t : ℕ) → serve made t (AskRequeue a.0 b.0 wake moves expected) (common self.old)
+            ≡ with_common result (common self.new) }
         ensures capacity { self.new.capacity ≡ self.old.capacity }
         ensures same { OnErr result (self.new ≡ self.old) }
     {

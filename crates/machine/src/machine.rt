@@ -1,4 +1,5 @@
-ghost use Rattle.std.specs.Prelude.{◌≡◌, ◌≢◌, ◌≤◌, ◌<◌, ◌+◌, ℕ, length, slice_get, slice_index, slice_set, ◌-◌, true, false, Some, None, Ok, Err, IfOk, IfErr, OnOk, OnErr, MatchBool, is_some};
+ghost use Rattle.std.specs.Prelude.{◌≡◌, ◌≢◌, ◌≤◌, ◌<◌, ◌+◌, ℕ, length, slice_get, slice_index, slice_set, ◌-◌};
+ghost use Rattle.std.specs.Prelude.{true, false, Some, None, Ok, Err, IfOk, IfErr, OnOk, OnErr, MatchBool, is_some};
 ghost use Rattle.words.specs.Limits.{most_processes};
 ghost use Rattle.words.specs.Process.{process_word};
 ghost use Rattle.words.specs.Outcomes.{outcome_of};
@@ -8,7 +9,8 @@ ghost use Rattle.machine.specs.States.{thread_of, state_of, opening_concrete};
 ghost use Rattle.machine.specs.Runs.{has_ended};
 ghost use Rattle.machine.specs.ConcreteSteps.{step_of, can_move, fault_at};
 ghost use Rattle.machine.specs.LocalRuns.{RunsOn};
-ghost use Rattle.machine.specs.Views.{concrete, AllEnded, IsQuiet, variable_address, address_of, printed_by, IsWellFormed};
+ghost use Rattle.machine.specs.Views.{concrete, AllEnded, IsQuiet, variable_address, address_of, printed_by};
+ghost use Rattle.machine.specs.Views.{IsWellFormed};
 
 use crate::common::Common;
 use crate::event::{Event, StepFault};
@@ -45,12 +47,13 @@ impl Model for Machine {
       room = m.common.capacity - length m.common.output;
     } };
 
-    ghost invariant = { λ m. IsWellFormed m.image (parts_of m.common m.threads.items) × (most_processes ≤ vec_capacity m.threads) };
+    ghost invariant = { λ m. IsWellFormed m.image (parts_of m.common m.threads.items)
+        × (most_processes ≤ vec_capacity m.threads) };
 }
 
 impl Machine {
-    /// The machine at the start of an image, over so many buckets of sleepers, which no contract sees: one thread, which
-    /// stands at the image's start. It keeps a copy of the image. From then on no step takes memory.
+    /// The machine at the start of an image, over so many buckets of sleepers, which no contract sees: one thread,
+    /// which stands at the image's start. It keeps a copy of the image. From then on no step takes memory.
     pub fn new(alloc: Global, image: &Image, buckets: u32) -> Result<Machine, AllocError>
         requires { IsBucketCount buckets }
         ensures program { IfOk result (λ m. m.program ≡ image.now) }
@@ -114,7 +117,8 @@ impl Machine {
 
     /// Whether all threads that were made have ended.
     pub fn all_ended(&self) -> bool
-        ensures { MatchBool result (AllEnded (concrete self.now)) ((t : ℕ) × (0 < t) × (t ≤ length self.now.threads) × (has_ended (thread_of (concrete self.now) t) ≡ false)) }
+        ensures { MatchBool result (AllEnded (concrete self.now)) ((t : ℕ) × (0 < t) × (t ≤ length self.now.threads)
+            × (has_ended (thread_of (concrete self.now) t) ≡ false)) }
     {
         for t in 0..self.threads() {
             if !self.has_ended(t + 1) {
@@ -211,7 +215,8 @@ impl Machine {
         requires { 1 ≤ self.old.room }
         ensures done { IfOk result (λ e. step_of self.old.program (concrete self.old) t ≡ Ok (concrete self.new, e)) }
         ensures room { IfOk result (λ e. self.old.room ≡ self.new.room + printed_by e) }
-        ensures err { IfErr result (λ f. (step_of self.old.program (concrete self.old) t ≡ Err f) × (self.new ≡ self.old)) }
+        ensures err { IfErr result (λ f. (step_of self.old.program (concrete self.old) t ≡ Err f)
+            × (self.new ≡ self.old)) }
         ensures program { self.new.program ≡ self.old.program }
         ensures holds { IsWellFormed self.new.program (concrete self.new) }
     {

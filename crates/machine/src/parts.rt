@@ -1,4 +1,5 @@
-ghost use Rattle.std.specs.Prelude.{◌≡◌, ◌^◌, sum, ◌≤◌, ◌<◌, Some, None, Ok, Err, IfOk, IfErr, OnErr, [], ◌∷◌, length, replicate, slice_index, slice_set, vec_len, vec_capacity};
+ghost use Rattle.std.specs.Prelude.{◌≡◌, ◌^◌, sum, ◌≤◌, ◌<◌, Some, None, Ok, Err, IfOk, IfErr, OnErr, [], ◌∷◌};
+ghost use Rattle.std.specs.Prelude.{length, replicate, slice_index, slice_set, vec_len, vec_capacity};
 ghost use Rattle.words.specs.Limits.{most_processes};
 ghost use Rattle.isa.specs.Programs.{memory_size};
 ghost use Rattle.locals.specs.Threads.{Thread, opening_thread};
@@ -11,9 +12,9 @@ ghost use Rattle.machine.specs.Views.{parts_of, variable_address};
 
 use crate::common::Common;
 use crate::event::{Event, StepFault};
-use crate::thread_step::{take_fork, take_thread_step};
+use crate::thread_step::{take_exit, take_fork, take_local, take_request};
 use isa::Image;
-use locals::{Local, NextStep, Request, opening_local};
+use locals::{Local, NextStep, opening_local};
 use std::alloc::{AllocError, Global};
 use words::{Addr, MONITORS_BASE, MOST_PROCESSES, Mem, ProcessWord, block};
 
@@ -74,24 +75,29 @@ pub fn step_parts(
     requires few { vec_len threads.old ≤ most_processes }
     requires awake { place_of shared.old.sleepers t ≡ None }
     requires space { most_processes ≤ vec_capacity threads.old }
-    ensures done { IfOk result (λ e. step_of image.now (parts_of shared.old threads.old.items) t ≡ Ok (parts_of shared.new threads.new.items, e)) }
+    ensures done { IfOk result
+        (λ e. step_of image.now (parts_of shared.old threads.old.items) t
+        ≡ Ok (parts_of shared.new threads.new.items, e)) }
     ensures err { IfErr result (λ f. step_of image.now (parts_of shared.old threads.old.items) t ≡ Err f) }
     ensures same { OnErr result ((shared.new ≡ shared.old) × (threads.new.items ≡ threads.old.items)) }
     ensures capacity { shared.new.capacity ≡ shared.old.capacity }
     ensures space { vec_capacity threads.new ≡ vec_capacity threads.old }
 {
     match threads[t as usize - 1].next_step(image, t) {
-        NextStep::Shared(
-            Request::Fork {
-                entry: _,
-                count: _,
-                has_room,
-            },
-        ) => fork_parts(image, shared, threads, t, has_room),
-        step => {
-            let local = &mut threads[t as usize - 1];
-            take_thread_step(image, shared, t, local, step)
+        NextStep::Local => Ok(take_local(image, t, &mut threads[t as usize - 1])),
+        NextStep::Shared(request) => {
+            take_request(image, shared, t, &mut threads[t as usize - 1], request)
         }
+        NextStep::Fork {
+            entry: _,
+            count: _,
+            has_room,
+        } => fork_parts(image, shared, threads, t, has_room),
+        NextStep::Exit(phase) => {
+            Ok(take_exit(image, shared, t, &mut threads[t as usize - 1], phase))
+        }
+        NextStep::Broken => Err(StepFault::Broken),
+        NextStep::Ended => Err(StepFault::CannotMove),
     }
 }
 
@@ -110,7 +116,9 @@ fn fork_parts(
     requires awake { place_of shared.old.sleepers t ≡ None }
     requires asks { (x : Thread) → thread_at threads.old.items t ≡ Some x → AsksFork (look image.now t x) has_room }
     requires space { most_processes ≤ vec_capacity threads.old }
-    ensures done { IfOk result (λ e. step_of image.now (parts_of shared.old threads.old.items) t ≡ Ok (parts_of shared.new threads.new.items, e)) }
+    ensures done { IfOk result
+        (λ e. step_of image.now (parts_of shared.old threads.old.items) t
+        ≡ Ok (parts_of shared.new threads.new.items, e)) }
     ensures err { IfErr result (λ f. step_of image.now (parts_of shared.old threads.old.items) t ≡ Err f) }
     ensures same { OnErr result ((shared.new ≡ shared.old) × (threads.new.items ≡ threads.old.items)) }
     ensures capacity { shared.new.capacity ≡ shared.old.capacity }

@@ -19,17 +19,18 @@ impl Common {
         (a.0 as usize) < self.words.len()
     }
 
-    // Whether a request would be served, where so many threads were made.
-    fn can_serve(&self, made: u32, request: Request) -> bool
-        ensures { (t : ℕ) → fault_of (serve made t (asked_of request) (common self.now)) ≡ (if result then None else Some StepFault.Broken) }
+    // Whether a request would be served.
+    fn can_serve(&self, request: Request) -> bool
+        ensures { (made t : ℕ) → fault_of (serve made t (asked_of request) (common self.now))
+            ≡ (if result then None else Some StepFault.Broken) }
     {
         match request {
             Request::Load(a)
             | Request::Store(a, _)
             | Request::Swap(a, _)
-            | Request::Or(a, _)
-            | Request::Add(a, _) => self.has(a),
-            Request::Cas {
+            | Request::FetchOr(a, _)
+            | Request::FetchAdd(a, _) => self.has(a),
+            Request::CompareSwap {
                 address,
                 expected: _,
                 new: _,
@@ -46,11 +47,6 @@ impl Common {
                 moves: _,
                 expected: _,
             } => self.has(from) && self.has(to),
-            Request::Fork {
-                entry: _,
-                count: _,
-                has_room,
-            } => has_room || made == MOST_PROCESSES,
             Request::Print(_) | Request::Return | Request::ReturnValue(_) | Request::Fault(_) => {
                 true
             }
@@ -65,7 +61,18 @@ impl Common {
         match local.next_step(image, t) {
             NextStep::Local | NextStep::Exit(_) => None,
             NextStep::Shared(request) => {
-                if self.can_serve(made, request) {
+                if self.can_serve(request) {
+                    None
+                } else {
+                    Some(StepFault::Broken)
+                }
+            }
+            NextStep::Fork {
+                entry: _,
+                count: _,
+                has_room,
+            } => {
+                if has_room || made == MOST_PROCESSES {
                     None
                 } else {
                     Some(StepFault::Broken)

@@ -6,52 +6,48 @@ ghost use Rattle.locals.specs.Requests.{next_step_of};
 ghost use Rattle.locals.specs.declared.request.NextStep.TheVariants as next;
 ghost use Rattle.machine.specs.ThreadSets.{IsThread};
 ghost use Rattle.machine.specs.ConcreteSteps.{thread_step};
-ghost use Rattle.machine.specs.RequestMeanings.{AsksFork, MakesNone, StepMakesNone};
+ghost use Rattle.machine.specs.RequestMeanings.{AsksFork};
+ghost use Rattle.machine.specs.States.{Common as CommonOf};
 ghost use Rattle.machine.specs.Views.{common};
 
 use crate::common::Common;
 use crate::event::{Event, EventName, StepFault};
 use isa::Image;
-use locals::{Local, NextStep, Request};
+use locals::{Local, Request};
+use robustexit::ExitPhase;
 use words::MOST_PROCESSES;
 
-/// A step of thread `t`, which is awake, other than a fork, on what it touches.
-pub fn take_thread_step(
+/// A local step of thread `t`.
+pub fn take_local(image: &Image, t: u32, local: &mut Local) -> Event
+    requires asks { next_step_of (look image.now t local.old) ≡ next.Local }
+    ensures { (made : ℕ) (c : CommonOf) → thread_step made t c (look image.now t local.old)
+        ≡ Ok (record { common = c; thread = local.new; child = None; event = result }) }
+{
+    local.take_step(image, t);
+    Event::new(EventName::Local, 0)
+}
+
+/// A step of the exit of thread `t`.
+pub fn take_exit(
     image: &Image,
     shared: &mut Common,
     t: u32,
     local: &mut Local,
-    step: NextStep,
-) -> Result<Event, StepFault>
-    requires room { length shared.old.output < shared.old.capacity }
+    phase: ExitPhase,
+) -> Event
     requires thread { IsThread t }
-    requires awake { place_of shared.old.sleepers t ≡ None }
-    requires asks { next_step_of (look image.now t local.old) ≡ step }
-    requires makes_none { StepMakesNone step }
-    ensures done { IfOk result (λ e. (made : ℕ) → thread_step made t (common shared.old) (look image.now t local.old)
-        ≡ Ok (record { common = common shared.new; thread = local.new; child = None; event = e })) }
-    ensures err { IfErr result (λ f. (made : ℕ) → thread_step made t (common shared.old) (look image.now t local.old) ≡ Err f) }
-    ensures same { OnErr result ((local.new ≡ local.old) × (shared.new ≡ shared.old)) }
+    requires asks { next_step_of (look image.now t local.old) ≡ next.Exit phase }
+    ensures done { (made : ℕ) → thread_step made t (common shared.old) (look image.now t local.old)
+        ≡ Ok (record { common = common shared.new; thread = local.new; child = None; event = result }) }
     ensures capacity { shared.new.capacity ≡ shared.old.capacity }
 {
-    match step {
-        NextStep::Local => {
-            local.take_step(image, t);
-            Ok(Event::new(EventName::Turn, 0))
-        }
-        NextStep::Shared(request) => take_request(image, shared, t, local, request),
-        NextStep::Exit(phase) => {
-            let (next, event) = shared.leave(t, phase);
-            local.enter_phase(next);
-            Ok(event)
-        }
-        NextStep::Broken => Err(StepFault::Broken),
-        NextStep::Ended => Err(StepFault::CannotMove),
-    }
+    let (next, event) = shared.leave(t, phase);
+    local.enter_phase(next);
+    event
 }
 
-// A request of thread `t` other than a fork.
-fn take_request(
+/// A request of thread `t`, which is awake.
+pub fn take_request(
     image: &Image,
     shared: &mut Common,
     t: u32,
@@ -61,11 +57,11 @@ fn take_request(
     requires room { length shared.old.output < shared.old.capacity }
     requires thread { IsThread t }
     requires awake { place_of shared.old.sleepers t ≡ None }
-    requires makes_none { MakesNone request }
     requires asks { next_step_of (look image.now t local.old) ≡ next.Shared request }
     ensures done { IfOk result (λ e. (made : ℕ) → thread_step made t (common shared.old) (look image.now t local.old)
         ≡ Ok (record { common = common shared.new; thread = local.new; child = None; event = e })) }
-    ensures err { IfErr result (λ f. (made : ℕ) → thread_step made t (common shared.old) (look image.now t local.old) ≡ Err f) }
+    ensures err { IfErr result (λ f. (made : ℕ)
+        → thread_step made t (common shared.old) (look image.now t local.old) ≡ Err f) }
     ensures same { OnErr result ((local.new ≡ local.old) × (shared.new ≡ shared.old)) }
     ensures capacity { shared.new.capacity ≡ shared.old.capacity }
 {

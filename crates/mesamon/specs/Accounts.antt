@@ -13,7 +13,7 @@ use Rattle.words.specs.declared.outcome.Outcome.TheVariants.{Aborted}
 use Rattle.machine.specs.declared.event.Entry.{Entry}
 use Rattle.machine.specs.declared.event.Event.{Event}
 use Rattle.machine.specs.declared.event.EventName.{EventName}
-use Rattle.machine.specs.declared.event.EventName.TheVariants.{Turn, Load, Store, Swap, Cas, Or, Add, Fork, Print}
+use Rattle.machine.specs.declared.event.EventName.TheVariants.{Local, Load, Store, Swap, CompareSwap, FetchOr, FetchAdd, Fork, Print}
 use Rattle.machine.specs.declared.event.EventName.TheVariants.{Wait, Wake, Requeue, Ret, RetValue, Die}
 use Rattle.machine.specs.declared.event.EventName.TheVariants.{Entry as Entry', Pending, Clear, Last}
 use Rattle.machine.specs.ThreadSets.{has}
@@ -36,13 +36,13 @@ abbrev pub output_lines : List ℤ → List ℕ
 output_lines output = flat_map (λ z. signed_decimal z ++ line_feed) output
 
 abbrev pub name_text : EventName → List ℕ
-name_text Turn = codes "TURN"
+name_text Local = codes "TURN"
 name_text Load = codes "LOAD"
 name_text Store = codes "STORE"
 name_text Swap = codes "SWAP"
-name_text Cas = codes "CAS"
-name_text Or = codes "AOR"
-name_text Add = codes "AADD"
+name_text CompareSwap = codes "CAS"
+name_text FetchOr = codes "AOR"
+name_text FetchAdd = codes "AADD"
 name_text Fork = codes "FORK"
 name_text Print = codes "PRINT"
 name_text Wait = codes "FWAIT"

@@ -139,13 +139,13 @@ fn name_of(name: EventName) -> &'static str
     ensures { result.now ≡ name_text name }
 {
     match name {
-        EventName::Turn => "TURN",
+        EventName::Local => "TURN",
         EventName::Load => "LOAD",
         EventName::Store => "STORE",
         EventName::Swap => "SWAP",
-        EventName::Cas => "CAS",
-        EventName::Or => "AOR",
-        EventName::Add => "AADD",
+        EventName::CompareSwap => "CAS",
+        EventName::FetchOr => "AOR",
+        EventName::FetchAdd => "AADD",
         EventName::Fork => "FORK",
         EventName::Print => "PRINT",
         EventName::Wait => "FWAIT",

@@ -1,14 +1,18 @@
 -- What a step of one thread leaves to the others: they stay where they are, and who is awake stays awake.
-use Rattle.std.proofs.Common.{◌≡◌, ◌≢◌, ◌≤◌, ℕ, suc, ◌==◌, Bool, true, false, cond, inl, inr, List, [], ◌∷◌, Option, Some, None, refl, ap, sym, ◌∙◌, arith, subst}
+use Rattle.std.proofs.Common.{◌≡◌, ◌≢◌, ◌≤◌, ℕ, suc, ◌==◌, Bool, true, false, cond, inl, inr, List, [], ◌∷◌}
+use Rattle.std.proofs.Common.{Option, Some, None, refl, ap, sym, ◌∙◌, arith, subst}
 use Rattle.std.specs.Prelude.{ℤ, ◌||◌}
 use Rattle.std.proofs.lemmas.Bool.{cases_eq, ne_eqb}
 use Rattle.robustexit.specs.declared.phase.ExitPhase.{ExitPhase}
 use Rattle.robustexit.specs.declared.phase.ExitPhase.TheVariants.{Entry, Pending, ClearId, LastWake, Ended}
-use Rattle.robustexit.specs.RobustExit.{Shared, IsIdle, EntryStep, PendingStep, NoEntry, IsPending, IsForeign, IsOwned, ExitStep, put}
+use Rattle.robustexit.specs.RobustExit.{Shared, IsIdle, EntryStep, PendingStep, NoEntry, IsPending, IsForeign}
+use Rattle.robustexit.specs.RobustExit.{IsOwned, ExitStep, put}
 use Rattle.buckets.specs.Places.{names, with_place}
 use Rattle.futexcalls.specs.FutexCalls.{Wakes, Moves as Requeued, Requeues, Sleeps}
 use Rattle.locals.specs.Threads.{Thread, opening_thread}
-use Rattle.locals.specs.Looks.{Request, AskLoad, AskStore, AskSwap, AskCas, AskOr, AskAdd, AskFork, AskPrint, AskWait, AskWake, AskRequeue, AskReturn, AskReturnValue, AskFault, Look, Goes, Asks, Leaves, Breaks, Rests}
+use Rattle.locals.specs.Looks.{Request, AskLoad, AskStore, AskSwap, AskCas, AskOr, AskAdd, AskFork, AskPrint}
+use Rattle.locals.specs.Looks.{AskWait, AskWake, AskRequeue, AskReturn, AskReturnValue, AskFault, Look, Goes}
+use Rattle.locals.specs.Looks.{Asks, Leaves, Breaks, Rests}
 use Rattle.machine.specs.States.{State, with_thread, with_word, with_sleepers}
 use Rattle.machine.specs.AbstractServing.{Serves, with_child, shared_of, with_shared}
 use Rattle.machine.specs.Runs.{Moves}
@@ -32,14 +36,16 @@ to t s s' s'' is b = subst (λ (q : State). Beside t s q) (sym is) b
 same : (t : ℕ) (s : State) → Beside t s s
 same t s = record { stay = λ u x other h. h; awake = λ u other h. h; made = omega arith }
 
-by_words : (t : ℕ) (s : State) (words : ℕ → ℕ) (output : List ℤ) → Beside t s (record s { word = words; output = output })
+by_words : (t : ℕ) (s : State) (words : ℕ → ℕ) (output : List ℤ)
+    → Beside t s (record s { word = words; output = output })
 by_words t s words output = record { stay = λ u x other h. h; awake = λ u other h. h; made = omega arith }
 
 by_test : (t a v : ℕ) (s : State) (b : Bool) → Beside t s (cond b (with_word s a v) s)
 by_test t a v s true = by_words t s (put s.word a v) s.output
 by_test t a v s false = same t s
 
-by_sleepers : (t : ℕ) (s : State) (after : ℕ → Option ℕ) → StaysAwake t s.asleep after → Beside t s (with_sleepers s after)
+by_sleepers : (t : ℕ) (s : State) (after : ℕ → Option ℕ) → StaysAwake t s.asleep after
+    → Beside t s (with_sleepers s after)
 by_sleepers t s after awake = record { stay = λ u x other h. h; awake = awake; made = omega arith }
 
 at_other : {A : Type 0} → (u t : ℕ) (x y : A) → u ≢ t → cond (u == t) x y ≡ y
@@ -54,7 +60,8 @@ by_thread t s x = record {
 
 by_child : (t entry : ℕ) (arguments : List ℕ) (s : State) → IsNumbered s → Beside t s (with_child s entry arguments)
 by_child t entry arguments s numbered = record {
-  stay = λ u y other h. at_other u (suc s.made) (Some (opening_thread entry arguments)) (s.thread u) (λ (e : u ≡ suc s.made). let few = numbered u y h in absurd (omega arith)) ∙ h;
+  stay = λ u y other h. at_other u (suc s.made) (Some (opening_thread entry arguments)) (s.thread u)
+      (λ (e : u ≡ suc s.made). let few = numbered u y h in absurd (omega arith)) ∙ h;
   awake = λ u other h. h;
   made = omega arith;
 }
@@ -64,13 +71,17 @@ still_by : (b : Bool) (o : Option ℕ) → o ≡ None → cond b None o ≡ None
 still_by true o h = refl
 still_by false o h = h
 
-pub wakes_awake : (t a n : ℕ) (before after : ℕ → Option ℕ) (woken : List ℕ) → Wakes before a n woken after → StaysAwake t before after
-wakes_awake t a n before after woken wakes u other h = ap (λ (f : ℕ → Option ℕ). f u) wakes.awake ∙ still_by (names woken u) (before u) h
+pub wakes_awake : (t a n : ℕ) (before after : ℕ → Option ℕ) (woken : List ℕ) → Wakes before a n woken after
+    → StaysAwake t before after
+wakes_awake t a n before after woken wakes u other h = ap (λ (f : ℕ → Option ℕ). f u) wakes.awake
+    ∙ still_by (names woken u) (before u) h
 
 -- a sleep of thread t
-sleeps_awake : (t a expected : ℕ) (word : ℕ → ℕ) (before after : ℕ → Option ℕ) → Sleeps word before t a expected after → StaysAwake t before after
+sleeps_awake : (t a expected : ℕ) (word : ℕ → ℕ) (before after : ℕ → Option ℕ)
+    → Sleeps word before t a expected after → StaysAwake t before after
 sleeps_awake t a expected word before after sleeps u other h =
-    ap (λ (f : ℕ → Option ℕ). f u) sleeps.joins ∙ ap (λ (b : Bool). cond (b || false) (Some a) (before u)) (ne_eqb u t other) ∙ h
+    ap (λ (f : ℕ → Option ℕ). f u) sleeps.joins
+        ∙ ap (λ (b : Bool). cond (b || false) (Some a) (before u)) (ne_eqb u t other) ∙ h
 
 -- a move, of sleepers
 not_named : (b : ℕ) (n : Bool) (o : Option ℕ) → o ≡ None → (n ≡ true → ⊥) → cond n (Some b) o ≡ None
@@ -85,52 +96,70 @@ clash : (o : Option ℕ) (a : ℕ) → o ≡ None → o ≡ Some a → ⊥
 clash None a h e = cc
 clash (Some b) a h e = cc
 
-moves_awake : (t a b n : ℕ) (before after : ℕ → Option ℕ) (moved : List ℕ) → Requeued before a b n moved after → StaysAwake t before after
+moves_awake : (t a b n : ℕ) (before after : ℕ → Option ℕ) (moved : List ℕ) → Requeued before a b n moved after
+    → StaysAwake t before after
 moves_awake t a b n before after moved moves u other h =
-    ap (λ (f : ℕ → Option ℕ). f u) moves.goes ∙ not_named b (names moved u) (before u) h (λ named. elim (cases_eq a b) [
+    ap (λ (f : ℕ → Option ℕ). f u) moves.goes
+        ∙ not_named b (names moved u) (before u) h (λ named. elim (cases_eq a b) [
       | inl e ↦ no_name moved u (moves.none e) named
       | inr apart ↦ clash (before u) a h ((moves.choice apart).slept u named)
     ])
 
-requeues_awake : (t a b n m expected : ℕ) (word : ℕ → ℕ) (before after : ℕ → Option ℕ) (woken moved : List ℕ) → Requeues word before a b n m expected woken moved after → StaysAwake t before after
+requeues_awake : (t a b n m expected : ℕ) (word : ℕ → ℕ) (before after : ℕ → Option ℕ) (woken moved : List ℕ)
+    → Requeues word before a b n m expected woken moved after → StaysAwake t before after
 requeues_awake t a b n m expected word before after woken moved r u other h =
-    moves_awake t a b m (with_place before woken None) after moved r.moves u other (wakes_awake t a n before (with_place before woken None) woken r.wakes u other h)
+    moves_awake t a b m (with_place before woken None) after moved r.moves u other
+        (wakes_awake t a n before (with_place before woken None) woken r.wakes u other h)
 
 -- what is served
-serves : (t : ℕ) (r : Request) (s : State) (woken : List ℕ) (answer : ℕ) (s' : State) → IsNumbered s → Serves t r s woken answer s' → Beside t s s'
+serves : (t : ℕ) (r : Request) (s : State) (woken : List ℕ) (answer : ℕ) (s' : State) → IsNumbered s
+    → Serves t r s woken answer s' → Beside t s s'
 serves t (AskLoad a) s woken answer s' numbered h = to t s s s' h.1.1.1 (same t s)
 serves t (AskStore a v) s woken answer s' numbered h = to t s _ s' h.1.1.1 (by_words t s (put s.word a v) s.output)
 serves t (AskSwap a v) s woken answer s' numbered h = to t s _ s' h.1.1.1 (by_words t s (put s.word a v) s.output)
-serves t (AskCas a expected new) s woken answer s' numbered h = to t s _ s' h.1.1.1 (by_test t a new s (s.word a == expected))
+serves t (AskCas a expected new) s woken answer s' numbered h =
+    to t s _ s' h.1.1.1 (by_test t a new s (s.word a == expected))
 serves t (AskOr a v) s woken answer s' numbered h = to t s _ s' h.1.1.1 (by_words t s _ s.output)
 serves t (AskAdd a v) s woken answer s' numbered h = to t s _ s' h.1.1.1 (by_words t s _ s.output)
-serves t (AskFork entry arguments has_room) s woken answer s' numbered (quiet, inl full) = to t s s s' full.2 (same t s)
-serves t (AskFork entry arguments has_room) s woken answer s' numbered (quiet, inr some) = to t s _ s' some.3 (by_child t entry arguments s numbered)
+serves t (AskFork entry arguments has_room) s woken answer s' numbered (quiet, inl full) =
+    to t s s s' full.2 (same t s)
+serves t (AskFork entry arguments has_room) s woken answer s' numbered (quiet, inr some) =
+    to t s _ s' some.3 (by_child t entry arguments s numbered)
 serves t (AskPrint number) s woken answer s' numbered h = to t s _ s' h.1.1 (by_words t s s.word _)
-serves t (AskWait a expected) s woken answer s' numbered (lies, (quiet, inl slept)) = to t s _ s' slept.3 (by_sleepers t s slept.0 (sleeps_awake t a expected s.word s.asleep slept.0 slept.1))
+serves t (AskWait a expected) s woken answer s' numbered (lies, (quiet, inl slept)) =
+    to t s _ s' slept.3 (by_sleepers t s slept.0 (sleeps_awake t a expected s.word s.asleep slept.0 slept.1))
 serves t (AskWait a expected) s woken answer s' numbered (lies, (quiet, inr again)) = to t s s s' again.2 (same t s)
-serves t (AskWake a n) s woken answer s' numbered h = to t s _ s' h.4 (by_sleepers t s h.1 (wakes_awake t a n s.asleep h.1 woken h.2))
-serves t (AskRequeue a b n m expected) s woken answer s' numbered (lies, lies', inl done) = to t s _ s' done.4 (by_sleepers t s done.1 (requeues_awake t a b n m expected s.word s.asleep done.1 woken done.0 done.2))
-serves t (AskRequeue a b n m expected) s woken answer s' numbered (lies, lies', inr again) = to t s s s' again.3 (same t s)
+serves t (AskWake a n) s woken answer s' numbered h =
+    to t s _ s' h.4 (by_sleepers t s h.1 (wakes_awake t a n s.asleep h.1 woken h.2))
+serves t (AskRequeue a b n m expected) s woken answer s' numbered (lies, lies', inl done) =
+    to t s _ s' done.4 (by_sleepers t s done.1
+    (requeues_awake t a b n m expected s.word s.asleep done.1 woken done.0 done.2))
+serves t (AskRequeue a b n m expected) s woken answer s' numbered (lies, lies', inr again) =
+    to t s s s' again.3 (same t s)
 serves t AskReturn s woken answer s' numbered h = to t s _ s' h.1.1 (by_words t s _ s.output)
 serves t (AskReturnValue v) s woken answer s' numbered h = to t s _ s' h.1.1 (by_words t s _ s.output)
 serves t (AskFault fault) s woken answer s' numbered h = to t s _ s' h.1.1 (by_words t s _ s.output)
 
 -- a step of an exit
-idle_awake : (t : ℕ) (before after : Shared) (woken : List ℕ) → IsIdle before woken after → StaysAwake t before.asleep after.asleep
+idle_awake : (t : ℕ) (before after : Shared) (woken : List ℕ) → IsIdle before woken after
+    → StaysAwake t before.asleep after.asleep
 idle_awake t before after woken idle u other h = ap (λ (q : Shared). q.asleep u) idle.same ∙ h
 
-entry_awake : (size t e : ℕ) (before : Shared) (woken : List ℕ) (after : Shared) → EntryStep size t e before woken after → StaysAwake t before.asleep after.asleep
+entry_awake : (size t e : ℕ) (before : Shared) (woken : List ℕ) (after : Shared)
+    → EntryStep size t e before woken after → StaysAwake t before.asleep after.asleep
 entry_awake size t e before woken after (IsPending is idle) = idle_awake t before after woken idle
 entry_awake size t e before woken after (IsForeign other idle) = idle_awake t before after woken idle
 entry_awake size t e before woken after (IsOwned other a) = wakes_awake t _ _ before.asleep after.asleep woken a.wakes
 
-pending_awake : (size t e : ℕ) (before : Shared) (woken : List ℕ) (after : Shared) → PendingStep size t e before woken after → StaysAwake t before.asleep after.asleep
+pending_awake : (size t e : ℕ) (before : Shared) (woken : List ℕ) (after : Shared)
+    → PendingStep size t e before woken after → StaysAwake t before.asleep after.asleep
 pending_awake size t e before woken after (NoEntry none idle) = idle_awake t before after woken idle
-pending_awake size t e before woken after (IsForeign is other one) = wakes_awake t _ _ before.asleep after.asleep woken one.wakes
+pending_awake size t e before woken after (IsForeign is other one) =
+    wakes_awake t _ _ before.asleep after.asleep woken one.wakes
 pending_awake size t e before woken after (IsOwned is a) = wakes_awake t _ _ before.asleep after.asleep woken a.wakes
 
-exit_awake : (size t : ℕ) (phase : ExitPhase) (before : Shared) (woken : List ℕ) (after : Shared) (next : ExitPhase) → ExitStep size t phase before woken after next → StaysAwake t before.asleep after.asleep
+exit_awake : (size t : ℕ) (phase : ExitPhase) (before : Shared) (woken : List ℕ) (after : Shared) (next : ExitPhase)
+    → ExitStep size t phase before woken after next → StaysAwake t before.asleep after.asleep
 exit_awake size t (Entry e seen) before woken after next (inl h) = entry_awake size t e.0 before woken after h.1
 exit_awake size t (Entry e seen) before woken after next (inr h) = idle_awake t before after woken h.1
 exit_awake size t Pending before woken after next h = pending_awake size t _ before woken after h.0
@@ -146,9 +175,11 @@ then_thread t s mid s' x b is = to t s (with_thread mid t x) s' is (record {
 })
 
 -- any step
-pub beside : (t : ℕ) (s : State) (woken : List ℕ) (l : Look) (s' : State) → IsNumbered s → Moves s t woken l s' → Beside t s s'
+pub beside : (t : ℕ) (s : State) (woken : List ℕ) (l : Look) (s' : State) → IsNumbered s → Moves s t woken l s'
+    → Beside t s s'
 beside t s woken (Goes x) s' numbered h = then_thread t s s s' x (same t s) h.1
-beside t s woken (Asks request go) s' numbered h = then_thread t s h.1 s' (go h.0) (serves t request s woken h.0 h.1 numbered h.2) h.3
+beside t s woken (Asks request go) s' numbered h =
+    then_thread t s h.1 s' (go h.0) (serves t request s woken h.0 h.1 numbered h.2) h.3
 beside t s woken (Leaves phase) s' numbered h =
     then_thread t s (with_shared s h.0) s' _ (record {
       stay = λ u x other is. is;

@@ -1,5 +1,6 @@
 -- A piece that came in is an entry of the log.
-use Rattle.std.proofs.Common.{◌≡◌, ℕ, ◌+◌, ◌≤◌, List, [], ◌∷◌, ◌++◌, true, Option, Some, None, Result, Ok, Err, is_some, refl, ap, sym, ◌∙◌, arith, subst}
+use Rattle.std.proofs.Common.{◌≡◌, ℕ, ◌+◌, ◌≤◌, List, [], ◌∷◌, ◌++◌, true, Option, Some, None, Result, Ok, Err}
+use Rattle.std.proofs.Common.{is_some, refl, ap, sym, ◌∙◌, arith, subst}
 use Rattle.std.proofs.lemmas.List.Sums.{sum_by-append}
 use mir.Val.{bool_byte}
 use Rattle.isa.specs.Programs.{Program}
@@ -19,14 +20,21 @@ use Rattle.runner.proofs.Going.{runs_more}
 abbrev pub entry : ℕ → ℕ → Option Event → Entry
 entry t n e = record { thread = t; local = n; event = e }
 
-pub inside : (x y : ConcreteState × Option Event) → (let R : Type 0 = Result (ConcreteState × Option Event) StepFault in (let a : R = Ok x in a) ≡ (let b : R = Ok y in b)) → x ≡ y
+pub inside : (x y : ConcreteState × Option Event)
+    → (let R : Type 0 = Result (ConcreteState × Option Event) StepFault in
+    (let a : R = Ok x in a) ≡ (let b : R = Ok y in b)) → x ≡ y
 inside x y h = cc
 
-ends_by : (p : Program) (there : ConcreteState) (t : ℕ) (here : Thread) (new : ConcreteState) (event : Option Event) (r : Result (ConcreteState × Event) StepFault) (ls : Option Thread)
-    → local_step p t here ≡ ls → step_of p there t ≡ r → entry_end_by there r ls ≡ Ok (new, event) → Ends p there t here event new
-ends_by p there t here new None r (Some to) is st h = sym (ap (λ (q : ConcreteState × Option Event). q.0) (inside _ _ h))
-ends_by p there t here new (Some e) r (Some to) is st h = absurd (cc (ap (λ (q : ConcreteState × Option Event). q.1) (inside _ _ h)))
-ends_by p there t here new None (Ok x) None is st h = absurd (cc (ap (λ (q : ConcreteState × Option Event). q.1) (inside _ _ h)))
+ends_by : (p : Program) (there : ConcreteState) (t : ℕ) (here : Thread) (new : ConcreteState) (event : Option Event)
+    (r : Result (ConcreteState × Event) StepFault) (ls : Option Thread)
+    → local_step p t here ≡ ls → step_of p there t ≡ r → entry_end_by there r ls ≡ Ok (new, event)
+        → Ends p there t here event new
+ends_by p there t here new None r (Some to) is st h =
+    sym (ap (λ (q : ConcreteState × Option Event). q.0) (inside _ _ h))
+ends_by p there t here new (Some e) r (Some to) is st h =
+    absurd (cc (ap (λ (q : ConcreteState × Option Event). q.1) (inside _ _ h)))
+ends_by p there t here new None (Ok x) None is st h =
+    absurd (cc (ap (λ (q : ConcreteState × Option Event). q.1) (inside _ _ h)))
 ends_by p there t here new (Some e) (Ok x) None is st h =
     let n : x.0 ≡ new = ap (λ (q : ConcreteState × Option Event). q.0) (inside _ _ h) in
     let o : Some x.1 ≡ Some e = ap (λ (q : ConcreteState × Option Event). q.1) (inside _ _ h) in
@@ -34,14 +42,19 @@ ends_by p there t here new (Some e) (Ok x) None is st h =
     (is, st ∙ (λ i. Ok (n i, v i)))
 ends_by p there t here new event (Err f) None is st h = absurd cc
 
-pub ends : (p : Program) (k new : ConcreteState) (t : ℕ) (here : Thread) (event : Option Event) → entry_end p k t here ≡ Ok (new, event) → Ends p (put_thread k t here) t here event new
+pub ends : (p : Program) (k new : ConcreteState) (t : ℕ) (here : Thread) (event : Option Event)
+    → entry_end p k t here ≡ Ok (new, event) → Ends p (put_thread k t here) t here event new
 ends p k new t here event gives = ends_by p (put_thread k t here) t here new event _ _ refl refl gives
 
-pub enters : (p : Program) (k new : ConcreteState) (t count : ℕ) (o here : Thread) (event : Option Event) → thread_of k t ≡ Some o → can_move k t ≡ true → local_after p t count o ≡ Some here → entry_end p k t here ≡ Ok (new, event) → Enters p k (entry t count event) new
+pub enters : (p : Program) (k new : ConcreteState) (t count : ℕ) (o here : Thread) (event : Option Event)
+    → thread_of k t ≡ Some o → can_move k t ≡ true → local_after p t count o ≡ Some here
+    → entry_end p k t here ≡ Ok (new, event) → Enters p k (entry t count event) new
 enters p k new t count o here event stands moves goes gives =
-    record { origin = o; here = here; stands = stands; moves = moves; goes = goes; ends = ends p k new t here event gives }
+    record { origin = o; here = here; stands = stands; moves = moves; goes = goes; ends =
+        ends p k new t here event gives }
 
-pub cost_more : (es : List Entry) (t n : ℕ) (e : Option Event) → cost (es ++ entry t n e ∷ []) ≡ cost es + (n + event_cost e)
+pub cost_more : (es : List Entry) (t n : ℕ) (e : Option Event)
+    → cost (es ++ entry t n e ∷ []) ≡ cost es + (n + event_cost e)
 cost_more es t n e = omega (arith, sum_by-append (λ (x : Entry). x.local + event_cost x.event) es (entry t n e ∷ []))
 
 event_byte : (e : Option Event) → event_cost e ≡ bool_byte (is_some e)
@@ -49,21 +62,29 @@ event_byte None = refl
 event_byte (Some e) = refl
 
 -- one event comes of a piece
-pub same_event : (r : Result (ConcreteState × Option Event) StepFault) (k k' : ConcreteState) (e e' : Option Event) → r ≡ Ok (k, e) → r ≡ Ok (k', e') → e ≡ e'
+pub same_event : (r : Result (ConcreteState × Option Event) StepFault) (k k' : ConcreteState) (e e' : Option Event)
+    → r ≡ Ok (k, e) → r ≡ Ok (k', e') → e ≡ e'
 same_event r k k' e e' a b = ap (λ (q : ConcreteState × Option Event). q.1) (inside _ _ (sym a ∙ b))
 
-pub keeps : (p q q' : Program) (limit : ℕ) (h : LogState) (log : List Entry) (new : ConcreteState) (a : PieceView) (t steps limited extra : ℕ) (event : Option Event)
-    → q' ≡ q → IsLegal p limit q h.concrete h.log steps limited → local_after p a.thread a.count a.origin ≡ Some a.here
-    → IsFine p limit h t a → entry_end q h.concrete t a.here ≡ Ok (new, event) → log ≡ h.log ++ entry t a.count event ∷ [] → extra ≡ bool_byte (is_some event)
+pub keeps : (p q q' : Program) (limit : ℕ) (h : LogState) (log : List Entry) (new : ConcreteState) (a : PieceView)
+    (t steps limited extra : ℕ) (event : Option Event)
+    → q' ≡ q → IsLegal p limit q h.concrete h.log steps limited
+        → local_after p a.thread a.count a.origin ≡ Some a.here
+    → IsFine p limit h t a → entry_end q h.concrete t a.here ≡ Ok (new, event)
+        → log ≡ h.log ++ entry t a.count event ∷ [] → extra ≡ bool_byte (is_some event)
     → IsLegal p limit q' new log (steps + (a.count + extra)) limited
 keeps p q q' limit h log new a t steps limited extra event is' legal goes fine gives grows is_extra =
-    let gives' : entry_end p h.concrete t a.here ≡ Ok (new, event) = ap (λ x. entry_end x h.concrete t a.here) (sym legal.program) ∙ gives in
-    let goes' : local_after p t a.count a.origin ≡ Some a.here = ap (λ k. local_after p k a.count a.origin) (sym fine.stands.0) ∙ goes in
+    let gives' : entry_end p h.concrete t a.here ≡ Ok (new, event) =
+        ap (λ x. entry_end x h.concrete t a.here) (sym legal.program) ∙ gives in
+    let goes' : local_after p t a.count a.origin ≡ Some a.here =
+        ap (λ k. local_after p k a.count a.origin) (sym fine.stands.0) ∙ goes in
     let same : fine.event ≡ event = same_event _ _ _ _ _ fine.gives gives' in
     let costs : event_cost fine.event ≡ extra = ap event_cost same ∙ event_byte event ∙ sym is_extra in
-    let all : cost log ≡ cost h.log + (a.count + event_cost event) = ap cost grows ∙ cost_more h.log t a.count event in
+    let all : cost log ≡ cost h.log + (a.count + event_cost event) = ap cost grows
+        ∙ cost_more h.log t a.count event in
     let here : event_cost event ≡ extra = event_byte event ∙ sym is_extra in
-    let runs' = runs_more p (opening_concrete p) h.concrete new h.log (entry t a.count event) legal.legal (enters p h.concrete new t a.count a.origin a.here event fine.stands.1 fine.moves goes' gives') in
+    let runs' = runs_more p (opening_concrete p) h.concrete new h.log (entry t a.count event) legal.legal
+        (enters p h.concrete new t a.count a.origin a.here event fine.stands.1 fine.moves goes' gives') in
     record {
       program = is' ∙ legal.program;
       legal = (let P : List Entry → Type 0 = λ l. Runs p (opening_concrete p) l new in subst P (sym grows) runs');
@@ -77,19 +98,25 @@ cost_small None = omega arith
 cost_small (Some e) = omega arith
 
 -- an entry is one more of a legal log, where the limit leaves room for any
-pub keeps_entry : (p q q' q'' : Program) (limit : ℕ) (k k' new : ConcreteState) (log log' log'' : List Entry) (e : Entry) (steps limited extra : ℕ)
+pub keeps_entry : (p q q' q'' : Program) (limit : ℕ) (k k' new : ConcreteState) (log log' log'' : List Entry)
+    (e : Entry) (steps limited extra : ℕ)
     → IsLegal p limit q k log steps limited → cost log + 257 ≤ limit → q' ≡ q → k' ≡ k → log' ≡ log
     → q'' ≡ q' → Enters q' k' e new → e.local ≤ 256 → log'' ≡ log' ++ e ∷ [] → extra ≡ bool_byte (is_some e.event)
     → IsLegal p limit q'' new log'' (steps + (e.local + extra)) limited
-keeps_entry p q q' q'' limit k k' new log log' log'' e steps limited extra legal room same there before same' one turn grows is_extra =
+keeps_entry p q q' q'' limit k k' new log log' log'' e steps limited extra legal room same there before same' one
+    turn grows is_extra =
     let program : q' ≡ p = same ∙ legal.program in
-    let enters : Enters p k e new = subst (λ (x : Program). Enters x k e new) program (subst (λ (x : ConcreteState). Enters q' x e new) there one) in
+    let enters : Enters p k e new =
+        subst (λ (x : Program). Enters x k e new) program
+        (subst (λ (x : ConcreteState). Enters q' x e new) there one) in
     let grown : log'' ≡ log ++ e ∷ [] = grows ∙ ap (λ (l : List Entry). l ++ e ∷ []) before in
-    let all : cost log'' ≡ cost log + (e.local + event_cost e.event) = ap cost grown ∙ cost_more log e.thread e.local e.event in
+    let all : cost log'' ≡ cost log + (e.local + event_cost e.event) = ap cost grown
+        ∙ cost_more log e.thread e.local e.event in
     let last : event_cost e.event ≡ extra = event_byte e.event ∙ sym is_extra in
     record {
       program = same' ∙ program;
-      legal = subst (λ (l : List Entry). Runs p (opening_concrete p) l new) (sym grown) (runs_more p (opening_concrete p) k new log e legal.legal enters);
+      legal = subst (λ (l : List Entry). Runs p (opening_concrete p) l new) (sym grown)
+          (runs_more p (opening_concrete p) k new log e legal.legal enters);
       counted = omega (arith, legal.counted, all, last);
       limit_is = legal.limit_is;
       within = omega (arith, legal.counted, legal.limit_is, room, turn, last, cost_small e.event);

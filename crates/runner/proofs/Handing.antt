@@ -1,5 +1,6 @@
 -- What comes of a piece.
-use Rattle.std.proofs.Common.{◌≡◌, ℕ, ◌-◌, ◌+◌, ◌<◌, ◌≤◌, Bool, true, false, not, Option, Some, None, Result, Ok, Err, is_some, length, refl, ap, sym, ◌∙◌, arith, length-set}
+use Rattle.std.proofs.Common.{◌≡◌, ℕ, ◌-◌, ◌+◌, ◌<◌, ◌≤◌, Bool, true, false, not, Option, Some, None, Result, Ok}
+use Rattle.std.proofs.Common.{Err, is_some, length, refl, ap, sym, ◌∙◌, arith, length-set}
 use Rattle.std.specs.Prelude.{if◌then◌else◌}
 use mir.Val.{bool_byte}
 use Rattle.isa.specs.Programs.{Program}
@@ -10,7 +11,8 @@ use Rattle.machine.specs.declared.event.Event.{Event}
 use Rattle.machine.specs.declared.event.StepFault.{StepFault}
 use Rattle.machine.specs.States.{ConcreteState, thread_of}
 use Rattle.machine.specs.Runs.{has_ended}
-use Rattle.machine.specs.ConcreteSteps.{Stepped, thread_step, on_machine, fault_of, fault_at, step_of, step_awake, step_thread, put_thread, can_move, thread_can_move}
+use Rattle.machine.specs.ConcreteSteps.{Stepped, thread_step, on_machine, fault_of, fault_at, step_of, step_awake}
+use Rattle.machine.specs.ConcreteSteps.{step_thread, put_thread, can_move, thread_can_move}
 use Rattle.machine.proofs.Placing.{thread_at-put}
 use Rattle.runner.specs.declared.fault.RunFault.TheVariants.{Limit}
 use Rattle.runner.specs.Views.{PieceView, LogState}
@@ -24,7 +26,8 @@ pub record IsUp (k : ConcreteState) (t : ℕ) : Type 0 where
   pub awake : k.common.asleep t ≡ None
   pub lives : has_ended (Some thread) ≡ false
 
-up_by : (k : ConcreteState) (t : ℕ) (place : Option ℕ) (x : Option Thread) (ended : Bool) → k.common.asleep t ≡ place → thread_of k t ≡ x → has_ended x ≡ ended → thread_can_move place x ≡ true → IsUp k t
+up_by : (k : ConcreteState) (t : ℕ) (place : Option ℕ) (x : Option Thread) (ended : Bool)
+    → k.common.asleep t ≡ place → thread_of k t ≡ x → has_ended x ≡ ended → thread_can_move place x ≡ true → IsUp k t
 up_by k t place None ended is stands over moves = absurd cc
 up_by k t (Some a) (Some x) ended is stands over moves = absurd cc
 up_by k t None (Some x) true is stands over moves =
@@ -37,23 +40,30 @@ pub up : (k : ConcreteState) (t : ℕ) → can_move k t ≡ true → IsUp k t
 up k t moves = up_by k t (k.common.asleep t) (thread_of k t) (has_ended (thread_of k t)) refl refl refl moves
 
 -- the step of a thread that is awake and was put somewhere
-pub step_there : (p : Program) (k : ConcreteState) (t : ℕ) (o here : Thread) → k.common.asleep t ≡ None → thread_of k t ≡ Some o
-    → step_of p (put_thread k t here) t ≡ on_machine (put_thread k t here) t (thread_step (length k.threads) t k.common (look p t here))
+pub step_there : (p : Program) (k : ConcreteState) (t : ℕ) (o here : Thread) → k.common.asleep t ≡ None
+    → thread_of k t ≡ Some o
+    → step_of p (put_thread k t here) t ≡ on_machine (put_thread k t here) t
+        (thread_step (length k.threads) t k.common (look p t here))
 step_there p k t o here awake stands =
     let there = put_thread k t here in
     ap (step_thread p there t) (thread_at-put k.threads t o here stands)
     ∙ ap (step_awake p there t here) awake
-    ∙ ap (λ made. on_machine there t (thread_step made t k.common (look p t here))) (length-set k.threads (t - 1) here)
+    ∙ ap (λ made. on_machine there t (thread_step made t k.common (look p t here)))
+        (length-set k.threads (t - 1) here)
 
 fine_by : (there : ConcreteState) (t : ℕ) (r : Result Stepped StepFault) (ls : Option Thread) → None ≡ fault_of r
-    → (concrete : ConcreteState) × (event : Option Event) × (entry_end_by there (on_machine there t r) ls ≡ Ok (concrete, event)) × (event_cost event ≡ (if not (is_some ls) then 1 else 0))
+    → (concrete : ConcreteState) × (event : Option Event)
+        × (entry_end_by there (on_machine there t r) ls ≡ Ok (concrete, event))
+        × (event_cost event ≡ (if not (is_some ls) then 1 else 0))
 fine_by there t r (Some x) f = (there, None, refl, refl)
 fine_by there t (Ok s) None f = (_, Some _, refl, refl)
 fine_by there t (Err fault) None f = absurd cc
 
 -- where no fault stands, the piece comes in
-pub comes_in : (p : Program) (k : ConcreteState) (t : ℕ) (o here : Thread) → k.common.asleep t ≡ None → thread_of k t ≡ Some o → None ≡ fault_at p k t here
-    → (concrete : ConcreteState) × (event : Option Event) × (entry_end p k t here ≡ Ok (concrete, event)) × (event_cost event ≡ (if not (is_some (local_step p t here)) then 1 else 0))
+pub comes_in : (p : Program) (k : ConcreteState) (t : ℕ) (o here : Thread) → k.common.asleep t ≡ None
+    → thread_of k t ≡ Some o → None ≡ fault_at p k t here
+    → (concrete : ConcreteState) × (event : Option Event) × (entry_end p k t here ≡ Ok (concrete, event))
+        × (event_cost event ≡ (if not (is_some (local_step p t here)) then 1 else 0))
 comes_in p k t o here awake stands none =
     let there = put_thread k t here in
     let r = fine_by there t (thread_step (length k.threads) t k.common (look p t here)) (local_step p t here) none in
@@ -64,20 +74,29 @@ by_test true = refl
 by_test false = refl
 
 -- the same of a piece, with what it costs
-comes : (p q : Program) (h : LogState) (a : PieceView) (t : ℕ) (b : Bool) → q ≡ p → Stands h t a → can_move h.concrete t ≡ true → None ≡ fault_at q h.concrete t a.here → b ≡ is_some (local_step q t a.here)
-    → (concrete : ConcreteState) × (event : Option Event) × (entry_end p h.concrete t a.here ≡ Ok (concrete, event)) × (event_cost event ≡ bool_byte (not b))
+comes : (p q : Program) (h : LogState) (a : PieceView) (t : ℕ) (b : Bool) → q ≡ p → Stands h t a
+    → can_move h.concrete t ≡ true → None ≡ fault_at q h.concrete t a.here → b ≡ is_some (local_step q t a.here)
+    → (concrete : ConcreteState) × (event : Option Event) × (entry_end p h.concrete t a.here ≡ Ok (concrete, event))
+        × (event_cost event ≡ bool_byte (not b))
 comes p q h a t b same stands moves none is_b =
     let u = up h.concrete t moves in
     let r = comes_in q h.concrete t a.origin a.here u.awake stands.1 none in
-    (r.0, r.1, ap (λ x. entry_end x h.concrete t a.here) (sym same) ∙ r.2, r.3 ∙ by_test (is_some (local_step q t a.here)) ∙ ap (λ (x : Bool). bool_byte (not x)) (sym is_b))
+    (r.0, r.1, ap (λ x. entry_end x h.concrete t a.here) (sym same) ∙ r.2, r.3
+        ∙ by_test (is_some (local_step q t a.here)) ∙ ap (λ (x : Bool). bool_byte (not x)) (sym is_b))
 
-pub past_limit : (p q : Program) (limit : ℕ) (h : LogState) (a : PieceView) (t steps limited extra : ℕ) (b : Bool) → q ≡ p → Stands h t a → can_move h.concrete t ≡ true → None ≡ fault_at q h.concrete t a.here
-    → b ≡ is_some (local_step q t a.here) → extra ≡ bool_byte (not b) → steps ≡ cost h.log → limited ≡ limit → steps ≤ limited → limited - steps < a.count + extra → Refuses p limit h t a Limit
+pub past_limit : (p q : Program) (limit : ℕ) (h : LogState) (a : PieceView) (t steps limited extra : ℕ) (b : Bool)
+    → q ≡ p → Stands h t a → can_move h.concrete t ≡ true → None ≡ fault_at q h.concrete t a.here
+    → b ≡ is_some (local_step q t a.here) → extra ≡ bool_byte (not b) → steps ≡ cost h.log → limited ≡ limit
+        → steps ≤ limited → limited - steps < a.count + extra → Refuses p limit h t a Limit
 past_limit p q limit h a t steps limited extra b same stands moves none is_b is_extra is_steps is_limit within past =
-    let r = comes p q h a t b same stands moves none is_b in (stands, moves, r.0, r.1, r.2, omega (arith, r.3, is_extra))
+    let r = comes p q h a t b same stands moves none is_b in
+        (stands, moves, r.0, r.1, r.2, omega (arith, r.3, is_extra))
 
-pub in_limit : (p q : Program) (limit : ℕ) (h : LogState) (a : PieceView) (t steps limited extra : ℕ) (b : Bool) → q ≡ p → Stands h t a → can_move h.concrete t ≡ true → None ≡ fault_at q h.concrete t a.here
-    → b ≡ is_some (local_step q t a.here) → extra ≡ bool_byte (not b) → steps ≡ cost h.log → limited ≡ limit → steps ≤ limited → a.count + extra ≤ limited - steps → IsFine p limit h t a
+pub in_limit : (p q : Program) (limit : ℕ) (h : LogState) (a : PieceView) (t steps limited extra : ℕ) (b : Bool)
+    → q ≡ p → Stands h t a → can_move h.concrete t ≡ true → None ≡ fault_at q h.concrete t a.here
+    → b ≡ is_some (local_step q t a.here) → extra ≡ bool_byte (not b) → steps ≡ cost h.log → limited ≡ limit
+        → steps ≤ limited → a.count + extra ≤ limited - steps → IsFine p limit h t a
 in_limit p q limit h a t steps limited extra b same stands moves none is_b is_extra is_steps is_limit within fits =
     let r = comes p q h a t b same stands moves none is_b in
-    record { stands = stands; moves = moves; concrete = r.0; event = r.1; gives = r.2; within = omega (arith, r.3, is_extra) }
+    record { stands = stands; moves = moves; concrete = r.0; event = r.1; gives = r.2; within =
+        omega (arith, r.3, is_extra) }

@@ -1,5 +1,6 @@
 -- A thread that can move comes to no end by local steps, so a piece is refused by the machine for a broken step alone.
-use Rattle.std.proofs.Common.{◌≡◌, ℕ, zero, suc, ◌+◌, ◌==◌, Bool, true, false, cond, List, [], ◌∷◌, length, Option, Some, None, Result, Ok, Err, is_some, refl, ap, sym, ◌∙◌}
+use Rattle.std.proofs.Common.{◌≡◌, ℕ, zero, suc, ◌+◌, ◌==◌, Bool, true, false, cond, List, [], ◌∷◌, length}
+use Rattle.std.proofs.Common.{Option, Some, None, Result, Ok, Err, is_some, refl, ap, sym, ◌∙◌}
 use Rattle.std.specs.Prelude.{nat_lt}
 use Rattle.isa.specs.Programs.{Program}
 use Rattle.isa.specs.declared.instr.Instr.{Instr}
@@ -8,7 +9,11 @@ use Rattle.robustexit.specs.declared.phase.ExitPhase.TheVariants.{Entry, Pending
 use Rattle.locals.specs.declared.frame.Locals.{Locals}
 use Rattle.locals.specs.declared.frame.Frame.{Frame}
 use Rattle.locals.specs.Threads.{Thread, Runs, Dies, Exits, fresh}
-use Rattle.locals.specs.Looks.{Request, AskLoad, AskStore, AskSwap, AskCas, AskOr, AskAdd, AskFork, AskPrint, AskWait, AskWake, AskRequeue, AskReturn, AskReturnValue, AskFault, Look, Goes, Asks, Leaves, Breaks, Rests, Effect, Then, Keeps, To, Tests, Asking, Trying, Calls, Returns, ReturnsValue, Fails, Misses, Guards, Checks, effect, if_so, or_dies, returned, at_place, look_at, look}
+use Rattle.locals.specs.Looks.{Request, AskLoad, AskStore, AskSwap, AskCas, AskOr, AskAdd, AskFork, AskPrint}
+use Rattle.locals.specs.Looks.{AskWait, AskWake, AskRequeue, AskReturn, AskReturnValue, AskFault, Look, Goes}
+use Rattle.locals.specs.Looks.{Asks, Leaves, Breaks, Rests, Effect, Then, Keeps, To, Tests, Asking, Trying, Calls}
+use Rattle.locals.specs.Looks.{Returns, ReturnsValue, Fails, Misses, Guards, Checks, effect, if_so, or_dies}
+use Rattle.locals.specs.Looks.{returned, at_place, look_at, look}
 use Rattle.locals.specs.Steps.{local_step, local_after, and_step, gone}
 use Rattle.machine.specs.declared.event.StepFault.{StepFault}
 use Rattle.machine.specs.declared.event.StepFault.TheVariants as step
@@ -38,11 +43,13 @@ going_or : (test : Bool) (fault : Fault) (l : Look) → IsGoing l → IsGoing (o
 going_or true fault l h = h
 going_or false fault l h = refl
 
-going_back : (request : Request) (operands : List ℕ) (callers : List Frame) → IsGoing (returned request operands callers)
+going_back : (request : Request) (operands : List ℕ) (callers : List Frame)
+    → IsGoing (returned request operands callers)
 going_back request operands [] = tt
 going_back request operands (f ∷ fs) = refl
 
-going_at : (place : ℕ) (locals : Locals) (callers : List Frame) (e : Effect) → IsGoing (at_place place locals callers e)
+going_at : (place : ℕ) (locals : Locals) (callers : List Frame) (e : Effect)
+    → IsGoing (at_place place locals callers e)
 going_at place locals callers (Then operands) = refl
 going_at place locals callers (Keeps locals' operands) = refl
 going_at place locals callers (To place' operands) = refl
@@ -50,7 +57,8 @@ going_at place locals callers (Tests value place' operands) = refl
 going_at place locals callers (Asking request answered) = tt
 going_at place locals callers (Trying request fault answered) = tt
 going_at place locals callers (Calls place' operands) =
-    going_if (nat_lt (length callers) 15) (Goes (Runs place' operands fresh (record { back = place + 1; locals = locals } ∷ callers))) refl
+    going_if (nat_lt (length callers) 15)
+        (Goes (Runs place' operands fresh (record { back = place + 1; locals = locals } ∷ callers))) refl
 going_at place locals callers (Returns operands) = going_back AskReturn operands callers
 going_at place locals callers (ReturnsValue v operands) = going_back (AskReturnValue v) operands callers
 going_at place locals callers (Fails fault) = refl
@@ -58,7 +66,8 @@ going_at place locals callers Misses = tt
 going_at place locals callers (Guards test e) = going_if test _ (going_at place locals callers e)
 going_at place locals callers (Checks test fault e) = going_or test fault _ (going_at place locals callers e)
 
-going_look : (t : ℕ) (i : Option Instr) (place : ℕ) (operands : List ℕ) (locals : Locals) (callers : List Frame) → IsGoing (look_at t i place operands locals callers)
+going_look : (t : ℕ) (i : Option Instr) (place : ℕ) (operands : List ℕ) (locals : Locals) (callers : List Frame)
+    → IsGoing (look_at t i place operands locals callers)
 going_look t None place operands locals callers = tt
 going_look t (Some i) place operands locals callers = going_at place locals callers (effect t i operands locals)
 
@@ -78,13 +87,17 @@ gone_lives (Leaves phase) x h e = absurd cc
 gone_lives Breaks x h e = absurd cc
 gone_lives Rests x h e = absurd h
 
-last_lives : (p : Program) (t : ℕ) (mid : Option Thread) (here : Thread) → ((m : Thread) → mid ≡ Some m → has_ended (Some m) ≡ false) → and_step p t mid ≡ Some here → has_ended (Some here) ≡ false
+last_lives : (p : Program) (t : ℕ) (mid : Option Thread) (here : Thread)
+    → ((m : Thread) → mid ≡ Some m → has_ended (Some m) ≡ false) → and_step p t mid ≡ Some here
+    → has_ended (Some here) ≡ false
 last_lives p t None here before after = absurd cc
 last_lives p t (Some m) here before after = gone_lives (look p t m) here (going p t m (before m refl)) after
 
-after_lives : (p : Program) (t n : ℕ) (o here : Thread) → has_ended (Some o) ≡ false → local_after p t n o ≡ Some here → has_ended (Some here) ≡ false
+after_lives : (p : Program) (t n : ℕ) (o here : Thread) → has_ended (Some o) ≡ false
+    → local_after p t n o ≡ Some here → has_ended (Some here) ≡ false
 after_lives p t zero o here h after = ap has_ended (sym after) ∙ h
-after_lives p t (suc n) o here h after = last_lives p t (local_after p t n o) here (λ m is. after_lives p t n o m h is) after
+after_lives p t (suc n) o here h after =
+    last_lives p t (local_after p t n o) here (λ m is. after_lives p t n o m h is) after
 
 -- what can't be served is a broken step
 record Only (r : Result Served StepFault) : Type 0 where
@@ -121,7 +134,9 @@ only_broken made t (AskPrint number) c = only_ok _
 only_broken made t (AskWait a expected) c = only_within _ _ (only_either _ _ _)
 only_broken made t (AskWake a n) c = only_within _ _ (only_ok _)
 only_broken made t (AskRequeue a b n m expected) c =
-    only_within (nat_lt a (length c.words)) (within c b (requeue_to c a b n m expected)) (only_within (nat_lt b (length c.words)) (requeue_to c a b n m expected) (only_either (load c a == expected) _ _))
+    only_within (nat_lt a (length c.words)) (within c b (requeue_to c a b n m expected))
+        (only_within (nat_lt b (length c.words)) (requeue_to c a b n m expected)
+        (only_either (load c a == expected) _ _))
 only_broken made t AskReturn c = only_ok _
 only_broken made t (AskReturnValue v) c = only_ok _
 only_broken made t (AskFault fault) c = only_ok _
@@ -129,32 +144,44 @@ only_broken made t (AskFault fault) c = only_ok _
 abbrev IsBroken : Result (ConcreteState × Option Event) StepFault → Type 0
 IsBroken r = r ≡ Err step.Broken
 
-broken_went : (there : ConcreteState) (t : ℕ) (go : ℕ → Thread) (r : Result Served StepFault) (f : StepFault) → Only r → Some f ≡ fault_of (go_on_with go r) → IsBroken (entry_end_by there (on_machine there t (go_on_with go r)) None)
+broken_went : (there : ConcreteState) (t : ℕ) (go : ℕ → Thread) (r : Result Served StepFault) (f : StepFault)
+    → Only r → Some f ≡ fault_of (go_on_with go r)
+    → IsBroken (entry_end_by there (on_machine there t (go_on_with go r)) None)
 broken_went there t go (Ok r) f only is = absurd cc
 broken_went there t go (Err fault) f only is = ap Err (only.broken fault refl)
 
-broken_by : (there : ConcreteState) (made t : ℕ) (c : Common) (l : Look) (f : StepFault) → IsGoing l → Some f ≡ fault_of (thread_step made t c l) → IsBroken (entry_end_by there (on_machine there t (thread_step made t c l)) (gone l))
+broken_by : (there : ConcreteState) (made t : ℕ) (c : Common) (l : Look) (f : StepFault) → IsGoing l
+    → Some f ≡ fault_of (thread_step made t c l)
+    → IsBroken (entry_end_by there (on_machine there t (thread_step made t c l)) (gone l))
 broken_by there made t c (Goes x) f h is = absurd cc
-broken_by there made t c (Asks request go) f h is = broken_went there t go (serve made t request c) f (only_broken made t request c) is
+broken_by there made t c (Asks request go) f h is =
+    broken_went there t go (serve made t request c) f (only_broken made t request c) is
 broken_by there made t c (Leaves phase) f h is = absurd cc
 broken_by there made t c Breaks f h is = refl
 broken_by there made t c Rests f h is = absurd h
 
-refuses : (p q : Program) (limit : ℕ) (h : LogState) (a : PieceView) (t : ℕ) (f : StepFault) → q ≡ p → Stands h t a → can_move h.concrete t ≡ true → local_after p a.thread a.count a.origin ≡ Some a.here → Some f ≡ fault_at q h.concrete t a.here
+refuses : (p q : Program) (limit : ℕ) (h : LogState) (a : PieceView) (t : ℕ) (f : StepFault) → q ≡ p → Stands h t a
+    → can_move h.concrete t ≡ true → local_after p a.thread a.count a.origin ≡ Some a.here
+    → Some f ≡ fault_at q h.concrete t a.here
     → Refuses p limit h t a Broken
 refuses p q limit h a t f same stands moves goes is =
     let u = up h.concrete t moves in
     let there = put_thread h.concrete t a.here in
     let origin : Some a.origin ≡ Some u.thread = sym stands.1 ∙ u.stands in
     let lives = after_lives p a.thread a.count a.origin a.here (ap has_ended origin ∙ u.lives) goes in
-    let b = broken_by there (length h.concrete.threads) t h.concrete.common (look q t a.here) f (going q t a.here lives) is in
-    (stands, moves, ap (λ x. entry_end x h.concrete t a.here) (sym same) ∙ ap (λ d. entry_end_by there d (local_step q t a.here)) (step_there q h.concrete t a.origin a.here u.awake stands.1) ∙ b)
+    let b = broken_by there (length h.concrete.threads) t h.concrete.common (look q t a.here) f
+        (going q t a.here lives) is in
+    (stands, moves, ap (λ x. entry_end x h.concrete t a.here) (sym same)
+        ∙ ap (λ d. entry_end_by there d (local_step q t a.here))
+        (step_there q h.concrete t a.origin a.here u.awake stands.1) ∙ b)
 
 fault_there : (o : Option StepFault) → is_some o ≡ true → (f : StepFault) × (Some f ≡ o)
 fault_there None h = absurd cc
 fault_there (Some f) h = (f, refl)
 
-pub refuses_broken : (p q : Program) (limit : ℕ) (h : LogState) (a : PieceView) (t : ℕ) → q ≡ p → Stands h t a → can_move h.concrete t ≡ true → local_after p a.thread a.count a.origin ≡ Some a.here → is_some (fault_at q h.concrete t a.here) ≡ true
+pub refuses_broken : (p q : Program) (limit : ℕ) (h : LogState) (a : PieceView) (t : ℕ) → q ≡ p → Stands h t a
+    → can_move h.concrete t ≡ true → local_after p a.thread a.count a.origin ≡ Some a.here
+    → is_some (fault_at q h.concrete t a.here) ≡ true
     → Refuses p limit h t a Broken
 refuses_broken p q limit h a t same stands moves goes is =
     let f = fault_there (fault_at q h.concrete t a.here) is in refuses p q limit h a t f.0 same stands moves goes f.1

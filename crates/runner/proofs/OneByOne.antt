@@ -1,5 +1,6 @@
 -- A run of the machine itself is that of a log: each of its steps is an entry.
-use Rattle.std.proofs.Common.{◌≡◌, ℕ, true, List, length, [], ◌∷◌, ◌++◌, Some, None, Result, Ok, Err, inl, inr, replicate, refl, ap, sym, ◌∙◌}
+use Rattle.std.proofs.Common.{◌≡◌, ℕ, true, List, length, [], ◌∷◌, ◌++◌, Some, None, Result, Ok, Err, inl, inr}
+use Rattle.std.proofs.Common.{replicate, refl, ap, sym, ◌∙◌}
 use Rattle.std.proofs.lemmas.Bool.{cases_Bool, both_ways}
 use Rattle.isa.specs.Programs.{Program}
 use Rattle.locals.specs.Threads.{Thread}
@@ -19,14 +20,17 @@ use Rattle.machine.proofs.Stepping.{done_by}
 use Rattle.machine.proofs.Refusing.{refuses_so, moves_so}
 use Rattle.runner.proofs.Unrolling.{put_back}
 
-done_or_not : (q : ConcreteState × Event) → (let R : Type 0 = Result (ConcreteState × Event) StepFault in (let a : R = Ok q in a) ≡ (let b : R = Err CannotMove in b)) → ⊥
+done_or_not : (q : ConcreteState × Event)
+    → (let R : Type 0 = Result (ConcreteState × Event) StepFault in
+    (let a : R = Ok q in a) ≡ (let b : R = Err CannotMove in b)) → ⊥
 done_or_not q h = cc
 
 -- a thread that took a step could move
 moved : (p : Program) (k k' : ConcreteState) (t : ℕ) (e : Event) → step_of p k t ≡ Ok (k', e) → can_move k t ≡ true
 moved p k k' t e h = elim (cases_Bool (can_move k t)) [
   | inl moves ↦ moves
-  | inr rests ↦ absurd (done_or_not (k', e) (sym h ∙ (refuses_so p k t).1 (λ can. both_ways (can_move k t) rests ((moves_so k t).1 can))))
+  | inr rests ↦ absurd (done_or_not (k', e)
+      (sym h ∙ (refuses_so p k t).1 (λ can. both_ways (can_move k t) rests ((moves_so k t).1 can))))
 ]
 
 -- a turn of one local step, or no local step and a shared one
@@ -35,7 +39,9 @@ record IsEntry (p : Program) (k : ConcreteState) (s : EventStep) (k' : ConcreteS
   pub enters : Enters p k entry k'
   pub steps : replicate entry.local (local_step_of entry.thread) ++ shared_step_of entry.thread entry.event ≡ s ∷ []
 
-shared_entry : (p : Program) (k k' : ConcreteState) (s : EventStep) (x : Thread) → thread_of k s.thread ≡ Some x → can_move k s.thread ≡ true → gone (look p s.thread x) ≡ None → step_of p k s.thread ≡ Ok (k', s.event) → IsEntry p k s k'
+shared_entry : (p : Program) (k k' : ConcreteState) (s : EventStep) (x : Thread) → thread_of k s.thread ≡ Some x
+    → can_move k s.thread ≡ true → gone (look p s.thread x) ≡ None → step_of p k s.thread ≡ Ok (k', s.event)
+    → IsEntry p k s k'
 shared_entry p k k' s x stands moves shared gives = record {
   entry = record { thread = s.thread; local = 0; event = Some s.event };
   enters = record {
@@ -49,7 +55,8 @@ shared_entry p k k' s x stands moves shared gives = record {
   steps = refl;
 }
 
-entry_by : (p : Program) (k k' : ConcreteState) (s : EventStep) (x : Thread) (l : Look) → look p s.thread x ≡ l → thread_of k s.thread ≡ Some x → can_move k s.thread ≡ true → step_of p k s.thread ≡ Ok (k', s.event)
+entry_by : (p : Program) (k k' : ConcreteState) (s : EventStep) (x : Thread) (l : Look) → look p s.thread x ≡ l
+    → thread_of k s.thread ≡ Some x → can_move k s.thread ≡ true → step_of p k s.thread ≡ Ok (k', s.event)
     → on_machine k s.thread (thread_step (length k.threads) s.thread k.common l) ≡ Ok (k', s.event) → IsEntry p k s k'
 entry_by p k k' s x (Goes y) is stands moves gives done =
     let same = inside _ (k', s.event) done in record {
@@ -64,15 +71,19 @@ entry_by p k k' s x (Goes y) is stands moves gives done =
       };
       steps = λ i. record { thread = s.thread; event = (same i).1 } ∷ [];
     }
-entry_by p k k' s x (Asks request go) is stands moves gives done = shared_entry p k k' s x stands moves (ap gone is) gives
-entry_by p k k' s x (Leaves phase) is stands moves gives done = shared_entry p k k' s x stands moves (ap gone is) gives
+entry_by p k k' s x (Asks request go) is stands moves gives done =
+    shared_entry p k k' s x stands moves (ap gone is) gives
+entry_by p k k' s x (Leaves phase) is stands moves gives done =
+    shared_entry p k k' s x stands moves (ap gone is) gives
 entry_by p k k' s x Breaks is stands moves gives done = absurd cc
 entry_by p k k' s x Rests is stands moves gives done = absurd cc
 
-entry_of : (p : Program) (k k' : ConcreteState) (s : EventStep) → step_of p k s.thread ≡ Ok (k', s.event) → IsEntry p k s k'
+entry_of : (p : Program) (k k' : ConcreteState) (s : EventStep) → step_of p k s.thread ≡ Ok (k', s.event)
+    → IsEntry p k s k'
 entry_of p k k' s gives =
     let d = done_by p k k' s.thread s.event (thread_of k s.thread) refl gives in
-    entry_by p k k' s d.thread (look p s.thread d.thread) refl d.stands (moved p k k' s.thread s.event gives) gives d.done
+    entry_by p k k' s d.thread (look p s.thread d.thread) refl d.stands
+        (moved p k k' s.thread s.event gives) gives d.done
 
 pub logs_so : LogsSo
 logs_so p k k' [] same = ([], same, refl)

@@ -14,7 +14,8 @@ use Rattle.runner.specs.Views.{PieceView, LogState}
 use Rattle.runner.specs.Logs.{cost, event_cost}
 
 -- a thread comes in at a place: a turn where it stands before a local step, and else its step with the event
-abbrev pub entry_end_by : ConcreteState → Result (ConcreteState × Event) StepFault → Option Thread → Result (ConcreteState × Option Event) StepFault
+abbrev pub entry_end_by : ConcreteState → Result (ConcreteState × Event) StepFault → Option Thread
+    → Result (ConcreteState × Option Event) StepFault
 entry_end_by k step (Some x) = Ok (k, None)
 entry_end_by k (Ok r) None = Ok (r.0, Some r.1)
 entry_end_by k (Err fault) None = Err fault

@@ -13,7 +13,7 @@ use Rattle.runner.specs.Reports.{MeetsBroken}
 
 -- a local step of a thread, and the shared step of an entry, if any
 abbrev pub local_step_of : ℕ → EventStep
-local_step_of t = record { thread = t; event = plain name.Turn 0 }
+local_step_of t = record { thread = t; event = plain name.Local 0 }
 
 abbrev pub shared_step_of : ℕ → Option Event → List EventStep
 shared_step_of t None = []
@@ -41,7 +41,8 @@ RunsSo =
     → (steps : List Step) × MachineRun p steps (state_of k) × (length steps ≡ cost log)
     × (map label_of steps ≡ map event_label (steps_of log))
 
--- a run of the log's steps and of the local steps of the thread behind it leads to where the thread's next step may not be
+-- a run of the log's steps and of the local steps of the thread behind it leads to where the thread's next step may
+-- not be
 abbrev pub MeetsSo : Type 0
 MeetsSo =
     (p : Program) (limit : ℕ) (m : MeetsBroken p limit)

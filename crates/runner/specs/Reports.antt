@@ -20,8 +20,8 @@ use Rattle.runner.specs.declared.report.Report.{Report}
 use Rattle.runner.specs.Logs.{Runs, cost, event_cost}
 use Rattle.runner.specs.Entries.{entry_end}
 
--- the next entry of a thread: its local steps until another step comes or its turn is over, and then the shared step that it
--- stands before, if any
+-- the next entry of a thread: its local steps until another step comes or its turn is over, and then the shared step
+-- that it stands before, if any
 pub record IsNextEntry (p : Program) (k : ConcreteState) (t count : ℕ) (event : Option Event) : Type 0 where
   pub origin : Thread
   pub here : Thread
@@ -46,8 +46,8 @@ IsVerdict k Stuck =
     IsQuiet k × (t : ℕ) × (0 < t) × (t ≤ length k.threads) × (has_ended (thread_of k t) ≡ false)
 IsVerdict k Limit = (t : ℕ) × (can_move k t ≡ true)
 
--- the log is legal for the program and within the limit, the machine is where it leads, the output is the machine's, and
--- the verdict holds: each thread that can move would pass the limit
+-- the log is legal for the program and within the limit, the machine is where it leads, the output is the machine's, the
+-- verdict holds, and the next entry of each thread that can move would pass the limit
 pub record IsReport (p : Program) (limit : ℕ) (r : Report) : Type 0 where
   pub legal : Runs p (opening_concrete p) r.log.items (concrete r.last)
   pub program : r.last.program ≡ p
@@ -56,7 +56,8 @@ pub record IsReport (p : Program) (limit : ℕ) (r : Report) : Type 0 where
   pub verdict : IsVerdict (concrete r.last) r.verdict
   pub over : (t : ℕ) → can_move (concrete r.last) t ≡ true → PassesLimit p limit r.log.items (concrete r.last) t
 
--- some legal log within the limit leads to where a thread comes, within a turn of local steps, to a step that may not be
+-- some legal log within the limit leads to where a thread comes, within a turn of local steps, to a step that may not
+-- be
 pub record MeetsBroken (p : Program) (limit : ℕ) : Type 0 where
   pub log : List Entry
   pub concrete : ConcreteState

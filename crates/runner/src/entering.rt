@@ -1,4 +1,5 @@
-ghost use Rattle.std.specs.Prelude.{◌≡◌, ◌≤◌, ◌<◌, ◌++◌, ◌∷◌, [], true, Ok, IfOk, OnOk, OnErr, IsOk, length, vec_len, vec_capacity};
+ghost use Rattle.std.specs.Prelude.{◌≡◌, ◌≤◌, ◌<◌, ◌++◌, ◌∷◌, [], true, Ok, IfOk, OnOk, OnErr, IsOk, length};
+ghost use Rattle.std.specs.Prelude.{vec_len, vec_capacity};
 ghost use Rattle.machine.specs.ConcreteSteps.{can_move};
 ghost use Rattle.machine.specs.Views.{concrete};
 ghost use Rattle.runner.specs.Entries.{entry_end};
@@ -17,8 +18,10 @@ pub fn enter(
 ) -> Result<Option<Event>, AllocError>
     requires thread { can_move (concrete machine.old) t ≡ true }
     requires fine { IsOk (entry_end machine.old.program (concrete machine.old) t here) }
-    ensures gives { IfOk result (λ event. entry_end machine.old.program (concrete machine.old) t here ≡ Ok (concrete machine.new, event)) }
-    ensures log { IfOk result (λ event. log.new.items ≡ log.old.items ++ record { thread = t; local = count; event = event } ∷ []) }
+    ensures gives { IfOk result
+        (λ event. entry_end machine.old.program (concrete machine.old) t here ≡ Ok (concrete machine.new, event)) }
+    ensures log { IfOk result
+        (λ event. log.new.items ≡ log.old.items ++ record { thread = t; local = count; event = event } ∷ []) }
     ensures err { OnErr result ((concrete machine.new ≡ concrete machine.old) × (log.new.items ≡ log.old.items)) }
     ensures program { machine.new.program ≡ machine.old.program }
 {

@@ -9,15 +9,17 @@ use crate::fault::RunFault;
 use machine::{Entry, Machine};
 use words::MOST_LOCAL_STEPS;
 
-/// Takes the next entry of thread `t` in its place: its local steps until another step comes or its turn is over, and then
-/// the shared step that it stands before, if any. Where that step may not be, the entry has the local steps alone.
+/// Takes the next entry of thread `t` in its place: its local steps until another step comes or its turn is over, and
+/// then the shared step that it stands before, if any. Where that step may not be, the entry has the local steps alone.
 pub fn take_entry(machine: &mut Machine, t: u32) -> (Entry, Result<(), RunFault>)
     requires thread { can_move (concrete machine.old) t ≡ true }
     requires room { 1 ≤ machine.old.room }
     ensures enters { Enters machine.old.program (concrete machine.old) result.0 (concrete machine.new) }
     ensures turn { result.0.local ≤ most_local_steps }
     ensures goes { IfOk result.1 (λ _. 1 ≤ result.0.local + event_cost result.0.event) }
-    ensures breaks { IfErr result.1 (λ fault. (fault ≡ RunFault.Broken) × BreaksAfter machine.old.program (concrete machine.old) t result.0.local) }
+    ensures breaks { IfErr result.1
+        (λ fault. (fault ≡ RunFault.Broken)
+        × BreaksAfter machine.old.program (concrete machine.old) t result.0.local) }
     ensures program { machine.new.program ≡ machine.old.program }
 {
     let mut entry = Entry {

@@ -1,7 +1,7 @@
 ghost use Rattle.runner.specs.LogRuns.{StepsSo, LogsSo, RunsSo, MeetsSo};
 
-/// A legal log is a run of the machine: its own steps, one by one, lead where the log leads, and each run of the machine
-/// itself is that of a log. And where a run meets a step that may not be, so does a run of the machine.
+/// A legal log is a run of the machine: its own steps, one by one, lead where the log leads, and each run of the
+/// machine itself is that of a log. And where a run meets a step that may not be, so does a run of the machine.
 pub fn logs_are_machine_runs()
     ensures steps { StepsSo }
     ensures logs { LogsSo }

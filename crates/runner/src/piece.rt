@@ -29,7 +29,8 @@ impl<J: RunName> Model for Piece<J> {
 
     ghost view = { λ p. record { thread = p.thread; origin = p.origin; here = p.here; count = p.count } };
 
-    ghost invariant = { λ p. (local_after J.program p.thread p.count p.origin ≡ Some p.here) × (p.count ≤ most_local_steps) };
+    ghost invariant = { λ p. (local_after J.program p.thread p.count p.origin ≡ Some p.here)
+        × (p.count ≤ most_local_steps) };
 }
 
 impl<J: RunName> Piece<J> {

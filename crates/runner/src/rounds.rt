@@ -39,7 +39,8 @@ fn run_round<J: RunName, G: Gate>(
     requires room { length refused.old ≡ suc most_processes }
     requires past { AllPast J.program J.limit (log_state shared.old) refused.old }
     ensures past { OnOk result (AllPast J.program J.limit (log_state shared.new) refused.new) }
-    ensures made { IfOk result (λ made. made ≡ true → (cost shared.old.log < cost shared.new.log) × (cost shared.new.log ≤ J.limit)) }
+    ensures made { IfOk result (λ made. made ≡ true → (cost shared.old.log < cost shared.new.log)
+        × (cost shared.new.log ≤ J.limit)) }
     ensures none { IfOk result (λ made. made ≡ false → Idle J.program J.limit (log_state shared.new)) }
     ensures err { IfErr result (λ fault. CanFail J.program J.limit fault) }
 {
@@ -65,8 +66,11 @@ fn make_entry<J: RunName, G: Gate>(
     requires thread { (0 < t) × (t ≤ most_processes) }
     requires past { AllPast J.program J.limit (log_state shared.old) refused.old }
     ensures past { OnOk result (AllPast J.program J.limit (log_state shared.new) refused.new) }
-    ensures made { IfOk result (λ made. made ≡ true → (cost shared.old.log < cost shared.new.log) × (cost shared.new.log ≤ J.limit)) }
-    ensures none { IfOk result (λ made. made ≡ false → (log_state shared.new ≡ log_state shared.old) × (can_move (log_state shared.new).concrete t ≡ true → PassesLimit J.program J.limit shared.new.log (log_state shared.new).concrete t)) }
+    ensures made { IfOk result (λ made. made ≡ true → (cost shared.old.log < cost shared.new.log)
+        × (cost shared.new.log ≤ J.limit)) }
+    ensures none { IfOk result (λ made. made ≡ false → (log_state shared.new ≡ log_state shared.old)
+        × (can_move (log_state shared.new).concrete t ≡ true
+        → PassesLimit J.program J.limit shared.new.log (log_state shared.new).concrete t)) }
     ensures err { IfErr result (λ fault. CanFail J.program J.limit fault) }
 {
     if !shared.has_room() {
@@ -93,8 +97,11 @@ fn try_entry<J: RunName, G: Gate>(
     requires thread { (0 < t) × (t ≤ most_processes) }
     requires past { AllPast J.program J.limit (log_state shared.old) refused.old }
     ensures past { OnOk result (AllPast J.program J.limit (log_state shared.new) refused.new) }
-    ensures made { IfOk result (λ made. made ≡ true → (cost shared.old.log < cost shared.new.log) × (cost shared.new.log ≤ J.limit)) }
-    ensures none { IfOk result (λ made. made ≡ false → (log_state shared.new ≡ log_state shared.old) × (can_move (log_state shared.new).concrete t ≡ true → PassesLimit J.program J.limit shared.new.log (log_state shared.new).concrete t)) }
+    ensures made { IfOk result (λ made. made ≡ true → (cost shared.old.log < cost shared.new.log)
+        × (cost shared.new.log ≤ J.limit)) }
+    ensures none { IfOk result (λ made. made ≡ false → (log_state shared.new ≡ log_state shared.old)
+        × (can_move (log_state shared.new).concrete t ≡ true
+        → PassesLimit J.program J.limit shared.new.log (log_state shared.new).concrete t)) }
     ensures err { IfErr result (λ fault. CanFail J.program J.limit fault) }
 {
     if refused[t as usize] {

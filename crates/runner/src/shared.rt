@@ -1,5 +1,6 @@
 ghost use Rattle.words.specs.Limits.{most_local_steps};
-ghost use Rattle.std.specs.Prelude.{suc, ◌≡◌, ◌≢◌, ◌≤◌, ◌<◌, ◌+◌, [], length, true, false, Some, None, Ok, IfOk, IfErr, OnOk, IfSome, IfNone, MatchBool, MatchOption};
+ghost use Rattle.std.specs.Prelude.{suc, ◌≡◌, ◌≢◌, ◌≤◌, ◌<◌, ◌+◌, [], length, true, false, Some, None, Ok, IfOk};
+ghost use Rattle.std.specs.Prelude.{IfErr, OnOk, IfSome, IfNone, MatchBool, MatchOption};
 ghost use Rattle.machine.specs.States.{thread_of, opening_concrete};
 ghost use Rattle.machine.specs.ConcreteSteps.{can_move};
 ghost use Rattle.runner.specs.Logs.{Runs, cost};
@@ -44,7 +45,8 @@ impl<J: RunName> Model for Shared<J> {
 
     ghost view = { λ s. record { log = s.log.items; machine = s.machine } };
 
-    ghost invariant = { λ s. IsLegal J.program J.limit s.machine.program (concrete s.machine) s.log.items s.steps s.limit };
+    ghost invariant = { λ s. IsLegal J.program J.limit s.machine.program
+        (concrete s.machine) s.log.items s.steps s.limit };
 }
 
 impl<J: RunName> Shared<J> {
@@ -102,9 +104,11 @@ impl<J: RunName> Shared<J> {
 
     /// The piece that thread `t` goes on from, if it can move.
     pub fn piece(&self, t: u32) -> Option<Piece<J>>
-        ensures some { IfSome result (λ p. (p.thread ≡ t) × (p.count ≡ 0) × (p.here ≡ p.origin) × (thread_of (log_state self.now).concrete t ≡ Some p.origin)) }
+        ensures some { IfSome result (λ p. (p.thread ≡ t) × (p.count ≡ 0) × (p.here ≡ p.origin)
+            × (thread_of (log_state self.now).concrete t ≡ Some p.origin)) }
         ensures legal { Runs J.program (opening_concrete J.program) self.now.log (log_state self.now).concrete }
-        ensures variant { MatchOption result (can_move (log_state self.now).concrete t ≡ false) (λ _. can_move (log_state self.now).concrete t ≡ true) }
+        ensures variant { MatchOption result (can_move (log_state self.now).concrete t ≡ false)
+            (λ _. can_move (log_state self.now).concrete t ≡ true) }
     {
         if !self.machine.can_move(t) {
             return None;
@@ -112,8 +116,8 @@ impl<J: RunName> Shared<J> {
         let local = self.machine.local(t);
         Some(Piece {
             thread: t,
-            origin: local.again(),
-            here: local.again(),
+            origin: local.copy(),
+            here: local.copy(),
             count: 0,
             of: PhantomData,
         })
@@ -124,8 +128,10 @@ impl<J: RunName> Shared<J> {
     ///
     /// Refuses in this order: `Stray`, `CannotMove`, `Broken`, `Limit`, `Memory`; then nothing has changed.
     pub fn step(&mut self, t: u32, piece: Piece<J>) -> Result<Next<J>, RunFault>
-        ensures ok { IfOk result (λ next. Takes J.program J.limit (log_state self.old) t piece (log_state self.new) × IsNext (log_state self.new).concrete t next) }
-        ensures err { IfErr result (λ fault. (log_state self.new ≡ log_state self.old) × Refuses J.program J.limit (log_state self.old) t piece fault) }
+        ensures ok { IfOk result (λ next. Takes J.program J.limit (log_state self.old) t piece (log_state self.new)
+            × IsNext (log_state self.new).concrete t next) }
+        ensures err { IfErr result (λ fault. (log_state self.new ≡ log_state self.old)
+            × Refuses J.program J.limit (log_state self.old) t piece fault) }
         ensures legal { Runs J.program (opening_concrete J.program) self.new.log (log_state self.new).concrete }
         ensures within { cost self.new.log ≤ J.limit }
     {
@@ -142,7 +148,8 @@ impl<J: RunName> Shared<J> {
 
     /// Whether the limit leaves room for any thread's next entry.
     pub(crate) fn has_room(&self) -> bool
-        ensures { MatchBool result (cost self.now.log + suc most_local_steps ≤ J.limit) (J.limit < cost self.now.log + suc most_local_steps) }
+        ensures { MatchBool result (cost self.now.log + suc most_local_steps ≤ J.limit)
+            (J.limit < cost self.now.log + suc most_local_steps) }
     {
         self.limit - self.steps > MOST_LOCAL_STEPS
     }
@@ -203,11 +210,12 @@ impl<J: RunName> Shared<J> {
 
     // Whether the piece is the thread's, and began where the thread is.
     fn stands(&self, t: u32, piece: &Piece<J>) -> bool
-        ensures { MatchBool result (Stands (log_state self.now) t piece.now) (Stands (log_state self.now) t piece.now → ⊥) }
+        ensures { MatchBool result (Stands (log_state self.now) t piece.now)
+            (Stands (log_state self.now) t piece.now → ⊥) }
     {
         piece.thread == t
             && t > 0
             && t <= self.machine.threads()
-            && self.machine.local(t).is(&piece.origin)
+            && self.machine.local(t).equals(&piece.origin)
     }
 }

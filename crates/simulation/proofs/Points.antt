@@ -54,7 +54,8 @@ alone x = put (λ t. None) 1 (Some x)
 
 abbrev pub machine_with : Source → (ℕ → ℕ) → Thread → List ℤ → State
 machine_with p words x output =
-    record { word = words; size = memory_size (code_of p); made = 1; thread = alone x; asleep = λ t. None; output = output }
+    record { word = words; size = memory_size (code_of p); made = 1; thread = alone x; asleep = λ t. None; output =
+        output }
 
 abbrev pub machine_at : Source → Point → State
 machine_at p (Boundary done rest) = machine_with p first_words (Runs (place_of done) [] fresh []) (numbers_of done)

@@ -59,7 +59,8 @@ pub record Explained (p : Source) (image : Program) (steps : List Step) (s : Sta
   -- no wake was lost: where no thread can move, no process can
   pub at_rest : ((t : ℕ) → CanStep s t → ⊥) → (q : ℕ) → CanMove source q → ⊥
   -- nor can one whose thread sleeps, where all others are outside the taking and giving up of locks
-  pub sleepers : ((t : ℕ) (x : Thread) → s.thread t ≡ Some x → Sleeps s t ⊎ (HasEnded s t ⊎ RunsFreely s t)) → (t : ℕ) → Sleeps s t → CanMove source t → ⊥
+  pub sleepers : ((t : ℕ) (x : Thread) → s.thread t ≡ Some x → Sleeps s t ⊎ (HasEnded s t ⊎ RunsFreely s t))
+      → (t : ℕ) → Sleeps s t → CanMove source t → ⊥
   -- the source goes on with the machine
   pub pace : KeepsPace (stretch_length p) steps actions
   -- what came from outside is the same, in order
@@ -68,4 +69,5 @@ pub record Explained (p : Source) (image : Program) (steps : List Step) (s : Sta
 
 -- each run of the machine on the image, of fewer than 2^32 steps, is explained by a run of the program
 pub record Refines (p : Source) (image : Program) : Type 0 where
-  pub follows : (steps : List Step) (s : State) → MachineRun image steps s → length steps < 2 ^ 32 → Explained p image steps s
+  pub follows : (steps : List Step) (s : State) → MachineRun image steps s → length steps < 2 ^ 32
+      → Explained p image steps s

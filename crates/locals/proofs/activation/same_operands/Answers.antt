@@ -12,4 +12,5 @@ pub returns : goal.returns
 returns c =
     let e : c.eq.result ≡ pointwise same (reverse c.args.a.now) (reverse c.args.b.now) =
     c.eq.ensures ∙ (λ i. pointwise same (c.as_slice.ensures i) (c.as_slice-2.ensures i)) in
-    same_by c.eq.result c.args.a.now c.args.b.now (slice_eq-Decides Decides-eqb (reverse c.args.a.now) (reverse c.args.b.now) c.eq.result e)
+    same_by c.eq.result c.args.a.now c.args.b.now
+        (slice_eq-Decides Decides-eqb (reverse c.args.a.now) (reverse c.args.b.now) c.eq.result e)

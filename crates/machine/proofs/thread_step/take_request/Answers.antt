@@ -8,10 +8,15 @@ use Rattle.machine.proofs.thread_step.take_request.Goals as goal
 pub returns-in_err-served-clause-err : goal.returns-in_err-served-clause-err
 returns-in_err-served-clause-err c =
     hand_on c.from_residual.result c.in_err-served.field-0.0 _ c.from_residual.ensures.1 (λ made.
-    shared_err made c.args.t (common c.args.shared.now) (common c.serve.new.self) (look c.args.image.now c.args.t c.args.local.now) c.args.request c.in_err-served.field-0.0 c.requires.asks c.requires.makes_none c.in_err-served.ensures.gives)
+    shared_err made c.args.t (common c.args.shared.now) (common c.serve.new.self)
+        (look c.args.image.now c.args.t c.args.local.now) c.args.request c.in_err-served.field-0.0 c.requires.asks
+        c.in_err-served.ensures.gives)
 
 pub returns-clause-done : goal.returns-clause-done
 returns-clause-done c = λ made.
     let after = common c.serve.new.self in
-    shared_so made c.args.t (common c.args.shared.now) after (look c.args.image.now c.args.t c.args.local.now) c.args.local.now c.args.request c.in_ok-served.served c.requires.asks c.requires.makes_none c.in_ok-served.ensures.gives
-    ∙ (λ i. Ok (record { common = after; thread = sym c.go_on.ensures i; child = None; event = c.in_ok-served.served.event }))
+    shared_so made c.args.t (common c.args.shared.now) after
+        (look c.args.image.now c.args.t c.args.local.now) c.args.local.now c.args.request c.in_ok-served.served
+        c.requires.asks c.in_ok-served.ensures.gives
+    ∙ (λ i. Ok (record { common = after; thread = sym c.go_on.ensures i; child = None; event =
+        c.in_ok-served.served.event }))

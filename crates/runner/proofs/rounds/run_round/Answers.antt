@@ -12,10 +12,17 @@ loop-t-preserved g c =
       past = e.past;
       from_one = omega arith;
       few = omega arith;
-      made = made_step g.J.RunName.limit (log_state c.args.shared.now) (log_state c.loop-t.shared) (log_state c.make_entry.new.shared) c.loop-t.made c.in_ok-made.field-0 v.made v.same (λ n. (e.none n).0) e.made;
-      same = same_step (log_state c.args.shared.now) (log_state c.loop-t.shared) (log_state c.make_entry.new.shared) c.loop-t.made c.in_ok-made.field-0 v.same (λ n. (e.none n).0);
-      none = none_step g.J.RunName.program g.J.RunName.limit (log_state c.loop-t.shared) (log_state c.make_entry.new.shared) c.loop-t.made c.in_ok-made.field-0 c.loop-t.t v.none e.none;
+      made = made_step g.J.RunName.limit (log_state c.args.shared.now) (log_state c.loop-t.shared)
+          (log_state c.make_entry.new.shared) c.loop-t.made c.in_ok-made.field-0 v.made v.same
+          (λ n. (e.none n).0) e.made;
+      same = same_step (log_state c.args.shared.now) (log_state c.loop-t.shared)
+          (log_state c.make_entry.new.shared) c.loop-t.made c.in_ok-made.field-0 v.same (λ n. (e.none n).0);
+      none = none_step g.J.RunName.program g.J.RunName.limit (log_state c.loop-t.shared)
+          (log_state c.make_entry.new.shared) c.loop-t.made c.in_ok-made.field-0 c.loop-t.t v.none e.none;
     }
 
 pub returns-clause-none : goal.returns-clause-none
-returns-clause-none g c = λ still u moves. c.loop-t.invariant.none still u (omega (arith, made_within (log_state c.loop-t.shared).concrete u moves, ap (λ (k : ConcreteState). length k.threads) c.machine.ensures.concrete)) moves
+returns-clause-none g c =
+    λ still u moves. c.loop-t.invariant.none still u
+    (omega (arith, made_within (log_state c.loop-t.shared).concrete u moves,
+    ap (λ (k : ConcreteState). length k.threads) c.machine.ensures.concrete)) moves

@@ -13,7 +13,8 @@ invariant-loop-t g l = record {
   few : l.t ≤ 65;
   made : l.made ≡ true → (cost l.fn.shared.log < cost l.shared.log) × (cost l.shared.log ≤ g.J.RunName.limit);
   same : l.made ≡ false → log_state l.fn.shared ≡ log_state l.shared;
-  none : l.made ≡ false → (u : ℕ) → u < l.t → can_move (log_state l.shared).concrete u ≡ true → PassesLimit g.J.RunName.program g.J.RunName.limit l.shared.log (log_state l.shared).concrete u;
+  none : l.made ≡ false → (u : ℕ) → u < l.t → can_move (log_state l.shared).concrete u ≡ true
+      → PassesLimit g.J.RunName.program g.J.RunName.limit l.shared.log (log_state l.shared).concrete u;
 }
 
 abbrev pub decreases-loop-t : goal.decreases-loop-t

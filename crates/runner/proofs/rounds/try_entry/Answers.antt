@@ -10,8 +10,11 @@ use Rattle.runner.proofs.rounds.try_entry.Goals as goal
 
 pub returns-in-Ok-clause-past : goal.returns-in-Ok-clause-past
 returns-in-Ok-clause-past g c =
-    let free : slice_get c.args.refused.now c.args.t ≡ Some false = slice_get-get_or c.args.refused.now c.args.t false (omega arith) ∙ ap Some c.if-refused-t.false in
-    all_past g.J.RunName.program g.J.RunName.limit (log_state c.args.shared.now) (log_state c.step.new.self) c.args.t c.run-piece.result c.args.refused.now (holds _ _ _ c.piece.ensures.legal) c.in-Ok.ensures.ok.0 free c.requires.past
+    let free : slice_get c.args.refused.now c.args.t ≡ Some false =
+        slice_get-get_or c.args.refused.now c.args.t false (omega arith) ∙ ap Some c.if-refused-t.false in
+    all_past g.J.RunName.program g.J.RunName.limit (log_state c.args.shared.now)
+        (log_state c.step.new.self) c.args.t c.run-piece.result c.args.refused.now
+        (holds _ _ _ c.piece.ensures.legal) c.in-Ok.ensures.ok.0 free c.requires.past
 
 pub returns-in-Err-Limit-clause-past : goal.returns-in-Err-Limit-clause-past
 returns-in-Err-Limit-clause-past g c =
@@ -19,6 +22,9 @@ returns-in-Err-Limit-clause-past g c =
     let limit = g.J.RunName.limit in
     let h = c.in-Err-Limit.ensures.err in
     let r = c.run-piece.ensures in
-    let refused = subst (λ (f : RunFault). Refuses p limit (log_state c.args.shared.now) c.args.t c.run-piece.result f) c.in-Err-Limit.field-0-is h.1 in
-    let now = passes p limit (log_state c.args.shared.now) c.args.t c.run-piece.result refused r.reached r.within r.whole in
-    subst (λ (s : LogState). AllPast p limit s (slice_set c.args.refused.now c.args.t true)) (sym h.0) (one_past p limit (log_state c.args.shared.now) c.args.t c.args.refused.now (refused.1, now) c.requires.past)
+    let refused = subst (λ (f : RunFault). Refuses p limit
+        (log_state c.args.shared.now) c.args.t c.run-piece.result f) c.in-Err-Limit.field-0-is h.1 in
+    let now = passes p limit (log_state c.args.shared.now) c.args.t c.run-piece.result refused r.reached r.within
+        r.whole in
+    subst (λ (s : LogState). AllPast p limit s (slice_set c.args.refused.now c.args.t true)) (sym h.0)
+        (one_past p limit (log_state c.args.shared.now) c.args.t c.args.refused.now (refused.1, now) c.requires.past)

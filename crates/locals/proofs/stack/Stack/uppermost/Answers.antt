@@ -8,4 +8,5 @@ returns-clause-value g c =
     let xs = c.as_slice-items.result.now in
     let stack : reverse xs ≡ c.args.self.now = ap reverse c.as_slice-items.ensures.value ∙ c.self.view_is in
     let fits : c.args.count ≤ length xs = omega (arith, length-reverse xs, c.requires, ap length stack) in
-    take_rest xs (length xs - c.args.count) ∙ reverse_drop c.args.count xs fits ∙ ap (λ ys. reverse (take c.args.count ys)) stack
+    take_rest xs (length xs - c.args.count) ∙ reverse_drop c.args.count xs fits
+        ∙ ap (λ ys. reverse (take c.args.count ys)) stack

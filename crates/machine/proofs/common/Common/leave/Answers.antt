@@ -16,9 +16,13 @@ use Rattle.machine.proofs.common.Common.leave.Goals as goal
 
 pub with_threads-event-requires-clause-woken : goal.with_threads-event-requires-clause-woken
 with_threads-event-requires-clause-woken c =
-    rw c.as_slice.ensures (left_threads c.self.inside.buckets c.exit_step-next.new.buckets (wake_word c.args.t c.args.phase (word_of c.self.inside.words)) c.exit_step-next.result.1.threads (soundly c.self.inside.buckets c.self.invariant.sound) (known c.self.inside.buckets c.self.invariant.sound c.self.invariant.places) c.exit_step-next.ensures.front)
+    rw c.as_slice.ensures (left_threads c.self.inside.buckets c.exit_step-next.new.buckets
+        (wake_word c.args.t c.args.phase (word_of c.self.inside.words)) c.exit_step-next.result.1.threads
+        (soundly c.self.inside.buckets c.self.invariant.sound)
+        (known c.self.inside.buckets c.self.invariant.sound c.self.invariant.places) c.exit_step-next.ensures.front)
 
-other_value : (t : ℕ) (phase : ExitPhase) (ws woken : List ℕ) → phase ≢ LastWake → value_at t phase ws ≡ value_of t phase ws woken
+other_value : (t : ℕ) (phase : ExitPhase) (ws woken : List ℕ) → phase ≢ LastWake
+    → value_at t phase ws ≡ value_of t phase ws woken
 other_value t (Entry e seen) ws woken ne = refl
 other_value t Pending ws woken ne = refl
 other_value t ClearId ws woken ne = refl
@@ -29,13 +33,26 @@ pub returns-clause-gives : goal.returns-clause-gives
 returns-clause-gives c =
     let o = c.self.inside.output.items in
     let x = c.exit_step-next.ensures in
-    let within : process_word c.args.t 5 < length c.self.inside.words = omega (arith, c.requires.thread.1, c.self.invariant.wide) in
-    let value : c.match-phase.value ≡ value_of c.args.t c.args.phase c.self.inside.words c.exit_step-next.result.1.threads = elim c.match-phase.branch [
-      | in-LastWake w ↦ w.value-is ∙ w.count-value.ensures ∙ sym (ap (λ p. value_of c.args.t p c.self.inside.words c.exit_step-next.result.1.threads) w.in-LastWake.is)
-      | in_default w ↦ w.value-is ∙ c.address_at-address.ensures ∙ other_value c.args.t c.args.phase c.self.inside.words c.exit_step-next.result.1.threads w.in_default.not-LastWake
+    let within : process_word c.args.t 5 < length c.self.inside.words =
+        omega (arith, c.requires.thread.1, c.self.invariant.wide) in
+    let value : c.match-phase.value
+        ≡ value_of c.args.t c.args.phase c.self.inside.words c.exit_step-next.result.1.threads =
+        elim c.match-phase.branch [
+      | in-LastWake w ↦ w.value-is ∙ w.count-value.ensures
+          ∙ sym (ap (λ p. value_of c.args.t p c.self.inside.words c.exit_step-next.result.1.threads) w.in-LastWake.is)
+      | in_default w ↦ w.value-is ∙ c.address_at-address.ensures
+          ∙ other_value c.args.t c.args.phase c.self.inside.words c.exit_step-next.result.1.threads
+          w.in_default.not-LastWake
     ] in
     ap (λ v. leave c.args.t c.args.phase (common v)) (sym c.self.view_is)
-    ∙ left_is c.self.inside.words c.exit_step-next.new.mem c.self.inside.buckets c.exit_step-next.new.buckets o c.args.t c.args.phase c.exit_step-next.result.0 c.exit_step-next.result.1.threads (soundly c.self.inside.buckets c.self.invariant.sound) within x.step x.front x.words
-    ∙ (λ i. left c.exit_step-next.new.mem c.exit_step-next.new.buckets o c.args.phase c.exit_step-next.result.0 (sym value i) c.exit_step-next.result.1.threads)
-    ∙ (let told : c.with_threads-event.result ≡ event_of (name_at c.args.phase) c.match-phase.value c.exit_step-next.result.1.threads [] = c.with_threads-event.ensures ∙ (λ i. event_of (c.name_of.ensures i) c.match-phase.value (c.as_slice.ensures i) []) in
-    λ i. record { common = common_of c.exit_step-next.new.mem c.exit_step-next.new.buckets o; next = c.exit_step-next.result.0; event = sym told i })
+    ∙ left_is c.self.inside.words c.exit_step-next.new.mem c.self.inside.buckets c.exit_step-next.new.buckets o
+        c.args.t c.args.phase c.exit_step-next.result.0 c.exit_step-next.result.1.threads
+        (soundly c.self.inside.buckets c.self.invariant.sound) within x.step x.front x.words
+    ∙ (λ i. left c.exit_step-next.new.mem c.exit_step-next.new.buckets o c.args.phase c.exit_step-next.result.0
+        (sym value i) c.exit_step-next.result.1.threads)
+    ∙ (let told : c.with_threads-event.result
+        ≡ event_of (name_at c.args.phase) c.match-phase.value c.exit_step-next.result.1.threads [] =
+        c.with_threads-event.ensures
+        ∙ (λ i. event_of (c.name_of.ensures i) c.match-phase.value (c.as_slice.ensures i) []) in
+    λ i. record { common = common_of c.exit_step-next.new.mem c.exit_step-next.new.buckets o; next =
+        c.exit_step-next.result.0; event = sym told i })

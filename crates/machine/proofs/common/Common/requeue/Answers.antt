@@ -10,17 +10,24 @@ use Rattle.machine.proofs.common.Common.requeue.Goals as goal
 pub with_threads-requires-clause-woken : goal.with_threads-requires-clause-woken
 with_threads-requires-clause-woken c =
     let r = c.in-Ok.ensures in
-    woken_threads c.self.inside.buckets c.args.a.0 c.args.wake c.as_slice-woken.result.now r.sound.0 c.self.invariant.places (c.as_slice-woken.ensures ∙ r.woken)
+    woken_threads c.self.inside.buckets c.args.a.0 c.args.wake c.as_slice-woken.result.now r.sound.0
+        c.self.invariant.places (c.as_slice-woken.ensures ∙ r.woken)
 
 pub with_threads-requires-clause-moved : goal.with_threads-requires-clause-moved
 with_threads-requires-clause-moved c =
     let r = c.in-Ok.ensures in
-    moved_threads c.self.inside.buckets c.args.a.0 c.args.b.0 c.args.wake c.args.moves c.as_slice-moved.result.now r.sound.0 c.self.invariant.places (c.as_slice-moved.ensures ∙ r.moved)
+    moved_threads c.self.inside.buckets c.args.a.0 c.args.b.0 c.args.wake c.args.moves c.as_slice-moved.result.now
+        r.sound.0 c.self.invariant.places (c.as_slice-moved.ensures ∙ r.moved)
 
 pub returns-clause-gives : goal.returns-clause-gives
 returns-clause-gives c = λ made t.
     let r = c.in-Ok.ensures in
-    ap (λ v. serve made t (AskRequeue c.args.a.0 c.args.b.0 c.args.wake c.args.moves c.args.expected) (common v)) (sym c.self.view_is)
-    ∙ requeue_gives c.self.inside.words c.self.inside.buckets c.cmp_requeue.new.buckets c.self.inside.output.items c.args.a.0 c.args.b.0 c.args.wake c.args.moves c.args.expected c.in-Ok.requeued.woken c.in-Ok.requeued.moved c.count-count.result c.with_threads.result
-    c.in_ok-check_address.ensures.inside c.in_ok-check_address-2.ensures.inside r.call r.woken r.moved r.rest r.last r.others c.count-count.ensures
-    (c.with_threads.ensures ∙ (λ i. event_of name.Requeue c.count-count.result (c.as_slice-woken.ensures i) (c.as_slice-moved.ensures i)))
+    ap (λ v. serve made t (AskRequeue c.args.a.0 c.args.b.0 c.args.wake c.args.moves c.args.expected) (common v))
+        (sym c.self.view_is)
+    ∙ requeue_gives c.self.inside.words c.self.inside.buckets c.cmp_requeue.new.buckets c.self.inside.output.items
+        c.args.a.0 c.args.b.0 c.args.wake c.args.moves c.args.expected c.in-Ok.requeued.woken c.in-Ok.requeued.moved
+        c.count-count.result c.with_threads.result
+    c.in_ok-check_address.ensures.inside c.in_ok-check_address-2.ensures.inside r.call r.woken r.moved r.rest r.last
+        r.others c.count-count.ensures
+    (c.with_threads.ensures ∙
+        (λ i. event_of name.Requeue c.count-count.result (c.as_slice-woken.ensures i) (c.as_slice-moved.ensures i)))

@@ -11,9 +11,12 @@ returns-clause-opening c =
     let v = c.in_ok-new.field-0 in
     let e = c.in_ok-new.ensures in
     let threads = c.in_ok-opening_threads.field-0.items in
-    ap (concrete_of v.words v.sleepers threads) e.output ∙ opened c.args.image.now v.words v.sleepers threads e.words e.empty e.awake c.in_ok-opening_threads.ensures.threads
+    ap (concrete_of v.words v.sleepers threads) e.output
+        ∙ opened c.args.image.now v.words v.sleepers threads e.words e.empty e.awake
+        c.in_ok-opening_threads.ensures.threads
 
 pub invariant_of-result : goal.invariant_of-result
 invariant_of-result c =
-    let is : parts_of c.in_ok-new.field-0 c.in_ok-opening_threads.field-0.items ≡ opening_concrete c.args.image.now = returns-clause-opening c in
+    let is : parts_of c.in_ok-new.field-0 c.in_ok-opening_threads.field-0.items
+        ≡ opening_concrete c.args.image.now = returns-clause-opening c in
     (rw (c.in_ok-copy.ensures, is) ((opens_so c.args.image.now).1), c.in_ok-opening_threads.ensures.space)

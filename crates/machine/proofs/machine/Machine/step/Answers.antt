@@ -17,7 +17,8 @@ invariant_of-self c =
     let s = c.step_parts.ensures in
     let k = parts_of c.self.inside.common c.self.inside.threads.items in
     let k' = parts_of c.step_parts.new.shared c.step_parts.new.threads.items in (
-      kept_after c.self.inside.image k k' c.args.t c.step_parts.result c.self.invariant.0 s.done (on_err c.step_parts.result _ _ (k' ≡ k) (λ v t i. parts_of (v i) (t i)) s.same),
+      kept_after c.self.inside.image k k' c.args.t c.step_parts.result c.self.invariant.0 s.done
+          (on_err c.step_parts.result _ _ (k' ≡ k) (λ v t i. parts_of (v i) (t i)) s.same),
       omega (arith, s.space, c.self.invariant.1),
     )
 
@@ -34,7 +35,8 @@ returns-clause-room c =
     let k' = parts_of new c.step_parts.new.threads.items in
     let was : c.args.self.now.room ≡ old.capacity - length old.output = ap (λ v. v.room) (sym c.self.view_is) in
     if_ok c.step_parts.result _ _ (λ e done.
-    let more : length new.output ≡ length old.output + printed_by e = printed_so c.self.inside.image k k' c.args.t e done in
+    let more : length new.output ≡ length old.output + printed_by e =
+        printed_so c.self.inside.image k k' c.args.t e done in
     omega (arith, was, more, at_most_one e, s.capacity, c.requires)) s.done
 
 pub returns-clause-holds : goal.returns-clause-holds
