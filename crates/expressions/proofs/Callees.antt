@@ -10,7 +10,8 @@ use Rattle.syntax.specs.Tree.{ExpressionTree}
 use Rattle.syntax.specs.View.{expression_of}
 use Rattle.grammar.specs.Machine.{AMark, AValue, Arguments, MoreArguments, AName}
 use Rattle.grammar.specs.Machine.{ADottedName, AnOpening, Skip, NoFactor, Trees, Item, expression, expression_in}
-use Rattle.grammar.specs.Machine.{behind_expression, callee, factor_begin, reply_more_arguments, reply_dotted, started}
+use Rattle.grammar.specs.Machine.{behind_expression, callee, factor_begin, reply_more_arguments, reply_dotted}
+use Rattle.grammar.specs.Machine.{reply_of_factor}
 use Rattle.grammar.specs.Machine.{expression_rest, expression_from, behind_rest}
 use Rattle.grammar.specs.Reading.{StartsFactor, lexeme_at, Passes, Fails, Leads}
 use Rattle.grammar.proofs.Joins.{here, skip, done, leads_as, onto, then1, then6, fail1, fail6}
@@ -36,7 +37,8 @@ value_fails {d} s f = fail6 {d = d} {d' = d} f (value_begun s) (omega arith)
 
 pub value_absent : {d : ℕ} {a : List Item} → factor_begin (lexeme_at a) ≡ NoFactor
     → Passes d (AValue ∷ []) (None, tt) a a
-value_absent h = skip {s = AValue} (ap (λ b. started b (expression_rest []) (λ f t. Some (expression_from f t)) None)
+value_absent h =
+    skip {s = AValue} (ap (λ b. reply_of_factor b (expression_rest []) (λ f t. Some (expression_from f t)) None)
     h)
 
 -- the first argument, and further ones
@@ -71,7 +73,7 @@ pub arguments_absent : {d : ℕ} {a : List Item} (xs : List Expression) → xs �
 arguments_absent {d} {a} xs none h =
     let P : List Expression → Type 0 = λ l. Passes d (Arguments ∷ []) (map expression_of l, tt) a a in
     subst P (sym none)
-    (skip {s = Arguments} (ap (λ b. started b (expression_rest (MoreArguments ∷ []))
+    (skip {s = Arguments} (ap (λ b. reply_of_factor b (expression_rest (MoreArguments ∷ []))
     (λ f t. expression_from f t ∷ (behind_rest t).0) []) h))
 
 pub arguments_more : {d : ℕ} {a n p b : List Item} (xs all : List Expression) (x : Expression) → all ≡ xs ++ x ∷ []

@@ -20,7 +20,7 @@ ghost use Rattle.steps.specs.Ahead.{ahead};
 ghost use Rattle.expressions.specs.Levels.{term_trees, sum_trees, relation_trees, conjunction_trees};
 ghost use Rattle.expressions.specs.Levels.{expression_trees, enclosed_trees};
 ghost use Rattle.expressions.specs.Levels.{first_factor, first_term, left_sum, first_relation, first_conjunction};
-ghost use Rattle.expressions.specs.Levels.{further_factors, further_terms, compared};
+ghost use Rattle.expressions.specs.Levels.{further_factors, further_terms, comparison_part};
 ghost use Rattle.expressions.specs.Levels.{further_relations, further_conjunctions};
 
 use crate::alone::{conjunction_alone, expression_alone, reading, relation_alone, sum_alone};
@@ -177,7 +177,7 @@ fn relation_from<'a>(
 ) -> Result<Relation<'a>, Refusal>
     requires { depth ≤ most_nestings }
     ensures front { IfOk result (λ x. left_sum (relation_of x) ≡ sum_of left.entry) }
-    ensures ok { IfOk result (λ x. Passes depth (AComparison ∷ []) (compared (relation_of x), tt)
+    ensures ok { IfOk result (λ x. Passes depth (AComparison ∷ []) (comparison_part (relation_of x), tt)
         (ahead parser.old) (ahead parser.new)) }
     ensures err { IfErr result (λ e. Fails depth (AComparison ∷ []) (ahead parser.old) e) }
     ensures within { IfOk result (λ _. length (ahead parser.new) ≤ length (ahead parser.old)) }

@@ -25,7 +25,7 @@ use Rattle.syntax.specs.Nesting.{summands_nesting, multipliers_nesting, factor_n
 use Rattle.grammar.specs.Machine.{Symbol, AWord, AMark, AWordAt, AnOpening, AName, ANumber, AFactor, AnIndex}
 use Rattle.grammar.specs.Machine.{Multipliers, Summands, AComparison, Relations, Conjunctions, Closed, Skip, Item}
 use Rattle.grammar.specs.Machine.{term, sum, relation, conjunction, expression, term_tree, sum_tree, relation_tree}
-use Rattle.grammar.specs.Machine.{conjunction_tree, expression_in, Expressed, reply_index, reply_multipliers}
+use Rattle.grammar.specs.Machine.{conjunction_tree, expression_in, ExpressionParts, reply_index, reply_multipliers}
 use Rattle.grammar.specs.Machine.{reply_summands, reply_comparison, reply_relations, reply_conjunctions, reads}
 use Rattle.grammar.specs.Machine.{on_read, nestings}
 use Rattle.grammar.specs.Reading.{lexeme_at}
@@ -554,7 +554,7 @@ mutual
       ) (simp on_reads)
 
 -- the parts of an expression, before other trees
-abbrev pub expressed : {A : Type 0} → ExpressionTree → A → Expressed A
+abbrev pub expressed : {A : Type 0} → ExpressionTree → A → ExpressionParts A
 expressed (AnyOf (AllOf (Relates (Total (Product f fs) ts) c) rs) cs) y = (f, (fs, (ts, (c, (rs, (cs, y))))))
 
 pub expression_reads : (m : ℕ) (e : ExpressionTree) (ks : List Lexeme) (κ : List Symbol)

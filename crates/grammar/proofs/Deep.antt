@@ -16,7 +16,8 @@ use Rattle.grammar.specs.Machine.{MoreArguments, ADottedName, AnInto, AValue, St
 use Rattle.grammar.specs.Machine.{ALocalType, AMemberType, AResultType, AReturns, Locals, Members, Parameters}
 use Rattle.grammar.specs.Machine.{MoreParameters, Procedures, MonitorProcedures, ARecover, Monitors, Closed, Tree}
 use Rattle.grammar.specs.Machine.{Trees, Reply, Push, Start, Skip, Reject, Beginning, Begins, NoFactor, Step, Onto}
-use Rattle.grammar.specs.Machine.{Over, Stuck, Item, Read, split, begun, started, factor_begin, expression}
+use Rattle.grammar.specs.Machine.{Over, Stuck, Item, Read, split, factor_reply, reply_of_factor, factor_begin}
+use Rattle.grammar.specs.Machine.{expression}
 use Rattle.grammar.specs.Machine.{expression_rest, expression_in, expression_from, behind_rest, at_end, step_by, step}
 use Rattle.grammar.specs.Machine.{reply, word_code, sign_code, nestings, reads, onwards, refusal_at}
 use Rattle.grammar.proofs.Sound.{trees_text, least, leasts, Undone, undone}
@@ -119,12 +120,12 @@ beginning_lower (MarkAt S.Minus place) = λ m n y le w. inner _ n m w.0
 beginning_lower (WordAt K.Not place) = λ m n y le w. inner _ n m w.0
 beginning_lower _ = tt
 
-factor_lower : (b : Beginning) → LowerBeginning b → Lower AFactor (begun b)
+factor_lower : (b : Beginning) → LowerBeginning b → Lower AFactor (factor_reply b)
 factor_lower (Begins ρ f) h = (refl, h)
 factor_lower NoFactor h = tt
 
 arguments_lower : (b : Beginning) → LowerBeginning b → Lower Arguments
-    (started b (expression_rest (MoreArguments ∷ [])) (λ f t. expression_from f t ∷ (behind_rest t).0) [])
+    (reply_of_factor b (expression_rest (MoreArguments ∷ [])) (λ f t. expression_from f t ∷ (behind_rest t).0) [])
 arguments_lower (Begins ρ f) h = (
   refl,
   λ m n y z le w v.
@@ -137,7 +138,7 @@ arguments_lower (Begins ρ f) h = (
 arguments_lower NoFactor h = refl
 
 value_lower : (b : Beginning) → LowerBeginning b
-    → Lower AValue (started b (expression_rest []) (λ f t. Some (expression_from f t)) None)
+    → Lower AValue (reply_of_factor b (expression_rest []) (λ f t. Some (expression_from f t)) None)
 value_lower (Begins ρ f) h = (
   refl,
   λ m n y z le w v.

@@ -5,7 +5,7 @@ use Rattle.scanner.specs.declared.refusal.RefusalKind.TheVariants.{Expected, Lim
 use Rattle.syntax.specs.Lexeme.{Finish}
 use Rattle.grammar.specs.Machine.{Symbol, Tree, Trees, Closed, Push, Skip, Reject, Item, Outcome, Read, Refused, split}
 use Rattle.grammar.specs.Machine.{reply, reads, on_read, nestings, refusal_at}
-use Rattle.grammar.specs.Reading.{lexeme_at, rest_after, joined, Passes, Fails, Leads}
+use Rattle.grammar.specs.Reading.{lexeme_at, rest_after, append_trees, Passes, Fails, Leads}
 use Rattle.grammar.proofs.Steps.{on_reads, pushed, limited, rejected, skipped}
 use Rattle.grammar.proofs.Deep.{nest_append}
 
@@ -17,7 +17,7 @@ same_read : {A : Type 0} (f : A → A) (o : Outcome A) → ((x : A) → f x ≡ 
 same_read f (Read x) h = ap Read (sym (h x))
 same_read f (Refused e) h = refl
 
-join_split : (σ κ : List Symbol) (y : Trees (σ ++ κ)) → joined σ κ (split σ κ y).0 (split σ κ y).1 ≡ y
+join_split : (σ κ : List Symbol) (y : Trees (σ ++ κ)) → append_trees σ κ (split σ κ y).0 (split σ κ y).1 ≡ y
 join_split [] κ y = refl
 join_split (s ∷ σ) κ y = ap (λ z. (y.0, z)) (join_split σ κ y.1)
 
@@ -33,7 +33,7 @@ no_room ρ κ d lt e = omega (arith, nest_append ρ κ, e)
 -- nothing is read yet
 pub here : {d : ℕ} {σ : List Symbol} {a : List Item} → Leads d σ σ (λ y. y) a a
 here {d} {σ} {a} = record {
-  leads = λ κ e. same_read (λ y. joined σ κ (split σ κ y).0 (split σ κ y).1)
+  leads = λ κ e. same_read (λ y. append_trees σ κ (split σ κ y).0 (split σ κ y).1)
       (reads 64 a (σ ++ κ)) (join_split σ κ);
 }
 
@@ -73,9 +73,9 @@ pub leads_as : {d : ℕ} {σ ρ : List Symbol} {g h : Trees ρ → Trees σ} {a 
     → Leads d σ ρ g a b → Leads d σ ρ h a b
 leads_as {d} {σ} {ρ} {g} {h} {a} {b} p l = record {
   leads =
-      λ κ e. l.leads κ e ∙ same_reads (λ y. joined σ κ (g (split ρ κ y).0) (split ρ κ y).1)
-      (λ y. joined σ κ (h (split ρ κ y).0) (split ρ κ y).1) (reads 64 b (ρ ++ κ))
-      (λ y. ap (λ z. joined σ κ z (split ρ κ y).1) (p (split ρ κ y).0));
+      λ κ e. l.leads κ e ∙ same_reads (λ y. append_trees σ κ (g (split ρ κ y).0) (split ρ κ y).1)
+      (λ y. append_trees σ κ (h (split ρ κ y).0) (split ρ κ y).1) (reads 64 b (ρ ++ κ))
+      (λ y. ap (λ z. append_trees σ κ z (split ρ κ y).1) (p (split ρ κ y).0));
 }
 
 -- the end of a nesting
@@ -278,7 +278,10 @@ pub then9 : {d d' : ℕ} {σ ρ : List Symbol} {s1 s2 s3 s4 s5 s6 s7 s8 s9 : Sym
         x.1.0,
         (
           x.1.1.0,
-          (x.1.1.1.0, (x.1.1.1.1.0, (x.1.1.1.1.1.0, (x.1.1.1.1.1.1.0, (x.1.1.1.1.1.1.1.0, (x.1.1.1.1.1.1.1.1.0, y)))))),
+          (
+            x.1.1.1.0,
+            (x.1.1.1.1.0, (x.1.1.1.1.1.0, (x.1.1.1.1.1.1.0, (x.1.1.1.1.1.1.1.0, (x.1.1.1.1.1.1.1.1.0, y))))),
+          ),
         ),
       ),
     )) a
@@ -317,7 +320,13 @@ pub then10 : {d d' : ℕ} {σ ρ : List Symbol} {s1 s2 s3 s4 s5 s6 s7 s8 s9 s10 
             x.1.1.1.0,
             (
               x.1.1.1.1.0,
-              (x.1.1.1.1.1.0, (x.1.1.1.1.1.1.0, (x.1.1.1.1.1.1.1.0, (x.1.1.1.1.1.1.1.1.0, (x.1.1.1.1.1.1.1.1.1.0, y))))),
+              (
+                x.1.1.1.1.1.0,
+                (
+                  x.1.1.1.1.1.1.0,
+                  (x.1.1.1.1.1.1.1.0, (x.1.1.1.1.1.1.1.1.0, (x.1.1.1.1.1.1.1.1.1.0, y))),
+                ),
+              ),
             ),
           ),
         ),

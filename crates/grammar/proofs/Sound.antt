@@ -24,7 +24,8 @@ use Rattle.grammar.specs.Machine.{MoreArguments, ADottedName, AnInto, AValue, St
 use Rattle.grammar.specs.Machine.{ALocalType, AMemberType, AResultType, AReturns, Locals, Members, Parameters}
 use Rattle.grammar.specs.Machine.{MoreParameters, Procedures, MonitorProcedures, ARecover, Monitors, Closed, Tree}
 use Rattle.grammar.specs.Machine.{Trees, Reply, Push, Start, Skip, Reject, Beginning, Begins, NoFactor, Step, Onto}
-use Rattle.grammar.specs.Machine.{Over, Stuck, split, begun, started, factor_begin, expression_rest, expression_from}
+use Rattle.grammar.specs.Machine.{Over, Stuck, split, factor_reply, reply_of_factor, factor_begin, expression_rest}
+use Rattle.grammar.specs.Machine.{expression_from}
 use Rattle.grammar.specs.Machine.{behind_rest, at_end, step_by, step, reply, word_code, sign_code}
 use Rattle.grammar.proofs.Codes.{same_word, same_sign}
 
@@ -149,17 +150,17 @@ beginning_undo (MarkAt S.Minus place) = λ y ks. refl
 beginning_undo (WordAt K.Not place) = λ y ks. refl
 beginning_undo _ = tt
 
-factor_undo : (k : Lexeme) (b : Beginning) → UndoBeginning k b → Undo AFactor k (begun b)
+factor_undo : (k : Lexeme) (b : Beginning) → UndoBeginning k b → Undo AFactor k (factor_reply b)
 factor_undo k (Begins ρ f) h = h
 factor_undo k NoFactor h = tt
 
 arguments_undo : (k : Lexeme) (b : Beginning) → UndoBeginning k b → Undo Arguments k
-    (started b (expression_rest (MoreArguments ∷ [])) (λ f t. expression_from f t ∷ (behind_rest t).0) [])
+    (reply_of_factor b (expression_rest (MoreArguments ∷ [])) (λ f t. expression_from f t ∷ (behind_rest t).0) [])
 arguments_undo k (Begins ρ f) h = λ y z ks. h y (trees_text (expression_rest (MoreArguments ∷ [])) z ks)
 arguments_undo k NoFactor h = λ ks. refl
 
 value_undo : (k : Lexeme) (b : Beginning) → UndoBeginning k b → Undo AValue k
-    (started b (expression_rest []) (λ f t. Some (expression_from f t)) None)
+    (reply_of_factor b (expression_rest []) (λ f t. Some (expression_from f t)) None)
 value_undo k (Begins ρ f) h = λ y z ks. h y (trees_text (expression_rest []) z ks)
 value_undo k NoFactor h = λ ks. refl
 

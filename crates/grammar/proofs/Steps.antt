@@ -6,7 +6,8 @@ use Rattle.scanner.specs.declared.refusal.RefusalKind.TheVariants.{Expected, Lim
 use Rattle.syntax.specs.Tree.{FactorTree}
 use Rattle.syntax.specs.Lexeme.{Finish}
 use Rattle.grammar.specs.Machine.{Symbol, AFactor, Tree, Trees, Push, Start, Skip, Reject, Begins, Step, Onto, Over}
-use Rattle.grammar.specs.Machine.{Stuck, Item, Outcome, Read, Refused, split, led, on_step, step, reply, factor_begin}
+use Rattle.grammar.specs.Machine.{Stuck, Item, Outcome, Read, Refused, split, head_and_rest, on_step, step, reply}
+use Rattle.grammar.specs.Machine.{factor_begin}
 use Rattle.grammar.specs.Machine.{reads, onwards, on_read, nestings, refusal_at}
 use Rattle.grammar.specs.Reading.{lexeme_at, rest_after}
 
@@ -59,9 +60,9 @@ skipped most (t ∷ ts) s κ x h = rw h (later most (λ y. (x, y)) (step κ t.le
 -- where a factor begins, a symbol that may begin with one is that factor and what may follow it
 pub begun_on : (most : ℕ) (ts : List Item) (s : Symbol) (κ ρ τ : List Symbol) (f : Trees ρ → FactorTree)
     (g : FactorTree → Trees τ → Tree s) → factor_begin (lexeme_at ts) ≡ Begins ρ f
-    → reply s (lexeme_at ts) ≡ Start ρ f τ g → reads most ts (s ∷ κ) ≡ on_read (λ y. led τ κ g y.0 y.1)
+    → reply s (lexeme_at ts) ≡ Start ρ f τ g → reads most ts (s ∷ κ) ≡ on_read (λ y. head_and_rest τ κ g y.0 y.1)
     (reads most ts (AFactor ∷ (τ ++ κ)))
 begun_on most [] s κ ρ τ f g b h = refl
 begun_on most (t ∷ ts) s κ ρ τ f g b h = rw (h, b)
-    (later most (λ y. led τ κ g y.0 y.1) (Onto (ρ ++ (τ ++ κ))
+    (later most (λ y. head_and_rest τ κ g y.0 y.1) (Onto (ρ ++ (τ ++ κ))
     (λ y. (f (split ρ (τ ++ κ) y).0, (split ρ (τ ++ κ) y).1))) (reads most ts) (t ∷ ts))

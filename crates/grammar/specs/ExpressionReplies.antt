@@ -66,13 +66,13 @@ factor_begin (WordAt K.Not place) = Begins (AFactor ∷ Closed ∷ []) (λ t. No
 factor_begin _ = NoFactor
 
 -- a factor that begins so
-abbrev pub begun : Beginning → Reply FactorTree
-begun (Begins ρ f) = Push ρ f
-begun NoFactor = Reject
+abbrev pub factor_reply : Beginning → Reply FactorTree
+factor_reply (Begins ρ f) = Push ρ f
+factor_reply NoFactor = Reject
 
 -- a factor
 abbrev pub reply_factor : Lexeme → Reply FactorTree
-reply_factor k = begun (factor_begin k)
+reply_factor k = factor_reply (factor_begin k)
 
 -- an index in brackets, if there is one
 abbrev pub reply_index : Lexeme → Reply IndexTree

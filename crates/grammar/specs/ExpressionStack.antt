@@ -52,26 +52,26 @@ abbrev pub expression_tree : FactorTree → MultiplierTrees → SummandTrees →
 expression_tree f fs ts c rs cs = AnyOf (AllOf (Relates (Total (Product f fs) ts) c) rs) cs
 
 -- what an expression is made of, with what is behind it
-abbrev pub Expressed : Type 0 → Type 0
-Expressed A =
+abbrev pub ExpressionParts : Type 0 → Type 0
+ExpressionParts A =
     FactorTree × (MultiplierTrees × (SummandTrees × (ComparisonTree × (RelationTrees × (ConjunctionTrees × A)))))
 
 -- the expression there
-abbrev pub expression_in : {A : Type 0} → Expressed A → ExpressionTree
+abbrev pub expression_in : {A : Type 0} → ExpressionParts A → ExpressionTree
 expression_in t = expression_tree t.0 t.1.0 t.1.1.0 t.1.1.1.0 t.1.1.1.1.0 t.1.1.1.1.1.0
 
 -- what is behind it
-abbrev pub behind_expression : {A : Type 0} → Expressed A → A
+abbrev pub behind_expression : {A : Type 0} → ExpressionParts A → A
 behind_expression t = t.1.1.1.1.1.1
 
 -- the same of an expression whose factor was begun
-abbrev pub RestExpressed : Type 0 → Type 0
-RestExpressed A = MultiplierTrees × (SummandTrees × (ComparisonTree × (RelationTrees × (ConjunctionTrees × A))))
+abbrev pub RestParts : Type 0 → Type 0
+RestParts A = MultiplierTrees × (SummandTrees × (ComparisonTree × (RelationTrees × (ConjunctionTrees × A))))
 
 -- the expression of a factor and what follows it
-abbrev pub expression_from : {A : Type 0} → FactorTree → RestExpressed A → ExpressionTree
+abbrev pub expression_from : {A : Type 0} → FactorTree → RestParts A → ExpressionTree
 expression_from f t = expression_tree f t.0 t.1.0 t.1.1.0 t.1.1.1.0 t.1.1.1.1.0
 
 -- what is behind that
-abbrev pub behind_rest : {A : Type 0} → RestExpressed A → A
+abbrev pub behind_rest : {A : Type 0} → RestParts A → A
 behind_rest t = t.1.1.1.1.1

@@ -5,6 +5,7 @@ pub mod ExpressionReplies
 pub mod StatementReplies
 pub mod DeclarationReplies
 pub mod Replies
+pub mod Items
 pub mod Machine
 pub mod Reading
 pub mod Accepts

@@ -3,12 +3,12 @@ use Rattle.std.specs.Prelude.{ℕ, ◌+◌, List, [], ◌∷◌, ◌++◌, nat_l
 use Rattle.scanner.specs.declared.token.Keyword.TheVariants as K
 use Rattle.scanner.specs.declared.token.Sign.TheVariants as S
 use Rattle.scanner.specs.declared.token.Place.{Place}
-use Rattle.scanner.specs.declared.token.Token.{Token}
 use Rattle.scanner.specs.declared.refusal.Refusal.{Refusal}
 use Rattle.scanner.specs.declared.refusal.RefusalKind.{RefusalKind}
 use Rattle.scanner.specs.declared.refusal.RefusalKind.TheVariants.{Expected, Limit}
-use Rattle.syntax.specs.Lexeme.{Lexeme, Finish, lexeme_of}
+use Rattle.syntax.specs.Lexeme.{Lexeme, Finish}
 use Rattle.syntax.specs.Tree.{FactorTree, UnitTree}
+pub use Rattle.grammar.specs.Items.{Item, item_of, items_of}
 pub use Rattle.grammar.specs.Symbols.{Symbol, AWord, AMark, AWordAt, AnOpening, AName, ANumber, AFactor, AnIndex}
 pub use Rattle.grammar.specs.Symbols.{Multipliers, Summands, AComparison, Relations, Conjunctions, Arguments}
 pub use Rattle.grammar.specs.Symbols.{MoreArguments, ADottedName, AnInto, AValue, Statements, AnElse, AnAborted}
@@ -17,15 +17,18 @@ pub use Rattle.grammar.specs.Symbols.{MoreParameters, Procedures, MonitorProcedu
 pub use Rattle.grammar.specs.Symbols.{Trees, Reply, Push, Start, Skip, Reject, Beginning, Begins, NoFactor}
 pub use Rattle.grammar.specs.Codes.{word_code, sign_code}
 pub use Rattle.grammar.specs.ExpressionStack.{term, sum, relation, conjunction, expression, expression_rest, term_tree}
-pub use Rattle.grammar.specs.ExpressionStack.{sum_tree, relation_tree, conjunction_tree, expression_tree, Expressed}
-pub use Rattle.grammar.specs.ExpressionStack.{expression_in, behind_expression, RestExpressed, expression_from}
+pub use Rattle.grammar.specs.ExpressionStack.{sum_tree, relation_tree, conjunction_tree, expression_tree}
+pub use Rattle.grammar.specs.ExpressionStack.{ExpressionParts}
+pub use Rattle.grammar.specs.ExpressionStack.{expression_in, behind_expression, RestParts, expression_from}
 pub use Rattle.grammar.specs.ExpressionStack.{behind_rest}
 pub use Rattle.grammar.specs.ExpressionReplies.{reply_word, reply_mark, reply_word_at, reply_opening, reply_name}
-pub use Rattle.grammar.specs.ExpressionReplies.{reply_number, factor_begin, begun, reply_factor, reply_index, scales}
+pub use Rattle.grammar.specs.ExpressionReplies.{reply_number, factor_begin, factor_reply, reply_factor, reply_index}
+pub use Rattle.grammar.specs.ExpressionReplies.{scales}
 pub use Rattle.grammar.specs.ExpressionReplies.{reply_multipliers, adds, reply_summands, compares, reply_comparison}
 pub use Rattle.grammar.specs.ExpressionReplies.{reply_relations, reply_conjunctions}
-pub use Rattle.grammar.specs.StatementReplies.{started, reply_arguments, reply_more_arguments, reply_dotted, reply_into}
-pub use Rattle.grammar.specs.StatementReplies.{reply_value, callee, Called, callee_in, behind_callee, of_name}
+pub use Rattle.grammar.specs.StatementReplies.{reply_of_factor, reply_arguments, reply_more_arguments, reply_dotted}
+pub use Rattle.grammar.specs.StatementReplies.{reply_into}
+pub use Rattle.grammar.specs.StatementReplies.{reply_value, callee, CalleeParts, callee_in, behind_callee, of_name}
 pub use Rattle.grammar.specs.StatementReplies.{reply_statements, reply_else, reply_aborted}
 pub use Rattle.grammar.specs.DeclarationReplies.{reply_local_type, reply_member_type, reply_result_type, reply_returns}
 pub use Rattle.grammar.specs.DeclarationReplies.{reply_locals, reply_members, reply_parameters, reply_more_parameters}
@@ -52,15 +55,16 @@ split [] τ t = (tt, t)
 split (s ∷ σ) τ t = ((t.0, (split σ τ t.1).0), (split σ τ t.1).1)
 
 -- a factor and what follows it, before the trees of a stack
-abbrev pub led : {A : Type 0} → (τ σ : List Symbol) → (FactorTree → Trees τ → A) → FactorTree → Trees (τ ++ σ)
+abbrev pub head_and_rest : {A : Type 0} → (τ σ : List Symbol) → (FactorTree → Trees τ → A) → FactorTree
+    → Trees (τ ++ σ)
     → A × Trees σ
-led τ σ g f t = (g f (split τ σ t).0, (split τ σ t).1)
+head_and_rest τ σ g f t = (g f (split τ σ t).0, (split τ σ t).1)
 
 -- the step of a reply, with what the symbols below it make of the lexeme
 abbrev pub step_by : {A : Type 0} → (σ : List Symbol) → Reply A → Step (Trees σ) → Step (A × Trees σ)
 step_by σ (Push τ f) later = Onto (τ ++ σ) (λ t. (f (split τ σ t).0, (split τ σ t).1))
 step_by σ (Start ρ f τ g) later = Onto (ρ ++ (τ ++ σ))
-    (λ t. led τ σ g (f (split ρ (τ ++ σ) t).0) (split ρ (τ ++ σ) t).1)
+    (λ t. head_and_rest τ σ g (f (split ρ (τ ++ σ) t).0) (split ρ (τ ++ σ) t).1)
 step_by σ (Skip x) later = on_step (λ y. (x, y)) later
 step_by σ Reject later = Stuck
 
@@ -79,20 +83,6 @@ abbrev pub nestings : List Symbol → ℕ
 nestings [] = 0
 nestings (Closed ∷ σ) = nestings σ + 1
 nestings (_ ∷ σ) = nestings σ
-
--- a lexeme with its place
-pub record Item : Type 0 where
-  pub lexeme : Lexeme
-  pub place : Place
-
--- the item of a token
-abbrev pub item_of : Token → Item
-item_of t = record { lexeme = lexeme_of t; place = t.place }
-
--- the items of tokens
-abbrev pub items_of : List Token → List Item
-items_of [] = []
-items_of (t ∷ ts) = item_of t ∷ items_of ts
 
 -- what comes of a list of items: trees, or a refusal
 pub data Outcome (A : Type 0) : Type 0 where

@@ -12,6 +12,7 @@ abbrev pub lexeme_at : List Item → Lexeme
 lexeme_at [] = Finish
 lexeme_at (t ∷ ts) = t.lexeme
 
+-- the items behind the first one
 abbrev pub rest_after : List Item → List Item
 rest_after [] = []
 rest_after (t ∷ ts) = ts
@@ -23,13 +24,14 @@ pub record StartsFactor (k : Lexeme) : Type 0 where
   pub begins : factor_begin k ≡ Begins symbols make
 
 -- trees of one stack on those of another
-abbrev pub joined : (σ τ : List Symbol) → Trees σ → Trees τ → Trees (σ ++ τ)
-joined [] τ x y = y
-joined (s ∷ σ) τ x y = (x.0, joined σ τ x.1 y)
+abbrev pub append_trees : (σ τ : List Symbol) → Trees σ → Trees τ → Trees (σ ++ τ)
+append_trees [] τ x y = y
+append_trees (s ∷ σ) τ x y = (x.0, append_trees σ τ x.1 y)
 
 -- what stands first is read as these symbols, with these trees, whatever is expected behind it
 pub record Passes (depth : ℕ) (σ : List Symbol) (x : Trees σ) (before after : List Item) : Type 0 where
-  pub passes : (κ : List Symbol) → nestings κ ≡ depth → reads most_nestings before (σ ++ κ) ≡ on_read (joined σ κ x)
+  pub passes : (κ : List Symbol) → nestings κ ≡ depth → reads most_nestings before (σ ++ κ) ≡ on_read
+      (append_trees σ κ x)
       (reads most_nestings after κ)
 
 -- this is the refusal, whatever is expected behind these symbols
@@ -43,4 +45,4 @@ pub record Fails (depth : ℕ) (σ : List Symbol) (before : List Item) (e : Refu
 -- what was read so far leads from these symbols to those, whose trees make theirs
 pub record Leads (depth : ℕ) (σ ρ : List Symbol) (g : Trees ρ → Trees σ) (before after : List Item) : Type 0 where
   pub leads : (κ : List Symbol) → nestings κ ≡ depth → reads most_nestings before (σ ++ κ) ≡ on_read
-      (λ y. joined σ κ (g (split ρ κ y).0) (split ρ κ y).1) (reads most_nestings after (ρ ++ κ))
+      (λ y. append_trees σ κ (g (split ρ κ y).0) (split ρ κ y).1) (reads most_nestings after (ρ ++ κ))

@@ -15,13 +15,13 @@ use Rattle.grammar.specs.ExpressionStack.{expression_from, behind_rest}
 use Rattle.grammar.specs.ExpressionReplies.{factor_begin}
 
 -- an expression where a factor begins, or else nothing
-abbrev pub started : {A : Type 0} → Beginning → (τ : List Symbol) → (FactorTree → Trees τ → A) → A → Reply A
-started (Begins ρ f) τ g x = Start ρ f τ g
-started NoFactor τ g x = Skip x
+abbrev pub reply_of_factor : {A : Type 0} → Beginning → (τ : List Symbol) → (FactorTree → Trees τ → A) → A → Reply A
+reply_of_factor (Begins ρ f) τ g x = Start ρ f τ g
+reply_of_factor NoFactor τ g x = Skip x
 
 -- arguments
 abbrev pub reply_arguments : Lexeme → Reply (List ExpressionTree)
-reply_arguments k = started (factor_begin k) (expression_rest (MoreArguments ∷ []))
+reply_arguments k = reply_of_factor (factor_begin k) (expression_rest (MoreArguments ∷ []))
     (λ f t. expression_from f t ∷ (behind_rest t).0) []
 
 -- further arguments
@@ -42,22 +42,22 @@ reply_into _ = Skip None
 
 -- an expression, if one begins
 abbrev pub reply_value : Lexeme → Reply (Option ExpressionTree)
-reply_value k = started (factor_begin k) (expression_rest []) (λ f t. Some (expression_from f t)) None
+reply_value k = reply_of_factor (factor_begin k) (expression_rest []) (λ f t. Some (expression_from f t)) None
 
 -- a callee, before other symbols
 abbrev pub callee : List Symbol → List Symbol
 callee σ = AName ∷ ADottedName ∷ AnOpening ∷ Arguments ∷ AMark S.CloseParen ∷ σ
 
 -- what a callee is made of, with what is behind it
-abbrev pub Called : Type 0 → Type 0
-Called A = NameTree × (Option NameTree × (Place × (List ExpressionTree × (Unit {0} × A))))
+abbrev pub CalleeParts : Type 0 → Type 0
+CalleeParts A = NameTree × (Option NameTree × (Place × (List ExpressionTree × (Unit {0} × A))))
 
 -- the callee there
-abbrev pub callee_in : {A : Type 0} → Called A → CalleeTree
+abbrev pub callee_in : {A : Type 0} → CalleeParts A → CalleeTree
 callee_in t = record { name = t.0; dotted = t.1.0; open_place = t.1.1.0; arguments = t.1.1.1.0 }
 
 -- what is behind it
-abbrev pub behind_callee : {A : Type 0} → Called A → A
+abbrev pub behind_callee : {A : Type 0} → CalleeParts A → A
 behind_callee t = t.1.1.1.1.1
 
 -- a statement that takes a name alone

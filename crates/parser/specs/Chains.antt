@@ -2,6 +2,6 @@
 use Rattle.std.specs.Prelude.{List, [], ◌∷◌}
 
 -- elements put before a tree, the first one first
-abbrev pub chained : {X A : Type 0} → (X → A → A) → List X → A → A
-chained add [] later = later
-chained add (x ∷ xs) later = add x (chained add xs later)
+abbrev pub chain : {X A : Type 0} → (X → A → A) → List X → A → A
+chain add [] later = later
+chain add (x ∷ xs) later = add x (chain add xs later)

@@ -9,6 +9,7 @@ use Rattle.parser.specs.declared.start.StatementStart.{StatementStart}
 use Rattle.parser.specs.declared.start.StatementStart.TheVariants.{Assign, If, While, Call, Fork, Join, Return, Wait}
 use Rattle.parser.specs.declared.start.StatementStart.TheVariants.{Notify, Broadcast, Print, Abort}
 
+-- the lexeme that a statement starts with
 abbrev pub start_lexeme : StatementStart → Lexeme
 start_lexeme (Assign name) = Named (name_of name)
 start_lexeme (If place) = WordAt K.If place

@@ -22,15 +22,19 @@ abbrev pub ReadsNext : {X : Type 0} → ℕ → (s : Symbol) → (X → Tree s �
 ReadsNext depth s add empty (Some x) before after = Leads depth (s ∷ []) (s ∷ []) (λ y. (add x y.0, tt)) before after
 ReadsNext depth s add empty None before after = Passes depth (s ∷ []) (empty, tt) before after
 
+-- a local variable before others
 abbrev pub add_local : Local → List LocalTree → List LocalTree
 add_local l later = local_of l ∷ later
 
+-- a member before others
 abbrev pub add_member : Member → List MemberTree → List MemberTree
 add_member m later = member_of m ∷ later
 
+-- a parameter before others
 abbrev pub add_parameter : Parameter → List ParameterTree → List ParameterTree
 add_parameter p later = parameter_of p ∷ later
 
+-- a statement before others
 abbrev pub add_statement : Statement → StatementTrees → StatementTrees
 add_statement s later = Then (statement_of s) later
 
@@ -39,12 +43,15 @@ abbrev pub ReadsStatement : ℕ → Statement → List Item → List Item → Ty
 ReadsStatement depth s before after = Leads depth (Statements ∷ []) (Statements ∷ []) (λ y. (add_statement s y.0, tt))
     before after
 
+-- a procedure before others
 abbrev pub add_procedure : Procedure → List ProcedureTree → List ProcedureTree
 add_procedure p later = procedure_of p ∷ later
 
+-- a monitor's procedure before others
 abbrev pub add_monitor_procedure : MonitorProcedure → List MonitorProcedureTree → List MonitorProcedureTree
 add_monitor_procedure p later = monitor_procedure_of p ∷ later
 
+-- a monitor before others
 abbrev pub add_monitor : Monitor → List MonitorTree → List MonitorTree
 add_monitor m later = monitor_of m ∷ later
 
@@ -52,6 +59,7 @@ add_monitor m later = monitor_of m ∷ later
 abbrev pub body_trees : BodyTree → Trees (body [])
 body_trees b = (b.locals, (b.statements, (tt, tt)))
 
+-- the same of a procedure behind its first word
 abbrev pub procedure_trees : ProcedureTree → Trees (procedure [])
 procedure_trees p = (
   p.name,

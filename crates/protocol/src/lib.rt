@@ -9,6 +9,7 @@ ghost use Rattle.protocol.specs.Moves.{Move};
 ghost use Rattle.protocol.specs.Runs.{Leads, IsExplained};
 ghost use Rattle.protocol.specs.Requests.{request, Serves};
 ghost use Rattle.protocol.specs.Served.{IsMove};
+ghost use Rattle.protocol.specs.Memory.{StoresFollow};
 
 /// Each run of moves is explained by the source: the labels that it carries, in order, are allowed one after another, to a
 /// table that is that of the last world, in which no wake was lost.
@@ -21,4 +22,9 @@ pub fn no_wake_lost()
 pub fn every_step_is_a_move()
     ensures { (ss : List (ℕ × Move)) (w : World) → Leads opening_world ss w → (t : ℕ) (p : Point) (r : ℕ) (w' : World) →
         0 < t → t ≤ w.made → w.asleep t ≡ None → (w.at t).point ≡ p → Serves w t p (request t p) r w' → IsMove w t p r w' }
+{}
+
+/// A store into a flat memory that holds the words of a world is a write in the world: so the two go on to agree.
+pub fn memory_follows()
+    ensures { StoresFollow }
 {}

@@ -9,6 +9,7 @@ pub data Blank : Type 0 where
   White : (b : ℕ) → IsTrue (is_white b) → Blank
   Comment : (body : List ℕ) → IsTrue (list_all is_comment_byte body) → Blank
 
+-- the bytes of white space
 abbrev pub blank_text : Blank → List ℕ
 blank_text (White b _) = b ∷ []
 blank_text (Comment body _) = comment_mark ++ (body ++ 10 ∷ [])

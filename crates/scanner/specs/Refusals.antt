@@ -12,6 +12,7 @@ use Rattle.scanner.specs.Places.{start}
 abbrev pub out_of_memory : Refusal
 out_of_memory = record { kind = Memory; place = start }
 
+-- the number that a message shows
 abbrev pub number_of : RefusalKind → ℕ
 number_of NotAscii = 1
 number_of BadToken = 2
@@ -26,6 +27,7 @@ number_of Limit = 10
 number_of Memory = 11
 number_of StrayPiece = 12
 
+-- the name that a message shows
 abbrev pub name_of : RefusalKind → List ℕ
 name_of NotAscii = codes "NotAscii"
 name_of BadToken = codes "BadToken"

@@ -36,6 +36,7 @@ pub record PlacesFit (p : Place) (bytes : List ℕ) : Type 0 where
   pub lines : p.line + length bytes < 2 ^ 32
   pub columns : p.column + length bytes < 2 ^ 32
 
+-- the places of what is left of a text can be counted
 abbrev pub SourceFits : Source → Type 0
 SourceFits s = PlacesFit s.place s.rest.now
 
@@ -55,6 +56,7 @@ pub record PassesGap (p : Place) (old : List ℕ) (q : Place) (new : List ℕ) :
   pub passes : Passes p old gap q new
   pub is_gap : IsGap gap ⊎ (IsLastGap gap × (new ≡ []))
 
+-- a gap was passed, up to the next token or to the end
 abbrev pub SkipsGap : Source → Source → Type 0
 SkipsGap old new = PassesGap old.place old.rest.now new.place new.rest.now
 
@@ -65,6 +67,7 @@ pub record PassesToken (p : Place) (old : List ℕ) (t : TokenView) (q : Place) 
   pub spells : Spells t.kind t.text
   pub longest : IsLongest t.text new
 
+-- a token was passed
 abbrev pub TakesToken : Source → Token → Source → Type 0
 TakesToken old t new = PassesToken old.place old.rest.now (view t) new.place new.rest.now
 

@@ -15,9 +15,11 @@ pub record TokenView : Type 0 where
   pub text : List ℕ
   pub place : Place
 
+-- what a token says
 abbrev pub view : Token → TokenView
 view t = record { kind = t.kind; text = t.text.now; place = t.place }
 
+-- what tokens say
 abbrev pub views : List Token → List TokenView
 views ts = map view ts
 

@@ -1,10 +1,12 @@
 -- Positions in a body, one over the other.
-use Rattle.std.proofs.Common.{◌≡◌, Option, None, ℕ, zero, suc, ◌+◌, ◌<◌, ℤ, pos, List, [], ◌∷◌, ◌++◌, length, take, refl, ap, sym, ◌∙◌, arith, append_assoc, add-one}
+use Rattle.std.proofs.Common.{◌≡◌, Option, Some, None, ◌-◌, ◌≤◌, get_or, ℕ, zero, suc, ◌+◌, ◌<◌, ℤ, pos, List, [], ◌∷◌, ◌++◌, length, take, refl, ap, sym, ◌∙◌, arith, append_assoc, add-one}
 use Rattle.program.specs.declared.kinds.ValueType.{ValueType}
 use Rattle.meaning.specs.Processes.{zeros}
-use Rattle.program.specs.Trees.{Done}
+use Rattle.program.specs.Scope.{recover_of}
+use Rattle.program.specs.Trees.{Done, Program}
+use Rattle.sourceruns.proofs.Rests.{last_split}
 use Rattle.program.specs.declared.kinds.Role.TheVariants.{Recover}
-use Rattle.meaning.specs.Processes.{Frame, Caller, Process, Before, goes_on, goes_on_by, hands_over, with_result}
+use Rattle.meaning.specs.Processes.{Frame, Caller, Process, Before, goes_on, goes_on_by, hands_over, with_result, opening_frame, recovers, recovers_by, callers_monitors, monitor_of_role}
 use Rattle.sourceruns.specs.declared.frame.Frame.{Frame as FrameOf}
 use Rattle.sourceruns.specs.Frames.{frame_of, caller_of, callers_from, callers_of}
 
@@ -40,3 +42,33 @@ pub zeros-more : (before after arguments : List ℤ) (ts : List ValueType) (k : 
 zeros-more before after arguments ts k b a l =
     a ∙ ap (λ zs. zs ++ pos 0 ∷ []) b ∙ append_assoc arguments (zeros (take k ts)) (pos 0 ∷ [])
     ∙ ap (λ zs. arguments ++ zs) (sym (zeros-suc ts k l) ∙ ap (λ n. zeros (take n ts)) (sym (add-one k)))
+
+-- the monitors of procedures are those of the last one and of the others
+pub monitors_last : (old added all : List ℕ) (fs : List FrameOf) (top : FrameOf) → 1 ≤ length fs
+    → top ≡ get_or fs (length fs - 1) top
+    → ((more : List ℕ) → added ++ more ≡ old ++ monitor_of_role top.role more)
+    → all ≡ added ++ callers_monitors (callers_of (take (length fs - 1) fs))
+    → all ≡ old ++ callers_monitors (callers_of fs)
+monitors_last old added all fs top l e add is =
+    is ∙ add (callers_monitors (callers_of (take (length fs - 1) fs)))
+    ∙ ap (λ cs. old ++ callers_monitors cs)
+    (sym (ap callers_of (last_split fs top l e) ∙ callers-more (take (length fs - 1) fs) top []))
+
+-- the RECOVER part comes before what is left
+pub recovering : (p : Program) (m part : ℕ) (x : Process) (f f' g : FrameOf) (fs gs : List FrameOf)
+    (arguments : List ℤ)
+    → recover_of p m ≡ Some part → x ≡ goes_on (Some m) (frame_of g) (callers_of gs)
+    → frame_of g ≡ opening_frame p part arguments → arguments ≡ [] → f' ≡ f
+    → gs ≡ fs ++ record f' { into = None } ∷ []
+    → x ≡ recovers p m (frame_of f) (callers_of fs)
+recovering p m part x f f' g fs gs arguments rec is opens none same pushed =
+    is
+    ∙ (λ i. goes_on (Some m) (opened i) (called i))
+    ∙ sym (ap (λ r. recovers_by p r m (frame_of f) (callers_of fs)) rec)
+  where
+    opened : frame_of g ≡ opening_frame p part []
+    opened = opens ∙ ap (opening_frame p part) none
+
+    called : callers_of gs ≡ record { into = None; frame = frame_of f } ∷ callers_of fs
+    called = ap callers_of pushed ∙ callers-more fs (record f' { into = None }) []
+        ∙ ap (λ (h : FrameOf). record { into = None; frame = frame_of h } ∷ callers_of fs) same

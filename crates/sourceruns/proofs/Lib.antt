@@ -2,3 +2,4 @@ pub mod Stores
 pub mod Rests
 pub mod Frames
 pub mod Arguments
+pub mod Stages

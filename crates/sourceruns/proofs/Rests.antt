@@ -2,8 +2,8 @@
 use Rattle.std.proofs.Common.{◌≡◌, Bor, ◌+◌, ◌-◌, ◌<◌, ◌≤◌, List, [], ◌∷◌, ◌++◌, length, take, drop, get_or, Some, refl, ap, sym, ◌∙◌, arith}
 use Rattle.std.proofs.lemmas.List.{take_all, take_more}
 use Rattle.program.specs.declared.statement.Statement.{Statement as StatementOf}
-use Rattle.program.specs.Trees.{Block, Done, Then}
-use Rattle.program.specs.Views.{block_before, statement_of}
+use Rattle.program.specs.Trees.{Block, Done, Then, followed_by}
+use Rattle.program.specs.Views.{block_before, block_in, statement_of}
 use Rattle.sourceruns.specs.Rests.{stacked, rest_in, IsTaken}
 
 -- a position more
@@ -20,7 +20,7 @@ pub first_split : {A : Type 0} (xs : List A) (x : A) → 1 ≤ length xs → x �
 first_split [] x l e = absurd (omega (arith, l))
 first_split (y ∷ ys) x l e = ap (λ z. z ∷ ys) (sym e)
 
-last_split : {A : Type 0} (xs : List A) (x : A) → 1 ≤ length xs → x ≡ get_or xs (length xs - 1) x
+pub last_split : {A : Type 0} (xs : List A) (x : A) → 1 ≤ length xs → x ≡ get_or xs (length xs - 1) x
     → xs ≡ take (length xs - 1) xs ++ x ∷ []
 last_split xs x l e =
     let all : length xs ≡ length xs - 1 + 1 = omega (arith, l) in
@@ -43,3 +43,9 @@ pub taken : (before after below : Block) (ss : List StatementOf) → 1 ≤ lengt
     → after ≡ block_before (drop 1 ss) below → IsTaken (Some ss) before after
 taken before after below [] l b a = absurd (omega (arith, l))
 taken before after below (s ∷ ss) l b a = b ∙ sym (ap (Then (statement_of s)) a)
+
+-- the statements of a block, before others
+pub followed_by-block : (ss : List StatementOf) (later : Block)
+    → followed_by (block_in ss) later ≡ block_before ss later
+followed_by-block [] later = refl
+followed_by-block (s ∷ ss) later = ap (Then (statement_of s)) (followed_by-block ss later)

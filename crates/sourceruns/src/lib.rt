@@ -3,6 +3,7 @@
 
 mod evaluation;
 mod frame;
+mod monitors;
 mod operators;
 mod process;
 mod rest;
@@ -10,6 +11,7 @@ mod variables;
 
 pub use evaluation::{array_size, element, evaluate, evaluate_all};
 pub use frame::Frame;
+pub use monitors::{add_monitor, add_monitors, recover_part};
 pub use operators::{both, unary};
 pub use process::{Cause, End, Process, Stage};
 pub use rest::{take_first, upcoming};

@@ -1,11 +1,14 @@
 ghost use Rattle.std.specs.Prelude.{◌≡◌, None, OnOk, Some};
 ghost use Rattle.program.specs.Views.{program_of};
-ghost use Rattle.meaning.specs.Processes.{begins, goes_on, hands_over, recovers};
+ghost use Rattle.meaning.specs.Offers.{joined};
+ghost use Rattle.meaning.specs.Processes.{Dying, all_monitors, begins, goes_on, hands_over, recovers};
 
 use crate::frame::Frame;
+use crate::monitors::{add_monitor, add_monitors, recover_part};
 use crate::rest::upcoming;
 use program::{Member, Program, Role, Statement};
 use std::alloc::{AllocError, Global};
+use std::mem;
 use words::Fault;
 
 /// Why a process aborts.
@@ -69,7 +72,7 @@ pub struct Process<'a> {
 
 impl<'a> Process<'a> {
     ghost use Rattle.sourceruns.specs.Frames.{callers_of, frame_of};
-    ghost use Rattle.sourceruns.specs.Stages.{process_of};
+    ghost use Rattle.sourceruns.specs.Stages.{cause_of, end_of, part_at, process_of};
 
     /// Goes on before the next statement.
     pub fn go_on(&mut self, entered: Option<u32>)
@@ -110,5 +113,63 @@ impl<'a> Process<'a> {
                 self.go_on(None);
             }
         }
+    }
+
+    /// An abandoned monitor was taken: its RECOVER part comes next, or without one a fault.
+    pub fn recover(
+        &mut self,
+        alloc: Global,
+        program: &'a Program,
+        monitor: u32,
+    ) -> Result<(), AllocError>
+        ensures { OnOk result (process_of self.new ≡ recovers (program_of program.now) monitor
+            (frame_of self.old.frame) (callers_of self.old.callers.items)) }
+    {
+        let Some(part) = recover_part(program, monitor) else {
+            self.stage = Stage::Failing(Fault::AbandonedMonitor, Some(monitor));
+            return Ok(());
+        };
+        let frame = Frame::new(alloc, program, part, Vec::new(alloc))?;
+        let mut interrupted = mem::replace(&mut self.frame, frame);
+        interrupted.into = None;
+        self.callers.push(interrupted)?;
+        self.go_on(Some(monitor));
+        Ok(())
+    }
+
+    /// What comes of a JOIN: the result, or the ABORTED part, or a fault where there is none.
+    pub fn join(
+        &mut self,
+        into: Option<u32>,
+        aborted: Option<&'a [Statement]>,
+        end: End,
+    ) -> Result<(), AllocError>
+        ensures { OnOk result (process_of self.new ≡ joined into (part_at aborted.entry)
+            (frame_of self.old.frame) (callers_of self.old.callers.items) (end_of end)) }
+    {
+        match (end, aborted) {
+            (End::Ended(value), _) => {
+                self.frame.put(into, value);
+                self.go_on(None);
+            }
+            (End::Aborted(_), None) => self.stage = Stage::Failing(Fault::JoinedAborted, None),
+            (End::Aborted(_), Some(block)) => {
+                self.frame.rest.push(block)?;
+                self.go_on(None);
+            }
+        }
+        Ok(())
+    }
+
+    /// Begins to die, with the monitors that its procedures hold, innermost first.
+    pub fn die(&mut self, alloc: Global, cause: Cause) -> Result<(), AllocError>
+        ensures { OnOk result (process_of self.new ≡ Dying (cause_of cause)
+            (all_monitors (frame_of self.old.frame) (callers_of self.old.callers.items))) }
+    {
+        let mut monitors = Vec::new(alloc);
+        add_monitor(&mut monitors, self.frame.role)?;
+        add_monitors(&mut monitors, self.callers.as_slice())?;
+        self.stage = Stage::Dying(cause, monitors);
+        Ok(())
     }
 }

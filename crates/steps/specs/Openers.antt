@@ -20,18 +20,22 @@ abbrev pub product_reply : Option ProductOperator → Reply MultiplierTrees
 product_reply (Some op) = scales op
 product_reply None = Skip NoMultipliers
 
+-- the same of a sum, where the sign has this place
 abbrev pub sum_signed : Option SumOperator → Place → Reply SummandTrees
 sum_signed (Some op) place = adds op place
 sum_signed None place = Skip NoSummands
 
+-- the same of a sum, with the place of the sign
 abbrev pub sum_reply : Option (SumOperator × Place) → Reply SummandTrees
 sum_reply (Some p) = adds p.0 p.1
 sum_reply None = Skip NoSummands
 
+-- the same of a comparison
 abbrev pub comparison_reply : Option Comparator → Reply ComparisonTree
 comparison_reply (Some op) = compares op
 comparison_reply None = Skip NoComparison
 
+-- the lexeme that a factor starts with
 abbrev pub start_lexeme : FactorStart → List ℕ → Place → Lexeme
 start_lexeme (Number value) text place = Numbered (record { value = value; place = place })
 start_lexeme (Truth value) text place = bool_lexeme value place

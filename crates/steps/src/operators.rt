@@ -10,14 +10,20 @@ use crate::parser::Parser;
 use scanner::{Keyword, Kind, Place, Sign};
 use syntax::{Comparator, ProductOperator, SumOperator};
 
-// What a factor starts with.
+/// What a factor starts with.
 #[derive(Clone, Copy)]
 pub enum FactorStart {
+    /// A number, with its value.
     Number(u32),
+    /// `TRUE` or `FALSE`.
     Truth(bool),
+    /// A name.
     Name,
+    /// `(`
     Paren,
+    /// `-`
     Minus,
+    /// `NOT`
     Not,
 }
 
@@ -62,7 +68,7 @@ fn comparison(kind: Kind) -> Option<Comparator>
     }
 }
 
-// What a factor starts with at a token, if one does.
+/// What a factor starts with at a token, if one does.
 pub fn start_of(kind: Kind) -> Option<FactorStart>
     ensures { (text : List ℕ) (place : PlaceOf) → Starts result text place (lexeme kind text place) }
 {
@@ -97,7 +103,7 @@ fn is_relation(kind: Kind) -> bool
 }
 
 impl<'a> Parser<'_, 'a> {
-    // The operator between factors that stands first.
+    /// The operator between factors that stands first.
     pub fn product_sign(&self) -> Option<ProductOperator>
         ensures reply { reply_multipliers (lexeme_at (ahead self.now)) ≡ product_reply result }
         ensures some { IfSome result (λ _. 0 < length (ahead self.now)) }
@@ -105,7 +111,7 @@ impl<'a> Parser<'_, 'a> {
         product_operator(self.peek().kind)
     }
 
-    // The operator between terms that stands first, and its place.
+    /// The operator between terms that stands first, and its place.
     pub fn sum_sign(&self) -> Option<(SumOperator, Place)>
         ensures reply { reply_summands (lexeme_at (ahead self.now)) ≡ sum_reply result }
         ensures some { IfSome result (λ _. 0 < length (ahead self.now)) }
@@ -115,14 +121,14 @@ impl<'a> Parser<'_, 'a> {
         Some((operator, token.place))
     }
 
-    // Whether what stands first stands between sums, relations or conjunctions.
+    /// Whether what stands first stands between sums, relations or conjunctions.
     pub fn relates(&self) -> bool
         ensures { result ≡ false → EndsExpression (lexeme_at (ahead self.now)) }
     {
         is_relation(self.peek().kind)
     }
 
-    // The comparison that stands first.
+    /// The comparison that stands first.
     pub fn comparator(&self) -> Option<Comparator>
         ensures reply { reply_comparison (lexeme_at (ahead self.now)) ≡ comparison_reply result }
         ensures some { IfSome result (λ _. 0 < length (ahead self.now)) }
@@ -130,7 +136,7 @@ impl<'a> Parser<'_, 'a> {
         comparison(self.peek().kind)
     }
 
-    // Whether a factor starts with what stands first.
+    /// Whether a factor starts with what stands first.
     pub fn starts_factor(&self) -> bool
         ensures yes { result ≡ true → StartsFactor (lexeme_at (ahead self.now)) }
         ensures no { result ≡ false → factor_begin (lexeme_at (ahead self.now)) ≡ NoFactor }

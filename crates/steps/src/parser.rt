@@ -13,6 +13,9 @@ use std::alloc::Global;
 use syntax::MOST_NESTINGS;
 
 /// The tokens that are still to come, and the memory that trees are made in.
+///
+/// A step that refuses what stands first passes nothing. What is read by several steps is passed up to the refused
+/// token, and the parser is of no further use then.
 #[derive(Drop)]
 pub struct Parser<'t, 'a> {
     /// Where the trees are made.

@@ -18,6 +18,7 @@ pub record NameTree : Type 0 where
   pub text : List ℕ
   pub place : Place
 
+-- what a tree says of a token
 pub data Lexeme : Type 0 where
   -- a keyword or a sign whose place no tree keeps, and one whose place trees keep
   Word : Keyword → Lexeme
@@ -59,6 +60,7 @@ sign_lexeme Plus place = MarkAt Plus place
 sign_lexeme Minus place = MarkAt Minus place
 sign_lexeme sign place = Mark sign
 
+-- what is said of a token of this kind, with these bytes, at this place
 abbrev pub lexeme : Kind → List ℕ → Place → Lexeme
 lexeme (AKeyword word) text place = keyword_lexeme word place
 lexeme (ASign sign) text place = sign_lexeme sign place
@@ -66,9 +68,11 @@ lexeme AName text place = Named (record { text = text; place = place })
 lexeme (ANumber n) text place = Numbered (record { value = n; place = place })
 lexeme TheEnd text place = Finish
 
+-- what is said of a token
 abbrev pub lexeme_of : Token → Lexeme
 lexeme_of t = lexeme t.kind t.text.now t.place
 
+-- what is said of tokens
 abbrev pub lexemes : List Token → List Lexeme
 lexemes [] = []
 lexemes (t ∷ ts) = lexeme_of t ∷ lexemes ts

@@ -1,5 +1,6 @@
 pub mod Limits
 pub mod Lexeme
+pub mod ExpressionTrees
 pub mod Tree
 pub mod ExpressionSpelling
 pub mod StatementSpelling

@@ -10,6 +10,7 @@ use Rattle.syntax.specs.Tree.{Return, Wait, Notify, Broadcast, Print, Abort, Sta
 use Rattle.syntax.specs.Tree.{PartTree, NoPart, Part, ProcedureTree, MonitorProcedureTree, RecoverTree, MonitorTree}
 use Rattle.syntax.specs.Tree.{UnitTree}
 
+-- in an expression, and in all that it is made of
 abbrev mutual
   pub expression_nesting : ExpressionTree → ℕ
   expression_nesting (AnyOf c cs) = max (conjunction_nesting c) (conjunctions_nesting cs)
@@ -58,14 +59,17 @@ abbrev mutual
   index_nesting NoIndex = 0
   index_nesting (At e) = expression_nesting e + 1
 
+-- in arguments
 abbrev pub arguments_nesting : List ExpressionTree → ℕ
 arguments_nesting [] = 0
 arguments_nesting (e ∷ es) = max (expression_nesting e) (arguments_nesting es)
 
+-- in an expression that may be left out
 abbrev pub value_nesting : Option ExpressionTree → ℕ
 value_nesting None = 0
 value_nesting (Some e) = expression_nesting e
 
+-- in a statement, and in the parts that hold others
 abbrev mutual
   pub statement_nesting : StatementTree → ℕ
   statement_nesting (Assign v e) = max (index_nesting v.index) (expression_nesting e)
@@ -95,24 +99,29 @@ abbrev mutual
   aborted_nesting NoPart = 0
   aborted_nesting (Part ss) = statements_nesting ss + 1
 
+-- in procedures
 abbrev pub procedures_nesting : List ProcedureTree → ℕ
 procedures_nesting [] = 0
 procedures_nesting (p ∷ ps) = max (statements_nesting p.body.statements) (procedures_nesting ps)
 
+-- in a monitor's procedures
 abbrev pub monitor_procedures_nesting : List MonitorProcedureTree → ℕ
 monitor_procedures_nesting [] = 0
 monitor_procedures_nesting (p ∷ ps) = max (statements_nesting p.procedure.body.statements)
     (monitor_procedures_nesting ps)
 
+-- in a recover part that may be left out
 abbrev pub recover_nesting : Option RecoverTree → ℕ
 recover_nesting None = 0
 recover_nesting (Some r) = statements_nesting r.body.statements
 
+-- in monitors
 abbrev pub monitors_nesting : List MonitorTree → ℕ
 monitors_nesting [] = 0
 monitors_nesting (m ∷ ms) = max (max (monitor_procedures_nesting m.procedures) (recover_nesting m.recover))
     (monitors_nesting ms)
 
+-- in a unit
 abbrev pub unit_nesting : UnitTree → ℕ
 unit_nesting u = max (monitors_nesting u.monitors)
     (max (procedures_nesting u.procedures) (statements_nesting u.body.statements))

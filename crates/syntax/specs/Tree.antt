@@ -1,70 +1,19 @@
 -- The trees of the grammar, without pointers.
 use Rattle.std.specs.Prelude.{List, Option}
 use Rattle.scanner.specs.declared.token.Place.{Place}
-use Rattle.syntax.specs.declared.leaf.Number.{Number}
-use Rattle.syntax.specs.declared.leaf.Truth.{Truth}
-use Rattle.syntax.specs.declared.expression.Comparator.{Comparator}
-use Rattle.syntax.specs.declared.expression.SumOperator.{SumOperator}
-use Rattle.syntax.specs.declared.expression.ProductOperator.{ProductOperator}
 use Rattle.syntax.specs.declared.declaration.LocalType.{LocalType}
 use Rattle.syntax.specs.declared.declaration.MemberType.{MemberType}
 use Rattle.syntax.specs.declared.declaration.ResultType.{ResultType}
 use Rattle.syntax.specs.declared.declaration.Access.{Access}
 use Rattle.syntax.specs.Lexeme.{NameTree}
+pub use Rattle.syntax.specs.ExpressionTrees.{ExpressionTree, AnyOf, ConjunctionTrees, NoConjunctions, OrElse}
+pub use Rattle.syntax.specs.ExpressionTrees.{ConjunctionTree, AllOf, RelationTrees, NoRelations, AndAlso}
+pub use Rattle.syntax.specs.ExpressionTrees.{RelationTree, Relates, ComparisonTree, NoComparison, Compares, SumTree}
+pub use Rattle.syntax.specs.ExpressionTrees.{Total, SummandTrees, NoSummands, Adds, TermTree, Product}
+pub use Rattle.syntax.specs.ExpressionTrees.{MultiplierTrees, NoMultipliers, Scales, FactorTree, Constant, Truthful}
+pub use Rattle.syntax.specs.ExpressionTrees.{Reads, Group, Minus, Not, IndexTree, NoIndex, At}
 
-mutual
-  pub data ExpressionTree : Type 0 where
-    AnyOf : ConjunctionTree → ConjunctionTrees → ExpressionTree
-
-  -- further conjunctions, each after an OR
-  pub data ConjunctionTrees : Type 0 where
-    NoConjunctions : ConjunctionTrees
-    OrElse : ConjunctionTree → ConjunctionTrees → ConjunctionTrees
-
-  pub data ConjunctionTree : Type 0 where
-    AllOf : RelationTree → RelationTrees → ConjunctionTree
-
-  -- further relations, each after an AND
-  pub data RelationTrees : Type 0 where
-    NoRelations : RelationTrees
-    AndAlso : RelationTree → RelationTrees → RelationTrees
-
-  pub data RelationTree : Type 0 where
-    Relates : SumTree → ComparisonTree → RelationTree
-
-  pub data ComparisonTree : Type 0 where
-    NoComparison : ComparisonTree
-    Compares : Comparator → SumTree → ComparisonTree
-
-  pub data SumTree : Type 0 where
-    Total : TermTree → SummandTrees → SumTree
-
-  -- further terms, each after its sign at a place
-  pub data SummandTrees : Type 0 where
-    NoSummands : SummandTrees
-    Adds : SumOperator → Place → TermTree → SummandTrees → SummandTrees
-
-  pub data TermTree : Type 0 where
-    Product : FactorTree → MultiplierTrees → TermTree
-
-  -- further factors, each after its operator
-  pub data MultiplierTrees : Type 0 where
-    NoMultipliers : MultiplierTrees
-    Scales : ProductOperator → FactorTree → MultiplierTrees → MultiplierTrees
-
-  pub data FactorTree : Type 0 where
-    Constant : Number → FactorTree
-    Truthful : Truth → FactorTree
-    Reads : NameTree → IndexTree → FactorTree
-    Group : Place → ExpressionTree → FactorTree
-    Minus : Place → FactorTree → FactorTree
-    Not : Place → FactorTree → FactorTree
-
-  -- the index behind a name
-  pub data IndexTree : Type 0 where
-    NoIndex : IndexTree
-    At : ExpressionTree → IndexTree
-
+-- what is assigned to
 pub record VariableTree : Type 0 where
   pub name : NameTree
   pub index : IndexTree
@@ -76,6 +25,7 @@ pub record CalleeTree : Type 0 where
   pub open_place : Place
   pub arguments : List ExpressionTree
 
+-- a statement, and the parts that hold others
 mutual
   pub data StatementTree : Type 0 where
     Assign : VariableTree → ExpressionTree → StatementTree
@@ -100,24 +50,29 @@ mutual
     NoPart : PartTree
     Part : StatementTrees → PartTree
 
+-- a local variable
 pub record LocalTree : Type 0 where
   pub place : Place
   pub name : NameTree
   pub kind : LocalType
 
+-- a parameter
 pub record ParameterTree : Type 0 where
   pub name : NameTree
   pub kind : LocalType
 
+-- a member of a monitor
 pub record MemberTree : Type 0 where
   pub place : Place
   pub name : NameTree
   pub kind : MemberType
 
+-- local variables and statements
 pub record BodyTree : Type 0 where
   pub locals : List LocalTree
   pub statements : StatementTrees
 
+-- a procedure
 pub record ProcedureTree : Type 0 where
   pub place : Place
   pub name : NameTree
@@ -126,14 +81,17 @@ pub record ProcedureTree : Type 0 where
   pub returns : Option ResultType
   pub body : BodyTree
 
+-- a procedure of a monitor
 pub record MonitorProcedureTree : Type 0 where
   pub access : Access
   pub procedure : ProcedureTree
 
+-- a recover part
 pub record RecoverTree : Type 0 where
   pub place : Place
   pub body : BodyTree
 
+-- a monitor
 pub record MonitorTree : Type 0 where
   pub place : Place
   pub name : NameTree
@@ -141,6 +99,7 @@ pub record MonitorTree : Type 0 where
   pub procedures : List MonitorProcedureTree
   pub recover : Option RecoverTree
 
+-- a whole program
 pub record UnitTree : Type 0 where
   pub name : NameTree
   pub monitors : List MonitorTree

@@ -13,12 +13,14 @@ use Rattle.syntax.specs.declared.declaration.Main.{Main}
 use Rattle.syntax.specs.Tree.{LocalTree, ParameterTree, MemberTree, BodyTree, ProcedureTree, MonitorProcedureTree}
 use Rattle.syntax.specs.Tree.{RecoverTree, MonitorTree, UnitTree}
 pub use Rattle.syntax.specs.ExpressionView.{name_of, lone_term, lone_sum, lone_relation, lone_conjunction}
-pub use Rattle.syntax.specs.ExpressionView.{lone_expression, expression_of, conjunctions_of, conjunction_of, relations_of}
+pub use Rattle.syntax.specs.ExpressionView.{lone_expression, expression_of, conjunctions_of, conjunction_of}
+pub use Rattle.syntax.specs.ExpressionView.{relations_of}
 pub use Rattle.syntax.specs.ExpressionView.{relation_of, sum_of, total_of, summands_of, term_of, product_of}
 pub use Rattle.syntax.specs.ExpressionView.{multipliers_of, factor_of, variable_of, option_name, option_expression}
 pub use Rattle.syntax.specs.StatementView.{first_name, dotted_name, callee_of, statement_of, statements_of, part_of}
 pub use Rattle.syntax.specs.VecView.{conjunctions_before, conjunctions_in, relations_before, relations_in}
-pub use Rattle.syntax.specs.VecView.{summands_before, summands_in, multipliers_before, multipliers_in, statements_before}
+pub use Rattle.syntax.specs.VecView.{summands_before, summands_in, multipliers_before, multipliers_in}
+pub use Rattle.syntax.specs.VecView.{statements_before}
 pub use Rattle.syntax.specs.VecView.{statements_in, part_in}
 
 -- a local variable

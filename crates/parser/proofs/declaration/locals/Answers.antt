@@ -1,7 +1,7 @@
 use Rattle.std.proofs.Common.{[], arith}
 use Rattle.syntax.specs.View.{local_of}
 use Rattle.parser.specs.Steps.{add_local}
-use Rattle.parser.proofs.Loops.{goes_on, ends, chained_map}
+use Rattle.parser.proofs.Loops.{goes_on, ends, chain_map}
 use Rattle.parser.proofs.declaration.locals.Goals as goal
 
 pub locals-preserved : goal.locals-preserved
@@ -13,6 +13,6 @@ locals-preserved c = record {
 
 pub returns-clause-ok : goal.returns-clause-ok
 returns-clause-ok c =
-    rw (← (chained_map local_of c.locals.locals.items))
+    rw (← (chain_map local_of c.locals.locals.items))
     (ends (λ x. (x, tt)) add_local c.locals.locals.items [] _ _ _ c.locals.invariant.read
     (rw c.in_default.is at c.in_ok-local.ensures.ok))

@@ -1,7 +1,7 @@
 use Rattle.std.proofs.Common.{[], arith}
 use Rattle.syntax.specs.View.{member_of}
 use Rattle.parser.specs.Steps.{add_member}
-use Rattle.parser.proofs.Loops.{goes_on, ends, chained_map}
+use Rattle.parser.proofs.Loops.{goes_on, ends, chain_map}
 use Rattle.parser.proofs.declaration.members.Goals as goal
 
 pub members-preserved : goal.members-preserved
@@ -13,6 +13,6 @@ members-preserved c = record {
 
 pub returns-clause-ok : goal.returns-clause-ok
 returns-clause-ok c =
-    rw (← (chained_map member_of c.members.members.items))
+    rw (← (chain_map member_of c.members.members.items))
     (ends (λ x. (x, tt)) add_member c.members.members.items [] _ _ _ c.members.invariant.read
     (rw c.in_default.is at c.in_ok-member.ensures.ok))

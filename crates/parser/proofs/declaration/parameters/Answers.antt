@@ -7,7 +7,7 @@ use Rattle.steps.specs.Ahead.{ahead}
 use Rattle.parser.proofs.Skips.{named_parameters}
 use Rattle.syntax.specs.View.{parameter_of}
 use Rattle.parser.specs.Steps.{add_parameter}
-use Rattle.parser.proofs.Loops.{goes_on, ends, chained_map}
+use Rattle.parser.proofs.Loops.{goes_on, ends, chain_map}
 use Rattle.parser.proofs.declaration.parameters.Goals as goal
 
 pub parameters-preserved : goal.parameters-preserved
@@ -19,7 +19,7 @@ parameters-preserved c = record {
 
 pub returns-clause-ok : goal.returns-clause-ok
 returns-clause-ok c =
-    rw (← (chained_map parameter_of c.parameters.parameters.items))
+    rw (← (chain_map parameter_of c.parameters.parameters.items))
     (ends (λ x. (x, tt)) add_parameter c.parameters.parameters.items [] _ _ _ c.parameters.invariant.read
     (rw c.in_default.is at c.in_ok-next.ensures.ok))
 

@@ -1,7 +1,7 @@
 use Rattle.std.proofs.Common.{[], arith}
 use Rattle.syntax.specs.View.{monitor_of}
 use Rattle.parser.specs.Steps.{add_monitor}
-use Rattle.parser.proofs.Loops.{goes_on, ends, chained_map}
+use Rattle.parser.proofs.Loops.{goes_on, ends, chain_map}
 use Rattle.parser.proofs.monitor.monitors.Goals as goal
 
 pub monitors-preserved : goal.monitors-preserved
@@ -13,6 +13,6 @@ monitors-preserved c = record {
 
 pub returns-clause-ok : goal.returns-clause-ok
 returns-clause-ok c =
-    rw (← (chained_map monitor_of c.monitors.monitors.items))
+    rw (← (chain_map monitor_of c.monitors.monitors.items))
     (ends (λ x. (x, tt)) add_monitor c.monitors.monitors.items [] _ _ _ c.monitors.invariant.read
     (rw c.in_default.is at c.in_ok-monitor.ensures.ok))

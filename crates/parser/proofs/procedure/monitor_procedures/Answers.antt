@@ -1,7 +1,7 @@
 use Rattle.std.proofs.Common.{[], arith}
 use Rattle.syntax.specs.View.{monitor_procedure_of}
 use Rattle.parser.specs.Steps.{add_monitor_procedure}
-use Rattle.parser.proofs.Loops.{goes_on, ends, chained_map}
+use Rattle.parser.proofs.Loops.{goes_on, ends, chain_map}
 use Rattle.parser.proofs.procedure.monitor_procedures.Goals as goal
 
 pub procedures-preserved : goal.procedures-preserved
@@ -13,6 +13,6 @@ procedures-preserved c = record {
 
 pub returns-clause-ok : goal.returns-clause-ok
 returns-clause-ok c =
-    rw (← (chained_map monitor_procedure_of c.procedures.procedures.items))
+    rw (← (chain_map monitor_procedure_of c.procedures.procedures.items))
     (ends (λ x. (x, tt)) add_monitor_procedure c.procedures.procedures.items [] _ _ _ c.procedures.invariant.read
     (rw c.in_default.is at c.in_ok-procedure.ensures.ok))

@@ -2,13 +2,13 @@ use Rattle.std.proofs.Common.{◌≤◌, [], ◌∷◌, length}
 use Rattle.grammar.specs.Machine.{Procedures}
 use Rattle.grammar.specs.Reading.{Leads}
 use Rattle.steps.specs.Ahead.{ahead}
-use Rattle.parser.specs.Chains.{chained}
+use Rattle.parser.specs.Chains.{chain}
 use Rattle.parser.specs.Steps.{add_procedure}
 use Rattle.parser.proofs.procedure.procedures.Given as goal
 
 abbrev pub invariant-procedures : goal.invariant-procedures
 invariant-procedures l = record {
-  read : Leads 0 (Procedures ∷ []) (Procedures ∷ []) (λ y. (chained add_procedure l.procedures.items y.0, tt))
+  read : Leads 0 (Procedures ∷ []) (Procedures ∷ []) (λ y. (chain add_procedure l.procedures.items y.0, tt))
       (ahead l.fn.parser) (ahead l.parser);
   within : length (ahead l.parser) ≤ length (ahead l.fn.parser);
 }

@@ -11,7 +11,7 @@ use Rattle.grammar.specs.Reading.{lexeme_at}
 use Rattle.grammar.proofs.Joins.{here, then1, fail1, then3, fail3, then5, fail5, leads_as, close, done}
 use Rattle.steps.specs.Ahead.{ahead}
 use Rattle.parser.specs.Steps.{add_statement}
-use Rattle.parser.proofs.Loops.{goes_on, ends, chained_statements}
+use Rattle.parser.proofs.Loops.{goes_on, ends, chain_statements}
 use Rattle.parser.proofs.Steps.{then_takes, fail_rejects, then_expression, fail_expression, then_condition}
 use Rattle.parser.proofs.Steps.{fail_condition}
 use Rattle.parser.proofs.Begun.{ifs, whiles, joins, aborts}
@@ -182,6 +182,6 @@ statements-statements-preserved t c = record {
 
 pub statements-returns-clause-ok : goal.statements-returns-clause-ok
 statements-returns-clause-ok t c =
-    rw (← (chained_statements c.statements.statements.items NoStatements))
+    rw (← (chain_statements c.statements.statements.items NoStatements))
     (ends (λ x. (x, tt)) add_statement c.statements.statements.items NoStatements _ _ _
     c.statements.invariant.read (rw c.in_default.is at c.in_ok-next.ensures.ok))

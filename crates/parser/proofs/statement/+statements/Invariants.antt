@@ -2,7 +2,7 @@ use Rattle.std.proofs.Common.{◌≤◌, ◌+◌, ◌*◌, [], ◌∷◌, length
 use Rattle.grammar.specs.Machine.{Statements}
 use Rattle.grammar.specs.Reading.{Leads}
 use Rattle.steps.specs.Ahead.{ahead}
-use Rattle.parser.specs.Chains.{chained}
+use Rattle.parser.specs.Chains.{chain}
 use Rattle.parser.specs.Steps.{add_statement}
 use Rattle.parser.proofs.statement.+statements.Given as goal
 
@@ -38,7 +38,7 @@ decreases-aborted_statements l = 4 * length (ahead l.parser.now)
 
 abbrev pub invariant-statements-statements : goal.invariant-statements-statements
 invariant-statements-statements l = record {
-  read : Leads l.depth (Statements ∷ []) (Statements ∷ []) (λ y. (chained add_statement l.statements.items y.0, tt))
+  read : Leads l.depth (Statements ∷ []) (Statements ∷ []) (λ y. (chain add_statement l.statements.items y.0, tt))
       (ahead l.fn.parser) (ahead l.parser);
   within : length (ahead l.parser) ≤ length (ahead l.fn.parser);
 }

@@ -1,0 +1,4 @@
+pub mod Arguments
+pub mod Failing
+pub mod Patches
+pub mod Rows
