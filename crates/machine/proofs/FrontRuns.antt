@@ -1,7 +1,7 @@
 -- Runs of the machine itself are runs of the relation.
 use Rattle.std.proofs.Common.{◌≡◌, List, [], ◌∷◌, map, refl, ap, sym, subst}
 use Rattle.isa.specs.Programs.{Program}
-use Rattle.machine.specs.States.{State, ConcreteState, opening_concrete, opening_state, state_of}
+use Rattle.machine.specs.States.{State, ConcreteState, opening_concrete, state_of}
 use Rattle.machine.specs.Runs.{Step, GoesBy, is_paused}
 use Rattle.machine.specs.FrontRuns.{EventStep, FrontRun, FrontsRunSo, label_of, event_label}
 use Rattle.machine.specs.Views.{IsWellFormed}

@@ -1,20 +1,18 @@
 -- A step on the parts of a machine is a step of the machine.
-use Rattle.std.proofs.Common.{◌≡◌, ℕ, zero, suc, ◌-◌, ◌<◌, ◌≤◌, Bool, true, false, cond, eqb, List, [], ◌∷◌}
-use Rattle.std.proofs.Common.{length, get_or, Some, None, Result, Ok, Err, slice_get, slice_set, replicate, refl}
+use Rattle.std.proofs.Common.{◌≡◌, ℕ, zero, suc, ◌-◌, ◌<◌, ◌≤◌, List, [], ◌∷◌}
+use Rattle.std.proofs.Common.{length, get_or, Some, None, Result, Ok, Err, slice_get, slice_set, replicate}
 use Rattle.std.proofs.Common.{sym, ap, ◌∙◌, arith}
 use Rattle.std.specs.Prelude.{IfOk, OnErr}
 use Rattle.std.proofs.Math.Path.{fun_ext}
 use Rattle.isa.specs.Programs.{Program, memory_size}
 use Rattle.buckets.specs.Sleepers.{Sleepers, queue, place_of}
 use Rattle.locals.specs.Threads.{Thread, opening_thread}
-use Rattle.locals.specs.Looks.{Request, AskFork, Look, Goes, Asks, Leaves, Breaks, Rests, look}
+use Rattle.locals.specs.Looks.{look}
 use Rattle.machine.specs.declared.event.Event.{Event}
 use Rattle.machine.specs.declared.event.StepFault.{StepFault}
-use Rattle.machine.specs.declared.event.StepFault.TheVariants.{Broken}
-use Rattle.machine.specs.States.{Common, ConcreteState, thread_at, thread_of, opening_concrete}
-use Rattle.machine.specs.ConcreteServing.{Served, serve}
-use Rattle.machine.specs.ConcreteSteps.{Stepped, go_on_with, thread_step, on_machine, step_awake, step_thread}
-use Rattle.machine.specs.ConcreteSteps.{step_of, fault_of}
+use Rattle.machine.specs.States.{ConcreteState, thread_at, thread_of, opening_concrete}
+use Rattle.machine.specs.ConcreteSteps.{Stepped, thread_step, on_machine, step_awake, step_thread}
+use Rattle.machine.specs.ConcreteSteps.{step_of}
 use Rattle.machine.specs.Views.{IsWellFormed, concrete_of}
 use Rattle.machine.proofs.Stepping.{steps_so}
 

@@ -1,6 +1,6 @@
 -- How the machine itself serves a request: each wake and each move takes from the front of the address's list, so
 -- that what comes of it is determined.
-use Rattle.std.specs.Prelude.{ℕ, suc, ◌+◌, ◌-◌, ◌%◌, ◌++◌, ◌==◌, [], ◌∷◌, List, length, take, drop, Bool, not}
+use Rattle.std.specs.Prelude.{ℕ, suc, ◌+◌, ◌%◌, ◌++◌, ◌==◌, [], ◌∷◌, List, length, take, drop, Bool}
 use Rattle.std.specs.Prelude.{nat_lt, slice_index, slice_set, Option, Some, None, Result, Ok, Err, if◌then◌else◌}
 use Rattle.std.specs.Int.Bits.{bit_or}
 use Rattle.words.specs.Limits.{most_processes}

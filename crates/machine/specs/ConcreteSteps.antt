@@ -1,5 +1,5 @@
 -- The machine's own step of a thread, which is determined.
-use Rattle.std.specs.Prelude.{ℕ, ◌+◌, ◌-◌, ◌++◌, ◌||◌, [], ◌∷◌, List, length, Bool, false, not, is_some}
+use Rattle.std.specs.Prelude.{ℕ, ◌-◌, ◌++◌, ◌||◌, [], ◌∷◌, List, length, Bool, false, not, is_some}
 use Rattle.std.specs.Prelude.{slice_set, Option, Some, None, Result, Ok, Err}
 use Rattle.isa.specs.Programs.{Program}
 use Rattle.locals.specs.Threads.{Thread, Exits}

@@ -1,5 +1,5 @@
 -- What the code's answers to requests mean.
-use Rattle.std.specs.Prelude.{ℕ, ◌≡◌, Bool, List, [], None, Result, Ok, Err, slice_index}
+use Rattle.std.specs.Prelude.{ℕ, ◌≡◌, Bool, List, None, Result, Ok, Err, slice_index}
 use Rattle.words.specs.Process.{process_word}
 use Rattle.robustexit.specs.declared.phase.ExitPhase.{ExitPhase}
 use Rattle.robustexit.specs.declared.phase.ExitPhase.TheVariants.{Entry, Pending, ClearId, LastWake, Ended}

@@ -1,6 +1,6 @@
 -- A state of the machine: the concrete one, which the code has, and the abstract one, which it stands for.
 use Rattle.std.specs.Prelude.{ℕ, zero, suc, List, [], ◌∷◌, length, slice_get, slice_index, slice_set, replicate}
-use Rattle.std.specs.Prelude.{if◌then◌else◌, Option, Some, None, ℤ}
+use Rattle.std.specs.Prelude.{Option, Some, None, ℤ}
 use Rattle.isa.specs.Programs.{Program, memory_size}
 use Rattle.words.specs.Process.{process_word}
 use Rattle.robustexit.specs.RobustExit.{put}

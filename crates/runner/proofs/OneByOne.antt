@@ -1,5 +1,5 @@
 -- A run of the machine itself is that of a log: each of its steps is an entry.
-use Rattle.std.proofs.Common.{◌≡◌, ℕ, true, List, length, [], ◌∷◌, ◌++◌, Some, None, Result, Ok, Err, inl, inr}
+use Rattle.std.proofs.Common.{◌≡◌, ℕ, true, length, [], ◌∷◌, ◌++◌, Some, None, Result, Ok, Err, inl, inr}
 use Rattle.std.proofs.Common.{replicate, refl, ap, sym, ◌∙◌}
 use Rattle.std.proofs.lemmas.Bool.{cases_Bool, both_ways}
 use Rattle.isa.specs.Programs.{Program}
@@ -11,10 +11,10 @@ use Rattle.machine.specs.declared.event.Entry.{Entry}
 use Rattle.machine.specs.declared.event.StepFault.{StepFault}
 use Rattle.machine.specs.declared.event.StepFault.TheVariants.{CannotMove}
 use Rattle.machine.specs.States.{ConcreteState, thread_of}
-use Rattle.machine.specs.ConcreteSteps.{thread_step, on_machine, step_of, put_thread, can_move}
-use Rattle.machine.specs.FrontRuns.{EventStep, FrontRun}
+use Rattle.machine.specs.ConcreteSteps.{thread_step, on_machine, step_of, can_move}
+use Rattle.machine.specs.FrontRuns.{EventStep}
 use Rattle.runner.specs.Logs.{Enters}
-use Rattle.runner.specs.LogRuns.{LogsSo, local_step_of, shared_step_of, steps_of}
+use Rattle.runner.specs.LogRuns.{LogsSo, local_step_of, shared_step_of}
 use Rattle.machine.proofs.Landing.{inside}
 use Rattle.machine.proofs.Stepping.{done_by}
 use Rattle.machine.proofs.Refusing.{refuses_so, moves_so}

@@ -1,12 +1,7 @@
 -- What the rounds of a run keep.
-use Rattle.std.specs.Prelude.{ℕ, ◌≡◌, ◌<◌, ◌≤◌, true, false, Bool, List, length, slice_get, Some}
+use Rattle.std.specs.Prelude.{ℕ, ◌≡◌, true, Bool, List, slice_get, Some}
 use Rattle.isa.specs.Programs.{Program}
-use Rattle.machine.specs.States.{ConcreteState, thread_of}
-use Rattle.machine.specs.Runs.{has_ended}
 use Rattle.machine.specs.ConcreteSteps.{can_move}
-use Rattle.machine.specs.Views.{IsQuiet, AllEnded}
-use Rattle.runner.specs.declared.report.Verdict.{Verdict}
-use Rattle.runner.specs.declared.report.Verdict.TheVariants.{Done, Stuck, Limit}
 use Rattle.runner.specs.Views.{LogState}
 use Rattle.runner.specs.Reports.{PassesLimit}
 
