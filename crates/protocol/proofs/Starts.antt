@@ -9,7 +9,7 @@ use Rattle.protocol.specs.World.{World, opening_world}
 use Rattle.protocol.specs.Moves.{Move, ForkFull, Claim, ClaimTaken, Return}
 use Rattle.protocol.specs.Steps.{go}
 use Rattle.protocol.specs.Runs.{Leads, last_table}
-use Rattle.protocol.specs.Requests.{write, ClaimOf}
+use Rattle.protocol.specs.Cells.{write, ClaimOf}
 use Rattle.protocol.specs.Starts.{ClaimsMove, ReturnsMove, ForksMove, ForksFail, StartsMove}
 use Rattle.protocol.proofs.Roles.{may_sleep, point_sleeps}
 use Rattle.protocol.proofs.Joins.{joins, point_joins}

@@ -7,7 +7,7 @@ use Rattle.protocol.specs.Points.{NoEntry, Point, Runs, JoinReads, Dies, Walks}
 use Rattle.protocol.specs.World.{World}
 use Rattle.protocol.specs.Moves.{Move, Fork}
 use Rattle.protocol.specs.Steps.{Can, after, go, result_after, returned_end}
-use Rattle.protocol.specs.Requests.{write, ClaimOf, ResultOf, OutcomeOf}
+use Rattle.protocol.specs.Cells.{write, ClaimOf, ResultOf, OutcomeOf}
 
 -- the thread runs its own code, awake
 pub record IsRunning (w : World) (t : ℕ) : Type 0 where
