@@ -2,3 +2,4 @@ pub mod Arguments
 pub mod Failing
 pub mod Patches
 pub mod Rows
+pub mod Sequences

@@ -3,6 +3,7 @@
 
 mod expression;
 mod flat;
+mod piece;
 mod room;
 mod simple;
 mod site;
