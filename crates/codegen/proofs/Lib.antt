@@ -3,3 +3,4 @@ pub mod Failing
 pub mod Patches
 pub mod Rows
 pub mod Sequences
+pub mod Totals
