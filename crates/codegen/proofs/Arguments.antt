@@ -1,5 +1,6 @@
 -- Code has at least one instruction for each argument.
-use Rattle.std.proofs.Common.{◌≤◌, ◌<◌, List, [], ◌∷◌, length, map, arith, length-append}
+use Rattle.std.proofs.Common.{◌≤◌, ◌<◌, List, [], ◌∷◌, length, map, arith, length-append, ℕ, zero, suc, ◌≡◌}
+use Rattle.code.specs.Pieces.{parameters_code}
 use Rattle.program.specs.declared.expression.Expression.{Expression as ExpressionOf}
 use Rattle.program.specs.Trees.{Program, Expression, Constant, Truth, Local, Member, Element, Unary, Both}
 use Rattle.program.specs.Views.{expression_of}
@@ -20,3 +21,7 @@ arguments_length p (e ∷ es) =
     let h = arguments_length p es in
     let k = some_code p (expression_of e) in
     let l = length-append (expression_code p (expression_of e)) (arguments_code p (map expression_of es)) in omega arith
+
+pub parameters_length : (n : ℕ) → length (parameters_code n) ≡ n
+parameters_length zero = omega arith
+parameters_length (suc n) = let h = parameters_length n in omega arith

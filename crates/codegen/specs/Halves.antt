@@ -1,12 +1,22 @@
--- The first half of an IF with an ELSE.
-use Rattle.std.specs.Prelude.{◌+◌, List, [], ◌∷◌, ◌++◌, length}
+-- Parts of the code that are made together.
+use Rattle.std.specs.Prelude.{ℕ, ◌+◌, List, [], ◌∷◌, ◌++◌, length}
 use Rattle.isa.specs.declared.instr.Instr.TheVariants.{Jump, JumpIfZero}
 use Rattle.code.specs.declared.mark.Mark.TheVariants.{Test}
 use Rattle.code.specs.declared.mark.Marked.{Marked}
-use Rattle.code.specs.Marks.{marked, plain, Code}
+use Rattle.code.specs.Marks.{marked, plain, Code, sequence}
+use Rattle.code.specs.Statements.{Setting, ending_code}
+use Rattle.code.specs.Pieces.{parameters_code, entering_code, default_code}
 
--- a test, a part, and a jump that isn't written yet
+-- the first half of an IF with an ELSE: a test, a part, and a jump that isn't written yet
 abbrev pub then_code : List Marked → Code → Code
 then_code test a start =
     let then_start = start + length test + 1 in
     test ++ (marked Test (JumpIfZero (then_start + length (a then_start) + 1)) ∷ (a then_start ++ plain (Jump 0) ∷ []))
+
+-- the beginning of a procedure with so many parameters
+abbrev pub beginning_code : Setting → ℕ → Code
+beginning_code c parameters = sequence (λ _. parameters_code parameters) (entering_code c c.role)
+
+-- the end of its text
+abbrev pub end_code : Setting → Code
+end_code c = sequence (λ _. default_code c.result) (ending_code c)

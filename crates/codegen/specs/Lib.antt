@@ -1,3 +1,4 @@
 pub mod Failures
+pub mod Generated
 pub mod Halves
 pub mod Sites

@@ -1,9 +1,15 @@
 //! The code of a program's pieces, each for itself.
 #![tactic(auto)]
 
+mod code_piece;
 mod expression;
 mod flat;
+mod piece;
+mod pieces;
 mod room;
 mod simple;
 mod site;
 mod statement;
+
+pub use code_piece::CodePiece;
+pub use pieces::generate;

@@ -1,3 +1,11 @@
 pub mod Operators
 pub mod Walking
 pub mod Evaluating
+pub mod Bodies
+pub mod Contexts
+pub mod Stepping
+pub mod Testing
+pub mod Returning
+pub mod Arguments
+pub mod Calling
+pub mod Followed

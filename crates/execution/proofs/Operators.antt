@@ -26,7 +26,7 @@ use Rattle.meaning.specs.Values as v
 use Rattle.execution.specs.Typed.{HasValue}
 use Rattle.execution.specs.Evaluation.{OfType}
 
-back : (x : ℤ) → FitsSigned w32 x → signed_of (word_of x) ≡ x
+pub back : (x : ℤ) → FitsSigned w32 x → signed_of (word_of x) ≡ x
 back x h = to_z-of_z w32 x h
 
 -- what an evaluation is to the look at one instruction

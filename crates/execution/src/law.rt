@@ -1,5 +1,7 @@
 ghost use Rattle.std.specs.Prelude.{ℕ, ℤ, List};
+ghost use Rattle.execution.specs.Builds.{IsBuild, IsFollowed};
 ghost use Rattle.execution.specs.Evaluation.{Evaluates, IsEvaluated};
+ghost use Rattle.execution.specs.Following.{Build};
 ghost use Rattle.isa.specs.Programs.{Program};
 ghost use Rattle.locals.specs.declared.frame.Locals.{Locals};
 ghost use Rattle.meaning.specs.Values.{Variables};
@@ -10,4 +12,11 @@ ghost use Rattle.program.specs.Scope.{Scope};
 pub fn expressions_evaluate()
     ensures { (image : Program) (t size : ℕ) (memory : ℕ → ℕ) (s : Scope) (v : Variables) (values : List ℤ) (l : Locals)
         → IsEvaluated t size memory s v values l → Evaluates image t size memory s v values l }
+{}
+
+/// Where a program uses no monitor and makes no process, its code goes as the program goes: a thread that stands for a
+/// process does, within a bounded number of steps, what the process offers, and then stands for the process after it.
+/// Locals, expressions, assignments, IF, WHILE, calls with arguments and results, RETURN, PRINT, ABORT and faults.
+pub fn code_goes_as_its_process()
+    ensures { (b : Build) → IsBuild b → IsFollowed b }
 {}

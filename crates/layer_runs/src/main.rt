@@ -2,19 +2,22 @@
 //!
 //! A row is `image` or `beginnings` and the bytes of an image in hexadecimal digits, or a call and its numbers, over
 //! 512 words and 64 threads: `buckets N` makes them anew, and `load 385` or `wait 5 385 6` is a call on them. A row
-//! that begins with a number sign is printed as it is.
+//! that begins with a number sign is printed as it is. `code` and `answer` take the steps of one thread: how many
+//! instructions there are, their bytes in hexadecimal digits, and its operands.
 #![tactic(auto)]
 
 mod answer;
 mod failure;
 mod images;
 mod layers;
+mod threads;
 mod walk;
 
 use crate::answer::show;
 use crate::failure::Failure;
 use crate::images::{show_beginnings, show_image};
 use crate::layers::Layers;
+use crate::threads::{show_answered, show_code};
 use std::io;
 
 // How many buckets there are at the start.
@@ -45,6 +48,8 @@ fn run_row(rt: &HostRuntime, layers: &mut Layers, row: &str) -> Result<(), Failu
         "#" => Ok(()),
         "image" => show_image(rt, rest),
         "beginnings" => show_beginnings(rt, rest),
+        "code" => show_code(rt, rest),
+        "answer" => show_answered(rt, rest),
         _ => show(rt, &layers.call(rt.alloc(), name, rest)?),
     }
 }

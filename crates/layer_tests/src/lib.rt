@@ -1,8 +1,5 @@
-//! Tests of the lower layers beside the rows of `layer_runs`: the parts of words and images, and the steps of one
-//! thread.
+//! Tests of the lower layers beside the rows of `layer_runs`: the parts of words and images.
 #![tactic(auto)]
 
-#[cfg(test)]
-mod instructions;
 #[cfg(test)]
 mod parts;

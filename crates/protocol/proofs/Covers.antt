@@ -16,7 +16,8 @@ use Rattle.protocol.proofs.Waits.{FreshAt}
 use Rattle.protocol.proofs.Joins.{IdAt, joins, point_joins}
 use Rattle.protocol.proofs.Pend.{PendAt}
 use Rattle.protocol.proofs.Processes.{is_made, point_made}
-use Rattle.protocol.specs.Requests.{request, Serves, WakesOne, Abandon, ExitDoes}
+use Rattle.protocol.specs.Requests.{request}
+use Rattle.protocol.specs.Answers.{Serves, WakesOne, Abandon, ExitDoes}
 use Rattle.protocol.specs.Served.{IsMove}
 use Rattle.protocol.specs.Runs.{Leads, last_table}
 use Rattle.protocol.proofs.Rest.{good_run}

@@ -6,7 +6,8 @@ use Rattle.meaning.specs.Table.{HeldBy, Table}
 use Rattle.protocol.specs.Word.{owner}
 use Rattle.protocol.specs.Points.{Purpose, ToEnter, ToReenter, ToResume, Entry, NoEntry, Owned, Unowned, Point, TakeReads, TakeMarks, TakeSleeps, TakeTries, LeaveWakes, Dies, Walks, entry_at, taking_entry, Thread, th}
 use Rattle.protocol.specs.World.{World, mem, tail, Distinct}
-use Rattle.protocol.specs.Moves.{Move, from}
+use Rattle.protocol.specs.Moves.{Move}
+use Rattle.protocol.specs.Origins.{from}
 use Rattle.protocol.specs.Steps.{Can}
 use Rattle.protocol.specs.Runs.{ClaimIs}
 use Rattle.protocol.proofs.Roles.{own, owing, takes, point_helps, point_sleeps, Listed, holds, may_sleep, Knows}

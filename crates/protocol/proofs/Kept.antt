@@ -9,7 +9,8 @@ use Rattle.protocol.specs.Word.{owner, waiters, died}
 use Rattle.protocol.specs.Points.{ToEnter, ToReenter, ToResume, ToExit, ToWait, Spot, OnSequence, Point, Unmade, Runs, NotifyWakes, BroadcastMarks, BroadcastReads, BroadcastMoves, Thread, th}
 use Rattle.protocol.specs.World.{World, mem, IsWake, awakened, requeued_sleep, opening_world, opening_thread}
 use Rattle.protocol.specs.Moves.{Move, Own, CasGot, FreeGot, SwapWake, SwapAlone, WakeSeq, MoveAll, Kill, StraySeq, Fork, ForkFull, Claim, ClaimTaken, IdGone}
-use Rattle.protocol.specs.Steps.{Can, IsOwn, after}
+use Rattle.protocol.specs.Steps.{Can, after}
+use Rattle.protocol.specs.Finds.{IsOwn}
 use Rattle.protocol.specs.Carries.{Permits, PermitsMove, carried, death, table_after, killed_waits, resumed_by, is_resumed, has_died}
 use Rattle.protocol.specs.Runs.{IsOver, HasJoined}
 use Rattle.protocol.proofs.Words.{owner-small, died-small}

@@ -8,7 +8,8 @@ use Rattle.meaning.specs.Table.{Table, without_waiters}
 use Rattle.protocol.specs.Word.{owner}
 use Rattle.protocol.specs.Points.{Purpose, ToEnter, ToReenter, ToResume, Release, ToExit, ToWait, Spot, OnLock, OnSequence, OnId, Point, Unmade, TakeReads, TakeMarks, TakeSleeps, TakeTries, NotifyWakes, BroadcastMarks, BroadcastReads, BroadcastMoves, LeaveWakes, HasLeft, Dies, entry_at, Thread, th}
 use Rattle.protocol.specs.World.{World, mem, moved_sleep}
-use Rattle.protocol.specs.Moves.{Move, Sleep, FreeGot, SwapWake, SwapAlone, Wake, SeqSleep, SeqAgain, AddSeq, WakeSeq, AddAll, MoveAll, Kill, Stray, StraySeq, StrayId, EntryWake, PendWake, PendForeign, LastWake, IdSleep, from}
+use Rattle.protocol.specs.Moves.{Move, Sleep, FreeGot, SwapWake, SwapAlone, Wake, SeqSleep, SeqAgain, AddSeq, WakeSeq, AddAll, MoveAll, Kill, Stray, StraySeq, StrayId, EntryWake, PendWake, PendForeign, LastWake, IdSleep}
+use Rattle.protocol.specs.Origins.{from}
 use Rattle.protocol.specs.Steps.{Can, after}
 use Rattle.protocol.specs.Carries.{table_after, killed_waits, resumed_by}
 use Rattle.protocol.proofs.Sleeps.{put_same, put_other, sequence_same, sequence_other, put_less, put_more, awakened_less, awakened_more, awakened_none, requeue_less, requeue_more}

@@ -6,8 +6,10 @@ use Rattle.meaning.specs.Labels.{End}
 use Rattle.meaning.specs.Table.{Table}
 use Rattle.protocol.specs.Points.{OnLock, OnSequence, Point, Unmade, Runs, HasLeft, Walks, ClearsId, LastWakes, HasEnded, IsLive, th}
 use Rattle.protocol.specs.World.{World, tail, awakened}
-use Rattle.protocol.specs.Moves.{Move, Sleep, Wake, SeqSleep, WakeSeq, MoveAll, Kill, Stray, StraySeq, StrayId, Return, WriteFault, EntryWake, PendWake, PendForeign, ClearId, LastWake, Fork, Claim, ClaimTaken, IdGone, IdThere, IdSleep, IdAgain, LearnEnded, from}
-use Rattle.protocol.specs.Steps.{Can, cause_word, after}
+use Rattle.protocol.specs.Moves.{Move, Sleep, Wake, SeqSleep, WakeSeq, MoveAll, Kill, Stray, StraySeq, StrayId, Return, WriteFault, EntryWake, PendWake, PendForeign, ClearId, LastWake, Fork, Claim, ClaimTaken, IdGone, IdThere, IdSleep, IdAgain, LearnEnded}
+use Rattle.protocol.specs.Origins.{from}
+use Rattle.protocol.specs.Steps.{Can, after}
+use Rattle.protocol.specs.Finds.{cause_word}
 use Rattle.protocol.specs.Carries.{table_after}
 use Rattle.protocol.specs.Runs.{ClaimIs, IsOver, HasJoined}
 use Rattle.protocol.proofs.Sleeps.{at_put, at_put2, put_same, put_other, put_less, awakened_less, requeue_id}

@@ -6,7 +6,8 @@ use Rattle.meaning.specs.Table.{Table}
 use Rattle.protocol.specs.Word.{owner, waiters, with_waiters}
 use Rattle.protocol.specs.Points.{ToEnter, ToReenter, ToResume, Point, TakeTries, GotLinks, GotHeads, LeaveHeads, Walks, ClearsId, LastWakes, HasEnded, entry_at, entry_word, IsLive}
 use Rattle.protocol.specs.World.{World, mem}
-use Rattle.protocol.specs.Moves.{Move, Begin, SetPend, CasGot, SetPendHeld, MarkDone, FreeGot, SetLink, SetHead, ClearPend, PendAgain, CutHead, SwapWake, SwapAlone, Finish, ReadSeq, AddSeq, AddAll, OrLock, LoadSeq, Kill, Stray, StraySeq, StrayId, SkipEntry, EntryAlone, EntryWake, PendAlone, PendWake, Fork, from}
+use Rattle.protocol.specs.Moves.{Move, Begin, SetPend, CasGot, SetPendHeld, MarkDone, FreeGot, SetLink, SetHead, ClearPend, PendAgain, CutHead, SwapWake, SwapAlone, Finish, ReadSeq, AddSeq, AddAll, OrLock, LoadSeq, Kill, Stray, StraySeq, StrayId, SkipEntry, EntryAlone, EntryWake, PendAlone, PendWake, Fork}
+use Rattle.protocol.specs.Origins.{from}
 use Rattle.protocol.specs.Steps.{Can, after}
 use Rattle.protocol.proofs.Words.{owner-small, waiters-with_waiters, waiters-died_word}
 use Rattle.protocol.proofs.Sleeps.{at_put, put_same, put_other, sequence_other}

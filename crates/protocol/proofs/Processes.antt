@@ -4,7 +4,7 @@ use Rattle.std.proofs.lemmas.Bool.{cases_eq}
 use Rattle.words.specs.Updates.{put}
 use Rattle.meaning.specs.Labels.{End}
 use Rattle.protocol.specs.Points.{Thread, Point, Unmade, Walks, ClearsId, LastWakes, HasEnded, IsLive}
-use Rattle.protocol.specs.Steps.{Tells}
+use Rattle.protocol.specs.Finds.{Tells}
 use Rattle.protocol.specs.Runs.{IsOver, HasJoined}
 use Rattle.protocol.proofs.Sleeps.{at_put, put_same, put_other}
 use Rattle.protocol.proofs.Joins.{joins}

@@ -7,7 +7,8 @@ use Rattle.protocol.specs.Word.{owner}
 use Rattle.protocol.specs.Points.{Purpose, ToEnter, ToReenter, ToResume, Entry, NoEntry, Owned, Unowned, Spot, OnLock, OnSequence, OnId, Point, Unmade, TakeReads, TakeMarks, TakeSleeps, TakeTries, JoinReads, JoinSleeps, LeaveWakes, Dies, Walks, LastWakes, HasEnded, entry_at, taking_entry, entry_word}
 use Rattle.protocol.specs.World.{World, mem, opening_world}
 use Rattle.protocol.specs.Moves.{Move}
-use Rattle.protocol.specs.Steps.{Tells, after}
+use Rattle.protocol.specs.Finds.{Tells}
+use Rattle.protocol.specs.Steps.{after}
 use Rattle.protocol.specs.Carries.{Event, PermitsMove, carried, table_after}
 use Rattle.std.specs.Prelude.{length}
 use Rattle.program.specs.declared.kinds.Member.{Member}

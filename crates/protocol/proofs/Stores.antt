@@ -4,7 +4,7 @@ use Rattle.std.proofs.lemmas.Bool.{cases_eq}
 use Rattle.words.specs.Updates.{put}
 use Rattle.program.specs.declared.kinds.Member.{Member}
 use Rattle.protocol.specs.World.{World}
-use Rattle.protocol.specs.Requests.{Cell, LockOf, LinkOf, HeadOf, PendingOf, IdOf, ClaimOf, ResultOf, OutcomeOf, SequenceOf, cell, write}
+use Rattle.protocol.specs.Cells.{Cell, LockOf, LinkOf, HeadOf, PendingOf, IdOf, ClaimOf, ResultOf, OutcomeOf, SequenceOf, cell, write}
 use Rattle.protocol.specs.Memory.{stored_value, IsApart, Agrees, StoresFollow}
 use Rattle.protocol.proofs.Sleeps.{put_same, put_other, cases_member, sequence_same, sequence_other}
 

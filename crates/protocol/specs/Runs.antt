@@ -7,7 +7,8 @@ use Rattle.protocol.specs.Word.{owner, died}
 use Rattle.protocol.specs.Points.{ToEnter, ToReenter, ToResume, Owned, Spot, OnSequence, Point, Unmade, TakeReads, JoinReads, JoinSleeps, JoinLearns, JoinTakes, Dies, Walks, ClearsId, LastWakes, HasEnded, entry_at}
 use Rattle.protocol.specs.World.{World, opening_world, mem}
 use Rattle.protocol.specs.Moves.{Move}
-use Rattle.protocol.specs.Steps.{Can, after, Tells}
+use Rattle.protocol.specs.Steps.{Can, after}
+use Rattle.protocol.specs.Finds.{Tells}
 use Rattle.protocol.specs.Carries.{Event, Permits, carried, table_after, with_event}
 
 -- moves from a world to another: of any threads, in any order

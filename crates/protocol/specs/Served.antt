@@ -6,7 +6,7 @@ use Rattle.protocol.specs.Points.{Point}
 use Rattle.protocol.specs.World.{World}
 use Rattle.protocol.specs.Moves.{Move}
 use Rattle.protocol.specs.Steps.{Can, after, go_list}
-use Rattle.protocol.specs.Requests.{next, next_list}
+use Rattle.protocol.specs.Answers.{next, next_list}
 
 -- the step of thread t from point p, with this answer and the shared words after it
 pub record IsMove (w : World) (t : ℕ) (p : Point) (r : ℕ) (w' : World) : Type 0 where

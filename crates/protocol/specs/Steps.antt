@@ -1,88 +1,15 @@
--- What each move finds in the world, and what it makes of it.
-use Rattle.std.specs.Prelude.{◌≡◌, ◌≢◌, ℕ, suc, ◌+◌, ◌<◌, ◌≤◌, true, false, Option, Some, None, List, [], ◌∷◌, ◌⊎◌}
+-- When a move can be made, and what it makes of the world.
+use Rattle.std.specs.Prelude.{◌≡◌, ℕ, suc, ◌+◌, Option, Some, None, List, [], ◌∷◌}
 use Rattle.words.specs.Updates.{put}
-use Rattle.words.specs.Limits.{most_processes}
-use Rattle.words.specs.Outcomes.{fault_number}
 use Rattle.words.specs.Signed.{signed_of}
 use Rattle.words.specs.declared.outcome.Fault.TheVariants.{HandleNotJoinable, ProcessTableFull}
-use Rattle.meaning.specs.Labels.{Cause, Faulted, Killed, End, Ended, Aborted, Label, Alone, Stores}
-use Rattle.protocol.specs.Word.{owner, waiters, with_waiters, died_word}
-use Rattle.protocol.specs.Points.{ToEnter, ToReenter, ToResume, ToExit, ToWait, NoEntry, Owned, OnLock, OnSequence, OnId, Point, Runs, EnterPends, EnterTries, ReenterPends, ReenterTries, TakeReads, TakeMarks, TakeSleeps, TakeTries, GotReads, GotLinks, GotHeads, GotUnpends, WaitReads, NotifyAdds, NotifyWakes, BroadcastAdds, BroadcastMarks, BroadcastReads, BroadcastMoves, JoinReads, JoinSleeps, JoinLearns, JoinTakes, LeavePends, LeaveReads, LeaveHeads, LeaveSwaps, LeaveWakes, HasLeft, Dies, Walks, ClearsId, LastWakes, HasEnded, entry_at, IsLive, Thread, th}
-use Rattle.protocol.specs.World.{World, put_sequence, mem, awakened, requeued_sleep, tail, IsWake}
-use Rattle.protocol.specs.Moves.{Move, Own, Begin, Rebegin, Leave, Wait, Notify, Broadcast, Raise, SetPend, CasGot, CasBusy, SetPendHeld, CasHeld, LoadHeld, LoadFree, MarkDone, MarkFail, Sleep, Again, FreeGot, FreeFail, ReadHead, SetLink, SetHead, ClearPend, PendAgain, ReadLink, CutHead, SwapWake, SwapAlone, Wake, Finish, ReadSeq, SeqSleep, SeqAgain, AddSeq, WakeSeq, AddAll, OrLock, LoadSeq, MoveAll, Kill, Stray, StraySeq, StrayId, Return, WriteFault, SkipEntry, EntryAlone, EntryWake, PendNone, PendAlone, PendWake, PendForeign, ClearId, LastWake, Fork, ForkFull, Claim, ClaimTaken, IdGone, IdThere, IdSleep, IdAgain, LearnEnded, LearnAborted, TakeResult, from, Awake}
-
--- a thread's innermost monitor
-abbrev pub HoldsFirst : Thread → ℕ → Type 0
-HoldsFirst thread m = thread.list ≡ m ∷ tail thread.list
-
--- the outcome word of an aborted process: the fault's number, and 9 where it was killed
-abbrev pub cause_word : Cause → ℕ
-cause_word (Faulted fault) = fault_number fault
-cause_word Killed = 9
-
--- the words tell how a process is over
-abbrev pub Tells : End → (outcome result : ℕ) → Type 0
-Tells (Ended z) outcome result = (outcome ≡ 16) × (signed_of result ≡ z)
-Tells (Aborted cause) outcome result = outcome ≡ cause_word cause
-
--- the labels of a thread's own code
-abbrev pub IsOwn : Label → Type 0
-IsOwn (Alone kind) = Unit {0}
-IsOwn (Stores m) = Unit {0}
-IsOwn l = ⊥
-
-abbrev pub Finds : World → ℕ → Move → Type 0
-Finds w t (Own l) = IsOwn l
-Finds w t (Begin m) = mem m (w.at t).list ≡ false
-Finds w t (Rebegin m) = mem m (w.at t).list ≡ true
-Finds w t (Leave m) = HoldsFirst (w.at t) m
-Finds w t (Wait c) = HoldsFirst (w.at t) c.monitor
-Finds w t (Notify c) = HoldsFirst (w.at t) c.monitor
-Finds w t (Broadcast c) = HoldsFirst (w.at t) c.monitor
-Finds w t (CasGot m) = w.lock m ≡ 0
-Finds w t (CasBusy m) = w.lock m ≢ 0
-Finds w t (CasHeld m) = w.lock m ≢ 0
-Finds w t (LoadHeld m k) = owner (w.lock m) ≢ 0
-Finds w t (LoadFree m k) = owner (w.lock m) ≡ 0
-Finds w t (MarkDone m v k) = w.lock m ≡ v
-Finds w t (MarkFail m v k) = w.lock m ≢ v
-Finds w t (Sleep m v k) = w.lock m ≡ v
-Finds w t (Again m v k) = w.lock m ≢ v
-Finds w t (FreeGot m v k) = w.lock m ≡ v
-Finds w t (FreeFail m v k) = w.lock m ≢ v
-Finds w t (SwapWake m r) = waiters (w.lock m) ≢ 0
-Finds w t (SwapAlone m r) = waiters (w.lock m) ≡ 0
-Finds w t (Wake m r woken) = IsWake w.asleep (OnLock m) 1 woken
-Finds w t (SeqSleep m c s) = w.sequence c ≡ s
-Finds w t (SeqAgain m c s) = w.sequence c ≢ s
-Finds w t (WakeSeq c woken) = IsWake w.asleep (OnSequence c) 1 woken
-Finds w t (MoveAll c s) = w.sequence c ≡ s
-Finds w t (Kill p) = IsLive p
-Finds w t (EntryAlone m x end) = (x ≢ Owned m) × (waiters (w.lock m) ≡ 0)
-Finds w t (EntryWake m x end woken) = (x ≢ Owned m) × (waiters (w.lock m) ≢ 0) × IsWake w.asleep (OnLock m) 1 woken
-Finds w t (PendAlone m end) = waiters (w.lock m) ≡ 0
-Finds w t (PendWake m end woken) = (waiters (w.lock m) ≢ 0) × IsWake w.asleep (OnLock m) 1 woken
-Finds w t (PendForeign m end woken) = IsWake w.asleep (OnLock m) 1 woken
-Finds w t (LastWake end woken) = IsWake w.asleep (OnId t) 1 woken
--- the thread that is made has the next number; its parent runs
-Finds w t (Fork parent) =
-    (t ≡ suc w.made) × (w.made < most_processes) × ((w.at parent).point ≡ Runs) × (w.asleep parent ≡ None)
-Finds w t ForkFull = most_processes ≤ w.made
--- a handle that isn't empty names a process that was made
-Finds w t (Claim q) = (0 < q) × (q ≤ w.made) × (w.claim q ≡ 0)
-Finds w t (ClaimTaken q) = (0 < q) × (q ≤ w.made) × (w.claim q ≢ 0)
-Finds w t (IdGone q end) = (w.id q ≡ 0) × (((w.at q).point ≡ LastWakes end) ⊎ ((w.at q).point ≡ HasEnded end))
-Finds w t (IdThere q) = w.id q ≢ 0
-Finds w t (IdSleep q) = w.id q ≡ q
-Finds w t (IdAgain q) = w.id q ≢ q
-Finds w t (LearnEnded q end) = w.outcome q ≡ 16
-Finds w t (LearnAborted q end) = w.outcome q ≢ 16
-Finds w t m = Unit {0}
-
--- the mover has the number of a thread that was made; a fork's gets it
-abbrev pub HasNumber : World → ℕ → Move → Type 0
-HasNumber w t (Fork parent) = Unit {0}
-HasNumber w t m = (0 < t) × (t ≤ w.made)
+use Rattle.meaning.specs.Labels.{Faulted, Killed, End, Ended, Aborted}
+use Rattle.protocol.specs.Word.{with_waiters, died_word}
+use Rattle.protocol.specs.Points.{ToEnter, ToReenter, ToResume, ToExit, ToWait, NoEntry, Owned, OnLock, OnSequence, OnId, Point, Runs, EnterPends, EnterTries, ReenterPends, ReenterTries, TakeReads, TakeMarks, TakeSleeps, TakeTries, GotReads, GotLinks, GotHeads, GotUnpends, WaitReads, NotifyAdds, NotifyWakes, BroadcastAdds, BroadcastMarks, BroadcastReads, BroadcastMoves, JoinReads, JoinSleeps, JoinLearns, JoinTakes, LeavePends, LeaveReads, LeaveHeads, LeaveSwaps, LeaveWakes, HasLeft, Dies, Walks, ClearsId, LastWakes, HasEnded, entry_at, th}
+use Rattle.protocol.specs.World.{World, put_sequence, awakened, requeued_sleep, tail}
+use Rattle.protocol.specs.Moves.{Move, Begin, Rebegin, Leave, Wait, Notify, Broadcast, Raise, SetPend, CasGot, CasBusy, SetPendHeld, CasHeld, LoadHeld, LoadFree, MarkDone, MarkFail, Sleep, Again, FreeGot, FreeFail, ReadHead, SetLink, SetHead, ClearPend, PendAgain, ReadLink, CutHead, SwapWake, SwapAlone, Wake, Finish, ReadSeq, SeqSleep, SeqAgain, AddSeq, WakeSeq, AddAll, OrLock, LoadSeq, MoveAll, Kill, Stray, StraySeq, StrayId, Return, WriteFault, SkipEntry, EntryAlone, EntryWake, PendNone, PendAlone, PendWake, PendForeign, ClearId, LastWake, Fork, ForkFull, Claim, ClaimTaken, IdGone, IdThere, IdSleep, IdAgain, LearnEnded, LearnAborted, TakeResult}
+use Rattle.protocol.specs.Origins.{from, Awake}
+use Rattle.protocol.specs.Finds.{cause_word, Finds, HasNumber}
 
 pub record Can (w : World) (t : ℕ) (m : Move) : Type 0 where
   pub number : HasNumber w t m

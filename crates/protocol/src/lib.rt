@@ -7,9 +7,12 @@ ghost use Rattle.protocol.specs.Points.{Point};
 ghost use Rattle.protocol.specs.World.{World, opening_world};
 ghost use Rattle.protocol.specs.Moves.{Move};
 ghost use Rattle.protocol.specs.Runs.{Leads, IsExplained};
-ghost use Rattle.protocol.specs.Requests.{request, Serves};
+ghost use Rattle.protocol.specs.Requests.{request};
+ghost use Rattle.protocol.specs.Answers.{Serves};
 ghost use Rattle.protocol.specs.Served.{IsMove};
 ghost use Rattle.protocol.specs.Memory.{StoresFollow};
+ghost use Rattle.protocol.specs.Starts.{StartsMove};
+ghost use Rattle.protocol.specs.WordLaws.{AreLockWords};
 
 /// Each run of moves is explained by the source: the labels that it carries, in order, are allowed one after another, to a
 /// table that is that of the last world, in which no wake was lost.
@@ -27,4 +30,14 @@ pub fn every_step_is_a_move()
 /// A store into a flat memory that holds the words of a world is a write in the world: so the two go on to agree.
 pub fn memory_follows()
     ensures { StoresFollow }
+{}
+
+/// Where a run has come, a claim, a return and a fork of a thread that runs its own code are moves.
+pub fn every_start_is_a_move()
+    ensures { (ss : List (ℕ × Move)) (w : World) → Leads opening_world ss w → StartsMove w }
+{}
+
+/// The parts of lock words are those of the robust-futex ABI.
+pub fn lock_words()
+    ensures { (v : ℕ) → AreLockWords v }
 {}

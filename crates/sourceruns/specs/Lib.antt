@@ -3,3 +3,4 @@ pub mod Stores
 pub mod Rests
 pub mod Frames
 pub mod Stages
+pub mod Offered

@@ -4,6 +4,7 @@
 mod evaluation;
 mod frame;
 mod monitors;
+mod offers;
 mod operators;
 mod process;
 mod rest;
@@ -12,6 +13,10 @@ mod variables;
 pub use evaluation::{array_size, element, evaluate, evaluate_all};
 pub use frame::Frame;
 pub use monitors::{add_monitor, add_monitors, recover_part};
+pub use offers::{
+    Effect, Label, Offered, answer, assign, broadcast, claim, fault, notify, print, return_value,
+    wait,
+};
 pub use operators::{both, unary};
 pub use process::{Cause, End, Process, Stage};
 pub use rest::{take_first, upcoming};

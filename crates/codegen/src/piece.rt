@@ -1,0 +1,106 @@
+ghost use Rattle.std.specs.Prelude.{◌≡◌, ◌≤◌, ◌+◌, ◌++◌, OnOk, MatchResult, length};
+ghost use Rattle.isa.specs.Limits.{most_instructions};
+ghost use Rattle.program.specs.Views.{program_of, procedure_of};
+ghost use Rattle.code.specs.Layout.{layout_of};
+ghost use Rattle.code.specs.Pieces as pieces;
+ghost use Rattle.codegen.specs.Failures.{Fails};
+ghost use Rattle.codegen.specs.Halves.{beginning_code, end_code};
+ghost use Rattle.codegen.specs.Sites.{said_at, setting_at, IsLaidOut};
+
+use crate::flat::recover_of;
+use crate::room::{count, room};
+use crate::simple::ending;
+use crate::site::Site;
+use crate::statement::block;
+use code::{Mark, Marked, append};
+use isa::{Instr, Slot};
+use layout::Layout;
+use locklower::enter;
+use program::{Procedure, Program, Role, ValueType};
+use scanner::Refusal;
+use std::alloc::{AllocError, Global};
+
+// The parameters go from the operands into the first locals.
+fn parameters(count: u32, code: &mut Vec<Marked>) -> Result<(), AllocError>
+    ensures { OnOk result (code.new.items ≡ code.old.items ++ pieces.parameters_code count) }
+{
+    let mut left = count;
+    while left > 0 {
+        left -= 1;
+        append(code, Mark::Plain, Instr::SetLocal(Slot::Local(left)))?;
+    }
+    Ok(())
+}
+
+// The lock is taken at the beginning of an ENTRY procedure.
+fn entering(site: &Site, code: &mut Vec<Marked>) -> Result<(), AllocError>
+    requires laid_out { IsLaidOut site.now }
+    requires room { length code.old.items ≤ most_instructions }
+    ensures { OnOk result (code.new.items
+        ≡ code.old.items ++ pieces.entering_code (setting_at site.now) site.now.role (length code.old.items)) }
+{
+    if let Role::Entry(monitor) = site.role {
+        let recover = recover_of(site.program, monitor);
+        enter(code, monitor, site.layout.link(monitor), recover)?;
+    }
+    Ok(())
+}
+
+// The result of a procedure whose text ends without a RETURN.
+fn default_value(outcome: Option<ValueType>, code: &mut Vec<Marked>) -> Result<(), AllocError>
+    ensures { OnOk result (code.new.items ≡ code.old.items ++ pieces.default_code outcome) }
+{
+    match outcome {
+        Some(_) => append(code, Mark::Plain, Instr::Push(0)),
+        None => Ok(()),
+    }
+}
+
+// The beginning of a procedure: its parameters, and the lock of an ENTRY procedure.
+fn beginning(procedure: &Procedure, site: &Site, code: &mut Vec<Marked>) -> Result<(), Refusal>
+    requires { IsLaidOut site.now }
+    ensures { let made = beginning_code (setting_at site.now) (length procedure.now.parameters.items) (length code.old.items) in
+        MatchResult result (λ _. code.new.items ≡ code.old.items ++ made) (λ e. Fails e (length code.old.items + length made)) }
+{
+    let parameter_count = count(procedure.parameters.len())?;
+    parameters(parameter_count, code)?;
+    room(code)?;
+    entering(site, code)?;
+    Ok(())
+}
+
+// The end of a procedure's text.
+fn text_end(site: &Site, code: &mut Vec<Marked>) -> Result<(), Refusal>
+    requires { IsLaidOut site.now }
+    ensures { let made = end_code (setting_at site.now) (length code.old.items) in
+        MatchResult result (λ _. code.new.items ≡ code.old.items ++ made) (λ e. Fails e (length code.old.items + length made)) }
+{
+    default_value(site.outcome, code)?;
+    room(code)?;
+    ending(site, code)?;
+    Ok(())
+}
+
+// The code of a procedure, before it is linked.
+pub(crate) fn procedure_code(
+    alloc: Global,
+    procedure: &Procedure,
+    program: &Program,
+    layout: &Layout,
+) -> Result<Vec<Marked>, Refusal>
+    requires { layout.now ≡ layout_of (program_of program.now) }
+    ensures { let made = pieces.unlinked_code (program_of program.now) (procedure_of procedure.now) in
+        MatchResult result (λ v. v.items ≡ made) (λ e. Fails e (length made)) }
+{
+    let site = Site {
+        program,
+        layout,
+        role: procedure.role,
+        outcome: procedure.result,
+    };
+    let mut code = Vec::new(alloc);
+    beginning(procedure, &site, &mut code)?;
+    block(&procedure.body, &site, &mut code)?;
+    text_end(&site, &mut code)?;
+    Ok(code)
+}

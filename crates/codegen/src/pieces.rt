@@ -1,0 +1,35 @@
+ghost use Rattle.std.specs.Prelude.{◌≡◌, IfOk, IfErr, map};
+ghost use Rattle.program.specs.Names.{said_by};
+ghost use Rattle.code.specs.Layout.{layout_of};
+ghost use Rattle.codegen.specs.Generated.{piece_of, unlinked_pieces, Refuses};
+
+use crate::code_piece::CodePiece;
+use crate::piece::procedure_code;
+use layout::Layout;
+use program::Checked;
+use scanner::Refusal;
+use std::alloc::Global;
+
+/// The pieces of a program, one for each procedure, by rising number. Their places count from their own beginning, and calls
+/// name pieces by their numbers.
+///
+/// Code of more instructions than an image may have is `Limit` at 1:1.
+pub fn generate(
+    alloc: Global,
+    checked: &Checked,
+    layout: &Layout,
+) -> Result<Vec<CodePiece>, Refusal>
+    requires { layout.now ≡ layout_of (said_by checked.now) }
+    ensures made { IfOk result (λ pieces. map piece_of pieces.items ≡ unlinked_pieces (said_by checked.now)) }
+    ensures refusal { IfErr result (λ e. Refuses (said_by checked.now) e) }
+{
+    let program = checked.program();
+    let mut pieces = Vec::new(alloc);
+    let mut number = 0;
+    for procedure in &program.procedures {
+        let code = procedure_code(alloc, procedure, program, layout)?;
+        pieces.push(CodePiece { number, code })?;
+        number += 1;
+    }
+    Ok(pieces)
+}

@@ -1,0 +1,44 @@
+-- What the code finds that a process offers, as an offer of the meaning.
+use Rattle.words.specs.declared.outcome.Fault.TheVariants.{HandleNotJoinable}
+use Rattle.meaning.specs.Labels as L
+use Rattle.meaning.specs.Labels.{Label, Alone, Stores, Exits, Waits, Abandons, Ends}
+use Rattle.meaning.specs.Processes.{Joining}
+use Rattle.meaning.specs.Offers as O
+use Rattle.meaning.specs.Offers.{Effect, Offer, Rests, Does, ClaimsOne, NotifiesSome, NotifiesAll, dies}
+use Rattle.sourceruns.specs.declared.offers.Label.{Label as LabelOf}
+use Rattle.sourceruns.specs.declared.offers.Label.TheVariants.{Assigns as Assigns', Tests as Tests', Calls as Calls', Returns as Returns', Prints as Prints', Fails as Fails', Stores as Stores', Exits as Exits', Waits as Waits', Abandons as Abandons', Ends as Ends'}
+use Rattle.sourceruns.specs.declared.offers.Effect.{Effect as EffectOf}
+use Rattle.sourceruns.specs.declared.offers.Effect.TheVariants.{Nothing as Nothing', Puts as Puts', Writes as Writes'}
+use Rattle.sourceruns.specs.declared.offers.Offered.{Offered}
+use Rattle.sourceruns.specs.declared.offers.Offered.TheVariants.{Rests as Rests', Does as Does', Claims as Claims', NotifiesSome as NotifiesSome', NotifiesAll as NotifiesAll'}
+use Rattle.sourceruns.specs.declared.process.Process.{Process as ProcessOf}
+use Rattle.sourceruns.specs.Frames.{frame_of, callers_of}
+use Rattle.sourceruns.specs.Stages.{end_of, part_at, process_of}
+
+abbrev pub label_of : LabelOf → Label
+label_of Assigns' = Alone L.Assign
+label_of Tests' = Alone L.Test
+label_of Calls' = Alone L.Call
+label_of Returns' = Alone L.Return
+label_of (Prints' z) = Alone (L.Print z)
+label_of (Fails' fault) = Alone (L.Fails fault)
+label_of (Stores' m) = Stores m
+label_of (Exits' m) = Exits m
+label_of (Waits' c) = Waits c
+label_of (Abandons' m) = Abandons m
+label_of (Ends' end) = Ends (end_of end)
+
+abbrev pub effect_of : EffectOf → Effect
+effect_of Nothing' = O.Nothing
+effect_of (Puts' place z) = O.Puts place.monitor place.member place.index z
+effect_of (Writes' z) = O.Writes z
+
+-- an offer, with the process that made it
+abbrev pub offered : Offered → ProcessOf → Offer
+offered Rests' q = Rests
+offered (Does' label effect) q = Does (label_of label) (effect_of effect) (process_of q)
+offered (Claims' child into aborted) q =
+    ClaimsOne child (Joining child into (part_at aborted) (frame_of q.frame) (callers_of q.callers.items))
+    (dies HandleNotJoinable (frame_of q.frame) (callers_of q.callers.items))
+offered (NotifiesSome' c) q = NotifiesSome c (process_of q)
+offered (NotifiesAll' c) q = NotifiesAll c (process_of q)
