@@ -7,7 +7,7 @@ use Rattle.protocol.specs.Word.{owner, waiters, died, with_waiters, died_word}
 use Rattle.protocol.specs.WordLaws.{AreLockWords}
 use Rattle.protocol.proofs.Words.{waiters_full}
 
-left_by_exit : (v : ℕ) → died_word v ≡ lock_word 0 true (waiters_of v)
+pub left_by_exit : (v : ℕ) → died_word v ≡ lock_word 0 true (waiters_of v)
 unfolding died_word waiters
 left_by_exit v = elim (cases_eq (bit_and v 2147483648) 0) [
   | inl z ↦ omega (arith, z) ∙ ap (λ b. lock_word 0 true (not b)) (sym (eq-eqb (bit_and v 2147483648) 0 z))

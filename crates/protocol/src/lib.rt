@@ -13,6 +13,7 @@ ghost use Rattle.protocol.specs.Served.{IsMove};
 ghost use Rattle.protocol.specs.Memory.{StoresFollow};
 ghost use Rattle.protocol.specs.Starts.{StartsMove};
 ghost use Rattle.protocol.specs.WordLaws.{AreLockWords};
+ghost use Rattle.protocol.specs.Exits.{ExitsFollow};
 
 /// Each run of moves is explained by the source: the labels that it carries, in order, are allowed one after another, to a
 /// table that is that of the last world, in which no wake was lost.
@@ -40,4 +41,9 @@ pub fn every_start_is_a_move()
 /// The parts of lock words are those of the robust-futex ABI.
 pub fn lock_words()
     ensures { (v : ℕ) → AreLockWords v }
+{}
+
+/// Over a flat memory that shares words and sleepers with a world, each step of robust exit is a step of the protocol's.
+pub fn exits_follow()
+    ensures { ExitsFollow }
 {}
