@@ -6,7 +6,7 @@ use Rattle.program.specs.Scope.{recover_of}
 use Rattle.program.specs.Trees.{Done, Program}
 use Rattle.sourceruns.proofs.Rests.{last_split}
 use Rattle.program.specs.declared.kinds.Role.TheVariants.{Recover}
-use Rattle.meaning.specs.Processes.{Frame, Caller, Process, Before, goes_on, goes_on_by, hands_over, with_result, opening_frame, recovers, recovers_by, callers_monitors, monitor_of_role}
+use Rattle.meaning.specs.Processes.{Frame, Caller, Process, Before, begins, goes_on, goes_on_by, hands_over, with_result, opening_frame, recovers, recovers_by, callers_monitors, monitor_of_role}
 use Rattle.sourceruns.specs.declared.frame.Frame.{Frame as FrameOf}
 use Rattle.sourceruns.specs.Frames.{frame_of, caller_of, callers_from, callers_of}
 
@@ -72,3 +72,15 @@ recovering p m part x f f' g fs gs arguments rec is opens none same pushed =
     called : callers_of gs ≡ record { into = None; frame = frame_of f } ∷ callers_of fs
     called = ap callers_of pushed ∙ callers-more fs (record f' { into = None }) []
         ∙ ap (λ (h : FrameOf). record { into = None; frame = frame_of h } ∷ callers_of fs) same
+
+-- a procedure is called
+pub calling : (x : Process) (g called f f' : FrameOf) (fs gs : List FrameOf) (into : Option ℕ)
+    → x ≡ begins (frame_of called) (callers_of gs) → called ≡ g → f' ≡ f → gs ≡ fs ++ record f' { into = into } ∷ []
+    → x ≡ begins (frame_of g) (record { into = into; frame = frame_of f } ∷ callers_of fs)
+calling x g called f f' fs gs into is new same pushed =
+    is
+    ∙ (λ i. begins (frame_of (new i)) (waiting i))
+  where
+    waiting : callers_of gs ≡ record { into = into; frame = frame_of f } ∷ callers_of fs
+    waiting = ap callers_of pushed ∙ callers-more fs (record f' { into = into }) []
+        ∙ ap (λ (h : FrameOf). record { into = into; frame = frame_of h } ∷ callers_of fs) same

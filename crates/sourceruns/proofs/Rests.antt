@@ -49,3 +49,8 @@ pub followed_by-block : (ss : List StatementOf) (later : Block)
     → followed_by (block_in ss) later ≡ block_before ss later
 followed_by-block [] later = refl
 followed_by-block (s ∷ ss) later = ap (Then (statement_of s)) (followed_by-block ss later)
+
+pub dropped_one : {A : Type 0} (xs : List A) → length xs < 2 → drop 1 xs ≡ []
+dropped_one [] l = refl
+dropped_one (x ∷ []) l = refl
+dropped_one (x ∷ y ∷ ys) l = absurd (omega (arith, l))

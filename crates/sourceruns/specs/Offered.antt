@@ -1,16 +1,17 @@
 -- What the code finds that a process offers, as an offer of the meaning.
-use Rattle.words.specs.declared.outcome.Fault.TheVariants.{HandleNotJoinable}
+use Rattle.std.specs.Prelude.{None, pos}
+use Rattle.words.specs.declared.outcome.Fault.TheVariants.{HandleNotJoinable, ProcessTableFull}
 use Rattle.meaning.specs.Labels as L
 use Rattle.meaning.specs.Labels.{Label, Alone, Stores, Exits, Waits, Abandons, Ends}
-use Rattle.meaning.specs.Processes.{Joining}
+use Rattle.meaning.specs.Processes.{Joining, goes_on, with_local}
 use Rattle.meaning.specs.Offers as O
-use Rattle.meaning.specs.Offers.{Effect, Offer, Rests, Does, ClaimsOne, NotifiesSome, NotifiesAll, dies}
+use Rattle.meaning.specs.Offers.{Effect, Offer, Rests, Does, MakesOne, ClaimsOne, NotifiesSome, NotifiesAll, dies}
 use Rattle.sourceruns.specs.declared.offers.Label.{Label as LabelOf}
 use Rattle.sourceruns.specs.declared.offers.Label.TheVariants.{Assigns as Assigns', Tests as Tests', Calls as Calls', Returns as Returns', Prints as Prints', Fails as Fails', Stores as Stores', Exits as Exits', Waits as Waits', Abandons as Abandons', Ends as Ends'}
 use Rattle.sourceruns.specs.declared.offers.Effect.{Effect as EffectOf}
 use Rattle.sourceruns.specs.declared.offers.Effect.TheVariants.{Nothing as Nothing', Puts as Puts', Writes as Writes'}
 use Rattle.sourceruns.specs.declared.offers.Offered.{Offered}
-use Rattle.sourceruns.specs.declared.offers.Offered.TheVariants.{Rests as Rests', Does as Does', Claims as Claims', NotifiesSome as NotifiesSome', NotifiesAll as NotifiesAll'}
+use Rattle.sourceruns.specs.declared.offers.Offered.TheVariants.{Rests as Rests', Does as Does', Makes as Makes', Claims as Claims', NotifiesSome as NotifiesSome', NotifiesAll as NotifiesAll'}
 use Rattle.sourceruns.specs.declared.process.Process.{Process as ProcessOf}
 use Rattle.sourceruns.specs.Frames.{frame_of, callers_of}
 use Rattle.sourceruns.specs.Stages.{end_of, part_at, process_of}
@@ -37,6 +38,10 @@ effect_of (Writes' z) = O.Writes z
 abbrev pub offered : Offered → ProcessOf → Offer
 offered Rests' q = Rests
 offered (Does' label effect) q = Does (label_of label) (effect_of effect) (process_of q)
+offered (Makes' child into) q =
+    MakesOne (process_of child)
+    (λ n. goes_on None (with_local (frame_of q.frame) into (pos n)) (callers_of q.callers.items))
+    (dies ProcessTableFull (frame_of q.frame) (callers_of q.callers.items))
 offered (Claims' child into aborted) q =
     ClaimsOne child (Joining child into (part_at aborted) (frame_of q.frame) (callers_of q.callers.items))
     (dies HandleNotJoinable (frame_of q.frame) (callers_of q.callers.items))

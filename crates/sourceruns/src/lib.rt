@@ -8,6 +8,7 @@ mod offers;
 mod operators;
 mod process;
 mod rest;
+mod statements;
 mod variables;
 
 pub use evaluation::{array_size, element, evaluate, evaluate_all};
@@ -20,4 +21,5 @@ pub use offers::{
 pub use operators::{both, unary};
 pub use process::{Cause, End, Process, Stage};
 pub use rest::{take_first, upcoming};
+pub use statements::{branch, call, fork, join, repeat_while};
 pub use variables::{Place, Variables};

@@ -31,6 +31,7 @@ pub fn take_first<'a>(
     };
     match top {
         [] => take_first(rest),
+        [_] => Ok(Some(top)),
         [_, later @ ..] => {
             rest.push(later)?;
             Ok(Some(top))
