@@ -48,12 +48,12 @@ same_spot (OnSequence c) (OnId n) h = absurd cc
 same_spot (OnId q) (OnLock n) h = absurd cc
 same_spot (OnId q) (OnSequence n) h = absurd cc
 
-spot_at : (place : Cell → ℕ) (valid : Cell → Bool) (x : Spot) (o : Option Spot) → IsApart place valid → valid (cell_of x) ≡ true → ((y : Spot) → o ≡ Some y → valid (cell_of y) ≡ true) → sleep_address place o ≡ Some (place (cell_of x)) → o ≡ Some x
+pub spot_at : (place : Cell → ℕ) (valid : Cell → Bool) (x : Spot) (o : Option Spot) → IsApart place valid → valid (cell_of x) ≡ true → ((y : Spot) → o ≡ Some y → valid (cell_of y) ≡ true) → sleep_address place o ≡ Some (place (cell_of x)) → o ≡ Some x
 spot_at place valid x None apart ok all h = absurd cc
 spot_at place valid x (Some y) apart ok all h = let q : place (cell_of y) ≡ place (cell_of x) = cc in ap Some (same_spot y x (apart (cell_of y) (cell_of x) (all y refl) ok q))
 
 -- a wake on an address is a wake on the word that lies there
-wake_is : (place : Cell → ℕ) (valid : Cell → Bool) (s : Shared) (w : World) (x : Spot) (n : ℕ) (woken : List ℕ) → IsApart place valid → Shares place valid s w → valid (cell_of x) ≡ true → IsChoice s.asleep (place (cell_of x)) n woken → IsWake w.asleep x n woken
+pub wake_is : (place : Cell → ℕ) (valid : Cell → Bool) (s : Shared) (w : World) (x : Spot) (n : ℕ) (woken : List ℕ) → IsApart place valid → Shares place valid s w → valid (cell_of x) ≡ true → IsChoice s.asleep (place (cell_of x)) n woken → IsWake w.asleep x n woken
 wake_is place valid s w x n woken apart inv ok c = record {
   distinct = distinct woken c.distinct;
   slept = λ u h. spot_at place valid x (w.asleep u) apart ok (λ y e. inv.spots u y e) (sym (inv.sleeps u) ∙ c.slept u (names-mem woken u ∙ h));
@@ -61,13 +61,13 @@ wake_is place valid s w x n woken apart inv ok c = record {
   all = λ f u h. sym (names-mem woken u) ∙ c.all f u (inv.sleeps u ∙ ap (sleep_address place) h);
 }
 
-awake_sleeps : (place : Cell → ℕ) (asleep : ℕ → Option ℕ) (asleep' : ℕ → Option Spot) (woken : List ℕ) (u : ℕ) → asleep u ≡ sleep_address place (asleep' u) → with_place asleep woken None u ≡ sleep_address place (awakened asleep' woken u)
+pub awake_sleeps : (place : Cell → ℕ) (asleep : ℕ → Option ℕ) (asleep' : ℕ → Option Spot) (woken : List ℕ) (u : ℕ) → asleep u ≡ sleep_address place (asleep' u) → with_place asleep woken None u ≡ sleep_address place (awakened asleep' woken u)
 awake_sleeps place asleep asleep' woken u h = elim (cases_Bool (mem u woken)) [
   | inl y ↦ cond-true (names woken u) None (asleep u) (names-mem woken u ∙ y) ∙ sym (ap (sleep_address place) (cond-true (mem u woken) None (asleep' u) y))
   | inr n ↦ cond-false (names woken u) None (asleep u) (names-mem woken u ∙ n) ∙ h ∙ sym (ap (sleep_address place) (cond-false (mem u woken) None (asleep' u) n))
 ]
 
-awake_spots : (valid : Cell → Bool) (asleep' : ℕ → Option Spot) (woken : List ℕ) (u : ℕ) (x : Spot) → ((y : Spot) → asleep' u ≡ Some y → valid (cell_of y) ≡ true) → awakened asleep' woken u ≡ Some x → valid (cell_of x) ≡ true
+pub awake_spots : (valid : Cell → Bool) (asleep' : ℕ → Option Spot) (woken : List ℕ) (u : ℕ) (x : Spot) → ((y : Spot) → asleep' u ≡ Some y → valid (cell_of y) ≡ true) → awakened asleep' woken u ≡ Some x → valid (cell_of x) ≡ true
 awake_spots valid asleep' woken u x all h = elim (cases_Bool (mem u woken)) [
   | inl y ↦ let z : None ≡ Some x = sym (cond-true (mem u woken) None (asleep' u) y) ∙ h in absurd cc
   | inr n ↦ all x (sym (cond-false (mem u woken) None (asleep' u) n) ∙ h)
@@ -85,7 +85,7 @@ wakes_one place valid s s' w x woken apart inv ok h = (
   },
 )
 
-none_woken : (us : List ℕ) → length us ≤ 0 → us ≡ []
+pub none_woken : (us : List ℕ) → length us ≤ 0 → us ≡ []
 none_woken [] h = refl
 none_woken (x ∷ xs) h = absurd (omega (arith, h))
 

@@ -70,10 +70,10 @@ pub some_woken : (asleep : ℕ → Option Spot) (s : Spot) (n u : ℕ) (woken : 
 some_woken asleep s n u [] wake pos h = absurd (false≢true (wake.all (grind arith) u h))
 some_woken asleep s n u (x ∷ xs) wake pos h = (x, or_left (x == x) (mem x xs) (eq-eqb x x refl))
 
-spot_kept : (c d : Member) → d ≢ c → moved_spot c (OnSequence d) ≡ OnSequence d
+pub spot_kept : (c d : Member) → d ≢ c → moved_spot c (OnSequence d) ≡ OnSequence d
 spot_kept c d n = cond-false (same_member d c) (OnLock c.monitor) (OnSequence d) (same-other d c n)
 
-spot_moved : (c d : Member) → d ≡ c → moved_spot c (OnSequence d) ≡ OnLock c.monitor
+pub spot_moved : (c d : Member) → d ≡ c → moved_spot c (OnSequence d) ≡ OnLock c.monitor
 spot_moved c d q = cond-true (same_member d c) (OnLock c.monitor) (OnSequence d) (subst (λ x. same_member d x ≡ true) q (same-same d))
 
 moved_less : (c d : Member) (s : Option Spot) → moved_sleep c s ≡ Some (OnSequence d) → (s ≡ Some (OnSequence d)) × (d ≢ c)
