@@ -6,7 +6,7 @@ use Rattle.program.specs.declared.kinds.Member.{Member}
 use Rattle.buckets.specs.Places.{names, with_place}
 use Rattle.futexcalls.specs.FutexCalls.{IsChoice}
 use Rattle.protocol.specs.Points.{Spot, OnLock, OnSequence, OnId}
-use Rattle.protocol.specs.World.{awakened, requeued_sleep, moved_sleep}
+use Rattle.protocol.specs.World.{awake_after, requeued_sleep, moved_sleep}
 use Rattle.protocol.specs.Cells.{Cell, LockOf, SequenceOf, cell, cell_of}
 use Rattle.protocol.specs.Memory.{stored_value, IsApart}
 use Rattle.protocol.specs.Exits.{sleep_address, Shares}
@@ -39,7 +39,7 @@ waits_follow place valid s w t expected x after inv ok h = (
 
 wakes_follow : (place : Cell → ℕ) (valid : Cell → Bool) → IsApart place valid → WakesFollow place valid
 wakes_follow place valid apart s w x woken after inv ok h = (
-  record w { asleep = awakened w.asleep woken },
+  record w { asleep = awake_after w.asleep woken },
   record { woken = woken; wake = wake_is place valid s w x 1 woken apart inv ok h.choice; awake = refl },
   record {
     words = record { word = inv.words.word };

@@ -14,7 +14,7 @@ use Rattle.protocol.specs.Word.{owner, waiters, died_word}
 use Rattle.protocol.specs.Points.{Spot, OnLock, OnSequence, OnId, Point, Walks, ClearsId, LastWakes}
 use Rattle.protocol.specs.Points as P
 use Rattle.meaning.specs.Labels.{End}
-use Rattle.protocol.specs.World.{World, mem, awakened, Distinct, IsWake}
+use Rattle.protocol.specs.World.{World, mem, awake_after, Distinct, IsWake}
 use Rattle.protocol.specs.Cells.{Cell, LockOf, LinkOf, PendingOf, IdOf, write, cell_of}
 use Rattle.protocol.specs.Answers.{WakesOne, Abandon}
 use Rattle.protocol.specs.Memory.{entry_address, IsApart, Agrees}
@@ -61,13 +61,13 @@ wake_is place valid s w x n woken apart inv ok c = record {
   all = λ f u h. sym (names-mem woken u) ∙ c.all f u (inv.sleeps u ∙ ap (sleep_address place) h);
 }
 
-pub awake_sleeps : (place : Cell → ℕ) (asleep : ℕ → Option ℕ) (asleep' : ℕ → Option Spot) (woken : List ℕ) (u : ℕ) → asleep u ≡ sleep_address place (asleep' u) → with_place asleep woken None u ≡ sleep_address place (awakened asleep' woken u)
+pub awake_sleeps : (place : Cell → ℕ) (asleep : ℕ → Option ℕ) (asleep' : ℕ → Option Spot) (woken : List ℕ) (u : ℕ) → asleep u ≡ sleep_address place (asleep' u) → with_place asleep woken None u ≡ sleep_address place (awake_after asleep' woken u)
 awake_sleeps place asleep asleep' woken u h = elim (cases_Bool (mem u woken)) [
   | inl y ↦ cond-true (names woken u) None (asleep u) (names-mem woken u ∙ y) ∙ sym (ap (sleep_address place) (cond-true (mem u woken) None (asleep' u) y))
   | inr n ↦ cond-false (names woken u) None (asleep u) (names-mem woken u ∙ n) ∙ h ∙ sym (ap (sleep_address place) (cond-false (mem u woken) None (asleep' u) n))
 ]
 
-pub awake_spots : (valid : Cell → Bool) (asleep' : ℕ → Option Spot) (woken : List ℕ) (u : ℕ) (x : Spot) → ((y : Spot) → asleep' u ≡ Some y → valid (cell_of y) ≡ true) → awakened asleep' woken u ≡ Some x → valid (cell_of x) ≡ true
+pub awake_spots : (valid : Cell → Bool) (asleep' : ℕ → Option Spot) (woken : List ℕ) (u : ℕ) (x : Spot) → ((y : Spot) → asleep' u ≡ Some y → valid (cell_of y) ≡ true) → awake_after asleep' woken u ≡ Some x → valid (cell_of x) ≡ true
 awake_spots valid asleep' woken u x all h = elim (cases_Bool (mem u woken)) [
   | inl y ↦ let z : None ≡ Some x = sym (cond-true (mem u woken) None (asleep' u) y) ∙ h in absurd cc
   | inr n ↦ all x (sym (cond-false (mem u woken) None (asleep' u) n) ∙ h)
@@ -76,7 +76,7 @@ awake_spots valid asleep' woken u x all h = elim (cases_Bool (mem u woken)) [
 -- a wake of one, where no word changes
 wakes_one : (place : Cell → ℕ) (valid : Cell → Bool) (s s' : Shared) (w : World) (x : Spot) (woken : List ℕ) → IsApart place valid → Shares place valid s w → valid (cell_of x) ≡ true → robust.WakesOne (place (cell_of x)) s woken s' → (w' : World) × WakesOne w x w' × Shares place valid s' w'
 wakes_one place valid s s' w x woken apart inv ok h = (
-  record w { asleep = awakened w.asleep woken },
+  record w { asleep = awake_after w.asleep woken },
   record { woken = woken; wake = wake_is place valid s w x 1 woken apart inv ok h.wakes.choice; awake = refl },
   record {
     words = record { word = λ a k. ap (λ f. f (place a)) h.same ∙ inv.words.word a k };
@@ -110,7 +110,7 @@ abandons place valid size t m s s' w woken lay inv ok h =
       | inr n ↦
           let some : waiters_of (w.lock m) ≡ true = ap not (ne_eqb (waiters (w.lock m)) 0 n) in
           let one : IsChoice s.asleep (place (LockOf m)) 1 woken = subst (λ b. IsChoice s.asleep (place (LockOf m)) (if b then 1 else 0) woken) some choice in (
-            record w { lock = put w.lock m (died_word (w.lock m)); asleep = awakened w.asleep woken },
+            record w { lock = put w.lock m (died_word (w.lock m)); asleep = awake_after w.asleep woken },
             (own, inr (n, record { woken = woken; wake = wake_is place valid s w (OnLock m) 1 woken lay.apart inv ok' one; awake = refl })),
             record { words = record { word = agrees.word }; sleeps = λ u. ap (λ f. f u) h.wakes.awake ∙ awake_sleeps place s.asleep w.asleep woken u (inv.sleeps u); spots = λ u y e. awake_spots valid w.asleep woken u y (λ z k. inv.spots u z k) e },
           )

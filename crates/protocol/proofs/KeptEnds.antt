@@ -5,7 +5,7 @@ use Rattle.words.specs.Updates.{put}
 use Rattle.meaning.specs.Labels.{End}
 use Rattle.meaning.specs.Table.{Table}
 use Rattle.protocol.specs.Points.{OnLock, OnSequence, Point, Unmade, Runs, HasLeft, Walks, ClearsId, LastWakes, HasEnded, IsLive, th}
-use Rattle.protocol.specs.World.{World, tail, awakened}
+use Rattle.protocol.specs.World.{World, tail, awake_after}
 use Rattle.protocol.specs.Moves.{Move, Sleep, Wake, SeqSleep, WakeSeq, MoveAll, Kill, Stray, StraySeq, StrayId, Return, WriteFault, EntryWake, PendWake, PendForeign, ClearId, LastWake, Fork, Claim, ClaimTaken, IdGone, IdThere, IdSleep, IdAgain, LearnEnded}
 use Rattle.protocol.specs.Origins.{from}
 use Rattle.protocol.specs.Steps.{Can, after}
@@ -27,7 +27,7 @@ id_alive p q v a h = h
 id_at : (w : World) (T : Table) (t : ℕ) (m : Move) → Good w T → Can w t m → IdAt (from m) t (w.id t)
 id_at w T t m inv can = subst (λ y. IdAt y t (w.id t)) can.stands (inv.joiners.ids t)
 
-wake_joins : (w : World) (T : Table) (t : ℕ) (m : Move) (p' : Point) (l : List ℕ) (woken : List ℕ) → Good w T → Can w t m → ((q : ℕ) → point_joins p' q ≡ true → point_joins (from m) q ≡ true) → goes (th p' l) ≡ true → w.asleep t ≡ None → IdAt p' t (w.id t) → Joiners w.id w.claim (awakened w.asleep woken) (put w.at t (th p' l))
+wake_joins : (w : World) (T : Table) (t : ℕ) (m : Move) (p' : Point) (l : List ℕ) (woken : List ℕ) → Good w T → Can w t m → ((q : ℕ) → point_joins p' q ≡ true → point_joins (from m) q ≡ true) → goes (th p' l) ≡ true → w.asleep t ≡ None → IdAt p' t (w.id t) → Joiners w.id w.claim (awake_after w.asleep woken) (put w.at t (th p' l))
 unfolding joins goes
 wake_joins w T t m p' l woken inv can less on awake i =
     j_same _ _ _ _ _ _ t (th (from m) (w.at t).list) _ inv.joiners (stands_at w t m can) less (λ u q h. awakened_less w.asleep woken u _ h) (λ q h. let y = awakened_less w.asleep woken t _ h in cc) (λ u h. on) i (λ u n. refl)

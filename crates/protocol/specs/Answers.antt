@@ -4,7 +4,7 @@ use Rattle.words.specs.Updates.{put}
 use Rattle.meaning.specs.Labels.{End, Aborted}
 use Rattle.protocol.specs.Word.{owner, waiters, with_waiters, died_word}
 use Rattle.protocol.specs.Points.{ToEnter, ToReenter, ToResume, ToExit, ToWait, Spot, OnLock, OnId, Point, Runs, EnterPends, EnterTries, ReenterPends, ReenterTries, TakeReads, TakeMarks, TakeSleeps, TakeTries, GotReads, GotLinks, GotHeads, GotUnpends, WaitReads, NotifyAdds, NotifyWakes, BroadcastAdds, BroadcastMarks, BroadcastReads, BroadcastMoves, JoinReads, JoinSleeps, JoinLearns, JoinTakes, LeavePends, LeaveReads, LeaveHeads, LeaveSwaps, LeaveWakes, HasLeft, Dies, Walks, ClearsId, LastWakes, HasEnded}
-use Rattle.protocol.specs.World.{World, awakened, requeued_sleep, tail, IsWake}
+use Rattle.protocol.specs.World.{World, awake_after, requeued_sleep, tail, IsWake}
 use Rattle.protocol.specs.Finds.{cause_word}
 use Rattle.protocol.specs.Cells.{LockOf, IdOf, OutcomeOf, cell, write, cell_of}
 use Rattle.protocol.specs.Requests.{Request, AskNothing, AskLoad, AskStore, AskSwap, AskCompareSwap, AskOrWaiters, AskAddOne, AskWait, AskWakeOne, AskRequeue, AskFault, AskExitStep}
@@ -13,7 +13,7 @@ use Rattle.protocol.specs.Requests.{Request, AskNothing, AskLoad, AskStore, AskS
 pub record WakesOne (w : World) (s : Spot) (w' : World) : Type 0 where
   pub woken : List ℕ
   pub wake : IsWake w.asleep s 1 woken
-  pub awake : w' ≡ record w { asleep = awakened w.asleep woken }
+  pub awake : w' ≡ record w { asleep = awake_after w.asleep woken }
 
 -- at its owner's exit a lock is marked as abandoned, and one sleeper is woken where it had waiters
 abbrev pub Abandon : World → ℕ → ℕ → World → Type 0

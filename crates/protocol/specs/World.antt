@@ -35,8 +35,8 @@ mem u [] = false
 mem u (x ∷ xs) = (u == x) || mem u xs
 
 -- these sleep no longer
-abbrev pub awakened : (ℕ → Option Spot) → List ℕ → ℕ → Option Spot
-awakened asleep woken u = if mem u woken then None else asleep u
+abbrev pub awake_after : (ℕ → Option Spot) → List ℕ → ℕ → Option Spot
+awake_after asleep woken u = if mem u woken then None else asleep u
 
 -- all sleepers of a condition go to its monitor's lock (FUTEX_CMP_REQUEUE)
 abbrev pub moved_spot : Member → Spot → Spot
