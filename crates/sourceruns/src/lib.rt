@@ -4,6 +4,7 @@
 mod evaluation;
 mod frame;
 mod monitors;
+mod next;
 mod offers;
 mod operators;
 mod process;
@@ -14,6 +15,7 @@ mod variables;
 pub use evaluation::{array_size, element, evaluate, evaluate_all};
 pub use frame::Frame;
 pub use monitors::{add_monitor, add_monitors, recover_part};
+pub use next::statement;
 pub use offers::{
     Effect, Label, Offered, answer, assign, broadcast, claim, fault, notify, print, return_value,
     wait,
