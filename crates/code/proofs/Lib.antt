@@ -1,1 +1,3 @@
+pub mod CellLaws
 pub mod Joins
+pub mod Spans

@@ -1,4 +1,5 @@
 pub mod Layout
+pub mod Cells
 pub mod Marks
 pub mod Locks
 pub mod Conditions
