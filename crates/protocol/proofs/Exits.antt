@@ -9,9 +9,9 @@ use Rattle.buckets.specs.Places.{names, with_place}
 use Rattle.futexcalls.specs.FutexCalls.{IsChoice}
 use Rattle.robustexit.specs.RobustExit as robust
 use Rattle.robustexit.specs.RobustExit.{Shared, IsIdle, IsEntry, EntryStep, PendingStep, IsPending, IsForeign, IsOwned, NoEntry, ExitStep}
-use Rattle.robustexit.specs.declared.phase.ExitPhase.TheVariants.{Pending, ClearId, LastWake}
+use Rattle.robustexit.specs.declared.phase.ExitPhase.TheVariants.{Pending, ClearId, LastWake, Ended}
 use Rattle.protocol.specs.Word.{owner, waiters, died_word}
-use Rattle.protocol.specs.Points.{Spot, OnLock, OnSequence, OnId, Point, Walks, ClearsId, LastWakes}
+use Rattle.protocol.specs.Points.{Spot, OnLock, OnSequence, OnId, Point, Walks, ClearsId, LastWakes, HasEnded}
 use Rattle.protocol.specs.Points as P
 use Rattle.meaning.specs.Labels.{End}
 use Rattle.protocol.specs.World.{World, mem, awake_after, Distinct, IsWake}
@@ -173,4 +173,6 @@ exits_follow place valid size t w (LastWakes end) phase next s s' woken lay inv 
     let d : ExitStep size t LastWake s woken s' next = subst (λ y. ExitStep size t y s woken s' next) is step in
     let a = wakes_one place valid s s' w (OnId t) woken lay.apart inv oki (subst (λ y. robust.WakesOne y s woken s') (sym (lay.id t oki)) d.0) in
     record { world = a.0; does = a.1; shares = a.2 }
+exits_follow place valid size t w (HasEnded end) phase next s s' woken lay inv okp oki all is step =
+    let d : ExitStep size t Ended s woken s' next = subst (λ y. ExitStep size t y s woken s' next) is step in absurd d
 exits_follow place valid size t w p phase next s s' woken lay inv okp oki all is step = absurd is

@@ -1,14 +1,15 @@
 -- An exit over a flat memory: each step of robust exit, as the words and sleepers of a memory know it, is a step of the
 -- protocol's exit.
-use Rattle.std.specs.Prelude.{◌≡◌, ℕ, zero, suc, ◌+◌, Bool, true, Option, Some, None, List}
+use Rattle.std.specs.Prelude.{◌≡◌, ℕ, zero, suc, ◌+◌, Bool, true, Option, Some, None, List, ◌<◌}
 use Rattle.words.specs.Process.{process_word}
 use Rattle.robustexit.specs.RobustExit.{Shared, IsEntry, ExitStep}
 use Rattle.robustexit.specs.declared.phase.ExitPhase.{ExitPhase}
-use Rattle.robustexit.specs.declared.phase.ExitPhase.TheVariants.{Entry, Pending, ClearId, LastWake}
-use Rattle.protocol.specs.Points.{Spot, Point, Walks, ClearsId, LastWakes}
+use Rattle.robustexit.specs.declared.phase.ExitPhase.TheVariants.{Entry, Pending, ClearId, LastWake, Ended}
+use Rattle.protocol.specs.Points.{Spot, Point, Walks, ClearsId, LastWakes, HasEnded}
 use Rattle.protocol.specs.World.{World}
 use Rattle.protocol.specs.Cells.{Cell, LockOf, LinkOf, PendingOf, IdOf, cell_of}
-use Rattle.protocol.specs.Answers.{ExitDoes}
+use Rattle.protocol.specs.Answers.{ExitDoes, next}
+use Rattle.meaning.specs.Labels.{End}
 use Rattle.protocol.specs.Memory.{IsApart, Agrees}
 
 -- where a thread sleeps, as an address
@@ -37,6 +38,7 @@ PhaseIs place valid (Walks (suc m) x end) phase =
     (valid (LinkOf m) ≡ true) × ((seen : ℕ) × (phase ≡ Entry (record { 0 = place (LinkOf m) }) seen))
 PhaseIs place valid (ClearsId end) phase = phase ≡ ClearId
 PhaseIs place valid (LastWakes end) phase = phase ≡ LastWake
+PhaseIs place valid (HasEnded end) phase = phase ≡ Ended
 PhaseIs place valid p phase = ⊥
 
 -- a world that the step leads to, with the memory after it
@@ -50,3 +52,14 @@ ExitsFollow = (place : Cell → ℕ) (valid : Cell → Bool) (size t : ℕ) (w :
     IsLayout place valid size → Shares place valid s w → valid (PendingOf t) ≡ true → valid (IdOf t) ≡ true →
     ((m : ℕ) → w.pending t ≡ suc m → valid (LinkOf m) ≡ true) → PhaseIs place valid p phase →
     ExitStep size t phase s woken s' next → ExitFollows place valid w t p s'
+
+-- the walk hasn't come to its limit (ROBUST_LIST_LIMIT)
+abbrev pub IsShort : ExitPhase → Type 0
+IsShort (Entry e seen) = seen + 1 < 2048
+IsShort phase = Unit {0}
+
+-- the step leads to the phase of the next point
+abbrev pub PhasesFollow : Type 0
+PhasesFollow = (place : Cell → ℕ) (valid : Cell → Bool) (size t : ℕ) (w : World) (p : Point) (end : End) (phase later : ExitPhase) (s s' : Shared) (woken : List ℕ) →
+    IsLayout place valid size → Shares place valid s w → ((m k : ℕ) → valid (LinkOf m) ≡ true → w.link m ≡ suc k → valid (LinkOf k) ≡ true) →
+    IsShort phase → PhaseIs place valid p phase → ExitStep size t phase s woken s' later → PhaseIs place valid (next w end p 0) later

@@ -13,7 +13,7 @@ ghost use Rattle.protocol.specs.Served.{IsMove};
 ghost use Rattle.protocol.specs.Memory.{StoresFollow};
 ghost use Rattle.protocol.specs.Starts.{StartsMove};
 ghost use Rattle.protocol.specs.WordLaws.{AreLockWords};
-ghost use Rattle.protocol.specs.Exits.{ExitsFollow};
+ghost use Rattle.protocol.specs.Exits.{ExitsFollow, PhasesFollow};
 ghost use Rattle.protocol.specs.Cells.{Cell};
 ghost use Rattle.protocol.specs.Memory.{IsApart};
 ghost use Rattle.protocol.specs.Calls.{CallsFollow};
@@ -55,4 +55,9 @@ pub fn exits_follow()
 /// are what the protocol's words serve.
 pub fn calls_follow()
     ensures { (place : Cell → ℕ) (valid : Cell → Bool) → IsApart place valid → CallsFollow place valid }
+{}
+
+/// Each step of robust exit leads to the phase of the protocol's next point, before the limit of a walk.
+pub fn phases_follow()
+    ensures { PhasesFollow }
 {}
