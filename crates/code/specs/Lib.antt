@@ -7,3 +7,4 @@ pub mod Processes
 pub mod Expressions
 pub mod Statements
 pub mod Pieces
+pub mod Placing
