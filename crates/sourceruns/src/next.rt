@@ -1,14 +1,16 @@
 ghost use Rattle.std.specs.Prelude.{◌≡◌, IfOk, None};
 ghost use Rattle.program.specs.Trees.{Done, Then};
 ghost use Rattle.program.specs.Views.{block_in, part_in, program_of, statement_of};
-ghost use Rattle.meaning.specs.Offers.{statement_offer};
+ghost use Rattle.meaning.specs.Offers.{rest_offer, statement_offer};
+ghost use Rattle.sourceruns.specs.Rests.{rest_in};
 ghost use Rattle.sourceruns.specs.Frames.{callers_of, frame_of};
 ghost use Rattle.sourceruns.specs.Stages.{part_at};
 ghost use Rattle.sourceruns.specs.Stores.{variables_of};
 ghost use Rattle.sourceruns.specs.Offered.{offered};
 
-use crate::offers::{Offered, assign, broadcast, fault, notify, print, return_value, wait};
+use crate::offers::{Offered, answer, assign, broadcast, fault, notify, print, return_value, wait};
 use crate::process::Process;
+use crate::rest::take_first;
 use crate::statements::{branch, call, fork, join, repeat_while};
 use crate::variables::Variables;
 use program::{Program, Statement};
@@ -92,5 +94,28 @@ pub fn statement<'a>(
         Statement::Broadcast(condition) => Ok(broadcast(process, *condition)),
         Statement::Print(value) => print(alloc, program, variables, process, value),
         Statement::Abort => fault(alloc, process, Fault::AbortStatement),
+    }
+}
+
+/// What is offered before the next statement, or at the end of a body.
+pub fn before<'a>(
+    alloc: Global,
+    program: &'a Program,
+    variables: &Variables,
+    process: &mut Process<'a>,
+) -> Result<Offered<'a>, AllocError>
+    ensures { IfOk result (λ o. offered o process.new
+        ≡ rest_offer (program_of program.now) (variables_of variables.now) (frame_of process.old.frame)
+        (callers_of process.old.callers.items) (rest_in process.old.frame.rest.items)) }
+{
+    let Some(position) = take_first(&mut process.frame.rest)? else {
+        return Ok(answer(process, 0));
+    };
+    match position {
+        [] => Ok(Offered::Rests),
+        [next, ..] => {
+            let this = &position[..1];
+            statement(alloc, program, variables, process, next, this)
+        }
     }
 }
