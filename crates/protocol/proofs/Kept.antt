@@ -6,7 +6,7 @@ use Rattle.program.specs.declared.kinds.Member.{Member}
 use Rattle.meaning.specs.Labels.{Label, Alone, Stores, Waits}
 use Rattle.meaning.specs.Table.{Hold, Free, Abandoned, HeldBy, Table, first_table, Allows, IsNotified, IsBroadcast}
 use Rattle.protocol.specs.Word.{owner, waiters, died}
-use Rattle.protocol.specs.Points.{ToEnter, ToReenter, ToResume, ToExit, ToWait, Spot, OnSequence, Point, Unmade, Runs, NotifyWakes, BroadcastMarks, BroadcastReads, BroadcastMoves, Thread, th}
+use Rattle.protocol.specs.Points.{ToEnter, ToReenter, ToResume, ToExit, ToWait, Spot, OnSequence, Point, Unmade, Runs, NotifyWakes, BroadcastMarks, BroadcastReads, BroadcastMoves, Thread, thread_at}
 use Rattle.protocol.specs.World.{World, mem, IsWake, awake_after, requeued_sleep, opening_world, opening_thread}
 use Rattle.protocol.specs.Moves.{Move, Own, CasGot, FreeGot, SwapWake, SwapAlone, WakeSeq, MoveAll, Kill, StraySeq, Fork, ForkFull, Claim, ClaimTaken, IdGone}
 use Rattle.protocol.specs.Steps.{Can, after}
@@ -136,20 +136,20 @@ permitted w T t (Kill p) inv can = kill_permitted w T t p
 permitted w T t m inv can = refl
 
 -- ---- the opening
-opening_case : (P : Thread → Type 0) → P (th Runs []) → P (th Unmade []) → (t : ℕ) → P (opening_thread t)
-opening_case P a b t = cond_both (t == 1) (th Runs []) (th Unmade []) P (λ h. a) (λ h. b)
+opening_case : (P : Thread → Type 0) → P (thread_at Runs []) → P (thread_at Unmade []) → (t : ℕ) → P (opening_thread t)
+opening_case P a b t = cond_both (t == 1) (thread_at Runs []) (thread_at Unmade []) P (λ h. a) (λ h. b)
 
 opening_id : (q : ℕ) → IdAt (opening_thread q).point q (if q == 1 then 1 else 0)
 opening_id q = elim (cases_eq q 1) [
   | inl e ↦ subst (λ y. IdAt (opening_thread y).point y (if y == 1 then 1 else 0)) (sym e) refl
-  | inr n ↦ subst (λ b. IdAt (if b then th Runs [] else th Unmade []).point q (if b then 1 else 0)) (sym (ne_eqb q 1 n)) refl
+  | inr n ↦ subst (λ b. IdAt (if b then thread_at Runs [] else thread_at Unmade []).point q (if b then 1 else 0)) (sym (ne_eqb q 1 n)) refl
 ]
 
 opening_number : (t : ℕ) → is_made (opening_thread t) ≡ true → (0 < t) × (t ≤ 1)
 unfolding is_made
 opening_number t = elim (cases_eq t 1) [
   | inl e ↦ λ h. (omega (arith, e), omega (arith, e))
-  | inr n ↦ λ h. absurd (false≢true (subst (λ b. point_made (if b then th Runs [] else th Unmade []).point ≡ true) (ne_eqb t 1 n) h))
+  | inr n ↦ λ h. absurd (false≢true (subst (λ b. point_made (if b then thread_at Runs [] else thread_at Unmade []).point ≡ true) (ne_eqb t 1 n) h))
 ]
 
 pub good_start : Good opening_world first_table

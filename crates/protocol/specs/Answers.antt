@@ -42,7 +42,10 @@ Serves w t p (AskCompareSwap a x v) r w' =
 Serves w t p (AskOrWaiters a) r w' = (r ≡ cell w a) × (w' ≡ write w a (with_waiters (cell w a)))
 Serves w t p (AskAddOne a) r w' = (r ≡ cell w a) × (w' ≡ write w a (cell w a + 1))
 Serves w t p (AskWait s x) r w' =
-    ((cell w (cell_of s) ≡ x) × (w' ≡ record w { asleep = put w.asleep t (Some s) })) ⊎ ((cell w (cell_of s) ≢ x) × (w' ≡ w))
+    ((cell w (cell_of s) ≡ x) × (w' ≡ record w {
+      asleep =
+          put w.asleep t (Some s);
+    })) ⊎ ((cell w (cell_of s) ≢ x) × (w' ≡ w))
 Serves w t p (AskWakeOne s) r w' = WakesOne w s w'
 Serves w t p (AskRequeue c x) r w' =
     ((w.sequence c ≡ x) × (w' ≡ record w { asleep = requeued_sleep w.asleep c })) ⊎ ((w.sequence c ≢ x) × (w' ≡ w))

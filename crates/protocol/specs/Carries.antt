@@ -111,8 +111,10 @@ table_after w T t (CasGot m) = record T { hold = put T.hold m (HeldBy t) }
 table_after w T t (FreeGot m v k) = record T { hold = put T.hold m (HeldBy t) }
 table_after w T t (SwapWake m r) = record T { hold = put T.hold m Free; waits = released_waits r t T.waits }
 table_after w T t (SwapAlone m r) = record T { hold = put T.hold m Free; waits = released_waits r t T.waits }
-table_after w T t (WakeSeq c woken) = record T { waits = without_waiters (resumed_by w T c (awake_after w.asleep woken)) T.waits }
-table_after w T t (MoveAll c s) = record T { waits = without_waiters (resumed_by w T c (requeued_sleep w.asleep c)) T.waits }
+table_after w T t (WakeSeq c woken) =
+    record T { waits = without_waiters (resumed_by w T c (awake_after w.asleep woken)) T.waits }
+table_after w T t (MoveAll c s) =
+    record T { waits = without_waiters (resumed_by w T c (requeued_sleep w.asleep c)) T.waits }
 table_after w T t (EntryAlone m x end) = record T { hold = put T.hold m Abandoned }
 table_after w T t (EntryWake m x end woken) = record T { hold = put T.hold m Abandoned }
 table_after w T t (PendAlone m end) = record T { hold = put T.hold m Abandoned }

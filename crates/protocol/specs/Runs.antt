@@ -68,7 +68,8 @@ pub record Matches (w : World) (T : Table) : Type 0 where
   -- claimed, made, over
   pub claimed : (q : ℕ) → ClaimIs (T.claimed q) (w.claim q)
   pub made : T.made ≡ w.made
-  pub over : (q : ℕ) (end : End) → T.over q ≡ Some end → IsOver (w.at q).point end × Tells end (w.outcome q) (w.result q)
+  pub over : (q : ℕ) (end : End) → T.over q ≡ Some end → IsOver (w.at q).point end ×
+      Tells end (w.outcome q) (w.result q)
   pub ended : (q : ℕ) (end : End) → IsOver (w.at q).point end → T.over q ≡ Some end
   -- who has joined knows the end
   pub joined : (t q : ℕ) (end : End) → HasJoined (w.at t).point q end → T.over q ≡ Some end
