@@ -1,1 +1,4 @@
+pub mod CellLaws
 pub mod Joins
+pub mod LengthLaws
+pub mod Spans

@@ -1,4 +1,5 @@
 pub mod Layout
+pub mod Cells
 pub mod Marks
 pub mod Locks
 pub mod Conditions
@@ -6,3 +7,4 @@ pub mod Processes
 pub mod Expressions
 pub mod Statements
 pub mod Pieces
+pub mod Placing

@@ -3,7 +3,9 @@
 #![tactic(auto)]
 
 mod appending;
+mod laws;
 mod mark;
 
 pub use appending::{append, append_plain};
+pub use laws::{cell_laws, piece_laws};
 pub use mark::{Mark, Marked};

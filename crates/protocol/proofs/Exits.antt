@@ -9,12 +9,12 @@ use Rattle.buckets.specs.Places.{names, with_place}
 use Rattle.futexcalls.specs.FutexCalls.{IsChoice}
 use Rattle.robustexit.specs.RobustExit as robust
 use Rattle.robustexit.specs.RobustExit.{Shared, IsIdle, IsEntry, EntryStep, PendingStep, IsPending, IsForeign, IsOwned, NoEntry, ExitStep}
-use Rattle.robustexit.specs.declared.phase.ExitPhase.TheVariants.{Pending, ClearId, LastWake}
+use Rattle.robustexit.specs.declared.phase.ExitPhase.TheVariants.{Pending, ClearId, LastWake, Ended}
 use Rattle.protocol.specs.Word.{owner, waiters, died_word}
-use Rattle.protocol.specs.Points.{Spot, OnLock, OnSequence, OnId, Point, Walks, ClearsId, LastWakes}
+use Rattle.protocol.specs.Points.{Spot, OnLock, OnSequence, OnId, Point, Walks, ClearsId, LastWakes, HasEnded}
 use Rattle.protocol.specs.Points as P
 use Rattle.meaning.specs.Labels.{End}
-use Rattle.protocol.specs.World.{World, mem, awakened, Distinct, IsWake}
+use Rattle.protocol.specs.World.{World, mem, awake_after, Distinct, IsWake}
 use Rattle.protocol.specs.Cells.{Cell, LockOf, LinkOf, PendingOf, IdOf, write, cell_of}
 use Rattle.protocol.specs.Answers.{WakesOne, Abandon}
 use Rattle.protocol.specs.Memory.{entry_address, IsApart, Agrees}
@@ -48,12 +48,12 @@ same_spot (OnSequence c) (OnId n) h = absurd cc
 same_spot (OnId q) (OnLock n) h = absurd cc
 same_spot (OnId q) (OnSequence n) h = absurd cc
 
-spot_at : (place : Cell → ℕ) (valid : Cell → Bool) (x : Spot) (o : Option Spot) → IsApart place valid → valid (cell_of x) ≡ true → ((y : Spot) → o ≡ Some y → valid (cell_of y) ≡ true) → sleep_address place o ≡ Some (place (cell_of x)) → o ≡ Some x
+pub spot_at : (place : Cell → ℕ) (valid : Cell → Bool) (x : Spot) (o : Option Spot) → IsApart place valid → valid (cell_of x) ≡ true → ((y : Spot) → o ≡ Some y → valid (cell_of y) ≡ true) → sleep_address place o ≡ Some (place (cell_of x)) → o ≡ Some x
 spot_at place valid x None apart ok all h = absurd cc
 spot_at place valid x (Some y) apart ok all h = let q : place (cell_of y) ≡ place (cell_of x) = cc in ap Some (same_spot y x (apart (cell_of y) (cell_of x) (all y refl) ok q))
 
 -- a wake on an address is a wake on the word that lies there
-wake_is : (place : Cell → ℕ) (valid : Cell → Bool) (s : Shared) (w : World) (x : Spot) (n : ℕ) (woken : List ℕ) → IsApart place valid → Shares place valid s w → valid (cell_of x) ≡ true → IsChoice s.asleep (place (cell_of x)) n woken → IsWake w.asleep x n woken
+pub wake_is : (place : Cell → ℕ) (valid : Cell → Bool) (s : Shared) (w : World) (x : Spot) (n : ℕ) (woken : List ℕ) → IsApart place valid → Shares place valid s w → valid (cell_of x) ≡ true → IsChoice s.asleep (place (cell_of x)) n woken → IsWake w.asleep x n woken
 wake_is place valid s w x n woken apart inv ok c = record {
   distinct = distinct woken c.distinct;
   slept = λ u h. spot_at place valid x (w.asleep u) apart ok (λ y e. inv.spots u y e) (sym (inv.sleeps u) ∙ c.slept u (names-mem woken u ∙ h));
@@ -61,13 +61,13 @@ wake_is place valid s w x n woken apart inv ok c = record {
   all = λ f u h. sym (names-mem woken u) ∙ c.all f u (inv.sleeps u ∙ ap (sleep_address place) h);
 }
 
-awake_sleeps : (place : Cell → ℕ) (asleep : ℕ → Option ℕ) (asleep' : ℕ → Option Spot) (woken : List ℕ) (u : ℕ) → asleep u ≡ sleep_address place (asleep' u) → with_place asleep woken None u ≡ sleep_address place (awakened asleep' woken u)
+pub awake_sleeps : (place : Cell → ℕ) (asleep : ℕ → Option ℕ) (asleep' : ℕ → Option Spot) (woken : List ℕ) (u : ℕ) → asleep u ≡ sleep_address place (asleep' u) → with_place asleep woken None u ≡ sleep_address place (awake_after asleep' woken u)
 awake_sleeps place asleep asleep' woken u h = elim (cases_Bool (mem u woken)) [
   | inl y ↦ cond-true (names woken u) None (asleep u) (names-mem woken u ∙ y) ∙ sym (ap (sleep_address place) (cond-true (mem u woken) None (asleep' u) y))
   | inr n ↦ cond-false (names woken u) None (asleep u) (names-mem woken u ∙ n) ∙ h ∙ sym (ap (sleep_address place) (cond-false (mem u woken) None (asleep' u) n))
 ]
 
-awake_spots : (valid : Cell → Bool) (asleep' : ℕ → Option Spot) (woken : List ℕ) (u : ℕ) (x : Spot) → ((y : Spot) → asleep' u ≡ Some y → valid (cell_of y) ≡ true) → awakened asleep' woken u ≡ Some x → valid (cell_of x) ≡ true
+pub awake_spots : (valid : Cell → Bool) (asleep' : ℕ → Option Spot) (woken : List ℕ) (u : ℕ) (x : Spot) → ((y : Spot) → asleep' u ≡ Some y → valid (cell_of y) ≡ true) → awake_after asleep' woken u ≡ Some x → valid (cell_of x) ≡ true
 awake_spots valid asleep' woken u x all h = elim (cases_Bool (mem u woken)) [
   | inl y ↦ let z : None ≡ Some x = sym (cond-true (mem u woken) None (asleep' u) y) ∙ h in absurd cc
   | inr n ↦ all x (sym (cond-false (mem u woken) None (asleep' u) n) ∙ h)
@@ -76,7 +76,7 @@ awake_spots valid asleep' woken u x all h = elim (cases_Bool (mem u woken)) [
 -- a wake of one, where no word changes
 wakes_one : (place : Cell → ℕ) (valid : Cell → Bool) (s s' : Shared) (w : World) (x : Spot) (woken : List ℕ) → IsApart place valid → Shares place valid s w → valid (cell_of x) ≡ true → robust.WakesOne (place (cell_of x)) s woken s' → (w' : World) × WakesOne w x w' × Shares place valid s' w'
 wakes_one place valid s s' w x woken apart inv ok h = (
-  record w { asleep = awakened w.asleep woken },
+  record w { asleep = awake_after w.asleep woken },
   record { woken = woken; wake = wake_is place valid s w x 1 woken apart inv ok h.wakes.choice; awake = refl },
   record {
     words = record { word = λ a k. ap (λ f. f (place a)) h.same ∙ inv.words.word a k };
@@ -85,7 +85,7 @@ wakes_one place valid s s' w x woken apart inv ok h = (
   },
 )
 
-none_woken : (us : List ℕ) → length us ≤ 0 → us ≡ []
+pub none_woken : (us : List ℕ) → length us ≤ 0 → us ≡ []
 none_woken [] h = refl
 none_woken (x ∷ xs) h = absurd (omega (arith, h))
 
@@ -110,7 +110,7 @@ abandons place valid size t m s s' w woken lay inv ok h =
       | inr n ↦
           let some : waiters_of (w.lock m) ≡ true = ap not (ne_eqb (waiters (w.lock m)) 0 n) in
           let one : IsChoice s.asleep (place (LockOf m)) 1 woken = subst (λ b. IsChoice s.asleep (place (LockOf m)) (if b then 1 else 0) woken) some choice in (
-            record w { lock = put w.lock m (died_word (w.lock m)); asleep = awakened w.asleep woken },
+            record w { lock = put w.lock m (died_word (w.lock m)); asleep = awake_after w.asleep woken },
             (own, inr (n, record { woken = woken; wake = wake_is place valid s w (OnLock m) 1 woken lay.apart inv ok' one; awake = refl })),
             record { words = record { word = agrees.word }; sleeps = λ u. ap (λ f. f u) h.wakes.awake ∙ awake_sleeps place s.asleep w.asleep woken u (inv.sleeps u); spots = λ u y e. awake_spots valid w.asleep woken u y (λ z k. inv.spots u z k) e },
           )
@@ -173,4 +173,6 @@ exits_follow place valid size t w (LastWakes end) phase next s s' woken lay inv 
     let d : ExitStep size t LastWake s woken s' next = subst (λ y. ExitStep size t y s woken s' next) is step in
     let a = wakes_one place valid s s' w (OnId t) woken lay.apart inv oki (subst (λ y. robust.WakesOne y s woken s') (sym (lay.id t oki)) d.0) in
     record { world = a.0; does = a.1; shares = a.2 }
+exits_follow place valid size t w (HasEnded end) phase next s s' woken lay inv okp oki all is step =
+    let d : ExitStep size t Ended s woken s' next = subst (λ y. ExitStep size t y s woken s' next) is step in absurd d
 exits_follow place valid size t w p phase next s s' woken lay inv okp oki all is step = absurd is

@@ -4,7 +4,7 @@ use Rattle.std.proofs.lemmas.Bool.{cases_eq, false≢true, eq-eqb, ne_eqb, or_le
 use Rattle.program.specs.declared.kinds.Member.{Member}
 use Rattle.meaning.specs.Table.{HeldBy, Table}
 use Rattle.protocol.specs.Word.{owner}
-use Rattle.protocol.specs.Points.{Purpose, ToEnter, ToReenter, ToResume, Entry, NoEntry, Owned, Unowned, Point, TakeReads, TakeMarks, TakeSleeps, TakeTries, LeaveWakes, Dies, Walks, entry_at, taking_entry, Thread, th}
+use Rattle.protocol.specs.Points.{Purpose, ToEnter, ToReenter, ToResume, Entry, NoEntry, Owned, Unowned, Point, TakeReads, TakeMarks, TakeSleeps, TakeTries, LeaveWakes, Dies, Walks, entry_at, taking_entry, Thread, thread_at}
 use Rattle.protocol.specs.World.{World, mem, tail, Distinct}
 use Rattle.protocol.specs.Moves.{Move}
 use Rattle.protocol.specs.Origins.{from}
@@ -34,8 +34,8 @@ pub record Good (w : World) (T : Table) : Type 0 where
   pub made : T.made ≡ w.made
 
 -- the mover
-pub stands_at : (w : World) (t : ℕ) (m : Move) → Can w t m → w.at t ≡ th (from m) (w.at t).list
-stands_at w t m can = ap (λ q. th q (w.at t).list) can.stands
+pub stands_at : (w : World) (t : ℕ) (m : Move) → Can w t m → w.at t ≡ thread_at (from m) (w.at t).list
+stands_at w t m can = ap (λ q. thread_at q (w.at t).list) can.stands
 
 pub known_at : (w : World) (T : Table) (t : ℕ) (m : Move) → Good w T → Can w t m → Distinct (w.at t).list × Listed (from m) (w.at t).list
 unfolding Knows

@@ -3,7 +3,7 @@ use Rattle.std.proofs.Common.{◌≡◌, ◌≢◌, ℕ, ◌<◌, Bool, true, fa
 use Rattle.std.proofs.lemmas.Bool.{cases_eq, false≢true, eq-eqb, or_left, cond-true}
 use Rattle.words.specs.Updates.{put}
 use Rattle.protocol.specs.Points.{Spot, OnId, Thread, Point, Unmade, JoinReads, JoinSleeps, LastWakes, HasEnded}
-use Rattle.protocol.specs.World.{mem, awakened, IsWake}
+use Rattle.protocol.specs.World.{mem, awake_after, IsWake}
 use Rattle.protocol.proofs.Sleeps.{at_put, awakened_less}
 
 abbrev pub point_joins : Point → ℕ → Bool
@@ -68,15 +68,15 @@ j_slept id claim asleep at t q p p' inv stands same mine there on idat = record 
 }
 
 -- after the last wake nobody sleeps there, since one thread at most joined
-pub none_after : (id claim : ℕ → ℕ) (asleep : ℕ → Option Spot) (at : ℕ → Thread) (q u : ℕ) (woken : List ℕ) → Joiners id claim asleep at → IsWake asleep (OnId q) 1 woken → awakened asleep woken u ≡ Some (OnId q) → ⊥
+pub none_after : (id claim : ℕ → ℕ) (asleep : ℕ → Option Spot) (at : ℕ → Thread) (q u : ℕ) (woken : List ℕ) → Joiners id claim asleep at → IsWake asleep (OnId q) 1 woken → awake_after asleep woken u ≡ Some (OnId q) → ⊥
 none_after id claim asleep at q u [] inv wake h = false≢true (wake.all (omega arith) u h)
 none_after id claim asleep at q u (x ∷ xs) inv wake h =
     let here : mem x (x ∷ xs) ≡ true = or_left (x == x) (mem x xs) (eq-eqb x x refl) in
     let a = inv.sleeps x q (wake.slept x here) in
     let b = inv.sleeps u q (awakened_less asleep (x ∷ xs) u _ h) in
     let same : x ≡ u = inv.one x u q a b in
-    let z : awakened asleep (x ∷ xs) x ≡ None = cond-true (mem x (x ∷ xs)) None (asleep x) here in
-    let y : awakened asleep (x ∷ xs) x ≡ Some (OnId q) = subst (λ k. awakened asleep (x ∷ xs) k ≡ Some (OnId q)) (sym same) h in
+    let z : awake_after asleep (x ∷ xs) x ≡ None = cond-true (mem x (x ∷ xs)) None (asleep x) here in
+    let y : awake_after asleep (x ∷ xs) x ≡ Some (OnId q) = subst (λ k. awake_after asleep (x ∷ xs) k ≡ Some (OnId q)) (sym same) h in
     cc
 
 pub id_goes : (p : Point) (q v : ℕ) → IdAt p q v → v ≡ q → 0 < q → point_goes p ≡ true

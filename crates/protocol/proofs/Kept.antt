@@ -6,12 +6,12 @@ use Rattle.program.specs.declared.kinds.Member.{Member}
 use Rattle.meaning.specs.Labels.{Label, Alone, Stores, Waits}
 use Rattle.meaning.specs.Table.{Hold, Free, Abandoned, HeldBy, Table, first_table, Allows, IsNotified, IsBroadcast}
 use Rattle.protocol.specs.Word.{owner, waiters, died}
-use Rattle.protocol.specs.Points.{ToEnter, ToReenter, ToResume, ToExit, ToWait, Spot, OnSequence, Point, Unmade, Runs, NotifyWakes, BroadcastMarks, BroadcastReads, BroadcastMoves, Thread, th}
-use Rattle.protocol.specs.World.{World, mem, IsWake, awakened, requeued_sleep, opening_world, opening_thread}
+use Rattle.protocol.specs.Points.{ToEnter, ToReenter, ToResume, ToExit, ToWait, Spot, OnSequence, Point, Unmade, Runs, NotifyWakes, BroadcastMarks, BroadcastReads, BroadcastMoves, Thread, thread_at}
+use Rattle.protocol.specs.World.{World, mem, IsWake, awake_after, requeued_sleep, opening_world, opening_thread}
 use Rattle.protocol.specs.Moves.{Move, Own, CasGot, FreeGot, SwapWake, SwapAlone, WakeSeq, MoveAll, Kill, StraySeq, Fork, ForkFull, Claim, ClaimTaken, IdGone}
 use Rattle.protocol.specs.Steps.{Can, after}
 use Rattle.protocol.specs.Finds.{IsOwn}
-use Rattle.protocol.specs.Carries.{Permits, PermitsMove, carried, death, table_after, killed_waits, resumed_by, is_resumed, has_died}
+use Rattle.protocol.specs.Carries.{Permits, PermitsMove, event_of, death, table_after, killed_waits, resumed_by, is_resumed, has_died}
 use Rattle.protocol.specs.Runs.{IsOver, HasJoined}
 use Rattle.protocol.proofs.Words.{owner-small, died-small}
 use Rattle.protocol.proofs.Sleeps.{requeue_less, mem-contains, contains-mem, chosen_sound, chosen_all}
@@ -67,11 +67,11 @@ tie_enterable (HeldBy q) v h z = absurd (omega (arith, h.0, h.1, z))
 tie_enterable Abandoned v h z = sym (ap (λ b. enterable (not b)) (ne_eqb (died v) 0 (λ d. omega (arith, d, h.1))))
 
 -- a notify resumes somebody, where any waits
-some_resumed : (c : Member) (asleep : ℕ → Option Spot) (waits : ℕ → Option Member) (woken : List ℕ) (u : ℕ) → IsWake asleep (OnSequence c) 1 woken → ((x : ℕ) → asleep x ≡ Some (OnSequence c) → waits x ≡ Some c) → waits u ≡ Some c → (x : ℕ) × (is_resumed c (awakened asleep woken) waits x ≡ true)
-some_resumed c asleep waits [] u wake slept h = elim (resumed_or_asleep c (awakened asleep []) waits u h) [ inl r ↦ (u, r) | inr a ↦ absurd (false≢true (wake.all (omega arith) u a)) ]
+some_resumed : (c : Member) (asleep : ℕ → Option Spot) (waits : ℕ → Option Member) (woken : List ℕ) (u : ℕ) → IsWake asleep (OnSequence c) 1 woken → ((x : ℕ) → asleep x ≡ Some (OnSequence c) → waits x ≡ Some c) → waits u ≡ Some c → (x : ℕ) × (is_resumed c (awake_after asleep woken) waits x ≡ true)
+some_resumed c asleep waits [] u wake slept h = elim (resumed_or_asleep c (awake_after asleep []) waits u h) [ inl r ↦ (u, r) | inr a ↦ absurd (false≢true (wake.all (omega arith) u a)) ]
 some_resumed c asleep waits (x ∷ xs) u wake slept h =
     let here : mem x (x ∷ xs) ≡ true = or_left (x == x) (mem x xs) (eq-eqb x x refl) in
-    elim (resumed_or_asleep c (awakened asleep (x ∷ xs)) waits x (slept x (wake.slept x here))) [ inl r ↦ (x, r) | inr a ↦ let z : awakened asleep (x ∷ xs) x ≡ None = cond-true (mem x (x ∷ xs)) None (asleep x) here in absurd cc ]
+    elim (resumed_or_asleep c (awake_after asleep (x ∷ xs)) waits x (slept x (wake.slept x here))) [ inl r ↦ (x, r) | inr a ↦ let z : awake_after asleep (x ∷ xs) x ≡ None = cond-true (mem x (x ∷ xs)) None (asleep x) here in absurd cc ]
 
 resumed_wait : (w : World) (T : Table) (c : Member) (asleep' : ℕ → Option Spot) (q : ℕ) → Contains (resumed_by w T c asleep') q → T.waits q ≡ Some c
 resumed_wait w T c asleep' q h = resumed_waits c asleep' T.waits q (chosen_sound (is_resumed c asleep' T.waits) w.made 1 q (contains-mem (resumed_by w T c asleep') q h))
@@ -85,10 +85,10 @@ not_member : (x : ℕ) (us : List ℕ) → mem x us ≡ true → us ≡ [] → �
 not_member x [] h e = false≢true h
 not_member x (u ∷ us) h e = cc
 
-notified : (w : World) (T : Table) (c : Member) (woken : List ℕ) → Good w T → IsWake w.asleep (OnSequence c) 1 woken → IsNotified T c (resumed_by w T c (awakened w.asleep woken))
+notified : (w : World) (T : Table) (c : Member) (woken : List ℕ) → Good w T → IsWake w.asleep (OnSequence c) 1 woken → IsNotified T c (resumed_by w T c (awake_after w.asleep woken))
 notified w T c woken inv wake = record {
-  wait = λ q h. resumed_wait w T c (awakened w.asleep woken) q h;
-  some = λ q h none. let r = some_resumed c w.asleep T.waits woken q wake (λ x a. inv.conds.sleeper x c a) h in not_member r.0 (resumed_by w T c (awakened w.asleep woken)) (resumed_member w T c (awakened w.asleep woken) r.0 inv r.1) none;
+  wait = λ q h. resumed_wait w T c (awake_after w.asleep woken) q h;
+  some = λ q h none. let r = some_resumed c w.asleep T.waits woken q wake (λ x a. inv.conds.sleeper x c a) h in not_member r.0 (resumed_by w T c (awake_after w.asleep woken)) (resumed_member w T c (awake_after w.asleep woken) r.0 inv r.1) none;
 }
 
 broadcast : (w : World) (T : Table) (c : Member) → Good w T → IsBroadcast T c (resumed_by w T c (requeued_sleep w.asleep c))
@@ -110,7 +110,7 @@ kill_permitted w T t p = (refl, refl)
 waits_permitted : (t m : ℕ) (c : Member) (T : Table) → c.monitor ≡ m → Allows t (Waits c) T (record T { hold = put T.hold m Free; waits = put T.waits t (Some c) })
 waits_permitted t m c T home = ap (λ x. record T { hold = put T.hold x Free; waits = put T.waits t (Some c) }) (sym home)
 
-pub permitted : (w : World) (T : Table) (t : ℕ) (m : Move) → Good w T → Can w t m → PermitsMove (carried w T t m) T (table_after w T t m)
+pub permitted : (w : World) (T : Table) (t : ℕ) (m : Move) → Good w T → Can w t m → PermitsMove (event_of w T t m) T (table_after w T t m)
 permitted w T t (Own l) inv can = own_allowed t l T can.finds
 permitted w T t (CasGot e) inv can = (tie_zero (T.hold e) (w.lock e) (inv.locks.tie e) can.finds, refl)
 permitted w T t (FreeGot e v ToEnter) inv can =
@@ -136,20 +136,20 @@ permitted w T t (Kill p) inv can = kill_permitted w T t p
 permitted w T t m inv can = refl
 
 -- ---- the opening
-opening_case : (P : Thread → Type 0) → P (th Runs []) → P (th Unmade []) → (t : ℕ) → P (opening_thread t)
-opening_case P a b t = cond_both (t == 1) (th Runs []) (th Unmade []) P (λ h. a) (λ h. b)
+opening_case : (P : Thread → Type 0) → P (thread_at Runs []) → P (thread_at Unmade []) → (t : ℕ) → P (opening_thread t)
+opening_case P a b t = cond_both (t == 1) (thread_at Runs []) (thread_at Unmade []) P (λ h. a) (λ h. b)
 
 opening_id : (q : ℕ) → IdAt (opening_thread q).point q (if q == 1 then 1 else 0)
 opening_id q = elim (cases_eq q 1) [
   | inl e ↦ subst (λ y. IdAt (opening_thread y).point y (if y == 1 then 1 else 0)) (sym e) refl
-  | inr n ↦ subst (λ b. IdAt (if b then th Runs [] else th Unmade []).point q (if b then 1 else 0)) (sym (ne_eqb q 1 n)) refl
+  | inr n ↦ subst (λ b. IdAt (if b then thread_at Runs [] else thread_at Unmade []).point q (if b then 1 else 0)) (sym (ne_eqb q 1 n)) refl
 ]
 
 opening_number : (t : ℕ) → is_made (opening_thread t) ≡ true → (0 < t) × (t ≤ 1)
 unfolding is_made
 opening_number t = elim (cases_eq t 1) [
   | inl e ↦ λ h. (omega (arith, e), omega (arith, e))
-  | inr n ↦ λ h. absurd (false≢true (subst (λ b. point_made (if b then th Runs [] else th Unmade []).point ≡ true) (ne_eqb t 1 n) h))
+  | inr n ↦ λ h. absurd (false≢true (subst (λ b. point_made (if b then thread_at Runs [] else thread_at Unmade []).point ≡ true) (ne_eqb t 1 n) h))
 ]
 
 pub good_start : Good opening_world first_table

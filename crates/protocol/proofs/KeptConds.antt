@@ -6,7 +6,7 @@ use Rattle.program.specs.declared.kinds.Member.{Member}
 use Rattle.meaning.specs.Labels.{Killed}
 use Rattle.meaning.specs.Table.{Table, without_waiters}
 use Rattle.protocol.specs.Word.{owner}
-use Rattle.protocol.specs.Points.{Purpose, ToEnter, ToReenter, ToResume, Release, ToExit, ToWait, Spot, OnLock, OnSequence, OnId, Point, Unmade, TakeReads, TakeMarks, TakeSleeps, TakeTries, NotifyWakes, BroadcastMarks, BroadcastReads, BroadcastMoves, LeaveWakes, HasLeft, Dies, entry_at, Thread, th}
+use Rattle.protocol.specs.Points.{Purpose, ToEnter, ToReenter, ToResume, Release, ToExit, ToWait, Spot, OnLock, OnSequence, OnId, Point, Unmade, TakeReads, TakeMarks, TakeSleeps, TakeTries, NotifyWakes, BroadcastMarks, BroadcastReads, BroadcastMoves, LeaveWakes, HasLeft, Dies, entry_at, Thread, thread_at}
 use Rattle.protocol.specs.World.{World, mem, moved_sleep}
 use Rattle.protocol.specs.Moves.{Move, Sleep, FreeGot, SwapWake, SwapAlone, Wake, SeqSleep, SeqAgain, AddSeq, WakeSeq, AddAll, MoveAll, Kill, Stray, StraySeq, StrayId, EntryWake, PendWake, PendForeign, LastWake, IdSleep}
 use Rattle.protocol.specs.Origins.{from}
@@ -72,7 +72,7 @@ kill_notifier : (w : World) (T : Table) (t : ℕ) (c : Member) (p p' : Thread) �
 kill_notifier w T t c p p' inv stands was is =
     c_notified _ _ _ _ _ _ t c p p' inv.conds stands (put_same w.asleep t None) was is (λ u d h. put_less w.asleep t None _ u (λ q. absurd cc) h) (λ u d n o h. put_other w.asleep t None u o ∙ h) (resumption_put c (put w.asleep t None) T.waits _ t (inv.conds.ringing t c (ap stage stands ∙ was)) (resumed_ok w T c (put w.asleep t None) inv))
 
-kill_conds : (w : World) (T : Table) (t : ℕ) (p : Point) → Good w T → w.at t ≡ th p (w.at t).list → Conds w.sequence (put w.asleep t None) (put w.at t (th (Dies Killed (entry_at p)) (w.at t).list)) (killed_waits w T t p)
+kill_conds : (w : World) (T : Table) (t : ℕ) (p : Point) → Good w T → w.at t ≡ thread_at p (w.at t).list → Conds w.sequence (put w.asleep t None) (put w.at t (thread_at (Dies Killed (entry_at p)) (w.at t).list)) (killed_waits w T t p)
 unfolding stage
 kill_conds w T t (NotifyWakes c) inv stands = kill_notifier w T t c _ _ inv stands refl refl
 kill_conds w T t (BroadcastMarks c) inv stands = kill_notifier w T t c _ _ inv stands refl refl

@@ -4,8 +4,8 @@ use Rattle.std.proofs.lemmas.Bool.{false≢true, eq-eqb, eqb-true}
 use Rattle.words.specs.Updates.{put}
 use Rattle.meaning.specs.Labels.{End}
 use Rattle.meaning.specs.Table.{Table}
-use Rattle.protocol.specs.Points.{OnLock, OnSequence, Point, Unmade, Runs, HasLeft, Walks, ClearsId, LastWakes, HasEnded, IsLive, th}
-use Rattle.protocol.specs.World.{World, tail, awakened}
+use Rattle.protocol.specs.Points.{OnLock, OnSequence, Point, Unmade, Runs, HasLeft, Walks, ClearsId, LastWakes, HasEnded, IsLive, thread_at}
+use Rattle.protocol.specs.World.{World, tail, awake_after}
 use Rattle.protocol.specs.Moves.{Move, Sleep, Wake, SeqSleep, WakeSeq, MoveAll, Kill, Stray, StraySeq, StrayId, Return, WriteFault, EntryWake, PendWake, PendForeign, ClearId, LastWake, Fork, Claim, ClaimTaken, IdGone, IdThere, IdSleep, IdAgain, LearnEnded}
 use Rattle.protocol.specs.Origins.{from}
 use Rattle.protocol.specs.Steps.{Can, after}
@@ -27,12 +27,12 @@ id_alive p q v a h = h
 id_at : (w : World) (T : Table) (t : ℕ) (m : Move) → Good w T → Can w t m → IdAt (from m) t (w.id t)
 id_at w T t m inv can = subst (λ y. IdAt y t (w.id t)) can.stands (inv.joiners.ids t)
 
-wake_joins : (w : World) (T : Table) (t : ℕ) (m : Move) (p' : Point) (l : List ℕ) (woken : List ℕ) → Good w T → Can w t m → ((q : ℕ) → point_joins p' q ≡ true → point_joins (from m) q ≡ true) → goes (th p' l) ≡ true → w.asleep t ≡ None → IdAt p' t (w.id t) → Joiners w.id w.claim (awakened w.asleep woken) (put w.at t (th p' l))
+wake_joins : (w : World) (T : Table) (t : ℕ) (m : Move) (p' : Point) (l : List ℕ) (woken : List ℕ) → Good w T → Can w t m → ((q : ℕ) → point_joins p' q ≡ true → point_joins (from m) q ≡ true) → goes (thread_at p' l) ≡ true → w.asleep t ≡ None → IdAt p' t (w.id t) → Joiners w.id w.claim (awake_after w.asleep woken) (put w.at t (thread_at p' l))
 unfolding joins goes
 wake_joins w T t m p' l woken inv can less on awake i =
-    j_same _ _ _ _ _ _ t (th (from m) (w.at t).list) _ inv.joiners (stands_at w t m can) less (λ u q h. awakened_less w.asleep woken u _ h) (λ q h. let y = awakened_less w.asleep woken t _ h in cc) (λ u h. on) i (λ u n. refl)
+    j_same _ _ _ _ _ _ t (thread_at (from m) (w.at t).list) _ inv.joiners (stands_at w t m can) less (λ u q h. awakened_less w.asleep woken u _ h) (λ q h. let y = awakened_less w.asleep woken t _ h in cc) (λ u h. on) i (λ u n. refl)
 
-stray_joins : (w : World) (T : Table) (t : ℕ) (p : Point) → Good w T → w.at t ≡ th p (w.at t).list → Joiners w.id w.claim (put w.asleep t None) (put w.at t (th p (w.at t).list))
+stray_joins : (w : World) (T : Table) (t : ℕ) (p : Point) → Good w T → w.at t ≡ thread_at p (w.at t).list → Joiners w.id w.claim (put w.asleep t None) (put w.at t (thread_at p (w.at t).list))
 stray_joins w T t p inv stands =
     j_same _ _ _ _ _ _ t _ _ inv.joiners refl (λ q h. ap (λ y. joins y q) stands ∙ h) (λ u q h. put_less w.asleep t None _ u (λ q. absurd cc) h) (λ q h. let z = put_same w.asleep t None in cc) (λ u h. ap goes (sym stands) ∙ inv.joiners.unended u t (put_less w.asleep t None _ u (λ q. absurd cc) h)) (subst (λ y. IdAt y.point t (w.id t)) stands (inv.joiners.ids t)) (λ u n. refl)
 
@@ -80,7 +80,7 @@ joined_at : (w : World) (T : Table) (t : ℕ) (m : Move) (q : ℕ) → Good w T 
 unfolding joins
 joined_at w T t m q inv can h = inv.threads.joined t q (ap (λ y. point_joins y q) can.stands ∙ h)
 
-stray_threads : (w : World) (T : Table) (t : ℕ) (p : Point) → Good w T → 0 < t → t ≤ w.made → w.at t ≡ th p (w.at t).list → Threads w.made (put w.at t (th p (w.at t).list))
+stray_threads : (w : World) (T : Table) (t : ℕ) (p : Point) → Good w T → 0 < t → t ≤ w.made → w.at t ≡ thread_at p (w.at t).list → Threads w.made (put w.at t (thread_at p (w.at t).list))
 unfolding is_made joins
 stray_threads w T t p inv pos high stands =
     let is : point_made p ≡ true = sym (ap is_made stands) ∙ inv.threads.exist t pos high in
@@ -106,7 +106,7 @@ ends_at w T t m inv can = subst (λ y. EndsAt y (w.outcome t) (w.result t)) can.
 learned_at : (w : World) (T : Table) (t : ℕ) (m : Move) → Good w T → Can w t m → (q : ℕ) (e : End) → HasJoined (from m) q e → T.over q ≡ Some e
 learned_at w T t m inv can q e h = inv.ends.learned t q e (subst (λ y. HasJoined y q e) (sym can.stands) h)
 
-stray_ends : (w : World) (T : Table) (t : ℕ) (p : Point) → Good w T → w.at t ≡ th p (w.at t).list → Ends w.outcome w.result (put w.at t (th p (w.at t).list)) T.over
+stray_ends : (w : World) (T : Table) (t : ℕ) (p : Point) → Good w T → w.at t ≡ thread_at p (w.at t).list → Ends w.outcome w.result (put w.at t (thread_at p (w.at t).list)) T.over
 stray_ends w T t p inv stands =
     e_same _ _ _ _ _ _ t _ _ inv.ends stands (subst (λ y. EndsAt y.point (w.outcome t) (w.result t)) stands (inv.ends.tells t)) (λ u o. (refl, refl)) (λ e h. h) (λ e h. h) (λ q e h. inv.ends.learned t q e (subst (λ y. HasJoined y.point q e) (sym stands) h))
 

@@ -6,7 +6,7 @@ use Rattle.program.specs.declared.kinds.Member.{Member}
 use Rattle.meaning.specs.Table.{Hold, Free, Abandoned, HeldBy}
 use Rattle.protocol.specs.Word.{owner, waiters, died}
 use Rattle.protocol.specs.Points.{Spot, OnLock, OnSequence, Thread}
-use Rattle.protocol.specs.World.{awakened, requeued_sleep, moved_sleep, IsWake}
+use Rattle.protocol.specs.World.{awake_after, requeued_sleep, moved_sleep, IsWake}
 use Rattle.protocol.proofs.Sleeps.{at_put, at_put2, put_other, some_woken, requeue_lock}
 use Rattle.protocol.proofs.Roles.{holds, helps, may_sleep, Knows, Tie, sleeper_role}
 
@@ -126,7 +126,7 @@ released lock asleep at hold t e p p' inv awake stands same mine gone more known
 }
 
 -- a wake
-pub woke : (lock : ℕ → ℕ) (asleep : ℕ → Option Spot) (at : ℕ → Thread) (hold : ℕ → Hold) (t e n : ℕ) (woken : List ℕ) (p p' : Thread) → Inv lock asleep at hold → asleep t ≡ None → at t ≡ p → ((x : ℕ) → holds p' x ≡ holds p x) → ((x : ℕ) → x ≢ e → helps p x ≡ true → helps p' x ≡ true) → Knows p' → 0 < n → IsWake asleep (OnLock e) n woken → Inv lock (awakened asleep woken) (put at t p') hold
+pub woke : (lock : ℕ → ℕ) (asleep : ℕ → Option Spot) (at : ℕ → Thread) (hold : ℕ → Hold) (t e n : ℕ) (woken : List ℕ) (p p' : Thread) → Inv lock asleep at hold → asleep t ≡ None → at t ≡ p → ((x : ℕ) → holds p' x ≡ holds p x) → ((x : ℕ) → x ≢ e → helps p x ≡ true → helps p' x ≡ true) → Knows p' → 0 < n → IsWake asleep (OnLock e) n woken → Inv lock (awake_after asleep woken) (put at t p') hold
 woke lock asleep at hold t e n woken p p' inv awake stands same more known pos wake = record {
   tie = inv.tie;
   owned = λ x u h. grind (arith, inv.owned x u h, same x);
@@ -160,7 +160,7 @@ killed lock asleep at hold t p p' inv stands same more known = record {
 }
 
 -- an owner's exit gives up a lock
-pub abandoned : (lock : ℕ → ℕ) (asleep : ℕ → Option Spot) (at : ℕ → Thread) (hold : ℕ → Hold) (t e v : ℕ) (woken : List ℕ) (p p' : Thread) → Inv lock asleep at hold → asleep t ≡ None → at t ≡ p → ((x : ℕ) → x ≢ e → holds p' x ≡ holds p x) → holds p e ≡ true → holds p' e ≡ false → ((x : ℕ) → helps p x ≡ true → helps p' x ≡ true) → Knows p' → owner v ≡ 0 → died v ≡ 1073741824 → ((waiters (lock e) ≡ 0) × (woken ≡ [])) ⊎ IsWake asleep (OnLock e) 1 woken → Inv (put lock e v) (awakened asleep woken) (put at t p') (put hold e Abandoned)
+pub abandoned : (lock : ℕ → ℕ) (asleep : ℕ → Option Spot) (at : ℕ → Thread) (hold : ℕ → Hold) (t e v : ℕ) (woken : List ℕ) (p p' : Thread) → Inv lock asleep at hold → asleep t ≡ None → at t ≡ p → ((x : ℕ) → x ≢ e → holds p' x ≡ holds p x) → holds p e ≡ true → holds p' e ≡ false → ((x : ℕ) → helps p x ≡ true → helps p' x ≡ true) → Knows p' → owner v ≡ 0 → died v ≡ 1073741824 → ((waiters (lock e) ≡ 0) × (woken ≡ [])) ⊎ IsWake asleep (OnLock e) 1 woken → Inv (put lock e v) (awake_after asleep woken) (put at t p') (put hold e Abandoned)
 abandoned lock asleep at hold t e v woken p p' inv awake stands same mine gone more known none mark how = record {
   tie = λ x. at_put2 hold lock e Abandoned v x Tie (λ h. tie_of_abandoned v none mark) (λ h. inv.tie x);
   owned = λ x u h. grind (arith, inv.owned x u, same x, h);

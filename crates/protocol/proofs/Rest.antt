@@ -9,7 +9,7 @@ use Rattle.protocol.specs.World.{World, mem, opening_world}
 use Rattle.protocol.specs.Moves.{Move}
 use Rattle.protocol.specs.Finds.{Tells}
 use Rattle.protocol.specs.Steps.{after}
-use Rattle.protocol.specs.Carries.{Event, PermitsMove, carried, table_after}
+use Rattle.protocol.specs.Carries.{Event, PermitsMove, event_of, table_after}
 use Rattle.std.specs.Prelude.{length}
 use Rattle.program.specs.declared.kinds.Member.{Member}
 use Rattle.std.proofs.lemmas.Bool.{cond_both}
@@ -36,7 +36,7 @@ run_kept : (ss : List (ℕ × Move)) (w w' : World) (T : Table) → Good w T →
 run_kept [] w w' T inv run = (refl, subst (λ x. Good x T) (sym run) inv)
 run_kept (s ∷ ss) w w' T inv run =
     let rest = run_kept ss (after w s.0 s.1) w' (table_after w T s.0 s.1) (kept w T s.0 s.1 inv run.0) run.1 in
-    (with_permitted (carried w T s.0 s.1) (events (after w s.0 s.1) (table_after w T s.0 s.1) ss) T (table_after w T s.0 s.1) (last_table (after w s.0 s.1) (table_after w T s.0 s.1) ss) (permitted w T s.0 s.1 inv run.0) rest.0, rest.1) where
+    (with_permitted (event_of w T s.0 s.1) (events (after w s.0 s.1) (table_after w T s.0 s.1) ss) T (table_after w T s.0 s.1) (last_table (after w s.0 s.1) (table_after w T s.0 s.1) ss) (permitted w T s.0 s.1 inv run.0) rest.0, rest.1) where
       with_permitted : (e : Option Event) (es : List Event) (T mid T' : Table) → PermitsMove e T mid → PermitsAll es mid T' → PermitsAll (with_event e es) T T'
       with_permitted None es T mid T' here later = subst (λ x. PermitsAll es x T') here later
       with_permitted (Some e) es T mid T' here later = (mid, here, later)

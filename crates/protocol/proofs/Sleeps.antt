@@ -6,7 +6,7 @@ use Rattle.words.specs.Updates.{put}
 use Rattle.program.specs.declared.kinds.Member.{Member}
 use Rattle.meaning.specs.Table.{without_waiters}
 use Rattle.protocol.specs.Points.{Spot, OnLock, OnSequence, OnId}
-use Rattle.protocol.specs.World.{same_member, put_sequence, mem, awakened, requeued_sleep, moved_sleep, moved_spot, IsWake}
+use Rattle.protocol.specs.World.{same_member, put_sequence, mem, awake_after, requeued_sleep, moved_sleep, moved_spot, IsWake}
 use Rattle.protocol.specs.Carries.{on_sequence, waits_on, with_number, chosen_from}
 
 -- ---- a function that was changed at one place
@@ -57,23 +57,23 @@ put_less asleep t s x u n h = elim (cases_eq u t) [ inl q ↦ absurd (n (sym (pu
 pub put_more : (asleep : ℕ → Option Spot) (t : ℕ) (s x : Option Spot) (u : ℕ) → asleep t ≢ x → asleep u ≡ x → put asleep t s u ≡ x
 put_more asleep t s x u n h = put_other asleep t s u (λ q. n (subst (λ y. asleep y ≡ x) q h)) ∙ h
 
-pub awakened_less : (asleep : ℕ → Option Spot) (woken : List ℕ) (u : ℕ) (x : Spot) → awakened asleep woken u ≡ Some x → asleep u ≡ Some x
+pub awakened_less : (asleep : ℕ → Option Spot) (woken : List ℕ) (u : ℕ) (x : Spot) → awake_after asleep woken u ≡ Some x → asleep u ≡ Some x
 awakened_less asleep woken u x h = elim (cases_Bool (mem u woken)) [ inl y ↦ let e : None ≡ Some x = sym (cond-true (mem u woken) None (asleep u) y) ∙ h in absurd cc | inr n ↦ sym (cond-false (mem u woken) None (asleep u) n) ∙ h ]
 
-pub awakened_more : (asleep : ℕ → Option Spot) (s : Spot) (n : ℕ) (woken : List ℕ) (u : ℕ) (x : Spot) → IsWake asleep s n woken → x ≢ s → asleep u ≡ Some x → awakened asleep woken u ≡ Some x
+pub awakened_more : (asleep : ℕ → Option Spot) (s : Spot) (n : ℕ) (woken : List ℕ) (u : ℕ) (x : Spot) → IsWake asleep s n woken → x ≢ s → asleep u ≡ Some x → awake_after asleep woken u ≡ Some x
 awakened_more asleep s n woken u x wake ne h = elim (cases_Bool (mem u woken)) [ inl y ↦ let e : Some x ≡ Some s = sym h ∙ wake.slept u y in absurd (ne cc) | inr z ↦ cond-false (mem u woken) None (asleep u) z ∙ h ]
 
-pub awakened_none : (asleep : ℕ → Option Spot) (woken : List ℕ) (u : ℕ) → asleep u ≡ None → awakened asleep woken u ≡ None
+pub awakened_none : (asleep : ℕ → Option Spot) (woken : List ℕ) (u : ℕ) → asleep u ≡ None → awake_after asleep woken u ≡ None
 awakened_none asleep woken u h = elim (cases_Bool (mem u woken)) [ inl y ↦ cond-true (mem u woken) None (asleep u) y | inr z ↦ cond-false (mem u woken) None (asleep u) z ∙ h ]
 
 pub some_woken : (asleep : ℕ → Option Spot) (s : Spot) (n u : ℕ) (woken : List ℕ) → IsWake asleep s n woken → 0 < n → asleep u ≡ Some s → (x : ℕ) × (mem x woken ≡ true)
 some_woken asleep s n u [] wake pos h = absurd (false≢true (wake.all (grind arith) u h))
 some_woken asleep s n u (x ∷ xs) wake pos h = (x, or_left (x == x) (mem x xs) (eq-eqb x x refl))
 
-spot_kept : (c d : Member) → d ≢ c → moved_spot c (OnSequence d) ≡ OnSequence d
+pub spot_kept : (c d : Member) → d ≢ c → moved_spot c (OnSequence d) ≡ OnSequence d
 spot_kept c d n = cond-false (same_member d c) (OnLock c.monitor) (OnSequence d) (same-other d c n)
 
-spot_moved : (c d : Member) → d ≡ c → moved_spot c (OnSequence d) ≡ OnLock c.monitor
+pub spot_moved : (c d : Member) → d ≡ c → moved_spot c (OnSequence d) ≡ OnLock c.monitor
 spot_moved c d q = cond-true (same_member d c) (OnLock c.monitor) (OnSequence d) (subst (λ x. same_member d x ≡ true) q (same-same d))
 
 moved_less : (c d : Member) (s : Option Spot) → moved_sleep c s ≡ Some (OnSequence d) → (s ≡ Some (OnSequence d)) × (d ≢ c)

@@ -4,7 +4,7 @@ use Rattle.words.specs.Updates.{put}
 use Rattle.meaning.specs.Labels.{End, Aborted}
 use Rattle.protocol.specs.Word.{owner, waiters, with_waiters, died_word}
 use Rattle.protocol.specs.Points.{ToEnter, ToReenter, ToResume, ToExit, ToWait, Spot, OnLock, OnId, Point, Runs, EnterPends, EnterTries, ReenterPends, ReenterTries, TakeReads, TakeMarks, TakeSleeps, TakeTries, GotReads, GotLinks, GotHeads, GotUnpends, WaitReads, NotifyAdds, NotifyWakes, BroadcastAdds, BroadcastMarks, BroadcastReads, BroadcastMoves, JoinReads, JoinSleeps, JoinLearns, JoinTakes, LeavePends, LeaveReads, LeaveHeads, LeaveSwaps, LeaveWakes, HasLeft, Dies, Walks, ClearsId, LastWakes, HasEnded}
-use Rattle.protocol.specs.World.{World, awakened, requeued_sleep, tail, IsWake}
+use Rattle.protocol.specs.World.{World, awake_after, requeued_sleep, tail, IsWake}
 use Rattle.protocol.specs.Finds.{cause_word}
 use Rattle.protocol.specs.Cells.{LockOf, IdOf, OutcomeOf, cell, write, cell_of}
 use Rattle.protocol.specs.Requests.{Request, AskNothing, AskLoad, AskStore, AskSwap, AskCompareSwap, AskOrWaiters, AskAddOne, AskWait, AskWakeOne, AskRequeue, AskFault, AskExitStep}
@@ -13,7 +13,7 @@ use Rattle.protocol.specs.Requests.{Request, AskNothing, AskLoad, AskStore, AskS
 pub record WakesOne (w : World) (s : Spot) (w' : World) : Type 0 where
   pub woken : List ℕ
   pub wake : IsWake w.asleep s 1 woken
-  pub awake : w' ≡ record w { asleep = awakened w.asleep woken }
+  pub awake : w' ≡ record w { asleep = awake_after w.asleep woken }
 
 -- at its owner's exit a lock is marked as abandoned, and one sleeper is woken where it had waiters
 abbrev pub Abandon : World → ℕ → ℕ → World → Type 0
@@ -42,7 +42,10 @@ Serves w t p (AskCompareSwap a x v) r w' =
 Serves w t p (AskOrWaiters a) r w' = (r ≡ cell w a) × (w' ≡ write w a (with_waiters (cell w a)))
 Serves w t p (AskAddOne a) r w' = (r ≡ cell w a) × (w' ≡ write w a (cell w a + 1))
 Serves w t p (AskWait s x) r w' =
-    ((cell w (cell_of s) ≡ x) × (w' ≡ record w { asleep = put w.asleep t (Some s) })) ⊎ ((cell w (cell_of s) ≢ x) × (w' ≡ w))
+    ((cell w (cell_of s) ≡ x) × (w' ≡ record w {
+      asleep =
+          put w.asleep t (Some s);
+    })) ⊎ ((cell w (cell_of s) ≢ x) × (w' ≡ w))
 Serves w t p (AskWakeOne s) r w' = WakesOne w s w'
 Serves w t p (AskRequeue c x) r w' =
     ((w.sequence c ≡ x) × (w' ≡ record w { asleep = requeued_sleep w.asleep c })) ⊎ ((w.sequence c ≢ x) × (w' ≡ w))

@@ -7,7 +7,7 @@ use Rattle.meaning.specs.Labels as L
 use Rattle.meaning.specs.Table.{Table, Free, Abandoned, HeldBy, without_waiters, Allows, AllowsStray, AllowsKill}
 use Rattle.protocol.specs.Word.{died}
 use Rattle.protocol.specs.Points.{Purpose, ToEnter, ToReenter, ToResume, Release, ToExit, ToWait, Spot, OnLock, OnSequence, OnId, Point, NotifyWakes, BroadcastMarks, BroadcastReads, BroadcastMoves}
-use Rattle.protocol.specs.World.{World, same_member, awakened, requeued_sleep}
+use Rattle.protocol.specs.World.{World, same_member, awake_after, requeued_sleep}
 use Rattle.protocol.specs.Moves.{Move, Own, Raise, CasGot, FreeGot, SwapWake, SwapAlone, WakeSeq, MoveAll, EntryAlone, EntryWake, PendAlone, PendWake, ClearId, Fork, ForkFull, Claim, ClaimTaken, IdGone, StraySeq, Kill}
 
 -- what a move is in the source: an action of a process, or one from outside
@@ -64,28 +64,28 @@ death w T t (BroadcastMoves c s) = Kills t (Some c) (resumed_by w T c (put w.asl
 death w T t p = Kills t None []
 
 -- what a move carries
-abbrev pub carried : World → Table → ℕ → Move → Option Event
-carried w T t (Own l) = Some (Acts t l)
-carried w T t (Raise fault) = Some (Acts t (Alone (L.Fails fault)))
-carried w T t (CasGot m) = Some (Acts t (Enters m false))
-carried w T t (FreeGot m v k) = Some (Acts t (taking_label k m (has_died v)))
-carried w T t (SwapWake m r) = Some (Acts t (release_label r m))
-carried w T t (SwapAlone m r) = Some (Acts t (release_label r m))
-carried w T t (WakeSeq c woken) = Some (Acts t (Notifies c (resumed_by w T c (awakened w.asleep woken))))
-carried w T t (MoveAll c s) = Some (Acts t (Broadcasts c (resumed_by w T c (requeued_sleep w.asleep c))))
-carried w T t (EntryAlone m x end) = Some (Acts t (Abandons m))
-carried w T t (EntryWake m x end woken) = Some (Acts t (Abandons m))
-carried w T t (PendAlone m end) = Some (Acts t (Abandons m))
-carried w T t (PendWake m end woken) = Some (Acts t (Abandons m))
-carried w T t (ClearId end) = Some (Acts t (Ends end))
-carried w T t (Fork parent) = Some (Acts parent (Forks t))
-carried w T t ForkFull = Some (Acts t FindsFull)
-carried w T t (Claim q) = Some (Acts t (Claims q))
-carried w T t (ClaimTaken q) = Some (Acts t (FindsClaimed q))
-carried w T t (IdGone q end) = Some (Acts t (Joins q end))
-carried w T t (StraySeq c p) = Some (Strays t c)
-carried w T t (Kill p) = Some (death w T t p)
-carried w T t m = None
+abbrev pub event_of : World → Table → ℕ → Move → Option Event
+event_of w T t (Own l) = Some (Acts t l)
+event_of w T t (Raise fault) = Some (Acts t (Alone (L.Fails fault)))
+event_of w T t (CasGot m) = Some (Acts t (Enters m false))
+event_of w T t (FreeGot m v k) = Some (Acts t (taking_label k m (has_died v)))
+event_of w T t (SwapWake m r) = Some (Acts t (release_label r m))
+event_of w T t (SwapAlone m r) = Some (Acts t (release_label r m))
+event_of w T t (WakeSeq c woken) = Some (Acts t (Notifies c (resumed_by w T c (awake_after w.asleep woken))))
+event_of w T t (MoveAll c s) = Some (Acts t (Broadcasts c (resumed_by w T c (requeued_sleep w.asleep c))))
+event_of w T t (EntryAlone m x end) = Some (Acts t (Abandons m))
+event_of w T t (EntryWake m x end woken) = Some (Acts t (Abandons m))
+event_of w T t (PendAlone m end) = Some (Acts t (Abandons m))
+event_of w T t (PendWake m end woken) = Some (Acts t (Abandons m))
+event_of w T t (ClearId end) = Some (Acts t (Ends end))
+event_of w T t (Fork parent) = Some (Acts parent (Forks t))
+event_of w T t ForkFull = Some (Acts t FindsFull)
+event_of w T t (Claim q) = Some (Acts t (Claims q))
+event_of w T t (ClaimTaken q) = Some (Acts t (FindsClaimed q))
+event_of w T t (IdGone q end) = Some (Acts t (Joins q end))
+event_of w T t (StraySeq c p) = Some (Strays t c)
+event_of w T t (Kill p) = Some (death w T t p)
+event_of w T t m = None
 
 -- the source allows an event, which leads from one table to another
 abbrev pub Permits : Event → Table → Table → Type 0
@@ -111,8 +111,10 @@ table_after w T t (CasGot m) = record T { hold = put T.hold m (HeldBy t) }
 table_after w T t (FreeGot m v k) = record T { hold = put T.hold m (HeldBy t) }
 table_after w T t (SwapWake m r) = record T { hold = put T.hold m Free; waits = released_waits r t T.waits }
 table_after w T t (SwapAlone m r) = record T { hold = put T.hold m Free; waits = released_waits r t T.waits }
-table_after w T t (WakeSeq c woken) = record T { waits = without_waiters (resumed_by w T c (awakened w.asleep woken)) T.waits }
-table_after w T t (MoveAll c s) = record T { waits = without_waiters (resumed_by w T c (requeued_sleep w.asleep c)) T.waits }
+table_after w T t (WakeSeq c woken) =
+    record T { waits = without_waiters (resumed_by w T c (awake_after w.asleep woken)) T.waits }
+table_after w T t (MoveAll c s) =
+    record T { waits = without_waiters (resumed_by w T c (requeued_sleep w.asleep c)) T.waits }
 table_after w T t (EntryAlone m x end) = record T { hold = put T.hold m Abandoned }
 table_after w T t (EntryWake m x end woken) = record T { hold = put T.hold m Abandoned }
 table_after w T t (PendAlone m end) = record T { hold = put T.hold m Abandoned }

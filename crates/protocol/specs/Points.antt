@@ -60,7 +60,8 @@ pub data Point : Type 0 where
   JoinSleeps : (child : ℕ) → Point
   JoinLearns : (child : ℕ) → End → Point
   JoinTakes : (child : ℕ) → End → Point
-  -- leaving: the entry goes from the list, the lock word is swapped for 0, and one sleeper is woken where it had waiters
+  -- leaving: the entry goes from the list, the lock word is swapped for 0, and one sleeper is woken where it had
+  -- waiters
   LeavePends : (monitor : ℕ) → Release → Point
   LeaveReads : (monitor : ℕ) → Release → Point
   LeaveHeads : (monitor next : ℕ) → Release → Point
@@ -122,5 +123,5 @@ pub record Thread : Type 0 where
   pub point : Point
   pub list : List ℕ
 
-abbrev pub th : Point → List ℕ → Thread
-th p l = record { point = p; list = l }
+abbrev pub thread_at : Point → List ℕ → Thread
+thread_at p l = record { point = p; list = l }

@@ -9,7 +9,7 @@ use Rattle.protocol.specs.World.{World, opening_world, mem}
 use Rattle.protocol.specs.Moves.{Move}
 use Rattle.protocol.specs.Steps.{Can, after}
 use Rattle.protocol.specs.Finds.{Tells}
-use Rattle.protocol.specs.Carries.{Event, Permits, carried, table_after, with_event}
+use Rattle.protocol.specs.Carries.{Event, Permits, event_of, table_after, with_event}
 
 -- moves from a world to another: of any threads, in any order
 abbrev pub Leads : World → List (ℕ × Move) → World → Type 0
@@ -19,7 +19,7 @@ Leads w (s ∷ ss) w' = Can w s.0 s.1 × Leads (after w s.0 s.1) ss w'
 -- the events that they carry, in order, and the table that these lead to
 abbrev pub events : World → Table → List (ℕ × Move) → List Event
 events w T [] = []
-events w T (s ∷ ss) = with_event (carried w T s.0 s.1) (events (after w s.0 s.1) (table_after w T s.0 s.1) ss)
+events w T (s ∷ ss) = with_event (event_of w T s.0 s.1) (events (after w s.0 s.1) (table_after w T s.0 s.1) ss)
 
 abbrev pub last_table : World → Table → List (ℕ × Move) → Table
 last_table w T [] = T
@@ -68,7 +68,8 @@ pub record Matches (w : World) (T : Table) : Type 0 where
   -- claimed, made, over
   pub claimed : (q : ℕ) → ClaimIs (T.claimed q) (w.claim q)
   pub made : T.made ≡ w.made
-  pub over : (q : ℕ) (end : End) → T.over q ≡ Some end → IsOver (w.at q).point end × Tells end (w.outcome q) (w.result q)
+  pub over : (q : ℕ) (end : End) → T.over q ≡ Some end → IsOver (w.at q).point end ×
+      Tells end (w.outcome q) (w.result q)
   pub ended : (q : ℕ) (end : End) → IsOver (w.at q).point end → T.over q ≡ Some end
   -- who has joined knows the end
   pub joined : (t q : ℕ) (end : End) → HasJoined (w.at t).point q end → T.over q ≡ Some end

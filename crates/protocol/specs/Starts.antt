@@ -24,19 +24,23 @@ pub record IsMoveTo (w : World) (t : ℕ) (p : Point) (w' : World) : Type 0 wher
 -- a swap of the claim word of a process that was made: the claim, or a fault where it was claimed
 abbrev pub ClaimsMove : World → Type 0
 ClaimsMove w = (t q : ℕ) → IsRunning w t → 0 < q → q ≤ w.made →
-    IsMoveTo w t (if w.claim q == 0 then JoinReads q else Dies (Faulted HandleNotJoinable) NoEntry) (write w (ClaimOf q) 1)
+    IsMoveTo w t (if w.claim q == 0 then JoinReads q else Dies (Faulted HandleNotJoinable) NoEntry)
+    (write w (ClaimOf q) 1)
 
--- a return with a result or without one: the result, where there is one, and the outcome are written, and the exit begins
+-- a return with a result or without one: the result, where there is one, and the outcome are written, and the exit
+-- begins
 abbrev pub ReturnsMove : World → Type 0
 ReturnsMove w = (t : ℕ) (r : Option ℕ) → IsRunning w t →
-    IsMoveTo w t (Walks (w.head t) NoEntry (returned_end w t r)) (write (write w (ResultOf t) (result_after r (w.result t))) (OutcomeOf t) 16)
+    IsMoveTo w t (Walks (w.head t) NoEntry (returned_end w t r)) (write (write w (ResultOf t)
+    (result_after r (w.result t))) (OutcomeOf t) 16)
 
 -- a fork makes the thread of the next number; where no more can be made it is a fault
 abbrev pub ForksMove : World → Type 0
 ForksMove w = (t : ℕ) → IsRunning w t → w.made < most_processes → Can w (suc w.made) (Fork t)
 
 abbrev pub ForksFail : World → Type 0
-ForksFail w = (t : ℕ) → IsRunning w t → most_processes ≤ w.made → IsMoveTo w t (Dies (Faulted ProcessTableFull) NoEntry) w
+ForksFail w = (t : ℕ) → IsRunning w t → most_processes ≤ w.made →
+    IsMoveTo w t (Dies (Faulted ProcessTableFull) NoEntry) w
 
 pub record StartsMove (w : World) : Type 0 where
   pub claims : ClaimsMove w

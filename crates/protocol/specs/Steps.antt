@@ -5,8 +5,8 @@ use Rattle.words.specs.Signed.{signed_of}
 use Rattle.words.specs.declared.outcome.Fault.TheVariants.{HandleNotJoinable, ProcessTableFull}
 use Rattle.meaning.specs.Labels.{Faulted, Killed, End, Ended, Aborted}
 use Rattle.protocol.specs.Word.{with_waiters, died_word}
-use Rattle.protocol.specs.Points.{ToEnter, ToReenter, ToResume, ToExit, ToWait, NoEntry, Owned, OnLock, OnSequence, OnId, Point, Runs, EnterPends, EnterTries, ReenterPends, ReenterTries, TakeReads, TakeMarks, TakeSleeps, TakeTries, GotReads, GotLinks, GotHeads, GotUnpends, WaitReads, NotifyAdds, NotifyWakes, BroadcastAdds, BroadcastMarks, BroadcastReads, BroadcastMoves, JoinReads, JoinSleeps, JoinLearns, JoinTakes, LeavePends, LeaveReads, LeaveHeads, LeaveSwaps, LeaveWakes, HasLeft, Dies, Walks, ClearsId, LastWakes, HasEnded, entry_at, th}
-use Rattle.protocol.specs.World.{World, put_sequence, awakened, requeued_sleep, tail}
+use Rattle.protocol.specs.Points.{ToEnter, ToReenter, ToResume, ToExit, ToWait, NoEntry, Owned, OnLock, OnSequence, OnId, Point, Runs, EnterPends, EnterTries, ReenterPends, ReenterTries, TakeReads, TakeMarks, TakeSleeps, TakeTries, GotReads, GotLinks, GotHeads, GotUnpends, WaitReads, NotifyAdds, NotifyWakes, BroadcastAdds, BroadcastMarks, BroadcastReads, BroadcastMoves, JoinReads, JoinSleeps, JoinLearns, JoinTakes, LeavePends, LeaveReads, LeaveHeads, LeaveSwaps, LeaveWakes, HasLeft, Dies, Walks, ClearsId, LastWakes, HasEnded, entry_at, thread_at}
+use Rattle.protocol.specs.World.{World, put_sequence, awake_after, requeued_sleep, tail}
 use Rattle.protocol.specs.Moves.{Move, Begin, Rebegin, Leave, Wait, Notify, Broadcast, Raise, SetPend, CasGot, CasBusy, SetPendHeld, CasHeld, LoadHeld, LoadFree, MarkDone, MarkFail, Sleep, Again, FreeGot, FreeFail, ReadHead, SetLink, SetHead, ClearPend, PendAgain, ReadLink, CutHead, SwapWake, SwapAlone, Wake, Finish, ReadSeq, SeqSleep, SeqAgain, AddSeq, WakeSeq, AddAll, OrLock, LoadSeq, MoveAll, Kill, Stray, StraySeq, StrayId, Return, WriteFault, SkipEntry, EntryAlone, EntryWake, PendNone, PendAlone, PendWake, PendForeign, ClearId, LastWake, Fork, ForkFull, Claim, ClaimTaken, IdGone, IdThere, IdSleep, IdAgain, LearnEnded, LearnAborted, TakeResult}
 use Rattle.protocol.specs.Origins.{from, Awake}
 use Rattle.protocol.specs.Finds.{cause_word, Finds, HasNumber}
@@ -18,7 +18,7 @@ pub record Can (w : World) (t : ℕ) (m : Move) : Type 0 where
   pub finds : Finds w t m
 
 abbrev pub go_list : World → ℕ → Point → List ℕ → World
-go_list w t p l = record w { at = put w.at t (th p l) }
+go_list w t p l = record w { at = put w.at t (thread_at p l) }
 
 -- the thread stands at another point
 abbrev pub go : World → ℕ → Point → World
@@ -62,15 +62,17 @@ after w t (ReadLink m r) = go w t (LeaveHeads m (w.link m) r)
 after w t (CutHead m h r) = go_list (record w { head = put w.head t h }) t (LeaveSwaps m r) (tail (w.at t).list)
 after w t (SwapWake m r) = go (record w { lock = put w.lock m 0 }) t (LeaveWakes m r)
 after w t (SwapAlone m r) = go (record w { lock = put w.lock m 0 }) t (HasLeft m r)
-after w t (Wake m r woken) = go (record w { asleep = awakened w.asleep woken }) t (HasLeft m r)
+after w t (Wake m r woken) = go (record w { asleep = awake_after w.asleep woken }) t (HasLeft m r)
 after w t (Finish m) = go (record w { pending = put w.pending t 0 }) t Runs
 after w t (ReadSeq c) = go w t (LeavePends c.monitor (ToWait c (w.sequence c)))
-after w t (SeqSleep m c s) = go (record w { asleep = put w.asleep t (Some (OnSequence c)) }) t (TakeReads m (ToResume c))
+after w t (SeqSleep m c s) =
+    go (record w { asleep = put w.asleep t (Some (OnSequence c)) }) t (TakeReads m (ToResume c))
 after w t (SeqAgain m c s) = go w t (TakeReads m (ToResume c))
 after w t (AddSeq c) = go (record w { sequence = put_sequence w.sequence c (w.sequence c + 1) }) t (NotifyWakes c)
-after w t (WakeSeq c woken) = go (record w { asleep = awakened w.asleep woken }) t Runs
+after w t (WakeSeq c woken) = go (record w { asleep = awake_after w.asleep woken }) t Runs
 after w t (AddAll c) = go (record w { sequence = put_sequence w.sequence c (w.sequence c + 1) }) t (BroadcastMarks c)
-after w t (OrLock c) = go (record w { lock = put w.lock c.monitor (with_waiters (w.lock c.monitor)) }) t (BroadcastReads c)
+after w t (OrLock c) =
+    go (record w { lock = put w.lock c.monitor (with_waiters (w.lock c.monitor)) }) t (BroadcastReads c)
 after w t (LoadSeq c) = go w t (BroadcastMoves c (w.sequence c))
 after w t (MoveAll c s) = go (record w { asleep = requeued_sleep w.asleep c }) t Runs
 after w t (Kill p) = go (record w { asleep = put w.asleep t None }) t (Dies Killed (entry_at p))
@@ -78,21 +80,29 @@ after w t (Stray m p) = go (record w { asleep = put w.asleep t None }) t p
 after w t (StraySeq c p) = go (record w { asleep = put w.asleep t None }) t p
 after w t (StrayId q p) = go (record w { asleep = put w.asleep t None }) t p
 after w t (Return r) =
-    go (record w { result = put w.result t (result_after r (w.result t)); outcome = put w.outcome t 16 }) t (Walks (w.head t) NoEntry (returned_end w t r))
+    go (record w {
+      result =
+          put w.result t (result_after r (w.result t));
+      outcome = put w.outcome t 16;
+    }) t (Walks (w.head t) NoEntry (returned_end w t r))
 after w t (WriteFault cause x) =
     go (record w { outcome = put w.outcome t (cause_word cause) }) t (Walks (w.head t) x (Aborted cause))
 after w t (SkipEntry m end) = go_list w t (Walks (w.link m) (Owned m) end) (tail (w.at t).list)
 after w t (EntryAlone m x end) =
     go_list (record w { lock = put w.lock m (died_word (w.lock m)) }) t (Walks (w.link m) x end) (tail (w.at t).list)
 after w t (EntryWake m x end woken) =
-    go_list (record w { lock = put w.lock m (died_word (w.lock m)); asleep = awakened w.asleep woken }) t (Walks (w.link m) x end) (tail (w.at t).list)
+    go_list (record w {
+      lock =
+          put w.lock m (died_word (w.lock m));
+      asleep = awake_after w.asleep woken;
+    }) t (Walks (w.link m) x end) (tail (w.at t).list)
 after w t (PendNone end) = go w t (ClearsId end)
 after w t (PendAlone m end) = go (record w { lock = put w.lock m (died_word (w.lock m)) }) t (ClearsId end)
 after w t (PendWake m end woken) =
-    go (record w { lock = put w.lock m (died_word (w.lock m)); asleep = awakened w.asleep woken }) t (ClearsId end)
-after w t (PendForeign m end woken) = go (record w { asleep = awakened w.asleep woken }) t (ClearsId end)
+    go (record w { lock = put w.lock m (died_word (w.lock m)); asleep = awake_after w.asleep woken }) t (ClearsId end)
+after w t (PendForeign m end woken) = go (record w { asleep = awake_after w.asleep woken }) t (ClearsId end)
 after w t (ClearId end) = go (record w { id = put w.id t 0 }) t (LastWakes end)
-after w t (LastWake end woken) = go (record w { asleep = awakened w.asleep woken }) t (HasEnded end)
+after w t (LastWake end woken) = go (record w { asleep = awake_after w.asleep woken }) t (HasEnded end)
 after w t (Fork parent) = go_list (record w { id = put w.id t t; made = suc w.made }) t Runs []
 after w t ForkFull = go w t (Dies (Faulted ProcessTableFull) NoEntry)
 after w t (Claim q) = go (record w { claim = put w.claim q 1 }) t (JoinReads q)

@@ -1,13 +1,14 @@
 -- The words that the threads share, each kind a function of its own, and who sleeps where.
 use Rattle.std.specs.Prelude.{◌≡◌, ℕ, ◌<◌, ◌≤◌, Bool, true, false, ◌==◌, ◌&&◌, ◌||◌, if◌then◌else◌, Option, Some, None, List, [], ◌∷◌, length}
 use Rattle.program.specs.declared.kinds.Member.{Member}
-use Rattle.protocol.specs.Points.{Spot, OnLock, OnSequence, OnId, Thread, th, Unmade, Runs}
+use Rattle.protocol.specs.Points.{Spot, OnLock, OnSequence, OnId, Thread, thread_at, Unmade, Runs}
 
 pub record World : Type 0 where
   -- of each monitor: its lock word, and the link word of its entry
   pub lock : ℕ → ℕ
   pub link : ℕ → ℕ
-  -- of each thread: the first entry of its robust list, its pending entry, its id, whether it was claimed, its result and
+  -- of each thread: the first entry of its robust list, its pending entry, its id, whether it was claimed, its
+  -- result and
   -- its outcome
   pub head : ℕ → ℕ
   pub pending : ℕ → ℕ
@@ -35,8 +36,8 @@ mem u [] = false
 mem u (x ∷ xs) = (u == x) || mem u xs
 
 -- these sleep no longer
-abbrev pub awakened : (ℕ → Option Spot) → List ℕ → ℕ → Option Spot
-awakened asleep woken u = if mem u woken then None else asleep u
+abbrev pub awake_after : (ℕ → Option Spot) → List ℕ → ℕ → Option Spot
+awake_after asleep woken u = if mem u woken then None else asleep u
 
 -- all sleepers of a condition go to its monitor's lock (FUTEX_CMP_REQUEUE)
 abbrev pub moved_spot : Member → Spot → Spot
@@ -68,7 +69,7 @@ pub record IsWake (asleep : ℕ → Option Spot) (spot : Spot) (n : ℕ) (woken 
 
 -- the opening world: the main thread alone was made
 abbrev pub opening_thread : ℕ → Thread
-opening_thread t = if t == 1 then th Runs [] else th Unmade []
+opening_thread t = if t == 1 then thread_at Runs [] else thread_at Unmade []
 
 abbrev pub opening_world : World
 opening_world = record {

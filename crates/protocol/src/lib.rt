@@ -2,7 +2,7 @@
 //! sleepers keeps the table of monitors, conditions and processes, and loses no wake.
 #![tactic(auto)]
 
-ghost use Rattle.std.specs.Prelude.{◌≡◌, ℕ, ◌<◌, ◌≤◌, List, None};
+ghost use Rattle.std.specs.Prelude.{◌≡◌, ℕ, ◌<◌, ◌≤◌, Bool, List, None};
 ghost use Rattle.protocol.specs.Points.{Point};
 ghost use Rattle.protocol.specs.World.{World, opening_world};
 ghost use Rattle.protocol.specs.Moves.{Move};
@@ -13,7 +13,10 @@ ghost use Rattle.protocol.specs.Served.{IsMove};
 ghost use Rattle.protocol.specs.Memory.{StoresFollow};
 ghost use Rattle.protocol.specs.Starts.{StartsMove};
 ghost use Rattle.protocol.specs.WordLaws.{AreLockWords};
-ghost use Rattle.protocol.specs.Exits.{ExitsFollow};
+ghost use Rattle.protocol.specs.Exits.{ExitsFollow, PhasesFollow};
+ghost use Rattle.protocol.specs.Cells.{Cell};
+ghost use Rattle.protocol.specs.Memory.{IsApart};
+ghost use Rattle.protocol.specs.Calls.{CallsFollow};
 
 /// Each run of moves is explained by the source: the labels that it carries, in order, are allowed one after another, to a
 /// table that is that of the last world, in which no wake was lost.
@@ -46,4 +49,15 @@ pub fn lock_words()
 /// Over a flat memory that shares words and sleepers with a world, each step of robust exit is a step of the protocol's.
 pub fn exits_follow()
     ensures { ExitsFollow }
+{}
+
+/// Over a flat memory that shares words and sleepers with a world, a wait that sleeps, a wake of one and a requeue of all
+/// are what the protocol's words serve.
+pub fn calls_follow()
+    ensures { (place : Cell → ℕ) (valid : Cell → Bool) → IsApart place valid → CallsFollow place valid }
+{}
+
+/// Each step of robust exit leads to the phase of the protocol's next point, before the limit of a walk.
+pub fn phases_follow()
+    ensures { PhasesFollow }
 {}

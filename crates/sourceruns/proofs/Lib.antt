@@ -3,3 +3,4 @@ pub mod Rests
 pub mod Frames
 pub mod Arguments
 pub mod Stages
+pub mod Said

@@ -4,3 +4,4 @@ pub mod Rests
 pub mod Frames
 pub mod Stages
 pub mod Offered
+pub mod NextAction

@@ -4,6 +4,8 @@
 mod evaluation;
 mod frame;
 mod monitors;
+mod next;
+mod next_action;
 mod offers;
 mod operators;
 mod process;
@@ -14,6 +16,8 @@ mod variables;
 pub use evaluation::{array_size, element, evaluate, evaluate_all};
 pub use frame::Frame;
 pub use monitors::{add_monitor, add_monitors, recover_part};
+pub use next::{before, statement};
+pub use next_action::{Offer, next_offer};
 pub use offers::{
     Effect, Label, Offered, answer, assign, broadcast, claim, fault, notify, print, return_value,
     wait,

@@ -1,3 +1,6 @@
 pub mod FirstPlaces
 pub mod Numbers
 pub mod Leasts
+pub mod Operators
+pub mod Gathered
+pub mod InSight

@@ -1,5 +1,5 @@
 -- Faults: why a unit is refused, each with its place.
-use Rattle.std.specs.Prelude.{◌<◌, ◌≤◌, ◌≡◌, ◌⊎◌, List, [], ◌∷◌, Bool, cond, Option, Some, None, Contains}
+use Rattle.std.specs.Prelude.{◌<◌, ◌≤◌, ◌≡◌, ◌⊎◌, List, [], ◌∷◌, ◌++◌, Bool, cond, Option, Some, None, Contains}
 use Rattle.scanner.specs.declared.token.Place.{Place}
 use Rattle.scanner.specs.declared.refusal.Refusal.{Refusal}
 use Rattle.scanner.specs.declared.refusal.RefusalKind.{RefusalKind}
@@ -33,3 +33,12 @@ ComesNoLater e f = (e.place.line < f.place.line)
 abbrev pub IsLeastOf : List Refusal → Option Refusal → Type 0
 IsLeastOf es None = es ≡ []
 IsLeastOf es (Some e) = Contains es e × ((f : Refusal) → Contains es f → ComesNoLater e f)
+
+-- one fault of this kind, if there is one
+abbrev pub faults_of : Option RefusalKind → Place → List Refusal
+faults_of None place = []
+faults_of (Some kind) place = fault kind place ∷ []
+
+-- the second fault is the least of some faults and these, where the first is that of the former
+abbrev pub Gathers : List Refusal → Option Refusal → Option Refusal → Type 0
+Gathers fs least result = (es : List Refusal) → IsLeastOf es least → IsLeastOf (es ++ fs) result

@@ -10,7 +10,7 @@ use Rattle.syntax.specs.declared.declaration.ResultType.{ResultType}
 use Rattle.syntax.specs.declared.declaration.ResultType.TheVariants as R
 use Rattle.syntax.specs.declared.declaration.MemberType.{MemberType as MemberKind}
 use Rattle.syntax.specs.declared.declaration.MemberType.TheVariants as M
-use Rattle.syntax.specs.Tree.{ParameterTree, LocalTree}
+use Rattle.syntax.specs.Tree.{ParameterTree, LocalTree, MemberTree}
 
 abbrev pub local_kind : LocalType → ValueType
 local_kind L.Integer = V.Integer
@@ -37,3 +37,7 @@ locals_kinds ls = map (λ l. local_kind l.kind) ls
 -- the types of parameters and locals, by their numbers
 abbrev pub slot_kinds : List ParameterTree → List LocalTree → List ValueType
 slot_kinds ps ls = parameter_kinds ps ++ locals_kinds ls
+
+-- the types of members, by their numbers
+abbrev pub member_kinds : List MemberTree → List MemberType
+member_kinds ms = map (λ x. member_kind x.kind) ms

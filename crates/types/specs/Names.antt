@@ -24,8 +24,11 @@ external_names u = map (λ q. q.name) u.procedures
 abbrev pub outer_names : UnitTree → List NameTree
 outer_names u = monitor_names u ++ external_names u
 
+abbrev pub names_of_members : List MemberTree → List NameTree
+names_of_members ms = map (λ member. member.name) ms
+
 abbrev pub member_names : MonitorTree → List NameTree
-member_names m = map (λ member. member.name) m.members
+member_names m = names_of_members m.members
 
 abbrev pub procedure_names : MonitorTree → List NameTree
 procedure_names m = map (λ q. q.procedure.name) m.procedures

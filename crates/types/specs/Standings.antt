@@ -1,15 +1,15 @@
 -- What the tables of a piece's names say of where it stands.
-use Rattle.std.specs.Prelude.{ℕ, ◌≡◌, List, Option, Some, None, map, slice_get}
+use Rattle.std.specs.Prelude.{ℕ, ◌≡◌, List, Option, Some, None, slice_get}
 use Rattle.program.specs.Scope.{own_monitor}
 use Rattle.syntax.specs.Lexeme.{NameTree}
-use Rattle.syntax.specs.Tree.{MonitorTree, UnitTree, ParameterTree, LocalTree}
+use Rattle.syntax.specs.Tree.{MemberTree, MonitorTree, ParameterTree, LocalTree}
 use Rattle.types.specs.declared.standing.Members.{Members}
 use Rattle.types.specs.declared.standing.Own.{Own}
 use Rattle.types.specs.declared.standing.Standing.{Standing}
 use Rattle.types.specs.declared.standing.Meaning.{Meaning as MeaningOf}
 use Rattle.types.specs.declared.standing.Meaning.TheVariants.{Nothing as Nothing', Local, Member}
-use Rattle.types.specs.Names.{member_names, body_scope}
-use Rattle.types.specs.Kinds.{member_kind, slot_kinds}
+use Rattle.types.specs.Names.{names_of_members, body_scope}
+use Rattle.types.specs.Kinds.{member_kinds, slot_kinds}
 use Rattle.types.specs.Tables.{IsTable}
 use Rattle.types.specs.Scope.{Scope, Meaning, Nothing, ALocal, AMember, member_meaning, kind_in, member_number}
 
@@ -19,9 +19,13 @@ meaning_of Nothing' = Nothing
 meaning_of (Local slot kind) = ALocal slot kind
 meaning_of (Member member kind) = AMember member kind
 
--- the names and types of a monitor's members
+-- the names and types of members
+abbrev pub HasMembers : List MemberTree → Members → Type 0
+HasMembers ms m = IsTable (names_of_members ms) m.names × (m.kinds.items ≡ member_kinds ms)
+
+-- those of a monitor
 abbrev pub IsMembers : MonitorTree → Members → Type 0
-IsMembers t m = IsTable (member_names t) m.names × (m.kinds.items ≡ map (λ x. member_kind x.kind) t.members)
+IsMembers t m = HasMembers t.members m
 
 -- what a name means among the members of a monitor of this number
 abbrev pub member_of_number : ℕ → MonitorTree → Option ℕ → Meaning

@@ -2,12 +2,17 @@
 //! `specs` says which program a tree is resolved to, and which faults it has; here stand the first steps of a checker.
 #![tactic(auto)]
 
+mod checks;
 mod kinds;
 mod least;
 mod places;
 mod standing;
 mod table;
+mod typing;
 
+pub use checks::{
+    Sides, comparison_faults, condition_fault, index_fault, note, operand_fault, read_fault,
+};
 pub use kinds::{
     comparison_operator, local_kind, member_kind, product_operator, result_kind, sum_operator,
 };

@@ -1,14 +1,16 @@
 // What names mean where they stand.
 
-ghost use Rattle.std.specs.Prelude.{◌≡◌, Option, slice_get};
+ghost use Rattle.std.specs.Prelude.{◌≡◌, ◌<◌, ◌+◌, Option, IfOk, length, map, slice_get};
 ghost use Rattle.syntax.specs.Tree.{MonitorTree};
-ghost use Rattle.syntax.specs.View.{name_of};
+ghost use Rattle.syntax.specs.View.{name_of, parameter_of, local_of, member_of};
 ghost use Rattle.types.specs.Scope.{Scope, meaning, local_meaning, member_meaning, kind_in, member_number};
-ghost use Rattle.types.specs.Standings.{meaning_of, IsMembers, IsStanding, member_in};
+ghost use Rattle.types.specs.Standings.{meaning_of, HasMembers, IsMembers, IsLocals, IsStanding, member_in};
 
+use crate::kinds::{local_kind, member_kind};
 use crate::table::Table;
 use program::{Member, MemberType, ValueType};
-use syntax::Name;
+use std::alloc::{AllocError, Global};
+use syntax::{Local, Name, Parameter};
 
 /// What a variable's name means.
 #[derive(Clone, Copy, PartialEq, Eq, Debug)]
@@ -48,6 +50,52 @@ pub struct Standing<'s, 'a> {
     pub kinds: Vec<ValueType>,
     /// Its monitor, where it has one.
     pub own: Option<Own<'s, 'a>>,
+}
+
+impl<'a> Members<'a> {
+    /// The names and types of these members.
+    pub fn new(alloc: Global, members: &[syntax::Member<'a>]) -> Result<Members<'a>, AllocError>
+        requires { length members.now < u32.MAX }
+        ensures { IfOk result (λ m. HasMembers (map member_of members.now) m) }
+    {
+        let mut names = Table::new(alloc);
+        let mut kinds = Vec::new(alloc);
+        for member in members {
+            names.declare(member.name)?;
+            kinds.push(member_kind(member.kind))?;
+        }
+        Ok(Members { names, kinds })
+    }
+}
+
+impl<'s, 'a> Standing<'s, 'a> {
+    /// The names in sight of a piece of these parameters and locals, in this monitor.
+    pub fn new(
+        alloc: Global,
+        parameters: &[Parameter<'a>],
+        locals: &[Local<'a>],
+        own: Option<Own<'s, 'a>>,
+    ) -> Result<Standing<'s, 'a>, AllocError>
+        requires { length parameters.now + length locals.now < u32.MAX }
+        ensures locals { IfOk result (λ st. IsLocals (map parameter_of parameters.now) (map local_of locals.now) st) }
+        ensures own { IfOk result (λ st. st.own ≡ own.entry) }
+    {
+        let mut table = Table::new(alloc);
+        let mut kinds = Vec::new(alloc);
+        for parameter in parameters {
+            table.declare(parameter.name)?;
+            kinds.push(local_kind(parameter.kind))?;
+        }
+        for local in locals {
+            table.declare(local.name)?;
+            kinds.push(local_kind(local.kind))?;
+        }
+        Ok(Standing {
+            locals: table,
+            kinds,
+            own,
+        })
+    }
 }
 
 impl Own<'_, '_> {

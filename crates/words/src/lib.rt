@@ -1,7 +1,6 @@
 //! The words of the machine: its memory, the words of a lock, the words of a process, and signed numbers.
 #![tactic(auto)]
 
-mod former;
 mod gate;
 mod integer;
 mod limits;

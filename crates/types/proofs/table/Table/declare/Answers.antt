@@ -21,7 +21,8 @@ returns-clause-declared c names h =
             w.in_ok-insert.ensures.updates n.text
             ∙ ap (λ o. cond (bytes_eq c.args.name.text.now n.text) (Some c.args.self.now.count) o) (h.1 n)
             ∙ ap (λ k. cond (bytes_eq c.args.name.text.now n.text) (Some k) (text_number names n.text)) (sym h.0)
-            ∙ number_fresh names (name_of c.args.name) n.text (none_there _ (ap is_some (sym (h.1 (name_of c.args.name)))
+            ∙ number_fresh names (name_of c.args.name) n.text (none_there _ (ap is_some (sym (h.1
+            (name_of c.args.name)))
             ∙ sym c.contains_key-fresh.ensures ∙ w.if-fresh.true)),
       )
       | else-fresh w ↦ subst after (sym w.self-is) (

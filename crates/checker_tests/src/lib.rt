@@ -1,0 +1,7 @@
+//! Tests of the checker's parts: calls that have ample memory, and what they answer.
+#![tactic(auto)]
+
+#[cfg(test)]
+mod calls;
+#[cfg(test)]
+mod names;
