@@ -21,7 +21,8 @@ pub goes_back : (entered : Option ℕ) (f : Frame) (m : ℕ) (fs gs : List Frame
     → f.role ≡ Recover m → f.rest ≡ Done
     → fs ≡ gs ++ c ∷ [] → Before entered (frame_of c) (callers_of gs) ≡ goes_on entered f (callers_of fs)
 goes_back entered f m fs gs c r d e =
-    sym ((λ i. goes_on_by (r i) (d i) entered f (callers_of (e i))) ∙ ap (goes_on_by (Recover m) Done entered f) (callers-more gs c []))
+    sym ((λ i. goes_on_by (r i) (d i) entered f
+    (callers_of (e i))) ∙ ap (goes_on_by (Recover m) Done entered f) (callers-more gs c []))
 
 pub hands : (x : Process) (z : ℤ) (g : Frame) (fs gs : List FrameOf) (c : FrameOf)
     → x ≡ goes_on None g (callers_of gs)

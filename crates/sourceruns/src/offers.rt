@@ -258,7 +258,8 @@ pub fn notify<'a>(process: &mut Process<'a>, condition: Member) -> Offered<'a>
 /// A BROADCAST.
 pub fn broadcast<'a>(process: &mut Process<'a>, condition: Member) -> Offered<'a>
     ensures { (p : ProgramOf) (v : VariablesOf) → offered result process.new
-        ≡ statement_offer p v (frame_of process.old.frame) (callers_of process.old.callers.items) (Broadcast condition) }
+        ≡ statement_offer p v (frame_of process.old.frame)
+        (callers_of process.old.callers.items) (Broadcast condition) }
 {
     process.go_on(None);
     Offered::NotifiesAll(condition)

@@ -22,7 +22,10 @@ use std::mem;
 // A test after which these statements come first.
 fn precede<'a>(process: &mut Process<'a>, block: &'a [Statement]) -> Result<Offered<'a>, AllocError>
     ensures { IfOk result (λ o. offered o process.new ≡ Does (Alone Test) Nothing (goes_on None
-        (record (frame_of process.old.frame) { rest = followed_by (block_in block.now) (rest_in process.old.frame.rest.items) })
+        (record (frame_of process.old.frame) {
+          rest = followed_by (block_in block.now)
+              (rest_in process.old.frame.rest.items);
+        })
         (callers_of process.old.callers.items))) }
 {
     process.frame.rest.push(block)?;
@@ -77,7 +80,8 @@ fn repeat<'a>(
 ) -> Result<Offered<'a>, AllocError>
     ensures { IfOk result (λ o. offered o process.new ≡ Does (Alone Test) Nothing (goes_on None
         (record (frame_of process.old.frame) {
-          rest = followed_by (block_in body.now) (followed_by (block_in this.now) (rest_in process.old.frame.rest.items));
+          rest = followed_by (block_in body.now) (followed_by (block_in this.now)
+              (rest_in process.old.frame.rest.items));
         })
         (callers_of process.old.callers.items))) }
 {

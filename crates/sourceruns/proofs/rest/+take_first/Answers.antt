@@ -11,7 +11,8 @@ returns-in-empty t c =
     rest_pushed c.pop.new.self.items c.args.rest.now.items c.in-Some.top c.in-Some.ensures.items
     ∙ ap (λ ss. block_before ss (rest_in c.pop.new.self.items))
     (empty_list c.in-Some.top.now c.in-empty.len_below) in
-    subst (λ b. IfOk c.take_first.result (λ o. IsTaken (option_map (λ s. s.now) o) b (rest_in c.take_first.new.rest.items))) (sym e) c.take_first.ensures
+    subst (λ b. IfOk c.take_first.result (λ o. IsTaken (option_map (λ s. s.now) o) b
+    (rest_in c.take_first.new.rest.items))) (sym e) c.take_first.ensures
 
 pub returns-in_ok-push-in-len1-up : goal.returns-in_ok-push-in-len1-up
 returns-in_ok-push-in-len1-up t c =
@@ -24,4 +25,5 @@ pub returns-in-len1 : goal.returns-in-len1
 returns-in-len1 t c =
     taken _ _ (rest_in c.pop.new.self.items) c.in-Some.top.now c.in-len1.len_at_least
     (rest_pushed c.pop.new.self.items c.args.rest.now.items c.in-Some.top c.in-Some.ensures.items)
-    (sym (ap (λ ss. block_before ss (rest_in c.pop.new.self.items)) (dropped_one c.in-Some.top.now c.in-len1.len_below)))
+    (sym (ap (λ ss. block_before ss (rest_in c.pop.new.self.items))
+    (dropped_one c.in-Some.top.now c.in-len1.len_below)))

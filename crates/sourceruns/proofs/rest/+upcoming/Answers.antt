@@ -11,7 +11,8 @@ returns-in-empty-top t c =
     rest_last c.args.rest.now c.top-item.result c.in-len1-up.len_at_least c.top-item.is
     ∙ ap (λ ss. block_before ss (rest_in (take (length c.args.rest.now - 1) c.args.rest.now)))
     (empty_list c.top-item.result.now c.in-empty-top.len_below) in
-    subst (λ b. MatchOption c.upcoming.result (b ≡ Done) (λ s. (later : Block) × (b ≡ Then (statement_of s.now) later))) (sym e) c.upcoming.ensures
+    subst (λ b. MatchOption c.upcoming.result (b ≡ Done) (λ s. (later : Block) × (b ≡ Then
+    (statement_of s.now) later))) (sym e) c.upcoming.ensures
 
 pub returns-in-len1-up-top : goal.returns-in-len1-up-top
 returns-in-len1-up-top t c =

@@ -11,6 +11,7 @@ pub returns : goal.returns
 returns c =
     ap (Does (Alone Test) Nothing)
     (c.go_on.ensures
-    ∙ ap (λ b. goes_on None (record (frame_of c.args.process.now.frame) { rest = b }) (callers_of c.args.process.now.callers.items))
+    ∙ ap (λ b. goes_on None (record (frame_of c.args.process.now.frame) { rest = b })
+    (callers_of c.args.process.now.callers.items))
     (rest_pushed c.args.process.now.frame.rest.items c.push.new.self.items c.args.block c.in_ok-push.ensures.items
     ∙ sym (followed_by-block c.args.block.now (rest_in c.args.process.now.frame.rest.items))))

@@ -12,7 +12,8 @@ pub returns : goal.returns
 returns c =
     ap (Does (Alone Test) Nothing)
     (c.go_on.ensures
-    ∙ ap (λ b. goes_on None (record (frame_of c.args.process.now.frame) { rest = b }) (callers_of c.args.process.now.callers.items))
+    ∙ ap (λ b. goes_on None (record (frame_of c.args.process.now.frame) { rest = b })
+    (callers_of c.args.process.now.callers.items))
     (rest_pushed c.push.new.self.items c.push-2.new.self.items c.args.body c.in_ok-push-2.ensures.items
     ∙ ap (block_before c.args.body.now)
     (rest_pushed c.args.process.now.frame.rest.items c.push.new.self.items c.args.this c.in_ok-push.ensures.items
