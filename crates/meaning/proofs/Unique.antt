@@ -126,9 +126,11 @@ action_once p s a left right x y =
     s.table left.table right.table
     (plain p s.variable y.before) acts y.acts (sym x.named ∙ y.named) x.allows y.allows in
     same_state left right
-    (allows_once a.process y.label s.table left.table right.table (subst (λ l. Allows a.process l s.table left.table) same.label x.allows) y.allows)
+    (allows_once a.process y.label s.table left.table right.table
+    (subst (λ l. Allows a.process l s.table left.table) same.label x.allows) y.allows)
     (x.variables ∙ ap (λ e. variables_after e s.variable) same.effect ∙ sym y.variables)
-    (x.processes ∙ (λ i. put (processes_after (same.effect i) s.process) a.process (Some (same.after i))) ∙ sym y.processes)
+    (x.processes ∙ (λ i. put (processes_after (same.effect i) s.process) a.process (Some (same.after i)))
+    ∙ sym y.processes)
     (x.printed ∙ ap (λ e. printed_after e s.printed) same.effect ∙ sym y.printed)
 
 stray_once : (s : SourceState) (q : ℕ) (c d : Member) (left right : SourceState) → IsStray s q c left

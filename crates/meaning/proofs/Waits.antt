@@ -44,8 +44,13 @@ pub notified : (p : ℕ) (c : Member) (resumed : List ℕ) (t t' : Table) (q : �
     → Allows p (Notifies c resumed) t t' → t.waits q ≡ Some c
     → (r : ℕ) × Contains resumed r × (t.waits r ≡ Some c) × (t'.waits r ≡ None)
 notified p c resumed t t' q (is, after) w =
-    let one : (r : ℕ) × Contains resumed r = some_resumed resumed (is.some q w) in
-    (one.0, one.1, is.wait one.0 one.1, ap (λ (x : Table). x.waits one.0) after ∙ resumed_waits resumed t.waits one.0 one.1)
+    let one : (r : ℕ) × Contains resumed r = some_resumed resumed (is.some q w) in (
+      one.0,
+      one.1,
+      is.wait one.0 one.1,
+      ap (λ (x : Table). x.waits one.0) after
+          ∙ resumed_waits resumed t.waits one.0 one.1,
+    )
 
 pub broadcast : (p : ℕ) (c : Member) (resumed : List ℕ) (t t' : Table) (q : ℕ)
     → Allows p (Broadcasts c resumed) t t' → t'.waits q ≡ Some c → ⊥
