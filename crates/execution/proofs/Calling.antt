@@ -220,7 +220,7 @@ module _ (b : Build) (is : IsBuild b) (t size : ℕ) (memory : ℕ → ℕ) (v :
           ap (λ (k : Option Procedure). begins (frame_of k zs) (caller ∷ cs)) c.sound.fits.2 ∙ begins_outside callee.role (zs ++ zeros callee.locals) callee.body (caller ∷ cs) external in
           proceeds_on b t size memory v (2 * arguments_tokens es) 0 x _ pending walk
           (at_once b t size memory v place l fs values rest role cs entered (Runs end (stacked zs []) l fs) pending
-          (F.acts L.Call step (o ∙ ap (λ (k : Process). Does (Alone L.Call) Nothing k) opened) (begins_at b is t size memory qn callee zs (back ∷ fs) (caller ∷ cs) c.sound.fits.2 have callers)))
+          (F.acts L.Call tt step (o ∙ ap (λ (k : Process). Does (Alone L.Call) Nothing k) opened) (begins_at b is t size memory qn callee zs (back ∷ fs) (caller ∷ cs) c.sound.fits.2 have callers)))
       by_values (FailsAll fault) same g typed =
           let walk : WalksWithin b.image t size memory (2 * arguments_tokens es) x (Dies fault) = subst (λ (k : EvaluatedAll). GivesAll b.image t size memory (2 * arguments_tokens es) x k end [] l fs) same g in
           let none = holds_none b t size memory v place l fs values (Call qn es into) rest role cs c in

@@ -86,7 +86,7 @@ module _ (b : Build) (t size : ℕ) (memory : ℕ → ℕ) (v : Variables) where
           record {
             last = Runs place [] l (m ∷ fs);
             walk = record { count = 0; few = omega arith; walk = stays };
-            completes = F.acts L.Return (look_here b.image t size memory place Ret [] l (m ∷ fs) code.0) (o ∙ ap (λ (p : Process). Does (Alone L.Return) Nothing p) handed) go;
+            completes = F.acts L.Return tt (look_here b.image t size memory place Ret [] l (m ∷ fs) code.0) (o ∙ ap (λ (p : Process). Does (Alone L.Return) Nothing p) handed) go;
           }
   called_returns (Some u) place l (m ∷ fs) number q (c ∷ cs) z r ext same stand is code o =
       proceeds_on b t size memory v 1 0 _ _ r step (by_into c.into refl (subst (ResultFits (scope_of b.program stand.2) c.into) same stand.6) (subst (λ (k : Option ValueType). StandAt b.image m.back (taking_code c.into k)) same stand.7)
@@ -106,7 +106,7 @@ module _ (b : Build) (t size : ℕ) (memory : ℕ → ℕ) (v : Variables) where
           let after = subst (λ (i : Option ℕ). Implements b.image (setting_of b.program b.starts stand.2) b.most stand.3 (m.back + length (taking_code i (Some u))) c.frame.rest) e more in
           let go = back_at m fs c cs stand.1 stand.2 stand.3 (m.back + 1) m.locals c.frame.locals stand.4 after stand.9 stand.10 in
           let handed : hands_over z (c ∷ cs) ≡ goes_on None c.frame cs = ap (λ (i : Option ℕ). goes_on None (with_result i z c.frame) cs) e in
-          done y r (F.acts L.Return (look_here b.image t size memory m.back Pop (word_of z ∷ []) m.locals fs here.0) (o ∙ ap (λ (p : Process). Does (Alone L.Return) Nothing p) handed) go)
+          done y r (F.acts L.Return tt (look_here b.image t size memory m.back Pop (word_of z ∷ []) m.locals fs here.0) (o ∙ ap (λ (p : Process). Does (Alone L.Return) Nothing p) handed) go)
       by_into (Some slot) e fit take more =
           let here = subst (λ (i : Option ℕ). StandAt b.image m.back (taking_code i (Some u))) e take in
           let after = subst (λ (i : Option ℕ). Implements b.image (setting_of b.program b.starts stand.2) b.most stand.3 (m.back + length (taking_code i (Some u))) c.frame.rest) e more in
@@ -117,7 +117,7 @@ module _ (b : Build) (t size : ℕ) (memory : ℕ → ℕ) (v : Variables) where
           let is' : IsFrame b.program b.height b.width stand.1 stand.2 (frame_at c.frame.role (slice_set c.frame.locals slot z) c.frame.rest) l' = record { procedure = f.procedure; role = f.role; typed = put_typed (slots stand.2) c.frame.locals slot u z f.typed is_local is; holds = put_holds m.locals.values c.frame.locals slot z f.holds (omega (arith, within, f.few, f.words)); words = put_length m.locals.values slot (word_of z) ∙ f.words; few = f.few; body = f.body } in
           let go = back_at m fs c cs stand.1 stand.2 stand.3 (m.back + 1) l' (slice_set c.frame.locals slot z) is' after stand.9 stand.10 in
           let handed : hands_over z (c ∷ cs) ≡ goes_on None (frame_at c.frame.role (slice_set c.frame.locals slot z) c.frame.rest) cs = ap (λ (i : Option ℕ). goes_on None (with_result i z c.frame) cs) e in
-          done y r (F.acts L.Return (look_here b.image t size memory m.back (SetLocal (Slot' slot)) (word_of z ∷ []) m.locals fs here.0) (o ∙ ap (λ (p : Process). Does (Alone L.Return) Nothing p) handed) go)
+          done y r (F.acts L.Return tt (look_here b.image t size memory m.back (SetLocal (Slot' slot)) (word_of z ∷ []) m.locals fs here.0) (o ∙ ap (λ (p : Process). Does (Alone L.Return) Nothing p) handed) go)
 
   -- the main part returns
   pub main_returns : (place : ℕ) (l : Locals) (fs : List MachineFrame) (number : ℕ) (q : Procedure) (cs : List Caller) (r : Process)

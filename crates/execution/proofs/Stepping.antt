@@ -153,4 +153,4 @@ module _ (b : Build) (t size : ℕ) (memory : ℕ → ℕ) (v : Variables) (plac
       (put_typed (slots c.procedure) values slot u z c.typed is_local typed) (put_holds l.values values slot z c.holds (omega (arith, within, c.few, c.words))) (put_length l.values slot (word_of z) ∙ c.words) c.later
       (omega (arith, c.head.few, c.head.deep)) (subst (λ n. Implements b.image (setting_of p b.starts c.procedure) b.most c.head.jumps n rest) len c.head.more) in
       at_once (Runs end (word_of z ∷ []) l fs) (q s)
-      (F.acts L.Assign (look_here b.image t size memory end (SetLocal (Slot' slot)) (word_of z ∷ []) l fs last.0) o after)))
+      (F.acts L.Assign tt (look_here b.image t size memory end (SetLocal (Slot' slot)) (word_of z ∷ []) l fs last.0) o after)))

@@ -71,10 +71,10 @@ module _ (b : Build) (t size : ℕ) (memory : ℕ → ℕ) (v : Variables) (plac
       by_value : (z : ℤ) → look b.image t (Runs (place + length (expression_code b.program e)) (word_of z ∷ []) l fs) ≡ Goes (Runs (tested (word_of z) target (place + length (expression_code b.program e) + 1)) [] l fs)
           → offer b.program v (pending s) ≡ Does (Alone L.Test) Nothing (at_rest (go (is_true z))) → HasValue Boolean z
           → Completes b t size memory v (Runs (place + length (expression_code b.program e)) (word_of z ∷ []) l fs) (pending s)
-      by_value z h k (inl is_zero) = F.acts L.Test
+      by_value z h k (inl is_zero) = F.acts L.Test tt
           (h ∙ ap (λ (y : ℤ). Goes (Runs (tested (word_of y) target (place + length (expression_code b.program e) + 1)) [] l fs)) is_zero)
           (k ∙ ap (λ (y : ℤ). Does (Alone L.Test) Nothing (at_rest (go (is_true y)))) is_zero) when_false
-      by_value z h k (inr is_one) = F.acts L.Test
+      by_value z h k (inr is_one) = F.acts L.Test tt
           (h ∙ ap (λ (y : ℤ). Goes (Runs (tested (word_of y) target (place + length (expression_code b.program e) + 1)) [] l fs)) is_one)
           (k ∙ ap (λ (y : ℤ). Does (Alone L.Test) Nothing (at_rest (go (is_true y)))) is_one) when_true
 

@@ -157,10 +157,16 @@ pub record Stands (b : Build) (t size : ℕ) (memory : ℕ → ℕ) (x : Thread)
   pub running : Running b place locals frames frame callers
   pub process : q ≡ goes_on entered frame callers
 
+-- an action of a process's own, none from outside
+abbrev pub IsOwn : Kind → Type 0
+IsOwn (L.Stray c) = ⊥
+IsOwn (L.Kill resumed last) = ⊥
+IsOwn kind = ⊤
+
 -- the step with which a thread does what its process offers: an action of its own, a print, the return of the main part,
 -- or, once it has met it, a fault
 pub data Completes (b : Build) (t size : ℕ) (memory : ℕ → ℕ) (v : Variables) (x : Thread) (q : Process) : Type 0 where
-  acts : {y : Thread} {r : Process} (kind : Kind) → look b.image t x ≡ Goes y → offer b.program v q ≡ Does (Alone kind) Nothing r
+  acts : {y : Thread} {r : Process} (kind : Kind) → IsOwn kind → look b.image t x ≡ Goes y → offer b.program v q ≡ Does (Alone kind) Nothing r
       → Stands b t size memory y r → Completes b t size memory v x q
   prints : {r : Process} (w : ℕ) (go : ℕ → Thread) → look b.image t x ≡ Asks (AskPrint w) go
       → offer b.program v q ≡ Does (Alone (L.Print (signed_of w))) (Writes (signed_of w)) r

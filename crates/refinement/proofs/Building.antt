@@ -1,14 +1,14 @@
 -- The code of a program that runs alone is laid out as it should be, and its statements are sound.
-use Rattle.std.proofs.Common.{rules, ◌≡◌, ℕ, zero, suc, ◌+◌, ◌-◌, ◌<◌, ◌≤◌, List, [], ◌∷◌, ◌++◌, length, Option, Some, None, slice_get, refl, ap, sym, ◌∙◌, subst, arith, max, Contains}
+use Rattle.std.proofs.Common.{◌≡◌, ℕ, zero, suc, ◌<◌, ◌≤◌, List, [], ◌∷◌, length, Some, slice_get, ap, subst, arith, Contains}
 use Rattle.std.proofs.lemmas.List.Elements.{Contains-append_left, Contains-append_right}
 use Rattle.program.specs.declared.kinds.Role.{Role}
 use Rattle.program.specs.declared.kinds.Role.TheVariants.{Entry, Internal, Recover, External, Main}
-use Rattle.program.specs.Trees.{Statement, Assign, If, While, Call, Fork, Join, Return, Wait, Notify, Broadcast, Print, Abort, Block, Done, Then, Part, NoPart, SomePart, Monitor, Procedure, Program, slots}
+use Rattle.program.specs.Trees.{Statement, Assign, If, While, Call, Fork, Join, Return, Wait, Notify, Broadcast, Print, Abort, Block, Done, Then, Part, NoPart, SomePart, Monitor, Procedure, Program}
 use Rattle.program.specs.Scope.{Scope, scope_of, recover_in}
 use Rattle.program.specs.Typing.{BlockFits}
 use Rattle.program.specs.Measures.{block_room, most_room, block_calls, calls}
 use Rattle.program.specs.Tokens.{statement_tokens, block_tokens, part_tokens, most_of, most_of_procedures, most_tokens}
-use Rattle.program.specs.WellFormed.{WellFormed, IsProper, RoleFits}
+use Rattle.program.specs.WellFormed.{WellFormed, RoleFits}
 use Rattle.execution.specs.Builds.{IsOutside, IsBuild}
 use Rattle.execution.specs.Following.{AreAlone, AreSound, nesting, block_nesting, part_nesting}
 use Rattle.refinement.specs.Alone.{RunsAlone, build_of}
@@ -49,9 +49,9 @@ most_in (r ∷ qs) (suc n) q h = let x = most_in qs n q h in omega (arith, x)
 body_sound : (height : ℕ → ℕ) (width number : ℕ) (scope : Scope) (b : Block) → BlockFits scope b → AreAlone b → ((callee : ℕ) → Contains (block_calls b) callee → height callee < height number) → block_room b ≤ most_room → most_of b ≤ width → AreSound height width number scope b
 body_sound height width number scope Done f a l r w = tt
 body_sound height width number scope (Then s b) f a l r w = (
-      record { fits = f.0; alone = a.0; lower = λ n h. l n (Contains-append_left (calls s) (block_calls b) n h); room = omega (arith, r); tokens = omega (arith, w) },
-      body_sound height width number scope b f.1 a.1 (λ n h. l n (Contains-append_right (calls s) (block_calls b) n h)) (omega (arith, r)) (omega (arith, w)),
-    )
+  record { fits = f.0; alone = a.0; lower = λ n h. l n (Contains-append_left (calls s) (block_calls b) n h); room = omega (arith, r); tokens = omega (arith, w) },
+  body_sound height width number scope b f.1 a.1 (λ n h. l n (Contains-append_right (calls s) (block_calls b) n h)) (omega (arith, r)) (omega (arith, w)),
+)
 
 -- without monitors each procedure is outside all of them
 role_outside : (p : Program) → p.monitors ≡ [] → (n : ℕ) (q : Procedure) (role : Role) → RoleFits p n q role → IsOutside role

@@ -1,12 +1,12 @@
 -- The pieces of a program's code stand where its code says.
-use Rattle.std.proofs.Common.{rules, ◌≡◌, ℕ, zero, suc, ◌+◌, ◌<◌, ◌≤◌, List, [], ◌∷◌, ◌++◌, length, map, Option, Some, None, slice_get, refl, ap, sym, ◌∙◌, subst, arith, length-append, append_assoc, max}
+use Rattle.std.proofs.Common.{◌≡◌, ℕ, zero, suc, ◌+◌, List, [], ◌∷◌, ◌++◌, length, Option, Some, None, slice_get, refl, ap, sym, ◌∙◌, subst, arith, length-append, append_assoc}
 use Rattle.std.specs.Prelude.{slice_index}
 use Rattle.isa.specs.declared.instr.Instr.{Instr}
 use Rattle.isa.specs.Programs.{Program as Image}
 use Rattle.program.specs.declared.kinds.ValueType.{ValueType}
 use Rattle.program.specs.declared.kinds.Role.{Role}
 use Rattle.program.specs.declared.kinds.Role.TheVariants.{Entry, Internal, Recover, External, Main}
-use Rattle.program.specs.Trees.{Statement, Assign, If, While, Call, Fork, Join, Return, Wait, Notify, Broadcast, Print, Abort, Block, Done, Then, Part, NoPart, SomePart, Procedure, Program}
+use Rattle.program.specs.Trees.{Statement, Assign, If, While, Call, Fork, Join, Return, Wait, Notify, Broadcast, Print, Abort, Block, Done, Then, NoPart, SomePart, Procedure, Program}
 use Rattle.code.specs.declared.mark.Marked.{Marked}
 use Rattle.code.specs.Marks.{instructions}
 use Rattle.code.specs.Expressions.{expression_code, arguments_code, value_code}
@@ -15,7 +15,7 @@ use Rattle.code.specs.Statements.{Setting, statement_code, block_code, ending_co
 use Rattle.code.specs.Pieces.{setting_of, piece_code, pieces_code, parameters_code, entering_code, default_code, unlinked_code, starts_from, start_of, marked_code, code_of}
 use Rattle.execution.specs.Walks.{StandAt}
 use Rattle.execution.specs.Builds.{IsOutside}
-use Rattle.execution.specs.Following.{IsAlone, AreAlone, PartIsAlone}
+use Rattle.execution.specs.Following.{IsAlone, AreAlone}
 use Rattle.execution.proofs.Walking.{front_stands, back_stands}
 
 -- all instructions behind others stand behind them
@@ -46,6 +46,7 @@ leaving_same p Main a b h = refl
 module _ (p : Program) (q : Procedure) (f g : ℕ → ℕ) (out : IsOutside q.role) where
   abbrev c : Setting
   c = setting_of p f q
+
   abbrev d : Setting
   d = setting_of p g q
 

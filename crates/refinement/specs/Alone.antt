@@ -1,5 +1,5 @@
 -- Programs whose one process uses no monitor and makes no other.
-use Rattle.std.specs.Prelude.{ℕ, ◌≡◌, List, [], Some, slice_get}
+use Rattle.std.specs.Prelude.{ℕ, ◌≡◌, [], Some, slice_get}
 use Rattle.program.specs.Trees.{Procedure, Program}
 use Rattle.program.specs.Tokens.{most_tokens}
 use Rattle.program.specs.WellFormed.{WellFormed}

@@ -63,7 +63,7 @@ pub record Explained (p : Program) (image : Image) (steps : List Step) (s : Stat
   pub at_rest : ((t : ℕ) → CanStep s t → ⊥) → (q : ℕ) → CanMove p source q → ⊥
   -- nor can one whose thread sleeps, where all others are outside the taking and giving up of locks
   pub sleepers : ((t : ℕ) (x : Thread) → s.thread t ≡ Some x → Sleeps s t ⊎ (HasEnded s t ⊎ RunsFreely s t))
-    → (t : ℕ) → Sleeps s t → CanMove p source t → ⊥
+      → (t : ℕ) → Sleeps s t → CanMove p source t → ⊥
   -- the source goes on with the machine
   pub pace : KeepsPace (stretch_length p) steps actions
   -- what came from outside is the same, in order

@@ -4,4 +4,4 @@
 
 mod law;
 
-pub use law::code_of_alone_programs_follows;
+pub use law::{code_of_alone_programs_follows, code_of_alone_programs_refines};
