@@ -36,20 +36,25 @@ stacked_by zero g operands = operands
 stacked_by (suc n) g operands = word_of (g n) ∷ stacked_by n g operands
 
 -- where the evaluation of arguments leads
-abbrev pub GivesAll : Image → ℕ → ℕ → (ℕ → ℕ) → ℕ → Thread → EvaluatedAll → ℕ → List ℕ → Locals → List MachineFrame → Type 0
-GivesAll p t size memory n x (Values zs) place operands l fs = WalksWithin p t size memory n x (Runs place (stacked zs operands) l fs)
+abbrev pub GivesAll : Image → ℕ → ℕ → (ℕ → ℕ) → ℕ → Thread → EvaluatedAll → ℕ → List ℕ → Locals → List MachineFrame
+    → Type 0
+GivesAll p t size memory n x (Values zs) place operands l fs = WalksWithin p t size memory n x
+    (Runs place (stacked zs operands) l fs)
 GivesAll p t size memory n x (FailsAll fault) place operands l fs = WalksWithin p t size memory n x (Dies fault)
 
 abbrev pub HaveAll : List ValueType → EvaluatedAll → Type 0
 HaveAll ts (Values zs) = HaveValues ts zs
 HaveAll ts (FailsAll fault) = Unit {0}
 
-module _ (image : Image) (t size : ℕ) (memory : ℕ → ℕ) (s : Scope) (v : Variables) (values : List ℤ) (l : Locals) (ev : Evaluates image t size memory s v values l) where
-  pub arguments_typed : (es : List Expression) (ts : List ValueType) → ArgumentsFit s es ts → HaveAll ts (evaluate_all s.program v values es)
+module _ (image : Image) (t size : ℕ) (memory : ℕ → ℕ) (s : Scope) (v : Variables) (values : List ℤ) (l : Locals)
+    (ev : Evaluates image t size memory s v values l) where
+  pub arguments_typed : (es : List Expression) (ts : List ValueType) → ArgumentsFit s es ts → HaveAll ts
+      (evaluate_all s.program v values es)
   arguments_typed [] [] h = tt
   arguments_typed [] (u ∷ ts) h = absurd h
   arguments_typed (e ∷ es) [] h = absurd h
-  arguments_typed (e ∷ es) (u ∷ ts) h = both (evaluate s.program v values e) (evaluate_all s.program v values es) (ev.type e u h.0) (arguments_typed es ts h.1)
+  arguments_typed (e ∷ es) (u ∷ ts) h = both (evaluate s.program v values e) (evaluate_all s.program v values es)
+      (ev.type e u h.0) (arguments_typed es ts h.1)
     where
       both : (a : Evaluated) (as' : EvaluatedAll) → OfType u a → HaveAll ts as' → HaveAll (u ∷ ts) (put_first a as')
       both (Value z) (Values zs) k m = (k, m)
@@ -57,9 +62,14 @@ module _ (image : Image) (t size : ℕ) (memory : ℕ → ℕ) (s : Scope) (v : 
       both (Fails fault) (Values zs) k m = tt
       both (Fails fault) (FailsAll fault') k m = tt
 
-  pub arguments_give : (es : List Expression) (ts : List ValueType) (place : ℕ) (operands : List ℕ) (fs : List MachineFrame) → ArgumentsFit s es ts → StandAt image place (arguments_code s.program es) → arguments_room es + length operands ≤ 512
-      → GivesAll image t size memory (2 * arguments_tokens es) (Runs place operands l fs) (evaluate_all s.program v values es) (place + length (arguments_code s.program es)) operands l fs
-  arguments_give [] [] place operands fs h code fit = let e : place ≡ place + 0 = omega arith in subst (λ n. WalksWithin image t size memory 0 (Runs place operands l fs) (Runs n operands l fs)) e (record { count = 0; few = omega arith; walk = stays })
+  pub arguments_give : (es : List Expression) (ts : List ValueType) (place : ℕ) (operands : List ℕ)
+      (fs : List MachineFrame) → ArgumentsFit s es ts → StandAt image place (arguments_code s.program es)
+      → arguments_room es + length operands ≤ 512
+      → GivesAll image t size memory (2 * arguments_tokens es) (Runs place operands l fs)
+      (evaluate_all s.program v values es) (place + length (arguments_code s.program es)) operands l fs
+  arguments_give [] [] place operands fs h code fit = let e : place ≡ place + 0 = omega arith in subst
+      (λ n. WalksWithin image t size memory 0 (Runs place operands l fs) (Runs n operands l fs)) e
+      (record { count = 0; few = omega arith; walk = stays })
   arguments_give [] (u ∷ ts) place operands fs h code fit = absurd h
   arguments_give (e ∷ es) [] place operands fs h code fit = absurd h
   arguments_give (e ∷ es) (u ∷ ts) place operands fs h code fit =
@@ -68,33 +78,47 @@ module _ (image : Image) (t size : ℕ) (memory : ℕ → ℕ) (s : Scope) (v : 
       let later = arguments_code p es in
       let next = place + length first in
       let len : next + length later ≡ place + length (first ++ later) = omega (arith, length-append first later) in
-      both (evaluate p v values e) (evaluate_all p v values es) (next + length later) (place + length (first ++ later)) len
+      both (evaluate p v values e) (evaluate_all p v values es) (next + length later)
+      (place + length (first ++ later)) len
       (ev.gives e u place operands fs h.0 (front_stands image place first later code) (omega (arith, fit)))
-      (λ z. arguments_give es ts next (word_of z ∷ operands) fs h.1 (back_stands image place first later code) (omega (arith, fit)))
+      (λ z. arguments_give es ts next (word_of z ∷ operands) fs h.1 (back_stands image place first later code)
+      (omega (arith, fit)))
     where
       both : (a : Evaluated) (as' : EvaluatedAll) (end end' : ℕ) → end ≡ end'
-          → Gives image t size memory (2 * expression_tokens e) (Runs place operands l fs) a (place + length (expression_code s.program e)) operands l fs
-          → ((z : ℤ) → GivesAll image t size memory (2 * arguments_tokens es) (Runs (place + length (expression_code s.program e)) (word_of z ∷ operands) l fs) as' end (word_of z ∷ operands) l fs)
-          → GivesAll image t size memory (2 * arguments_tokens (e ∷ es)) (Runs place operands l fs) (put_first a as') end' operands l fs
+          → Gives image t size memory (2 * expression_tokens e) (Runs place operands l fs) a
+          (place + length (expression_code s.program e)) operands l fs
+          → ((z : ℤ) → GivesAll image t size memory (2 * arguments_tokens es)
+          (Runs (place + length (expression_code s.program e)) (word_of z ∷ operands) l fs) as' end
+          (word_of z ∷ operands) l fs)
+          → GivesAll image t size memory (2 * arguments_tokens (e ∷ es)) (Runs place operands l fs)
+          (put_first a as') end' operands l fs
       both (Value z) (Values zs) end end' same g k =
           let whole = within_on image t size memory (2 * expression_tokens e) (2 * arguments_tokens es) _ _ _ g (k z) in
-          subst (λ n. WalksWithin image t size memory (2 * arguments_tokens (e ∷ es)) (Runs place operands l fs) (Runs n (stacked zs (word_of z ∷ operands)) l fs)) same
-          (wider image t size memory (2 * expression_tokens e + 2 * arguments_tokens es) (2 * arguments_tokens (e ∷ es)) _ _ (omega arith) whole)
+          subst (λ n. WalksWithin image t size memory (2 * arguments_tokens (e ∷ es)) (Runs place operands l fs)
+          (Runs n (stacked zs (word_of z ∷ operands)) l fs)) same
+          (wider image t size memory (2 * expression_tokens e + 2 * arguments_tokens es)
+          (2 * arguments_tokens (e ∷ es)) _ _ (omega arith) whole)
       both (Value z) (FailsAll fault) end end' same g k =
-          wider image t size memory (2 * expression_tokens e + 2 * arguments_tokens es) (2 * arguments_tokens (e ∷ es)) _ _ (omega arith)
+          wider image t size memory (2 * expression_tokens e + 2 * arguments_tokens es)
+          (2 * arguments_tokens (e ∷ es)) _ _ (omega arith)
           (within_on image t size memory (2 * expression_tokens e) (2 * arguments_tokens es) _ _ _ g (k z))
-      both (Fails fault) (Values zs) end end' same g k = wider image t size memory (2 * expression_tokens e) (2 * arguments_tokens (e ∷ es)) _ _ (omega arith) g
-      both (Fails fault) (FailsAll fault') end end' same g k = wider image t size memory (2 * expression_tokens e) (2 * arguments_tokens (e ∷ es)) _ _ (omega arith) g
+      both (Fails fault) (Values zs) end end' same g k = wider image t size memory (2 * expression_tokens e)
+          (2 * arguments_tokens (e ∷ es)) _ _ (omega arith) g
+      both (Fails fault) (FailsAll fault') end end' same g k = wider image t size memory (2 * expression_tokens e)
+          (2 * arguments_tokens (e ∷ es)) _ _ (omega arith) g
 
 -- values by their numbers are the same as one after another
-pub stacked_same : (zs : List ℤ) (k : ℕ) (g : ℕ → ℤ) (operands : List ℕ) → ((i : ℕ) (z : ℤ) → slice_get zs i ≡ Some z → g (k + i) ≡ z) → stacked zs (stacked_by k g operands) ≡ stacked_by (k + length zs) g operands
+pub stacked_same : (zs : List ℤ) (k : ℕ) (g : ℕ → ℤ) (operands : List ℕ) →
+    ((i : ℕ) (z : ℤ) → slice_get zs i ≡ Some z → g (k + i) ≡ z) → stacked zs (stacked_by k g operands) ≡ stacked_by
+    (k + length zs) g operands
 stacked_same [] k g operands h = let e : k ≡ k + 0 = omega arith in ap (λ n. stacked_by n g operands) e
 stacked_same (z ∷ zs) k g operands h =
     let here : k + 0 ≡ k = omega arith in
     let first : word_of z ≡ word_of (g k) = ap word_of (sym (h 0 z refl) ∙ ap g here) in
     let len : suc k + length zs ≡ k + suc (length zs) = omega arith in
     ap (λ w. stacked zs (w ∷ stacked_by k g operands)) first
-    ∙ stacked_same zs (suc k) g operands (λ i y e. let place : suc k + i ≡ k + suc i = omega arith in ap g place ∙ h (suc i) y e)
+    ∙ stacked_same zs (suc k) g operands (λ i y e. let place : suc k + i ≡ k + suc i = omega arith in ap g place ∙ h
+    (suc i) y e)
     ∙ ap (λ n. stacked_by n g operands) len
 
 -- the locals with so many of them set
@@ -103,23 +127,33 @@ set_all zero g l = l
 set_all (suc n) g l = set_all n g (with_local l (Slot' n) (word_of (g n)))
 
 -- the parameters go from the operands into the locals
-pub parameters_walk : (image : Image) (t size : ℕ) (memory : ℕ → ℕ) (n : ℕ) (g : ℕ → ℤ) (place : ℕ) (operands : List ℕ) (l : Locals) (fs : List MachineFrame) → StandAt image place (parameters_code n)
-    → WalksWithin image t size memory n (Runs place (stacked_by n g operands) l fs) (Runs (place + length (parameters_code n)) operands (set_all n g l) fs)
-parameters_walk image t size memory zero g place operands l fs code = let e : place ≡ place + 0 = omega arith in subst (λ n. WalksWithin image t size memory 0 (Runs place operands l fs) (Runs n operands l fs)) e (record { count = 0; few = omega arith; walk = stays })
+pub parameters_walk : (image : Image) (t size : ℕ) (memory : ℕ → ℕ) (n : ℕ) (g : ℕ → ℤ) (place : ℕ)
+    (operands : List ℕ) (l : Locals) (fs : List MachineFrame) → StandAt image place (parameters_code n)
+    → WalksWithin image t size memory n (Runs place (stacked_by n g operands) l fs)
+    (Runs (place + length (parameters_code n)) operands (set_all n g l) fs)
+parameters_walk image t size memory zero g place operands l fs code = let e : place ≡ place + 0 = omega arith in subst
+    (λ n. WalksWithin image t size memory 0 (Runs place operands l fs) (Runs n operands l fs)) e
+    (record { count = 0; few = omega arith; walk = stays })
 parameters_walk image t size memory (suc n) g place operands l fs code =
-    let step = one_step image t size memory _ _ (look_here image t size memory place (SetLocal (Slot' n)) (word_of (g n) ∷ stacked_by n g operands) l fs code.0) in
-    let more = parameters_walk image t size memory n g (place + 1) operands (with_local l (Slot' n) (word_of (g n))) fs code.1 in
+    let step = one_step image t size memory _ _ (look_here image t size memory place (SetLocal (Slot' n))
+    (word_of (g n) ∷ stacked_by n g operands) l fs code.0) in
+    let more = parameters_walk image t size memory n g (place + 1) operands
+    (with_local l (Slot' n) (word_of (g n))) fs code.1 in
     let e : place + 1 + length (parameters_code n) ≡ place + suc (length (parameters_code n)) = omega arith in
-    subst (λ k. WalksWithin image t size memory (suc n) (Runs place (word_of (g n) ∷ stacked_by n g operands) l fs) (Runs k operands (set_all n g (with_local l (Slot' n) (word_of (g n)))) fs)) e
+    subst (λ k. WalksWithin image t size memory (suc n) (Runs place (word_of (g n) ∷ stacked_by n g operands) l fs)
+    (Runs k operands (set_all n g (with_local l (Slot' n) (word_of (g n)))) fs)) e
     (wider image t size memory (1 + n) (suc n) _ _ (omega arith) (within_on image t size memory 1 n _ _ _ step more))
 
 pub set_all_length : (n : ℕ) (g : ℕ → ℤ) (l : Locals) → length (set_all n g l).values ≡ length l.values
 set_all_length zero g l = refl
-set_all_length (suc n) g l = set_all_length n g (with_local l (Slot' n) (word_of (g n))) ∙ put_length l.values n (word_of (g n))
+set_all_length (suc n) g l = set_all_length n g (with_local l (Slot' n) (word_of (g n))) ∙ put_length l.values n
+    (word_of (g n))
 
-pub set_all_other : (n : ℕ) (g : ℕ → ℤ) (l : Locals) (i : ℕ) → n ≤ i → slice_index (set_all n g l).values i ≡ slice_index l.values i
+pub set_all_other : (n : ℕ) (g : ℕ → ℤ) (l : Locals) (i : ℕ) → n ≤ i → slice_index
+    (set_all n g l).values i ≡ slice_index l.values i
 set_all_other zero g l i h = refl
-set_all_other (suc n) g l i h = set_all_other n g (with_local l (Slot' n) (word_of (g n))) i (omega (arith, h)) ∙ set_other l.values n (word_of (g n)) i (λ e. absurd (omega (arith, h, e)))
+set_all_other (suc n) g l i h = set_all_other n g (with_local l (Slot' n) (word_of (g n))) i (omega (arith, h))
+    ∙ set_other l.values n (word_of (g n)) i (λ e. absurd (omega (arith, h, e)))
 
 below_or_same : (i n : ℕ) → i ≤ n → (i < n) ⊎ (i ≡ n)
 below_or_same zero zero h = inr refl
@@ -131,16 +165,20 @@ below_or_same (suc i) (suc n) h = up (below_or_same i n (omega (arith, h)))
     up (inl a) = inl (omega (arith, a))
     up (inr a) = inr (ap suc a)
 
-pub set_all_at : (n : ℕ) (g : ℕ → ℤ) (l : Locals) (i : ℕ) → i < n → n ≤ length l.values → slice_index (set_all n g l).values i ≡ word_of (g i)
+pub set_all_at : (n : ℕ) (g : ℕ → ℤ) (l : Locals) (i : ℕ) → i < n → n ≤ length l.values → slice_index
+    (set_all n g l).values i ≡ word_of (g i)
 set_all_at zero g l i h k = absurd (omega (arith, h))
 set_all_at (suc n) g l i h k =
-    by_place (below_or_same i n (omega (arith, h))) (λ lt. set_all_at n g (with_local l (Slot' n) (word_of (g n))) i lt (omega (arith, k, put_length l.values n (word_of (g n)))))
+    by_place (below_or_same i n (omega (arith, h))) (λ lt. set_all_at n g
+    (with_local l (Slot' n) (word_of (g n))) i lt (omega (arith, k, put_length l.values n (word_of (g n)))))
   where
-    by_place : (i < n) ⊎ (i ≡ n) → (i < n → slice_index (set_all (suc n) g l).values i ≡ word_of (g i)) → slice_index (set_all (suc n) g l).values i ≡ word_of (g i)
+    by_place : (i < n) ⊎ (i ≡ n) → (i < n → slice_index (set_all (suc n) g l).values i ≡ word_of (g i)) → slice_index
+        (set_all (suc n) g l).values i ≡ word_of (g i)
     by_place (inl lt) earlier = earlier lt
     by_place (inr e) earlier =
         set_all_other n g (with_local l (Slot' n) (word_of (g n))) i (omega (arith, e))
-        ∙ ap (slice_index (slice_set l.values n (word_of (g n)))) e ∙ set_same l.values n (word_of (g n)) (omega (arith, k)) ∙ ap (λ j. word_of (g j)) (sym e)
+        ∙ ap (slice_index (slice_set l.values n (word_of (g n)))) e ∙ set_same l.values n (word_of (g n))
+        (omega (arith, k)) ∙ ap (λ j. word_of (g j)) (sym e)
 
 fresh_zero : (n i : ℕ) → slice_index (replicate n 0) i ≡ 0
 fresh_zero zero i = refl
@@ -153,12 +191,15 @@ zeros_zero (t ∷ ts) zero z h = cc
 zeros_zero (t ∷ ts) (suc i) z h = zeros_zero ts i z h
 
 -- what stands at a place of two lists
-pub get_cases : (zs ys : List ℤ) (i : ℕ) (z : ℤ) → slice_get (zs ++ ys) i ≡ Some z → ((i < length zs) × (slice_get zs i ≡ Some z)) ⊎ ((j : ℕ) × (i ≡ length zs + j) × (slice_get ys j ≡ Some z))
+pub get_cases : (zs ys : List ℤ) (i : ℕ) (z : ℤ) → slice_get (zs ++ ys) i ≡ Some z →
+    ((i < length zs) × (slice_get zs i ≡ Some z)) ⊎ ((j : ℕ) × (i ≡ length zs + j) × (slice_get ys j ≡ Some z))
 get_cases [] ys i z h = inr (i, omega arith, h)
 get_cases (x ∷ zs) ys zero z h = inl (omega arith, h)
 get_cases (x ∷ zs) ys (suc i) z h = up (get_cases zs ys i z h)
   where
-    up : ((i < length zs) × (slice_get zs i ≡ Some z)) ⊎ ((j : ℕ) × (i ≡ length zs + j) × (slice_get ys j ≡ Some z)) → ((suc i < suc (length zs)) × (slice_get zs i ≡ Some z)) ⊎ ((j : ℕ) × (suc i ≡ suc (length zs) + j) × (slice_get ys j ≡ Some z))
+    up : ((i < length zs) × (slice_get zs i ≡ Some z)) ⊎ ((j : ℕ) × (i ≡ length zs + j) × (slice_get ys j ≡ Some z)) →
+        ((suc i < suc (length zs)) × (slice_get zs i ≡ Some z)) ⊎
+        ((j : ℕ) × (suc i ≡ suc (length zs) + j) × (slice_get ys j ≡ Some z))
     up (inl (a, c)) = inl (omega (arith, a), c)
     up (inr (j, a, c)) = inr (j, omega (arith, a), c)
 
@@ -179,9 +220,14 @@ values_length (t ∷ ts) [] h = absurd h
 values_length (t ∷ ts) (z ∷ zs) h = ap suc (values_length ts zs h.1)
 
 -- the locals of a procedure that begins
-pub opening_holds : (zs : List ℤ) (us : List ValueType) → length zs ≤ 64 → HoldValues (set_all (length zs) (local_value zs) fresh).values (zs ++ zeros us)
+pub opening_holds : (zs : List ℤ) (us : List ValueType) → length zs ≤ 64 → HoldValues
+    (set_all (length zs) (local_value zs) fresh).values (zs ++ zeros us)
 opening_holds zs us few i z h = by_place (get_cases zs (zeros us) i z h)
   where
-    by_place : ((i < length zs) × (slice_get zs i ≡ Some z)) ⊎ ((j : ℕ) × (i ≡ length zs + j) × (slice_get (zeros us) j ≡ Some z)) → slice_index (set_all (length zs) (local_value zs) fresh).values i ≡ word_of z
-    by_place (inl (lt, e)) = set_all_at (length zs) (local_value zs) fresh i lt few ∙ ap (λ (o : Option ℤ). word_of (or_zero o)) e
-    by_place (inr (j, place, e)) = set_all_other (length zs) (local_value zs) fresh i (omega (arith, place)) ∙ fresh_zero 64 i ∙ ap word_of (sym (zeros_zero us j z e))
+    by_place : ((i < length zs) × (slice_get zs i ≡ Some z)) ⊎
+        ((j : ℕ) × (i ≡ length zs + j) × (slice_get (zeros us) j ≡ Some z)) → slice_index
+        (set_all (length zs) (local_value zs) fresh).values i ≡ word_of z
+    by_place (inl (lt, e)) = set_all_at (length zs) (local_value zs) fresh i lt few ∙ ap
+        (λ (o : Option ℤ). word_of (or_zero o)) e
+    by_place (inr (j, place, e)) = set_all_other (length zs) (local_value zs) fresh i (omega (arith, place))
+        ∙ fresh_zero 64 i ∙ ap word_of (sym (zeros_zero us j z e))

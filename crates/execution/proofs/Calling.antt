@@ -35,7 +35,8 @@ use Rattle.execution.proofs.Stepping.{steps_of, as_it_stands, at_once}
 use Rattle.execution.proofs.Arguments.{stacked, stacked_by, stacked_same, arguments_typed, arguments_give, GivesAll, HaveAll, set_all, set_all_length, parameters_walk, locals_typed, values_length, opening_holds}
 
 -- calls are so deep that no frame is missing
-pub chain : (b : Build) → IsBuild b → (n : ℕ) (q : Procedure) (fs : List MachineFrame) (cs : List Caller) → CallersStand b n q fs cs → b.height n + length fs < 15
+pub chain : (b : Build) → IsBuild b → (n : ℕ) (q : Procedure) (fs : List MachineFrame) (cs : List Caller)
+    → CallersStand b n q fs cs → b.height n + length fs < 15
 chain b is n q [] [] h = let r = is.bounded n in omega (arith, r)
 chain b is n q [] (c ∷ cs) h = absurd h
 chain b is n q (m ∷ fs) [] h = absurd h
@@ -64,7 +65,8 @@ called_external caller (Recover m) h k = absurd h
 called_external caller External h k = refl
 called_external caller Main h k = absurd k
 
-begins_outside : (role : Role) (values : List ℤ) (body : Block) (cs : List Caller) → role ≡ External → begins (frame_at role values body) cs ≡ goes_on None (frame_at role values body) cs
+begins_outside : (role : Role) (values : List ℤ) (body : Block) (cs : List Caller) → role ≡ External → begins
+    (frame_at role values body) cs ≡ goes_on None (frame_at role values body) cs
 begins_outside role values body cs e = rw e refl
 
 abbrev HoldsFrom : ℕ → List ℤ → List ValueType → Type 0
@@ -72,8 +74,10 @@ HoldsFrom n zs us = HoldValues (set_all n (local_value zs) fresh).values (zs ++ 
 
 module _ (b : Build) (is : IsBuild b) (t size : ℕ) (memory : ℕ → ℕ) where
   -- a procedure with its arguments on the operands stands for its beginning
-  pub begins_at : (n : ℕ) (q : Procedure) (zs : List ℤ) (fs : List MachineFrame) (cs : List Caller) → slice_get b.program.procedures n ≡ Some q → HaveValues q.parameters zs → CallersStand b n q fs cs
-      → Stands b t size memory (Runs (b.starts n) (stacked zs []) fresh fs) (goes_on None (frame_at q.role (zs ++ zeros q.locals) q.body) cs)
+  pub begins_at : (n : ℕ) (q : Procedure) (zs : List ℤ) (fs : List MachineFrame) (cs : List Caller)
+      → slice_get b.program.procedures n ≡ Some q → HaveValues q.parameters zs → CallersStand b n q fs cs
+      → Stands b t size memory (Runs (b.starts n) (stacked zs []) fresh fs)
+      (goes_on None (frame_at q.role (zs ++ zeros q.locals) q.body) cs)
   begins_at n q zs fs cs there typed callers =
       let p = b.program in
       let c = setting_of p b.starts q in
@@ -94,10 +98,14 @@ module _ (b : Build) (is : IsBuild b) (t size : ℕ) (memory : ℕ → ℕ) wher
       let bodies = front_stands b.image at2 body final inner in
       let last = back_stands b.image at2 body final inner in
       let deep = is.deep n q there in
-      let code = block_implements b.image c b.most q.body 0 0 at2 Done bodies (omega arith) (omega (arith, deep)) (finishes last) in
-      let none : at2 ≡ at1 = ap (λ (xs : List Marked). at1 + length xs) (nothing_entered c q.role at1 out) ∙ omega arith in
-      let words : stacked zs [] ≡ stacked_by count (local_value zs) [] = stacked_same zs 0 (local_value zs) [] (λ i z e. ap_value zs i z e) ∙ ap (λ k. stacked_by k (local_value zs) []) (omega (arith, same)) in
-      let go = parameters_walk b.image t size memory count (local_value zs) start [] fresh fs (front_stands b.image start first _ laid) in
+      let code = block_implements b.image c b.most q.body 0 0 at2 Done bodies (omega arith) (omega (arith, deep))
+      (finishes last) in
+      let none : at2 ≡ at1 = ap (λ (xs : List Marked). at1 + length xs) (nothing_entered c q.role at1 out)
+      ∙ omega arith in
+      let words : stacked zs [] ≡ stacked_by count (local_value zs) [] = stacked_same zs 0 (local_value zs) []
+      (λ i z e. ap_value zs i z e) ∙ ap (λ k. stacked_by k (local_value zs) []) (omega (arith, same)) in
+      let go = parameters_walk b.image t size memory count (local_value zs) start [] fresh fs
+      (front_stands b.image start first _ laid) in
       record {
         entered = None;
         frame = frame_at q.role (zs ++ zeros q.locals) q.body;
@@ -105,8 +113,11 @@ module _ (b : Build) (is : IsBuild b) (t size : ℕ) (memory : ℕ → ℕ) wher
         place = at2;
         locals = set_all count (local_value zs) fresh;
         frames = fs;
-        walk = subst (λ k. WalksWithin b.image t size memory 16 (Runs start (stacked zs []) fresh fs) (Runs k [] (set_all count (local_value zs) fresh) fs)) (sym none)
-            (subst (λ ws. WalksWithin b.image t size memory 16 (Runs start ws fresh fs) (Runs at1 [] (set_all count (local_value zs) fresh) fs)) (sym words) (wider b.image t size memory count 16 _ _ few go));
+        walk = subst (λ k. WalksWithin b.image t size memory 16 (Runs start (stacked zs []) fresh fs)
+            (Runs k [] (set_all count (local_value zs) fresh) fs)) (sym none)
+            (subst (λ ws. WalksWithin b.image t size memory 16 (Runs start ws fresh fs)
+            (Runs at1 [] (set_all count (local_value zs) fresh) fs)) (sym words)
+            (wider b.image t size memory count 16 _ _ few go));
         running = record {
           number = n;
           procedure = q;
@@ -131,12 +142,15 @@ module _ (b : Build) (is : IsBuild b) (t size : ℕ) (memory : ℕ → ℕ) wher
       ap_value zs i z e = let k : 0 + i ≡ i = omega arith in ap (local_value zs) k ∙ ap or_zero e
 
 -- a call, and what stands behind it
-call_stands : (image : Image) (place start : ℕ) (into : Option ℕ) (result : Option ValueType) → StandAt image place (call_code start into result) → (slice_get image.code place ≡ Some (Call' start)) × StandAt image (place + 1) (taking_code into result)
+call_stands : (image : Image) (place start : ℕ) (into : Option ℕ) (result : Option ValueType) → StandAt image place
+    (call_code start into result) → (slice_get image.code place ≡ Some (Call' start)) × StandAt image (place + 1)
+    (taking_code into result)
 call_stands image place start (Some slot) result h = h
 call_stands image place start None (Some u) h = h
 call_stands image place start None None h = h
 
-call_length : (start : ℕ) (into : Option ℕ) (result : Option ValueType) → length (call_code start into result) ≡ 1 + length (taking_code into result)
+call_length : (start : ℕ) (into : Option ℕ) (result : Option ValueType) → length
+    (call_code start into result) ≡ 1 + length (taking_code into result)
 call_length start (Some slot) result = refl
 call_length start None (Some u) = refl
 call_length start None None = refl
@@ -144,8 +158,12 @@ call_length start None None = refl
 contains_one : (n : ℕ) → Contains (n ∷ []) n
 contains_one n = search rules
 
-module _ (b : Build) (is : IsBuild b) (t size : ℕ) (memory : ℕ → ℕ) (v : Variables) (place : ℕ) (l : Locals) (fs : List MachineFrame) (values : List ℤ) (rest : Block) (role : Role) (cs : List Caller) (entered : Option ℕ) where
-  pub call_proceeds : (qn : ℕ) (es : List Expression) (into : Option ℕ) → Context b place l fs values (Call qn es into) rest role cs → Proceeds b t size memory v (steps_of (Call qn es into)) (Runs place [] l fs) (goes_on entered (frame_at role values (Then (Call qn es into) rest)) cs)
+module _ (b : Build) (is : IsBuild b) (t size : ℕ) (memory : ℕ → ℕ) (v : Variables) (place : ℕ) (l : Locals)
+    (fs : List MachineFrame) (values : List ℤ) (rest : Block) (role : Role) (cs : List Caller)
+    (entered : Option ℕ) where
+  pub call_proceeds : (qn : ℕ) (es : List Expression) (into : Option ℕ) → Context b place l fs values
+      (Call qn es into) rest role cs → Proceeds b t size memory v (steps_of (Call qn es into)) (Runs place [] l fs)
+      (goes_on entered (frame_at role values (Then (Call qn es into) rest)) cs)
   call_proceeds qn es into c =
       let s = Call qn es into in
       let p = b.program in
@@ -153,9 +171,13 @@ module _ (b : Build) (is : IsBuild b) (t size : ℕ) (memory : ℕ → ℕ) (v :
       let ev = evaluates b t size memory v place l fs values s rest role cs c in
       let fits = c.sound.fits in
       let here = front_stands b.image place args _ c.head.here in
-      let give = arguments_give b.image t size memory (scope_of p c.procedure) v values l ev es fits.1.parameters place [] fs fits.4 here (omega (arith, c.sound.room)) in
-      as_it_stands b t size memory v place l fs values rest role cs entered s c tt (2 * arguments_tokens es + 0) (omega arith)
-      (by_values (evaluate_all p v values es) refl give (arguments_typed b.image t size memory (scope_of p c.procedure) v values l ev es fits.1.parameters fits.4))
+      let give = arguments_give b.image t size memory
+      (scope_of p c.procedure) v values l ev es fits.1.parameters place [] fs fits.4 here
+      (omega (arith, c.sound.room)) in
+      as_it_stands b t size memory v place l fs values rest role cs entered s c tt (2 * arguments_tokens es + 0)
+      (omega arith)
+      (by_values (evaluate_all p v values es) refl give (arguments_typed b.image t size memory
+      (scope_of p c.procedure) v values l ev es fits.1.parameters fits.4))
     where
       x : Thread
       x = Runs place [] l fs
@@ -181,16 +203,26 @@ module _ (b : Build) (is : IsBuild b) (t size : ℕ) (memory : ℕ → ℕ) (v :
       result_same : result_of b.program qn ≡ callee.result
       result_same = ap result_in c.sound.fits.2
 
-      takes : (slice_get b.image.code end ≡ Some (Call' (b.starts qn))) × StandAt b.image (end + 1) (taking_code into callee.result)
-      takes = call_stands b.image end (b.starts qn) into callee.result (subst (λ (k : Option ValueType). StandAt b.image end (call_code (b.starts qn) into k)) result_same behind)
+      takes : (slice_get b.image.code end ≡ Some (Call' (b.starts qn))) × StandAt b.image (end + 1)
+          (taking_code into callee.result)
+      takes = call_stands b.image end (b.starts qn) into callee.result
+          (subst (λ (k : Option ValueType). StandAt b.image end (call_code (b.starts qn) into k)) result_same behind)
 
       external : callee.role ≡ External
       external = called_external c.procedure.role callee.role (is.outside qn callee c.sound.fits.2) c.sound.fits.3
 
-      length_same : place + length (arguments_code b.program es ++ call_code (b.starts qn) into (result_of b.program qn)) ≡ end + 1 + length (taking_code into callee.result)
+      length_same : place + length (arguments_code b.program es ++ call_code (b.starts qn) into
+          (result_of b.program qn)) ≡ end + 1 + length (taking_code into callee.result)
       length_same =
-          let r : length (call_code (b.starts qn) into (result_of b.program qn)) ≡ 1 + length (taking_code into callee.result) = ap (λ (k : Option ValueType). length (call_code (b.starts qn) into k)) result_same ∙ call_length (b.starts qn) into callee.result in
-          omega (arith, length-append (arguments_code b.program es) (call_code (b.starts qn) into (result_of b.program qn)), r)
+          let r : length (call_code (b.starts qn) into (result_of b.program qn)) ≡ 1 + length
+          (taking_code into callee.result) = ap (λ (k : Option ValueType). length
+          (call_code (b.starts qn) into k)) result_same ∙ call_length (b.starts qn) into callee.result in
+          omega (
+            arith,
+            length-append (arguments_code b.program es)
+                (call_code (b.starts qn) into (result_of b.program qn)),
+            r,
+          )
 
       callers : CallersStand b qn callee (back ∷ fs) (caller ∷ cs)
       callers = (
@@ -198,33 +230,57 @@ module _ (b : Build) (is : IsBuild b) (t size : ℕ) (memory : ℕ → ℕ) (v :
         c.number,
         c.procedure,
         c.head.jumps,
-        record { procedure = c.is_there; role = c.same; typed = c.typed; holds = c.holds; words = c.words; few = c.few; body = c.later },
+        record {
+          procedure = c.is_there;
+          role = c.same;
+          typed = c.typed;
+          holds = c.holds;
+          words = c.words;
+          few =
+              c.few;
+          body = c.later;
+        },
         c.sound.lower qn (contains_one qn),
         c.sound.fits.5,
         takes.1,
-        subst (λ k. Implements b.image (setting_of b.program b.starts c.procedure) b.most c.head.jumps k rest) length_same c.head.more,
+        subst (λ k. Implements b.image
+            (setting_of b.program b.starts c.procedure) b.most c.head.jumps k rest) length_same c.head.more,
         omega (arith, c.head.few, c.head.deep),
         c.callers,
       )
 
-      by_values : (zs : EvaluatedAll) → evaluate_all b.program v values es ≡ zs → GivesAll b.image t size memory (2 * arguments_tokens es) x (evaluate_all b.program v values es) end [] l fs → HaveAll callee.parameters (evaluate_all b.program v values es)
+      by_values : (zs : EvaluatedAll) → evaluate_all b.program v values es ≡ zs → GivesAll b.image t size memory
+          (2 * arguments_tokens es) x (evaluate_all b.program v values es) end [] l fs → HaveAll callee.parameters
+          (evaluate_all b.program v values es)
           → Proceeds b t size memory v (2 * arguments_tokens es + 0) x pending
       by_values (Values zs) same g typed =
-          let walk : WalksWithin b.image t size memory (2 * arguments_tokens es) x (Runs end (stacked zs []) l fs) = subst (λ (k : EvaluatedAll). GivesAll b.image t size memory (2 * arguments_tokens es) x k end [] l fs) same g in
+          let walk : WalksWithin b.image t size memory (2 * arguments_tokens es) x (Runs end (stacked zs []) l fs) =
+          subst (λ (k : EvaluatedAll). GivesAll b.image t size memory
+          (2 * arguments_tokens es) x k end [] l fs) same g in
           let have : HaveValues callee.parameters zs = subst (HaveAll callee.parameters) same typed in
           let low = chain b is c.number c.procedure fs cs c.callers in
-          let step = look_here b.image t size memory end (Call' (b.starts qn)) (stacked zs []) l fs takes.0 ∙ ap (λ k. if_so k (Goes (Runs (b.starts qn) (stacked zs []) fresh (back ∷ fs)))) (lt-ltb (length fs) 15 (omega (arith, low))) in
-          let o : offer b.program v pending ≡ Does (Alone L.Call) Nothing (begins (opening_frame b.program qn zs) (caller ∷ cs)) =
-          ap (λ (k : EvaluatedAll). with_values k (frame_at role values rest) cs (λ ys. Does (Alone L.Call) Nothing (begins (opening_frame b.program qn ys) (caller ∷ cs)))) same in
-          let opened : begins (opening_frame b.program qn zs) (caller ∷ cs) ≡ goes_on None (frame_at callee.role (zs ++ zeros callee.locals) callee.body) (caller ∷ cs) =
-          ap (λ (k : Option Procedure). begins (frame_of k zs) (caller ∷ cs)) c.sound.fits.2 ∙ begins_outside callee.role (zs ++ zeros callee.locals) callee.body (caller ∷ cs) external in
+          let step = look_here b.image t size memory end (Call' (b.starts qn)) (stacked zs []) l fs takes.0 ∙ ap
+          (λ k. if_so k (Goes (Runs (b.starts qn) (stacked zs []) fresh (back ∷ fs))))
+          (lt-ltb (length fs) 15 (omega (arith, low))) in
+          let o : offer b.program v pending ≡ Does (Alone L.Call) Nothing
+          (begins (opening_frame b.program qn zs) (caller ∷ cs)) =
+          ap (λ (k : EvaluatedAll). with_values k (frame_at role values rest) cs
+          (λ ys. Does (Alone L.Call) Nothing (begins (opening_frame b.program qn ys) (caller ∷ cs)))) same in
+          let opened : begins (opening_frame b.program qn zs) (caller ∷ cs) ≡ goes_on None
+          (frame_at callee.role (zs ++ zeros callee.locals) callee.body) (caller ∷ cs) =
+          ap (λ (k : Option Procedure). begins (frame_of k zs) (caller ∷ cs)) c.sound.fits.2
+          ∙ begins_outside callee.role (zs ++ zeros callee.locals) callee.body (caller ∷ cs) external in
           proceeds_on b t size memory v (2 * arguments_tokens es) 0 x _ pending walk
           (at_once b t size memory v place l fs values rest role cs entered (Runs end (stacked zs []) l fs) pending
-          (F.acts L.Call tt step (o ∙ ap (λ (k : Process). Does (Alone L.Call) Nothing k) opened) (begins_at b is t size memory qn callee zs (back ∷ fs) (caller ∷ cs) c.sound.fits.2 have callers)))
+          (F.acts L.Call tt step (o ∙ ap (λ (k : Process). Does (Alone L.Call) Nothing k) opened)
+          (begins_at b is t size memory qn callee zs (back ∷ fs) (caller ∷ cs) c.sound.fits.2 have callers)))
       by_values (FailsAll fault) same g typed =
-          let walk : WalksWithin b.image t size memory (2 * arguments_tokens es) x (Dies fault) = subst (λ (k : EvaluatedAll). GivesAll b.image t size memory (2 * arguments_tokens es) x k end [] l fs) same g in
+          let walk : WalksWithin b.image t size memory (2 * arguments_tokens es) x (Dies fault) = subst
+          (λ (k : EvaluatedAll). GivesAll b.image t size memory (2 * arguments_tokens es) x k end [] l fs) same g in
           let none = holds_none b t size memory v place l fs values (Call qn es into) rest role cs c in
-          let o = ap (λ (k : EvaluatedAll). with_values k (frame_at role values rest) cs (λ ys. Does (Alone L.Call) Nothing (begins (opening_frame b.program qn ys) (caller ∷ cs)))) same in
+          let o = ap (λ (k : EvaluatedAll). with_values k (frame_at role values rest) cs
+          (λ ys. Does (Alone L.Call) Nothing (begins (opening_frame b.program qn ys) (caller ∷ cs)))) same in
           proceeds_on b t size memory v (2 * arguments_tokens es) 0 x (Dies fault) pending walk
           (at_once b t size memory v place l fs values rest role cs entered (Dies fault) pending
-          (F.faults fault refl (o ∙ ap (λ (ms : List ℕ). Does (Alone (L.Fails fault)) Nothing (Dying (Faulted fault) ms)) none)))
+          (F.faults fault refl (o ∙ ap (λ (ms : List ℕ). Does (Alone (L.Fails fault)) Nothing
+          (Dying (Faulted fault) ms)) none)))

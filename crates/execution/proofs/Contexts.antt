@@ -40,13 +40,15 @@ outside_monitors External ms h = refl
 outside_monitors Main ms h = refl
 
 module _ (b : Build) where
-  pub is_outside : (n : ℕ) (q : Procedure) (fs : List MachineFrame) (cs : List Caller) → CallersStand b n q fs cs → IsOutside q.role
+  pub is_outside : (n : ℕ) (q : Procedure) (fs : List MachineFrame) (cs : List Caller) → CallersStand b n q fs cs
+      → IsOutside q.role
   is_outside n q [] [] h = subst IsOutside (sym h.0) tt
   is_outside n q [] (c ∷ cs) h = absurd h
   is_outside n q (m ∷ fs) [] h = absurd h
   is_outside n q (m ∷ fs) (c ∷ cs) h = subst IsOutside (sym h.0) tt
 
-  pub no_callers_monitors : (n : ℕ) (q : Procedure) (fs : List MachineFrame) (cs : List Caller) → CallersStand b n q fs cs → callers_monitors cs ≡ []
+  pub no_callers_monitors : (n : ℕ) (q : Procedure) (fs : List MachineFrame) (cs : List Caller)
+      → CallersStand b n q fs cs → callers_monitors cs ≡ []
   no_callers_monitors n q [] [] h = refl
   no_callers_monitors n q [] (c ∷ cs) h = absurd h
   no_callers_monitors n q (m ∷ fs) [] h = absurd h
@@ -55,15 +57,18 @@ module _ (b : Build) where
       outside_monitors c.frame.role (callers_monitors cs) out ∙ no_callers_monitors h.1 h.2 fs cs h.10
 
   -- a frame whose process holds no monitor
-  pub no_monitors : (n : ℕ) (q : Procedure) (f : Frame) (fs : List MachineFrame) (cs : List Caller) → f.role ≡ q.role → CallersStand b n q fs cs → all_monitors f cs ≡ []
-  no_monitors n q f fs cs e h = outside_monitors f.role (callers_monitors cs) (subst IsOutside (sym e) (is_outside n q fs cs h)) ∙ no_callers_monitors n q fs cs h
+  pub no_monitors : (n : ℕ) (q : Procedure) (f : Frame) (fs : List MachineFrame) (cs : List Caller) → f.role ≡ q.role
+      → CallersStand b n q fs cs → all_monitors f cs ≡ []
+  no_monitors n q f fs cs e h = outside_monitors f.role (callers_monitors cs)
+      (subst IsOutside (sym e) (is_outside n q fs cs h)) ∙ no_callers_monitors n q fs cs h
 
 -- a statement that is no RETURN comes next
 abbrev pub IsNoReturn : Statement → Type 0
 IsNoReturn (Return value) = ⊥
 IsNoReturn s = ⊤
 
-pub before_next : (role : Role) (s : Statement) (rest : Block) (entered : Option ℕ) (f : Frame) (cs : List Caller) → IsOutside role → IsNoReturn s → goes_on_by role (Then s rest) entered f cs ≡ Before entered f cs
+pub before_next : (role : Role) (s : Statement) (rest : Block) (entered : Option ℕ) (f : Frame) (cs : List Caller)
+    → IsOutside role → IsNoReturn s → goes_on_by role (Then s rest) entered f cs ≡ Before entered f cs
 before_next External s rest entered f cs h k = refl
 before_next Main (Assign target e) rest entered f cs h k = refl
 before_next Main (If e x y) rest entered f cs h k = refl
@@ -82,26 +87,41 @@ before_next (Internal m) s rest entered f cs h k = absurd h
 before_next (Recover m) s rest entered f cs h k = absurd h
 
 module _ (b : Build) (t size : ℕ) (memory : ℕ → ℕ) (v : Variables) where
-  pub proceeds_on : (n m : ℕ) (x y : Thread) (q : Process) → WalksWithin b.image t size memory n x y → Proceeds b t size memory v m y q → Proceeds b t size memory v (n + m) x q
-  proceeds_on n m x y q w h = record { last = h.last; walk = within_on b.image t size memory n m x y h.last w h.walk; completes = h.completes }
+  pub proceeds_on : (n m : ℕ) (x y : Thread) (q : Process) → WalksWithin b.image t size memory n x y
+      → Proceeds b t size memory v m y q → Proceeds b t size memory v (n + m) x q
+  proceeds_on n m x y q w h = record {
+    last = h.last;
+    walk = within_on b.image t size memory n m x y h.last w h.walk;
+    completes = h.completes;
+  }
 
-  pub proceeds_wider : (n m : ℕ) (x : Thread) (q : Process) → n ≤ m → Proceeds b t size memory v n x q → Proceeds b t size memory v m x q
-  proceeds_wider n m x q le h = record { last = h.last; walk = wider b.image t size memory n m x h.last le h.walk; completes = h.completes }
+  pub proceeds_wider : (n m : ℕ) (x : Thread) (q : Process) → n ≤ m → Proceeds b t size memory v n x q
+      → Proceeds b t size memory v m x q
+  proceeds_wider n m x q le h = record {
+    last = h.last;
+    walk = wider b.image t size memory n m x h.last le h.walk;
+    completes = h.completes;
+  }
 
   -- an evaluation first: on with its value, or its fault
-  pub with_evaluation : (n m : ℕ) (x : Thread) (e : Evaluated) (place : ℕ) (operands : List ℕ) (l : Locals) (fs : List MachineFrame) (f : Frame) (cs : List Caller) (go : ℤ → Offer) (q : Process)
-      → offer b.program v q ≡ with_value e f cs go → all_monitors f cs ≡ [] → Gives b.image t size memory n x e place operands l fs
-      → ((z : ℤ) → e ≡ Value z → offer b.program v q ≡ go z → Proceeds b t size memory v m (Runs place (word_of z ∷ operands) l fs) q)
+  pub with_evaluation : (n m : ℕ) (x : Thread) (e : Evaluated) (place : ℕ) (operands : List ℕ) (l : Locals)
+      (fs : List MachineFrame) (f : Frame) (cs : List Caller) (go : ℤ → Offer) (q : Process)
+      → offer b.program v q ≡ with_value e f cs go → all_monitors f cs ≡ []
+      → Gives b.image t size memory n x e place operands l fs
+      → ((z : ℤ) → e ≡ Value z → offer b.program v q ≡ go z → Proceeds b t size memory v m
+      (Runs place (word_of z ∷ operands) l fs) q)
       → Proceeds b t size memory v (n + m) x q
   with_evaluation n m x (Value z) place operands l fs f cs go q o none g k = proceeds_on n m x _ q g (k z refl o)
   with_evaluation n m x (Fails fault) place operands l fs f cs go q o none g k = record {
     last = Dies fault;
     walk = wider b.image t size memory n (n + m) x (Dies fault) (omega arith) g;
-    completes = F.faults fault refl (o ∙ ap (λ (ms : List ℕ). Does (Alone (L.Fails fault)) Nothing (Dying (Faulted fault) ms)) none);
+    completes = F.faults fault refl (o ∙ ap (λ (ms : List ℕ). Does (Alone (L.Fails fault)) Nothing
+        (Dying (Faulted fault) ms)) none);
   }
 
 -- what is known of a thread before a statement
-pub record Context (b : Build) (place : ℕ) (l : Locals) (fs : List MachineFrame) (values : List ℤ) (s : Statement) (rest : Block) (role : Role) (cs : List Caller) : Type 0 where
+pub record Context (b : Build) (place : ℕ) (l : Locals) (fs : List MachineFrame) (values : List ℤ) (s : Statement)
+    (rest : Block) (role : Role) (cs : List Caller) : Type 0 where
   pub number : ℕ
   pub procedure : Procedure
   pub is_there : slice_get b.program.procedures number ≡ Some procedure
@@ -118,12 +138,15 @@ pub record Context (b : Build) (place : ℕ) (l : Locals) (fs : List MachineFram
 abbrev pub frame_at : Role → List ℤ → Block → Frame
 frame_at role values rest = record { role = role; locals = values; rest = rest }
 
-module _ (b : Build) (t size : ℕ) (memory : ℕ → ℕ) (v : Variables) (place : ℕ) (l : Locals) (fs : List MachineFrame) (values : List ℤ) (s : Statement) (rest : Block) (role : Role) (cs : List Caller) (c : Context b place l fs values s rest role cs) where
+module _ (b : Build) (t size : ℕ) (memory : ℕ → ℕ) (v : Variables) (place : ℕ) (l : Locals) (fs : List MachineFrame)
+    (values : List ℤ) (s : Statement) (rest : Block) (role : Role) (cs : List Caller)
+    (c : Context b place l fs values s rest role cs) where
   pub is_evaluated : IsEvaluated t size memory (scope_of b.program c.procedure) v values l
   is_evaluated = record {
     typed = c.typed;
     holds = c.holds;
-    shows = λ m h. let none = outside_none c.procedure.role (is_outside b c.number c.procedure fs cs c.callers) in absurd (cc (h, none));
+    shows = λ m h. let none = outside_none c.procedure.role (is_outside b c.number c.procedure fs cs c.callers) in
+        absurd (cc (h, none));
   }
 
   pub evaluates : Evaluates b.image t size memory (scope_of b.program c.procedure) v values l
@@ -132,12 +155,16 @@ module _ (b : Build) (t size : ℕ) (memory : ℕ → ℕ) (v : Variables) (plac
   pub holds_none : all_monitors (frame_at role values rest) cs ≡ []
   holds_none = no_monitors b c.number c.procedure (frame_at role values rest) fs cs c.same c.callers
 
-  pub is_before : IsNoReturn s → (entered : Option ℕ) → goes_on entered (frame_at role values (Then s rest)) cs ≡ Before entered (frame_at role values (Then s rest)) cs
-  is_before k entered = before_next role s rest entered (frame_at role values (Then s rest)) cs (subst IsOutside (sym c.same) (is_outside b c.number c.procedure fs cs c.callers)) k
+  pub is_before : IsNoReturn s → (entered : Option ℕ) → goes_on entered
+      (frame_at role values (Then s rest)) cs ≡ Before entered (frame_at role values (Then s rest)) cs
+  is_before k entered = before_next role s rest entered (frame_at role values (Then s rest)) cs
+      (subst IsOutside (sym c.same) (is_outside b c.number c.procedure fs cs c.callers)) k
 
   -- the thread goes on with these values and this rest
-  pub stands_on : (l' : Locals) (values' : List ℤ) (rest' : Block) (place' jumps : ℕ) → HaveValues (slots c.procedure) values' → HoldValues l'.values values' → length l'.values ≡ 64
-      → AreSound b.height b.width c.number (scope_of b.program c.procedure) rest' → jumps ≤ b.most → Implements b.image (setting_of b.program b.starts c.procedure) b.most jumps place' rest'
+  pub stands_on : (l' : Locals) (values' : List ℤ) (rest' : Block) (place' jumps : ℕ) → HaveValues
+      (slots c.procedure) values' → HoldValues l'.values values' → length l'.values ≡ 64
+      → AreSound b.height b.width c.number (scope_of b.program c.procedure) rest' → jumps ≤ b.most
+      → Implements b.image (setting_of b.program b.starts c.procedure) b.most jumps place' rest'
       → Stands b t size memory (Runs place' [] l' fs) (goes_on None (frame_at role values' rest') cs)
   stands_on l' values' rest' place' jumps ty ho wo so few code = record {
     entered = None;
@@ -150,7 +177,16 @@ module _ (b : Build) (t size : ℕ) (memory : ℕ → ℕ) (v : Variables) (plac
     running = record {
       number = c.number;
       procedure = c.procedure;
-      frame = record { procedure = c.is_there; role = c.same; typed = ty; holds = ho; words = wo; few = c.few; body = so };
+      frame = record {
+        procedure = c.is_there;
+        role = c.same;
+        typed = ty;
+        holds = ho;
+        words = wo;
+        few = c.few;
+        body =
+            so;
+      };
       jumps = jumps;
       few = few;
       code = code;

@@ -34,11 +34,14 @@ abbrev pub shown : Evaluated → List ℕ → ℕ → Locals → List Frame → 
 shown (Value z) rest place l fs = Goes (Runs (place + 1) (word_of z ∷ rest) l fs)
 shown (Fails fault) rest place l fs = Goes (Dies fault)
 
-by_range : (z : ℤ) (b : Bool) (rest : List ℕ) (place : ℕ) (l : Locals) (fs : List Frame) → or_dies b ResultOutOfRange (Goes (Runs (place + 1) (word_of z ∷ rest) l fs)) ≡ shown (if b then Value z else Fails ResultOutOfRange) rest place l fs
+by_range : (z : ℤ) (b : Bool) (rest : List ℕ) (place : ℕ) (l : Locals) (fs : List Frame) → or_dies b ResultOutOfRange
+    (Goes (Runs (place + 1) (word_of z ∷ rest) l fs)) ≡ shown
+    (if b then Value z else Fails ResultOutOfRange) rest place l fs
 by_range z true rest place l fs = refl
 by_range z false rest place l fs = refl
 
-pub integer_shown : (z : ℤ) (rest : List ℕ) (place : ℕ) (l : Locals) (fs : List Frame) → at_place place l fs (signed_result z rest) ≡ shown (integer z) rest place l fs
+pub integer_shown : (z : ℤ) (rest : List ℕ) (place : ℕ) (l : Locals) (fs : List Frame) → at_place place l fs
+    (signed_result z rest) ≡ shown (integer z) rest place l fs
 integer_shown (pos n) rest place l fs = by_range (pos n) (nat_lt n 2147483648) rest place l fs
 integer_shown (negsuc n) rest place l fs = by_range (negsuc n) (nat_lt n 2147483648) rest place l fs
 
@@ -47,7 +50,8 @@ pub truth_word : (b : Bool) → truth b ≡ word_of (v.truth b)
 truth_word true = refl
 truth_word false = refl
 
-pub truth_shown : (b : Bool) (rest : List ℕ) (place : ℕ) (l : Locals) (fs : List Frame) → at_place place l fs (Then (truth b ∷ rest)) ≡ shown (Value (v.truth b)) rest place l fs
+pub truth_shown : (b : Bool) (rest : List ℕ) (place : ℕ) (l : Locals) (fs : List Frame) → at_place place l fs
+    (Then (truth b ∷ rest)) ≡ shown (Value (v.truth b)) rest place l fs
 truth_shown true rest place l fs = refl
 truth_shown false rest place l fs = refl
 
@@ -81,7 +85,9 @@ true_words x y h = let e = ap word_of h in grind (arith, Decides-eqb (word_of x)
 
 -- words are equal exactly where the values are
 pub equal_words : (x y : ℤ) → FitsSigned w32 x → FitsSigned w32 y → (word_of x == word_of y) ≡ int_eq x y
-equal_words x y hx hy = same_decision (word_of x == word_of y) (int_eq x y) (λ h. word_injective x y hx hy (eqb-true (word_of x) (word_of y) h)) (true_words x y) (equal_true x y) (true_equal x y)
+equal_words x y hx hy = same_decision (word_of x == word_of y) (int_eq x y)
+    (λ h. word_injective x y hx hy (eqb-true (word_of x) (word_of y) h)) (true_words x y) (equal_true x y)
+    (true_equal x y)
 
 zero_fits : FitsSigned w32 (pos 0)
 zero_fits = small_fits 0 (omega arith)
@@ -90,19 +96,25 @@ zero_fits = small_fits 0 (omega arith)
 pub zero_word : (x : ℤ) → FitsSigned w32 x → (word_of x == 0) ≡ int_eq x (pos 0)
 zero_word x h = equal_words x (pos 0) h zero_fits
 
-and_shown : (a b : ℤ) (rest : List ℕ) (place : ℕ) (l : Locals) (fs : List Frame) → HasValue Boolean a → HasValue Boolean b → at_place place l fs (operated BitAnd (word_of a) (word_of b) rest) ≡ shown (both And a b) rest place l fs
+and_shown : (a b : ℤ) (rest : List ℕ) (place : ℕ) (l : Locals) (fs : List Frame) → HasValue Boolean a
+    → HasValue Boolean b → at_place place l fs (operated BitAnd (word_of a) (word_of b) rest) ≡ shown
+    (both And a b) rest place l fs
 and_shown a b rest place l fs (inl x) (inl y) = rw x refl
 and_shown a b rest place l fs (inl x) (inr y) = rw x refl
 and_shown a b rest place l fs (inr x) (inl y) = rw (x, y) refl
 and_shown a b rest place l fs (inr x) (inr y) = rw (x, y) refl
 
-or_shown : (a b : ℤ) (rest : List ℕ) (place : ℕ) (l : Locals) (fs : List Frame) → HasValue Boolean a → HasValue Boolean b → at_place place l fs (operated BitOr (word_of a) (word_of b) rest) ≡ shown (both Or a b) rest place l fs
+or_shown : (a b : ℤ) (rest : List ℕ) (place : ℕ) (l : Locals) (fs : List Frame) → HasValue Boolean a
+    → HasValue Boolean b → at_place place l fs (operated BitOr (word_of a) (word_of b) rest) ≡ shown
+    (both Or a b) rest place l fs
 or_shown a b rest place l fs (inl x) (inl y) = rw (x, y) refl
 or_shown a b rest place l fs (inl x) (inr y) = rw (x, y) refl
 or_shown a b rest place l fs (inr x) (inl y) = rw (x, y) refl
 or_shown a b rest place l fs (inr x) (inr y) = rw (x, y) refl
 
-divides_by : (b : Bool) (e : Look) (a d : ℤ) (quotient : Evaluated) (rest : List ℕ) (place : ℕ) (l : Locals) (fs : List Frame) → b ≡ int_eq d (pos 0) → e ≡ shown quotient rest place l fs → or_dies (not b) DivisionByZero e ≡ shown (divided a d quotient) rest place l fs
+divides_by : (b : Bool) (e : Look) (a d : ℤ) (quotient : Evaluated) (rest : List ℕ) (place : ℕ) (l : Locals)
+    (fs : List Frame) → b ≡ int_eq d (pos 0) → e ≡ shown quotient rest place l fs → or_dies
+    (not b) DivisionByZero e ≡ shown (divided a d quotient) rest place l fs
 divides_by true e a d quotient rest place l fs h k = rw (sym h) refl
 divides_by false e a d quotient rest place l fs h k = rw (sym h) k
 
@@ -111,34 +123,53 @@ abs_fits (pos n) h = search rules
 abs_fits (negsuc n) h = search rules
 
 rem_fits : (a d : ℤ) → FitsSigned w32 d → 0 < unsigned_abs d → FitsSigned w32 (int_rem a d)
-rem_fits a d hd some = let b = rem_below a d some in let c = abs_fits d hd in fits_signed_from_abs w32 (int_rem a d) (omega (arith, b, c))
+rem_fits a d hd some = let b = rem_below a d some in let c = abs_fits d hd in fits_signed_from_abs w32 (int_rem a d)
+    (omega (arith, b, c))
 
 -- an operator on the words of two values of a type that it takes
-pub both_shown : (op : Operator) (t : ValueType) (a b : ℤ) (rest : List ℕ) (place : ℕ) (l : Locals) (fs : List Frame) → Takes op t → HasValue t a → HasValue t b → at_place place l fs (operated (operation op) (word_of a) (word_of b) rest) ≡ shown (both op a b) rest place l fs
-both_shown Add t a b rest place l fs k ha hb = rw (back a (value_fits t a ha), back b (value_fits t b hb)) (integer_shown (a +ℤ b) rest place l fs)
-both_shown Subtract t a b rest place l fs k ha hb = rw (back a (value_fits t a ha), back b (value_fits t b hb)) (integer_shown (a -ℤ b) rest place l fs)
-both_shown Multiply t a b rest place l fs k ha hb = rw (back a (value_fits t a ha), back b (value_fits t b hb)) (integer_shown (a *ℤ b) rest place l fs)
+pub both_shown : (op : Operator) (t : ValueType) (a b : ℤ) (rest : List ℕ) (place : ℕ) (l : Locals) (fs : List Frame)
+    → Takes op t → HasValue t a → HasValue t b → at_place place l fs
+    (operated (operation op) (word_of a) (word_of b) rest) ≡ shown (both op a b) rest place l fs
+both_shown Add t a b rest place l fs k ha hb = rw (back a (value_fits t a ha), back b (value_fits t b hb))
+    (integer_shown (a +ℤ b) rest place l fs)
+both_shown Subtract t a b rest place l fs k ha hb = rw (back a (value_fits t a ha), back b (value_fits t b hb))
+    (integer_shown (a -ℤ b) rest place l fs)
+both_shown Multiply t a b rest place l fs k ha hb = rw (back a (value_fits t a ha), back b (value_fits t b hb))
+    (integer_shown (a *ℤ b) rest place l fs)
 both_shown Divide t a b rest place l fs k ha hb =
     rw (back a (value_fits t a ha), back b (value_fits t b hb))
-    (divides_by (word_of b == 0) _ a b (integer (int_div a b)) rest place l fs (zero_word b (value_fits t b hb)) (integer_shown (int_div a b) rest place l fs))
+    (divides_by (word_of b == 0) _ a b (integer (int_div a b)) rest place l fs (zero_word b (value_fits t b hb))
+    (integer_shown (int_div a b) rest place l fs))
 both_shown Modulo t a b rest place l fs k ha hb =
     rw (back a (value_fits t a ha), back b (value_fits t b hb))
     (divides_by (word_of b == 0) _ a b (Value (int_rem a b)) rest place l fs (zero_word b (value_fits t b hb)) refl)
-both_shown Equal t a b rest place l fs k ha hb = rw (equal_words a b (value_fits t a ha) (value_fits t b hb)) (truth_shown (int_eq a b) rest place l fs)
-both_shown NotEqual t a b rest place l fs k ha hb = rw (equal_words a b (value_fits t a ha) (value_fits t b hb)) (truth_shown (not (int_eq a b)) rest place l fs)
-both_shown Less t a b rest place l fs k ha hb = rw (back a (value_fits t a ha), back b (value_fits t b hb)) (truth_shown (int_lt a b) rest place l fs)
-both_shown LessEqual t a b rest place l fs k ha hb = rw (back a (value_fits t a ha), back b (value_fits t b hb)) (truth_shown (int_le a b) rest place l fs)
-both_shown Greater t a b rest place l fs k ha hb = rw (back a (value_fits t a ha), back b (value_fits t b hb)) (truth_shown (int_lt b a) rest place l fs)
-both_shown GreaterEqual t a b rest place l fs k ha hb = rw (back a (value_fits t a ha), back b (value_fits t b hb)) (truth_shown (int_le b a) rest place l fs)
-both_shown And t a b rest place l fs k ha hb = and_shown a b rest place l fs (subst (λ u. HasValue u a) k ha) (subst (λ u. HasValue u b) k hb)
-both_shown Or t a b rest place l fs k ha hb = or_shown a b rest place l fs (subst (λ u. HasValue u a) k ha) (subst (λ u. HasValue u b) k hb)
+both_shown Equal t a b rest place l fs k ha hb = rw (equal_words a b (value_fits t a ha) (value_fits t b hb))
+    (truth_shown (int_eq a b) rest place l fs)
+both_shown NotEqual t a b rest place l fs k ha hb = rw (equal_words a b (value_fits t a ha) (value_fits t b hb))
+    (truth_shown (not (int_eq a b)) rest place l fs)
+both_shown Less t a b rest place l fs k ha hb = rw (back a (value_fits t a ha), back b (value_fits t b hb))
+    (truth_shown (int_lt a b) rest place l fs)
+both_shown LessEqual t a b rest place l fs k ha hb = rw (back a (value_fits t a ha), back b (value_fits t b hb))
+    (truth_shown (int_le a b) rest place l fs)
+both_shown Greater t a b rest place l fs k ha hb = rw (back a (value_fits t a ha), back b (value_fits t b hb))
+    (truth_shown (int_lt b a) rest place l fs)
+both_shown GreaterEqual t a b rest place l fs k ha hb = rw (back a (value_fits t a ha), back b (value_fits t b hb))
+    (truth_shown (int_le b a) rest place l fs)
+both_shown And t a b rest place l fs k ha hb = and_shown a b rest place l fs (subst (λ u. HasValue u a) k ha)
+    (subst (λ u. HasValue u b) k hb)
+both_shown Or t a b rest place l fs k ha hb = or_shown a b rest place l fs (subst (λ u. HasValue u a) k ha)
+    (subst (λ u. HasValue u b) k hb)
 
 -- a minus before the word of a value, and a NOT
-pub unary_shown : (t : ℕ) (op : UnaryOperator) (a : ℤ) (rest : List ℕ) (place : ℕ) (l : Locals) (fs : List Frame) → HasValue (unary_type op) a → at_place place l fs (effect t (unary_code op) (word_of a ∷ rest) l) ≡ shown (unary op a) rest place l fs
+pub unary_shown : (t : ℕ) (op : UnaryOperator) (a : ℤ) (rest : List ℕ) (place : ℕ) (l : Locals) (fs : List Frame)
+    → HasValue (unary_type op) a → at_place place l fs (effect t (unary_code op) (word_of a ∷ rest) l) ≡ shown
+    (unary op a) rest place l fs
 unary_shown t NegateOf a rest place l fs h = rw (back a h) (integer_shown (neg_ℤ a) rest place l fs)
-unary_shown t NotOf a rest place l fs h = rw (zero_word a (value_fits Boolean a h)) (not_shown (int_eq a (pos 0)) rest place l fs)
+unary_shown t NotOf a rest place l fs h = rw (zero_word a (value_fits Boolean a h))
+    (not_shown (int_eq a (pos 0)) rest place l fs)
   where
-    not_shown : (b : Bool) (rest : List ℕ) (place : ℕ) (l : Locals) (fs : List Frame) → at_place place l fs (Then (truth b ∷ rest)) ≡ shown (Value (v.truth (not (not b)))) rest place l fs
+    not_shown : (b : Bool) (rest : List ℕ) (place : ℕ) (l : Locals) (fs : List Frame) → at_place place l fs
+        (Then (truth b ∷ rest)) ≡ shown (Value (v.truth (not (not b)))) rest place l fs
     not_shown true rest place l fs = refl
     not_shown false rest place l fs = refl
 
@@ -165,19 +196,22 @@ positive (pos zero) h = absurd cc
 positive (pos (suc n)) h = omega arith
 positive (negsuc n) h = omega arith
 
-divided_typed : (a d : ℤ) (quotient : Evaluated) → (0 < unsigned_abs d → OfType Integer quotient) → OfType Integer (divided a d quotient)
+divided_typed : (a d : ℤ) (quotient : Evaluated) → (0 < unsigned_abs d → OfType Integer quotient) → OfType Integer
+    (divided a d quotient)
 divided_typed a d quotient h = by_test (int_eq d (pos 0)) refl
   where
     by_test : (b : Bool) → int_eq d (pos 0) ≡ b → OfType Integer (if not b then quotient else Fails DivisionByZero)
     by_test true e = tt
     by_test false e = h (positive d e)
 
-pub both_typed : (op : Operator) (t : ValueType) (a b : ℤ) → Takes op t → HasValue t a → HasValue t b → OfType (result_type op) (both op a b)
+pub both_typed : (op : Operator) (t : ValueType) (a b : ℤ) → Takes op t → HasValue t a → HasValue t b → OfType
+    (result_type op) (both op a b)
 both_typed Add t a b k ha hb = integer_typed (a +ℤ b)
 both_typed Subtract t a b k ha hb = integer_typed (a -ℤ b)
 both_typed Multiply t a b k ha hb = integer_typed (a *ℤ b)
 both_typed Divide t a b k ha hb = divided_typed a b (integer (int_div a b)) (λ _. integer_typed (int_div a b))
-both_typed Modulo t a b k ha hb = divided_typed a b (Value (int_rem a b)) (λ some. rem_fits a b (value_fits t b hb) some)
+both_typed Modulo t a b k ha hb = divided_typed a b (Value (int_rem a b))
+    (λ some. rem_fits a b (value_fits t b hb) some)
 both_typed Equal t a b k ha hb = truth_typed (int_eq a b)
 both_typed NotEqual t a b k ha hb = truth_typed (not (int_eq a b))
 both_typed Less t a b k ha hb = truth_typed (int_lt a b)

@@ -45,9 +45,11 @@ zero_value Handle = (0, refl, omega arith)
 
 module _ (b : Build) (t size : ℕ) (memory : ℕ → ℕ) (v : Variables) where
   -- a caller goes on where its call has been answered
-  back_at : (m : MachineFrame) (fs : List MachineFrame) (c : Caller) (cs : List Caller) (n : ℕ) (caller : Procedure) (jumps place : ℕ) (l : Locals) (values : List ℤ)
+  back_at : (m : MachineFrame) (fs : List MachineFrame) (c : Caller) (cs : List Caller) (n : ℕ) (caller : Procedure)
+      (jumps place : ℕ) (l : Locals) (values : List ℤ)
       → IsFrame b.program b.height b.width n caller (frame_at c.frame.role values c.frame.rest) l
-      → Implements b.image (setting_of b.program b.starts caller) b.most jumps place c.frame.rest → jumps ≤ b.most → CallersStand b n caller fs cs
+      → Implements b.image (setting_of b.program b.starts caller) b.most jumps place c.frame.rest → jumps ≤ b.most
+      → CallersStand b n caller fs cs
       → Stands b t size memory (Runs place [] l fs) (goes_on None (frame_at c.frame.role values c.frame.rest) cs)
   back_at m fs c cs n caller jumps place l values is code few callers = record {
     entered = None;
@@ -57,7 +59,16 @@ module _ (b : Build) (t size : ℕ) (memory : ℕ → ℕ) (v : Variables) where
     locals = l;
     frames = fs;
     walk = record { count = 0; few = omega arith; walk = stays };
-    running = record { number = n; procedure = caller; frame = is; jumps = jumps; few = few; code = code; callers = callers };
+    running = record {
+      number = n;
+      procedure = caller;
+      frame = is;
+      jumps = jumps;
+      few = few;
+      code = code;
+      callers =
+          callers;
+    };
     process = refl;
   }
 
@@ -65,9 +76,11 @@ module _ (b : Build) (t size : ℕ) (memory : ℕ → ℕ) (v : Variables) where
   done y r h = record { last = y; walk = record { count = 0; few = omega arith; walk = stays }; completes = h }
 
   -- a procedure that was called returns with its result
-  pub called_returns : (result : Option ValueType) (place : ℕ) (l : Locals) (fs : List MachineFrame) (number : ℕ) (q : Procedure) (cs : List Caller) (z : ℤ) (r : Process)
+  pub called_returns : (result : Option ValueType) (place : ℕ) (l : Locals) (fs : List MachineFrame) (number : ℕ)
+      (q : Procedure) (cs : List Caller) (z : ℤ) (r : Process)
       → q.role ≡ External → q.result ≡ result → CallersStand b number q fs cs → ResultIs result z
-      → StandAt b.image place (return_code External result ∷ []) → offer b.program v r ≡ Does (Alone L.Return) Nothing (hands_over z cs)
+      → StandAt b.image place (return_code External result ∷ []) → offer b.program v r ≡ Does (Alone L.Return) Nothing
+      (hands_over z cs)
       → Proceeds b t size memory v 1 (Runs place (result_operands result z) l fs) r
   called_returns result place l [] number q [] z r ext same stand is code o = absurd (cc (ext, stand.0))
   called_returns result place l [] number q (c ∷ cs) z r ext same stand is code o = absurd stand
@@ -75,55 +88,98 @@ module _ (b : Build) (t size : ℕ) (memory : ℕ → ℕ) (v : Variables) where
   called_returns None place l (m ∷ fs) number q (c ∷ cs) z r ext same stand is code o =
       by_into c.into (refl) (subst (ResultFits (scope_of b.program stand.2) c.into) same stand.6)
     where
-      by_into : (into : Option ℕ) → c.into ≡ into → ResultFits (scope_of b.program stand.2) c.into None → Proceeds b t size memory v 1 (Runs place [] l (m ∷ fs)) r
-      by_into (Some slot) e fit = absurd (subst (λ (i : Option ℕ). ResultFits (scope_of b.program stand.2) i None) e fit)
+      by_into : (into : Option ℕ) → c.into ≡ into → ResultFits (scope_of b.program stand.2) c.into None
+          → Proceeds b t size memory v 1 (Runs place [] l (m ∷ fs)) r
+      by_into (Some slot) e fit = absurd (subst (λ (i : Option ℕ). ResultFits
+          (scope_of b.program stand.2) i None) e fit)
       by_into None e fit =
-          let none : taking_code c.into q.result ≡ [] = ap (λ (i : Option ℕ). taking_code i q.result) e ∙ ap (taking_code None) same in
-          let more = subst (λ (xs : List _). Implements b.image (setting_of b.program b.starts stand.2) b.most stand.3 (m.back + length xs) c.frame.rest) none stand.8 in
+          let none : taking_code c.into q.result ≡ [] = ap (λ (i : Option ℕ). taking_code i q.result) e ∙ ap
+          (taking_code None) same in
+          let more = subst (λ (xs : List _). Implements b.image (setting_of b.program b.starts stand.2) b.most stand.3
+          (m.back + length xs) c.frame.rest) none stand.8 in
           let here : m.back + 0 ≡ m.back = omega arith in
-          let go = back_at m fs c cs stand.1 stand.2 stand.3 m.back m.locals c.frame.locals stand.4 (subst (λ n. Implements b.image (setting_of b.program b.starts stand.2) b.most stand.3 n c.frame.rest) here more) stand.9 stand.10 in
-          let handed : hands_over z (c ∷ cs) ≡ goes_on None c.frame cs = ap (λ (i : Option ℕ). goes_on None (with_result i z c.frame) cs) e in
+          let go = back_at m fs c cs stand.1 stand.2 stand.3 m.back m.locals c.frame.locals stand.4
+          (subst
+          (λ n. Implements b.image
+          (setting_of b.program b.starts stand.2) b.most stand.3 n c.frame.rest) here more) stand.9 stand.10 in
+          let handed : hands_over z (c ∷ cs) ≡ goes_on None c.frame cs = ap
+          (λ (i : Option ℕ). goes_on None (with_result i z c.frame) cs) e in
           record {
             last = Runs place [] l (m ∷ fs);
             walk = record { count = 0; few = omega arith; walk = stays };
-            completes = F.acts L.Return tt (look_here b.image t size memory place Ret [] l (m ∷ fs) code.0) (o ∙ ap (λ (p : Process). Does (Alone L.Return) Nothing p) handed) go;
+            completes = F.acts L.Return tt (look_here b.image t size memory place Ret [] l (m ∷ fs) code.0)
+                (o ∙ ap (λ (p : Process). Does (Alone L.Return) Nothing p) handed) go;
           }
   called_returns (Some u) place l (m ∷ fs) number q (c ∷ cs) z r ext same stand is code o =
-      proceeds_on b t size memory v 1 0 _ _ r step (by_into c.into refl (subst (ResultFits (scope_of b.program stand.2) c.into) same stand.6) (subst (λ (k : Option ValueType). StandAt b.image m.back (taking_code c.into k)) same stand.7)
-      (subst (λ (k : Option ValueType). Implements b.image (setting_of b.program b.starts stand.2) b.most stand.3 (m.back + length (taking_code c.into k)) c.frame.rest) same stand.8))
+      proceeds_on b t size memory v 1 0 _ _ r step (by_into c.into refl
+      (subst (ResultFits (scope_of b.program stand.2) c.into) same stand.6)
+      (subst (λ (k : Option ValueType). StandAt b.image m.back (taking_code c.into k)) same stand.7)
+      (subst (λ (k : Option ValueType). Implements b.image (setting_of b.program b.starts stand.2) b.most stand.3
+      (m.back + length (taking_code c.into k)) c.frame.rest) same stand.8))
     where
       y : Thread
       y = Runs m.back (word_of z ∷ []) m.locals fs
 
       step : WalksWithin b.image t size memory 1 (Runs place (word_of z ∷ []) l (m ∷ fs)) y
-      step = one_step b.image t size memory _ _ (look_here b.image t size memory place RetValue (word_of z ∷ []) l (m ∷ fs) code.0)
+      step = one_step b.image t size memory _ _ (look_here b.image t size memory place RetValue (word_of z ∷ []) l
+          (m ∷ fs) code.0)
 
-      by_into : (into : Option ℕ) → c.into ≡ into → ResultFits (scope_of b.program stand.2) c.into (Some u) → StandAt b.image m.back (taking_code c.into (Some u))
-          → Implements b.image (setting_of b.program b.starts stand.2) b.most stand.3 (m.back + length (taking_code c.into (Some u))) c.frame.rest
+      by_into : (into : Option ℕ) → c.into ≡ into → ResultFits (scope_of b.program stand.2) c.into (Some u)
+          → StandAt b.image m.back (taking_code c.into (Some u))
+          → Implements b.image (setting_of b.program b.starts stand.2) b.most stand.3
+          (m.back + length (taking_code c.into (Some u))) c.frame.rest
           → Proceeds b t size memory v 0 y r
       by_into None e fit take more =
           let here = subst (λ (i : Option ℕ). StandAt b.image m.back (taking_code i (Some u))) e take in
-          let after = subst (λ (i : Option ℕ). Implements b.image (setting_of b.program b.starts stand.2) b.most stand.3 (m.back + length (taking_code i (Some u))) c.frame.rest) e more in
-          let go = back_at m fs c cs stand.1 stand.2 stand.3 (m.back + 1) m.locals c.frame.locals stand.4 after stand.9 stand.10 in
-          let handed : hands_over z (c ∷ cs) ≡ goes_on None c.frame cs = ap (λ (i : Option ℕ). goes_on None (with_result i z c.frame) cs) e in
-          done y r (F.acts L.Return tt (look_here b.image t size memory m.back Pop (word_of z ∷ []) m.locals fs here.0) (o ∙ ap (λ (p : Process). Does (Alone L.Return) Nothing p) handed) go)
+          let after = subst (λ (i : Option ℕ). Implements b.image
+          (setting_of b.program b.starts stand.2) b.most stand.3
+          (m.back + length (taking_code i (Some u))) c.frame.rest) e more in
+          let go = back_at m fs c cs stand.1 stand.2 stand.3
+          (m.back + 1) m.locals c.frame.locals stand.4 after stand.9 stand.10 in
+          let handed : hands_over z (c ∷ cs) ≡ goes_on None c.frame cs = ap
+          (λ (i : Option ℕ). goes_on None (with_result i z c.frame) cs) e in
+          done y r (F.acts L.Return tt (look_here b.image t size memory m.back Pop
+          (word_of z ∷ []) m.locals fs here.0) (o ∙ ap (λ (p : Process). Does
+          (Alone L.Return) Nothing p) handed) go)
       by_into (Some slot) e fit take more =
           let here = subst (λ (i : Option ℕ). StandAt b.image m.back (taking_code i (Some u))) e take in
-          let after = subst (λ (i : Option ℕ). Implements b.image (setting_of b.program b.starts stand.2) b.most stand.3 (m.back + length (taking_code i (Some u))) c.frame.rest) e more in
+          let after = subst (λ (i : Option ℕ). Implements b.image
+          (setting_of b.program b.starts stand.2) b.most stand.3
+          (m.back + length (taking_code i (Some u))) c.frame.rest) e more in
           let is_local = subst (λ (i : Option ℕ). ResultFits (scope_of b.program stand.2) i (Some u)) e fit in
           let f = stand.4 in
           let within = slot_below (slots stand.2) slot u is_local in
           let l' = with_local m.locals (Slot' slot) (word_of z) in
-          let is' : IsFrame b.program b.height b.width stand.1 stand.2 (frame_at c.frame.role (slice_set c.frame.locals slot z) c.frame.rest) l' = record { procedure = f.procedure; role = f.role; typed = put_typed (slots stand.2) c.frame.locals slot u z f.typed is_local is; holds = put_holds m.locals.values c.frame.locals slot z f.holds (omega (arith, within, f.few, f.words)); words = put_length m.locals.values slot (word_of z) ∙ f.words; few = f.few; body = f.body } in
-          let go = back_at m fs c cs stand.1 stand.2 stand.3 (m.back + 1) l' (slice_set c.frame.locals slot z) is' after stand.9 stand.10 in
-          let handed : hands_over z (c ∷ cs) ≡ goes_on None (frame_at c.frame.role (slice_set c.frame.locals slot z) c.frame.rest) cs = ap (λ (i : Option ℕ). goes_on None (with_result i z c.frame) cs) e in
-          done y r (F.acts L.Return tt (look_here b.image t size memory m.back (SetLocal (Slot' slot)) (word_of z ∷ []) m.locals fs here.0) (o ∙ ap (λ (p : Process). Does (Alone L.Return) Nothing p) handed) go)
+          let is' : IsFrame b.program b.height b.width stand.1 stand.2
+          (frame_at c.frame.role (slice_set c.frame.locals slot z) c.frame.rest) l' =
+          record {
+            procedure = f.procedure;
+            role = f.role;
+            typed = put_typed
+                (slots stand.2) c.frame.locals slot u z f.typed is_local is;
+            holds =
+                put_holds m.locals.values c.frame.locals slot z f.holds (omega (arith, within, f.few, f.words));
+            words =
+                put_length m.locals.values slot (word_of z) ∙ f.words;
+            few = f.few;
+            body = f.body;
+          } in
+          let go = back_at m fs c cs stand.1 stand.2 stand.3 (m.back + 1) l'
+          (slice_set c.frame.locals slot z) is' after stand.9 stand.10 in
+          let handed : hands_over z (c ∷ cs) ≡ goes_on None (frame_at c.frame.role
+          (slice_set c.frame.locals slot z) c.frame.rest) cs = ap
+          (λ (i : Option ℕ). goes_on None (with_result i z c.frame) cs) e in
+          done y r (F.acts L.Return tt (look_here b.image t size memory m.back (SetLocal (Slot' slot))
+          (word_of z ∷ []) m.locals fs here.0) (o ∙ ap (λ (p : Process). Does
+          (Alone L.Return) Nothing p) handed) go)
 
   -- the main part returns
-  pub main_returns : (place : ℕ) (l : Locals) (fs : List MachineFrame) (number : ℕ) (q : Procedure) (cs : List Caller) (r : Process)
+  pub main_returns : (place : ℕ) (l : Locals) (fs : List MachineFrame) (number : ℕ) (q : Procedure) (cs : List Caller)
+      (r : Process)
       → q.role ≡ Main → CallersStand b number q fs cs → slice_get b.image.code place ≡ Some Ret → r ≡ Leaving (pos 0)
       → Proceeds b t size memory v 0 (Runs place [] l fs) r
-  main_returns place l [] number q [] r main stand here o = done _ r (F.returns (look_here b.image t size memory place Ret [] l [] here) o)
+  main_returns place l [] number q [] r main stand here o = done _ r
+      (F.returns (look_here b.image t size memory place Ret [] l [] here) o)
   main_returns place l [] number q (c ∷ cs) r main stand here o = absurd stand
   main_returns place l (m ∷ fs) number q [] r main stand here o = absurd stand
   main_returns place l (m ∷ fs) number q (c ∷ cs) r main stand here o = absurd (cc (main, stand.0))

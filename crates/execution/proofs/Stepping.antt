@@ -37,10 +37,12 @@ slot_below (t ∷ ts) zero u h = omega arith
 slot_below (t ∷ ts) (suc slot) u h = let r = slot_below ts slot u h in omega (arith, r)
 
 -- a value of a local's type put into it
-pub put_typed : (ts : List ValueType) (zs : List ℤ) (slot : ℕ) (u : ValueType) (z : ℤ) → HaveValues ts zs → slice_get ts slot ≡ Some u → HasValue u z → HaveValues ts (slice_set zs slot z)
+pub put_typed : (ts : List ValueType) (zs : List ℤ) (slot : ℕ) (u : ValueType) (z : ℤ) → HaveValues ts zs
+    → slice_get ts slot ≡ Some u → HasValue u z → HaveValues ts (slice_set zs slot z)
 put_typed [] zs slot u z h e k = absurd cc
 put_typed (t ∷ ts) [] slot u z h e k = absurd h
-put_typed (t ∷ ts) (y ∷ zs) zero u z h e k = let same : t ≡ u = cc in (subst (λ (w : ValueType). HasValue w z) (sym same) k, h.1)
+put_typed (t ∷ ts) (y ∷ zs) zero u z h e k = let same : t ≡ u = cc in
+    (subst (λ (w : ValueType). HasValue w z) (sym same) k, h.1)
 put_typed (t ∷ ts) (y ∷ zs) (suc slot) u z h e k = (h.0, put_typed ts zs slot u z h.1 e k)
 
 pub put_length : (ws : List ℕ) (slot w : ℕ) → length (slice_set ws slot w) ≡ length ws
@@ -58,29 +60,35 @@ set_other (x ∷ ws) zero w (suc i) h = refl
 set_other (x ∷ ws) (suc slot) w zero h = refl
 set_other (x ∷ ws) (suc slot) w (suc i) h = set_other ws slot w i (λ e. h (ap suc e))
 
-set_get : (zs : List ℤ) (slot i : ℕ) (z y : ℤ) → slice_get (slice_set zs slot z) i ≡ Some y → ((i ≡ slot) × (y ≡ z)) ⊎ ((i ≡ slot → ⊥) × (slice_get zs i ≡ Some y))
+set_get : (zs : List ℤ) (slot i : ℕ) (z y : ℤ) → slice_get (slice_set zs slot z) i ≡ Some y → ((i ≡ slot) × (y ≡ z)) ⊎
+    ((i ≡ slot → ⊥) × (slice_get zs i ≡ Some y))
 set_get [] slot i z y h = absurd cc
 set_get (x ∷ zs) zero zero z y h = inl (refl, cc)
 set_get (x ∷ zs) zero (suc i) z y h = inr (λ e. absurd (omega (arith, e)), h)
 set_get (x ∷ zs) (suc slot) zero z y h = inr (λ e. absurd (omega (arith, e)), h)
 set_get (x ∷ zs) (suc slot) (suc i) z y h = more (set_get zs slot i z y h)
   where
-    more : ((i ≡ slot) × (y ≡ z)) ⊎ ((i ≡ slot → ⊥) × (slice_get zs i ≡ Some y)) → ((suc i ≡ suc slot) × (y ≡ z)) ⊎ ((suc i ≡ suc slot → ⊥) × (slice_get zs i ≡ Some y))
+    more : ((i ≡ slot) × (y ≡ z)) ⊎ ((i ≡ slot → ⊥) × (slice_get zs i ≡ Some y)) → ((suc i ≡ suc slot) × (y ≡ z)) ⊎
+        ((suc i ≡ suc slot → ⊥) × (slice_get zs i ≡ Some y))
     more (inl (a, c)) = inl (ap suc a, c)
     more (inr (a, c)) = inr (λ e. a (omega (arith, e)), c)
 
-pub put_holds : (ws : List ℕ) (zs : List ℤ) (slot : ℕ) (z : ℤ) → HoldValues ws zs → slot < length ws → HoldValues (slice_set ws slot (word_of z)) (slice_set zs slot z)
+pub put_holds : (ws : List ℕ) (zs : List ℤ) (slot : ℕ) (z : ℤ) → HoldValues ws zs → slot < length ws → HoldValues
+    (slice_set ws slot (word_of z)) (slice_set zs slot z)
 put_holds ws zs slot z h lt i y e = by_place (set_get zs slot i z y e)
   where
-    by_place : ((i ≡ slot) × (y ≡ z)) ⊎ ((i ≡ slot → ⊥) × (slice_get zs i ≡ Some y)) → slice_index (slice_set ws slot (word_of z)) i ≡ word_of y
-    by_place (inl (same, value)) = ap (slice_index (slice_set ws slot (word_of z))) same ∙ set_same ws slot (word_of z) lt ∙ ap word_of (sym value)
+    by_place : ((i ≡ slot) × (y ≡ z)) ⊎ ((i ≡ slot → ⊥) × (slice_get zs i ≡ Some y)) → slice_index
+        (slice_set ws slot (word_of z)) i ≡ word_of y
+    by_place (inl (same, value)) = ap (slice_index (slice_set ws slot (word_of z))) same ∙ set_same ws slot
+        (word_of z) lt ∙ ap word_of (sym value)
     by_place (inr (other, held)) = set_other ws slot (word_of z) i other ∙ h i y held
 
 -- the bound of a statement's steps
 abbrev pub steps_of : Statement → ℕ
 steps_of s = 2 * statement_tokens s
 
-module _ (b : Build) (t size : ℕ) (memory : ℕ → ℕ) (v : Variables) (place : ℕ) (l : Locals) (fs : List MachineFrame) (values : List ℤ) (rest : Block) (role : Role) (cs : List Caller) (entered : Option ℕ) where
+module _ (b : Build) (t size : ℕ) (memory : ℕ → ℕ) (v : Variables) (place : ℕ) (l : Locals) (fs : List MachineFrame)
+    (values : List ℤ) (rest : Block) (role : Role) (cs : List Caller) (entered : Option ℕ) where
   abbrev x : Thread
   x = Runs place [] l fs
 
@@ -88,16 +96,21 @@ module _ (b : Build) (t size : ℕ) (memory : ℕ → ℕ) (v : Variables) (plac
   q s = Before entered (frame_at role values (Then s rest)) cs
 
   -- the same of the process as the source has it
-  pub as_it_stands : (s : Statement) → Context b place l fs values s rest role cs → IsNoReturn s → (n : ℕ) → n ≤ steps_of s → Proceeds b t size memory v n x (q s) → Proceeds b t size memory v (steps_of s) x (goes_on entered (frame_at role values (Then s rest)) cs)
+  pub as_it_stands : (s : Statement) → Context b place l fs values s rest role cs → IsNoReturn s → (n : ℕ)
+      → n ≤ steps_of s → Proceeds b t size memory v n x (q s) → Proceeds b t size memory v (steps_of s) x
+      (goes_on entered (frame_at role values (Then s rest)) cs)
   as_it_stands s c k n le h =
       proceeds_wider b t size memory v n (steps_of s) x _ le
-      (subst (λ (r : Process). Proceeds b t size memory v n x r) (sym (is_before b t size memory v place l fs values s rest role cs c k entered)) h)
+      (subst (λ (r : Process). Proceeds b t size memory v n x r)
+      (sym (is_before b t size memory v place l fs values s rest role cs c k entered)) h)
 
   -- the thread is where its process's action is completed
   pub at_once : (y : Thread) (r : Process) → Completes b t size memory v y r → Proceeds b t size memory v 0 y r
   at_once y r h = record { last = y; walk = record { count = 0; few = omega arith; walk = stays }; completes = h }
 
-  pub print_proceeds : (e : Expression) → Context b place l fs values (Print e) rest role cs → Proceeds b t size memory v (steps_of (Print e)) x (goes_on entered (frame_at role values (Then (Print e) rest)) cs)
+  pub print_proceeds : (e : Expression) → Context b place l fs values (Print e) rest role cs
+      → Proceeds b t size memory v (steps_of (Print e)) x (goes_on entered
+      (frame_at role values (Then (Print e) rest)) cs)
   print_proceeds e c =
       let s = Print e in
       let p = b.program in
@@ -108,28 +121,42 @@ module _ (b : Build) (t size : ℕ) (memory : ℕ → ℕ) (v : Variables) (plac
       let last = back_stands b.image place code _ c.head.here in
       let end = place + length code in
       let give = ev.gives e Integer place [] fs fits here (omega (arith, c.sound.room)) in
-      let len : place + length (code ++ marked M.Print Print' ∷ []) ≡ end + 1 = omega (arith, length-append code (marked M.Print Print' ∷ [])) in
-      let after : Stands b t size memory (Runs (end + 1) [] l fs) (goes_on None (frame_at role values rest) cs) = stands_on b t size memory v place l fs values s rest role cs c l values rest (end + 1) c.head.jumps c.typed c.holds c.words c.later (omega (arith, c.head.few, c.head.deep)) (subst (λ n. Implements b.image (setting_of p b.starts c.procedure) b.most c.head.jumps n rest) len c.head.more) in
+      let len : place + length (code ++ marked M.Print Print' ∷ []) ≡ end + 1 = omega
+      (arith, length-append code (marked M.Print Print' ∷ [])) in
+      let after : Stands b t size memory (Runs (end + 1) [] l fs) (goes_on None (frame_at role values rest) cs) =
+      stands_on b t size memory v place l fs values s rest role cs c l values rest
+      (end + 1) c.head.jumps c.typed c.holds c.words c.later (omega (arith, c.head.few, c.head.deep))
+      (subst
+      (λ n. Implements b.image (setting_of p b.starts c.procedure) b.most c.head.jumps n rest) len c.head.more) in
       as_it_stands s c tt (2 * expression_tokens e + 0) (omega arith)
-      (with_evaluation b t size memory v (2 * expression_tokens e) 0 x (evaluate p v values e) end [] l fs (frame_at role values rest) cs _ (q s) refl (holds_none b t size memory v place l fs values s rest role cs c) give
+      (with_evaluation b t size memory v (2 * expression_tokens e) 0 x (evaluate p v values e) end [] l fs
+      (frame_at role values rest) cs _ (q s) refl
+      (holds_none b t size memory v place l fs values s rest role cs c) give
       (λ z same o.
       let typed : OfType Integer (Value z) = subst (OfType Integer) same (ev.type e Integer fits) in
       let signed = back z typed in
       at_once (Runs end (word_of z ∷ []) l fs) (q s)
-      (F.prints (word_of z) (λ a. Runs (end + 1) [] l fs) (look_here b.image t size memory end Print' (word_of z ∷ []) l fs last.0)
-      (o ∙ ap (λ (k : ℤ). Does (Alone (L.Print k)) (Writes k) (goes_on None (frame_at role values rest) cs)) (sym signed)) (λ a. after))))
+      (F.prints (word_of z) (λ a. Runs (end + 1) [] l fs) (look_here b.image t size memory end Print'
+      (word_of z ∷ []) l fs last.0)
+      (o ∙ ap (λ (k : ℤ). Does (Alone (L.Print k)) (Writes k) (goes_on None (frame_at role values rest) cs))
+      (sym signed)) (λ a. after))))
 
-  pub abort_proceeds : Context b place l fs values Abort rest role cs → Proceeds b t size memory v (steps_of Abort) x (goes_on entered (frame_at role values (Then Abort rest)) cs)
+  pub abort_proceeds : Context b place l fs values Abort rest role cs → Proceeds b t size memory v (steps_of Abort) x
+      (goes_on entered (frame_at role values (Then Abort rest)) cs)
   abort_proceeds c =
-      let step = one_step b.image t size memory x (Dies AbortStatement) (look_here b.image t size memory place (Raise AbortStatement) [] l fs c.head.here.0) in
+      let step = one_step b.image t size memory x (Dies AbortStatement)
+      (look_here b.image t size memory place (Raise AbortStatement) [] l fs c.head.here.0) in
       let none = holds_none b t size memory v place l fs values Abort rest role cs c in
       as_it_stands Abort c tt (1 + 0) (omega arith)
       (proceeds_on b t size memory v 1 0 x (Dies AbortStatement) (q Abort) step
       (at_once (Dies AbortStatement) (q Abort)
-      (F.faults AbortStatement refl (ap (λ (ms : List ℕ). Does (Alone (L.Fails AbortStatement)) Nothing (Dying (Faulted AbortStatement) ms)) none))))
+      (F.faults AbortStatement refl (ap (λ (ms : List ℕ). Does (Alone (L.Fails AbortStatement)) Nothing
+      (Dying (Faulted AbortStatement) ms)) none))))
 
   -- a value goes into a local
-  pub assign_proceeds : (slot : ℕ) (e : Expression) → Context b place l fs values (Assign (ToLocal slot) e) rest role cs → Proceeds b t size memory v (steps_of (Assign (ToLocal slot) e)) x (goes_on entered (frame_at role values (Then (Assign (ToLocal slot) e) rest)) cs)
+  pub assign_proceeds : (slot : ℕ) (e : Expression) → Context b place l fs values
+      (Assign (ToLocal slot) e) rest role cs → Proceeds b t size memory v (steps_of (Assign (ToLocal slot) e)) x
+      (goes_on entered (frame_at role values (Then (Assign (ToLocal slot) e) rest)) cs)
   assign_proceeds slot e c =
       let s = Assign (ToLocal slot) e in
       let p = b.program in
@@ -142,15 +169,24 @@ module _ (b : Build) (t size : ℕ) (memory : ℕ → ℕ) (v : Variables) (plac
       let last = back_stands b.image place code _ c.head.here in
       let end = place + length code in
       let give = ev.gives e u place [] fs fits here (omega (arith, c.sound.room)) in
-      let len : place + length (code ++ marked M.AssignLocal (SetLocal (Slot' slot)) ∷ []) ≡ end + 1 = omega (arith, length-append code (marked M.AssignLocal (SetLocal (Slot' slot)) ∷ [])) in
+      let len : place + length (code ++ marked M.AssignLocal (SetLocal (Slot' slot)) ∷ []) ≡ end + 1 = omega
+      (arith, length-append code (marked M.AssignLocal (SetLocal (Slot' slot)) ∷ [])) in
       as_it_stands s c tt (2 * expression_tokens e + 0) (omega arith)
-      (with_evaluation b t size memory v (2 * expression_tokens e) 0 x (evaluate p v values e) end [] l fs (frame_at role values rest) cs _ (q s) refl (holds_none b t size memory v place l fs values s rest role cs c) give
+      (with_evaluation b t size memory v (2 * expression_tokens e) 0 x (evaluate p v values e) end [] l fs
+      (frame_at role values rest) cs _ (q s) refl
+      (holds_none b t size memory v place l fs values s rest role cs c) give
       (λ z same o.
       let typed : OfType u (Value z) = subst (OfType u) same (ev.type e u fits) in
       let within = slot_below (slots c.procedure) slot u is_local in
-      let after : Stands b t size memory (Runs (end + 1) [] (with_local l (Slot' slot) (word_of z)) fs) (goes_on None (frame_at role (slice_set values slot z) rest) cs) =
-      stands_on b t size memory v place l fs values s rest role cs c (with_local l (Slot' slot) (word_of z)) (slice_set values slot z) rest (end + 1) c.head.jumps
-      (put_typed (slots c.procedure) values slot u z c.typed is_local typed) (put_holds l.values values slot z c.holds (omega (arith, within, c.few, c.words))) (put_length l.values slot (word_of z) ∙ c.words) c.later
-      (omega (arith, c.head.few, c.head.deep)) (subst (λ n. Implements b.image (setting_of p b.starts c.procedure) b.most c.head.jumps n rest) len c.head.more) in
+      let after : Stands b t size memory (Runs (end + 1) [] (with_local l (Slot' slot) (word_of z)) fs)
+      (goes_on None (frame_at role (slice_set values slot z) rest) cs) =
+      stands_on b t size memory v place l fs values s rest role cs c (with_local l (Slot' slot) (word_of z))
+      (slice_set values slot z) rest (end + 1) c.head.jumps
+      (put_typed (slots c.procedure) values slot u z c.typed is_local typed)
+      (put_holds l.values values slot z c.holds (omega (arith, within, c.few, c.words)))
+      (put_length l.values slot (word_of z) ∙ c.words) c.later
+      (omega (arith, c.head.few, c.head.deep)) (subst (λ n. Implements b.image
+      (setting_of p b.starts c.procedure) b.most c.head.jumps n rest) len c.head.more) in
       at_once (Runs end (word_of z ∷ []) l fs) (q s)
-      (F.acts L.Assign tt (look_here b.image t size memory end (SetLocal (Slot' slot)) (word_of z ∷ []) l fs last.0) o after)))
+      (F.acts L.Assign tt (look_here b.image t size memory end (SetLocal (Slot' slot))
+      (word_of z ∷ []) l fs last.0) o after)))

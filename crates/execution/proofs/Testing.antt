@@ -35,7 +35,8 @@ use Rattle.execution.proofs.Bodies.{block_implements, are_sound-followed, block_
 use Rattle.execution.proofs.Contexts.{Context, frame_at, IsNoReturn, with_evaluation, evaluates, holds_none, stands_on}
 use Rattle.execution.proofs.Stepping.{steps_of, as_it_stands, at_once}
 
-module _ (b : Build) (t size : ℕ) (memory : ℕ → ℕ) (v : Variables) (place : ℕ) (l : Locals) (fs : List MachineFrame) (values : List ℤ) (rest : Block) (role : Role) (cs : List Caller) (entered : Option ℕ) where
+module _ (b : Build) (t size : ℕ) (memory : ℕ → ℕ) (v : Variables) (place : ℕ) (l : Locals) (fs : List MachineFrame)
+    (values : List ℤ) (rest : Block) (role : Role) (cs : List Caller) (entered : Option ℕ) where
   abbrev x : Thread
   x = Runs place [] l fs
 
@@ -46,10 +47,12 @@ module _ (b : Build) (t size : ℕ) (memory : ℕ → ℕ) (v : Variables) (plac
   pending s = Before entered (frame_at role values (Then s rest)) cs
 
   -- a test, and where it leads
-  test_proceeds : (s : Statement) → IsNoReturn s → (c : Context b place l fs values s rest role cs) (e : Expression) (go : Bool → Block) (target : ℕ) (tail : List Marked)
+  test_proceeds : (s : Statement) → IsNoReturn s → (c : Context b place l fs values s rest role cs) (e : Expression)
+      (go : Bool → Block) (target : ℕ) (tail : List Marked)
       → HasType (scope_of b.program c.procedure) e Boolean → room e ≤ most_room → 2 * expression_tokens e ≤ steps_of s
       → StandAt b.image place (expression_code b.program e ++ marked M.Test (JumpIfZero target) ∷ tail)
-      → offer b.program v (pending s) ≡ with_value (evaluate b.program v values e) (frame_at role values rest) cs (λ z. Does (Alone L.Test) Nothing (at_rest (go (is_true z))))
+      → offer b.program v (pending s) ≡ with_value (evaluate b.program v values e) (frame_at role values rest) cs
+      (λ z. Does (Alone L.Test) Nothing (at_rest (go (is_true z))))
       → Stands b t size memory (Runs (place + length (expression_code b.program e) + 1) [] l fs) (at_rest (go true))
       → Stands b t size memory (Runs target [] l fs) (at_rest (go false))
       → Proceeds b t size memory v (steps_of s) x (goes_on entered (frame_at role values (Then s rest)) cs)
@@ -61,24 +64,34 @@ module _ (b : Build) (t size : ℕ) (memory : ℕ → ℕ) (v : Variables) (plac
       let last = back_stands b.image place code _ stand in
       let end = place + length code in
       let give = ev.gives e Boolean place [] fs fits here (omega (arith, fit)) in
-      as_it_stands b t size memory v place l fs values rest role cs entered s c k (2 * expression_tokens e + 0) (omega (arith, small))
-      (with_evaluation b t size memory v (2 * expression_tokens e) 0 x (evaluate p v values e) end [] l fs (frame_at role values rest) cs _ (pending s) o (holds_none b t size memory v place l fs values s rest role cs c) give
+      as_it_stands b t size memory v place l fs values rest role cs entered s c k (2 * expression_tokens e + 0)
+      (omega (arith, small))
+      (with_evaluation b t size memory v (2 * expression_tokens e) 0 x (evaluate p v values e) end [] l fs
+      (frame_at role values rest) cs _ (pending s) o
+      (holds_none b t size memory v place l fs values s rest role cs c) give
       (λ z same o'.
       let typed : OfType Boolean (Value z) = subst (OfType Boolean) same (ev.type e Boolean fits) in
       at_once b t size memory v place l fs values rest role cs entered (Runs end (word_of z ∷ []) l fs) (pending s)
       (by_value z (look_here b.image t size memory end (JumpIfZero target) (word_of z ∷ []) l fs last.0) o' typed)))
     where
-      by_value : (z : ℤ) → look b.image t (Runs (place + length (expression_code b.program e)) (word_of z ∷ []) l fs) ≡ Goes (Runs (tested (word_of z) target (place + length (expression_code b.program e) + 1)) [] l fs)
+      by_value : (z : ℤ) → look b.image t (Runs (place + length (expression_code b.program e))
+          (word_of z ∷ []) l fs) ≡ Goes (Runs (tested (word_of z) target
+          (place + length (expression_code b.program e) + 1)) [] l fs)
           → offer b.program v (pending s) ≡ Does (Alone L.Test) Nothing (at_rest (go (is_true z))) → HasValue Boolean z
-          → Completes b t size memory v (Runs (place + length (expression_code b.program e)) (word_of z ∷ []) l fs) (pending s)
+          → Completes b t size memory v (Runs (place + length (expression_code b.program e)) (word_of z ∷ []) l fs)
+          (pending s)
       by_value z h k (inl is_zero) = F.acts L.Test tt
-          (h ∙ ap (λ (y : ℤ). Goes (Runs (tested (word_of y) target (place + length (expression_code b.program e) + 1)) [] l fs)) is_zero)
+          (h ∙ ap (λ (y : ℤ). Goes (Runs (tested (word_of y) target
+          (place + length (expression_code b.program e) + 1)) [] l fs)) is_zero)
           (k ∙ ap (λ (y : ℤ). Does (Alone L.Test) Nothing (at_rest (go (is_true y)))) is_zero) when_false
       by_value z h k (inr is_one) = F.acts L.Test tt
-          (h ∙ ap (λ (y : ℤ). Goes (Runs (tested (word_of y) target (place + length (expression_code b.program e) + 1)) [] l fs)) is_one)
+          (h ∙ ap (λ (y : ℤ). Goes (Runs (tested (word_of y) target
+          (place + length (expression_code b.program e) + 1)) [] l fs)) is_one)
           (k ∙ ap (λ (y : ℤ). Does (Alone L.Test) Nothing (at_rest (go (is_true y)))) is_one) when_true
 
-  pub if_proceeds : (e : Expression) (then_part : Block) (c : Context b place l fs values (If e then_part NoPart) rest role cs) → Proceeds b t size memory v (steps_of (If e then_part NoPart)) x (goes_on entered (frame_at role values (Then (If e then_part NoPart) rest)) cs)
+  pub if_proceeds : (e : Expression) (then_part : Block) (c : Context b place l fs values
+      (If e then_part NoPart) rest role cs) → Proceeds b t size memory v (steps_of (If e then_part NoPart)) x
+      (goes_on entered (frame_at role values (Then (If e then_part NoPart) rest)) cs)
   if_proceeds e then_part c =
       let s = If e then_part NoPart in
       let p = b.program in
@@ -90,16 +103,27 @@ module _ (b : Build) (t size : ℕ) (memory : ℕ → ℕ) (v : Variables) (plac
       let end = then_start + length body in
       let d = c.head.depth in
       let tail = back_stands b.image place test _ c.head.here in
-      let len : place + length (test ++ marked M.Test (JumpIfZero end) ∷ body) ≡ end = omega (arith, length-append test (marked M.Test (JumpIfZero end) ∷ body)) in
+      let len : place + length (test ++ marked M.Test (JumpIfZero end) ∷ body) ≡ end = omega
+      (arith, length-append test (marked M.Test (JumpIfZero end) ∷ body)) in
       let more = subst (λ n. Implements b.image setting b.most c.head.jumps n rest) len c.head.more in
-      let inner = block_implements b.image setting b.most then_part d c.head.jumps then_start rest tail.1 c.head.few (omega (arith, c.head.deep)) more in
-      let sound = block_sound b.height b.width c.number scope then_part c.sound.fits.1 c.sound.alone.0 (λ n h. c.sound.lower n (Contains-append_left (block_calls then_part) [] n h)) (omega (arith, c.sound.room)) (omega (arith, c.sound.tokens)) in
-      test_proceeds s tt c e (λ k. followed_by (chosen k then_part Done) rest) end body c.sound.fits.0 (omega (arith, c.sound.room)) (omega arith) c.head.here refl
-      (stands_on b t size memory v place l fs values s rest role cs c l values (followed_by then_part rest) then_start inner.0 c.typed c.holds c.words
-      (are_sound-followed b.height b.width c.number scope then_part rest sound c.later) (omega (arith, inner.1, c.head.deep)) inner.2)
-      (stands_on b t size memory v place l fs values s rest role cs c l values rest end c.head.jumps c.typed c.holds c.words c.later (omega (arith, c.head.few, c.head.deep)) more)
+      let inner = block_implements b.image setting b.most then_part d c.head.jumps then_start rest tail.1 c.head.few
+      (omega (arith, c.head.deep)) more in
+      let sound = block_sound b.height b.width c.number scope then_part c.sound.fits.1 c.sound.alone.0
+      (λ n h. c.sound.lower n (Contains-append_left (block_calls then_part) [] n h)) (omega (arith, c.sound.room))
+      (omega (arith, c.sound.tokens)) in
+      test_proceeds s tt c e (λ k. followed_by (chosen k then_part Done) rest) end body c.sound.fits.0
+      (omega (arith, c.sound.room)) (omega arith) c.head.here refl
+      (stands_on b t size memory v place l fs values s rest role cs c l values
+      (followed_by then_part rest) then_start inner.0 c.typed c.holds c.words
+      (are_sound-followed b.height b.width c.number scope then_part rest sound c.later)
+      (omega (arith, inner.1, c.head.deep)) inner.2)
+      (stands_on b t size memory v place l fs values s rest role cs c l values rest end c.head.jumps c.typed c.holds
+      c.words c.later (omega (arith, c.head.few, c.head.deep)) more)
 
-  pub if_else_proceeds : (e : Expression) (then_part else_part : Block) (c : Context b place l fs values (If e then_part (SomePart else_part)) rest role cs) → Proceeds b t size memory v (steps_of (If e then_part (SomePart else_part))) x (goes_on entered (frame_at role values (Then (If e then_part (SomePart else_part)) rest)) cs)
+  pub if_else_proceeds : (e : Expression) (then_part else_part : Block)
+      (c : Context b place l fs values (If e then_part (SomePart else_part)) rest role cs)
+      → Proceeds b t size memory v (steps_of (If e then_part (SomePart else_part))) x
+      (goes_on entered (frame_at role values (Then (If e then_part (SomePart else_part)) rest)) cs)
   if_else_proceeds e then_part else_part c =
       let s = If e then_part (SomePart else_part) in
       let p = b.program in
@@ -116,19 +140,37 @@ module _ (b : Build) (t size : ℕ) (memory : ℕ → ℕ) (v : Variables) (plac
       let tail = back_stands b.image place test _ c.head.here in
       let jump = back_stands b.image then_start body behind tail.1 in
       let len : place + length (test ++ marked M.Test (JumpIfZero else_start) ∷ (body ++ behind)) ≡ end =
-      omega (arith, length-append test (marked M.Test (JumpIfZero else_start) ∷ (body ++ behind)), length-append body behind) in
+      omega (
+        arith,
+        length-append test (marked M.Test (JumpIfZero else_start) ∷ (body ++ behind)),
+        length-append body behind,
+      ) in
       let more = subst (λ n. Implements b.image setting b.most c.head.jumps n rest) len c.head.more in
-      let inner = block_implements b.image setting b.most then_part (d + 1) (suc c.head.jumps) then_start rest (front_stands b.image then_start body behind tail.1) (omega (arith, c.head.few)) (omega (arith, c.head.deep)) (follows end jump.0 more) in
-      let outer = block_implements b.image setting b.most else_part d c.head.jumps else_start rest jump.1 c.head.few (omega (arith, c.head.deep)) more in
-      let first = block_sound b.height b.width c.number scope then_part c.sound.fits.1 c.sound.alone.0 (λ n h. c.sound.lower n (Contains-append_left (block_calls then_part) (block_calls else_part) n h)) (omega (arith, c.sound.room)) (omega (arith, c.sound.tokens)) in
-      let second = block_sound b.height b.width c.number scope else_part c.sound.fits.2 c.sound.alone.1 (λ n h. c.sound.lower n (Contains-append_right (block_calls then_part) (block_calls else_part) n h)) (omega (arith, c.sound.room)) (omega (arith, c.sound.tokens)) in
-      test_proceeds s tt c e (λ k. followed_by (chosen k then_part else_part) rest) else_start (body ++ behind) c.sound.fits.0 (omega (arith, c.sound.room)) (omega arith) c.head.here refl
-      (stands_on b t size memory v place l fs values s rest role cs c l values (followed_by then_part rest) then_start inner.0 c.typed c.holds c.words
-      (are_sound-followed b.height b.width c.number scope then_part rest first c.later) (omega (arith, inner.1, c.head.deep)) inner.2)
-      (stands_on b t size memory v place l fs values s rest role cs c l values (followed_by else_part rest) else_start outer.0 c.typed c.holds c.words
-      (are_sound-followed b.height b.width c.number scope else_part rest second c.later) (omega (arith, outer.1, c.head.deep)) outer.2)
+      let inner = block_implements b.image setting b.most then_part (d + 1) (suc c.head.jumps) then_start rest
+      (front_stands b.image then_start body behind tail.1) (omega (arith, c.head.few))
+      (omega (arith, c.head.deep)) (follows end jump.0 more) in
+      let outer = block_implements b.image setting b.most else_part d c.head.jumps else_start rest jump.1 c.head.few
+      (omega (arith, c.head.deep)) more in
+      let first = block_sound b.height b.width c.number scope then_part c.sound.fits.1 c.sound.alone.0
+      (λ n h. c.sound.lower n (Contains-append_left (block_calls then_part) (block_calls else_part) n h))
+      (omega (arith, c.sound.room)) (omega (arith, c.sound.tokens)) in
+      let second = block_sound b.height b.width c.number scope else_part c.sound.fits.2 c.sound.alone.1
+      (λ n h. c.sound.lower n (Contains-append_right (block_calls then_part) (block_calls else_part) n h))
+      (omega (arith, c.sound.room)) (omega (arith, c.sound.tokens)) in
+      test_proceeds s tt c e (λ k. followed_by (chosen k then_part else_part) rest) else_start
+      (body ++ behind) c.sound.fits.0 (omega (arith, c.sound.room)) (omega arith) c.head.here refl
+      (stands_on b t size memory v place l fs values s rest role cs c l values
+      (followed_by then_part rest) then_start inner.0 c.typed c.holds c.words
+      (are_sound-followed b.height b.width c.number scope then_part rest first c.later)
+      (omega (arith, inner.1, c.head.deep)) inner.2)
+      (stands_on b t size memory v place l fs values s rest role cs c l values
+      (followed_by else_part rest) else_start outer.0 c.typed c.holds c.words
+      (are_sound-followed b.height b.width c.number scope else_part rest second c.later)
+      (omega (arith, outer.1, c.head.deep)) outer.2)
 
-  pub while_proceeds : (e : Expression) (body : Block) (c : Context b place l fs values (While e body) rest role cs) → Proceeds b t size memory v (steps_of (While e body)) x (goes_on entered (frame_at role values (Then (While e body) rest)) cs)
+  pub while_proceeds : (e : Expression) (body : Block) (c : Context b place l fs values (While e body) rest role cs)
+      → Proceeds b t size memory v (steps_of (While e body)) x
+      (goes_on entered (frame_at role values (Then (While e body) rest)) cs)
   while_proceeds e body c =
       let s = While e body in
       let p = b.program in
@@ -143,12 +185,23 @@ module _ (b : Build) (t size : ℕ) (memory : ℕ → ℕ) (v : Variables) (plac
       let tail = back_stands b.image place test _ c.head.here in
       let jump = back_stands b.image body_start inside behind tail.1 in
       let len : place + length (test ++ marked M.Test (JumpIfZero end) ∷ (inside ++ behind)) ≡ end =
-      omega (arith, length-append test (marked M.Test (JumpIfZero end) ∷ (inside ++ behind)), length-append inside behind) in
+      omega (
+        arith,
+        length-append test (marked M.Test (JumpIfZero end) ∷ (inside ++ behind)),
+        length-append inside behind,
+      ) in
       let more = subst (λ n. Implements b.image setting b.most c.head.jumps n rest) len c.head.more in
       let again = states c.head.depth c.head.jumps c.head.here c.head.few c.head.deep c.head.more in
-      let inner = block_implements b.image setting b.most body (d + 1) 1 body_start (Then s rest) (front_stands b.image body_start inside behind tail.1) (omega arith) (omega (arith, c.head.deep)) (follows place jump.0 again) in
-      let sound = block_sound b.height b.width c.number scope body c.sound.fits.1 c.sound.alone c.sound.lower (omega (arith, c.sound.room)) (omega (arith, c.sound.tokens)) in
-      test_proceeds s tt c e (λ k. chosen k (followed_by body (Then s rest)) rest) end (inside ++ behind) c.sound.fits.0 (omega (arith, c.sound.room)) (omega arith) c.head.here refl
-      (stands_on b t size memory v place l fs values s rest role cs c l values (followed_by body (Then s rest)) body_start inner.0 c.typed c.holds c.words
-      (are_sound-followed b.height b.width c.number scope body (Then s rest) sound (c.sound, c.later)) (omega (arith, inner.1, c.head.deep)) inner.2)
-      (stands_on b t size memory v place l fs values s rest role cs c l values rest end c.head.jumps c.typed c.holds c.words c.later (omega (arith, c.head.few, c.head.deep)) more)
+      let inner = block_implements b.image setting b.most body (d + 1) 1 body_start (Then s rest)
+      (front_stands b.image body_start inside behind tail.1) (omega arith) (omega (arith, c.head.deep))
+      (follows place jump.0 again) in
+      let sound = block_sound b.height b.width c.number scope body c.sound.fits.1 c.sound.alone c.sound.lower
+      (omega (arith, c.sound.room)) (omega (arith, c.sound.tokens)) in
+      test_proceeds s tt c e (λ k. chosen k (followed_by body (Then s rest)) rest) end
+      (inside ++ behind) c.sound.fits.0 (omega (arith, c.sound.room)) (omega arith) c.head.here refl
+      (stands_on b t size memory v place l fs values s rest role cs c l values
+      (followed_by body (Then s rest)) body_start inner.0 c.typed c.holds c.words
+      (are_sound-followed b.height b.width c.number scope body (Then s rest) sound (c.sound, c.later))
+      (omega (arith, inner.1, c.head.deep)) inner.2)
+      (stands_on b t size memory v place l fs values s rest role cs c l values rest end c.head.jumps c.typed c.holds
+      c.words c.later (omega (arith, c.head.few, c.head.deep)) more)

@@ -19,20 +19,30 @@ pub front_stands : (p : Program) (place : ℕ) (a b : List Marked) → StandAt p
 front_stands p place [] b h = tt
 front_stands p place (i ∷ a) b h = (h.0, front_stands p (place + 1) a b h.1)
 
-pub back_stands : (p : Program) (place : ℕ) (a b : List Marked) → StandAt p place (a ++ b) → StandAt p (place + length a) b
+pub back_stands : (p : Program) (place : ℕ) (a b : List Marked) → StandAt p place (a ++ b) → StandAt p
+    (place + length a) b
 back_stands p place [] b h = let e : place ≡ place + 0 = omega arith in subst (λ n. StandAt p n b) e h
 back_stands p place (i ∷ a) b h =
     let e : place + 1 + length a ≡ place + length (i ∷ a) = omega arith in
     subst (λ n. StandAt p n b) e (back_stands p (place + 1) a b h.1)
 
 module _ (p : Program) (t size : ℕ) (memory : ℕ → ℕ) where
-  pub walks_on : (m : ℕ) (z : Thread) → {n : ℕ} {x y : Thread} → Walks p t size memory n x y → Walks p t size memory m y z → Walks p t size memory (n + m) x z
+  pub walks_on : (m : ℕ) (z : Thread) → {n : ℕ} {x y : Thread} → Walks p t size memory n x y
+      → Walks p t size memory m y z → Walks p t size memory (n + m) x z
   walks_on m z (stays {x = a}) w = subst (λ k. Walks p t size memory k a z) (omega arith) w
-  walks_on m z (goes {n = k} {x = a} h v) w = subst (λ i. Walks p t size memory i a z) (omega arith) (goes h (walks_on m z v w))
-  walks_on m z (loads {n = k} {x = a} h lt v) w = subst (λ i. Walks p t size memory i a z) (omega arith) (loads h lt (walks_on m z v w))
+  walks_on m z (goes {n = k} {x = a} h v) w = subst (λ i. Walks p t size memory i a z) (omega arith)
+      (goes h (walks_on m z v w))
+  walks_on m z (loads {n = k} {x = a} h lt v) w = subst (λ i. Walks p t size memory i a z) (omega arith)
+      (loads h lt (walks_on m z v w))
 
-  pub within_on : (n m : ℕ) (x y z : Thread) → WalksWithin p t size memory n x y → WalksWithin p t size memory m y z → WalksWithin p t size memory (n + m) x z
-  within_on n m x y z v w = record { count = v.count + w.count; few = omega (arith, v.few, w.few); walk = walks_on w.count z v.walk w.walk }
+  pub within_on : (n m : ℕ) (x y z : Thread) → WalksWithin p t size memory n x y → WalksWithin p t size memory m y z
+      → WalksWithin p t size memory (n + m) x z
+  within_on n m x y z v w = record {
+    count = v.count + w.count;
+    few = omega (arith, v.few, w.few);
+    walk =
+        walks_on w.count z v.walk w.walk;
+  }
 
   pub wider : (n m : ℕ) (x y : Thread) → n ≤ m → WalksWithin p t size memory n x y → WalksWithin p t size memory m x y
   wider n m x y le w = record { count = w.count; few = omega (arith, le, w.few); walk = w.walk }
@@ -40,36 +50,53 @@ module _ (p : Program) (t size : ℕ) (memory : ℕ → ℕ) where
   pub one_step : (x y : Thread) → look p t x ≡ Goes y → WalksWithin p t size memory 1 x y
   one_step x y h = record { count = 1; few = omega arith; walk = goes h stays }
 
-  pub one_load : (x : Thread) (a : ℕ) (k : ℕ → Thread) → look p t x ≡ Asks (AskLoad a) k → a < size → WalksWithin p t size memory 1 x (k (memory a))
+  pub one_load : (x : Thread) (a : ℕ) (k : ℕ → Thread) → look p t x ≡ Asks (AskLoad a) k → a < size
+      → WalksWithin p t size memory 1 x (k (memory a))
   one_load x a k h lt = record { count = 1; few = omega arith; walk = loads h lt stays }
 
-  pub wider_gives : (n m : ℕ) (x : Thread) (e : Evaluated) (place : ℕ) (operands : List ℕ) (l : Locals) (fs : List Frame) → n ≤ m → Gives p t size memory n x e place operands l fs → Gives p t size memory m x e place operands l fs
+  pub wider_gives : (n m : ℕ) (x : Thread) (e : Evaluated) (place : ℕ) (operands : List ℕ) (l : Locals)
+      (fs : List Frame) → n ≤ m → Gives p t size memory n x e place operands l fs
+      → Gives p t size memory m x e place operands l fs
   wider_gives n m x (Value z) place operands l fs le g = wider n m x _ le g
   wider_gives n m x (Fails fault) place operands l fs le g = wider n m x _ le g
 
-  pub walk_gives : (n m : ℕ) (x y : Thread) (e : Evaluated) (place : ℕ) (operands : List ℕ) (l : Locals) (fs : List Frame) → WalksWithin p t size memory n x y → Gives p t size memory m y e place operands l fs → Gives p t size memory (n + m) x e place operands l fs
+  pub walk_gives : (n m : ℕ) (x y : Thread) (e : Evaluated) (place : ℕ) (operands : List ℕ) (l : Locals)
+      (fs : List Frame) → WalksWithin p t size memory n x y → Gives p t size memory m y e place operands l fs
+      → Gives p t size memory (n + m) x e place operands l fs
   walk_gives n m x y (Value z) place operands l fs w g = within_on n m x y _ w g
   walk_gives n m x y (Fails fault) place operands l fs w g = within_on n m x y _ w g
 
   -- what a value leads to
-  pub and_gives : (u : ValueType) (n m : ℕ) (x : Thread) (e : Evaluated) (go : ℤ → Evaluated) (place1 : ℕ) (operands1 : List ℕ) (place : ℕ) (operands : List ℕ) (l : Locals) (fs : List Frame) → Gives p t size memory n x e place1 operands1 l fs → OfType u e → ((z : ℤ) → HasValue u z → Gives p t size memory m (Runs place1 (word_of z ∷ operands1) l fs) (go z) place operands l fs) → Gives p t size memory (n + m) x (and_then e go) place operands l fs
-  and_gives u n m x (Value z) go place1 operands1 place operands l fs g h k = walk_gives n m x _ (go z) place operands l fs g (k z h)
-  and_gives u n m x (Fails fault) go place1 operands1 place operands l fs g h k = wider n (n + m) x (Dies fault) (omega arith) g
+  pub and_gives : (u : ValueType) (n m : ℕ) (x : Thread) (e : Evaluated) (go : ℤ → Evaluated) (place1 : ℕ)
+      (operands1 : List ℕ) (place : ℕ) (operands : List ℕ) (l : Locals) (fs : List Frame)
+      → Gives p t size memory n x e place1 operands1 l fs → OfType u e →
+      ((z : ℤ) → HasValue u z → Gives p t size memory m (Runs place1 (word_of z ∷ operands1) l fs)
+      (go z) place operands l fs) → Gives p t size memory (n + m) x (and_then e go) place operands l fs
+  and_gives u n m x (Value z) go place1 operands1 place operands l fs g h k = walk_gives n m x _
+      (go z) place operands l fs g (k z h)
+  and_gives u n m x (Fails fault) go place1 operands1 place operands l fs g h k = wider n (n + m) x (Dies fault)
+      (omega arith) g
 
   -- one instruction that shows an evaluation
-  pub shown_gives : (x : Thread) (e : Evaluated) (place : ℕ) (operands : List ℕ) (l : Locals) (fs : List Frame) → look p t x ≡ shown e operands place l fs → Gives p t size memory 1 x e (place + 1) operands l fs
+  pub shown_gives : (x : Thread) (e : Evaluated) (place : ℕ) (operands : List ℕ) (l : Locals) (fs : List Frame)
+      → look p t x ≡ shown e operands place l fs → Gives p t size memory 1 x e (place + 1) operands l fs
   shown_gives x (Value z) place operands l fs h = one_step x _ h
   shown_gives x (Fails fault) place operands l fs h = one_step x _ h
 
   -- what the look at a place is, by its instruction
-  pub look_here : (place : ℕ) (i : Instr) (operands : List ℕ) (l : Locals) (fs : List Frame) → slice_get p.code place ≡ Some i → look p t (Runs place operands l fs) ≡ at_place place l fs (effect t i operands l)
+  pub look_here : (place : ℕ) (i : Instr) (operands : List ℕ) (l : Locals) (fs : List Frame)
+      → slice_get p.code place ≡ Some i → look p t (Runs place operands l fs) ≡ at_place place l fs
+      (effect t i operands l)
   look_here place i operands l fs h = rw h refl
 
   -- a word is pushed where there is room
-  pub push_step : (place v : ℕ) (operands : List ℕ) (l : Locals) (fs : List Frame) → look p t (Runs place operands l fs) ≡ at_place place l fs (pushed v operands) → length operands < 512 → look p t (Runs place operands l fs) ≡ Goes (Runs (place + 1) (v ∷ operands) l fs)
+  pub push_step : (place v : ℕ) (operands : List ℕ) (l : Locals) (fs : List Frame) → look p t
+      (Runs place operands l fs) ≡ at_place place l fs (pushed v operands) → length operands < 512 → look p t
+      (Runs place operands l fs) ≡ Goes (Runs (place + 1) (v ∷ operands) l fs)
   push_step place v operands l fs h room =
       h ∙ ap (λ b. if_so b (Goes (Runs (place + 1) (v ∷ operands) l fs))) (lt-ltb (length operands) 512 room)
 
-pub and_typed : (u t : ValueType) (e : Evaluated) (go : ℤ → Evaluated) → OfType u e → ((z : ℤ) → HasValue u z → OfType t (go z)) → OfType t (and_then e go)
+pub and_typed : (u t : ValueType) (e : Evaluated) (go : ℤ → Evaluated) → OfType u e →
+    ((z : ℤ) → HasValue u z → OfType t (go z)) → OfType t (and_then e go)
 and_typed u t (Value z) go h k = k z h
 and_typed u t (Fails fault) go h k = tt

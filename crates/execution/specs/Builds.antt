@@ -23,8 +23,10 @@ IsOutside Main = ⊤
 -- its piece begins
 pub record IsBuild (b : Build) : Type 0 where
   pub outside : (n : ℕ) (q : Procedure) → slice_get b.program.procedures n ≡ Some q → IsOutside q.role
-  pub laid : (n : ℕ) (q : Procedure) → slice_get b.program.procedures n ≡ Some q → StandAt b.image (b.starts n) (piece_code b.program b.starts q (b.starts n))
-  pub sound : (n : ℕ) (q : Procedure) → slice_get b.program.procedures n ≡ Some q → AreSound b.height b.width n (scope_of b.program q) q.body
+  pub laid : (n : ℕ) (q : Procedure) → slice_get b.program.procedures n ≡ Some q → StandAt b.image (b.starts n)
+      (piece_code b.program b.starts q (b.starts n))
+  pub sound : (n : ℕ) (q : Procedure) → slice_get b.program.procedures n ≡ Some q → AreSound b.height b.width n
+      (scope_of b.program q) q.body
   pub deep : (n : ℕ) (q : Procedure) → slice_get b.program.procedures n ≡ Some q → block_nesting q.body ≤ b.most
   pub parameters : (n : ℕ) (q : Procedure) → slice_get b.program.procedures n ≡ Some q → length q.parameters ≤ 16
   pub locals : (n : ℕ) (q : Procedure) → slice_get b.program.procedures n ≡ Some q → length (slots q) ≤ 64
@@ -38,4 +40,5 @@ most_steps b = 16 + b.most + (2 * b.width + 2)
 -- a thread that stands for a process does what the process offers, within so many steps, and then stands for the process
 -- after it
 abbrev pub IsFollowed : Build → Type 0
-IsFollowed b = (t size : ℕ) (memory : ℕ → ℕ) (v : Variables) (x : Thread) (q : Process) → Stands b t size memory x q → Proceeds b t size memory v (most_steps b) x q
+IsFollowed b = (t size : ℕ) (memory : ℕ → ℕ) (v : Variables) (x : Thread) (q : Process) → Stands b t size memory x q
+    → Proceeds b t size memory v (most_steps b) x q

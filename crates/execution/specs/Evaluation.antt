@@ -22,16 +22,19 @@ OfType t (Fails fault) = Unit {0}
 
 -- what an expression is evaluated over: locals with values of their types, in the words of a frame; and in memory the
 -- variables of the own monitor
-pub record IsEvaluated (t size : ℕ) (memory : ℕ → ℕ) (s : Scope) (v : Variables) (values : List ℤ) (l : Locals) : Type 0 where
+pub record IsEvaluated (t size : ℕ) (memory : ℕ → ℕ) (s : Scope) (v : Variables) (values : List ℤ)
+    (l : Locals) : Type 0 where
   pub typed : HaveValues s.locals values
   pub holds : HoldValues l.values values
   pub shows : (m : ℕ) → own_monitor s.role ≡ Some m → ShowsVariables s.program m size memory v
 
 -- from the code of an expression that fits, wherever it stands, a thread goes to the expression's value, or to its first
 -- fault, within twice as many steps as the expression has tokens; and a value has the expression's type
-pub record Evaluates (image : Image) (t size : ℕ) (memory : ℕ → ℕ) (s : Scope) (v : Variables) (values : List ℤ) (l : Locals) : Type 0 where
+pub record Evaluates (image : Image) (t size : ℕ) (memory : ℕ → ℕ) (s : Scope) (v : Variables) (values : List ℤ)
+    (l : Locals) : Type 0 where
   pub gives : (e : Expression) (u : ValueType) (place : ℕ) (operands : List ℕ) (callers : List Frame)
       → HasType s e u → StandAt image place (expression_code s.program e) → room e + length operands ≤ 512
-      → Gives image t size memory (2 * expression_tokens e) (Runs place operands l callers) (evaluate s.program v values e)
+      → Gives image t size memory (2 * expression_tokens e) (Runs place operands l callers)
+      (evaluate s.program v values e)
       (place + length (expression_code s.program e)) operands l callers
   pub type : (e : Expression) (u : ValueType) → HasType s e u → OfType u (evaluate s.program v values e)

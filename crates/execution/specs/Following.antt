@@ -1,11 +1,11 @@
 -- Where a thread stands in the code of a process that runs by itself: in no monitor, and with nobody to join.
-use Rattle.std.specs.Prelude.{ℕ, suc, ◌+◌, ◌≡◌, ◌<◌, ◌≤◌, pos, List, [], ◌∷◌, ◌++◌, length, max, Option, Some, None, slice_get, Contains, ⊤}
+use Rattle.std.specs.Prelude.{ℕ, suc, ◌+◌, ◌≡◌, ◌<◌, ◌≤◌, pos, List, [], ◌∷◌, ◌++◌, length, Option, Some, None, slice_get, Contains, ⊤}
 use Rattle.words.specs.Signed.{signed_of}
 use Rattle.isa.specs.declared.instr.Instr.TheVariants.{Jump}
 use Rattle.isa.specs.Programs.{Program as Image}
 use Rattle.program.specs.declared.kinds.ValueType.{ValueType}
 use Rattle.program.specs.declared.kinds.Role.TheVariants.{External, Main}
-use Rattle.program.specs.Trees.{Statement, Assign, If, While, Call, Fork, Join, Return, Wait, Notify, Broadcast, Print, Abort, Block, Done, Then, Part, NoPart, SomePart, Procedure, Program, slots}
+use Rattle.program.specs.Trees.{Statement, Block, Done, Then, Procedure, Program, slots}
 use Rattle.program.specs.Scope.{Scope, scope_of}
 use Rattle.program.specs.Typing.{Fits, ResultFits}
 use Rattle.program.specs.Tokens.{statement_tokens}
@@ -27,62 +27,19 @@ use Rattle.meaning.specs.Processes.{Frame, Caller, Process, Dying, Leaving, goes
 use Rattle.meaning.specs.Offers.{Does, Nothing, Writes, offer}
 use Rattle.execution.specs.Typed.{HaveValues, HoldValues}
 use Rattle.execution.specs.Walks.{StandAt, WalksWithin}
-
--- how deep IF, WHILE and ABORTED stand in one another
-abbrev mutual
-  pub nesting : Statement → ℕ
-  nesting (Assign target e) = 0
-  nesting (If e b part) = 1 + max (block_nesting b) (part_nesting part)
-  nesting (While e b) = 1 + block_nesting b
-  nesting (Call q es into) = 0
-  nesting (Fork q es into) = 0
-  nesting (Join e into part) = 1 + part_nesting part
-  nesting (Return value) = 0
-  nesting (Wait c) = 0
-  nesting (Notify c) = 0
-  nesting (Broadcast c) = 0
-  nesting (Print e) = 0
-  nesting Abort = 0
-
-  pub block_nesting : Block → ℕ
-  block_nesting Done = 0
-  block_nesting (Then first rest) = max (nesting first) (block_nesting rest)
-
-  pub part_nesting : Part → ℕ
-  part_nesting NoPart = 0
-  part_nesting (SomePart b) = block_nesting b
-
--- no process is forked or joined, and no monitor is used
-abbrev mutual
-  pub IsAlone : Statement → Type 0
-  IsAlone (Assign target e) = ⊤
-  IsAlone (If e b part) = AreAlone b × PartIsAlone part
-  IsAlone (While e b) = AreAlone b
-  IsAlone (Call q es into) = ⊤
-  IsAlone (Fork q es into) = ⊥
-  IsAlone (Join e into part) = ⊥
-  IsAlone (Return value) = ⊤
-  IsAlone (Wait c) = ⊥
-  IsAlone (Notify c) = ⊥
-  IsAlone (Broadcast c) = ⊥
-  IsAlone (Print e) = ⊤
-  IsAlone Abort = ⊤
-
-  pub AreAlone : Block → Type 0
-  AreAlone Done = ⊤
-  AreAlone (Then first rest) = IsAlone first × AreAlone rest
-
-  pub PartIsAlone : Part → Type 0
-  PartIsAlone NoPart = ⊤
-  PartIsAlone (SomePart b) = AreAlone b
+pub use Rattle.execution.specs.Shapes.{nesting, block_nesting, part_nesting, IsAlone, AreAlone, PartIsAlone}
 
 -- the code from a place on does what is left of a body, by way of so many jumps at first. Of each statement: how deep it
 -- stands, so that at most so many jumps lead from its end to what comes after it
 pub data Implements (image : Image) (c : Setting) (most : ℕ) : ℕ → ℕ → Block → Type 0 where
-  finishes : {place : ℕ} → StandAt image place (default_code c.result ++ ending_code c (place + length (default_code c.result))) → Implements image c most 0 place Done
-  states : {place : ℕ} {s : Statement} {rest : Block} (depth jumps : ℕ) → StandAt image place (statement_code c s place) → jumps ≤ depth → depth + nesting s ≤ most
-      → Implements image c most jumps (place + length (statement_code c s place)) rest → Implements image c most 0 place (Then s rest)
-  follows : {place jumps : ℕ} {rest : Block} (to : ℕ) → slice_get image.code place ≡ Some (Jump to) → Implements image c most jumps to rest → Implements image c most (suc jumps) place rest
+  finishes : {place : ℕ} → StandAt image place (default_code c.result ++ ending_code c
+      (place + length (default_code c.result))) → Implements image c most 0 place Done
+  states : {place : ℕ} {s : Statement} {rest : Block} (depth jumps : ℕ) → StandAt image place
+      (statement_code c s place) → jumps ≤ depth → depth + nesting s ≤ most
+      → Implements image c most jumps (place + length (statement_code c s place)) rest
+      → Implements image c most 0 place (Then s rest)
+  follows : {place jumps : ℕ} {rest : Block} (to : ℕ) → slice_get image.code place ≡ Some (Jump to)
+      → Implements image c most jumps to rest → Implements image c most (suc jumps) place rest
 
 -- a statement of a procedure: it fits there, is alone, calls lower procedures only, and has room
 pub record IsSound (height : ℕ → ℕ) (width number : ℕ) (scope : Scope) (s : Statement) : Type 0 where
@@ -94,10 +51,12 @@ pub record IsSound (height : ℕ → ℕ) (width number : ℕ) (scope : Scope) (
 
 abbrev pub AreSound : (ℕ → ℕ) → ℕ → ℕ → Scope → Block → Type 0
 AreSound height width number scope Done = ⊤
-AreSound height width number scope (Then first rest) = IsSound height width number scope first × AreSound height width number scope rest
+AreSound height width number scope (Then first rest) = IsSound height width number scope first
+    × AreSound height width number scope rest
 
 -- a frame of the source runs this procedure, with its locals in the words of a machine's frame
-pub record IsFrame (p : Program) (height : ℕ → ℕ) (width number : ℕ) (q : Procedure) (f : Frame) (l : Locals) : Type 0 where
+pub record IsFrame (p : Program) (height : ℕ → ℕ) (width number : ℕ) (q : Procedure) (f : Frame)
+    (l : Locals) : Type 0 where
   pub procedure : slice_get p.procedures number ≡ Some q
   pub role : f.role ≡ q.role
   pub typed : HaveValues (slots q) f.locals
@@ -132,11 +91,13 @@ CallersStand b number q (m ∷ ms) (c ∷ cs) =
     × IsFrame b.program b.height b.width n caller c.frame m.locals × (b.height number < b.height n)
     × ResultFits (scope_of b.program caller) c.into q.result
     × StandAt b.image m.back (taking_code c.into q.result)
-    × Implements b.image (setting_of b.program b.starts caller) b.most jumps (m.back + length (taking_code c.into q.result)) c.frame.rest
+    × Implements b.image (setting_of b.program b.starts caller) b.most jumps
+    (m.back + length (taking_code c.into q.result)) c.frame.rest
     × (jumps ≤ b.most) × CallersStand b n caller ms cs
 
 -- a thread at a place of the code stands for a procedure of the source and its callers
-pub record Running (b : Build) (place : ℕ) (l : Locals) (fs : List MachineFrame) (f : Frame) (cs : List Caller) : Type 0 where
+pub record Running (b : Build) (place : ℕ) (l : Locals) (fs : List MachineFrame) (f : Frame)
+    (cs : List Caller) : Type 0 where
   pub number : ℕ
   pub procedure : Procedure
   pub frame : IsFrame b.program b.height b.width number procedure f l
@@ -166,17 +127,20 @@ IsOwn kind = ⊤
 -- the step with which a thread does what its process offers: an action of its own, a print, the return of the main part,
 -- or, once it has met it, a fault
 pub data Completes (b : Build) (t size : ℕ) (memory : ℕ → ℕ) (v : Variables) (x : Thread) (q : Process) : Type 0 where
-  acts : {y : Thread} {r : Process} (kind : Kind) → IsOwn kind → look b.image t x ≡ Goes y → offer b.program v q ≡ Does (Alone kind) Nothing r
+  acts : {y : Thread} {r : Process} (kind : Kind) → IsOwn kind → look b.image t x ≡ Goes y
+      → offer b.program v q ≡ Does (Alone kind) Nothing r
       → Stands b t size memory y r → Completes b t size memory v x q
   prints : {r : Process} (w : ℕ) (go : ℕ → Thread) → look b.image t x ≡ Asks (AskPrint w) go
       → offer b.program v q ≡ Does (Alone (L.Print (signed_of w))) (Writes (signed_of w)) r
       → ((answer : ℕ) → Stands b t size memory (go answer) r) → Completes b t size memory v x q
   returns : look b.image t x ≡ Asks AskReturn begun → q ≡ Leaving (pos 0) → Completes b t size memory v x q
-  faults : (fault : Fault) → x ≡ Dies fault → offer b.program v q ≡ Does (Alone (L.Fails fault)) Nothing (Dying (Faulted fault) [])
+  faults : (fault : Fault) → x ≡ Dies fault → offer b.program v q ≡ Does (Alone (L.Fails fault)) Nothing
+      (Dying (Faulted fault) [])
       → Completes b t size memory v x q
 
 -- within so many steps to the one that completes what the process offers
-pub record Proceeds (b : Build) (t size : ℕ) (memory : ℕ → ℕ) (v : Variables) (steps : ℕ) (x : Thread) (q : Process) : Type 0 where
+pub record Proceeds (b : Build) (t size : ℕ) (memory : ℕ → ℕ) (v : Variables) (steps : ℕ) (x : Thread)
+    (q : Process) : Type 0 where
   pub last : Thread
   pub walk : WalksWithin b.image t size memory steps x last
   pub completes : Completes b t size memory v last q

@@ -1,5 +1,6 @@
 pub mod Typed
 pub mod Walks
 pub mod Evaluation
+pub mod Shapes
 pub mod Following
 pub mod Builds

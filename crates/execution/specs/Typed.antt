@@ -32,8 +32,10 @@ HoldValues words values = (i : ℕ) (z : ℤ) → slice_get values i ≡ Some z 
 -- the memory has the variables of a monitor, at their addresses, which lie below its size
 pub record ShowsVariables (p : Program) (monitor : ℕ) (size : ℕ) (memory : ℕ → ℕ) (v : Variables) : Type 0 where
   pub single : (m : Member) (t : ValueType) → m.monitor ≡ monitor → member_type p m ≡ Some (Variable t)
-      → (member_address p m < size) × (memory (member_address p m) ≡ word_of (v monitor m.number 0)) × HasValue t (v monitor m.number 0)
+      → (member_address p m < size) × (memory (member_address p m) ≡ word_of (v monitor m.number 0)) × HasValue t
+      (v monitor m.number 0)
   pub element : (m : Member) (n i : ℕ) → m.monitor ≡ monitor → member_type p m ≡ Some (Array n) → i < n
-      → (member_address p m + i < size) × (memory (member_address p m + i) ≡ word_of (v monitor m.number i)) × HasValue Integer (v monitor m.number i)
+      → (member_address p m + i < size) × (memory (member_address p m + i) ≡ word_of (v monitor m.number i))
+      × HasValue Integer (v monitor m.number i)
   pub array : (m : Member) (n : ℕ) → m.monitor ≡ monitor → member_type p m ≡ Some (Array n)
       → (n ≤ 1024) × (member_address p m + n ≤ 4294967296)

@@ -17,8 +17,10 @@ StandAt p place (i ∷ is) = (slice_get p.code place ≡ Some i.instruction) × 
 -- a thread goes from one state to another in so many steps, each local or a load below the memory's size
 pub data Walks (p : Program) (t size : ℕ) (memory : ℕ → ℕ) : ℕ → Thread → Thread → Type 0 where
   stays : {x : Thread} → Walks p t size memory 0 x x
-  goes : {n : ℕ} {x y z : Thread} → look p t x ≡ Goes y → Walks p t size memory n y z → Walks p t size memory (suc n) x z
-  loads : {n a : ℕ} {x z : Thread} {k : ℕ → Thread} → look p t x ≡ Asks (AskLoad a) k → a < size → Walks p t size memory n (k (memory a)) z → Walks p t size memory (suc n) x z
+  goes : {n : ℕ} {x y z : Thread} → look p t x ≡ Goes y → Walks p t size memory n y z → Walks p t size memory
+      (suc n) x z
+  loads : {n a : ℕ} {x z : Thread} {k : ℕ → Thread} → look p t x ≡ Asks (AskLoad a) k → a < size
+      → Walks p t size memory n (k (memory a)) z → Walks p t size memory (suc n) x z
 
 -- the same in at most so many steps
 pub record WalksWithin (p : Program) (t size : ℕ) (memory : ℕ → ℕ) (most : ℕ) (x y : Thread) : Type 0 where
@@ -28,5 +30,7 @@ pub record WalksWithin (p : Program) (t size : ℕ) (memory : ℕ → ℕ) (most
 
 -- where an evaluation leads: to a place, with the value's word on the operands; or into its fault
 abbrev pub Gives : Program → ℕ → ℕ → (ℕ → ℕ) → ℕ → Thread → Evaluated → ℕ → List ℕ → Locals → List Frame → Type 0
-Gives p t size memory most x (Value z) place operands locals callers = WalksWithin p t size memory most x (Runs place (word_of z ∷ operands) locals callers)
-Gives p t size memory most x (Fails fault) place operands locals callers = WalksWithin p t size memory most x (Dies fault)
+Gives p t size memory most x (Value z) place operands locals callers = WalksWithin p t size memory most x
+    (Runs place (word_of z ∷ operands) locals callers)
+Gives p t size memory most x (Fails fault) place operands locals callers = WalksWithin p t size memory most x
+    (Dies fault)

@@ -17,7 +17,8 @@ use Rattle.refinement.proofs.Laying.{all_laid}
 mutual
   nesting_tokens : (s : Statement) → nesting s ≤ statement_tokens s
   nesting_tokens (Assign target e) = omega arith
-  nesting_tokens (If e b part) = let x = block_tokens_nesting b in let y = part_tokens_nesting part in omega (arith, x, y)
+  nesting_tokens (If e b part) = let x = block_tokens_nesting b in let y = part_tokens_nesting part in omega
+      (arith, x, y)
   nesting_tokens (While e b) = let x = block_tokens_nesting b in omega (arith, x)
   nesting_tokens (Call q es into) = omega arith
   nesting_tokens (Fork q es into) = omega arith
@@ -41,31 +42,50 @@ most_nesting : (b : Block) → block_nesting b ≤ most_of b
 most_nesting Done = omega arith
 most_nesting (Then s b) = let x = nesting_tokens s in let y = most_nesting b in omega (arith, x, y)
 
-most_in : (qs : List Procedure) (n : ℕ) (q : Procedure) → slice_get qs n ≡ Some q → most_of q.body ≤ most_of_procedures qs
+most_in : (qs : List Procedure) (n : ℕ) (q : Procedure) → slice_get qs n ≡ Some q
+    → most_of q.body ≤ most_of_procedures qs
 most_in [] n q h = absurd cc
-most_in (r ∷ qs) zero q h = let same : r ≡ q = cc in subst (λ (k : Procedure). most_of k.body ≤ most_of_procedures (r ∷ qs)) same (omega arith)
+most_in (r ∷ qs) zero q h = let same : r ≡ q = cc in subst (λ (k : Procedure). most_of k.body ≤ most_of_procedures
+    (r ∷ qs)) same (omega arith)
 most_in (r ∷ qs) (suc n) q h = let x = most_in qs n q h in omega (arith, x)
 
-body_sound : (height : ℕ → ℕ) (width number : ℕ) (scope : Scope) (b : Block) → BlockFits scope b → AreAlone b → ((callee : ℕ) → Contains (block_calls b) callee → height callee < height number) → block_room b ≤ most_room → most_of b ≤ width → AreSound height width number scope b
+body_sound : (height : ℕ → ℕ) (width number : ℕ) (scope : Scope) (b : Block) → BlockFits scope b → AreAlone b →
+    ((callee : ℕ) → Contains (block_calls b) callee → height callee < height number) → block_room b ≤ most_room
+    → most_of b ≤ width → AreSound height width number scope b
 body_sound height width number scope Done f a l r w = tt
 body_sound height width number scope (Then s b) f a l r w = (
-  record { fits = f.0; alone = a.0; lower = λ n h. l n (Contains-append_left (calls s) (block_calls b) n h); room = omega (arith, r); tokens = omega (arith, w) },
-  body_sound height width number scope b f.1 a.1 (λ n h. l n (Contains-append_right (calls s) (block_calls b) n h)) (omega (arith, r)) (omega (arith, w)),
+  record {
+    fits = f.0;
+    alone = a.0;
+    lower = λ n h. l n (Contains-append_left (calls s) (block_calls b) n h);
+    room =
+        omega (arith, r);
+    tokens = omega (arith, w);
+  },
+  body_sound height width number scope b f.1 a.1 (λ n h. l n (Contains-append_right (calls s) (block_calls b) n h))
+      (omega (arith, r)) (omega (arith, w)),
 )
 
 -- without monitors each procedure is outside all of them
-role_outside : (p : Program) → p.monitors ≡ [] → (n : ℕ) (q : Procedure) (role : Role) → RoleFits p n q role → IsOutside role
+role_outside : (p : Program) → p.monitors ≡ [] → (n : ℕ) (q : Procedure) (role : Role) → RoleFits p n q role
+    → IsOutside role
 role_outside p none n q (Entry m) h = let e = ap length none in absurd (omega (arith, h, e))
 role_outside p none n q (Internal m) h = let e = ap length none in absurd (omega (arith, h, e))
-role_outside p none n q (Recover m) h = let e = ap (λ (ms : List Monitor). recover_in (slice_get ms m)) none in let f = h.0 in absurd (cc (e, f))
+role_outside p none n q (Recover m) h = let e = ap (λ (ms : List Monitor). recover_in (slice_get ms m)) none in
+    let f = h.0 in absurd (cc (e, f))
 role_outside p none n q External h = tt
 role_outside p none n q Main h = tt
 
 pub is_build : (p : Program) (w : WellFormed p) → RunsAlone p → IsBuild (build_of p w)
 is_build p w a = record {
   outside = λ n q there. role_outside p a.monitors n q q.role (w.procedures n q there).role;
-  laid = all_laid p (λ n q there. (role_outside p a.monitors n q q.role (w.procedures n q there).role, a.bodies n q there));
-  sound = λ n q there. let proper = w.procedures n q there in body_sound w.acyclic.height (most_tokens p) n (scope_of p q) q.body proper.body (a.bodies n q there) (λ callee h. w.acyclic.falls n callee q there h) proper.room (most_in p.procedures n q there);
+  laid = all_laid p (λ n q there. (
+    role_outside p a.monitors n q q.role (w.procedures n q there).role,
+    a.bodies n q there,
+  ));
+  sound = λ n q there. let proper = w.procedures n q there in body_sound w.acyclic.height (most_tokens p) n
+      (scope_of p q) q.body proper.body (a.bodies n q there)
+      (λ callee h. w.acyclic.falls n callee q there h) proper.room (most_in p.procedures n q there);
   deep = λ n q there. let x = most_nesting q.body in let y = most_in p.procedures n q there in omega (arith, x, y);
   parameters = λ n q there. (w.procedures n q there).parameters;
   locals = λ n q there. (w.procedures n q there).locals;

@@ -37,16 +37,27 @@ pub only : (x y : Thread) (t : ℕ) → alone x t ≡ Some y → (t ≡ 1) × (x
 only x y t h = only_by x y t (t == 1) refl h
 
 -- what the one thread does in a step
-gets : (p : Image) (s : State) (l : Step) (s' : State) (x : Thread) (to : Look) → ((t : ℕ) (y : Thread) → s.thread t ≡ Some y → (t ≡ 1) × (x ≡ y)) → look p 1 x ≡ to → IsStep p s l s' → (l.thread ≡ 1) × Moves s 1 l.woken to s'
+gets : (p : Image) (s : State) (l : Step) (s' : State) (x : Thread) (to : Look) →
+    ((t : ℕ) (y : Thread) → s.thread t ≡ Some y → (t ≡ 1) × (x ≡ y)) → look p 1 x ≡ to → IsStep p s l s' →
+    (l.thread ≡ 1) × Moves s 1 l.woken to s'
 gets p s l s' x to one is st =
     let o = one l.thread st.thread st.stands in
-    let m : Moves s l.thread l.woken (look p l.thread x) s' = subst (λ (y : Thread). Moves s l.thread l.woken (look p l.thread y) s') (sym o.1) st.moves in
+    let m : Moves s l.thread l.woken (look p l.thread x) s' = subst
+    (λ (y : Thread). Moves s l.thread l.woken (look p l.thread y) s') (sym o.1) st.moves in
     let n : Moves s 1 l.woken (look p 1 x) s' = subst (λ (t : ℕ). Moves s t l.woken (look p t x) s') o.0 m in
     (o.0, subst (λ (k : Look). Moves s 1 l.woken k s') is n)
 
-thread_replaced : (p : Program) (words : ℕ → ℕ) (x y : Thread) (output : List ℤ) → with_thread (machine_with p words x output) 1 y ≡ machine_with p words y output
+thread_replaced : (p : Program) (words : ℕ → ℕ) (x y : Thread) (output : List ℤ) → with_thread
+    (machine_with p words x output) 1 y ≡ machine_with p words y output
 thread_replaced p words x y output =
-    ap (λ (f : ℕ → Option Thread). record { word = words; size = size_of p; made = 1; thread = f; asleep = λ t. None; output = output }) (replaced x y)
+    ap (λ (f : ℕ → Option Thread). record {
+      word = words;
+      size = size_of p;
+      made = 1;
+      thread = f;
+      asleep = λ t. None;
+      output = output;
+    }) (replaced x y)
 
 -- how many steps may have been made beyond those that the actions stand for
 abbrev pub credit : ℕ → Point → ℕ
@@ -76,7 +87,8 @@ pub record Next (b : Build) (most : ℕ) (from : Point) (printed : List ℤ) (l 
   pub thread : l.thread ≡ 1
   pub cost : 1 + credit most from ≤ (most + 1) * length kinds + credit most to
 
-module _ (b : Build) (is : IsBuild b) (same : b.image ≡ code_of b.program) (printed : List ℤ) (l : Step) (s' : State) where
+module _ (b : Build) (is : IsBuild b) (same : b.image ≡ code_of b.program) (printed : List ℤ) (l : Step)
+    (s' : State) where
   abbrev p : Program
   p = b.program
 
@@ -84,9 +96,12 @@ module _ (b : Build) (is : IsBuild b) (same : b.image ≡ code_of b.program) (pr
   most = most_steps b
 
   -- what comes after the step that completes an action
-  from_completes : (left : ℕ) (x : Thread) (q : Process) → left ≤ most → Completes b 1 (size_of p) first_words no_values x q → IsStep (code_of p) (machine_with p first_words x printed) l s' → Next b most (Works left x q) printed l s'
+  from_completes : (left : ℕ) (x : Thread) (q : Process) → left ≤ most → Completes b 1
+      (size_of p) first_words no_values x q → IsStep (code_of p) (machine_with p first_words x printed) l s'
+      → Next b most (Works left x q) printed l s'
   from_completes left x q le (acts {y = y} {r = r} kind own h o stands) st =
-      let g = gets (code_of p) (machine_with p first_words x printed) l s' x (Goes y) (λ t z. only x z t) (ap (λ (i : Image). look i 1 x) (sym same) ∙ h) st in
+      let g = gets (code_of p) (machine_with p first_words x printed) l s' x (Goes y) (λ t z. only x z t)
+      (ap (λ (i : Image). look i 1 x) (sym same) ∙ h) st in
       record {
         to = Works most y r;
         output = printed;
@@ -99,12 +114,14 @@ module _ (b : Build) (is : IsBuild b) (same : b.image ≡ code_of b.program) (pr
         cost = omega arith;
       }
   from_completes left x q le (prints {r = r} w go h o stands) st =
-      let g = gets (code_of p) (machine_with p first_words x printed) l s' x (Asks (AskPrint w) go) (λ t z. only x z t) (ap (λ (i : Image). look i 1 x) (sym same) ∙ h) st in
+      let g = gets (code_of p) (machine_with p first_words x printed) l s' x (Asks (AskPrint w) go)
+      (λ t z. only x z t) (ap (λ (i : Image). look i 1 x) (sym same) ∙ h) st in
       record {
         to = Works most (go g.1.0) r;
         output = printed ++ signed_of w ∷ [];
         at = (omega arith, followed b is 1 (size_of p) first_words no_values (go g.1.0) r (stands g.1.0));
-        is = g.1.3 ∙ (λ i. with_thread (g.1.2.1.1 i) 1 (go g.1.0)) ∙ thread_replaced p first_words x (go g.1.0) (printed ++ signed_of w ∷ []);
+        is = g.1.3 ∙ (λ i. with_thread (g.1.2.1.1 i) 1 (go g.1.0)) ∙ thread_replaced p first_words x (go g.1.0)
+            (printed ++ signed_of w ∷ []);
         kinds = L.Print (signed_of w) ∷ [];
         own = (tt, tt);
         leads = (_, print_step p (signed_of w) q r printed o, refl);
@@ -113,12 +130,14 @@ module _ (b : Build) (is : IsBuild b) (same : b.image ≡ code_of b.program) (pr
       }
   from_completes left x q le (returns h o) st =
       let y = Exits Pending in
-      let g = gets (code_of p) (machine_with p first_words x printed) l s' x (Asks AskReturn begun) (λ t z. only x z t) (ap (λ (i : Image). look i 1 x) (sym same) ∙ h) st in
+      let g = gets (code_of p) (machine_with p first_words x printed) l s' x (Asks AskReturn begun)
+      (λ t z. only x z t) (ap (λ (i : Image). look i 1 x) (sym same) ∙ h) st in
       record {
         to = Pends 16 q (Ended (pos 0));
         output = printed;
         at = (ap (offer p no_values) o, refl);
-        is = g.1.3 ∙ (λ i. with_thread (g.1.2.1.1 i) 1 (begun (g.1.2.1.0 i))) ∙ thread_replaced p (written 16) x y printed;
+        is = g.1.3 ∙ (λ i. with_thread (g.1.2.1.1 i) 1 (begun (g.1.2.1.0 i))) ∙ thread_replaced p
+            (written 16) x y printed;
         kinds = [];
         own = tt;
         leads = refl;
@@ -128,12 +147,14 @@ module _ (b : Build) (is : IsBuild b) (same : b.image ≡ code_of b.program) (pr
   from_completes left x q le (faults fault e o) st =
       let y = Exits Pending in
       let h : look (code_of p) 1 x ≡ Asks (AskFault fault) begun = ap (look (code_of p) 1) e in
-      let g = gets (code_of p) (machine_with p first_words x printed) l s' x (Asks (AskFault fault) begun) (λ t z. only x z t) h st in
+      let g = gets (code_of p) (machine_with p first_words x printed) l s' x (Asks (AskFault fault) begun)
+      (λ t z. only x z t) h st in
       record {
         to = Pends (fault_number fault) (Dying (Faulted fault) []) (Aborted (Faulted fault));
         output = printed;
         at = (refl, fault_word fault);
-        is = g.1.3 ∙ (λ i. with_thread (g.1.2.1.1 i) 1 (begun (g.1.2.1.0 i))) ∙ thread_replaced p (written (fault_number fault)) x y printed;
+        is = g.1.3 ∙ (λ i. with_thread (g.1.2.1.1 i) 1 (begun (g.1.2.1.0 i))) ∙ thread_replaced p
+            (written (fault_number fault)) x y printed;
         kinds = L.Fails fault ∷ [];
         own = (tt, tt);
         leads = (_, own_step p (L.Fails fault) q (Dying (Faulted fault) []) printed o, refl);
@@ -141,15 +162,26 @@ module _ (b : Build) (is : IsBuild b) (same : b.image ≡ code_of b.program) (pr
         cost = omega arith;
       }
 
-  from_walk : (left : ℕ) (q : Process) → left ≤ most → (last : Thread) → Completes b 1 (size_of p) first_words no_values last q
-      → {n : ℕ} {x : Thread} → n ≤ left → Walks b.image 1 (size_of p) first_words n x last → IsStep (code_of p) (machine_with p first_words x printed) l s' → Next b most (Works left x q) printed l s'
+  from_walk : (left : ℕ) (q : Process) → left ≤ most → (last : Thread) → Completes b 1
+      (size_of p) first_words no_values last q
+      → {n : ℕ} {x : Thread} → n ≤ left → Walks b.image 1 (size_of p) first_words n x last → IsStep (code_of p)
+      (machine_with p first_words x printed) l s' → Next b most (Works left x q) printed l s'
   from_walk left q le last done {x = x} few stays st = from_completes left x q le done st
   from_walk left q le last done {x = x} few (goes {n = k} {y = y} h more) st =
-      let g = gets (code_of p) (machine_with p first_words x printed) l s' x (Goes y) (λ t z. only x z t) (ap (λ (i : Image). look i 1 x) (sym same) ∙ h) st in
+      let g = gets (code_of p) (machine_with p first_words x printed) l s' x (Goes y) (λ t z. only x z t)
+      (ap (λ (i : Image). look i 1 x) (sym same) ∙ h) st in
       record {
         to = Works (left - 1) y q;
         output = printed;
-        at = (omega (arith, le), record { last = last; walk = record { count = k; few = omega (arith, few); walk = more }; completes = done });
+        at = (
+          omega (arith, le),
+          record {
+            last = last;
+            walk =
+                record { count = k; few = omega (arith, few); walk = more };
+            completes = done;
+          },
+        );
         is = g.1.1 ∙ thread_replaced p first_words x y printed;
         kinds = [];
         own = tt;
@@ -159,12 +191,22 @@ module _ (b : Build) (is : IsBuild b) (same : b.image ≡ code_of b.program) (pr
       }
   from_walk left q le last done {x = x} few (loads {n = k} {a = a} {k = go} h lt more) st =
       let y = go (first_words a) in
-      let g = gets (code_of p) (machine_with p first_words x printed) l s' x (Asks (AskLoad a) go) (λ t z. only x z t) (ap (λ (i : Image). look i 1 x) (sym same) ∙ h) st in
+      let g = gets (code_of p) (machine_with p first_words x printed) l s' x (Asks (AskLoad a) go) (λ t z. only x z t)
+      (ap (λ (i : Image). look i 1 x) (sym same) ∙ h) st in
       record {
         to = Works (left - 1) y q;
         output = printed;
-        at = (omega (arith, le), record { last = last; walk = record { count = k; few = omega (arith, few); walk = more }; completes = done });
-        is = g.1.3 ∙ (λ i. with_thread (g.1.2.1.1.1 i) 1 (go (g.1.2.1.1.0 i))) ∙ thread_replaced p first_words x y printed;
+        at = (
+          omega (arith, le),
+          record {
+            last = last;
+            walk =
+                record { count = k; few = omega (arith, few); walk = more };
+            completes = done;
+          },
+        );
+        is = g.1.3 ∙ (λ i. with_thread (g.1.2.1.1.1 i) 1 (go (g.1.2.1.1.0 i)))
+            ∙ thread_replaced p first_words x y printed;
         kinds = [];
         own = tt;
         leads = refl;
@@ -177,12 +219,14 @@ module _ (b : Build) (is : IsBuild b) (same : b.image ≡ code_of b.program) (pr
   left_by m after phase = with_thread (with_shared m after) 1 (Exits phase)
 
   -- 0 is no entry, so nothing happens at the pending one
-  idle : (size t : ℕ) (before : Shared) (woken : List ℕ) (after : Shared) → PendingStep size t 0 before woken after → IsIdle before woken after
+  idle : (size t : ℕ) (before : Shared) (woken : List ℕ) (after : Shared) → PendingStep size t 0 before woken after
+      → IsIdle before woken after
   idle size t before woken after (NoEntry none i) = i
   idle size t before woken after (IsForeign entry other wakes) = absurd (omega (arith, entry.0))
   idle size t before woken after (IsOwned entry abandons) = absurd (omega (arith, entry.0))
 
-  from_pending : (word : ℕ) (q : Process) (end : End) → Finishes p word q end → IsStep (code_of p) (machine_at p (Pends word q end) printed) l s' → Next b most (Pends word q end) printed l s'
+  from_pending : (word : ℕ) (q : Process) (end : End) → Finishes p word q end → IsStep (code_of p)
+      (machine_at p (Pends word q end) printed) l s' → Next b most (Pends word q end) printed l s'
   from_pending word q end at st =
       let x = Exits Pending in
       let y = Exits ClearId in
@@ -201,7 +245,8 @@ module _ (b : Build) (is : IsBuild b) (same : b.image ≡ code_of b.program) (pr
         cost = omega arith;
       }
 
-  from_clear : (word : ℕ) (q : Process) (end : End) → Finishes p word q end → IsStep (code_of p) (machine_at p (Clears word q end) printed) l s' → Next b most (Clears word q end) printed l s'
+  from_clear : (word : ℕ) (q : Process) (end : End) → Finishes p word q end → IsStep (code_of p)
+      (machine_at p (Clears word q end) printed) l s' → Next b most (Clears word q end) printed l s'
   from_clear word q end at st =
       let x = Exits ClearId in
       let y = Exits LastWake in
@@ -230,7 +275,8 @@ module _ (b : Build) (is : IsBuild b) (same : b.image ≡ code_of b.program) (pr
       none_sleeps : (t a : ℕ) → nowhere t ≡ Some a → ⊥
       none_sleeps t a h = cc
 
-  from_last : (word : ℕ) (end : End) → outcome_of word ≡ outcome_of_end end → IsStep (code_of p) (machine_at p (Lasts word end) printed) l s' → Next b most (Lasts word end) printed l s'
+  from_last : (word : ℕ) (end : End) → outcome_of word ≡ outcome_of_end end → IsStep (code_of p)
+      (machine_at p (Lasts word end) printed) l s' → Next b most (Lasts word end) printed l s'
   from_last word end at st =
       let x = Exits LastWake in
       let y = Exits Ended' in
@@ -241,7 +287,8 @@ module _ (b : Build) (is : IsBuild b) (same : b.image ≡ code_of b.program) (pr
         to = Rests word end;
         output = printed;
         at = at;
-        is = g.1.3 ∙ (λ i. left_by m (record { word = g.1.2.0.same i; asleep = none i }) (g.1.2.1 i)) ∙ thread_replaced p (cleared word) x y printed;
+        is = g.1.3 ∙ (λ i. left_by m (record { word = g.1.2.0.same i; asleep = none i }) (g.1.2.1 i))
+            ∙ thread_replaced p (cleared word) x y printed;
         kinds = [];
         own = tt;
         leads = refl;
@@ -254,7 +301,8 @@ module _ (b : Build) (is : IsBuild b) (same : b.image ≡ code_of b.program) (pr
       let x = Exits Ended' in
       let g = gets (code_of p) (machine_at p (Rests word end) printed) l s' x Over' (λ t z. only x z t) refl st in g.1
 
-  pub next : (from : Point) → IsAt b most from → IsStep (code_of p) (machine_at p from printed) l s' → Next b most from printed l s'
+  pub next : (from : Point) → IsAt b most from → IsStep (code_of p) (machine_at p from printed) l s'
+      → Next b most from printed l s'
   next (Works left x q) at st = from_walk left q at.0 at.1.last at.1.completes at.1.walk.few at.1.walk.walk st
   next (Pends word q end) at st = from_pending word q end at st
   next (Clears word q end) at st = from_clear word q end at st
@@ -267,7 +315,8 @@ AllByOne [] = Unit {0}
 AllByOne (l ∷ ls) = (l.thread ≡ 1) × AllByOne ls
 
 -- the point that a run comes to
-pub record Reached (b : Build) (most : ℕ) (from : Point) (printed : List ℤ) (steps : List Step) (s' : State) : Type 0 where
+pub record Reached (b : Build) (most : ℕ) (from : Point) (printed : List ℤ) (steps : List Step)
+    (s' : State) : Type 0 where
   pub to : Point
   pub output : List ℤ
   pub at : IsAt b most to
@@ -278,15 +327,29 @@ pub record Reached (b : Build) (most : ℕ) (from : Point) (printed : List ℤ) 
   pub by_one : AllByOne steps
   pub cost : length steps + credit most from ≤ (most + 1) * length kinds + credit most to
 
-pub leads_on : (p : Program) (s mid s' : SourceState) (as' bs : List Kind) → Leads p s (map_act as') mid → Leads p mid (map_act bs) s' → Leads p s (map_act (as' ++ bs)) s'
+pub leads_on : (p : Program) (s mid s' : SourceState) (as' bs : List Kind) → Leads p s (map_act as') mid → Leads p mid
+    (map_act bs) s' → Leads p s (map_act (as' ++ bs)) s'
 leads_on p s mid s' [] bs e run = subst (λ (x : SourceState). Leads p x (map_act bs) s') (sym e) run
 leads_on p s mid s' (k ∷ ks) bs h run = (h.0, h.1, leads_on p h.0 mid s' ks bs h.2 run)
 
-pub reached : (b : Build) → IsBuild b → b.image ≡ code_of b.program → (from : Point) (printed : List ℤ) → IsAt b (most_steps b) from → (steps : List Step) (s' : State) → GoesBy (code_of b.program) (machine_at b.program from printed) steps s' → Reached b (most_steps b) from printed steps s'
-reached b is same from printed at [] s' run = record { to = from; output = printed; at = at; is = sym run; kinds = []; own = tt; leads = refl; by_one = tt; cost = omega arith }
+pub reached : (b : Build) → IsBuild b → b.image ≡ code_of b.program → (from : Point) (printed : List ℤ) → IsAt b
+    (most_steps b) from → (steps : List Step) (s' : State) → GoesBy (code_of b.program)
+    (machine_at b.program from printed) steps s' → Reached b (most_steps b) from printed steps s'
+reached b is same from printed at [] s' run = record {
+  to = from;
+  output = printed;
+  at = at;
+  is = sym run;
+  kinds = [];
+  own = tt;
+  leads = refl;
+  by_one = tt;
+  cost = omega arith;
+}
 reached b is same from printed at (l ∷ ls) s' run =
     let n = next b is same printed l run.0 from at run.1 in
-    let r = reached b is same n.to n.output n.at ls s' (subst (λ (s : State). GoesBy (code_of b.program) s ls s') n.is run.2) in
+    let r = reached b is same n.to n.output n.at ls s' (subst
+    (λ (s : State). GoesBy (code_of b.program) s ls s') n.is run.2) in
     record {
       to = r.to;
       output = r.output;
@@ -296,7 +359,10 @@ reached b is same from printed at (l ∷ ls) s' run =
       own = are_own-append n.kinds r.kinds n.own r.own;
       leads = leads_on b.program _ _ _ n.kinds r.kinds n.leads r.leads;
       by_one = (n.thread, r.by_one);
-      cost = let sum = length-append n.kinds r.kinds in let e : (most_steps b + 1) * length (n.kinds ++ r.kinds) ≡ (most_steps b + 1) * length n.kinds + (most_steps b + 1) * length r.kinds = ap (λ k. (most_steps b + 1) * k) sum ∙ mul-distrib (most_steps b + 1) (length n.kinds) (length r.kinds) in omega (arith, n.cost, r.cost, e);
+      cost = let sum = length-append n.kinds r.kinds in let e : (most_steps b + 1) * length (n.kinds ++ r.kinds) ≡
+          (most_steps b + 1) * length n.kinds + (most_steps b + 1) * length r.kinds = ap
+          (λ k. (most_steps b + 1) * k) sum ∙ mul-distrib (most_steps b + 1) (length n.kinds) (length r.kinds) in
+          omega (arith, n.cost, r.cost, e);
     }
   where
     mul-distrib : (a c d : ℕ) → a * (c + d) ≡ a * c + a * d

@@ -46,7 +46,8 @@ pub data Point : Type 0 where
 
 -- the process ends so, and the word tells it
 abbrev pub Finishes : Program → ℕ → Process → End → Type 0
-Finishes p word q end = (offer p no_values q ≡ Does (Ends end) Nothing (Over end)) × (outcome_of word ≡ outcome_of_end end)
+Finishes p word q end = (offer p no_values q ≡ Does (Ends end) Nothing (Over end)) ×
+    (outcome_of word ≡ outcome_of_end end)
 
 abbrev pub IsAt : Build → ℕ → Point → Type 0
 IsAt b most (Works left x q) = (left ≤ most) × Proceeds b 1 (size_of b.program) first_words no_values left x q
@@ -99,7 +100,8 @@ map_act [] = []
 map_act (kind ∷ kinds) = act kind ∷ map_act kinds
 
 -- the actions of the one process
-pub own_step : (p : Program) (kind : Kind) (q r : Process) (printed : List ℤ) → offer p no_values q ≡ Does (Alone kind) Nothing r → IsStep p (source_with first_table q printed) (act kind) (source_with first_table r printed)
+pub own_step : (p : Program) (kind : Kind) (q r : Process) (printed : List ℤ) → offer p no_values q ≡ Does
+    (Alone kind) Nothing r → IsStep p (source_with first_table q printed) (act kind) (source_with first_table r printed)
 own_step p kind q r printed o =
     let step : IsAction p (source_with first_table q printed) (act kind) (source_with first_table r printed) = record {
       before = q;
@@ -115,9 +117,12 @@ own_step p kind q r printed o =
       processes = sym (replaced q r);
     } in inl step
 
-pub print_step : (p : Program) (z : ℤ) (q r : Process) (printed : List ℤ) → offer p no_values q ≡ Does (Alone (L.Print z)) (Writes z) r → IsStep p (source_with first_table q printed) (act (L.Print z)) (source_with first_table r (printed ++ z ∷ []))
+pub print_step : (p : Program) (z : ℤ) (q r : Process) (printed : List ℤ) → offer p no_values q ≡ Does
+    (Alone (L.Print z)) (Writes z) r → IsStep p (source_with first_table q printed) (act (L.Print z))
+    (source_with first_table r (printed ++ z ∷ []))
 print_step p z q r printed o =
-    let step : IsAction p (source_with first_table q printed) (act (L.Print z)) (source_with first_table r (printed ++ z ∷ [])) = record {
+    let step : IsAction p (source_with first_table q printed) (act (L.Print z))
+    (source_with first_table r (printed ++ z ∷ [])) = record {
       before = q;
       after = r;
       label = Alone (L.Print z);
@@ -131,9 +136,12 @@ print_step p z q r printed o =
       processes = sym (replaced q r);
     } in inl step
 
-pub end_step : (p : Program) (end : End) (q : Process) (printed : List ℤ) → offer p no_values q ≡ Does (Ends end) Nothing (Over end) → IsStep p (source_with first_table q printed) (act L.Finish) (source_with (over_table end) (Over end) printed)
+pub end_step : (p : Program) (end : End) (q : Process) (printed : List ℤ) → offer p no_values q ≡ Does
+    (Ends end) Nothing (Over end) → IsStep p (source_with first_table q printed) (act L.Finish)
+    (source_with (over_table end) (Over end) printed)
 end_step p end q printed o =
-    let step : IsAction p (source_with first_table q printed) (act L.Finish) (source_with (over_table end) (Over end) printed) = record {
+    let step : IsAction p (source_with first_table q printed) (act L.Finish)
+    (source_with (over_table end) (Over end) printed) = record {
       before = q;
       after = Over end;
       label = Ends end;

@@ -57,7 +57,8 @@ pub record Explained (p : Program) (image : Image) (steps : List Step) (s : Stat
   pub run : IsRun p actions source
   -- the same is seen at both ends
   pub output : s.output ≡ source.printed
-  pub variables : (m : Member) (i : ℕ) → IsVariable p m i → s.word (variable_address p m i) ≡ word_of (source.variable m.monitor m.number i)
+  pub variables : (m : Member) (i : ℕ) → IsVariable p m i → s.word (variable_address p m i) ≡ word_of
+      (source.variable m.monitor m.number i)
   pub ends : (q : ℕ) → machine_end s q ≡ source_end source q
   -- no wake was lost: where no thread can move, no process can
   pub at_rest : ((t : ℕ) → CanStep s t → ⊥) → (q : ℕ) → CanMove p source q → ⊥
@@ -72,4 +73,5 @@ pub record Explained (p : Program) (image : Image) (steps : List Step) (s : Stat
 
 -- each run of the machine on the image, of fewer than 2^32 steps, is explained by a run of the program
 pub record Refines (p : Program) (image : Image) : Type 0 where
-  pub follows : (steps : List Step) (s : State) → MachineRun image steps s → length steps < 2 ^ 32 → Explained p image steps s
+  pub follows : (steps : List Step) (s : State) → MachineRun image steps s → length steps < 2 ^ 32
+      → Explained p image steps s
