@@ -2,3 +2,4 @@ pub mod CellLaws
 pub mod Joins
 pub mod LengthLaws
 pub mod Spans
+pub mod Linking

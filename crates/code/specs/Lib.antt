@@ -8,3 +8,4 @@ pub mod Expressions
 pub mod Statements
 pub mod Pieces
 pub mod Placing
+pub mod Linking

@@ -7,5 +7,5 @@ mod laws;
 mod mark;
 
 pub use appending::{append, append_plain};
-pub use laws::{cell_laws, piece_laws};
+pub use laws::{cell_laws, link_laws, piece_laws};
 pub use mark::{Mark, Marked};
