@@ -17,6 +17,8 @@ pub use kinds::{
     comparison_operator, local_kind, member_kind, product_operator, result_kind, sum_operator,
 };
 pub use least::lesser;
-pub use places::expression_place;
+pub use places::{
+    conjunction_place, expression_place, factor_place, relation_place, sum_place, term_place,
+};
 pub use standing::{Meaning, Members, Own, Standing};
 pub use table::Table;

@@ -1,0 +1,8 @@
+//! The faults of a unit: the least of them, gathered in one walk.
+#![tactic(auto)]
+
+mod expressions;
+mod operands;
+
+pub use expressions::{element, expression};
+pub use operands::operand;
