@@ -1,0 +1,3 @@
+pub mod Actions
+pub mod States
+pub mod Done

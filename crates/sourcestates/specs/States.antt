@@ -1,0 +1,23 @@
+-- The state that the code keeps, as a state of the meaning.
+use Rattle.std.specs.Prelude.{ℕ, Option, option_map}
+use Rattle.std.specs.Ordering.{nat_cmp}
+use Rattle.std.specs.BTreeMap as map
+use Rattle.std.specs.BTreeMap.{BTreeMap}
+use Rattle.meaning.specs.Processes.{Process}
+use Rattle.meaning.specs.States.{SourceState}
+use Rattle.sourceruns.specs.declared.process.Process.{Process as ProcessOf}
+use Rattle.sourceruns.specs.Stages.{process_of}
+use Rattle.sourceruns.specs.Stores.{variables_of}
+use Rattle.sourcetable.specs.Tables.{table_of}
+use Rattle.sourcestates.specs.declared.state.SourceState.{SourceState as StateOf}
+
+abbrev pub processes_in : BTreeMap ℕ ProcessOf → ℕ → Option Process
+processes_in processes p = option_map process_of (map.get nat_cmp processes p)
+
+abbrev pub state_of : StateOf → SourceState
+state_of s = record {
+  table = table_of s.table;
+  variable = variables_of s.variables;
+  process = processes_in s.processes;
+  printed = s.printed.items;
+}
