@@ -47,8 +47,8 @@ fn differs(wanted: ValueType, kind: Option<ValueType>) -> bool
     }
 }
 
-// Whether two types are known, and aren't one.
-fn differ(left: Option<ValueType>, right: Option<ValueType>) -> bool
+/// Whether two types are known, and aren't one.
+pub fn differ(left: Option<ValueType>, right: Option<ValueType>) -> bool
     ensures { result ≡ t.differ left right }
 {
     match left {

@@ -11,7 +11,7 @@ mod table;
 mod typing;
 
 pub use checks::{
-    Sides, comparison_faults, condition_fault, index_fault, note, operand_fault, read_fault,
+    Sides, comparison_faults, condition_fault, differ, index_fault, note, operand_fault, read_fault,
 };
 pub use kinds::{
     comparison_operator, local_kind, member_kind, product_operator, result_kind, sum_operator,
@@ -22,3 +22,4 @@ pub use places::{
 };
 pub use standing::{Meaning, Members, Own, Standing};
 pub use table::Table;
+pub use typing::{element_type, variable_type};

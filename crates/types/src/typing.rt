@@ -11,8 +11,8 @@ use crate::standing::{Meaning, Standing};
 use program::{MemberType, ValueType};
 use syntax::{Conjunction, Expression, Factor, Product, Relation, Sum, Term, Total};
 
-// The type of a name that is read or assigned.
-fn variable_type(meaning: Meaning) -> Option<ValueType>
+/// The type of a name that is read or assigned.
+pub fn variable_type(meaning: Meaning) -> Option<ValueType>
     ensures { result ≡ t.type_of_use (meaning_of meaning) NoIndex }
 {
     match meaning {
@@ -21,8 +21,8 @@ fn variable_type(meaning: Meaning) -> Option<ValueType>
     }
 }
 
-// The type of a name that is indexed.
-fn element_type(meaning: Meaning) -> Option<ValueType>
+/// The type of a name that is indexed.
+pub fn element_type(meaning: Meaning) -> Option<ValueType>
     ensures { (e : ExpressionTree) → result ≡ t.type_of_use (meaning_of meaning) (At e) }
 {
     match meaning {

@@ -1,0 +1,10 @@
+//! The least fault of each statement that calls nothing, without those of the statements that it holds.
+#![tactic(auto)]
+
+mod names;
+mod simple;
+mod values;
+
+pub use names::{condition, into, outside, recover, taker};
+pub use simple::{join, notify, print, returned, wait};
+pub use values::{assignment, typed};

@@ -1,0 +1,106 @@
+// The faults of expressions of which a type is wanted, and of assignments.
+
+ghost use Rattle.syntax.specs.Tree.{Assign, NoIndex, At};
+ghost use Rattle.syntax.specs.View as v;
+ghost use Rattle.types.specs.CallFaults as c;
+ghost use Rattle.types.specs.Faults.{Gathers};
+ghost use Rattle.types.specs.Scope.{Scope};
+ghost use Rattle.types.specs.Standings.{IsStanding};
+ghost use Rattle.types.specs.StatementFaults as f;
+
+use crate::names::note_where;
+use faults::{element, expression, operand};
+use program::ValueType;
+use scanner::{Refusal, RefusalKind};
+use syntax::{Element, Expression, Name, Variable};
+use types::{Standing, differ, element_type, expression_place, note, read_fault, variable_type};
+
+/// The least fault, where an expression of this type is wanted.
+pub fn typed(
+    standing: &Standing<'_, '_>,
+    wanted: ValueType,
+    tree: &Expression<'_>,
+    least: Option<Refusal>,
+) -> Option<Refusal>
+    ensures { (s : Scope) → IsStanding s standing.now
+        → Gathers (f.typed_faults s wanted (v.expression_of tree.now)) least result }
+{
+    let inside = expression(standing, tree, least);
+    operand(
+        wanted,
+        standing.expression_type(tree),
+        expression_place(tree),
+        inside,
+    )
+}
+
+// The least fault of what is assigned to something of this type.
+fn value(
+    standing: &Standing<'_, '_>,
+    target: Option<ValueType>,
+    tree: &Expression<'_>,
+    least: Option<Refusal>,
+) -> Option<Refusal>
+    ensures { (s : Scope) → IsStanding s standing.now
+        → Gathers (f.value_faults s target (v.expression_of tree.now)) least result }
+{
+    let inside = expression(standing, tree, least);
+    let test = differ(target, standing.expression_type(tree));
+    note_where(
+        test,
+        RefusalKind::TypeMismatch,
+        expression_place(tree),
+        inside,
+    )
+}
+
+// An assignment to a variable.
+fn to_variable(
+    standing: &Standing<'_, '_>,
+    name: Name<'_>,
+    tree: &Expression<'_>,
+    least: Option<Refusal>,
+) -> Option<Refusal>
+    ensures { (s : Scope) → IsStanding s standing.now
+        → Gathers (c.statement_faults s (Assign (record { name = v.name_of name.entry; index = NoIndex })
+        (v.expression_of tree.now))) least result }
+{
+    let meaning = standing.meaning(name);
+    let before = note(read_fault(meaning), name.place, least);
+    value(standing, variable_type(meaning), tree, before)
+}
+
+// An assignment to an element of an array.
+fn to_element(
+    standing: &Standing<'_, '_>,
+    target: &Element<'_>,
+    tree: &Expression<'_>,
+    least: Option<Refusal>,
+) -> Option<Refusal>
+    ensures { (s : Scope) → IsStanding s standing.now
+        → Gathers (c.statement_faults s (Assign (record {
+          name = v.name_of target.now.name;
+          index = At (v.expression_of target.now.index);
+        }) (v.expression_of tree.now))) least result }
+{
+    let before = element(standing, target, least);
+    let kind = element_type(standing.meaning(target.name));
+    value(standing, kind, tree, before)
+}
+
+/// The least fault, where an assignment stands behind what has this one.
+pub fn assignment(
+    standing: &Standing<'_, '_>,
+    target: &Variable<'_>,
+    tree: &Expression<'_>,
+    least: Option<Refusal>,
+) -> Option<Refusal>
+    ensures { (s : Scope) → IsStanding s standing.now
+        → Gathers (c.statement_faults s (Assign (v.variable_of target.now) (v.expression_of tree.now)))
+        least result }
+{
+    match target {
+        Variable::Name(name) => to_variable(standing, *name, tree, least),
+        Variable::Element(inner) => to_element(standing, inner, tree, least),
+    }
+}
