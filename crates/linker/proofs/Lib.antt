@@ -1,0 +1,6 @@
+pub mod Fitting
+pub mod Steps
+pub mod Tests
+pub mod Images
+pub mod Orders
+pub mod Rising
