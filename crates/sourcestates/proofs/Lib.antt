@@ -1,3 +1,4 @@
 pub mod Openings
 pub mod Strays
 pub mod Effects
+pub mod Acts

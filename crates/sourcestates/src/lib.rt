@@ -3,8 +3,10 @@
 
 mod action;
 mod done;
+mod laws;
 mod state;
 
 pub use action::{Action, ActionKind};
 pub use done::permit;
+pub use laws::offer_laws;
 pub use state::SourceState;

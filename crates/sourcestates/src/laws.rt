@@ -1,0 +1,22 @@
+ghost use Rattle.std.specs.Prelude.{◌≡◌, Some, ℕ};
+ghost use Rattle.meaning.specs.Labels.{Action, Label, kind_of};
+ghost use Rattle.meaning.specs.Offers.{Does, Effect, offer};
+ghost use Rattle.meaning.specs.Processes.{Process};
+ghost use Rattle.meaning.specs.Runs.{IsAction};
+ghost use Rattle.meaning.specs.States.{SourceState};
+ghost use Rattle.program.specs.Trees.{Program};
+ghost use Rattle.sourcestates.specs.Done.{IsDone};
+
+/// A process that offers one action can do this action and no other, and it leads where its label and effect say.
+pub fn offer_laws()
+    ensures does { (p : Program) (s s' : SourceState) (n : ℕ) (before after : Process) (label : Label)
+        (effect : Effect)
+        → s.process n ≡ Some before → offer p s.variable before ≡ Does label effect after
+        → IsDone n label effect after s s'
+        → IsAction p s (record { process = n; kind = kind_of label }) s' }
+    ensures only { (p : Program) (s s' : SourceState) (a : Action) (before after : Process) (label : Label)
+        (effect : Effect)
+        → s.process a.process ≡ Some before → offer p s.variable before ≡ Does label effect after
+        → IsAction p s a s'
+        → (a.kind ≡ kind_of label) × IsDone a.process label effect after s s' }
+{}
