@@ -8,7 +8,7 @@ use Rattle.program.specs.declared.kinds.Role.TheVariants.{Entry, Internal, Recov
 use Rattle.program.specs.Trees.{Program, Procedure, Expression, Constant, Truth, Local, Member, Element, Unary, Both, Target, ToLocal, ToMember, ToElement, Statement, Assign, If, While, Call, Fork, Join, Return, Wait, Notify, Broadcast, Print, Abort, Block, Done, Then, Part, NoPart, SomePart}
 use Rattle.program.specs.Scope.{recover_of}
 use Rattle.isa.specs.declared.instr.Instr.{Instr}
-use Rattle.isa.specs.declared.instr.Instr.TheVariants.{Push, GetLocal, SetLocal, Pop, Operate, Negate, Not, Jump, JumpIfZero, Call as Call', Fork as Fork', Ret, RetValue, Index, OwnNumber, ProcessAddress, Raise, Load, Store, Swap, CompareAndSwap, FetchOr, FetchAdd, Print as Print', FutexWait, FutexWake, FutexRequeue}
+use Rattle.isa.specs.declared.instr.Instr.TheVariants.{Push, GetLocal, SetLocal, Pop, Operate, Negate, Not, Jump, JumpIfZero, Call as Call', Fork as Fork', Ret, RetValue, Index, OwnNumber, ProcessAddress, Raise, Load, Store, Swap, CompareSwap, FetchOr, FetchAdd, Print as Print', FutexWait, FutexWake, FutexRequeue}
 use Rattle.isa.specs.declared.slot.Slot.TheVariants.{Local as Slot'}
 use Rattle.code.specs.declared.mark.Mark.TheVariants.{Test}
 use Rattle.code.specs.declared.mark.Marked.{Marked}
@@ -54,7 +54,7 @@ module _ (starts : ℕ → ℕ) (base : ℕ) where
   one_linked a Load = refl
   one_linked a Store = refl
   one_linked a Swap = refl
-  one_linked a CompareAndSwap = refl
+  one_linked a CompareSwap = refl
   one_linked a FetchOr = refl
   one_linked a FetchAdd = refl
   one_linked a (Fork' p n) = refl

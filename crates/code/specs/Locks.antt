@@ -8,7 +8,7 @@ use Rattle.words.specs.declared.process.ProcessWord.TheVariants.{Head, Pending}
 use Rattle.isa.specs.declared.operator.Operator.TheVariants.{Eq, BitAnd, BitOr}
 use Rattle.isa.specs.declared.slot.Slot.TheVariants.{Template}
 use Rattle.isa.specs.declared.instr.Instr.{Instr}
-use Rattle.isa.specs.declared.instr.Instr.TheVariants.{Push, GetLocal, SetLocal, Pop, Operate, Jump, JumpIfZero, Call, OwnNumber, ProcessAddress, Raise, Load, Store, Swap, CompareAndSwap, FutexWait, FutexWake}
+use Rattle.isa.specs.declared.instr.Instr.TheVariants.{Push, GetLocal, SetLocal, Pop, Operate, Jump, JumpIfZero, Call, OwnNumber, ProcessAddress, Raise, Load, Store, Swap, CompareSwap, FutexWait, FutexWake}
 use Rattle.code.specs.declared.mark.Mark.{Mark}
 use Rattle.code.specs.declared.mark.Mark.TheVariants.{Enter, Exit}
 use Rattle.code.specs.declared.mark.Marked.{Marked}
@@ -46,10 +46,10 @@ abbrev pub take_at : Mark → ℕ → ℕ → List Marked
 take_at mark e a =
     plainly (
     Push (e + 1) ∷ Load ∷ keep ∷ get ∷ Push owner_bits ∷ Operate BitAnd ∷ JumpIfZero (a + 23) ∷
-    Push (e + 1) ∷ get ∷ get ∷ Push waiters ∷ Operate BitOr ∷ CompareAndSwap ∷ get ∷ Operate Eq ∷ JumpIfZero a ∷
+    Push (e + 1) ∷ get ∷ get ∷ Push waiters ∷ Operate BitOr ∷ CompareSwap ∷ get ∷ Operate Eq ∷ JumpIfZero a ∷
     Push (e + 1) ∷ get ∷ Push waiters ∷ Operate BitOr ∷ FutexWait ∷ Pop ∷ Jump a ∷
     Push (e + 1) ∷ get ∷ OwnNumber ∷ Push waiters ∷ Operate BitOr ∷ []) ++
-    (marked mark CompareAndSwap ∷ plainly (get ∷ Operate Eq ∷ JumpIfZero a ∷ []))
+    (marked mark CompareSwap ∷ plainly (get ∷ Operate Eq ∷ JumpIfZero a ∷ []))
 
 abbrev pub take_code : Mark → ℕ → List Marked
 take_code mark e = take_at mark e 0
@@ -68,7 +68,7 @@ got_code e recover = got_at e recover 0
 abbrev pub try_code : ℕ → ℕ → List Marked
 try_code m e =
     plainly (own Pending ++ (Push e ∷ Store ∷ Push (e + 1) ∷ Push 0 ∷ OwnNumber ∷ [])) ++
-    (marked (Enter m) CompareAndSwap ∷ plainly (keep ∷ get ∷ JumpIfZero 43 ∷ []))
+    (marked (Enter m) CompareSwap ∷ plainly (keep ∷ get ∷ JumpIfZero 43 ∷ []))
 
 abbrev pub enter_code : ℕ → ℕ → Instr → List Marked
 enter_code m e recover = try_code m e ++ (take_at (Enter m) e 11 ++ got_at e recover 43)

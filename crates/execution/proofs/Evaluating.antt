@@ -22,7 +22,7 @@ use Rattle.code.specs.Expressions as c
 use Rattle.locals.specs.declared.frame.Locals.{Locals}
 use Rattle.locals.specs.declared.frame.Frame.{Frame}
 use Rattle.locals.specs.Threads.{Thread, Runs, Dies}
-use Rattle.locals.specs.Looks.{Goes, look, Then, Checks, at_place, indexed}
+use Rattle.locals.specs.Looks.{Goes, look, Then, Checks, at_place, index_effect}
 use Rattle.meaning.specs.Values.{Variables, Evaluated, Value, Fails, and_then, evaluate, local_value, or_zero, unary, both, at_index, index_in}
 use Rattle.meaning.specs.Values as v
 use Rattle.execution.specs.Typed.{HasValue, HaveValues, HoldValues, ShowsVariables}
@@ -71,7 +71,7 @@ out_index size (pos i) small h = by_test (nat_lt i size) refl
         absurd (grind (arith, w, h, lt-ltb (word_of (pos i)) size (omega (arith, w, lt))))
 
 indexed_in : (base size w : ℕ) (rest : List ℕ) → w < size → size ≤ 1024 → base + size ≤ 4294967296
-    → indexed base size w rest ≡ Checks true IndexOutOfRange (Then ((base + w) ∷ rest))
+    → index_effect base size w rest ≡ Checks true IndexOutOfRange (Then ((base + w) ∷ rest))
 indexed_in base size w rest lt small low =
     let sum : (base + w) % 4294967296 ≡ base + w = grind (arith, lt, low) in
     let first = lt-ltb w size lt in
@@ -79,7 +79,7 @@ indexed_in base size w rest lt small low =
     simp (first, second, sum) refl
 
 indexed_out : (base size w : ℕ) (rest : List ℕ) → nat_lt w size ≡ false
-    → indexed base size w rest ≡ Checks false IndexOutOfRange (Then ((base + w) % 4294967296 ∷ rest))
+    → index_effect base size w rest ≡ Checks false IndexOutOfRange (Then ((base + w) % 4294967296 ∷ rest))
 indexed_out base size w rest h = rw h refl
 
 -- an index, by the address of the first element: it is one, or its look is the fault

@@ -20,7 +20,7 @@ use Rattle.code.specs.Expressions.{operation, unary_code}
 use Rattle.locals.specs.declared.frame.Locals.{Locals}
 use Rattle.locals.specs.declared.frame.Frame.{Frame}
 use Rattle.locals.specs.Threads.{Runs, Dies}
-use Rattle.locals.specs.Looks.{Look, Goes, Then, truth, signed_result, operated, at_place, or_dies, effect}
+use Rattle.locals.specs.Looks.{Look, Goes, Then, truth, signed_result, operator_effect, at_place, or_dies, effect}
 use Rattle.meaning.specs.Values.{Evaluated, Value, Fails, is_integer, integer, divided, both, unary, is_true}
 use Rattle.meaning.specs.Values as v
 use Rattle.execution.specs.Typed.{HasValue}
@@ -97,7 +97,7 @@ pub zero_word : (x : ℤ) → FitsSigned w32 x → (word_of x == 0) ≡ int_eq x
 zero_word x h = equal_words x (pos 0) h zero_fits
 
 and_shown : (a b : ℤ) (rest : List ℕ) (place : ℕ) (l : Locals) (fs : List Frame) → HasValue Boolean a
-    → HasValue Boolean b → at_place place l fs (operated BitAnd (word_of a) (word_of b) rest) ≡ shown
+    → HasValue Boolean b → at_place place l fs (operator_effect BitAnd (word_of a) (word_of b) rest) ≡ shown
     (both And a b) rest place l fs
 and_shown a b rest place l fs (inl x) (inl y) = rw x refl
 and_shown a b rest place l fs (inl x) (inr y) = rw x refl
@@ -105,7 +105,7 @@ and_shown a b rest place l fs (inr x) (inl y) = rw (x, y) refl
 and_shown a b rest place l fs (inr x) (inr y) = rw (x, y) refl
 
 or_shown : (a b : ℤ) (rest : List ℕ) (place : ℕ) (l : Locals) (fs : List Frame) → HasValue Boolean a
-    → HasValue Boolean b → at_place place l fs (operated BitOr (word_of a) (word_of b) rest) ≡ shown
+    → HasValue Boolean b → at_place place l fs (operator_effect BitOr (word_of a) (word_of b) rest) ≡ shown
     (both Or a b) rest place l fs
 or_shown a b rest place l fs (inl x) (inl y) = rw (x, y) refl
 or_shown a b rest place l fs (inl x) (inr y) = rw (x, y) refl
@@ -129,7 +129,7 @@ rem_fits a d hd some = let b = rem_below a d some in let c = abs_fits d hd in fi
 -- an operator on the words of two values of a type that it takes
 pub both_shown : (op : Operator) (t : ValueType) (a b : ℤ) (rest : List ℕ) (place : ℕ) (l : Locals) (fs : List Frame)
     → Takes op t → HasValue t a → HasValue t b → at_place place l fs
-    (operated (operation op) (word_of a) (word_of b) rest) ≡ shown (both op a b) rest place l fs
+    (operator_effect (operation op) (word_of a) (word_of b) rest) ≡ shown (both op a b) rest place l fs
 both_shown Add t a b rest place l fs k ha hb = rw (back a (value_fits t a ha), back b (value_fits t b hb))
     (integer_shown (a +ℤ b) rest place l fs)
 both_shown Subtract t a b rest place l fs k ha hb = rw (back a (value_fits t a ha), back b (value_fits t b hb))

@@ -19,7 +19,7 @@ use Rattle.code.specs.Pieces.{setting_of}
 use Rattle.locals.specs.declared.frame.Locals.{Locals}
 use Rattle.locals.specs.declared.frame.Frame.{Frame as MachineFrame}
 use Rattle.locals.specs.Threads.{Thread, Runs}
-use Rattle.locals.specs.Looks.{Goes, look, tested}
+use Rattle.locals.specs.Looks.{Goes, look, place_after_test}
 use Rattle.meaning.specs.Values.{Variables, Value, evaluate, is_true}
 use Rattle.meaning.specs.Labels.{Alone}
 use Rattle.meaning.specs.Labels as L
@@ -75,17 +75,17 @@ module _ (b : Build) (t size : ℕ) (memory : ℕ → ℕ) (v : Variables) (plac
       (by_value z (look_here b.image t size memory end (JumpIfZero target) (word_of z ∷ []) l fs last.0) o' typed)))
     where
       by_value : (z : ℤ) → look b.image t (Runs (place + length (expression_code b.program e))
-          (word_of z ∷ []) l fs) ≡ Goes (Runs (tested (word_of z) target
+          (word_of z ∷ []) l fs) ≡ Goes (Runs (place_after_test (word_of z) target
           (place + length (expression_code b.program e) + 1)) [] l fs)
           → offer b.program v (pending s) ≡ Does (Alone L.Test) Nothing (at_rest (go (is_true z))) → HasValue Boolean z
           → Completes b t size memory v (Runs (place + length (expression_code b.program e)) (word_of z ∷ []) l fs)
           (pending s)
       by_value z h k (inl is_zero) = F.acts L.Test tt
-          (h ∙ ap (λ (y : ℤ). Goes (Runs (tested (word_of y) target
+          (h ∙ ap (λ (y : ℤ). Goes (Runs (place_after_test (word_of y) target
           (place + length (expression_code b.program e) + 1)) [] l fs)) is_zero)
           (k ∙ ap (λ (y : ℤ). Does (Alone L.Test) Nothing (at_rest (go (is_true y)))) is_zero) when_false
       by_value z h k (inr is_one) = F.acts L.Test tt
-          (h ∙ ap (λ (y : ℤ). Goes (Runs (tested (word_of y) target
+          (h ∙ ap (λ (y : ℤ). Goes (Runs (place_after_test (word_of y) target
           (place + length (expression_code b.program e) + 1)) [] l fs)) is_one)
           (k ∙ ap (λ (y : ℤ). Does (Alone L.Test) Nothing (at_rest (go (is_true y)))) is_one) when_true
 

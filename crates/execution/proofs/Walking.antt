@@ -8,7 +8,7 @@ use Rattle.program.specs.declared.kinds.ValueType.{ValueType}
 use Rattle.locals.specs.declared.frame.Locals.{Locals}
 use Rattle.locals.specs.declared.frame.Frame.{Frame}
 use Rattle.locals.specs.Threads.{Thread, Runs, Dies}
-use Rattle.locals.specs.Looks.{Goes, Asks, AskLoad, look, effect, at_place, if_so, pushed}
+use Rattle.locals.specs.Looks.{Goes, Asks, AskLoad, look, effect, at_place, if_so, push_effect}
 use Rattle.meaning.specs.Values.{Evaluated, Value, Fails, and_then}
 use Rattle.execution.specs.Typed.{HasValue}
 use Rattle.execution.specs.Evaluation.{OfType}
@@ -91,7 +91,7 @@ module _ (p : Program) (t size : ℕ) (memory : ℕ → ℕ) where
 
   -- a word is pushed where there is room
   pub push_step : (place v : ℕ) (operands : List ℕ) (l : Locals) (fs : List Frame) → look p t
-      (Runs place operands l fs) ≡ at_place place l fs (pushed v operands) → length operands < 512 → look p t
+      (Runs place operands l fs) ≡ at_place place l fs (push_effect v operands) → length operands < 512 → look p t
       (Runs place operands l fs) ≡ Goes (Runs (place + 1) (v ∷ operands) l fs)
   push_step place v operands l fs h room =
       h ∙ ap (λ b. if_so b (Goes (Runs (place + 1) (v ∷ operands) l fs))) (lt-ltb (length operands) 512 room)

@@ -18,7 +18,7 @@ use Rattle.code.specs.Pieces.{setting_of, default_code}
 use Rattle.locals.specs.declared.frame.Locals.{Locals}
 use Rattle.locals.specs.declared.frame.Frame.{Frame as MachineFrame}
 use Rattle.locals.specs.Threads.{Thread, Runs, Dies}
-use Rattle.locals.specs.Looks.{Goes, Asks, AskPrint, AskReturn, look, begun}
+use Rattle.locals.specs.Looks.{Goes, Asks, AskPrint, AskReturn, look, first_exit}
 use Rattle.meaning.specs.Values.{Variables}
 use Rattle.words.specs.declared.outcome.Fault.{Fault}
 use Rattle.meaning.specs.Labels.{Faulted, Alone, Kind}
@@ -133,7 +133,7 @@ pub data Completes (b : Build) (t size : ℕ) (memory : ℕ → ℕ) (v : Variab
   prints : {r : Process} (w : ℕ) (go : ℕ → Thread) → look b.image t x ≡ Asks (AskPrint w) go
       → offer b.program v q ≡ Does (Alone (L.Print (signed_of w))) (Writes (signed_of w)) r
       → ((answer : ℕ) → Stands b t size memory (go answer) r) → Completes b t size memory v x q
-  returns : look b.image t x ≡ Asks AskReturn begun → q ≡ Leaving (pos 0) → Completes b t size memory v x q
+  returns : look b.image t x ≡ Asks AskReturn first_exit → q ≡ Leaving (pos 0) → Completes b t size memory v x q
   faults : (fault : Fault) → x ≡ Dies fault → offer b.program v q ≡ Does (Alone (L.Fails fault)) Nothing
       (Dying (Faulted fault) [])
       → Completes b t size memory v x q

@@ -10,7 +10,7 @@ use Rattle.isa.specs.Limits.{most_monitors, most_member_words, most_instructions
 use Rattle.isa.specs.declared.fault.DecodeFault.{DecodeFault}
 use Rattle.isa.specs.declared.fault.DecodeFault.TheVariants.{Limit}
 use Rattle.isa.specs.declared.instr.Instr.{Instr}
-use Rattle.isa.specs.declared.instr.Instr.TheVariants.{Push, GetLocal, SetLocal, Pop, Operate, Negate, Not, Jump, JumpIfZero, Call, Ret, RetValue, Index, OwnNumber, ProcessAddress, Raise, Load, Store, Swap, CompareAndSwap, FetchOr, FetchAdd, Fork, Print, FutexWait, FutexWake, FutexRequeue}
+use Rattle.isa.specs.declared.instr.Instr.TheVariants.{Push, GetLocal, SetLocal, Pop, Operate, Negate, Not, Jump, JumpIfZero, Call, Ret, RetValue, Index, OwnNumber, ProcessAddress, Raise, Load, Store, Swap, CompareSwap, FetchOr, FetchAdd, Fork, Print, FutexWait, FutexWake, FutexRequeue}
 use Rattle.isa.specs.declared.operator.Operator.TheVariants.{Add, Sub, Mul, Div, Mod, Eq, Ne, Lt, Le, Gt, Ge, BitAnd, BitOr}
 use Rattle.isa.specs.declared.slot.Slot.{Slot}
 use Rattle.isa.specs.declared.slot.Slot.TheVariants.{Local, Template}
@@ -510,7 +510,7 @@ instruction_again OwnNumber rest words is = refl
 instruction_again Load rest words is = refl
 instruction_again Store rest words is = refl
 instruction_again Swap rest words is = refl
-instruction_again CompareAndSwap rest words is = refl
+instruction_again CompareSwap rest words is = refl
 instruction_again FetchOr rest words is = refl
 instruction_again FetchAdd rest words is = refl
 instruction_again Print rest words is = refl

@@ -10,7 +10,7 @@ use Rattle.isa.specs.declared.slot.Slot.TheVariants.{Local, Template}
 use Rattle.isa.specs.declared.operator.Operator.{Operator}
 use Rattle.isa.specs.declared.operator.Operator.TheVariants.{Add, Sub, Mul, Div, Mod, Eq, Ne, Lt, Le, Gt, Ge, BitAnd, BitOr}
 use Rattle.isa.specs.declared.instr.Instr.{Instr}
-use Rattle.isa.specs.declared.instr.Instr.TheVariants.{Push, GetLocal, SetLocal, Pop, Operate, Negate, Not, Jump, JumpIfZero, Call, Ret, RetValue, Index, OwnNumber, ProcessAddress, Raise, Load, Store, Swap, CompareAndSwap, FetchOr, FetchAdd, Fork, Print, FutexWait, FutexWake, FutexRequeue}
+use Rattle.isa.specs.declared.instr.Instr.TheVariants.{Push, GetLocal, SetLocal, Pop, Operate, Negate, Not, Jump, JumpIfZero, Call, Ret, RetValue, Index, OwnNumber, ProcessAddress, Raise, Load, Store, Swap, CompareSwap, FetchOr, FetchAdd, Fork, Print, FutexWait, FutexWake, FutexRequeue}
 
 -- the first row of a table for this number
 abbrev pub row_of : {A : Type 0} → List (ℕ × A) → ℕ → Option A
@@ -57,7 +57,7 @@ plain_opcodes =
     (0x20, Load) ∷
     (0x21, Store) ∷
     (0x22, Swap) ∷
-    (0x23, CompareAndSwap) ∷
+    (0x23, CompareSwap) ∷
     (0x24, FetchOr) ∷
     (0x25, FetchAdd) ∷
     (0x27, Print) ∷
@@ -125,7 +125,7 @@ opcode (Raise fault) = 0x1c
 opcode Load = 0x20
 opcode Store = 0x21
 opcode Swap = 0x22
-opcode CompareAndSwap = 0x23
+opcode CompareSwap = 0x23
 opcode FetchOr = 0x24
 opcode FetchAdd = 0x25
 opcode (Fork place arguments) = 0x26

@@ -5,7 +5,7 @@ use Rattle.std.specs.Fmt.{decimal}
 use Rattle.isa.specs.declared.operator.Operator.{Operator}
 use Rattle.isa.specs.declared.operator.Operator.TheVariants.{Add, Sub, Mul, Div, Mod, Eq, Ne, Lt, Le, Gt, Ge, BitAnd, BitOr}
 use Rattle.isa.specs.declared.instr.Instr.{Instr}
-use Rattle.isa.specs.declared.instr.Instr.TheVariants.{Push, GetLocal, SetLocal, Pop, Operate, Negate, Not, Jump, JumpIfZero, Call, Ret, RetValue, Index, OwnNumber, ProcessAddress, Raise, Load, Store, Swap, CompareAndSwap, FetchOr, FetchAdd, Fork, Print, FutexWait, FutexWake, FutexRequeue}
+use Rattle.isa.specs.declared.instr.Instr.TheVariants.{Push, GetLocal, SetLocal, Pop, Operate, Negate, Not, Jump, JumpIfZero, Call, Ret, RetValue, Index, OwnNumber, ProcessAddress, Raise, Load, Store, Swap, CompareSwap, FetchOr, FetchAdd, Fork, Print, FutexWait, FutexWake, FutexRequeue}
 use Rattle.isa.specs.Instructions.{operands}
 
 -- the name of an operator
@@ -45,7 +45,7 @@ mnemonic (Raise fault) = codes "FAULT"
 mnemonic Load = codes "LOAD"
 mnemonic Store = codes "STORE"
 mnemonic Swap = codes "SWAP"
-mnemonic CompareAndSwap = codes "CAS"
+mnemonic CompareSwap = codes "CAS"
 mnemonic FetchOr = codes "AOR"
 mnemonic FetchAdd = codes "AADD"
 mnemonic (Fork place arguments) = codes "FORK"

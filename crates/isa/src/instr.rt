@@ -57,7 +57,7 @@ pub enum Instr {
     /// `a v -> the old word`, v into the word at a, shown as `SWAP`.
     Swap,
     /// `a expected new -> the old word`, new into the word at a where that is as expected, shown as `CAS`.
-    CompareAndSwap,
+    CompareSwap,
     /// `a v -> the old word`, the bits of v set in the word at a, shown as `AOR`.
     FetchOr,
     /// `a v -> the old word`, v added to the word at a modulo 2^32, shown as `AADD`.
@@ -102,7 +102,7 @@ impl Instr {
             Instr::Load => opcode::LOAD,
             Instr::Store => opcode::STORE,
             Instr::Swap => opcode::SWAP,
-            Instr::CompareAndSwap => opcode::CAS,
+            Instr::CompareSwap => opcode::CAS,
             Instr::FetchOr => opcode::AOR,
             Instr::FetchAdd => opcode::AADD,
             Instr::Fork(_, _) => opcode::FORK,
@@ -168,7 +168,7 @@ impl Instr {
             Instr::Load => "LOAD",
             Instr::Store => "STORE",
             Instr::Swap => "SWAP",
-            Instr::CompareAndSwap => "CAS",
+            Instr::CompareSwap => "CAS",
             Instr::FetchOr => "AOR",
             Instr::FetchAdd => "AADD",
             Instr::Fork(_, _) => "FORK",

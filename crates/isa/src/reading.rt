@@ -175,7 +175,7 @@ fn plain(first: u8) -> Option<Instr>
         opcode::LOAD => Some(Instr::Load),
         opcode::STORE => Some(Instr::Store),
         opcode::SWAP => Some(Instr::Swap),
-        opcode::CAS => Some(Instr::CompareAndSwap),
+        opcode::CAS => Some(Instr::CompareSwap),
         opcode::AOR => Some(Instr::FetchOr),
         opcode::AADD => Some(Instr::FetchAdd),
         opcode::PRINT => Some(Instr::Print),

@@ -1,13 +1,13 @@
 -- The answer 0 can be given to every request.
 use Rattle.std.proofs.Common.{refl, inl}
-use Rattle.locals.specs.Looks.{AskLoad, AskStore, AskSwap, AskCas, AskOr, AskAdd, AskFork, AskPrint, AskWait, AskWake, AskRequeue, AskReturn, AskReturnValue, AskFault, Request, Look, Goes, Asks, Leaves, Breaks, Rests}
+use Rattle.locals.specs.Looks.{AskLoad, AskStore, AskSwap, AskCompareSwap, AskOr, AskAdd, AskFork, AskPrint, AskWait, AskWake, AskRequeue, AskReturn, AskReturnValue, AskFault, Request, Look, Goes, Asks, Leaves, Breaks, Rests}
 use Rattle.locals.specs.Requests.{Answers, CanBeAnswered}
 
 answers : (request : Request) → Answers 0 request
 answers (AskLoad a) = tt
 answers (AskStore a v) = tt
 answers (AskSwap a v) = tt
-answers (AskCas a expected new) = tt
+answers (AskCompareSwap a expected new) = tt
 answers (AskOr a v) = tt
 answers (AskAdd a v) = tt
 answers (AskFork entry arguments has_room) = inl refl

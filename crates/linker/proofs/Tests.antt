@@ -8,7 +8,7 @@ use Rattle.isa.specs.Limits.{most_arguments, most_locals}
 use Rattle.isa.specs.declared.slot.Slot.{Slot}
 use Rattle.isa.specs.declared.slot.Slot.TheVariants.{Local, Template}
 use Rattle.isa.specs.declared.instr.Instr.{Instr}
-use Rattle.isa.specs.declared.instr.Instr.TheVariants.{Push, GetLocal, SetLocal, Pop, Operate, Negate, Not, Jump, JumpIfZero, Call, Fork, Ret, RetValue, Index, OwnNumber, ProcessAddress, Raise, Load, Store, Swap, CompareAndSwap, FetchOr, FetchAdd, Print, FutexWait, FutexWake, FutexRequeue}
+use Rattle.isa.specs.declared.instr.Instr.TheVariants.{Push, GetLocal, SetLocal, Pop, Operate, Negate, Not, Jump, JumpIfZero, Call, Fork, Ret, RetValue, Index, OwnNumber, ProcessAddress, Raise, Load, Store, Swap, CompareSwap, FetchOr, FetchAdd, Print, FutexWait, FutexWake, FutexRequeue}
 use Rattle.code.specs.declared.mark.Marked.{Marked}
 use Rattle.code.specs.Marks.{instructions}
 use Rattle.code.specs.Linking.{linked_code}
@@ -60,7 +60,7 @@ one_fits t (Raise f) e = (tt, tt)
 one_fits t Load e = (tt, tt)
 one_fits t Store e = (tt, tt)
 one_fits t Swap e = (tt, tt)
-one_fits t CompareAndSwap e = (tt, tt)
+one_fits t CompareSwap e = (tt, tt)
 one_fits t FetchOr e = (tt, tt)
 one_fits t FetchAdd e = (tt, tt)
 one_fits t Print e = (tt, tt)
@@ -89,7 +89,7 @@ fits_one t (Raise f) h k = refl
 fits_one t Load h k = refl
 fits_one t Store h k = refl
 fits_one t Swap h k = refl
-fits_one t CompareAndSwap h k = refl
+fits_one t CompareSwap h k = refl
 fits_one t FetchOr h k = refl
 fits_one t FetchAdd h k = refl
 fits_one t Print h k = refl

@@ -2,7 +2,7 @@
 ghost use Rattle.std.specs.Prelude.{◌≡◌, ◌<◌, ◌∷◌, ℕ, Some, None, slice_get, MatchOption};
 ghost use Rattle.isa.specs.Limits.{most_instructions};
 ghost use Rattle.isa.specs.declared.instr.Instr.TheVariants.{Fork, Store, Print};
-ghost use Rattle.locals.specs.Looks.{Request as RequestOf, Asking, returned, on_one, on_two, on_three, on_five};
+ghost use Rattle.locals.specs.Looks.{Request as RequestOf, Asking, return_look, on_one, on_two, on_three, on_five};
 ghost use Rattle.locals.specs.Requests.{after_answer, fork_child, CanBeAnswered};
 ghost use Rattle.locals.specs.Views.{running, looks, at_its_place, Follows};
 
@@ -34,7 +34,7 @@ impl Activation {
             Instr::Load => self.replace_one(answer),
             Instr::Swap | Instr::FetchOr | Instr::FetchAdd | Instr::FutexWait | Instr::FutexWake =>
                 { self.replace_two(answer) }
-            Instr::CompareAndSwap => self.replace_three(answer),
+            Instr::CompareSwap => self.replace_three(answer),
             Instr::FutexRequeue => self.replace_five(answer),
             Instr::Store => self.stored(),
             Instr::Print => self.printed(),
@@ -152,7 +152,7 @@ impl Activation {
 
     fn answer_return(&mut self, answer: u32) -> Answered
         ensures { (request : RequestOf)
-            → Follows result (after_answer (returned request self.old.operands self.old.callers) answer
+            → Follows result (after_answer (return_look request self.old.operands self.old.callers) answer
             (running self.old)) self.new }
     {
         if self.callers.is_empty() {

@@ -3,7 +3,7 @@ ghost use Rattle.std.specs.Int.{w32};
 ghost use Rattle.std.specs.Option.{SomeIff};
 ghost use Rattle.words.specs.Signed.{signed_of, word_of};
 ghost use Rattle.locals.specs.Threads.{Locals as LocalsOf, Frame as FrameOf};
-ghost use Rattle.locals.specs.Looks.{at_place, operated, indexed, truth};
+ghost use Rattle.locals.specs.Looks.{at_place, operator_effect, index_effect, truth};
 ghost use Rattle.locals.specs.Results.{SignedResult, QuotientResult, outcome_at};
 
 use isa::Operator;
@@ -12,7 +12,7 @@ use words::{Fault, signed, word};
 /// What an operator makes of two words, or the fault that it meets.
 pub fn operate(operator: Operator, a: u32, b: u32) -> Result<u32, Fault>
     ensures { (place : ℕ) (rest : List ℕ) (locals : LocalsOf) (callers : List FrameOf)
-        → at_place place locals callers (operated operator a b rest) ≡ outcome_at result place rest locals callers }
+        → at_place place locals callers (operator_effect operator a b rest) ≡ outcome_at result place rest locals callers }
 {
     match operator {
         Operator::Add => add(a, b),
@@ -41,7 +41,7 @@ pub fn negate(a: u32) -> Result<u32, Fault>
 /// The address of a word of an array of `size` words from `base` on, or that the array doesn't have the index.
 pub fn index(base: u32, size: u32, i: u32) -> Result<u32, Fault>
     ensures { (place : ℕ) (rest : List ℕ) (locals : LocalsOf) (callers : List FrameOf)
-        → at_place place locals callers (indexed base size i rest) ≡ outcome_at result place rest locals callers }
+        → at_place place locals callers (index_effect base size i rest) ≡ outcome_at result place rest locals callers }
 {
     if i < size && i < 1 << 31 {
         Ok(base.wrapping_add(i))

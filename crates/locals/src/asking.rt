@@ -3,7 +3,7 @@ ghost use Rattle.std.specs.Prelude.{◌≡◌, ◌∷◌, ℕ, List, Some, slice
 ghost use Rattle.isa.specs.declared.instr.Instr.TheVariants.{Fork, RetValue};
 ghost use Rattle.locals.specs.declared.request.NextStep.TheVariants as next;
 ghost use Rattle.locals.specs.Threads.{Locals as LocalsOf, Frame as FrameOf};
-ghost use Rattle.locals.specs.Looks.{Request as RequestOf, look_at, returned};
+ghost use Rattle.locals.specs.Looks.{Request as RequestOf, look_at, return_look};
 ghost use Rattle.locals.specs.Requests.{next_step_of, request_step};
 ghost use Rattle.locals.specs.Views.{shared_where, local_where, looks, IsRequest, TakesTwo};
 
@@ -55,7 +55,7 @@ impl Activation {
             Instr::Load
             | Instr::Store
             | Instr::Swap
-            | Instr::CompareAndSwap
+            | Instr::CompareSwap
             | Instr::FetchOr
             | Instr::FetchAdd
             | Instr::Print
@@ -68,7 +68,7 @@ impl Activation {
     // A return, which is local where there is a caller.
     fn leaving(&self, request: Request) -> NextStep
         ensures { (r : RequestOf) → request_step r ≡ next.Shared request
-            → result ≡ next_step_of (returned r self.now.operands self.now.callers) }
+            → result ≡ next_step_of (return_look r self.now.operands self.now.callers) }
     {
         if self.callers.is_empty() {
             NextStep::Shared(request)
@@ -119,7 +119,7 @@ impl Activation {
         match instr {
             Instr::Load => Some(Request::Load(Addr(self.operands.top()?))),
             Instr::Print => Some(Request::Print(self.operands.top()?)),
-            Instr::CompareAndSwap => {
+            Instr::CompareSwap => {
                 let (address, expected, new) = self.operands.top_three()?;
                 Some(Request::CompareSwap {
                     address: Addr(address),

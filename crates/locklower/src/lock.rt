@@ -61,7 +61,7 @@ pub fn take_from(
             GET,
             waiters,
             OR,
-            Instr::CompareAndSwap,
+            Instr::CompareSwap,
             GET,
             EQUAL,
             Instr::JumpIfZero(again),
@@ -79,7 +79,7 @@ pub fn take_from(
             OR,
         ],
     )?;
-    append(code, mark, Instr::CompareAndSwap)?;
+    append(code, mark, Instr::CompareSwap)?;
     append_plain(code, &[GET, EQUAL, Instr::JumpIfZero(again)])
 }
 
@@ -209,7 +209,7 @@ fn try_lock(code: &mut Vec<Marked>, monitor: u32, link: u32, start: u32) -> Resu
             Instr::OwnNumber,
         ],
     )?;
-    append(code, Mark::Enter(monitor), Instr::CompareAndSwap)?;
+    append(code, Mark::Enter(monitor), Instr::CompareSwap)?;
     append_plain(code, &[KEEP, GET, Instr::JumpIfZero(start + 43)])
 }
 

@@ -10,7 +10,7 @@ use Rattle.isa.specs.Programs.{Program}
 use Rattle.robustexit.specs.declared.phase.ExitPhase.{ExitPhase}
 use Rattle.robustexit.specs.declared.phase.ExitPhase.TheVariants.{Entry, Pending, ClearId, LastWake, Ended}
 use Rattle.locals.specs.Threads.{Thread}
-use Rattle.locals.specs.Looks.{Request, AskLoad, AskStore, AskSwap, AskCas, AskOr, AskAdd, AskFork, AskPrint}
+use Rattle.locals.specs.Looks.{Request, AskLoad, AskStore, AskSwap, AskCompareSwap, AskOr, AskAdd, AskFork, AskPrint}
 use Rattle.locals.specs.Looks.{AskWait, AskWake, AskRequeue, AskReturn, AskReturnValue, AskFault, Look, Goes}
 use Rattle.locals.specs.Looks.{Asks, Leaves, Breaks, Rests, look}
 use Rattle.machine.specs.declared.event.Event.{Event}
@@ -67,7 +67,7 @@ served : (made t : ℕ) (r : Request) (c : Common) → Prints c (serve made t r 
 served made t (AskLoad a) c = prints_if c _ _ _ (prints_ok c _ (still _)) (prints_err c _)
 served made t (AskStore a v) c = prints_if c _ _ _ (prints_ok c _ (still _)) (prints_err c _)
 served made t (AskSwap a v) c = prints_if c _ _ _ (prints_ok c _ (still _)) (prints_err c _)
-served made t (AskCas a expected new) c =
+served made t (AskCompareSwap a expected new) c =
     prints_if c _ _ _ (prints_ok c _ (ap length (output_if c (set_word c a new) (eqb (load c a) expected) refl)
     ∙ still _)) (prints_err c _)
 served made t (AskOr a v) c = prints_if c _ _ _ (prints_ok c _ (still _)) (prints_err c _)

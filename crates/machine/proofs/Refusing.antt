@@ -5,7 +5,7 @@ use Rattle.std.proofs.lemmas.Bool.{cases_Bool, both_ways, eqb-true, eq-eqb, ltb-
 use Rattle.isa.specs.Programs.{Program}
 use Rattle.robustexit.specs.declared.phase.ExitPhase.TheVariants.{Entry, Pending, ClearId, LastWake, Ended}
 use Rattle.locals.specs.Threads.{Thread, Runs, Dies, Exits}
-use Rattle.locals.specs.Looks.{Request, AskLoad, AskStore, AskSwap, AskCas, AskOr, AskAdd, AskFork, AskPrint}
+use Rattle.locals.specs.Looks.{Request, AskLoad, AskStore, AskSwap, AskCompareSwap, AskOr, AskAdd, AskFork, AskPrint}
 use Rattle.locals.specs.Looks.{AskWait, AskWake, AskRequeue, AskReturn, AskReturnValue, AskFault, Look, Goes}
 use Rattle.locals.specs.Looks.{Asks, Leaves, Breaks, Rests, look}
 use Rattle.machine.specs.declared.event.StepFault.{StepFault}
@@ -78,7 +78,7 @@ refuses : (k : ConcreteState) (t : ℕ) (request : Request)
 refuses k t (AskLoad a) = inside _ a _ _ refl _ (λ f. served_is _ f)
 refuses k t (AskStore a v) = inside _ a _ _ refl _ (λ f. served_is _ f)
 refuses k t (AskSwap a v) = inside _ a _ _ refl _ (λ f. served_is _ f)
-refuses k t (AskCas a expected new) = inside _ a _ _ refl _ (λ f. served_is _ f)
+refuses k t (AskCompareSwap a expected new) = inside _ a _ _ refl _ (λ f. served_is _ f)
 refuses k t (AskOr a v) = inside _ a _ _ refl _ (λ f. served_is _ f)
 refuses k t (AskAdd a v) = inside _ a _ _ refl _ (λ f. served_is _ f)
 refuses k t (AskFork entry arguments has_room) =

@@ -13,7 +13,7 @@ use Rattle.words.specs.Signed.{signed_of}
 use Rattle.buckets.specs.Places.{with_place}
 use Rattle.isa.specs.Programs.{Program, memory_size}
 use Rattle.locals.specs.Threads.{Thread}
-use Rattle.locals.specs.Looks.{Request, AskLoad, AskStore, AskSwap, AskCas, AskOr, AskAdd, AskFork, AskPrint}
+use Rattle.locals.specs.Looks.{Request, AskLoad, AskStore, AskSwap, AskCompareSwap, AskOr, AskAdd, AskFork, AskPrint}
 use Rattle.locals.specs.Looks.{AskWait, AskWake, AskRequeue, AskReturn, AskReturnValue, AskFault, Asks}
 use Rattle.machine.specs.declared.event.Event.{Event}
 use Rattle.machine.specs.declared.event.EventName.TheVariants as name
@@ -101,12 +101,12 @@ swaps_if : (p : Program) (k k' : ConcreteState) (t : ℕ) (e : Event) (y : Threa
     → (let o : Outcome = on_machine k t
     (go_on_with go (gives (load k.common a) (cond b (set_word k.common a new) k.common)
     (plain name.CompareSwap (load k.common a)))) in o) ≡ Ok (k', e)
-    → Steps p k k' t e (Asks (AskCas a expected new) go)
+    → Steps p k k' t e (Asks (AskCompareSwap a expected new) go)
 swaps_if p k k' t e y go a expected new concrete stands inside true is h =
-    accesses p k k' t e _ y (AskCas a expected new) go a (load k.common a) new concrete stands inside refl
+    accesses p k k' t e _ y (AskCompareSwap a expected new) go a (load k.common a) new concrete stands inside refl
     (inside, (refl, (refl, λ i. cond (sym is i) (with_word (state_of k) a new) (state_of k)))) h
 swaps_if p k k' t e y go a expected new concrete stands inside false is h =
-    stays p k k' t e _ y (AskCas a expected new) go (load k.common a) concrete stands refl
+    stays p k k' t e _ y (AskCompareSwap a expected new) go (load k.common a) concrete stands refl
     (inside, (refl, (refl, λ i. cond (sym is i) (with_word (state_of k) a new) (state_of k)))) h
 
 waits_if : (p : Program) (k k' : ConcreteState) (t : ℕ) (e : Event) (y : Thread) (go : ℕ → Thread) (a expected : ℕ)
@@ -313,7 +313,7 @@ serves_so p k k' t e y (AskSwap a v) go one concrete stands awake place h =
     let i = ltb-true a (length k.common.words) o.0 in
     accesses p k k' t e _ y (AskSwap a v) go a (load k.common a) v concrete stands i refl
     (i, (refl, (refl, refl))) o.1
-serves_so p k k' t e y (AskCas a expected new) go one concrete stands awake place h =
+serves_so p k k' t e y (AskCompareSwap a expected new) go one concrete stands awake place h =
     let o = opens k t go (ltb a (length k.common.words)) _ (k', e) h in
     let i = ltb-true a (length k.common.words) o.0 in
     swaps_if p k k' t e y go a expected new concrete stands i (eqb (load k.common a) expected) refl o.1

@@ -12,7 +12,7 @@ use Rattle.locals.specs.declared.frame.Frame.{Frame}
 use Rattle.locals.specs.declared.frame.Locals.{Locals}
 use Rattle.locals.specs.Threads.{Thread, Runs, Dies, Exits, fresh, opening_thread}
 use Rattle.locals.specs.Looks.{Request, AskFork, Look, Goes, Asks, Leaves, Breaks, Rests, look, look_at, at_place}
-use Rattle.locals.specs.Looks.{returned, if_so, or_dies, effect, Effect, Then, Keeps, To, Tests, Asking, Trying}
+use Rattle.locals.specs.Looks.{return_look, if_so, or_dies, effect, Effect, Then, Keeps, To, Tests, Asking, Trying}
 use Rattle.locals.specs.Looks.{Calls, Returns, ReturnsValue, Fails, Misses, Guards, Checks}
 use Rattle.machine.specs.declared.event.Event.{Event}
 use Rattle.robustexit.specs.RobustExit.{put}
@@ -53,7 +53,7 @@ or_dies_code true fault l h = h
 or_dies_code false fault l h = tt
 
 returned_code : (request : Request) (operands : List ℕ) (callers : List Frame)
-    → IsOfCode (returned request operands callers)
+    → IsOfCode (return_look request operands callers)
 returned_code request operands [] = tt
 returned_code request operands (f ∷ fs) = tt
 

@@ -12,7 +12,7 @@ use Rattle.locals.specs.declared.request.Request.{Request as Told}
 use Rattle.locals.specs.declared.request.NextStep.TheVariants as next
 use Rattle.locals.specs.Threads.{Thread, Exits}
 use Rattle.locals.specs.Steps.{local_next}
-use Rattle.locals.specs.Looks.{Request, AskLoad, AskStore, AskSwap, AskCas, AskOr, AskAdd, AskFork, AskPrint}
+use Rattle.locals.specs.Looks.{Request, AskLoad, AskStore, AskSwap, AskCompareSwap, AskOr, AskAdd, AskFork, AskPrint}
 use Rattle.locals.specs.Looks.{AskWait, AskWake, AskRequeue, AskReturn, AskReturnValue, AskFault, Look, Goes}
 use Rattle.locals.specs.Looks.{Asks, Leaves, Breaks, Rests, look}
 use Rattle.locals.specs.Requests.{request_step, next_step_of, after_answer, fork_child, CanBeAnswered, Answers}
@@ -39,7 +39,7 @@ pub asked_back : (r : Request) (q : Told) → request_step r ≡ next.Shared q �
 asked_back (AskLoad a) q h = told_is _ _ q refl h
 asked_back (AskStore a v) q h = told_is _ _ q refl h
 asked_back (AskSwap a v) q h = told_is _ _ q refl h
-asked_back (AskCas a expected new) q h = told_is _ _ q refl h
+asked_back (AskCompareSwap a expected new) q h = told_is _ _ q refl h
 asked_back (AskOr a v) q h = told_is _ _ q refl h
 asked_back (AskAdd a v) q h = told_is _ _ q refl h
 asked_back (AskFork entry arguments has_room) q h = absurd cc
@@ -60,7 +60,7 @@ no_local (AskFork entry arguments has_room) h = cc
 no_local (AskLoad a) h = cc
 no_local (AskStore a v) h = cc
 no_local (AskSwap a v) h = cc
-no_local (AskCas a expected new) h = cc
+no_local (AskCompareSwap a expected new) h = cc
 no_local (AskOr a v) h = cc
 no_local (AskAdd a v) h = cc
 no_local (AskPrint number) h = cc
@@ -76,7 +76,7 @@ no_exit (AskFork entry arguments has_room) phase h = cc
 no_exit (AskLoad a) phase h = cc
 no_exit (AskStore a v) phase h = cc
 no_exit (AskSwap a v) phase h = cc
-no_exit (AskCas a expected new) phase h = cc
+no_exit (AskCompareSwap a expected new) phase h = cc
 no_exit (AskOr a v) phase h = cc
 no_exit (AskAdd a v) phase h = cc
 no_exit (AskPrint number) phase h = cc
@@ -92,7 +92,7 @@ no_break (AskFork entry arguments has_room) h = cc
 no_break (AskLoad a) h = cc
 no_break (AskStore a v) h = cc
 no_break (AskSwap a v) h = cc
-no_break (AskCas a expected new) h = cc
+no_break (AskCompareSwap a expected new) h = cc
 no_break (AskOr a v) h = cc
 no_break (AskAdd a v) h = cc
 no_break (AskPrint number) h = cc
@@ -108,7 +108,7 @@ no_rest (AskFork entry arguments has_room) h = cc
 no_rest (AskLoad a) h = cc
 no_rest (AskStore a v) h = cc
 no_rest (AskSwap a v) h = cc
-no_rest (AskCas a expected new) h = cc
+no_rest (AskCompareSwap a expected new) h = cc
 no_rest (AskOr a v) h = cc
 no_rest (AskAdd a v) h = cc
 no_rest (AskPrint number) h = cc
@@ -166,7 +166,7 @@ asks_fork (AskFork entry arguments has_room) go e n room h = fork_room entry _ h
 asks_fork (AskLoad a) go e n room h = absurd cc
 asks_fork (AskStore a v) go e n room h = absurd cc
 asks_fork (AskSwap a v) go e n room h = absurd cc
-asks_fork (AskCas a expected new) go e n room h = absurd cc
+asks_fork (AskCompareSwap a expected new) go e n room h = absurd cc
 asks_fork (AskOr a v) go e n room h = absurd cc
 asks_fork (AskAdd a v) go e n room h = absurd cc
 asks_fork (AskPrint number) go e n room h = absurd cc

@@ -9,7 +9,7 @@ use Rattle.words.specs.Signed.{signed_of}
 use Rattle.futexcalls.specs.FutexCalls.{Sleeps, Wakes, Requeues}
 use Rattle.robustexit.specs.RobustExit.{Shared}
 use Rattle.locals.specs.Threads.{opening_thread}
-use Rattle.locals.specs.Looks.{Request, AskLoad, AskStore, AskSwap, AskCas, AskOr, AskAdd, AskFork, AskPrint}
+use Rattle.locals.specs.Looks.{Request, AskLoad, AskStore, AskSwap, AskCompareSwap, AskOr, AskAdd, AskFork, AskPrint}
 use Rattle.locals.specs.Looks.{AskWait, AskWake, AskRequeue, AskReturn, AskReturnValue, AskFault}
 use Rattle.machine.specs.States.{State, with_word, with_thread, with_sleepers}
 
@@ -39,7 +39,7 @@ abbrev pub Serves : ℕ → Request → State → List ℕ → ℕ → State →
 Serves t (AskLoad a) s woken answer s' = Lies s a × Quietly woken ((answer ≡ s.word a) × (s' ≡ s))
 Serves t (AskStore a v) s woken answer s' = Lies s a × Quietly woken ((answer ≡ 0) × (s' ≡ with_word s a v))
 Serves t (AskSwap a v) s woken answer s' = Lies s a × Quietly woken ((answer ≡ s.word a) × (s' ≡ with_word s a v))
-Serves t (AskCas a expected new) s woken answer s' =
+Serves t (AskCompareSwap a expected new) s woken answer s' =
     Lies s a × Quietly woken ((answer ≡ s.word a) × (s' ≡ (if s.word a == expected then with_word s a new else s)))
 Serves t (AskOr a v) s woken answer s' =
     Lies s a × Quietly woken ((answer ≡ s.word a) × (s' ≡ with_word s a (bit_or (s.word a) v)))
@@ -74,7 +74,7 @@ abbrev pub IsUnserved : Request → State → Type 0
 IsUnserved (AskLoad a) s = Lies s a → ⊥
 IsUnserved (AskStore a v) s = Lies s a → ⊥
 IsUnserved (AskSwap a v) s = Lies s a → ⊥
-IsUnserved (AskCas a expected new) s = Lies s a → ⊥
+IsUnserved (AskCompareSwap a expected new) s = Lies s a → ⊥
 IsUnserved (AskOr a v) s = Lies s a → ⊥
 IsUnserved (AskAdd a v) s = Lies s a → ⊥
 IsUnserved (AskFork entry arguments has_room) s = (s.made < most_processes) × (has_room ≡ true → ⊥)

@@ -9,7 +9,7 @@ use Rattle.words.specs.Outcomes.{fault_number}
 use Rattle.words.specs.Signed.{signed_of}
 use Rattle.buckets.specs.Places.{with_place}
 use Rattle.locals.specs.Threads.{Thread, opening_thread}
-use Rattle.locals.specs.Looks.{Request, AskLoad, AskStore, AskSwap, AskCas, AskOr, AskAdd, AskFork, AskPrint}
+use Rattle.locals.specs.Looks.{Request, AskLoad, AskStore, AskSwap, AskCompareSwap, AskOr, AskAdd, AskFork, AskPrint}
 use Rattle.locals.specs.Looks.{AskWait, AskWake, AskRequeue, AskReturn, AskReturnValue, AskFault}
 use Rattle.machine.specs.declared.event.Event.{Event}
 use Rattle.machine.specs.declared.event.EventName.{EventName}
@@ -111,7 +111,7 @@ abbrev pub serve : ℕ → ℕ → Request → Common → Result Served StepFaul
 serve made t (AskLoad a) c = within c a (gives (load c a) c (plain name.Load (load c a)))
 serve made t (AskStore a v) c = within c a (gives 0 (set_word c a v) (plain name.Store v))
 serve made t (AskSwap a v) c = within c a (gives (load c a) (set_word c a v) (plain name.Swap (load c a)))
-serve made t (AskCas a expected new) c =
+serve made t (AskCompareSwap a expected new) c =
     within c a (gives (load c a) (if load c a == expected then set_word c a new else c)
     (plain name.CompareSwap (load c a)))
 serve made t (AskOr a v) c =

@@ -5,7 +5,7 @@ use Rattle.robustexit.specs.declared.phase.ExitPhase.{ExitPhase}
 use Rattle.robustexit.specs.declared.phase.ExitPhase.TheVariants.{Entry, Pending, ClearId, LastWake, Ended}
 use Rattle.locals.specs.declared.request.Request.{Request as Told}
 use Rattle.locals.specs.declared.request.Request.TheVariants as told
-use Rattle.locals.specs.Looks.{Request, AskLoad, AskStore, AskSwap, AskCas, AskOr, AskAdd, AskFork, AskPrint}
+use Rattle.locals.specs.Looks.{Request, AskLoad, AskStore, AskSwap, AskCompareSwap, AskOr, AskAdd, AskFork, AskPrint}
 use Rattle.locals.specs.Looks.{AskWait, AskWake, AskRequeue, AskReturn, AskReturnValue, AskFault, Look, Asks}
 use Rattle.machine.specs.declared.served.Served.{Served as Given}
 use Rattle.machine.specs.declared.event.EventName.{EventName}
@@ -19,7 +19,7 @@ abbrev pub asked_of : Told → Request
 asked_of (told.Load a) = AskLoad a.0
 asked_of (told.Store a v) = AskStore a.0 v
 asked_of (told.Swap a v) = AskSwap a.0 v
-asked_of (told.CompareSwap a expected new) = AskCas a.0 expected new
+asked_of (told.CompareSwap a expected new) = AskCompareSwap a.0 expected new
 asked_of (told.FetchOr a v) = AskOr a.0 v
 asked_of (told.FetchAdd a v) = AskAdd a.0 v
 asked_of (told.Print number) = AskPrint number

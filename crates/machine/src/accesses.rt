@@ -1,6 +1,6 @@
 //! The accesses of threads to the words.
 ghost use Rattle.std.specs.Prelude.{◌≡◌, ◌≤◌, ◌<◌, ℕ, length, OnErr};
-ghost use Rattle.locals.specs.Looks.{AskLoad, AskStore, AskSwap, AskCas, AskOr, AskAdd};
+ghost use Rattle.locals.specs.Looks.{AskLoad, AskStore, AskSwap, AskCompareSwap, AskOr, AskAdd};
 ghost use Rattle.machine.specs.ConcreteServing.{serve};
 ghost use Rattle.machine.specs.RequestMeanings.{with_common};
 ghost use Rattle.machine.specs.Views.{common};
@@ -48,7 +48,7 @@ impl Common {
     /// Puts `new` at an address where the word is `expected`; the answer is the word before.
     pub fn compare_swap(&mut self, a: Addr, expected: u32, new: u32) -> Result<Served, StepFault>
         ensures gives { (made t : ℕ)
-            → serve made t (AskCas a.0 expected new) (common self.old) ≡ with_common result (common self.new) }
+            → serve made t (AskCompareSwap a.0 expected new) (common self.old) ≡ with_common result (common self.new) }
         ensures capacity { self.new.capacity ≡ self.old.capacity }
         ensures same { OnErr result (self.new ≡ self.old) }
     {

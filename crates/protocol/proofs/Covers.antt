@@ -6,7 +6,7 @@ use Rattle.meaning.specs.Table.{HeldBy, Table, first_table}
 use Rattle.protocol.specs.Word.{owner, waiters}
 use Rattle.protocol.specs.Points.{ToExit, ToWait, Entry, NoEntry, Owned, Unowned, OnLock, Point, Unmade, EnterPends, EnterTries, ReenterPends, ReenterTries, TakeReads, TakeMarks, TakeSleeps, TakeTries, GotReads, GotLinks, GotHeads, GotUnpends, WaitReads, NotifyAdds, NotifyWakes, BroadcastAdds, BroadcastMarks, BroadcastReads, BroadcastMoves, JoinReads, JoinSleeps, JoinLearns, JoinTakes, LeavePends, LeaveReads, LeaveHeads, LeaveSwaps, LeaveWakes, HasLeft, Dies, Walks, ClearsId, LastWakes, HasEnded, entry_at, entry_word}
 use Rattle.protocol.specs.World.{World, mem, tail, opening_world}
-use Rattle.protocol.specs.Moves.{Move, SetPend, CasGot, CasBusy, SetPendHeld, CasHeld, LoadHeld, LoadFree, MarkDone, MarkFail, Sleep, Again, FreeGot, FreeFail, ReadHead, SetLink, SetHead, ClearPend, PendAgain, ReadLink, CutHead, SwapWake, SwapAlone, Wake, Finish, ReadSeq, SeqSleep, SeqAgain, AddSeq, WakeSeq, AddAll, OrLock, LoadSeq, MoveAll, WriteFault, SkipEntry, EntryAlone, EntryWake, PendNone, PendAlone, PendWake, PendForeign, ClearId, LastWake, IdGone, IdThere, IdSleep, IdAgain, LearnEnded, LearnAborted, TakeResult}
+use Rattle.protocol.specs.Moves.{Move, SetPend, CompareSwapGot, CompareSwapBusy, SetPendHeld, CompareSwapHeld, LoadHeld, LoadFree, MarkDone, MarkFail, Sleep, Again, FreeGot, FreeFail, ReadHead, SetLink, SetHead, ClearPend, PendAgain, ReadLink, CutHead, SwapWake, SwapAlone, Wake, Finish, ReadSeq, SeqSleep, SeqAgain, AddSeq, WakeSeq, AddAll, OrLock, LoadSeq, MoveAll, WriteFault, SkipEntry, EntryAlone, EntryWake, PendNone, PendAlone, PendWake, PendForeign, ClearId, LastWake, IdGone, IdThere, IdSleep, IdAgain, LearnEnded, LearnAborted, TakeResult}
 use Rattle.protocol.specs.Steps.{go_list}
 use Rattle.protocol.proofs.Words.{owner-small}
 use Rattle.protocol.proofs.Roles.{own, ListedEntry, Listed, holds, Knows}
@@ -135,8 +135,8 @@ pub covers : (w : World) (T : Table) (t : ℕ) (p : Point) (r : ℕ) (w' : World
 unfolding joins is_made holds Knows
 covers w T t (EnterPends m) r w' inv pos high a s d = record { end = any; move = SetPend m; can = record { number = (pos, high); awake = a; stands = s; finds = tt }; done = fin _ w' t _ _ _ d refl }
 covers w T t (EnterTries m) r w' inv pos high a s d = elim d.1 [
-  | inl k ↦ record { end = any; move = CasGot m; can = record { number = (pos, high); awake = a; stands = s; finds = k.0 }; done = fin _ w' t _ _ _ k.1 (yes r 0 _ _ (d.0 ∙ k.0)) }
-  | inr k ↦ record { end = any; move = CasBusy m; can = record { number = (pos, high); awake = a; stands = s; finds = k.0 }; done = fin _ w' t _ _ _ k.1 (no r 0 _ _ (λ z. k.0 (sym d.0 ∙ z))) }
+  | inl k ↦ record { end = any; move = CompareSwapGot m; can = record { number = (pos, high); awake = a; stands = s; finds = k.0 }; done = fin _ w' t _ _ _ k.1 (yes r 0 _ _ (d.0 ∙ k.0)) }
+  | inr k ↦ record { end = any; move = CompareSwapBusy m; can = record { number = (pos, high); awake = a; stands = s; finds = k.0 }; done = fin _ w' t _ _ _ k.1 (no r 0 _ _ (λ z. k.0 (sym d.0 ∙ z))) }
 ]
 covers w T t (ReenterPends m) r w' inv pos high a s d = record { end = any; move = SetPendHeld m; can = record { number = (pos, high); awake = a; stands = s; finds = tt }; done = fin _ w' t _ _ _ d refl }
 covers w T t (ReenterTries m) r w' inv pos high a s d = elim d.1 [
@@ -145,7 +145,7 @@ covers w T t (ReenterTries m) r w' inv pos high a s d = elim d.1 [
       let h = inv.locks.held m t (or_left (mem m (w.at t).list) _ known) in
       let b = tie_held (T.hold m) (w.lock m) t (inv.locks.tie m) h in
       absurd (omega (arith, b.0, b.1, ap owner k.0, owner-small 0 (omega arith)))
-  | inr k ↦ record { end = any; move = CasHeld m; can = record { number = (pos, high); awake = a; stands = s; finds = k.0 }; done = fin _ w' t _ _ _ k.1 (no r 0 _ _ (λ z. k.0 (sym d.0 ∙ z))) }
+  | inr k ↦ record { end = any; move = CompareSwapHeld m; can = record { number = (pos, high); awake = a; stands = s; finds = k.0 }; done = fin _ w' t _ _ _ k.1 (no r 0 _ _ (λ z. k.0 (sym d.0 ∙ z))) }
 ]
 covers w T t (TakeReads m k) r w' inv pos high a s d = elim (cases_eq (owner (w.lock m)) 0) [
   | inl z ↦ record { end = any; move = LoadFree m k; can = record { number = (pos, high); awake = a; stands = s; finds = z }; done = fin _ w' t _ _ _ d.1 (yes (owner r) 0 _ _ (ap owner d.0 ∙ z) ∙ ap (λ x. TakeTries m x k) d.0) }

@@ -8,7 +8,7 @@ use Rattle.meaning.specs.Table.{Hold, Free, Abandoned, HeldBy, Table, first_tabl
 use Rattle.protocol.specs.Word.{owner, waiters, died}
 use Rattle.protocol.specs.Points.{ToEnter, ToReenter, ToResume, ToExit, ToWait, Spot, OnSequence, Point, Unmade, Runs, NotifyWakes, BroadcastMarks, BroadcastReads, BroadcastMoves, Thread, thread_at}
 use Rattle.protocol.specs.World.{World, mem, IsWake, awake_after, requeued_sleep, opening_world, opening_thread}
-use Rattle.protocol.specs.Moves.{Move, Own, CasGot, FreeGot, SwapWake, SwapAlone, WakeSeq, MoveAll, Kill, StraySeq, Fork, ForkFull, Claim, ClaimTaken, IdGone}
+use Rattle.protocol.specs.Moves.{Move, Own, CompareSwapGot, FreeGot, SwapWake, SwapAlone, WakeSeq, MoveAll, Kill, StraySeq, Fork, ForkFull, Claim, ClaimTaken, IdGone}
 use Rattle.protocol.specs.Steps.{Can, after}
 use Rattle.protocol.specs.Finds.{IsOwn}
 use Rattle.protocol.specs.Carries.{Permits, PermitsMove, event_of, death, table_after, killed_waits, resumed_by, is_resumed, has_died}
@@ -112,7 +112,7 @@ waits_permitted t m c T home = ap (λ x. record T { hold = put T.hold x Free; wa
 
 pub permitted : (w : World) (T : Table) (t : ℕ) (m : Move) → Good w T → Can w t m → PermitsMove (event_of w T t m) T (table_after w T t m)
 permitted w T t (Own l) inv can = own_allowed t l T can.finds
-permitted w T t (CasGot e) inv can = (tie_zero (T.hold e) (w.lock e) (inv.locks.tie e) can.finds, refl)
+permitted w T t (CompareSwapGot e) inv can = (tie_zero (T.hold e) (w.lock e) (inv.locks.tie e) can.finds, refl)
 permitted w T t (FreeGot e v ToEnter) inv can =
     let z : owner (w.lock e) ≡ 0 = rw can.finds (known_at w T t (FreeGot e v ToEnter) inv can).1.1 in
     (subst (λ x. T.hold e ≡ enterable (has_died x)) can.finds (tie_enterable (T.hold e) (w.lock e) (inv.locks.tie e) z), refl)

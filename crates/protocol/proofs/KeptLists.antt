@@ -6,7 +6,7 @@ use Rattle.meaning.specs.Table.{Table}
 use Rattle.protocol.specs.Word.{owner, waiters, with_waiters}
 use Rattle.protocol.specs.Points.{ToEnter, ToReenter, ToResume, Point, TakeTries, GotLinks, GotHeads, LeaveHeads, Walks, ClearsId, LastWakes, HasEnded, entry_at, entry_word, IsLive}
 use Rattle.protocol.specs.World.{World, mem}
-use Rattle.protocol.specs.Moves.{Move, Begin, SetPend, CasGot, SetPendHeld, MarkDone, FreeGot, SetLink, SetHead, ClearPend, PendAgain, CutHead, SwapWake, SwapAlone, Finish, ReadSeq, AddSeq, AddAll, OrLock, LoadSeq, Kill, Stray, StraySeq, StrayId, SkipEntry, EntryAlone, EntryWake, PendAlone, PendWake, Fork}
+use Rattle.protocol.specs.Moves.{Move, Begin, SetPend, CompareSwapGot, SetPendHeld, MarkDone, FreeGot, SetLink, SetHead, ClearPend, PendAgain, CutHead, SwapWake, SwapAlone, Finish, ReadSeq, AddSeq, AddAll, OrLock, LoadSeq, Kill, Stray, StraySeq, StrayId, SkipEntry, EntryAlone, EntryWake, PendAlone, PendWake, Fork}
 use Rattle.protocol.specs.Origins.{from}
 use Rattle.protocol.specs.Steps.{Can, after}
 use Rattle.protocol.proofs.Words.{owner-small, waiters-with_waiters, waiters-died_word}
@@ -126,7 +126,7 @@ mark_put : (w : World) (e v : ℕ) (u x : ℕ) → (marks (w.at u).point e ≡ t
 mark_put w e v u x why m h = at_put w.lock e v x (λ y. waiters y ≡ 2147483648) (λ q. why (subst (λ y. marks (w.at u).point y ≡ true) q m)) (λ n. h)
 
 pub kept_marks : (w : World) (T : Table) (t : ℕ) (m : Move) → Good w T → Can w t m → Marks (after w t m).lock (after w t m).at
-kept_marks w T t (CasGot e) inv can =
+kept_marks w T t (CompareSwapGot e) inv can =
     remarked _ _ _ t _ inv.marked_locks (λ x h. absurd (false≢true h)) (λ u x n h b. mark_put w e _ u x (λ g. absurd (unmarked_free w T u e inv (ap owner can.finds ∙ owner-small 0 (omega arith)) g)) h b)
 kept_marks w T t (FreeGot e v k) inv can =
     remarked _ _ _ t _ inv.marked_locks (λ x h. absurd (false≢true h)) (λ u x n h b. mark_put w e _ u x (λ g. waiters-with_waiters t) h b)

@@ -5,7 +5,7 @@ use Rattle.meaning.specs.Table.{Table}
 use Rattle.protocol.specs.Word.{owner, waiters, with_waiters, died_word}
 use Rattle.protocol.specs.Points.{Purpose, ToEnter, ToReenter, ToResume, OnLock, OnSequence, OnId, taking_entry}
 use Rattle.protocol.specs.World.{World, mem, tail, Distinct}
-use Rattle.protocol.specs.Moves.{Move, CasGot, SetPendHeld, LoadHeld, LoadFree, MarkDone, MarkFail, Sleep, Again, FreeGot, FreeFail, SetHead, ClearPend, PendAgain, CutHead, SwapWake, SwapAlone, Wake, SeqSleep, WakeSeq, OrLock, MoveAll, Kill, Stray, StraySeq, StrayId, SkipEntry, EntryAlone, EntryWake, PendAlone, PendWake, PendForeign, LastWake, Fork, IdSleep}
+use Rattle.protocol.specs.Moves.{Move, CompareSwapGot, SetPendHeld, LoadHeld, LoadFree, MarkDone, MarkFail, Sleep, Again, FreeGot, FreeFail, SetHead, ClearPend, PendAgain, CutHead, SwapWake, SwapAlone, Wake, SeqSleep, WakeSeq, OrLock, MoveAll, Kill, Stray, StraySeq, StrayId, SkipEntry, EntryAlone, EntryWake, PendAlone, PendWake, PendForeign, LastWake, Fork, IdSleep}
 use Rattle.protocol.specs.Steps.{Can, after}
 use Rattle.protocol.specs.Carries.{table_after}
 use Rattle.protocol.proofs.Words.{owner-small, died-small, owner-with_waiters, waiters-with_waiters, died-with_waiters, owner-died_word, died-died_word}
@@ -33,10 +33,10 @@ free_same (ToResume c) m x l h n = or_miss x m (mem x l) n
 
 pub kept_locks : (w : World) (T : Table) (t : ℕ) (m : Move) → Good w T → Can w t m → Inv (after w t m).lock (after w t m).asleep (after w t m).at (table_after w T t m).hold
 unfolding holds helps may_sleep Knows
-kept_locks w T t (CasGot e) inv can =
-    let k = known_at w T t (CasGot e) inv can in
+kept_locks w T t (CompareSwapGot e) inv can =
+    let k = known_at w T t (CompareSwapGot e) inv can in
     let s = small w T t inv can.number.1 in
-    taken _ _ _ _ t e t _ _ inv.locks can.awake (stands_at w t (CasGot e) can) (λ x n. or_miss x e (mem x (w.at t).list) n) (or_right (mem e (w.at t).list) (e == e) (eq-eqb e e refl)) (λ x n h. h) k can.number.0 (ap owner can.finds ∙ owner-small 0 (omega arith)) (owner-small t s) (died-small t s) (inr refl)
+    taken _ _ _ _ t e t _ _ inv.locks can.awake (stands_at w t (CompareSwapGot e) can) (λ x n. or_miss x e (mem x (w.at t).list) n) (or_right (mem e (w.at t).list) (e == e) (eq-eqb e e refl)) (λ x n h. h) k can.number.0 (ap owner can.finds ∙ owner-small 0 (omega arith)) (owner-small t s) (died-small t s) (inr refl)
 kept_locks w T t (SetPendHeld e) inv can =
     let k = known_at w T t (SetPendHeld e) inv can in
     quiet _ _ _ _ t _ _ inv.locks can.awake (stands_at w t (SetPendHeld e) can) (λ x. in_anyway x e (w.at t).list k.1) (λ x h. h) k

@@ -8,7 +8,7 @@ use Rattle.meaning.specs.Table.{Table, Free, Abandoned, HeldBy, without_waiters,
 use Rattle.protocol.specs.Word.{died}
 use Rattle.protocol.specs.Points.{Purpose, ToEnter, ToReenter, ToResume, Release, ToExit, ToWait, Spot, OnLock, OnSequence, OnId, Point, NotifyWakes, BroadcastMarks, BroadcastReads, BroadcastMoves}
 use Rattle.protocol.specs.World.{World, same_member, awake_after, requeued_sleep}
-use Rattle.protocol.specs.Moves.{Move, Own, Raise, CasGot, FreeGot, SwapWake, SwapAlone, WakeSeq, MoveAll, EntryAlone, EntryWake, PendAlone, PendWake, ClearId, Fork, ForkFull, Claim, ClaimTaken, IdGone, StraySeq, Kill}
+use Rattle.protocol.specs.Moves.{Move, Own, Raise, CompareSwapGot, FreeGot, SwapWake, SwapAlone, WakeSeq, MoveAll, EntryAlone, EntryWake, PendAlone, PendWake, ClearId, Fork, ForkFull, Claim, ClaimTaken, IdGone, StraySeq, Kill}
 
 -- what a move is in the source: an action of a process, or one from outside
 pub data Event : Type 0 where
@@ -67,7 +67,7 @@ death w T t p = Kills t None []
 abbrev pub event_of : World → Table → ℕ → Move → Option Event
 event_of w T t (Own l) = Some (Acts t l)
 event_of w T t (Raise fault) = Some (Acts t (Alone (L.Fails fault)))
-event_of w T t (CasGot m) = Some (Acts t (Enters m false))
+event_of w T t (CompareSwapGot m) = Some (Acts t (Enters m false))
 event_of w T t (FreeGot m v k) = Some (Acts t (taking_label k m (has_died v)))
 event_of w T t (SwapWake m r) = Some (Acts t (release_label r m))
 event_of w T t (SwapAlone m r) = Some (Acts t (release_label r m))
@@ -107,7 +107,7 @@ killed_waits w T t p = put T.waits t None
 
 -- the table after a move
 abbrev pub table_after : World → Table → ℕ → Move → Table
-table_after w T t (CasGot m) = record T { hold = put T.hold m (HeldBy t) }
+table_after w T t (CompareSwapGot m) = record T { hold = put T.hold m (HeldBy t) }
 table_after w T t (FreeGot m v k) = record T { hold = put T.hold m (HeldBy t) }
 table_after w T t (SwapWake m r) = record T { hold = put T.hold m Free; waits = released_waits r t T.waits }
 table_after w T t (SwapAlone m r) = record T { hold = put T.hold m Free; waits = released_waits r t T.waits }

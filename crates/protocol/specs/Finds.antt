@@ -7,7 +7,7 @@ use Rattle.meaning.specs.Labels.{Cause, Faulted, Killed, End, Ended, Aborted, La
 use Rattle.protocol.specs.Word.{owner, waiters}
 use Rattle.protocol.specs.Points.{Owned, OnLock, OnSequence, OnId, Runs, LastWakes, HasEnded, IsLive, Thread}
 use Rattle.protocol.specs.World.{World, mem, tail, IsWake}
-use Rattle.protocol.specs.Moves.{Move, Own, Begin, Rebegin, Leave, Wait, Notify, Broadcast, CasGot, CasBusy, CasHeld, LoadHeld, LoadFree, MarkDone, MarkFail, Sleep, Again, FreeGot, FreeFail, SwapWake, SwapAlone, Wake, SeqSleep, SeqAgain, WakeSeq, MoveAll, Kill, EntryAlone, EntryWake, PendAlone, PendWake, PendForeign, LastWake, Fork, ForkFull, Claim, ClaimTaken, IdGone, IdThere, IdSleep, IdAgain, LearnEnded, LearnAborted}
+use Rattle.protocol.specs.Moves.{Move, Own, Begin, Rebegin, Leave, Wait, Notify, Broadcast, CompareSwapGot, CompareSwapBusy, CompareSwapHeld, LoadHeld, LoadFree, MarkDone, MarkFail, Sleep, Again, FreeGot, FreeFail, SwapWake, SwapAlone, Wake, SeqSleep, SeqAgain, WakeSeq, MoveAll, Kill, EntryAlone, EntryWake, PendAlone, PendWake, PendForeign, LastWake, Fork, ForkFull, Claim, ClaimTaken, IdGone, IdThere, IdSleep, IdAgain, LearnEnded, LearnAborted}
 
 -- a thread's innermost monitor
 abbrev pub HoldsFirst : Thread → ℕ → Type 0
@@ -37,9 +37,9 @@ Finds w t (Leave m) = HoldsFirst (w.at t) m
 Finds w t (Wait c) = HoldsFirst (w.at t) c.monitor
 Finds w t (Notify c) = HoldsFirst (w.at t) c.monitor
 Finds w t (Broadcast c) = HoldsFirst (w.at t) c.monitor
-Finds w t (CasGot m) = w.lock m ≡ 0
-Finds w t (CasBusy m) = w.lock m ≢ 0
-Finds w t (CasHeld m) = w.lock m ≢ 0
+Finds w t (CompareSwapGot m) = w.lock m ≡ 0
+Finds w t (CompareSwapBusy m) = w.lock m ≢ 0
+Finds w t (CompareSwapHeld m) = w.lock m ≢ 0
 Finds w t (LoadHeld m k) = owner (w.lock m) ≢ 0
 Finds w t (LoadFree m k) = owner (w.lock m) ≡ 0
 Finds w t (MarkDone m v k) = w.lock m ≡ v

@@ -18,10 +18,10 @@ pub data Move : Type 0 where
   Raise : Fault → Move
   -- entering and taking
   SetPend : (monitor : ℕ) → Move
-  CasGot : (monitor : ℕ) → Move
-  CasBusy : (monitor : ℕ) → Move
+  CompareSwapGot : (monitor : ℕ) → Move
+  CompareSwapBusy : (monitor : ℕ) → Move
   SetPendHeld : (monitor : ℕ) → Move
-  CasHeld : (monitor : ℕ) → Move
+  CompareSwapHeld : (monitor : ℕ) → Move
   LoadHeld : (monitor : ℕ) → Purpose → Move
   LoadFree : (monitor : ℕ) → Purpose → Move
   MarkDone : (monitor seen : ℕ) → Purpose → Move

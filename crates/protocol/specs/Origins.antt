@@ -1,7 +1,7 @@
 -- Where each move begins, and whether its thread may sleep.
 use Rattle.std.specs.Prelude.{◌≡◌, suc, Option, Some, None}
 use Rattle.protocol.specs.Points.{ToExit, ToWait, NoEntry, Owned, Unowned, Spot, OnLock, OnSequence, OnId, Point, Unmade, Runs, EnterPends, EnterTries, ReenterPends, ReenterTries, TakeReads, TakeMarks, TakeSleeps, TakeTries, GotReads, GotLinks, GotHeads, GotUnpends, WaitReads, NotifyAdds, NotifyWakes, BroadcastAdds, BroadcastMarks, BroadcastReads, BroadcastMoves, JoinReads, JoinSleeps, JoinLearns, JoinTakes, LeavePends, LeaveReads, LeaveHeads, LeaveSwaps, LeaveWakes, HasLeft, Dies, Walks, ClearsId, LastWakes}
-use Rattle.protocol.specs.Moves.{Move, Own, Begin, Rebegin, Leave, Wait, Notify, Broadcast, Raise, SetPend, CasGot, CasBusy, SetPendHeld, CasHeld, LoadHeld, LoadFree, MarkDone, MarkFail, Sleep, Again, FreeGot, FreeFail, ReadHead, SetLink, SetHead, ClearPend, PendAgain, ReadLink, CutHead, SwapWake, SwapAlone, Wake, Finish, ReadSeq, SeqSleep, SeqAgain, AddSeq, WakeSeq, AddAll, OrLock, LoadSeq, MoveAll, Kill, Stray, StraySeq, StrayId, Return, WriteFault, SkipEntry, EntryAlone, EntryWake, PendNone, PendAlone, PendWake, PendForeign, ClearId, LastWake, Fork, ForkFull, Claim, ClaimTaken, IdGone, IdThere, IdSleep, IdAgain, LearnEnded, LearnAborted, TakeResult}
+use Rattle.protocol.specs.Moves.{Move, Own, Begin, Rebegin, Leave, Wait, Notify, Broadcast, Raise, SetPend, CompareSwapGot, CompareSwapBusy, SetPendHeld, CompareSwapHeld, LoadHeld, LoadFree, MarkDone, MarkFail, Sleep, Again, FreeGot, FreeFail, ReadHead, SetLink, SetHead, ClearPend, PendAgain, ReadLink, CutHead, SwapWake, SwapAlone, Wake, Finish, ReadSeq, SeqSleep, SeqAgain, AddSeq, WakeSeq, AddAll, OrLock, LoadSeq, MoveAll, Kill, Stray, StraySeq, StrayId, Return, WriteFault, SkipEntry, EntryAlone, EntryWake, PendNone, PendAlone, PendWake, PendForeign, ClearId, LastWake, Fork, ForkFull, Claim, ClaimTaken, IdGone, IdThere, IdSleep, IdAgain, LearnEnded, LearnAborted, TakeResult}
 
 -- the point of the thread that moves; of a fork the thread that is made, whose parent stays where it is
 abbrev pub from : Move → Point
@@ -14,10 +14,10 @@ from (Notify c) = Runs
 from (Broadcast c) = Runs
 from (Raise fault) = Runs
 from (SetPend m) = EnterPends m
-from (CasGot m) = EnterTries m
-from (CasBusy m) = EnterTries m
+from (CompareSwapGot m) = EnterTries m
+from (CompareSwapBusy m) = EnterTries m
 from (SetPendHeld m) = ReenterPends m
-from (CasHeld m) = ReenterTries m
+from (CompareSwapHeld m) = ReenterTries m
 from (LoadHeld m k) = TakeReads m k
 from (LoadFree m k) = TakeReads m k
 from (MarkDone m v k) = TakeMarks m v k

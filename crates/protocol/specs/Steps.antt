@@ -7,7 +7,7 @@ use Rattle.meaning.specs.Labels.{Faulted, Killed, End, Ended, Aborted}
 use Rattle.protocol.specs.Word.{with_waiters, died_word}
 use Rattle.protocol.specs.Points.{ToEnter, ToReenter, ToResume, ToExit, ToWait, NoEntry, Owned, OnLock, OnSequence, OnId, Point, Runs, EnterPends, EnterTries, ReenterPends, ReenterTries, TakeReads, TakeMarks, TakeSleeps, TakeTries, GotReads, GotLinks, GotHeads, GotUnpends, WaitReads, NotifyAdds, NotifyWakes, BroadcastAdds, BroadcastMarks, BroadcastReads, BroadcastMoves, JoinReads, JoinSleeps, JoinLearns, JoinTakes, LeavePends, LeaveReads, LeaveHeads, LeaveSwaps, LeaveWakes, HasLeft, Dies, Walks, ClearsId, LastWakes, HasEnded, entry_at, thread_at}
 use Rattle.protocol.specs.World.{World, put_sequence, awake_after, requeued_sleep, tail}
-use Rattle.protocol.specs.Moves.{Move, Begin, Rebegin, Leave, Wait, Notify, Broadcast, Raise, SetPend, CasGot, CasBusy, SetPendHeld, CasHeld, LoadHeld, LoadFree, MarkDone, MarkFail, Sleep, Again, FreeGot, FreeFail, ReadHead, SetLink, SetHead, ClearPend, PendAgain, ReadLink, CutHead, SwapWake, SwapAlone, Wake, Finish, ReadSeq, SeqSleep, SeqAgain, AddSeq, WakeSeq, AddAll, OrLock, LoadSeq, MoveAll, Kill, Stray, StraySeq, StrayId, Return, WriteFault, SkipEntry, EntryAlone, EntryWake, PendNone, PendAlone, PendWake, PendForeign, ClearId, LastWake, Fork, ForkFull, Claim, ClaimTaken, IdGone, IdThere, IdSleep, IdAgain, LearnEnded, LearnAborted, TakeResult}
+use Rattle.protocol.specs.Moves.{Move, Begin, Rebegin, Leave, Wait, Notify, Broadcast, Raise, SetPend, CompareSwapGot, CompareSwapBusy, SetPendHeld, CompareSwapHeld, LoadHeld, LoadFree, MarkDone, MarkFail, Sleep, Again, FreeGot, FreeFail, ReadHead, SetLink, SetHead, ClearPend, PendAgain, ReadLink, CutHead, SwapWake, SwapAlone, Wake, Finish, ReadSeq, SeqSleep, SeqAgain, AddSeq, WakeSeq, AddAll, OrLock, LoadSeq, MoveAll, Kill, Stray, StraySeq, StrayId, Return, WriteFault, SkipEntry, EntryAlone, EntryWake, PendNone, PendAlone, PendWake, PendForeign, ClearId, LastWake, Fork, ForkFull, Claim, ClaimTaken, IdGone, IdThere, IdSleep, IdAgain, LearnEnded, LearnAborted, TakeResult}
 use Rattle.protocol.specs.Origins.{from, Awake}
 use Rattle.protocol.specs.Finds.{cause_word, Finds, HasNumber}
 
@@ -41,10 +41,10 @@ after w t (Notify c) = go w t (NotifyAdds c)
 after w t (Broadcast c) = go w t (BroadcastAdds c)
 after w t (Raise fault) = go w t (Dies (Faulted fault) NoEntry)
 after w t (SetPend m) = go (record w { pending = put w.pending t (suc m) }) t (EnterTries m)
-after w t (CasGot m) = go (record w { lock = put w.lock m t }) t (GotReads m 0)
-after w t (CasBusy m) = go w t (TakeReads m ToEnter)
+after w t (CompareSwapGot m) = go (record w { lock = put w.lock m t }) t (GotReads m 0)
+after w t (CompareSwapBusy m) = go w t (TakeReads m ToEnter)
 after w t (SetPendHeld m) = go (record w { pending = put w.pending t (suc m) }) t (ReenterTries m)
-after w t (CasHeld m) = go w t (TakeReads m ToReenter)
+after w t (CompareSwapHeld m) = go w t (TakeReads m ToReenter)
 after w t (LoadHeld m k) = go w t (TakeMarks m (w.lock m) k)
 after w t (LoadFree m k) = go w t (TakeTries m (w.lock m) k)
 after w t (MarkDone m v k) = go (record w { lock = put w.lock m (with_waiters v) }) t (TakeSleeps m (with_waiters v) k)

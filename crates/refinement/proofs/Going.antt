@@ -8,7 +8,7 @@ use Rattle.robustexit.specs.declared.phase.ExitPhase.{ExitPhase}
 use Rattle.robustexit.specs.declared.phase.ExitPhase.TheVariants.{Pending, ClearId, LastWake, Ended as Ended'}
 use Rattle.robustexit.specs.RobustExit.{Shared, IsIdle, PendingStep, NoEntry, IsForeign, IsOwned}
 use Rattle.locals.specs.Threads.{Thread, Exits}
-use Rattle.locals.specs.Looks.{Look, Goes, Asks, Leaves, Rests as Over', AskLoad, AskPrint, AskReturn, AskFault, begun, look}
+use Rattle.locals.specs.Looks.{Look, Goes, Asks, Leaves, Rests as Over', AskLoad, AskPrint, AskReturn, AskFault, first_exit, look}
 use Rattle.machine.specs.States.{State, with_thread}
 use Rattle.machine.specs.AbstractServing.{shared_of, with_shared}
 use Rattle.futexcalls.specs.FutexCalls.{Wakes}
@@ -130,13 +130,13 @@ module _ (b : Build) (is : IsBuild b) (same : b.image ≡ code_of b.program) (pr
       }
   from_completes left x q le (returns h o) st =
       let y = Exits Pending in
-      let g = gets (code_of p) (machine_with p first_words x printed) l s' x (Asks AskReturn begun)
+      let g = gets (code_of p) (machine_with p first_words x printed) l s' x (Asks AskReturn first_exit)
       (λ t z. only x z t) (ap (λ (i : Image). look i 1 x) (sym same) ∙ h) st in
       record {
         to = Pends 16 q (Ended (pos 0));
         output = printed;
         at = (ap (offer p no_values) o, refl);
-        is = g.1.3 ∙ (λ i. with_thread (g.1.2.1.1 i) 1 (begun (g.1.2.1.0 i))) ∙ thread_replaced p
+        is = g.1.3 ∙ (λ i. with_thread (g.1.2.1.1 i) 1 (first_exit (g.1.2.1.0 i))) ∙ thread_replaced p
             (written 16) x y printed;
         kinds = [];
         own = tt;
@@ -146,14 +146,14 @@ module _ (b : Build) (is : IsBuild b) (same : b.image ≡ code_of b.program) (pr
       }
   from_completes left x q le (faults fault e o) st =
       let y = Exits Pending in
-      let h : look (code_of p) 1 x ≡ Asks (AskFault fault) begun = ap (look (code_of p) 1) e in
-      let g = gets (code_of p) (machine_with p first_words x printed) l s' x (Asks (AskFault fault) begun)
+      let h : look (code_of p) 1 x ≡ Asks (AskFault fault) first_exit = ap (look (code_of p) 1) e in
+      let g = gets (code_of p) (machine_with p first_words x printed) l s' x (Asks (AskFault fault) first_exit)
       (λ t z. only x z t) h st in
       record {
         to = Pends (fault_number fault) (Dying (Faulted fault) []) (Aborted (Faulted fault));
         output = printed;
         at = (refl, fault_word fault);
-        is = g.1.3 ∙ (λ i. with_thread (g.1.2.1.1 i) 1 (begun (g.1.2.1.0 i))) ∙ thread_replaced p
+        is = g.1.3 ∙ (λ i. with_thread (g.1.2.1.1 i) 1 (first_exit (g.1.2.1.0 i))) ∙ thread_replaced p
             (written (fault_number fault)) x y printed;
         kinds = L.Fails fault ∷ [];
         own = (tt, tt);

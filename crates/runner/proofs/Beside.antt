@@ -10,7 +10,7 @@ use Rattle.robustexit.specs.RobustExit.{IsOwned, ExitStep, put}
 use Rattle.buckets.specs.Places.{names, with_place}
 use Rattle.futexcalls.specs.FutexCalls.{Wakes, Moves as Requeued, Requeues, Sleeps}
 use Rattle.locals.specs.Threads.{Thread, opening_thread}
-use Rattle.locals.specs.Looks.{Request, AskLoad, AskStore, AskSwap, AskCas, AskOr, AskAdd, AskFork, AskPrint}
+use Rattle.locals.specs.Looks.{Request, AskLoad, AskStore, AskSwap, AskCompareSwap, AskOr, AskAdd, AskFork, AskPrint}
 use Rattle.locals.specs.Looks.{AskWait, AskWake, AskRequeue, AskReturn, AskReturnValue, AskFault, Look, Goes}
 use Rattle.locals.specs.Looks.{Asks, Leaves, Breaks, Rests}
 use Rattle.machine.specs.States.{State, with_thread, with_word, with_sleepers}
@@ -117,7 +117,7 @@ serves : (t : ℕ) (r : Request) (s : State) (woken : List ℕ) (answer : ℕ) (
 serves t (AskLoad a) s woken answer s' numbered h = to t s s s' h.1.1.1 (same t s)
 serves t (AskStore a v) s woken answer s' numbered h = to t s _ s' h.1.1.1 (by_words t s (put s.word a v) s.output)
 serves t (AskSwap a v) s woken answer s' numbered h = to t s _ s' h.1.1.1 (by_words t s (put s.word a v) s.output)
-serves t (AskCas a expected new) s woken answer s' numbered h =
+serves t (AskCompareSwap a expected new) s woken answer s' numbered h =
     to t s _ s' h.1.1.1 (by_test t a new s (s.word a == expected))
 serves t (AskOr a v) s woken answer s' numbered h = to t s _ s' h.1.1.1 (by_words t s _ s.output)
 serves t (AskAdd a v) s woken answer s' numbered h = to t s _ s' h.1.1.1 (by_words t s _ s.output)

@@ -9,11 +9,11 @@ use Rattle.robustexit.specs.declared.phase.ExitPhase.TheVariants.{Entry, Pending
 use Rattle.locals.specs.declared.frame.Locals.{Locals}
 use Rattle.locals.specs.declared.frame.Frame.{Frame}
 use Rattle.locals.specs.Threads.{Thread, Runs, Dies, Exits, fresh}
-use Rattle.locals.specs.Looks.{Request, AskLoad, AskStore, AskSwap, AskCas, AskOr, AskAdd, AskFork, AskPrint}
+use Rattle.locals.specs.Looks.{Request, AskLoad, AskStore, AskSwap, AskCompareSwap, AskOr, AskAdd, AskFork, AskPrint}
 use Rattle.locals.specs.Looks.{AskWait, AskWake, AskRequeue, AskReturn, AskReturnValue, AskFault, Look, Goes}
 use Rattle.locals.specs.Looks.{Asks, Leaves, Breaks, Rests, Effect, Then, Keeps, To, Tests, Asking, Trying, Calls}
 use Rattle.locals.specs.Looks.{Returns, ReturnsValue, Fails, Misses, Guards, Checks, effect, if_so, or_dies}
-use Rattle.locals.specs.Looks.{returned, at_place, look_at, look}
+use Rattle.locals.specs.Looks.{return_look, at_place, look_at, look}
 use Rattle.locals.specs.Steps.{local_step, local_after, and_step, local_next}
 use Rattle.machine.specs.declared.event.StepFault.{StepFault}
 use Rattle.machine.specs.declared.event.StepFault.TheVariants as step
@@ -44,7 +44,7 @@ going_or true fault l h = h
 going_or false fault l h = refl
 
 going_back : (request : Request) (operands : List ℕ) (callers : List Frame)
-    → IsGoing (returned request operands callers)
+    → IsGoing (return_look request operands callers)
 going_back request operands [] = tt
 going_back request operands (f ∷ fs) = refl
 
@@ -126,7 +126,7 @@ only_broken : (made t : ℕ) (r : Request) (c : Common) → Only (serve made t r
 only_broken made t (AskLoad a) c = only_within _ _ (only_ok _)
 only_broken made t (AskStore a v) c = only_within _ _ (only_ok _)
 only_broken made t (AskSwap a v) c = only_within _ _ (only_ok _)
-only_broken made t (AskCas a expected new) c = only_within _ _ (only_ok _)
+only_broken made t (AskCompareSwap a expected new) c = only_within _ _ (only_ok _)
 only_broken made t (AskOr a v) c = only_within _ _ (only_ok _)
 only_broken made t (AskAdd a v) c = only_within _ _ (only_ok _)
 only_broken made t (AskFork entry arguments has_room) c = only_fork (made == 64) has_room _ _

@@ -7,7 +7,7 @@ use Rattle.std.proofs.lemmas.Bool.{cases_eq, eqb-true, eq-eqb}
 use Rattle.std.proofs.lemmas.Option.{slice_get_within}
 use Rattle.isa.specs.Programs.{Program}
 use Rattle.locals.specs.Threads.{Thread}
-use Rattle.locals.specs.Looks.{Request, AskLoad, AskStore, AskSwap, AskCas, AskOr, AskAdd, AskFork, AskPrint}
+use Rattle.locals.specs.Looks.{Request, AskLoad, AskStore, AskSwap, AskCompareSwap, AskOr, AskAdd, AskFork, AskPrint}
 use Rattle.locals.specs.Looks.{AskWait, AskWake, AskRequeue, AskReturn, AskReturnValue, AskFault, Look, Goes}
 use Rattle.locals.specs.Looks.{Asks, Leaves, Breaks, Rests, look}
 use Rattle.locals.specs.Steps.{local_step, local_after, local_next}
@@ -118,7 +118,7 @@ serve_stays made made' t (AskStore a v) c d e full h =
     within_stays a (length c.words) (length d.words) _ _ e (λ _. fine_ok _) h
 serve_stays made made' t (AskSwap a v) c d e full h =
     within_stays a (length c.words) (length d.words) _ _ e (λ _. fine_ok _) h
-serve_stays made made' t (AskCas a expected new) c d e full h =
+serve_stays made made' t (AskCompareSwap a expected new) c d e full h =
     within_stays a (length c.words) (length d.words) _ _ e (λ _. fine_ok _) h
 serve_stays made made' t (AskOr a v) c d e full h =
     within_stays a (length c.words) (length d.words) _ _ e (λ _. fine_ok _) h

@@ -12,7 +12,7 @@ use Rattle.robustexit.specs.declared.phase.ExitPhase.{ExitPhase}
 use Rattle.robustexit.specs.declared.phase.ExitPhase.TheVariants.{Pending, ClearId, LastWake, Ended as Ended'}
 use Rattle.robustexit.specs.RobustExit.{Shared, IsIdle, PendingStep, NoEntry, IsForeign, IsOwned, put}
 use Rattle.locals.specs.Threads.{Thread, Runs, Exits, fresh}
-use Rattle.locals.specs.Looks.{Look, Goes, Asks, Leaves, Rests, look, look_at, begun, AskPrint, AskReturn}
+use Rattle.locals.specs.Looks.{Look, Goes, Asks, Leaves, Rests, look, look_at, first_exit, AskPrint, AskReturn}
 use Rattle.machine.specs.States.{State, with_thread}
 use Rattle.machine.specs.AbstractServing.{shared_of, with_shared}
 use Rattle.futexcalls.specs.FutexCalls.{Wakes}
@@ -123,15 +123,15 @@ from_return : (p : Source) (done : List Statement) (l : Step) (s' : State) → p
 from_return p done l s' h st =
     let x = Runs (place_of done) [] fresh [] in
     let y = Exits Pending in
-    let is : look (code_of p) 1 x ≡ Asks AskReturn begun =
+    let is : look (code_of p) 1 x ≡ Asks AskReturn first_exit =
     ap (λ (i : Option Instr). look_at 1 i (place_of done) [] fresh []) (at_return p done h) in
-    let g = gets (code_of p) (machine_with p first_words x (numbers_of done)) l s' x (Asks AskReturn begun)
+    let g = gets (code_of p) (machine_with p first_words x (numbers_of done)) l s' x (Asks AskReturn first_exit)
     (λ t z. only x z t) is st in
     let all : done ≡ p.main = sym (append-nil done) ∙ sym h in
     record {
       to = AtPending;
       at = tt;
-      is = g.1.3 ∙ (λ i. with_thread (g.1.2.1.1 i) 1 (begun (g.1.2.1.0 i)))
+      is = g.1.3 ∙ (λ i. with_thread (g.1.2.1.1 i) 1 (first_exit (g.1.2.1.0 i)))
           ∙ replaced p returned_words x y (numbers_of done)
           ∙ ap (λ ss. machine_with p returned_words y (numbers_of ss)) all;
       count = ap (λ ss. place_of ss + 1) (sym all);

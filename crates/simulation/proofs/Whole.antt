@@ -11,7 +11,7 @@ use Rattle.sourcemeaning.specs.declared.action.ActionKind.TheVariants.{End}
 use Rattle.isa.specs.declared.instr.Instr.{Instr}
 use Rattle.robustexit.specs.declared.phase.ExitPhase.TheVariants.{Pending, ClearId, LastWake, Ended as Ended'}
 use Rattle.locals.specs.Threads.{Thread, Runs, Exits, fresh}
-use Rattle.locals.specs.Looks.{Look, Goes, Asks, Leaves, Rests, AskPrint, AskReturn, begun, look, look_at}
+use Rattle.locals.specs.Looks.{Look, Goes, Asks, Leaves, Rests, AskPrint, AskReturn, first_exit, look, look_at}
 use Rattle.machine.specs.States.{State}
 use Rattle.machine.specs.Views.{variable_address}
 use Rattle.machine.specs.Runs.{Step, CanStep, IsBroken, NextIsBroken}
@@ -41,7 +41,7 @@ look_of : (p : Source) (at : Point) → IsAt p at → (x : Thread) → (machine_
     → IsBroken (machine_at p at) (look (code_of p) 1 x) → ⊥
 look_of p (Boundary done []) h x is broken =
     let e : Runs (place_of done) [] fresh [] ≡ x = cc in
-    fine p (machine_at p (Boundary done [])) (Runs (place_of done) [] fresh []) x (Asks AskReturn begun) e
+    fine p (machine_at p (Boundary done [])) (Runs (place_of done) [] fresh []) x (Asks AskReturn first_exit) e
     (ap (λ (i : Option Instr). look_at 1 i (place_of done) [] fresh []) (at_return p done h)) (λ b. b) broken
 look_of p (Boundary done (Prints number ∷ rest)) h x is broken =
     let e : Runs (place_of done) [] fresh [] ≡ x = cc in

@@ -1,5 +1,5 @@
 use Rattle.std.proofs.Common.{inl, inr}
-use Rattle.locals.specs.Looks.{AskLoad, AskSwap, AskCas, AskOr, AskAdd, AskWait, AskWake, AskRequeue}
+use Rattle.locals.specs.Looks.{AskLoad, AskSwap, AskCompareSwap, AskOr, AskAdd, AskWait, AskWake, AskRequeue}
 use Rattle.locals.proofs.activation.Activation.answer.Goals as goal
 
 pub returns-in-Load : goal.returns-in-Load
@@ -21,8 +21,8 @@ returns-in-Swap c =
       ]
     ]
 
-pub returns-in-CompareAndSwap : goal.returns-in-CompareAndSwap
-returns-in-CompareAndSwap c = rw c.in-CompareAndSwap.is (c.replace_three.ensures AskCas)
+pub returns-in-CompareSwap : goal.returns-in-CompareSwap
+returns-in-CompareSwap c = rw c.in-CompareSwap.is (c.replace_three.ensures AskCompareSwap)
 
 pub returns-in-FutexRequeue : goal.returns-in-FutexRequeue
 returns-in-FutexRequeue c = rw c.in-FutexRequeue.is (c.replace_five.ensures AskRequeue)
