@@ -1,23 +1,24 @@
 -- Each move keeps all of it, and the source allows what it carries.
 use Rattle.std.proofs.Common.{not, if◌then◌else◌, ◌≡◌, ℕ, ◌<◌, ◌≤◌, true, ◌==◌, Option, Some, None, List, [], ◌∷◌, inl, inr, refl, sym, ap, ◌∙◌, subst, arith}
-use Rattle.std.proofs.lemmas.Bool.{cases_eq, false≢true, eq-eqb, ne_eqb, or_left, cond-true}
+use Rattle.std.proofs.lemmas.Bool.{cases_eq, false≢true, eq-eqb, ne_eqb, or_left, or_right, cond-true}
 use Rattle.words.specs.Updates.{put}
 use Rattle.program.specs.declared.kinds.Member.{Member}
 use Rattle.meaning.specs.Labels.{Label, Alone, Stores, Waits}
 use Rattle.meaning.specs.Table.{Hold, Free, Abandoned, HeldBy, Table, first_table, Allows, IsNotified, IsBroadcast}
 use Rattle.protocol.specs.Word.{owner, waiters, died}
-use Rattle.protocol.specs.Points.{ToEnter, ToReenter, ToResume, ToExit, ToWait, Spot, OnSequence, Point, Unmade, Runs, NotifyWakes, BroadcastMarks, BroadcastReads, BroadcastMoves, Thread, thread_at}
-use Rattle.protocol.specs.World.{World, mem, IsWake, awake_after, requeued_sleep, opening_world, opening_thread}
-use Rattle.protocol.specs.Moves.{Move, Own, CompareSwapGot, FreeGot, SwapWake, SwapAlone, WakeSeq, MoveAll, Kill, StraySeq, Fork, ForkFull, Claim, ClaimTaken, IdGone}
+use Rattle.protocol.specs.Points.{ToEnter, ToReenter, ToResume, ToExit, ToWait, Owned, Spot, OnSequence, Point, Unmade, Runs, NotifyWakes, BroadcastMarks, BroadcastReads, BroadcastMoves, Thread, thread_at, entry_at}
+use Rattle.protocol.specs.World.{World, mem, tail, IsWake, awake_after, requeued_sleep, opening_world, opening_thread}
+use Rattle.protocol.specs.Moves.{Move, Own, Raise, CompareSwapGot, FreeGot, SwapWake, SwapAlone, WakeSeq, MoveAll, EntryAlone, EntryWake, PendAlone, PendWake, ClearId, Kill, StraySeq, Fork, ForkFull, Claim, ClaimTaken, IdGone}
 use Rattle.protocol.specs.Steps.{Can, after}
 use Rattle.protocol.specs.Finds.{IsOwn}
-use Rattle.protocol.specs.Carries.{Permits, PermitsMove, event_of, death, table_after, killed_waits, resumed_by, is_resumed, has_died}
+use Rattle.protocol.specs.Origins.{from}
+use Rattle.protocol.specs.Carries.{IsByHolder, Permits, PermitsMove, event_of, death, table_after, killed_waits, resumed_by, is_resumed, has_died}
 use Rattle.protocol.specs.Runs.{IsOver, HasJoined}
 use Rattle.protocol.proofs.Words.{owner-small, died-small}
 use Rattle.protocol.proofs.Sleeps.{requeue_less, mem-contains, contains-mem, chosen_sound, chosen_all}
 use Rattle.protocol.proofs.Roles.{own, holds, helps, may_sleep, Knows, Tie}
 use Rattle.protocol.proofs.Lock.{slept, tie_of_free}
-use Rattle.protocol.proofs.Chains.{ChainAt}
+use Rattle.protocol.proofs.Chains.{ChainAt, chain_some}
 use Rattle.protocol.proofs.Waits.{HomeAt, FreshAt, marks}
 use Rattle.protocol.proofs.Conds.{Between, Notifying, stage, resumed_waits, resumed_or_asleep}
 use Rattle.protocol.proofs.Joins.{IdAt, joins, goes}
@@ -30,7 +31,7 @@ use Rattle.protocol.proofs.KeptLocks.{kept_locks}
 use Rattle.protocol.proofs.KeptLists.{kept_chains, kept_pends, kept_homes, kept_fresh, kept_marks}
 use Rattle.protocol.proofs.KeptConds.{kept_conds, waiter_made, resuming}
 use Rattle.protocol.proofs.KeptEnds.{kept_joins, kept_threads, kept_ends, kept_claims, kept_made, claim_free, claim_taken, over_at}
-use Rattle.protocol.proofs.Good.{Good, known_at}
+use Rattle.protocol.proofs.Good.{Good, known_at, chain_at, mine_at, head_in}
 
 pub kept : (w : World) (T : Table) (t : ℕ) (m : Move) → Good w T → Can w t m → Good (after w t m) (table_after w T t m)
 kept w T t m inv can = record {
@@ -49,10 +50,18 @@ kept w T t m inv can = record {
 }
 
 -- ---- the source allows what a move carries
-own_allowed : (t : ℕ) (l : Label) (T : Table) → IsOwn l → Allows t l T T
-own_allowed t (Alone kind) T own = refl
-own_allowed t (Stores m) T own = refl
-own_allowed t l T own = absurd own
+own_allowed : (w : World) (T : Table) (t : ℕ) (l : Label) → Good w T → Can w t (Own l) → IsOwn (w.at t) l → Allows t l T T × IsByHolder t l T
+own_allowed w T t (Alone kind) inv can own = (refl, tt)
+own_allowed w T t (Stores m) inv can own = (refl, mine_at w T t (Own (Stores m)) inv can m (or_left (mem m (w.at t).list) _ own))
+own_allowed w T t l inv can own = absurd own
+
+-- a thread holds the monitor of its pending entry
+holds_pending : (w : World) (T : Table) (t m : ℕ) (move : Move) → Good w T → Can w t move → entry_at (from move) ≡ Owned m → T.hold m ≡ HeldBy t
+holds_pending w T t m move inv can is = mine_at w T t move inv can m (or_right (mem m (w.at t).list) _ (ap (λ y. own y m) is ∙ eq-eqb m m refl))
+
+-- and that of the front of its list
+holds_first : (w : World) (T : Table) (t m : ℕ) (move : Move) → Good w T → Can w t move → (w.at t).list ≡ m ∷ tail (w.at t).list → T.hold m ≡ HeldBy t
+holds_first w T t m move inv can is = mine_at w T t move inv can m (head_in m (w.at t).list _ is)
 
 tie_zero : (h : Hold) (v : ℕ) → Tie h v → v ≡ 0 → h ≡ Free
 unfolding Tie
@@ -111,26 +120,40 @@ waits_permitted : (t m : ℕ) (c : Member) (T : Table) → c.monitor ≡ m → A
 waits_permitted t m c T home = ap (λ x. record T { hold = put T.hold x Free; waits = put T.waits t (Some c) }) (sym home)
 
 pub permitted : (w : World) (T : Table) (t : ℕ) (m : Move) → Good w T → Can w t m → PermitsMove (event_of w T t m) T (table_after w T t m)
-permitted w T t (Own l) inv can = own_allowed t l T can.finds
-permitted w T t (CompareSwapGot e) inv can = (tie_zero (T.hold e) (w.lock e) (inv.locks.tie e) can.finds, refl)
+permitted w T t (Own l) inv can = own_allowed w T t l inv can can.finds
+permitted w T t (Raise fault) inv can = (refl, tt)
+permitted w T t (CompareSwapGot e) inv can = ((tie_zero (T.hold e) (w.lock e) (inv.locks.tie e) can.finds, refl), tt)
 permitted w T t (FreeGot e v ToEnter) inv can =
     let z : owner (w.lock e) ≡ 0 = rw can.finds (known_at w T t (FreeGot e v ToEnter) inv can).1.1 in
-    (subst (λ x. T.hold e ≡ enterable (has_died x)) can.finds (tie_enterable (T.hold e) (w.lock e) (inv.locks.tie e) z), refl)
+    ((subst (λ x. T.hold e ≡ enterable (has_died x)) can.finds (tie_enterable (T.hold e) (w.lock e) (inv.locks.tie e) z), refl), tt)
 permitted w T t (FreeGot e v ToReenter) inv can = absurd (known_at w T t (FreeGot e v ToReenter) inv can).1.0
 permitted w T t (FreeGot e v (ToResume c)) inv can =
     let z : owner (w.lock e) ≡ 0 = rw can.finds (known_at w T t (FreeGot e v (ToResume c)) inv can).1.1 in
-    (resuming w T t e v c inv can, subst (λ x. T.hold e ≡ enterable (has_died x)) can.finds (tie_enterable (T.hold e) (w.lock e) (inv.locks.tie e) z), refl)
-permitted w T t (SwapWake e ToExit) inv can = refl
-permitted w T t (SwapWake e (ToWait c s)) inv can = waits_permitted t e c T (subst HomeAt can.stands (inv.homes.home_ok t))
-permitted w T t (SwapAlone e ToExit) inv can = refl
-permitted w T t (SwapAlone e (ToWait c s)) inv can = waits_permitted t e c T (subst HomeAt can.stands (inv.homes.home_ok t))
-permitted w T t (WakeSeq c woken) inv can = (notified w T c woken inv can.finds, refl)
-permitted w T t (MoveAll c s) inv can = (broadcast w T c inv, refl)
-permitted w T t (Fork parent) inv can = (rw inv.made can.finds.1, omega (arith, can.finds.0, inv.made), refl)
-permitted w T t ForkFull inv can = (rw inv.made can.finds, refl)
-permitted w T t (Claim q) inv can = (claim_free w T q inv can.finds.2, refl)
-permitted w T t (ClaimTaken q) inv can = ((claim_taken w T q inv can.finds.2).0, refl)
-permitted w T t (IdGone q end) inv can = (over_at w T q end inv can.finds.1, refl)
+    ((resuming w T t e v c inv can, subst (λ x. T.hold e ≡ enterable (has_died x)) can.finds (tie_enterable (T.hold e) (w.lock e) (inv.locks.tie e) z), refl), tt)
+permitted w T t (SwapWake e ToExit) inv can = (refl, holds_pending w T t e (SwapWake e ToExit) inv can refl)
+permitted w T t (SwapWake e (ToWait c s)) inv can =
+    let home : c.monitor ≡ e = subst HomeAt can.stands (inv.homes.home_ok t) in
+    (waits_permitted t e c T home, rw home (holds_pending w T t e (SwapWake e (ToWait c s)) inv can refl))
+permitted w T t (SwapAlone e ToExit) inv can = (refl, holds_pending w T t e (SwapAlone e ToExit) inv can refl)
+permitted w T t (SwapAlone e (ToWait c s)) inv can =
+    let home : c.monitor ≡ e = subst HomeAt can.stands (inv.homes.home_ok t) in
+    (waits_permitted t e c T home, rw home (holds_pending w T t e (SwapAlone e (ToWait c s)) inv can refl))
+permitted w T t (WakeSeq c woken) inv can =
+    ((notified w T c woken inv can.finds, refl), holds_first w T t c.monitor (WakeSeq c woken) inv can (known_at w T t (WakeSeq c woken) inv can).1)
+permitted w T t (MoveAll c s) inv can =
+    ((broadcast w T c inv, refl), holds_first w T t c.monitor (MoveAll c s) inv can (known_at w T t (MoveAll c s) inv can).1)
+permitted w T t (EntryAlone e x end) inv can =
+    (refl, holds_first w T t e (EntryAlone e x end) inv can (chain_some w.link e _ (chain_at w T t (EntryAlone e x end) inv can)).0)
+permitted w T t (EntryWake e x end woken) inv can =
+    (refl, holds_first w T t e (EntryWake e x end woken) inv can (chain_some w.link e _ (chain_at w T t (EntryWake e x end woken) inv can)).0)
+permitted w T t (PendAlone e end) inv can = (refl, holds_pending w T t e (PendAlone e end) inv can refl)
+permitted w T t (PendWake e end woken) inv can = (refl, holds_pending w T t e (PendWake e end woken) inv can refl)
+permitted w T t (ClearId end) inv can = (refl, tt)
+permitted w T t (Fork parent) inv can = ((rw inv.made can.finds.1, omega (arith, can.finds.0, inv.made), refl), tt)
+permitted w T t ForkFull inv can = ((rw inv.made can.finds, refl), tt)
+permitted w T t (Claim q) inv can = ((claim_free w T q inv can.finds.2, refl), tt)
+permitted w T t (ClaimTaken q) inv can = (((claim_taken w T q inv can.finds.2).0, refl), tt)
+permitted w T t (IdGone q end) inv can = ((over_at w T q end inv can.finds.1, refl), tt)
 permitted w T t (StraySeq c p) inv can = (inv.conds.sleeper t c can.awake, refl)
 permitted w T t (Kill p) inv can = kill_permitted w T t p
 permitted w T t m inv can = refl

@@ -87,9 +87,19 @@ event_of w T t (StraySeq c p) = Some (Strays t c)
 event_of w T t (Kill p) = Some (death w T t p)
 event_of w T t m = None
 
--- the source allows an event, which leads from one table to another
+-- who changes a variable of a monitor, gives the monitor up, or notifies on a condition of it, holds it
+abbrev pub IsByHolder : ℕ → Label → Table → Type 0
+IsByHolder p (Stores m) T = T.hold m ≡ HeldBy p
+IsByHolder p (Exits m) T = T.hold m ≡ HeldBy p
+IsByHolder p (Waits c) T = T.hold c.monitor ≡ HeldBy p
+IsByHolder p (Notifies c resumed) T = T.hold c.monitor ≡ HeldBy p
+IsByHolder p (Broadcasts c resumed) T = T.hold c.monitor ≡ HeldBy p
+IsByHolder p (Abandons m) T = T.hold m ≡ HeldBy p
+IsByHolder p l T = Unit {0}
+
+-- the source allows an event, which leads from one table to another; where that has to be, it is the holder's
 abbrev pub Permits : Event → Table → Table → Type 0
-Permits (Acts p l) T T' = Allows p l T T'
+Permits (Acts p l) T T' = Allows p l T T' × IsByHolder p l T
 Permits (Strays p c) T T' = AllowsStray p c T T'
 Permits (Kills p notified resumed) T T' = AllowsKill p notified resumed T T'
 

@@ -23,14 +23,14 @@ abbrev pub Tells : End → (outcome result : ℕ) → Type 0
 Tells (Ended z) outcome result = (outcome ≡ 16) × (signed_of result ≡ z)
 Tells (Aborted cause) outcome result = outcome ≡ cause_word cause
 
--- the labels of a thread's own code
-abbrev pub IsOwn : Label → Type 0
-IsOwn (Alone kind) = Unit {0}
-IsOwn (Stores m) = Unit {0}
-IsOwn l = ⊥
+-- the labels of a thread's own code: a store into a variable of a monitor is for a thread that has the monitor
+abbrev pub IsOwn : Thread → Label → Type 0
+IsOwn thread (Alone kind) = Unit {0}
+IsOwn thread (Stores m) = mem m thread.list ≡ true
+IsOwn thread l = ⊥
 
 abbrev pub Finds : World → ℕ → Move → Type 0
-Finds w t (Own l) = IsOwn l
+Finds w t (Own l) = IsOwn (w.at t) l
 Finds w t (Begin m) = mem m (w.at t).list ≡ false
 Finds w t (Rebegin m) = mem m (w.at t).list ≡ true
 Finds w t (Leave m) = HoldsFirst (w.at t) m
