@@ -1,0 +1,76 @@
+-- What generating and linking refuse of a program's pieces.
+use Rattle.std.proofs.Common.{◌≡◌, ◌+◌, ℕ, suc, Result, Ok, Err, List, [], ◌∷◌, refl, sym, ap, ◌∙◌, subst, length}
+use Rattle.std.proofs.Common.{length-append, map, inl, inr, arith}
+use Rattle.std.specs.Prelude.{IsPermutation, MatchResult, IsErr, IsErrAnd}
+use Rattle.std.proofs.lemmas.List.Sorted.{IsPermutation-refl}
+use Rattle.isa.specs.Programs.{Program as Image, IsProgram}
+use Rattle.scanner.specs.declared.refusal.Refusal.{Refusal}
+use Rattle.program.specs.Trees.{Program, Procedure}
+use Rattle.code.specs.declared.mark.Marked.{Marked}
+use Rattle.code.specs.Marks.{instructions}
+use Rattle.code.specs.Layout.{layout_of}
+use Rattle.code.specs.Pieces.{piece_code, pieces_code, start_of, marked_code, code_of}
+use Rattle.code.proofs.LengthLaws.{piece_same}
+use Rattle.codegen.specs.declared.code_piece.CodePiece.{CodePiece}
+use Rattle.codegen.specs.Generated as generated
+use Rattle.linker.specs.Failures as linked
+use Rattle.linker.specs.Linked.{Links, image_of}
+use Rattle.linker.proofs.Orders.{links_program}
+use Rattle.linker.proofs.Rising.{program_known}
+use Rattle.backend.specs.Refusals.{Refuses}
+
+length_made : (p : Program) (f : ℕ → ℕ) (qs : List Procedure) (base : ℕ) → length (pieces_code p f qs base)
+    ≡ generated.length_of p qs
+length_made p f [] base = refl
+length_made p f (q ∷ qs) base =
+    let first = piece_code p f q base in
+    let both = length-append first (pieces_code p f qs (base + length first)) in
+    let same = piece_same p f (λ piece. piece) q base 0 in
+    let rest = length_made p f qs (base + length first) in omega (arith, both, same, rest)
+
+length_instructions : (is : List Marked) → length (instructions is) ≡ length is
+length_instructions [] = refl
+length_instructions (i ∷ is) = ap suc (length_instructions is)
+
+-- a program that isn't generated
+pub of_generate : (p : Program) (e : Refusal) → generated.Refuses p e → Refuses p e
+of_generate p e (inl memory) = inl memory
+of_generate p e (inr long) = inr (
+  long.0,
+  λ h.
+      let over = long.1 in
+      let short = h.short in
+      let n = length_instructions (marked_code p)
+      ∙ length_made p (start_of p) p.procedures 0 in omega (arith, over, short, n),
+)
+
+module _ (p : Program) (pieces : List CodePiece) (made : map generated.piece_of pieces ≡ generated.unlinked_pieces p)
+  where
+    -- they are the program's pieces
+    pub same : IsPermutation (generated.unlinked_pieces p) (map generated.piece_of pieces)
+    same = subst (λ l. IsPermutation l (map generated.piece_of pieces)) made
+        (IsPermutation-refl (map generated.piece_of pieces))
+
+    -- pieces that aren't linked
+    pub of_link : (e : Refusal) → linked.Refuses (layout_of p) pieces e → Refuses p e
+    of_link e (inl memory) = inl memory
+    of_link e (inr (inl stray)) = absurd (program_known p pieces same stray.1)
+    of_link e (inr (inr much)) =
+        let h = much.1 in
+        let is = links_program p pieces (image_of (layout_of p) (map generated.piece_of h.sorted)) same
+        (record { sorted = h.sorted; order = h.order; is = refl }) in
+        inr (much.0, subst (λ i. IsProgram i → ⊥) is h.over)
+
+-- an error passed on is the same error
+pub passed : {T : Type 0} (r : Result T Refusal) (e : Refusal) (P : T → Type 0) (Q : Refusal → Type 0) → IsErr r
+    × IsErrAnd r (λ x. x ≡ e) → Q e → MatchResult r P Q
+passed (Ok t) e P Q h q = absurd h.1
+passed (Err x) e P Q h q = subst Q (sym h.1) q
+
+-- what is linked, or isn't
+pub of_linked : (p : Program) (pieces : List CodePiece) (r : Result Image Refusal) → map generated.piece_of pieces
+    ≡ generated.unlinked_pieces p
+    → MatchResult r (λ i. Links (layout_of p) pieces i) (λ e. linked.Refuses (layout_of p) pieces e)
+    → MatchResult r (λ i. i ≡ code_of p) (λ e. Refuses p e)
+of_linked p pieces (Ok i) made h = links_program p pieces i (same p pieces made) h
+of_linked p pieces (Err e) made h = of_link p pieces made e h
