@@ -1,5 +1,5 @@
--- What the type of the shared part of a run keeps.
-use Rattle.std.specs.Prelude.{ℕ, ◌≡◌, ◌≤◌, List}
+-- What the types of the shared part of a run and of a share of its count keep.
+use Rattle.std.specs.Prelude.{ℕ, ◌≡◌, ◌≤◌, ◌<◌, ◌+◌, ◌*◌, ◌^◌, List, length}
 use Rattle.isa.specs.Programs.{Program}
 use Rattle.machine.specs.declared.event.Entry.{Entry}
 use Rattle.machine.specs.States.{ConcreteState, opening_concrete}
@@ -14,3 +14,19 @@ pub record IsLegal (p : Program) (limit : ℕ) (q : Program) (k : ConcreteState)
   pub counted : steps ≡ cost log
   pub limit_is : limited ≡ limit
   pub within : steps ≤ limited
+
+-- the book's total is the number of entries, and what was not given out of the count's parts has counted none
+pub record IsCounted (all booked rest idle given : ℕ) (log : List Entry) : Type 0 where
+  pub total : booked ≡ length log
+  pub whole : rest + given ≡ 1024
+  pub unused : idle ≡ 0
+  pub parts : all ≡ 1024
+
+-- what a share says is what its tokens say
+pub record IsShare (all cut amount said count : ℕ) : Type 0 where
+  pub parts_are : cut ≡ said
+  pub count_is : amount ≡ count
+  pub some : 0 < said
+  pub few : said ≤ 1024
+  pub within : count ≤ said * 2 ^ 64
+  pub parts : all ≡ 1024

@@ -3,6 +3,7 @@ pub mod Logs
 pub mod Legal
 pub mod Entries
 pub mod Nexts
+pub mod Afters
 pub mod Reports
 pub mod Rounds
 pub mod LogRuns

@@ -17,10 +17,16 @@ pub record LogState : Type 0 where
   pub log : List Entry
   pub concrete : ConcreteState
 
--- the log beside the machine, as a value of the code; it is read by `held` alone
+-- the log beside the machine, as a value of the code, and how many parts of the count of entries were given out
 pub record SharedView : Type 0 where
   pub log : List Entry
   pub machine : View
+  pub given : ℕ
+
+-- how many parts of the count of entries a share has, and how many entries it counted
+pub record ShareView : Type 0 where
+  pub parts : ℕ
+  pub count : ℕ
 
 abbrev pub log_state : SharedView → LogState
 log_state s = record { log = s.log; concrete = concrete s.machine }

@@ -13,13 +13,13 @@ pub fn enter(
     machine: &mut Machine,
     log: &mut Vec<Entry>,
     t: u32,
-    here: Local,
+    here: &Local,
     count: u32,
 ) -> Result<Option<Event>, AllocError>
     requires thread { can_move (concrete machine.old) t ≡ true }
-    requires fine { IsOk (entry_end machine.old.program (concrete machine.old) t here) }
+    requires fine { IsOk (entry_end machine.old.program (concrete machine.old) t here.now) }
     ensures gives { IfOk result
-        (λ event. entry_end machine.old.program (concrete machine.old) t here ≡ Ok (concrete machine.new, event)) }
+        (λ event. entry_end machine.old.program (concrete machine.old) t here.now ≡ Ok (concrete machine.new, event)) }
     ensures log { IfOk result
         (λ event. log.new.items ≡ log.old.items ++ record { thread = t; local = count; event = event } ∷ []) }
     ensures err { OnErr result ((concrete machine.new ≡ concrete machine.old) × (log.new.items ≡ log.old.items)) }
@@ -46,15 +46,15 @@ pub fn make_room(machine: &mut Machine, log: &mut Vec<Entry>) -> Result<(), Allo
 }
 
 // Puts a thread where it has come, and takes the shared step that it stands before, if any.
-fn hand_in(machine: &mut Machine, t: u32, here: Local) -> Option<Event>
+fn hand_in(machine: &mut Machine, t: u32, here: &Local) -> Option<Event>
     requires thread { can_move (concrete machine.old) t ≡ true }
-    requires fine { IsOk (entry_end machine.old.program (concrete machine.old) t here) }
+    requires fine { IsOk (entry_end machine.old.program (concrete machine.old) t here.now) }
     requires room { 1 ≤ machine.old.room }
-    ensures gives { entry_end machine.old.program (concrete machine.old) t here ≡ Ok (concrete machine.new, result) }
+    ensures gives { entry_end machine.old.program (concrete machine.old) t here.now ≡ Ok (concrete machine.new, result) }
     ensures program { machine.new.program ≡ machine.old.program }
 {
-    let turn = machine.is_before_local(t, &here);
-    machine.put_local(t, here);
+    let turn = machine.is_before_local(t, here);
+    machine.put_local(t, here.copy());
     if turn {
         return None;
     }

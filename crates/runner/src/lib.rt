@@ -11,13 +11,15 @@ mod piece;
 mod report;
 mod rounds;
 mod running;
+mod share;
 mod shared;
 
 pub use fault::RunFault;
 pub use laws::logs_are_machine_runs;
 pub use naming::RunName;
-pub use next::Next;
+pub use next::{After, Next};
 pub use piece::Piece;
 pub use report::{Report, Verdict};
 pub use running::run;
+pub use share::{PARTS, Share};
 pub use shared::Shared;

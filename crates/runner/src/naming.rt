@@ -1,7 +1,9 @@
 use std::marker::Brand;
+use std::sync::ledger::Ledger;
 
-/// The name of one run, with the program that it runs and its limit of steps. The caller picks it at one call.
-pub trait RunName {
+/// The name of one run, with the program that it runs, its limit of steps, and the ledger that counts its entries. The
+/// caller picks it at one call.
+pub trait RunName: Ledger {
     ghost use Rattle.std.specs.Prelude.{ℕ};
     ghost use Rattle.isa.specs.Programs.{Program};
 

@@ -11,3 +11,14 @@ pub enum Next<J: RunName> {
     /// It has ended.
     End,
 }
+
+/// What a thread does after its entry, where its piece is begun anew in its place.
+#[derive(Clone, Copy, PartialEq, Eq, Debug)]
+pub enum After {
+    /// It goes on from the piece.
+    Goes,
+    /// It sleeps.
+    Sleeps,
+    /// It has ended.
+    Ends,
+}

@@ -4,7 +4,7 @@ ghost use Rattle.locals.specs.Steps.{local_step, local_after};
 
 use crate::naming::RunName;
 use isa::Image;
-use locals::{Local, run_local};
+use locals::Local;
 use std::marker::{Model, PhantomData};
 use words::MOST_LOCAL_STEPS;
 
@@ -42,20 +42,31 @@ impl<J: RunName> Piece<J> {
         ensures within { result.count ≤ most_local_steps }
         ensures whole { result.count < most_local_steps → local_step J.program result.thread result.here ≡ None }
     {
-        let Piece {
-            thread,
-            origin,
-            here,
-            count,
-            of,
-        } = self;
-        let (here, more) = run_local(image, thread, here, MOST_LOCAL_STEPS - count);
-        Piece {
-            thread,
-            origin,
-            here,
-            count: count + more,
-            of,
-        }
+        let mut piece = self;
+        piece.go_on(image);
+        piece
+    }
+
+    /// The same in its place, so that nothing is copied.
+    pub fn go_on(&mut self, image: &Image)
+        requires { image.now ≡ J.program }
+        ensures same { (self.new.thread ≡ self.old.thread) × (self.new.origin ≡ self.old.origin) }
+        ensures reached { local_after J.program self.new.thread self.new.count self.new.origin ≡ Some self.new.here }
+        ensures within { self.new.count ≤ most_local_steps }
+        ensures whole { self.new.count < most_local_steps
+            → local_step J.program self.new.thread self.new.here ≡ None }
+    {
+        let budget = MOST_LOCAL_STEPS - self.count;
+        self.count += self.here.run(image, self.thread, budget);
+    }
+
+    /// Begins anew where the thread is.
+    pub(crate) fn begin(&mut self, local: &Local)
+        ensures { self.new
+            ≡ record { thread = self.old.thread; origin = local.now; here = local.now; count = 0 } }
+    {
+        self.origin = local.copy();
+        self.here = local.copy();
+        self.count = 0;
     }
 }

@@ -8,6 +8,7 @@ ghost use Rattle.runner.specs.Views.{log_state};
 
 use crate::fault::RunFault;
 use crate::naming::RunName;
+use crate::share::Share;
 use crate::shared::Shared;
 use isa::Image;
 use words::{Gate, MOST_PROCESSES};
@@ -17,6 +18,7 @@ use words::{Gate, MOST_PROCESSES};
 pub fn run_rounds<J: RunName, G: Gate>(
     shared: &mut Shared<J>,
     image: &Image,
+    share: &mut Share<J>,
     gate: &G,
 ) -> Result<(), RunFault>
     requires image { image.now ≡ J.program }
@@ -24,7 +26,7 @@ pub fn run_rounds<J: RunName, G: Gate>(
     ensures err { IfErr result (λ fault. CanFail J.program J.limit fault) }
 {
     let mut refused = [false; MOST_PROCESSES as usize + 1];
-    while run_round(shared, &mut refused, image, gate)? {}
+    while run_round(shared, &mut refused, image, share, gate)? {}
     Ok(())
 }
 
@@ -33,6 +35,7 @@ fn run_round<J: RunName, G: Gate>(
     shared: &mut Shared<J>,
     refused: &mut [bool],
     image: &Image,
+    share: &mut Share<J>,
     gate: &G,
 ) -> Result<bool, RunFault>
     requires image { image.now ≡ J.program }
@@ -47,7 +50,7 @@ fn run_round<J: RunName, G: Gate>(
     let mut made = false;
     let mut t = 1;
     while t <= shared.machine().threads() {
-        made |= make_entry(shared, refused, image, gate, t)?;
+        made |= make_entry(shared, refused, image, share, gate, t)?;
         t += 1;
     }
     Ok(made)
@@ -58,6 +61,7 @@ fn make_entry<J: RunName, G: Gate>(
     shared: &mut Shared<J>,
     refused: &mut [bool],
     image: &Image,
+    share: &mut Share<J>,
     gate: &G,
     t: u32,
 ) -> Result<bool, RunFault>
@@ -74,13 +78,13 @@ fn make_entry<J: RunName, G: Gate>(
     ensures err { IfErr result (λ fault. CanFail J.program J.limit fault) }
 {
     if !shared.has_room() {
-        return try_entry(shared, refused, image, gate, t);
+        return try_entry(shared, refused, image, share, gate, t);
     }
     if !shared.machine().can_move(t) {
         return Ok(false);
     }
     gate.pass(t);
-    shared.go_on(t)?;
+    shared.go_on(t, share)?;
     Ok(true)
 }
 
@@ -89,6 +93,7 @@ fn try_entry<J: RunName, G: Gate>(
     shared: &mut Shared<J>,
     refused: &mut [bool],
     image: &Image,
+    share: &mut Share<J>,
     gate: &G,
     t: u32,
 ) -> Result<bool, RunFault>
@@ -112,7 +117,7 @@ fn try_entry<J: RunName, G: Gate>(
     };
     let piece = piece.run(image);
     gate.pass(t);
-    match shared.step(t, piece) {
+    match shared.step(t, piece, share) {
         Ok(_) => Ok(true),
         Err(RunFault::Limit) => {
             refused[t as usize] = true;

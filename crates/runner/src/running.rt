@@ -6,11 +6,13 @@ use crate::fault::RunFault;
 use crate::naming::RunName;
 use crate::report::{Report, Verdict};
 use crate::rounds::run_rounds;
+use crate::share::PARTS;
 use crate::shared::Shared;
 use isa::Image;
 use machine::Machine;
 use std::alloc::Global;
 use std::marker::Brand;
+use std::sync::ledger::Blank;
 use words::Gate;
 
 /// Runs an image on the calling thread, within a limit of steps, from 0 to 2^32 - 1. The gate is passed with a
@@ -26,24 +28,29 @@ pub fn run<G: Gate>(alloc: Global, image: &Image, limit: u32, gate: &G) -> Resul
     ensures ok { IfOk result (λ report. IsReport image.now limit report) }
     ensures err { IfErr result (λ fault. CanFail image.now limit fault) }
 {
-    run_as::<Brand, G>(alloc, image, limit, gate)
+    run_as::<Brand, G>(alloc, image, limit, Blank::new(u64::from(PARTS)), gate)
 }
 
 fn run_as<J: RunName, G: Gate>(
     alloc: Global,
     image: &Image,
     limit: u32,
+    blank: Blank,
     gate: &G,
 ) -> Result<Report, RunFault>
     requires image { image.now ≡ J.program }
     requires limit { limit ≡ J.limit }
+    requires blank { (blank.name ≡ J.name) × (blank.parts ≡ J.parts) × (J.parts ≡ 1024) }
     ensures ok { IfOk result (λ report. IsReport J.program J.limit report) }
     ensures err { IfErr result (λ fault. CanFail J.program J.limit fault) }
 {
-    let Ok(mut shared) = Shared::<J>::new(alloc, image, limit) else {
+    let Ok(mut shared) = Shared::<J>::new(alloc, image, limit, blank) else {
         return Err(RunFault::Memory);
     };
-    run_rounds(&mut shared, image, gate)?;
+    let Some(mut share) = shared.share() else {
+        unreachable!()
+    };
+    run_rounds(&mut shared, image, &mut share, gate)?;
     let Ok(output) = Vec::from_slice(alloc, shared.machine().output()) else {
         return Err(RunFault::Memory);
     };

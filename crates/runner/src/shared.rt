@@ -6,6 +6,7 @@ ghost use Rattle.machine.specs.ConcreteSteps.{can_move};
 ghost use Rattle.runner.specs.Logs.{Runs, cost};
 ghost use Rattle.runner.specs.Entries.{Takes, Refuses, IsFine, Stands};
 ghost use Rattle.runner.specs.Nexts.{IsNext};
+ghost use Rattle.runner.specs.Afters.{IsAfter};
 ghost use Rattle.runner.specs.Reports.{CanFail};
 ghost use Rattle.machine.specs.Views.{concrete};
 ghost use Rattle.runner.specs.Views.{log_state};
@@ -14,55 +15,107 @@ use crate::entering::{enter, make_room};
 use crate::fault::RunFault;
 use crate::in_place::take_entry;
 use crate::naming::RunName;
-use crate::next::Next;
+use crate::next::{After, Next};
 use crate::piece::Piece;
+use crate::share::{PARTS, Share};
 use isa::Image;
 use machine::{Entry, Machine};
 use std::alloc::{AllocError, Global};
 use std::marker::{Model, PhantomData};
+use std::sync::ledger;
+use std::sync::ledger::{Blank, Book};
 use words::{MOST_LOCAL_STEPS, MOST_PROCESSES};
 
 // How many buckets its sleepers are kept in: one for each thread that there can be.
 const BUCKETS: u32 = MOST_PROCESSES;
 
 /// The machine of run `J` and its log. Its type keeps that the log is legal for the run's program, that the machine is
-/// where the log leads, and that the log's cost is within the run's limit.
+/// where the log leads, that the log's cost is within the run's limit, and that all shares together have counted each
+/// entry once.
 #[derive(Drop)]
 pub struct Shared<J: RunName> {
     machine: Machine,
     log: Vec<Entry>,
     steps: u32,
     limit: u32,
-    of: PhantomData<J>,
+    book: Book<J>,
+    // The parts of the count that were not given out.
+    rest: ledger::Share<J>,
+    given: u32,
 }
 
 impl<J: RunName> Model for Shared<J> {
     ghost use Rattle.machine.specs.Views.{concrete};
     ghost use Rattle.runner.specs.Views.{SharedView};
-    ghost use Rattle.runner.specs.Legal.{IsLegal};
+    ghost use Rattle.runner.specs.Legal.{IsLegal, IsCounted};
 
     ghost Value = { SharedView };
 
-    ghost view = { λ s. record { log = s.log.items; machine = s.machine } };
+    ghost view = { λ s. record { log = s.log.items; machine = s.machine; given = s.given } };
 
     ghost invariant = { λ s. IsLegal J.program J.limit s.machine.program
-        (concrete s.machine) s.log.items s.steps s.limit };
+        (concrete s.machine) s.log.items s.steps s.limit
+        × IsCounted J.parts s.book.total s.rest.parts s.rest.amount s.given s.log.items };
 }
 
 impl<J: RunName> Shared<J> {
-    /// A machine at the start of the run's image, with an empty log.
-    pub fn new(alloc: Global, image: &Image, limit: u32) -> Result<Shared<J>, AllocError>
+    /// A machine at the start of the run's image, with an empty log. The blank, of `PARTS` parts, counts its entries.
+    pub fn new(
+        alloc: Global,
+        image: &Image,
+        limit: u32,
+        blank: Blank,
+    ) -> Result<Shared<J>, AllocError>
         requires image { image.now ≡ J.program }
         requires limit { limit ≡ J.limit }
-        ensures { IfOk result (λ s. (s.log ≡ []) × ((log_state s).concrete ≡ opening_concrete J.program)) }
+        requires blank { (blank.name ≡ J.name) × (blank.parts ≡ J.parts) × (J.parts ≡ 1024) }
+        ensures { IfOk result (λ s. (s.log ≡ []) × ((log_state s).concrete ≡ opening_concrete J.program)
+            × (s.given ≡ 0)) }
     {
+        let machine = Machine::new(alloc, image, BUCKETS)?;
+        let (book, rest) = blank.open::<J>();
         Ok(Shared {
-            machine: Machine::new(alloc, image, BUCKETS)?,
+            machine,
             log: Vec::new(alloc),
             steps: 0,
             limit,
-            of: PhantomData,
+            book,
+            rest,
+            given: 0,
         })
+    }
+
+    /// One part of the count of entries, which has counted none. There is none where all `PARTS` were given out.
+    pub fn share(&mut self) -> Option<Share<J>>
+        ensures some { IfSome result (λ s. (s ≡ record { parts = 1; count = 0 })
+            × (self.new ≡ record self.old { given = self.old.given + 1 }) × (self.old.given < 1024)) }
+        ensures none { IfNone result ((self.old.given ≡ 1024) × (self.new ≡ self.old)) }
+    {
+        if self.given == PARTS {
+            return None;
+        }
+        self.given += 1;
+        Some(Share {
+            inner: self.rest.split_off(1, 0),
+            parts: 1,
+            count: 0,
+        })
+    }
+
+    /// Whether a share has all parts that were given out. Then its count is the number of entries of the log.
+    pub fn audit(&mut self, share: &mut Share<J>) -> bool
+        ensures whole { MatchBool result (share.old.parts ≡ self.old.given) (share.old.parts ≢ self.old.given) }
+        ensures count { result ≡ true → share.old.count ≡ length self.old.log }
+        ensures same { (self.new ≡ self.old) × (share.new ≡ share.old) }
+    {
+        if share.parts != self.given {
+            return false;
+        }
+        let rest = u64::from(PARTS - self.given);
+        self.rest.give(&mut share.inner, rest, 0);
+        self.book.audit(&mut share.inner);
+        share.inner.give(&mut self.rest, rest, 0);
+        true
     }
 
     /// The machine, which is where the log leads.
@@ -124,26 +177,59 @@ impl<J: RunName> Shared<J> {
     }
 
     /// Takes in what thread `t` did, as one entry of the log: the piece's local steps, and the shared step that it
-    /// stands before, if any.
+    /// stands before, if any. The share counts it.
     ///
     /// Refuses in this order: `Stray`, `CannotMove`, `Broken`, `Limit`, `Memory`; then nothing has changed.
-    pub fn step(&mut self, t: u32, piece: Piece<J>) -> Result<Next<J>, RunFault>
+    pub fn step(
+        &mut self,
+        t: u32,
+        piece: Piece<J>,
+        share: &mut Share<J>,
+    ) -> Result<Next<J>, RunFault>
         ensures ok { IfOk result (λ next. Takes J.program J.limit (log_state self.old) t piece (log_state self.new)
             × IsNext (log_state self.new).concrete t next) }
+        ensures counted { OnOk result (share.new ≡ record share.old { count = share.old.count + 1 }) }
         ensures err { IfErr result (λ fault. (log_state self.new ≡ log_state self.old)
-            × Refuses J.program J.limit (log_state self.old) t piece fault) }
+            × (share.new ≡ share.old) × Refuses J.program J.limit (log_state self.old) t piece fault) }
+        ensures given { self.new.given ≡ self.old.given }
         ensures legal { Runs J.program (opening_concrete J.program) self.new.log (log_state self.new).concrete }
         ensures within { cost self.new.log ≤ J.limit }
     {
-        if let Some(fault) = self.refusal(t, &piece) {
+        let mut piece = piece;
+        Ok(match self.hand_in(t, &mut piece, share)? {
+            After::Goes => Next::Go(piece),
+            After::Sleeps => Next::Sleep,
+            After::Ends => Next::End,
+        })
+    }
+
+    /// The same with a piece that begins anew in its place where the thread goes on, so that only the operands and
+    /// frames in use are copied. After a refusal it is as before.
+    pub fn hand_in(
+        &mut self,
+        t: u32,
+        piece: &mut Piece<J>,
+        share: &mut Share<J>,
+    ) -> Result<After, RunFault>
+        ensures ok { IfOk result (λ after. Takes J.program J.limit (log_state self.old) t piece.old
+            (log_state self.new) × IsAfter (log_state self.new).concrete t piece.new after) }
+        ensures counted { OnOk result (share.new ≡ record share.old { count = share.old.count + 1 }) }
+        ensures err { IfErr result (λ fault. (log_state self.new ≡ log_state self.old) × (piece.new ≡ piece.old)
+            × (share.new ≡ share.old) × Refuses J.program J.limit (log_state self.old) t piece.old fault) }
+        ensures given { self.new.given ≡ self.old.given }
+        ensures legal { Runs J.program (opening_concrete J.program) self.new.log (log_state self.new).concrete }
+        ensures within { cost self.new.log ≤ J.limit }
+    {
+        if let Some(fault) = self.refusal(t, piece) {
             return Err(fault);
         }
-        let Piece { here, count, .. } = piece;
-        let Ok(event) = enter(&mut self.machine, &mut self.log, t, here, count) else {
+        let count = piece.count;
+        let Ok(event) = enter(&mut self.machine, &mut self.log, t, &piece.here, count) else {
             return Err(RunFault::Memory);
         };
         self.steps += count + u32::from(event.is_some());
-        Ok(self.next(t))
+        share.count_one(&mut self.book);
+        Ok(self.next(t, piece))
     }
 
     /// Whether the limit leaves room for any thread's next entry.
@@ -158,10 +244,11 @@ impl<J: RunName> Shared<J> {
     /// local steps until another step comes or its turn is over, and the shared step that it stands before, if any.
     ///
     /// Refuses with `Memory`, and then nothing has changed; and with `Broken`, and then the local steps are an entry.
-    pub(crate) fn go_on(&mut self, t: u32) -> Result<(), RunFault>
+    pub(crate) fn go_on(&mut self, t: u32, share: &mut Share<J>) -> Result<(), RunFault>
         requires thread { can_move (log_state self.old).concrete t ≡ true }
         requires room { cost self.old.log + suc most_local_steps ≤ J.limit }
         ensures ok { OnOk result (cost self.old.log < cost self.new.log) }
+        ensures given { self.new.given ≡ self.old.given }
         ensures err { IfErr result (λ fault. CanFail J.program J.limit fault) }
         ensures within { cost self.new.log ≤ J.limit }
     {
@@ -171,18 +258,23 @@ impl<J: RunName> Shared<J> {
         let (entry, outcome) = take_entry(&mut self.machine, t);
         self.log.push_reserved(entry);
         self.steps += entry.local + u32::from(entry.event.is_some());
+        share.count_one(&mut self.book);
         outcome
     }
 
-    // What thread `t` does next.
-    fn next(&self, t: u32) -> Next<J>
-        ensures next { IsNext (log_state self.now).concrete t result }
+    // What thread `t` does next. Its piece begins anew where it goes on.
+    fn next(&self, t: u32, piece: &mut Piece<J>) -> After
+        requires { piece.old.thread ≡ t }
+        ensures next { IsAfter (log_state self.now).concrete t piece.new result }
         ensures legal { Runs J.program (opening_concrete J.program) self.now.log (log_state self.now).concrete }
     {
-        match self.piece(t) {
-            Some(piece) => Next::Go(piece),
-            None if self.machine.has_ended(t) => Next::End,
-            None => Next::Sleep,
+        if self.machine.can_move(t) {
+            piece.begin(self.machine.local(t));
+            After::Goes
+        } else if self.machine.has_ended(t) {
+            After::Ends
+        } else {
+            After::Sleeps
         }
     }
 

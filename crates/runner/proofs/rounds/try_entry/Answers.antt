@@ -23,7 +23,7 @@ returns-in-Err-Limit-clause-past g c =
     let h = c.in-Err-Limit.ensures.err in
     let r = c.run-piece.ensures in
     let refused = subst (λ (f : RunFault). Refuses p limit
-    (log_state c.args.shared.now) c.args.t c.run-piece.result f) c.in-Err-Limit.field-0-is h.1 in
+    (log_state c.args.shared.now) c.args.t c.run-piece.result f) c.in-Err-Limit.field-0-is h.2 in
     let now = passes p limit (log_state c.args.shared.now) c.args.t c.run-piece.result refused r.reached r.within
     r.whole in
     subst (λ (s : LogState). AllPast p limit s (slice_set c.args.refused.now c.args.t true)) (sym h.0)

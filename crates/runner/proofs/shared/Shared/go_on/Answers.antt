@@ -1,5 +1,5 @@
 -- The log has one entry more.
-use Rattle.std.proofs.Common.{◌≤◌, ◌+◌, ap, sym, subst, ◌∙◌}
+use Rattle.std.proofs.Common.{◌≤◌, ◌+◌, [], ◌∷◌, length, length-append, ap, sym, subst, ◌∙◌, arith}
 use mir.Val.{bool_byte}
 use Rattle.machine.specs.Views.{concrete}
 use Rattle.runner.specs.Logs.{cost}
@@ -14,9 +14,25 @@ invariant_of-self-2 g c =
     let e = c.take_entry-outcome in
     let limit = g.J.RunName.limit in
     let room = subst (λ (x : SharedView). cost x.log + 257 ≤ limit) (sym c.self.view_is) c.requires.room in
-    keeps_entry g.J.RunName.program s.machine.program m.new.machine.program e.new.machine.program limit
-    (concrete s.machine) (concrete m.new.machine)
-    (concrete e.new.machine) s.log.items m.new.log.items c.push_reserved.new.self.items e.result.0 s.steps
-    s.limit c.from.result
-    c.self.invariant room m.ensures.program m.ensures.same.0 m.ensures.same.1 e.ensures.program e.ensures.enters
-    e.ensures.turn c.push_reserved.ensures.items (c.from.ensures ∙ ap bool_byte c.is_some.ensures)
+    let counted = c.self.invariant.1 in
+    let grows = ap length c.push_reserved.ensures.items in (
+      keeps_entry g.J.RunName.program s.machine.program m.new.machine.program e.new.machine.program limit
+          (concrete s.machine) (concrete m.new.machine)
+          (concrete e.new.machine) s.log.items m.new.log.items c.push_reserved.new.self.items e.result.0 s.steps
+          s.limit c.from.result
+          c.self.invariant.0 room m.ensures.program m.ensures.same.0 m.ensures.same.1 e.ensures.program e.ensures.enters
+          e.ensures.turn c.push_reserved.ensures.items (c.from.ensures ∙ ap bool_byte c.is_some.ensures),
+      record {
+        total = omega (
+          arith,
+          c.count_one.ensures.total,
+          counted.total,
+          grows,
+          ap length m.ensures.same.1,
+          length-append m.new.log.items (e.result.0 ∷ []),
+        );
+        whole = counted.whole;
+        unused = counted.unused;
+        parts = counted.parts;
+      },
+    )

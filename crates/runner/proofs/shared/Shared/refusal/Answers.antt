@@ -13,7 +13,7 @@ returns-then-self-piece-clause-some g c =
     let s = c.self.inside in
     let p = g.J.RunName.program in
     let limit = g.J.RunName.limit in
-    let v = c.self.invariant in
+    let v = c.self.invariant.0 in
     let h : LogState = record { log = s.log.items; concrete = concrete s.machine } in
     let i = c.piece.inside in
     let a : PieceView = record { thread = i.thread; origin = i.origin; here = i.here; count = i.count } in
@@ -36,7 +36,7 @@ returns-clause-none g c =
     let s = c.self.inside in
     let p = g.J.RunName.program in
     let limit = g.J.RunName.limit in
-    let v = c.self.invariant in
+    let v = c.self.invariant.0 in
     let h : LogState = record { log = s.log.items; concrete = concrete s.machine } in
     let i = c.piece.inside in
     let a : PieceView = record { thread = i.thread; origin = i.origin; here = i.here; count = i.count } in
@@ -59,7 +59,7 @@ returns-then-is_some-clause-some g c =
     let s = c.self.inside in
     let p = g.J.RunName.program in
     let limit = g.J.RunName.limit in
-    let v = c.self.invariant in
+    let v = c.self.invariant.0 in
     let h : LogState = record { log = s.log.items; concrete = concrete s.machine } in
     let i = c.piece.inside in
     let a : PieceView = record { thread = i.thread; origin = i.origin; here = i.here; count = i.count } in

@@ -2,18 +2,18 @@ use Rattle.std.proofs.Common.{◌≡◌, ◌+◌, ap, sym, ◌∙◌, arith}
 use Rattle.isa.specs.Programs.{Program}
 use Rattle.locals.specs.Steps.{local_after}
 use Rattle.runner.proofs.Going.{after_sum}
-use Rattle.runner.proofs.piece.Piece.run.Goals as goal
+use Rattle.runner.proofs.piece.Piece.go_on.Goals as goal
 
 pub returns-clause-reached : goal.returns-clause-reached
 returns-clause-reached g c =
     let s = c.self.inside in
     let p = g.J.RunName.program in
-    let more = c.run_local-here.result.1 in
+    let more = c.run.result in
     let e : s.count + more ≡ more + s.count = omega arith in
     ap (λ k. local_after p s.thread k s.origin) e
     ∙ after_sum p s.thread s.count more s.origin s.here c.self.invariant.0
     ∙ ap (λ (q : Program). local_after q s.thread more s.here) (sym c.requires)
-    ∙ c.run_local-here.ensures.reached
+    ∙ c.run.ensures.reached
 
-pub invariant_of-result : goal.invariant_of-result
-invariant_of-result g c = let h = returns-clause-reached g c in (h, omega arith)
+pub invariant_of-self : goal.invariant_of-self
+invariant_of-self g c = let h = returns-clause-reached g c in (h, omega arith)
