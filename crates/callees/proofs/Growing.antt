@@ -1,0 +1,61 @@
+-- The names and pieces of monitors, where one more is read.
+use Rattle.std.proofs.Common.{◌≡◌, ℕ, ◌<◌, ◌+◌, zero, suc, List, [], ◌∷◌, ◌++◌, length, map, take, get_or}
+use Rattle.std.proofs.Common.{Some, None, refl, ap, ◌∙◌, sym, subst, arith, append_assoc, append-nil, add-zero}
+use Rattle.std.proofs.Common.{slice_get}
+use Rattle.std.specs.Prelude.{option_map}
+use Rattle.std.specs.List.{take-map}
+use Rattle.std.proofs.lemmas.List.{take_more, map-append, length-map}
+use Rattle.std.proofs.lemmas.Option.{slice_get-map, slice_get_read}
+use Rattle.syntax.specs.declared.declaration.Monitor.{Monitor}
+use Rattle.syntax.specs.Tree.{MonitorTree}
+use Rattle.syntax.specs.View.{monitor_of}
+use Rattle.types.specs.Pieces.{monitor_pieces, pieces_from}
+use Rattle.callees.specs.declared.piece.Piece.{Piece as PieceOf}
+use Rattle.callees.specs.Pieces.{piece_of}
+
+pub map_twice : {X Y Z : Type 0} (f : Y → Z) (g : X → Y) (xs : List X) → map f (map g xs) ≡ map (λ x. f (g x)) xs
+map_twice f g [] = refl
+map_twice f g (x ∷ xs) = ap (λ ys. f (g x) ∷ ys) (map_twice f g xs)
+
+-- what holds of each element by its index, and of one more
+pub each_more : {X : Type 0} (P : ℕ → X → Type 0) (xs : List X) (x : X)
+    → ((i : ℕ) (y : X) → slice_get xs i ≡ Some y → P i y) → P (length xs) x → (i : ℕ) (y : X)
+    → slice_get (xs ++ x ∷ []) i ≡ Some y → P i y
+each_more P [] x h p zero y e = let same : x ≡ y = cc in subst (P 0) same p
+each_more P [] x h p (suc i) y e = let w : None ≡ Some y = e in cc
+each_more P (z ∷ xs) x h p zero y e = h 0 y e
+each_more P (z ∷ xs) x h p (suc i) y e = each_more (λ j. P (suc j)) xs x (λ j. h (suc j)) p i y e
+
+pub pieces_append : (m : ℕ) (ts us : List MonitorTree)
+    → pieces_from m (ts ++ us) ≡ pieces_from m ts ++ pieces_from (m + length ts) us
+pieces_append m [] us = ap (λ k. pieces_from k us) (sym (add-zero m))
+pieces_append m (t ∷ ts) us =
+    let e : m + 1 + length ts ≡ m + suc (length ts) = omega arith in
+    ap (λ xs. monitor_pieces m t ++ xs) (pieces_append (m + 1) ts us
+    ∙ ap (λ k. pieces_from (m + 1) ts ++ pieces_from k us) e)
+    ∙ sym (append_assoc (monitor_pieces m t) (pieces_from (m + 1) ts) (pieces_from (m + suc (length ts)) us))
+
+pub monitors_more : (ms : List Monitor) (i : ℕ) (d : Monitor) → i < length ms → d ≡ get_or ms i d
+    → map monitor_of (take (i + 1) ms) ≡ map monitor_of (take i ms) ++ monitor_of d ∷ []
+monitors_more ms i d h e = ap (map monitor_of) (take_more ms i d h)
+    ∙ map-append monitor_of (take i ms) (get_or ms i d ∷ [])
+    ∙ ap (λ x. map monitor_of (take i ms) ++ monitor_of x ∷ []) (sym e)
+
+pub pieces_more : (ts : List MonitorTree) (i : ℕ) (t : MonitorTree) → length ts ≡ i
+    → pieces_from 0 ts ++ monitor_pieces i t ≡ pieces_from 0 (ts ++ t ∷ [])
+pieces_more ts i t e =
+    let f : i ≡ 0 + length ts = omega arith in
+    sym (pieces_append 0 ts (t ∷ []) ∙ ap (λ xs. pieces_from 0 ts ++ xs) (append-nil _)
+    ∙ ap (λ k. pieces_from 0 ts ++ monitor_pieces k t) (sym f))
+
+pub monitor_here : (ms : List Monitor) (i : ℕ) (d : Monitor) → i < length ms → d ≡ get_or ms i d
+    → slice_get (map monitor_of ms) i ≡ Some (monitor_of d)
+monitor_here ms i d lt is = slice_get-map monitor_of ms i
+    ∙ ap (option_map monitor_of) (slice_get_read ms (length ms) i d refl lt is)
+
+-- as many pieces as the first monitors have
+pub pieces_before : (ms : List Monitor) (i : ℕ) (ps : List PieceOf)
+    → map piece_of ps ≡ pieces_from 0 (map monitor_of (take i ms))
+    → length ps ≡ length (pieces_from 0 (take i (map monitor_of ms)))
+pieces_before ms i ps made = sym (length-map ps piece_of) ∙ ap length made
+    ∙ ap (λ xs. length (pieces_from 0 xs)) (sym (take-map monitor_of i ms))
