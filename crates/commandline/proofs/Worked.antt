@@ -1,6 +1,6 @@
 -- The definitions on words that are known.
 use Rattle.std.proofs.Common.{◌≡◌, refl, true, List, [], ◌∷◌, Option, Some, option_map, codes}
-use Rattle.clap.specs.Words.{Row, Text, first_of, one_of, subcommand_of, takes}
+use Rattle.clap.specs.Words.{Text, one_of, subcommand_of, takes}
 use Rattle.clap.proofs.OnLiterals.{clap_on_literals}
 use Rattle.commandline.specs.CommandLine.{command_line}
 
@@ -12,6 +12,9 @@ plain_run = codes "run" ∷ codes "a.mesa" ∷ []
 
 abbrev plain_compile : List Text
 plain_compile = codes "compile" ∷ codes "a.mesa" ∷ codes "a.image" ∷ []
+
+abbrev plain_list : List Text
+plain_list = codes "list" ∷ codes "a.image" ∷ []
 
 -- the command's name, and the text of an argument
 abbrev told : Text → List Text → Option (Text × Option Text)
@@ -40,6 +43,10 @@ trace_left_out = refl
 out_told : told (codes "OUT") plain_compile ≡ Some (codes "compile", Some (codes "a.image"))
 unfolding clap_on_literals
 out_told = refl
+
+image_told : told (codes "IMAGE") plain_list ≡ Some (codes "list", Some (codes "a.image"))
+unfolding clap_on_literals
+image_told = refl
 
 taken : takes command_line five_steps ≡ true
 unfolding clap_on_literals

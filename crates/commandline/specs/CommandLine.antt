@@ -7,7 +7,7 @@ use Rattle.clap.specs.Words.{subcommand_of}
 use Rattle.clap.specs.declared.builder.action.ArgAction.TheVariants.{SetTrue}
 use Rattle.clap.specs.declared.builder.value_parser.ValueParser.TheVariants.{Unsigned}
 use Rattle.commandline.specs.declared.job.Job.{Job}
-use Rattle.commandline.specs.declared.job.Job.TheVariants.{Compile, Run}
+use Rattle.commandline.specs.declared.job.Job.TheVariants.{Compile, List as List', Run}
 
 -- an argument that has to stand, told by its position
 abbrev pub positional : Text → Rule
@@ -31,6 +31,10 @@ abbrev pub compile_command : App
 compile_command = with_rule (with_rule (new_app (codes "compile")) (positional (codes "FILE")))
     (positional (codes "OUT"))
 
+-- `list IMAGE`
+abbrev pub list_command : App
+list_command = with_rule (new_app (codes "list")) (positional (codes "IMAGE"))
+
 -- `run FILE [--steps N] [--trace]`
 abbrev pub run_command : App
 run_command =
@@ -48,23 +52,31 @@ ReadsTrace rows trace =
     (one_of (codes "trace") rows ≡ Some (codes "true") → trace ≡ true)
     × (one_of (codes "trace") rows ≡ Some (codes "false") → trace ≡ false)
 
--- `mesamon`, and behind it one of the two; the words hold no name of the program
+-- `mesamon`, and behind it one of the three; the words hold no name of the program
 abbrev pub command_line : App
 command_line =
     let named = new_app (codes "mesamon") in
-    with_subcommand (with_subcommand (record named {
+    with_subcommand (with_subcommand (with_subcommand (record named {
       top = record named.top { no_binary_name = true; subcommand_required = true };
-    }) compile_command.top) run_command.top
+    }) compile_command.top) list_command.top) run_command.top
 
 -- a job of compiling, from the values of its command's arguments
 abbrev pub IsCompileOf : List Row → Job → Type 0
 IsCompileOf rows (Compile file out) =
     (first_of (codes "FILE") rows ≡ Some file.now) × (first_of (codes "OUT") rows ≡ Some out.now)
+IsCompileOf rows (List' image) = ⊥
 IsCompileOf rows (Run file steps trace) = ⊥
+
+-- a job of listing
+abbrev pub IsListOf : List Row → Job → Type 0
+IsListOf rows (Compile file out) = ⊥
+IsListOf rows (List' image) = first_of (codes "IMAGE") rows ≡ Some image.now
+IsListOf rows (Run file steps trace) = ⊥
 
 -- a job of running
 abbrev pub IsRunOf : List Row → Job → Type 0
 IsRunOf rows (Compile file out) = ⊥
+IsRunOf rows (List' image) = ⊥
 IsRunOf rows (Run file steps trace) =
     (first_of (codes "FILE") rows ≡ Some file.now) × ReadsSteps rows steps × ReadsTrace rows trace
 
@@ -72,7 +84,8 @@ IsRunOf rows (Run file steps trace) =
 abbrev pub IsAskedBy : Option (Text × List Row) → Job → Type 0
 IsAskedBy None job = ⊥
 IsAskedBy (Some (name, rows)) job =
-    ((name ≡ codes "compile") × IsCompileOf rows job) ⊎ ((name ≡ codes "run") × IsRunOf rows job)
+    ((name ≡ codes "compile") × IsCompileOf rows job) ⊎ (((name ≡ codes "list") × IsListOf rows job)
+    ⊎ ((name ≡ codes "run") × IsRunOf rows job))
 
 -- the words ask for this job
 abbrev pub AsksFor : List Text → Job → Type 0

@@ -17,6 +17,9 @@ pub fn command<'a>(alloc: Global) -> Result<Command<'a>, AllocError>
         .about("Writes the image of a source text")
         .arg(positional(alloc, "FILE", "The source text"))?
         .arg(positional(alloc, "OUT", "Where the image is written"))?;
+    let list = Command::new(alloc, "list")
+        .about("Prints the instructions of an image")
+        .arg(positional(alloc, "IMAGE", "The image"))?;
     let run = Command::new(alloc, "run")
         .about("Runs a source text and prints its output")
         .arg(positional(alloc, "FILE", "The source text"))?
@@ -28,6 +31,7 @@ pub fn command<'a>(alloc: Global) -> Result<Command<'a>, AllocError>
         .no_binary_name(true)
         .subcommand_required(true)
         .subcommand(compile)?
+        .subcommand(list)?
         .subcommand(run)
 }
 

@@ -1,7 +1,7 @@
 ghost use Rattle.std.specs.Prelude.{IfOk, IfErr, IfSome, None, true, map, ◌≡◌};
 ghost use Rattle.clap.specs.Words.{found_of, kind_of, subcommand_rows_of, takes};
 ghost use Rattle.clap.specs.Walk.{rows_of};
-ghost use Rattle.commandline.specs.CommandLine.{AsksFor, IsAskedBy, IsCompileOf, IsRunOf, command_line};
+ghost use Rattle.commandline.specs.CommandLine.{AsksFor, IsAskedBy, IsCompileOf, IsListOf, IsRunOf, command_line};
 ghost use Rattle.commandline.specs.declared.job.Job.{Job as JobOf};
 
 use crate::builder::command;
@@ -19,6 +19,11 @@ pub enum Job<'a> {
         file: &'a str,
         /// The name of the image's file.
         out: &'a str,
+    },
+    /// Print the instructions of an image.
+    List {
+        /// The name of the image's file.
+        image: &'a str,
     },
     /// Run the source text of a file, within a limit of steps, and show the log where it is wanted.
     Run {
@@ -63,6 +68,7 @@ fn job_of<'a>(matches: &ArgMatches<'a>) -> Option<Job<'a>>
     let (name, inner) = matches.subcommand()?;
     match name {
         "compile" => compile_of(inner),
+        "list" => list_of(inner),
         "run" => run_of(inner),
         _ => None,
     }
@@ -75,6 +81,14 @@ fn compile_of<'a>(matches: &ArgMatches<'a>) -> Option<Job<'a>>
     let file = matches.get_str("FILE")?;
     let out = matches.get_str("OUT")?;
     Some(Job::Compile { file, out })
+}
+
+fn list_of<'a>(matches: &ArgMatches<'a>) -> Option<Job<'a>>
+    ensures job { IfSome result (IsListOf (rows_of (found_of matches.now))) }
+    ensures none { result ≡ None → (job : JobOf) → IsListOf (rows_of (found_of matches.now)) job → ⊥ }
+{
+    let image = matches.get_str("IMAGE")?;
+    Some(Job::List { image })
 }
 
 fn run_of<'a>(matches: &ArgMatches<'a>) -> Option<Job<'a>>

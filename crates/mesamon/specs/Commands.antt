@@ -1,6 +1,8 @@
 -- What a command that ended well has done: it wrote of some text, whose bytes a file gave.
 use Rattle.std.specs.Prelude.{◌≡◌, ◌⊎◌, ℕ, Bool, List, length}
 use Rattle.isa.specs.Programs.{Program}
+use Rattle.isa.specs.Spelling.{IsSpelled, spelling}
+use Rattle.listing.specs.Lines.{lines}
 use Rattle.runner.specs.declared.report.Verdict.{Verdict}
 use Rattle.runner.specs.declared.report.Verdict.TheVariants as verdict
 use Rattle.runner.specs.declared.report.Report.{Report}
@@ -16,6 +18,14 @@ pub record HasCompiled (Wrote : List ℕ → Type 0) : Type 0 where
   pub image : Program
   pub compiled : IsCompiled text image
   pub wrote : Wrote (image_line (length image.code))
+
+-- some bytes spell an image, and the lines of its instructions were written
+pub record HasListed (Wrote : List ℕ → Type 0) : Type 0 where
+  pub bytes : List ℕ
+  pub image : Program
+  pub spelled : IsSpelled image
+  pub is : spelling image ≡ bytes
+  pub wrote : Wrote (lines 0 image.code)
 
 abbrev pub status_of_verdict : Verdict → Status
 status_of_verdict verdict.Done = Done
@@ -33,9 +43,9 @@ pub record HasRun (Wrote WroteErrors : List ℕ → Type 0) (status : Status) : 
   pub wrote : Wrote (output_lines report.output.items)
   pub told : WroteErrors (account report trace)
 
--- a command that ended well has compiled or has run
+-- a command that ended well has compiled, has listed or has run
 abbrev pub HasDone : (Wrote WroteErrors : List ℕ → Type 0) → Status → Type 0
-HasDone Wrote WroteErrors Done = HasCompiled Wrote ⊎ HasRun Wrote WroteErrors Done
+HasDone Wrote WroteErrors Done = HasCompiled Wrote ⊎ (HasListed Wrote ⊎ HasRun Wrote WroteErrors Done)
 HasDone Wrote WroteErrors Stuck = HasRun Wrote WroteErrors Stuck
 HasDone Wrote WroteErrors Limit = HasRun Wrote WroteErrors Limit
 HasDone Wrote WroteErrors _ = ⊥

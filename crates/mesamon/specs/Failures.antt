@@ -4,13 +4,15 @@ use Rattle.std.specs.declared.io.ErrorKind.{ErrorKind}
 use Rattle.std.specs.declared.io.ErrorKind.TheVariants as io
 use Rattle.commandline.specs.declared.fault.WordsFault.{WordsFault}
 use Rattle.commandline.specs.declared.fault.WordsFault.TheVariants as words
+use Rattle.isa.specs.declared.fault.DecodeFault.{DecodeFault}
+use Rattle.isa.specs.declared.fault.DecodeFault.TheVariants as image
 use Rattle.scanner.specs.declared.refusal.Refusal.{Refusal}
 use Rattle.scanner.specs.declared.refusal.RefusalKind.TheVariants as kind
 use Rattle.runner.specs.declared.fault.RunFault.TheVariants as fault
 use Rattle.mesamon.specs.declared.source_run.RunSourceFault.{RunSourceFault}
 use Rattle.mesamon.specs.declared.source_run.RunSourceFault.TheVariants as source
 use Rattle.mesamon.specs.declared.failure.Failure.{Failure}
-use Rattle.mesamon.specs.declared.failure.Failure.TheVariants.{Usage, Read, Write, Refused, Run, Output, Memory}
+use Rattle.mesamon.specs.declared.failure.Failure.TheVariants.{Usage, Read, Write, Refused, Image, Run, Output, Memory}
 use Rattle.mesamon.specs.declared.status.Status.{Status}
 use Rattle.mesamon.specs.declared.status.Status.TheVariants as status
 
@@ -19,6 +21,7 @@ status_of (Usage e) = status.Usage
 status_of (Read name) = status.Failed
 status_of (Write name) = status.Failed
 status_of (Refused e) = status.Refused
+status_of (Image e) = status.Failed
 status_of (Run e) = status.Failed
 status_of Output = status.Failed
 status_of Memory = status.Memory
@@ -35,6 +38,11 @@ OfWords words.Memory f = f ≡ Memory
 -- and so is a refusal
 abbrev pub OfRefusal : Refusal → Failure → Type 0
 OfRefusal e f = ((e.kind ≡ kind.Memory) × (f ≡ Memory)) ⊎ ((e.kind ≢ kind.Memory) × (f ≡ Refused e))
+
+-- and so is the fault of an image
+abbrev pub OfImage : DecodeFault → Failure → Type 0
+OfImage image.Memory f = f ≡ Memory
+OfImage e f = f ≡ Image e
 
 abbrev pub OfRun : RunSourceFault → Failure → Type 0
 OfRun (source.Refused e) f = OfRefusal e f

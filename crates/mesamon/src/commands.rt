@@ -1,17 +1,18 @@
 ghost use Rattle.std.specs.Prelude.{◌≡◌, ◌≤◌, ◌⊎◌, ℕ, List, IfOk, IfErr, OnOk};
 ghost use Rattle.std.specs.Io.KnownBytes.{Appends};
 ghost use Rattle.mesamon.specs.Accounts.{output_lines, account};
-ghost use Rattle.mesamon.specs.Commands.{HasCompiled, HasDone, HasRun, status_of_verdict};
+ghost use Rattle.mesamon.specs.Commands.{HasCompiled, HasDone, HasListed, HasRun, status_of_verdict};
 ghost use Rattle.mesamon.specs.Running.{IsRunOf};
 
 use crate::compiler::compile;
 use crate::failure::Failure;
-use crate::files::{read_source, write_image};
-use crate::report::{write_account, write_image_line, write_output};
+use crate::files::{read_file, write_image};
+use crate::report::{write_account, write_image_line, write_output, write_text};
 use crate::source_run::run_source;
 use crate::status::Status;
 use commandline::{Job, read_job};
-use isa::encode;
+use isa::{decode, encode};
+use listing::list_lines;
 use runner::{Report, Verdict};
 use std::io;
 use std::io::Write;
@@ -21,7 +22,7 @@ use words::OpenGate;
 /// Does the command that these words ask for, those after the program's name, and answers the exit status. `output`
 /// and `errors` stand for standard output and standard error.
 ///
-/// The first fault decides: of the words, of reading the file, of its source text, of its run, of writing.
+/// The first fault decides: of the words, of reading the file, of its source text or its image, of its run, of writing.
 ///
 /// The status is 0 where the command was done, 1 where the source text is refused, 2 for words that are no command, 3
 /// where the run was stuck, 4 where it reached its limit, 5 where memory ran out, and 6 for any other failure.
@@ -33,8 +34,9 @@ pub fn perform<R: Files + AllocGlobal, O: Write, E: Write>(
 ) -> u8
     ensures known { result ≤ 6 }
     ensures done { result ≡ 0 → HasCompiled (Appends (O.contents output.old) (O.contents output.new))
+        ⊎ (HasListed (Appends (O.contents output.old) (O.contents output.new))
         ⊎ HasRun (Appends (O.contents output.old) (O.contents output.new))
-        (Appends (E.contents errors.old) (E.contents errors.new)) Status.Done }
+        (Appends (E.contents errors.old) (E.contents errors.new)) Status.Done) }
     ensures stuck { result ≡ 3 → HasRun (Appends (O.contents output.old) (O.contents output.new))
         (Appends (E.contents errors.old) (E.contents errors.new)) Status.Stuck }
     ensures limit { result ≡ 4 → HasRun (Appends (O.contents output.old) (O.contents output.new))
@@ -72,6 +74,10 @@ fn do_job<'a, R: Files + AllocGlobal, O: Write, E: Write>(
             compile_file(rt, file, out, output)?;
             Ok(Status::Done)
         }
+        Job::List { image } => {
+            list_file(rt, image, output)?;
+            Ok(Status::Done)
+        }
         Job::Run { file, steps, trace } => {
             let report = run_file(rt, file, steps)?;
             show(rt, &report, trace, output, errors)?;
@@ -89,12 +95,27 @@ fn compile_file<'a, R: Files + AllocGlobal, O: Write>(
 ) -> Result<(), Failure<'a>>
     ensures { OnOk result (HasCompiled (Appends (O.contents output.old) (O.contents output.new))) }
 {
-    let text = read_source(rt, file).map_err(|error| Failure::of_read(file, &error))?;
+    let text = read_file(rt, file).map_err(|error| Failure::of_read(file, &error))?;
     let image = compile(rt.alloc(), text.as_slice())?;
     let bytes = encode(rt.alloc(), &image)?;
     write_image(rt, out, bytes.as_slice()).map_err(|error| Failure::of_write(out, &error))?;
     let count = image.code().len();
     write_image_line(output, count).map_err(|error| Failure::of_output(&error))?;
+    Ok(())
+}
+
+// Lists the instructions of an image's file.
+fn list_file<'a, R: Files + AllocGlobal, O: Write>(
+    rt: &R,
+    file: &'a str,
+    output: &mut O,
+) -> Result<(), Failure<'a>>
+    ensures { OnOk result (HasListed (Appends (O.contents output.old) (O.contents output.new))) }
+{
+    let bytes = read_file(rt, file).map_err(|error| Failure::of_read(file, &error))?;
+    let image = decode(rt.alloc(), bytes.as_slice())?;
+    let lines = list_lines(rt.alloc(), &image)?;
+    write_text(output, lines.as_str()).map_err(|error| Failure::of_output(&error))?;
     Ok(())
 }
 
@@ -106,7 +127,7 @@ fn run_file<'a, R: Files + AllocGlobal>(
 ) -> Result<Report, Failure<'a>>
     ensures { IfOk result (λ report. (text : List ℕ) × IsRunOf text steps report) }
 {
-    let text = read_source(rt, file).map_err(|error| Failure::of_read(file, &error))?;
+    let text = read_file(rt, file).map_err(|error| Failure::of_read(file, &error))?;
     Ok(run_source(rt.alloc(), text.as_slice(), steps, &OpenGate)?)
 }
 

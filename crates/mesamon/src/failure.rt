@@ -1,11 +1,12 @@
 ghost use Rattle.std.specs.Prelude.{◌≡◌};
 ghost use Rattle.std.specs.IoError.{error_kind};
 ghost use Rattle.mesamon.specs.declared.failure.Failure.TheVariants.{Memory as memory};
-ghost use Rattle.mesamon.specs.Failures.{status_of, OfIo, OfWords, OfRefusal, OfRun};
+ghost use Rattle.mesamon.specs.Failures.{status_of, OfIo, OfWords, OfRefusal, OfImage, OfRun};
 
 use crate::source_run::RunSourceFault;
 use crate::status::Status;
 use commandline::WordsFault;
+use isa::DecodeFault;
 use runner::RunFault;
 use scanner::{Refusal, RefusalKind};
 use std::alloc::AllocError;
@@ -27,6 +28,9 @@ pub enum Failure<'a> {
     /// The source text was refused.
     #[error("{0}")]
     Refused(Refusal),
+    /// The bytes are no image.
+    #[error("{0}")]
+    Image(DecodeFault),
     /// The run failed.
     #[error("{0}")]
     Run(RunFault),
@@ -80,9 +84,11 @@ impl<'a> Failure<'a> {
             Failure::Usage(_) => Status::Usage,
             Failure::Refused(_) => Status::Refused,
             Failure::Memory => Status::Memory,
-            Failure::Read(_) | Failure::Write(_) | Failure::Run(_) | Failure::Output => {
-                Status::Failed
-            }
+            Failure::Read(_)
+            | Failure::Write(_)
+            | Failure::Image(_)
+            | Failure::Run(_)
+            | Failure::Output => Status::Failed,
         }
     }
 }
@@ -106,6 +112,17 @@ impl From<Refusal> for Failure<'_> {
             Failure::Memory
         } else {
             Failure::Refused(refusal)
+        }
+    }
+}
+
+impl From<DecodeFault> for Failure<'_> {
+    ghost from_gives = { OfImage };
+
+    fn from(fault: DecodeFault) -> Self {
+        match fault {
+            DecodeFault::Memory => Failure::Memory,
+            other => Failure::Image(other),
         }
     }
 }

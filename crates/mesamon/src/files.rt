@@ -8,8 +8,9 @@ use std::{fs, io};
 
 /// The bytes of a file, or the first `MOST_BYTES + 1` of a longer one.
 ///
-/// A text of so many bytes is refused as too long, so no more of it is needed.
-pub fn read_source<R: Files + AllocGlobal>(rt: &R, name: &str) -> io::Result<Vec<u8>> {
+/// No more is needed: a source text of so many bytes is refused as too long, and an image ends earlier, since each of
+/// its 65,536 instructions has at most 11 bytes.
+pub fn read_file<R: Files + AllocGlobal>(rt: &R, name: &str) -> io::Result<Vec<u8>> {
     read_front(rt.alloc(), fs::open(rt, name)?)
 }
 

@@ -20,6 +20,14 @@ pub fn write_image_line<W: Write>(writer: &mut W, count: usize) -> io::Result<()
     writeln!(writer, "ok {count} instructions")
 }
 
+/// Writes a text.
+pub fn write_text<W: Write>(writer: &mut W, text: &str) -> io::Result<()>
+    ensures { OnOk result (Appends (W.contents writer.old) (W.contents writer.new) text.now) }
+{
+    writer.write_all(text.as_bytes())?;
+    writer.flush()
+}
+
 /// Writes each number of the output on a line of its own.
 pub fn write_output<W: Write>(alloc: Global, writer: &mut W, output: &[i32]) -> io::Result<()>
     ensures { OnOk result (Appends (W.contents writer.old) (W.contents writer.new) (output_lines output.now)) }

@@ -1,0 +1,16 @@
+use Rattle.std.proofs.Common.{rules, codes}
+use Rattle.clap.proofs.WalkLemmas.{first_value-rows}
+use Rattle.clap.specs.Words.{found_of}
+use Rattle.clap.specs.Walk.{rows_of}
+use Rattle.commandline.proofs.NoJobs.{no_list}
+use Rattle.commandline.proofs.job.list_of.Goals as goal
+
+pub returns-in_err-image-clause-none : goal.returns-in_err-image-clause-none
+returns-in_err-image-clause-none c =
+    let image = first_value-rows (found_of c.args.matches.now) (codes "IMAGE") in
+    λ _ job. no_list (rows_of (found_of c.args.matches.now)) job (search rules)
+
+pub returns-clause-job : goal.returns-clause-job
+returns-clause-job c =
+    let image = first_value-rows (found_of c.args.matches.now) (codes "IMAGE") in
+    search rules

@@ -1,0 +1,11 @@
+use Rattle.std.proofs.Common.{rules}
+use Rattle.mesamon.proofs.commands.list_file.Goals as goal
+
+pub returns : goal.returns
+returns g c = record {
+  bytes = _;
+  image = _;
+  spelled = c.in_ok-image.ensures.found.0;
+  is = c.in_ok-image.ensures.found.1;
+  wrote = search rules;
+}
