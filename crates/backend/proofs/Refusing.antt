@@ -1,11 +1,15 @@
 -- What generating and linking refuse of a program's pieces.
-use Rattle.std.proofs.Common.{◌≡◌, ◌+◌, ℕ, suc, Result, Ok, Err, List, [], ◌∷◌, refl, sym, ap, ◌∙◌, subst, length}
+use Rattle.std.proofs.Common.{◌≡◌, ◌+◌, ◌≤◌, ◌⊎◌, ℕ, true, false, suc, Result, Ok, Err, List, [], ◌∷◌, refl, sym, ap}
+use Rattle.std.proofs.Common.{◌∙◌, subst, length}
 use Rattle.std.proofs.Common.{length-append, map, inl, inr, arith}
-use Rattle.std.specs.Prelude.{IsPermutation, MatchResult, IsErr, IsErrAnd}
+use Rattle.std.specs.Prelude.{IsPermutation, nat_le, MatchResult, IsErr, IsErrAnd}
 use Rattle.std.proofs.lemmas.List.Sorted.{IsPermutation-refl}
+use Rattle.std.proofs.lemmas.Bool.Decides.{leb_tells}
+use Rattle.isa.specs.Limits.{most_instructions}
 use Rattle.isa.specs.Programs.{Program as Image, IsProgram}
 use Rattle.scanner.specs.declared.refusal.Refusal.{Refusal}
 use Rattle.program.specs.Trees.{Program, Procedure}
+use Rattle.program.specs.WellFormed.{WellFormed}
 use Rattle.code.specs.declared.mark.Marked.{Marked}
 use Rattle.code.specs.Marks.{instructions}
 use Rattle.code.specs.Layout.{layout_of}
@@ -17,7 +21,8 @@ use Rattle.linker.specs.Failures as linked
 use Rattle.linker.specs.Linked.{Links, image_of}
 use Rattle.linker.proofs.Orders.{links_program}
 use Rattle.linker.proofs.Rising.{program_known}
-use Rattle.backend.specs.Refusals.{Refuses}
+use Rattle.codelimits.proofs.Images.{within}
+use Rattle.backend.specs.Refusals.{Fits, IsTooLong, Refuses}
 
 length_made : (p : Program) (f : ℕ → ℕ) (qs : List Procedure) (base : ℕ) → length (pieces_code p f qs base)
     ≡ generated.length_of p qs
@@ -35,14 +40,20 @@ length_instructions (i ∷ is) = ap suc (length_instructions is)
 -- a program that isn't generated
 pub of_generate : (p : Program) (e : Refusal) → generated.Refuses p e → Refuses p e
 of_generate p e (inl memory) = inl memory
-of_generate p e (inr long) = inr (
-  long.0,
-  λ h.
-      let over = long.1 in
-      let short = h.short in
-      let n = length_instructions (marked_code p)
-      ∙ length_made p (start_of p) p.procedures 0 in omega (arith, over, short, n),
-)
+of_generate p e (inr long) =
+    let over = long.1 in
+    let n = length_instructions (marked_code p) ∙ length_made p (start_of p) p.procedures 0 in
+    inr (long.0, omega (arith, over, n))
+
+-- what isn't within the limits of an image is too long
+long : (p : Program) → WellFormed p → (IsProgram (code_of p) → ⊥) → IsTooLong p
+long p formed over = decided (leb_tells (length (code_of p).code) most_instructions)
+  where
+    decided : ((nat_le (length (code_of p).code) most_instructions ≡ true)
+        × (length (code_of p).code ≤ most_instructions))
+        ⊎ ((nat_le (length (code_of p).code) most_instructions ≡ false) × IsTooLong p) → IsTooLong p
+    decided (inl short) = absurd (over (within p formed short.1))
+    decided (inr long) = long.1
 
 module _ (p : Program) (pieces : List CodePiece) (made : map generated.piece_of pieces ≡ generated.unlinked_pieces p)
   where
@@ -52,14 +63,14 @@ module _ (p : Program) (pieces : List CodePiece) (made : map generated.piece_of 
         (IsPermutation-refl (map generated.piece_of pieces))
 
     -- pieces that aren't linked
-    pub of_link : (e : Refusal) → linked.Refuses (layout_of p) pieces e → Refuses p e
-    of_link e (inl memory) = inl memory
-    of_link e (inr (inl stray)) = absurd (program_known p pieces same stray.1)
-    of_link e (inr (inr much)) =
+    pub of_link : WellFormed p → (e : Refusal) → linked.Refuses (layout_of p) pieces e → Refuses p e
+    of_link formed e (inl memory) = inl memory
+    of_link formed e (inr (inl stray)) = absurd (program_known p pieces same stray.1)
+    of_link formed e (inr (inr much)) =
         let h = much.1 in
         let is = links_program p pieces (image_of (layout_of p) (map generated.piece_of h.sorted)) same
         (record { sorted = h.sorted; order = h.order; is = refl }) in
-        inr (much.0, subst (λ i. IsProgram i → ⊥) is h.over)
+        inr (much.0, long p formed (subst (λ i. IsProgram i → ⊥) is h.over))
 
 -- an error passed on is the same error
 pub passed : {T : Type 0} (r : Result T Refusal) (e : Refusal) (P : T → Type 0) (Q : Refusal → Type 0) → IsErr r
@@ -67,10 +78,10 @@ pub passed : {T : Type 0} (r : Result T Refusal) (e : Refusal) (P : T → Type 0
 passed (Ok t) e P Q h q = absurd h.1
 passed (Err x) e P Q h q = subst Q (sym h.1) q
 
--- what is linked, or isn't
-pub of_linked : (p : Program) (pieces : List CodePiece) (r : Result Image Refusal) → map generated.piece_of pieces
-    ≡ generated.unlinked_pieces p
-    → MatchResult r (λ i. Links (layout_of p) pieces i) (λ e. linked.Refuses (layout_of p) pieces e)
-    → MatchResult r (λ i. i ≡ code_of p) (λ e. Refuses p e)
-of_linked p pieces (Ok i) made h = links_program p pieces i (same p pieces made) h
-of_linked p pieces (Err e) made h = of_link p pieces made e h
+-- pieces that are linked
+pub of_linked : (p : Program) (pieces : List CodePiece) (i : Image)
+    → map generated.piece_of pieces ≡ generated.unlinked_pieces p → Links (layout_of p) pieces i → IsProgram i
+    → (i ≡ code_of p) × Fits p
+of_linked p pieces i made h within =
+    let is = links_program p pieces i (same p pieces made) h in
+    (is, (subst IsProgram is within).short)
