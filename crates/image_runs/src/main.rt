@@ -1,24 +1,43 @@
 //! Runs images of the machine that stand as rows on standard input, and prints what came of each. A row is a name, a
-//! limit of steps, and the bytes of an image in hexadecimal digits, between white space. The script ./benchmark times
-//! it.
+//! limit of steps, the bytes of an image in hexadecimal digits, and how it is run, between white space:
+//!
+//! ```text
+//!                     on the calling thread
+//! workers             with a worker for each thread; what the schedule decides isn't printed
+//! workers_meet        the same through a gate at which the workers of the first two threads wait for one another
+//! alone_meet          on the calling thread through that gate
+//! ```
+//!
+//! The script ./benchmark times it.
 #![tactic(auto)]
 
 mod failure;
+mod meeting;
 mod opening;
 mod show;
 
 use crate::failure::Failure;
+use crate::meeting::Meeting;
 use crate::opening::show_opening;
-use crate::show::show;
-use isa::decode;
+use crate::show::{show, show_end};
+use isa::{Image, decode};
 use runner::run;
+use std::alloc::Global;
 use std::io;
+use std::sync::Wait;
+use std::thread::Threads;
 use words::OpenGate;
+
+// How often a worker looks for the other at the gate.
+const TURNS: u32 = 10_000_000;
+
+// The same where no other can come.
+const FEW_TURNS: u32 = 1000;
 
 fn main(rt: HostRuntime) -> io::Result<()> {
     for line in rt.lines(rt.alloc()) {
         let line = line?;
-        if let Err(failure) = run_row(&rt, line.as_str()) {
+        if let Err(failure) = run_row(&rt, rt.alloc(), line.as_str()) {
             println!(rt; "{failure}")?;
         }
     }
@@ -26,17 +45,65 @@ fn main(rt: HostRuntime) -> io::Result<()> {
 }
 
 // Runs the image of one row.
-fn run_row(rt: &HostRuntime, row: &str) -> Result<(), Failure> {
+fn run_row<R: Threads + Wait + Sync + Print>(
+    rt: &R,
+    alloc: Global,
+    row: &str,
+) -> Result<(), Failure> {
     let mut words = row.split_whitespace();
     let name = words.next().ok_or(Failure::Row)?;
     let limit = words.next().ok_or(Failure::Row)?;
     let digits = words.next().ok_or(Failure::Row)?;
     let limit: u32 = limit.parse().map_err(|_| Failure::Row)?;
-    let bytes = hex::decode(rt.alloc(), digits).map_err(|_| Failure::Row)?;
-    let image = decode(rt.alloc(), bytes.as_slice())?;
+    let bytes = hex::decode(alloc, digits).map_err(|_| Failure::Row)?;
+    let image = decode(alloc, bytes.as_slice())?;
     println!(rt; "{name}")?;
-    show_opening(rt, &image)?;
-    let report = run(rt.alloc(), &image, limit, &OpenGate)?;
+    match words.next() {
+        None => run_alone(rt, alloc, &image, limit),
+        Some("workers") => run_workers(rt, alloc, &image, limit),
+        Some("workers_meet") => meet_workers(rt, alloc, &image, limit),
+        Some("alone_meet") => meet_alone(rt, alloc, &image, limit),
+        Some(_) => Err(Failure::Row),
+    }
+}
+
+fn run_alone<R: Print>(rt: &R, alloc: Global, image: &Image, limit: u32) -> Result<(), Failure> {
+    show_opening(rt, alloc, image)?;
+    let report = run(alloc, image, limit, &OpenGate)?;
     show(rt, &report)?;
+    Ok(())
+}
+
+fn run_workers<R: Threads + Wait + Sync + Print>(
+    rt: &R,
+    alloc: Global,
+    image: &Image,
+    limit: u32,
+) -> Result<(), Failure> {
+    let report = workers::run(rt, alloc, image, limit, &OpenGate)?;
+    show_end(rt, &report)?;
+    Ok(())
+}
+
+fn meet_workers<R: Threads + Wait + Sync + Print>(
+    rt: &R,
+    alloc: Global,
+    image: &Image,
+    limit: u32,
+) -> Result<(), Failure> {
+    let gate = Meeting::new(TURNS);
+    let report = workers::run(rt, alloc, image, limit, &gate)?;
+    let held = gate.was_held();
+    println!(rt; "  met {held}")?;
+    show_end(rt, &report)?;
+    Ok(())
+}
+
+fn meet_alone<R: Print>(rt: &R, alloc: Global, image: &Image, limit: u32) -> Result<(), Failure> {
+    let gate = Meeting::new(FEW_TURNS);
+    let report = run(alloc, image, limit, &gate)?;
+    let held = gate.was_held();
+    println!(rt; "  met {held}")?;
+    show_end(rt, &report)?;
     Ok(())
 }

@@ -3,6 +3,7 @@ ghost use Rattle.std.specs.Prelude.{◌≡◌, ◌<◌, length};
 use crate::failure::Failure;
 use isa::Image;
 use machine::Machine;
+use std::alloc::Global;
 use std::io;
 
 // The numbers that the machine makes room for.
@@ -10,8 +11,8 @@ const ROOM: usize = 2;
 
 /// Prints what the machine of an image has at the start: its threads, whether it has the room that was made, and the
 /// words of the monitors' members.
-pub fn show_opening(rt: &HostRuntime, image: &Image) -> Result<(), Failure> {
-    let mut machine = Machine::new(rt.alloc(), image, 64)?;
+pub fn show_opening<R: Print>(rt: &R, alloc: Global, image: &Image) -> Result<(), Failure> {
+    let mut machine = Machine::new(alloc, image, 64)?;
     machine.make_room(ROOM)?;
     let threads = machine.threads();
     let has_room = machine.room() >= ROOM;
@@ -24,8 +25,8 @@ pub fn show_opening(rt: &HostRuntime, image: &Image) -> Result<(), Failure> {
 }
 
 // The words of a monitor's members.
-fn show_members(
-    rt: &HostRuntime,
+fn show_members<R: Print>(
+    rt: &R,
     image: &Image,
     machine: &Machine,
     monitor: usize,

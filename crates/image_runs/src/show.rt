@@ -7,7 +7,7 @@ const SHORT: usize = 24;
 
 /// Prints what came of a run: how it ended and how long it was, its log where that is short, its output, and the
 /// threads that sleep or have aborted.
-pub fn show(rt: &HostRuntime, report: &Report) -> io::Result<()> {
+pub fn show<R: Print>(rt: &R, report: &Report) -> io::Result<()> {
     let log = report.log.as_slice();
     let verdict = report.verdict;
     let entries = log.len();
@@ -18,13 +18,26 @@ pub fn show(rt: &HostRuntime, report: &Report) -> io::Result<()> {
     if entries <= SHORT {
         show_log(rt, log)?;
     }
+    show_output(rt, report)
+}
+
+/// Prints how a run ended, how many threads it made, its output, and the threads that sleep or have aborted.
+pub fn show_end<R: Print>(rt: &R, report: &Report) -> io::Result<()> {
+    let verdict = report.verdict;
+    let threads = report.last.threads();
+    println!(rt; "  {verdict:?}, {threads} threads")?;
+    show_output(rt, report)
+}
+
+// The numbers that were printed, and the threads that sleep or have aborted.
+fn show_output<R: Print>(rt: &R, report: &Report) -> io::Result<()> {
     for number in report.output.as_slice() {
         println!(rt; "  output {number}")?;
     }
     show_threads(rt, &report.last)
 }
 
-fn show_log(rt: &HostRuntime, log: &[Entry]) -> io::Result<()> {
+fn show_log<R: Print>(rt: &R, log: &[Entry]) -> io::Result<()> {
     for entry in log {
         let thread = entry.thread;
         let local = entry.local;
@@ -43,7 +56,7 @@ fn show_log(rt: &HostRuntime, log: &[Entry]) -> io::Result<()> {
 }
 
 // The threads of a set, each on a line.
-fn show_set(rt: &HostRuntime, what: &str, set: ThreadSet) -> io::Result<()> {
+fn show_set<R: Print>(rt: &R, what: &str, set: ThreadSet) -> io::Result<()> {
     for before in 0..64 {
         let thread = before + 1;
         if set.contains(thread) {
@@ -54,7 +67,7 @@ fn show_set(rt: &HostRuntime, what: &str, set: ThreadSet) -> io::Result<()> {
 }
 
 // The threads that have aborted, and those that sleep.
-fn show_threads(rt: &HostRuntime, last: &Machine) -> io::Result<()> {
+fn show_threads<R: Print>(rt: &R, last: &Machine) -> io::Result<()> {
     for before in 0..last.threads() {
         let thread = before + 1;
         let outcome = last.outcome(thread);

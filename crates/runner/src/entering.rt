@@ -50,7 +50,8 @@ fn hand_in(machine: &mut Machine, t: u32, here: &Local) -> Option<Event>
     requires thread { can_move (concrete machine.old) t ≡ true }
     requires fine { IsOk (entry_end machine.old.program (concrete machine.old) t here.now) }
     requires room { 1 ≤ machine.old.room }
-    ensures gives { entry_end machine.old.program (concrete machine.old) t here.now ≡ Ok (concrete machine.new, result) }
+    ensures gives { entry_end machine.old.program (concrete machine.old) t here.now
+        ≡ Ok (concrete machine.new, result) }
     ensures program { machine.new.program ≡ machine.old.program }
 {
     let turn = machine.is_before_local(t, here);

@@ -20,6 +20,6 @@ pub use naming::RunName;
 pub use next::{After, Next};
 pub use piece::Piece;
 pub use report::{Report, Verdict};
-pub use running::run;
+pub use running::{finish, run};
 pub use share::{PARTS, Share};
 pub use shared::Shared;

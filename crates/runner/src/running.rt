@@ -6,7 +6,7 @@ use crate::fault::RunFault;
 use crate::naming::RunName;
 use crate::report::{Report, Verdict};
 use crate::rounds::run_rounds;
-use crate::share::PARTS;
+use crate::share::{PARTS, Share};
 use crate::shared::Shared;
 use isa::Image;
 use machine::Machine;
@@ -50,7 +50,23 @@ fn run_as<J: RunName, G: Gate>(
     let Some(mut share) = shared.share() else {
         unreachable!()
     };
-    run_rounds(&mut shared, image, &mut share, gate)?;
+    finish(alloc, shared, image, &mut share, gate)
+}
+
+/// Runs on the calling thread, as `run` does, from where the log leads.
+pub fn finish<J: RunName, G: Gate>(
+    alloc: Global,
+    shared: Shared<J>,
+    image: &Image,
+    share: &mut Share<J>,
+    gate: &G,
+) -> Result<Report, RunFault>
+    requires image { image.now ≡ J.program }
+    ensures ok { IfOk result (λ report. IsReport J.program J.limit report) }
+    ensures err { IfErr result (λ fault. CanFail J.program J.limit fault) }
+{
+    let mut shared = shared;
+    run_rounds(&mut shared, image, share, gate)?;
     let Ok(output) = Vec::from_slice(alloc, shared.machine().output()) else {
         return Err(RunFault::Memory);
     };

@@ -7,7 +7,8 @@ ghost use Rattle.runner.specs.Logs.{Runs, cost};
 ghost use Rattle.runner.specs.Entries.{Takes, Refuses, IsFine, Stands};
 ghost use Rattle.runner.specs.Nexts.{IsNext};
 ghost use Rattle.runner.specs.Afters.{IsAfter};
-ghost use Rattle.runner.specs.Reports.{CanFail};
+ghost use Rattle.runner.specs.Reports.{CanFail, MeetsBroken};
+ghost use Rattle.runner.specs.declared.fault.RunFault;
 ghost use Rattle.machine.specs.Views.{concrete};
 ghost use Rattle.runner.specs.Views.{log_state};
 
@@ -191,6 +192,7 @@ impl<J: RunName> Shared<J> {
         ensures counted { OnOk result (share.new ≡ record share.old { count = share.old.count + 1 }) }
         ensures err { IfErr result (λ fault. (log_state self.new ≡ log_state self.old)
             × (share.new ≡ share.old) × Refuses J.program J.limit (log_state self.old) t piece fault) }
+        ensures broken { IfErr result (λ fault. fault ≡ RunFault.Broken → MeetsBroken J.program J.limit) }
         ensures given { self.new.given ≡ self.old.given }
         ensures legal { Runs J.program (opening_concrete J.program) self.new.log (log_state self.new).concrete }
         ensures within { cost self.new.log ≤ J.limit }
@@ -216,6 +218,7 @@ impl<J: RunName> Shared<J> {
         ensures counted { OnOk result (share.new ≡ record share.old { count = share.old.count + 1 }) }
         ensures err { IfErr result (λ fault. (log_state self.new ≡ log_state self.old) × (piece.new ≡ piece.old)
             × (share.new ≡ share.old) × Refuses J.program J.limit (log_state self.old) t piece.old fault) }
+        ensures broken { IfErr result (λ fault. fault ≡ RunFault.Broken → MeetsBroken J.program J.limit) }
         ensures given { self.new.given ≡ self.old.given }
         ensures legal { Runs J.program (opening_concrete J.program) self.new.log (log_state self.new).concrete }
         ensures within { cost self.new.log ≤ J.limit }

@@ -1,0 +1,202 @@
+ghost use Rattle.std.specs.Prelude.{◌≡◌, ◌≤◌, ◌<◌};
+
+use crate::desk::{Desk, News};
+use crate::lent::Lent;
+use crate::seat::Seat;
+use crossbeam_utils::CachePadded;
+use runner::{After, Piece, RunFault, RunName, Share};
+use std::alloc::{AllocError, Global};
+use std::sync::{Condvar, Mutex, Wait};
+use std::thread;
+use std::thread::Threads;
+use words::{Gate, MOST_PROCESSES};
+
+/// The run under its lock, a seat for the worker of each thread that there can be, and where the calling thread parks.
+#[derive(Drop)]
+pub struct Hall<J: RunName> {
+    desk: Mutex<Desk<J>>,
+    seats: Vec<CachePadded<Seat>>,
+    made: Condvar,
+}
+
+impl<J: RunName> Hall<J> {
+    /// A hall of empty seats, of which number 0 is nobody's.
+    pub fn new(alloc: Global, desk: Desk<J>) -> Result<Hall<J>, AllocError> {
+        let mut seats = Vec::new(alloc);
+        for _ in 0..=MOST_PROCESSES {
+            seats.push(CachePadded::new(Seat::new()))?;
+        }
+        Ok(Hall {
+            desk: Mutex::new(desk),
+            seats,
+            made: Condvar::new(),
+        })
+    }
+
+    /// What lay under the lock.
+    pub fn into_desk(self) -> Desk<J> {
+        let Hall { desk, .. } = self;
+        desk.into_inner()
+    }
+
+    /// Starts a worker for each thread that is made, and parks in between. It returns when all workers have ended.
+    pub fn start<R: Threads + Wait + Sync, G: Gate>(&self, rt: &R, lent: &Lent<J>, gate: &G)
+    where
+        J: Send + Sync,
+    {
+        thread::scope(thread::scope_env(), rt, |scope| {
+            for _ in rt.forever() {
+                let Some((t, share)) = self.next_worker(rt) else {
+                    break;
+                };
+                let worker = scope.spawn(move || {
+                    let share = self.work(rt, lent, gate, t, share);
+                    self.desk.lock(rt).give_back(share);
+                });
+                if worker.is_err() {
+                    self.fail(rt);
+                }
+            }
+        });
+    }
+
+    // The next thread without a worker, once it was made. None where nobody is left to make one.
+    fn next_worker<R: Wait>(&self, rt: &R) -> Option<(u32, Share<J>)> {
+        let mut desk = self.made.wait_while(rt, self.desk.lock(rt), |desk| {
+            !desk.lacks_worker() && !self.is_over(desk)
+        });
+        desk.next_worker()
+    }
+
+    // The work of the worker of thread `t`.
+    fn work<R: Wait, G: Gate>(
+        &self,
+        rt: &R,
+        lent: &Lent<J>,
+        gate: &G,
+        t: u32,
+        share: Share<J>,
+    ) -> Share<J> {
+        let mut share = share;
+        for _ in rt.forever() {
+            let Some(mut piece) = self.piece(rt, t) else {
+                break;
+            };
+            if !self.go_on(rt, lent, gate, t, &mut piece, &mut share) {
+                break;
+            }
+        }
+        share
+    }
+
+    // Goes on from a piece until its thread sleeps. Answers whether it does: else the worker ends.
+    fn go_on<R: Wait, G: Gate>(
+        &self,
+        rt: &R,
+        lent: &Lent<J>,
+        gate: &G,
+        t: u32,
+        piece: &mut Piece<J>,
+        share: &mut Share<J>,
+    ) -> bool {
+        for _ in rt.forever() {
+            piece.go_on(lent.image);
+            gate.pass(t);
+            match self.hand_in(rt, t, piece, share) {
+                After::Goes => {}
+                After::Sleeps => return true,
+                After::Ends => return false,
+            }
+        }
+        false
+    }
+
+    // The piece that thread `t` goes on from, once it can move. None where nobody is left to wake it.
+    fn piece<R: Wait>(&self, rt: &R, t: u32) -> Option<Piece<J>> {
+        let seat = self.seats.get(t as usize)?;
+        let desk = seat.called().wait_while(rt, self.desk.lock(rt), |desk| {
+            !desk.can_move(t) && !self.is_over(desk)
+        });
+        desk.piece(t)
+    }
+
+    // Takes in what thread `t` did, and calls whom it concerns.
+    fn hand_in<R: Wait>(
+        &self,
+        rt: &R,
+        t: u32,
+        piece: &mut Piece<J>,
+        share: &mut Share<J>,
+    ) -> After {
+        let Some(seat) = self.seats.get(t as usize) else {
+            return After::Ends;
+        };
+        let mut desk = self.desk.lock(rt);
+        let after = desk.hand_in(t, piece, share, seat);
+        let news = desk.news();
+        let is_over = after != After::Goes && self.is_over(&desk);
+        drop(desk);
+        self.tell(news);
+        if is_over {
+            self.call_all();
+        }
+        after
+    }
+
+    // Ends the run for want of memory.
+    fn fail<R: Wait>(&self, rt: &R) {
+        self.desk.lock(rt).fail();
+        self.call_all();
+    }
+
+    // Whether no worker is left to make an entry.
+    fn is_over(&self, desk: &Desk<J>) -> bool {
+        if desk.fault().is_some() {
+            return true;
+        }
+        for t in 1..=MOST_PROCESSES {
+            if desk.can_move(t) && !self.is_refused(t) {
+                return false;
+            }
+        }
+        true
+    }
+
+    // Calls the workers of the threads that an entry woke, and the calling thread where one was made.
+    fn tell(&self, news: News) {
+        if news.forked {
+            self.made.notify_all();
+        }
+        if news.woken.is_empty() {
+            return;
+        }
+        for t in 1..=MOST_PROCESSES {
+            if news.woken.contains(t) {
+                self.call(t);
+            }
+        }
+    }
+
+    // Whether the worker of thread `t` was refused.
+    fn is_refused(&self, t: u32) -> bool {
+        match self.seats.get(t as usize) {
+            Some(seat) => seat.is_refused(),
+            None => false,
+        }
+    }
+
+    // Calls the worker of thread `t`.
+    fn call(&self, t: u32) {
+        if let Some(seat) = self.seats.get(t as usize) {
+            seat.called().notify_all();
+        }
+    }
+
+    // Calls everybody who is parked.
+    fn call_all(&self) {
+        self.made.notify_all();
+        for seat in self.seats.iter() {
+            seat.called().notify_all();
+        }
+    }
+}

@@ -1,0 +1,13 @@
+ghost use Rattle.std.specs.Prelude.{◌≡◌};
+
+use isa::Image;
+use runner::RunName;
+use std::marker::PhantomData;
+
+/// The image of run `J`, lent to its workers.
+#[derive(Drop)]
+pub struct Lent<'a, J: RunName> {
+    pub image: &'a Image,
+    pub of: PhantomData<J>,
+    ghost is: { image.now ≡ J.program },
+}

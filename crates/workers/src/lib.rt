@@ -1,0 +1,11 @@
+//! A run with a worker for each thread of its machine: local steps are taken side by side, and shared steps under one
+//! lock.
+#![tactic(auto)]
+
+mod desk;
+mod hall;
+mod lent;
+mod running;
+mod seat;
+
+pub use running::run;

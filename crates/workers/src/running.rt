@@ -1,0 +1,73 @@
+ghost use Rattle.std.specs.Prelude.{◌≡◌, IfOk, IfErr};
+ghost use Rattle.runner.specs.Reports.{IsReport, CanFail};
+
+use crate::desk::Desk;
+use crate::hall::Hall;
+use crate::lent::Lent;
+use isa::Image;
+use runner::{PARTS, Report, RunFault, RunName, Shared, finish};
+use std::alloc::Global;
+use std::marker::{Brand, PhantomData};
+use std::sync::Wait;
+use std::sync::ledger::Blank;
+use std::thread::Threads;
+use words::Gate;
+
+/// Runs an image within a limit of steps, from 0 to 2^32 - 1, with a worker for each thread of the machine that ends
+/// with it. The gate is passed with a thread's number before each entry of it.
+///
+/// A worker takes local steps by itself, and hands them in under one lock, with the shared step that comes next. The
+/// worker of a thread that sleeps parks until another's entry wakes its thread. One whose entry would pass the limit
+/// ends. The calling thread starts the workers, and returns when all have ended.
+///
+/// Refuses only with `Memory`, also where a worker can't be started, and with `Broken`, where some legal log within the
+/// limit leads a thread, within a turn of local steps, to a step that may not be. Then all workers end before their
+/// next entry.
+pub fn run<R: Threads + Wait + Sync, G: Gate>(
+    rt: &R,
+    alloc: Global,
+    image: &Image,
+    limit: u32,
+    gate: &G,
+) -> Result<Report, RunFault>
+    ensures ok { IfOk result (λ report. IsReport image.now limit report) }
+    ensures err { IfErr result (λ fault. CanFail image.now limit fault) }
+{
+    run_as::<Brand, R, G>(rt, alloc, image, limit, Blank::new(u64::from(PARTS)), gate)
+}
+
+fn run_as<J: RunName + Send + Sync, R: Threads + Wait + Sync, G: Gate>(
+    rt: &R,
+    alloc: Global,
+    image: &Image,
+    limit: u32,
+    blank: Blank,
+    gate: &G,
+) -> Result<Report, RunFault>
+    requires image { image.now ≡ J.program }
+    requires limit { limit ≡ J.limit }
+    requires blank { (blank.name ≡ J.name) × (blank.parts ≡ J.parts) × (J.parts ≡ 1024) }
+    ensures ok { IfOk result (λ report. IsReport J.program J.limit report) }
+    ensures err { IfErr result (λ fault. CanFail J.program J.limit fault) }
+{
+    let Ok(mut shared) = Shared::<J>::new(alloc, image, limit, blank) else {
+        return Err(RunFault::Memory);
+    };
+    let Some(kept) = shared.share() else {
+        unreachable!()
+    };
+    let Ok(hall) = Hall::new(alloc, Desk::new(shared, kept)) else {
+        return Err(RunFault::Memory);
+    };
+    let lent = Lent {
+        image,
+        of: PhantomData,
+    };
+    hall.start(rt, &lent, gate);
+    let (shared, fault, mut kept) = hall.into_desk().into_parts();
+    if let Some(fault) = fault {
+        return Err(fault);
+    }
+    // Nothing is left to do but to see that the next entry of each thread that can move is refused.
+    finish(alloc, shared, image, &mut kept, gate)
+}
