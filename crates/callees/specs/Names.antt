@@ -15,7 +15,8 @@ HasNames t n = IsMembers t n.members × IsTable (procedure_names t) n.procedures
 
 -- and the number of its first piece, where the monitor has this number
 abbrev pub IsNames : UnitTree → ℕ → MonitorNames → Type 0
-IsNames u m n = (t : MonitorTree) × (slice_get u.monitors m ≡ Some t) × HasNames t n × (n.first_piece ≡ first_piece u m)
+IsNames u m n = (t : MonitorTree) × (slice_get u.monitors m ≡ Some t) × HasNames t n
+    × (n.first_piece ≡ first_piece u m)
 
 -- how many monitors, members, pieces, parameters and locals a unit declares
 abbrev pub declarations : UnitTree → ℕ

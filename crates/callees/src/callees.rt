@@ -116,8 +116,8 @@ impl<'u, 'a> Callees<'u, 'a> {
         self.piece(self.find(role, callee)?)
     }
 
-    /// The place of the fault of a callee that means nothing: the name before the dot where it isn't that of a monitor,
-    /// else the procedure's name.
+    /// The place of the fault of a callee that means nothing: the name before the dot where it is no monitor's, else
+    /// the procedure's name.
     pub fn missing_place(&self, callee: &Callee<'_>) -> Place
         ensures { (s : Scope) → IsCallees s.unit self.now
             → result ≡ place_of_missing s (callee_of callee.now).name (callee_of callee.now).dotted }
