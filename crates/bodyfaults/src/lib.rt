@@ -5,6 +5,6 @@ mod names;
 mod simple;
 mod values;
 
-pub use names::{condition, into, outside, recover, taker};
+pub use names::{condition, into, note_where, outside, recover, taker};
 pub use simple::{join, notify, print, returned, wait};
 pub use values::{assignment, typed};
