@@ -1,0 +1,11 @@
+//! The least fault of a block: of its statements, of what they call, and of the statements that they hold.
+#![tactic(auto)]
+
+mod arguments;
+mod call;
+mod callee;
+mod context;
+mod statement;
+
+pub use context::Context;
+pub use statement::block;
