@@ -31,7 +31,8 @@ fn image_is_within_limits(image: &Image)
 ///
 /// `Limit` at 1:1 where its code has more than 65,536 instructions, and there alone. `Memory` may come at any point.
 pub fn image_of(alloc: Global, checked: &Checked) -> Result<Image, Refusal>
-    ensures { let p = said_by checked.now in MatchResult result (λ image. (image ≡ code_of p) × Fits p) (λ e. Refuses p e) }
+    ensures { let p = said_by checked.now in
+        MatchResult result (λ image. (image ≡ code_of p) × Fits p) (λ e. Refuses p e) }
 {
     checked_is_well_formed(checked);
     let layout = place(alloc, checked)?;

@@ -94,9 +94,9 @@ fn else_passed(
         (λ e. Fails e (length code.old.items + length made)) }
 {
     block(else_part, site, code)?;
-    let end = room(code)?;
+    let behind = room(code)?;
     code[passed] = Marked {
-        instruction: Instr::Jump(end),
+        instruction: Instr::Jump(behind),
         mark: Mark::Plain,
     };
     Ok(())

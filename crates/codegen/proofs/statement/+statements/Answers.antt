@@ -60,7 +60,7 @@ then_passed-returns t c =
 
 pub else_passed-returns : goal.else_passed-returns
 else_passed-returns t c =
-    patch_else _ (block_code (setting_at c.args.site.now) (block_in c.args.else_part.now) (length c.args.code.now.items)) _ _ _ c.requires.there c.in_ok-block.ensures (c.in_ok-end.ensures.0 ∙ ap length c.deref.ensures.value)
+    patch_else _ (block_code (setting_at c.args.site.now) (block_in c.args.else_part.now) (length c.args.code.now.items)) _ _ _ c.requires.there c.in_ok-block.ensures (c.in_ok-behind.ensures.0 ∙ ap length c.deref.ensures.value)
 
 pub join_aborted-returns : goal.join_aborted-returns
 join_aborted-returns t c =
