@@ -1,4 +1,9 @@
 pub mod Openings
-pub mod Strays
 pub mod Effects
 pub mod Acts
+pub mod SameKind
+pub mod Takes
+pub mod Steps
+pub mod Outside
+pub mod Kills
+pub mod Leading

@@ -1,3 +1,5 @@
 pub mod Actions
 pub mod States
 pub mod Done
+pub mod Taken
+pub mod Killed

@@ -1,11 +1,10 @@
-ghost use Rattle.std.specs.Prelude.{◌≡◌, MatchBool, OnOk};
-ghost use Rattle.meaning.specs.States.{SourceState as SourceStateOf, printed_after, variables_after};
+ghost use Rattle.std.specs.Prelude.{◌≡◌, OnOk};
+ghost use Rattle.meaning.specs.States.{printed_after, variables_after};
 ghost use Rattle.meaning.specs.Table.{Allows};
 ghost use Rattle.sourceruns.specs.Offered.{effect_of, label_of};
 ghost use Rattle.sourceruns.specs.Stages.{process_of};
 ghost use Rattle.sourcetable.specs.Tables.{table_of};
 
-use crate::action::{Action, ActionKind};
 use crate::state::SourceState;
 use sourceruns::{Effect, Label, Process};
 use sourcetable::Table;
@@ -26,8 +25,7 @@ pub fn permit(table: &mut Table, process: u64, label: Label) -> Result<(), Alloc
 }
 
 impl<'a> SourceState<'a> {
-    ghost use Rattle.sourcestates.specs.Actions.{action_of};
-    ghost use Rattle.sourcestates.specs.Done.{IsDone, IsStrayStep};
+    ghost use Rattle.sourcestates.specs.Done.{IsDone};
     ghost use Rattle.sourcestates.specs.States.{state_of};
 
     // What an effect does to variables and output.
@@ -60,16 +58,5 @@ impl<'a> SourceState<'a> {
         self.affect(effect)?;
         let _before = self.processes.insert(process, after)?;
         Ok(())
-    }
-
-    /// A stray wake-up; false where the action is none that is possible.
-    pub fn step_stray(&mut self, action: &Action) -> bool
-        ensures { MatchBool result (IsStrayStep (state_of self.old) (action_of action.now) (state_of self.new))
-            ((s : SourceStateOf) → IsStrayStep (state_of self.old) (action_of action.now) s → ⊥) }
-    {
-        match &action.kind {
-            ActionKind::Stray(condition) => self.stray(action.process, *condition),
-            _ => false,
-        }
     }
 }

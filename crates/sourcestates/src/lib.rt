@@ -3,10 +3,20 @@
 
 mod action;
 mod done;
+mod dying;
+mod entering;
+mod forking;
+mod kill;
 mod laws;
+mod naming;
+mod notifying;
+mod placing;
 mod state;
+mod step;
 
 pub use action::{Action, ActionKind};
 pub use done::permit;
 pub use laws::offer_laws;
+pub use naming::is_named;
 pub use state::SourceState;
+pub use step::accepts;

@@ -1,0 +1,34 @@
+use Rattle.std.proofs.Common.{drop, map, ◌+◌, refl, subst, sym}
+use Rattle.std.proofs.lemmas.List.{drop_all}
+use Rattle.program.specs.Views.{program_of}
+use Rattle.meaning.specs.Runs.{Leads}
+use Rattle.sourcestates.specs.Actions.{action_of}
+use Rattle.sourcestates.specs.States.{state_of}
+use Rattle.sourcestates.proofs.Leading.{from_here, leads_nowhere, leads_on}
+use Rattle.sourcestates.proofs.step.accepts.Goals as goal
+
+pub returns-in-None : goal.returns-in-None
+returns-in-None c = λ s run.
+    leads_nowhere (program_of c.args.checked.now.tree) (state_of c.loop-action.state)
+    (map action_of (drop c.loop-action.action-index c.args.actions.now))
+    (map action_of (drop (c.loop-action.action-index + 1) c.args.actions.now)) (action_of c.action-item.result)
+    (from_here c.args.actions.now c.loop-action.action-index c.action-item.result c.loop-action-test.true
+    c.action-item.is)
+    (rw c.in-None.is at c.in_ok-step.ensures) s ((c.loop-action.invariant s).1 run)
+
+pub loop-action-preserved : goal.loop-action-preserved
+loop-action-preserved c = λ s.
+    let on = leads_on (program_of c.args.checked.now.tree) (state_of c.loop-action.state) (state_of c.in-Some.next)
+    (map action_of (drop c.loop-action.action-index c.args.actions.now))
+    (map action_of (drop (c.loop-action.action-index + 1) c.args.actions.now)) (action_of c.action-item.result)
+    (from_here c.args.actions.now c.loop-action.action-index c.action-item.result c.loop-action-test.true
+    c.action-item.is)
+    (rw c.in-Some.is at c.in_ok-step.ensures) s in
+    (λ led. (c.loop-action.invariant s).0 (on.0 led), λ run. on.1 ((c.loop-action.invariant s).1 run))
+
+pub returns : goal.returns
+returns c =
+    (c.loop-action.invariant (state_of c.loop-action.state)).0
+    (subst (λ xs. Leads (program_of c.args.checked.now.tree) (state_of c.loop-action.state) (map action_of xs)
+    (state_of c.loop-action.state))
+    (sym (drop_all c.loop-action.action-index c.args.actions.now c.loop-action-test.false)) refl)
