@@ -30,4 +30,6 @@ abbrev pub IsCell : Program → Cell → Type 0
 IsCell p (OfProcess t word) = (0 < t) × (t ≤ most_processes)
 IsCell p (Link m) = IsMonitor p m
 IsCell p (Lock m) = IsMonitor p m
-IsCell p (OfMember m k) = (x : Monitor) × (t : MemberType) × (slice_get p.monitors m.monitor ≡ Some x) × (slice_get x.members m.number ≡ Some t) × (k < member_words t)
+IsCell p (OfMember m k) =
+    (x : Monitor) × (t : MemberType) × (slice_get p.monitors m.monitor ≡ Some x)
+    × (slice_get x.members m.number ≡ Some t) × (k < member_words t)

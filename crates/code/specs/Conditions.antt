@@ -1,9 +1,10 @@
--- The templates of conditions (Lampson and Redell, section 3; futex(2)). s is the condition's sequence word, e the link word
--- of its monitor. Places count from each template's own beginning.
+-- The templates of conditions (Lampson and Redell, section 3; futex(2)). s is the condition's sequence word, e the
+-- link word of its monitor. Places count from each template's own beginning.
 use Rattle.std.specs.Prelude.{ℕ, ◌+◌, List, [], ◌∷◌, ◌++◌}
 use Rattle.program.specs.declared.kinds.Member.{Member}
 use Rattle.isa.specs.declared.instr.Instr.{Instr}
-use Rattle.isa.specs.declared.instr.Instr.TheVariants.{Push, Pop, Load, FetchOr, FetchAdd, FutexWait, FutexWake, FutexRequeue}
+use Rattle.isa.specs.declared.instr.Instr.TheVariants.{Push, Pop, Load, FetchOr, FetchAdd, FutexWait, FutexWake}
+use Rattle.isa.specs.declared.instr.Instr.TheVariants.{FutexRequeue}
 use Rattle.code.specs.declared.mark.Mark.TheVariants.{Resume, Wait, Notify, Broadcast}
 use Rattle.code.specs.declared.mark.Marked.{Marked}
 use Rattle.code.specs.Marks.{marked, plain, plainly}
@@ -13,7 +14,8 @@ use Rattle.code.specs.Locks.{waiters, take_at, got_at, leave_at}
 abbrev pub everyone : ℕ
 everyone = 4294967295
 
--- the sequence word is read under the lock, which is given up, and the process sleeps where that word is still the same
+-- the sequence word is read under the lock, which is given up, and the process sleeps where that word is still the
+-- same
 abbrev pub sleep_code : Member → ℕ → ℕ → List Marked
 sleep_code c e s = plainly (Push s ∷ Push s ∷ Load ∷ []) ++ (leave_at (Wait c) e 3 ++ plainly (FutexWait ∷ Pop ∷ []))
 

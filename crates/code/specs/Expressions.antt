@@ -4,11 +4,13 @@ use Rattle.program.specs.declared.kinds.Member.{Member as MemberOf}
 use Rattle.program.specs.declared.kinds.UnaryOperator.{UnaryOperator}
 use Rattle.program.specs.declared.kinds.UnaryOperator.TheVariants.{Negate as Negated, Not as Not'}
 use Rattle.program.specs.declared.kinds.Operator.{Operator}
-use Rattle.program.specs.declared.kinds.Operator.TheVariants.{Add, Subtract, Multiply, Divide, Modulo, Equal, NotEqual, Less, LessEqual, Greater, GreaterEqual, And, Or}
+use Rattle.program.specs.declared.kinds.Operator.TheVariants.{Add, Subtract, Multiply, Divide, Modulo, Equal, NotEqual}
+use Rattle.program.specs.declared.kinds.Operator.TheVariants.{Less, LessEqual, Greater, GreaterEqual, And, Or}
 use Rattle.program.specs.Trees.{Program, Expression, Constant, Truth, Local, Member, Element, Unary, Both}
 use Rattle.program.specs.Scope.{array_size}
 use Rattle.isa.specs.declared.operator.Operator.{Operator as Operation}
-use Rattle.isa.specs.declared.operator.Operator.TheVariants.{Add as Add', Sub, Mul, Div, Mod, Eq, Ne, Lt, Le, Gt, Ge, BitAnd, BitOr}
+use Rattle.isa.specs.declared.operator.Operator.TheVariants.{Add as Add', Sub, Mul, Div, Mod, Eq, Ne, Lt, Le, Gt, Ge}
+use Rattle.isa.specs.declared.operator.Operator.TheVariants.{BitAnd, BitOr}
 use Rattle.isa.specs.declared.slot.Slot.TheVariants.{Local as Slot'}
 use Rattle.isa.specs.declared.instr.Instr.{Instr}
 use Rattle.isa.specs.declared.instr.Instr.TheVariants.{Push, GetLocal, Load, Operate, Negate, Not, Index}
@@ -50,7 +52,8 @@ expression_code p (Local slot) = plain (GetLocal (Slot' slot)) ∷ []
 expression_code p (Member m) = plain (Push (member_address p m)) ∷ plain Load ∷ []
 expression_code p (Element array index) = expression_code p index ++ (plain (index_code p array) ∷ plain Load ∷ [])
 expression_code p (Unary op e) = expression_code p e ++ plain (unary_code op) ∷ []
-expression_code p (Both op left right) = expression_code p left ++ (expression_code p right ++ plain (Operate (operation op)) ∷ [])
+expression_code p (Both op left right) =
+    expression_code p left ++ (expression_code p right ++ plain (Operate (operation op)) ∷ [])
 
 -- one after the other, the first one lowest
 abbrev pub arguments_code : Program → List Expression → List Marked

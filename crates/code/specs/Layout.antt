@@ -6,8 +6,8 @@ use Rattle.program.specs.declared.kinds.Member.{Member}
 use Rattle.program.specs.Trees.{Monitor, Program}
 use Rattle.program.specs.WellFormed.{member_words, words_of}
 
--- of a monitor: the address of its link word (the lock word is the next), of the first word of each member, and how many
--- words its members have
+-- of a monitor: the address of its link word (the lock word is the next), of the first word of each member, and how
+-- many words its members have
 pub record MonitorLayout : Type 0 where
   pub link : ℕ
   pub members : List ℕ
@@ -25,7 +25,8 @@ addresses_from base (m ∷ ms) = base ∷ addresses_from (base + member_words m)
 
 -- one monitor at an address
 abbrev pub monitor_layout : ℕ → Monitor → MonitorLayout
-monitor_layout base m = record { link = base; members = addresses_from (base + 2) m.members; words = words_of m.members }
+monitor_layout base m =
+    record { link = base; members = addresses_from (base + 2) m.members; words = words_of m.members }
 
 abbrev pub monitors_from : ℕ → List Monitor → List MonitorLayout
 monitors_from base [] = []

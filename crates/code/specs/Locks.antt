@@ -1,6 +1,6 @@
--- The templates of a monitor's lock (Drepper, Futexes Are Tricky; robust-futex ABI: the pending entry is set before and
--- cleared after, the list is mended in between). Places count from each template's own beginning; e is the link word,
--- e + 1 the lock word.
+-- The templates of a monitor's lock (Drepper, Futexes Are Tricky; robust-futex ABI: the pending entry is set before
+-- and cleared after, the list is mended in between). Places count from each template's own beginning; e is the link
+-- word, e + 1 the lock word.
 use Rattle.std.specs.Prelude.{ℕ, ◌+◌, List, [], ◌∷◌, ◌++◌, Option, Some, None}
 use Rattle.words.specs.declared.outcome.Fault.TheVariants.{AbandonedMonitor}
 use Rattle.words.specs.declared.process.ProcessWord.{ProcessWord}
@@ -8,7 +8,9 @@ use Rattle.words.specs.declared.process.ProcessWord.TheVariants.{Head, Pending}
 use Rattle.isa.specs.declared.operator.Operator.TheVariants.{Eq, BitAnd, BitOr}
 use Rattle.isa.specs.declared.slot.Slot.TheVariants.{Template}
 use Rattle.isa.specs.declared.instr.Instr.{Instr}
-use Rattle.isa.specs.declared.instr.Instr.TheVariants.{Push, GetLocal, SetLocal, Pop, Operate, Jump, JumpIfZero, Call, OwnNumber, ProcessAddress, Raise, Load, Store, Swap, CompareSwap, FutexWait, FutexWake}
+use Rattle.isa.specs.declared.instr.Instr.TheVariants.{Push, GetLocal, SetLocal, Pop, Operate, Jump, JumpIfZero, Call}
+use Rattle.isa.specs.declared.instr.Instr.TheVariants.{OwnNumber, ProcessAddress, Raise, Load, Store, Swap}
+use Rattle.isa.specs.declared.instr.Instr.TheVariants.{CompareSwap, FutexWait, FutexWake}
 use Rattle.code.specs.declared.mark.Mark.{Mark}
 use Rattle.code.specs.declared.mark.Mark.TheVariants.{Enter, Exit}
 use Rattle.code.specs.declared.mark.Marked.{Marked}
@@ -40,8 +42,8 @@ get = GetLocal Template
 abbrev pub keep : Instr
 keep = SetLocal Template
 
--- the lock is taken in the form that tells of waiters, from place a on: where it is owned, its waiters bit is set and the
--- process sleeps; the mark stands where it is taken
+-- the lock is taken in the form that tells of waiters, from place a on: where it is owned, its waiters bit is set and
+-- the process sleeps; the mark stands where it is taken
 abbrev pub take_at : Mark → ℕ → ℕ → List Marked
 take_at mark e a =
     plainly (
@@ -54,8 +56,8 @@ take_at mark e a =
 abbrev pub take_code : Mark → ℕ → List Marked
 take_code mark e = take_at mark e 0
 
--- with the lock, from a place on: the monitor comes first in the robust list, nothing is pending any more, and an abandoned
--- monitor is recovered first
+-- with the lock, from a place on: the monitor comes first in the robust list, nothing is pending any more, and an
+-- abandoned monitor is recovered first
 abbrev pub got_at : ℕ → Instr → ℕ → List Marked
 got_at e recover start =
     plainly (Push e ∷ (own Head ++ (Load ∷ Store ∷ (own Head ++ (Push e ∷ Store ∷ (own Pending ++ (Push 0 ∷ Store ∷
@@ -73,7 +75,8 @@ try_code m e =
 abbrev pub enter_code : ℕ → ℕ → Instr → List Marked
 enter_code m e recover = try_code m e ++ (take_at (Enter m) e 11 ++ got_at e recover 43)
 
--- the lock is given up, from a place on, and one waiter is woken where there may be any; the mark stands where it is given up
+-- the lock is given up, from a place on, and one waiter is woken where there may be any; the mark stands where it is
+-- given up
 abbrev pub leave_at : Mark → ℕ → ℕ → List Marked
 leave_at mark e start =
     plainly (own Pending ++ (Push e ∷ Store ∷ (own Head ++ (Push e ∷ Load ∷ Store ∷ Push (e + 1) ∷ Push 0 ∷ [])))) ++

@@ -8,9 +8,12 @@ use Rattle.program.specs.declared.kinds.Role.TheVariants.{Entry, Internal, Recov
 use Rattle.isa.specs.declared.operator.Operator.TheVariants.{Eq}
 use Rattle.isa.specs.declared.slot.Slot.TheVariants.{Local}
 use Rattle.isa.specs.declared.instr.Instr.{Instr}
-use Rattle.isa.specs.declared.instr.Instr.TheVariants.{Push, SetLocal, Pop, Operate, Jump, JumpIfZero, Call as Call', Fork as Fork', Ret, RetValue, ProcessAddress, Raise, Load, Swap, FutexWait}
+use Rattle.isa.specs.declared.instr.Instr.TheVariants.{Push, SetLocal, Pop, Operate, Jump, JumpIfZero, Call as Call'}
+use Rattle.isa.specs.declared.instr.Instr.TheVariants.{Fork as Fork', Ret, RetValue, ProcessAddress, Raise, Load, Swap}
+use Rattle.isa.specs.declared.instr.Instr.TheVariants.{FutexWait}
 use Rattle.code.specs.declared.mark.Mark.{Mark}
-use Rattle.code.specs.declared.mark.Mark.TheVariants.{Plain, Fork, Claim as Claims, Join as Joins, Call, Return, LastReturn}
+use Rattle.code.specs.declared.mark.Mark.TheVariants.{Plain, Fork, Claim as Claims, Join as Joins, Call, Return}
+use Rattle.code.specs.declared.mark.Mark.TheVariants.{LastReturn}
 use Rattle.code.specs.declared.mark.Marked.{Marked}
 use Rattle.code.specs.Marks.{marked, plain, plainly}
 use Rattle.code.specs.Locks.{get, keep}
@@ -30,10 +33,11 @@ await_code =
 -- then, where it has ended by its return, its result is read
 abbrev pub ended_code : List Marked
 ended_code =
-    plainly (get ∷ ProcessAddress Outcome ∷ Load ∷ Push 16 ∷ Operate Eq ∷ JumpIfZero 30 ∷ get ∷ ProcessAddress Result ∷ Load ∷ [])
+    plainly (get ∷ ProcessAddress Outcome ∷ Load ∷ Push 16 ∷ Operate Eq ∷ JumpIfZero 30 ∷
+    get ∷ ProcessAddress Result ∷ Load ∷ [])
 
--- all of it, up to where the result is taken; a process that aborted is found at place 30, behind a jump past what is done
--- then
+-- all of it, up to where the result is taken; a process that aborted is found at place 30, behind a jump past what is
+-- done then
 abbrev pub join_code : Option ℕ → List Marked
 join_code into = await_code ++ (ended_code ++ plain (into_code into) ∷ [])
 
@@ -41,8 +45,8 @@ join_code into = await_code ++ (ended_code ++ plain (into_code into) ∷ [])
 abbrev pub fork_code : ℕ → ℕ → ℕ → List Marked
 fork_code place arguments into = marked Fork (Fork' place arguments) ∷ plain (SetLocal (Local into)) ∷ []
 
--- behind its arguments: a procedure at a place is called, and its result, if there is one, is taken; its return is then
--- placed where that is done
+-- behind its arguments: a procedure at a place is called, and its result, if there is one, is taken; its return is
+-- then placed where that is done
 abbrev pub call_code : ℕ → Option ℕ → Option ValueType → List Marked
 call_code place (Some slot) result = marked Call (Call' place) ∷ marked Return (SetLocal (Local slot)) ∷ []
 call_code place None (Some t) = marked Call (Call' place) ∷ marked Return Pop ∷ []

@@ -4,7 +4,9 @@ use Rattle.words.specs.declared.outcome.Fault.TheVariants.{AbortStatement, Joine
 use Rattle.program.specs.declared.kinds.ValueType.{ValueType}
 use Rattle.program.specs.declared.kinds.Role.{Role}
 use Rattle.program.specs.declared.kinds.Role.TheVariants.{Entry, Internal, Recover, External, Main}
-use Rattle.program.specs.Trees.{Program, Procedure, Expression, Target, ToLocal, ToMember, ToElement, Statement, Assign, If, While, Call, Fork, Join, Return, Wait, Notify, Broadcast, Print, Abort, Block, Done, Then, Part, NoPart, SomePart}
+use Rattle.program.specs.Trees.{Program, Procedure, Expression, Target, ToLocal, ToMember, ToElement, Statement}
+use Rattle.program.specs.Trees.{Assign, If, While, Call, Fork, Join, Return, Wait, Notify, Broadcast, Print, Abort}
+use Rattle.program.specs.Trees.{Block, Done, Then, Part, NoPart, SomePart}
 use Rattle.program.specs.Scope.{recover_of}
 use Rattle.isa.specs.declared.slot.Slot.TheVariants.{Local}
 use Rattle.isa.specs.declared.instr.Instr.{Instr}
@@ -44,7 +46,8 @@ result_of p q = result_in (slice_get p.procedures q)
 -- an address comes before the value, or a local behind it
 abbrev pub assignment_code : Program → Target → Expression → List Marked
 assignment_code p (ToLocal slot) e = expression_code p e ++ marked AssignLocal (SetLocal (Local slot)) ∷ []
-assignment_code p (ToMember m) e = plain (Push (member_address p m)) ∷ (expression_code p e ++ marked AssignMember Store ∷ [])
+assignment_code p (ToMember m) e =
+    plain (Push (member_address p m)) ∷ (expression_code p e ++ marked AssignMember Store ∷ [])
 assignment_code p (ToElement a i) e =
     expression_code p i ++ (plain (index_code p a) ∷ (expression_code p e ++ marked AssignMember Store ∷ []))
 
@@ -99,7 +102,8 @@ abbrev mutual
       arguments_code c.program es ++ call_code (c.starts q) into (result_of c.program q)
   statement_code c (Fork q es into) start =
       arguments_code c.program es ++ fork_code (c.starts q) (length es) into
-  statement_code c (Join e into part) start = join_all_code (expression_code c.program e) into (aborted_code c part) start
+  statement_code c (Join e into part) start =
+      join_all_code (expression_code c.program e) into (aborted_code c part) start
   statement_code c (Return value) start =
       let left = value_code c.program value in left ++ ending_code c (start + length left)
   statement_code c (Wait m) start =
@@ -112,7 +116,8 @@ abbrev mutual
 
   pub block_code : Setting → Block → Code
   block_code c Done start = []
-  block_code c (Then first rest) start = statement_code c first start ++ block_code c rest (start + length (statement_code c first start))
+  block_code c (Then first rest) start =
+      statement_code c first start ++ block_code c rest (start + length (statement_code c first start))
 
   -- what is done where the process that is joined aborted
   pub aborted_code : Setting → Part → Code

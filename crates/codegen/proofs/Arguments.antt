@@ -15,12 +15,14 @@ some_code p (Element a e) = grind (arith, length-append)
 some_code p (Unary op e) = grind (arith, length-append)
 some_code p (Both op l r) = grind (arith, length-append)
 
-pub arguments_length : (p : Program) (es : List ExpressionOf) → length es ≤ length (arguments_code p (map expression_of es))
+pub arguments_length : (p : Program) (es : List ExpressionOf)
+    → length es ≤ length (arguments_code p (map expression_of es))
 arguments_length p [] = omega arith
 arguments_length p (e ∷ es) =
     let h = arguments_length p es in
     let k = some_code p (expression_of e) in
-    let l = length-append (expression_code p (expression_of e)) (arguments_code p (map expression_of es)) in omega arith
+    let l = length-append (expression_code p (expression_of e)) (arguments_code p (map expression_of es)) in
+    omega arith
 
 pub parameters_length : (n : ℕ) → length (parameters_code n) ≡ n
 parameters_length zero = omega arith

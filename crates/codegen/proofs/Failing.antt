@@ -10,6 +10,7 @@ fails_more e n m le (inl memory) = inl memory
 fails_more e n m le (inr long) = inr (long.0, (let over = long.1 in omega arith))
 
 -- an error passed on is the same error
-pub failed : {T : Type 0} (r : Result T Refusal) (e : Refusal) (P : T → Type 0) (n m : ℕ) → IsErr r × IsErrAnd r (λ x. x ≡ e) → Fails e n → n ≤ m → MatchResult r P (λ x. Fails x m)
+pub failed : {T : Type 0} (r : Result T Refusal) (e : Refusal) (P : T → Type 0) (n m : ℕ)
+    → IsErr r × IsErrAnd r (λ x. x ≡ e) → Fails e n → n ≤ m → MatchResult r P (λ x. Fails x m)
 failed (Ok t) e P n m h f le = absurd h.1
 failed (Err x) e P n m h f le = subst (λ y. Fails y m) (sym h.1) (fails_more e n m le f)

@@ -1,5 +1,6 @@
 -- A jump is written once the place that it leads to is known.
-use Rattle.std.proofs.Common.{◌≡◌, ◌<◌, ◌≤◌, Result, ℕ, ◌+◌, List, [], ◌∷◌, ◌++◌, length, ap, ◌∙◌, arith, append_assoc, length-append}
+use Rattle.std.proofs.Common.{◌≡◌, ◌<◌, ◌≤◌, Result, ℕ, ◌+◌, List, [], ◌∷◌, ◌++◌, length, ap, ◌∙◌, arith, append_assoc}
+use Rattle.std.proofs.Common.{length-append}
 use Rattle.std.specs.Prelude.{slice_set, MatchResult, Ok, Err}
 use Rattle.scanner.specs.declared.refusal.Refusal.{Refusal}
 use Rattle.codegen.specs.Failures.{Fails}
@@ -16,7 +17,9 @@ use Rattle.code.specs.Statements.{if_code, if_else_code, while_code}
 set_at : (a b : List Marked) (x i : Marked) (n : ℕ) → n ≡ length a → slice_set (a ++ x ∷ b) n i ≡ a ++ i ∷ b
 set_at a b x i n e = ap (λ m. slice_set (a ++ x ∷ b) m i) e ∙ set-append_seam a x b i
 
-pub patch_if : (base tc : List Marked) (fa : Code) (c1 c2 c3 : List Marked) (x : Marked) (n1 n2 : ℕ) → c1 ≡ base ++ tc → n1 ≡ length c1 → c2 ≡ c1 ++ x ∷ [] → c3 ≡ c2 ++ fa (length c2) → n2 ≡ length c3 → slice_set c3 n1 (marked Test (JumpIfZero n2)) ≡ base ++ if_code tc fa (length base)
+pub patch_if : (base tc : List Marked) (fa : Code) (c1 c2 c3 : List Marked) (x : Marked) (n1 n2 : ℕ) → c1 ≡ base ++ tc
+    → n1 ≡ length c1 → c2 ≡ c1 ++ x ∷ [] → c3 ≡ c2 ++ fa (length c2) → n2 ≡ length c3
+    → slice_set c3 n1 (marked Test (JumpIfZero n2)) ≡ base ++ if_code tc fa (length base)
 patch_if base tc fa c1 c2 c3 x n1 n2 e1 m1 e2 e3 m2 =
     let s = length base + length tc + 1 in
     let ca = fa s in
@@ -33,7 +36,10 @@ patch_if base tc fa c1 c2 c3 x n1 n2 e1 m1 e2 e3 m2 =
     ∙ append_assoc base tc _
     ∙ ap (λ n. base ++ (tc ++ marked Test (JumpIfZero n) ∷ ca)) z2
 
-pub patch_while : (base tc : List Marked) (fb : Code) (c1 c2 c3 c4 : List Marked) (x : Marked) (n0 n1 n2 : ℕ) → n0 ≡ length base → c1 ≡ base ++ tc → n1 ≡ length c1 → c2 ≡ c1 ++ x ∷ [] → c3 ≡ c2 ++ fb (length c2) → c4 ≡ c3 ++ plain (Jump n0) ∷ [] → n2 ≡ length c4 → slice_set c4 n1 (marked Test (JumpIfZero n2)) ≡ base ++ while_code tc fb (length base)
+pub patch_while : (base tc : List Marked) (fb : Code) (c1 c2 c3 c4 : List Marked) (x : Marked) (n0 n1 n2 : ℕ)
+    → n0 ≡ length base → c1 ≡ base ++ tc → n1 ≡ length c1 → c2 ≡ c1 ++ x ∷ [] → c3 ≡ c2 ++ fb (length c2)
+    → c4 ≡ c3 ++ plain (Jump n0) ∷ [] → n2 ≡ length c4
+    → slice_set c4 n1 (marked Test (JumpIfZero n2)) ≡ base ++ while_code tc fb (length base)
 patch_while base tc fb c1 c2 c3 c4 x n0 n1 n2 m0 e1 m1 e2 e3 e4 m2 =
     let s = length base + length tc + 1 in
     let cb = fb s in
@@ -53,7 +59,9 @@ patch_while base tc fb c1 c2 c3 c4 x n0 n1 n2 m0 e1 m1 e2 e3 e4 m2 =
     ∙ ap (λ n. base ++ (tc ++ marked Test (JumpIfZero n) ∷ (cb ++ j ∷ []))) z2
     ∙ ap (λ n. base ++ (tc ++ marked Test (JumpIfZero z) ∷ (cb ++ plain (Jump n) ∷ []))) m0
 
-pub patch_then : (base tc : List Marked) (fa : Code) (c1 c2 c3 c4 : List Marked) (x : Marked) (n1 n3 : ℕ) → c1 ≡ base ++ tc → n1 ≡ length c1 → c2 ≡ c1 ++ x ∷ [] → c3 ≡ c2 ++ fa (length c2) → c4 ≡ c3 ++ plain (Jump 0) ∷ [] → n3 ≡ length c4 → slice_set c4 n1 (marked Test (JumpIfZero n3)) ≡ base ++ then_code tc fa (length base)
+pub patch_then : (base tc : List Marked) (fa : Code) (c1 c2 c3 c4 : List Marked) (x : Marked) (n1 n3 : ℕ)
+    → c1 ≡ base ++ tc → n1 ≡ length c1 → c2 ≡ c1 ++ x ∷ [] → c3 ≡ c2 ++ fa (length c2) → c4 ≡ c3 ++ plain (Jump 0) ∷ []
+    → n3 ≡ length c4 → slice_set c4 n1 (marked Test (JumpIfZero n3)) ≡ base ++ then_code tc fa (length base)
 patch_then base tc fa c1 c2 c3 c4 x n1 n3 e1 m1 e2 e3 e4 m3 =
     let y = plain (Jump 0) in
     let ts = length base + length tc + 1 in
@@ -73,11 +81,15 @@ patch_then base tc fa c1 c2 c3 c4 x n1 n3 e1 m1 e2 e3 e4 m3 =
     ∙ append_assoc base tc _
     ∙ ap (λ n. base ++ (tc ++ marked Test (JumpIfZero n) ∷ (ca ++ y ∷ []))) z3
 
-pub patch_join : (base tc jc : List Marked) (fb : Code) (c1 c2 c3 : List Marked) (y : Marked) (n1 n2 s : ℕ) → s ≡ length base + length tc + 30 → length jc ≡ 29 → c1 ≡ base ++ (tc ++ jc) → n1 ≡ length c1 → c2 ≡ c1 ++ y ∷ [] → c3 ≡ c2 ++ fb (length c2) → n2 ≡ length c3 → slice_set c3 n1 (plain (Jump n2)) ≡ base ++ (tc ++ (jc ++ (plain (Jump (s + length (fb s))) ∷ fb s)))
+pub patch_join : (base tc jc : List Marked) (fb : Code) (c1 c2 c3 : List Marked) (y : Marked) (n1 n2 s : ℕ)
+    → s ≡ length base + length tc + 30 → length jc ≡ 29 → c1 ≡ base ++ (tc ++ jc) → n1 ≡ length c1 → c2 ≡ c1 ++ y ∷ []
+    → c3 ≡ c2 ++ fb (length c2) → n2 ≡ length c3
+    → slice_set c3 n1 (plain (Jump n2)) ≡ base ++ (tc ++ (jc ++ (plain (Jump (s + length (fb s))) ∷ fb s)))
 patch_join base tc jc fb c1 c2 c3 y n1 n2 s es ej e1 m1 e2 e3 m2 =
     let cb = fb s in
     let j = plain (Jump n2) in
-    let l1 : length c1 ≡ length base + length tc + 29 = omega (arith, ap length e1 ∙ length-append base (tc ++ jc), length-append tc jc) in
+    let l1 : length c1 ≡ length base + length tc + 29 =
+    omega (arith, ap length e1 ∙ length-append base (tc ++ jc), length-append tc jc) in
     let l2 : length c2 ≡ s = omega (arith, ap length e2 ∙ length-append c1 (y ∷ [])) in
     let f3 : c3 ≡ c2 ++ cb = e3 ∙ ap (λ n. c2 ++ fb n) l2 in
     let z2 : n2 ≡ s + length cb = omega (arith, ap length f3 ∙ length-append c2 cb) in
@@ -91,22 +103,33 @@ patch_join base tc jc fb c1 c2 c3 y n1 n2 s es ej e1 m1 e2 e3 m2 =
     ∙ ap (λ n. base ++ (tc ++ (jc ++ plain (Jump n) ∷ cb))) z2
 
 -- the length of the first half
-then_length : (tc : List Marked) (fa : Code) (s : ℕ) → length (then_code tc fa s) ≡ length tc + 1 + length (fa (s + length tc + 1)) + 1
+then_length : (tc : List Marked) (fa : Code) (s : ℕ)
+    → length (then_code tc fa s) ≡ length tc + 1 + length (fa (s + length tc + 1)) + 1
 then_length tc fa s =
     let ca = fa (s + length tc + 1) in
-    omega (arith, length-append tc (marked Test (JumpIfZero (s + length tc + 1 + length ca + 1)) ∷ (ca ++ plain (Jump 0) ∷ [])), length-append ca (plain (Jump 0) ∷ []))
+    omega (
+      arith,
+      length-append tc (marked Test
+          (JumpIfZero (s + length tc + 1 + length ca + 1)) ∷ (ca ++ plain (Jump 0) ∷ [])),
+      length-append ca (plain
+          (Jump 0) ∷ []),
+    )
 
 -- the place of the jump that isn't written yet
-pub then_place : (base tc : List Marked) (fa : Code) (c1 c2 c3 : List Marked) (x : Marked) (n2 : ℕ) → c1 ≡ base ++ tc → c2 ≡ c1 ++ x ∷ [] → c3 ≡ c2 ++ fa (length c2) → n2 ≡ length c3 → n2 + 1 ≡ length base + length (then_code tc fa (length base))
+pub then_place : (base tc : List Marked) (fa : Code) (c1 c2 c3 : List Marked) (x : Marked) (n2 : ℕ) → c1 ≡ base ++ tc
+    → c2 ≡ c1 ++ x ∷ [] → c3 ≡ c2 ++ fa (length c2) → n2 ≡ length c3
+    → n2 + 1 ≡ length base + length (then_code tc fa (length base))
 then_place base tc fa c1 c2 c3 x n2 e1 e2 e3 m2 =
     let ts = length base + length tc + 1 in
     let l1 : length c1 ≡ length base + length tc = ap length e1 ∙ length-append base tc in
     let l2 : length c2 ≡ ts = omega (arith, ap length e2 ∙ length-append c1 (x ∷ [])) in
-    let l3 : length c3 ≡ ts + length (fa ts) = ap length e3 ∙ ap (λ n. length (c2 ++ fa n)) l2 ∙ length-append c2 (fa ts) ∙ ap (λ n. n + length (fa ts)) l2 in
+    let l3 : length c3 ≡ ts + length (fa ts) =
+    ap length e3 ∙ ap (λ n. length (c2 ++ fa n)) l2 ∙ length-append c2 (fa ts) ∙ ap (λ n. n + length (fa ts)) l2 in
     let h = then_length tc fa (length base) in omega (arith, h, l3, m2)
 
 -- the length of all
-if_else_length : (tc : List Marked) (fa fb : Code) (s : ℕ) → length (if_else_code tc fa fb s) ≡ length (then_code tc fa s) + length (fb (s + length (then_code tc fa s)))
+if_else_length : (tc : List Marked) (fa fb : Code) (s : ℕ)
+    → length (if_else_code tc fa fb s) ≡ length (then_code tc fa s) + length (fb (s + length (then_code tc fa s)))
 if_else_length tc fa fb s =
     let ts = s + length tc + 1 in
     let ca = fa ts in
@@ -117,10 +140,14 @@ if_else_length tc fa fb s =
     let same : length (fb (s + length (then_code tc fa s))) ≡ length cb = ap (λ n. length (fb n)) (omega arith) in
     omega (arith, length-append tc (marked Test (JumpIfZero es) ∷ (ca ++ j ∷ cb)), length-append ca (j ∷ cb), same, h)
 
-pub then_less : (tc : List Marked) (fa fb : Code) (s : ℕ) → length (then_code tc fa s) ≤ length (if_else_code tc fa fb s)
+pub then_less : (tc : List Marked) (fa fb : Code) (s : ℕ)
+    → length (then_code tc fa s) ≤ length (if_else_code tc fa fb s)
 then_less tc fa fb s = let h = if_else_length tc fa fb s in omega arith
 
-else_joined : (base tc : List Marked) (fa fb : Code) (m new : List Marked) (passed : ℕ) → m ≡ base ++ then_code tc fa (length base) → passed + 1 ≡ length base + length (then_code tc fa (length base)) → new ≡ slice_set m passed (plain (Jump (length m + length (fb (length m))))) ++ fb (length m) → new ≡ base ++ if_else_code tc fa fb (length base)
+else_joined : (base tc : List Marked) (fa fb : Code) (m new : List Marked) (passed : ℕ)
+    → m ≡ base ++ then_code tc fa (length base) → passed + 1 ≡ length base + length (then_code tc fa (length base))
+    → new ≡ slice_set m passed (plain (Jump (length m + length (fb (length m))))) ++ fb (length m)
+    → new ≡ base ++ if_else_code tc fa fb (length base)
 else_joined base tc fa fb m new passed e1 p e2 =
     let ts = length base + length tc + 1 in
     let ca = fa ts in
@@ -142,17 +169,24 @@ else_joined base tc fa fb m new passed e1 p e2 =
     ∙ end
 
 -- the second half behind the first is all, or fails for its cause
-pub else_made : {T : Type 0} (r : Result T Refusal) (base tc : List Marked) (fa fb : Code) (m new : List Marked) (passed : ℕ) → m ≡ base ++ then_code tc fa (length base) → passed + 1 ≡ length base + length (then_code tc fa (length base)) →
-    MatchResult r (λ _. new ≡ slice_set m passed (plain (Jump (length m + length (fb (length m))))) ++ fb (length m)) (λ e. Fails e (length m + length (fb (length m)))) →
-    MatchResult r (λ _. new ≡ base ++ if_else_code tc fa fb (length base)) (λ e. Fails e (length base + length (if_else_code tc fa fb (length base))))
+pub else_made : {T : Type 0} (r : Result T Refusal) (base tc : List Marked) (fa fb : Code) (m new : List Marked)
+    (passed : ℕ) → m ≡ base ++ then_code tc fa (length base)
+    → passed + 1 ≡ length base + length (then_code tc fa (length base)) →
+    MatchResult r (λ _. new ≡ slice_set m passed (plain (Jump (length m + length (fb (length m))))) ++ fb (length m))
+    (λ e. Fails e (length m + length (fb (length m)))) →
+    MatchResult r (λ _. new ≡ base ++ if_else_code tc fa fb (length base))
+    (λ e. Fails e (length base + length (if_else_code tc fa fb (length base))))
 else_made (Ok u) base tc fa fb m new passed e1 p e2 = else_joined base tc fa fb m new passed e1 p e2
 else_made (Err e) base tc fa fb m new passed e1 p f =
-    let lm : length m ≡ length base + length (then_code tc fa (length base)) = ap length e1 ∙ length-append base (then_code tc fa (length base)) in
-    let same : length (fb (length m)) ≡ length (fb (length base + length (then_code tc fa (length base)))) = ap (λ n. length (fb n)) lm in
+    let lm : length m ≡ length base + length (then_code tc fa (length base)) =
+    ap length e1 ∙ length-append base (then_code tc fa (length base)) in
+    let same : length (fb (length m)) ≡ length (fb (length base + length (then_code tc fa (length base)))) =
+    ap (λ n. length (fb n)) lm in
     fails_more e _ _ (let h = if_else_length tc fa fb (length base) in omega (arith, h, same, lm)) f
 
 -- a jump is written before what follows it
-pub patch_else : (old cb c1 : List Marked) (passed n : ℕ) → passed < length old → c1 ≡ old ++ cb → n ≡ length c1 → slice_set c1 passed (plain (Jump n)) ≡ slice_set old passed (plain (Jump (length old + length cb))) ++ cb
+pub patch_else : (old cb c1 : List Marked) (passed n : ℕ) → passed < length old → c1 ≡ old ++ cb → n ≡ length c1
+    → slice_set c1 passed (plain (Jump n)) ≡ slice_set old passed (plain (Jump (length old + length cb))) ++ cb
 patch_else old cb c1 passed n lt e1 m =
     let z : n ≡ length old + length cb = m ∙ ap length e1 ∙ length-append old cb in
     ap (λ l. slice_set l passed (plain (Jump n))) e1

@@ -16,4 +16,9 @@ IsLaidOut s = s.layout.now ≡ layout_of (program_of s.program.now)
 
 -- calls name pieces by their numbers
 abbrev pub setting_at : Site → Setting
-setting_at s = record { program = program_of s.program.now; starts = λ piece. piece; role = s.role; result = s.outcome }
+setting_at s = record {
+  program = program_of s.program.now;
+  starts = λ piece. piece;
+  role = s.role;
+  result = s.outcome;
+}

@@ -59,8 +59,10 @@ pub(crate) fn fork_statement(
     code: &mut Vec<Marked>,
 ) -> Result<(), Refusal>
     requires { IsLaidOut site.now }
-    ensures { let made = lowered.statement_code (setting_at site.now) (trees.Fork procedure (map expression_of es.now) into) (length code.old.items) in
-        MatchResult result (λ _. code.new.items ≡ code.old.items ++ made) (λ e. Fails e (length code.old.items + length made)) }
+    ensures { let made = lowered.statement_code (setting_at site.now)
+        (trees.Fork procedure (map expression_of es.now) into) (length code.old.items) in
+        MatchResult result (λ _. code.new.items ≡ code.old.items ++ made)
+        (λ e. Fails e (length code.old.items + length made)) }
 {
     count(es.len())?;
     fork(procedure, es, into, site, code)?;
@@ -74,8 +76,10 @@ pub(crate) fn wait_statement(
     code: &mut Vec<Marked>,
 ) -> Result<(), Refusal>
     requires { IsLaidOut site.now }
-    ensures { let made = lowered.statement_code (setting_at site.now) (trees.Wait condition) (length code.old.items) in
-        MatchResult result (λ _. code.new.items ≡ code.old.items ++ made) (λ e. Fails e (length code.old.items + length made)) }
+    ensures { let made = lowered.statement_code (setting_at site.now)
+        (trees.Wait condition) (length code.old.items) in
+        MatchResult result (λ _. code.new.items ≡ code.old.items ++ made)
+        (λ e. Fails e (length code.old.items + length made)) }
 {
     room(code)?;
     let link = site.layout.link(condition.monitor);
@@ -92,8 +96,10 @@ pub(crate) fn return_statement(
     code: &mut Vec<Marked>,
 ) -> Result<(), Refusal>
     requires { IsLaidOut site.now }
-    ensures { let made = lowered.statement_code (setting_at site.now) (trees.Return (option_expression outcome.now)) (length code.old.items) in
-        MatchResult result (λ _. code.new.items ≡ code.old.items ++ made) (λ e. Fails e (length code.old.items + length made)) }
+    ensures { let made = lowered.statement_code (setting_at site.now)
+        (trees.Return (option_expression outcome.now)) (length code.old.items) in
+        MatchResult result (λ _. code.new.items ≡ code.old.items ++ made)
+        (λ e. Fails e (length code.old.items + length made)) }
 {
     value(outcome, site, code)?;
     room(code)?;
@@ -111,7 +117,8 @@ pub(crate) fn join_first(
     requires { IsLaidOut site.now }
     ensures { let test = expression_code (said_at site.now) (expression_of handle.now) in
         let made = test ++ placed (length code.old.items + length test) (join_code into) in
-        MatchResult result (λ _. code.new.items ≡ code.old.items ++ made) (λ e. Fails e (length code.old.items + length made)) }
+        MatchResult result (λ _. code.new.items ≡ code.old.items ++ made)
+        (λ e. Fails e (length code.old.items + length made)) }
 {
     expression(handle, site, code)?;
     room(code)?;
@@ -129,7 +136,8 @@ pub(crate) fn join_statement(
     requires { IsLaidOut site.now }
     ensures { let made = lowered.join_all_code (expression_code (said_at site.now) (expression_of handle.now)) into
         (lowered.aborted_code (setting_at site.now) trees.NoPart) (length code.old.items) in
-        MatchResult result (λ _. code.new.items ≡ code.old.items ++ made) (λ e. Fails e (length code.old.items + length made)) }
+        MatchResult result (λ _. code.new.items ≡ code.old.items ++ made)
+        (λ e. Fails e (length code.old.items + length made)) }
 {
     join_first(handle, into, site, code)?;
     let passed = room(code)?;
@@ -145,8 +153,10 @@ pub(crate) fn broadcast_statement(
     code: &mut Vec<Marked>,
 ) -> Result<(), Refusal>
     requires { IsLaidOut site.now }
-    ensures { let made = lowered.statement_code (setting_at site.now) (trees.Broadcast condition) (length code.old.items) in
-        MatchResult result (λ _. code.new.items ≡ code.old.items ++ made) (λ e. Fails e (length code.old.items + length made)) }
+    ensures { let made = lowered.statement_code (setting_at site.now)
+        (trees.Broadcast condition) (length code.old.items) in
+        MatchResult result (λ _. code.new.items ≡ code.old.items ++ made)
+        (λ e. Fails e (length code.old.items + length made)) }
 {
     let link = site.layout.link(condition.monitor);
     let sequence = site.layout.address(condition);

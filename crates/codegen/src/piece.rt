@@ -59,8 +59,10 @@ fn default_value(outcome: Option<ValueType>, code: &mut Vec<Marked>) -> Result<(
 // The beginning of a procedure: its parameters, and the lock of an ENTRY procedure.
 fn beginning(procedure: &Procedure, site: &Site, code: &mut Vec<Marked>) -> Result<(), Refusal>
     requires { IsLaidOut site.now }
-    ensures { let made = beginning_code (setting_at site.now) (length procedure.now.parameters.items) (length code.old.items) in
-        MatchResult result (λ _. code.new.items ≡ code.old.items ++ made) (λ e. Fails e (length code.old.items + length made)) }
+    ensures { let made = beginning_code (setting_at site.now) (length procedure.now.parameters.items)
+        (length code.old.items) in
+        MatchResult result (λ _. code.new.items ≡ code.old.items ++ made)
+        (λ e. Fails e (length code.old.items + length made)) }
 {
     let parameter_count = count(procedure.parameters.len())?;
     parameters(parameter_count, code)?;
@@ -73,7 +75,8 @@ fn beginning(procedure: &Procedure, site: &Site, code: &mut Vec<Marked>) -> Resu
 fn text_end(site: &Site, code: &mut Vec<Marked>) -> Result<(), Refusal>
     requires { IsLaidOut site.now }
     ensures { let made = end_code (setting_at site.now) (length code.old.items) in
-        MatchResult result (λ _. code.new.items ≡ code.old.items ++ made) (λ e. Fails e (length code.old.items + length made)) }
+        MatchResult result (λ _. code.new.items ≡ code.old.items ++ made)
+        (λ e. Fails e (length code.old.items + length made)) }
 {
     default_value(site.outcome, code)?;
     room(code)?;

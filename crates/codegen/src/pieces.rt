@@ -10,8 +10,8 @@ use program::Checked;
 use scanner::Refusal;
 use std::alloc::Global;
 
-/// The pieces of a program, one for each procedure, by rising number. Their places count from their own beginning, and calls
-/// name pieces by their numbers.
+/// The pieces of a program, one for each procedure, by rising number. Their places count from their own beginning, and
+/// calls name pieces by their numbers.
 ///
 /// Code of more instructions than an image may have is `Limit` at 1:1.
 pub fn generate(

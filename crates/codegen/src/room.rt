@@ -28,7 +28,8 @@ pub(crate) fn count(n: usize) -> Result<u32, Refusal>
 
 // The place behind the code, which isn't too long.
 pub(crate) fn room(code: &[Marked]) -> Result<u32, Refusal>
-    ensures { MatchResult result (λ n. (n ≡ length code.now) × (n ≤ most_instructions)) (λ e. Fails e (length code.now)) }
+    ensures { MatchResult result (λ n. (n ≡ length code.now) × (n ≤ most_instructions))
+        (λ e. Fails e (length code.now)) }
 {
     count(code.len())
 }

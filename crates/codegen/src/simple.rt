@@ -60,7 +60,8 @@ pub(crate) fn call(
     code: &mut Vec<Marked>,
 ) -> Result<(), AllocError>
     requires { IsLaidOut site.now }
-    ensures { OnOk result (code.new.items ≡ code.old.items ++ (arguments_code (said_at site.now) (map expression_of es.now)
+    ensures { OnOk result (code.new.items ≡ code.old.items
+        ++ (arguments_code (said_at site.now) (map expression_of es.now)
         ++ processes.call_code procedure into (statements.result_of (said_at site.now) procedure))) }
 {
     arguments(es, site, code)?;
@@ -77,7 +78,8 @@ pub(crate) fn fork(
 ) -> Result<(), AllocError>
     requires few { length es.now ≤ most_instructions }
     requires laid_out { IsLaidOut site.now }
-    ensures { OnOk result (code.new.items ≡ code.old.items ++ (arguments_code (said_at site.now) (map expression_of es.now)
+    ensures { OnOk result (code.new.items ≡ code.old.items
+        ++ (arguments_code (said_at site.now) (map expression_of es.now)
         ++ processes.fork_code procedure (length es.now) into)) }
 {
     arguments(es, site, code)?;

@@ -36,7 +36,8 @@ fn if_then(
     requires { IsLaidOut site.now }
     ensures { let made = lowered.if_code (expression_code (said_at site.now) (expression_of condition.now))
         (lowered.block_code (setting_at site.now) (block_in then_part.now)) (length code.old.items) in
-        MatchResult result (λ _. code.new.items ≡ code.old.items ++ made) (λ e. Fails e (length code.old.items + length made)) }
+        MatchResult result (λ _. code.new.items ≡ code.old.items ++ made)
+        (λ e. Fails e (length code.old.items + length made)) }
 {
     expression(condition, site, code)?;
     let test = code.len();
@@ -50,8 +51,8 @@ fn if_then(
     Ok(())
 }
 
-// A test, what is done where it holds, and a jump that isn't written yet, past what is done where it doesn't hold. The answer
-// is the place of that jump.
+// A test, what is done where it holds, and a jump that isn't written yet, past what is done where it doesn't hold. The
+// answer is the place of that jump.
 #[cycle(statements)]
 fn then_passed(
     then_part: &[Statement],
@@ -62,7 +63,8 @@ fn then_passed(
     requires { IsLaidOut site.now }
     ensures { let made = then_code (expression_code (said_at site.now) (expression_of condition.now))
         (lowered.block_code (setting_at site.now) (block_in then_part.now)) (length code.old.items) in
-        MatchResult result (λ passed. (code.new.items ≡ code.old.items ++ made) × (passed + 1 ≡ length code.old.items + length made))
+        MatchResult result (λ passed. (code.new.items ≡ code.old.items ++ made)
+        × (passed + 1 ≡ length code.old.items + length made))
         (λ e. Fails e (length code.old.items + length made)) }
 {
     expression(condition, site, code)?;
@@ -90,7 +92,8 @@ fn else_passed(
     requires laid_out { IsLaidOut site.now }
     requires there { passed < length code.old.items }
     ensures { let made = lowered.block_code (setting_at site.now) (block_in else_part.now) (length code.old.items) in
-        MatchResult result (λ _. code.new.items ≡ slice_set code.old.items passed (plain (JumpOf (length code.old.items + length made))) ++ made)
+        MatchResult result (λ _. code.new.items
+        ≡ slice_set code.old.items passed (plain (JumpOf (length code.old.items + length made))) ++ made)
         (λ e. Fails e (length code.old.items + length made)) }
 {
     block(else_part, site, code)?;
@@ -113,7 +116,8 @@ fn while_do(
     requires { IsLaidOut site.now }
     ensures { let made = lowered.while_code (expression_code (said_at site.now) (expression_of condition.now))
         (lowered.block_code (setting_at site.now) (block_in body.now)) (length code.old.items) in
-        MatchResult result (λ _. code.new.items ≡ code.old.items ++ made) (λ e. Fails e (length code.old.items + length made)) }
+        MatchResult result (λ _. code.new.items ≡ code.old.items ++ made)
+        (λ e. Fails e (length code.old.items + length made)) }
 {
     let start = room(code)?;
     expression(condition, site, code)?;
@@ -141,7 +145,8 @@ fn join_aborted(
     requires { IsLaidOut site.now }
     ensures { let made = lowered.join_all_code (expression_code (said_at site.now) (expression_of handle.now)) into
         (lowered.block_code (setting_at site.now) (block_in aborted.now)) (length code.old.items) in
-        MatchResult result (λ _. code.new.items ≡ code.old.items ++ made) (λ e. Fails e (length code.old.items + length made)) }
+        MatchResult result (λ _. code.new.items ≡ code.old.items ++ made)
+        (λ e. Fails e (length code.old.items + length made)) }
 {
     join_first(handle, into, site, code)?;
     let passed = code.len();
@@ -160,7 +165,8 @@ fn join_aborted(
 fn statement(s: &Statement, site: &Site, code: &mut Vec<Marked>) -> Result<(), Refusal>
     requires { IsLaidOut site.now }
     ensures { let made = lowered.statement_code (setting_at site.now) (statement_of s.now) (length code.old.items) in
-        MatchResult result (λ _. code.new.items ≡ code.old.items ++ made) (λ e. Fails e (length code.old.items + length made)) }
+        MatchResult result (λ _. code.new.items ≡ code.old.items ++ made)
+        (λ e. Fails e (length code.old.items + length made)) }
 {
     match s {
         Statement::Assign(target, e) => lift(assignment(target, e, site, code)),
@@ -212,7 +218,8 @@ pub(crate) fn block(
 ) -> Result<(), Refusal>
     requires { IsLaidOut site.now }
     ensures { let made = lowered.block_code (setting_at site.now) (block_in statements.now) (length code.old.items) in
-        MatchResult result (λ _. code.new.items ≡ code.old.items ++ made) (λ e. Fails e (length code.old.items + length made)) }
+        MatchResult result (λ _. code.new.items ≡ code.old.items ++ made)
+        (λ e. Fails e (length code.old.items + length made)) }
 {
     for s in statements {
         statement(s, site, code)?;

@@ -19,7 +19,8 @@ fn sleep_from(
     start: u32,
 ) -> Result<(), AllocError>
     requires { (link < 2 ^ 16) × (start ≤ 2 ^ 17) }
-    ensures { OnOk result (code.new.items ≡ code.old.items ++ placed start (conditions.sleep_code condition link sequence)) }
+    ensures { OnOk result (code.new.items ≡ code.old.items
+        ++ placed start (conditions.sleep_code condition link sequence)) }
 {
     append_plain(
         code,
@@ -47,8 +48,8 @@ fn wait_from(
     got_from(code, link, recover, start, 56)
 }
 
-/// WAIT on a condition, with the link word of its monitor, its own sequence word, and the place of the monitor's RECOVER
-/// part.
+/// WAIT on a condition, with the link word of its monitor, its own sequence word, and the place of the monitor's
+/// RECOVER part.
 pub fn wait(
     code: &mut Vec<Marked>,
     condition: Member,

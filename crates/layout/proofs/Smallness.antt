@@ -21,26 +21,35 @@ words_from : (base : ℕ) (ms : List Monitor) → sum (map (λ m. m.words) (moni
 words_from base [] = refl
 words_from base (m ∷ ms) =
     let next = monitors_from (base + 2 + words_of m.members) ms in
-    sum_by-cons (λ n. n) (words_of m.members) (map (λ (l : MonitorLayout). l.words) next) ∙ ap (λ n. words_of m.members + n) (words_from (base + 2 + words_of m.members) ms)
+    sum_by-cons (λ n. n) (words_of m.members) (map (λ (l : MonitorLayout). l.words) next)
+    ∙ ap (λ n. words_of m.members + n) (words_from (base + 2 + words_of m.members) ms)
 
-pub small_monitors : (p : Program) (pieces : ℕ) → WellFormed p → IsSmall (record { monitors = monitors_from monitors_base p.monitors; pieces = pieces })
+pub small_monitors : (p : Program) (pieces : ℕ) → WellFormed p
+    → IsSmall (record { monitors = monitors_from monitors_base p.monitors; pieces = pieces })
 small_monitors p pieces w = record {
   few_monitors = let h = length_from monitors_base p.monitors in let k = w.monitors in omega arith;
   few_words = let h = words_from monitors_base p.monitors in let k = w.words in omega arith;
 }
 
-pub no_link : (places : List MonitorPlace) (pieces m : ℕ) → length places ≤ m → link_at (record { monitors = map view_of places; pieces = pieces }) m ≡ 0
-no_link places pieces m past = ap link_in (slice_get-map view_of places m ∙ ap (option_map view_of) (slice_get_past places m past))
+pub no_link : (places : List MonitorPlace) (pieces m : ℕ) → length places ≤ m
+    → link_at (record { monitors = map view_of places; pieces = pieces }) m ≡ 0
+no_link places pieces m past =
+    ap link_in (slice_get-map view_of places m ∙ ap (option_map view_of) (slice_get_past places m past))
 
 -- where nothing is left, all is placed
-pub all_placed : (a b : List MonitorLayout) (base i : ℕ) (ms : List MonitorOf) → length ms ≤ i → a ++ monitors_from base (map monitor_of (drop i ms)) ≡ b → a ≡ b
+pub all_placed : (a b : List MonitorLayout) (base i : ℕ) (ms : List MonitorOf) → length ms ≤ i
+    → a ++ monitors_from base (map monitor_of (drop i ms)) ≡ b → a ≡ b
 all_placed a b base i ms past e =
     sym (append-nil a) ∙ sym (at_drop_all (λ l. a ++ monitors_from base (map monitor_of l)) ms i past) ∙ e
 
-words_seen : (places : List MonitorPlace) → map (λ (m : MonitorPlace). m.words) places ≡ map (λ (m : MonitorLayout). m.words) (map view_of places)
+words_seen : (places : List MonitorPlace)
+    → map (λ (m : MonitorPlace). m.words) places ≡ map (λ (m : MonitorLayout). m.words) (map view_of places)
 words_seen [] = refl
 words_seen (p ∷ places) = ap (λ l. p.words ∷ l) (words_seen places)
 
-pub all_words_seen : (words : List ℕ) (places : List MonitorPlace) (i : ℕ) → length places ≤ i → words ++ map (λ (m : MonitorPlace). m.words) (drop i places) ≡ map (λ (m : MonitorPlace). m.words) places → words ≡ map (λ (m : MonitorLayout). m.words) (map view_of places)
+pub all_words_seen : (words : List ℕ) (places : List MonitorPlace) (i : ℕ) → length places ≤ i
+    → words ++ map (λ (m : MonitorPlace). m.words) (drop i places) ≡ map (λ (m : MonitorPlace). m.words) places
+    → words ≡ map (λ (m : MonitorLayout). m.words) (map view_of places)
 all_words_seen words places i past e =
-    sym (append-nil words) ∙ sym (at_drop_all (λ l. words ++ map (λ (m : MonitorPlace). m.words) l) places i past) ∙ e ∙ words_seen places
+    sym (append-nil words) ∙ sym (at_drop_all (λ l. words ++ map (λ (m : MonitorPlace). m.words) l) places i past) ∙ e
+    ∙ words_seen places

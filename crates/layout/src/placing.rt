@@ -14,8 +14,8 @@ use std::alloc::{AllocError, Global};
 use std::marker::Model;
 use words::MONITORS_BASE;
 
-/// The addresses of the monitors' words, and how many pieces of code there are. Contracts see it as a `Layout` of a few
-/// monitors with a few words.
+/// The addresses of the monitors' words, and how many pieces of code there are. Contracts see it as a `Layout` of a
+/// few monitors with a few words.
 #[derive(Drop)]
 pub struct Layout {
     monitors: Vec<MonitorPlace>,

@@ -1,5 +1,6 @@
 -- Which pieces have an image within the limits.
-use Rattle.std.proofs.Common.{◌≡◌, ◌<◌, ◌≤◌, ◌+◌, ◌-◌, ℕ, suc, List, [], ◌∷◌, true, false, refl, sym, ap, ◌∙◌, subst, length, arith}
+use Rattle.std.proofs.Common.{◌≡◌, ◌<◌, ◌≤◌, ◌+◌, ◌-◌, ℕ, suc, List, [], ◌∷◌, true, false, refl, sym, ap, ◌∙◌, subst}
+use Rattle.std.proofs.Common.{length, arith}
 use Rattle.std.specs.Prelude.{nat_le, ◌&&◌, slice_index, sum}
 use Rattle.std.specs.List.{AllByRecursion}
 use Rattle.std.proofs.lemmas.Bool.{leb-true}
@@ -18,12 +19,15 @@ places_length n [] = refl
 places_length n (x ∷ xs) = ap suc (places_length (n + length x.code) xs)
 
 -- where the image begins
-pub begins_at : (ps : List Piece) (starts : List ℕ) (s : ℕ) → starts ≡ places_from 0 ps → s ≡ slice_index starts (length starts - 1) → s ≡ begins ps (length ps - 1)
+pub begins_at : (ps : List Piece) (starts : List ℕ) (s : ℕ) → starts ≡ places_from 0 ps
+    → s ≡ slice_index starts (length starts - 1) → s ≡ begins ps (length ps - 1)
 begins_at ps starts s e h =
-    h ∙ ap (λ l. slice_index l (length l - 1)) e ∙ ap (λ n. slice_index (places_from 0 ps) (n - 1)) (places_length 0 ps)
+    h ∙ ap (λ l. slice_index l (length l - 1)) e
+    ∙ ap (λ n. slice_index (places_from 0 ps) (n - 1)) (places_length 0 ps)
 
 -- its code
-pub linked_by : (ps : List Piece) (starts : List ℕ) → starts ≡ places_from 0 ps → instructions (code_from (slice_index starts) 0 ps) ≡ instructions (code_from (begins ps) 0 ps)
+pub linked_by : (ps : List Piece) (starts : List ℕ) → starts ≡ places_from 0 ps
+    → instructions (code_from (slice_index starts) 0 ps) ≡ instructions (code_from (begins ps) 0 ps)
 linked_by ps starts e = ap (λ l. instructions (code_from (slice_index l) 0 ps)) e
 
 module _ (l : Layout) (ps : List Piece) where
@@ -37,7 +41,8 @@ module _ (l : Layout) (ps : List Piece) where
       let within = h.starts in
       let n = code_length (begins ps) 0 ps in omega (arith, within, n, over, e, is)
 
-  pub not_fit : (t : ℕ) (code : List Instr) → t ≡ length_of ps → code ≡ instructions (code_from (begins ps) 0 ps) → all_fit t code ≡ false → IsProgram (image_of l ps) → ⊥
+  pub not_fit : (t : ℕ) (code : List Instr) → t ≡ length_of ps → code ≡ instructions (code_from (begins ps) 0 ps)
+      → all_fit t code ≡ false → IsProgram (image_of l ps) → ⊥
   not_fit t code e is un h =
       let all = instructions (code_from (begins ps) 0 ps) in
       let n : length all ≡ t = code_length (begins ps) 0 ps ∙ sym e in
@@ -49,7 +54,9 @@ module _ (l : Layout) (ps : List Piece) where
       no e = cc
 
 -- what is within the limits
-pub is_program : (ms : List ℕ) (s t : ℕ) (code : List Instr) → (nat_le (length ms) most_monitors && nat_le (sum ms) most_member_words) ≡ true → t ≤ most_instructions → t ≡ length code → s < t → all_fit t code ≡ true → IsProgram (record { monitors = ms; start = s; code = code })
+pub is_program : (ms : List ℕ) (s t : ℕ) (code : List Instr)
+    → (nat_le (length ms) most_monitors && nat_le (sum ms) most_member_words) ≡ true → t ≤ most_instructions
+    → t ≡ length code → s < t → all_fit t code ≡ true → IsProgram (record { monitors = ms; start = s; code = code })
 is_program ms s t code few short e within fit =
     let h = ands (nat_le (length ms) most_monitors) (nat_le (sum ms) most_member_words) few in record {
       few_monitors = leb-true (length ms) most_monitors h.0;

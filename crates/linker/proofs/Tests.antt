@@ -1,5 +1,6 @@
 -- What the test of instructions says of an image.
-use Rattle.std.proofs.Common.{◌≡◌, ◌+◌, ℕ, suc, List, [], ◌∷◌, Bool, true, false, refl, ap, ◌∙◌, length, length-append, arith}
+use Rattle.std.proofs.Common.{◌≡◌, ◌+◌, ℕ, suc, List, [], ◌∷◌, Bool, true, false, refl, ap, ◌∙◌, length, length-append}
+use Rattle.std.proofs.Common.{arith}
 use Rattle.std.specs.Prelude.{cond, nat_lt, nat_le, ◌&&◌}
 use Rattle.std.specs.List.{AllByRecursion}
 use Rattle.std.proofs.lemmas.Bool.{ltb-true, lt-ltb, leb-true, le-leb}
@@ -8,7 +9,10 @@ use Rattle.isa.specs.Limits.{most_arguments, most_locals}
 use Rattle.isa.specs.declared.slot.Slot.{Slot}
 use Rattle.isa.specs.declared.slot.Slot.TheVariants.{Local, Template}
 use Rattle.isa.specs.declared.instr.Instr.{Instr}
-use Rattle.isa.specs.declared.instr.Instr.TheVariants.{Push, GetLocal, SetLocal, Pop, Operate, Negate, Not, Jump, JumpIfZero, Call, Fork, Ret, RetValue, Index, OwnNumber, ProcessAddress, Raise, Load, Store, Swap, CompareSwap, FetchOr, FetchAdd, Print, FutexWait, FutexWake, FutexRequeue}
+use Rattle.isa.specs.declared.instr.Instr.TheVariants.{Push, GetLocal, SetLocal, Pop, Operate, Negate, Not, Jump}
+use Rattle.isa.specs.declared.instr.Instr.TheVariants.{JumpIfZero, Call, Fork, Ret, RetValue, Index, OwnNumber}
+use Rattle.isa.specs.declared.instr.Instr.TheVariants.{ProcessAddress, Raise, Load, Store, Swap, CompareSwap, FetchOr}
+use Rattle.isa.specs.declared.instr.Instr.TheVariants.{FetchAdd, Print, FutexWait, FutexWake, FutexRequeue}
 use Rattle.code.specs.declared.mark.Marked.{Marked}
 use Rattle.code.specs.Marks.{instructions}
 use Rattle.code.specs.Linking.{linked_code}
@@ -45,7 +49,8 @@ one_fits t (SetLocal s) e = (slot_yes s e, tt)
 one_fits t (Jump p) e = (tt, ltb-true p t e)
 one_fits t (JumpIfZero p) e = (tt, ltb-true p t e)
 one_fits t (Call p) e = (tt, ltb-true p t e)
-one_fits t (Fork p n) e = let h = ands (nat_lt p t) (nat_le n most_arguments) e in (leb-true n most_arguments h.1, ltb-true p t h.0)
+one_fits t (Fork p n) e =
+    let h = ands (nat_lt p t) (nat_le n most_arguments) e in (leb-true n most_arguments h.1, ltb-true p t h.0)
 one_fits t (Push n) e = (tt, tt)
 one_fits t Pop e = (tt, tt)
 one_fits t (Operate op) e = (tt, tt)
@@ -107,7 +112,8 @@ pub all_lead : (t : ℕ) (is : List Instr) → all_fit t is ≡ true → AllByRe
 all_lead t [] e = tt
 all_lead t (i ∷ is) e = let h = both (fits t i) (all_fit t is) e in ((one_fits t i h.0).1, all_lead t is h.1)
 
-pub fit_where : (t : ℕ) (is : List Instr) → AllByRecursion IsInstruction is → AllByRecursion (LeadsBelow t) is → all_fit t is ≡ true
+pub fit_where : (t : ℕ) (is : List Instr) → AllByRecursion IsInstruction is → AllByRecursion (LeadsBelow t) is
+    → all_fit t is ≡ true
 fit_where t [] h k = refl
 fit_where t (i ∷ is) h k = two (fits t i) (all_fit t is) (fits_one t i h.0 k.0) (fit_where t is h.1 k.1)
 
@@ -120,6 +126,7 @@ pub code_length : (f : ℕ → ℕ) (n : ℕ) (ps : List Piece) → length (inst
 code_length f n [] = refl
 code_length f n (x ∷ xs) =
     let all = ap length (instructions-append (linked_code f n x.code) (code_from f (n + length x.code) xs)) in
-    let a = length-append (instructions (linked_code f n x.code)) (instructions (code_from f (n + length x.code) xs)) in
+    let a =
+    length-append (instructions (linked_code f n x.code)) (instructions (code_from f (n + length x.code) xs)) in
     let b = linked_length f n x.code in
     let c = code_length f (n + length x.code) xs in omega (arith, all, a, b, c)

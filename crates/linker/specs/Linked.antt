@@ -1,5 +1,6 @@
 -- The image of pieces in the order of their numbers.
-use Rattle.std.specs.Prelude.{ℕ, ◌+◌, ◌-◌, ◌≡◌, Bool, true, false, List, [], ◌∷◌, ◌++◌, length, map, slice_index, nat_eq, nat_lt, nat_le, cond, ◌&&◌, IsPermutation}
+use Rattle.std.specs.Prelude.{ℕ, ◌+◌, ◌-◌, ◌≡◌, Bool, true, false, List, [], ◌∷◌, ◌++◌, length, map, slice_index}
+use Rattle.std.specs.Prelude.{nat_eq, nat_lt, nat_le, cond, ◌&&◌, IsPermutation}
 use Rattle.isa.specs.Programs.{Program as Image}
 use Rattle.isa.specs.Limits.{most_locals, most_arguments}
 use Rattle.isa.specs.declared.slot.Slot.{Slot}

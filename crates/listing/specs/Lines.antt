@@ -6,7 +6,8 @@ use Rattle.isa.specs.Texts.{instruction_text}
 
 -- a place below 100,000 in five digits
 abbrev pub place_text : ℕ → List ℕ
-place_text n = decimal (n / 10000) ++ decimal (n / 1000 % 10) ++ decimal (n / 100 % 10) ++ decimal (n / 10 % 10) ++ decimal (n % 10)
+place_text n = decimal (n / 10000) ++ decimal (n / 1000 % 10) ++ decimal (n / 100 % 10) ++ decimal
+    (n / 10 % 10) ++ decimal (n % 10)
 
 abbrev pub line : ℕ → Instr → List ℕ
 line place i = place_text place ++ codes " " ++ instruction_text i ++ codes "\n"

@@ -83,8 +83,8 @@ pub fn take_from(
     append_plain(code, &[GET, EQUAL, Instr::JumpIfZero(again)])
 }
 
-/// The monitor with this link word comes first in the robust list and is recovered, in a template that begins at `start`,
-/// from its place `a` on.
+/// The monitor with this link word comes first in the robust list and is recovered, in a template that begins at
+/// `start`, from its place `a` on.
 pub fn got_from(
     code: &mut Vec<Marked>,
     link: u32,
@@ -122,7 +122,8 @@ pub fn got_from(
     Ok(())
 }
 
-/// The lock of the monitor with this link word is given up, in a template that begins at `start`, from its place `a` on.
+/// The lock of the monitor with this link word is given up, in a template that begins at `start`, from its place `a`
+/// on.
 pub fn leave_from(
     code: &mut Vec<Marked>,
     mark: Mark,
@@ -167,7 +168,8 @@ pub fn leave_from(
 /// The lock is taken in the form that tells of waiters; the mark stands where it is taken.
 pub fn take(code: &mut Vec<Marked>, mark: Mark, link: u32) -> Result<(), AllocError>
     requires { (link < 2 ^ 16) × (length code.old.items ≤ 2 ^ 17) }
-    ensures { OnOk result (code.new.items ≡ code.old.items ++ placed (length code.old.items) (locks.take_code mark link)) }
+    ensures { OnOk result (code.new.items ≡ code.old.items
+        ++ placed (length code.old.items) (locks.take_code mark link)) }
 {
     let start = code.len() as u32;
     take_from(code, mark, link, start, 0)
@@ -186,7 +188,8 @@ pub fn got(code: &mut Vec<Marked>, link: u32, recover: Option<u32>) -> Result<()
 /// The lock is given up, and a waiter is woken where there may be one; the mark stands where it is given up.
 pub fn leave(code: &mut Vec<Marked>, mark: Mark, link: u32) -> Result<(), AllocError>
     requires { (link < 2 ^ 16) × (length code.old.items ≤ 2 ^ 17) }
-    ensures { OnOk result (code.new.items ≡ code.old.items ++ placed (length code.old.items) (locks.leave_code mark link)) }
+    ensures { OnOk result (code.new.items ≡ code.old.items
+        ++ placed (length code.old.items) (locks.leave_code mark link)) }
 {
     let start = code.len() as u32;
     leave_from(code, mark, link, start, 0)

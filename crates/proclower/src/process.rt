@@ -105,7 +105,8 @@ fn await_end(code: &mut Vec<Marked>, start: u32) -> Result<(), AllocError>
 // The second part of `join`, at this place: the result, and where the process aborted, the jump past it.
 fn take_result(code: &mut Vec<Marked>, into: Option<u32>, start: u32) -> Result<(), AllocError>
     requires { start ≤ 2 ^ 17 }
-    ensures { OnOk result (code.new.items ≡ code.old.items ++ (placed start processes.ended_code ++ plain (processes.into_code into) ∷ [])) }
+    ensures { OnOk result (code.new.items ≡ code.old.items
+        ++ (placed start processes.ended_code ++ plain (processes.into_code into) ∷ [])) }
 {
     append_plain(
         code,
@@ -133,11 +134,12 @@ fn join_from(code: &mut Vec<Marked>, into: Option<u32>, start: u32) -> Result<()
     take_result(code, into, start)
 }
 
-/// Behind the handle: the JOIN up to where the result of a process that has ended is taken. The next instruction is a jump
-/// past what is done where the process aborted, and behind it comes that.
+/// Behind the handle: the JOIN up to where the result of a process that has ended is taken. The next instruction is a
+/// jump past what is done where the process aborted, and behind it comes that.
 pub fn join(code: &mut Vec<Marked>, into: Option<u32>) -> Result<(), AllocError>
     requires { length code.old.items ≤ 2 ^ 17 }
-    ensures { OnOk result (code.new.items ≡ code.old.items ++ placed (length code.old.items) (processes.join_code into)) }
+    ensures { OnOk result (code.new.items ≡ code.old.items
+        ++ placed (length code.old.items) (processes.join_code into)) }
 {
     let start = code.len() as u32;
     join_from(code, into, start)

@@ -5,4 +5,5 @@ use Rattle.codegen.proofs.expression.arguments.Given as goal
 
 abbrev pub invariant-loop-e : goal.invariant-loop-e
 invariant-loop-e l = let p = program_of l.site.program.now in
-    l.code.items ++ arguments_code p (map expression_of (drop l.e-index l.es)) ≡ l.fn.code.items ++ arguments_code p (map expression_of l.es)
+    l.code.items ++ arguments_code p (map expression_of (drop l.e-index l.es))
+    ≡ l.fn.code.items ++ arguments_code p (map expression_of l.es)

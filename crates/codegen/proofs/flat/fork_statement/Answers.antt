@@ -12,4 +12,5 @@ returns-in_err-count c =
     let es = map expression_of c.args.es.now in
     let few = arguments_length p c.args.es.now in
     let both = length-append (arguments_code p es) (fork_code c.args.procedure (length es) c.args.into) in
-    failed c.from_residual.result c.in_err-count.field-0.0 _ _ _ c.from_residual.ensures c.in_err-count.ensures (omega arith)
+    failed c.from_residual.result c.in_err-count.field-0.0 _ _ _ c.from_residual.ensures c.in_err-count.ensures
+    (omega arith)

@@ -11,5 +11,8 @@ returns-in_err-parameter_count c =
     let old = length c.args.code.now.items in
     let few : c.len.result ≡ n = c.len.ensures ∙ c.args.procedure.now.parameters.ok.0 in
     let same = parameters_length n in
-    let both = length-append (parameters_code n) (entering_code (setting_at c.args.site.now) c.args.site.now.role (old + length (parameters_code n))) in
-    failed c.from_residual.result c.in_err-parameter_count.field-0.0 _ _ _ c.from_residual.ensures c.in_err-parameter_count.ensures (omega arith)
+    let both =
+    length-append (parameters_code n) (entering_code (setting_at c.args.site.now) c.args.site.now.role
+    (old + length (parameters_code n))) in
+    failed c.from_residual.result c.in_err-parameter_count.field-0.0 _ _ _ c.from_residual.ensures
+    c.in_err-parameter_count.ensures (omega arith)

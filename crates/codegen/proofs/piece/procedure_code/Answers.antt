@@ -12,7 +12,9 @@ returns c =
     let q = procedure_of c.args.procedure.now in
     let set = setting_of (program_of c.args.program.now) (λ piece. piece) q in
     let first = c.beginning.new.code.items in
-    let body = c.in_ok-block.ensures ∙ ap (λ ss. first ++ block_code set (block_in ss) (length first)) c.deref.ensures.value in
+    let body =
+    c.in_ok-block.ensures ∙ ap (λ ss. first ++ block_code set (block_in ss) (length first)) c.deref.ensures.value in
     whole (beginning_code set (length q.parameters)) (block_code set q.body) (end_code set) _ first _ _
     c.new-code.ensures.items c.in_ok-beginning.ensures body c.in_ok-text_end.ensures
-    ∙ sequence-assoc (λ _. parameters_code (length q.parameters)) (entering_code set q.role) (sequence (block_code set q.body) (end_code set)) 0
+    ∙ sequence-assoc (λ _. parameters_code (length q.parameters)) (entering_code set q.role)
+    (sequence (block_code set q.body) (end_code set)) 0

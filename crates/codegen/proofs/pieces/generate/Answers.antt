@@ -12,7 +12,11 @@ returns-in_err-code-clause-refusal c =
     let program = c.program-program.result.now in
     let p = program_of program in
     let q = c.procedure-item.result in
-    let fits = subst (λ qs. length (unlinked_code p (procedure_of q)) ≤ length_of p (map procedure_of qs)) c.deref-procedure-items.ensures.value
-    (one_fits p c.deref-procedure-items.result.now c.loop-procedure.procedure-index q c.loop-procedure-test.true c.procedure-item.is) in
+    let fits =
+    subst (λ qs. length (unlinked_code p (procedure_of q)) ≤ length_of p (map procedure_of qs))
+    c.deref-procedure-items.ensures.value
+    (one_fits p c.deref-procedure-items.result.now c.loop-procedure.procedure-index q c.loop-procedure-test.true
+    c.procedure-item.is) in
     subst (λ t. IfErr c.from_residual.result (λ e. Refuses (program_of t) e)) c.program-program.ensures.is
-    (failed c.from_residual.result c.in_err-code.field-0.0 (λ _. ⊤) (length (unlinked_code p (procedure_of q))) (length_of p (map procedure_of program.procedures.items)) c.from_residual.ensures c.in_err-code.ensures fits)
+    (failed c.from_residual.result c.in_err-code.field-0.0 (λ _. ⊤) (length (unlinked_code p (procedure_of q)))
+    (length_of p (map procedure_of program.procedures.items)) c.from_residual.ensures c.in_err-code.ensures fits)

@@ -7,5 +7,7 @@ use Rattle.codegen.proofs.pieces.generate.Given as goal
 abbrev pub invariant-loop-procedure : goal.invariant-loop-procedure
 invariant-loop-procedure l = let p = program_of l.program in record {
   counted : l.number ≡ l.procedure-index;
-  made : map piece_of l.pieces.items ++ unlinked_from p l.number (map procedure_of (drop l.procedure-index l.program.procedures.items)) ≡ unlinked_from p 0 (map procedure_of l.program.procedures.items);
+  made : map piece_of l.pieces.items ++ unlinked_from p l.number
+      (map procedure_of (drop l.procedure-index l.program.procedures.items))
+      ≡ unlinked_from p 0 (map procedure_of l.program.procedures.items);
 }

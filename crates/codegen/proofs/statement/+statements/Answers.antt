@@ -6,7 +6,8 @@ use Rattle.program.specs.Views.{program_of, expression_of, statement_of, block_i
 use Rattle.code.specs.Expressions.{expression_code}
 use Rattle.code.specs.Statements.{block_code}
 use Rattle.codegen.specs.Sites.{setting_at}
-use Rattle.codegen.proofs.Patches.{patch_if, patch_then, then_place, patch_else, patch_while, patch_join, then_less, else_made}
+use Rattle.codegen.proofs.Patches.{patch_if, patch_then, then_place, patch_else, patch_while, patch_join, then_less}
+use Rattle.codegen.proofs.Patches.{else_made}
 use Rattle.codegen.proofs.Rows.{inner_block, first_fits, Makes}
 use Rattle.codegen.proofs.Failing.{failed}
 use Rattle.codegen.proofs.statement.+statements.Goals as goal
@@ -14,14 +15,16 @@ use Rattle.codegen.proofs.statement.+statements.Goals as goal
 pub if_then-returns : goal.if_then-returns
 if_then-returns t c =
     patch_if _ _ (block_code (setting_at c.args.site.now) (block_in c.args.then_part.now)) _ _ _ _ _ _
-    c.in_ok-expression.ensures (c.len-test.ensures ∙ c.expression.new.code.ok.0) c.in_ok-append.ensures c.in_ok-block.ensures
+    c.in_ok-expression.ensures (c.len-test.ensures ∙ c.expression.new.code.ok.0) c.in_ok-append.ensures
+    c.in_ok-block.ensures
     (c.in_ok-end.ensures.0 ∙ ap length c.deref.ensures.value)
 
 pub while_do-returns : goal.while_do-returns
 while_do-returns t c =
     patch_while _ _ (block_code (setting_at c.args.site.now) (block_in c.args.body.now)) _ _ _ _ _ _ _ _
     (c.in_ok-start.ensures.0 ∙ ap length c.deref.ensures.value)
-    c.in_ok-expression.ensures (c.len-test.ensures ∙ c.expression.new.code.ok.0) c.in_ok-append.ensures c.in_ok-block.ensures c.in_ok-append-2.ensures
+    c.in_ok-expression.ensures (c.len-test.ensures ∙ c.expression.new.code.ok.0) c.in_ok-append.ensures
+    c.in_ok-block.ensures c.in_ok-append-2.ensures
     (c.in_ok-end.ensures.0 ∙ ap length c.deref-2.ensures.value)
 
 pub statement-returns-in-None : goal.statement-returns-in-None
@@ -32,7 +35,8 @@ statement-returns-in-None t c =
     ap (λ b. If e b NoPart) first
     ∙ ap (λ p. statement_of (IfOf c.in-If.condition c.in-If.then_part p)) (sym c.in-None.is)
     ∙ ap statement_of (sym c.in-If.is) in
-    subst (λ s. Makes (setting_at c.args.site.now) c.args.code.now.items c.if_then.new.code.items c.if_then.result s) same c.if_then.ensures
+    subst (λ s. Makes (setting_at c.args.site.now) c.args.code.now.items c.if_then.new.code.items c.if_then.result s)
+    same c.if_then.ensures
 
 pub statement-returns-in-While : goal.statement-returns-in-While
 statement-returns-in-While t c =
@@ -40,54 +44,69 @@ statement-returns-in-While t c =
     let same : While e (block_in c.deref-in-While.result.now) ≡ statement_of c.args.s.now =
     ap (λ b. While e b) (inner_block c.deref-in-While.result.now c.in-While.body c.deref-in-While.ensures.value)
     ∙ ap statement_of (sym c.in-While.is) in
-    subst (λ s. Makes (setting_at c.args.site.now) c.args.code.now.items c.while_do.new.code.items c.while_do.result s) same c.while_do.ensures
+    subst (λ s. Makes (setting_at c.args.site.now) c.args.code.now.items c.while_do.new.code.items c.while_do.result s)
+    same c.while_do.ensures
 
 pub statement-returns-in-Wait : goal.statement-returns-in-Wait
 statement-returns-in-Wait t c =
-    subst (λ s. Makes (setting_at c.args.site.now) c.args.code.now.items c.wait_statement.new.code.items c.wait_statement.result s) (ap statement_of (sym c.in-Wait.is)) c.wait_statement.ensures
+    subst (λ s. Makes (setting_at c.args.site.now) c.args.code.now.items c.wait_statement.new.code.items
+    c.wait_statement.result s) (ap statement_of (sym c.in-Wait.is)) c.wait_statement.ensures
 
 pub statement-returns-in-Broadcast : goal.statement-returns-in-Broadcast
 statement-returns-in-Broadcast t c =
-    subst (λ s. Makes (setting_at c.args.site.now) c.args.code.now.items c.broadcast_statement.new.code.items c.broadcast_statement.result s) (ap statement_of (sym c.in-Broadcast.is)) c.broadcast_statement.ensures
+    subst (λ s. Makes (setting_at c.args.site.now) c.args.code.now.items c.broadcast_statement.new.code.items
+    c.broadcast_statement.result s) (ap statement_of (sym c.in-Broadcast.is)) c.broadcast_statement.ensures
 
 pub then_passed-returns : goal.then_passed-returns
 then_passed-returns t c =
     let fa = block_code (setting_at c.args.site.now) (block_in c.args.then_part.now) in (
-      patch_then _ _ fa _ _ _ _ _ _ _ c.in_ok-expression.ensures (c.len-test.ensures ∙ c.expression.new.code.ok.0) c.in_ok-append.ensures c.in_ok-block.ensures
+      patch_then _ _ fa _ _ _ _ _ _ _ c.in_ok-expression.ensures (c.len-test.ensures ∙ c.expression.new.code.ok.0)
+          c.in_ok-append.ensures c.in_ok-block.ensures
           c.in_ok-append-2.ensures (c.in_ok-other.ensures.0 ∙ ap length c.deref.ensures.value),
-      then_place _ _ fa _ _ _ _ _ c.in_ok-expression.ensures c.in_ok-append.ensures c.in_ok-block.ensures (c.len-passed.ensures ∙ c.block.new.code.ok.0),
+      then_place _ _ fa _ _ _ _ _ c.in_ok-expression.ensures c.in_ok-append.ensures c.in_ok-block.ensures
+          (c.len-passed.ensures ∙ c.block.new.code.ok.0),
     )
 
 pub else_passed-returns : goal.else_passed-returns
 else_passed-returns t c =
-    patch_else _ (block_code (setting_at c.args.site.now) (block_in c.args.else_part.now) (length c.args.code.now.items)) _ _ _ c.requires.there c.in_ok-block.ensures (c.in_ok-behind.ensures.0 ∙ ap length c.deref.ensures.value)
+    patch_else _ (block_code (setting_at c.args.site.now) (block_in c.args.else_part.now)
+    (length c.args.code.now.items)) _ _ _ c.requires.there c.in_ok-block.ensures (c.in_ok-behind.ensures.0
+    ∙ ap length c.deref.ensures.value)
 
 pub join_aborted-returns : goal.join_aborted-returns
 join_aborted-returns t c =
-    patch_join _ (expression_code (program_of c.args.site.now.program.now) (expression_of c.args.handle.now)) _ (block_code (setting_at c.args.site.now) (block_in c.args.aborted.now)) _ _ _ _ _ _ _ refl refl
-    c.in_ok-join_first.ensures (c.len-passed.ensures ∙ c.join_first.new.code.ok.0) c.in_ok-append.ensures c.in_ok-block.ensures
+    patch_join _ (expression_code (program_of c.args.site.now.program.now) (expression_of c.args.handle.now)) _
+    (block_code (setting_at c.args.site.now) (block_in c.args.aborted.now)) _ _ _ _ _ _ _ refl refl
+    c.in_ok-join_first.ensures (c.len-passed.ensures ∙ c.join_first.new.code.ok.0) c.in_ok-append.ensures
+    c.in_ok-block.ensures
     (c.in_ok-end.ensures.0 ∙ ap length c.deref.ensures.value)
 
 pub statement-returns-in-Some-aborted : goal.statement-returns-in-Some-aborted
 statement-returns-in-Some-aborted t c =
     let e = expression_of c.in-Join.handle in
-    let same : Join e c.in-Join.into (SomePart (block_in c.deref-in-Some-aborted.result.now)) ≡ statement_of c.args.s.now =
-    ap (λ b. Join e c.in-Join.into (SomePart b)) (inner_block c.deref-in-Some-aborted.result.now c.in-Some-aborted.aborted c.deref-in-Some-aborted.ensures.value)
+    let same : Join e c.in-Join.into (SomePart (block_in c.deref-in-Some-aborted.result.now))
+    ≡ statement_of c.args.s.now =
+    ap (λ b. Join e c.in-Join.into (SomePart b))
+    (inner_block c.deref-in-Some-aborted.result.now c.in-Some-aborted.aborted
+    c.deref-in-Some-aborted.ensures.value)
     ∙ ap (λ p. statement_of (JoinOf c.in-Join.handle c.in-Join.into p)) (sym c.in-Some-aborted.is)
     ∙ ap statement_of (sym c.in-Join.is) in
-    subst (λ s. Makes (setting_at c.args.site.now) c.args.code.now.items c.join_aborted.new.code.items c.join_aborted.result s) same c.join_aborted.ensures
+    subst (λ s. Makes (setting_at c.args.site.now) c.args.code.now.items c.join_aborted.new.code.items
+    c.join_aborted.result s) same c.join_aborted.ensures
 
 pub statement-returns-in-None-aborted : goal.statement-returns-in-None-aborted
 statement-returns-in-None-aborted t c =
     let same : Join (expression_of c.in-Join.handle) c.in-Join.into NoPart ≡ statement_of c.args.s.now =
     ap (λ p. statement_of (JoinOf c.in-Join.handle c.in-Join.into p)) (sym c.in-None-aborted.is)
     ∙ ap statement_of (sym c.in-Join.is) in
-    subst (λ s. Makes (setting_at c.args.site.now) c.args.code.now.items c.join_statement.new.code.items c.join_statement.result s) same c.join_statement.ensures
+    subst (λ s. Makes (setting_at c.args.site.now) c.args.code.now.items c.join_statement.new.code.items
+    c.join_statement.result s) same c.join_statement.ensures
 
 pub block-returns-in_err-statement : goal.block-returns-in_err-statement
 block-returns-in_err-statement t c =
     failed c.from_residual.result c.in_err-statement.field-0.0 _ _ _ c.from_residual.ensures c.in_err-statement.ensures
-    (first_fits (setting_at c.args.site.now) c.loop-s.code.items c.args.code.now.items _ c.args.statements.now c.loop-s.s-index c.s-item.result c.loop-s-test.true c.s-item.is c.loop-s.invariant)
+    (first_fits (setting_at c.args.site.now) c.loop-s.code.items c.args.code.now.items _ c.args.statements.now
+    c.loop-s.s-index c.s-item.result c.loop-s-test.true c.s-item.is c.loop-s.invariant)
 
 pub statement-returns-in_err-passed-in-Some : goal.statement-returns-in_err-passed-in-Some
 statement-returns-in_err-passed-in-Some t c =
@@ -99,20 +118,27 @@ statement-returns-in_err-passed-in-Some t c =
     ∙ ap (λ p. statement_of (IfOf c.in-If.condition c.in-If.then_part p)) (sym c.in-Some.is)
     ∙ ap statement_of (sym c.in-If.is) in
     let set = setting_at c.args.site.now in
-    let less = then_less (expression_code set.program e) (block_code set (block_in c.deref.result.now)) (block_code set other) (length c.args.code.now.items) in
+    let less =
+    then_less (expression_code set.program e) (block_code set (block_in c.deref.result.now)) (block_code set other)
+    (length c.args.code.now.items) in
     subst (λ s. Makes set c.args.code.now.items c.then_passed.new.code.items c.from_residual.result s) same
-    (failed c.from_residual.result c.in_err-passed-in-Some.field-0.0 _ _ _ c.from_residual.ensures c.in_err-passed-in-Some.ensures (omega arith))
+    (failed c.from_residual.result c.in_err-passed-in-Some.field-0.0 _ _ _ c.from_residual.ensures
+    c.in_err-passed-in-Some.ensures (omega arith))
 
 pub statement-returns-in_ok-passed-in-Some : goal.statement-returns-in_ok-passed-in-Some
 statement-returns-in_ok-passed-in-Some t c =
     let e = expression_of c.in-If.condition in
     let first = inner_block c.deref.result.now c.in-If.then_part c.deref.ensures.value in
     let second = inner_block c.deref-in-Some.result.now c.in-Some.else_part c.deref-in-Some.ensures.value in
-    let same : If e (block_in c.deref.result.now) (SomePart (block_in c.deref-in-Some.result.now)) ≡ statement_of c.args.s.now =
+    let same : If e (block_in c.deref.result.now) (SomePart (block_in c.deref-in-Some.result.now))
+    ≡ statement_of c.args.s.now =
     ap (λ b. If e b (SomePart (block_in c.deref-in-Some.result.now))) first
     ∙ ap (λ b. If e (block_of (hidden-the_row-Statement-0 c.in-If.then_part)) (SomePart b)) second
     ∙ ap (λ p. statement_of (IfOf c.in-If.condition c.in-If.then_part p)) (sym c.in-Some.is)
     ∙ ap statement_of (sym c.in-If.is) in
     let set = setting_at c.args.site.now in
     subst (λ s. Makes set c.args.code.now.items c.else_passed.new.code.items c.else_passed.result s) same
-    (else_made c.else_passed.result c.args.code.now.items (expression_code set.program e) (block_code set (block_in c.deref.result.now)) (block_code set (block_in c.deref-in-Some.result.now)) c.then_passed.new.code.items c.else_passed.new.code.items c.in_ok-passed-in-Some.passed c.in_ok-passed-in-Some.ensures.0 c.in_ok-passed-in-Some.ensures.1 c.else_passed.ensures)
+    (else_made c.else_passed.result c.args.code.now.items (expression_code set.program e)
+    (block_code set (block_in c.deref.result.now)) (block_code set (block_in c.deref-in-Some.result.now))
+    c.then_passed.new.code.items c.else_passed.new.code.items c.in_ok-passed-in-Some.passed
+    c.in_ok-passed-in-Some.ensures.0 c.in_ok-passed-in-Some.ensures.1 c.else_passed.ensures)

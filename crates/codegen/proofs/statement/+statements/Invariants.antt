@@ -8,4 +8,5 @@ use Rattle.codegen.proofs.statement.+statements.Given as goal
 abbrev pub invariant-block-loop-s : goal.invariant-block-loop-s
 invariant-block-loop-s l =
     let c = setting_at l.site in
-    l.code.items ++ block_code c (block_in (drop l.s-index l.statements)) (length l.code.items) ≡ l.fn.code.items ++ block_code c (block_in l.statements) (length l.fn.code.items)
+    l.code.items ++ block_code c (block_in (drop l.s-index l.statements)) (length l.code.items)
+    ≡ l.fn.code.items ++ block_code c (block_in l.statements) (length l.fn.code.items)

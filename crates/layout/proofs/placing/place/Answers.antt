@@ -10,8 +10,12 @@ use Rattle.layout.proofs.placing.place.Goals as goal
 pub invariant_of-result : goal.invariant_of-result
 invariant_of-result c =
     let program = c.program-program.result.now in
-    let past : length program.monitors.items ≤ c.loop-monitor.monitor-index = rw (sym c.deref-monitor-items.ensures.value) c.loop-monitor-test.false in
-    let all : map view_of c.loop-monitor.monitors.items ≡ monitors_from monitors_base (map monitor_of program.monitors.items) =
-    all_placed _ _ c.loop-monitor.base c.loop-monitor.monitor-index program.monitors.items past c.loop-monitor.invariant.placed in
-    let formed : WellFormed (program_of program) = rw c.program-program.ensures.is c.program-program.ensures.well_formed in
+    let past : length program.monitors.items ≤ c.loop-monitor.monitor-index =
+    rw (sym c.deref-monitor-items.ensures.value) c.loop-monitor-test.false in
+    let all : map view_of c.loop-monitor.monitors.items
+    ≡ monitors_from monitors_base (map monitor_of program.monitors.items) =
+    all_placed _ _ c.loop-monitor.base c.loop-monitor.monitor-index program.monitors.items past
+    c.loop-monitor.invariant.placed in
+    let formed : WellFormed (program_of program) =
+    rw c.program-program.ensures.is c.program-program.ensures.well_formed in
     rw all (small_monitors (program_of program) c.len.result formed)

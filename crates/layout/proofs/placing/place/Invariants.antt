@@ -9,6 +9,7 @@ use Rattle.layout.proofs.placing.place.Given as goal
 -- what is placed, and what is left, is all; there is room for what is left
 abbrev pub invariant-loop-monitor : goal.invariant-loop-monitor
 invariant-loop-monitor l = let left = map monitor_of (drop l.monitor-index l.program.monitors.items) in record {
-  placed : map view_of l.monitors.items ++ monitors_from l.base left ≡ monitors_from monitors_base (map monitor_of l.program.monitors.items);
+  placed : map view_of l.monitors.items ++ monitors_from l.base left
+      ≡ monitors_from monitors_base (map monitor_of l.program.monitors.items);
   room : l.base + 2 * length left + all_words left ≤ 2 ^ 15;
 }

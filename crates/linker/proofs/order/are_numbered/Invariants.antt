@@ -7,5 +7,6 @@ use Rattle.linker.proofs.order.are_numbered.Given as goal
 abbrev pub invariant-loop-piece : goal.invariant-loop-piece
 invariant-loop-piece l = record {
   counted : l.expected ≡ l.piece-index;
-  left : are_from l.expected l.count (map piece_of (drop l.piece-index l.pieces)) ≡ are_from 0 l.count (map piece_of l.pieces);
+  left : are_from l.expected l.count (map piece_of (drop l.piece-index l.pieces))
+      ≡ are_from 0 l.count (map piece_of l.pieces);
 }

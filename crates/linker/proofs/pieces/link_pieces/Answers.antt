@@ -11,8 +11,10 @@ returns-in_err-link_piece c =
     let f = slice_index c.args.starts.now in
     let all = instructions (code_from f 0 (map piece_of c.args.pieces.now)) in
     let code = c.as_slice.result.now in
-    failed c.from_residual.result c.in_err-link_piece.field-0.0 _ _ (all_fit c.args.total all ≡ false) c.from_residual.ensures c.in_err-link_piece.ensures
-    (fit_end f c.loop-piece.base c.loop-piece.piece-index c.args.pieces.now c.piece-item.result code c.loop-piece-test.true c.piece-item.is c.as_slice.ensures.value c.args.total all c.loop-piece.invariant.fit)
+    failed c.from_residual.result c.in_err-link_piece.field-0.0 _ _ (all_fit c.args.total all ≡ false)
+    c.from_residual.ensures c.in_err-link_piece.ensures
+    (fit_end f c.loop-piece.base c.loop-piece.piece-index c.args.pieces.now c.piece-item.result code
+    c.loop-piece-test.true c.piece-item.is c.as_slice.ensures.value c.args.total all c.loop-piece.invariant.fit)
 
 pub loop-piece-preserved : goal.loop-piece-preserved
 loop-piece-preserved c =
@@ -26,10 +28,17 @@ loop-piece-preserved c =
     let same = c.as_slice.ensures.value in
     let len = c.len.ensures ∙ sym c.as_slice.ensures.len in
     let done = c.in_ok-link_piece.ensures in
-    let sum = sum_step f base i ps x code c.loop-piece-test.true c.piece-item.is same c.args.total c.loop-piece.invariant.sum in
-    let made = made_step f base i ps x code c.loop-piece-test.true c.piece-item.is same c.loop-piece.image.items c.link_piece.new.image.items all done.0 c.loop-piece.invariant.made in
-    let fit = fit_step f base i ps x code c.loop-piece-test.true c.piece-item.is same c.args.total all done.1 c.loop-piece.invariant.fit in record {
+    let sum =
+    sum_step f base i ps x code c.loop-piece-test.true c.piece-item.is same c.args.total c.loop-piece.invariant.sum in
+    let made =
+    made_step f base i ps x code c.loop-piece-test.true c.piece-item.is same c.loop-piece.image.items
+    c.link_piece.new.image.items all done.0 c.loop-piece.invariant.made in
+    let fit =
+    fit_step f base i ps x code c.loop-piece-test.true c.piece-item.is same c.args.total all done.1
+    c.loop-piece.invariant.fit in record {
       sum = ap (λ n. base + n + length_of (map piece_of (drop (i + 1) ps))) len ∙ sum;
-      made = ap (λ n. c.link_piece.new.image.items ++ instructions (code_from f (base + n) (map piece_of (drop (i + 1) ps)))) len ∙ made;
-      fit = ap (λ n. all_fit c.args.total (instructions (code_from f (base + n) (map piece_of (drop (i + 1) ps))))) len ∙ fit;
+      made = ap (λ n. c.link_piece.new.image.items ++ instructions
+          (code_from f (base + n) (map piece_of (drop (i + 1) ps)))) len ∙ made;
+      fit = ap (λ n. all_fit c.args.total (instructions (code_from f (base + n) (map piece_of (drop (i + 1) ps))))) len
+          ∙ fit;
     }
