@@ -1,17 +1,23 @@
 -- What a unit of few declarations has few of.
 use Rattle.std.proofs.Common.{◌≡◌, ℕ, ◌<◌, ◌≤◌, ◌+◌, ◌-◌, ◌^◌, zero, suc, List, [], ◌∷◌, ◌++◌, length, map, take, drop}
 use Rattle.std.proofs.Common.{Option, Some, None, ap, subst, arith, length-append, slice_get}
-use Rattle.std.specs.List.{Contains, All, flat_map}
-use Rattle.std.proofs.lemmas.List.{take-append-drop, length-map}
+use Rattle.std.specs.List.{Contains, All, flat_map, sum_by}
+use Rattle.std.proofs.lemmas.List.Sums.{sum_by_more_le}
+use Rattle.std.proofs.lemmas.List.{take-append-drop, length-map, get_or-map}
+use Rattle.std.proofs.Common.{get_or}
 use Rattle.std.proofs.lemmas.List.Elements.{All-nil, All-cons, All-append, All-map}
 use Rattle.program.specs.declared.kinds.Role.TheVariants.{External, Main, Recover}
 use Rattle.program.specs.Scope.{own_monitor}
 use Rattle.syntax.specs.declared.declaration.Access.{Access}
 use Rattle.syntax.specs.declared.declaration.Access.TheVariants as A
 use Rattle.syntax.specs.Tree.{RecoverTree, MonitorTree, UnitTree}
+use Rattle.syntax.specs.View.{parameter_of, local_of}
 use Rattle.types.specs.Pieces.{Piece, piece_of, role_of, part_of, recover_pieces, monitor_pieces, pieces, pieces_from}
 use Rattle.types.specs.Pieces.{first_piece, first_external}
+use Rattle.types.specs.Names.{parameter_names, body_scope}
+use Rattle.callees.specs.declared.piece.Piece.{Piece as PieceOf}
 use Rattle.callees.specs.Names.{declarations}
+use Rattle.callees.specs.Pieces.{piece_of as piece_seen, AreFew}
 use Rattle.callees.proofs.Growing.{pieces_append}
 
 -- no more pieces are in the first monitors than in all
@@ -118,3 +124,31 @@ own_within u q m c e =
     (All-cons (IsWithin n) (part_of Main u.place u.body) [] (λ k w. let v : None ≡ Some k = w in cc)
     (All-nil (IsWithin n))) in
     subst (IsWithin n) c.2 (all c.0 q c.1) m e
+
+slots_of : (p : PieceOf) → length (body_scope (piece_seen p).parameters (piece_seen p).body.locals)
+    ≡ length p.parameters.now + length p.body.now.locals.items
+slots_of p =
+    let ps = map parameter_of p.parameters.now in
+    let ls = map local_of p.body.now.locals.items in
+    let a = length-append (parameter_names ps) (map (λ l. l.name) ls) in
+    let b = length-map ps (λ x. x.name) in
+    let c = length-map ls (λ l. l.name) in
+    let d = length-map p.parameters.now parameter_of in
+    let e = length-map p.body.now.locals.items local_of in
+    omega arith
+
+pub few_in_all : (u : UnitTree) (ps : List PieceOf) → declarations u < 2 ^ 32 - 1 → map piece_seen ps ≡ pieces u
+    → AreFew ps
+few_in_all u ps h e =
+    let slots : Piece → ℕ = λ q. length (body_scope q.parameters q.body.locals) in
+    let a : length (map piece_seen ps) ≡ length (pieces u) = ap length e in
+    let b : sum_by slots (map piece_seen ps) ≡ sum_by slots (pieces u) = ap (sum_by slots) e in
+    let c = length-map ps piece_seen in (
+      omega arith,
+      λ k d lt.
+          let f = sum_by_more_le slots (map piece_seen ps) k (piece_seen d) (omega arith) in
+          let g : slots (get_or (map piece_seen ps) k (piece_seen d)) ≡ slots (piece_seen (get_or ps k d)) =
+          ap slots (get_or-map piece_seen ps k d (piece_seen d) lt) in
+          let s = slots_of (get_or ps k d) in
+          omega arith,
+    )

@@ -5,11 +5,16 @@ use Rattle.std.proofs.Common.{slice_get}
 use Rattle.std.specs.Prelude.{option_map}
 use Rattle.std.specs.List.{take-map}
 use Rattle.std.proofs.lemmas.List.{take_more, map-append, length-map}
-use Rattle.std.proofs.lemmas.Option.{slice_get-map, slice_get_read}
+use Rattle.std.proofs.Common.{Result, Ok, Err, IfOk}
+use Rattle.std.specs.List.{Contains}
+use Rattle.std.proofs.lemmas.Option.{slice_get-map, slice_get_read, slice_get-get_or, slice_get_within}
+use Rattle.std.proofs.lemmas.Option.{get_or_from_slice_get}
 use Rattle.syntax.specs.declared.declaration.Monitor.{Monitor}
-use Rattle.syntax.specs.Tree.{MonitorTree}
+use Rattle.program.specs.declared.kinds.Role.TheVariants.{External, Main}
+use Rattle.syntax.specs.Tree.{MonitorTree, UnitTree}
 use Rattle.syntax.specs.View.{monitor_of}
-use Rattle.types.specs.Pieces.{monitor_pieces, pieces_from}
+use Rattle.types.specs.Pieces.{Piece, monitor_pieces, pieces_from, part_of, pieces}
+use Rattle.types.specs.Pieces as p
 use Rattle.callees.specs.declared.piece.Piece.{Piece as PieceOf}
 use Rattle.callees.specs.Pieces.{piece_of}
 
@@ -59,3 +64,26 @@ pub pieces_before : (ms : List Monitor) (i : ℕ) (ps : List PieceOf)
     → length ps ≡ length (pieces_from 0 (take i (map monitor_of ms)))
 pieces_before ms i ps made = sym (length-map ps piece_of) ∙ ap length made
     ∙ ap (λ xs. length (pieces_from 0 xs)) (sym (take-map monitor_of i ms))
+
+pub both_ok : {X E : Type 0} (r : Result X E) (P Q R : X → Type 0) → ((x : X) → P x → Q x → R x) → IfOk r P
+    → IfOk r Q → IfOk r R
+both_ok (Ok x) P Q R f p q = f x p q
+both_ok (Err e) P Q R f p q = tt
+
+-- the piece of this number, as it stands in a `Vec`
+pub piece_at : (ps : List PieceOf) (qs : List Piece) (i : ℕ) (d : PieceOf) (q : Piece) → map piece_of ps ≡ qs
+    → i < length ps → slice_get qs i ≡ Some q → piece_of (get_or ps i d) ≡ q
+piece_at ps qs i d q e lt at =
+    let same : Some (piece_of (get_or ps i d)) ≡ Some q = sym (ap (option_map piece_of) (slice_get-get_or ps i d lt))
+    ∙ sym (slice_get-map piece_of ps i) ∙ ap (λ xs. slice_get xs i) e ∙ at in
+    cc
+
+pub contains_at : {X : Type 0} (xs : List X) (i : ℕ) (x : X) → slice_get xs i ≡ Some x → Contains xs x
+contains_at xs i x e = (i, slice_get_within xs i x e, get_or_from_slice_get xs i x x e)
+
+-- the pieces of monitors, then those of external procedures, then MAIN
+pub all_pushed : (u : UnitTree) (ps qs rs : List PieceOf) → map piece_of ps ≡ pieces_from 0 u.monitors
+    → map piece_of qs ≡ map piece_of ps ++ map (p.piece_of External) u.procedures
+    → map piece_of rs ≡ map piece_of qs ++ part_of Main u.place u.body ∷ [] → map piece_of rs ≡ pieces u
+all_pushed u ps qs rs e f g = g ∙ ap (λ xs. xs ++ part_of Main u.place u.body ∷ [])
+    (f ∙ ap (λ xs. xs ++ map (p.piece_of External) u.procedures) e)

@@ -3,6 +3,7 @@
 #![tactic(auto)]
 
 mod callees;
+mod lookup;
 mod monitor_names;
 mod piece;
 mod roles;

@@ -1,7 +1,7 @@
 use Rattle.std.proofs.Common.{◌≡◌, ◌<◌, ◌^◌, ◌-◌, ◌+◌, ◌++◌, ◌∷◌, [], ◌∙◌, ap, sym, subst, arith, length, map, take}
 use Rattle.std.proofs.Common.{slice_get, Some, None}
 use Rattle.std.proofs.lemmas.List.{length-map, length-take-le, length-append, map-append, take_all}
-use Rattle.program.specs.declared.kinds.Role.TheVariants.{External, Main}
+use Rattle.program.specs.declared.kinds.Role.TheVariants.{External}
 use Rattle.syntax.specs.View.{name_of, monitor_of, member_of, monitor_procedure_of, procedure_of}
 use Rattle.syntax.specs.Whole.{unit_of}
 use Rattle.types.specs.Pieces.{monitor_pieces, pieces_from, first_piece, part_of}
@@ -9,8 +9,9 @@ use Rattle.types.specs.Pieces as p
 use Rattle.types.specs.Tables.{IsTable}
 use Rattle.callees.specs.Names.{IsNames, declarations}
 use Rattle.callees.specs.Pieces.{piece_of}
-use Rattle.callees.proofs.Few.{few_pieces, few_members, few_procedures}
+use Rattle.callees.proofs.Few.{few_pieces, few_members, few_procedures, few_in_all}
 use Rattle.callees.proofs.Growing.{map_twice, each_more, monitors_more, monitor_here, pieces_before, pieces_more}
+use Rattle.callees.proofs.Growing.{all_pushed}
 use Rattle.callees.proofs.callees.Callees.new.Goals as goal
 
 pub loop-number-init : goal.loop-number-init
@@ -116,15 +117,29 @@ overflow_cast-first_external c =
     let k = c.loop-number.pieces.ok in
     omega arith
 
+pub invariant_of-result : goal.invariant_of-result
+invariant_of-result c =
+    let before = c.loop-number.invariant.pieces ∙ ap (λ xs. pieces_from 0 (map monitor_of xs))
+    (take_all c.loop-number.number c.deref-monitor-items.result.now c.loop-number-test.false
+    ∙ c.deref-monitor-items.ensures.value) in
+    record {
+      few = few_in_all (unit_of c.args.unit.now) c.push_main.new.pieces.items c.requires
+          (all_pushed (unit_of c.args.unit.now) c.loop-number.pieces.items c.push_externals.new.pieces.items
+          c.push_main.new.pieces.items before
+          (c.in_ok-push_externals.ensures ∙ ap (λ xs. map piece_of c.loop-number.pieces.items
+          ++ map (p.piece_of External) (map procedure_of xs)) c.deref.ensures.value) c.in_ok-push_main.ensures);
+    }
+
 pub returns : goal.returns
 returns c =
-    let u = unit_of c.args.unit.now in
     let ms = c.deref-monitor-items.result.now in
     let i = c.loop-number.number in
+    let before = c.loop-number.invariant.pieces ∙ ap (λ xs. pieces_from 0 (map monitor_of xs))
+    (take_all c.loop-number.number c.deref-monitor-items.result.now c.loop-number-test.false
+    ∙ c.deref-monitor-items.ensures.value) in
     let all = take_all i ms c.loop-number-test.false ∙ c.deref-monitor-items.ensures.value in
     let count = ap length c.deref-monitor-items.ensures.value in
     let trees = length-map c.args.unit.now.monitors.items monitor_of in
-    let before = c.loop-number.invariant.pieces ∙ ap (λ xs. pieces_from 0 (map monitor_of xs)) all in
     record {
       few = c.requires;
       monitors = subst (λ xs. IsTable (map (λ m. m.name) (map monitor_of xs)) c.loop-number.monitors) all
@@ -137,9 +152,8 @@ returns c =
           c.in_ok-externals.ensures);
       first = c.len-first_external.ensures ∙ c.loop-number.pieces.ok.0
           ∙ sym (length-map c.loop-number.pieces.items piece_of) ∙ ap length before;
-      pieces = c.in_ok-push_main.ensures
-          ∙ ap (λ xs. xs ++ part_of Main u.place u.body ∷ []) (c.in_ok-push_externals.ensures
-          ∙ ap (λ xs. xs ++ map (p.piece_of External) (map procedure_of c.deref.result.now)) before
-          ∙ ap (λ xs. pieces_from 0 u.monitors ++ map (p.piece_of External) (map procedure_of xs))
-          c.deref.ensures.value);
+      pieces = all_pushed (unit_of c.args.unit.now) c.loop-number.pieces.items c.push_externals.new.pieces.items
+          c.push_main.new.pieces.items before
+          (c.in_ok-push_externals.ensures ∙ ap (λ xs. map piece_of c.loop-number.pieces.items
+          ++ map (p.piece_of External) (map procedure_of xs)) c.deref.ensures.value) c.in_ok-push_main.ensures;
     }
