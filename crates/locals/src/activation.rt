@@ -51,6 +51,16 @@ impl Activation {
         }
     }
 
+    /// Becomes a copy of another, in its place.
+    pub fn copy_from(&mut self, other: &Activation)
+        ensures { self.new ≡ other.now }
+    {
+        self.place = other.place;
+        self.operands.copy_from(&other.operands);
+        self.locals = other.locals;
+        self.callers.copy_from(&other.callers);
+    }
+
     /// Whether it is the other.
     pub fn equals(&self, other: &Activation) -> bool
         ensures { MatchBool result (self.now ≡ other.now) (self.now ≢ other.now) }

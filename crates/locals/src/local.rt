@@ -78,6 +78,26 @@ impl Local {
         Local { stage }
     }
 
+    /// Becomes a copy of another, in its place. Where both run it takes time in proportion to the operands and frames
+    /// in use.
+    pub fn copy_from(&mut self, other: &Local)
+        ensures { self.new ≡ other.now }
+    {
+        match (&mut self.stage, &other.stage) {
+            (Stage::Running(activation), Stage::Running(from)) => activation.copy_from(from),
+            _ => self.replace(other),
+        }
+    }
+
+    // The same by a whole copy. Inlined, it would cost its caller room for one at each call.
+    #[cold]
+    #[inline(never)]
+    fn replace(&mut self, other: &Local)
+        ensures { self.new ≡ other.now }
+    {
+        *self = other.copy();
+    }
+
     /// Whether it is the same state as the other.
     pub fn equals(&self, other: &Local) -> bool
         ensures { MatchBool result (self.now ≡ other.now) (self.now ≢ other.now) }

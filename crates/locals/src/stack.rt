@@ -49,6 +49,20 @@ impl<T: Copy + Default + Drop, const N: usize> Stack<T, N> {
         }
     }
 
+    /// Becomes a copy of another, in its place.
+    pub fn copy_from(&mut self, other: &Stack<T, N>)
+        ensures { self.new ≡ other.now }
+    {
+        self.items.clear();
+        if self
+            .items
+            .try_extend_from_slice(other.items.as_slice())
+            .is_err()
+        {
+            unreachable!()
+        }
+    }
+
     /// How many items it has.
     pub fn len(&self) -> usize
         ensures value { result ≡ length self.now }

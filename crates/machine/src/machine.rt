@@ -199,6 +199,14 @@ impl Machine {
         self.threads[t as usize - 1] = local;
     }
 
+    /// Puts thread `t`, which can move, where its local steps led, by a copy in its place.
+    pub fn copy_local(&mut self, t: u32, local: &Local)
+        requires { can_move (concrete self.old) t ≡ true }
+        ensures { self.new ≡ record self.old { threads = slice_set self.old.threads (t - 1) local.now } }
+    {
+        self.threads[t as usize - 1].copy_from(local);
+    }
+
     /// Takes local steps of thread `t`, which can move, in its place, until another step comes or the budget is used.
     /// Answers how many.
     pub fn run_local(&mut self, t: u32, budget: u32) -> u32

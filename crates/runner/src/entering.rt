@@ -55,7 +55,7 @@ fn hand_in(machine: &mut Machine, t: u32, here: &Local) -> Option<Event>
     ensures program { machine.new.program ≡ machine.old.program }
 {
     let turn = machine.is_before_local(t, here);
-    machine.put_local(t, here.copy());
+    machine.copy_local(t, here);
     if turn {
         return None;
     }

@@ -65,8 +65,8 @@ impl<J: RunName> Piece<J> {
         ensures { self.new
             ≡ record { thread = self.old.thread; origin = local.now; here = local.now; count = 0 } }
     {
-        self.origin = local.copy();
-        self.here = local.copy();
+        self.origin.copy_from(local);
+        self.here.copy_from(local);
         self.count = 0;
     }
 }

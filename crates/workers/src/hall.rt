@@ -6,15 +6,22 @@ use crate::seat::Seat;
 use crossbeam_utils::CachePadded;
 use runner::{After, Piece, RunFault, RunName, Share};
 use std::alloc::{AllocError, Global};
-use std::sync::{Condvar, Mutex, Wait};
+use std::hint::spin_loop;
+use std::sync::{Condvar, Mutex, MutexGuard, Wait};
 use std::thread;
 use std::thread::Threads;
 use words::{Gate, MOST_PROCESSES};
 
+// How often a worker tries for the lock before it sleeps, and how long it lingers in between.
+const TRIALS: u32 = 200;
+
+const MOMENT: u32 = 8;
+
 /// The run under its lock, a seat for the worker of each thread that there can be, and where the calling thread parks.
 #[derive(Drop)]
 pub struct Hall<J: RunName> {
-    desk: Mutex<Desk<J>>,
+    // Apart from the word of the lock, which those who try for it write.
+    desk: Mutex<CachePadded<Desk<J>>>,
     seats: Vec<CachePadded<Seat>>,
     made: Condvar,
 }
@@ -27,7 +34,7 @@ impl<J: RunName> Hall<J> {
             seats.push(CachePadded::new(Seat::new()))?;
         }
         Ok(Hall {
-            desk: Mutex::new(desk),
+            desk: Mutex::new(CachePadded::new(desk)),
             seats,
             made: Condvar::new(),
         })
@@ -36,7 +43,7 @@ impl<J: RunName> Hall<J> {
     /// What lay under the lock.
     pub fn into_desk(self) -> Desk<J> {
         let Hall { desk, .. } = self;
-        desk.into_inner()
+        desk.into_inner().into_inner()
     }
 
     /// Starts a worker for each thread that is made, and parks in between. It returns when all workers have ended.
@@ -51,7 +58,7 @@ impl<J: RunName> Hall<J> {
                 };
                 let worker = scope.spawn(move || {
                     let share = self.work(rt, lent, gate, t, share);
-                    self.desk.lock(rt).give_back(share);
+                    self.lock(rt).give_back(share);
                 });
                 if worker.is_err() {
                     self.fail(rt);
@@ -62,7 +69,7 @@ impl<J: RunName> Hall<J> {
 
     // The next thread without a worker, once it was made. None where nobody is left to make one.
     fn next_worker<R: Wait>(&self, rt: &R) -> Option<(u32, Share<J>)> {
-        let mut desk = self.made.wait_while(rt, self.desk.lock(rt), |desk| {
+        let mut desk = self.made.wait_while(rt, self.lock(rt), |desk| {
             !desk.lacks_worker() && !self.is_over(desk)
         });
         desk.next_worker()
@@ -114,7 +121,7 @@ impl<J: RunName> Hall<J> {
     // The piece that thread `t` goes on from, once it can move. None where nobody is left to wake it.
     fn piece<R: Wait>(&self, rt: &R, t: u32) -> Option<Piece<J>> {
         let seat = self.seats.get(t as usize)?;
-        let desk = seat.called().wait_while(rt, self.desk.lock(rt), |desk| {
+        let desk = seat.called().wait_while(rt, self.lock(rt), |desk| {
             !desk.can_move(t) && !self.is_over(desk)
         });
         desk.piece(t)
@@ -131,7 +138,7 @@ impl<J: RunName> Hall<J> {
         let Some(seat) = self.seats.get(t as usize) else {
             return After::Ends;
         };
-        let mut desk = self.desk.lock(rt);
+        let mut desk = self.lock(rt);
         let after = desk.hand_in(t, piece, share, seat);
         let news = desk.news();
         let is_over = after != After::Goes && self.is_over(&desk);
@@ -143,9 +150,20 @@ impl<J: RunName> Hall<J> {
         after
     }
 
+    // Takes the lock. It is held for a moment only, so that it is worthwhile to try for a while before one sleeps.
+    fn lock<R: Wait>(&self, rt: &R) -> MutexGuard<'_, CachePadded<Desk<J>>> {
+        for _ in 0..TRIALS {
+            if let Some(desk) = self.desk.try_lock() {
+                return desk;
+            }
+            linger();
+        }
+        self.desk.lock(rt)
+    }
+
     // Ends the run for want of memory.
     fn fail<R: Wait>(&self, rt: &R) {
-        self.desk.lock(rt).fail();
+        self.lock(rt).fail();
         self.call_all();
     }
 
@@ -198,5 +216,12 @@ impl<J: RunName> Hall<J> {
         for seat in self.seats.iter() {
             seat.called().notify_all();
         }
+    }
+}
+
+// Lets a moment go by.
+fn linger() {
+    for _ in 0..MOMENT {
+        spin_loop();
     }
 }
