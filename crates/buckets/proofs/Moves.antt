@@ -89,10 +89,10 @@ pub Moved-next : (o s s' : Sleepers) (moved : List ℕ) (a b n i t : ℕ) → Is
     → ((1 ≤ t) × (t ≤ thread_count s')) × (place_of s' t ≡ None)
 Moved-next o s s' moved a b n i t ok taken places threads m l e =
     let named : names moved t ≡ true = rw e (names-get_or moved i t l) in
-    let there : place_of o t ≡ Some a = ok.sleeps t a (names-take n t (queue o a) (rw taken at named)) in
+    let there : place_of o t ≡ Some a = ok.agree.sleeps t a (names-take n t (queue o a) (rw taken at named)) in
     let r = ok.in_range t a there in
     let apart : names (take i moved) t ≡ false = rw e
-    (names-front moved i t (rw taken (IsDistinct-take n (queue o a) (ok.distinct a))) l) in (
+    (names-front moved i t (rw taken (IsDistinct-take n (queue o a) (ok.agree.distinct a))) l) in (
       (r.0, omega (arith, r.1, threads, m.threads)),
       ap (λ f. f t) m.places ∙ rw apart (ap (λ f. f t) places ∙ rw named refl),
     )

@@ -160,7 +160,7 @@ dropped places lists t k a v v' i inside sleeps ek ev new =
     v'.items i l' r in
     let same : rows (set lists k v') ≡ set (rows lists) k v'.items = map-set (λ v. v.items) lists k v' in
     let here : (b : ℕ) → names (on b (concatenation (rows lists))) t ≡ true → a.0 ≡ b = λ b h. let
-    at = (sound places (rows lists) i).sleeps t b h in let at' : Some a.0 ≡ Some b = rw sleeps at at in cc in
+    at = (sound places (rows lists) i).agree.sleeps t b h in let at' : Some a.0 ≡ Some b = rw sleeps at at in cc in
     rw same (
       i',
       record {
@@ -182,7 +182,7 @@ unfolding queue place_of thread_count
 not_there places lists t i awake =
     let s = sound places (rows lists) i in
     record {
-      queues = λ b. sym (filter-absent t _ (false_from_ne_true _ (λ h. let at = s.sleeps t b h in let at' :
+      queues = λ b. sym (filter-absent t _ (false_from_ne_true _ (λ h. let at = s.agree.sleeps t b h in let at' :
           option_map (λ (x : Addr). x.0) None ≡ Some b = rw awake at at in cc)));
       places = fun_ext (λ u. elim (cases_eq u t) [
         | inl e ↦ rw (e, eq-eqb t t refl, awake) refl

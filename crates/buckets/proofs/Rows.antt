@@ -125,11 +125,13 @@ sound places rows i =
     let home : (a : ℕ) → a % length rows < length rows = λ a. mod_lt a (length rows) i.some in
     record {
       in_range = λ t a h. let r = in_table places rows i t a h in (r.0, omega (arith, r.1));
-      stands = λ t a h. rw (on-concatenation places rows i a) (named t a (entry_of (get_or places t None) a h));
-      sleeps = λ t a h. place-on places (length rows) (a % length rows) a t _ (i.stand (a % length rows) (home a))
-          (rw (on-concatenation places rows i a) at h);
-      distinct = λ a. rw (on-concatenation places rows i a) (distinct-on places (length rows) (a % length rows) a _
-          (i.stand (a % length rows) (home a)));
+      agree = record {
+        stands = λ t a h. rw (on-concatenation places rows i a) (named t a (entry_of (get_or places t None) a h));
+        sleeps = λ t a h. place-on places (length rows) (a % length rows) a t _ (i.stand (a % length rows) (home a))
+            (rw (on-concatenation places rows i a) at h);
+        distinct = λ a. rw (on-concatenation places rows i a) (distinct-on places (length rows) (a % length rows) a _
+            (i.stand (a % length rows) (home a)));
+      };
     } where
       named : (t a : ℕ) → (x : Addr) × ((get_or places t None ≡ Some x) × (x.0 ≡ a)) → names
           (on a (get_or rows (a % length rows) [])) t ≡ true

@@ -1,10 +1,11 @@
 -- What a contract sees of the buckets: who sleeps, and on which address. It is read by three functions alone.
-use Rattle.std.specs.Prelude.{◌≡◌, ℕ, ◌-◌, ◌≤◌, ◌==◌, if◌then◌else◌, Option, Some, None, List, length, slice_index_or, IsTrue, nat_eq}
-use Rattle.std.specs.List.{filter_map, IsDistinct}
+use Rattle.std.specs.Prelude.{◌≡◌, ℕ, ◌-◌, ◌≤◌, ◌==◌, if◌then◌else◌, Option, Some, None, List, length}
+use Rattle.std.specs.Prelude.{slice_index_or}
+use Rattle.std.specs.List.{filter_map}
 use Rattle.std.specs.Option.{option_map}
 use Rattle.words.specs.declared.mem.Addr.{Addr}
 use Rattle.buckets.specs.declared.sleeper.Sleeper.{Sleeper}
-use Rattle.buckets.specs.Places.{names}
+use Rattle.buckets.specs.Places.{Agree}
 
 -- for each thread from 0 where it sleeps, and the sleepers, those of one address in the order of their arrival
 pub record Sleepers : Type 0 where
@@ -27,9 +28,7 @@ place_of s t = option_map (λ a. a.0) (slice_index_or s.places t None)
 unfoldable pub thread_count : Sleepers → ℕ
 thread_count s = length s.places - 1
 
--- what is true of every value: a thread sleeps on an address exactly where it stands in that address's list, once
+-- what is true of every value: whoever sleeps is a thread, and the lists and places agree
 pub record IsSound (s : Sleepers) : Type 0 where
   pub in_range : (t a : ℕ) → place_of s t ≡ Some a → (1 ≤ t) × (t ≤ thread_count s)
-  pub stands : (t a : ℕ) → place_of s t ≡ Some a → IsTrue (names (queue s a) t)
-  pub sleeps : (t a : ℕ) → IsTrue (names (queue s a) t) → place_of s t ≡ Some a
-  pub distinct : (a : ℕ) → IsDistinct nat_eq (queue s a)
+  pub agree : Agree (queue s) (place_of s)

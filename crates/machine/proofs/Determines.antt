@@ -8,7 +8,7 @@ use Rattle.std.proofs.lemmas.Bool.{cond-false, false_from_ne_true}
 use Rattle.std.proofs.lemmas.List.{ext_get_or, take_all}
 use Rattle.words.specs.LockWord.{lock_word, waiters_of}
 use Rattle.words.specs.Process.{process_word}
-use Rattle.buckets.specs.Places.{names, with_place}
+use Rattle.buckets.specs.Places.{names, with_place, Agree}
 use Rattle.buckets.specs.Sleepers.{Sleepers, queue, place_of}
 use Rattle.buckets.proofs.Takes.{names-take}
 use Rattle.buckets.proofs.Moves.{drop-take_length, names-front}
@@ -27,7 +27,7 @@ use Rattle.machine.specs.declared.event.EventName.TheVariants as name
 use Rattle.machine.specs.ConcreteServing.{front, wake_front, event_of}
 use Rattle.machine.specs.ConcreteExits.{Left, leave, leave_entry, leave_pending, abandon, abandon_wakes}
 use Rattle.machine.specs.RequestMeanings.{name_at, value_at}
-use Rattle.machine.specs.Views.{IsSoundly, common_of}
+use Rattle.machine.specs.Views.{common_of}
 use Rattle.machine.proofs.Queues.{one_list, no_list}
 use Rattle.machine.proofs.Leaving.{entry_so, entry_test}
 
@@ -41,7 +41,7 @@ set_is ws ws' a v long inside is =
     same_words (slice_set ws a v) ws' (long ∙ sym (length-set ws a v)) (is ∙ sym (word_of-set ws a v inside))
 
 -- a choice that is a front is the front
-front_is : (q : ℕ → List ℕ) (s : ℕ → Option ℕ) (a n : ℕ) (woken : List ℕ) → IsSoundly q s → IsChoice s a n woken
+front_is : (q : ℕ → List ℕ) (s : ℕ → Option ℕ) (a n : ℕ) (woken : List ℕ) → Agree q s → IsChoice s a n woken
     → woken ≡ take (length woken) (q a) → woken ≡ take n (q a)
 front_is q s a n woken ok choice is = elim (cases_lt (length woken) n) [
   | inl less ↦ elim (cases_lt (length woken) (length (q a))) [
@@ -84,7 +84,7 @@ record Marks (ws ws' : List ℕ) (s s' : Sleepers) (o : List ℤ) (l : ℕ) (wok
   pub woke : abandon_wakes (common_of ws s o) l ≡ woken
 
 marks_if : (ws ws' : List ℕ) (s s' : Sleepers) (o : List ℤ) (t l : ℕ) (woken : List ℕ)
-    → IsSoundly (queue s) (place_of s) → Abandons t l (shared ws s) woken (shared ws' s') → TakesFront s s' l woken
+    → Agree (queue s) (place_of s) → Abandons t l (shared ws s) woken (shared ws' s') → TakesFront s s' l woken
     → length ws' ≡ length ws → l < length ws
     → (w : Bool) → waiters_of (word_of ws l) ≡ w → Marks ws ws' s s' o l woken
 marks_if ws ws' s s' o t l woken ok gone takes long inside true is =
@@ -114,7 +114,7 @@ marks_if ws ws' s s' o t l woken ok gone takes long inside false is =
     }
 
 marks : (ws ws' : List ℕ) (s s' : Sleepers) (o : List ℤ) (t l : ℕ) (woken : List ℕ)
-    → IsSoundly (queue s) (place_of s) → Abandons t l (shared ws s) woken (shared ws' s') → TakesFront s s' l woken
+    → Agree (queue s) (place_of s) → Abandons t l (shared ws s) woken (shared ws' s') → TakesFront s s' l woken
     → length ws' ≡ length ws → l < length ws
     → Marks ws ws' s s' o l woken
 marks ws ws' s s' o t l woken ok gone takes long inside =
@@ -125,7 +125,7 @@ record WakesFront (ws ws' : List ℕ) (s s' : Sleepers) (o : List ℤ) (a : ℕ)
   pub woke : front (common_of ws s o) a 1 ≡ woken
 
 one_woken : (ws ws' : List ℕ) (s s' : Sleepers) (o : List ℤ) (a : ℕ) (woken : List ℕ)
-    → IsSoundly (queue s) (place_of s) → WakesOne a (shared ws s) woken (shared ws' s') → TakesFront s s' a woken
+    → Agree (queue s) (place_of s) → WakesOne a (shared ws s) woken (shared ws' s') → TakesFront s s' a woken
     → length ws' ≡ length ws → WakesFront ws ws' s s' o a woken
 one_woken ws ws' s s' o a woken ok wakes takes long =
     let words : ws' ≡ ws = same_words ws ws' long wakes.same in
@@ -145,7 +145,7 @@ left ws' s' o phase next value woken =
     record { common = common_of ws' s' o; next = next; event = event_of (name_at phase) value woken [] }
 
 at_entry : (ws ws' : List ℕ) (s s' : Sleepers) (o : List ℤ) (t e seen : ℕ) (next : ExitPhase) (woken : List ℕ)
-    → IsSoundly (queue s) (place_of s) → EntryStep (length ws) t e (shared ws s) woken (shared ws' s')
+    → Agree (queue s) (place_of s) → EntryStep (length ws) t e (shared ws s) woken (shared ws' s')
     → TakesFront s s' (e + 1) woken → length ws' ≡ length ws
     → IsEntry (length ws) e → next ≡ next_entry (word_of ws e) (seen + 1)
     → leave_entry t e seen (common_of ws s o) ≡ left ws' s' o (Entry (record { 0 = e }) seen) next e woken
@@ -173,7 +173,7 @@ at_entry ws ws' s s' o t e seen next woken ok (IsOwned apart gone) takes long en
     ∙ (λ i. record { common = m.common i; next = sym goes i; event = event_of name.Entry e (m.woke i) [] })
 
 at_pending : (ws ws' : List ℕ) (s s' : Sleepers) (o : List ℤ) (t e : ℕ) (woken : List ℕ)
-    → IsSoundly (queue s) (place_of s) → PendingStep (length ws) t e (shared ws s) woken (shared ws' s')
+    → Agree (queue s) (place_of s) → PendingStep (length ws) t e (shared ws s) woken (shared ws' s')
     → TakesFront s s' (e + 1) woken → length ws' ≡ length ws
     → leave_pending t e (common_of ws s o) ≡ left ws' s' o Pending ClearId e woken
 at_pending ws ws' s s' o t e woken ok (NoEntry out idle) takes long =
@@ -199,7 +199,7 @@ value_of t LastWake ws woken = length woken
 value_of t phase ws woken = value_at t phase ws
 
 pub left_is : (ws ws' : List ℕ) (s s' : Sleepers) (o : List ℤ) (t : ℕ) (phase next : ExitPhase) (woken : List ℕ)
-    → IsSoundly (queue s) (place_of s) → process_word t 5 < length ws
+    → Agree (queue s) (place_of s) → process_word t 5 < length ws
     → ExitStep (length ws) t phase (shared ws s) woken (shared ws' s') next
     → TakesFront s s' (wake_word t phase (word_of ws)) woken → length ws' ≡ length ws
     → leave t phase (common_of ws s o) ≡ left ws' s' o phase next (value_of t phase ws woken) woken
@@ -237,7 +237,7 @@ left_is ws ws' s s' o t LastWake next woken ok block r takes long =
 left_is ws ws' s s' o t Ended next woken ok block r takes long = absurd r
 
 -- those woken are threads
-pub left_threads : (s s' : Sleepers) (a : ℕ) (woken : List ℕ) → IsSoundly (queue s) (place_of s)
+pub left_threads : (s s' : Sleepers) (a : ℕ) (woken : List ℕ) → Agree (queue s) (place_of s)
     → ((u b : ℕ) → place_of s u ≡ Some b → IsThread u) → TakesFront s s' a woken → All IsThread woken
 left_threads s s' a woken ok known takes = λ k d l.
     let t : ℕ = get_or woken k d in

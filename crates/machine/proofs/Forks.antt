@@ -124,7 +124,7 @@ forks p k k' t e y go entry arguments has_room concrete stands place h = elim (c
           sized = holds.sized;
           some = omega (arith, long);
           few = omega (arith, long, few);
-          sound = holds.sound;
+          agree = holds.agree;
           made = λ u a g. let r = holds.made u a g in (r.0, omega (arith, long, r.1));
         });
       }

@@ -6,41 +6,41 @@ use Rattle.std.specs.List.{IsDistinct}
 use Rattle.std.proofs.lemmas.Bool.{cases_eq, cases_Bool, or_cases, eqb-true, cond-true, cond-false, eq-eqb, ne_eqb}
 use Rattle.isa.specs.Programs.{Program, memory_size}
 use Rattle.locals.specs.Threads.{Thread}
-use Rattle.buckets.specs.Places.{names, with_place}
+use Rattle.buckets.specs.Places.{names, with_place, Agree}
 use Rattle.buckets.proofs.Takes.{names-take}
 use Rattle.buckets.proofs.Moves.{IsDistinct-take, with_place-again}
 use Rattle.robustexit.specs.RobustExit.{put}
 use Rattle.machine.specs.States.{Common, ConcreteState}
 use Rattle.machine.specs.ConcreteServing.{set_word, wake_front, sleep_on, move_front, front}
-use Rattle.machine.specs.Views.{IsSoundly, IsWellFormed}
+use Rattle.machine.specs.Views.{IsWellFormed}
 use Rattle.machine.proofs.Placing.{put-there}
-use Rattle.machine.proofs.Sleeping.{placed, unplaced, sound-wake, sound-arrive}
+use Rattle.machine.proofs.Sleeping.{placed, unplaced, agree-woken, agree-arrived}
 
 -- of a memory of this size and so many threads
 pub record Holds (size n : ℕ) (c : Common) : Type 0 where
   pub sized : length c.words ≡ size
-  pub sound : IsSoundly c.queue c.asleep
+  pub agree : Agree c.queue c.asleep
   pub made : (t a : ℕ) → c.asleep t ≡ Some a → (1 ≤ t) × (t ≤ n)
 
 pub holds-concrete : (p : Program) (k : ConcreteState) → IsWellFormed p k
     → Holds (memory_size p) (length k.threads) k.common
-holds-concrete p k concrete = record { sized = concrete.sized; sound = concrete.sound; made = concrete.made }
+holds-concrete p k concrete = record { sized = concrete.sized; agree = concrete.agree; made = concrete.made }
 
 pub holds-more : (size n m : ℕ) (c : Common) → n ≤ m → Holds size n c → Holds size m c
 holds-more size n m c le h =
-    record { sized = h.sized; sound = h.sound; made = λ t a e. let r = h.made t a e in (r.0, omega (arith, r.1)) }
+    record { sized = h.sized; agree = h.agree; made = λ t a e. let r = h.made t a e in (r.0, omega (arith, r.1)) }
 
 pub holds-set : (size n : ℕ) (c : Common) (a v : ℕ) → Holds size n c → Holds size n (set_word c a v)
-holds-set size n c a v h = record { sized = length-set c.words a v ∙ h.sized; sound = h.sound; made = h.made }
+holds-set size n c a v h = record { sized = length-set c.words a v ∙ h.sized; agree = h.agree; made = h.made }
 
 pub holds-printed : (size n : ℕ) (c : Common) (output : List ℤ) → Holds size n c
     → Holds size n (record c { output = output })
-holds-printed size n c output h = record { sized = h.sized; sound = h.sound; made = h.made }
+holds-printed size n c output h = record { sized = h.sized; agree = h.agree; made = h.made }
 
 pub holds-woke : (size n : ℕ) (c : Common) (a m : ℕ) → Holds size n c → Holds size n (wake_front c a m)
 holds-woke size n c a m h = record {
   sized = h.sized;
-  sound = sound-wake c.queue c.asleep a m h.sound;
+  agree = agree-woken c.queue c.asleep a m h.agree;
   made = λ t b e. elim (cases_Bool (names (front c a m) t)) [
     | inl y ↦ absurd (let none = placed c.asleep (front c a m) None t y in cc)
     | inr out ↦ h.made t b (sym (unplaced c.asleep (front c a m) None t out) ∙ e)
@@ -53,7 +53,7 @@ pub holds-arrived : (size n : ℕ) (c : Common) (b : ℕ) (xs : List ℕ) → Is
     → Holds size n (record c { queue = put c.queue b (c.queue b ++ xs); asleep = with_place c.asleep xs (Some b) })
 holds-arrived size n c b xs d free h = record {
   sized = h.sized;
-  sound = sound-arrive c.queue c.asleep b xs d (λ t y. (free t y).0) h.sound;
+  agree = agree-arrived c.queue c.asleep b xs d (λ t y. (free t y).0) h.agree;
   made = λ t a e. elim (cases_Bool (names xs t)) [
     | inl y ↦ (free t y).1
     | inr out ↦ h.made t a (sym (unplaced c.asleep xs (Some b) t out) ∙ e)
@@ -84,8 +84,8 @@ holds-moved size n c a b m h = elim (cases_eq a b) [
         asleep =
             with_place woke.asleep xs (Some b);
       }) =
-      holds-arrived size n woke b xs (IsDistinct-take m (c.queue a) (h.sound.distinct a))
-      (λ t y. (placed c.asleep xs None t y, h.made t a (h.sound.sleeps t a (names-take m t (c.queue a) y))))
+      holds-arrived size n woke b xs (IsDistinct-take m (c.queue a) (h.agree.distinct a))
+      (λ t y. (placed c.asleep xs None t y, h.made t a (h.agree.sleeps t a (names-take m t (c.queue a) y))))
       (holds-woke size n c a m h) in
       let was : woke.queue b ≡ c.queue b = put-there c.queue a (drop m (c.queue a)) b (λ q. ne (sym q)) in
       let places : with_place woke.asleep xs (Some b) ≡ with_place c.asleep xs (Some b) =
@@ -106,4 +106,4 @@ pub keeps : (p : Program) (k : ConcreteState) (c : Common) (threads : List Threa
     → length k.threads ≤ length threads → length threads ≤ 64 → Holds (memory_size p) (length threads) c
     → IsWellFormed p (record { common = c; threads = threads })
 keeps p k c threads concrete more few h =
-    record { sized = h.sized; some = omega (arith, concrete.some); few = few; sound = h.sound; made = h.made }
+    record { sized = h.sized; some = omega (arith, concrete.some); few = few; agree = h.agree; made = h.made }

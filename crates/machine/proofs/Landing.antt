@@ -84,7 +84,7 @@ lands p k k' t e ev x y c w concrete stands holds word h =
         sized = holds.sized;
         some = omega (arith, long, concrete.some);
         few = omega (arith, long, concrete.few);
-        sound = holds.sound;
+        agree = holds.agree;
         made = λ u a g. let r = holds.made u a g in (r.0, omega (arith, long, r.1));
       });
     }

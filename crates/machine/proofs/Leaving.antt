@@ -20,7 +20,7 @@ use Rattle.machine.specs.ConcreteExits.{Left, leave, is_entry, abandon, abandon_
 use Rattle.machine.specs.declared.event.EventName.TheVariants as name
 use Rattle.machine.specs.Views.{IsWellFormed}
 use Rattle.machine.proofs.Placing.{words_put}
-use Rattle.machine.proofs.Sleeping.{choice-front}
+use Rattle.futexcalls.proofs.Choices.{choice-front}
 use Rattle.machine.proofs.Keeping.{Holds, holds-concrete, holds-set, holds-woke}
 use Rattle.machine.proofs.Landing.{HasPlace}
 
@@ -95,7 +95,7 @@ abandoning_if p k t l concrete inside owned true is =
         owned = owned;
         marks = λ i. put f l (lock_word 0 true (sym is i));
         wakes = rw is (record {
-          choice = choice-front k.common.queue k.common.asleep l 1 concrete.sound;
+          choice = choice-front k.common.queue k.common.asleep l 1 concrete.agree;
           awake =
               refl;
         });
@@ -230,7 +230,7 @@ at_pending p k t e concrete place named true is false so =
               same = refl;
               wakes =
                   record {
-                    choice = choice-front k.common.queue k.common.asleep (e + 1) 1 concrete.sound;
+                    choice = choice-front k.common.queue k.common.asleep (e + 1) 1 concrete.agree;
                     awake =
                         refl;
                   };
@@ -271,7 +271,7 @@ leaving p k t LastWake runs concrete place = record {
       same = refl;
       wakes =
           record {
-            choice = choice-front k.common.queue k.common.asleep (process_word t 2) 1 concrete.sound;
+            choice = choice-front k.common.queue k.common.asleep (process_word t 2) 1 concrete.agree;
             awake =
                 refl;
           };

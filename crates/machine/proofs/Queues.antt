@@ -19,7 +19,7 @@ use Rattle.machine.specs.declared.event.Event.{Event}
 use Rattle.machine.specs.declared.event.EventName.TheVariants as name
 use Rattle.machine.specs.ConcreteServing.{wake_front, sleep_on, move_front, moves_of, front, within, requeue_to}
 use Rattle.machine.specs.ConcreteServing.{gives, event_of}
-use Rattle.machine.specs.Views.{IsSoundly, common_of}
+use Rattle.machine.specs.Views.{common_of}
 use Rattle.machine.proofs.Placing.{by_place, put-here, put-there}
 use Rattle.machine.proofs.Sleeping.{names-drop}
 use Rattle.machine.proofs.Words.{inside}
@@ -115,7 +115,8 @@ requeued_is word ws s s' o a b n m expected woken moved call front is rest last 
 pub sleepers_threads : (s : Sleepers) (a n : ℕ) → IsSound s → thread_count s ≡ 64 → All IsThread (take n (queue s a))
 sleepers_threads s a n ok count k d l =
     let t : ℕ = get_or (take n (queue s a)) k d in
-    let r = ok.in_range t a (ok.sleeps t a (names-take n t (queue s a) (names-get_or (take n (queue s a)) k d l))) in
+    let r = ok.in_range t a
+    (ok.agree.sleeps t a (names-take n t (queue s a) (names-get_or (take n (queue s a)) k d l))) in
     (r.0, omega (arith, r.1, count))
 
 pub woken_threads : (s : Sleepers) (a n : ℕ) (xs : List ℕ) → IsSound s → thread_count s ≡ 64
@@ -126,7 +127,7 @@ pub moved_threads : (s : Sleepers) (a b n m : ℕ) (xs : List ℕ) → IsSound s
     → xs ≡ (cond (eqb a b) [] (take m (drop n (queue s a)))) → All IsThread xs
 moved_threads s a b n m xs ok count is k d l =
     let t : ℕ = get_or xs k d in
-    let r = ok.in_range t a (ok.sleeps t a (named t (names-get_or xs k d l))) in
+    let r = ok.in_range t a (ok.agree.sleeps t a (named t (names-get_or xs k d l))) in
     (r.0, omega (arith, r.1, count)) where
       named : (u : ℕ) → names xs u ≡ true → names (queue s a) u ≡ true
       named u h = elim (cases_eq a b) [
@@ -153,10 +154,6 @@ requeue_gives ws s s' o a b n m expected woken moved count event la lb call fron
     (event_of name.Requeue (length (sym front i) + length (r.1 i)) (sym front i) (r.1 i)))
     ∙ (λ i. gives (sym counted i) (common_of ws s' o) (event_of name.Requeue (sym counted i) woken moved))
     ∙ (λ i. gives count (common_of ws s' o) (sym told i))
-
--- a sound value of the buckets, as its lists and places are
-pub soundly : (s : Sleepers) → IsSound s → IsSoundly (queue s) (place_of s)
-soundly s ok = record { stands = ok.stands; sleeps = ok.sleeps; distinct = ok.distinct }
 
 pub known : (s : Sleepers) → IsSound s → thread_count s ≡ 64 → (u a : ℕ) → place_of s u ≡ Some a → IsThread u
 known s ok count u a at = let r = ok.in_range u a at in (r.0, omega (arith, r.1, count))

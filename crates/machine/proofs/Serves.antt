@@ -28,7 +28,8 @@ use Rattle.machine.specs.ConcreteServing.{wake_front, sleep_on, move_front, move
 use Rattle.machine.specs.ConcreteSteps.{go_on_with, on_machine}
 use Rattle.machine.specs.Views.{IsWellFormed}
 use Rattle.machine.proofs.Placing.{words_put}
-use Rattle.machine.proofs.Sleeping.{choice-front, sound-wake}
+use Rattle.futexcalls.proofs.Choices.{choice-front}
+use Rattle.machine.proofs.Sleeping.{agree-woken}
 use Rattle.machine.proofs.Keeping.{Holds, holds-concrete, holds-set, holds-printed, holds-woke, holds-slept}
 use Rattle.machine.proofs.Keeping.{holds-moved}
 use Rattle.machine.proofs.Landing.{Steps, lands, HasPlace}
@@ -157,7 +158,7 @@ wakes p k k' t e y go a n concrete stands inside h =
           inside,
           c.asleep,
           record {
-            choice = choice-front k.common.queue k.common.asleep a n concrete.sound;
+            choice = choice-front k.common.queue k.common.asleep a n concrete.agree;
             awake = refl;
           },
           refl,
@@ -185,7 +186,7 @@ moves_on p k a b n m concrete =
           ap (λ (x : Common). x.asleep) (cond-false _ _ _ (ne_eqb a b ne)) in
           record {
             choice = λ _. rw some (choice-front c.queue c.asleep a m
-                (sound-wake k.common.queue k.common.asleep a n concrete.sound));
+                (agree-woken k.common.queue k.common.asleep a n concrete.agree));
             none = λ e. absurd (ne e);
             goes = goes ∙ ap (λ xs. with_place c.asleep xs (Some b)) (sym some);
           }
@@ -224,7 +225,7 @@ requeues p k k' t e y go a b n m expected concrete stands inside inside' h =
                     equal = is;
                     wakes =
                         record {
-                          choice = choice-front k.common.queue k.common.asleep a n concrete.sound;
+                          choice = choice-front k.common.queue k.common.asleep a n concrete.agree;
                           awake = refl;
                         };
                     moves = moves_on p k a b n m concrete;

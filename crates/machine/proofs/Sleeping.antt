@@ -1,17 +1,14 @@
--- Who sleeps where stays sound when a front wakes, and when threads that are awake come to a list.
+-- Lists and places agree still when a front wakes, and when threads that are awake come to a list.
 use Rattle.std.proofs.Common.{◌≡◌, ℕ, zero, suc, true, false, ◌||◌, cond, eqb, Option, Some, None, List, [], ◌∷◌}
-use Rattle.std.proofs.Common.{◌++◌, take, drop, refl, sym, ap, ◌∙◌, arith, ◌⊎◌, inl, inr}
+use Rattle.std.proofs.Common.{◌++◌, take, drop, refl, sym, ap, ◌∙◌, ◌⊎◌, inl, inr}
 use Rattle.std.specs.List.{IsDistinct, AllByRecursion}
 use Rattle.std.proofs.lemmas.Bool.{cases_eq, cases_Bool, or_cases, or_left, or_right, both_ways}
 use Rattle.std.proofs.lemmas.Bool.{false_from_ne_true, eqb-true, eq-eqb}
-use Rattle.std.proofs.lemmas.List.{take-append-drop, length-take, take_all}
+use Rattle.std.proofs.lemmas.List.{take-append-drop}
 use Rattle.std.proofs.lemmas.List.Folds.{list_any-append}
-use Rattle.buckets.specs.Places.{names, with_place}
+use Rattle.buckets.specs.Places.{names, with_place, Agree}
 use Rattle.buckets.proofs.Takes.{names-take}
-use Rattle.buckets.proofs.Moves.{IsDistinct-take}
-use Rattle.futexcalls.specs.FutexCalls.{IsChoice}
 use Rattle.robustexit.specs.RobustExit.{put}
-use Rattle.machine.specs.Views.{IsSoundly}
 use Rattle.machine.proofs.Placing.{put-here, put-there}
 
 -- a place that was given, and one that wasn't
@@ -81,9 +78,9 @@ no_place a o e f = absurd cc
 same_place : (a b : ℕ) (o : Option ℕ) → o ≡ Some a → o ≡ Some b → a ≡ b
 same_place a b o e f = cc
 
-pub sound-wake : (q : ℕ → List ℕ) (s : ℕ → Option ℕ) (a n : ℕ) → IsSoundly q s
-    → IsSoundly (put q a (drop n (q a))) (with_place s (take n (q a)) None)
-sound-wake q s a n ok = record {
+pub agree-woken : (q : ℕ → List ℕ) (s : ℕ → Option ℕ) (a n : ℕ) → Agree q s
+    → Agree (put q a (drop n (q a))) (with_place s (take n (q a)) None)
+agree-woken q s a n ok = record {
   stands = λ t b h. elim (cases_Bool (names (take n (q a)) t)) [
     | inl y ↦ absurd (no_place b _ (placed s (take n (q a)) None t y) h)
     | inr out ↦ let stood : names (q b) t ≡ true = ok.stands t b (sym (unplaced s (take n (q a)) None t out) ∙ h) in
@@ -112,10 +109,10 @@ sound-wake q s a n ok = record {
   ];
 }
 
-pub sound-arrive : (q : ℕ → List ℕ) (s : ℕ → Option ℕ) (b : ℕ) (xs : List ℕ) → IsDistinct eqb xs
-    → ((t : ℕ) → names xs t ≡ true → s t ≡ None) → IsSoundly q s
-    → IsSoundly (put q b (q b ++ xs)) (with_place s xs (Some b))
-sound-arrive q s b xs d free ok = record {
+pub agree-arrived : (q : ℕ → List ℕ) (s : ℕ → Option ℕ) (b : ℕ) (xs : List ℕ) → IsDistinct eqb xs
+    → ((t : ℕ) → names xs t ≡ true → s t ≡ None) → Agree q s
+    → Agree (put q b (q b ++ xs)) (with_place s xs (Some b))
+agree-arrived q s b xs d free ok = record {
   stands = λ t c h. elim (cases_Bool (names xs t)) [
     | inl y ↦ let e : c ≡ b = same_place c b _ h (placed s xs (Some b) t y) in
         ap (λ ys. names ys t) (put-here q b (q b ++ xs) c e) ∙ joined t ∙ or_right (names (q b) t) _ y
@@ -146,12 +143,3 @@ sound-arrive q s b xs d free ok = record {
 } where
   joined : (t : ℕ) → names (q b ++ xs) t ≡ (names (q b) t || names xs t)
   joined t = list_any-append (eqb t) (q b) xs
-
--- the front of a list is a choice of the sleepers on its address
-pub choice-front : (q : ℕ → List ℕ) (s : ℕ → Option ℕ) (a n : ℕ) → IsSoundly q s → IsChoice s a n (take n (q a))
-choice-front q s a n ok = record {
-  distinct = IsDistinct-take n (q a) (ok.distinct a);
-  slept = λ t h. ok.sleeps t a (names-take n t (q a) h);
-  few = omega (arith, length-take n (q a));
-  all = λ l t h. rw (take_all n (q a) (omega (arith, length-take n (q a)))) (ok.stands t a h);
-}

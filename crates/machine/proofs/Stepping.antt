@@ -19,7 +19,8 @@ use Rattle.robustexit.specs.RobustExit.{put}
 use Rattle.machine.specs.States.{ConcreteState, thread_at, thread_of, state_of, with_thread}
 use Rattle.machine.specs.ConcreteExits.{leave}
 use Rattle.machine.specs.ConcreteSteps.{thread_step, on_machine, step_thread, step_awake}
-use Rattle.machine.specs.Views.{IsWellFormed, IsSoundly}
+use Rattle.buckets.specs.Places.{Agree}
+use Rattle.machine.specs.Views.{IsWellFormed}
 use Rattle.machine.specs.Determined.{OpensSo, StepsSo}
 use Rattle.machine.proofs.Placing.{by_place, words_put}
 use Rattle.machine.proofs.Keeping.{holds-concrete}
@@ -186,9 +187,9 @@ opening_size : (n : ℕ) → length (slice_set (zero_words n) 3 1) ≡ n
 opening_size n = length-set (zero_words n) 3 1 ∙ long n
 
 -- nobody sleeps
-sound_opening : IsSoundly (λ a. []) (λ t. None)
+agree_opening : Agree (λ a. []) (λ t. None)
 unfolding IsDistinct
-sound_opening = record { stands = λ t a h. absurd cc; sleeps = λ t a h. absurd cc; distinct = λ a. tt }
+agree_opening = record { stands = λ t a h. absurd cc; sleeps = λ t a h. absurd cc; distinct = λ a. tt }
 
 pub opens_so : OpensSo
 opens_so p = (
@@ -204,8 +205,7 @@ opens_so p = (
     sized = opening_size (memory_size p);
     some = omega arith;
     few = omega arith;
-    sound =
-        sound_opening;
+    agree = agree_opening;
     made = λ t a h. absurd cc;
   },
 )

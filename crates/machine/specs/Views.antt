@@ -1,10 +1,9 @@
 -- A machine as contracts see it.
 use Rattle.std.specs.Prelude.{ℕ, ◌+◌, ◌*◌, ◌<◌, ◌≤◌, ◌≡◌, true, false, List, ℤ, length, take, sum, Option, Some}
-use Rattle.std.specs.Prelude.{None, IsTrue, nat_eq}
-use Rattle.std.specs.List.{IsDistinct}
+use Rattle.std.specs.Prelude.{None}
 use Rattle.words.specs.declared.mem.Addr.{Addr}
 use Rattle.isa.specs.Programs.{Program, memory_size}
-use Rattle.buckets.specs.Places.{names}
+use Rattle.buckets.specs.Places.{Agree}
 use Rattle.words.specs.Limits.{most_processes, monitors_base}
 use Rattle.buckets.specs.Sleepers.{Sleepers, IsSound, queue, place_of, thread_count}
 use Rattle.machine.specs.declared.event.Event.{Event}
@@ -23,19 +22,13 @@ IsQuiet k = (t : ℕ) → can_move k t ≡ false
 abbrev pub AllEnded : ConcreteState → Type 0
 AllEnded k = (t : ℕ) → 0 < t → t ≤ length k.threads → has_ended (thread_of k t) ≡ true
 
--- who sleeps and where: a thread sleeps on an address exactly where it stands in that address's list, once
-pub record IsSoundly (queue : ℕ → List ℕ) (asleep : ℕ → Option ℕ) : Type 0 where
-  pub stands : (t a : ℕ) → asleep t ≡ Some a → IsTrue (names (queue a) t)
-  pub sleeps : (t a : ℕ) → IsTrue (names (queue a) t) → asleep t ≡ Some a
-  pub distinct : (a : ℕ) → IsDistinct nat_eq (queue a)
-
 -- what always holds of a concrete state: the memory has the program's size, there are some threads, as many as can be,
--- and who sleeps is one of them
+-- lists and places agree, and who sleeps is one of them
 pub record IsWellFormed (p : Program) (k : ConcreteState) : Type 0 where
   pub sized : length k.common.words ≡ memory_size p
   pub some : 1 ≤ length k.threads
   pub few : length k.threads ≤ most_processes
-  pub sound : IsSoundly k.common.queue k.common.asleep
+  pub agree : Agree k.common.queue k.common.asleep
   pub made : (t a : ℕ) → k.common.asleep t ≡ Some a → (1 ≤ t) × (t ≤ length k.threads)
 
 abbrev pub common_of : List ℕ → Sleepers → List ℤ → Common

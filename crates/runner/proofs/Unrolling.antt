@@ -79,7 +79,7 @@ kept_put p k t x concrete =
       sized = concrete.sized;
       some = omega (arith, concrete.some, many);
       few = omega (arith, concrete.few, many);
-      sound = concrete.sound;
+      agree = concrete.agree;
       made = λ u a h. let m = concrete.made u a h in (m.0, omega (arith, m.1, many));
     }
 

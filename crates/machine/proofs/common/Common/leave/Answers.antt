@@ -9,7 +9,7 @@ use Rattle.machine.specs.ConcreteServing.{event_of}
 use Rattle.machine.specs.ConcreteExits.{leave}
 use Rattle.machine.specs.RequestMeanings.{name_at, value_at}
 use Rattle.machine.specs.Views.{common, common_of}
-use Rattle.machine.proofs.Queues.{soundly, known}
+use Rattle.machine.proofs.Queues.{known}
 use Rattle.machine.proofs.Determines.{left, left_is, left_threads, value_of}
 use Rattle.machine.proofs.common.Common.leave.Goals.{in-LastWake, in_default}
 use Rattle.machine.proofs.common.Common.leave.Goals as goal
@@ -18,7 +18,7 @@ pub with_threads-event-requires-clause-woken : goal.with_threads-event-requires-
 with_threads-event-requires-clause-woken c =
     rw c.as_slice.ensures (left_threads c.self.inside.buckets c.exit_step-next.new.buckets
     (wake_word c.args.t c.args.phase (word_of c.self.inside.words)) c.exit_step-next.result.1.threads
-    (soundly c.self.inside.buckets c.self.invariant.sound)
+    c.self.invariant.sound.agree
     (known c.self.inside.buckets c.self.invariant.sound c.self.invariant.places) c.exit_step-next.ensures.front)
 
 other_value : (t : ℕ) (phase : ExitPhase) (ws woken : List ℕ) → phase ≢ LastWake
@@ -47,7 +47,7 @@ returns-clause-gives c =
     ap (λ v. leave c.args.t c.args.phase (common v)) (sym c.self.view_is)
     ∙ left_is c.self.inside.words c.exit_step-next.new.mem c.self.inside.buckets c.exit_step-next.new.buckets o
     c.args.t c.args.phase c.exit_step-next.result.0 c.exit_step-next.result.1.threads
-    (soundly c.self.inside.buckets c.self.invariant.sound) within x.step x.front x.words
+    c.self.invariant.sound.agree within x.step x.front x.words
     ∙ (λ i. left c.exit_step-next.new.mem c.exit_step-next.new.buckets o c.args.phase c.exit_step-next.result.0
     (sym value i) c.exit_step-next.result.1.threads)
     ∙ (let told : c.with_threads-event.result
