@@ -42,13 +42,13 @@ GivesAll p t size memory n x (Values zs) place operands l fs = WalksWithin p t s
     (Runs place (stacked zs operands) l fs)
 GivesAll p t size memory n x (FailsAll fault) place operands l fs = WalksWithin p t size memory n x (Dies fault)
 
-abbrev pub HaveAll : List ValueType → EvaluatedAll → Type 0
-HaveAll ts (Values zs) = HaveValues ts zs
-HaveAll ts (FailsAll fault) = Unit {0}
+abbrev pub HaveAll : ℕ → List ValueType → EvaluatedAll → Type 0
+HaveAll made ts (Values zs) = HaveValues made ts zs
+HaveAll made ts (FailsAll fault) = Unit {0}
 
-module _ (image : Image) (t size : ℕ) (memory : ℕ → ℕ) (s : Scope) (v : Variables) (values : List ℤ) (l : Locals)
-    (ev : Evaluates image t size memory s v values l) where
-  pub arguments_typed : (es : List Expression) (ts : List ValueType) → ArgumentsFit s es ts → HaveAll ts
+module _ (image : Image) (made t size : ℕ) (memory : ℕ → ℕ) (s : Scope) (v : Variables) (values : List ℤ) (l : Locals)
+    (ev : Evaluates image made t size memory s v values l) where
+  pub arguments_typed : (es : List Expression) (ts : List ValueType) → ArgumentsFit s es ts → HaveAll made ts
       (evaluate_all s.program v values es)
   arguments_typed [] [] h = tt
   arguments_typed [] (u ∷ ts) h = absurd h
@@ -56,7 +56,8 @@ module _ (image : Image) (t size : ℕ) (memory : ℕ → ℕ) (s : Scope) (v : 
   arguments_typed (e ∷ es) (u ∷ ts) h = both (evaluate s.program v values e) (evaluate_all s.program v values es)
       (ev.type e u h.0) (arguments_typed es ts h.1)
     where
-      both : (a : Evaluated) (as' : EvaluatedAll) → OfType u a → HaveAll ts as' → HaveAll (u ∷ ts) (put_first a as')
+      both : (a : Evaluated) (as' : EvaluatedAll) → OfType made u a → HaveAll made ts as'
+          → HaveAll made (u ∷ ts) (put_first a as')
       both (Value z) (Values zs) k m = (k, m)
       both (Value z) (FailsAll fault) k m = tt
       both (Fails fault) (Values zs) k m = tt
@@ -203,21 +204,22 @@ get_cases (x ∷ zs) ys (suc i) z h = up (get_cases zs ys i z h)
     up (inl (a, c)) = inl (omega (arith, a), c)
     up (inr (j, a, c)) = inr (j, omega (arith, a), c)
 
-pub locals_typed : (ts us : List ValueType) (zs : List ℤ) → HaveValues ts zs → HaveValues (ts ++ us) (zs ++ zeros us)
-locals_typed [] us [] h = all_zeros us
+pub locals_typed : (made : ℕ) → (ts us : List ValueType) (zs : List ℤ) → HaveValues made ts zs
+    → HaveValues made (ts ++ us) (zs ++ zeros us)
+locals_typed made [] us [] h = all_zeros us
   where
-    all_zeros : (us : List ValueType) → HaveValues us (zeros us)
+    all_zeros : (us : List ValueType) → HaveValues made us (zeros us)
     all_zeros [] = tt
-    all_zeros (u ∷ us) = (zero_value u, all_zeros us)
-locals_typed [] us (z ∷ zs) h = absurd h
-locals_typed (t ∷ ts) us [] h = absurd h
-locals_typed (t ∷ ts) us (z ∷ zs) h = (h.0, locals_typed ts us zs h.1)
+    all_zeros (u ∷ us) = (zero_value made u, all_zeros us)
+locals_typed made [] us (z ∷ zs) h = absurd h
+locals_typed made (t ∷ ts) us [] h = absurd h
+locals_typed made (t ∷ ts) us (z ∷ zs) h = (h.0, locals_typed made ts us zs h.1)
 
-pub values_length : (ts : List ValueType) (zs : List ℤ) → HaveValues ts zs → length zs ≡ length ts
-values_length [] [] h = refl
-values_length [] (z ∷ zs) h = absurd h
-values_length (t ∷ ts) [] h = absurd h
-values_length (t ∷ ts) (z ∷ zs) h = ap suc (values_length ts zs h.1)
+pub values_length : (made : ℕ) → (ts : List ValueType) (zs : List ℤ) → HaveValues made ts zs → length zs ≡ length ts
+values_length made [] [] h = refl
+values_length made [] (z ∷ zs) h = absurd h
+values_length made (t ∷ ts) [] h = absurd h
+values_length made (t ∷ ts) (z ∷ zs) h = ap suc (values_length made ts zs h.1)
 
 -- the locals of a procedure that begins
 pub opening_holds : (zs : List ℤ) (us : List ValueType) → length zs ≤ 64 → HoldValues

@@ -13,7 +13,7 @@ use Rattle.locals.specs.declared.frame.Locals.{Locals}
 use Rattle.locals.specs.declared.frame.Frame.{Frame as MachineFrame}
 use Rattle.locals.specs.Threads.{Runs}
 use Rattle.execution.specs.Walks.{StandAt, WalksWithin, stays}
-use Rattle.execution.specs.Following.{nesting, block_nesting, Implements, finishes, states, follows, AreSound, AreAlone}
+use Rattle.execution.specs.Following.{nesting, block_nesting, Implements, finishes, states, follows, AreSound}
 use Rattle.execution.proofs.Walking.{front_stands, back_stands, within_on, one_step, look_here}
 
 -- the code of a block, and then what comes after it
@@ -80,19 +80,18 @@ are_sound-followed height width number scope Done rest h k = k
 are_sound-followed height width number scope (Then s b) rest h k =
     (h.0, are_sound-followed height width number scope b rest h.1 k)
 
-pub block_sound : (height : ℕ → ℕ) (width number : ℕ) (scope : Scope) (b : Block) → BlockFits scope b → AreAlone b →
+pub block_sound : (height : ℕ → ℕ) (width number : ℕ) (scope : Scope) (b : Block) → BlockFits scope b →
     ((callee : ℕ) → Contains (block_calls b) callee → height callee < height number) → block_room b ≤ most_room
     → block_tokens b ≤ width → AreSound height width number scope b
-block_sound height width number scope Done f a l r w = tt
-block_sound height width number scope (Then s b) f a l r w = (
+block_sound height width number scope Done f l r w = tt
+block_sound height width number scope (Then s b) f l r w = (
   record {
     fits = f.0;
-    alone = a.0;
     lower = λ n h. l n (Contains-append_left (calls s) (block_calls b) n h);
     room =
         omega (arith, r);
     tokens = omega (arith, w);
   },
-  block_sound height width number scope b f.1 a.1 (λ n h. l n (Contains-append_right (calls s) (block_calls b) n h))
+  block_sound height width number scope b f.1 (λ n h. l n (Contains-append_right (calls s) (block_calls b) n h))
       (omega (arith, r)) (omega (arith, w)),
 )

@@ -25,8 +25,9 @@ use Rattle.meaning.specs.Processes.{Caller, Process, Before, Dying, goes_on, beg
 use Rattle.meaning.specs.Offers.{Does, Nothing, offer, with_values}
 use Rattle.execution.specs.Typed.{HaveValues, HoldValues}
 use Rattle.execution.specs.Walks.{StandAt, WalksWithin}
-use Rattle.execution.specs.Following.{Build, CallersStand, Implements, finishes, Stands, Completes, Proceeds, block_nesting, taking_code, Running}
-use Rattle.execution.specs.Following as F
+use Rattle.execution.specs.Following.{Build, CallersStand, Implements, finishes, Stands, taking_code}
+use Rattle.execution.specs.Completing.{Completes, Proceeds}
+use Rattle.execution.specs.Completing as F
 use Rattle.execution.specs.Builds.{IsOutside, IsBuild}
 use Rattle.execution.proofs.Walking.{front_stands, back_stands, wider, look_here}
 use Rattle.execution.proofs.Bodies.{block_implements}
@@ -65,7 +66,7 @@ called_external caller (Recover m) h k = absurd h
 called_external caller External h k = refl
 called_external caller Main h k = absurd k
 
-begins_outside : (role : Role) (values : List ℤ) (body : Block) (cs : List Caller) → role ≡ External → begins
+pub begins_outside : (role : Role) (values : List ℤ) (body : Block) (cs : List Caller) → role ≡ External → begins
     (frame_at role values body) cs ≡ goes_on None (frame_at role values body) cs
 begins_outside role values body cs e = rw e refl
 
@@ -75,7 +76,7 @@ HoldsFrom n zs us = HoldValues (set_all n (local_value zs) fresh).values (zs ++ 
 module _ (b : Build) (is : IsBuild b) (t size : ℕ) (memory : ℕ → ℕ) where
   -- a procedure with its arguments on the operands stands for its beginning
   pub begins_at : (n : ℕ) (q : Procedure) (zs : List ℤ) (fs : List MachineFrame) (cs : List Caller)
-      → slice_get b.program.procedures n ≡ Some q → HaveValues q.parameters zs → CallersStand b n q fs cs
+      → slice_get b.program.procedures n ≡ Some q → HaveValues b.made q.parameters zs → CallersStand b n q fs cs
       → Stands b t size memory (Runs (b.starts n) (stacked zs []) fresh fs)
       (goes_on None (frame_at q.role (zs ++ zeros q.locals) q.body) cs)
   begins_at n q zs fs cs there typed callers =
@@ -85,7 +86,7 @@ module _ (b : Build) (is : IsBuild b) (t size : ℕ) (memory : ℕ → ℕ) wher
       let count = length q.parameters in
       let first = parameters_code count in
       let out = is.outside n q there in
-      let same : length zs ≡ count = values_length q.parameters zs typed in
+      let same : length zs ≡ count = values_length b.made q.parameters zs typed in
       let few = is.parameters n q there in
       let laid = is.laid n q there in
       let at1 = start + length first in
@@ -124,7 +125,7 @@ module _ (b : Build) (is : IsBuild b) (t size : ℕ) (memory : ℕ → ℕ) wher
           frame = record {
             procedure = there;
             role = refl;
-            typed = locals_typed q.parameters q.locals zs typed;
+            typed = locals_typed b.made q.parameters q.locals zs typed;
             holds = subst (λ k. HoldsFrom k zs q.locals) same (opening_holds zs q.locals (omega (arith, same, few)));
             words = set_all_length count (local_value zs) fresh;
             few = is.locals n q there;
@@ -171,12 +172,12 @@ module _ (b : Build) (is : IsBuild b) (t size : ℕ) (memory : ℕ → ℕ) (v :
       let ev = evaluates b t size memory v place l fs values s rest role cs c in
       let fits = c.sound.fits in
       let here = front_stands b.image place args _ c.head.here in
-      let give = arguments_give b.image t size memory
+      let give = arguments_give b.image b.made t size memory
       (scope_of p c.procedure) v values l ev es fits.1.parameters place [] fs fits.4 here
       (omega (arith, c.sound.room)) in
       as_it_stands b t size memory v place l fs values rest role cs entered s c tt (2 * arguments_tokens es + 0)
       (omega arith)
-      (by_values (evaluate_all p v values es) refl give (arguments_typed b.image t size memory
+      (by_values (evaluate_all p v values es) refl give (arguments_typed b.image b.made t size memory
       (scope_of p c.procedure) v values l ev es fits.1.parameters fits.4))
     where
       x : Thread
@@ -250,14 +251,15 @@ module _ (b : Build) (is : IsBuild b) (t size : ℕ) (memory : ℕ → ℕ) (v :
       )
 
       by_values : (zs : EvaluatedAll) → evaluate_all b.program v values es ≡ zs → GivesAll b.image t size memory
-          (2 * arguments_tokens es) x (evaluate_all b.program v values es) end [] l fs → HaveAll callee.parameters
+          (2 * arguments_tokens es) x (evaluate_all b.program v values es) end [] l fs
+              → HaveAll b.made callee.parameters
           (evaluate_all b.program v values es)
           → Proceeds b t size memory v (2 * arguments_tokens es + 0) x pending
       by_values (Values zs) same g typed =
           let walk : WalksWithin b.image t size memory (2 * arguments_tokens es) x (Runs end (stacked zs []) l fs) =
           subst (λ (k : EvaluatedAll). GivesAll b.image t size memory
           (2 * arguments_tokens es) x k end [] l fs) same g in
-          let have : HaveValues callee.parameters zs = subst (HaveAll callee.parameters) same typed in
+          let have : HaveValues b.made callee.parameters zs = subst (HaveAll b.made callee.parameters) same typed in
           let low = chain b is c.number c.procedure fs cs c.callers in
           let step = look_here b.image t size memory end (Call' (b.starts qn)) (stacked zs []) l fs takes.0 ∙ ap
           (λ k. if_so k (Goes (Runs (b.starts qn) (stacked zs []) fresh (back ∷ fs))))

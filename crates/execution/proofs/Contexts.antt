@@ -1,5 +1,5 @@
 -- Where a thread stands before a statement, outside all monitors.
-use Rattle.std.proofs.Common.{◌≡◌, ℕ, ◌+◌, ◌≤◌, List, [], ◌∷◌, length, Option, Some, None, slice_get, refl, ap, sym, ◌∙◌, subst, arith, ℤ}
+use Rattle.std.proofs.Common.{inl, inr, ◌≡◌, ℕ, ◌+◌, ◌≤◌, List, [], ◌∷◌, length, Option, Some, None, slice_get, refl, ap, sym, ◌∙◌, subst, arith, ℤ}
 use Rattle.std.specs.Prelude.{⊤}
 use Rattle.words.specs.Signed.{word_of}
 use Rattle.program.specs.declared.kinds.Role.{Role}
@@ -18,8 +18,9 @@ use Rattle.meaning.specs.Offers.{Offer, Does, Nothing, offer, with_value}
 use Rattle.execution.specs.Typed.{HaveValues, HoldValues}
 use Rattle.execution.specs.Evaluation.{IsEvaluated, Evaluates}
 use Rattle.execution.specs.Walks.{WalksWithin, Gives, stays}
-use Rattle.execution.specs.Following.{Build, IsFrame, IsSound, AreSound, CallersStand, Running, Implements, Stands, Completes, Proceeds}
-use Rattle.execution.specs.Following as F
+use Rattle.execution.specs.Following.{Build, IsFirst, IsSound, AreSound, CallersStand, Implements, Stands}
+use Rattle.execution.specs.Completing.{Completes, Proceeds}
+use Rattle.execution.specs.Completing as F
 use Rattle.execution.specs.Builds.{IsOutside}
 use Rattle.execution.proofs.Walking.{within_on, wider}
 use Rattle.execution.proofs.Evaluating.{expressions_evaluate}
@@ -39,10 +40,14 @@ outside_monitors (Recover m) ms h = absurd h
 outside_monitors External ms h = refl
 outside_monitors Main ms h = refl
 
+first_outside : (q : Procedure) → IsFirst q → IsOutside q.role
+first_outside q (inl h) = subst IsOutside (sym h.0) tt
+first_outside q (inr h) = subst IsOutside (sym h) tt
+
 module _ (b : Build) where
   pub is_outside : (n : ℕ) (q : Procedure) (fs : List MachineFrame) (cs : List Caller) → CallersStand b n q fs cs
       → IsOutside q.role
-  is_outside n q [] [] h = subst IsOutside (sym h.0) tt
+  is_outside n q [] [] h = first_outside q h
   is_outside n q [] (c ∷ cs) h = absurd h
   is_outside n q (m ∷ fs) [] h = absurd h
   is_outside n q (m ∷ fs) (c ∷ cs) h = subst IsOutside (sym h.0) tt
@@ -126,7 +131,7 @@ pub record Context (b : Build) (place : ℕ) (l : Locals) (fs : List MachineFram
   pub procedure : Procedure
   pub is_there : slice_get b.program.procedures number ≡ Some procedure
   pub same : role ≡ procedure.role
-  pub typed : HaveValues (slots procedure) values
+  pub typed : HaveValues b.made (slots procedure) values
   pub holds : HoldValues l.values values
   pub words : length l.values ≡ 64
   pub few : length (slots procedure) ≤ 64
@@ -141,7 +146,7 @@ frame_at role values rest = record { role = role; locals = values; rest = rest }
 module _ (b : Build) (t size : ℕ) (memory : ℕ → ℕ) (v : Variables) (place : ℕ) (l : Locals) (fs : List MachineFrame)
     (values : List ℤ) (s : Statement) (rest : Block) (role : Role) (cs : List Caller)
     (c : Context b place l fs values s rest role cs) where
-  pub is_evaluated : IsEvaluated t size memory (scope_of b.program c.procedure) v values l
+  pub is_evaluated : IsEvaluated b.made t size memory (scope_of b.program c.procedure) v values l
   is_evaluated = record {
     typed = c.typed;
     holds = c.holds;
@@ -149,8 +154,8 @@ module _ (b : Build) (t size : ℕ) (memory : ℕ → ℕ) (v : Variables) (plac
         absurd (cc (h, none));
   }
 
-  pub evaluates : Evaluates b.image t size memory (scope_of b.program c.procedure) v values l
-  evaluates = expressions_evaluate b.image t size memory (scope_of b.program c.procedure) v values l is_evaluated
+  pub evaluates : Evaluates b.image b.made t size memory (scope_of b.program c.procedure) v values l
+  evaluates = expressions_evaluate b.image b.made t size memory (scope_of b.program c.procedure) v values l is_evaluated
 
   pub holds_none : all_monitors (frame_at role values rest) cs ≡ []
   holds_none = no_monitors b c.number c.procedure (frame_at role values rest) fs cs c.same c.callers
@@ -160,20 +165,21 @@ module _ (b : Build) (t size : ℕ) (memory : ℕ → ℕ) (v : Variables) (plac
   is_before k entered = before_next role s rest entered (frame_at role values (Then s rest)) cs
       (subst IsOutside (sym c.same) (is_outside b c.number c.procedure fs cs c.callers)) k
 
-  -- the thread goes on with these values and this rest
-  pub stands_on : (l' : Locals) (values' : List ℤ) (rest' : Block) (place' jumps : ℕ) → HaveValues
+  -- a thread comes to where it goes on with these values and this rest
+  pub stands_by : (x : Thread) (l' : Locals) (values' : List ℤ) (rest' : Block) (place' jumps : ℕ) → HaveValues b.made
       (slots c.procedure) values' → HoldValues l'.values values' → length l'.values ≡ 64
       → AreSound b.height b.width c.number (scope_of b.program c.procedure) rest' → jumps ≤ b.most
       → Implements b.image (setting_of b.program b.starts c.procedure) b.most jumps place' rest'
-      → Stands b t size memory (Runs place' [] l' fs) (goes_on None (frame_at role values' rest') cs)
-  stands_on l' values' rest' place' jumps ty ho wo so few code = record {
+      → WalksWithin b.image t size memory 16 x (Runs place' [] l' fs)
+      → Stands b t size memory x (goes_on None (frame_at role values' rest') cs)
+  stands_by x l' values' rest' place' jumps ty ho wo so few code walk = record {
     entered = None;
     frame = frame_at role values' rest';
     callers = cs;
     place = place';
     locals = l';
     frames = fs;
-    walk = record { count = 0; few = omega arith; walk = stays };
+    walk = walk;
     running = record {
       number = c.number;
       procedure = c.procedure;
@@ -194,3 +200,13 @@ module _ (b : Build) (t size : ℕ) (memory : ℕ → ℕ) (v : Variables) (plac
     };
     process = refl;
   }
+
+  -- the thread goes on with these values and this rest
+  pub stands_on : (l' : Locals) (values' : List ℤ) (rest' : Block) (place' jumps : ℕ) → HaveValues b.made
+      (slots c.procedure) values' → HoldValues l'.values values' → length l'.values ≡ 64
+      → AreSound b.height b.width c.number (scope_of b.program c.procedure) rest' → jumps ≤ b.most
+      → Implements b.image (setting_of b.program b.starts c.procedure) b.most jumps place' rest'
+      → Stands b t size memory (Runs place' [] l' fs) (goes_on None (frame_at role values' rest') cs)
+  stands_on l' values' rest' place' jumps ty ho wo so few code = stands_by (Runs place' [] l' fs) l' values' rest'
+      place'
+      jumps ty ho wo so few code (record { count = 0; few = omega arith; walk = stays })

@@ -32,24 +32,25 @@ use Rattle.execution.proofs.Operators.{small_fits, word_injective, both_shown, b
 use Rattle.execution.proofs.Walking.{front_stands, back_stands, wider, one_step, one_load, wider_gives, walk_gives, and_gives, shown_gives, look_here, push_step, and_typed}
 
 -- a local of a type has a value of it
-pub local_typed : (ts : List ValueType) (zs : List ℤ) (slot : ℕ) (t : ValueType) → HaveValues ts zs
-    → slice_get ts slot ≡ Some t → (z : ℤ) × (slice_get zs slot ≡ Some z) × HasValue t z
-local_typed [] zs slot t h e = absurd cc
-local_typed (u ∷ ts) [] slot t h e = absurd h
-local_typed (u ∷ ts) (z ∷ zs) zero t h e = (
+pub local_typed : (made : ℕ) → (ts : List ValueType) (zs : List ℤ) (slot : ℕ) (t : ValueType) → HaveValues made ts zs
+    → slice_get ts slot ≡ Some t → (z : ℤ) × (slice_get zs slot ≡ Some z) × HasValue made t z
+local_typed made [] zs slot t h e = absurd cc
+local_typed made (u ∷ ts) [] slot t h e = absurd h
+local_typed made (u ∷ ts) (z ∷ zs) zero t h e = (
   z,
   refl,
   let same : u ≡ t = cc in subst
-      (λ (k : ValueType). HasValue k z) same h.0,
+      (λ (k : ValueType). HasValue made k z) same h.0,
 )
-local_typed (u ∷ ts) (z ∷ zs) (suc slot) t h e = local_typed ts zs slot t h.1 e
+local_typed made (u ∷ ts) (z ∷ zs) (suc slot) t h e = local_typed made ts zs slot t h.1 e
 
-index_typed : (size : ℕ) (t : ValueType) (k : ℕ → Evaluated) (z : ℤ) → ((i : ℕ) → i < size → OfType t (k i))
-    → OfType t (at_index (index_in size z) k)
-index_typed size t k (negsuc n) h = tt
-index_typed size t k (pos i) h = by_test (nat_lt i size) refl
+index_typed : (made : ℕ) → (size : ℕ) (t : ValueType) (k : ℕ → Evaluated) (z : ℤ) → ((i : ℕ) → i < size
+    → OfType made t (k i))
+    → OfType made t (at_index (index_in size z) k)
+index_typed made size t k (negsuc n) h = tt
+index_typed made size t k (pos i) h = by_test (nat_lt i size) refl
   where
-    by_test : (b : Bool) → nat_lt i size ≡ b → OfType t (at_index (if b then Some i else None) k)
+    by_test : (b : Bool) → nat_lt i size ≡ b → OfType made t (at_index (if b then Some i else None) k)
     by_test true e = h i (ltb-true i size e)
     by_test false e = tt
 
@@ -123,29 +124,30 @@ code_truth : (b : Bool) → c.truth_word b ≡ word_of (v.truth b)
 code_truth true = refl
 code_truth false = refl
 
-module _ (image : Image) (t msize : ℕ) (memory : ℕ → ℕ) (s : Scope) (vars : Variables) (values : List ℤ)
-    (locals_typed : HaveValues s.locals values)
-    (shows : (m : ℕ) → own_monitor s.role ≡ Some m → ShowsVariables s.program m msize memory vars) where
-  pub expression_typed : (e : Expression) (u : ValueType) → HasType s e u → OfType u (evaluate s.program vars values e)
-  expression_typed (Constant n) u h = subst (λ (k : ValueType). HasValue k (pos n)) (sym h.1) (small_fits n h.0)
-  expression_typed (Truth b) u h = subst (λ (k : ValueType). HasValue k (v.truth b)) (sym h) (truth_typed b)
-  expression_typed (Local slot) u h = let x = local_typed s.locals values slot u locals_typed h in subst
-      (λ (o : Option ℤ). HasValue u (or_zero o)) (sym x.1) x.2
+module _ (image : Image) (made t msize : ℕ) (memory : ℕ → ℕ) (s : Scope) (vars : Variables) (values : List ℤ)
+    (locals_typed : HaveValues made s.locals values)
+    (shows : (m : ℕ) → own_monitor s.role ≡ Some m → ShowsVariables made s.program m msize memory vars) where
+  pub expression_typed : (e : Expression) (u : ValueType) → HasType s e u
+      → OfType made u (evaluate s.program vars values e)
+  expression_typed (Constant n) u h = subst (λ (k : ValueType). HasValue made k (pos n)) (sym h.1) (small_fits n h.0)
+  expression_typed (Truth b) u h = subst (λ (k : ValueType). HasValue made k (v.truth b)) (sym h) (truth_typed made b)
+  expression_typed (Local slot) u h = let x = local_typed made s.locals values slot u locals_typed h in subst
+      (λ (o : Option ℤ). HasValue made u (or_zero o)) (sym x.1) x.2
   expression_typed (Member m) u h = ((shows m.monitor h.0).single m u refl h.1).2
   expression_typed (Element a e) u h =
-      subst (λ (k : ValueType). OfType k (evaluate s.program vars values (Element a e))) (sym h.2)
-      (and_typed Integer Integer (evaluate s.program vars values e) _ (expression_typed e Integer h.1) (λ z k.
-      index_typed (array_size s.program a) Integer _ z (λ i lt.
+      subst (λ (k : ValueType). OfType made k (evaluate s.program vars values (Element a e))) (sym h.2)
+      (and_typed made Integer Integer (evaluate s.program vars values e) _ (expression_typed e Integer h.1) (λ z k.
+      index_typed made (array_size s.program a) Integer _ z (λ i lt.
       ((shows a.monitor h.0.0).element a h.0.1 i refl h.0.2 (subst (λ n. i < n) (ap size_in h.0.2) lt)).2)))
   expression_typed (Unary op e) u h =
-      subst (λ (k : ValueType). OfType k (evaluate s.program vars values (Unary op e))) (sym h.1)
-      (and_typed (unary_type op) (unary_type op) (evaluate s.program vars values e) (unary op)
-      (expression_typed e (unary_type op) h.0) (λ z k. unary_typed op z))
+      subst (λ (k : ValueType). OfType made k (evaluate s.program vars values (Unary op e))) (sym h.1)
+      (and_typed made (unary_type op) (unary_type op) (evaluate s.program vars values e) (unary op)
+      (expression_typed e (unary_type op) h.0) (λ z k. unary_typed made op z))
   expression_typed (Both op l r) u h =
-      subst (λ (k : ValueType). OfType k (evaluate s.program vars values (Both op l r))) (sym h.4)
-      (and_typed h.0 (result_type op) (evaluate s.program vars values l) _ (expression_typed l h.0 h.2) (λ a ha.
-      and_typed h.0 (result_type op) (evaluate s.program vars values r) (both op a) (expression_typed r h.0 h.3)
-      (λ b hb. both_typed op h.0 a b h.1 ha hb)))
+      subst (λ (k : ValueType). OfType made k (evaluate s.program vars values (Both op l r))) (sym h.4)
+      (and_typed made h.0 (result_type op) (evaluate s.program vars values l) _ (expression_typed l h.0 h.2) (λ a ha.
+      and_typed made h.0 (result_type op) (evaluate s.program vars values r) (both op a) (expression_typed r h.0 h.3)
+      (λ b hb. both_typed made op h.0 a b h.1 ha hb)))
 
   -- a word that holds a value is pushed
   pushes : (place : ℕ) (operands : List ℕ) (l : Locals) (fs : List Frame) (w : ℕ) (z : ℤ) → w ≡ word_of z
@@ -193,7 +195,7 @@ module _ (image : Image) (t msize : ℕ) (memory : ℕ → ℕ) (s : Scope) (var
       let look = look_here image t msize memory place (GetLocal (Slot' slot)) operands l fs code.0 in
       let step = push_step image t msize memory place (slice_index l.values slot) operands l fs look
       (omega (arith, fits)) in
-      let x = local_typed s.locals values slot u locals_typed h in
+      let x = local_typed made s.locals values slot u locals_typed h in
       pushes place operands l fs (slice_index l.values slot) (local_value values slot)
       (held slot x.0 x.1 ∙ ap (λ (o : Option ℤ). word_of (or_zero o)) (sym x.1)) step
   expression_gives (Member m) u place operands l fs h held code fits =
@@ -221,7 +223,7 @@ module _ (image : Image) (t msize : ℕ) (memory : ℕ → ℕ) (s : Scope) (var
       (evaluate p vars values (Element a e)) _ operands l fs (omega arith)
       (gives_at (2 * expression_tokens e + 2) (Runs place operands l fs) (place + length ce + 1 + 1) _ operands l fs
       (evaluate p vars values (Element a e)) len
-      (and_gives image t msize memory Integer (2 * expression_tokens e) 2 (Runs place operands l fs)
+      (and_gives image t msize memory made Integer (2 * expression_tokens e) 2 (Runs place operands l fs)
       (evaluate p vars values e) _ _ operands _ operands l fs
       (expression_gives e Integer place operands l fs h.1 held (front_stands image place ce _ code) fits)
       (expression_typed e Integer h.1)
@@ -239,13 +241,13 @@ module _ (image : Image) (t msize : ℕ) (memory : ℕ → ℕ) (s : Scope) (var
       (evaluate p vars values (Unary op e)) _ operands l fs (omega arith)
       (gives_at (2 * expression_tokens e + 1) (Runs place operands l fs) (place + length ce + 1) _ operands l fs
       (evaluate p vars values (Unary op e)) len
-      (and_gives image t msize memory (unary_type op) (2 * expression_tokens e) 1 (Runs place operands l fs)
+      (and_gives image t msize memory made (unary_type op) (2 * expression_tokens e) 1 (Runs place operands l fs)
       (evaluate p vars values e) (unary op) _ operands _ operands l fs
       (expression_gives e (unary_type op) place operands l fs h.0 held (front_stands image place ce _ code) fits)
       (expression_typed e (unary_type op) h.0)
       (λ z k. shown_gives image t msize memory _ (unary op z) (place + length ce) operands l fs
       (look_here image t msize memory (place + length ce) (unary_code op) (word_of z ∷ operands) l fs tail.0
-      ∙ unary_shown t op z operands (place + length ce) l fs k))))
+      ∙ unary_shown made t op z operands (place + length ce) l fs k))))
   expression_gives (Both op a b) u place operands l fs h held code fits =
       let p = s.program in
       let ca = expression_code p a in
@@ -262,11 +264,11 @@ module _ (image : Image) (t msize : ℕ) (memory : ℕ → ℕ) (s : Scope) (var
       (2 * expression_tokens (Both op a b)) _ (evaluate p vars values (Both op a b)) _ operands l fs (omega arith)
       (gives_at (2 * expression_tokens a + (2 * expression_tokens b + 1)) (Runs place operands l fs)
       (place + length ca + length cb + 1) _ operands l fs (evaluate p vars values (Both op a b)) len
-      (and_gives image t msize memory h.0 (2 * expression_tokens a) (2 * expression_tokens b + 1)
+      (and_gives image t msize memory made h.0 (2 * expression_tokens a) (2 * expression_tokens b + 1)
       (Runs place operands l fs) (evaluate p vars values a) _ _ operands _ operands l fs
       (expression_gives a h.0 place operands l fs h.2 held (front_stands image place ca _ code) (omega (arith, fits)))
       (expression_typed a h.0 h.2)
-      (λ y k. and_gives image t msize memory h.0 (2 * expression_tokens b) 1
+      (λ y k. and_gives image t msize memory made h.0 (2 * expression_tokens b) 1
       (Runs (place + length ca) (word_of y ∷ operands) l fs) (evaluate p vars values b) (both op y) _
       (word_of y ∷ operands) _ operands l fs
       (expression_gives b h.0 (place + length ca) (word_of y ∷ operands) l fs h.3 held
@@ -274,15 +276,16 @@ module _ (image : Image) (t msize : ℕ) (memory : ℕ → ℕ) (s : Scope) (var
       (expression_typed b h.0 h.3)
       (λ z k'. shown_gives image t msize memory _ (both op y z) (place + length ca + length cb) operands l fs
       (look_here image t msize memory (place + length ca + length cb) (Operate (operation op))
-      (word_of z ∷ word_of y ∷ operands) l fs last.0 ∙ both_shown op h.0 y z operands
+      (word_of z ∷ word_of y ∷ operands) l fs last.0 ∙ both_shown made op h.0 y z operands
       (place + length ca + length cb) l fs h.1 k k')))))
 
-pub expressions_evaluate : (image : Image) (t msize : ℕ) (memory : ℕ → ℕ) (s : Scope) (vars : Variables)
-    (values : List ℤ) (l : Locals) → IsEvaluated t msize memory s vars values l
-    → Evaluates image t msize memory s vars values l
-expressions_evaluate image t msize memory s vars values l h = record {
+pub expressions_evaluate : (image : Image) (made t msize : ℕ) (memory : ℕ → ℕ) (s : Scope) (vars : Variables)
+    (values : List ℤ) (l : Locals) → IsEvaluated made t msize memory s vars values l
+    → Evaluates image made t msize memory s vars values l
+expressions_evaluate image made t msize memory s vars values l h = record {
   gives =
-      λ e u place operands callers fits code room. expression_gives image t msize memory s vars values h.typed h.shows
+      λ e u place operands callers fits code room. expression_gives image made t msize memory s vars values h.typed
+          h.shows
       e u place operands l callers fits h.holds code room;
-  type = λ e u fits. expression_typed image t msize memory s vars values h.typed h.shows e u fits;
+  type = λ e u fits. expression_typed image made t msize memory s vars values h.typed h.shows e u fits;
 }

@@ -1,5 +1,5 @@
--- Every thread that stands for a process that runs by itself does what the process offers.
-use Rattle.std.proofs.Common.{◌≡◌, ℕ, ◌+◌, ◌*◌, List, [], ◌∷◌, ◌++◌, length, Option, Some, None, refl, ap, sym, ◌∙◌, subst, arith, ℤ, pos}
+-- Every thread that stands for a process outside all monitors does what the process offers.
+use Rattle.std.proofs.Common.{inl, inr, ◌≡◌, ℕ, ◌+◌, ◌*◌, List, [], ◌∷◌, ◌++◌, length, Option, Some, None, refl, ap, sym, ◌∙◌, subst, arith, ℤ, pos}
 use Rattle.isa.specs.declared.instr.Instr.TheVariants.{Push}
 use Rattle.program.specs.declared.kinds.ValueType.{ValueType}
 use Rattle.program.specs.declared.kinds.Role.{Role}
@@ -16,12 +16,13 @@ use Rattle.code.specs.Statements.{Setting, ending_code, leaving_code}
 use Rattle.code.specs.Pieces.{setting_of, default_code}
 use Rattle.locals.specs.declared.frame.Locals.{Locals}
 use Rattle.locals.specs.declared.frame.Frame.{Frame as MachineFrame}
-use Rattle.locals.specs.Threads.{Runs}
+use Rattle.locals.specs.Threads.{Runs, Thread}
 use Rattle.meaning.specs.Values.{Variables, evaluate}
 use Rattle.meaning.specs.Processes.{Frame, Caller, Process, goes_on}
 use Rattle.execution.specs.Evaluation.{OfType}
 use Rattle.execution.specs.Walks.{StandAt}
-use Rattle.execution.specs.Following.{Build, CallersStand, Implements, finishes, IsFrame, Running, Proceeds}
+use Rattle.execution.specs.Following.{Build, CallersStand, Implements, finishes, IsFrame, Running}
+use Rattle.execution.specs.Completing.{Proceeds}
 use Rattle.execution.specs.Builds.{IsOutside, IsBuild, IsFollowed, most_steps}
 use Rattle.execution.proofs.Walking.{front_stands, back_stands, wider, one_step, push_step, look_here}
 use Rattle.execution.proofs.Bodies.{after_jumps, head_of}
@@ -30,6 +31,8 @@ use Rattle.execution.proofs.Stepping.{print_proceeds, abort_proceeds, assign_pro
 use Rattle.execution.proofs.Testing.{if_proceeds, if_else_proceeds, while_proceeds}
 use Rattle.execution.proofs.Returning.{called_returns, main_returns, zero_value}
 use Rattle.execution.proofs.Calling.{call_proceeds}
+use Rattle.execution.proofs.Forking.{fork_proceeds}
+use Rattle.execution.proofs.Joining.{join_proceeds}
 
 module _ (b : Build) (is : IsBuild b) (t size : ℕ) (memory : ℕ → ℕ) (v : Variables) where
   -- the end of a body
@@ -49,14 +52,15 @@ module _ (b : Build) (is : IsBuild b) (t size : ℕ) (memory : ℕ → ℕ) (v :
       (push_step b.image t size memory place 0 [] l fs (look_here b.image t size memory place
       (Push 0) [] l fs code.0) (omega arith)) in
       proceeds_on b t size memory v 1 1 _ _ _ step (called_returns b t size memory v (Some u)
-      (place + 1) l fs number q cs (pos 0) _ e same stand (zero_value u) code.1 refl)
+      (place + 1) l fs number q cs (pos 0) _ e same stand (zero_value b.made u) code.1 refl)
   body_ends Main None place l fs number q values cs entered out e same stand code =
       proceeds_wider b t size memory v 0 2 _ _ (omega arith)
       (main_returns b t size memory v place l fs number q cs _ e stand code.0 refl)
   body_ends Main (Some u) place l fs number q values cs entered out e same stand code = absurd (main_none fs cs stand)
     where
       main_none : (fs : List MachineFrame) (cs : List Caller) → CallersStand b number q fs cs → ⊥
-      main_none [] [] h = cc (h.1, same)
+      main_none [] [] (inl h) = cc (h.1, same)
+      main_none [] [] (inr h) = cc (h, e)
       main_none [] (c ∷ cs) h = h
       main_none (m ∷ fs) [] h = h
       main_none (m ∷ fs) (c ∷ cs) h = cc (h.0, e)
@@ -79,7 +83,8 @@ module _ (b : Build) (is : IsBuild b) (t size : ℕ) (memory : ℕ → ℕ) (v :
       (main_none fs cs c.callers)
     where
       main_none : (fs : List MachineFrame) (cs : List Caller) → CallersStand b c.number c.procedure fs cs → ⊥
-      main_none [] [] h = cc (h.1, same)
+      main_none [] [] (inl h) = cc (h.1, same)
+      main_none [] [] (inr h) = let e = c.same in cc (h, e)
       main_none [] (d ∷ cs) h = h
       main_none (m ∷ fs) [] h = h
       main_none (m ∷ fs) (d ∷ cs) h = let e = c.same in cc (h.0, e)
@@ -102,7 +107,7 @@ module _ (b : Build) (is : IsBuild b) (t size : ℕ) (memory : ℕ → ℕ) (v :
       (place + length first) [] l fs (frame_at External values rest) cs _ _ refl
       (holds_none b t size memory v place l fs values s rest External cs c) give
       (λ z is_z o. called_returns b t size memory v (Some u) (place + length first) l fs c.number c.procedure cs z _
-      (sym c.same) same c.callers (subst (OfType u) is_z (ev.type e u fit)) last o))
+      (sym c.same) same c.callers (subst (OfType b.made u) is_z (ev.type e u fit)) last o))
 
 leaving_none : (p : Program) (role : Role) (place : ℕ) → IsOutside role → leaving_code p role place ≡ []
 leaving_none p (Entry m) place h = absurd h
@@ -129,46 +134,58 @@ module _ (b : Build) (is : IsBuild b) (t size : ℕ) (memory : ℕ → ℕ) (v :
   no_member : (role : Role) (m : ℕ) → IsOutside role → own_monitor role ≡ Some m → ⊥
   no_member role m h k = let none = outside_none role h in cc (none, k)
 
+  slack : (s : Statement) (x : Thread) (q : Process) → Proceeds b t size memory v (2 * statement_tokens s) x q
+      → Proceeds b t size memory v (2 * statement_tokens s + 2) x q
+  slack s x q h = proceeds_wider b t size memory v (2 * statement_tokens s) (2 * statement_tokens s + 2) x q (omega
+      arith) h
+
   statement_proceeds : (s : Statement) (place : ℕ) (l : Locals) (fs : List MachineFrame) (values : List ℤ)
       (rest : Block) (role : Role) (cs : List Caller) (entered : Option ℕ) → Context b place l fs values s rest role cs
-      → Proceeds b t size memory v (2 * statement_tokens s) (Runs place [] l fs)
+      → Proceeds b t size memory v (2 * statement_tokens s + 2) (Runs place [] l fs)
       (goes_on entered (frame_at role values (Then s rest)) cs)
-  statement_proceeds (Assign (ToLocal slot) e) place l fs values rest role cs entered c =
-      assign_proceeds b t size memory v place l fs values rest role cs entered slot e c
+  statement_proceeds (Assign (ToLocal slot) e) place l fs values rest role cs entered c = slack (Assign (ToLocal
+      slot) e) _ _
+      (assign_proceeds b t size memory v place l fs values rest role cs entered slot e c)
   statement_proceeds (Assign (ToMember m) e) place l fs values rest role cs entered c = absurd
       (no_member c.procedure.role m.monitor (is_outside b c.number c.procedure fs cs c.callers) c.sound.fits.1.0)
   statement_proceeds (Assign (ToElement a i) e) place l fs values rest role cs entered c = absurd
       (no_member c.procedure.role a.monitor (is_outside b c.number c.procedure fs cs c.callers) c.sound.fits.1.0.0)
-  statement_proceeds (If e x NoPart) place l fs values rest role cs entered c =
-      if_proceeds b t size memory v place l fs values rest role cs entered e x c
-  statement_proceeds (If e x (SomePart y)) place l fs values rest role cs entered c =
-      if_else_proceeds b t size memory v place l fs values rest role cs entered e x y c
-  statement_proceeds (While e x) place l fs values rest role cs entered c =
-      while_proceeds b t size memory v place l fs values rest role cs entered e x c
-  statement_proceeds (Call q es into) place l fs values rest role cs entered c =
-      call_proceeds b is t size memory v place l fs values rest role cs entered q es into c
-  statement_proceeds (Fork q es into) place l fs values rest role cs entered c = absurd c.sound.alone
-  statement_proceeds (Join e into y) place l fs values rest role cs entered c = absurd c.sound.alone
+  statement_proceeds (If e x NoPart) place l fs values rest role cs entered c = slack (If e x NoPart) _ _
+      (if_proceeds b t size memory v place l fs values rest role cs entered e x c)
+  statement_proceeds (If e x (SomePart y)) place l fs values rest role cs entered c = slack (If e x (SomePart y)) _ _
+      (if_else_proceeds b t size memory v place l fs values rest role cs entered e x y c)
+  statement_proceeds (While e x) place l fs values rest role cs entered c = slack (While e x) _ _
+      (while_proceeds b t size memory v place l fs values rest role cs entered e x c)
+  statement_proceeds (Call q es into) place l fs values rest role cs entered c = slack (Call q es into) _ _
+      (call_proceeds b is t size memory v place l fs values rest role cs entered q es into c)
+  statement_proceeds (Fork q es into) place l fs values rest role cs entered c = slack (Fork q es into) _ _
+      (fork_proceeds b is t size memory v place l fs values rest role cs entered q es into c)
+  statement_proceeds (Join e into y) place l fs values rest role cs entered c =
+      join_proceeds b t size memory v place l fs values rest role cs entered e into y c
   statement_proceeds (Return value) place l fs values rest role cs entered c =
       let out = subst IsOutside (sym c.same) (is_outside b c.number c.procedure fs cs c.callers) in
       let left = value_code b.program value in
-      return_proceeds b is t size memory v role c.procedure.result value place l fs values rest cs entered c out refl
+      slack (Return value) _ _
+      (return_proceeds b is t size memory v role c.procedure.result value place l fs values rest cs entered c out refl
       c.sound.fits.1
       (subst (λ (xs : List Marked). StandAt b.image place (left ++ xs))
       (ending_same b.program b.starts c.procedure role c.procedure.result
-      (place + length left) out c.same refl) c.head.here)
-  statement_proceeds (Wait m) place l fs values rest role cs entered c = absurd c.sound.alone
-  statement_proceeds (Notify m) place l fs values rest role cs entered c = absurd c.sound.alone
-  statement_proceeds (Broadcast m) place l fs values rest role cs entered c = absurd c.sound.alone
-  statement_proceeds (Print e) place l fs values rest role cs entered c =
-      print_proceeds b t size memory v place l fs values rest role cs entered e c
-  statement_proceeds Abort place l fs values rest role cs entered c =
-      abort_proceeds b t size memory v place l fs values rest role cs entered c
+      (place + length left) out c.same refl) c.head.here))
+  statement_proceeds (Wait m) place l fs values rest role cs entered c = absurd
+      (no_member c.procedure.role m.monitor (is_outside b c.number c.procedure fs cs c.callers) c.sound.fits.1.0)
+  statement_proceeds (Notify m) place l fs values rest role cs entered c = absurd
+      (no_member c.procedure.role m.monitor (is_outside b c.number c.procedure fs cs c.callers) c.sound.fits.0)
+  statement_proceeds (Broadcast m) place l fs values rest role cs entered c = absurd
+      (no_member c.procedure.role m.monitor (is_outside b c.number c.procedure fs cs c.callers) c.sound.fits.0)
+  statement_proceeds (Print e) place l fs values rest role cs entered c = slack (Print e) _ _
+      (print_proceeds b t size memory v place l fs values rest role cs entered e c)
+  statement_proceeds Abort place l fs values rest role cs entered c = slack Abort _ _
+      (abort_proceeds b t size memory v place l fs values rest role cs entered c)
 
   -- at the next statement, or at the end
   rest_proceeds : (rest : Block) (place : ℕ) (l : Locals) (fs : List MachineFrame) (values : List ℤ) (role : Role)
       (cs : List Caller) (entered : Option ℕ) (number : ℕ) (q : Procedure)
-      → IsFrame b.program b.height b.width number q (frame_at role values rest) l → Implements b.image
+      → IsFrame b.program b.height b.made b.width number q (frame_at role values rest) l → Implements b.image
       (setting_of b.program b.starts q) b.most 0 place rest → CallersStand b number q fs cs
       → Proceeds b t size memory v (2 * b.width + 2) (Runs place [] l fs)
       (goes_on entered (frame_at role values rest) cs)
@@ -180,7 +197,7 @@ module _ (b : Build) (is : IsBuild b) (t size : ℕ) (memory : ℕ → ℕ) (v :
       (subst (λ (xs : List Marked). StandAt b.image place (first ++ xs))
       (ending_same b.program b.starts q role q.result (place + length first) out f.role refl) (finish_of code)))
   rest_proceeds (Then s rest) place l fs values role cs entered number q f code callers =
-      proceeds_wider b t size memory v (2 * statement_tokens s) _ _ _ (omega (arith, f.body.0.tokens))
+      proceeds_wider b t size memory v (2 * statement_tokens s + 2) _ _ _ (omega (arith, f.body.0.tokens))
       (statement_proceeds s place l fs values rest role cs entered
       (record {
         number = number;

@@ -1,4 +1,5 @@
 pub mod Operators
+pub mod Words
 pub mod Walking
 pub mod Evaluating
 pub mod Bodies
@@ -8,4 +9,8 @@ pub mod Testing
 pub mod Returning
 pub mod Arguments
 pub mod Calling
+pub mod Growing
+pub mod Forking
+pub mod Awaiting
+pub mod Joining
 pub mod Followed

@@ -59,11 +59,11 @@ pub small_fits : (n : ℕ) → n < 2 ^ 31 → FitsSigned w32 (pos n)
 small_fits n h = search rules
 
 -- a value of any type fits a word
-pub value_fits : (t : ValueType) (z : ℤ) → HasValue t z → FitsSigned w32 z
-value_fits Integer z h = h
-value_fits Boolean z (inl e) = subst (FitsSigned w32) (sym e) (small_fits 0 (omega arith))
-value_fits Boolean z (inr e) = subst (FitsSigned w32) (sym e) (small_fits 1 (omega arith))
-value_fits Process z h = subst (FitsSigned w32) (sym h.1) (small_fits h.0 (omega (arith, h.2)))
+pub value_fits : (made : ℕ) → (t : ValueType) (z : ℤ) → HasValue made t z → FitsSigned w32 z
+value_fits made Integer z h = h
+value_fits made Boolean z (inl e) = subst (FitsSigned w32) (sym e) (small_fits 0 (omega arith))
+value_fits made Boolean z (inr e) = subst (FitsSigned w32) (sym e) (small_fits 1 (omega arith))
+value_fits made Process z h = subst (FitsSigned w32) (sym h.1) (small_fits h.0 (omega (arith, h.2)))
 
 pub word_injective : (x y : ℤ) → FitsSigned w32 x → FitsSigned w32 y → word_of x ≡ word_of y → x ≡ y
 word_injective x y hx hy e = sym (back x hx) ∙ ap signed_of e ∙ back y hy
@@ -96,21 +96,21 @@ zero_fits = small_fits 0 (omega arith)
 pub zero_word : (x : ℤ) → FitsSigned w32 x → (word_of x == 0) ≡ int_eq x (pos 0)
 zero_word x h = equal_words x (pos 0) h zero_fits
 
-and_shown : (a b : ℤ) (rest : List ℕ) (place : ℕ) (l : Locals) (fs : List Frame) → HasValue Boolean a
-    → HasValue Boolean b → at_place place l fs (operator_effect BitAnd (word_of a) (word_of b) rest) ≡ shown
+and_shown : (made : ℕ) → (a b : ℤ) (rest : List ℕ) (place : ℕ) (l : Locals) (fs : List Frame) → HasValue made Boolean a
+    → HasValue made Boolean b → at_place place l fs (operator_effect BitAnd (word_of a) (word_of b) rest) ≡ shown
     (both And a b) rest place l fs
-and_shown a b rest place l fs (inl x) (inl y) = rw x refl
-and_shown a b rest place l fs (inl x) (inr y) = rw x refl
-and_shown a b rest place l fs (inr x) (inl y) = rw (x, y) refl
-and_shown a b rest place l fs (inr x) (inr y) = rw (x, y) refl
+and_shown made a b rest place l fs (inl x) (inl y) = rw x refl
+and_shown made a b rest place l fs (inl x) (inr y) = rw x refl
+and_shown made a b rest place l fs (inr x) (inl y) = rw (x, y) refl
+and_shown made a b rest place l fs (inr x) (inr y) = rw (x, y) refl
 
-or_shown : (a b : ℤ) (rest : List ℕ) (place : ℕ) (l : Locals) (fs : List Frame) → HasValue Boolean a
-    → HasValue Boolean b → at_place place l fs (operator_effect BitOr (word_of a) (word_of b) rest) ≡ shown
+or_shown : (made : ℕ) → (a b : ℤ) (rest : List ℕ) (place : ℕ) (l : Locals) (fs : List Frame) → HasValue made Boolean a
+    → HasValue made Boolean b → at_place place l fs (operator_effect BitOr (word_of a) (word_of b) rest) ≡ shown
     (both Or a b) rest place l fs
-or_shown a b rest place l fs (inl x) (inl y) = rw (x, y) refl
-or_shown a b rest place l fs (inl x) (inr y) = rw (x, y) refl
-or_shown a b rest place l fs (inr x) (inl y) = rw (x, y) refl
-or_shown a b rest place l fs (inr x) (inr y) = rw (x, y) refl
+or_shown made a b rest place l fs (inl x) (inl y) = rw (x, y) refl
+or_shown made a b rest place l fs (inl x) (inr y) = rw (x, y) refl
+or_shown made a b rest place l fs (inr x) (inl y) = rw (x, y) refl
+or_shown made a b rest place l fs (inr x) (inr y) = rw (x, y) refl
 
 divides_by : (b : Bool) (e : Look) (a d : ℤ) (quotient : Evaluated) (rest : List ℕ) (place : ℕ) (l : Locals)
     (fs : List Frame) → b ≡ int_eq d (pos 0) → e ≡ shown quotient rest place l fs → or_dies
@@ -127,45 +127,59 @@ rem_fits a d hd some = let b = rem_below a d some in let c = abs_fits d hd in fi
     (omega (arith, b, c))
 
 -- an operator on the words of two values of a type that it takes
-pub both_shown : (op : Operator) (t : ValueType) (a b : ℤ) (rest : List ℕ) (place : ℕ) (l : Locals) (fs : List Frame)
-    → Takes op t → HasValue t a → HasValue t b → at_place place l fs
+pub both_shown : (made : ℕ) → (op : Operator) (t : ValueType) (a b : ℤ) (rest : List ℕ) (place : ℕ) (l : Locals) (fs
+    : List Frame)
+    → Takes op t → HasValue made t a → HasValue made t b → at_place place l fs
     (operator_effect (operation op) (word_of a) (word_of b) rest) ≡ shown (both op a b) rest place l fs
-both_shown Add t a b rest place l fs k ha hb = rw (back a (value_fits t a ha), back b (value_fits t b hb))
+both_shown made Add t a b rest place l fs k ha hb = rw (back a (value_fits made t a ha), back b (value_fits made t b
+    hb))
     (integer_shown (a +ℤ b) rest place l fs)
-both_shown Subtract t a b rest place l fs k ha hb = rw (back a (value_fits t a ha), back b (value_fits t b hb))
+both_shown made Subtract t a b rest place l fs k ha hb = rw (back a (value_fits made t a ha), back b (value_fits made
+    t b hb))
     (integer_shown (a -ℤ b) rest place l fs)
-both_shown Multiply t a b rest place l fs k ha hb = rw (back a (value_fits t a ha), back b (value_fits t b hb))
+both_shown made Multiply t a b rest place l fs k ha hb = rw (back a (value_fits made t a ha), back b (value_fits made
+    t b hb))
     (integer_shown (a *ℤ b) rest place l fs)
-both_shown Divide t a b rest place l fs k ha hb =
-    rw (back a (value_fits t a ha), back b (value_fits t b hb))
-    (divides_by (word_of b == 0) _ a b (integer (int_div a b)) rest place l fs (zero_word b (value_fits t b hb))
+both_shown made Divide t a b rest place l fs k ha hb =
+    rw (back a (value_fits made t a ha), back b (value_fits made t b hb))
+    (divides_by (word_of b == 0) _ a b (integer (int_div a b)) rest place l fs (zero_word b (value_fits made t b hb))
     (integer_shown (int_div a b) rest place l fs))
-both_shown Modulo t a b rest place l fs k ha hb =
-    rw (back a (value_fits t a ha), back b (value_fits t b hb))
-    (divides_by (word_of b == 0) _ a b (Value (int_rem a b)) rest place l fs (zero_word b (value_fits t b hb)) refl)
-both_shown Equal t a b rest place l fs k ha hb = rw (equal_words a b (value_fits t a ha) (value_fits t b hb))
+both_shown made Modulo t a b rest place l fs k ha hb =
+    rw (back a (value_fits made t a ha), back b (value_fits made t b hb))
+    (divides_by (word_of b == 0) _ a b (Value (int_rem a b)) rest place l fs (zero_word b (value_fits made t b hb))
+        refl)
+both_shown made Equal t a b rest place l fs k ha hb = rw (equal_words a b (value_fits made t a ha) (value_fits made t
+    b hb))
     (truth_shown (int_eq a b) rest place l fs)
-both_shown NotEqual t a b rest place l fs k ha hb = rw (equal_words a b (value_fits t a ha) (value_fits t b hb))
+both_shown made NotEqual t a b rest place l fs k ha hb = rw (equal_words a b (value_fits made t a ha) (value_fits
+    made t b hb))
     (truth_shown (not (int_eq a b)) rest place l fs)
-both_shown Less t a b rest place l fs k ha hb = rw (back a (value_fits t a ha), back b (value_fits t b hb))
+both_shown made Less t a b rest place l fs k ha hb = rw (back a (value_fits made t a ha), back b (value_fits made t b
+    hb))
     (truth_shown (int_lt a b) rest place l fs)
-both_shown LessEqual t a b rest place l fs k ha hb = rw (back a (value_fits t a ha), back b (value_fits t b hb))
+both_shown made LessEqual t a b rest place l fs k ha hb = rw (back a (value_fits made t a ha), back b (value_fits
+    made t b hb))
     (truth_shown (int_le a b) rest place l fs)
-both_shown Greater t a b rest place l fs k ha hb = rw (back a (value_fits t a ha), back b (value_fits t b hb))
+both_shown made Greater t a b rest place l fs k ha hb = rw (back a (value_fits made t a ha), back b (value_fits made
+    t b hb))
     (truth_shown (int_lt b a) rest place l fs)
-both_shown GreaterEqual t a b rest place l fs k ha hb = rw (back a (value_fits t a ha), back b (value_fits t b hb))
+both_shown made GreaterEqual t a b rest place l fs k ha hb = rw (back a (value_fits made t a ha), back b (value_fits
+    made t b hb))
     (truth_shown (int_le b a) rest place l fs)
-both_shown And t a b rest place l fs k ha hb = and_shown a b rest place l fs (subst (λ u. HasValue u a) k ha)
-    (subst (λ u. HasValue u b) k hb)
-both_shown Or t a b rest place l fs k ha hb = or_shown a b rest place l fs (subst (λ u. HasValue u a) k ha)
-    (subst (λ u. HasValue u b) k hb)
+both_shown made And t a b rest place l fs k ha hb = and_shown made a b rest place l fs (subst
+    (λ u. HasValue made u a) k ha)
+    (subst (λ u. HasValue made u b) k hb)
+both_shown made Or t a b rest place l fs k ha hb = or_shown made a b rest place l fs (subst
+    (λ u. HasValue made u a) k ha)
+    (subst (λ u. HasValue made u b) k hb)
 
 -- a minus before the word of a value, and a NOT
-pub unary_shown : (t : ℕ) (op : UnaryOperator) (a : ℤ) (rest : List ℕ) (place : ℕ) (l : Locals) (fs : List Frame)
-    → HasValue (unary_type op) a → at_place place l fs (effect t (unary_code op) (word_of a ∷ rest) l) ≡ shown
+pub unary_shown : (made : ℕ) → (t : ℕ) (op : UnaryOperator) (a : ℤ) (rest : List ℕ) (place : ℕ) (l : Locals) (fs :
+    List Frame)
+    → HasValue made (unary_type op) a → at_place place l fs (effect t (unary_code op) (word_of a ∷ rest) l) ≡ shown
     (unary op a) rest place l fs
-unary_shown t NegateOf a rest place l fs h = rw (back a h) (integer_shown (neg_ℤ a) rest place l fs)
-unary_shown t NotOf a rest place l fs h = rw (zero_word a (value_fits Boolean a h))
+unary_shown made t NegateOf a rest place l fs h = rw (back a h) (integer_shown (neg_ℤ a) rest place l fs)
+unary_shown made t NotOf a rest place l fs h = rw (zero_word a (value_fits made Boolean a h))
     (not_shown (int_eq a (pos 0)) rest place l fs)
   where
     not_shown : (b : Bool) (rest : List ℕ) (place : ℕ) (l : Locals) (fs : List Frame) → at_place place l fs
@@ -180,47 +194,50 @@ in_range_fits (negsuc n) h = let e = ltb-true n 2147483648 h in negative_fits n 
     negative_fits : (n : ℕ) → n < 2 ^ 31 → FitsSigned w32 (negsuc n)
     negative_fits n h = search rules
 
-pub integer_typed : (z : ℤ) → OfType Integer (integer z)
-integer_typed z = by_test (is_integer z) refl
+pub integer_typed : (made : ℕ) → (z : ℤ) → OfType made Integer (integer z)
+integer_typed made z = by_test (is_integer z) refl
   where
-    by_test : (b : Bool) → is_integer z ≡ b → OfType Integer (if b then Value z else Fails ResultOutOfRange)
+    by_test : (b : Bool) → is_integer z ≡ b → OfType made Integer (if b then Value z else Fails ResultOutOfRange)
     by_test true h = in_range_fits z h
     by_test false h = tt
 
-pub truth_typed : (b : Bool) → HasValue Boolean (v.truth b)
-truth_typed true = inr refl
-truth_typed false = inl refl
+pub truth_typed : (made : ℕ) → (b : Bool) → HasValue made Boolean (v.truth b)
+truth_typed made true = inr refl
+truth_typed made false = inl refl
 
 positive : (d : ℤ) → int_eq d (pos 0) ≡ false → 0 < unsigned_abs d
 positive (pos zero) h = absurd cc
 positive (pos (suc n)) h = omega arith
 positive (negsuc n) h = omega arith
 
-divided_typed : (a d : ℤ) (quotient : Evaluated) → (0 < unsigned_abs d → OfType Integer quotient) → OfType Integer
+divided_typed : (made : ℕ) → (a d : ℤ) (quotient : Evaluated) → (0 < unsigned_abs d
+    → OfType made Integer quotient) → OfType made Integer
     (divided a d quotient)
-divided_typed a d quotient h = by_test (int_eq d (pos 0)) refl
+divided_typed made a d quotient h = by_test (int_eq d (pos 0)) refl
   where
-    by_test : (b : Bool) → int_eq d (pos 0) ≡ b → OfType Integer (if not b then quotient else Fails DivisionByZero)
+    by_test : (b : Bool) → int_eq d (pos 0) ≡ b → OfType made Integer (if not b then quotient else Fails DivisionByZero)
     by_test true e = tt
     by_test false e = h (positive d e)
 
-pub both_typed : (op : Operator) (t : ValueType) (a b : ℤ) → Takes op t → HasValue t a → HasValue t b → OfType
+pub both_typed : (made : ℕ) → (op : Operator) (t : ValueType) (a b : ℤ) → Takes op t → HasValue made t a
+    → HasValue made t b → OfType made
     (result_type op) (both op a b)
-both_typed Add t a b k ha hb = integer_typed (a +ℤ b)
-both_typed Subtract t a b k ha hb = integer_typed (a -ℤ b)
-both_typed Multiply t a b k ha hb = integer_typed (a *ℤ b)
-both_typed Divide t a b k ha hb = divided_typed a b (integer (int_div a b)) (λ _. integer_typed (int_div a b))
-both_typed Modulo t a b k ha hb = divided_typed a b (Value (int_rem a b))
-    (λ some. rem_fits a b (value_fits t b hb) some)
-both_typed Equal t a b k ha hb = truth_typed (int_eq a b)
-both_typed NotEqual t a b k ha hb = truth_typed (not (int_eq a b))
-both_typed Less t a b k ha hb = truth_typed (int_lt a b)
-both_typed LessEqual t a b k ha hb = truth_typed (int_le a b)
-both_typed Greater t a b k ha hb = truth_typed (int_lt b a)
-both_typed GreaterEqual t a b k ha hb = truth_typed (int_le b a)
-both_typed And t a b k ha hb = truth_typed (is_true a && is_true b)
-both_typed Or t a b k ha hb = truth_typed (is_true a || is_true b)
+both_typed made Add t a b k ha hb = integer_typed made (a +ℤ b)
+both_typed made Subtract t a b k ha hb = integer_typed made (a -ℤ b)
+both_typed made Multiply t a b k ha hb = integer_typed made (a *ℤ b)
+both_typed made Divide t a b k ha hb = divided_typed made a b (integer (int_div a b))
+    (λ _. integer_typed made (int_div a b))
+both_typed made Modulo t a b k ha hb = divided_typed made a b (Value (int_rem a b))
+    (λ some. rem_fits a b (value_fits made t b hb) some)
+both_typed made Equal t a b k ha hb = truth_typed made (int_eq a b)
+both_typed made NotEqual t a b k ha hb = truth_typed made (not (int_eq a b))
+both_typed made Less t a b k ha hb = truth_typed made (int_lt a b)
+both_typed made LessEqual t a b k ha hb = truth_typed made (int_le a b)
+both_typed made Greater t a b k ha hb = truth_typed made (int_lt b a)
+both_typed made GreaterEqual t a b k ha hb = truth_typed made (int_le b a)
+both_typed made And t a b k ha hb = truth_typed made (is_true a && is_true b)
+both_typed made Or t a b k ha hb = truth_typed made (is_true a || is_true b)
 
-pub unary_typed : (op : UnaryOperator) (a : ℤ) → OfType (unary_type op) (unary op a)
-unary_typed NegateOf a = integer_typed (neg_ℤ a)
-unary_typed NotOf a = truth_typed (not (is_true a))
+pub unary_typed : (made : ℕ) → (op : UnaryOperator) (a : ℤ) → OfType made (unary_type op) (unary op a)
+unary_typed made NegateOf a = integer_typed made (neg_ℤ a)
+unary_typed made NotOf a = truth_typed made (not (is_true a))

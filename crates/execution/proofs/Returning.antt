@@ -1,5 +1,5 @@
 -- The end of a procedure: its result goes to its caller; and the end of the main part.
-use Rattle.std.proofs.Common.{rules, inl, ◌≡◌, ℕ, ◌+◌, ◌≤◌, List, [], ◌∷◌, length, Option, Some, None, slice_get, refl, ap, ◌∙◌, subst, arith, ℤ, pos}
+use Rattle.std.proofs.Common.{rules, inl, ◌≡◌, ℕ, ◌+◌, ◌≤◌, List, [], ◌∷◌, length, Option, Some, None, slice_get, refl, ap, ◌∙◌, subst, arith, ℤ, pos, sym}
 use Rattle.std.specs.Prelude.{slice_set}
 use Rattle.words.specs.Signed.{word_of}
 use Rattle.isa.specs.declared.instr.Instr.TheVariants.{Ret, RetValue, SetLocal, Pop}
@@ -22,32 +22,35 @@ use Rattle.meaning.specs.Processes.{Caller, Process, Leaving, goes_on, hands_ove
 use Rattle.meaning.specs.Offers.{Does, Nothing, offer}
 use Rattle.execution.specs.Typed.{HasValue}
 use Rattle.execution.specs.Walks.{StandAt, WalksWithin, stays}
-use Rattle.execution.specs.Following.{Build, CallersStand, Implements, IsFrame, Stands, Completes, Proceeds, taking_code}
-use Rattle.execution.specs.Following as F
+use Rattle.execution.specs.Following.{Build, CallersStand, Implements, IsFrame, Stands, taking_code}
+use Rattle.execution.specs.Completing.{Completes, Proceeds}
+use Rattle.execution.specs.Completing as F
 use Rattle.execution.proofs.Walking.{one_step, look_here}
-use Rattle.execution.proofs.Contexts.{frame_at, proceeds_on}
+use Rattle.execution.proofs.Contexts.{frame_at, proceeds_on, proceeds_wider}
 use Rattle.execution.proofs.Stepping.{slot_below, put_typed, put_holds, put_length}
+use Rattle.execution.proofs.Operators.{back, value_fits}
+use Rattle.execution.proofs.Words.{word_below}
 
 -- a result has the type that is answered, if one is
-abbrev pub ResultIs : Option ValueType → ℤ → Type 0
-ResultIs None z = z ≡ pos 0
-ResultIs (Some t) z = HasValue t z
+abbrev pub ResultIs : ℕ → Option ValueType → ℤ → Type 0
+ResultIs made None z = z ≡ pos 0
+ResultIs made (Some t) z = HasValue made t z
 
 -- on the operands, if there is one
 abbrev pub result_operands : Option ValueType → ℤ → List ℕ
 result_operands None z = []
 result_operands (Some t) z = word_of z ∷ []
 
-pub zero_value : (t : ValueType) → HasValue t (pos 0)
-zero_value Integer = search rules
-zero_value Boolean = inl refl
-zero_value Handle = (0, refl, omega arith)
+pub zero_value : (made : ℕ) → (t : ValueType) → HasValue made t (pos 0)
+zero_value made Integer = search rules
+zero_value made Boolean = inl refl
+zero_value made Handle = (0, refl, omega arith, omega arith)
 
 module _ (b : Build) (t size : ℕ) (memory : ℕ → ℕ) (v : Variables) where
   -- a caller goes on where its call has been answered
   back_at : (m : MachineFrame) (fs : List MachineFrame) (c : Caller) (cs : List Caller) (n : ℕ) (caller : Procedure)
       (jumps place : ℕ) (l : Locals) (values : List ℤ)
-      → IsFrame b.program b.height b.width n caller (frame_at c.frame.role values c.frame.rest) l
+      → IsFrame b.program b.height b.made b.width n caller (frame_at c.frame.role values c.frame.rest) l
       → Implements b.image (setting_of b.program b.starts caller) b.most jumps place c.frame.rest → jumps ≤ b.most
       → CallersStand b n caller fs cs
       → Stands b t size memory (Runs place [] l fs) (goes_on None (frame_at c.frame.role values c.frame.rest) cs)
@@ -78,11 +81,20 @@ module _ (b : Build) (t size : ℕ) (memory : ℕ → ℕ) (v : Variables) where
   -- a procedure that was called returns with its result
   pub called_returns : (result : Option ValueType) (place : ℕ) (l : Locals) (fs : List MachineFrame) (number : ℕ)
       (q : Procedure) (cs : List Caller) (z : ℤ) (r : Process)
-      → q.role ≡ External → q.result ≡ result → CallersStand b number q fs cs → ResultIs result z
+      → q.role ≡ External → q.result ≡ result → CallersStand b number q fs cs → ResultIs b.made result z
       → StandAt b.image place (return_code External result ∷ []) → offer b.program v r ≡ Does (Alone L.Return) Nothing
       (hands_over z cs)
       → Proceeds b t size memory v 1 (Runs place (result_operands result z) l fs) r
-  called_returns result place l [] number q [] z r ext same stand is code o = absurd (cc (ext, stand.0))
+  called_returns None place l [] number q [] z r ext same stand is code o =
+      proceeds_wider b t size memory v 0 1 _ r (omega arith)
+      (done _ r (F.leaves None tt (look_here b.image t size memory place Ret [] l [] code.0)
+      (o ∙ ap (λ (y : ℤ). Does (Alone L.Return) Nothing (Leaving y)) is)))
+  called_returns (Some u) place l [] number q [] z r ext same stand is code o =
+      let fits = value_fits b.made u z is in
+      proceeds_wider b t size memory v 0 1 _ r (omega arith)
+      (done _ r (F.leaves (Some (word_of z)) (word_below z fits)
+      (look_here b.image t size memory place RetValue (word_of z ∷ []) l [] code.0)
+      (o ∙ ap (λ (y : ℤ). Does (Alone L.Return) Nothing (Leaving y)) (sym (back z fits)))))
   called_returns result place l [] number q (c ∷ cs) z r ext same stand is code o = absurd stand
   called_returns result place l (m ∷ fs) number q [] z r ext same stand is code o = absurd stand
   called_returns None place l (m ∷ fs) number q (c ∷ cs) z r ext same stand is code o =
@@ -150,12 +162,12 @@ module _ (b : Build) (t size : ℕ) (memory : ℕ → ℕ) (v : Variables) where
           let f = stand.4 in
           let within = slot_below (slots stand.2) slot u is_local in
           let l' = with_local m.locals (Slot' slot) (word_of z) in
-          let is' : IsFrame b.program b.height b.width stand.1 stand.2
+          let is' : IsFrame b.program b.height b.made b.width stand.1 stand.2
           (frame_at c.frame.role (slice_set c.frame.locals slot z) c.frame.rest) l' =
           record {
             procedure = f.procedure;
             role = f.role;
-            typed = put_typed
+            typed = put_typed b.made
                 (slots stand.2) c.frame.locals slot u z f.typed is_local is;
             holds =
                 put_holds m.locals.values c.frame.locals slot z f.holds (omega (arith, within, f.few, f.words));

@@ -25,8 +25,9 @@ use Rattle.meaning.specs.Offers.{Does, Nothing, Writes}
 use Rattle.execution.specs.Typed.{HasValue, HaveValues, HoldValues}
 use Rattle.execution.specs.Evaluation.{OfType}
 use Rattle.execution.specs.Walks.{stays}
-use Rattle.execution.specs.Following.{Build, nesting, block_nesting, Implements, finishes, states, follows, IsSound, AreSound, Stands, Completes, Proceeds}
-use Rattle.execution.specs.Following as F
+use Rattle.execution.specs.Following.{Build, Implements, Stands}
+use Rattle.execution.specs.Completing.{Completes, Proceeds}
+use Rattle.execution.specs.Completing as F
 use Rattle.execution.proofs.Operators.{back}
 use Rattle.execution.proofs.Walking.{front_stands, back_stands, one_step, look_here}
 use Rattle.execution.proofs.Contexts.{Context, frame_at, IsNoReturn, proceeds_on, proceeds_wider, with_evaluation, evaluates, holds_none, is_before, stands_on}
@@ -37,13 +38,14 @@ slot_below (t ∷ ts) zero u h = omega arith
 slot_below (t ∷ ts) (suc slot) u h = let r = slot_below ts slot u h in omega (arith, r)
 
 -- a value of a local's type put into it
-pub put_typed : (ts : List ValueType) (zs : List ℤ) (slot : ℕ) (u : ValueType) (z : ℤ) → HaveValues ts zs
-    → slice_get ts slot ≡ Some u → HasValue u z → HaveValues ts (slice_set zs slot z)
-put_typed [] zs slot u z h e k = absurd cc
-put_typed (t ∷ ts) [] slot u z h e k = absurd h
-put_typed (t ∷ ts) (y ∷ zs) zero u z h e k = let same : t ≡ u = cc in
-    (subst (λ (w : ValueType). HasValue w z) (sym same) k, h.1)
-put_typed (t ∷ ts) (y ∷ zs) (suc slot) u z h e k = (h.0, put_typed ts zs slot u z h.1 e k)
+pub put_typed : (made : ℕ) → (ts : List ValueType) (zs : List ℤ) (slot : ℕ) (u : ValueType) (z : ℤ)
+    → HaveValues made ts zs
+    → slice_get ts slot ≡ Some u → HasValue made u z → HaveValues made ts (slice_set zs slot z)
+put_typed made [] zs slot u z h e k = absurd cc
+put_typed made (t ∷ ts) [] slot u z h e k = absurd h
+put_typed made (t ∷ ts) (y ∷ zs) zero u z h e k = let same : t ≡ u = cc in
+    (subst (λ (w : ValueType). HasValue made w z) (sym same) k, h.1)
+put_typed made (t ∷ ts) (y ∷ zs) (suc slot) u z h e k = (h.0, put_typed made ts zs slot u z h.1 e k)
 
 pub put_length : (ws : List ℕ) (slot w : ℕ) → length (slice_set ws slot w) ≡ length ws
 put_length ws slot w = search rules
@@ -133,7 +135,7 @@ module _ (b : Build) (t size : ℕ) (memory : ℕ → ℕ) (v : Variables) (plac
       (frame_at role values rest) cs _ (q s) refl
       (holds_none b t size memory v place l fs values s rest role cs c) give
       (λ z same o.
-      let typed : OfType Integer (Value z) = subst (OfType Integer) same (ev.type e Integer fits) in
+      let typed : OfType b.made Integer (Value z) = subst (OfType b.made Integer) same (ev.type e Integer fits) in
       let signed = back z typed in
       at_once (Runs end (word_of z ∷ []) l fs) (q s)
       (F.prints (word_of z) (λ a. Runs (end + 1) [] l fs) (look_here b.image t size memory end Print'
@@ -176,13 +178,13 @@ module _ (b : Build) (t size : ℕ) (memory : ℕ → ℕ) (v : Variables) (plac
       (frame_at role values rest) cs _ (q s) refl
       (holds_none b t size memory v place l fs values s rest role cs c) give
       (λ z same o.
-      let typed : OfType u (Value z) = subst (OfType u) same (ev.type e u fits) in
+      let typed : OfType b.made u (Value z) = subst (OfType b.made u) same (ev.type e u fits) in
       let within = slot_below (slots c.procedure) slot u is_local in
       let after : Stands b t size memory (Runs (end + 1) [] (with_local l (Slot' slot) (word_of z)) fs)
       (goes_on None (frame_at role (slice_set values slot z) rest) cs) =
       stands_on b t size memory v place l fs values s rest role cs c (with_local l (Slot' slot) (word_of z))
       (slice_set values slot z) rest (end + 1) c.head.jumps
-      (put_typed (slots c.procedure) values slot u z c.typed is_local typed)
+      (put_typed b.made (slots c.procedure) values slot u z c.typed is_local typed)
       (put_holds l.values values slot z c.holds (omega (arith, within, c.few, c.words)))
       (put_length l.values slot (word_of z) ∙ c.words) c.later
       (omega (arith, c.head.few, c.head.deep)) (subst (λ n. Implements b.image

@@ -28,8 +28,9 @@ use Rattle.meaning.specs.Offers.{Does, Nothing, offer, with_value, chosen}
 use Rattle.execution.specs.Typed.{HasValue}
 use Rattle.execution.specs.Evaluation.{OfType}
 use Rattle.execution.specs.Walks.{StandAt}
-use Rattle.execution.specs.Following.{Build, block_nesting, Implements, states, follows, AreSound, Stands, Completes, Proceeds}
-use Rattle.execution.specs.Following as F
+use Rattle.execution.specs.Following.{Build, Implements, states, follows, Stands}
+use Rattle.execution.specs.Completing.{Completes, Proceeds}
+use Rattle.execution.specs.Completing as F
 use Rattle.execution.proofs.Walking.{front_stands, back_stands, look_here}
 use Rattle.execution.proofs.Bodies.{block_implements, are_sound-followed, block_sound}
 use Rattle.execution.proofs.Contexts.{Context, frame_at, IsNoReturn, with_evaluation, evaluates, holds_none, stands_on}
@@ -70,14 +71,15 @@ module _ (b : Build) (t size : ℕ) (memory : ℕ → ℕ) (v : Variables) (plac
       (frame_at role values rest) cs _ (pending s) o
       (holds_none b t size memory v place l fs values s rest role cs c) give
       (λ z same o'.
-      let typed : OfType Boolean (Value z) = subst (OfType Boolean) same (ev.type e Boolean fits) in
+      let typed : OfType b.made Boolean (Value z) = subst (OfType b.made Boolean) same (ev.type e Boolean fits) in
       at_once b t size memory v place l fs values rest role cs entered (Runs end (word_of z ∷ []) l fs) (pending s)
       (by_value z (look_here b.image t size memory end (JumpIfZero target) (word_of z ∷ []) l fs last.0) o' typed)))
     where
       by_value : (z : ℤ) → look b.image t (Runs (place + length (expression_code b.program e))
           (word_of z ∷ []) l fs) ≡ Goes (Runs (place_after_test (word_of z) target
           (place + length (expression_code b.program e) + 1)) [] l fs)
-          → offer b.program v (pending s) ≡ Does (Alone L.Test) Nothing (at_rest (go (is_true z))) → HasValue Boolean z
+          → offer b.program v (pending s) ≡ Does (Alone L.Test) Nothing (at_rest (go (is_true z)))
+              → HasValue b.made Boolean z
           → Completes b t size memory v (Runs (place + length (expression_code b.program e)) (word_of z ∷ []) l fs)
           (pending s)
       by_value z h k (inl is_zero) = F.acts L.Test tt
@@ -108,7 +110,7 @@ module _ (b : Build) (t size : ℕ) (memory : ℕ → ℕ) (v : Variables) (plac
       let more = subst (λ n. Implements b.image setting b.most c.head.jumps n rest) len c.head.more in
       let inner = block_implements b.image setting b.most then_part d c.head.jumps then_start rest tail.1 c.head.few
       (omega (arith, c.head.deep)) more in
-      let sound = block_sound b.height b.width c.number scope then_part c.sound.fits.1 c.sound.alone.0
+      let sound = block_sound b.height b.width c.number scope then_part c.sound.fits.1
       (λ n h. c.sound.lower n (Contains-append_left (block_calls then_part) [] n h)) (omega (arith, c.sound.room))
       (omega (arith, c.sound.tokens)) in
       test_proceeds s tt c e (λ k. followed_by (chosen k then_part Done) rest) end body c.sound.fits.0
@@ -151,10 +153,10 @@ module _ (b : Build) (t size : ℕ) (memory : ℕ → ℕ) (v : Variables) (plac
       (omega (arith, c.head.deep)) (follows end jump.0 more) in
       let outer = block_implements b.image setting b.most else_part d c.head.jumps else_start rest jump.1 c.head.few
       (omega (arith, c.head.deep)) more in
-      let first = block_sound b.height b.width c.number scope then_part c.sound.fits.1 c.sound.alone.0
+      let first = block_sound b.height b.width c.number scope then_part c.sound.fits.1
       (λ n h. c.sound.lower n (Contains-append_left (block_calls then_part) (block_calls else_part) n h))
       (omega (arith, c.sound.room)) (omega (arith, c.sound.tokens)) in
-      let second = block_sound b.height b.width c.number scope else_part c.sound.fits.2 c.sound.alone.1
+      let second = block_sound b.height b.width c.number scope else_part c.sound.fits.2
       (λ n h. c.sound.lower n (Contains-append_right (block_calls then_part) (block_calls else_part) n h))
       (omega (arith, c.sound.room)) (omega (arith, c.sound.tokens)) in
       test_proceeds s tt c e (λ k. followed_by (chosen k then_part else_part) rest) else_start
@@ -195,7 +197,7 @@ module _ (b : Build) (t size : ℕ) (memory : ℕ → ℕ) (v : Variables) (plac
       let inner = block_implements b.image setting b.most body (d + 1) 1 body_start (Then s rest)
       (front_stands b.image body_start inside behind tail.1) (omega arith) (omega (arith, c.head.deep))
       (follows place jump.0 again) in
-      let sound = block_sound b.height b.width c.number scope body c.sound.fits.1 c.sound.alone c.sound.lower
+      let sound = block_sound b.height b.width c.number scope body c.sound.fits.1 c.sound.lower
       (omega (arith, c.sound.room)) (omega (arith, c.sound.tokens)) in
       test_proceeds s tt c e (λ k. chosen k (followed_by body (Then s rest)) rest) end
       (inside ++ behind) c.sound.fits.0 (omega (arith, c.sound.room)) (omega arith) c.head.here refl

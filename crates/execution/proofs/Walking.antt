@@ -67,14 +67,14 @@ module _ (p : Program) (t size : ℕ) (memory : ℕ → ℕ) where
   walk_gives n m x y (Fails fault) place operands l fs w g = within_on n m x y _ w g
 
   -- what a value leads to
-  pub and_gives : (u : ValueType) (n m : ℕ) (x : Thread) (e : Evaluated) (go : ℤ → Evaluated) (place1 : ℕ)
+  pub and_gives : (made : ℕ) → (u : ValueType) (n m : ℕ) (x : Thread) (e : Evaluated) (go : ℤ → Evaluated) (place1 : ℕ)
       (operands1 : List ℕ) (place : ℕ) (operands : List ℕ) (l : Locals) (fs : List Frame)
-      → Gives p t size memory n x e place1 operands1 l fs → OfType u e →
-      ((z : ℤ) → HasValue u z → Gives p t size memory m (Runs place1 (word_of z ∷ operands1) l fs)
+      → Gives p t size memory n x e place1 operands1 l fs → OfType made u e →
+      ((z : ℤ) → HasValue made u z → Gives p t size memory m (Runs place1 (word_of z ∷ operands1) l fs)
       (go z) place operands l fs) → Gives p t size memory (n + m) x (and_then e go) place operands l fs
-  and_gives u n m x (Value z) go place1 operands1 place operands l fs g h k = walk_gives n m x _
+  and_gives made u n m x (Value z) go place1 operands1 place operands l fs g h k = walk_gives n m x _
       (go z) place operands l fs g (k z h)
-  and_gives u n m x (Fails fault) go place1 operands1 place operands l fs g h k = wider n (n + m) x (Dies fault)
+  and_gives made u n m x (Fails fault) go place1 operands1 place operands l fs g h k = wider n (n + m) x (Dies fault)
       (omega arith) g
 
   -- one instruction that shows an evaluation
@@ -96,7 +96,7 @@ module _ (p : Program) (t size : ℕ) (memory : ℕ → ℕ) where
   push_step place v operands l fs h room =
       h ∙ ap (λ b. if_so b (Goes (Runs (place + 1) (v ∷ operands) l fs))) (lt-ltb (length operands) 512 room)
 
-pub and_typed : (u t : ValueType) (e : Evaluated) (go : ℤ → Evaluated) → OfType u e →
-    ((z : ℤ) → HasValue u z → OfType t (go z)) → OfType t (and_then e go)
-and_typed u t (Value z) go h k = k z h
-and_typed u t (Fails fault) go h k = tt
+pub and_typed : (made : ℕ) → (u t : ValueType) (e : Evaluated) (go : ℤ → Evaluated) → OfType made u e →
+    ((z : ℤ) → HasValue made u z → OfType made t (go z)) → OfType made t (and_then e go)
+and_typed made u t (Value z) go h k = k z h
+and_typed made u t (Fails fault) go h k = tt

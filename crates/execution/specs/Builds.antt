@@ -1,4 +1,4 @@
--- Programs that run by themselves, and what is promised of their code.
+-- Programs outside all monitors, and what is promised of their code.
 use Rattle.std.specs.Prelude.{ℕ, ◌+◌, ◌*◌, ◌≡◌, ◌<◌, ◌≤◌, length, Some, slice_get, ⊤}
 use Rattle.program.specs.declared.kinds.Role.{Role}
 use Rattle.program.specs.declared.kinds.Role.TheVariants.{Entry, Internal, Recover, External, Main}
@@ -9,7 +9,8 @@ use Rattle.locals.specs.Threads.{Thread}
 use Rattle.meaning.specs.Values.{Variables}
 use Rattle.meaning.specs.Processes.{Process}
 use Rattle.execution.specs.Walks.{StandAt}
-use Rattle.execution.specs.Following.{Build, AreSound, Stands, Proceeds, block_nesting}
+use Rattle.execution.specs.Following.{Build, AreSound, Stands, block_nesting}
+use Rattle.execution.specs.Completing.{Proceeds}
 
 -- a procedure outside all monitors, or the main part
 abbrev pub IsOutside : Role → Type 0
@@ -19,8 +20,7 @@ IsOutside (Recover m) = ⊥
 IsOutside External = ⊤
 IsOutside Main = ⊤
 
--- each procedure is outside all monitors, forks and joins nothing, and calls lower procedures alone; its code stands where
--- its piece begins
+-- each procedure is outside all monitors and calls lower procedures alone; its code stands where its piece begins
 pub record IsBuild (b : Build) : Type 0 where
   pub outside : (n : ℕ) (q : Procedure) → slice_get b.program.procedures n ≡ Some q → IsOutside q.role
   pub laid : (n : ℕ) (q : Procedure) → slice_get b.program.procedures n ≡ Some q → StandAt b.image (b.starts n)
@@ -37,8 +37,8 @@ pub record IsBuild (b : Build) : Type 0 where
 abbrev pub most_steps : Build → ℕ
 most_steps b = 16 + b.most + (2 * b.width + 2)
 
--- a thread that stands for a process does what the process offers, within so many steps, and then stands for the process
--- after it
+-- a thread that stands for a process does what the process offers, within so many steps, and then stands for the
+-- process after it
 abbrev pub IsFollowed : Build → Type 0
 IsFollowed b = (t size : ℕ) (memory : ℕ → ℕ) (v : Variables) (x : Thread) (q : Process) → Stands b t size memory x q
     → Proceeds b t size memory v (most_steps b) x q

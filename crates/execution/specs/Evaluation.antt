@@ -16,25 +16,25 @@ use Rattle.execution.specs.Typed.{HasValue, HaveValues, HoldValues, ShowsVariabl
 use Rattle.execution.specs.Walks.{StandAt, Gives}
 
 -- what an evaluation gives has a type
-abbrev pub OfType : ValueType → Evaluated → Type 0
-OfType t (Value z) = HasValue t z
-OfType t (Fails fault) = Unit {0}
+abbrev pub OfType : ℕ → ValueType → Evaluated → Type 0
+OfType made t (Value z) = HasValue made t z
+OfType made t (Fails fault) = Unit {0}
 
 -- what an expression is evaluated over: locals with values of their types, in the words of a frame; and in memory the
 -- variables of the own monitor
-pub record IsEvaluated (t size : ℕ) (memory : ℕ → ℕ) (s : Scope) (v : Variables) (values : List ℤ)
+pub record IsEvaluated (made t size : ℕ) (memory : ℕ → ℕ) (s : Scope) (v : Variables) (values : List ℤ)
     (l : Locals) : Type 0 where
-  pub typed : HaveValues s.locals values
+  pub typed : HaveValues made s.locals values
   pub holds : HoldValues l.values values
-  pub shows : (m : ℕ) → own_monitor s.role ≡ Some m → ShowsVariables s.program m size memory v
+  pub shows : (m : ℕ) → own_monitor s.role ≡ Some m → ShowsVariables made s.program m size memory v
 
--- from the code of an expression that fits, wherever it stands, a thread goes to the expression's value, or to its first
--- fault, within twice as many steps as the expression has tokens; and a value has the expression's type
-pub record Evaluates (image : Image) (t size : ℕ) (memory : ℕ → ℕ) (s : Scope) (v : Variables) (values : List ℤ)
+-- from the code of an expression that fits, wherever it stands, a thread goes to the expression's value, or to its
+-- first fault, within twice as many steps as the expression has tokens; and a value has the expression's type
+pub record Evaluates (image : Image) (made t size : ℕ) (memory : ℕ → ℕ) (s : Scope) (v : Variables) (values : List ℤ)
     (l : Locals) : Type 0 where
   pub gives : (e : Expression) (u : ValueType) (place : ℕ) (operands : List ℕ) (callers : List Frame)
       → HasType s e u → StandAt image place (expression_code s.program e) → room e + length operands ≤ 512
       → Gives image t size memory (2 * expression_tokens e) (Runs place operands l callers)
       (evaluate s.program v values e)
       (place + length (expression_code s.program e)) operands l callers
-  pub type : (e : Expression) (u : ValueType) → HasType s e u → OfType u (evaluate s.program v values e)
+  pub type : (e : Expression) (u : ValueType) → HasType s e u → OfType made u (evaluate s.program v values e)

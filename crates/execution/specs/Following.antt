@@ -1,6 +1,5 @@
--- Where a thread stands in the code of a process that runs by itself: in no monitor, and with nobody to join.
-use Rattle.std.specs.Prelude.{ℕ, suc, ◌+◌, ◌≡◌, ◌<◌, ◌≤◌, pos, List, [], ◌∷◌, ◌++◌, length, Option, Some, None, slice_get, Contains, ⊤}
-use Rattle.words.specs.Signed.{signed_of}
+-- Where a thread stands in the code of a process, outside all monitors.
+use Rattle.std.specs.Prelude.{ℕ, suc, ◌+◌, ◌⊎◌, ◌≡◌, ◌<◌, ◌≤◌, List, [], ◌∷◌, ◌++◌, length, Option, Some, None, slice_get, Contains, ⊤}
 use Rattle.isa.specs.declared.instr.Instr.TheVariants.{Jump}
 use Rattle.isa.specs.Programs.{Program as Image}
 use Rattle.program.specs.declared.kinds.ValueType.{ValueType}
@@ -17,20 +16,14 @@ use Rattle.code.specs.Marks.{plain}
 use Rattle.code.specs.Pieces.{setting_of, default_code}
 use Rattle.locals.specs.declared.frame.Locals.{Locals}
 use Rattle.locals.specs.declared.frame.Frame.{Frame as MachineFrame}
-use Rattle.locals.specs.Threads.{Thread, Runs, Dies}
-use Rattle.locals.specs.Looks.{Goes, Asks, AskPrint, AskReturn, look, first_exit}
-use Rattle.meaning.specs.Values.{Variables}
-use Rattle.words.specs.declared.outcome.Fault.{Fault}
-use Rattle.meaning.specs.Labels.{Faulted, Alone, Kind}
-use Rattle.meaning.specs.Labels as L
-use Rattle.meaning.specs.Processes.{Frame, Caller, Process, Dying, Leaving, goes_on}
-use Rattle.meaning.specs.Offers.{Does, Nothing, Writes, offer}
+use Rattle.locals.specs.Threads.{Thread, Runs}
+use Rattle.meaning.specs.Processes.{Frame, Caller, Process, goes_on}
 use Rattle.execution.specs.Typed.{HaveValues, HoldValues}
 use Rattle.execution.specs.Walks.{StandAt, WalksWithin}
-pub use Rattle.execution.specs.Shapes.{nesting, block_nesting, part_nesting, IsAlone, AreAlone, PartIsAlone}
+pub use Rattle.execution.specs.Shapes.{nesting, block_nesting, part_nesting}
 
--- the code from a place on does what is left of a body, by way of so many jumps at first. Of each statement: how deep it
--- stands, so that at most so many jumps lead from its end to what comes after it
+-- the code from a place on does what is left of a body, by way of so many jumps at first. Of each statement: how deep
+-- it stands, so that at most so many jumps lead from its end to what comes after it
 pub data Implements (image : Image) (c : Setting) (most : ℕ) : ℕ → ℕ → Block → Type 0 where
   finishes : {place : ℕ} → StandAt image place (default_code c.result ++ ending_code c
       (place + length (default_code c.result))) → Implements image c most 0 place Done
@@ -41,10 +34,9 @@ pub data Implements (image : Image) (c : Setting) (most : ℕ) : ℕ → ℕ →
   follows : {place jumps : ℕ} {rest : Block} (to : ℕ) → slice_get image.code place ≡ Some (Jump to)
       → Implements image c most jumps to rest → Implements image c most (suc jumps) place rest
 
--- a statement of a procedure: it fits there, is alone, calls lower procedures only, and has room
+-- a statement of a procedure: it fits there, calls lower procedures only, and has room
 pub record IsSound (height : ℕ → ℕ) (width number : ℕ) (scope : Scope) (s : Statement) : Type 0 where
   pub fits : Fits scope s
-  pub alone : IsAlone s
   pub lower : (callee : ℕ) → Contains (calls s) callee → height callee < height number
   pub room : statement_room s ≤ most_room
   pub tokens : statement_tokens s ≤ width
@@ -55,11 +47,11 @@ AreSound height width number scope (Then first rest) = IsSound height width numb
     × AreSound height width number scope rest
 
 -- a frame of the source runs this procedure, with its locals in the words of a machine's frame
-pub record IsFrame (p : Program) (height : ℕ → ℕ) (width number : ℕ) (q : Procedure) (f : Frame)
+pub record IsFrame (p : Program) (height : ℕ → ℕ) (made width number : ℕ) (q : Procedure) (f : Frame)
     (l : Locals) : Type 0 where
   pub procedure : slice_get p.procedures number ≡ Some q
   pub role : f.role ≡ q.role
-  pub typed : HaveValues (slots q) f.locals
+  pub typed : HaveValues made (slots q) f.locals
   pub holds : HoldValues l.values f.locals
   pub words : length l.values ≡ 64
   pub few : length (slots q) ≤ 64
@@ -72,7 +64,7 @@ taking_code None (Some t) = plain (into_code None) ∷ []
 taking_code None None = []
 
 -- a program, its image with the places where its pieces begin, the heights of its procedures, how deep
--- statements stand, and the most tokens of one
+-- statements stand, the most tokens of one, and how many processes were made
 pub record Build : Type 0 where
   pub program : Program
   pub image : Image
@@ -80,15 +72,23 @@ pub record Build : Type 0 where
   pub height : ℕ → ℕ
   pub most : ℕ
   pub width : ℕ
+  pub made : ℕ
 
--- the machine's frames stand for the callers of a procedure; without a caller, it is the main part
+abbrev pub with_made : Build → ℕ → Build
+with_made b made = record b { made = made }
+
+-- a procedure that no other called: the main part, or one that was forked
+abbrev pub IsFirst : Procedure → Type 0
+IsFirst q = ((q.role ≡ Main) × (q.result ≡ None)) ⊎ (q.role ≡ External)
+
+-- the machine's frames stand for the callers of a procedure
 abbrev pub CallersStand : Build → ℕ → Procedure → List MachineFrame → List Caller → Type 0
-CallersStand b number q [] [] = (q.role ≡ Main) × (q.result ≡ None)
+CallersStand b number q [] [] = IsFirst q
 CallersStand b number q [] (c ∷ cs) = ⊥
 CallersStand b number q (m ∷ ms) [] = ⊥
 CallersStand b number q (m ∷ ms) (c ∷ cs) =
     (q.role ≡ External) × (n : ℕ) × (caller : Procedure) × (jumps : ℕ)
-    × IsFrame b.program b.height b.width n caller c.frame m.locals × (b.height number < b.height n)
+    × IsFrame b.program b.height b.made b.width n caller c.frame m.locals × (b.height number < b.height n)
     × ResultFits (scope_of b.program caller) c.into q.result
     × StandAt b.image m.back (taking_code c.into q.result)
     × Implements b.image (setting_of b.program b.starts caller) b.most jumps
@@ -100,7 +100,7 @@ pub record Running (b : Build) (place : ℕ) (l : Locals) (fs : List MachineFram
     (cs : List Caller) : Type 0 where
   pub number : ℕ
   pub procedure : Procedure
-  pub frame : IsFrame b.program b.height b.width number procedure f l
+  pub frame : IsFrame b.program b.height b.made b.width number procedure f l
   pub jumps : ℕ
   pub few : jumps ≤ b.most
   pub code : Implements b.image (setting_of b.program b.starts procedure) b.most jumps place f.rest
@@ -117,30 +117,3 @@ pub record Stands (b : Build) (t size : ℕ) (memory : ℕ → ℕ) (x : Thread)
   pub walk : WalksWithin b.image t size memory 16 x (Runs place [] locals frames)
   pub running : Running b place locals frames frame callers
   pub process : q ≡ goes_on entered frame callers
-
--- an action of a process's own, none from outside
-abbrev pub IsOwn : Kind → Type 0
-IsOwn (L.Stray c) = ⊥
-IsOwn (L.Kill resumed last) = ⊥
-IsOwn kind = ⊤
-
--- the step with which a thread does what its process offers: an action of its own, a print, the return of the main part,
--- or, once it has met it, a fault
-pub data Completes (b : Build) (t size : ℕ) (memory : ℕ → ℕ) (v : Variables) (x : Thread) (q : Process) : Type 0 where
-  acts : {y : Thread} {r : Process} (kind : Kind) → IsOwn kind → look b.image t x ≡ Goes y
-      → offer b.program v q ≡ Does (Alone kind) Nothing r
-      → Stands b t size memory y r → Completes b t size memory v x q
-  prints : {r : Process} (w : ℕ) (go : ℕ → Thread) → look b.image t x ≡ Asks (AskPrint w) go
-      → offer b.program v q ≡ Does (Alone (L.Print (signed_of w))) (Writes (signed_of w)) r
-      → ((answer : ℕ) → Stands b t size memory (go answer) r) → Completes b t size memory v x q
-  returns : look b.image t x ≡ Asks AskReturn first_exit → q ≡ Leaving (pos 0) → Completes b t size memory v x q
-  faults : (fault : Fault) → x ≡ Dies fault → offer b.program v q ≡ Does (Alone (L.Fails fault)) Nothing
-      (Dying (Faulted fault) [])
-      → Completes b t size memory v x q
-
--- within so many steps to the one that completes what the process offers
-pub record Proceeds (b : Build) (t size : ℕ) (memory : ℕ → ℕ) (v : Variables) (steps : ℕ) (x : Thread)
-    (q : Process) : Type 0 where
-  pub last : Thread
-  pub walk : WalksWithin b.image t size memory steps x last
-  pub completes : Completes b t size memory v last q

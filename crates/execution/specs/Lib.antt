@@ -3,4 +3,5 @@ pub mod Walks
 pub mod Evaluation
 pub mod Shapes
 pub mod Following
+pub mod Completing
 pub mod Builds

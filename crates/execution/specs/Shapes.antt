@@ -1,5 +1,5 @@
--- How deep statements stand in one another, and which of them concern the process alone.
-use Rattle.std.specs.Prelude.{ℕ, ◌+◌, max, ⊤}
+-- How deep statements stand in one another.
+use Rattle.std.specs.Prelude.{ℕ, ◌+◌, max}
 use Rattle.program.specs.Trees.{Statement, Assign, If, While, Call, Fork, Join, Return, Wait, Notify, Broadcast, Print, Abort, Block, Done, Then, Part, NoPart, SomePart}
 
 -- how deep IF, WHILE and ABORTED stand in one another
@@ -25,27 +25,3 @@ abbrev mutual
   pub part_nesting : Part → ℕ
   part_nesting NoPart = 0
   part_nesting (SomePart b) = block_nesting b
-
--- no process is forked or joined, and no monitor is used
-abbrev mutual
-  pub IsAlone : Statement → Type 0
-  IsAlone (Assign target e) = ⊤
-  IsAlone (If e b part) = AreAlone b × PartIsAlone part
-  IsAlone (While e b) = AreAlone b
-  IsAlone (Call q es into) = ⊤
-  IsAlone (Fork q es into) = ⊥
-  IsAlone (Join e into part) = ⊥
-  IsAlone (Return value) = ⊤
-  IsAlone (Wait c) = ⊥
-  IsAlone (Notify c) = ⊥
-  IsAlone (Broadcast c) = ⊥
-  IsAlone (Print e) = ⊤
-  IsAlone Abort = ⊤
-
-  pub AreAlone : Block → Type 0
-  AreAlone Done = ⊤
-  AreAlone (Then first rest) = IsAlone first × AreAlone rest
-
-  pub PartIsAlone : Part → Type 0
-  PartIsAlone NoPart = ⊤
-  PartIsAlone (SomePart b) = AreAlone b

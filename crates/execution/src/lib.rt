@@ -1,5 +1,5 @@
 //! What compiled code does by itself: expressions come to their values or to their faults, and statements, calls and
-//! returns go as those of the source, for programs that use no monitor and make no process.
+//! returns, forks and joins go as those of the source, outside all monitors.
 #![tactic(auto)]
 
 mod law;

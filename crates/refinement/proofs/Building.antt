@@ -1,4 +1,4 @@
--- The code of a program that runs alone is laid out as it should be, and its statements are sound.
+-- The code of a program that uses no monitor is laid out as it should be, and its statements are sound.
 use Rattle.std.proofs.Common.{◌≡◌, ℕ, zero, suc, ◌<◌, ◌≤◌, List, [], ◌∷◌, length, Some, slice_get, ap, subst, arith, Contains}
 use Rattle.std.proofs.lemmas.List.Elements.{Contains-append_left, Contains-append_right}
 use Rattle.program.specs.declared.kinds.Role.{Role}
@@ -10,8 +10,8 @@ use Rattle.program.specs.Measures.{block_room, most_room, block_calls, calls}
 use Rattle.program.specs.Tokens.{statement_tokens, block_tokens, part_tokens, most_of, most_of_procedures, most_tokens}
 use Rattle.program.specs.WellFormed.{WellFormed, RoleFits}
 use Rattle.execution.specs.Builds.{IsOutside, IsBuild}
-use Rattle.execution.specs.Following.{AreAlone, AreSound, nesting, block_nesting, part_nesting}
-use Rattle.refinement.specs.Alone.{RunsAlone, build_of}
+use Rattle.execution.specs.Following.{AreSound, nesting, block_nesting, part_nesting}
+use Rattle.refinement.specs.Unmonitored.{UsesNoMonitor, build_of}
 use Rattle.refinement.proofs.Laying.{all_laid}
 
 mutual
@@ -49,20 +49,19 @@ most_in (r ∷ qs) zero q h = let same : r ≡ q = cc in subst (λ (k : Procedur
     (r ∷ qs)) same (omega arith)
 most_in (r ∷ qs) (suc n) q h = let x = most_in qs n q h in omega (arith, x)
 
-body_sound : (height : ℕ → ℕ) (width number : ℕ) (scope : Scope) (b : Block) → BlockFits scope b → AreAlone b →
+body_sound : (height : ℕ → ℕ) (width number : ℕ) (scope : Scope) (b : Block) → BlockFits scope b →
     ((callee : ℕ) → Contains (block_calls b) callee → height callee < height number) → block_room b ≤ most_room
     → most_of b ≤ width → AreSound height width number scope b
-body_sound height width number scope Done f a l r w = tt
-body_sound height width number scope (Then s b) f a l r w = (
+body_sound height width number scope Done f l r w = tt
+body_sound height width number scope (Then s b) f l r w = (
   record {
     fits = f.0;
-    alone = a.0;
     lower = λ n h. l n (Contains-append_left (calls s) (block_calls b) n h);
     room =
         omega (arith, r);
     tokens = omega (arith, w);
   },
-  body_sound height width number scope b f.1 a.1 (λ n h. l n (Contains-append_right (calls s) (block_calls b) n h))
+  body_sound height width number scope b f.1 (λ n h. l n (Contains-append_right (calls s) (block_calls b) n h))
       (omega (arith, r)) (omega (arith, w)),
 )
 
@@ -76,15 +75,12 @@ role_outside p none n q (Recover m) h = let e = ap (λ (ms : List Monitor). reco
 role_outside p none n q External h = tt
 role_outside p none n q Main h = tt
 
-pub is_build : (p : Program) (w : WellFormed p) → RunsAlone p → IsBuild (build_of p w)
-is_build p w a = record {
-  outside = λ n q there. role_outside p a.monitors n q q.role (w.procedures n q there).role;
-  laid = all_laid p (λ n q there. (
-    role_outside p a.monitors n q q.role (w.procedures n q there).role,
-    a.bodies n q there,
-  ));
+pub is_build : (p : Program) (w : WellFormed p) → UsesNoMonitor p → (made : ℕ) → IsBuild (build_of p w made)
+is_build p w none made = record {
+  outside = λ n q there. role_outside p none n q q.role (w.procedures n q there).role;
+  laid = all_laid p;
   sound = λ n q there. let proper = w.procedures n q there in body_sound w.acyclic.height (most_tokens p) n
-      (scope_of p q) q.body proper.body (a.bodies n q there)
+      (scope_of p q) q.body proper.body
       (λ callee h. w.acyclic.falls n callee q there h) proper.room (most_in p.procedures n q there);
   deep = λ n q there. let x = most_nesting q.body in let y = most_in p.procedures n q there in omega (arith, x, y);
   parameters = λ n q there. (w.procedures n q there).parameters;

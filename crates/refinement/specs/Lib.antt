@@ -1,4 +1,4 @@
 pub mod Seen
 pub mod Pace
 pub mod Refines
-pub mod Alone
+pub mod Unmonitored

@@ -1,0 +1,16 @@
+pub mod Layouts
+pub mod Standings
+pub mod Worlds
+pub mod Moving
+pub mod Sourcing
+pub mod Acting
+pub mod Ending
+pub mod Finishing
+pub mod Claiming
+pub mod Making
+pub mod Stepping
+pub mod Paces
+pub mod Opening
+pub mod Observing
+pub mod Resting
+pub mod Whole

@@ -1,0 +1,7 @@
+//! The code of programs and the protocol of their threads together: each run of the machine on the code of a program
+//! that uses no monitor is explained by a run of the program.
+#![tactic(auto)]
+
+mod law;
+
+pub use law::code_of_processes_refines;
