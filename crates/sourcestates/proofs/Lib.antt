@@ -7,3 +7,4 @@ pub mod Steps
 pub mod Outside
 pub mod Kills
 pub mod Leading
+pub mod Numbers

@@ -1,9 +1,11 @@
-ghost use Rattle.std.specs.Prelude.{◌≡◌, [], IfOk, MatchBool, option_map};
+ghost use Rattle.std.specs.Prelude.{◌≡◌, ◌↔◌, [], Contains, IfOk, IsSome, MatchBool, option_map, ℕ};
+ghost use Rattle.std.specs.List.Sorted.{IsStrictlyIncreasing};
 ghost use Rattle.program.specs.Views.{program_of};
 ghost use Rattle.meaning.specs.Processes.{begins, opening_frame};
 ghost use Rattle.meaning.specs.Runs.{IsStray};
 ghost use Rattle.meaning.specs.States.{SourceState as SourceStateOf, opening};
 ghost use Rattle.sourceruns.specs.Stages.{end_of, process_of};
+ghost use Rattle.sourceruns.specs.Stores.{variables_of};
 ghost use Rattle.sourcetable.specs.Tables.{hold_of};
 
 use program::{Checked, Member, Program};
@@ -74,6 +76,25 @@ impl<'a> SourceState<'a> {
         ensures { result ≡ (state_of self.now).variable place.monitor place.member place.index }
     {
         self.variables.get(place)
+    }
+
+    /// The value of each variable.
+    pub fn variables(&self) -> &Variables
+        ensures { variables_of result.now ≡ (state_of self.now).variable }
+    {
+        &self.variables
+    }
+
+    /// The numbers of the processes that were made, rising.
+    pub fn numbers(&self, alloc: Global) -> Result<Vec<u64>, AllocError>
+        ensures rising { IfOk result (λ v. IsStrictlyIncreasing v.items) }
+        ensures all { IfOk result (λ v. (q : ℕ) → Contains v.items q ↔ IsSome ((state_of self.now).process q)) }
+    {
+        let mut numbers = Vec::new(alloc);
+        for number in self.processes.keys() {
+            numbers.push(*number)?;
+        }
+        Ok(numbers)
     }
 
     /// Who holds a monitor.

@@ -1,0 +1,4 @@
+pub mod Moves
+pub mod Waiters
+pub mod Ready
+pub mod Found
