@@ -9,5 +9,5 @@ mod operands;
 mod simple;
 
 pub use expressions::expression;
-pub use operands::{arguments, condition, into, local};
+pub use operands::{arguments, condition_of, into, local};
 pub use simple::{assignment, print, returned};

@@ -32,7 +32,7 @@ pub fn into(standing: &Standing<'_, '_>, name: Option<Name<'_>>) -> Option<u32>
 }
 
 /// The condition behind WAIT, NOTIFY or BROADCAST, member 0 of monitor 0 where there is none.
-pub fn condition(standing: &Standing<'_, '_>, name: Name<'_>) -> Member
+pub fn condition_of(standing: &Standing<'_, '_>, name: Name<'_>) -> Member
     ensures { (s : Scope) → IsStanding s standing.now → result ≡ st.condition s (v.name_of name.entry) }
 {
     array(standing.meaning(name))

@@ -1,0 +1,4 @@
+pub mod Blocks
+pub mod Pieces
+pub mod Resolving
+pub mod Rows

@@ -1,0 +1,13 @@
+use Rattle.std.proofs.Common.{◌≡◌, drop}
+use Rattle.program.specs.Views as p
+use Rattle.syntax.specs.View as v
+use Rattle.types.specs.Scope.{Scope}
+use Rattle.types.specs.Statements as st
+use Rattle.unitresolver.specs.Sites.{IsSite}
+use Rattle.unitresolver.proofs.statements.+statements.Given as goal
+
+-- what was resolved, in front of what those that are left are resolved to, is the whole block
+abbrev pub invariant-block-loop-tree : goal.invariant-block-loop-tree
+invariant-block-loop-tree l = (s : Scope) → IsSite s l.site
+    → p.block_before l.statements.items (st.block s (v.statements_in (drop l.tree-index l.trees)))
+    ≡ st.block s (v.statements_in l.trees)
