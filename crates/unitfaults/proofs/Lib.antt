@@ -1,0 +1,13 @@
+pub mod Collecting
+pub mod Along
+pub mod Texts
+pub mod Relations
+pub mod Steps
+pub mod Views
+pub mod Uses
+pub mod Circles
+pub mod Calling
+pub mod BodyKinds
+pub mod Verdicts
+pub mod Callable
+pub mod Few

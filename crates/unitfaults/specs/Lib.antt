@@ -1,0 +1,5 @@
+pub mod Collected
+pub mod Members
+pub mod Parts
+pub mod Callers
+pub mod Verdicts

@@ -1,0 +1,81 @@
+// Procedures on cycles of calls, and chains of calls that are too long.
+
+ghost use Rattle.std.specs.Prelude.{◌≡◌, ◌<◌, ◌^◌, IfOk, length, map, true};
+ghost use Rattle.scanner.specs.declared.refusal.RefusalKind.TheVariants.{Recursion};
+ghost use Rattle.syntax.specs.Tree.{UnitTree};
+ghost use Rattle.callgraph.specs.Calls.{Within, Leads};
+ghost use Rattle.callees.specs.Pieces.{piece_of};
+ghost use Rattle.types.specs.Faults.{fault};
+ghost use Rattle.types.specs.Judgement.{is_named as is_named_in, all_calls};
+ghost use Rattle.types.specs.Pieces.{pieces as pieces_in};
+ghost use Rattle.unitfaults.specs.Collected.{Collects};
+ghost use Rattle.unitfaults.specs.Parts.{InCalls};
+
+use crate::least::note_where;
+use callees::Piece;
+use callgraph::{Call, chains, endless_chains, reached};
+use program::Role;
+use scanner::{Place, Refusal, RefusalKind};
+use std::alloc::{AllocError, Global};
+
+// The most procedures in a chain of calls.
+const MOST_IN_CHAIN: u32 = 15;
+
+// Whether calls can name a piece, or it is MAIN.
+fn is_named(role: Role) -> bool
+    ensures { result ≡ is_named_in role }
+{
+    !matches!(role, Role::Recover(_))
+}
+
+// The least fault, where the procedure of this number stands at a place: calls lead from it back to it.
+fn cycle(
+    alloc: Global,
+    calls: &[Call],
+    count: usize,
+    number: u32,
+    place: Place,
+    least: Option<Refusal>,
+) -> Result<Option<Refusal>, AllocError>
+    requires { Within calls.now count }
+    ensures { IfOk result (λ r. Collects (λ e. Leads calls.now number number × (e ≡ fault Recursion place)) least r) }
+{
+    let reached = reached(alloc, calls, count, number)?;
+    let itself = reached.get(number as usize).copied().unwrap_or(false);
+    Ok(note_where(itself, RefusalKind::Recursion, place, least))
+}
+
+/// The least fault of the calls of a unit's pieces.
+pub fn circular(
+    alloc: Global,
+    pieces: &[Piece<'_, '_>],
+    calls: &[Call],
+    least: Option<Refusal>,
+) -> Result<Option<Refusal>, AllocError>
+    requires few { length pieces.now < 2 ^ 32 }
+    requires within { Within calls.now (length pieces.now) }
+    ensures { (u : UnitTree) → map piece_of pieces.now ≡ pieces_in u → calls.now ≡ all_calls u
+        → IfOk result (λ r. Collects (InCalls u) least r) }
+{
+    let endless = endless_chains(alloc, calls, pieces.len())?;
+    let long = chains(alloc, calls, pieces.len(), MOST_IN_CHAIN)?;
+    let mut least = least;
+    for (number, piece) in pieces.iter().enumerate() {
+        if !is_named(piece.role) {
+            continue;
+        }
+        if endless[number] {
+            least = cycle(
+                alloc,
+                calls,
+                pieces.len(),
+                number as u32,
+                piece.place,
+                least,
+            )?;
+        } else {
+            least = note_where(long[number], RefusalKind::Limit, piece.place, least);
+        }
+    }
+    Ok(least)
+}

@@ -1,0 +1,45 @@
+// The least fault of a unit.
+
+ghost use Rattle.std.specs.Prelude.{◌≡◌, ◌<◌, IfOk};
+ghost use Rattle.syntax.specs.Whole.{unit_of};
+ghost use Rattle.callees.specs.Names.{declarations, IsCallees};
+ghost use Rattle.types.specs.Judgement.{all_calls as all_calls_of};
+ghost use Rattle.unitfaults.specs.Verdicts.{IsVerdict};
+
+use crate::bodies::bodies;
+use crate::calls::all_calls;
+use crate::cycles::circular;
+use crate::declared::{inner, outer};
+use callees::Callees;
+use callgraph::Call;
+use scanner::Refusal;
+use std::alloc::{AllocError, Global};
+use syntax::Unit;
+
+// The least fault of a unit, by what it declares and by its calls.
+fn least_fault(
+    alloc: Global,
+    unit: &Unit<'_>,
+    callees: &Callees<'_, '_>,
+    calls: &[Call],
+) -> Result<Option<Refusal>, AllocError>
+    requires callees { IsCallees (unit_of unit.now) callees.now }
+    requires calls { calls.now ≡ all_calls_of (unit_of unit.now) }
+    ensures { IfOk result (λ r. IsVerdict (unit_of unit.now) r) }
+{
+    let outside = outer(alloc, unit, None)?;
+    let declared = inner(alloc, &callees.pieces, outside)?;
+    let called = circular(alloc, &callees.pieces, calls, declared)?;
+    bodies(alloc, callees, called)
+}
+
+/// The least fault of a unit, which is its refusal: the one of the earliest place, and of these the one of the lowest
+/// number. `None` where nothing of it is faulty. The only error is that memory runs out.
+pub fn first_fault(alloc: Global, unit: &Unit<'_>) -> Result<Option<Refusal>, AllocError>
+    requires { declarations (unit_of unit.now) < u32.MAX }
+    ensures { IfOk result (λ r. IsVerdict (unit_of unit.now) r) }
+{
+    let callees = Callees::new(alloc, unit)?;
+    let calls = all_calls(alloc, &callees)?;
+    least_fault(alloc, unit, &callees, &calls)
+}
