@@ -1,3 +1,5 @@
 pub mod Growing
 pub mod Few
 pub mod Found
+pub mod Longer
+pub mod Counted

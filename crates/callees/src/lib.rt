@@ -3,12 +3,14 @@
 #![tactic(auto)]
 
 mod callees;
+mod laws;
 mod lookup;
 mod monitor_names;
 mod piece;
 mod roles;
 
 pub use callees::Callees;
+pub use laws::few_declarations;
 pub use monitor_names::MonitorNames;
 pub use piece::Piece;
 pub use roles::own_monitor;
