@@ -6,16 +6,19 @@
 //! workers             with a worker for each thread; what the schedule decides isn't printed
 //! workers_meet        the same through a gate at which the workers of the first two threads wait for one another
 //! alone_meet          on the calling thread through that gate
+//! by_hand             not at all: a few pieces are handed in, and counted by two shares
 //! ```
 //!
 //! The script ./benchmark times it.
 #![tactic(auto)]
 
+mod by_hand;
 mod failure;
 mod meeting;
 mod opening;
 mod show;
 
+use crate::by_hand::hand_in;
 use crate::failure::Failure;
 use crate::meeting::Meeting;
 use crate::opening::show_opening;
@@ -63,6 +66,7 @@ fn run_row<R: Threads + Wait + Sync + Print>(
         Some("workers") => run_workers(rt, alloc, &image, limit),
         Some("workers_meet") => meet_workers(rt, alloc, &image, limit),
         Some("alone_meet") => meet_alone(rt, alloc, &image, limit),
+        Some("by_hand") => hand_in(rt, alloc, &image, limit),
         Some(_) => Err(Failure::Row),
     }
 }
