@@ -7,8 +7,8 @@ ghost use Rattle.code.specs.Locks.{enter_code, exit_code, got_code, leave_code, 
 ghost use Rattle.code.specs.Conditions.{broadcast_code, notify_code, wait_code};
 ghost use Rattle.code.specs.Statements.{Setting, aborted_code, join_all_code};
 
-/// How many instructions each template has. That of JOIN is counted without its handle, and with the fault of a process
-/// that aborted.
+/// How many instructions each template has. That of JOIN is counted without its handle, and with the fault of a
+/// process that aborted.
 pub fn template_laws()
     ensures enter { (m e : ℕ) (r : Instr) → length (enter_code m e r) ≡ 61 }
     ensures take { (mark : Mark) (e : ℕ) → length (take_code mark e) ≡ 32 }
