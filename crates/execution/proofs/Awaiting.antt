@@ -50,7 +50,7 @@ module _ (p : Image) (t size : ℕ) (memory : ℕ → ℕ) (base : ℕ) (into : 
       → slice_get (placed base (join_code into)) n ≡ Some i
       → at_place (base + n) l fs (effect t i.instruction operands l) ≡ Goes (Runs place operands' l fs)
       → place ≡ base + m → WalksWithin p t size memory 1 (Runs (base + n) operands l fs) (Runs (base + m) operands' l
-          fs)
+      fs)
   step n m place i operands operands' e h same =
       one_step p t size memory _ _ (look_here p t size memory (base + n) i.instruction operands l fs
       (stand_index p base (placed base (join_code into)) n (base + n) i code e refl)
@@ -81,9 +81,9 @@ module _ (p : Image) (t size : ℕ) (memory : ℕ → ℕ) (base : ℕ) (into : 
 
     address : (n m : ℕ) (i : Marked) (word : ProcessWord) (rest : List ℕ)
         → slice_get (placed base (join_code into)) n ≡ Some i → i.instruction ≡ ProcessAddress word
-            → base + n + 1 ≡ base + m
+        → base + n + 1 ≡ base + m
         → WalksWithin p t size memory 1 (at n (l.scratch ∷ rest)) (at m (process_word l.scratch (number_of word) ∷
-            rest))
+        rest))
     address n m i word rest e is same = step n m (base + n + 1) i (l.scratch ∷ rest) _ e
         (ap (λ (k : Instr). at_place (base + n) l fs (effect t k (l.scratch ∷ rest) l)) is
         ∙ address_step t (base + n) l.scratch word rest l fs some few) same

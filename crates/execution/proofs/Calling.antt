@@ -252,7 +252,7 @@ module _ (b : Build) (is : IsBuild b) (t size : ℕ) (memory : ℕ → ℕ) (v :
 
       by_values : (zs : EvaluatedAll) → evaluate_all b.program v values es ≡ zs → GivesAll b.image t size memory
           (2 * arguments_tokens es) x (evaluate_all b.program v values es) end [] l fs
-              → HaveAll b.made callee.parameters
+          → HaveAll b.made callee.parameters
           (evaluate_all b.program v values es)
           → Proceeds b t size memory v (2 * arguments_tokens es + 0) x pending
       by_values (Values zs) same g typed =

@@ -285,7 +285,7 @@ pub expressions_evaluate : (image : Image) (made t msize : ℕ) (memory : ℕ �
 expressions_evaluate image made t msize memory s vars values l h = record {
   gives =
       λ e u place operands callers fits code room. expression_gives image made t msize memory s vars values h.typed
-          h.shows
+      h.shows
       e u place operands l callers fits h.holds code room;
   type = λ e u fits. expression_typed image made t msize memory s vars values h.typed h.shows e u fits;
 }

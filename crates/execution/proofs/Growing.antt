@@ -132,7 +132,7 @@ module _ (b : Build) (n : ℕ) (le : b.made ≤ n) where
     completes_grow v x q (leaves r k h o) = leaves r k h o
     completes_grow v x q (forks entry arguments go h e o mine child) =
         forks entry arguments go h e o (λ k few. mine k (omega (arith, le, few)))
-            (λ k u few. child k u (omega (arith, le, few)))
+        (λ k u few. child k u (omega (arith, le, few)))
     completes_grow v x q (claims {into = into} {part = part} {f = f} {callers = cs} child go some few most h o j w d) =
         claims child go some (omega (arith, few, le)) most h o (awaits_grow child into part f cs j) w d
     completes_grow v x q (faults fault e o) = faults fault e o

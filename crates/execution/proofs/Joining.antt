@@ -89,7 +89,7 @@ module _ (b : Build) (t size : ℕ) (memory : ℕ → ℕ) (v : Variables) (plac
         length-append (placed base (join_code into)) (plain (Jump end) ∷ after_code),
       ) in
       subst (λ n. Implements b.image (setting_of b.program b.starts c.procedure) b.most c.head.jumps n rest) len
-          c.head.more
+      c.head.more
 
   -- the jump past what is done after an abort
   jumped : Implements b.image (setting_of b.program b.starts c.procedure) b.most (suc c.head.jumps) (base + 29) rest
@@ -100,7 +100,7 @@ module _ (b : Build) (t size : ℕ) (memory : ℕ → ℕ) (v : Variables) (plac
       (goes_on None (with_result into (signed_of w) f) cs)
   taken child w lt = by_into into c.sound.fits.2
       (J.stand_index b.image base (placed base (join_code into)) 28 (base + 28) _ template refl refl
-          ∙ ap Some (unmoved base into))
+      ∙ ap Some (unmoved base into))
     where
       few : suc c.head.jumps ≤ b.most
       few = omega (arith, c.head.few, c.head.deep)
@@ -267,11 +267,11 @@ module _ (b : Build) (t size : ℕ) (memory : ℕ → ℕ) (v : Variables) (plac
       subst (λ (r : Process). Proceeds b t size memory v (2 * statement_tokens s + 2) (Runs place [] l fs) r)
       (sym (is_before b t size memory v place l fs values s rest role cs c tt entered))
       (proceeds_wider b t size memory v (2 * expression_tokens e + 6) (2 * statement_tokens s + 2) _ pending (omega
-          arith)
+      arith)
       (with_evaluation b t size memory v (2 * expression_tokens e) 6 (Runs place [] l fs)
       (evaluate b.program v values e) base [] l fs f cs _ pending refl
       (holds_none b t size memory v place l fs values s rest role cs c) give
       (λ z same o.
       let typed : OfType b.made Handle (Value z) = subst (OfType b.made Handle) same (ev.type e Handle
-          c.sound.fits.1) in
+      c.sound.fits.1) in
       by_handle typed.0 z typed.1 typed.2 typed.3 o)))

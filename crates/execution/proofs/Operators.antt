@@ -131,14 +131,23 @@ pub both_shown : (made : ℕ) → (op : Operator) (t : ValueType) (a b : ℤ) (r
     : List Frame)
     → Takes op t → HasValue made t a → HasValue made t b → at_place place l fs
     (operator_effect (operation op) (word_of a) (word_of b) rest) ≡ shown (both op a b) rest place l fs
-both_shown made Add t a b rest place l fs k ha hb = rw (back a (value_fits made t a ha), back b (value_fits made t b
-    hb))
+both_shown made Add t a b rest place l fs k ha hb = rw (
+  back a (value_fits made t a ha),
+  back b (value_fits made t b
+      hb),
+)
     (integer_shown (a +ℤ b) rest place l fs)
-both_shown made Subtract t a b rest place l fs k ha hb = rw (back a (value_fits made t a ha), back b (value_fits made
-    t b hb))
+both_shown made Subtract t a b rest place l fs k ha hb = rw (
+  back a (value_fits made t a ha),
+  back b (value_fits made
+      t b hb),
+)
     (integer_shown (a -ℤ b) rest place l fs)
-both_shown made Multiply t a b rest place l fs k ha hb = rw (back a (value_fits made t a ha), back b (value_fits made
-    t b hb))
+both_shown made Multiply t a b rest place l fs k ha hb = rw (
+  back a (value_fits made t a ha),
+  back b (value_fits made
+      t b hb),
+)
     (integer_shown (a *ℤ b) rest place l fs)
 both_shown made Divide t a b rest place l fs k ha hb =
     rw (back a (value_fits made t a ha), back b (value_fits made t b hb))
@@ -147,24 +156,36 @@ both_shown made Divide t a b rest place l fs k ha hb =
 both_shown made Modulo t a b rest place l fs k ha hb =
     rw (back a (value_fits made t a ha), back b (value_fits made t b hb))
     (divides_by (word_of b == 0) _ a b (Value (int_rem a b)) rest place l fs (zero_word b (value_fits made t b hb))
-        refl)
+    refl)
 both_shown made Equal t a b rest place l fs k ha hb = rw (equal_words a b (value_fits made t a ha) (value_fits made t
     b hb))
     (truth_shown (int_eq a b) rest place l fs)
 both_shown made NotEqual t a b rest place l fs k ha hb = rw (equal_words a b (value_fits made t a ha) (value_fits
     made t b hb))
     (truth_shown (not (int_eq a b)) rest place l fs)
-both_shown made Less t a b rest place l fs k ha hb = rw (back a (value_fits made t a ha), back b (value_fits made t b
-    hb))
+both_shown made Less t a b rest place l fs k ha hb = rw (
+  back a (value_fits made t a ha),
+  back b (value_fits made t b
+      hb),
+)
     (truth_shown (int_lt a b) rest place l fs)
-both_shown made LessEqual t a b rest place l fs k ha hb = rw (back a (value_fits made t a ha), back b (value_fits
-    made t b hb))
+both_shown made LessEqual t a b rest place l fs k ha hb = rw (
+  back a (value_fits made t a ha),
+  back b (value_fits
+      made t b hb),
+)
     (truth_shown (int_le a b) rest place l fs)
-both_shown made Greater t a b rest place l fs k ha hb = rw (back a (value_fits made t a ha), back b (value_fits made
-    t b hb))
+both_shown made Greater t a b rest place l fs k ha hb = rw (
+  back a (value_fits made t a ha),
+  back b (value_fits made
+      t b hb),
+)
     (truth_shown (int_lt b a) rest place l fs)
-both_shown made GreaterEqual t a b rest place l fs k ha hb = rw (back a (value_fits made t a ha), back b (value_fits
-    made t b hb))
+both_shown made GreaterEqual t a b rest place l fs k ha hb = rw (
+  back a (value_fits made t a ha),
+  back b (value_fits
+      made t b hb),
+)
     (truth_shown (int_le b a) rest place l fs)
 both_shown made And t a b rest place l fs k ha hb = and_shown made a b rest place l fs (subst
     (λ u. HasValue made u a) k ha)

@@ -79,7 +79,7 @@ module _ (b : Build) (t size : ℕ) (memory : ℕ → ℕ) (v : Variables) (plac
           (word_of z ∷ []) l fs) ≡ Goes (Runs (place_after_test (word_of z) target
           (place + length (expression_code b.program e) + 1)) [] l fs)
           → offer b.program v (pending s) ≡ Does (Alone L.Test) Nothing (at_rest (go (is_true z)))
-              → HasValue b.made Boolean z
+          → HasValue b.made Boolean z
           → Completes b t size memory v (Runs (place + length (expression_code b.program e)) (word_of z ∷ []) l fs)
           (pending s)
       by_value z h k (inl is_zero) = F.acts L.Test tt

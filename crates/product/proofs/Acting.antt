@@ -112,7 +112,7 @@ module _ (p : Program) (w : WellFormed p) (none : UsesNoMonitor p) (s : State) (
         let mid = record s { output = s.output ++ z ∷ [] } in
         let c' = acted c t (Writes z) r c.table in
         next_at p w (with_thread mid t y) s' t pauses n c (g.3 ∙ ap (λ (m : State). with_thread m t y) g.2.1.1)
-            (record {
+        (record {
           after = c';
           bound = most_steps (build_of p w 0) + 10;
           tied = quiet p w s c k t (most_steps (build_of p w 0) + 10) (Own (Alone (L.Print z))) y r Runs

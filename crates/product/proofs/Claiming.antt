@@ -175,7 +175,7 @@ module _ (p : Program) (w : WellFormed p) (none : UsesNoMonitor p) (s : State) (
                   (shares_stored (place p) (valid p) (apart p) _ k.world (ClaimOf child) 1 valid_child k.shares))
                   refl (λ u le z. z) (put_puts s.thread t (Some (go' (suc v)))) (put_puts c.process t (Some r)) refl
                   (faults HandleNotJoinable join_steps (omega arith) (to_fault v)) (omega arith) refl k.words (blank
-                      pt);
+                  pt);
               kinds = L.Fails HandleNotJoinable ∷ [];
               own = (tt, tt);
               leads = (
@@ -196,15 +196,15 @@ module _ (p : Program) (w : WellFormed p) (none : UsesNoMonitor p) (s : State) (
         → Next p w s' t pauses n c
     still y r pt m bound can is table proc mine small less blank e = next_at p w (with_thread s t y) s' t pauses n c
         e (record {
-      after = c;
-      bound = bound;
-      tied = quiet p w s c k t bound m y r pt (with_thread s t y) c can is (sym table) refl refl refl k.output refl
-          (put_puts s.thread t (Some y)) (same_puts c.process t _ proc) mine small (λ h. blank);
-      kinds = [];
-      own = tt;
-      leads = refl;
-      paced = λ z. inr less;
-    })
+          after = c;
+          bound = bound;
+          tied = quiet p w s c k t bound m y r pt (with_thread s t y) c can is (sym table) refl refl refl k.output refl
+              (put_puts s.thread t (Some y)) (same_puts c.process t _ proc) mine small (λ h. blank);
+          kinds = [];
+          own = tt;
+          leads = refl;
+          paced = λ z. inr less;
+        })
 
     blank_at : (pt : Point) → IsBefore pt → (k.world.at t).point ≡ pt → k.world.result t ≡ 0
     blank_at pt h point = k.blank t (subst (λ (y : Point). IsBefore y) (sym point) h)
@@ -225,8 +225,12 @@ module _ (p : Program) (w : WellFormed p) (none : UsesNoMonitor p) (s : State) (
             let end = over.0 in
             let m = IdGone child end in
             let y = j.after_read 0 in
-            let can : Can k.world t m = record { number = number; awake = awake; stands = point; finds = (z, over.1)
-                } in
+            let can : Can k.world t m = record {
+              number = number;
+              awake = awake;
+              stands = point;
+              finds = (z, over.1);
+            } in
             let r = joined into part f cs end in
             let c1 = acted c t Nothing r c.table in
             next_at p w (with_thread s t y) s' t pauses n c (read 0 z) (record {
@@ -282,7 +286,7 @@ module _ (p : Program) (w : WellFormed p) (none : UsesNoMonitor p) (s : State) (
           walk = h.0;
           completes = F.faults JoinedAborted refl
               (ap (λ (ms : List ℕ). Does (Alone (L.Fails JoinedAborted)) Nothing (Dying (Faulted JoinedAborted) ms))
-                  h.1);
+              h.1);
         })
         aborted (SomePart body) v h = begins p w none k.world.made k.world.id t (j.after_outcome v) _ h
 
@@ -303,7 +307,7 @@ module _ (p : Program) (w : WellFormed p) (none : UsesNoMonitor p) (s : State) (
             let can : Can k.world t m =
             record { number = number; awake = awake; stands = point; finds = λ i. other (sym tell ∙ i) } in
             still (j.after_outcome v) (joined_part part f cs) Runs m (most_steps (build_of p w 0) + 10) can refl refl
-                proc
+            proc
             (aborted part v (j.aborted v other)) (omega arith) (omega (arith, small))
             (blank_at (JoinLearns child (Aborted cause)) tt point) (learned v tell)
 
@@ -318,7 +322,7 @@ module _ (p : Program) (w : WellFormed p) (none : UsesNoMonitor p) (s : State) (
         let m = TakeResult child (Ended z) in
         let can : Can k.world t m = record { number = number; awake = awake; stands = point; finds = tt } in
         still (j.after_result v) (goes_on None (with_result into z f) cs) Runs m (most_steps (build_of p w 0) + 10)
-            can refl
+        can refl
         refl proc
         (begins p w none k.world.made k.world.id t (j.after_result v) _
         (subst (λ (y : ℤ). Stands (build_of p w k.world.made) t 0 no_words (j.after_result v)
@@ -340,7 +344,7 @@ module _ (p : Program) (w : WellFormed p) (none : UsesNoMonitor p) (s : State) (
             → Next p w s' t pauses n c
         by_answer (answer, mid, (lies, (nobody, inl (after, slept, is, same))), e') =
             let follow = (calls_follow (place p) (valid p) (apart p)).waits (shared_of s) k.world t child (OnId
-                child) after
+            child) after
             k.shares valid_child slept in
             let m = IdSleep child in
             let can : Can k.world t m = record { number = number; awake = awake; stands = point; finds = follow.0 } in

@@ -127,22 +127,24 @@ module _ (p : Program) (w : WellFormed p) (s : State) (c : SourceState) (k : Cor
           → Puts c.process c1.process t (Some (Leaving (left_value r))) → Tied p w (returned r) c1 t 3
       by_result None fits reached ps =
           moved p w s c k t 3 (Exits Pending) (Leaving (pos 0)) (Walks 0 NoEntry (return_end None)) l (return_world l
-              None)
+          None)
           (returned None) c1
           (subst (λ (x : World). Reached x c1.table) (is None (ap (λ x. Ended (signed_of x)) blank))
           (reached_on (moved_world at) c1.table t (Return None) reached (can None)))
           variable refl k.made output
           (shares_at (place p) (valid p) _ _ _ k.world.made
-          (shares_stored (place p) (valid p) (apart p) _ (record k.world { result = put k.world.result t
-              (k.world.result t) })
+          (shares_stored (place p) (valid p) (apart p) _ (record k.world {
+            result = put k.world.result t
+                (k.world.result t);
+          })
           (OutcomeOf t) 16 valid_t (shares_result (place p) (valid p) _ k.world t k.shares)))
           refl (λ x le z. z) (put_puts s.thread t (Some (Exits Pending))) ps refl (pends (omega arith)) (omega arith)
-              refl
+          refl
           (λ u. at_put k.world.result t (k.world.result t) u (λ x. x < 2 ^ 32) (λ e. k.words t) (λ o. k.words u))
           (before_walk (return_end None) l _ (result_of None))
       by_result (Some v) fits reached ps =
           moved p w s c k t 3 (Exits Pending) (Leaving (signed_of v)) (Walks 0 NoEntry (return_end (Some v))) l
-              (return_world l (Some v))
+          (return_world l (Some v))
           (returned (Some v)) c1
           (subst (λ (x : World). Reached x c1.table) (is (Some v) refl)
           (reached_on (moved_world at) c1.table t (Return (Some v)) reached (can (Some v))))
@@ -151,6 +153,6 @@ module _ (p : Program) (w : WellFormed p) (s : State) (c : SourceState) (k : Cor
           (shares_stored (place p) (valid p) (apart p) _ (write k.world (ResultOf t) v) (OutcomeOf t) 16 valid_t
           (shares_stored (place p) (valid p) (apart p) _ k.world (ResultOf t) v valid_t k.shares)))
           refl (λ x le z. z) (put_puts s.thread t (Some (Exits Pending))) ps refl (pends (omega arith)) (omega arith)
-              refl
+          refl
           (λ u. at_put k.world.result t v u (λ x. x < 2 ^ 32) (λ e. fits) (λ o. k.words u))
           (before_walk (return_end (Some v)) l _ (result_of (Some v)))

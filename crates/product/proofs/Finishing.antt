@@ -100,7 +100,7 @@ module _ (p : Program) (w : WellFormed p) (none : UsesNoMonitor p) (s : State) (
         tied = by_fault p w s c k t number few awake fault c1 (put k.world.at t there)
             (reached_on k.world c.table t (Raise fault) k.reached can)
             (ap (λ (y : Place). y.point) (put_same k.world.at t there)) (λ y. put_put k.world.at t there y) refl
-                k.output
+            k.output
             (put_puts c.process t (Some r));
         kinds = L.Fails fault ∷ [];
         own = (tt, tt);
@@ -187,7 +187,7 @@ module _ (p : Program) (w : WellFormed p) (none : UsesNoMonitor p) (s : State) (
       let g : Moves s t woken (Leaves Pending) s' =
       subst (λ (y : Thread). Moves s t woken (look (code_of p) t y) s') e moves in
       let pend : k.world.pending t ≡ 0 = subst (λ (pt : Point). PendAt pt (k.world.pending t)) point (inv.pends.pend
-          t) in
+      t) in
       let word : s.word (process_word t 1) ≡ 0 = k.shares.words.word (PendingOf t) valid_t
       ∙ ap (entry_address (place p)) pend in
       let idle = pending_idle s.size t (s.word (process_word t 1)) (shared_of s) g.0 woken word g.2.0 in
@@ -231,15 +231,18 @@ module _ (p : Program) (w : WellFormed p) (none : UsesNoMonitor p) (s : State) (
             (put_puts s.thread t (Some (Exits LastWake))) (put_puts c.process t (Some (Over end))) refl
             (wakes (omega arith)) (omega arith) refl k.words
             (λ u. at_put k.world.at t (thread_at (LastWakes end) l) u (λ (z : Place). IsBefore z.point
-                → k.world.result u ≡ 0)
+            → k.world.result u ≡ 0)
             (λ i h. absurd h) (λ o h. k.blank u h));
         kinds = L.Finish ∷ [];
         own = (tt, tt);
         leads = (
           c1,
           action p c t (ending end) (Over end) (Ends end) Nothing T proc k.variables
-              (subst (λ (y : Offer). TakesUp y (Ends end) Nothing (Over end)) (sym (ending_offer p end)) (refl, refl,
-                  refl))
+              (subst (λ (y : Offer). TakesUp y (Ends end) Nothing (Over end)) (sym (ending_offer p end)) (
+                refl,
+                refl,
+                refl,
+              ))
               (permitted k.world c.table t (Clear end) inv can).0,
           refl,
         );
@@ -263,12 +266,12 @@ module _ (p : Program) (w : WellFormed p) (none : UsesNoMonitor p) (s : State) (
       let woken_world = record k.world { asleep = awake_after k.world.asleep one.woken } in
       let shares : Shares (place p) (valid p) (record { word = s.word; asleep = g.0.asleep }) woken_world =
       subst (λ (y : World). Shares (place p) (valid p) (record { word = s.word; asleep = g.0.asleep }) y) one.awake
-          follow.2 in
+      follow.2 in
       next_at p w s1 s' t pauses n c
       (g.3 ∙ ap (λ (m : ℕ → ℕ). with_thread (with_shared s (record { word = m; asleep = g.0.asleep })) t (Exits g.1))
-          g.2.0.same
+      g.2.0.same
       ∙ ap (λ (f : ExitPhase). with_thread (with_shared s (record { word = s.word; asleep = g.0.asleep })) t (Exits
-          f)) g.2.1)
+      f)) g.2.1)
       (record {
         after = c;
         bound = 0;
@@ -276,9 +279,9 @@ module _ (p : Program) (w : WellFormed p) (none : UsesNoMonitor p) (s : State) (
             (reached_on k.world c.table t (Wake end one.woken) k.reached can) refl refl k.made k.output
             (shares_at (place p) (valid p) _ woken_world _ k.world.made shares) refl (λ u le z. z)
             (put_puts s.thread t (Some (Exits Ended'))) (same_puts c.process t _ proc) refl rests (omega arith) refl
-                k.words
+            k.words
             (λ u. at_put k.world.at t (thread_at (HasEnded end) l) u (λ (z : Place). IsBefore z.point
-                → k.world.result u ≡ 0)
+            → k.world.result u ≡ 0)
             (λ i h. absurd h) (λ o h. k.blank u h));
         kinds = [];
         own = tt;

@@ -14,3 +14,5 @@ pub mod Opening
 pub mod Observing
 pub mod Resting
 pub mod Whole
+pub mod Locking
+pub mod Entering

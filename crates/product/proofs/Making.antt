@@ -44,7 +44,7 @@ use Rattle.product.proofs.Acting.{begins, next_at}
 module _ (p : Program) (w : WellFormed p) (none : UsesNoMonitor p) (s : State) (c : SourceState)
     (k : Corresponds p w s c) (t : ℕ) (woken : List ℕ) (pauses : Bool) (s' : State) (x : Thread) (n : ℕ)
     (number : (0 < t) × (t ≤ k.world.made)) (awake : k.world.asleep t ≡ None) (few : k.world.made ≤ 64) (q child :
-        Process)
+    Process)
     (later : ℕ → Process) (entry : ℕ) (arguments : List ℕ) (go' : ℕ → Thread) (proc : c.process t ≡ Some q)
     (point : (k.world.at t).point ≡ Runs) (full : go' 0 ≡ Dies' ProcessTableFull)
     (o : offer p no_values q ≡ MakesOne child later (Dying (Faulted ProcessTableFull) [])) where
@@ -91,7 +91,7 @@ module _ (p : Program) (w : WellFormed p) (none : UsesNoMonitor p) (s : State) (
       (mine : (m : ℕ) → k.world.made ≤ suc m → suc m ≤ most_processes
       → Stands (build_of p w (suc m)) t 0 no_words (go' (suc m)) (later (suc m)))
       (its : (m u : ℕ) → k.world.made ≤ m → Stands (build_of p w m) u 0 no_words (opening_thread entry arguments)
-          child) where
+      child) where
     abbrev made : ℕ
     made = suc k.world.made
 
@@ -118,7 +118,7 @@ module _ (p : Program) (w : WellFormed p) (none : UsesNoMonitor p) (s : State) (
         (w1.at u).point
     at_parent u e =
         subst (λ v. StandsAt (build_of p w made) w1.id v (left1 v) ((grown made).thread v) (c1.process v) (w1.at
-            v).point)
+        v).point)
         (sym e)
         (rw (
           put_same (put k.left made bound) t bound,
@@ -134,7 +134,7 @@ module _ (p : Program) (w : WellFormed p) (none : UsesNoMonitor p) (s : State) (
         (c1.process u) (w1.at u).point
     at_child u d e =
         subst (λ v. StandsAt (build_of p w made) w1.id v (left1 v) ((grown made).thread v) (c1.process v) (w1.at
-            v).point)
+        v).point)
         (sym e)
         (rw (
           put_other (put k.left made bound) t bound made parent_differs,

@@ -80,9 +80,9 @@ module _ (p : Program) (w : WellFormed p) (s : State) (c : SourceState) (k : Cor
       → Tied p w s' c' t n
   moved t n y q pt l w' s' c' reached variable size made output shares same zero' ths ps at mine few head words blank
       = record {
-    ties = whole;
-    is = put_same k.left t n;
-  }
+        ties = whole;
+        is = put_same k.left t n;
+      }
     where
       mine_here : (u : ℕ) → u ≡ t → StandsAt (build_of p w w'.made) w'.id u (put k.left t n u) (s'.thread u)
           (c'.process u) (put k.world.at t (thread_at pt l) u).point
@@ -134,10 +134,10 @@ module _ (p : Program) (w : WellFormed p) (s : State) (c : SourceState) (k : Cor
       variable size (made ∙ k.made) output
       (subst (λ x. Shares (place p) (valid p) x (go k.world t pt)) (sym shared)
       (shares_at (place p) (valid p) (shared_of s) k.world _ k.world.made k.shares)) refl
-          (λ x le z. z) ths ps refl mine few
+      (λ x le z. z) ths ps refl mine few
       refl k.words
       (λ u. at_put k.world.at t (thread_at pt (k.world.at t).list) u (λ (z : Place). IsBefore z.point
-          → k.world.result u ≡ 0)
+      → k.world.result u ≡ 0)
       (λ e h. ap k.world.result e ∙ blank h) (λ o. k.blank u))
 
   -- a local step, and no move

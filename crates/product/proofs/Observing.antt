@@ -177,9 +177,12 @@ module _ (p : Program) (w : WellFormed p) (made : ℕ) (id : ℕ → ℕ) (t : �
       → StandsAt (build_of p w made) id t n o q pt
       → GoesOn pt → (x : Thread) × (o ≡ Some x) × (has_ended (Some x) ≡ false)
   not_ended n o q pt unmade h = absurd h
-  not_ended n o q pt (works {x = x} {q = r} left few small k) h =
-      (x, refl, (busy_thread p t x 0 (walk_busy p t left x k.last k.walk (completes_busy p w made t k.last r
-          k.completes))).1)
+  not_ended n o q pt (works {x = x} {q = r} left few small k) h = (
+    x,
+    refl,
+    (busy_thread p t x 0 (walk_busy p t left x k.last k.walk (completes_busy p w made t k.last r
+        k.completes))).1,
+  )
   not_ended n o q pt (returns {x = x} r small fits k) h = (x, refl, (busy_thread p t x 0 (asks _ _ k)).1)
   not_ended n o q pt (faults {x = x} f left small k) h =
       (x, refl, (busy_thread p t x 0 (walk_busy p t left x (Dies' f) k (asks _ _ refl))).1)
@@ -236,30 +239,33 @@ module _ (p : Program) (w : WellFormed p) (made : ℕ) (id : ℕ → ℕ) (t : �
         (on_walk y k.last left k.walk (completes_fine k.last r k.completes))
     never_broken n o q pt (returns {x = y} r small fits k) x e =
         subst (λ (z : Thread). IsBroken s (look (code_of p) t z) → ⊥) (same_thread e) (at_look y _ k (returns_fine r
-            first_exit))
+        first_exit))
     never_broken n o q pt (faults {x = y} f left small k) x e =
         subst (λ (z : Thread). IsBroken s (look (code_of p) t z) → ⊥) (same_thread e) (on_walk y (Dies' f) left k
-            (λ z. z))
+        (λ z. z))
     never_broken n o q pt (reads {child = child} {x = y} left few' small is j k) x e =
         subst (λ (z : Thread). IsBroken s (look (code_of p) t z) → ⊥) (same_thread e)
         (on_walk y j.reads left k (at_look j.reads _ j.read (λ z. z (lies child 2 is.0 (omega (arith, is.1, few))
-            (omega arith)))))
+        (omega arith)))))
     never_broken n o q pt (rereads {child = child} {x = y} left few' small is z' j k) x e =
         subst (λ (z : Thread). IsBroken s (look (code_of p) t z) → ⊥) (same_thread e)
         (on_walk y j.reads left k (at_look j.reads _ j.read (λ z. z (lies child 2 is.0 (omega (arith, is.1, few))
-            (omega arith)))))
+        (omega arith)))))
     never_broken n o q pt (sleeps {child = child} {x = y} left few' small is j k) x e =
         subst (λ (z : Thread). IsBroken s (look (code_of p) t z) → ⊥) (same_thread e)
         (on_walk y j.sleeps left k (at_look j.sleeps _ j.sleep (λ z. z (lies child 2 is.0 (omega (arith, is.1, few))
-            (omega arith)))))
+        (omega arith)))))
     never_broken n o q pt (learns {child = child} {x = y} left few' small is j k) x e =
         subst (λ (z : Thread). IsBroken s (look (code_of p) t z) → ⊥) (same_thread e)
-        (on_walk y j.learns left k (at_look j.learns _ j.outcome (λ z. z (lies child 5 is.0 (omega (arith, is.1,
-            few)) (omega arith)))))
+        (on_walk y j.learns left k (at_look j.learns _ j.outcome (λ z. z (lies child 5 is.0 (omega (
+          arith,
+          is.1,
+          few,
+        )) (omega arith)))))
     never_broken n o q pt (takes {child = child} {x = y} left few' small is j k) x e =
         subst (λ (z : Thread). IsBroken s (look (code_of p) t z) → ⊥) (same_thread e)
         (on_walk y j.takes left k (at_look j.takes _ j.result (λ z. z (lies child 4 is.0 (omega (arith, is.1, few))
-            (omega arith)))))
+        (omega arith)))))
     never_broken n o q pt (pends small) x e =
         subst (λ (z : Thread). IsBroken s (look (code_of p) t z) → ⊥) (same_thread e) (λ z. z)
     never_broken n o q pt (clears small) x e =
@@ -275,7 +281,7 @@ module _ (p : Program) (w : WellFormed p) (none : UsesNoMonitor p) (s : State) (
   sound t b = never_broken p w k.world.made k.world.id t s
       (λ u i some few less. subst (λ n. process_word u i < n) (sym k.size) (word_lies p u i some few less))
       (few_made p w none s c k) (k.left t) (s.thread t) (c.process t) (k.world.at t).point (k.threads t) b.thread
-          b.stands
+      b.stands
       b.breaks
 
   pub ends : (t : ℕ) → machine_end s t ≡ source_end c t

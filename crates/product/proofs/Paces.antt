@@ -95,7 +95,7 @@ stretch_acts most t f (x ∷ xs) as' h all (goes {as' = bs} g l kinds paced less
     let mine = eqb-true l.thread t (first_holds (l.thread == t) (not l.pauses) this) in
     let awake = not_true l.pauses (second_holds (l.thread == t) (not l.pauses) this) in
     both mine (paced awake) (stretch_acts most t g xs bs h (second_holds (goes_on t l) (list_all (goes_on t) xs) all)
-        more)
+    more)
   where
     both : l.thread ≡ t → IsSome kinds ⊎ (g l.thread < f l.thread)
         → (1 ≤ count_by (is_action_of t) bs) ⊎ (length xs + h t ≤ g t)

@@ -98,7 +98,7 @@ module _ (p : Program) (w : WellFormed p) (s : State) (c : SourceState) (k : Cor
   pub at_rest : ((t : ℕ) → CanStep s t → ⊥) → (q : ℕ) → CanMove p c q → ⊥
   at_rest still q can =
       (loses_none k.world c.table k.reached).at_rest moves q can.moves.label can.after.table (next_of q can)
-          can.moves.allows
+      can.moves.allows
     where
       moves : (t : ℕ) → CanStep' k.world t → ⊥
       moves t m =
@@ -129,7 +129,7 @@ module _ (p : Program) (w : WellFormed p) (s : State) (c : SourceState) (k : Cor
       by_spot (OnSequence d) e =
           let b = inv.conds.sleeping t d e in
           absurd (none b.monitor (ap (λ (y : Point). point_sleeps y b.monitor) b.stands
-              ∙ eq-eqb b.monitor b.monitor refl))
+          ∙ eq-eqb b.monitor b.monitor refl))
       by_spot (OnId q) e = (q, e, inv.joiners.sleeps t q e)
 
   pub sleepers : ((t : ℕ) (x : Thread) → s.thread t ≡ Some x → Sleeps s t ⊎ (IsAtEnd s t ⊎ RunsFreely s t)) → (t : ℕ)
@@ -141,7 +141,7 @@ module _ (p : Program) (w : WellFormed p) (s : State) (c : SourceState) (k : Cor
       let label = joins_label (k.world.at t).point q can.moves.label j.2 (next_of t can) in
       let allows = subst (λ (l : Label). Allows t l c.table can.after.table) label.1 can.moves.allows in
       let is = last_wake (k.world.at q).point label.0 (inv.ends.past q label.0 allows.0) (inv.joiners.unended t q
-          j.1) in
+      j.1) in
       let thread = last_exits p w k.world.made k.world.id q (k.left q) (s.thread q) (c.process q) (k.world.at q).point
       label.0 (k.threads q) is in
       by_other q label.0 is thread (others q (Exits LastWake) thread)

@@ -40,7 +40,7 @@ stand_grows b made id id' le zero' t n x q pt (reads {child = c} {into = i} {par
 stand_grows b made id id' le zero' t n x q pt (rereads {child = c} {into = i} {part = p} {f = f} {cs = cs} left few
     small k z j h) =
     rereads left few small (k.0, omega (arith, le, k.1)) (zero' c k.1 z) (awaits_grow b made le t 0 no_words c i p f
-        cs j) h
+    cs j) h
 stand_grows b made id id' le zero' t n x q pt (sleeps {child = c} {into = i} {part = p} {f = f} {cs = cs} left few
     small k j h) =
     sleeps left few small (k.0, omega (arith, le, k.1)) (awaits_grow b made le t 0 no_words c i p f cs j) h

@@ -87,18 +87,18 @@ module _ (p : Program) (w : WellFormed p) (none : UsesNoMonitor p) (s : State) (
         prints p w none s c k t woken pauses s' x n number awake q proc point v go r h o stands moves
     completed x q n proc point small (F.returns h e) moves =
         return_step p w none s c k t woken pauses s' x n number awake few_made None tt h (proc
-            ∙ ap Some e) point small moves
+        ∙ ap Some e) point small moves
     completed x q n proc point small (F.leaves r fits h o) moves =
         leave_step p w none s c k t woken pauses s' x n number awake few_made r q fits h proc point o moves
     completed x q n proc point small (F.forks {child = child} {after = later} entry arguments go h full o mine its)
         moves =
         fork_step p w none s c k t woken pauses s' x n number awake few_made q child later entry arguments go proc
-            point full
+        point full
         o h mine its moves
     completed x q n proc point small (F.claims {into = i} {part = y} {f = f} {callers = cs} child go some made most h
         o j to bad) moves =
         claim_step p w none s c k t woken pauses s' x n number awake few_made child (some, made) i y f cs j q go proc
-            point h o
+        point h o
         to bad moves
     completed x q n proc point small (F.faults fault e o) moves =
         meets_fault p w none s c k t woken pauses s' x n number awake few_made fault q e proc point o moves
@@ -131,8 +131,10 @@ module _ (p : Program) (w : WellFormed p) (none : UsesNoMonitor p) (s : State) (
         (ap (look (code_of p) t) (same_thread e) ∙ h) proc point small moves
     from_stand n o q pt (faults {x = y} fault left small h) proc point few x e moves =
         walking x y (Dies' fault) left n (same_thread e) h
-        (λ i. fault_step p w none s c k t woken pauses s' x n number awake few_made fault i proc point (omega (arith,
-            small))
+        (λ i. fault_step p w none s c k t woken pauses s' x n number awake few_made fault i proc point (omega (
+          arith,
+          small,
+        ))
         moves)
         (λ z m g le more. goes_local x z _ _ n (m + 5) proc point (faults fault m (omega arith) more)
         (omega (arith, le, small)) few g moves)
@@ -157,7 +159,7 @@ module _ (p : Program) (w : WellFormed p) (none : UsesNoMonitor p) (s : State) (
         few x e moves =
         walking x y j.sleeps left n (same_thread e) h
         (λ there. sleep_step p w none s c k t woken pauses s' x n number awake few_made child is i part f cs j there
-            proc
+        proc
         point (omega (arith, small)) paused moves)
         (λ v m g le more. goes_local x v _ _ n (m + 40) proc point
         (sleeps m (omega (arith, le, few')) (omega arith) is j more) (omega (arith, le, small)) few g moves)
@@ -179,7 +181,7 @@ module _ (p : Program) (w : WellFormed p) (none : UsesNoMonitor p) (s : State) (
         (takes m (omega (arith, le, few')) (omega arith) is j more) (omega (arith, le, small)) few g moves)
     from_stand n o q pt (pends {end = end} small) proc point few x e moves =
         pending_step p w none s c k t woken pauses s' x n number awake few_made end (same_thread e) proc point small
-            moves
+        moves
     from_stand n o q pt (clears {end = end} small) proc point few x e moves =
         clear_step p w none s c k t woken pauses s' x n number awake few_made end (same_thread e) proc point moves
     from_stand n o q pt (wakes {end = end} small) proc point few x e moves =
@@ -192,5 +194,5 @@ module _ (p : Program) (w : WellFormed p) (none : UsesNoMonitor p) (s : State) (
       let t = l.thread in
       from_stand t l.woken l.pauses s' (number_of t st.thread st.stands)
       (awake_at (place p) (s.asleep t) (k.world.asleep t) (k.shares.sleeps t) st.awake) st.pauses (k.left t)
-          (s.thread t)
+      (s.thread t)
       (c.process t) (k.world.at t).point (k.threads t) refl refl (k.few t) st.thread st.stands st.moves

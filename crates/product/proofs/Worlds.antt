@@ -73,7 +73,7 @@ module _ (place : Cell → ℕ) (valid : Cell → Bool) where
   pub shares_stored : IsApart place valid → (s : Shared) (w : World) (a : Cell) (v : ℕ) → valid a ≡ true
       → Shares place valid s w
       → Shares place valid (record { word = put s.word (place a) (stored_value place a v); asleep = s.asleep })
-          (write w a v)
+      (write w a v)
   shares_stored apart s w a v ok h = record {
     words = stores_follow place valid s.word w a v apart ok h.words;
     sleeps = λ u. h.sleeps u ∙ ap (λ (f : ℕ → Option Spot). sleep_address place (f u)) (sym (same_sleep w a v));

@@ -1,3 +1,5 @@
 pub mod Layout
 pub mod Standing
 pub mod Corresponding
+pub mod Asking
+pub mod Locking

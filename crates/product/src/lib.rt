@@ -4,4 +4,4 @@
 
 mod law;
 
-pub use law::code_of_processes_refines;
+pub use law::{code_of_processes_refines, lock_templates_follow};

@@ -32,7 +32,7 @@ all_laid p n q there =
     let piece = piece_code p (start_of p) q (start_of p n) in
     let s = pieces_stand p n q there in
     let whole : StandAt (code_of p) 0 (s.front ++ (piece ++ s.back)) = subst
-        (λ (xs : List Marked). StandAt (code_of p) 0 xs)
+    (λ (xs : List Marked). StandAt (code_of p) 0 xs)
     s.is (behind_stands (code_of p) [] (marked_code p) refl) in
     let tail = back_stands (code_of p) 0 s.front (piece ++ s.back) whole in
     let at : 0 + length s.front ≡ start_of p n = omega (arith, s.at) in

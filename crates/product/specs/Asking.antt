@@ -1,0 +1,55 @@
+-- What a point of the protocol asks of the shared words, as a request of the machine.
+use Rattle.std.specs.Prelude.{ℕ, ◌≡◌, Option, Some, None}
+use Rattle.isa.specs.Programs.{Program as Image}
+use Rattle.locals.specs.Threads.{Thread}
+use Rattle.locals.specs.Looks.{Asks, look}
+use Rattle.locals.specs.Looks as M
+use Rattle.program.specs.Trees.{Program}
+use Rattle.meaning.specs.Labels.{End, Faulted, Killed}
+use Rattle.code.specs.Locks.{waiters}
+use Rattle.code.specs.Conditions.{everyone}
+use Rattle.protocol.specs.Points.{Point}
+use Rattle.protocol.specs.World.{World}
+use Rattle.protocol.specs.Cells.{LockOf, SequenceOf, cell_of}
+use Rattle.protocol.specs.Memory.{stored_value}
+use Rattle.protocol.specs.Requests.{Request, AskNothing, AskLoad, AskStore, AskSwap, AskCompareSwap, AskOrWaiters, AskAddOne, AskWait, AskWakeOne, AskRequeue, AskFault, AskExitStep, request}
+use Rattle.protocol.specs.Answers.{next}
+use Rattle.execution.specs.Walks.{WalksWithin}
+use Rattle.product.specs.Layout.{place}
+use Rattle.product.specs.Standing.{no_words}
+
+-- none for a step of an exit, which is no request, and for a thread's own code
+abbrev pub asked : Program → Request → Option M.Request
+asked p AskNothing = None
+asked p (AskLoad a) = Some (M.AskLoad (place p a))
+asked p (AskStore a v) = Some (M.AskStore (place p a) (stored_value (place p) a v))
+asked p (AskSwap a v) = Some (M.AskSwap (place p a) (stored_value (place p) a v))
+asked p (AskCompareSwap a x v) = Some (M.AskCompareSwap (place p a) x v)
+asked p (AskOrWaiters a) = Some (M.AskOr (place p a) waiters)
+asked p (AskAddOne a) = Some (M.AskAdd (place p a) 1)
+asked p (AskWait s x) = Some (M.AskWait (place p (cell_of s)) x)
+asked p (AskWakeOne s) = Some (M.AskWake (place p (cell_of s)) 1)
+asked p (AskRequeue c x) = Some (M.AskRequeue (place p (SequenceOf c)) (place p (LockOf c.monitor)) 0 everyone x)
+asked p (AskFault (Faulted fault)) = Some (M.AskFault fault)
+asked p (AskFault Killed) = None
+asked p AskExitStep = None
+
+-- the word that the machine answers: an entry that is loaded is an address
+abbrev pub told : Program → Request → ℕ → ℕ
+told p (AskLoad a) r = stored_value (place p) a r
+told p other r = r
+
+-- the most local steps of a template from one request to the next
+abbrev pub template_steps : ℕ
+template_steps = 16
+
+-- a thread asks what its point asks, and comes after each answer, within few local steps, to where a thread of the next
+-- point stands
+pub record AsksSo (p : Program) (image : Image) (t : ℕ) (stands : Point → Thread → Type 0) (pt : Point)
+    (x : Thread) : Type 0 where
+  pub asks : M.Request
+  pub go : ℕ → Thread
+  pub same : asked p (request t pt) ≡ Some asks
+  pub look : look image t x ≡ Asks asks go
+  pub goes : (w : World) (e : End) (r : ℕ) → (y : Thread)
+      × WalksWithin image t 0 no_words template_steps (go (told p (request t pt) r)) y × stands (next w e pt r) y
