@@ -19,8 +19,8 @@ use scanner::Refusal;
 use std::alloc::{AllocError, Global};
 use syntax::{Local, Monitor, Parameter, Unit};
 
-/// The most monitors, conditions and procedures of a unit, parameters of a procedure, and parameters and locals of a
-/// procedure, a RECOVER part or MAIN.
+// The most monitors, conditions and procedures of a unit, parameters of a procedure, and parameters and locals of a
+// procedure, a RECOVER part or MAIN.
 const MOST_MONITORS: usize = 64;
 
 const MOST_CONDITIONS: usize = 256;
@@ -43,8 +43,8 @@ pub fn body(
         least r) }
 {
     let names = body_scope(alloc, parameters, locals)?;
-    let once = repeated(alloc, &names, least)?;
-    let within = past(MOST_LOCALS, &names, once);
+    let distinct = repeated(alloc, &names, least)?;
+    let within = past(MOST_LOCALS, &names, distinct);
     Ok(past(MOST_PARAMETERS, &names[..parameters.len()], within))
 }
 

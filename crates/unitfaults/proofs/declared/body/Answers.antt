@@ -18,12 +18,12 @@ returns c =
     collects_sum _ (OfKind Limit (IsPast most_parameters (parameter_names (map parameter_of ps)))) c.args.least
     c.past-within.result c.past.result
     (collects_sum (OfKind Redeclared (IsRepeated scope)) (OfKind Limit
-    (IsPast most_locals scope)) c.args.least c.in_ok-once.once
+    (IsPast most_locals scope)) c.args.least c.in_ok-distinct.distinct
     c.past-within.result
-    (repeated_of _ _ scope c.args.least c.in_ok-once.once (c.deref.ensures.value
+    (repeated_of _ _ scope c.args.least c.in_ok-distinct.distinct (c.deref.ensures.value
     ∙ c.in_ok-names.ensures) (body_names ps ls)
-    c.in_ok-once.ensures)
-    (past_of most_locals _ _ scope c.in_ok-once.once c.past-within.result (c.deref-2.ensures.value
+    c.in_ok-distinct.ensures)
+    (past_of most_locals _ _ scope c.in_ok-distinct.distinct c.past-within.result (c.deref-2.ensures.value
     ∙ c.in_ok-names.ensures)
     (body_names ps ls) c.past-within.ensures))
     (past_of most_parameters _ _ (parameter_names (map parameter_of ps)) c.past-within.result c.past.result
