@@ -11,3 +11,4 @@ pub mod BodyKinds
 pub mod Verdicts
 pub mod Callable
 pub mod Few
+pub mod TextLengths
