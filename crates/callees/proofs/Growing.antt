@@ -40,11 +40,10 @@ pieces_append m (t ∷ ts) us =
     ∙ ap (λ k. pieces_from (m + 1) ts ++ pieces_from k us) e)
     ∙ sym (append_assoc (monitor_pieces m t) (pieces_from (m + 1) ts) (pieces_from (m + suc (length ts)) us))
 
-pub monitors_more : (ms : List Monitor) (i : ℕ) (d : Monitor) → i < length ms → d ≡ get_or ms i d
-    → map monitor_of (take (i + 1) ms) ≡ map monitor_of (take i ms) ++ monitor_of d ∷ []
-monitors_more ms i d h e = ap (map monitor_of) (take_more ms i d h)
-    ∙ map-append monitor_of (take i ms) (get_or ms i d ∷ [])
-    ∙ ap (λ x. map monitor_of (take i ms) ++ monitor_of x ∷ []) (sym e)
+pub map_more : {X Y : Type 0} (f : X → Y) (xs : List X) (i : ℕ) (d : X) → i < length xs → d ≡ get_or xs i d
+    → map f (take (i + 1) xs) ≡ map f (take i xs) ++ f d ∷ []
+map_more f xs i d h e = ap (map f) (take_more xs i d h) ∙ map-append f (take i xs) (get_or xs i d ∷ [])
+    ∙ ap (λ x. map f (take i xs) ++ f x ∷ []) (sym e)
 
 pub pieces_more : (ts : List MonitorTree) (i : ℕ) (t : MonitorTree) → length ts ≡ i
     → pieces_from 0 ts ++ monitor_pieces i t ≡ pieces_from 0 (ts ++ t ∷ [])

@@ -10,7 +10,7 @@ use Rattle.types.specs.Tables.{IsTable}
 use Rattle.callees.specs.Names.{IsNames, declarations}
 use Rattle.callees.specs.Pieces.{piece_of}
 use Rattle.callees.proofs.Few.{few_pieces, few_members, few_procedures, few_in_all}
-use Rattle.callees.proofs.Growing.{map_twice, each_more, monitors_more, monitor_here, pieces_before, pieces_more}
+use Rattle.callees.proofs.Growing.{map_twice, each_more, map_more, monitor_here, pieces_before, pieces_more}
 use Rattle.callees.proofs.Growing.{all_pushed}
 use Rattle.callees.proofs.callees.Callees.new.Goals as goal
 
@@ -77,7 +77,7 @@ loop-number-preserved c =
     let i = c.loop-number.number in
     let d = c.monitor-item.result in
     let ts = map monitor_of (take i ms) in
-    let more = monitors_more ms i d c.loop-number-test.true c.monitor-item.is in
+    let more = map_more monitor_of ms i d c.loop-number-test.true c.monitor-item.is in
     let made = c.in_ok-new.field-0 in
     let at : slice_get u.monitors i ≡ Some (monitor_of d) =
     sym (ap (λ xs. slice_get (map monitor_of xs) i) c.deref-monitor-items.ensures.value)
