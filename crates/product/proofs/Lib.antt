@@ -16,3 +16,5 @@ pub mod Resting
 pub mod Whole
 pub mod Locking
 pub mod Entering
+pub mod Exiting
+pub mod Notifying

@@ -3,3 +3,4 @@ pub mod Standing
 pub mod Corresponding
 pub mod Asking
 pub mod Locking
+pub mod Notifying

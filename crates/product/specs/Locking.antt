@@ -7,7 +7,7 @@ use Rattle.locals.specs.Threads.{Thread, Runs as Runs'}
 use Rattle.program.specs.Trees.{Program}
 use Rattle.code.specs.Layout.{link_word, lock_word_address}
 use Rattle.protocol.specs.Word.{with_waiters, died}
-use Rattle.protocol.specs.Points.{Purpose, ToEnter, Point, Runs, EnterPends, EnterTries, TakeReads, TakeMarks, TakeSleeps, TakeTries, GotReads, GotLinks, GotHeads, GotUnpends}
+use Rattle.protocol.specs.Points.{Purpose, ToEnter, Point, Runs, EnterPends, EnterTries, TakeReads, TakeMarks, TakeSleeps, TakeTries, GotReads, GotLinks, GotHeads, GotUnpends, ToExit, LeavePends, LeaveReads, LeaveHeads, LeaveSwaps, LeaveWakes, HasLeft}
 use Rattle.protocol.specs.Memory.{entry_address}
 use Rattle.product.specs.Layout.{place}
 
@@ -45,3 +45,19 @@ pub data EntersAt (p : Program) (t m base : ℕ) (l : Locals) (fs : List Frame) 
   tries : EntersAt p t m base l fs (EnterTries m)
       (Runs' (base + 7) (t ∷ 0 ∷ lock_word_address p m ∷ []) l fs)
   takes : {pt : Point} {x : Thread} → Takes p t m ToEnter (base + 11) l.values fs pt x → EntersAt p t m base l fs pt x
+
+-- in the leaving of a monitor
+pub data ExitsAt (p : Program) (t m base : ℕ) (l : Locals) (fs : List Frame) : Point → Thread → Type 0 where
+  pends : ExitsAt p t m base l fs (LeavePends m ToExit)
+      (Runs' (base + 3) (link_word p m ∷ process_word t 1 ∷ []) l fs)
+  reads : ExitsAt p t m base l fs (LeaveReads m ToExit)
+      (Runs' (base + 7) (link_word p m ∷ process_word t 0 ∷ []) l fs)
+  cuts : (h : ℕ) → ExitsAt p t m base l fs (LeaveHeads m h ToExit)
+      (Runs' (base + 8) (entry_address (place p) h ∷ process_word t 0 ∷ []) l fs)
+  swaps : ExitsAt p t m base l fs (LeaveSwaps m ToExit)
+      (Runs' (base + 11) (0 ∷ lock_word_address p m ∷ []) l fs)
+  wakes : ExitsAt p t m base l fs (LeaveWakes m ToExit)
+      (Runs' (base + 17) (1 ∷ lock_word_address p m ∷ []) l fs)
+  unpends : ExitsAt p t m base l fs (HasLeft m ToExit)
+      (Runs' (base + 22) (0 ∷ process_word t 1 ∷ []) l fs)
+  goes : ExitsAt p t m base l fs Runs (Runs' (base + 23) [] l fs)

@@ -1,4 +1,5 @@
 use Rattle.product.proofs.Entering.{enters_follow}
+use Rattle.product.proofs.Exiting.{exits_follow}
 use Rattle.product.proofs.Locking.{takes_follow}
 use Rattle.product.proofs.law.lock_templates_follow.Goals as goal
 
@@ -7,3 +8,6 @@ returns-clause-takes c = takes_follow
 
 pub returns-clause-enters : goal.returns-clause-enters
 returns-clause-enters c = enters_follow
+
+pub returns-clause-exits : goal.returns-clause-exits
+returns-clause-exits c = exits_follow
