@@ -11,4 +11,3 @@ pub mod BodyKinds
 pub mod Verdicts
 pub mod Callable
 pub mod Few
-pub mod TextLengths

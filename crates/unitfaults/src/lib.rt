@@ -5,12 +5,10 @@ mod bodies;
 mod calls;
 mod cycles;
 mod declared;
-mod laws;
 mod least;
 mod limits;
 mod names;
 mod redeclared;
 mod unit;
 
-pub use laws::declarations_have_tokens;
 pub use unit::first_fault;

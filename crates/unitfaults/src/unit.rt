@@ -34,7 +34,8 @@ fn least_fault(
 }
 
 /// The least fault of a unit, which is its refusal: the one of the earliest place, and of these the one of the lowest
-/// number. `None` where nothing of it is faulty. The only error is that memory runs out.
+/// number. `None` where nothing of it is faulty. The only error is that memory runs out. A unit that is read from a text
+/// declares few enough things (`callees::few_declarations`).
 pub fn first_fault(alloc: Global, unit: &Unit<'_>) -> Result<Option<Refusal>, AllocError>
     requires { declarations (unit_of unit.now) < u32.MAX }
     ensures { IfOk result (λ r. IsVerdict (unit_of unit.now) r) }
