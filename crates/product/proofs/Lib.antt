@@ -17,4 +17,5 @@ pub mod Whole
 pub mod Locking
 pub mod Entering
 pub mod Exiting
+pub mod Waiting
 pub mod Notifying

@@ -5,9 +5,10 @@ use Rattle.locals.specs.declared.frame.Locals.{Locals}
 use Rattle.locals.specs.declared.frame.Frame.{Frame}
 use Rattle.locals.specs.Threads.{Thread, Runs as Runs'}
 use Rattle.program.specs.Trees.{Program}
-use Rattle.code.specs.Layout.{link_word, lock_word_address}
+use Rattle.program.specs.declared.kinds.Member.{Member}
+use Rattle.code.specs.Layout.{link_word, lock_word_address, member_address}
 use Rattle.protocol.specs.Word.{with_waiters, died}
-use Rattle.protocol.specs.Points.{Purpose, ToEnter, Point, Runs, EnterPends, EnterTries, TakeReads, TakeMarks, TakeSleeps, TakeTries, GotReads, GotLinks, GotHeads, GotUnpends, ToExit, LeavePends, LeaveReads, LeaveHeads, LeaveSwaps, LeaveWakes, HasLeft}
+use Rattle.protocol.specs.Points.{Purpose, ToEnter, Point, Runs, EnterPends, EnterTries, TakeReads, TakeMarks, TakeSleeps, TakeTries, GotReads, GotLinks, GotHeads, GotUnpends, ToExit, LeavePends, LeaveReads, LeaveHeads, LeaveSwaps, LeaveWakes, HasLeft, WaitReads, ToWait, ToResume}
 use Rattle.protocol.specs.Memory.{entry_address}
 use Rattle.product.specs.Layout.{place}
 
@@ -61,3 +62,23 @@ pub data ExitsAt (p : Program) (t m base : ℕ) (l : Locals) (fs : List Frame) :
   unpends : ExitsAt p t m base l fs (HasLeft m ToExit)
       (Runs' (base + 22) (0 ∷ process_word t 1 ∷ []) l fs)
   goes : ExitsAt p t m base l fs Runs (Runs' (base + 23) [] l fs)
+
+-- in a WAIT: the sequence word is read, the monitor left, and the thread sleeps; then the lock is taken again
+pub data WaitsAt (p : Program) (t : ℕ) (c : Member) (base : ℕ) (l : Locals) (fs : List Frame) : Point → Thread
+    → Type 0 where
+  numbers : WaitsAt p t c base l fs (WaitReads c)
+      (Runs' (base + 2) (member_address p c ∷ member_address p c ∷ []) l fs)
+  pends : (v : ℕ) → WaitsAt p t c base l fs (LeavePends c.monitor (ToWait c v))
+      (Runs' (base + 6) (link_word p c.monitor ∷ process_word t 1 ∷ v ∷ member_address p c ∷ []) l fs)
+  reads : (v : ℕ) → WaitsAt p t c base l fs (LeaveReads c.monitor (ToWait c v))
+      (Runs' (base + 10) (link_word p c.monitor ∷ process_word t 0 ∷ v ∷ member_address p c ∷ []) l fs)
+  cuts : (v h : ℕ) → WaitsAt p t c base l fs (LeaveHeads c.monitor h (ToWait c v))
+      (Runs' (base + 11) (entry_address (place p) h ∷ process_word t 0 ∷ v ∷ member_address p c ∷ []) l fs)
+  swaps : (v : ℕ) → WaitsAt p t c base l fs (LeaveSwaps c.monitor (ToWait c v))
+      (Runs' (base + 14) (0 ∷ lock_word_address p c.monitor ∷ v ∷ member_address p c ∷ []) l fs)
+  wakes : (v : ℕ) → WaitsAt p t c base l fs (LeaveWakes c.monitor (ToWait c v))
+      (Runs' (base + 20) (1 ∷ lock_word_address p c.monitor ∷ v ∷ member_address p c ∷ []) l fs)
+  sleeps : (v : ℕ) → WaitsAt p t c base l fs (HasLeft c.monitor (ToWait c v))
+      (Runs' (base + 22) (v ∷ member_address p c ∷ []) l fs)
+  takes : {pt : Point} {x : Thread} → Takes p t c.monitor (ToResume c) (base + 24) l.values fs pt x
+      → WaitsAt p t c base l fs pt x

@@ -1,5 +1,5 @@
 ghost use Rattle.std.specs.Prelude.{◌≡◌, ◌+◌, ◌<◌, ◌≤◌, ◌++◌, ℕ, List};
-ghost use Rattle.code.specs.Conditions.{broadcast_code, notify_code};
+ghost use Rattle.code.specs.Conditions.{broadcast_code, notify_code, wait_code};
 ghost use Rattle.code.specs.Layout.{link_word, member_address};
 ghost use Rattle.code.specs.Locks.{enter_code, exit_code, got_at, take_at};
 ghost use Rattle.code.specs.Marks.{placed};
@@ -12,7 +12,7 @@ ghost use Rattle.locals.specs.Threads.{Thread};
 ghost use Rattle.locals.specs.declared.frame.Frame.{Frame};
 ghost use Rattle.locals.specs.declared.frame.Locals.{Locals};
 ghost use Rattle.product.specs.Asking.{AsksSo};
-ghost use Rattle.product.specs.Locking.{EntersAt, ExitsAt, Takes};
+ghost use Rattle.product.specs.Locking.{EntersAt, ExitsAt, Takes, WaitsAt};
 ghost use Rattle.product.specs.Notifying.{BroadcastsAt, NotifiesAt};
 ghost use Rattle.program.specs.declared.kinds.Member.{Member};
 ghost use Rattle.program.specs.Trees.{Program};
@@ -30,7 +30,7 @@ pub fn code_of_processes_refines()
 
 /// The templates that take a lock go through the protocol's points, wherever they stand: at each point a thread asks
 /// for what the point asks, and after each answer it comes, within 16 local steps, to where a thread of the next point
-/// stands. So the taking of a lock with what follows it, in ENTER and in WAIT; and all of ENTER and EXIT.
+/// stands. So the taking of a lock with what follows it, in ENTER and in WAIT; and all of ENTER, EXIT and WAIT.
 pub fn lock_templates_follow()
     ensures takes { (p : Program) (image : Image) (t m : ℕ) (k : Purpose) (mark : Mark) (recover : Instr) (base a : ℕ)
         (values : List ℕ) (fs : List Frame)
@@ -46,6 +46,11 @@ pub fn lock_templates_follow()
         → StandAt image base (placed base (exit_code m (link_word p m))) → 0 < t → t ≤ 64
         → (pt : Point) (x : Thread) → (pt ≡ Runs → ⊥) → ExitsAt p t m base l fs pt x
         → AsksSo p image t (ExitsAt p t m base l fs) pt x }
+    ensures waits { (p : Program) (image : Image) (t base : ℕ) (c : Member) (recover : Instr) (l : Locals) (fs : List
+        Frame)
+        → StandAt image base (placed base (wait_code c (link_word p c.monitor) (member_address p c) recover)) → 0 < t
+        → t ≤ 64 → (pt : Point) (x : Thread) → (pt ≡ Runs → ⊥) → WaitsAt p t c base l fs pt x
+        → AsksSo p image t (WaitsAt p t c base l fs) pt x }
 {}
 
 /// The templates of NOTIFY and BROADCAST go through the protocol's points, wherever they stand.
