@@ -1,0 +1,40 @@
+ghost use Rattle.std.specs.Prelude.{◌≡◌, ◌≤◌, ◌<◌, ◌⊎◌, MatchResult};
+ghost use Rattle.scanner.specs.Refusals.{out_of_memory};
+ghost use Rattle.syntax.specs.Limits.{most_nestings};
+ghost use Rattle.syntax.specs.Nesting.{unit_nesting};
+ghost use Rattle.syntax.specs.Whole.{unit_of};
+ghost use Rattle.types.specs.Judgement.{IsRefusalOf};
+ghost use Rattle.soundness.specs.Faultless.{HasNumbers};
+ghost use Rattle.callees.specs.Names.{declarations};
+ghost use Rattle.checker.specs.Checks.{IsChecked};
+
+use callees::Callees;
+use program::Checked;
+use scanner::Refusal;
+use soundness::faultless_units_are_well_formed;
+use std::alloc::Global;
+use syntax::Unit;
+use unitfaults::first_fault;
+use unitresolver::resolve;
+
+/// The program of a unit, resolved and well formed.
+///
+/// # Errors
+///
+/// The least fault of the unit by its place, and at one place by its number: `Redeclared`, `Unknown`, `TypeMismatch`,
+/// `WrongPlace`, `DirectReentry`, `Recursion` or `Limit` (docs/language.md). `Memory` may come at any point.
+pub fn check<'a>(alloc: Global, unit: &Unit<'a>) -> Result<Checked<'a>, Refusal>
+    requires within { unit_nesting (unit_of unit.now) ≤ most_nestings }
+    requires numbers { HasNumbers (unit_of unit.now) }
+    requires few { declarations (unit_of unit.now) < u32.MAX }
+    ensures { MatchResult result (λ c. IsChecked (unit_of unit.now) c)
+        (λ e. (e ≡ out_of_memory) ⊎ IsRefusalOf (unit_of unit.now) e) }
+{
+    faultless_units_are_well_formed();
+    if let Some(fault) = first_fault(alloc, unit)? {
+        return Err(fault);
+    }
+    let callees = Callees::new(alloc, unit)?;
+    let (program, names) = resolve(alloc, unit, &callees)?;
+    Ok(Checked::new(program, names))
+}

@@ -1,0 +1,5 @@
+pub mod Spoken
+pub mod Refused
+pub mod OneAnswer
+pub mod Built
+pub mod Compiled

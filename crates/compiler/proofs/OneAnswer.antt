@@ -1,0 +1,179 @@
+-- A text is one program or has one refusal.
+use Rattle.std.proofs.Common.{◌≡◌, arith, length, inl, inr, ℕ, List, [], ◌∷◌, map, slice_get, Option, Some, None, refl, sym, ap, ◌∙◌, subst}
+use Rattle.scanner.specs.declared.token.Place.{Place}
+use Rattle.scanner.specs.declared.token.Token.{Token}
+use Rattle.scanner.specs.declared.refusal.Refusal.{Refusal}
+use Rattle.scanner.specs.declared.refusal.RefusalKind.{RefusalKind}
+use Rattle.scanner.specs.declared.refusal.RefusalKind.TheVariants.{NotAscii, BadToken, Expected, Redeclared, Unknown, TypeMismatch, WrongPlace}
+use Rattle.scanner.specs.declared.refusal.RefusalKind.TheVariants.{DirectReentry, Recursion, Limit, Memory, StrayPiece}
+use Rattle.scanner.specs.Refusals.{number_of}
+use Rattle.scanner.specs.Faults.{IsFault}
+use Rattle.scanner.specs.Tokens.{IsTokens, TokenView, views}
+use Rattle.syntax.specs.Spelling.{unit_text}
+use Rattle.syntax.specs.Tree.{UnitTree}
+use Rattle.types.specs.Faults.{ComesNoLater}
+use Rattle.types.specs.Judgement.{IsFaulty}
+use Rattle.types.specs.Resolved.{resolved}
+use Rattle.program.specs.Trees.{Program}
+use Rattle.code.specs.Pieces.{code_of}
+use Rattle.backend.specs.Refusals.{Fits}
+use Rattle.compiler.specs.Unbuilt.{unbuilt_place}
+use Rattle.compiler.specs.Accepts.{IsUnit, Accepts, IsBuilt, IsNoUnit, IsFaultyUnit, IsUnbuilt, RefusesProgram, Refuses}
+use Rattle.compiler.specs.declared.fault.CompileFault.{CompileFault}
+use Rattle.compiler.specs.declared.fault.CompileFault.TheVariants.{Refused, NotBuilt}
+use Rattle.compiler.proofs.Spoken.{said, spoken, same_lexemes}
+use Rattle.compiler.proofs.Refused.{Stops, stops, one_stop, same_refusal, unit_not_refused}
+
+-- a text has one list of tokens, one fault, and not both; and tokens are one unit
+pub record Reads : Type 0 where
+  pub one : (text : List ℕ) (ts us : List TokenView) → IsTokens text ts → IsTokens text us → ts ≡ us
+  pub fault : (text : List ℕ) (e f : Refusal) → IsFault text e → IsFault text f → e ≡ f
+  pub either : (text : List ℕ) (ts : List TokenView) (e : Refusal) → IsTokens text ts → IsFault text e → ⊥
+  pub tree : (u v : UnitTree) → unit_text u ≡ unit_text v → u ≡ v
+
+-- a text is one unit
+pub one_unit : Reads → (text : List ℕ) (ts us : List Token) (u v : UnitTree) → IsUnit text ts u → IsUnit text us v → u ≡ v
+one_unit r text ts us u v a b =
+    r.tree u v (a.spelled ∙ (same_lexemes ts us (r.one text (views ts) (views us) a.scanned b.scanned) ∙ sym b.spelled))
+
+pub one_program : Reads → (text : List ℕ) (p q : Program) → Accepts text p → Accepts text q → p ≡ q
+one_program r text p q a b =
+    a.is_program.program ∙ (ap resolved (one_unit r text a.tokens b.tokens a.unit b.unit a.is_unit b.is_unit)
+    ∙ sym b.is_program.program)
+
+-- what stands first among the tokens of a text without code
+same_first : Reads → (text : List ℕ) (ts us : List Token) → IsTokens text (views ts) → IsTokens text (views us)
+    → unbuilt_place (views ts) ≡ unbuilt_place (views us)
+same_first r text ts us a b = ap unbuilt_place (r.one text (views ts) (views us) a b)
+
+-- a unit isn't refused as none
+unit_or_none : Reads → (text : List ℕ) (ts : List Token) (u : UnitTree) (e : Refusal) → IsUnit text ts u → IsNoUnit text e → ⊥
+unit_or_none r text ts u e a n =
+    unit_not_refused (views n.tokens) u e (a.spelled ∙ (spoken ts ∙ ap (map said) (r.one text (views ts) (views n.tokens)
+    a.scanned n.scanned))) a.within (stops n.tokens e n.refusal)
+
+-- a program has no fault
+program_or_fault : Reads → (text : List ℕ) (p : Program) (e : Refusal) → Accepts text p → IsFaultyUnit text e → ⊥
+program_or_fault r text p e a n =
+    a.is_program.faultless e.place e.kind (subst (λ u. IsFaulty u e.place e.kind) (one_unit r text n.tokens a.tokens
+    n.unit a.unit n.is_unit a.is_unit) n.refusal.0)
+
+same_kind : (a b : RefusalKind) → Some a ≡ Some b → a ≡ b
+same_kind a b h = cc
+
+one_place : (a b : Place) → Some a ≡ Some b → a ≡ b
+one_place a b h = cc
+
+-- a kind is known by its number
+abbrev kinds : List RefusalKind
+kinds = NotAscii ∷ NotAscii ∷ BadToken ∷ Expected ∷ Redeclared ∷ Unknown ∷ TypeMismatch ∷ WrongPlace
+    ∷ DirectReentry ∷ Recursion ∷ Limit ∷ Memory ∷ StrayPiece ∷ []
+
+number_back : (k : RefusalKind) → slice_get kinds (number_of k) ≡ Some k
+number_back NotAscii = refl
+number_back BadToken = refl
+number_back Expected = refl
+number_back Redeclared = refl
+number_back Unknown = refl
+number_back TypeMismatch = refl
+number_back WrongPlace = refl
+number_back DirectReentry = refl
+number_back Recursion = refl
+number_back Limit = refl
+number_back Memory = refl
+number_back StrayPiece = refl
+
+one_number : (a b : RefusalKind) → number_of a ≡ number_of b → a ≡ b
+one_number a b e = same_kind a b (sym (number_back a) ∙ (ap (slice_get kinds) e ∙ number_back b))
+
+same_place : (a b : Place) → a.line ≡ b.line → a.column ≡ b.column → a ≡ b
+same_place a b l c = ap (λ (x : ℕ). record { line = x; column = a.column }) l
+    ∙ ap (λ (x : ℕ). record { line = b.line; column = x }) c
+
+-- of two faults neither of which comes later than the other
+one_least : (e f : Refusal) → ComesNoLater e f → ComesNoLater f e → e ≡ f
+one_least e f (inl a) (inl b) = absurd (omega (arith, a, b))
+one_least e f (inl a) (inr b) = absurd (omega (arith, a, b.0))
+one_least e f (inr a) (inl b) = absurd (omega (arith, a.0, b))
+one_least e f (inr (l, inl a)) (inr (m, inl b)) = absurd (omega (arith, a, b))
+one_least e f (inr (l, inl a)) (inr (m, inr b)) = absurd (omega (arith, a, b.0))
+one_least e f (inr (l, inr a)) (inr (m, inl b)) = absurd (omega (arith, a.0, b))
+one_least e f (inr (l, inr a)) (inr (m, inr b)) =
+    same_refusal e f (one_number e.kind f.kind (omega (arith, a.1, b.1))) (same_place e.place f.place l a.0)
+
+one_fault : Reads → (text : List ℕ) (e f : Refusal) → IsFaultyUnit text e → IsFaultyUnit text f → e ≡ f
+one_fault r text e f x y =
+    let same : x.unit ≡ y.unit = one_unit r text x.tokens y.tokens x.unit y.unit x.is_unit y.is_unit in
+    let there : IsFaulty x.unit f.place f.kind = subst (λ u. IsFaulty u f.place f.kind) (sym same) y.refusal.0 in
+    let here : IsFaulty y.unit e.place e.kind = subst (λ u. IsFaulty u e.place e.kind) same x.refusal.0 in
+    one_least e f (x.refusal.1 f.place f.kind there) (y.refusal.1 e.place e.kind here)
+
+-- the first construct without code has one place, and a text all of whose constructs have code has none
+one_unbuilt : Reads → (text : List ℕ) (e f : Place) → IsUnbuilt text e → IsUnbuilt text f → e ≡ f
+one_unbuilt r text e f x y =
+    let same = same_first r text x.accepts.tokens y.accepts.tokens x.accepts.is_unit.scanned y.accepts.is_unit.scanned in
+    one_place e f (sym x.first ∙ (same ∙ y.first))
+
+some_or_none : (a b : Option Place) (p : Place) → a ≡ b → a ≡ Some p → b ≡ None → ⊥
+some_or_none a b p e h k = cc
+
+unbuilt_or_built : Reads → (text : List ℕ) (p : Program) (e : Place) → IsBuilt text p → IsUnbuilt text e → ⊥
+unbuilt_or_built r text p e b x =
+    some_or_none (unbuilt_place (views x.accepts.tokens)) (unbuilt_place (views b.accepts.tokens)) e
+    (same_first r text x.accepts.tokens b.accepts.tokens x.accepts.is_unit.scanned b.accepts.is_unit.scanned) x.first b.built
+
+-- each refusal of an earlier phase excludes those of the later ones
+fault_or_no_unit : Reads → (text : List ℕ) (e f : Refusal) → IsFault text e → IsNoUnit text f → ⊥
+fault_or_no_unit r text e f x y = r.either text (views y.tokens) e y.scanned x
+
+fault_or_unit : Reads → (text : List ℕ) (ts : List Token) (u : UnitTree) (e : Refusal) → IsFault text e → IsUnit text ts u → ⊥
+fault_or_unit r text ts u e x y = r.either text (views ts) e y.scanned x
+
+-- a refused text's refusal is one
+one_refused : Reads → (text : List ℕ) (e f : Refusal) → Refuses text (Refused e) → Refuses text (Refused f) → e ≡ f
+one_refused r text e f (inl (inl x)) (inl (inl y)) = r.fault text e f x y
+one_refused r text e f (inl (inl x)) (inl (inr (inl y))) = absurd (fault_or_no_unit r text e f x y)
+one_refused r text e f (inl (inl x)) (inl (inr (inr y))) = absurd (fault_or_unit r text y.tokens y.unit e x y.is_unit)
+one_refused r text e f (inl (inl x)) (inr y) =
+    absurd (fault_or_unit r text y.is_built.accepts.tokens y.is_built.accepts.unit e x y.is_built.accepts.is_unit)
+one_refused r text e f (inl (inr (inl x))) (inl (inl y)) = absurd (fault_or_no_unit r text f e y x)
+one_refused r text e f (inl (inr (inl x))) (inl (inr (inl y))) =
+    one_stop (views y.tokens) e f (subst (λ ts. Stops ts e) (r.one text (views x.tokens) (views y.tokens) x.scanned
+    y.scanned) (stops x.tokens e x.refusal)) (stops y.tokens f y.refusal)
+one_refused r text e f (inl (inr (inl x))) (inl (inr (inr y))) = absurd (unit_or_none r text y.tokens y.unit e y.is_unit x)
+one_refused r text e f (inl (inr (inl x))) (inr y) =
+    absurd (unit_or_none r text y.is_built.accepts.tokens y.is_built.accepts.unit e y.is_built.accepts.is_unit x)
+one_refused r text e f (inl (inr (inr x))) (inl (inl y)) = absurd (fault_or_unit r text x.tokens x.unit f y x.is_unit)
+one_refused r text e f (inl (inr (inr x))) (inl (inr (inl y))) = absurd (unit_or_none r text x.tokens x.unit f x.is_unit y)
+one_refused r text e f (inl (inr (inr x))) (inl (inr (inr y))) = one_fault r text e f x y
+one_refused r text e f (inl (inr (inr x))) (inr y) = absurd (program_or_fault r text y.program e y.is_built.accepts x)
+one_refused r text e f (inr x) (inl (inl y)) =
+    absurd (fault_or_unit r text x.is_built.accepts.tokens x.is_built.accepts.unit f y x.is_built.accepts.is_unit)
+one_refused r text e f (inr x) (inl (inr (inl y))) =
+    absurd (unit_or_none r text x.is_built.accepts.tokens x.is_built.accepts.unit f x.is_built.accepts.is_unit y)
+one_refused r text e f (inr x) (inl (inr (inr y))) = absurd (program_or_fault r text x.program f x.is_built.accepts y)
+one_refused r text e f (inr x) (inr y) = x.refusal ∙ sym y.refusal
+
+-- a program is not refused as none, nor one whose constructs all have code for one that has none
+program_or_refused : Reads → (text : List ℕ) (p : Program) (e : Refusal) → Accepts text p → RefusesProgram text e → ⊥
+program_or_refused r text p e a (inl x) = fault_or_unit r text a.tokens a.unit e x a.is_unit
+program_or_refused r text p e a (inr (inl x)) = unit_or_none r text a.tokens a.unit e a.is_unit x
+program_or_refused r text p e a (inr (inr x)) = program_or_fault r text p e a x
+
+unbuilt_or_refused : Reads → (text : List ℕ) (e : Refusal) (place : Place) → Refuses text (Refused e) → IsUnbuilt text place → ⊥
+unbuilt_or_refused r text e place (inl x) y = program_or_refused r text y.program e y.accepts x
+unbuilt_or_refused r text e place (inr x) y = unbuilt_or_built r text x.program place x.is_built y
+
+pub one_refusal : Reads → (text : List ℕ) (e f : CompileFault) → Refuses text e → Refuses text f → e ≡ f
+one_refusal r text (Refused e) (Refused f) x y = ap Refused (one_refused r text e f x y)
+one_refusal r text (Refused e) (NotBuilt place) x y = absurd (unbuilt_or_refused r text e place x y)
+one_refusal r text (NotBuilt place) (Refused e) x y = absurd (unbuilt_or_refused r text e place y x)
+one_refusal r text (NotBuilt a) (NotBuilt b) x y = ap NotBuilt (one_unbuilt r text a b x y)
+
+pub not_both : Reads → (text : List ℕ) (p : Program) (e : CompileFault) → IsBuilt text p → Fits p → Refuses text e → ⊥
+not_both r text p (Refused e) b fits (inl x) = program_or_refused r text p e b.accepts x
+not_both r text p (Refused e) b fits (inr x) =
+    let same = ap (λ (q : Program). length (code_of q).code) (one_program r text x.program p x.is_built.accepts b.accepts) in
+    let long = x.long in
+    omega arith
+not_both r text p (NotBuilt place) b fits x = unbuilt_or_built r text p place b x

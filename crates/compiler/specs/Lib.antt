@@ -1,0 +1,3 @@
+pub mod Unbuilt
+pub mod Accepts
+pub mod Compiles
