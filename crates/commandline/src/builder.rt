@@ -13,6 +13,9 @@ const STEPS: &str = "1000000";
 pub fn command<'a>(alloc: Global) -> Result<Command<'a>, AllocError>
     ensures { IfOk result (λ c. app_of c ≡ line.command_line) }
 {
+    let check = Command::new(alloc, "check")
+        .about("Checks a source text")
+        .arg(positional(alloc, "FILE", "The source text"))?;
     let compile = Command::new(alloc, "compile")
         .about("Writes the image of a source text")
         .arg(positional(alloc, "FILE", "The source text"))?
@@ -30,6 +33,7 @@ pub fn command<'a>(alloc: Global) -> Result<Command<'a>, AllocError>
         .bin_name("mesamon")?
         .no_binary_name(true)
         .subcommand_required(true)
+        .subcommand(check)?
         .subcommand(compile)?
         .subcommand(list)?
         .subcommand(run)

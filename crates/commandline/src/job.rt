@@ -1,7 +1,7 @@
 ghost use Rattle.std.specs.Prelude.{IfOk, IfErr, IfSome, None, true, map, ◌≡◌};
 ghost use Rattle.clap.specs.Words.{found_of, kind_of, subcommand_rows_of, takes};
 ghost use Rattle.clap.specs.Walk.{rows_of};
-ghost use Rattle.commandline.specs.CommandLine.{AsksFor, IsAskedBy, IsCompileOf, IsListOf, IsRunOf, command_line};
+ghost use Rattle.commandline.specs.CommandLine.{AsksFor, IsAskedBy, IsCheckOf, IsCompileOf, IsListOf, IsRunOf, command_line};
 ghost use Rattle.commandline.specs.declared.job.Job.{Job as JobOf};
 
 use crate::builder::command;
@@ -13,6 +13,11 @@ use std::alloc::Global;
 /// What a command line asks for.
 #[derive(Clone, Copy, PartialEq, Eq, Debug)]
 pub enum Job<'a> {
+    /// Check the source text of a file.
+    Check {
+        /// The name of the source text's file.
+        file: &'a str,
+    },
     /// Compile the source text of a file, and write the image to another.
     Compile {
         /// The name of the source text's file.
@@ -67,11 +72,20 @@ fn job_of<'a>(matches: &ArgMatches<'a>) -> Option<Job<'a>>
 {
     let (name, inner) = matches.subcommand()?;
     match name {
+        "check" => check_of(inner),
         "compile" => compile_of(inner),
         "list" => list_of(inner),
         "run" => run_of(inner),
         _ => None,
     }
+}
+
+fn check_of<'a>(matches: &ArgMatches<'a>) -> Option<Job<'a>>
+    ensures job { IfSome result (IsCheckOf (rows_of (found_of matches.now))) }
+    ensures none { result ≡ None → (job : JobOf) → IsCheckOf (rows_of (found_of matches.now)) job → ⊥ }
+{
+    let file = matches.get_str("FILE")?;
+    Some(Job::Check { file })
 }
 
 fn compile_of<'a>(matches: &ArgMatches<'a>) -> Option<Job<'a>>

@@ -3,14 +3,14 @@ use Rattle.std.proofs.Common.{◌≢◌, ◌<◌, ◌+◌, ◌^◌, ℕ, List, l
 use Rattle.isa.specs.Programs.{Program}
 use Rattle.machine.specs.States.{state_of}
 use Rattle.machine.specs.Views.{concrete}
-use Rattle.simulation.specs.Code.{code_of}
-use Rattle.simulation.specs.Refines.{Refines}
+use Rattle.code.specs.Pieces.{code_of}
+use Rattle.refinement.specs.Refines.{Refines}
 use Rattle.runner.specs.declared.fault.RunFault.{RunFault}
 use Rattle.runner.specs.declared.fault.RunFault.TheVariants.{Broken, Memory, Stray, CannotMove, Limit}
 use Rattle.runner.specs.declared.report.Report.{Report}
 use Rattle.runner.specs.LogRuns.{RunsSo, MeetsSo}
 use Rattle.runner.specs.Reports.{IsReport, CanFail, MeetsBroken}
-use Rattle.mesamon.specs.Compiles.{IsCompiled}
+use Rattle.compiler.specs.Compiles.{IsCompiled}
 use Rattle.mesamon.specs.Running.{IsFailedRun, IsRunOf}
 
 pub run_explained : RunsSo → (text : List ℕ) (image : Program) (limit : ℕ) (r : Report) → IsCompiled text image

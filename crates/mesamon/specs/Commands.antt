@@ -1,5 +1,5 @@
 -- What a command that ended well has done: it wrote of some text, whose bytes a file gave.
-use Rattle.std.specs.Prelude.{◌≡◌, ◌⊎◌, ℕ, Bool, List, length}
+use Rattle.std.specs.Prelude.{codes, ◌≡◌, ◌⊎◌, ℕ, Bool, List, length}
 use Rattle.isa.specs.Programs.{Program}
 use Rattle.isa.specs.Spelling.{IsSpelled, spelling}
 use Rattle.listing.specs.Lines.{lines}
@@ -8,9 +8,18 @@ use Rattle.runner.specs.declared.report.Verdict.TheVariants as verdict
 use Rattle.runner.specs.declared.report.Report.{Report}
 use Rattle.mesamon.specs.declared.status.Status.{Status}
 use Rattle.mesamon.specs.declared.status.Status.TheVariants.{Done, Stuck, Limit}
-use Rattle.mesamon.specs.Compiles.{IsCompiled}
+use Rattle.program.specs.Trees.{Program as ProgramOf}
+use Rattle.compiler.specs.Accepts.{Accepts}
+use Rattle.compiler.specs.Compiles.{IsCompiled}
 use Rattle.mesamon.specs.Running.{IsRunOf}
 use Rattle.mesamon.specs.Accounts.{account, image_line, output_lines}
+
+-- some text was checked, and it was told that it is a program
+pub record HasChecked (Wrote : List ℕ → Type 0) : Type 0 where
+  pub text : List ℕ
+  pub program : ProgramOf
+  pub accepts : Accepts text program
+  pub wrote : Wrote (codes "ok\n")
 
 -- some text was compiled, and the line of its image was written
 pub record HasCompiled (Wrote : List ℕ → Type 0) : Type 0 where
@@ -43,9 +52,9 @@ pub record HasRun (Wrote WroteErrors : List ℕ → Type 0) (status : Status) : 
   pub wrote : Wrote (output_lines report.output.items)
   pub told : WroteErrors (account report trace)
 
--- a command that ended well has compiled, has listed or has run
+-- a command that ended well has compiled, has listed, has run or has checked
 abbrev pub HasDone : (Wrote WroteErrors : List ℕ → Type 0) → Status → Type 0
-HasDone Wrote WroteErrors Done = HasCompiled Wrote ⊎ (HasListed Wrote ⊎ HasRun Wrote WroteErrors Done)
+HasDone Wrote WroteErrors Done = HasCompiled Wrote ⊎ (HasListed Wrote ⊎ (HasRun Wrote WroteErrors Done ⊎ HasChecked Wrote))
 HasDone Wrote WroteErrors Stuck = HasRun Wrote WroteErrors Stuck
 HasDone Wrote WroteErrors Limit = HasRun Wrote WroteErrors Limit
 HasDone Wrote WroteErrors _ = ⊥

@@ -1,16 +1,16 @@
 ghost use Rattle.std.specs.Prelude.{◌≡◌, ◌≤◌, ◌⊎◌, ℕ, List, IfOk, IfErr, OnOk};
 ghost use Rattle.std.specs.Io.KnownBytes.{Appends};
 ghost use Rattle.mesamon.specs.Accounts.{output_lines, account};
-ghost use Rattle.mesamon.specs.Commands.{HasCompiled, HasDone, HasListed, HasRun, status_of_verdict};
+ghost use Rattle.mesamon.specs.Commands.{HasChecked, HasCompiled, HasDone, HasListed, HasRun, status_of_verdict};
 ghost use Rattle.mesamon.specs.Running.{IsRunOf};
 
-use crate::compiler::compile;
 use crate::failure::Failure;
 use crate::files::{read_file, write_image};
 use crate::report::{write_account, write_image_line, write_output, write_text};
 use crate::source_run::run_source;
 use crate::status::Status;
 use commandline::{Job, read_job};
+use compiler::{check_text, compile};
 use isa::{decode, encode};
 use listing::list_lines;
 use runner::{Report, Verdict};
@@ -35,8 +35,9 @@ pub fn perform<R: Files + AllocGlobal, O: Write, E: Write>(
     ensures known { result ≤ 6 }
     ensures done { result ≡ 0 → HasCompiled (Appends (O.contents output.old) (O.contents output.new))
         ⊎ (HasListed (Appends (O.contents output.old) (O.contents output.new))
-        ⊎ HasRun (Appends (O.contents output.old) (O.contents output.new))
-        (Appends (E.contents errors.old) (E.contents errors.new)) Status.Done) }
+        ⊎ (HasRun (Appends (O.contents output.old) (O.contents output.new))
+        (Appends (E.contents errors.old) (E.contents errors.new)) Status.Done
+        ⊎ HasChecked (Appends (O.contents output.old) (O.contents output.new)))) }
     ensures stuck { result ≡ 3 → HasRun (Appends (O.contents output.old) (O.contents output.new))
         (Appends (E.contents errors.old) (E.contents errors.new)) Status.Stuck }
     ensures limit { result ≡ 4 → HasRun (Appends (O.contents output.old) (O.contents output.new))
@@ -70,6 +71,10 @@ fn do_job<'a, R: Files + AllocGlobal, O: Write, E: Write>(
         (Appends (E.contents errors.old) (E.contents errors.new)) s) }
 {
     match read_job(rt.alloc(), words)? {
+        Job::Check { file } => {
+            check_file(rt, file, output)?;
+            Ok(Status::Done)
+        }
         Job::Compile { file, out } => {
             compile_file(rt, file, out, output)?;
             Ok(Status::Done)
@@ -84,6 +89,20 @@ fn do_job<'a, R: Files + AllocGlobal, O: Write, E: Write>(
             Ok(status_of(report.verdict))
         }
     }
+}
+
+// Checks a file.
+fn check_file<'a, R: Files + AllocGlobal, O: Write>(
+    rt: &R,
+    file: &'a str,
+    output: &mut O,
+) -> Result<(), Failure<'a>>
+    ensures { OnOk result (HasChecked (Appends (O.contents output.old) (O.contents output.new))) }
+{
+    let text = read_file(rt, file).map_err(|error| Failure::of_read(file, &error))?;
+    check_text(rt.alloc(), text.as_slice())?;
+    write_text(output, "ok\n").map_err(|error| Failure::of_output(&error))?;
+    Ok(())
 }
 
 // Compiles a file to another.

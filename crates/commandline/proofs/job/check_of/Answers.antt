@@ -1,0 +1,16 @@
+use Rattle.std.proofs.Common.{rules, codes}
+use Rattle.clap.proofs.WalkLemmas.{first_value-rows}
+use Rattle.clap.specs.Words.{found_of}
+use Rattle.clap.specs.Walk.{rows_of}
+use Rattle.commandline.proofs.NoJobs.{no_check}
+use Rattle.commandline.proofs.job.check_of.Goals as goal
+
+pub returns-in_err-file-clause-none : goal.returns-in_err-file-clause-none
+returns-in_err-file-clause-none c =
+    let file = first_value-rows (found_of c.args.matches.now) (codes "FILE") in
+    λ _ job. no_check (rows_of (found_of c.args.matches.now)) job (search rules)
+
+pub returns-clause-job : goal.returns-clause-job
+returns-clause-job c =
+    let file = first_value-rows (found_of c.args.matches.now) (codes "FILE") in
+    search rules

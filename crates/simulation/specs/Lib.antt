@@ -1,4 +1,0 @@
-pub mod Code
-pub mod Seen
-pub mod Pace
-pub mod Refines
