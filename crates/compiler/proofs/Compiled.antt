@@ -11,11 +11,12 @@ use Rattle.compiler.specs.declared.fault.CompileFault.TheVariants.{Refused}
 use Rattle.compiler.specs.Accepts.{Accepts, IsBuilt, RefusesProgram, Refuses, no_memory}
 use Rattle.compiler.specs.Compiles.{IsCompiled}
 
-pub compiled : (text : List ℕ) (image : Image) (p : Program) → image ≡ code_of p → IsBuilt text p → Refines p (code_of p)
+pub compiled : (text : List ℕ) (image : Image) (p : Program) → image ≡ code_of p → backend.Fits p → IsBuilt text p → Refines p (code_of p)
     → IsCompiled text image
-compiled text image p same b refines = record {
+compiled text image p same fits b refines = record {
   program = p;
-  accepts = b.accepts;
+  is_built = b;
+  fits = fits;
   code = same;
   refines = subst (λ (i : Image). Refines p i) (sym same) refines;
 }
@@ -41,6 +42,6 @@ pub record Laws : Type 0 where
 
 pub only_memory : Laws → (text : List ℕ) (r : Result Image CompileFault) → Answers text r → (p : Program) → IsBuilt text p
     → backend.Fits p → MatchResult r (λ image. image ≡ code_of p) (λ e. e ≡ no_memory)
-only_memory laws text (Ok image) c p b fits = c.code ∙ ap code_of (laws.one text c.program p c.accepts b.accepts)
+only_memory laws text (Ok image) c p b fits = c.code ∙ ap code_of (laws.one text c.program p c.is_built.accepts b.accepts)
 only_memory laws text (Err e) (inl memory) p b fits = memory
 only_memory laws text (Err e) (inr refused) p b fits = absurd (laws.not_both text p e b fits refused)

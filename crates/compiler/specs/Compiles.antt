@@ -8,7 +8,8 @@ use Rattle.program.specs.Trees.{Program}
 use Rattle.program.specs.WellFormed.{WellFormed}
 use Rattle.code.specs.Pieces.{code_of}
 use Rattle.refinement.specs.Refines.{Refines}
-use Rattle.compiler.specs.Accepts.{IsUnit, IsProgramOf, Accepts}
+use Rattle.backend.specs.Refusals.{Fits}
+use Rattle.compiler.specs.Accepts.{IsUnit, IsProgramOf, IsBuilt}
 
 -- these are the text's tokens, and this its checked program
 pub record IsRead (text : List ℕ) (tokens : List Token) (c : CheckedProgram) : Type 0 where
@@ -17,9 +18,11 @@ pub record IsRead (text : List ℕ) (tokens : List Token) (c : CheckedProgram) :
   pub is_program : IsProgramOf unit (said_by c)
   pub well_formed : WellFormed (said_by c)
 
--- the image is the code of the text's program, and refines it
+-- the text is a program, each construct of which has code; the image is its code, no longer than an image may have, and
+-- refines it
 pub record IsCompiled (text : List ℕ) (image : Image) : Type 0 where
   pub program : Program
-  pub accepts : Accepts text program
+  pub is_built : IsBuilt text program
+  pub fits : Fits program
   pub code : image ≡ code_of program
   pub refines : Refines program image

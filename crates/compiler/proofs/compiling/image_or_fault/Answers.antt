@@ -47,7 +47,7 @@ returns c =
     let read = c.in_ok-tokens.ensures in
     let unmonitored : UsesNoMonitor (said_by c.in_ok-tokens.checked) = subst UsesNoMonitor (sym read.is_program.program)
     (c.built_units_use_no_monitor.ensures c.in_ok-tokens.tokens.items read.unit read.is_unit.spelled none) in
-    compiled c.args.text.now c.in_ok-image_of.field-0 (said_by c.in_ok-tokens.checked) c.in_ok-image_of.ensures.0 record {
+    compiled c.args.text.now c.in_ok-image_of.field-0 (said_by c.in_ok-tokens.checked) c.in_ok-image_of.ensures.0 c.in_ok-image_of.ensures.1 record {
       accepts = record {
         tokens = c.in_ok-tokens.tokens.items;
         unit = read.unit;
