@@ -18,7 +18,7 @@ use Rattle.protocol.proofs.Sleeps.{same-true}
 use Rattle.protocol.specs.Steps.{after}
 use Rattle.protocol.specs.Moves.{AddSeq, AddAll}
 use Rattle.protocol.specs.Runs.{IsOver}
-use Rattle.protocol.proofs.Roles.{own, point_helps, point_sleeps, holds, helps, may_sleep, Tie}
+use Rattle.protocol.proofs.Roles.{own, owing, point_helps, point_sleeps, holds, helps, may_sleep, Tie}
 use Rattle.protocol.proofs.Lock.{tie_owner}
 use Rattle.protocol.proofs.Joins.{joins, goes, point_joins}
 use Rattle.protocol.proofs.Pend.{PendAt}
@@ -77,13 +77,19 @@ taking_word m ToEnter = refl
 taking_word m ToReenter = refl
 taking_word m (ToResume c) = refl
 
+-- a thread with no pending entry owes no wake
+no_debt : (y : Entry) (x : ℕ) → owing y x ≡ true → entry_word y ≡ 0 → ⊥
+no_debt NoEntry x h z = false≢true h
+no_debt (Owned m) x h z = omega (arith, z)
+no_debt (Unowned m) x h z = omega (arith, z)
+
 helper_inside : (p : Point) (v x : ℕ) → point_helps p x ≡ true → PendAt p v → IsOutside p v → ⊥
 helper_inside (TakeReads m k) v x h pend out = omega (arith, pend, out, taking_word m k)
 helper_inside (TakeMarks m s k) v x h pend out = omega (arith, pend, out, taking_word m k)
 helper_inside (TakeSleeps m s k) v x h pend out = omega (arith, pend, out, taking_word m k)
 helper_inside (TakeTries m s k) v x h pend out = omega (arith, pend, out, taking_word m k)
 helper_inside (LeaveWakes m r) v x h pend out = omega (arith, pend, out)
-helper_inside (Dies cause y) v x h pend out = out
+helper_inside (Dies cause y) v x h pend out = no_debt y x h (sym pend ∙ out)
 helper_inside (Walks a y end) v x h pend out = out
 helper_inside p v x h pend out = false≢true h
 

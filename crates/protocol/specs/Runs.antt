@@ -98,10 +98,9 @@ Goes p = Unit {0}
 abbrev pub CanStep : World → ℕ → Type 0
 CanStep w t = (w.asleep t ≡ None) × Goes (w.at t).point
 
--- outside the taking and giving up of locks, and neither dying nor exiting; or ended, or not made
+-- outside the taking and giving up of locks, and not exiting; or ended, or not made
 abbrev pub IsOutside : Point → ℕ → Type 0
 IsOutside Unmade pending = Unit {0}
-IsOutside (Dies cause x) pending = ⊥
 IsOutside (Walks a x end) pending = ⊥
 IsOutside (ClearsId end) pending = ⊥
 IsOutside (LastWakes end) pending = ⊥
