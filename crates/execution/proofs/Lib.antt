@@ -1,16 +1,3 @@
-pub mod Operators
 pub mod Words
+pub mod Operators
 pub mod Walking
-pub mod Evaluating
-pub mod Bodies
-pub mod Contexts
-pub mod Stepping
-pub mod Testing
-pub mod Returning
-pub mod Arguments
-pub mod Calling
-pub mod Growing
-pub mod Forking
-pub mod Awaiting
-pub mod Joining
-pub mod Followed

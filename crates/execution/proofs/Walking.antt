@@ -1,5 +1,5 @@
 -- Walks one after another, and what leads on from an evaluation.
-use Rattle.std.proofs.Common.{◌≡◌, ℕ, ◌+◌, ◌<◌, ◌≤◌, List, [], ◌∷◌, ◌++◌, length, Some, slice_get, refl, ap, ◌∙◌, subst, arith, ℤ, lt-ltb}
+use Rattle.std.proofs.Common.{◌≡◌, ℕ, ◌+◌, ◌<◌, ◌≤◌, List, [], ◌∷◌, ◌++◌, length, Some, Option, None, slice_get, refl, ap, ◌∙◌, subst, arith, ℤ, lt-ltb}
 use Rattle.words.specs.Signed.{word_of}
 use Rattle.isa.specs.declared.instr.Instr.{Instr}
 use Rattle.isa.specs.Programs.{Program}
@@ -9,10 +9,12 @@ use Rattle.locals.specs.declared.frame.Locals.{Locals}
 use Rattle.locals.specs.declared.frame.Frame.{Frame}
 use Rattle.locals.specs.Threads.{Thread, Runs, Dies}
 use Rattle.locals.specs.Looks.{Goes, Asks, AskLoad, look, effect, at_place, if_so, push_effect}
-use Rattle.meaning.specs.Values.{Evaluated, Value, Fails, and_then}
+use Rattle.program.specs.Trees.{Program as Source}
+use Rattle.meaning.specs.Values.{Variables, Evaluated, Value, Fails, and_then}
+use Rattle.execution.specs.Variables.{SameIn}
 use Rattle.execution.specs.Typed.{HasValue}
 use Rattle.execution.specs.Evaluation.{OfType}
-use Rattle.execution.specs.Walks.{StandAt, Walks, stays, goes, loads, WalksWithin, Gives}
+use Rattle.execution.specs.Walks.{View, empty_view, StandAt, Reads, Walks, stays, goes, loads, WalksWithin, Gives}
 use Rattle.execution.proofs.Operators.{shown}
 
 pub front_stands : (p : Program) (place : ℕ) (a b : List Marked) → StandAt p place (a ++ b) → StandAt p place a
@@ -26,17 +28,17 @@ back_stands p place (i ∷ a) b h =
     let e : place + 1 + length a ≡ place + length (i ∷ a) = omega arith in
     subst (λ n. StandAt p n b) e (back_stands p (place + 1) a b h.1)
 
-module _ (p : Program) (t size : ℕ) (memory : ℕ → ℕ) where
-  pub walks_on : (m : ℕ) (z : Thread) → {n : ℕ} {x y : Thread} → Walks p t size memory n x y
-      → Walks p t size memory m y z → Walks p t size memory (n + m) x z
-  walks_on m z (stays {x = a}) w = subst (λ k. Walks p t size memory k a z) (omega arith) w
-  walks_on m z (goes {n = k} {x = a} h v) w = subst (λ i. Walks p t size memory i a z) (omega arith)
+module _ (p : Program) (t : ℕ) (s : View) where
+  pub walks_on : (m : ℕ) (z : Thread) → {n : ℕ} {x y : Thread} → Walks p t s n x y
+      → Walks p t s m y z → Walks p t s (n + m) x z
+  walks_on m z (stays {x = a}) w = subst (λ k. Walks p t s k a z) (omega arith) w
+  walks_on m z (goes {n = k} {x = a} h v) w = subst (λ i. Walks p t s i a z) (omega arith)
       (goes h (walks_on m z v w))
-  walks_on m z (loads {n = k} {x = a} h lt v) w = subst (λ i. Walks p t size memory i a z) (omega arith)
-      (loads h lt (walks_on m z v w))
+  walks_on m z (loads {n = k} {x = a} h r v) w = subst (λ i. Walks p t s i a z) (omega arith)
+      (loads h r (walks_on m z v w))
 
-  pub within_on : (n m : ℕ) (x y z : Thread) → WalksWithin p t size memory n x y → WalksWithin p t size memory m y z
-      → WalksWithin p t size memory (n + m) x z
+  pub within_on : (n m : ℕ) (x y z : Thread) → WalksWithin p t s n x y → WalksWithin p t s m y z
+      → WalksWithin p t s (n + m) x z
   within_on n m x y z v w = record {
     count = v.count + w.count;
     few = omega (arith, v.few, w.few);
@@ -44,34 +46,34 @@ module _ (p : Program) (t size : ℕ) (memory : ℕ → ℕ) where
         walks_on w.count z v.walk w.walk;
   }
 
-  pub wider : (n m : ℕ) (x y : Thread) → n ≤ m → WalksWithin p t size memory n x y → WalksWithin p t size memory m x y
+  pub wider : (n m : ℕ) (x y : Thread) → n ≤ m → WalksWithin p t s n x y → WalksWithin p t s m x y
   wider n m x y le w = record { count = w.count; few = omega (arith, le, w.few); walk = w.walk }
 
-  pub one_step : (x y : Thread) → look p t x ≡ Goes y → WalksWithin p t size memory 1 x y
+  pub one_step : (x y : Thread) → look p t x ≡ Goes y → WalksWithin p t s 1 x y
   one_step x y h = record { count = 1; few = omega arith; walk = goes h stays }
 
-  pub one_load : (x : Thread) (a : ℕ) (k : ℕ → Thread) → look p t x ≡ Asks (AskLoad a) k → a < size
-      → WalksWithin p t size memory 1 x (k (memory a))
-  one_load x a k h lt = record { count = 1; few = omega arith; walk = loads h lt stays }
+  pub one_load : (x : Thread) (a word : ℕ) (k : ℕ → Thread) → look p t x ≡ Asks (AskLoad a) k → Reads s a word
+      → WalksWithin p t s 1 x (k word)
+  one_load x a word k h r = record { count = 1; few = omega arith; walk = loads h r stays }
 
   pub wider_gives : (n m : ℕ) (x : Thread) (e : Evaluated) (place : ℕ) (operands : List ℕ) (l : Locals)
-      (fs : List Frame) → n ≤ m → Gives p t size memory n x e place operands l fs
-      → Gives p t size memory m x e place operands l fs
+      (fs : List Frame) → n ≤ m → Gives p t s n x e place operands l fs
+      → Gives p t s m x e place operands l fs
   wider_gives n m x (Value z) place operands l fs le g = wider n m x _ le g
   wider_gives n m x (Fails fault) place operands l fs le g = wider n m x _ le g
 
   pub walk_gives : (n m : ℕ) (x y : Thread) (e : Evaluated) (place : ℕ) (operands : List ℕ) (l : Locals)
-      (fs : List Frame) → WalksWithin p t size memory n x y → Gives p t size memory m y e place operands l fs
-      → Gives p t size memory (n + m) x e place operands l fs
+      (fs : List Frame) → WalksWithin p t s n x y → Gives p t s m y e place operands l fs
+      → Gives p t s (n + m) x e place operands l fs
   walk_gives n m x y (Value z) place operands l fs w g = within_on n m x y _ w g
   walk_gives n m x y (Fails fault) place operands l fs w g = within_on n m x y _ w g
 
   -- what a value leads to
   pub and_gives : (made : ℕ) → (u : ValueType) (n m : ℕ) (x : Thread) (e : Evaluated) (go : ℤ → Evaluated) (place1 : ℕ)
       (operands1 : List ℕ) (place : ℕ) (operands : List ℕ) (l : Locals) (fs : List Frame)
-      → Gives p t size memory n x e place1 operands1 l fs → OfType made u e →
-      ((z : ℤ) → HasValue made u z → Gives p t size memory m (Runs place1 (word_of z ∷ operands1) l fs)
-      (go z) place operands l fs) → Gives p t size memory (n + m) x (and_then e go) place operands l fs
+      → Gives p t s n x e place1 operands1 l fs → OfType made u e →
+      ((z : ℤ) → HasValue made u z → Gives p t s m (Runs place1 (word_of z ∷ operands1) l fs)
+      (go z) place operands l fs) → Gives p t s (n + m) x (and_then e go) place operands l fs
   and_gives made u n m x (Value z) go place1 operands1 place operands l fs g h k = walk_gives n m x _
       (go z) place operands l fs g (k z h)
   and_gives made u n m x (Fails fault) go place1 operands1 place operands l fs g h k = wider n (n + m) x (Dies fault)
@@ -79,7 +81,7 @@ module _ (p : Program) (t size : ℕ) (memory : ℕ → ℕ) where
 
   -- one instruction that shows an evaluation
   pub shown_gives : (x : Thread) (e : Evaluated) (place : ℕ) (operands : List ℕ) (l : Locals) (fs : List Frame)
-      → look p t x ≡ shown e operands place l fs → Gives p t size memory 1 x e (place + 1) operands l fs
+      → look p t x ≡ shown e operands place l fs → Gives p t s 1 x e (place + 1) operands l fs
   shown_gives x (Value z) place operands l fs h = one_step x _ h
   shown_gives x (Fails fault) place operands l fs h = one_step x _ h
 
@@ -100,3 +102,36 @@ pub and_typed : (made : ℕ) → (u t : ValueType) (e : Evaluated) (go : ℤ →
     ((z : ℤ) → HasValue made u z → OfType made t (go z)) → OfType made t (and_then e go)
 and_typed made u t (Value z) go h k = k z h
 and_typed made u t (Fails fault) go h k = tt
+
+-- a walk that reads nothing is one in any view
+seen_walk : (p : Program) (t : ℕ) (source : Source) (s : View) → {n : ℕ} {x y : Thread}
+    → Walks p t (empty_view source) n x y → Walks p t s n x y
+seen_walk p t source s stays = stays
+seen_walk p t source s (goes h w) = goes h (seen_walk p t source s w)
+seen_walk p t source s (loads h r w) = let none = r.mine in absurd cc
+
+pub seen : (p : Program) (t : ℕ) (source : Source) (s : View) (n : ℕ) (x y : Thread)
+    → WalksWithin p t (empty_view source) n x y → WalksWithin p t s n x y
+seen p t source s n x y w = record { count = w.count; few = w.few; walk = seen_walk p t source s w.walk }
+
+-- a walk reads the same where the own monitor's variables are the same
+same_walk : (p : Program) (t : ℕ) (source : Source) (own : Option ℕ) (v v' : Variables) → SameIn own v v' → {n : ℕ}
+    {x y : Thread} → Walks p t (record { program = source; own = own; variables = v }) n x y
+    → Walks p t (record { program = source; own = own; variables = v' }) n x y
+same_walk p t source own v v' same stays = stays
+same_walk p t source own v v' same (goes h w) = goes h (same_walk p t source own v v' same w)
+same_walk p t source own v v' same (loads h r w) =
+    loads h (record {
+      member = r.member;
+      index = r.index;
+      mine = r.mine;
+      variable = r.variable;
+      there = r.there;
+      shown = r.shown ∙ ap word_of (same r.member.monitor r.mine r.member.number r.index);
+    }) (same_walk p t source own v v' same w)
+
+pub same_within : (p : Program) (t : ℕ) (source : Source) (own : Option ℕ) (v v' : Variables) (n : ℕ) (x y : Thread)
+    → SameIn own v v' → WalksWithin p t (record { program = source; own = own; variables = v }) n x y
+    → WalksWithin p t (record { program = source; own = own; variables = v' }) n x y
+same_within p t source own v v' n x y same w =
+    record { count = w.count; few = w.few; walk = same_walk p t source own v v' same w.walk }

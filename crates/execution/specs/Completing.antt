@@ -1,20 +1,31 @@
--- What a thread that stands for a process does: the steps that complete what the process offers.
-use Rattle.std.specs.Prelude.{ℕ, suc, ◌≡◌, ◌≢◌, ◌<◌, ◌≤◌, ◌^◌, pos, ℤ, List, [], Option, Some, None, true, ⊤}
+-- What a thread that stands for a process does: the steps that complete what the process offers, or the templates that
+-- do.
+use Rattle.std.specs.Prelude.{ℕ, suc, ◌+◌, ◌≡◌, ◌≢◌, ◌<◌, ◌≤◌, ◌^◌, pos, ℤ, List, [], ◌∷◌, length, Option, Some, None, true, ⊤}
 use Rattle.words.specs.Limits.{most_processes}
 use Rattle.words.specs.Process.{process_word}
-use Rattle.words.specs.Signed.{signed_of}
+use Rattle.words.specs.Signed.{signed_of, word_of}
 use Rattle.words.specs.declared.outcome.Fault.{Fault}
 use Rattle.words.specs.declared.outcome.Fault.TheVariants.{HandleNotJoinable, ProcessTableFull, JoinedAborted}
+use Rattle.program.specs.declared.kinds.Member.{Member}
+use Rattle.program.specs.declared.kinds.MemberType.TheVariants.{Condition}
+use Rattle.program.specs.Scope.{member_type}
 use Rattle.program.specs.Trees.{Part, NoPart, SomePart, followed_by}
-use Rattle.locals.specs.Threads.{Thread, Dies, opening_thread}
-use Rattle.locals.specs.Looks.{Request, Goes, Asks, AskLoad, AskSwap, AskWait, AskFork, AskPrint, AskReturn, AskReturnValue, look, first_exit}
+use Rattle.code.specs.Layout.{link_word, member_address}
+use Rattle.code.specs.Locks.{enter_code, exit_code}
+use Rattle.code.specs.Conditions.{wait_code, notify_code, broadcast_code}
+use Rattle.code.specs.Marks.{placed}
+use Rattle.locals.specs.declared.frame.Locals.{Locals}
+use Rattle.locals.specs.declared.frame.Frame.{Frame as MachineFrame}
+use Rattle.locals.specs.Threads.{Thread, Runs, Dies, opening_thread}
+use Rattle.locals.specs.Looks.{Request, Goes, Asks, AskLoad, AskStore, AskSwap, AskWait, AskFork, AskPrint, AskReturn, AskReturnValue, look, first_exit}
 use Rattle.meaning.specs.Values.{Variables}
-use Rattle.meaning.specs.Labels.{Faulted, Alone, Kind}
+use Rattle.meaning.specs.Labels.{Faulted, Alone, Kind, Exits, Waits, Stores}
 use Rattle.meaning.specs.Labels as L
-use Rattle.meaning.specs.Processes.{Frame, Caller, Process, Joining, Dying, Leaving, goes_on, with_result, all_monitors}
-use Rattle.meaning.specs.Offers.{Does, MakesOne, ClaimsOne, Nothing, Writes, offer}
-use Rattle.execution.specs.Walks.{WalksWithin}
-use Rattle.execution.specs.Following.{Build, with_made, Stands}
+use Rattle.meaning.specs.Processes.{Frame, Caller, Process, Entering, Suspended, Joining, Returning, Dying, Leaving, goes_on, recovers, with_result, holds, all_monitors, callers_monitors}
+use Rattle.meaning.specs.Offers.{Offer, Does, MakesOne, ClaimsOne, NotifiesSome, NotifiesAll, Nothing, Puts, Writes, offer}
+use Rattle.execution.specs.Variables.{IsVariable, variable_address, ValueFits}
+use Rattle.execution.specs.Walks.{View, StandAt, WalksWithin}
+use Rattle.execution.specs.Following.{Build, with_made, recovery_in, result_operands, own_of, StepsWithin, Stands}
 
 -- an action of a process's own, none from outside
 abbrev pub IsOwn : Kind → Type 0
@@ -39,17 +50,15 @@ IsResult (Some w) = w < 2 ^ 32
 abbrev pub join_steps : ℕ
 join_steps = 8
 
--- a thread that learned of an abort stands for the ABORTED part, or comes to a fault where there is none; then its
--- process holds no monitor
-abbrev pub GoesAborted : Build → ℕ → ℕ → (ℕ → ℕ) → Thread → Part → Frame → List Caller → Type 0
-GoesAborted b t size memory x NoPart f callers = WalksWithin b.image t size memory join_steps x (Dies JoinedAborted)
-    × (all_monitors f callers ≡ [])
-GoesAborted b t size memory x (SomePart body) f callers =
-    Stands b t size memory x (goes_on None (record f { rest = followed_by body f.rest }) callers)
+-- a thread that learned of an abort stands for the ABORTED part, or comes to a fault where there is none
+abbrev pub GoesAborted : Build → ℕ → Thread → Part → Frame → List Caller → Type 0
+GoesAborted b t x NoPart f callers = StepsWithin b t join_steps x (Dies JoinedAborted)
+GoesAborted b t x (SomePart body) f callers =
+    Stands b t x (goes_on None (record f { rest = followed_by body f.rest }) callers)
 
 -- the requests of a JOIN: the child's id word is read, and while it isn't 0 the thread sleeps on it; then the outcome
 -- is read, and the result
-pub record Awaits (b : Build) (t size : ℕ) (memory : ℕ → ℕ) (child : ℕ) (into : Option ℕ) (part : Part) (f : Frame)
+pub record Awaits (b : Build) (t child : ℕ) (into : Option ℕ) (part : Part) (f : Frame)
     (callers : List Caller) : Type 0 where
   pub reads : Thread
   pub sleeps : Thread
@@ -63,50 +72,100 @@ pub record Awaits (b : Build) (t size : ℕ) (memory : ℕ → ℕ) (child : ℕ
   pub sleep : look b.image t sleeps ≡ Asks (AskWait (process_word child 2) child) after_sleep
   pub outcome : look b.image t learns ≡ Asks (AskLoad (process_word child 5)) after_outcome
   pub result : look b.image t takes ≡ Asks (AskLoad (process_word child 4)) after_result
-  pub there : (n : ℕ) → WalksWithin b.image t size memory join_steps (after_read (suc n)) sleeps
-  pub gone : WalksWithin b.image t size memory join_steps (after_read 0) learns
-  pub again : (n : ℕ) → WalksWithin b.image t size memory join_steps (after_sleep n) reads
-  pub ended : WalksWithin b.image t size memory join_steps (after_outcome 16) takes
-  pub aborted : (n : ℕ) → n ≢ 16 → GoesAborted b t size memory (after_outcome n) part f callers
-  pub taken : (w : ℕ) → w < 2 ^ 32 → Stands b t size memory (after_result w)
+  pub there : (n : ℕ) → StepsWithin b t join_steps (after_read (suc n)) sleeps
+  pub gone : StepsWithin b t join_steps (after_read 0) learns
+  pub again : (n : ℕ) → StepsWithin b t join_steps (after_sleep n) reads
+  pub ended : StepsWithin b t join_steps (after_outcome 16) takes
+  pub aborted : (n : ℕ) → n ≢ 16 → GoesAborted b t (after_outcome n) part f callers
+  pub taken : (w : ℕ) → w < 2 ^ 32 → Stands b t (after_result w)
       (goes_on None (with_result into (signed_of w) f) callers)
 
--- the step with which a thread does what its process offers: an action of its own, a print, the return of its first
--- procedure, a fork, the claim of a JOIN, or, once it has met it, a fault
-pub data Completes (b : Build) (t size : ℕ) (memory : ℕ → ℕ) (v : Variables) (x : Thread) (q : Process) : Type 0 where
+-- locals with a word in the templates' own
+abbrev pub kept : Locals → ℕ → Locals
+kept l word = record l { scratch = word }
+
+-- where a thread goes on that has taken a monitor's lock, whatever word it has kept: behind the instruction at a place,
+-- or, where the monitor was abandoned, at that instruction
+pub record GoesOn (b : Build) (t m place : ℕ) (l : Locals) (fs : List MachineFrame) (f : Frame)
+    (cs : List Caller) : Type 0 where
+  pub enters : (word : ℕ) → Stands b t (Runs (place + 1) [] (kept l word) fs) (goes_on (Some m) f cs)
+  pub recovers : (word : ℕ) → Stands b t (Runs place [] (kept l word) fs) (recovers b.program m f cs)
+
+-- a process has the monitor, innermost
+abbrev pub HasFirst : Process → ℕ → Type 0
+HasFirst q m = (ms : List ℕ) × (holds q ≡ m ∷ ms)
+
+-- the step with which a thread does what its process offers: an action of its own, a print, a store into a variable,
+-- the return of its first procedure, a fork, the claim of a JOIN, or, once it has met it, a fault; or the template,
+-- before which it stands, that does it
+pub data Completes (b : Build) (t : ℕ) (v : Variables) (x : Thread) (q : Process) : Type 0 where
   acts : {y : Thread} {r : Process} (kind : Kind) → IsOwn kind → look b.image t x ≡ Goes y
       → offer b.program v q ≡ Does (Alone kind) Nothing r
-      → Stands b t size memory y r → Completes b t size memory v x q
+      → Stands b t y r → Completes b t v x q
   prints : {r : Process} (w : ℕ) (go : ℕ → Thread) → look b.image t x ≡ Asks (AskPrint w) go
       → offer b.program v q ≡ Does (Alone (L.Print (signed_of w))) (Writes (signed_of w)) r
-      → ((answer : ℕ) → Stands b t size memory (go answer) r) → Completes b t size memory v x q
-  returns : look b.image t x ≡ Asks AskReturn first_exit → q ≡ Leaving (pos 0) → Completes b t size memory v x q
+      → ((answer : ℕ) → Stands b t (go answer) r) → Completes b t v x q
+  stores : {r : Process} (m : Member) (i : ℕ) (z : ℤ) (go : ℕ → Thread) → own_of q ≡ Some m.monitor → HasFirst q m.monitor
+      → IsVariable b.program m i → ValueFits b.made (member_type b.program m) z
+      → look b.image t x ≡ Asks (AskStore (variable_address b.program m i) (word_of z)) go
+      → offer b.program v q ≡ Does (Stores m.monitor) (Puts m.monitor m.number i z) r
+      → ((answer : ℕ) → Stands b t (go answer) r) → Completes b t v x q
+  returns : look b.image t x ≡ Asks AskReturn first_exit → q ≡ Leaving (pos 0) → Completes b t v x q
   leaves : (result : Option ℕ) → IsResult result → look b.image t x ≡ Asks (return_request result) first_exit
       → offer b.program v q ≡ Does (Alone L.Return) Nothing (Leaving (left_value result))
-      → Completes b t size memory v x q
+      → Completes b t v x q
   forks : {child : Process} {after : ℕ → Process} (entry : ℕ) (arguments : List ℕ) (go : ℕ → Thread)
       → look b.image t x ≡ Asks (AskFork entry arguments true) go → go 0 ≡ Dies ProcessTableFull
-      → offer b.program v q ≡ MakesOne child after (Dying (Faulted ProcessTableFull) [])
+      → offer b.program v q ≡ MakesOne child after (Dying (Faulted ProcessTableFull) (holds q))
       → ((n : ℕ) → b.made ≤ suc n → suc n ≤ most_processes
-      → Stands (with_made b (suc n)) t size memory (go (suc n)) (after (suc n)))
-      → ((n u : ℕ) → b.made ≤ n → Stands (with_made b n) u size memory (opening_thread entry arguments) child)
-      → Completes b t size memory v x q
+      → Stands (with_made b (suc n)) t (go (suc n)) (after (suc n)))
+      → ((n u : ℕ) → b.made ≤ n → Stands (with_made b n) u (opening_thread entry arguments) child)
+      → Completes b t v x q
   claims : {into : Option ℕ} {part : Part} {f : Frame} {callers : List Caller} (child : ℕ) (go : ℕ → Thread)
       → 0 < child → child ≤ b.made → child ≤ most_processes
       → look b.image t x ≡ Asks (AskSwap (process_word child 3) 1) go
       → offer b.program v q ≡ ClaimsOne child (Joining child into part f callers)
-      (Dying (Faulted HandleNotJoinable) [])
-      → (j : Awaits b t size memory child into part f callers)
-      → WalksWithin b.image t size memory join_steps (go 0) j.reads
-      → ((n : ℕ) → WalksWithin b.image t size memory join_steps (go (suc n)) (Dies HandleNotJoinable))
-      → Completes b t size memory v x q
-  faults : (fault : Fault) → x ≡ Dies fault → offer b.program v q ≡ Does (Alone (L.Fails fault)) Nothing
-      (Dying (Faulted fault) [])
-      → Completes b t size memory v x q
+      (Dying (Faulted HandleNotJoinable) (holds q))
+      → (j : Awaits b t child into part f callers)
+      → StepsWithin b t join_steps (go 0) j.reads
+      → ((n : ℕ) → StepsWithin b t join_steps (go (suc n)) (Dies HandleNotJoinable))
+      → Completes b t v x q
+  faults : (fault : Fault) → x ≡ Dies fault
+      → offer b.program v q ≡ Does (Alone (L.Fails fault)) Nothing (Dying (Faulted fault) (holds q))
+      → Completes b t v x q
+  enters : {m : ℕ} {f : Frame} {cs : List Caller} {l : Locals} {fs : List MachineFrame} (base : ℕ)
+      → q ≡ Entering m f cs → x ≡ Runs base [] l fs → m < length b.program.monitors
+      → all_monitors f cs ≡ m ∷ callers_monitors cs
+      → StandAt b.image base (placed base (enter_code m (link_word b.program m) (recovery_in b m)))
+      → GoesOn b t m (base + 60) l fs f cs → Completes b t v x q
+  exits : {z : ℤ} {cs : List Caller} {l : Locals} {fs : List MachineFrame} (m base : ℕ) (shown : Option ℕ)
+      → offer b.program v q ≡ Does (Exits m) Nothing (Returning z cs) → holds q ≡ m ∷ callers_monitors cs
+      → x ≡ Runs base (result_operands shown) l fs
+      → StandAt b.image base (placed base (exit_code m (link_word b.program m)))
+      → Stands b t (Runs (base + 23) (result_operands shown) l fs) (Returning z cs) → Completes b t v x q
+  waits : {f : Frame} {cs : List Caller} {l : Locals} {fs : List MachineFrame} {ms : List ℕ} (c : Member) (base : ℕ)
+      → member_type b.program c ≡ Some Condition
+      → offer b.program v q ≡ Does (Waits c) Nothing (Suspended c f cs) → holds q ≡ c.monitor ∷ ms
+      → all_monitors f cs ≡ c.monitor ∷ ms → x ≡ Runs base [] l fs
+      → StandAt b.image base (placed base (wait_code c (link_word b.program c.monitor) (member_address b.program c)
+      (recovery_in b c.monitor)))
+      → GoesOn b t c.monitor (base + 73) l fs f cs → Completes b t v x q
+  notifies : {r : Process} {l : Locals} {fs : List MachineFrame} (c : Member) (base : ℕ)
+      → member_type b.program c ≡ Some Condition → offer b.program v q ≡ NotifiesSome c r → HasFirst q c.monitor
+      → x ≡ Runs base [] l fs → StandAt b.image base (notify_code c (member_address b.program c))
+      → Stands b t (Runs (base + 8) [] l fs) r → Completes b t v x q
+  broadcasts : {r : Process} {l : Locals} {fs : List MachineFrame} (c : Member) (base : ℕ)
+      → member_type b.program c ≡ Some Condition → offer b.program v q ≡ NotifiesAll c r → HasFirst q c.monitor
+      → x ≡ Runs base [] l fs
+      → StandAt b.image base (broadcast_code c (link_word b.program c.monitor) (member_address b.program c))
+      → Stands b t (Runs (base + 16) [] l fs) r → Completes b t v x q
 
--- within so many steps to the one that completes what the process offers
-pub record Proceeds (b : Build) (t size : ℕ) (memory : ℕ → ℕ) (v : Variables) (steps : ℕ) (x : Thread)
-    (q : Process) : Type 0 where
+-- what is in view of a process
+abbrev pub view_of : Build → Process → Variables → View
+view_of b q v = record { program = b.program; own = own_of q; variables = v }
+
+-- within so many steps to the one that completes what the process offers, or to the template that does
+pub record Proceeds (b : Build) (t : ℕ) (v : Variables) (steps : ℕ) (x : Thread) (q : Process) : Type 0 where
   pub last : Thread
-  pub walk : WalksWithin b.image t size memory steps x last
-  pub completes : Completes b t size memory v last q
+  pub walk : WalksWithin b.image t (view_of b q v) steps x last
+  pub completes : Completes b t v last q

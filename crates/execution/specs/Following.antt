@@ -1,25 +1,31 @@
--- Where a thread stands in the code of a process, outside all monitors.
-use Rattle.std.specs.Prelude.{ℕ, suc, ◌+◌, ◌⊎◌, ◌≡◌, ◌<◌, ◌≤◌, List, [], ◌∷◌, ◌++◌, length, Option, Some, None, slice_get, Contains, ⊤}
+-- Where a thread stands in the code of a process.
+use Rattle.std.specs.Prelude.{ℕ, suc, ◌+◌, ◌⊎◌, ◌≡◌, ◌<◌, ◌≤◌, List, [], ◌∷◌, ◌++◌, length, Option, Some, None, ℤ, pos, slice_get, Contains, ⊤}
+use Rattle.words.specs.Signed.{word_of}
+use Rattle.words.specs.declared.outcome.Fault.TheVariants.{AbandonedMonitor}
+use Rattle.isa.specs.declared.instr.Instr.{Instr}
 use Rattle.isa.specs.declared.instr.Instr.TheVariants.{Jump}
 use Rattle.isa.specs.Programs.{Program as Image}
 use Rattle.program.specs.declared.kinds.ValueType.{ValueType}
-use Rattle.program.specs.declared.kinds.Role.TheVariants.{External, Main}
+use Rattle.program.specs.declared.kinds.Role.{Role}
+use Rattle.program.specs.declared.kinds.Role.TheVariants.{Entry, Recover, Main}
 use Rattle.program.specs.Trees.{Statement, Block, Done, Then, Procedure, Program, slots}
-use Rattle.program.specs.Scope.{Scope, scope_of}
-use Rattle.program.specs.Typing.{Fits, ResultFits}
+use Rattle.program.specs.Scope.{Scope, scope_of, own_monitor, recover_of}
+use Rattle.program.specs.Typing.{Fits, ResultFits, MayCall, MayBeForked, IsNoRecover}
 use Rattle.program.specs.Tokens.{statement_tokens}
 use Rattle.program.specs.Measures.{statement_room, most_room, calls}
-use Rattle.code.specs.Statements.{Setting, statement_code, ending_code}
-use Rattle.code.specs.Processes.{into_code}
+use Rattle.code.specs.Layout.{link_word}
+use Rattle.code.specs.Locks.{recovery, enter_code}
+use Rattle.code.specs.Marks.{plain, placed}
+use Rattle.code.specs.Statements.{Setting, start_in, statement_code, ending_code}
+use Rattle.code.specs.Processes.{into_code, return_code}
 use Rattle.code.specs.declared.mark.Marked.{Marked}
-use Rattle.code.specs.Marks.{plain}
 use Rattle.code.specs.Pieces.{setting_of, default_code}
 use Rattle.locals.specs.declared.frame.Locals.{Locals}
 use Rattle.locals.specs.declared.frame.Frame.{Frame as MachineFrame}
-use Rattle.locals.specs.Threads.{Thread, Runs}
-use Rattle.meaning.specs.Processes.{Frame, Caller, Process, goes_on}
-use Rattle.execution.specs.Typed.{HaveValues, HoldValues}
-use Rattle.execution.specs.Walks.{StandAt, WalksWithin}
+use Rattle.locals.specs.Threads.{Thread, Runs, Dies}
+use Rattle.meaning.specs.Processes.{Frame, Caller, Process, Entering, Before, Returning, Failing, goes_on}
+use Rattle.execution.specs.Typed.{HasValue, HaveValues, HoldValues}
+use Rattle.execution.specs.Walks.{StandAt, WalksWithin, empty_view}
 pub use Rattle.execution.specs.Shapes.{nesting, block_nesting, part_nesting}
 
 -- the code from a place on does what is left of a body, by way of so many jumps at first. Of each statement: how deep
@@ -77,23 +83,36 @@ pub record Build : Type 0 where
 abbrev pub with_made : Build → ℕ → Build
 with_made b made = record b { made = made }
 
+-- at most so many local steps, without a load
+abbrev pub StepsWithin : Build → ℕ → ℕ → Thread → Thread → Type 0
+StepsWithin b t n x y = WalksWithin b.image t (empty_view b.program) n x y
+
 -- a procedure that no other called: the main part, or one that was forked
 abbrev pub IsFirst : Procedure → Type 0
-IsFirst q = ((q.role ≡ Main) × (q.result ≡ None)) ⊎ (q.role ≡ External)
+IsFirst q = ((q.role ≡ Main) × (q.result ≡ None)) ⊎ MayBeForked q.role
 
--- the machine's frames stand for the callers of a procedure
-abbrev pub CallersStand : Build → ℕ → Procedure → List MachineFrame → List Caller → Type 0
-CallersStand b number q [] [] = IsFirst q
-CallersStand b number q [] (c ∷ cs) = ⊥
-CallersStand b number q (m ∷ ms) [] = ⊥
-CallersStand b number q (m ∷ ms) (c ∷ cs) =
-    (q.role ≡ External) × (n : ℕ) × (caller : Procedure) × (jumps : ℕ)
-    × IsFrame b.program b.height b.made b.width n caller c.frame m.locals × (b.height number < b.height n)
-    × ResultFits (scope_of b.program caller) c.into q.result
-    × StandAt b.image m.back (taking_code c.into q.result)
-    × Implements b.image (setting_of b.program b.starts caller) b.most jumps
-    (m.back + length (taking_code c.into q.result)) c.frame.rest
-    × (jumps ≤ b.most) × CallersStand b n caller ms cs
+-- a machine's frame stands for a caller's: behind its call comes this code, and then what is left of its body
+pub record StandsBehind (b : Build) (m : MachineFrame) (c : Caller) (number : ℕ) (q : Procedure)
+    (code : List Marked) : Type 0 where
+  pub frame : IsFrame b.program b.height b.made b.width number q c.frame m.locals
+  pub here : StandAt b.image m.back code
+  pub jumps : ℕ
+  pub few : jumps ≤ b.most
+  pub more : Implements b.image (setting_of b.program b.starts q) b.most jumps (m.back + length code) c.frame.rest
+
+-- the machine's frames stand for the callers of a procedure. A RECOVER part is called by the procedure that took the
+-- abandoned monitor, in the midst of its ENTER or WAIT
+pub data CallersStand (b : Build) : ℕ → Procedure → List MachineFrame → List Caller → Type 0 where
+  is_first : {number : ℕ} {q : Procedure} → IsFirst q → CallersStand b number q [] []
+  is_called : {number : ℕ} {q : Procedure} {m : MachineFrame} {ms : List MachineFrame} {c : Caller} {cs : List Caller}
+      (n : ℕ) (caller : Procedure) → MayCall caller.role q.role → b.height number < b.height n
+      → ResultFits (scope_of b.program caller) c.into q.result
+      → StandsBehind b m c n caller (taking_code c.into q.result)
+      → CallersStand b n caller ms cs → CallersStand b number q (m ∷ ms) (c ∷ cs)
+  is_recovery : {number : ℕ} {q : Procedure} {m : MachineFrame} {ms : List MachineFrame} {c : Caller} {cs : List Caller}
+      (n : ℕ) (caller : Procedure) (monitor : ℕ) → q.role ≡ Recover monitor → q.result ≡ None → c.into ≡ None
+      → own_monitor caller.role ≡ Some monitor → IsNoRecover caller.role → StandsBehind b m c n caller []
+      → CallersStand b n caller ms cs → CallersStand b number q (m ∷ ms) (c ∷ cs)
 
 -- a thread at a place of the code stands for a procedure of the source and its callers
 pub record Running (b : Build) (place : ℕ) (l : Locals) (fs : List MachineFrame) (f : Frame)
@@ -106,14 +125,64 @@ pub record Running (b : Build) (place : ℕ) (l : Locals) (fs : List MachineFram
   pub code : Implements b.image (setting_of b.program b.starts procedure) b.most jumps place f.rest
   pub callers : CallersStand b number procedure fs cs
 
--- a thread comes within so many steps to where it stands for a process
-pub record Stands (b : Build) (t size : ℕ) (memory : ℕ → ℕ) (x : Thread) (q : Process) : Type 0 where
-  pub entered : Option ℕ
-  pub frame : Frame
-  pub callers : List Caller
-  pub place : ℕ
-  pub locals : Locals
-  pub frames : List MachineFrame
-  pub walk : WalksWithin b.image t size memory 16 x (Runs place [] locals frames)
-  pub running : Running b place locals frames frame callers
-  pub process : q ≡ goes_on entered frame callers
+-- what is done with an abandoned monitor: its RECOVER part is called, or the process faults
+abbrev pub recovery_in : Build → ℕ → Instr
+recovery_in b m = recovery (start_in b.starts (recover_of b.program m))
+
+-- a thread before the ENTER of an ENTRY procedure, whose body comes behind it
+pub record IsEntering (b : Build) (m place : ℕ) (l : Locals) (fs : List MachineFrame) (f : Frame)
+    (cs : List Caller) : Type 0 where
+  pub number : ℕ
+  pub procedure : Procedure
+  pub role : procedure.role ≡ Entry m
+  pub frame : IsFrame b.program b.height b.made b.width number procedure f l
+  pub template : StandAt b.image place (placed place (enter_code m (link_word b.program m) (recovery_in b m)))
+  pub jumps : ℕ
+  pub few : jumps ≤ b.most
+  pub code : Implements b.image (setting_of b.program b.starts procedure) b.most jumps (place + 61) f.rest
+  pub callers : CallersStand b number procedure fs cs
+
+-- the operands at a return, and the result that they show
+abbrev pub result_operands : Option ℕ → List ℕ
+result_operands None = []
+result_operands (Some w) = w ∷ []
+
+abbrev pub ShowsResult : ℕ → Option ValueType → Option ℕ → ℤ → Type 0
+ShowsResult made None None z = z ≡ pos 0
+ShowsResult made None (Some w) z = ⊥
+ShowsResult made (Some u) None z = ⊥
+ShowsResult made (Some u) (Some w) z = (w ≡ word_of z) × HasValue made u z
+
+-- a thread at the return of an ENTRY procedure, which has given up its monitor
+pub record IsReturning (b : Build) (place : ℕ) (shown : Option ℕ) (fs : List MachineFrame) (z : ℤ)
+    (cs : List Caller) : Type 0 where
+  pub number : ℕ
+  pub procedure : Procedure
+  pub monitor : ℕ
+  pub role : procedure.role ≡ Entry monitor
+  pub code : StandAt b.image place (return_code procedure.role procedure.result ∷ [])
+  pub result : ShowsResult b.made procedure.result shown z
+  pub callers : CallersStand b number procedure fs cs
+
+-- the monitor whose variables a process may read and change next
+abbrev pub own_of : Process → Option ℕ
+own_of (Before entered f callers) = own_monitor f.role
+own_of q = None
+
+-- a thread comes within a few local steps to where it stands for a process
+pub data Stands (b : Build) (t : ℕ) (x : Thread) (q : Process) : Type 0 where
+  -- in the body of its uppermost procedure
+  runs : (entered : Option ℕ) (f : Frame) (cs : List Caller) (place : ℕ) (l : Locals) (fs : List MachineFrame)
+      → StepsWithin b t 16 x (Runs place [] l fs) → Running b place l fs f cs → q ≡ goes_on entered f cs
+      → Stands b t x q
+  -- before the ENTER of an ENTRY procedure
+  enters : (m : ℕ) (f : Frame) (cs : List Caller) (place : ℕ) (l : Locals) (fs : List MachineFrame)
+      → StepsWithin b t 16 x (Runs place [] l fs) → IsEntering b m place l fs f cs → q ≡ Entering m f cs
+      → Stands b t x q
+  -- at the return of an ENTRY procedure
+  returns : (z : ℤ) (cs : List Caller) (place : ℕ) (shown : Option ℕ) (l : Locals) (fs : List MachineFrame)
+      → StepsWithin b t 16 x (Runs place (result_operands shown) l fs) → IsReturning b place shown fs z cs
+      → q ≡ Returning z cs → Stands b t x q
+  -- on the way to a fault, in an abandoned monitor that has no RECOVER part
+  fails : (m : ℕ) (f : Frame) (cs : List Caller) → StepsWithin b t 16 x (Dies AbandonedMonitor)
+      → q ≡ Failing AbandonedMonitor (Some m) f cs → Stands b t x q

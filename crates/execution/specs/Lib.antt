@@ -1,4 +1,5 @@
 pub mod Typed
+pub mod Variables
 pub mod Walks
 pub mod Evaluation
 pub mod Shapes
