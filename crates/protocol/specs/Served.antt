@@ -1,9 +1,9 @@
 -- A step of a thread that the shared words serve is a move: so level by level, code that asks what its points ask, and
 -- goes on as they go on, takes the steps of the protocol and no others.
-use Rattle.std.specs.Prelude.{◌≡◌, ℕ, zero, suc, ◌==◌, Bool, true, false, if◌then◌else◌, Option, Some, None}
+use Rattle.std.specs.Prelude.{◌≡◌, ◌≢◌, ℕ, zero, suc, ◌==◌, Bool, true, false, if◌then◌else◌, Option, Some, None}
 use Rattle.meaning.specs.Labels.{End, Enters, Joins, Notifies, Broadcasts, Abandons, Ends}
 use Rattle.meaning.specs.Table.{Table}
-use Rattle.protocol.specs.Points.{Entry, NoEntry, Owned, Unowned, Point, EnterTries, TakeTries, LeaveSwaps}
+use Rattle.protocol.specs.Points.{Entry, NoEntry, Owned, Unowned, Point, EnterTries, ReenterTries, TakeTries, LeaveSwaps}
 use Rattle.protocol.specs.Points.{NotifyWakes, BroadcastMoves, JoinReads, Walks, ClearsId}
 use Rattle.protocol.specs.World.{World}
 use Rattle.protocol.specs.Moves.{Move}
@@ -36,10 +36,16 @@ carried w T t (Walks (suc m) x end) r w' e = if is_pending x m then None else So
 carried w T t (ClearsId end) r w' e = Some (Acts t (Ends end))
 carried w T t p r w' e = None
 
+-- the lock word of a monitor that the thread holds isn't 0
+abbrev pub MayAnswer : Point → (answer : ℕ) → Type 0
+MayAnswer (ReenterTries m) r = r ≢ 0
+MayAnswer p r = Unit {0}
+
 -- the step of thread t from point p, with this answer and the shared words after it
 pub record IsMove (w : World) (t : ℕ) (p : Point) (r : ℕ) (w' : World) : Type 0 where
   pub end : End
   pub move : Move
   pub can : Can w t move
   pub done : after w t move ≡ go_list w' t (next w end p r) (next_list p (w.at t).list)
+  pub possible : MayAnswer p r
   pub carries : (T : Table) → event_of w T t move ≡ carried w T t p r w' end
