@@ -1,5 +1,5 @@
 -- Where a thread stands in the templates of a lock, at each of their points.
-use Rattle.std.specs.Prelude.{ℕ, ◌+◌, ◌≡◌, ◌≢◌, List, [], ◌∷◌}
+use Rattle.std.specs.Prelude.{ℕ, ◌+◌, ◌≡◌, ◌≢◌, List, [], ◌∷◌, Option}
 use Rattle.words.specs.Process.{process_word}
 use Rattle.locals.specs.declared.frame.Locals.{Locals}
 use Rattle.locals.specs.declared.frame.Frame.{Frame}
@@ -8,11 +8,12 @@ use Rattle.program.specs.Trees.{Program}
 use Rattle.program.specs.declared.kinds.Member.{Member}
 use Rattle.code.specs.Layout.{link_word, lock_word_address, member_address}
 use Rattle.protocol.specs.Word.{with_waiters, died}
-use Rattle.protocol.specs.Points.{Purpose, ToEnter, Point, Runs, EnterPends, EnterTries, TakeReads, TakeMarks, TakeSleeps, TakeTries, GotReads, GotLinks, GotHeads, GotUnpends, ToExit, LeavePends, LeaveReads, LeaveHeads, LeaveSwaps, LeaveWakes, HasLeft, WaitReads, ToWait, ToResume}
+use Rattle.protocol.specs.Points.{Purpose, ToEnter, ToReenter, Point, Runs, EnterPends, EnterTries, ReenterPends, ReenterTries, TakeReads, TakeMarks, TakeSleeps, TakeTries, GotReads, GotLinks, GotHeads, GotUnpends, ToExit, LeavePends, LeaveReads, LeaveHeads, LeaveSwaps, LeaveWakes, HasLeft, WaitReads, ToWait, ToResume}
 use Rattle.protocol.specs.Memory.{entry_address}
-use Rattle.product.specs.Layout.{place}
+use Rattle.execution.specs.Following.{result_operands}
+use Rattle.templates.specs.Layout.{place}
 
--- locals with a word in the templates' own
+-- locals of these values, with a word in the templates' own
 abbrev pub kept : List ℕ → ℕ → Locals
 kept values word = record { values = values; scratch = word }
 
@@ -46,22 +47,29 @@ pub data EntersAt (p : Program) (t m base : ℕ) (l : Locals) (fs : List Frame) 
   tries : EntersAt p t m base l fs (EnterTries m)
       (Runs' (base + 7) (t ∷ 0 ∷ lock_word_address p m ∷ []) l fs)
   takes : {pt : Point} {x : Thread} → Takes p t m ToEnter (base + 11) l.values fs pt x → EntersAt p t m base l fs pt x
-
--- in the leaving of a monitor
-pub data ExitsAt (p : Program) (t m base : ℕ) (l : Locals) (fs : List Frame) : Point → Thread → Type 0 where
-  pends : ExitsAt p t m base l fs (LeavePends m ToExit)
+  -- the same of a monitor that the thread holds
+  pends_again : EntersAt p t m base l fs (ReenterPends m)
       (Runs' (base + 3) (link_word p m ∷ process_word t 1 ∷ []) l fs)
-  reads : ExitsAt p t m base l fs (LeaveReads m ToExit)
-      (Runs' (base + 7) (link_word p m ∷ process_word t 0 ∷ []) l fs)
-  cuts : (h : ℕ) → ExitsAt p t m base l fs (LeaveHeads m h ToExit)
-      (Runs' (base + 8) (entry_address (place p) h ∷ process_word t 0 ∷ []) l fs)
-  swaps : ExitsAt p t m base l fs (LeaveSwaps m ToExit)
-      (Runs' (base + 11) (0 ∷ lock_word_address p m ∷ []) l fs)
-  wakes : ExitsAt p t m base l fs (LeaveWakes m ToExit)
-      (Runs' (base + 17) (1 ∷ lock_word_address p m ∷ []) l fs)
-  unpends : ExitsAt p t m base l fs (HasLeft m ToExit)
-      (Runs' (base + 22) (0 ∷ process_word t 1 ∷ []) l fs)
-  goes : ExitsAt p t m base l fs Runs (Runs' (base + 23) [] l fs)
+  tries_again : EntersAt p t m base l fs (ReenterTries m)
+      (Runs' (base + 7) (t ∷ 0 ∷ lock_word_address p m ∷ []) l fs)
+  takes_again : {pt : Point} {x : Thread} → Takes p t m ToReenter (base + 11) l.values fs pt x
+      → EntersAt p t m base l fs pt x
+
+-- in the leaving of a monitor, with a result on the operands beneath
+pub data ExitsAt (p : Program) (t m base : ℕ) (shown : Option ℕ) (l : Locals) (fs : List Frame) : Point → Thread → Type 0 where
+  pends : ExitsAt p t m base shown l fs (LeavePends m ToExit)
+      (Runs' (base + 3) (link_word p m ∷ process_word t 1 ∷ result_operands shown) l fs)
+  reads : ExitsAt p t m base shown l fs (LeaveReads m ToExit)
+      (Runs' (base + 7) (link_word p m ∷ process_word t 0 ∷ result_operands shown) l fs)
+  cuts : (h : ℕ) → ExitsAt p t m base shown l fs (LeaveHeads m h ToExit)
+      (Runs' (base + 8) (entry_address (place p) h ∷ process_word t 0 ∷ result_operands shown) l fs)
+  swaps : ExitsAt p t m base shown l fs (LeaveSwaps m ToExit)
+      (Runs' (base + 11) (0 ∷ lock_word_address p m ∷ result_operands shown) l fs)
+  wakes : ExitsAt p t m base shown l fs (LeaveWakes m ToExit)
+      (Runs' (base + 17) (1 ∷ lock_word_address p m ∷ result_operands shown) l fs)
+  unpends : ExitsAt p t m base shown l fs (HasLeft m ToExit)
+      (Runs' (base + 22) (0 ∷ process_word t 1 ∷ result_operands shown) l fs)
+  goes : ExitsAt p t m base shown l fs Runs (Runs' (base + 23) (result_operands shown) l fs)
 
 -- in a WAIT: the sequence word is read, the monitor left, and the thread sleeps; then the lock is taken again
 pub data WaitsAt (p : Program) (t : ℕ) (c : Member) (base : ℕ) (l : Locals) (fs : List Frame) : Point → Thread

@@ -14,9 +14,9 @@ use Rattle.protocol.specs.Cells.{LockOf, SequenceOf, cell_of}
 use Rattle.protocol.specs.Memory.{stored_value}
 use Rattle.protocol.specs.Requests.{Request, AskNothing, AskLoad, AskStore, AskSwap, AskCompareSwap, AskOrWaiters, AskAddOne, AskWait, AskWakeOne, AskRequeue, AskFault, AskExitStep, request}
 use Rattle.protocol.specs.Answers.{next}
-use Rattle.execution.specs.Walks.{WalksWithin}
-use Rattle.product.specs.Layout.{place}
-use Rattle.product.specs.Standing.{no_words}
+use Rattle.protocol.specs.Served.{MayAnswer}
+use Rattle.execution.specs.Walks.{WalksWithin, empty_view}
+use Rattle.templates.specs.Layout.{place}
 
 -- none for a step of an exit, which is no request, and for a thread's own code
 abbrev pub asked : Program → Request → Option M.Request
@@ -51,5 +51,5 @@ pub record AsksSo (p : Program) (image : Image) (t : ℕ) (stands : Point → Th
   pub go : ℕ → Thread
   pub same : asked p (request t pt) ≡ Some asks
   pub look : look image t x ≡ Asks asks go
-  pub goes : (w : World) (e : End) (r : ℕ) → (y : Thread)
-      × WalksWithin image t 0 no_words template_steps (go (told p (request t pt) r)) y × stands (next w e pt r) y
+  pub goes : (w : World) (e : End) (r : ℕ) → MayAnswer pt r → (y : Thread)
+      × WalksWithin image t (empty_view p) template_steps (go (told p (request t pt) r)) y × stands (next w e pt r) y

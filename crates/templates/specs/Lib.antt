@@ -1,0 +1,6 @@
+pub mod Layout
+pub mod Asking
+pub mod Locking
+pub mod Notifying
+pub mod Inside
+pub mod Templates

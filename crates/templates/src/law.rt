@@ -1,0 +1,2 @@
+/// A stand-in.
+pub fn templates_follow() {}
