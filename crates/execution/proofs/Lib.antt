@@ -1,3 +1,6 @@
 pub mod Words
 pub mod Operators
 pub mod Walking
+pub mod Bodies
+pub mod Contexts
+pub mod Growing

@@ -105,8 +105,8 @@ pub record StandsBehind (b : Build) (m : MachineFrame) (c : Caller) (number : �
 pub data CallersStand (b : Build) : ℕ → Procedure → List MachineFrame → List Caller → Type 0 where
   is_first : {number : ℕ} {q : Procedure} → IsFirst q → CallersStand b number q [] []
   is_called : {number : ℕ} {q : Procedure} {m : MachineFrame} {ms : List MachineFrame} {c : Caller} {cs : List Caller}
-      (n : ℕ) (caller : Procedure) → MayCall caller.role q.role → b.height number < b.height n
-      → ResultFits (scope_of b.program caller) c.into q.result
+      (n : ℕ) (caller : Procedure) → IsNoRecover caller.role → MayCall caller.role q.role
+      → b.height number < b.height n → ResultFits (scope_of b.program caller) c.into q.result
       → StandsBehind b m c n caller (taking_code c.into q.result)
       → CallersStand b n caller ms cs → CallersStand b number q (m ∷ ms) (c ∷ cs)
   is_recovery : {number : ℕ} {q : Procedure} {m : MachineFrame} {ms : List MachineFrame} {c : Caller} {cs : List Caller}
