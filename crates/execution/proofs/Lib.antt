@@ -2,6 +2,8 @@ pub mod Words
 pub mod Operators
 pub mod Walking
 pub mod Evaluating
+pub mod Putting
+pub mod Arguments
 pub mod Bodies
 pub mod Contexts
 pub mod Growing
