@@ -7,3 +7,6 @@ pub mod Arguments
 pub mod Bodies
 pub mod Contexts
 pub mod Growing
+pub mod Stepping
+pub mod Testing
+pub mod Awaiting
