@@ -12,7 +12,7 @@ use Rattle.meaning.specs.Offers.{offer}
 use Rattle.execution.specs.Variables.{VariablesFit, ArraysAreLow, SameIn}
 use Rattle.execution.specs.Walks.{StandAt}
 use Rattle.execution.specs.Following.{Build, AreSound, own_of, Stands, block_nesting}
-use Rattle.execution.specs.Completing.{Proceeds}
+use Rattle.execution.specs.Completing.{Proceeds, HasFirst}
 
 -- each procedure fits its role and calls lower procedures alone; its code stands where its piece begins
 pub record IsBuild (b : Build) : Type 0 where
@@ -47,3 +47,7 @@ IsFollowed b = (t : ℕ) (v : Variables) (x : Thread) (q : Process) → Stands b
 abbrev pub IsSettled : Build → Type 0
 IsSettled b = (t : ℕ) (v v' : Variables) (x : Thread) (q : Process) → Stands b t x q → SameIn (own_of q) v v'
     → offer b.program v q ≡ offer b.program v' q
+
+-- a process that may read a monitor's variables holds that monitor, innermost
+abbrev pub IsHeld : Build → Type 0
+IsHeld b = (t : ℕ) (x : Thread) (q : Process) → Stands b t x q → (m : ℕ) → own_of q ≡ Some m → HasFirst q m

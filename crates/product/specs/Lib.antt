@@ -1,6 +1,4 @@
-pub mod Layout
 pub mod Standing
+pub mod Ranks
 pub mod Corresponding
-pub mod Asking
-pub mod Locking
-pub mod Notifying
+pub mod Serving

@@ -1,79 +1,79 @@
--- Where a thread of the machine stands, the process that it stands for, and its point of the protocol.
-use Rattle.std.specs.Prelude.{ℕ, ◌+◌, ◌≡◌, ◌<◌, ◌≤◌, ℤ, pos, List, [], Option, Some, None}
+-- Where a thread of the machine stands, the process that it stands for, its point of the protocol and its robust list.
+use Rattle.std.specs.Prelude.{ℕ, ◌+◌, ◌≡◌, ◌≢◌, ◌<◌, ◌≤◌, ◌==◌, ℤ, pos, List, [], ◌∷◌, length, Option, Some, None, if◌then◌else◌}
 use Rattle.words.specs.declared.outcome.Fault.{Fault}
-use Rattle.robustexit.specs.declared.phase.ExitPhase.TheVariants.{Pending, ClearId, LastWake, Ended as Ended'}
+use Rattle.robustexit.specs.declared.phase.ExitPhase.{ExitPhase}
+use Rattle.robustexit.specs.declared.phase.ExitPhase.TheVariants.{Entry, Pending, ClearId, LastWake, Ended as Ended'}
 use Rattle.program.specs.Trees.{Part}
 use Rattle.locals.specs.Threads.{Thread, Dies as Dies', Exits}
 use Rattle.locals.specs.Looks.{Asks, look, first_exit}
 use Rattle.meaning.specs.Values.{Variables}
 use Rattle.meaning.specs.Labels.{End, Ended, Aborted, Faulted}
-use Rattle.meaning.specs.Processes.{Frame, Caller, Process, Joining, Dying, Leaving, Over, goes_on, with_result}
+use Rattle.meaning.specs.Processes.{Frame, Caller, Process, Joining, Dying, Leaving, Over, goes_on, with_result, holds, all_monitors}
 use Rattle.meaning.specs.Offers.{joined}
 use Rattle.protocol.specs.Points.{NoEntry, Point, Unmade, Runs, JoinReads, JoinSleeps, JoinLearns, JoinTakes, Dies, Walks, ClearsId, LastWakes, HasEnded}
-use Rattle.execution.specs.Walks.{WalksWithin}
-use Rattle.execution.specs.Following.{Build}
+use Rattle.protocol.specs.Exits.{PhaseIs}
+use Rattle.execution.specs.Following.{Build, StepsWithin}
 use Rattle.execution.specs.Completing.{Awaits, Proceeds, return_request, left_value, IsResult, join_steps}
 use Rattle.execution.specs.Builds.{most_steps}
+use Rattle.templates.specs.Layout.{place, valid}
+use Rattle.templates.specs.Asking.{template_steps}
+use Rattle.templates.specs.Inside.{Template, process_at, list_at, StandsIn, Fits, IsSteady}
 
--- without monitors no variable has a value but 0, and a thread by itself reads no word
-abbrev pub no_values : Variables
-no_values = λ m n i. pos 0
+-- a process that ends next, or once it has abandoned the monitors that it holds
+abbrev pub ending : End → List ℕ → Process
+ending (Ended z) ms = Leaving z
+ending (Aborted cause) ms = Dying cause ms
 
-abbrev pub no_words : ℕ → ℕ
-no_words = λ a. 0
+-- a process that leaves holds none
+abbrev pub IsEnding : End → List ℕ → Type 0
+IsEnding (Ended z) ms = ms ≡ []
+IsEnding (Aborted cause) ms = Unit {0}
 
--- local steps, at most so many
-abbrev pub WalksTo : Build → ℕ → ℕ → Thread → Thread → Type 0
-WalksTo b t n x y = WalksWithin b.image t 0 no_words n x y
-
-abbrev pub JoinOf : Build → ℕ → ℕ → Option ℕ → Part → Frame → List Caller → Type 0
-JoinOf b t child into part f callers = Awaits b t 0 no_words child into part f callers
-
--- a process that ends next
-abbrev pub ending : End → Process
-ending (Ended z) = Leaving z
-ending (Aborted cause) = Dying cause []
+-- how many entries the walk of an exit has seen
+abbrev pub entries_seen : ExitPhase → ℕ
+entries_seen (Entry entry seen) = seen
+entries_seen phase = 0
 
 -- the child that is joined was made
 abbrev pub IsChild : Build → ℕ → Type 0
 IsChild b child = (0 < child) × (child ≤ b.made)
 
--- where thread t stands, with the process that it stands for and its point, over the id words; and at most how many
--- steps it takes, where no other thread steps in between, till an action of its process or till it sleeps or ends
-pub data StandsAt (b : Build) (id : ℕ → ℕ) (t : ℕ) : ℕ → Option Thread → Option Process → Point → Type 0 where
-  unmade : {n : ℕ} → StandsAt b id t n None None Unmade
+-- where thread t stands, over these variables, with the process that it stands for, its point and its robust list
+pub data StandsAt (b : Build) (v : Variables) (t : ℕ) : Option Thread → Option Process → Point → List ℕ → Type 0 where
+  unmade : StandsAt b v t None None Unmade []
   -- in its own code; and where its first procedure returns
-  works : {n : ℕ} {x : Thread} {q : Process} (left : ℕ) → left ≤ most_steps b → left + 10 ≤ n
-      → Proceeds b t 0 no_words no_values left x q → StandsAt b id t n (Some x) (Some q) Runs
-  returns : {n : ℕ} {x : Thread} (result : Option ℕ) → 5 ≤ n → IsResult result
+  works : {x : Thread} {q : Process} (left : ℕ) → left ≤ most_steps b → Proceeds b t v left x q
+      → IsSteady b.program q v → StandsAt b v t (Some x) (Some q) Runs (holds q)
+  returns : {x : Thread} (result : Option ℕ) → IsResult result
       → look b.image t x ≡ Asks (return_request result) first_exit
-      → StandsAt b id t n (Some x) (Some (Leaving (left_value result))) Runs
+      → StandsAt b v t (Some x) (Some (Leaving (left_value result))) Runs []
+  -- in a template of its code, on the way to the request of its point
+  inside : {x y : Thread} {pt : Point} (left : ℕ) (k : Template) → left ≤ template_steps → StepsWithin b t left x y
+      → Fits b v t k → pt ≢ Runs → StandsIn b.program t k pt y
+      → StandsAt b v t (Some x) (Some (process_at b.program k pt)) pt (list_at k pt)
   -- on the way to a fault that it met in the source already
-  faults : {n : ℕ} {x : Thread} (fault : Fault) (left : ℕ) → left + 5 ≤ n → WalksTo b t left x (Dies' fault)
-      → StandsAt b id t n (Some x) (Some (Dying (Faulted fault) [])) (Dies (Faulted fault) NoEntry)
-  -- in a JOIN: on the way to each of its requests; it reads the id word once more where that is 0 by now
-  reads : {n child : ℕ} {x : Thread} {into : Option ℕ} {part : Part} {f : Frame} {cs : List Caller} (left : ℕ)
-      → left ≤ join_steps → left + 60 ≤ n → IsChild b child → (j : JoinOf b t child into part f cs)
-      → WalksTo b t left x j.reads → StandsAt b id t n (Some x) (Some (Joining child into part f cs)) (JoinReads child)
-  rereads : {n child : ℕ} {x : Thread} {into : Option ℕ} {part : Part} {f : Frame} {cs : List Caller} (left : ℕ)
-      → left ≤ join_steps → left + 20 ≤ n → IsChild b child → id child ≡ 0 → (j : JoinOf b t child into part f cs)
-      → WalksTo b t left x j.reads → StandsAt b id t n (Some x) (Some (Joining child into part f cs)) (JoinReads child)
-  sleeps : {n child : ℕ} {x : Thread} {into : Option ℕ} {part : Part} {f : Frame} {cs : List Caller} (left : ℕ)
-      → left ≤ join_steps → left + 40 ≤ n → IsChild b child → (j : JoinOf b t child into part f cs)
-      → WalksTo b t left x j.sleeps
-      → StandsAt b id t n (Some x) (Some (Joining child into part f cs)) (JoinSleeps child)
-  learns : {n child : ℕ} {end : End} {x : Thread} {into : Option ℕ} {part : Part} {f : Frame} {cs : List Caller}
-      (left : ℕ) → left ≤ join_steps → left + most_steps b + 60 ≤ n → IsChild b child
-      → (j : JoinOf b t child into part f cs) → WalksTo b t left x j.learns
-      → StandsAt b id t n (Some x) (Some (joined into part f cs end)) (JoinLearns child end)
-  takes : {n child : ℕ} {z : ℤ} {x : Thread} {into : Option ℕ} {part : Part} {f : Frame} {cs : List Caller} (left : ℕ)
-      → left ≤ join_steps → left + most_steps b + 40 ≤ n → IsChild b child → (j : JoinOf b t child into part f cs)
-      → WalksTo b t left x j.takes
-      → StandsAt b id t n (Some x) (Some (goes_on None (with_result into z f) cs)) (JoinTakes child (Ended z))
-  -- in its exit
-  pends : {n : ℕ} {end : End} → 3 ≤ n
-      → StandsAt b id t n (Some (Exits Pending)) (Some (ending end)) (Walks 0 NoEntry end)
-  clears : {n : ℕ} {end : End} → 2 ≤ n
-      → StandsAt b id t n (Some (Exits ClearId)) (Some (ending end)) (ClearsId end)
-  wakes : {n : ℕ} {end : End} → 1 ≤ n → StandsAt b id t n (Some (Exits LastWake)) (Some (Over end)) (LastWakes end)
-  rests : {n : ℕ} {end : End} → StandsAt b id t n (Some (Exits Ended')) (Some (Over end)) (HasEnded end)
+  faults : {x : Thread} {ms : List ℕ} (fault : Fault) (left : ℕ) → left ≤ join_steps
+      → StepsWithin b t left x (Dies' fault)
+      → StandsAt b v t (Some x) (Some (Dying (Faulted fault) ms)) (Dies (Faulted fault) NoEntry) ms
+  -- in a JOIN: on the way to each of its requests
+  reads : {child : ℕ} {x : Thread} {into : Option ℕ} {part : Part} {f : Frame} {cs : List Caller} (left : ℕ)
+      → left ≤ join_steps → IsChild b child → (j : Awaits b t child into part f cs) → StepsWithin b t left x j.reads
+      → StandsAt b v t (Some x) (Some (Joining child into part f cs)) (JoinReads child) (all_monitors f cs)
+  sleeps : {child : ℕ} {x : Thread} {into : Option ℕ} {part : Part} {f : Frame} {cs : List Caller} (left : ℕ)
+      → left ≤ join_steps → IsChild b child → (j : Awaits b t child into part f cs) → StepsWithin b t left x j.sleeps
+      → StandsAt b v t (Some x) (Some (Joining child into part f cs)) (JoinSleeps child) (all_monitors f cs)
+  learns : {child : ℕ} {end : End} {x : Thread} {into : Option ℕ} {part : Part} {f : Frame} {cs : List Caller}
+      (left : ℕ) → left ≤ join_steps → IsChild b child → (j : Awaits b t child into part f cs)
+      → StepsWithin b t left x j.learns
+      → StandsAt b v t (Some x) (Some (joined into part f cs end)) (JoinLearns child end) (all_monitors f cs)
+  takes : {child : ℕ} {z : ℤ} {x : Thread} {into : Option ℕ} {part : Part} {f : Frame} {cs : List Caller} (left : ℕ)
+      → left ≤ join_steps → IsChild b child → (j : Awaits b t child into part f cs) → StepsWithin b t left x j.takes
+      → StandsAt b v t (Some x) (Some (goes_on None (with_result into z f) cs)) (JoinTakes child (Ended z))
+      (all_monitors f cs)
+  -- in its exit: at an entry of its robust list, or behind the last; and then
+  walks : {e : ℕ} {end : End} {ms : List ℕ} (phase : ExitPhase)
+      → PhaseIs (place b.program) (valid b.program) (Walks e NoEntry end) phase → entries_seen phase + length ms ≤ 64
+      → IsEnding end ms → StandsAt b v t (Some (Exits phase)) (Some (ending end ms)) (Walks e NoEntry end) ms
+  clears : {end : End} {ms : List ℕ} → StandsAt b v t (Some (Exits ClearId)) (Some (ending end [])) (ClearsId end) ms
+  wakes : {end : End} {ms : List ℕ} → StandsAt b v t (Some (Exits LastWake)) (Some (Over end)) (LastWakes end) ms
+  rests : {end : End} {ms : List ℕ} → StandsAt b v t (Some (Exits Ended')) (Some (Over end)) (HasEnded end) ms

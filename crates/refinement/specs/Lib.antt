@@ -1,4 +1,4 @@
 pub mod Seen
 pub mod Pace
 pub mod Refines
-pub mod Unmonitored
+pub mod Built

@@ -1,5 +1,5 @@
--- What is seen of a machine and of a source: variables and ends. (The output is a list in both.)
-use Rattle.std.specs.Prelude.{ℕ, ◌≡◌, ◌<◌, ◌+◌, Option, Some, None}
+-- What is seen of a machine and of a source: their ends. (The output is a list in both; variables have their addresses.)
+use Rattle.std.specs.Prelude.{ℕ, Option, Some, None}
 use Rattle.words.specs.declared.outcome.Outcome.{Outcome}
 use Rattle.words.specs.declared.outcome.Outcome.TheVariants as outcome
 use Rattle.words.specs.Outcomes.{outcome_of}
@@ -7,28 +7,9 @@ use Rattle.words.specs.Process.{process_word}
 use Rattle.robustexit.specs.declared.phase.ExitPhase.TheVariants.{Entry, Pending, ClearId, LastWake, Ended as Ended'}
 use Rattle.locals.specs.Threads.{Thread, Runs, Dies, Exits}
 use Rattle.machine.specs.States.{State}
-use Rattle.program.specs.declared.kinds.MemberType.{MemberType}
-use Rattle.program.specs.declared.kinds.MemberType.TheVariants.{Variable, Condition, Array}
-use Rattle.program.specs.declared.kinds.Member.{Member}
-use Rattle.program.specs.Trees.{Program}
-use Rattle.program.specs.Scope.{member_type}
-use Rattle.code.specs.Layout.{member_address}
 use Rattle.meaning.specs.Labels.{End, Ended, Aborted, Faulted, Killed}
 use Rattle.meaning.specs.Processes.{Process, Over}
 use Rattle.meaning.specs.States.{SourceState}
-
--- the member has a variable of this index: 0 where it is no array; a condition has none
-abbrev pub HasIndex : Option MemberType → ℕ → Type 0
-HasIndex None i = ⊥
-HasIndex (Some (Variable t)) i = i ≡ 0
-HasIndex (Some Condition) i = ⊥
-HasIndex (Some (Array n)) i = i < n
-
-abbrev pub IsVariable : Program → Member → ℕ → Type 0
-IsVariable p m i = HasIndex (member_type p m) i
-
-abbrev pub variable_address : Program → Member → ℕ → ℕ
-variable_address p m i = member_address p m + i
 
 -- how a process has ended, if it has: on the machine a thread is past the clearing of its id word, with its outcome
 abbrev pub end_by : ℕ → Option Thread → Option Outcome

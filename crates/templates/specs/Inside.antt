@@ -20,7 +20,7 @@ use Rattle.protocol.specs.Points.{Point, EnterPends, ReenterPends, GotReads, Got
 use Rattle.execution.specs.Variables.{SameIn}
 use Rattle.execution.specs.Walks.{StandAt}
 use Rattle.execution.specs.Following.{Build, recovery_in, result_operands, own_of, Stands}
-use Rattle.execution.specs.Completing.{GoesOn}
+use Rattle.execution.specs.Completing.{GoesOn, HasFirst}
 use Rattle.templates.specs.Locking.{EntersAt, ExitsAt, WaitsAt}
 use Rattle.templates.specs.Notifying.{NotifiesAt, BroadcastsAt}
 
@@ -112,9 +112,10 @@ first_point held (Waits c base l fs before f cs ms) = WaitReads c
 first_point held (Notifies c base l fs before after ms) = NotifyAdds c
 first_point held (Broadcasts c base l fs before after ms) = BroadcastAdds c
 
--- what the process offers before the template is the same for all variables with the same values in its own monitor
-abbrev pub IsSteady : Program → Process → Variables → Type 0
-IsSteady p q v = (v' : Variables) → SameIn (own_of q) v v' → offer p v' q ≡ offer p v q
+-- what a process offers is the same for all variables with the same values in its own monitor, which it holds, innermost
+pub record IsSteady (p : Program) (q : Process) (v : Variables) : Type 0 where
+  pub first : (m : ℕ) → own_of q ≡ Some m → HasFirst q m
+  pub same : (v' : Variables) → SameIn (own_of q) v v' → offer p v' q ≡ offer p v q
 
 -- the template's code, what the process offers before it, and where the thread stands after it
 pub record EnterFits (b : Build) (t m base : ℕ) (l : Locals) (fs : List MachineFrame) (f : Frame)

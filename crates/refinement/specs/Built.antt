@@ -1,13 +1,10 @@
--- Programs that use no monitor.
-use Rattle.std.specs.Prelude.{ℕ, ◌≡◌, []}
+-- A program with its code.
+use Rattle.std.specs.Prelude.{ℕ}
 use Rattle.program.specs.Trees.{Program}
 use Rattle.program.specs.Tokens.{most_tokens}
 use Rattle.program.specs.WellFormed.{WellFormed}
 use Rattle.code.specs.Pieces.{code_of, start_of}
 use Rattle.execution.specs.Following.{Build}
-
-abbrev pub UsesNoMonitor : Program → Type 0
-UsesNoMonitor p = p.monitors ≡ []
 
 -- a program with its code, the heights of its procedures, bounds that its statements keep, and how many processes were
 -- made
