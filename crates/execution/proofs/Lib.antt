@@ -4,6 +4,7 @@ pub mod Walking
 pub mod Evaluating
 pub mod Putting
 pub mod Arguments
+pub mod Holding
 pub mod Bodies
 pub mod Contexts
 pub mod Growing
