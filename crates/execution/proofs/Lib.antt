@@ -11,3 +11,5 @@ pub mod Growing
 pub mod Stepping
 pub mod Testing
 pub mod Awaiting
+pub mod Returning
+pub mod Beginning
