@@ -36,7 +36,7 @@ number_below Result = omega arith
 number_below Outcome = omega arith
 
 module _ (p : Program) where
-  size : memory_size (code_of p) ≡ monitors_base + 2 * length p.monitors + all_words p.monitors
+  pub size : memory_size (code_of p) ≡ monitors_base + 2 * length p.monitors + all_words p.monitors
   size =
       let n = length_monitors p.monitors in
       let s = sum_words p.monitors in omega (arith, n, s)
