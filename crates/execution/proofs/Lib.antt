@@ -13,3 +13,4 @@ pub mod Testing
 pub mod Awaiting
 pub mod Returning
 pub mod Beginning
+pub mod Recovering
