@@ -14,3 +14,5 @@ pub mod Awaiting
 pub mod Returning
 pub mod Beginning
 pub mod Recovering
+pub mod Calling
+pub mod Forking
