@@ -16,3 +16,4 @@ pub mod Beginning
 pub mod Recovering
 pub mod Calling
 pub mod Forking
+pub mod Settling
