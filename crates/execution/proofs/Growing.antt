@@ -195,11 +195,12 @@ module _ (b : Build) (n : ℕ) (le : b.made ≤ n) where
     completes_grow v x q (F.enters {m = m} {f = f} {cs = cs} {l = l} {fs = fs} base same e some first code on) =
         F.enters base same e some first code (goes_on_grows m (base + 60) l fs f cs on)
     completes_grow v x q (F.exits m base shown o first e code s) = F.exits m base shown o first e code (stands_grow _ _ s)
-    completes_grow v x q (F.waits {f = f} {cs = cs} {l = l} {fs = fs} c base is o held all e code on) =
-        F.waits c base is o held all e code (goes_on_grows c.monitor (base + 73) l fs f cs on)
-    completes_grow v x q (F.notifies c base is o first e code s) = F.notifies c base is o first e code (stands_grow _ _ s)
-    completes_grow v x q (F.broadcasts c base is o first e code s) =
-        F.broadcasts c base is o first e code (stands_grow _ _ s)
+    completes_grow v x q (F.waits {f = f} {cs = cs} {l = l} {fs = fs} c base is o held own all e code on) =
+        F.waits c base is o held own all e code (goes_on_grows c.monitor (base + 73) l fs f cs on)
+    completes_grow v x q (F.notifies c base is o first keeps e code s) =
+        F.notifies c base is o first keeps e code (stands_grow _ _ s)
+    completes_grow v x q (F.broadcasts c base is o first keeps e code s) =
+        F.broadcasts c base is o first keeps e code (stands_grow _ _ s)
 
     pub proceeds_grow : (v : Variables) (steps : ℕ) (x : Thread) (q : Process) → Proceeds b t v steps x q
         → Proceeds (with_made b n) t v steps x q
@@ -225,11 +226,12 @@ completes_same b t v v' x q e (F.faults fault d o) = F.faults fault d (sym e ∙
 completes_same b t v v' x q e (F.enters base same d some first code on) = F.enters base same d some first code on
 completes_same b t v v' x q e (F.exits m base shown o first d code s) =
     F.exits m base shown (sym e ∙ o) first d code s
-completes_same b t v v' x q e (F.waits c base is o held all d code on) =
-    F.waits c base is (sym e ∙ o) held all d code on
-completes_same b t v v' x q e (F.notifies c base is o first d code s) = F.notifies c base is (sym e ∙ o) first d code s
-completes_same b t v v' x q e (F.broadcasts c base is o first d code s) =
-    F.broadcasts c base is (sym e ∙ o) first d code s
+completes_same b t v v' x q e (F.waits c base is o held own all d code on) =
+    F.waits c base is (sym e ∙ o) held own all d code on
+completes_same b t v v' x q e (F.notifies c base is o first keeps d code s) =
+    F.notifies c base is (sym e ∙ o) first keeps d code s
+completes_same b t v v' x q e (F.broadcasts c base is o first keeps d code s) =
+    F.broadcasts c base is (sym e ∙ o) first keeps d code s
 
 -- a thread proceeds as well where the own monitor's variables are the same, and so is what its process offers
 pub proceeds_same : (b : Build) (t : ℕ) (v v' : Variables) (steps : ℕ) (x : Thread) (q : Process)

@@ -8,7 +8,7 @@ use Rattle.words.specs.declared.outcome.Fault.{Fault}
 use Rattle.words.specs.declared.outcome.Fault.TheVariants.{HandleNotJoinable, ProcessTableFull, JoinedAborted}
 use Rattle.program.specs.declared.kinds.Member.{Member}
 use Rattle.program.specs.declared.kinds.MemberType.TheVariants.{Condition}
-use Rattle.program.specs.Scope.{member_type}
+use Rattle.program.specs.Scope.{member_type, own_monitor}
 use Rattle.program.specs.Trees.{Part, NoPart, SomePart, followed_by}
 use Rattle.code.specs.Layout.{link_word, member_address}
 use Rattle.code.specs.Locks.{enter_code, exit_code}
@@ -146,17 +146,17 @@ pub data Completes (b : Build) (t : ℕ) (v : Variables) (x : Thread) (q : Proce
   waits : {f : Frame} {cs : List Caller} {l : Locals} {fs : List MachineFrame} {ms : List ℕ} (c : Member) (base : ℕ)
       → member_type b.program c ≡ Some Condition
       → offer b.program v q ≡ Does (Waits c) Nothing (Suspended c f cs) → holds q ≡ c.monitor ∷ ms
-      → all_monitors f cs ≡ c.monitor ∷ ms → x ≡ Runs base [] l fs
+      → own_monitor f.role ≡ Some c.monitor → all_monitors f cs ≡ c.monitor ∷ ms → x ≡ Runs base [] l fs
       → StandAt b.image base (placed base (wait_code c (link_word b.program c.monitor) (member_address b.program c)
       (recovery_in b c.monitor)))
       → GoesOn b t c.monitor (base + 73) l fs f cs → Completes b t v x q
   notifies : {r : Process} {l : Locals} {fs : List MachineFrame} (c : Member) (base : ℕ)
       → member_type b.program c ≡ Some Condition → offer b.program v q ≡ NotifiesSome c r → HasFirst q c.monitor
-      → x ≡ Runs base [] l fs → StandAt b.image base (notify_code c (member_address b.program c))
+      → holds r ≡ holds q → x ≡ Runs base [] l fs → StandAt b.image base (notify_code c (member_address b.program c))
       → Stands b t (Runs (base + 8) [] l fs) r → Completes b t v x q
   broadcasts : {r : Process} {l : Locals} {fs : List MachineFrame} (c : Member) (base : ℕ)
       → member_type b.program c ≡ Some Condition → offer b.program v q ≡ NotifiesAll c r → HasFirst q c.monitor
-      → x ≡ Runs base [] l fs
+      → holds r ≡ holds q → x ≡ Runs base [] l fs
       → StandAt b.image base (broadcast_code c (link_word b.program c.monitor) (member_address b.program c))
       → Stands b t (Runs (base + 16) [] l fs) r → Completes b t v x q
 

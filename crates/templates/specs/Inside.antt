@@ -2,7 +2,7 @@
 use Rattle.std.specs.Prelude.{ℕ, ◌+◌, ◌≡◌, ◌≢◌, ◌<◌, ℤ, Bool, true, false, List, [], ◌∷◌, length, Option, Some, None, if◌then◌else◌}
 use Rattle.program.specs.declared.kinds.Member.{Member}
 use Rattle.program.specs.declared.kinds.MemberType.TheVariants.{Condition}
-use Rattle.program.specs.Scope.{member_type}
+use Rattle.program.specs.Scope.{member_type, own_monitor}
 use Rattle.program.specs.Trees.{Program}
 use Rattle.code.specs.Layout.{link_word, member_address}
 use Rattle.code.specs.Locks.{enter_code, exit_code}
@@ -140,6 +140,7 @@ pub record WaitFits (b : Build) (v : Variables) (t : ℕ) (c : Member) (base : �
   pub offers : offer b.program v before ≡ Does (L.Waits c) Nothing (Suspended c f cs)
   pub steady : IsSteady b.program before v
   pub had : holds before ≡ c.monitor ∷ ms
+  pub own : own_monitor f.role ≡ Some c.monitor
   pub held : all_monitors f cs ≡ c.monitor ∷ ms
   pub code : StandAt b.image base (placed base (wait_code c (link_word b.program c.monitor)
       (member_address b.program c) (recovery_in b c.monitor)))
@@ -151,6 +152,7 @@ pub record NotifyFits (b : Build) (v : Variables) (t : ℕ) (c : Member) (base :
   pub offers : offer b.program v before ≡ NotifiesSome c after
   pub steady : IsSteady b.program before v
   pub held : holds before ≡ c.monitor ∷ ms
+  pub keeps : holds after ≡ holds before
   pub code : StandAt b.image base (notify_code c (member_address b.program c))
   pub goes : Stands b t (Runs' (base + 8) [] l fs) after
 
@@ -160,6 +162,7 @@ pub record BroadcastFits (b : Build) (v : Variables) (t : ℕ) (c : Member) (bas
   pub offers : offer b.program v before ≡ NotifiesAll c after
   pub steady : IsSteady b.program before v
   pub held : holds before ≡ c.monitor ∷ ms
+  pub keeps : holds after ≡ holds before
   pub code : StandAt b.image base (broadcast_code c (link_word b.program c.monitor) (member_address b.program c))
   pub goes : Stands b t (Runs' (base + 16) [] l fs) after
 

@@ -16,6 +16,7 @@ use Rattle.protocol.specs.Requests.{request}
 use Rattle.protocol.specs.Answers.{next, next_list}
 use Rattle.protocol.specs.Served.{MayAnswer, carried}
 use Rattle.execution.specs.Following.{Build, StepsWithin, Stands}
+use Rattle.execution.specs.Builds.{IsBuild}
 use Rattle.templates.specs.Asking.{asked, told, template_steps}
 use Rattle.templates.specs.Inside.{Template, process_at, list_at, StandsIn, first_thread, first_point, Fits}
 
@@ -58,8 +59,8 @@ pub record Begins (b : Build) (t : ℕ) (held : Bool) (k : Template) : Type 0 wh
   pub stands : StandsIn b.program t k (first_point held k) thread
 
 abbrev pub TemplatesFollow : Type 0
-TemplatesFollow = (b : Build) (v : Variables) (t : ℕ) (k : Template) → 0 < t → t ≤ 64 → Fits b v t k → (pt : Point)
-    (x : Thread) → pt ≢ Runs → StandsIn b.program t k pt x → Follows b v t k pt x
+TemplatesFollow = (b : Build) (v : Variables) (t : ℕ) (k : Template) → IsBuild b → 0 < t → t ≤ 64 → Fits b v t k
+    → (pt : Point) (x : Thread) → pt ≢ Runs → StandsIn b.program t k pt x → Follows b v t k pt x
 
 abbrev pub TemplatesBegin : Type 0
 TemplatesBegin = (b : Build) (v : Variables) (t : ℕ) (held : Bool) (k : Template) → 0 < t → t ≤ 64 → Fits b v t k
