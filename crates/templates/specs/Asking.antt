@@ -11,7 +11,7 @@ use Rattle.code.specs.Conditions.{everyone}
 use Rattle.protocol.specs.Points.{Point}
 use Rattle.protocol.specs.World.{World}
 use Rattle.protocol.specs.Cells.{LockOf, SequenceOf, cell_of}
-use Rattle.protocol.specs.Memory.{stored_value}
+use Rattle.protocol.specs.Memory.{entry_address, stored_value}
 use Rattle.protocol.specs.Requests.{Request, AskNothing, AskLoad, AskStore, AskSwap, AskCompareSwap, AskOrWaiters, AskAddOne, AskWait, AskWakeOne, AskRequeue, AskFault, AskExitStep, request}
 use Rattle.protocol.specs.Answers.{next}
 use Rattle.protocol.specs.Served.{MayAnswer}
@@ -34,9 +34,10 @@ asked p (AskFault (Faulted fault)) = Some (M.AskFault fault)
 asked p (AskFault Killed) = None
 asked p AskExitStep = None
 
--- the word that the machine answers: an entry that is loaded is an address
+-- the word that the machine answers: an entry that is loaded is an address, and so is the head that a fault answers
 abbrev pub told : Program → Request → ℕ → ℕ
 told p (AskLoad a) r = stored_value (place p) a r
+told p (AskFault cause) r = entry_address (place p) r
 told p other r = r
 
 -- the most local steps of a template from one request to the next
