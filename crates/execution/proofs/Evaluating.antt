@@ -87,23 +87,24 @@ indexed_out : (base size w : ℕ) (rest : List ℕ) → nat_lt w size ≡ false
     → index_effect base size w rest ≡ Checks false IndexOutOfRange (Then ((base + w) % 4294967296 ∷ rest))
 indexed_out base size w rest h = rw h refl
 
--- an index, by the address of the first element: it is one, or its look is the fault
+-- where an index leads, by the address of the first element: to the address of that element, or to the fault
+abbrev pub Indexes : Image → ℕ → View → ℕ → ℕ → Thread → Option ℕ → ℕ → List ℕ → Locals → List Frame → Type 0
+Indexes p t view base size x None place operands l fs = WalksWithin p t view 1 x (Dies IndexOutOfRange)
+Indexes p t view base size x (Some i) place operands l fs =
+    (i < size) × WalksWithin p t view 1 x (Runs (place + 1) ((base + i) ∷ operands) l fs)
+
 module _ (p : Image) (t : ℕ) (view : View) (base size : ℕ) (small : size ≤ 1024)
     (low : base + size ≤ 4294967296) where
-  pub index_gives : (z : ℤ) (place : ℕ) (operands : List ℕ) (l : Locals) (fs : List Frame) (k : ℕ → Evaluated)
-      (place' : ℕ)
+  pub index_steps : (z : ℤ) (place : ℕ) (operands : List ℕ) (l : Locals) (fs : List Frame)
       → FitsSigned w32 z → slice_get p.code place ≡ Some (Index base size)
-      → ((i : ℕ) → i < size → Gives p t view 1 (Runs (place + 1) ((base + i) ∷ operands) l fs)
-      (k i) place' operands l fs)
-      → Gives p t view 2 (Runs place (word_of z ∷ operands) l fs)
-      (at_index (index_in size z) k) place' operands l fs
-  index_gives z place operands l fs k place' fits here go = by_test (nat_lt (word_of z) size) refl
+      → Indexes p t view base size (Runs place (word_of z ∷ operands) l fs) (index_in size z) place operands l fs
+  index_steps z place operands l fs fits here = by_test (nat_lt (word_of z) size) refl
     where
       x : Thread
       x = Runs place (word_of z ∷ operands) l fs
 
-      by_test : (b : Bool) → nat_lt (word_of z) size ≡ b → Gives p t view 2 x
-          (at_index (index_in size z) k) place' operands l fs
+      by_test : (b : Bool) → nat_lt (word_of z) size ≡ b
+          → Indexes p t view base size x (index_in size z) place operands l fs
       by_test true e =
           let w = word_of z in
           let lt = ltb-true w size e in
@@ -112,24 +113,40 @@ module _ (p : Image) (t : ℕ) (view : View) (base size : ℕ) (small : size ≤
           let h = look_here p t view place (Index base size) (w ∷ operands) l fs here in
           let step = one_step p t view x (Runs (place + 1) ((base + w) ∷ operands) l fs)
           (h ∙ ap (at_place place l fs) (indexed_in base size w operands lt small low)) in
-          subst (λ (o : Option ℕ). Gives p t view 2 x (at_index o k) place' operands l fs)
-          (sym (in_index size z w same lt))
-          (walk_gives p t view 1 1 x _ (k w) place' operands l fs step (go w lt))
+          subst (λ (o : Option ℕ). Indexes p t view base size x o place operands l fs)
+          (sym (in_index size z w same lt)) (lt, step)
       by_test false e =
           let w = word_of z in
           let h = look_here p t view place (Index base size) (w ∷ operands) l fs here in
           let step = one_step p t view x (Dies IndexOutOfRange)
           (h ∙ ap (at_place place l fs) (indexed_out base size w operands e)) in
-          subst (λ (o : Option ℕ). Gives p t view 2 x (at_index o k) place' operands l fs)
-          (sym (out_index size z small e))
-          (wider p t view 1 2 x _ (omega arith) step)
+          subst (λ (o : Option ℕ). Indexes p t view base size x o place operands l fs)
+          (sym (out_index size z small e)) step
+
+  pub index_gives : (z : ℤ) (place : ℕ) (operands : List ℕ) (l : Locals) (fs : List Frame) (k : ℕ → Evaluated)
+      (place' : ℕ)
+      → FitsSigned w32 z → slice_get p.code place ≡ Some (Index base size)
+      → ((i : ℕ) → i < size → Gives p t view 1 (Runs (place + 1) ((base + i) ∷ operands) l fs)
+      (k i) place' operands l fs)
+      → Gives p t view 2 (Runs place (word_of z ∷ operands) l fs)
+      (at_index (index_in size z) k) place' operands l fs
+  index_gives z place operands l fs k place' fits here go =
+      by_index (index_in size z) (index_steps z place operands l fs fits here)
+    where
+      x : Thread
+      x = Runs place (word_of z ∷ operands) l fs
+
+      by_index : (o : Option ℕ) → Indexes p t view base size x o place operands l fs
+          → Gives p t view 2 x (at_index o k) place' operands l fs
+      by_index None step = wider p t view 1 2 x _ (omega arith) step
+      by_index (Some i) step = walk_gives p t view 1 1 x _ (k i) place' operands l fs step.1 (go i step.0)
 
 code_truth : (b : Bool) → c.truth_word b ≡ word_of (v.truth b)
 code_truth true = refl
 code_truth false = refl
 
 -- a member that is a variable has one, of its type; and an array one of each index
-single_variable : (p : Program) (m : MemberOf) (u : ValueType) → member_type p m ≡ Some (Variable u) → IsVariable p m 0
+pub single_variable : (p : Program) (m : MemberOf) (u : ValueType) → member_type p m ≡ Some (Variable u) → IsVariable p m 0
 single_variable p m u e = subst (λ (o : Option MemberType). HasIndex o 0) (sym e) refl
 
 pub element_variable : (p : Program) (a : MemberOf) (n i : ℕ) → member_type p a ≡ Some (Array n) → i < n

@@ -17,3 +17,4 @@ pub mod Recovering
 pub mod Calling
 pub mod Forking
 pub mod Settling
+pub mod Storing
