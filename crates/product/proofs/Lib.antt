@@ -1,0 +1,4 @@
+pub mod Standings
+pub mod Worlds
+pub mod Sourcing
+pub mod Moving

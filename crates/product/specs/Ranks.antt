@@ -65,7 +65,7 @@ abbrev pub steps_left : (b : Build) (v : Variables) (t : ℕ) (w : World) → {x
 steps_left b v t w unmade = 0
 steps_left b v t w (works left few h s) = left + before_template
 steps_left b v t w (returns r fits h) = 5
-steps_left b v t w (inside {pt = pt} left k few walk fits ne stands) = left + rank (more_steps b) w pt
+steps_left b v t w (inside {pt = pt} left k u few walk fits same ne stands) = left + rank (more_steps b) w pt
 steps_left b v t w (faults fault left few h) = left + 5
 steps_left b v t w (reads {child = child} left few c j h) = left + rank (more_steps b) w (JoinReads child)
 steps_left b v t w (sleeps left few c j h) = left + 18

@@ -17,7 +17,7 @@ use Rattle.execution.specs.Completing.{Awaits, Proceeds, return_request, left_va
 use Rattle.execution.specs.Builds.{most_steps}
 use Rattle.templates.specs.Layout.{place, valid}
 use Rattle.templates.specs.Asking.{template_steps}
-use Rattle.templates.specs.Inside.{Template, process_at, list_at, StandsIn, Fits, IsSteady}
+use Rattle.templates.specs.Inside.{Template, process_at, list_at, StandsIn, Fits, SameBefore, IsSteady}
 
 -- a process that ends next, or once it has abandoned the monitors that it holds
 abbrev pub ending : End → List ℕ → Process
@@ -47,9 +47,9 @@ pub data StandsAt (b : Build) (v : Variables) (t : ℕ) : Option Thread → Opti
   returns : {x : Thread} (result : Option ℕ) → IsResult result
       → look b.image t x ≡ Asks (return_request result) first_exit
       → StandsAt b v t (Some x) (Some (Leaving (left_value result))) Runs []
-  -- in a template of its code, on the way to the request of its point
-  inside : {x y : Thread} {pt : Point} (left : ℕ) (k : Template) → left ≤ template_steps → StepsWithin b t left x y
-      → Fits b v t k → pt ≢ Runs → StandsIn b.program t k pt y
+  -- in a template of its code, to which it came over the variables `u`, on the way to the request of its point
+  inside : {x y : Thread} {pt : Point} (left : ℕ) (k : Template) (u : Variables) → left ≤ template_steps
+      → StepsWithin b t left x y → Fits b u t k → SameBefore k pt u v → pt ≢ Runs → StandsIn b.program t k pt y
       → StandsAt b v t (Some x) (Some (process_at b.program k pt)) pt (list_at k pt)
   -- on the way to a fault that it met in the source already
   faults : {x : Thread} {ms : List ℕ} (fault : Fault) (left : ℕ) → left ≤ join_steps

@@ -172,3 +172,21 @@ Fits b v t (Exits m base shown l fs before z cs) = ExitFits b v t m base shown l
 Fits b v t (Waits c base l fs before f cs ms) = WaitFits b v t c base l fs before f cs ms
 Fits b v t (Notifies c base l fs before after ms) = NotifyFits b v t c base l fs before after ms
 Fits b v t (Broadcasts c base l fs before after ms) = BroadcastFits b v t c base l fs before after ms
+
+-- before a monitor is given up, or in a template that doesn't give it up
+abbrev pub IsBeforeRelease : Point → Type 0
+IsBeforeRelease (WaitReads c) = Unit {0}
+IsBeforeRelease (LeavePends m r) = Unit {0}
+IsBeforeRelease (LeaveReads m r) = Unit {0}
+IsBeforeRelease (LeaveHeads m h r) = Unit {0}
+IsBeforeRelease (LeaveSwaps m r) = Unit {0}
+IsBeforeRelease pt = ⊥
+
+-- as long as the process stands before what the template does, the variables of its own monitor are as they were when
+-- it came to the template
+abbrev pub SameBefore : Template → Point → Variables → Variables → Type 0
+SameBefore (Enters m base l fs f cs) pt u v = Unit {0}
+SameBefore (Exits m base shown l fs before z cs) pt u v = IsBeforeRelease pt → SameIn (own_of before) u v
+SameBefore (Waits c base l fs before f cs ms) pt u v = IsBeforeRelease pt → SameIn (own_of before) u v
+SameBefore (Notifies c base l fs before after ms) pt u v = SameIn (own_of before) u v
+SameBefore (Broadcasts c base l fs before after ms) pt u v = SameIn (own_of before) u v
