@@ -18,3 +18,6 @@ pub mod Calling
 pub mod Forking
 pub mod Settling
 pub mod Storing
+pub mod Joining
+pub mod Conditions
+pub mod Leaving

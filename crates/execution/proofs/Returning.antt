@@ -65,7 +65,7 @@ module _ (b : Build) (t : ℕ) (v : Variables) where
         callers = callers;
       }) refl
 
-  done : (y : Thread) (r : Process) → Completes b t v y r → Proceeds b t v 0 y r
+  pub done : (y : Thread) (r : Process) → Completes b t v y r → Proceeds b t v 0 y r
   done y r h = record { last = y; walk = record { count = 0; few = omega arith; walk = stays }; completes = h }
 
   -- without a result, the caller goes on at once
