@@ -7,8 +7,10 @@ use Rattle.program.specs.Scope.{own_monitor}
 use Rattle.program.specs.Typing.{MayCall, MayBeForked}
 use Rattle.locals.specs.declared.frame.Locals.{Locals}
 use Rattle.locals.specs.declared.frame.Frame.{Frame as MachineFrame}
-use Rattle.meaning.specs.Processes.{Frame, Caller, goes_on, goes_on_by, holds, all_monitors, callers_monitors, monitor_of_role}
-use Rattle.execution.specs.Following.{Build, IsFirst, CallersStand, is_first, is_called, is_recovery, Running}
+use Rattle.meaning.specs.Processes.{Frame, Caller, Process, goes_on, goes_on_by, holds, all_monitors, callers_monitors, monitor_of_role}
+use Rattle.execution.specs.Following.{Build, IsFirst, CallersStand, is_first, is_called, is_recovery, Running, own_of, Stands, runs, enters, returns, fails}
+use Rattle.execution.specs.Completing.{HasFirst}
+use Rattle.execution.specs.Builds.{IsBuild, IsHeld}
 
 -- a procedure that no other called is no INTERNAL one, and no RECOVER part
 no_internal_first : (q : Procedure) (k : ℕ) → IsFirst q → q.role ≡ Internal k → ⊥
@@ -101,3 +103,57 @@ module _ (b : Build) where
       (cs : List Caller) → Running b place l fs f cs → holds (goes_on entered f cs) ≡ all_monitors f cs
   running_holds entered place l fs f cs h =
       goes_on_holds entered f cs (λ e. main_alone h.number h.procedure fs cs h.callers (sym h.frame.role ∙ e))
+
+  -- a procedure that a RECOVER part interrupted
+  recovered_held : (m : ℕ) (number : ℕ) (q : Procedure) (fs : List MachineFrame) (c : Caller) (cs : List Caller) (k : ℕ)
+      → q.role ≡ Recover k → CallersStand b number q fs (c ∷ cs) → own_monitor c.frame.role ≡ Some m
+      → IsFirstOf m c.frame.role cs
+  recovered_held m number q [] c cs k e h own = elim h [ ]
+  recovered_held m number q (f ∷ fs) c cs k e (is_called n caller calls may lower fits behind below) own =
+      absurd (subst (MayCall caller.role) e may)
+  recovered_held m number q (f ∷ fs) c cs k e
+      (is_recovery n caller monitor role none into owned calls behind below) own =
+      own_first_by m c.frame.role n caller fs cs (sym behind.frame.role) below own
+
+  pub running_held : (m : ℕ) (entered : Option ℕ) (place : ℕ) (l : Locals) (fs : List MachineFrame) (f : Frame)
+      (cs : List Caller) → Running b place l fs f cs → own_of (goes_on entered f cs) ≡ Some m
+      → HasFirst (goes_on entered f cs) m
+  running_held m entered place l fs f cs h own = by_role f.role f.rest cs (sym h.frame.role) h.callers own
+    where
+      before : (cs : List Caller) → CallersStand b h.number h.procedure fs cs → own_monitor f.role ≡ Some m
+          → IsFirstOf m f.role cs
+      before cs below own = own_first_by m f.role h.number h.procedure fs cs (sym h.frame.role) below own
+
+      by_role : (role : Role) (rest : Block) (cs : List Caller) → h.procedure.role ≡ role
+          → CallersStand b h.number h.procedure fs cs → own_of (goes_on_by role rest entered f cs) ≡ Some m
+          → HasFirst (goes_on_by role rest entered f cs) m
+      by_role (Entry k) rest cs e below own = before cs below own
+      by_role (Internal k) rest cs e below own = before cs below own
+      by_role (Recover k) Done [] e below own = absurd cc
+      by_role (Recover k) Done (c ∷ cs) e below own = recovered_held m h.number h.procedure fs c cs k e below own
+      by_role (Recover k) (Then s rest) cs e below own = before cs below own
+      by_role External rest cs e below own = before cs below own
+      by_role Main Done cs e below own = absurd cc
+      by_role Main (Then (Return value) rest) cs e below own = absurd cc
+      by_role Main (Then (Assign target e) rest) cs e' below own = before cs below own
+      by_role Main (Then (If e x y) rest) cs e' below own = before cs below own
+      by_role Main (Then (While e x) rest) cs e' below own = before cs below own
+      by_role Main (Then (Call q es into) rest) cs e' below own = before cs below own
+      by_role Main (Then (Fork q es into) rest) cs e' below own = before cs below own
+      by_role Main (Then (Join e into y) rest) cs e' below own = before cs below own
+      by_role Main (Then (Wait c) rest) cs e' below own = before cs below own
+      by_role Main (Then (Notify c) rest) cs e' below own = before cs below own
+      by_role Main (Then (Broadcast c) rest) cs e' below own = before cs below own
+      by_role Main (Then (Print e) rest) cs e' below own = before cs below own
+      by_role Main (Then Abort rest) cs e' below own = before cs below own
+
+  -- what a process may read and holds, given as another
+  held_as : (m : ℕ) (q r : Process) → q ≡ r → own_of q ≡ Some m → (own_of r ≡ Some m → HasFirst r m) → HasFirst q m
+  held_as m q r e own h = subst (λ (p : Process). HasFirst p m) (sym e) (h (ap own_of (sym e) ∙ own))
+
+pub held : (b : Build) → IsBuild b → IsHeld b
+held b is t x q (runs entered f cs place l fs walk running e) m own =
+    held_as b m q _ e own (running_held b m entered place l fs f cs running)
+held b is t x q (enters k f cs place l fs walk entering e) m own = held_as b m q _ e own (λ none. absurd cc)
+held b is t x q (returns z cs place shown l fs walk returning e) m own = held_as b m q _ e own (λ none. absurd cc)
+held b is t x q (fails k f cs walk e) m own = held_as b m q _ e own (λ none. absurd cc)
