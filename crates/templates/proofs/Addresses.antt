@@ -1,6 +1,6 @@
 -- The words of the monitors' variables lie in the memory, each at an address of its own, apart from the words of the
 -- protocol.
-use Rattle.std.proofs.Common.{◌≡◌, ℕ, ◌+◌, ◌<◌, true, Option, Some, None, slice_get, refl, sym, ap, ◌∙◌, arith}
+use Rattle.std.proofs.Common.{◌≡◌, ℕ, ◌<◌, true, Option, Some, None, slice_get, refl, sym, ap, ◌∙◌, arith}
 use Rattle.isa.specs.Programs.{memory_size}
 use Rattle.program.specs.declared.kinds.Member.{Member}
 use Rattle.program.specs.declared.kinds.MemberType.{MemberType}

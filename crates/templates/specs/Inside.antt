@@ -1,5 +1,5 @@
 -- A thread inside a template of its process: which template, and where the process stands at each of its points.
-use Rattle.std.specs.Prelude.{ℕ, ◌+◌, ◌≡◌, ◌≢◌, ◌<◌, ℤ, Bool, true, false, List, [], ◌∷◌, length, Option, Some, None, if◌then◌else◌}
+use Rattle.std.specs.Prelude.{ℕ, ◌+◌, ◌≡◌, ◌<◌, ℤ, Bool, List, [], ◌∷◌, length, Option, Some, if◌then◌else◌}
 use Rattle.program.specs.declared.kinds.Member.{Member}
 use Rattle.program.specs.declared.kinds.MemberType.TheVariants.{Condition}
 use Rattle.program.specs.Scope.{member_type, own_monitor}
