@@ -1,0 +1,9 @@
+use Rattle.execution.proofs.Settling.{settled}
+use Rattle.execution.proofs.Holding.{held}
+use Rattle.execution.proofs.law.code_goes_as_its_process.Goals as goal
+
+pub returns-clause-settles : goal.returns-clause-settles
+returns-clause-settles c = settled
+
+pub returns-clause-holds : goal.returns-clause-holds
+returns-clause-holds c = held
