@@ -2,3 +2,4 @@ pub mod Standings
 pub mod Worlds
 pub mod Sourcing
 pub mod Moving
+pub mod Stepped

@@ -105,6 +105,7 @@ module _ (b : Build) (made : ℕ) (le : b.made ≤ made) (v v' : Variables) (t :
   }
   fits_grows u (Waits c base l fs before f cs ms) h = record {
     condition = h.condition;
+    own = h.own;
     offers = h.offers;
     steady = h.steady;
     had = h.had;
@@ -114,6 +115,7 @@ module _ (b : Build) (made : ℕ) (le : b.made ≤ made) (v v' : Variables) (t :
   }
   fits_grows u (Notifies c base l fs before after ms) h = record {
     condition = h.condition;
+    keeps = h.keeps;
     offers = h.offers;
     steady = h.steady;
     held = h.held;
@@ -122,6 +124,7 @@ module _ (b : Build) (made : ℕ) (le : b.made ≤ made) (v v' : Variables) (t :
   }
   fits_grows u (Broadcasts c base l fs before after ms) h = record {
     condition = h.condition;
+    keeps = h.keeps;
     offers = h.offers;
     steady = h.steady;
     held = h.held;

@@ -1,0 +1,209 @@
+-- A step of a thread at a point of the protocol, whose request the machine has served: it is a move, and what it carries
+-- is an action of the process.
+use Rattle.std.proofs.Common.{◌≡◌, ◌≢◌, ℕ, zero, suc, ◌<◌, ◌≤◌, ◌==◌, Bool, true, false, List, [], ◌∷◌, length, Option, Some, None, refl, ap, sym, ◌∙◌, subst, arith, inl, inr, ◌⊎◌}
+use Rattle.std.specs.Prelude.{◌^◌, if◌then◌else◌}
+use Rattle.words.specs.Updates.{put}
+use Rattle.locals.specs.Threads.{Thread}
+use Rattle.words.specs.Signed.{word_of}
+use Rattle.machine.specs.States.{State, with_thread}
+use Rattle.machine.specs.AbstractServing.{shared_of}
+use Rattle.program.specs.Trees.{Program}
+use Rattle.program.specs.WellFormed.{WellFormed}
+use Rattle.meaning.specs.Labels.{Label, Abandons, End, kind_of}
+use Rattle.meaning.specs.Values.{Variables}
+use Rattle.meaning.specs.Table.{Table, Allows}
+use Rattle.meaning.specs.Processes.{Process}
+use Rattle.meaning.specs.Offers.{Nothing, offer, TakesUp}
+use Rattle.meaning.specs.States.{SourceState}
+use Rattle.protocol.specs.Points.{Purpose, ToEnter, ToReenter, ToResume, ToExit, ToWait, Entry, NoEntry, Owned, Unowned, Point, EnterTries, TakeTries, LeaveSwaps, NotifyWakes, BroadcastMoves, JoinReads, Walks, ClearsId, Thread as Place, thread_at}
+use Rattle.protocol.specs.World.{World, mem}
+use Rattle.protocol.specs.Steps.{after, go_list}
+use Rattle.protocol.specs.Carries.{Event, Acts, Strays, Kills, has_died, taking_label, table_after, PermitsMove}
+use Rattle.protocol.specs.Exits.{Shares}
+use Rattle.protocol.specs.Answers.{next, next_list}
+use Rattle.protocol.specs.Served.{IsMove, MayAnswer, carried, is_pending, pending_event}
+use Rattle.protocol.proofs.Good.{Good}
+use Rattle.protocol.proofs.Kept.{permitted}
+use Rattle.protocol.proofs.Covers.{covers}
+use Rattle.protocol.proofs.Sleeps.{at_put}
+use Rattle.execution.specs.Completing.{IsOwn}
+use Rattle.execution.specs.Variables.{VariablesFit, variable_address}
+use Rattle.refinement.specs.Built.{build_of}
+use Rattle.templates.specs.Layout.{place, valid}
+use Rattle.templates.specs.Templates.{ActsSo}
+use Rattle.product.specs.Standing.{StandsAt}
+use Rattle.product.specs.Ranks.{steps_left}
+use Rattle.product.specs.Corresponding.{Reached, IsBefore, Corresponds}
+use Rattle.product.specs.Serving.{IsServed}
+use Rattle.product.proofs.Sourcing.{act, action, acted}
+use Rattle.product.proofs.Worlds.{reached_on, reached_good, shares_at}
+use Rattle.product.proofs.Moving.{Puts, put_puts, same_puts, IsSome, Next, Follow, Tied, left_of, moved}
+
+-- what a step carries is an action of a process's own
+if_own : (b : Bool) (u t : ℕ) (l label : Label) → IsOwn (kind_of l) → (if b then Some (Acts t l) else None)
+    ≡ Some (Acts u label) → IsOwn (kind_of label)
+if_own true u t l label own e = let same : l ≡ label = cc in subst (λ (k : Label). IsOwn (kind_of k)) same own
+if_own false u t l label own e = absurd cc
+
+taking_own : (k : Purpose) (m : ℕ) (b : Bool) → IsOwn (kind_of (taking_label k m b))
+taking_own ToEnter m b = tt
+taking_own ToReenter m b = tt
+taking_own (ToResume c) m b = tt
+
+pending_own : (t u : ℕ) (x : Entry) (label : Label) → pending_event t x ≡ Some (Acts u label) → IsOwn (kind_of label)
+pending_own t u NoEntry label e = absurd cc
+pending_own t u (Owned m) label e = let same : Abandons m ≡ label = cc in subst (λ (k : Label). IsOwn (kind_of k)) same tt
+pending_own t u (Unowned m) label e = absurd cc
+
+one_own : (u t : ℕ) (l label : Label) → IsOwn (kind_of l) → Some (Acts t l) ≡ Some (Acts u label)
+    → IsOwn (kind_of label)
+one_own u t l label own e = let same : l ≡ label = cc in subst (λ (k : Label). IsOwn (kind_of k)) same own
+
+-- the walk passes an entry over, or abandons it
+walk_own : (b : Bool) (u t m : ℕ) (label : Label) → (if b then None else Some (Acts t (Abandons m)))
+    ≡ Some (Acts u label) → IsOwn (kind_of label)
+walk_own true u t m label e = absurd cc
+walk_own false u t m label e = one_own u t (Abandons m) label tt e
+
+carried_own : (w : World) (T : Table) (t : ℕ) (pt : Point) (r : ℕ) (w' : World) (e : End) (u : ℕ) (label : Label)
+    → carried w T t pt r w' e ≡ Some (Acts u label) → IsOwn (kind_of label)
+carried_own w T t (EnterTries m) r w' e u label h = if_own (r == 0) u t _ label tt h
+carried_own w T t (TakeTries m v k) r w' e u label h = if_own (r == v) u t _ label (taking_own k m (has_died v)) h
+carried_own w T t (LeaveSwaps m ToExit) r w' e u label h = one_own u t _ label tt h
+carried_own w T t (LeaveSwaps m (ToWait c s)) r w' e u label h = one_own u t _ label tt h
+carried_own w T t (NotifyWakes c) r w' e u label h = one_own u t _ label tt h
+carried_own w T t (BroadcastMoves c s) r w' e u label h = one_own u t _ label tt h
+carried_own w T t (JoinReads q) r w' e u label h = if_own (r == 0) u t _ label tt h
+carried_own w T t (Walks zero x end) r w' e u label h = pending_own t u x label h
+carried_own w T t (Walks (suc m) x end) r w' e u label h = walk_own (is_pending x m) u t m label h
+carried_own w T t (ClearsId end) r w' e u label h = one_own u t _ label tt h
+carried_own w T t pt r w' e u label h = absurd cc
+
+module _ (p : Program) (w : WellFormed p) (steps : ℕ) (s : State) (c : SourceState) (k : Corresponds p w steps s c)
+    (t : ℕ) (pauses : Bool) (s' mid : State) (n answer : ℕ) (y : Thread) (q : Process) (pt : Point)
+    (number : (0 < t) × (t ≤ k.world.made)) (awake : k.world.asleep t ≡ None) (proc : c.process t ≡ Some q)
+    (point : (k.world.at t).point ≡ pt) (served : IsServed p s mid k.world t pt answer)
+    (same : s' ≡ with_thread mid t y) where
+  abbrev l : List ℕ
+  l = (k.world.at t).list
+
+  -- the point and the list after the step, and the world
+  abbrev to : End → Point
+  to e = next k.world e pt served.reply
+
+  abbrev list : List ℕ
+  list = next_list pt l
+
+  abbrev on : End → World
+  on e = go_list served.after t (to e) list
+
+  abbrev event : End → Option Event
+  event e = carried k.world c.table t pt served.reply served.after e
+
+  -- where the thread comes by its step, and its process by what the step carries
+  pub record Arrives (e : End) : Type 0 where
+    pub process : Process
+    pub acts : ActsSo p c.variable t (event e) q process
+    pub stands : StandsAt (build_of p w served.after.made) c.variable t (Some y) (Some process) (to e) list
+    pub listed : (m : ℕ) → mem m list ≡ true → m < length p.monitors
+    pub blank : IsBefore (to e) → k.world.result t ≡ 0
+    pub paced : event e ≡ None → pauses ≡ false
+        → steps_left (build_of p w served.after.made) c.variable t (on e) stands < n
+
+  inv : Good k.world c.table
+  inv = reached_good k.world c.table k.reached
+
+  is_move : IsMove k.world t pt served.reply served.after
+  is_move = covers k.world c.table t pt served.reply served.after inv number.0 number.1 awake point served.serves
+
+  abbrev end : End
+  end = is_move.end
+
+  abbrev table : Table
+  table = table_after k.world c.table t is_move.move
+
+  arrived : Reached (on end) table
+  arrived = subst (λ (x : World). Reached x table) is_move.done
+      (reached_on k.world c.table t is_move.move k.reached is_move.can)
+
+  permits : PermitsMove (event end) c.table table
+  permits = subst (λ (e : Option Event). PermitsMove e c.table table) (is_move.carries c.table)
+      (permitted k.world c.table t is_move.move inv is_move.can)
+
+  follow : (c' : SourceState) (process : Process) → c'.table ≡ table → c'.variable ≡ c.variable
+      → c'.printed ≡ c.printed → Puts c.process c'.process t (Some process)
+      → StandsAt (build_of p w served.after.made) c.variable t (Some y) (Some process) (to end) list
+      → ((m : ℕ) → mem m list ≡ true → m < length p.monitors) → (IsBefore (to end) → k.world.result t ≡ 0)
+      → Follow p w steps s c k t s' c' y process (to end) list (on end)
+  follow c' process is v o ps stands listed blank = record {
+    reached = subst (λ (T : Table). Reached (on end) T) (sym is) arrived;
+    shares = subst (λ (x : State). Shares (place p) (valid p) (shared_of x) (on end)) (sym same)
+        (shares_at (place p) (valid p) (shared_of mid) served.after _ served.after.made served.shares);
+    size = ap (λ (x : State). x.size) same ∙ served.keeps.size;
+    made = ap (λ (x : State). x.made) same ∙ served.keeps.made ∙ k.made ∙ sym served.made;
+    more = omega (arith, served.made);
+    output = ap (λ (x : State). x.output) same ∙ served.keeps.output ∙ k.output ∙ sym o;
+    variables = λ m i is'. ap (λ (x : State). x.word (variable_address p m i)) same ∙ served.keeps.variables m i is'
+        ∙ k.variables m i is' ∙ ap (λ (x : Variables). word_of (x m.monitor m.number i)) (sym v);
+    fit = λ m. subst (λ (x : Variables). VariablesFit served.after.made p m x) (sym v)
+        (subst (λ n. VariablesFit n p m c.variable) (sym served.made) (k.fit m));
+    same = λ u m other has n i. ap (λ (x : Variables). x m n i) (sym v);
+    threads = subst (λ (x : State). Puts s.thread x.thread t (Some y)) (sym same)
+        (subst (λ (f : ℕ → Option Thread). Puts s.thread (put f t (Some y)) t (Some y)) (sym served.keeps.thread)
+        (put_puts s.thread t (Some y)));
+    processes = ps;
+    at = ap (λ (f : ℕ → Place). put f t (thread_at (to end) list)) served.at;
+    stands = subst (λ (x : Variables). StandsAt (build_of p w served.after.made) x t (Some y) (Some process) (to end)
+        list) (sym v) stands;
+    listed = listed;
+    words = λ u. subst (λ (f : ℕ → ℕ). f u < 2 ^ 32) (sym served.result) (k.words u);
+    blank = λ u h. ap (λ (f : ℕ → ℕ). f u) served.result ∙ at_put k.world.at t (thread_at (to end) list) u
+        (λ (z : Place). IsBefore z.point → k.world.result u ≡ 0) (λ e b. ap k.world.result e ∙ blank b)
+        (λ o b. k.blank u b) h;
+    numbers = λ d. omega (arith, served.numbers d, k.numbers d);
+  }
+
+  pub stepped : ((e : End) → MayAnswer pt served.reply → Arrives e) → Next p w steps s' t pauses n c
+  stepped arrives =
+      let a = arrives end is_move.possible in
+      by_event (event end) refl permits a.acts
+    where
+      a : Arrives end
+      a = arrives end is_move.possible
+
+      quiet : event end ≡ None → table ≡ c.table → a.process ≡ q → Next p w steps s' t pauses n c
+      quiet none is stays =
+          let m = moved p w steps s c k t s' c y a.process (to end) list (on end)
+          (follow c a.process (sym is) refl refl (same_puts c.process t _ (proc ∙ ap Some (sym stays))) a.stands a.listed
+          a.blank) in
+          record {
+            after = c;
+            ties = m.ties;
+            kinds = [];
+            own = tt;
+            leads = refl;
+            paced = λ z. inr (subst (λ (x : ℕ). x < n) (sym m.is) (a.paced none z));
+          }
+
+      acting : (u : ℕ) (label : Label) → event end ≡ Some (Acts u label) → Allows t label c.table table
+          → TakesUp (offer p c.variable q) label Nothing a.process → Next p w steps s' t pauses n c
+      acting u label e allows takes =
+          let c1 = acted c t Nothing a.process table in
+          let m = moved p w steps s c k t s' c1 y a.process (to end) list (on end)
+          (follow c1 a.process refl refl refl (put_puts c.process t (Some a.process)) a.stands a.listed a.blank) in
+          record {
+            after = c1;
+            ties = m.ties;
+            kinds = kind_of label ∷ [];
+            own = (carried_own k.world c.table t pt served.reply served.after end u label e, tt);
+            leads = (c1, action p c t q a.process label Nothing table proc takes allows, refl);
+            paced = λ z. inl tt;
+          }
+
+      by_event : (e : Option Event) → event end ≡ e → PermitsMove e c.table table → ActsSo p c.variable t e q a.process
+          → Next p w steps s' t pauses n c
+      by_event None h is stays = quiet h is stays
+      by_event (Some (Acts u label)) h allows acts =
+          acting u label h (subst (λ i. Allows i label c.table table) acts.0 allows.0) acts.1
+      by_event (Some (Strays u x)) h allows acts = absurd acts
+      by_event (Some (Kills u x us)) h allows acts = absurd acts
