@@ -139,14 +139,16 @@ parameters_walk image t view zero g place operands l fs code = let e : place ≡
     (λ n. WalksWithin image t view 0 (Runs place operands l fs) (Runs n operands l fs)) e
     (record { count = 0; few = omega arith; walk = stays })
 parameters_walk image t view (suc n) g place operands l fs code =
-    let step = one_step image t view _ _ (look_here image t view place (SetLocal (Slot' n))
-    (word_of (g n) ∷ stacked_by n g operands) l fs code.0) in
+    let step = one_step image t view (Runs place (word_of (g n) ∷ stacked_by n g operands) l fs)
+    (Runs (place + 1) (stacked_by n g operands) (with_local l (Slot' n) (word_of (g n))) fs)
+    (look_here image t view place (SetLocal (Slot' n)) (word_of (g n) ∷ stacked_by n g operands) l fs code.0) in
     let more = parameters_walk image t view n g (place + 1) operands
     (with_local l (Slot' n) (word_of (g n))) fs code.1 in
     let e : place + 1 + length (parameters_code n) ≡ place + suc (length (parameters_code n)) = omega arith in
+    let one_more : 1 + n ≤ suc n = omega arith in
     subst (λ k. WalksWithin image t view (suc n) (Runs place (word_of (g n) ∷ stacked_by n g operands) l fs)
     (Runs k operands (set_all n g (with_local l (Slot' n) (word_of (g n)))) fs)) e
-    (wider image t view (1 + n) (suc n) _ _ (omega arith) (within_on image t view 1 n _ _ _ step more))
+    (wider image t view (1 + n) (suc n) _ _ one_more (within_on image t view 1 n _ _ _ step more))
 
 pub set_all_length : (n : ℕ) (g : ℕ → ℤ) (l : Locals) → length (set_all n g l).values ≡ length l.values
 set_all_length zero g l = refl
