@@ -21,3 +21,6 @@ pub mod Storing
 pub mod Joining
 pub mod Conditions
 pub mod Leaving
+pub mod Answering
+pub mod Entering
+pub mod Followed
