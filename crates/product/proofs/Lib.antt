@@ -3,3 +3,5 @@ pub mod Worlds
 pub mod Sourcing
 pub mod Moving
 pub mod Stepped
+pub mod Pigeons
+pub mod Serving

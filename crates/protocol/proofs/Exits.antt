@@ -23,7 +23,7 @@ use Rattle.protocol.proofs.Stores.{stores_follow}
 use Rattle.protocol.proofs.WordLaws.{left_by_exit}
 
 -- ---- lists of the woken
-names-mem : (us : List ℕ) (u : ℕ) → names us u ≡ mem u us
+pub names-mem : (us : List ℕ) (u : ℕ) → names us u ≡ mem u us
 names-mem [] u = refl
 names-mem (x ∷ xs) u = ap (λ b. (u == x) || b) (names-mem xs u)
 
@@ -31,7 +31,7 @@ unlike : (x : ℕ) (us : List ℕ) → AllByRecursion (λ y. nat_eq x y ≡ fals
 unlike x [] h = refl
 unlike x (y ∷ ys) h = ap (λ b. b || mem x ys) h.0 ∙ unlike x ys h.1
 
-distinct : (us : List ℕ) → IsDistinct nat_eq us → Distinct us
+pub distinct : (us : List ℕ) → IsDistinct nat_eq us → Distinct us
 unfolding IsDistinct
 distinct [] h = tt
 distinct (x ∷ xs) h = (unlike x xs h.0, distinct xs h.1)

@@ -56,7 +56,7 @@ over_tells (LastWakes end) e o r h k = rw h k
 over_tells (HasEnded end) e o r h k = rw h k
 over_tells p e o r h k = absurd h
 
-matches : (w : World) (T : Table) → Good w T → Matches w T
+pub matches : (w : World) (T : Table) → Good w T → Matches w T
 unfolding Tie holds
 matches w T inv = record {
   hold = λ m. inv.locks.tie m;
