@@ -130,9 +130,9 @@ module _ (p : Program) (w : WellFormed p) (steps : ℕ) (s : State) (c : SourceS
   permits = subst (λ (e : Option Event). PermitsMove e c.table table) (is_move.carries c.table)
       (permitted k.world c.table t is_move.move inv is_move.can)
 
-  follow : (c' : SourceState) (process : Process) → c'.table ≡ table → c'.variable ≡ c.variable
+  abbrev follow : (c' : SourceState) (process : Process) → c'.table ≡ table → c'.variable ≡ c.variable
       → c'.printed ≡ c.printed → Puts c.process c'.process t (Some process)
-      → StandsAt (build_of p w served.after.made) c.variable t (Some y) (Some process) (to end) list
+      → StandsAt (build_of p w served.after.made) c'.variable t (Some y) (Some process) (to end) list
       → ((m : ℕ) → mem m list ≡ true → m < length p.monitors) → (IsBefore (to end) → k.world.result t ≡ 0)
       → Follow p w steps s c k t s' c' y process (to end) list (on end)
   follow c' process is v o ps stands listed blank = record {
@@ -153,8 +153,7 @@ module _ (p : Program) (w : WellFormed p) (steps : ℕ) (s : State) (c : SourceS
         (put_puts s.thread t (Some y)));
     processes = ps;
     at = ap (λ (f : ℕ → Place). put f t (thread_at (to end) list)) served.at;
-    stands = subst (λ (x : Variables). StandsAt (build_of p w served.after.made) x t (Some y) (Some process) (to end)
-        list) (sym v) stands;
+    stands = stands;
     listed = listed;
     words = λ u. subst (λ (f : ℕ → ℕ). f u < 2 ^ 32) (sym served.result) (k.words u);
     blank = λ u h. ap (λ (f : ℕ → ℕ). f u) served.result ∙ at_put k.world.at t (thread_at (to end) list) u
