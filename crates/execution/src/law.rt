@@ -1,5 +1,5 @@
 ghost use Rattle.std.specs.Prelude.{ℕ, ℤ, List};
-ghost use Rattle.execution.specs.Builds.{IsBuild, IsHeld, IsSettled};
+ghost use Rattle.execution.specs.Builds.{IsBuild, IsFollowed, IsHeld, IsSettled};
 ghost use Rattle.execution.specs.Evaluation.{Evaluates, IsEvaluated};
 ghost use Rattle.execution.specs.Following.{Build};
 ghost use Rattle.isa.specs.Programs.{Program};
@@ -20,6 +20,7 @@ pub fn expressions_evaluate()
 /// that does it: ENTER with what comes behind it, in the body or in a RECOVER part, EXIT, WAIT, NOTIFY, BROADCAST. What
 /// the process offers depends on the variables of its own monitor alone, which it holds.
 pub fn code_goes_as_its_process()
+    ensures goes { (b : Build) → IsBuild b → IsFollowed b }
     ensures settles { (b : Build) → IsBuild b → IsSettled b }
     ensures holds { (b : Build) → IsBuild b → IsHeld b }
 {}

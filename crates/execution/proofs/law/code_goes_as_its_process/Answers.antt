@@ -1,5 +1,6 @@
 use Rattle.execution.proofs.Settling.{settled}
 use Rattle.execution.proofs.Holding.{held}
+use Rattle.execution.proofs.Followed.{followed}
 use Rattle.execution.proofs.law.code_goes_as_its_process.Goals as goal
 
 pub returns-clause-settles : goal.returns-clause-settles
@@ -7,3 +8,6 @@ returns-clause-settles c = settled
 
 pub returns-clause-holds : goal.returns-clause-holds
 returns-clause-holds c = held
+
+pub returns-clause-goes : goal.returns-clause-goes
+returns-clause-goes c = followed
