@@ -1,5 +1,5 @@
 -- A RETURN, in a procedure of every role.
-use Rattle.std.proofs.Common.{◌≡◌, ℕ, ◌+◌, ◌*◌, ◌≤◌, List, [], ◌∷◌, ◌++◌, length, Option, Some, None, refl, ap, sym, ◌∙◌, subst, arith, ℤ, pos}
+use Rattle.std.proofs.Common.{◌≡◌, ℕ, ◌+◌, ◌*◌, ◌≤◌, List, [], ◌++◌, length, Option, Some, None, refl, ap, sym, subst, arith, ℤ, pos}
 use Rattle.words.specs.Signed.{word_of}
 use Rattle.program.specs.declared.kinds.ValueType.{ValueType}
 use Rattle.program.specs.declared.kinds.Role.{Role}
@@ -16,7 +16,7 @@ use Rattle.code.specs.Pieces.{setting_of}
 use Rattle.locals.specs.declared.frame.Locals.{Locals}
 use Rattle.locals.specs.declared.frame.Frame.{Frame as MachineFrame}
 use Rattle.locals.specs.Threads.{Thread, Runs}
-use Rattle.meaning.specs.Values.{Variables, Value, evaluate}
+use Rattle.meaning.specs.Values.{Variables, evaluate}
 use Rattle.meaning.specs.Processes.{Frame, Caller, Process, Before, Leaving, goes_on, goes_on_by}
 use Rattle.meaning.specs.Offers.{offer, with_value, returned, answers}
 use Rattle.execution.specs.Evaluation.{OfType}

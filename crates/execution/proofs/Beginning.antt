@@ -1,11 +1,10 @@
 -- From a call or a fork to where the procedure begins: its parameters take their arguments, and an ENTRY procedure
 -- stands before its ENTER then.
-use Rattle.std.proofs.Common.{◌≡◌, ℕ, zero, suc, ◌+◌, ◌<◌, ◌≤◌, List, [], ◌∷◌, ◌++◌, length, Option, Some, None, slice_get, refl, ap, sym, ◌∙◌, subst, arith, length-append, ℤ}
+use Rattle.std.proofs.Common.{◌≡◌, ℕ, zero, suc, ◌+◌, ◌≤◌, List, [], ◌++◌, length, Some, None, slice_get, refl, ap, sym, ◌∙◌, subst, arith, ℤ}
 use Rattle.program.specs.declared.kinds.ValueType.{ValueType}
 use Rattle.program.specs.declared.kinds.Role.{Role}
 use Rattle.program.specs.declared.kinds.Role.TheVariants.{Entry, Internal, Recover, External, Main}
 use Rattle.program.specs.Trees.{Block, Done, Then, Procedure, followed_by}
-use Rattle.program.specs.Typing.{IsNoRecover}
 use Rattle.code.specs.Layout.{link_word}
 use Rattle.code.specs.Locks.{enter_code}
 use Rattle.code.specs.Marks.{placed}
@@ -14,12 +13,12 @@ use Rattle.code.specs.Pieces.{setting_of, parameters_code, entering_code, defaul
 use Rattle.code.specs.declared.mark.Marked.{Marked}
 use Rattle.locals.specs.declared.frame.Locals.{Locals}
 use Rattle.locals.specs.declared.frame.Frame.{Frame as MachineFrame}
-use Rattle.locals.specs.Threads.{Thread, Runs, fresh}
+use Rattle.locals.specs.Threads.{Runs, fresh}
 use Rattle.meaning.specs.Values.{local_value, or_zero}
-use Rattle.meaning.specs.Processes.{Frame, Caller, Process, goes_on, begins, begins_by, zeros}
+use Rattle.meaning.specs.Processes.{Frame, Caller, goes_on, begins, begins_by, zeros}
 use Rattle.execution.specs.Typed.{HaveValues, HoldValues}
-use Rattle.execution.specs.Walks.{StandAt, WalksWithin, empty_view}
-use Rattle.execution.specs.Following.{Build, CallersStand, Implements, finishes, IsFrame, Running, IsEntering, Stands, StepsWithin, runs, enters, recovery_in}
+use Rattle.execution.specs.Walks.{StandAt, empty_view}
+use Rattle.execution.specs.Following.{Build, CallersStand, Implements, finishes, IsFrame, Running, Stands, StepsWithin, runs, enters, recovery_in}
 use Rattle.execution.specs.Builds.{IsBuild}
 use Rattle.execution.proofs.Walking.{front_stands, back_stands, wider}
 use Rattle.execution.proofs.Bodies.{block_implements}

@@ -1,36 +1,31 @@
 -- A call, from its arguments to the beginning of the procedure that is called.
-use Rattle.std.proofs.Common.{rules, ◌≡◌, ℕ, zero, suc, ◌+◌, ◌*◌, ◌<◌, List, [], ◌∷◌, ◌++◌, length, Option, Some, None, slice_get, refl, ap, sym, ◌∙◌, subst, arith, length-append, Contains, ℤ, lt-ltb}
+use Rattle.std.proofs.Common.{rules, ◌≡◌, ℕ, ◌+◌, ◌*◌, List, [], ◌∷◌, ◌++◌, length, Option, Some, None, slice_get, refl, ap, ◌∙◌, subst, arith, length-append, Contains, ℤ, lt-ltb}
 use Rattle.isa.specs.declared.instr.Instr.TheVariants.{Call as Call'}
 use Rattle.isa.specs.Programs.{Program as Image}
 use Rattle.program.specs.declared.kinds.ValueType.{ValueType}
-use Rattle.program.specs.declared.kinds.Role.{Role}
-use Rattle.program.specs.declared.kinds.Role.TheVariants.{Entry, Internal, Recover, External, Main}
-use Rattle.program.specs.Trees.{Expression, Call, Block, Done, Then, Procedure, followed_by}
+use Rattle.program.specs.Trees.{Expression, Call, Block, Then, Procedure}
 use Rattle.program.specs.Scope.{scope_of}
-use Rattle.program.specs.Typing.{MayCall}
 use Rattle.program.specs.Tokens.{arguments_tokens}
 use Rattle.code.specs.Expressions.{arguments_code}
 use Rattle.code.specs.Processes.{call_code}
-use Rattle.code.specs.Statements.{Setting, block_code, ending_code, result_of, result_in}
-use Rattle.code.specs.Pieces.{setting_of, parameters_code, entering_code, default_code}
-use Rattle.code.specs.declared.mark.Marked.{Marked}
+use Rattle.code.specs.Statements.{result_of, result_in}
+use Rattle.code.specs.Pieces.{setting_of}
 use Rattle.locals.specs.declared.frame.Locals.{Locals}
 use Rattle.locals.specs.declared.frame.Frame.{Frame as MachineFrame}
 use Rattle.locals.specs.Threads.{Thread, Runs, Dies, fresh}
 use Rattle.locals.specs.Looks.{Goes, if_so}
-use Rattle.meaning.specs.Values.{Variables, EvaluatedAll, Values, FailsAll, evaluate_all, local_value, or_zero}
+use Rattle.meaning.specs.Values.{Variables, EvaluatedAll, Values, FailsAll, evaluate_all}
 use Rattle.meaning.specs.Labels.{Faulted, Alone}
 use Rattle.meaning.specs.Labels as L
-use Rattle.meaning.specs.Processes.{Caller, Process, Before, Dying, goes_on, begins, opening_frame, frame_of, zeros}
+use Rattle.meaning.specs.Processes.{Caller, Process, Before, goes_on, begins, opening_frame, frame_of, zeros}
 use Rattle.meaning.specs.Offers.{Does, Nothing, offer, with_values}
-use Rattle.execution.specs.Typed.{HaveValues, HoldValues}
+use Rattle.execution.specs.Typed.{HaveValues}
 use Rattle.execution.specs.Walks.{StandAt, WalksWithin}
-use Rattle.execution.specs.Following.{Build, CallersStand, is_called, Implements, Stands, taking_code}
+use Rattle.execution.specs.Following.{Build, CallersStand, is_called, Implements, taking_code}
 use Rattle.execution.specs.Completing.{Completes, Proceeds}
 use Rattle.execution.specs.Completing as F
 use Rattle.execution.specs.Builds.{IsBuild}
-use Rattle.execution.proofs.Walking.{front_stands, back_stands, wider, look_here}
-use Rattle.execution.proofs.Bodies.{block_implements}
+use Rattle.execution.proofs.Walking.{front_stands, back_stands, look_here}
 use Rattle.execution.proofs.Contexts.{Context, frame_at, view_at, proceeds_on}
 use Rattle.execution.proofs.Stepping.{steps_of, as_it_stands, at_once}
 use Rattle.execution.proofs.Arguments.{stacked, arguments_typed, arguments_give, GivesAll, HaveAll}

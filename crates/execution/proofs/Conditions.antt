@@ -1,5 +1,5 @@
 -- WAIT, NOTIFY and BROADCAST: a thread stands before the template, and where it goes on behind it.
-use Rattle.std.proofs.Common.{◌≡◌, ℕ, ◌+◌, ◌≤◌, List, [], ◌∷◌, length, Option, Some, None, slice_get, refl, ap, ◌∙◌, subst, arith, ℤ}
+use Rattle.std.proofs.Common.{◌≡◌, ℕ, ◌+◌, List, [], Option, Some, None, slice_get, refl, ap, ◌∙◌, subst, arith, ℤ}
 use Rattle.program.specs.declared.kinds.Member.{Member}
 use Rattle.program.specs.Trees.{Statement, Wait, Notify, Broadcast, Block, Then, Procedure}
 use Rattle.program.specs.Scope.{own_monitor, recover_of}
@@ -12,7 +12,7 @@ use Rattle.locals.specs.declared.frame.Locals.{Locals}
 use Rattle.locals.specs.declared.frame.Frame.{Frame as MachineFrame}
 use Rattle.locals.specs.Threads.{Runs}
 use Rattle.meaning.specs.Values.{Variables}
-use Rattle.meaning.specs.Processes.{Caller, Process, Before, goes_on, holds}
+use Rattle.meaning.specs.Processes.{Caller, Before, goes_on, holds}
 use Rattle.execution.specs.Following.{Build, Implements, IsFrame, Stands, recovery_in}
 use Rattle.execution.specs.Completing.{HasFirst, GoesOn, Proceeds}
 use Rattle.execution.specs.Completing as F

@@ -1,5 +1,5 @@
 -- Every thread that stands for a process does what the process offers, or comes to the template that does.
-use Rattle.std.proofs.Common.{inl, inr, ◌≡◌, ℕ, ◌+◌, ◌*◌, ◌≤◌, List, [], ◌∷◌, ◌++◌, length, Option, Some, None, refl, ap, sym, ◌∙◌, subst, arith, ℤ, pos, slice_get}
+use Rattle.std.proofs.Common.{inl, inr, ◌≡◌, ℕ, ◌+◌, ◌*◌, ◌≤◌, List, [], ◌∷◌, ◌++◌, length, Option, Some, refl, ap, sym, ◌∙◌, subst, arith, ℤ, pos, slice_get}
 use Rattle.words.specs.declared.outcome.Fault.TheVariants.{AbandonedMonitor}
 use Rattle.isa.specs.declared.instr.Instr.TheVariants.{Ret}
 use Rattle.isa.specs.Programs.{Program as Image}
@@ -19,7 +19,7 @@ use Rattle.locals.specs.Threads.{Thread, Runs, Dies}
 use Rattle.meaning.specs.Values.{Variables}
 use Rattle.meaning.specs.Processes.{Frame, Caller, Process, Entering, Before, Returning, Failing, Leaving, goes_on, goes_on_by}
 use Rattle.execution.specs.Variables.{VariablesFit}
-use Rattle.execution.specs.Walks.{StandAt, empty_view}
+use Rattle.execution.specs.Walks.{StandAt}
 use Rattle.execution.specs.Following.{Build, CallersStand, is_first, is_called, is_recovery, Implements, finishes, IsFrame, Running, Stands, runs, enters, returns, fails, own_of, result_operands}
 use Rattle.execution.specs.Completing.{Completes, Proceeds, view_of}
 use Rattle.execution.specs.Completing as F
@@ -27,7 +27,7 @@ use Rattle.execution.specs.Builds.{IsBuild, IsFollowed, OwnFit, most_steps}
 use Rattle.execution.proofs.Walking.{wider, one_step, look_here, seen}
 use Rattle.execution.proofs.Evaluating.{expressions_evaluate}
 use Rattle.execution.proofs.Bodies.{after_jumps, head_of}
-use Rattle.execution.proofs.Contexts.{Context, frame_at, view_at, proceeds_on, proceeds_wider}
+use Rattle.execution.proofs.Contexts.{Context, frame_at, proceeds_on, proceeds_wider}
 use Rattle.execution.proofs.Stepping.{print_proceeds, abort_proceeds, assign_proceeds}
 use Rattle.execution.proofs.Storing.{member_proceeds, element_proceeds}
 use Rattle.execution.proofs.Testing.{if_proceeds, if_else_proceeds, while_proceeds}
@@ -36,7 +36,7 @@ use Rattle.execution.proofs.Calling.{call_proceeds}
 use Rattle.execution.proofs.Forking.{fork_proceeds}
 use Rattle.execution.proofs.Joining.{join_proceeds}
 use Rattle.execution.proofs.Conditions.{wait_proceeds, notify_proceeds, broadcast_proceeds}
-use Rattle.execution.proofs.Leaving.{HandsOver, before_answer, no_recover, body_leaves, main_leaves}
+use Rattle.execution.proofs.Leaving.{HandsOver, before_answer, body_leaves, main_leaves}
 use Rattle.execution.proofs.Answering.{return_proceeds}
 use Rattle.execution.proofs.Entering.{entering_proceeds}
 
@@ -197,8 +197,11 @@ module _ (b : Build) (is : IsBuild b) (t : ℕ) (v : Variables) where
       (is_recovery n caller monitor role none into own calls behind below) fit =
       let hands : HandsOver caller.role = owner_hands caller.role monitor own calls in
       let interrupted = frame_at caller c.frame.locals c.frame.rest in
-      let same : c.frame ≡ interrupted = ap (λ (r : Role). record { role = r; locals = c.frame.locals;
-          rest = c.frame.rest }) behind.frame.role in
+      let same : c.frame ≡ interrupted = ap (λ (r : Role). record {
+        role = r;
+        locals = c.frame.locals;
+        rest = c.frame.rest;
+      }) behind.frame.role in
       let on : goes_on entered (frame_at q values Done) (c ∷ cs) ≡ goes_on entered interrupted cs =
       ap (λ (r : Role). goes_on_by r Done entered (frame_at q values Done) (c ∷ cs)) e
       ∙ ap (λ (f : Frame). Before entered f cs) same

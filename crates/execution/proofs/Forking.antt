@@ -8,11 +8,9 @@ use Rattle.words.specs.declared.outcome.Fault.TheVariants.{ProcessTableFull}
 use Rattle.isa.specs.declared.instr.Instr.TheVariants.{Fork as Fork', SetLocal}
 use Rattle.isa.specs.declared.slot.Slot.TheVariants.{Local as Slot'}
 use Rattle.program.specs.declared.kinds.ValueType.{ValueType}
-use Rattle.program.specs.declared.kinds.Role.{Role}
-use Rattle.program.specs.declared.kinds.Role.TheVariants.{Entry, Internal, Recover, External, Main}
 use Rattle.program.specs.Trees.{Expression, Fork, Block, Then, Procedure, slots}
 use Rattle.program.specs.Scope.{scope_of, Scope}
-use Rattle.program.specs.Typing.{MayBeForked, ArgumentsFit}
+use Rattle.program.specs.Typing.{ArgumentsFit}
 use Rattle.program.specs.Tokens.{arguments_tokens}
 use Rattle.code.specs.Expressions.{arguments_code}
 use Rattle.code.specs.Processes.{fork_code}
@@ -22,11 +20,9 @@ use Rattle.locals.specs.declared.frame.Frame.{Frame as MachineFrame}
 use Rattle.locals.specs.Threads.{Thread, Runs, Dies, with_local}
 use Rattle.locals.specs.Looks.{Asks, AskFork, look, thread_after_try}
 use Rattle.meaning.specs.Values.{Variables, EvaluatedAll, Values, FailsAll, evaluate_all}
-use Rattle.meaning.specs.Labels.{Faulted, Alone}
-use Rattle.meaning.specs.Labels as L
 use Rattle.meaning.specs.Processes.{Caller, Process, Before, Dying, goes_on, begins, opening_frame, frame_of, zeros}
 use Rattle.meaning.specs.Processes as P
-use Rattle.meaning.specs.Offers.{Does, MakesOne, Nothing, offer, with_values, dies}
+use Rattle.meaning.specs.Offers.{MakesOne, offer, with_values, dies}
 use Rattle.execution.specs.Typed.{HaveValues}
 use Rattle.execution.specs.Walks.{StandAt, WalksWithin, empty_view}
 use Rattle.execution.specs.Following.{Build, with_made, is_first, Stands, Implements}

@@ -8,7 +8,7 @@ use Rattle.program.specs.Typing.{MayCall, MayBeForked}
 use Rattle.locals.specs.declared.frame.Locals.{Locals}
 use Rattle.locals.specs.declared.frame.Frame.{Frame as MachineFrame}
 use Rattle.meaning.specs.Processes.{Frame, Caller, Process, goes_on, goes_on_by, holds, all_monitors, callers_monitors, monitor_of_role}
-use Rattle.execution.specs.Following.{Build, IsFirst, CallersStand, is_first, is_called, is_recovery, Running, own_of, Stands, runs, enters, returns, fails}
+use Rattle.execution.specs.Following.{Build, IsFirst, CallersStand, is_first, is_called, is_recovery, Running, own_of, runs, enters, returns, fails}
 use Rattle.execution.specs.Completing.{HasFirst}
 use Rattle.execution.specs.Builds.{IsBuild, IsHeld}
 

@@ -22,10 +22,8 @@ use Rattle.locals.specs.declared.frame.Frame.{Frame as MachineFrame}
 use Rattle.locals.specs.Threads.{Thread, Runs, Dies, with_local}
 use Rattle.locals.specs.Looks.{Goes, look, Request, Asks, at_place, effect}
 use Rattle.meaning.specs.Values.{Variables, Value, evaluate}
-use Rattle.meaning.specs.Labels.{Faulted, Alone}
-use Rattle.meaning.specs.Labels as L
-use Rattle.meaning.specs.Processes.{Frame, Caller, Process, Before, Joining, Dying, goes_on, with_result}
-use Rattle.meaning.specs.Offers.{Does, ClaimsOne, Nothing, offer, claims}
+use Rattle.meaning.specs.Processes.{Frame, Caller, Process, Before, goes_on, with_result}
+use Rattle.meaning.specs.Offers.{offer, claims}
 use Rattle.execution.specs.Evaluation.{OfType}
 use Rattle.execution.specs.Walks.{StandAt, WalksWithin, empty_view}
 use Rattle.execution.specs.Following.{Build, Implements, follows, Stands, part_nesting}

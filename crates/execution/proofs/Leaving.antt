@@ -1,7 +1,7 @@
 -- The end of a procedure of every role: an ENTRY procedure gives up its monitor with its result, others hand it over.
-use Rattle.std.proofs.Common.{◌≡◌, ℕ, ◌+◌, ◌≤◌, List, [], ◌∷◌, ◌++◌, length, Option, Some, None, refl, ap, sym, ◌∙◌, subst, arith, ℤ, pos, slice_get}
+use Rattle.std.proofs.Common.{◌≡◌, ℕ, ◌+◌, List, [], ◌∷◌, ◌++◌, length, Option, Some, None, refl, ap, sym, ◌∙◌, subst, arith, ℤ, pos, slice_get}
 use Rattle.std.specs.Prelude.{⊤}
-use Rattle.isa.specs.declared.instr.Instr.TheVariants.{Push, Ret}
+use Rattle.isa.specs.declared.instr.Instr.TheVariants.{Push}
 use Rattle.program.specs.declared.kinds.ValueType.{ValueType}
 use Rattle.program.specs.declared.kinds.Role.{Role}
 use Rattle.program.specs.declared.kinds.Role.TheVariants.{Entry, Internal, Recover, External, Main}
@@ -22,8 +22,8 @@ use Rattle.meaning.specs.Values.{Variables}
 use Rattle.meaning.specs.Labels.{Exits}
 use Rattle.meaning.specs.Processes.{Frame, Caller, Process, Before, Returning, Leaving, goes_on, goes_on_by, holds, monitor_of_role, callers_monitors}
 use Rattle.meaning.specs.Offers.{Does, Nothing, offer, answers}
-use Rattle.execution.specs.Walks.{StandAt, WalksWithin}
-use Rattle.execution.specs.Following.{Build, CallersStand, ShowsResult, result_operands, Stands, returns}
+use Rattle.execution.specs.Walks.{StandAt}
+use Rattle.execution.specs.Following.{Build, CallersStand, ShowsResult, result_operands, returns}
 use Rattle.execution.specs.Completing.{Proceeds}
 use Rattle.execution.specs.Completing as F
 use Rattle.execution.specs.Builds.{IsBuild}

@@ -1,11 +1,9 @@
 -- Where a thread goes on that has taken a monitor's lock: behind the template; or, in an abandoned monitor, in its
 -- RECOVER part or into a fault.
-use Rattle.std.proofs.Common.{◌≡◌, ℕ, ◌+◌, ◌<◌, ◌≤◌, List, [], ◌∷◌, length, Option, Some, None, slice_get, refl, ap, sym, ◌∙◌, subst, arith, ℤ, lt-ltb}
+use Rattle.std.proofs.Common.{◌≡◌, ℕ, ◌+◌, ◌<◌, ◌≤◌, List, [], ◌∷◌, length, Option, Some, None, slice_get, refl, ap, sym, ◌∙◌, subst, arith, lt-ltb}
 use Rattle.words.specs.declared.outcome.Fault.TheVariants.{AbandonedMonitor}
-use Rattle.isa.specs.declared.instr.Instr.{Instr}
 use Rattle.isa.specs.declared.instr.Instr.TheVariants.{Call, Raise}
 use Rattle.program.specs.declared.kinds.ValueType.{ValueType}
-use Rattle.program.specs.declared.kinds.Role.{Role}
 use Rattle.program.specs.declared.kinds.Role.TheVariants.{Recover}
 use Rattle.program.specs.Trees.{Procedure}
 use Rattle.program.specs.Scope.{own_monitor, recover_of}
@@ -17,18 +15,18 @@ use Rattle.code.specs.Statements.{start_in}
 use Rattle.code.specs.Pieces.{setting_of, entering_code}
 use Rattle.locals.specs.declared.frame.Locals.{Locals}
 use Rattle.locals.specs.declared.frame.Frame.{Frame as MachineFrame}
-use Rattle.locals.specs.Threads.{Thread, Runs, Dies, fresh}
+use Rattle.locals.specs.Threads.{Runs, fresh}
 use Rattle.locals.specs.Looks.{Goes, if_so, look}
-use Rattle.meaning.specs.Processes.{Frame, Caller, Process, goes_on, opening_frame, frame_of, zeros, recovers_by}
+use Rattle.meaning.specs.Processes.{Frame, Caller, goes_on, frame_of, zeros, recovers_by}
 use Rattle.execution.specs.Typed.{HaveValues}
-use Rattle.execution.specs.Walks.{WalksWithin, empty_view}
-use Rattle.execution.specs.Following.{Build, CallersStand, is_first, is_called, is_recovery, Implements, IsFrame, StandsBehind, Stands, StepsWithin, runs, fails, recovery_in}
+use Rattle.execution.specs.Walks.{empty_view}
+use Rattle.execution.specs.Following.{Build, CallersStand, is_first, is_called, is_recovery, Implements, IsFrame, StandsBehind, Stands, runs, fails, recovery_in}
 use Rattle.execution.specs.Completing.{GoesOn, kept}
 use Rattle.execution.specs.Builds.{IsBuild}
 use Rattle.execution.proofs.Walking.{wider, within_on, one_step, look_here}
 use Rattle.execution.proofs.Contexts.{frame_at, stay}
 use Rattle.execution.proofs.Returning.{recover_is_one}
-use Rattle.execution.proofs.Beginning.{HasBegun, has_begun, in_body}
+use Rattle.execution.proofs.Beginning.{has_begun, in_body}
 
 -- calls are so deep that no frame is missing
 pub chain : (b : Build) → IsBuild b → (n : ℕ) (q : Procedure) (fs : List MachineFrame) (cs : List Caller)

@@ -1,11 +1,10 @@
 -- The end of a procedure: its result goes to its caller; and the end of the main part.
-use Rattle.std.proofs.Common.{rules, inl, ◌≡◌, ℕ, ◌+◌, ◌≤◌, List, [], ◌∷◌, length, Option, Some, None, slice_get, refl, ap, ◌∙◌, subst, arith, ℤ, pos, sym}
+use Rattle.std.proofs.Common.{◌≡◌, ℕ, ◌+◌, ◌≤◌, List, [], ◌∷◌, Option, Some, None, slice_get, refl, ap, ◌∙◌, subst, arith, ℤ, pos, sym}
 use Rattle.std.specs.Prelude.{slice_set}
 use Rattle.words.specs.Signed.{word_of}
 use Rattle.isa.specs.declared.instr.Instr.TheVariants.{Ret, RetValue, SetLocal, Pop}
 use Rattle.isa.specs.declared.slot.Slot.TheVariants.{Local as Slot'}
 use Rattle.program.specs.declared.kinds.ValueType.{ValueType}
-use Rattle.program.specs.declared.kinds.ValueType.TheVariants.{Integer, Boolean, Process as Handle}
 use Rattle.program.specs.declared.kinds.Role.{Role}
 use Rattle.program.specs.declared.kinds.Role.TheVariants.{Recover, Main}
 use Rattle.program.specs.Trees.{Procedure, slots}
@@ -13,17 +12,16 @@ use Rattle.program.specs.Scope.{scope_of}
 use Rattle.program.specs.Typing.{ResultFits, IsNoRecover, MayCall}
 use Rattle.code.specs.Processes.{return_instruction}
 use Rattle.code.specs.Pieces.{setting_of}
-use Rattle.code.specs.declared.mark.Marked.{Marked}
 use Rattle.locals.specs.declared.frame.Locals.{Locals}
 use Rattle.locals.specs.declared.frame.Frame.{Frame as MachineFrame}
 use Rattle.locals.specs.Threads.{Thread, Runs, with_local}
 use Rattle.meaning.specs.Values.{Variables}
 use Rattle.meaning.specs.Labels.{Alone}
 use Rattle.meaning.specs.Labels as L
-use Rattle.meaning.specs.Processes.{Frame, Caller, Process, Leaving, goes_on, hands_over, with_result}
+use Rattle.meaning.specs.Processes.{Frame, Caller, Process, Leaving, goes_on, hands_over}
 use Rattle.meaning.specs.Offers.{Does, Nothing, offer}
 use Rattle.execution.specs.Typed.{HasValue}
-use Rattle.execution.specs.Walks.{StandAt, WalksWithin, stays}
+use Rattle.execution.specs.Walks.{WalksWithin, stays}
 use Rattle.execution.specs.Following.{Build, CallersStand, is_first, is_called, is_recovery, StandsBehind, Implements, IsFrame, Stands, runs, taking_code, ShowsResult, result_operands}
 use Rattle.execution.specs.Completing.{Completes, Proceeds, view_of}
 use Rattle.execution.specs.Completing as F

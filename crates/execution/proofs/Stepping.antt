@@ -1,11 +1,10 @@
 -- From a statement to the next: prints, assignments, tests and the ABORT statement.
-use Rattle.std.proofs.Common.{rules, inl, inr, ◌≡◌, ◌⊎◌, ℕ, zero, suc, ◌+◌, ◌*◌, ◌<◌, ◌≤◌, List, [], ◌∷◌, ◌++◌, length, Option, Some, None, slice_get, refl, ap, sym, ◌∙◌, subst, arith, length-append, ℤ}
-use Rattle.std.specs.Prelude.{slice_index, slice_set}
+use Rattle.std.proofs.Common.{◌≡◌, ℕ, ◌+◌, ◌*◌, ◌≤◌, List, [], ◌∷◌, ◌++◌, length, Option, None, refl, ap, sym, ◌∙◌, subst, arith, length-append, ℤ}
+use Rattle.std.specs.Prelude.{slice_set}
 use Rattle.words.specs.declared.outcome.Fault.TheVariants.{AbortStatement}
 use Rattle.words.specs.Signed.{word_of}
 use Rattle.isa.specs.declared.instr.Instr.TheVariants.{Print as Print', SetLocal, Raise}
 use Rattle.isa.specs.declared.slot.Slot.TheVariants.{Local as Slot'}
-use Rattle.program.specs.declared.kinds.ValueType.{ValueType}
 use Rattle.program.specs.declared.kinds.ValueType.TheVariants.{Integer}
 use Rattle.program.specs.Trees.{Expression, ToLocal, Statement, Assign, Print, Abort, Block, Then, Procedure, slots}
 use Rattle.program.specs.Tokens.{expression_tokens, statement_tokens}
@@ -19,9 +18,8 @@ use Rattle.locals.specs.Threads.{Thread, Runs, Dies, with_local}
 use Rattle.meaning.specs.Values.{Variables, Value, evaluate}
 use Rattle.meaning.specs.Labels.{Faulted, Alone}
 use Rattle.meaning.specs.Labels as L
-use Rattle.meaning.specs.Processes.{Caller, Process, Before, Dying, goes_on}
-use Rattle.meaning.specs.Offers.{Does, Nothing, Writes}
-use Rattle.execution.specs.Typed.{HasValue, HaveValues, HoldValues}
+use Rattle.meaning.specs.Processes.{Caller, Process, Before, goes_on}
+use Rattle.meaning.specs.Offers.{Does, Writes}
 use Rattle.execution.specs.Evaluation.{OfType}
 use Rattle.execution.specs.Walks.{stays}
 use Rattle.execution.specs.Following.{Build, Implements, Stands}

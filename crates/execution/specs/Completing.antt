@@ -22,7 +22,7 @@ use Rattle.meaning.specs.Values.{Variables}
 use Rattle.meaning.specs.Labels.{Faulted, Alone, Kind, Exits, Waits, Stores}
 use Rattle.meaning.specs.Labels as L
 use Rattle.meaning.specs.Processes.{Frame, Caller, Process, Entering, Suspended, Joining, Returning, Dying, Leaving, goes_on, recovers, with_result, holds, all_monitors, callers_monitors}
-use Rattle.meaning.specs.Offers.{Offer, Does, MakesOne, ClaimsOne, NotifiesSome, NotifiesAll, Nothing, Puts, Writes, offer}
+use Rattle.meaning.specs.Offers.{Does, MakesOne, ClaimsOne, NotifiesSome, NotifiesAll, Nothing, Puts, Writes, offer}
 use Rattle.execution.specs.Variables.{IsVariable, variable_address, ValueFits}
 use Rattle.execution.specs.Walks.{View, StandAt, WalksWithin}
 use Rattle.execution.specs.Following.{Build, with_made, recovery_in, result_operands, own_of, StepsWithin, Stands}

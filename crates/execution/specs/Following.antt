@@ -6,7 +6,6 @@ use Rattle.isa.specs.declared.instr.Instr.{Instr}
 use Rattle.isa.specs.declared.instr.Instr.TheVariants.{Jump}
 use Rattle.isa.specs.Programs.{Program as Image}
 use Rattle.program.specs.declared.kinds.ValueType.{ValueType}
-use Rattle.program.specs.declared.kinds.Role.{Role}
 use Rattle.program.specs.declared.kinds.Role.TheVariants.{Entry, Recover, Main}
 use Rattle.program.specs.Trees.{Statement, Block, Done, Then, Procedure, Program, slots}
 use Rattle.program.specs.Scope.{Scope, scope_of, own_monitor, recover_of}
