@@ -30,7 +30,8 @@ use Rattle.execution.proofs.Stepping.{steps_of}
 use Rattle.execution.proofs.Leaving.{HandsOver, before_answer, leaves_at, main_leaves}
 
 -- without a result, a RETURN has no expression
-bare_return : (s : Scope) (result : Option ValueType) (value : Option Expression) → result ≡ None → ReturnFits s result value
+bare_return : (s : Scope) (result : Option ValueType) (value : Option Expression) → result ≡ None
+    → ReturnFits s result value
     → value ≡ None
 bare_return s None None e h = refl
 bare_return s None (Some x) e h = absurd h
@@ -56,7 +57,8 @@ module _ (b : Build) (is : IsBuild b) (t : ℕ) (v : Variables) (place : ℕ) (l
       → HandsOver procedure.role → ReturnFits (scope_of b.program procedure) result y
       → StandAt b.image place (value_code b.program y ++ ending_code (setting_of b.program b.starts procedure)
       (place + length (value_code b.program y))) → value_room y ≤ most_room
-      → offer b.program v pending ≡ with_value (returned b.program v after y) after cs (λ z. answers procedure.role z cs)
+      → offer b.program v pending ≡ with_value (returned b.program v after y) after cs
+      (λ z. answers procedure.role z cs)
       → Proceeds b t v (steps_of (Return y)) x pending
   value_returns None None e same hands fit code space o =
       let at : place + 0 ≡ place = omega arith in
@@ -73,7 +75,8 @@ module _ (b : Build) (is : IsBuild b) (t : ℕ) (v : Variables) (place : ℕ) (l
       let ev = c.evaluates in
       let give = ev.gives y u place [] fs fit (front_stands b.image place first last code) (omega (arith, space)) in
       proceeds_wider b t v (2 * expression_tokens y + 1) (steps_of (Return (Some y))) x pending (omega arith)
-      (with_evaluation b t v (2 * expression_tokens y) 1 x (evaluate b.program v values y) end [] l fs after cs _ pending o
+      (with_evaluation b t v (2 * expression_tokens y) 1 x (evaluate b.program v values y) end [] l fs after cs _
+      pending o
       refl give
       (λ z is_z o'. leaves_at b t v (Some (word_of z)) end l fs c.number procedure cs z pending hands c.callers
       (subst (λ (k : Option ValueType). ShowsResult b.made k (Some (word_of z)) z) (sym same)
@@ -104,7 +107,8 @@ module _ (b : Build) (is : IsBuild b) (t : ℕ) (v : Variables) (place : ℕ) (l
   pub return_proceeds : Proceeds b t v (steps_of (Return value)) x (goes_on entered f cs)
   return_proceeds = by_role procedure.role refl
     where
-      by_role : (role : Role) → procedure.role ≡ role → Proceeds b t v (steps_of (Return value)) x (goes_on entered f cs)
+      by_role : (role : Role) → procedure.role ≡ role → Proceeds b t v (steps_of (Return value)) x
+          (goes_on entered f cs)
       by_role (Entry m) e = hands_over (subst HandsOver (sym e) tt)
       by_role (Internal m) e = hands_over (subst HandsOver (sym e) tt)
       by_role External e = hands_over (subst HandsOver (sym e) tt)

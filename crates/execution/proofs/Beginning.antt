@@ -40,7 +40,8 @@ HoldsFrom n zs us = HoldValues (set_all n (local_value zs) fresh).values (zs ++ 
 pub record HasBegun (b : Build) (t n : ℕ) (q : Procedure) (zs : List ℤ) (fs : List MachineFrame) : Type 0 where
   pub place : ℕ
   pub locals : Locals
-  pub walk : StepsWithin b t (length q.parameters) (Runs (b.starts n) (stacked zs []) fresh fs) (Runs place [] locals fs)
+  pub walk : StepsWithin b t (length q.parameters) (Runs (b.starts n) (stacked zs []) fresh fs)
+      (Runs place [] locals fs)
   pub entering : StandAt b.image place (entering_code (setting_of b.program b.starts q) q.role place)
   pub frame : IsFrame b.program b.height b.made b.width n q (frame_at q (zs ++ zeros q.locals) q.body) locals
   pub jumps : ℕ

@@ -131,18 +131,21 @@ module _ (b : Build) (is : IsBuild b) (t : ℕ) (v : Variables) (place : ℕ) (l
                 length_same c.head.more;
           }) c.callers
 
-      by_values : (zs : EvaluatedAll) → evaluate_all b.program v values es ≡ zs → GivesAll b.image t (view_at b procedure v)
+      by_values : (zs : EvaluatedAll) → evaluate_all b.program v values es ≡ zs → GivesAll b.image t
+          (view_at b procedure v)
           (2 * arguments_tokens es) x (evaluate_all b.program v values es) end [] l fs
           → HaveAll b.made callee.parameters
           (evaluate_all b.program v values es)
           → Proceeds b t v (2 * arguments_tokens es + 0) x pending
       by_values (Values zs) same g typed =
-          let walk : WalksWithin b.image t (view_at b procedure v) (2 * arguments_tokens es) x (Runs end (stacked zs []) l fs) =
+          let walk : WalksWithin b.image t (view_at b procedure v) (2 * arguments_tokens es) x
+          (Runs end (stacked zs []) l fs) =
           subst (λ (k : EvaluatedAll). GivesAll b.image t (view_at b procedure v)
           (2 * arguments_tokens es) x k end [] l fs) same g in
           let have : HaveValues b.made callee.parameters zs = subst (HaveAll b.made callee.parameters) same typed in
           let low = chain b is c.number procedure fs cs c.sound.fits.0 c.callers in
-          let step = look_here b.image t (view_at b procedure v) end (Call' (b.starts qn)) (stacked zs []) l fs takes.0 ∙ ap
+          let step = look_here b.image t (view_at b procedure v) end (Call' (b.starts qn)) (stacked zs []) l fs takes.0
+          ∙ ap
           (λ k. if_so k (Goes (Runs (b.starts qn) (stacked zs []) fresh (back ∷ fs))))
           (lt-ltb (length fs) 15 (omega (arith, low))) in
           let o : offer b.program v pending ≡ Does (Alone L.Call) Nothing
@@ -158,7 +161,8 @@ module _ (b : Build) (is : IsBuild b) (t : ℕ) (v : Variables) (place : ℕ) (l
           (begins_at b is t qn callee zs (back ∷ fs) (caller ∷ cs) c.sound.fits.2 have callers)))
       by_values (FailsAll fault) same g typed =
           let walk : WalksWithin b.image t (view_at b procedure v) (2 * arguments_tokens es) x (Dies fault) = subst
-          (λ (k : EvaluatedAll). GivesAll b.image t (view_at b procedure v) (2 * arguments_tokens es) x k end [] l fs) same g in
+          (λ (k : EvaluatedAll). GivesAll b.image t (view_at b procedure v) (2 * arguments_tokens es) x k end [] l fs)
+          same g in
           let o = ap (λ (k : EvaluatedAll). with_values k (frame_at procedure values rest) cs
           (λ ys. Does (Alone L.Call) Nothing (begins (opening_frame b.program qn ys) (caller ∷ cs)))) same in
           proceeds_on b t v (2 * arguments_tokens es) 0 x (Dies fault) pending walk

@@ -85,8 +85,8 @@ module _ (b : Build) (is : IsBuild b) (t : ℕ) (v : Variables) (place : ℕ) (l
       c.holds c.words c.later (omega (arith, c.head.few, c.head.deep)) c.head.more in
       as_it_stands b t v place l fs values rest procedure cs entered (Notify m) c tt 0 (omega arith)
       (at_once b t v place l fs values rest procedure cs entered (Runs place [] l fs) _
-      (F.notifies m place c.sound.fits.1 refl (held (Notify m) c m.monitor c.sound.fits.0) (still_held (Notify m) c) refl
-      c.head.here after))
+      (F.notifies m place c.sound.fits.1 refl (held (Notify m) c m.monitor c.sound.fits.0) (still_held (Notify m) c)
+      refl c.head.here after))
 
   pub broadcast_proceeds : (m : Member) → Context b t v place l fs values (Broadcast m) rest procedure cs
       → Proceeds b t v (steps_of (Broadcast m)) (Runs place [] l fs)
@@ -97,5 +97,5 @@ module _ (b : Build) (is : IsBuild b) (t : ℕ) (v : Variables) (place : ℕ) (l
       c.typed c.holds c.words c.later (omega (arith, c.head.few, c.head.deep)) c.head.more in
       as_it_stands b t v place l fs values rest procedure cs entered (Broadcast m) c tt 0 (omega arith)
       (at_once b t v place l fs values rest procedure cs entered (Runs place [] l fs) _
-      (F.broadcasts m place c.sound.fits.1 refl (held (Broadcast m) c m.monitor c.sound.fits.0) (still_held (Broadcast m)
-      c) refl c.head.here after))
+      (F.broadcasts m place c.sound.fits.1 refl (held (Broadcast m) c m.monitor c.sound.fits.0)
+      (still_held (Broadcast m) c) refl c.head.here after))

@@ -70,7 +70,8 @@ module _ (b : Build) (t : ℕ) (v : Variables) where
       (fs : List MachineFrame) (f : Frame) (cs : List Caller) (go : ℤ → Offer) (q : Process)
       → offer b.program v q ≡ with_value e f cs go → all_monitors f cs ≡ holds q
       → Gives b.image t (view_of b q v) n x e place operands l fs
-      → ((z : ℤ) → e ≡ Value z → offer b.program v q ≡ go z → Proceeds b t v m (Runs place (word_of z ∷ operands) l fs) q)
+      → ((z : ℤ) → e ≡ Value z → offer b.program v q ≡ go z → Proceeds b t v m (Runs place (word_of z ∷ operands) l fs)
+      q)
       → Proceeds b t v (n + m) x q
   with_evaluation n m x (Value z) place operands l fs f cs go q o same g k = proceeds_on n m x _ q g (k z refl o)
   with_evaluation n m x (Fails fault) place operands l fs f cs go q o same g k = record {

@@ -181,7 +181,8 @@ module _ (b : Build) (is : IsBuild b) (t : ℕ) (v : Variables) where
 
   -- the end of a RECOVER part: on in the procedure that it interrupted
   recovery_ends : (place : ℕ) (l : Locals) (fs : List MachineFrame) (values : List ℤ) (q : Procedure)
-      (cs : List Caller) (entered : Option ℕ) (number m : ℕ) → q.role ≡ Recover m → Implements b.image (setting_of b.program b.starts q) b.most 0 place Done
+      (cs : List Caller) (entered : Option ℕ) (number m : ℕ) → q.role ≡ Recover m → Implements b.image
+      (setting_of b.program b.starts q) b.most 0 place Done
       → CallersStand b number q fs cs → OwnFit b (goes_on entered (frame_at q values Done) cs) v
       → Proceeds b t v (1 + (b.most + (2 * b.width + 2))) (Runs place [] l fs)
       (goes_on entered (frame_at q values Done) cs)

@@ -109,7 +109,8 @@ module _ (b : Build) (is : IsBuild b) (t : ℕ) (v : Variables) (place : ℕ) (l
           let within = slot_below (slots procedure) into _ c.sound.fits.5 in
           let l' = with_local l (Slot' into) made in
           stands_by (with_made b made) t fs procedure cs c.number c.is_there c.few
-          (callers_grow b made more c.number procedure fs cs c.callers) (go made) l' (slice_set values into (pos made)) rest (end + 1 + 1) c.head.jumps
+          (callers_grow b made more c.number procedure fs cs c.callers) (go made) l' (slice_set values into (pos made))
+          rest (end + 1 + 1) c.head.jumps
           (put_typed made (slots procedure) values into _ (pos made)
           (values_grow b.made made more (slots procedure) values c.typed) c.sound.fits.5
           (made, refl, omega arith, few))
@@ -117,16 +118,19 @@ module _ (b : Build) (is : IsBuild b) (t : ℕ) (v : Variables) (place : ℕ) (l
           (put_length l.values into made ∙ c.words) c.later (omega (arith, c.head.few, c.head.deep))
           (subst (λ k. Implements b.image (setting_of b.program b.starts procedure) b.most c.head.jumps k rest) len
           c.head.more)
-          (wider b.image t (empty_view b.program) 1 16 _ _ (omega arith) (one_step b.image t (empty_view b.program) (go made) _
+          (wider b.image t (empty_view b.program) 1 16 _ _ (omega arith)
+          (one_step b.image t (empty_view b.program) (go made) _
           (look_here b.image t (empty_view b.program) (end + 1) (SetLocal (Slot' into)) (made ∷ []) l fs behind.1.0)))
 
-      by_values : (zs : EvaluatedAll) → evaluate_all b.program v values es ≡ zs → GivesAll b.image t (view_at b procedure v)
+      by_values : (zs : EvaluatedAll) → evaluate_all b.program v values es ≡ zs → GivesAll b.image t
+          (view_at b procedure v)
           (2 * arguments_tokens es) x (evaluate_all b.program v values es) end [] l fs
           → HaveAll b.made callee.parameters
           (evaluate_all b.program v values es)
           → Proceeds b t v (2 * arguments_tokens es + 0) x pending
       by_values (Values zs) same g typed =
-          let walk : WalksWithin b.image t (view_at b procedure v) (2 * arguments_tokens es) x (Runs end (stacked zs []) l fs) =
+          let walk : WalksWithin b.image t (view_at b procedure v) (2 * arguments_tokens es) x
+          (Runs end (stacked zs []) l fs) =
           subst (λ (k : EvaluatedAll). GivesAll b.image t (view_at b procedure v)
           (2 * arguments_tokens es) x k end [] l fs) same g in
           let have : HaveValues b.made callee.parameters zs = subst (HaveAll b.made callee.parameters) same typed in
@@ -151,7 +155,8 @@ module _ (b : Build) (is : IsBuild b) (t : ℕ) (v : Variables) (place : ℕ) (l
           (values_grow b.made n more callee.parameters zs have) (is_first (inr c.sound.fits.3)))))
       by_values (FailsAll fault) same g typed =
           let walk : WalksWithin b.image t (view_at b procedure v) (2 * arguments_tokens es) x (Dies fault) = subst
-          (λ (k : EvaluatedAll). GivesAll b.image t (view_at b procedure v) (2 * arguments_tokens es) x k end [] l fs) same g in
+          (λ (k : EvaluatedAll). GivesAll b.image t (view_at b procedure v) (2 * arguments_tokens es) x k end [] l fs)
+          same g in
           let o = ap (λ (k : EvaluatedAll). with_values k (frame_at procedure values rest) cs
           (λ ys. MakesOne (begins (opening_frame b.program qn ys) []) after
           (dies ProcessTableFull (frame_at procedure values rest) cs))) same in

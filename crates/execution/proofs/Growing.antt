@@ -189,12 +189,14 @@ module _ (b : Build) (n : ℕ) (le : b.made ≤ n) where
     completes_grow v x q (F.forks entry arguments go h e o mine child) =
         F.forks entry arguments go h e o (λ k few. mine k (omega (arith, le, few)))
         (λ k u few. child k u (omega (arith, le, few)))
-    completes_grow v x q (F.claims {into = into} {part = part} {f = f} {callers = cs} child go some few most h o j w d) =
+    completes_grow v x q
+        (F.claims {into = into} {part = part} {f = f} {callers = cs} child go some few most h o j w d) =
         F.claims child go some (omega (arith, few, le)) most h o (awaits_grow child into part f cs j) w d
     completes_grow v x q (F.faults fault e o) = F.faults fault e o
     completes_grow v x q (F.enters {m = m} {f = f} {cs = cs} {l = l} {fs = fs} base same e some first code on) =
         F.enters base same e some first code (goes_on_grows m (base + 60) l fs f cs on)
-    completes_grow v x q (F.exits m base shown o first e code s) = F.exits m base shown o first e code (stands_grow _ _ s)
+    completes_grow v x q (F.exits m base shown o first e code s) = F.exits m base shown o first e code
+        (stands_grow _ _ s)
     completes_grow v x q (F.waits {f = f} {cs = cs} {l = l} {fs = fs} c base is o held own all e code on) =
         F.waits c base is o held own all e code (goes_on_grows c.monitor (base + 73) l fs f cs on)
     completes_grow v x q (F.notifies c base is o first keeps e code s) =

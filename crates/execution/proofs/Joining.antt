@@ -167,7 +167,8 @@ module _ (b : Build) (t : ℕ) (v : Variables) (place : ℕ) (l : Locals)
       ∙ h ∙ ap (λ p. Asks request (λ k. Runs p (k ∷ []) (kept child) fs)) same
 
   -- the handle is kept
-  keeps : (n : ℕ) (z : ℤ) → z ≡ pos n → WalksWithin b.image t (view_at b procedure v) 1 (Runs base (word_of z ∷ []) l fs)
+  keeps : (n : ℕ) (z : ℤ) → z ≡ pos n → WalksWithin b.image t (view_at b procedure v) 1
+      (Runs base (word_of z ∷ []) l fs)
       (Runs (base + 1) [] (kept n) fs)
   keeps n z is = one_step b.image t (view_at b procedure v) _ _
       (look_here b.image t (view_at b procedure v) base (SetLocal Template) (word_of z ∷ []) l fs
@@ -191,12 +192,16 @@ module _ (b : Build) (t : ℕ) (v : Variables) (place : ℕ) (l : Locals)
         sleep = asks child 16 17 _ (child ∷ process_word child 2 ∷ []) _ refl refl (omega arith);
         outcome = asks child 21 22 _ (process_word child 5 ∷ []) _ refl refl (omega arith);
         result = asks child 27 28 _ (process_word child 4 ∷ []) _ refl refl (omega arith);
-        there = λ n. eight 4 _ _ (omega arith) (J.there b.image t (empty_view b.program) base into template (kept child) fs some
+        there = λ n. eight 4 _ _ (omega arith) (J.there b.image t (empty_view b.program) base into template
+            (kept child) fs some
             few n);
-        gone = eight 3 _ _ (omega arith) (J.gone b.image t (empty_view b.program) base into template (kept child) fs some few);
-        again = λ n. eight 4 _ _ (omega arith) (J.again b.image t (empty_view b.program) base into template (kept child) fs some
+        gone = eight 3 _ _ (omega arith) (J.gone b.image t (empty_view b.program) base into template (kept child) fs
+            some few);
+        again = λ n. eight 4 _ _ (omega arith) (J.again b.image t (empty_view b.program) base into template
+            (kept child) fs some
             few n);
-        ended = eight 5 _ _ (omega arith) (J.ended b.image t (empty_view b.program) base into template (kept child) fs some few);
+        ended = eight 5 _ _ (omega arith) (J.ended b.image t (empty_view b.program) base into template (kept child) fs
+            some few);
         aborted = λ n ne. after_abort part child _ code more c.sound.fits.3 c.sound.lower (omega (arith, c.sound.room))
             (omega (arith, c.sound.tokens)) (omega (arith, c.head.deep))
             (J.aborted b.image t (empty_view b.program) base into template (kept child) fs some few n ne);
@@ -215,13 +220,16 @@ module _ (b : Build) (t : ℕ) (v : Variables) (place : ℕ) (l : Locals)
       → Proceeds b t v 6 (Runs base (word_of z ∷ []) l fs) pending
   unfolding awaits
   by_handle zero z is made few o =
-      let walk : WalksWithin b.image t (view_at b procedure v) 4 (Runs base (word_of z ∷ []) l fs) (Dies HandleNotJoinable) =
+      let walk : WalksWithin b.image t (view_at b procedure v) 4 (Runs base (word_of z ∷ []) l fs)
+      (Dies HandleNotJoinable) =
       J.next b.image t (view_at b procedure v) base into template (kept 0) fs 3 _ _ _ (keeps 0 z is)
       (J.next b.image t (view_at b procedure v) base into template (kept 0) fs 2 _ _ _
-      (J.step b.image t (view_at b procedure v) base into template (kept 0) fs 1 2 _ _ [] (0 ∷ []) refl refl (omega arith))
+      (J.step b.image t (view_at b procedure v) base into template (kept 0) fs 1 2 _ _ [] (0 ∷ []) refl refl
+      (omega arith))
       (J.next b.image t (view_at b procedure v) base into template (kept 0) fs 1 _ _ _
       (J.step b.image t (view_at b procedure v) base into template (kept 0) fs 2 8 _ _ (0 ∷ []) [] refl refl refl)
-      (one_step b.image t (view_at b procedure v) _ _ (look_here b.image t (view_at b procedure v) (base + 8) (Raise HandleNotJoinable) []
+      (one_step b.image t (view_at b procedure v) _ _ (look_here b.image t (view_at b procedure v) (base + 8)
+      (Raise HandleNotJoinable) []
       (kept 0) fs (J.stand_index b.image base (placed base (join_code into)) 8 (base + 8) _ template refl refl))))) in
       proceeds_wider b t v (4 + 0) 6 _ _ (omega arith)
       (proceeds_on b t v 4 0 _ _ pending walk
@@ -234,9 +242,11 @@ module _ (b : Build) (t : ℕ) (v : Variables) (place : ℕ) (l : Locals)
       (Runs (base + 6) (1 ∷ process_word child 3 ∷ []) (kept child) fs) =
       J.next b.image t (view_at b procedure v) base into template (kept child) fs 5 _ _ _ (keeps child z is)
       (J.next b.image t (view_at b procedure v) base into template (kept child) fs 4 _ _ _
-      (J.step b.image t (view_at b procedure v) base into template (kept child) fs 1 2 _ _ [] (child ∷ []) refl refl (omega arith))
+      (J.step b.image t (view_at b procedure v) base into template (kept child) fs 1 2 _ _ [] (child ∷ []) refl refl
+      (omega arith))
       (J.next b.image t (view_at b procedure v) base into template (kept child) fs 3 _ _ _
-      (J.step b.image t (view_at b procedure v) base into template (kept child) fs 2 3 _ _ (child ∷ []) [] refl refl (omega arith))
+      (J.step b.image t (view_at b procedure v) base into template (kept child) fs 2 3 _ _ (child ∷ []) [] refl refl
+      (omega arith))
       (J.to_claim b.image t (view_at b procedure v) base into template (kept child) fs some few))) in
       proceeds_on b t v 6 0 _ _ pending walk
       (at_once b t v place l fs values rest procedure cs entered _ pending

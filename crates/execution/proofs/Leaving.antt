@@ -68,7 +68,8 @@ module _ (b : Build) (t : ℕ) (v : Variables) where
   exits_at m shown place l fs number q cs z r e callers shows code o held =
       let template = placed place (exit_code m (link_word b.program m)) in
       let all : StandAt b.image place (template ++ return_code (Entry m) q.result ∷ []) =
-      subst (λ (role : Role). StandAt b.image place (leaving_code b.program role place ++ return_code role q.result ∷ []))
+      subst (λ (role : Role). StandAt b.image place
+      (leaving_code b.program role place ++ return_code role q.result ∷ []))
       e code in
       let behind : StandAt b.image (place + 23) (return_code (Entry m) q.result ∷ []) =
       back_stands b.image place template (return_code (Entry m) q.result ∷ []) all in
@@ -167,7 +168,8 @@ module _ (b : Build) (t : ℕ) (v : Variables) where
   main_leaves is place l fs number q cs r there main callers code left =
       let fits : RoleFits b.program number q Main = subst (RoleFits b.program number q) main (is.role number q there) in
       let here : StandAt b.image place (return_code Main q.result ∷ []) =
-      subst (λ (role : Role). StandAt b.image place (leaving_code b.program role place ++ return_code role q.result ∷ []))
+      subst (λ (role : Role). StandAt b.image place
+      (leaving_code b.program role place ++ return_code role q.result ∷ []))
       main code in
       main_returns b t v place l fs number q cs r main callers
       (here.0 ∙ ap (λ (k : Option ValueType). Some (return_instruction k)) fits.2) left

@@ -119,7 +119,8 @@ module _ (b : Build) (is : IsBuild b) (t : ℕ) (m place : ℕ) (l : Locals) (fs
 
   pub goes_on_here : GoesOn b t m place l fs f cs
   goes_on_here = record {
-    enters = λ word. runs (Some m) f cs (place + 1) (kept l word) fs (stay b t 16 (Runs (place + 1) [] (kept l word) fs))
+    enters = λ word. runs (Some m) f cs (place + 1) (kept l word) fs
+        (stay b t 16 (Runs (place + 1) [] (kept l word) fs))
         (record {
           number = number;
           procedure = procedure;

@@ -47,7 +47,8 @@ module _ (b : Build) (t : ℕ) (v : Variables) (place : ℕ) (l : Locals) (fs : 
   pending s = Before entered (frame_at procedure values (Then s rest)) cs
 
   -- a test, and where it leads
-  test_proceeds : (s : Statement) → IsNoReturn s → (c : Context b t v place l fs values s rest procedure cs) (e : Expression)
+  test_proceeds : (s : Statement) → IsNoReturn s → (c : Context b t v place l fs values s rest procedure cs)
+      (e : Expression)
       (go : Bool → Block) (target : ℕ) (tail : List Marked)
       → HasType (scope_of b.program procedure) e Boolean → room e ≤ most_room → 2 * expression_tokens e ≤ steps_of s
       → StandAt b.image place (expression_code b.program e ++ marked M.Test (JumpIfZero target) ∷ tail)
@@ -72,7 +73,8 @@ module _ (b : Build) (t : ℕ) (v : Variables) (place : ℕ) (l : Locals) (fs : 
       (λ z same o'.
       let typed : OfType b.made Boolean (Value z) = subst (OfType b.made Boolean) same (ev.type e Boolean fits) in
       at_once b t v place l fs values rest procedure cs entered (Runs end (word_of z ∷ []) l fs) (pending s)
-      (by_value z (look_here b.image t (view_at b procedure v) end (JumpIfZero target) (word_of z ∷ []) l fs last.0) o' typed)))
+      (by_value z (look_here b.image t (view_at b procedure v) end (JumpIfZero target) (word_of z ∷ []) l fs last.0) o'
+      typed)))
     where
       by_value : (z : ℤ) → look b.image t (Runs (place + length (expression_code b.program e))
           (word_of z ∷ []) l fs) ≡ Goes (Runs (place_after_test (word_of z) target
@@ -169,7 +171,8 @@ module _ (b : Build) (t : ℕ) (v : Variables) (place : ℕ) (l : Locals) (fs : 
       (are_sound-followed b.height b.width c.number scope else_part rest second c.later)
       (omega (arith, outer.1, c.head.deep)) outer.2)
 
-  pub while_proceeds : (e : Expression) (body : Block) (c : Context b t v place l fs values (While e body) rest procedure cs)
+  pub while_proceeds : (e : Expression) (body : Block) (c : Context b t v place l fs values (While e body) rest
+      procedure cs)
       → Proceeds b t v (steps_of (While e body)) x
       (goes_on entered (frame_at procedure values (Then (While e body) rest)) cs)
   while_proceeds e body c =
