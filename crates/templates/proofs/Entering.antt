@@ -41,7 +41,7 @@ module _ (p : Program) (image : Image) (t m base : ℕ) (recover : Instr) (l : L
   trying : StandAt image base first_part
   trying = front_stands image base first_part later_part code
 
-  taking : StandAt image (base + 11) later_part
+  pub taking : StandAt image (base + 11) later_part
   taking = back_stands image base first_part later_part code
 
   abbrev Go : ℕ → Thread → Thread → Type 0

@@ -5,3 +5,8 @@ pub mod Entering
 pub mod Exiting
 pub mod Waiting
 pub mod Notifying
+pub mod Begins
+pub mod Taken
+pub mod EnterFollows
+pub mod ExitFollows
+pub mod ConditionFollows

@@ -56,7 +56,7 @@ module _ (p : Program) (image : Image) (t base : ℕ) (c : Member) (recover : In
   sleeping : StandAt image base segment
   sleeping = front_stands image base segment later code
 
-  taking : StandAt image (base + 24) later
+  pub taking : StandAt image (base + 24) later
   taking = back_stands image base segment later code
 
   abbrev Go : ℕ → Thread → Thread → Type 0

@@ -1,0 +1,44 @@
+-- A thread comes from before each template to its first point.
+use Rattle.std.proofs.Common.{ℕ, ◌<◌, ◌≤◌, Bool, true, false}
+use Rattle.meaning.specs.Values.{Variables}
+use Rattle.execution.specs.Following.{Build, recovery_in}
+use Rattle.templates.specs.Locking as L
+use Rattle.templates.specs.Notifying as N
+use Rattle.templates.specs.Inside.{Template, Enters, Exits, Waits, Notifies, Broadcasts, Fits}
+use Rattle.templates.specs.Templates.{Begins, TemplatesBegin}
+use Rattle.templates.proofs.Entering.{enters_begin}
+use Rattle.templates.proofs.Exiting.{exits_begin}
+use Rattle.templates.proofs.Waiting.{waits_begin}
+use Rattle.templates.proofs.Notifying.{notifies_begin, broadcasts_begin}
+
+pub begins : TemplatesBegin
+begins b v t true (Enters m base l fs f cs) some few fits = record {
+  thread = _;
+  walk = enters_begin b.program b.image t m base (recovery_in b m) l fs fits.code some few;
+  stands = L.pends_again;
+}
+begins b v t false (Enters m base l fs f cs) some few fits = record {
+  thread = _;
+  walk = enters_begin b.program b.image t m base (recovery_in b m) l fs fits.code some few;
+  stands = L.EntersAt.pends;
+}
+begins b v t held (Exits m base shown l fs before z cs) some few fits = record {
+  thread = _;
+  walk = exits_begin b.program b.image t m base shown l fs fits.code some few;
+  stands = L.ExitsAt.pends;
+}
+begins b v t held (Waits c base l fs before f cs ms) some few fits = record {
+  thread = _;
+  walk = waits_begin b.program b.image t base c (recovery_in b c.monitor) l fs fits.code some few;
+  stands = L.WaitsAt.numbers;
+}
+begins b v t held (Notifies c base l fs before after ms) some few fits = record {
+  thread = _;
+  walk = notifies_begin b.program b.image t base c l fs fits.code;
+  stands = N.NotifiesAt.adds;
+}
+begins b v t held (Broadcasts c base l fs before after ms) some few fits = record {
+  thread = _;
+  walk = broadcasts_begin b.program b.image t base c l fs fits.code;
+  stands = N.BroadcastsAt.adds;
+}
