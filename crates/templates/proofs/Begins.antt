@@ -1,11 +1,10 @@
 -- A thread comes from before each template to its first point.
-use Rattle.std.proofs.Common.{ℕ, ◌<◌, ◌≤◌, Bool, true, false}
-use Rattle.meaning.specs.Values.{Variables}
-use Rattle.execution.specs.Following.{Build, recovery_in}
+use Rattle.std.proofs.Common.{true, false}
+use Rattle.execution.specs.Following.{recovery_in}
 use Rattle.templates.specs.Locking as L
 use Rattle.templates.specs.Notifying as N
-use Rattle.templates.specs.Inside.{Template, Enters, Exits, Waits, Notifies, Broadcasts, Fits}
-use Rattle.templates.specs.Templates.{Begins, TemplatesBegin}
+use Rattle.templates.specs.Inside.{Enters, Exits, Waits, Notifies, Broadcasts}
+use Rattle.templates.specs.Templates.{TemplatesBegin}
 use Rattle.templates.proofs.Entering.{enters_begin}
 use Rattle.templates.proofs.Exiting.{exits_begin}
 use Rattle.templates.proofs.Waiting.{waits_begin}

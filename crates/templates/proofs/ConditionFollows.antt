@@ -1,5 +1,5 @@
 -- A thread that notifies on a condition follows the protocol, and its process notifies with it.
-use Rattle.std.proofs.Common.{inl, inr, ◌≡◌, ◌≢◌, ℕ, ◌+◌, List, [], ◌∷◌, refl, sym, ◌∙◌, subst}
+use Rattle.std.proofs.Common.{inl, inr, ◌≡◌, ◌≢◌, ℕ, List, refl, sym, ◌∙◌, subst}
 use Rattle.program.specs.declared.kinds.Member.{Member}
 use Rattle.locals.specs.declared.frame.Locals.{Locals}
 use Rattle.locals.specs.declared.frame.Frame.{Frame as MachineFrame}
@@ -39,8 +39,11 @@ module _ (b : Build) (vs : Variables) (t : ℕ) (c : Member) (base : ℕ) (l : L
     notifies_go pt x inside N.NotifiesAt.wakes = follows_by b vs t notify pt x (asks pt x inside N.NotifiesAt.wakes)
         (λ w tb e r w' y may z. (
           after,
-          (refl, subst (λ (o : Offer). TakesUp o (L.Notifies c (resumed_by w tb c w'.asleep)) Nothing after)
-              (sym fits.offers) (resumed_by w tb c w'.asleep, refl, refl, refl)),
+          (
+            refl,
+            subst (λ (o : Offer). TakesUp o (L.Notifies c (resumed_by w tb c w'.asleep)) Nothing after)
+                (sym fits.offers) (resumed_by w tb c w'.asleep, refl, refl, refl),
+          ),
           inr (refl, behind y z, sym (fits.keeps ∙ fits.held)),
         ))
     notifies_go pt x inside N.NotifiesAt.goes = absurd (inside refl)
@@ -72,8 +75,11 @@ module _ (b : Build) (vs : Variables) (t : ℕ) (c : Member) (base : ℕ) (l : L
         follows_by b vs t broadcast pt x (asks_all pt x inside (N.BroadcastsAt.moves s))
         (λ w tb e r w' y may z. (
           after,
-          (refl, subst (λ (o : Offer). TakesUp o (L.Broadcasts c (resumed_by w tb c w'.asleep)) Nothing after)
-              (sym fits.offers) (resumed_by w tb c w'.asleep, refl, refl, refl)),
+          (
+            refl,
+            subst (λ (o : Offer). TakesUp o (L.Broadcasts c (resumed_by w tb c w'.asleep)) Nothing after)
+                (sym fits.offers) (resumed_by w tb c w'.asleep, refl, refl, refl),
+          ),
           inr (refl, behind_all y z, sym (fits.keeps ∙ fits.held)),
         ))
     broadcasts_go pt x inside N.BroadcastsAt.goes = absurd (inside refl)

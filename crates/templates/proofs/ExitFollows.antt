@@ -1,5 +1,5 @@
 -- A thread that leaves a monitor follows the protocol, and its process leaves with it.
-use Rattle.std.proofs.Common.{inl, inr, ◌≡◌, ◌≢◌, ℕ, ◌+◌, ◌<◌, ◌≤◌, ◌==◌, Bool, true, false, List, [], ◌∷◌, Option, Some, None, refl, sym, subst, ℤ}
+use Rattle.std.proofs.Common.{inl, inr, ◌≡◌, ◌≢◌, ℕ, ◌<◌, ◌≤◌, ◌==◌, Bool, true, false, List, Option, refl, sym, subst, ℤ}
 use Rattle.std.specs.Prelude.{if◌then◌else◌}
 use Rattle.locals.specs.declared.frame.Locals.{Locals}
 use Rattle.locals.specs.declared.frame.Frame.{Frame as MachineFrame}
@@ -9,13 +9,12 @@ use Rattle.meaning.specs.Values.{Variables}
 use Rattle.meaning.specs.Processes.{Caller, Process, Returning, callers_monitors}
 use Rattle.meaning.specs.Offers.{Offer, TakesUp, Nothing}
 use Rattle.protocol.specs.Word.{waiters}
-use Rattle.protocol.specs.Carries.{Event}
 use Rattle.protocol.specs.Points.{Point, Runs, ToExit, HasLeft, LeaveWakes}
 use Rattle.execution.specs.Following.{Build, Stands}
 use Rattle.templates.specs.Asking.{AsksSo}
 use Rattle.templates.specs.Locking.{ExitsAt, pends, reads, cuts, swaps, wakes, unpends, goes}
 use Rattle.templates.specs.Inside.{Template, Exits, ExitFits}
-use Rattle.templates.specs.Templates.{ActsSo, StandsOn, Follows}
+use Rattle.templates.specs.Templates.{StandsOn, Follows}
 use Rattle.templates.proofs.Exiting.{exits_follow}
 use Rattle.templates.proofs.Taken.{follows_by}
 
@@ -49,8 +48,11 @@ module _ (b : Build) (vs : Variables) (t m base : ℕ) (shown : Option ℕ) (l :
   exits_go pt x inside swaps = follows_by b vs t k pt x (asks pt x inside swaps)
       (λ w tb e r w' y may z. (
         Returning value cs,
-        (refl, subst (λ (o : Offer). TakesUp o (L.Exits m) Nothing (Returning value cs)) (sym fits.offers)
-            (refl, refl, refl)),
+        (
+          refl,
+          subst (λ (o : Offer). TakesUp o (L.Exits m) Nothing (Returning value cs)) (sym fits.offers)
+              (refl, refl, refl),
+        ),
         after_swap (waiters r == 0) y z,
       ))
   exits_go pt x inside wakes = follows_by b vs t k pt x (asks pt x inside wakes)

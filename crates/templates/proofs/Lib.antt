@@ -10,3 +10,5 @@ pub mod Taken
 pub mod EnterFollows
 pub mod ExitFollows
 pub mod ConditionFollows
+pub mod WaitFollows
+pub mod Follows

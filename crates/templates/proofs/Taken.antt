@@ -1,10 +1,10 @@
 -- A process that has taken a monitor's lock holds the monitors of its ENTRY procedures; and what follows from asking as
 -- a point asks.
-use Rattle.std.proofs.Common.{◌≡◌, ◌≢◌, ℕ, zero, suc, ◌+◌, ◌==◌, Bool, true, false, List, [], ◌∷◌, length, Option, Some, None, refl, ap, sym, ◌∙◌, arith}
+use Rattle.std.proofs.Common.{◌≡◌, ◌≢◌, ℕ, suc, ◌==◌, Bool, true, false, List, [], ◌∷◌, length, Option, Some, None, refl, ap, sym, ◌∙◌, arith}
 use Rattle.std.specs.Prelude.{if◌then◌else◌, not}
 use Rattle.std.proofs.lemmas.Bool.{ne_eqb}
 use Rattle.program.specs.declared.kinds.Role.{Role}
-use Rattle.program.specs.declared.kinds.Role.TheVariants.{Entry, Internal, Recover, External, Main}
+use Rattle.program.specs.declared.kinds.Role.TheVariants.{Recover, Main}
 use Rattle.program.specs.Scope.{own_monitor, recover_of}
 use Rattle.locals.specs.Threads.{Thread}
 use Rattle.meaning.specs.Labels.{End}
@@ -21,7 +21,7 @@ use Rattle.execution.specs.Builds.{IsBuild}
 use Rattle.execution.proofs.Holding.{goes_on_holds}
 use Rattle.templates.specs.Asking.{AsksSo}
 use Rattle.templates.specs.Inside.{Template, taken, process_at, list_at, StandsIn}
-use Rattle.templates.specs.Templates.{ActsSo, StandsOn, Comes, Follows}
+use Rattle.templates.specs.Templates.{ActsSo, StandsOn, Follows}
 
 -- a procedure that belongs to a monitor isn't the main part
 pub owned_alone : (m : ℕ) (f : Frame) (cs : List Caller) → own_monitor f.role ≡ Some m → f.role ≡ Main → cs ≡ []
