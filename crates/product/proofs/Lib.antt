@@ -5,3 +5,4 @@ pub mod Moving
 pub mod Stepped
 pub mod Pigeons
 pub mod Serving
+pub mod ExitServing

@@ -28,7 +28,7 @@ phases_follow place valid size t w (Walks (suc m) x end) e phase later s s' woke
     let d = subst (λ y. ExitStep size t y s woken s' later) is.1.1 step in
     let few : is.1.0 + 1 < 2048 = subst IsShort is.1.1 short in
     elim d [
-      | inl k ↦ subst (PhaseIs place valid (Walks (w.link m) x end)) (sym (k.2 ∙ ap (λ a. next_entry a (is.1.0 + 1)) (inv.words.word (LinkOf m) is.0))) (at_entry place valid size (w.link m) (is.1.0 + 1) x end lay (λ n h. links m n is.0 h) few)
+      | inl k ↦ subst (PhaseIs place valid (Walks (w.link m) x end)) (sym (k.2 ∙ ap (λ a. next_entry a (is.1.0 + 1)) (inv.words.word (LinkOf m) is.0))) (at_entry place valid size (w.link m) (is.1.0 + 1) x end lay (λ n h. links n h) few)
       | inr k ↦ absurd (k.0 (lay.entry m is.0))
     ]
 phases_follow place valid size t w (ClearsId end) e phase later s s' woken lay inv links short is step =

@@ -50,12 +50,21 @@ pub record ExitFollows (place : Cell → ℕ) (valid : Cell → Bool) (w : World
   pub does : ExitDoes w t p world
   pub shares : Shares place valid s' world
 
+-- what a step of the walk looks up is in the layout: the pending entry, and the entry behind its own
+abbrev pub PendingIsThere : (Cell → Bool) → World → ℕ → Point → Type 0
+PendingIsThere valid w t (Walks e x end) = (m : ℕ) → w.pending t ≡ suc m → valid (LinkOf m) ≡ true
+PendingIsThere valid w t p = Unit {0}
+
+abbrev pub NextIsThere : (Cell → Bool) → World → Point → Type 0
+NextIsThere valid w (Walks (suc m) x end) = (k : ℕ) → w.link m ≡ suc k → valid (LinkOf k) ≡ true
+NextIsThere valid w p = Unit {0}
+
 abbrev pub ExitsFollow : Type 0
 ExitsFollow =
     (place : Cell → ℕ) (valid : Cell → Bool) (size t : ℕ) (w : World) (p : Point)
     (phase next : ExitPhase) (s s' : Shared) (woken : List ℕ) →
     IsLayout place valid size → Shares place valid s w → valid (PendingOf t) ≡ true → valid (IdOf t) ≡ true →
-    ((m : ℕ) → w.pending t ≡ suc m → valid (LinkOf m) ≡ true) → PhaseIs place valid p phase →
+    PendingIsThere valid w t p → PhaseIs place valid p phase →
     ExitStep size t phase s woken s' next → ExitFollows place valid w t p s'
 
 -- the walk hasn't come to its limit (ROBUST_LIST_LIMIT)
@@ -68,7 +77,6 @@ abbrev pub PhasesFollow : Type 0
 PhasesFollow =
     (place : Cell → ℕ) (valid : Cell → Bool) (size t : ℕ) (w : World) (p : Point)
     (end : End) (phase later : ExitPhase) (s s' : Shared) (woken : List ℕ) →
-    IsLayout place valid size → Shares place valid s w →
-    ((m k : ℕ) → valid (LinkOf m) ≡ true → w.link m ≡ suc k → valid (LinkOf k) ≡ true) →
+    IsLayout place valid size → Shares place valid s w → NextIsThere valid w p →
     IsShort phase → PhaseIs place valid p phase → ExitStep size t phase s woken s' later →
     PhaseIs place valid (next w end p 0) later
