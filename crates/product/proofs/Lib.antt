@@ -6,3 +6,4 @@ pub mod Stepped
 pub mod Pigeons
 pub mod Serving
 pub mod ExitServing
+pub mod Ranking

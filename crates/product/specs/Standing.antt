@@ -42,7 +42,7 @@ IsChild b child = (0 < child) × (child ≤ b.made)
 pub data StandsAt (b : Build) (v : Variables) (t : ℕ) : Option Thread → Option Process → Point → List ℕ → Type 0 where
   unmade : StandsAt b v t None None Unmade []
   -- in its own code; and where its first procedure returns
-  works : {x : Thread} {q : Process} (left : ℕ) → left ≤ most_steps b → Proceeds b t v left x q
+  works : {x : Thread} {q : Process} (left : ℕ) → left ≤ most_steps b + template_steps → Proceeds b t v left x q
       → IsSteady b.program q v → StandsAt b v t (Some x) (Some q) Runs (holds q)
   returns : {x : Thread} (result : Option ℕ) → IsResult result
       → look b.image t x ≡ Asks (return_request result) first_exit
