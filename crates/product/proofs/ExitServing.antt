@@ -15,13 +15,13 @@ use Rattle.program.specs.declared.kinds.Member.{Member}
 use Rattle.program.specs.Trees.{Program}
 use Rattle.program.specs.WellFormed.{WellFormed}
 use Rattle.code.specs.Pieces.{code_of}
-use Rattle.meaning.specs.Labels.{End}
+use Rattle.meaning.specs.Labels.{Cause, End}
 use Rattle.meaning.specs.Table.{Table}
 use Rattle.machine.specs.States.{State, with_thread}
 use Rattle.machine.specs.AbstractServing.{shared_of, with_shared}
 use Rattle.machine.specs.Runs.{Moves}
 use Rattle.protocol.specs.Word.{died_word}
-use Rattle.protocol.specs.Points.{NoEntry, Spot, OnLock, OnId, Point, Walks, ClearsId, LastWakes}
+use Rattle.protocol.specs.Points.{Entry as PendingEntry, NoEntry, Spot, OnLock, OnId, Point, Walks, ClearsId, LastWakes, Runs, Dies}
 use Rattle.protocol.specs.World.{World, mem, tail}
 use Rattle.protocol.specs.Cells.{LockOf, LinkOf, PendingOf, IdOf, write}
 use Rattle.protocol.specs.Memory.{entry_address}
@@ -32,7 +32,8 @@ use Rattle.protocol.proofs.Good.{Good}
 use Rattle.protocol.proofs.Chains.{ChainAt, Chain, chain_some, chain_none}
 use Rattle.protocol.proofs.Pend.{PendAt}
 use Rattle.protocol.proofs.Exits.{exits_follow}
-use Rattle.protocol.proofs.Phases.{phases_follow}
+use Rattle.protocol.proofs.Phases.{at_entry, phases_follow}
+use Rattle.protocol.proofs.Roles.{Knows}
 use Rattle.protocol.proofs.Sleeps.{put_other}
 use Rattle.execution.specs.Variables.{IsVariable, variable_address}
 use Rattle.templates.specs.Layout.{place, valid}
@@ -41,6 +42,7 @@ use Rattle.templates.proofs.Layouts.{is_layout, number_is, monitor_valid}
 use Rattle.templates.proofs.Addresses.{variable_apart}
 use Rattle.product.specs.Standing.{entries_seen}
 use Rattle.product.specs.Serving.{IsServed}
+use Rattle.product.proofs.Pigeons.{short}
 
 -- a point of an exit with no pending entry
 abbrev pub IsExit : Point → Type 0
@@ -296,3 +298,41 @@ module _ (p : Program) (fits : WellFormed p) (s : State) (w : World) (T : Table)
             shares (next_there p w T t pt is good point lists) (is_short pt phase is at short) at step;
         short = λ end. still_short pt phase later woken after is point at short step end;
       }
+
+-- ---- where an exit begins, by the answer to the request that led to it: the address of the first entry
+pub running_chain : (w : World) (T : Table) (t : ℕ) → Good w T → (w.at t).point ≡ Runs
+    → Chain w.link (w.head t) (w.at t).list
+running_chain w T t good point =
+    subst (λ (q : Point). ChainAt w.link (w.head t) q (w.at t).list) point (good.chains.chain t)
+
+pub dying_chain : (w : World) (T : Table) (t : ℕ) (cause : Cause) (x : PendingEntry) → Good w T
+    → (w.at t).point ≡ Dies cause x → Chain w.link (w.head t) (w.at t).list
+dying_chain w T t cause x good point =
+    subst (λ (q : Point). ChainAt w.link (w.head t) q (w.at t).list) point (good.chains.chain t)
+
+pub list_short : (p : Program) → WellFormed p → (w : World) (T : Table) (t : ℕ) → Good w T
+    → ((m : ℕ) → mem m (w.at t).list ≡ true → m < length p.monitors) → length (w.at t).list ≤ 64
+unfolding Knows
+list_short p fits w T t good lists =
+    let few = short (length p.monitors) (w.at t).list (good.locks.knows t).0 lists in
+    let most = fits.monitors in omega (arith, few, most)
+
+pub first_phase : (p : Program) → WellFormed p → (w : World) (t : ℕ) (x : PendingEntry) (end : End)
+    → ((m : ℕ) → mem m (w.at t).list ≡ true → m < length p.monitors) → Chain w.link (w.head t) (w.at t).list
+    → PhaseIs (place p) (valid p) (Walks (w.head t) x end) (next_entry (entry_address (place p) (w.head t)) 0)
+first_phase p fits w t x end lists chain =
+    at_entry (place p) (valid p) (memory_size (code_of p)) (w.head t) 0 x end (is_layout p fits)
+    (λ k h. monitor_valid p k (lists k (head_listed k h))) (omega arith)
+  where
+    head_listed : (k : ℕ) → w.head t ≡ suc k → mem k (w.at t).list ≡ true
+    head_listed k h =
+        let here = chain_some w.link k (w.at t).list
+        (subst (λ (a : ℕ). Chain w.link a (w.at t).list) h chain) in
+        ap (mem k) here.0 ∙ or_left (k == k) (mem k (tail (w.at t).list)) (eq-eqb k k refl)
+
+pub first_short : (p : Program) → WellFormed p → (w : World) (T : Table) (t e : ℕ) → Good w T
+    → ((m : ℕ) → mem m (w.at t).list ≡ true → m < length p.monitors)
+    → entries_seen (next_entry e 0) + length (w.at t).list ≤ 64
+first_short p fits w T t e good lists =
+    let seen = seen_next e 0 in
+    let few = list_short p fits w T t good lists in omega (arith, seen, few)

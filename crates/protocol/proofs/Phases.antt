@@ -13,7 +13,7 @@ use Rattle.protocol.specs.Memory.{entry_address}
 use Rattle.protocol.specs.Exits.{IsLayout, PhaseIs, IsShort, PhasesFollow}
 
 -- the phase at an entry, before the limit
-at_entry : (place : Cell → ℕ) (valid : Cell → Bool) (size v seen : ℕ) (x : P.Entry) (end : End) → IsLayout place valid size → ((k : ℕ) → v ≡ suc k → valid (LinkOf k) ≡ true) → seen < 2048 → PhaseIs place valid (Walks v x end) (next_entry (entry_address place v) seen)
+pub at_entry : (place : Cell → ℕ) (valid : Cell → Bool) (size v seen : ℕ) (x : P.Entry) (end : End) → IsLayout place valid size → ((k : ℕ) → v ≡ suc k → valid (LinkOf k) ≡ true) → seen < 2048 → PhaseIs place valid (Walks v x end) (next_entry (entry_address place v) seen)
 at_entry place valid size zero seen x end lay ok few = refl
 at_entry place valid size (suc k) seen x end lay ok few =
     let here = ok k refl in
