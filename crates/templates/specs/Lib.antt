@@ -2,5 +2,6 @@ pub mod Layout
 pub mod Asking
 pub mod Locking
 pub mod Notifying
+pub mod Fitting
 pub mod Inside
 pub mod Templates
