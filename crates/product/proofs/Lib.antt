@@ -7,3 +7,4 @@ pub mod Pigeons
 pub mod Serving
 pub mod ExitServing
 pub mod Ranking
+pub mod Points
