@@ -8,3 +8,4 @@ pub mod Serving
 pub mod ExitServing
 pub mod Ranking
 pub mod Points
+pub mod Offering
