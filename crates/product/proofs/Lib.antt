@@ -9,3 +9,4 @@ pub mod ExitServing
 pub mod Ranking
 pub mod Points
 pub mod Offering
+pub mod Templating
