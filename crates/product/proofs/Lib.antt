@@ -10,3 +10,5 @@ pub mod Ranking
 pub mod Points
 pub mod Offering
 pub mod Templating
+pub mod Bounds
+pub mod Paces
