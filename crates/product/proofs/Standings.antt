@@ -8,6 +8,7 @@ use Rattle.program.specs.Trees.{Program}
 use Rattle.meaning.specs.Values.{Variables}
 use Rattle.program.specs.declared.kinds.Member.{Member}
 use Rattle.meaning.specs.Processes.{Frame, Caller, Process, callers_monitors, holds}
+use Rattle.meaning.specs.Offers.{Offer, TakesUp}
 use Rattle.protocol.specs.Points.{Purpose, ToResume, Owned, Point, entry_at}
 use Rattle.protocol.specs.World.{mem}
 use Rattle.execution.specs.Variables.{SameIn}
@@ -16,7 +17,7 @@ use Rattle.execution.proofs.Growing.{stands_grow, goes_on_grows, awaits_grow, pr
 use Rattle.templates.specs.Locking.{Takes, ExitsAt, WaitsAt}
 use Rattle.templates.specs.Locking as L
 use Rattle.templates.specs.Inside.{Template, Enters, Exits, Waits, Notifies, Broadcasts, list_at, StandsIn, Fits, IsSteady, IsBeforeRelease, SameBefore}
-use Rattle.product.specs.Standing.{StandsAt, unmade, works, returns, inside, faults, reads, sleeps, learns, takes, walks, clears, wakes, rests}
+use Rattle.product.specs.Standing.{IsChild, StandsAt, unmade, works, returns, inside, faults, reads, sleeps, learns, takes, walks, clears, wakes, rests}
 
 -- the first of a list is on it
 pub first_in : (m : ℕ) (ms l : List ℕ) → l ≡ m ∷ ms → mem m l ≡ true
@@ -150,28 +151,36 @@ module _ (b : Build) (made : ℕ) (le : b.made ≤ made) (v v' : Variables) (t :
       same_on (own_of before) u v v' same
       (same_own b.program before u v v' (c.monitor ∷ ms) pt c.monitor ms fit.steady fit.held (inl (first_in c.monitor ms (c.monitor ∷ ms) refl)) near)
 
+  child_grows : (c : ℕ) (f : Frame) (cs : List Caller) → IsChild b c f cs → IsChild (with_made b made) c f cs
+  child_grows c f cs is = record { some = is.some; made = omega (arith, le, is.made); last = is.last }
+
   -- more processes, and variables that are the same in the monitors that the thread has
   pub stand_moves : (x : Option Thread) (q : Option Process) (pt : Point) (l : List ℕ) → Near l pt v v'
       → StandsAt b v t x q pt l → StandsAt (with_made b made) v' t x q pt l
   unfolding awaits_grow
   stand_moves x q pt l near unmade = unmade
-  stand_moves x q pt l near (works {x = y} {q = r} left few h steady) =
+  stand_moves x q pt l near (works {x = y} {q = r} left few h work) =
+      let steady = work.steady in
       let same : SameIn (own_of r) v v' = λ m e n i. near m (inl (first_in m (steady.first m e).0 (holds r)
       (steady.first m e).1)) n i in
       works left few (proceeds_grow b made le t v' left y r (proceeds_same b t v v' left y r same (sym (steady.same v'
-      same)) h)) (steady_moves r steady same)
+      same)) h)) (record {
+        steady = steady_moves r steady same;
+        keeps = λ label effect after is takes. work.keeps label effect after is
+            (subst (λ (o : Offer). TakesUp o label effect after) (steady.same v' same) takes);
+      })
   stand_moves x q pt l near (returns r fits h) = returns r fits h
   stand_moves x q pt l near (inside {y = y} {pt = at} left k u few walk fits same ne stands) =
       inside left k u few walk (fits_grows u k fits) (same_before u k at y fits stands near same) ne stands
   stand_moves x q pt l near (faults f left few h) = faults f left few h
   stand_moves x q pt l near (reads {child = c} {into = i} {part = p} {f = f} {cs = cs} left few is j h) =
-      reads left few (is.0, omega (arith, le, is.1)) (awaits_grow b made le t c i p f cs j) h
+      reads left few (child_grows c f cs is) (awaits_grow b made le t c i p f cs j) h
   stand_moves x q pt l near (sleeps {child = c} {into = i} {part = p} {f = f} {cs = cs} left few is j h) =
-      sleeps left few (is.0, omega (arith, le, is.1)) (awaits_grow b made le t c i p f cs j) h
+      sleeps left few (child_grows c f cs is) (awaits_grow b made le t c i p f cs j) h
   stand_moves x q pt l near (learns {child = c} {into = i} {part = p} {f = f} {cs = cs} left few is j h) =
-      learns left few (is.0, omega (arith, le, is.1)) (awaits_grow b made le t c i p f cs j) h
+      learns left few (child_grows c f cs is) (awaits_grow b made le t c i p f cs j) h
   stand_moves x q pt l near (takes {child = c} {into = i} {part = p} {f = f} {cs = cs} left few is j h) =
-      takes left few (is.0, omega (arith, le, is.1)) (awaits_grow b made le t c i p f cs j) h
+      takes left few (child_grows c f cs is) (awaits_grow b made le t c i p f cs j) h
   stand_moves x q pt l near (walks phase is short end) = walks phase is short end
   stand_moves x q pt l near clears = clears
   stand_moves x q pt l near wakes = wakes

@@ -3,13 +3,14 @@ use Rattle.std.specs.Prelude.{ℕ, ◌+◌, ◌≡◌, ◌≢◌, ◌<◌, ◌�
 use Rattle.words.specs.declared.outcome.Fault.{Fault}
 use Rattle.robustexit.specs.declared.phase.ExitPhase.{ExitPhase}
 use Rattle.robustexit.specs.declared.phase.ExitPhase.TheVariants.{Entry, Pending, ClearId, LastWake, Ended as Ended'}
-use Rattle.program.specs.Trees.{Part}
+use Rattle.program.specs.declared.kinds.Role.TheVariants.{Main}
+use Rattle.program.specs.Trees.{Program, Part}
 use Rattle.locals.specs.Threads.{Thread, Dies as Dies', Exits}
 use Rattle.locals.specs.Looks.{Asks, look, first_exit}
 use Rattle.meaning.specs.Values.{Variables}
-use Rattle.meaning.specs.Labels.{End, Ended, Aborted, Faulted}
+use Rattle.meaning.specs.Labels.{End, Ended, Aborted, Faulted, Label, Enters, Resumes, Exits as Exits', Waits, Abandons, Ends}
 use Rattle.meaning.specs.Processes.{Frame, Caller, Process, Joining, Dying, Leaving, Over, goes_on, with_result, holds, all_monitors}
-use Rattle.meaning.specs.Offers.{joined}
+use Rattle.meaning.specs.Offers.{Effect, joined, offer, TakesUp}
 use Rattle.protocol.specs.Points.{NoEntry, Point, Unmade, Runs, JoinReads, JoinSleeps, JoinLearns, JoinTakes, Dies, Walks, ClearsId, LastWakes, HasEnded}
 use Rattle.protocol.specs.Exits.{PhaseIs}
 use Rattle.execution.specs.Following.{Build, StepsWithin}
@@ -34,16 +35,43 @@ abbrev pub entries_seen : ExitPhase → ℕ
 entries_seen (Entry entry seen) = seen
 entries_seen phase = 0
 
+-- the main part has no callers
+abbrev pub IsLast : Frame → List Caller → Type 0
+IsLast f cs = f.role ≡ Main → cs ≡ []
+
 -- the child that is joined was made
-abbrev pub IsChild : Build → ℕ → Type 0
-IsChild b child = (0 < child) × (child ≤ b.made)
+pub record IsChild (b : Build) (child : ℕ) (f : Frame) (cs : List Caller) : Type 0 where
+  pub some : 0 < child
+  pub made : child ≤ b.made
+  pub last : IsLast f cs
+
+-- an action that neither takes a monitor nor gives one up, and doesn't end the process
+abbrev pub KeepsMonitors : Label → Type 0
+KeepsMonitors (Enters m was_abandoned) = ⊥
+KeepsMonitors (Resumes m was_abandoned) = ⊥
+KeepsMonitors (Exits' m) = ⊥
+KeepsMonitors (Waits c) = ⊥
+KeepsMonitors (Abandons m) = ⊥
+KeepsMonitors (Ends end) = ⊥
+KeepsMonitors label = Unit {0}
+
+-- a process that holds these monitors, and joins from the main part only without callers
+abbrev pub Holds : List ℕ → Process → Type 0
+Holds ms (Joining child into part f cs) = (all_monitors f cs ≡ ms) × IsLast f cs
+Holds ms q = holds q ≡ ms
+
+-- a process in its own code is steady, and its actions but those keep the monitors that it holds
+pub record IsAtWork (p : Program) (q : Process) (v : Variables) : Type 0 where
+  pub steady : IsSteady p q v
+  pub keeps : (label : Label) (effect : Effect) (r : Process) → KeepsMonitors label
+      → TakesUp (offer p v q) label effect r → Holds (holds q) r
 
 -- where thread t stands, over these variables, with the process that it stands for, its point and its robust list
 pub data StandsAt (b : Build) (v : Variables) (t : ℕ) : Option Thread → Option Process → Point → List ℕ → Type 0 where
   unmade : StandsAt b v t None None Unmade []
   -- in its own code; and where its first procedure returns
   works : {x : Thread} {q : Process} (left : ℕ) → left ≤ most_steps b + template_steps → Proceeds b t v left x q
-      → IsSteady b.program q v → StandsAt b v t (Some x) (Some q) Runs (holds q)
+      → IsAtWork b.program q v → StandsAt b v t (Some x) (Some q) Runs (holds q)
   returns : {x : Thread} (result : Option ℕ) → IsResult result
       → look b.image t x ≡ Asks (return_request result) first_exit
       → StandsAt b v t (Some x) (Some (Leaving (left_value result))) Runs []
@@ -57,17 +85,17 @@ pub data StandsAt (b : Build) (v : Variables) (t : ℕ) : Option Thread → Opti
       → StandsAt b v t (Some x) (Some (Dying (Faulted fault) ms)) (Dies (Faulted fault) NoEntry) ms
   -- in a JOIN: on the way to each of its requests
   reads : {child : ℕ} {x : Thread} {into : Option ℕ} {part : Part} {f : Frame} {cs : List Caller} (left : ℕ)
-      → left ≤ join_steps → IsChild b child → (j : Awaits b t child into part f cs) → StepsWithin b t left x j.reads
+      → left ≤ join_steps → IsChild b child f cs → (j : Awaits b t child into part f cs) → StepsWithin b t left x j.reads
       → StandsAt b v t (Some x) (Some (Joining child into part f cs)) (JoinReads child) (all_monitors f cs)
   sleeps : {child : ℕ} {x : Thread} {into : Option ℕ} {part : Part} {f : Frame} {cs : List Caller} (left : ℕ)
-      → left ≤ join_steps → IsChild b child → (j : Awaits b t child into part f cs) → StepsWithin b t left x j.sleeps
+      → left ≤ join_steps → IsChild b child f cs → (j : Awaits b t child into part f cs) → StepsWithin b t left x j.sleeps
       → StandsAt b v t (Some x) (Some (Joining child into part f cs)) (JoinSleeps child) (all_monitors f cs)
   learns : {child : ℕ} {end : End} {x : Thread} {into : Option ℕ} {part : Part} {f : Frame} {cs : List Caller}
-      (left : ℕ) → left ≤ join_steps → IsChild b child → (j : Awaits b t child into part f cs)
+      (left : ℕ) → left ≤ join_steps → IsChild b child f cs → (j : Awaits b t child into part f cs)
       → StepsWithin b t left x j.learns
       → StandsAt b v t (Some x) (Some (joined into part f cs end)) (JoinLearns child end) (all_monitors f cs)
   takes : {child : ℕ} {z : ℤ} {x : Thread} {into : Option ℕ} {part : Part} {f : Frame} {cs : List Caller} (left : ℕ)
-      → left ≤ join_steps → IsChild b child → (j : Awaits b t child into part f cs) → StepsWithin b t left x j.takes
+      → left ≤ join_steps → IsChild b child f cs → (j : Awaits b t child into part f cs) → StepsWithin b t left x j.takes
       → StandsAt b v t (Some x) (Some (goes_on None (with_result into z f) cs)) (JoinTakes child (Ended z))
       (all_monitors f cs)
   -- in its exit: at an entry of its robust list, or behind the last; and then
