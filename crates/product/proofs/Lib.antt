@@ -9,6 +9,7 @@ pub mod ExitServing
 pub mod Ranking
 pub mod Points
 pub mod Offering
+pub mod Keeping
 pub mod Templating
 pub mod Bounds
 pub mod Paces

@@ -39,10 +39,11 @@ use Rattle.templates.specs.Asking.{told, template_steps}
 use Rattle.templates.specs.Inside.{Template, process_at, list_at, StandsIn, Fits, SameBefore, IsSteady}
 use Rattle.templates.specs.Templates.{Follows, Comes, StandsOn}
 use Rattle.templates.proofs.Follows.{follows}
-use Rattle.product.specs.Standing.{StandsAt, works, inside}
+use Rattle.product.specs.Standing.{IsAtWork, StandsAt, works, inside}
 use Rattle.product.specs.Ranks.{rank, steps_left, more_steps, before_template}
 use Rattle.product.specs.Corresponding.{Corresponds, IsBefore}
 use Rattle.product.specs.Serving.{IsServed}
+use Rattle.product.proofs.Keeping.{kept_monitors}
 use Rattle.product.proofs.Worlds.{reached_good}
 use Rattle.product.proofs.Moving.{Next}
 use Rattle.product.proofs.Stepped.{Arrives, stepped}
@@ -68,7 +69,8 @@ works_on p w made v t x y q fit walk stands =
     } in
     let whole = proceeds_on b t v template_steps (most_steps b) x y q
     (seen b.image t p (view_of b q v) template_steps x y walk) goes in
-    (works (template_steps + most_steps b) (omega arith) whole steady, λ world. refl)
+    let work : IsAtWork p q v = record { steady = steady; keeps = kept_monitors b v t y q stands } in
+    (works (template_steps + most_steps b) (omega arith) whole work, λ world. refl)
 
 -- a point of a template comes before the exit
 before_exit : (pt : Point) → IsTemplate pt → IsBefore pt
