@@ -13,3 +13,4 @@ pub mod Keeping
 pub mod Templating
 pub mod Bounds
 pub mod Paces
+pub mod Leaving

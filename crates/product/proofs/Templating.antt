@@ -85,7 +85,7 @@ in_tail m [] h = h
 in_tail m (x ∷ xs) h = or_right (m == x) (mem m xs) h
 
 -- a list grows by a monitor of the program alone
-listed_next : (n : ℕ) (pt : Point) (l : List ℕ) → ((m v : ℕ) → pt ≡ GotHeads m v → m < n)
+pub listed_next : (n : ℕ) (pt : Point) (l : List ℕ) → ((m v : ℕ) → pt ≡ GotHeads m v → m < n)
     → ((m : ℕ) → mem m l ≡ true → m < n) → (m : ℕ) → mem m (next_list pt l) ≡ true → m < n
 listed_next n (GotHeads k v) l got all m h = on_list m (got k v refl) h
   where
