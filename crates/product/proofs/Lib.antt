@@ -14,3 +14,4 @@ pub mod Templating
 pub mod Bounds
 pub mod Paces
 pub mod Leaving
+pub mod Observing
