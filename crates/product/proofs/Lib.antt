@@ -15,3 +15,4 @@ pub mod Bounds
 pub mod Paces
 pub mod Leaving
 pub mod Observing
+pub mod Local
