@@ -16,3 +16,4 @@ pub mod Paces
 pub mod Leaving
 pub mod Observing
 pub mod Local
+pub mod Starting

@@ -1,0 +1,250 @@
+-- A thread takes up a template of its code.
+use Rattle.std.proofs.Common.{◌≡◌, ◌≢◌, ℕ, suc, ◌+◌, ◌<◌, ◌≤◌, Bool, true, false, List, [], ◌∷◌, length, Option, Some, None, refl, ap, sym, ◌∙◌, subst, arith, inl, inr, ◌⊎◌}
+use Rattle.std.proofs.lemmas.Bool.{cases_eq, cases_Bool}
+use Rattle.words.specs.Updates.{put}
+use Rattle.locals.specs.Threads.{Thread}
+use Rattle.locals.specs.Looks.{Goes, look}
+use Rattle.machine.specs.States.{State}
+use Rattle.machine.specs.AbstractServing.{shared_of}
+use Rattle.machine.specs.Runs.{Moves, is_paused}
+use Rattle.program.specs.declared.kinds.Member.{Member}
+use Rattle.program.specs.Trees.{Program}
+use Rattle.program.specs.WellFormed.{WellFormed}
+use Rattle.code.specs.Pieces.{code_of}
+use Rattle.meaning.specs.Values.{Variables}
+use Rattle.meaning.specs.Table.{Table}
+use Rattle.meaning.specs.Processes.{Process, Entering, holds}
+use Rattle.meaning.specs.States.{SourceState}
+use Rattle.protocol.specs.Points.{Point, Runs, Thread as Place, thread_at, EnterPends, ReenterPends, LeavePends, WaitReads, NotifyAdds, BroadcastAdds, ToExit}
+use Rattle.protocol.specs.World.{World, mem, tail}
+use Rattle.protocol.specs.Moves.{Move, Begin, Rebegin, Leave, Wait, Notify, Broadcast}
+use Rattle.protocol.specs.Steps.{Can, after, go}
+use Rattle.protocol.specs.Carries.{table_after}
+use Rattle.protocol.proofs.Sleeps.{at_put, put_same, put_other}
+use Rattle.execution.specs.Following.{Build, StepsWithin}
+use Rattle.refinement.specs.Built.{build_of}
+use Rattle.templates.specs.Layout.{place, valid}
+use Rattle.templates.specs.Asking.{template_steps}
+use Rattle.templates.specs.Inside.{Template, Enters, Exits, Waits, Notifies, Broadcasts, process_at, list_at, StandsIn, Fits, SameBefore, first_thread, first_point}
+use Rattle.templates.specs.Templates.{Begins}
+use Rattle.templates.proofs.Begins.{begins}
+use Rattle.product.specs.Standing.{StandsAt, inside}
+use Rattle.product.specs.Ranks.{rank, more_steps, before_template}
+use Rattle.product.specs.Corresponding.{Reached, Corresponds, IsBefore}
+use Rattle.product.proofs.Worlds.{reached_on, shares_at}
+use Rattle.product.proofs.Moving.{Next}
+use Rattle.product.proofs.Local.{first_step, goes_local}
+use Rattle.product.proofs.Templating.{inside_step}
+
+module _ (p : Program) (w : WellFormed p) (steps : ℕ) (s : State) (c : SourceState) (k : Corresponds p w steps s c)
+    (t : ℕ) (woken : List ℕ) (pauses : Bool) (s' : State) (n : ℕ) (number : (0 < t) × (t ≤ k.world.made))
+    (few : k.world.made ≤ 64) (awake : k.world.asleep t ≡ None)
+    (low : (d : Member) → k.world.sequence d + 1 < 4294967296) (paused : pauses ≡ is_paused s' t) where
+  -- a thread on the way to the request of its point
+  pub inside_any : (kind : Template) (u : Variables) (pt : Point) (left : ℕ) (x y : Thread) → left ≤ template_steps
+      → StepsWithin (build_of p w k.world.made) t left x y → Fits (build_of p w k.world.made) u t kind
+      → SameBefore kind pt u c.variable → pt ≢ Runs → StandsIn p t kind pt y
+      → c.process t ≡ Some (process_at p kind pt) → (k.world.at t).point ≡ pt
+      → (k.world.at t).list ≡ list_at kind pt → left + rank (more_steps (build_of p w k.world.made)) k.world pt ≤ n
+      → Moves s t woken (look (code_of p) t x) s' → Next p w steps s' t pauses n c
+  inside_any kind u pt left x y small walk fits same ne stands proc point list enough moves =
+      by_step (first_step p (code_of p) t left x y walk)
+    where
+      by_step : (x ≡ y) ⊎ ((z : Thread) × (m : ℕ) × (look (code_of p) t x ≡ Goes z) × (suc m ≤ left)
+          × StepsWithin (build_of p w k.world.made) t m z y) → Next p w steps s' t pauses n c
+      by_step (inl e) =
+          inside_step p w steps s c k t woken pauses s' n number few awake low paused kind u pt y fits same ne stands
+          proc point list (omega (arith, enough))
+          (subst (λ (z : Thread). Moves s t woken (look (code_of p) t z) s') e moves)
+      by_step (inr (z, m, h, le, more)) =
+          goes_local p w steps s c k t woken pauses s' n x z (process_at p kind pt) pt (list_at kind pt) proc point list
+          (inside m kind u (omega (arith, le, small)) more fits same ne stands) (omega (arith, le, enough)) h moves
+
+-- the process before a template
+abbrev pub before_of : Template → Process
+before_of (Enters m base l fs f cs) = Entering m f cs
+before_of (Exits m base shown l fs before z cs) = before
+before_of (Waits c base l fs before f cs ms) = before
+before_of (Notifies c base l fs before after ms) = before
+before_of (Broadcasts c base l fs before after ms) = before
+
+module _ (p : Program) (w : WellFormed p) (steps : ℕ) (s : State) (c : SourceState) (k : Corresponds p w steps s c)
+    (t : ℕ) (number : (0 < t) × (t ≤ k.world.made)) (few : k.world.made ≤ 64) (awake : k.world.asleep t ≡ None)
+    (point : (k.world.at t).point ≡ Runs) where
+  abbrev b : Build
+  b = build_of p w k.world.made
+
+  -- the move with which the thread takes up the template
+  record Starts (kind : Template) (held : Bool) : Type 0 where
+    process : process_at p kind (first_point held kind) ≡ before_of kind
+    list : (k.world.at t).list ≡ list_at kind (first_point held kind)
+    move : Move
+    can : Can k.world t move
+    done : after k.world t move ≡ go k.world t (first_point held kind)
+    table : table_after k.world c.table t move ≡ c.table
+    ne : first_point held kind ≢ Runs
+    before : IsBefore (first_point held kind)
+    ranked : rank (more_steps b) (go k.world t (first_point held kind)) (first_point held kind) ≤ 69
+    same : SameBefore kind (first_point held kind) c.variable c.variable
+
+  first_of : (m : ℕ) (ms : List ℕ) → (k.world.at t).list ≡ m ∷ ms → (k.world.at t).list ≡ m ∷ tail (k.world.at t).list
+  first_of m ms e = e ∙ ap (λ (l : List ℕ). m ∷ tail l) (sym e)
+
+  starts : (kind : Template) → Fits b c.variable t kind → (k.world.at t).list ≡ holds (before_of kind)
+      → (held : Bool) × Starts kind held
+  starts (Enters m base l fs f cs) fits list = by_list (mem m (k.world.at t).list) refl
+    where
+      by_list : (held : Bool) → mem m (k.world.at t).list ≡ held → (h : Bool) × Starts (Enters m base l fs f cs) h
+      by_list true has = (true, record {
+        process = refl;
+        list = list;
+        move = Rebegin m;
+        can = record { number = number; awake = awake; stands = point; finds = has };
+        done = refl;
+        table = refl;
+        ne = λ e. absurd cc;
+        before = tt;
+        ranked = omega arith;
+        same = tt;
+      })
+      by_list false has = (false, record {
+        process = refl;
+        list = list;
+        move = Begin m;
+        can = record { number = number; awake = awake; stands = point; finds = has };
+        done = refl;
+        table = refl;
+        ne = λ e. absurd cc;
+        before = tt;
+        ranked = omega arith;
+        same = tt;
+      })
+  starts (Exits m base shown l fs before z cs) fits list = (false, record {
+    process = refl;
+    list = list ∙ fits.held;
+    move = Leave m;
+    can = record { number = number; awake = awake; stands = point; finds = first_of m _ (list ∙ fits.held) };
+    done = refl;
+    table = refl;
+    ne = λ e. absurd cc;
+    before = tt;
+    ranked = omega arith;
+    same = λ r m e n i. refl;
+  })
+  starts (Waits d base l fs before f cs ms) fits list = (false, record {
+    process = refl;
+    list = list ∙ fits.had;
+    move = Wait d;
+    can = record { number = number; awake = awake; stands = point; finds = first_of d.monitor ms (list ∙ fits.had) };
+    done = refl;
+    table = refl;
+    ne = λ e. absurd cc;
+    before = tt;
+    ranked = omega arith;
+    same = λ r m e n i. refl;
+  })
+  starts (Notifies d base l fs before after ms) fits list = (false, record {
+    process = refl;
+    list = list ∙ fits.held;
+    move = Notify d;
+    can = record { number = number; awake = awake; stands = point; finds = first_of d.monitor ms (list ∙ fits.held) };
+    done = refl;
+    table = refl;
+    ne = λ e. absurd cc;
+    before = tt;
+    ranked = omega arith;
+    same = λ m e n i. refl;
+  })
+  starts (Broadcasts d base l fs before after ms) fits list = (false, record {
+    process = refl;
+    list = list ∙ fits.held;
+    move = Broadcast d;
+    can = record { number = number; awake = awake; stands = point; finds = first_of d.monitor ms (list ∙ fits.held) };
+    done = refl;
+    table = refl;
+    ne = λ e. absurd cc;
+    before = tt;
+    ranked = omega arith;
+    same = λ m e n i. refl;
+  })
+
+  -- the same states with the thread at the template's first point
+  module _ (kind : Template) (x : Thread) (fits : Fits b c.variable t kind) (thread : s.thread t ≡ Some x)
+      (proc : c.process t ≡ Some (before_of kind)) (held : Bool) (st : Starts kind held)
+      (bg : Begins b t held kind) (is : x ≡ first_thread kind) where
+    abbrev pt : Point
+    pt = first_point held kind
+
+    abbrev world : World
+    world = go k.world t pt
+
+    now : c.process t ≡ Some (process_at p kind pt)
+    now = proc ∙ ap Some (sym st.process)
+
+    abbrev Here : ℕ → Place → Type 0
+    Here u z = StandsAt b c.variable u (s.thread u) (c.process u) z.point z.list
+
+    mine : Here t (thread_at pt (k.world.at t).list)
+    mine =
+        subst (λ (o : Option Thread). StandsAt b c.variable t o (c.process t) pt (k.world.at t).list) (sym thread)
+        (subst (λ (o : Option Process). StandsAt b c.variable t (Some x) o pt (k.world.at t).list) (sym now)
+        (subst (λ (l : List ℕ). StandsAt b c.variable t (Some x) (Some (process_at p kind pt)) pt l) (sym st.list)
+        (inside template_steps kind c.variable (omega arith)
+        (subst (λ (z : Thread). StepsWithin b t template_steps z bg.thread) (sym is) bg.walk) fits st.same st.ne
+        bg.stands)))
+
+    here : (u : ℕ) → Here u (world.at u)
+    here u = elim (cases_eq u t) [
+      | inl e ↦ subst (λ v. Here v (put k.world.at t (thread_at pt (k.world.at t).list) v)) (sym e)
+          (subst (λ (z : Place). Here t z) (sym (put_same k.world.at t (thread_at pt (k.world.at t).list))) mine)
+      | inr o ↦ subst (λ (z : Place). Here u z) (sym (put_other k.world.at t (thread_at pt (k.world.at t).list) u o))
+          (k.threads u)
+    ]
+
+    started : Corresponds p w steps s c
+    started = record {
+      world = world;
+      reached = subst (λ (x : World). Reached x c.table) st.done
+          (subst (λ (T : Table). Reached (after k.world t st.move) T) st.table
+          (reached_on k.world c.table t st.move k.reached st.can));
+      shares = shares_at (place p) (valid p) (shared_of s) k.world _ k.world.made k.shares;
+      size = k.size;
+      made = k.made;
+      output = k.output;
+      variables = k.variables;
+      fit = k.fit;
+      threads = here;
+      lists = λ u m h. k.lists u m (at_put k.world.at t (thread_at pt (k.world.at t).list) u
+          (λ (z : Place). mem m z.list ≡ true → mem m (k.world.at u).list ≡ true)
+          (λ e i. subst (λ v. mem m (k.world.at v).list ≡ true) (sym e) i) (λ o i. i) h);
+      words = k.words;
+      blank = λ u. at_put k.world.at t (thread_at pt (k.world.at t).list) u
+          (λ (z : Place). IsBefore z.point → k.world.result u ≡ 0)
+          (λ e i. ap k.world.result e ∙ k.blank t (subst (λ (y : Point). IsBefore y) (sym point) tt)) (λ o. k.blank u);
+      numbers = k.numbers;
+    }
+
+    start_step : (low : (d : Member) → k.world.sequence d + 1 < 4294967296) (woken : List ℕ) (pauses : Bool)
+        (s' : State) (n : ℕ) → pauses ≡ is_paused s' t → before_template ≤ n
+        → Moves s t woken (look (code_of p) t x) s' → Next p w steps s' t pauses n c
+    start_step low woken pauses s' n paused enough moves =
+        let placed : world.at t ≡ thread_at pt (k.world.at t).list =
+        put_same k.world.at t (thread_at pt (k.world.at t).list) in
+        let ranked = st.ranked in
+        inside_any p w steps s c started t woken pauses s' n number few awake low paused kind c.variable pt
+        template_steps x bg.thread (omega arith)
+        (subst (λ (z : Thread). StepsWithin b t template_steps z bg.thread) (sym is) bg.walk) fits st.same st.ne
+        bg.stands now (ap (λ (z : Place). z.point) placed) (ap (λ (z : Place). z.list) placed ∙ st.list)
+        (omega (arith, ranked, enough)) moves
+
+  -- a thread before a template that does what its process offers
+  pub template_step : (kind : Template) (x : Thread) → Fits b c.variable t kind → s.thread t ≡ Some x
+      → c.process t ≡ Some (before_of kind) → (k.world.at t).list ≡ holds (before_of kind) → x ≡ first_thread kind
+      → (low : (d : Member) → k.world.sequence d + 1 < 4294967296) (woken : List ℕ) (pauses : Bool) (s' : State)
+      (n : ℕ) → pauses ≡ is_paused s' t → before_template ≤ n → Moves s t woken (look (code_of p) t x) s'
+      → Next p w steps s' t pauses n c
+  template_step kind x fits thread proc list is low woken pauses s' n paused enough moves =
+      let st = starts kind fits list in
+      start_step kind x fits thread proc st.0 st.1
+      (begins b c.variable t st.0 kind number.0 (omega (arith, number.1, few)) fits) is low woken pauses s' n paused
+      enough moves
