@@ -17,3 +17,4 @@ pub mod Leaving
 pub mod Observing
 pub mod Local
 pub mod Starting
+pub mod Acting
