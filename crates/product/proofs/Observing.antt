@@ -405,8 +405,8 @@ module _ (p : Program) (w : WellFormed p) (s : State) (size : s.size ≡ memory_
     seen : (v : Variables) (o : Option Thread) (q : Option Process) (pt : Point) (l : List ℕ)
         → ((m : ℕ) → mem m l ≡ true → m < length p.monitors) → StandsAt b v t o q pt l → Seen p s t o q pt
     seen v o q pt l listed S.unmade = unmade
-    seen v o q pt l listed (S.works {x = x} {q = r} left few' k steady) =
-        busy (walk_busy (own_of r) v k.walk.count x k.last k.walk.walk (completes_busy v k.last r listed steady
+    seen v o q pt l listed (S.works {x = x} {q = r} left few' k work) =
+        busy (walk_busy (own_of r) v k.walk.count x k.last k.walk.walk (completes_busy v k.last r listed work.steady
         k.completes)) (completes_end b t v k.last r k.completes)
     seen v o q pt l listed (S.returns None fits k) = busy (asks _ _ k (λ z. z)) refl
     seen v o q pt l listed (S.returns (Some n) fits k) = busy (asks _ _ k (λ z. z)) refl
@@ -415,14 +415,14 @@ module _ (p : Program) (w : WellFormed p) (s : State) (size : s.size ≡ memory_
     seen v o q pt l listed (S.faults {x = x} fault left few' k) =
         busy (steps_busy left x (Dies' fault) k (asks _ _ refl (λ z. z))) refl
     seen v o q pt l listed (S.reads {child = child} {x = x} left few' is j k) =
-        busy (steps_busy left x j.reads k (asks _ _ j.read (word_there child 2 is.0 (omega (arith, is.1, few_all)) (omega arith)))) refl
+        busy (steps_busy left x j.reads k (asks _ _ j.read (word_there child 2 is.some (omega (arith, is.made, few_all)) (omega arith)))) refl
     seen v o q pt l listed (S.sleeps {child = child} {x = x} left few' is j k) =
-        busy (steps_busy left x j.sleeps k (asks _ _ j.sleep (word_there child 2 is.0 (omega (arith, is.1, few_all)) (omega arith)))) refl
+        busy (steps_busy left x j.sleeps k (asks _ _ j.sleep (word_there child 2 is.some (omega (arith, is.made, few_all)) (omega arith)))) refl
     seen v o q pt l listed (S.learns {child = child} {end = end} {x = x} {into = i} {part = y} {f = f} {cs = cs} left few' is j k) =
-        busy (steps_busy left x j.learns k (asks _ _ j.outcome (word_there child 5 is.0 (omega (arith, is.1, few_all)) (omega arith))))
+        busy (steps_busy left x j.learns k (asks _ _ j.outcome (word_there child 5 is.some (omega (arith, is.made, few_all)) (omega arith))))
         (joined_end i y f cs end)
     seen v o q pt l listed (S.takes {child = child} {z = z} {x = x} {into = i} {part = y} {f = f} {cs = cs} left few' is j k) =
-        busy (steps_busy left x j.takes k (asks _ _ j.result (word_there child 4 is.0 (omega (arith, is.1, few_all)) (omega arith))))
+        busy (steps_busy left x j.takes k (asks _ _ j.result (word_there child 4 is.some (omega (arith, is.made, few_all)) (omega arith))))
         (joined_end i y f cs (Ended z))
     seen v o q pt l listed (S.walks {e = e} {end = end} {ms = ms} phase is short en) =
         let g = walk_phase p e end phase is in exits g.0 g.1 (ending_end end ms)
