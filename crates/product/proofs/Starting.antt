@@ -227,6 +227,7 @@ module _ (p : Program) (w : WellFormed p) (steps : ℕ) (s : State) (c : SourceS
     start_step : (low : (d : Member) → k.world.sequence d + 1 < 4294967296) (woken : List ℕ) (pauses : Bool)
         (s' : State) (n : ℕ) → pauses ≡ is_paused s' t → before_template ≤ n
         → Moves s t woken (look (code_of p) t x) s' → Next p w steps s' t pauses n c
+    unfolding started
     start_step low woken pauses s' n paused enough moves =
         let placed : world.at t ≡ thread_at pt (k.world.at t).list =
         put_same k.world.at t (thread_at pt (k.world.at t).list) in
