@@ -18,3 +18,4 @@ pub mod Observing
 pub mod Local
 pub mod Starting
 pub mod Acting
+pub mod Resting
