@@ -30,7 +30,7 @@ one_less calls zero a h = refl
 one_less calls (suc n) a h = any_weaker _ _ calls (λ c. and_weaker (nat_eq c.caller a) _ _
     (one_less calls n c.callee)) h
 
-less : (calls : List Call) (n k a : ℕ) → has_chain calls (n + k) a ≡ true → has_chain calls n a ≡ true
+pub less : (calls : List Call) (n k a : ℕ) → has_chain calls (n + k) a ≡ true → has_chain calls n a ≡ true
 less calls n zero a h = subst (λ m. has_chain calls m a ≡ true) (add-zero n) h
 less calls n (suc k) a h = less calls n k a (one_less calls (n + k) a (let e : n + suc k ≡ suc (n + k) =
     omega arith in subst (λ m. has_chain calls m a ≡ true) e h))

@@ -1,3 +1,5 @@
 pub mod Lengths
 pub mod Fixed
-pub mod Progress
+pub mod Rows
+pub mod Marking
+pub mod Settling

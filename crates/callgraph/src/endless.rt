@@ -1,26 +1,84 @@
 // Chains of calls that have no end.
 
-ghost use Rattle.std.specs.Prelude.{◌≡◌, ℕ, ◌<◌, slice_index_or, IfOk, vec_len, true, false};
-ghost use Rattle.callgraph.specs.Calls.{Within, has_chain};
+ghost use Rattle.std.specs.Prelude.{◌≡◌, ℕ, ◌<◌, ◌^◌, List, length, slice_index_or, IfOk, vec_len, true, false};
+ghost use Rattle.callgraph.specs.Calls.{has_chain};
+ghost use Rattle.callgraph.specs.Graphs.{IsGraph};
+ghost use Rattle.callgraph.specs.Marks.{AreSettled};
+ghost use Rattle.callgraph.specs.declared.Call.{Call as CallOf};
 
-use crate::Call;
-use crate::chain::callers;
+use crate::graph::Graph;
 use std::alloc::{AllocError, Global};
 
-/// Which of `count` procedures begin chains of calls of every length: those on a cycle, and those above one.
-pub fn endless_chains(alloc: Global, calls: &[Call], count: usize) -> Result<Vec<bool>, AllocError>
-    requires { Within calls.now count }
-    ensures len { IfOk result (λ v. vec_len v ≡ count) }
-    ensures every { IfOk result (λ v. (a n : ℕ) → slice_index_or v.items a false ≡ true
-        → has_chain calls.now n a ≡ true) }
-    ensures ends { IfOk result (λ v. (a : ℕ) → a < count → slice_index_or v.items a false ≡ false
-        → (n : ℕ) × (has_chain calls.now n a ≡ false)) }
+// A step of a depth-first walk.
+#[derive(Clone, Copy)]
+enum Step {
+    // A procedure is entered, unless it was before.
+    Enter(usize),
+    // All that it calls was entered.
+    Leave(usize),
+}
+
+// Adds the steps of a procedure and of what it calls, where it wasn't seen.
+fn enter(
+    graph: &Graph,
+    procedure: usize,
+    seen: &mut [bool],
+    steps: &mut Vec<Step>,
+) -> Result<(), AllocError> {
+    if procedure >= seen.len() || seen[procedure] {
+        return Ok(());
+    }
+    seen[procedure] = true;
+    steps.push(Step::Leave(procedure))?;
+    for callee in graph.callees(procedure) {
+        steps.push(Step::Enter(*callee as usize))?;
+    }
+    Ok(())
+}
+
+// The steps that enter each of `count` procedures.
+fn all_entered(alloc: Global, count: usize) -> Result<Vec<Step>, AllocError> {
+    let mut steps = Vec::new(alloc);
+    for number in 0..count {
+        steps.push(Step::Enter(number))?;
+    }
+    Ok(steps)
+}
+
+// Settles what a depth-first walk leaves, each procedure behind those that it calls, so that few or none of those whose
+// chains all end stay marked.
+fn walked(alloc: Global, graph: &Graph) -> Result<Vec<bool>, AllocError>
+    ensures len { IfOk result (λ v. vec_len v ≡ vec_len graph.now.rows) }
+    ensures settled { (calls : List CallOf) → IsGraph calls graph.now → IfOk result (λ v. AreSettled calls v.items) }
 {
-    let mut marks = vec![in alloc; true; count]?;
-    let mut next = callers(alloc, calls, &marks)?;
-    'rounds: while next != marks {
-        marks = next;
-        next = callers(alloc, calls, &marks)?;
+    let mut marks = vec![in alloc; true; graph.count()]?;
+    let mut seen = vec![in alloc; false; graph.count()]?;
+    let mut steps = all_entered(alloc, graph.count())?;
+    for _step in 0..u64::MAX {
+        match steps.pop() {
+            Some(Step::Enter(procedure)) => enter(graph, procedure, &mut seen, &mut steps)?,
+            Some(Step::Leave(procedure)) => {
+                graph.settle(procedure, &mut marks);
+            }
+            None => break,
+        }
     }
     Ok(marks)
+}
+
+impl Graph {
+    /// Which procedures begin chains of calls of every length: those on a cycle, and those above one. The only error is
+    /// that memory runs out.
+    pub fn endless_chains(&self, alloc: Global) -> Result<Vec<bool>, AllocError>
+        ensures len { IfOk result (λ v. vec_len v ≡ vec_len self.now.rows) }
+        ensures every { (calls : List CallOf) → IsGraph calls self.now → IfOk result (λ v. (a n : ℕ)
+            → slice_index_or v.items a false ≡ true → has_chain calls n a ≡ true) }
+        ensures ends { (calls : List CallOf) → IsGraph calls self.now → IfOk result (λ v. (a : ℕ)
+            → a < vec_len self.now.rows → slice_index_or v.items a false ≡ false
+            → (n : ℕ) × (has_chain calls n a ≡ false)) }
+    {
+        let mut marks = walked(alloc, self)?;
+        'sweeps: while self.sweep(&mut marks) {}
+        Ok(marks)
+    }
 }

@@ -3,11 +3,12 @@
 
 mod chain;
 mod endless;
+mod graph;
 mod reach;
+mod settle;
 
 pub use chain::chains;
-pub use endless::endless_chains;
-pub use reach::reached;
+pub use graph::{Graph, Row};
 
 /// A call of a procedure by another. Procedures are numbered from 0.
 #[derive(Clone, Copy, PartialEq, Eq, Debug)]

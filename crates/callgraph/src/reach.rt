@@ -1,64 +1,66 @@
 // Where calls lead.
 
-ghost use Rattle.std.specs.Prelude.{◌≡◌, ℕ, ◌<◌, ◌⊎◌, length, slice_index_or, slice_set, IfOk, true, false, count_by};
-ghost use Rattle.callgraph.specs.Calls.{Within, Leads, IsCall};
+ghost use Rattle.std.specs.Prelude.{◌≡◌, ℕ, ◌<◌, ◌+◌, ◌⊎◌, [], List, length, slice_index_or, IfOk, OnOk, true, false, vec_len};
+ghost use Rattle.std.specs.Prelude.{count_by, Contains};
+ghost use Rattle.callgraph.specs.Calls.{Leads};
+ghost use Rattle.callgraph.specs.Graphs.{IsGraph};
+ghost use Rattle.callgraph.specs.Marks.{Marks};
+ghost use Rattle.callgraph.specs.declared.Call.{Call as CallOf};
 
-use crate::Call;
+use crate::graph::Graph;
 use std::alloc::{AllocError, Global};
 
-// Marks what a call leads to, where its caller is `start` or marked, and says whether that was unmarked.
-fn mark_callee(call: Call, start: u32, marks: &mut [bool]) -> bool
-    requires caller { call.caller < length marks.old }
-    requires callee { call.callee < length marks.old }
-    ensures marked { result ≡ true → marks.new ≡ slice_set marks.old call.callee true }
-    ensures caller { result ≡ true → (call.caller ≡ start) ⊎ (slice_index_or marks.old call.caller false ≡ true) }
-    ensures unmarked { result ≡ true → slice_index_or marks.old call.callee false ≡ false }
-    ensures same { result ≡ false → marks.new ≡ marks.old }
-    ensures from_start { result ≡ false → call.caller ≡ start → slice_index_or marks.old call.callee false ≡ true }
-    ensures closed { result ≡ false → slice_index_or marks.old call.caller false ≡ true
-        → slice_index_or marks.old call.callee false ≡ true }
+// Marks a procedure, and adds it to the pending ones, where it wasn't marked.
+fn mark(procedure: u32, marks: &mut [bool], pending: &mut Vec<u32>) -> Result<(), AllocError>
+    ensures marked { OnOk result (procedure < length marks.old → slice_index_or marks.new procedure false ≡ true) }
+    ensures kept { (b : ℕ) → slice_index_or marks.old b false ≡ true → slice_index_or marks.new b false ≡ true }
+    ensures only { (b : ℕ) → slice_index_or marks.new b false ≡ true
+        → (slice_index_or marks.old b false ≡ true) ⊎ (b ≡ procedure) }
+    ensures added { OnOk result ((b : ℕ) → slice_index_or marks.new b false ≡ true
+        → (slice_index_or marks.old b false ≡ true) ⊎ Contains pending.new.items b) }
+    ensures queued { OnOk result ((b : ℕ) → Contains pending.old.items b → Contains pending.new.items b) }
+    ensures counted { OnOk result (count_by (λ m. m) marks.new + length pending.old.items
+        ≡ count_by (λ m. m) marks.old + length pending.new.items) }
+    ensures waiting { (b : ℕ) → Contains pending.new.items b
+        → Contains pending.old.items b ⊎ (slice_index_or marks.new b false ≡ true) }
 {
-    if marks[call.callee as usize] {
-        return false;
+    let number = procedure as usize;
+    if number < marks.len() && !marks[number] {
+        marks[number] = true;
+        pending.push(procedure)?;
     }
-    if call.caller != start && !marks[call.caller as usize] {
-        return false;
-    }
-    marks[call.callee as usize] = true;
-    true
+    Ok(())
 }
 
-// Marks what `start` and marked procedures call, call by call, and says whether any of it was unmarked.
-fn mark_callees(calls: &[Call], start: u32, marks: &mut [bool]) -> bool
-    requires { Within calls.now (length marks.old) }
-    ensures sound { ((b : ℕ) → slice_index_or marks.old b false ≡ true → Leads calls.now start b)
-        → (b : ℕ) → slice_index_or marks.new b false ≡ true → Leads calls.now start b }
-    ensures more { result ≡ true → count_by (λ m. m) marks.old < count_by (λ m. m) marks.new }
-    ensures from_start { result ≡ false → (b : ℕ) → IsCall calls.now start b → slice_index_or marks.new b false ≡ true }
-    ensures closed { result ≡ false → (a b : ℕ) → slice_index_or marks.new a false ≡ true → IsCall calls.now a b
-        → slice_index_or marks.new b false ≡ true }
+// Marks procedures, and adds those that weren't marked to the pending ones.
+fn mark_all(
+    procedures: &[u32],
+    marks: &mut [bool],
+    pending: &mut Vec<u32>,
+) -> Result<(), AllocError>
+    ensures { OnOk result (Marks procedures.now marks.old pending.old.items marks.new pending.new.items) }
 {
-    let mut more = false;
-    for call in calls {
-        if mark_callee(*call, start, marks) {
-            more = true;
+    for procedure in procedures {
+        mark(*procedure, marks, pending)?;
+    }
+    Ok(())
+}
+
+impl Graph {
+    /// Where calls lead from a procedure. It is on a cycle where they lead to itself. The only error is that memory runs
+    /// out. Each call is looked at once.
+    pub fn reached(&self, alloc: Global, start: u32) -> Result<Vec<bool>, AllocError>
+        ensures sound { (calls : List CallOf) → IsGraph calls self.now → IfOk result (λ v. (b : ℕ)
+            → slice_index_or v.items b false ≡ true → Leads calls start b) }
+        ensures complete { (calls : List CallOf) → IsGraph calls self.now → IfOk result (λ v. (b : ℕ)
+            → Leads calls start b → slice_index_or v.items b false ≡ true) }
+    {
+        let mut marks = vec![in alloc; false; self.count()]?;
+        let mut pending = Vec::new(alloc);
+        mark_all(self.callees(start as usize), &mut marks, &mut pending)?;
+        'walk: while let Some(procedure) = pending.pop() {
+            mark_all(self.callees(procedure as usize), &mut marks, &mut pending)?;
         }
+        Ok(marks)
     }
-    more
-}
-
-/// Which of `count` procedures calls lead to from `start`. It is on a cycle where they lead to itself.
-pub fn reached(
-    alloc: Global,
-    calls: &[Call],
-    count: usize,
-    start: u32,
-) -> Result<Vec<bool>, AllocError>
-    requires { Within calls.now count }
-    ensures sound { IfOk result (λ v. (b : ℕ) → slice_index_or v.items b false ≡ true → Leads calls.now start b) }
-    ensures complete { IfOk result (λ v. (b : ℕ) → Leads calls.now start b → slice_index_or v.items b false ≡ true) }
-{
-    let mut marks = vec![in alloc; false; count]?;
-    'passes: while mark_callees(calls, start, &mut marks) {}
-    Ok(marks)
 }

@@ -31,10 +31,10 @@ pub fn check<'a>(alloc: Global, unit: &Unit<'a>) -> Result<Checked<'a>, Refusal>
         (λ e. (e ≡ out_of_memory) ⊎ IsRefusalOf (unit_of unit.now) e) }
 {
     faultless_units_are_well_formed();
-    if let Some(fault) = first_fault(alloc, unit)? {
+    let callees = Callees::new(alloc, unit)?;
+    if let Some(fault) = first_fault(alloc, unit, &callees)? {
         return Err(fault);
     }
-    let callees = Callees::new(alloc, unit)?;
     let (program, names) = resolve(alloc, unit, &callees)?;
     Ok(Checked::new(program, names))
 }

@@ -1,4 +1,4 @@
-use callgraph::{Call, chains, endless_chains, reached};
+use callgraph::{Call, Graph, chains};
 use std::test::Fail;
 
 // Procedure 0 calls 1, which calls itself.
@@ -18,9 +18,10 @@ fn a_procedure_that_calls_itself(rt: HostRuntime) -> Result<(), Fail> {
     let calls = CALLS;
     let long = chains(rt.alloc(), &calls, 3, 15)?;
     assert_eq!(rt; long.as_slice(), [true, true, false].as_slice());
-    let endless = endless_chains(rt.alloc(), &calls, 3)?;
+    let graph = Graph::new(rt.alloc(), &calls, 3)?;
+    let endless = graph.endless_chains(rt.alloc())?;
     assert_eq!(rt; endless.as_slice(), [true, true, false].as_slice());
-    let led_to = reached(rt.alloc(), &calls, 3, 0)?;
+    let led_to = graph.reached(rt.alloc(), 0)?;
     assert_eq!(rt; led_to.as_slice(), [false, true, false].as_slice());
     Ok(())
 }

@@ -11,10 +11,10 @@ use Rattle.meaning.specs.States.{SourceState, opening, printed_after, processes_
 use Rattle.meaning.specs.Runs.{IsAction, IsKillable, IsStep, Leads}
 use Rattle.meaning.proofs.Offered.{IsQuiet, IsPlain, plain}
 
-some_none : {A : Type 0} (x : A) → Some x ≡ None → ⊥
+pub some_none : {A : Type 0} (x : A) → Some x ≡ None → ⊥
 some_none x e = absurd (cc)
 
-put_other : (f : ℕ → Option Process) (i j : ℕ) (o : Option Process) → (j ≡ i → ⊥) → put f i o j ≡ f j
+pub put_other : (f : ℕ → Option Process) (i j : ℕ) (o : Option Process) → (j ≡ i → ⊥) → put f i o j ≡ f j
 put_other f i j o ne = rw (ne_eqb j i ne) refl
 
 -- processes have the numbers up to that of those made
@@ -42,13 +42,13 @@ made_stays p (Abandons m) t t' a = let e : t'.made ≡ t.made = ap (λ (x : Tabl
 made_stays p (Ends end) t t' a = let e : t'.made ≡ t.made = ap (λ (x : Table). x.made) a in omega (arith, e)
 
 -- a process is made by a fork alone
-abbrev MakesOnlyForking : Label → Effect → Type 0
+abbrev pub MakesOnlyForking : Label → Effect → Type 0
 MakesOnlyForking l e = IsQuiet e ⊎ ((n : ℕ) × (c : Process) × (l ≡ Forks n) × (e ≡ Makes n c))
 
 quiet : (l : Label) (e : Effect) → e ≡ Nothing → MakesOnlyForking l e
 quiet l e is = inl (subst IsQuiet (sym is) tt)
 
-made_by : (o : Offer) (l : Label) (e : Effect) (q : Process) → IsPlain o → TakesUp o l e q → MakesOnlyForking l e
+pub made_by : (o : Offer) (l : Label) (e : Effect) (q : Process) → IsPlain o → TakesUp o l e q → MakesOnlyForking l e
 made_by Rests l e q is t = absurd t
 made_by (Does k f r) l e q is t = inl (subst IsQuiet (sym t.1) is.1)
 made_by (Takes k f r) l e q is t = quiet l e t.2
@@ -60,7 +60,7 @@ made_by (JoinsOne c k) l e q is t = quiet l e t.2
 made_by (NotifiesSome c k) l e q is t = quiet l e t.2
 made_by (NotifiesAll c k) l e q is t = quiet l e t.2
 
-quiet_processes : (e : Effect) (f : ℕ → Option Process) → IsQuiet e → processes_after e f ≡ f
+pub quiet_processes : (e : Effect) (f : ℕ → Option Process) → IsQuiet e → processes_after e f ≡ f
 quiet_processes Nothing f is = refl
 quiet_processes (Puts m n i z) f is = refl
 quiet_processes (Writes z) f is = refl
@@ -88,7 +88,7 @@ other_process p s a s' q x ne place =
         ] in
         ap (λ (g : Effect). processes_after g s.process q) f.3 ∙ put_other s.process f.0 q (Some f.1) apart
 
-numbered_step : (p : Program) (s : SourceState) (a : Action) (s' : SourceState) → IsStep p s a s' → IsNumbered s
+pub numbered_step : (p : Program) (s : SourceState) (a : Action) (s' : SourceState) → IsStep p s a s' → IsNumbered s
     → IsNumbered s'
 numbered_step p s a s' (inl x) is q past =
     let le : s.table.made ≤ s'.table.made = made_stays a.process x.label s.table s'.table x.allows in
@@ -109,7 +109,7 @@ numbered_led : (p : Program) (s s' : SourceState) (actions : List Action) → Le
 numbered_led p s s' [] led is = subst IsNumbered led is
 numbered_led p s s' (a ∷ actions) led is = numbered_led p led.0 s' actions led.2 (numbered_step p s a led.0 led.1 is)
 
-numbered_opening : (p : Program) → IsNumbered (opening p)
+pub numbered_opening : (p : Program) → IsNumbered (opening p)
 numbered_opening p q past = rw (ne_eqb q 1 (λ e. omega (arith, e, past))) refl
 
 pub numbered : (p : Program) (s : SourceState) (actions : List Action) → Leads p (opening p) actions s → IsNumbered s

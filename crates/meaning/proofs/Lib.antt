@@ -3,3 +3,9 @@ pub mod Unique
 pub mod Waits
 pub mod Led
 pub mod Ends
+pub mod Members
+pub mod Discipline
+pub mod Offering
+pub mod Keeping
+pub mod Holding
+pub mod Holders

@@ -6,7 +6,7 @@ use Rattle.program.specs.declared.kinds.Member.{Member}
 use Rattle.meaning.specs.Labels.{Notifies, Broadcasts}
 use Rattle.meaning.specs.Table.{Table, Allows, without_waiters}
 
-put_none : (waits : ℕ → Option Member) (i j : ℕ) → waits j ≡ None → put waits i None j ≡ None
+pub put_none : (waits : ℕ → Option Member) (i j : ℕ) → waits j ≡ None → put waits i None j ≡ None
 put_none waits i j none = elim (cases_eq j i) [
   | inl e ↦ rw (eq-eqb j i e) refl
   | inr ne ↦ rw (ne_eqb j i ne) none
@@ -22,7 +22,7 @@ resumed_waits (r ∷ qs) waits q (suc k, less, is) =
     put_none (without_waiters qs waits) r q (resumed_waits qs waits q (k, omega (arith, less), is))
 
 -- who waits afterwards waited before
-still_waits : (qs : List ℕ) (waits : ℕ → Option Member) (q : ℕ) (c : Member)
+pub still_waits : (qs : List ℕ) (waits : ℕ → Option Member) (q : ℕ) (c : Member)
     → without_waiters qs waits q ≡ Some c → waits q ≡ Some c
 still_waits [] waits q c w = w
 still_waits (r ∷ qs) waits q c w = elim (cases_eq q r) [

@@ -3,5 +3,7 @@
 #![tactic(auto)]
 
 mod laws;
+mod monitors;
 
 pub use laws::{end_laws, run_laws, wait_laws};
+pub use monitors::monitor_laws;

@@ -7,3 +7,4 @@ pub mod OneByOne
 pub mod Passing
 pub mod Lives
 pub mod InPlace
+pub mod Scheduling

@@ -7,3 +7,4 @@ pub mod Afters
 pub mod Reports
 pub mod Rounds
 pub mod LogRuns
+pub mod Schedules

@@ -11,6 +11,7 @@ mod piece;
 mod report;
 mod rounds;
 mod running;
+mod schedule;
 mod share;
 mod shared;
 
@@ -21,5 +22,6 @@ pub use next::{After, Next};
 pub use piece::Piece;
 pub use report::{Report, Verdict};
 pub use running::{finish, run};
+pub use schedule::{ScheduleFault, follow};
 pub use share::{PARTS, Share};
 pub use shared::Shared;

@@ -1,10 +1,13 @@
 ghost use Rattle.words.specs.Limits.{most_local_steps};
 ghost use Rattle.std.specs.Prelude.{◌≡◌, ◌≤◌, ◌<◌, ◌+◌, Some, None};
 ghost use Rattle.locals.specs.Steps.{local_step, local_after};
+ghost use Rattle.locals.specs.Threads.{Exits};
+ghost use Rattle.robustexit.specs.declared.phase.ExitPhase.TheVariants.{Ended};
 
 use crate::naming::RunName;
 use isa::Image;
 use locals::Local;
+use robustexit::ExitPhase;
 use std::marker::{Model, PhantomData};
 use words::MOST_LOCAL_STEPS;
 
@@ -60,11 +63,43 @@ impl<J: RunName> Piece<J> {
         self.count += self.here.run(image, self.thread, budget);
     }
 
-    /// Begins anew where the thread is.
-    pub(crate) fn begin(&mut self, local: &Local)
-        ensures { self.new
-            ≡ record { thread = self.old.thread; origin = local.now; here = local.now; count = 0 } }
+    /// How many local steps it took.
+    pub fn count(&self) -> u32
+        ensures { result ≡ self.now.count }
     {
+        self.count
+    }
+
+    /// A piece of thread `t` as if it had ended, to be begun anew.
+    pub fn idle(t: u32) -> Piece<J>
+        ensures { result ≡ record { thread = t; origin = Exits Ended; here = Exits Ended; count = 0 } }
+    {
+        Piece {
+            thread: t,
+            origin: Local::exiting(ExitPhase::Ended),
+            here: Local::exiting(ExitPhase::Ended),
+            count: 0,
+            of: PhantomData,
+        }
+    }
+
+    /// Begins anew where another piece has come.
+    pub fn follow(&mut self, before: &Piece<J>)
+        ensures { self.new ≡ record {
+          thread = before.now.thread;
+          origin = before.now.here;
+          here = before.now.here;
+          count = 0;
+        } }
+    {
+        self.begin(before.thread, &before.here);
+    }
+
+    /// Begins anew where thread `t` is.
+    pub(crate) fn begin(&mut self, t: u32, local: &Local)
+        ensures { self.new ≡ record { thread = t; origin = local.now; here = local.now; count = 0 } }
+    {
+        self.thread = t;
         self.origin.copy_from(local);
         self.here.copy_from(local);
         self.count = 0;

@@ -1,4 +1,9 @@
+ghost use Rattle.std.specs.Prelude.{◌≡◌, IfOk};
+ghost use Rattle.machine.specs.Views.{concrete};
+ghost use Rattle.runner.specs.Reports.{IsVerdict};
+
 use machine::{Entry, Machine};
+use std::alloc::{AllocError, Global};
 
 /// How a run came to its end.
 #[derive(Clone, Copy, PartialEq, Eq, Debug)]
@@ -22,4 +27,32 @@ pub struct Report {
     pub verdict: Verdict,
     /// The machine after the last entry.
     pub last: Machine,
+}
+
+/// What is told of a run that left this log and this machine.
+pub(crate) fn report_of(alloc: Global, log: Vec<Entry>, last: Machine) -> Result<Report, AllocError>
+    ensures log { IfOk result (λ report. report.log.items ≡ log.items) }
+    ensures last { IfOk result (λ report. report.last ≡ last) }
+    ensures output { IfOk result (λ report. report.output.items ≡ last.output) }
+    ensures verdict { IfOk result (λ report. IsVerdict (concrete last) report.verdict) }
+{
+    Ok(Report {
+        output: Vec::from_slice(alloc, last.output())?,
+        log,
+        verdict: verdict_of(&last),
+        last,
+    })
+}
+
+// What the machine says of the end of a run.
+fn verdict_of(machine: &Machine) -> Verdict
+    ensures { IsVerdict (concrete machine.now) result }
+{
+    if !machine.quiet() {
+        Verdict::Limit
+    } else if machine.all_ended() {
+        Verdict::Done
+    } else {
+        Verdict::Stuck
+    }
 }

@@ -1,15 +1,13 @@
 ghost use Rattle.std.specs.Prelude.{◌≡◌, IfOk, IfErr};
-ghost use Rattle.machine.specs.Views.{concrete};
-ghost use Rattle.runner.specs.Reports.{IsReport, IsVerdict, CanFail};
+ghost use Rattle.runner.specs.Reports.{IsReport, CanFail};
 
 use crate::fault::RunFault;
 use crate::naming::RunName;
-use crate::report::{Report, Verdict};
+use crate::report::{Report, report_of};
 use crate::rounds::run_rounds;
 use crate::share::{PARTS, Share};
 use crate::shared::Shared;
 use isa::Image;
-use machine::Machine;
 use std::alloc::Global;
 use std::marker::Brand;
 use std::sync::ledger::Blank;
@@ -67,28 +65,6 @@ pub fn finish<J: RunName, G: Gate>(
 {
     let mut shared = shared;
     run_rounds(&mut shared, image, share, gate)?;
-    let Ok(output) = Vec::from_slice(alloc, shared.machine().output()) else {
-        return Err(RunFault::Memory);
-    };
-    let verdict = verdict_of(shared.machine());
     let (log, last) = shared.into_parts();
-    Ok(Report {
-        output,
-        log,
-        verdict,
-        last,
-    })
-}
-
-// What the machine says of the end of a run.
-fn verdict_of(machine: &Machine) -> Verdict
-    ensures { IsVerdict (concrete machine.now) result }
-{
-    if !machine.quiet() {
-        Verdict::Limit
-    } else if machine.all_ended() {
-        Verdict::Done
-    } else {
-        Verdict::Stuck
-    }
+    report_of(alloc, log, last).map_err(|_| RunFault::Memory)
 }

@@ -223,16 +223,47 @@ impl<J: RunName> Shared<J> {
         ensures legal { Runs J.program (opening_concrete J.program) self.new.log (log_state self.new).concrete }
         ensures within { cost self.new.log ≤ J.limit }
     {
+        self.enter(t, piece, share)?;
+        Ok(self.next(t, piece))
+    }
+
+    /// The same, and the piece stays as it is.
+    pub fn enter(&mut self, t: u32, piece: &Piece<J>, share: &mut Share<J>) -> Result<(), RunFault>
+        ensures ok { OnOk result (Takes J.program J.limit (log_state self.old) t piece.now (log_state self.new)) }
+        ensures counted { OnOk result (share.new ≡ record share.old { count = share.old.count + 1 }) }
+        ensures err { IfErr result (λ fault. (log_state self.new ≡ log_state self.old)
+            × (share.new ≡ share.old) × Refuses J.program J.limit (log_state self.old) t piece.now fault) }
+        ensures broken { IfErr result (λ fault. fault ≡ RunFault.Broken → MeetsBroken J.program J.limit) }
+        ensures given { self.new.given ≡ self.old.given }
+        ensures legal { Runs J.program (opening_concrete J.program) self.new.log (log_state self.new).concrete }
+        ensures within { cost self.new.log ≤ J.limit }
+    {
+        let count = piece.count;
         if let Some(fault) = self.refusal(t, piece) {
             return Err(fault);
         }
-        let count = piece.count;
         let Ok(event) = enter(&mut self.machine, &mut self.log, t, &piece.here, count) else {
             return Err(RunFault::Memory);
         };
         self.steps += count + u32::from(event.is_some());
         share.count_one(&mut self.book);
-        Ok(self.next(t, piece))
+        Ok(())
+    }
+
+    /// What thread `t` does next. Where it goes on, the piece begins anew as its own, so that only the operands and
+    /// frames in use are copied.
+    pub fn next(&self, t: u32, piece: &mut Piece<J>) -> After
+        ensures next { IsAfter (log_state self.now).concrete t piece.new result }
+        ensures legal { Runs J.program (opening_concrete J.program) self.now.log (log_state self.now).concrete }
+    {
+        if self.machine.can_move(t) {
+            piece.begin(t, self.machine.local(t));
+            After::Goes
+        } else if self.machine.has_ended(t) {
+            After::Ends
+        } else {
+            After::Sleeps
+        }
     }
 
     /// Whether the limit leaves room for any thread's next entry.
@@ -263,22 +294,6 @@ impl<J: RunName> Shared<J> {
         self.steps += entry.local + u32::from(entry.event.is_some());
         share.count_one(&mut self.book);
         outcome
-    }
-
-    // What thread `t` does next. Its piece begins anew where it goes on.
-    fn next(&self, t: u32, piece: &mut Piece<J>) -> After
-        requires { piece.old.thread ≡ t }
-        ensures next { IsAfter (log_state self.now).concrete t piece.new result }
-        ensures legal { Runs J.program (opening_concrete J.program) self.now.log (log_state self.now).concrete }
-    {
-        if self.machine.can_move(t) {
-            piece.begin(self.machine.local(t));
-            After::Goes
-        } else if self.machine.has_ended(t) {
-            After::Ends
-        } else {
-            After::Sleeps
-        }
     }
 
     // Why the piece is refused, if not for memory.

@@ -1,17 +1,11 @@
 -- Units without a fault.
 use Rattle.std.specs.Prelude.{◌≤◌, Contains}
 use Rattle.scanner.specs.Limits.{most_number}
-use Rattle.scanner.specs.declared.token.Place.{Place}
-use Rattle.scanner.specs.declared.refusal.RefusalKind.{RefusalKind}
 use Rattle.syntax.specs.declared.leaf.Number.{Number}
 use Rattle.syntax.specs.Lexeme.{Numbered}
 use Rattle.syntax.specs.Spelling.{unit_text}
 use Rattle.syntax.specs.Tree.{UnitTree}
-use Rattle.types.specs.Judgement.{IsFaulty}
-
--- nothing is faulty at any place
-abbrev pub IsFaultless : UnitTree → Type 0
-IsFaultless u = (place : Place) (kind : RefusalKind) → IsFaulty u place kind → ⊥
+pub use Rattle.types.specs.Verdicts.{IsFaultless}
 
 -- each number in its text is one that a text may have
 abbrev pub HasNumbers : UnitTree → Type 0

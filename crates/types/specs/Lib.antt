@@ -14,3 +14,4 @@ pub mod Limits
 pub mod Judgement
 pub mod Tables
 pub mod Standings
+pub mod Verdicts

@@ -6,8 +6,8 @@ ghost use Rattle.types.specs.Faults.{ComesNoLater, IsLeastOf};
 
 use scanner::Refusal;
 
-// Whether a fault comes no later than another.
-fn comes_no_later(first: Refusal, second: Refusal) -> bool
+/// Whether a fault comes no later than another: at an earlier place, or at the same one with no greater a number.
+pub fn comes_no_later(first: Refusal, second: Refusal) -> bool
     ensures yes { result ≡ true → ComesNoLater first second }
     ensures no { result ≡ false → ComesNoLater second first }
 {

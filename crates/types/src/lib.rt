@@ -16,7 +16,7 @@ pub use checks::{
 pub use kinds::{
     comparison_operator, local_kind, member_kind, product_operator, result_kind, sum_operator,
 };
-pub use least::lesser;
+pub use least::{comes_no_later, lesser};
 pub use places::{
     conjunction_place, expression_place, factor_place, relation_place, sum_place, term_place,
 };

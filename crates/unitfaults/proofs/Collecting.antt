@@ -113,3 +113,23 @@ pub collects_one : (e : Refusal) (a b : Option Refusal) → Gathers (e ∷ []) a
 collects_one e a b g =
     collects_same (Contains (e ∷ [])) (λ f. f ≡ e) a b (λ f c. sym (contained e f c))
     (λ f q. subst (λ x. Contains (e ∷ []) x) (sym q) (the_one e)) (collects_list (e ∷ []) a b g)
+
+-- fewer faults, where none of the others is the least
+pub collects_fewer : (P Q : Refusal → Type 0) (a : Option Refusal) → ((e : Refusal) → P e → Q e) → Collects Q a a
+    → Collects P a a
+collects_fewer P Q None to h = λ e w. elim w [ inl q ↦ h e (inl q) | inr p ↦ h e (inr (to e p)) ]
+collects_fewer P Q (Some a) to h = (
+  inl refl,
+  λ f w. elim w [ inl q ↦ h.1 f (inl q) | inr p ↦ h.1 f (inr (to f p)) ],
+)
+
+-- a fault that comes no earlier than the least one
+pub collects_behind : (first e : Refusal) (a : Option Refusal) → a ≡ Some first → ComesNoLater first e
+    → Collects (λ f. f ≡ e) a a
+collects_behind first e a s h = subst (λ o. Collects (λ f. f ≡ e) o o) (sym s) (
+  inl refl,
+  λ f w. elim w [
+    | inl q ↦ subst (λ x. ComesNoLater first x) (same_Some first f q) (no_later_itself first)
+    | inr p ↦ subst (λ x. ComesNoLater first x) (sym p) h
+  ],
+)

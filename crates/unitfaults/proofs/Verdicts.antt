@@ -14,7 +14,7 @@ use Rattle.types.specs.Names.{outer_names, monitor_scope, body_scope}
 use Rattle.types.specs.Pieces.{Piece, pieces}
 use Rattle.unitfaults.specs.Collected.{Collects}
 use Rattle.unitfaults.specs.Parts.{InOuter, InCounts, InMembers, InPiece, InCalls, InUnit}
-use Rattle.unitfaults.specs.Verdicts.{IsVerdict}
+use Rattle.types.specs.Verdicts.{IsVerdict}
 use Rattle.unitfaults.proofs.BodyKinds.{IsOfBody, block}
 
 kind_is : (u : UnitTree) (e : Refusal) (kind : RefusalKind) → e.kind ≡ kind → IsFaulty u e.place kind

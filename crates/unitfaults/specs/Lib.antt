@@ -2,4 +2,3 @@ pub mod Collected
 pub mod Members
 pub mod Parts
 pub mod Callers
-pub mod Verdicts

@@ -1,9 +1,11 @@
 // Procedures on cycles of calls, and chains of calls that are too long.
 
-ghost use Rattle.std.specs.Prelude.{◌≡◌, ◌<◌, ◌^◌, IfOk, length, map, true};
+ghost use Rattle.std.specs.Prelude.{◌≡◌, ◌<◌, ◌^◌, List, IfOk, length, map, true};
 ghost use Rattle.scanner.specs.declared.refusal.RefusalKind.TheVariants.{Recursion};
 ghost use Rattle.syntax.specs.Tree.{UnitTree};
 ghost use Rattle.callgraph.specs.Calls.{Within, Leads};
+ghost use Rattle.callgraph.specs.Graphs.{IsGraph};
+ghost use Rattle.callgraph.specs.declared.Call.{Call as CallOf};
 ghost use Rattle.callees.specs.Pieces.{piece_of};
 ghost use Rattle.types.specs.Faults.{fault};
 ghost use Rattle.types.specs.Judgement.{is_named as is_named_in, all_calls};
@@ -11,9 +13,9 @@ ghost use Rattle.types.specs.Pieces.{pieces as pieces_in};
 ghost use Rattle.unitfaults.specs.Collected.{Collects};
 ghost use Rattle.unitfaults.specs.Parts.{InCalls};
 
-use crate::least::note_where;
+use crate::least::{is_behind, note_where};
 use callees::Piece;
-use callgraph::{Call, chains, endless_chains, reached};
+use callgraph::{Call, Graph, chains};
 use program::Role;
 use scanner::{Place, Refusal, RefusalKind};
 use std::alloc::{AllocError, Global};
@@ -28,19 +30,27 @@ fn is_named(role: Role) -> bool
     !matches!(role, Role::Recover(_))
 }
 
-// The least fault, where the procedure of this number stands at a place: calls lead from it back to it.
+// The least fault, where the procedure of this number stands at a place: calls lead from it back to it. They are not
+// followed where such a fault would come behind the least one. The places of procedures rise, and at most 512 of them
+// come before the limit of procedures, so there are at most so many walks, however many procedures there are.
 fn cycle(
     alloc: Global,
-    calls: &[Call],
-    count: usize,
+    graph: &Graph,
     number: u32,
     place: Place,
     least: Option<Refusal>,
 ) -> Result<Option<Refusal>, AllocError>
-    requires { Within calls.now count }
-    ensures { IfOk result (λ r. Collects (λ e. Leads calls.now number number × (e ≡ fault Recursion place)) least r) }
+    ensures { (calls : List CallOf) → IsGraph calls graph.now
+        → IfOk result (λ r. Collects (λ e. Leads calls number number × (e ≡ fault Recursion place)) least r) }
 {
-    let reached = reached(alloc, calls, count, number)?;
+    let fault = Refusal {
+        kind: RefusalKind::Recursion,
+        place,
+    };
+    if is_behind(fault, least) {
+        return Ok(least);
+    }
+    let reached = graph.reached(alloc, number)?;
     let itself = reached.get(number as usize).copied().unwrap_or(false);
     Ok(note_where(itself, RefusalKind::Recursion, place, least))
 }
@@ -57,7 +67,8 @@ pub fn circular(
     ensures { (u : UnitTree) → map piece_of pieces.now ≡ pieces_in u → calls.now ≡ all_calls u
         → IfOk result (λ r. Collects (InCalls u) least r) }
 {
-    let endless = endless_chains(alloc, calls, pieces.len())?;
+    let graph = Graph::new(alloc, calls, pieces.len())?;
+    let endless = graph.endless_chains(alloc)?;
     let long = chains(alloc, calls, pieces.len(), MOST_IN_CHAIN)?;
     let mut least = least;
     for (number, piece) in pieces.iter().enumerate() {
@@ -65,14 +76,7 @@ pub fn circular(
             continue;
         }
         if endless[number] {
-            least = cycle(
-                alloc,
-                calls,
-                pieces.len(),
-                number as u32,
-                piece.place,
-                least,
-            )?;
+            least = cycle(alloc, &graph, number as u32, piece.place, least)?;
         } else {
             least = note_where(long[number], RefusalKind::Limit, piece.place, least);
         }

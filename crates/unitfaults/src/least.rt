@@ -1,11 +1,11 @@
 // The least of the faults that a relation tells.
 
-ghost use Rattle.std.specs.Prelude.{◌≡◌, IsTrue};
+ghost use Rattle.std.specs.Prelude.{◌≡◌, IsTrue, true};
 ghost use Rattle.types.specs.Faults.{fault};
 ghost use Rattle.unitfaults.specs.Collected.{Collects};
 
 use scanner::{Place, Refusal, RefusalKind};
-use types::lesser;
+use types::{comes_no_later, lesser};
 
 /// The least fault, where there is one of this kind if the test holds.
 pub fn note_where(
@@ -20,4 +20,14 @@ pub fn note_where(
         return Some(lesser(least, Refusal { kind, place }));
     }
     least
+}
+
+/// Whether a fault is the least one or comes behind it.
+pub fn is_behind(fault: Refusal, least: Option<Refusal>) -> bool
+    ensures { result ≡ true → Collects (λ e. e ≡ fault) least least }
+{
+    match least {
+        Some(first) => comes_no_later(first, fault),
+        None => false,
+    }
 }

@@ -8,24 +8,36 @@ use syntax::{
     Local, Member, MemberType, Monitor, MonitorProcedure, Name, Parameter, Procedure, Unit,
 };
 
+/// The names of monitors.
+pub fn monitor_names<'a>(alloc: Global, unit: &Unit<'a>) -> Result<Vec<Name<'a>>, AllocError>
+    ensures { IfOk result (λ v. v.items ≡ map (λ m. m.name) unit.now.monitors.items) }
+{
+    let mut names = Vec::new(alloc);
+    for monitor in &unit.monitors {
+        names.push(monitor.name)?;
+    }
+    Ok(names)
+}
+
 /// The names of monitors and external procedures, which share one scope.
 pub fn outer_names<'a>(alloc: Global, unit: &Unit<'a>) -> Result<Vec<Name<'a>>, AllocError>
     ensures { IfOk result (λ v. v.items
         ≡ map (λ m. m.name) unit.now.monitors.items ++ map (λ q. q.name) unit.now.procedures.items) }
 {
-    let monitors = unit.monitors.iter().map(|monitor| monitor.name);
-    let procedures = unit.procedures.iter().map(|procedure| procedure.name);
-    monitors.chain(procedures).collect(alloc)
+    let mut names = monitor_names(alloc, unit)?;
+    push_external(&mut names, &unit.procedures)?;
+    Ok(names)
 }
 
-/// The names of monitors.
-pub fn monitor_names<'a>(alloc: Global, unit: &Unit<'a>) -> Result<Vec<Name<'a>>, AllocError>
-    ensures { IfOk result (λ v. v.items ≡ map (λ m. m.name) unit.now.monitors.items) }
+// The names of members.
+fn member_names<'a>(alloc: Global, members: &[Member<'a>]) -> Result<Vec<Name<'a>>, AllocError>
+    ensures { IfOk result (λ v. v.items ≡ map (λ m. m.name) members.now) }
 {
-    unit.monitors
-        .iter()
-        .map(|monitor| monitor.name)
-        .collect(alloc)
+    let mut names = Vec::new(alloc);
+    for member in members {
+        names.push(member.name)?;
+    }
+    Ok(names)
 }
 
 /// The names of a monitor's members and procedures, which share one scope.
@@ -33,9 +45,33 @@ pub fn monitor_scope<'a>(alloc: Global, monitor: &Monitor<'a>) -> Result<Vec<Nam
     ensures { IfOk result (λ v. v.items
         ≡ map (λ m. m.name) monitor.now.members.items ++ map (λ q. q.procedure.name) monitor.now.procedures.items) }
 {
-    let members = monitor.members.iter().map(|member| member.name);
-    let procedures = monitor.procedures.iter().map(|inner| inner.procedure.name);
-    members.chain(procedures).collect(alloc)
+    let mut names = member_names(alloc, &monitor.members)?;
+    push_inner(&mut names, &monitor.procedures)?;
+    Ok(names)
+}
+
+// The names of parameters.
+fn parameter_names<'a>(
+    alloc: Global,
+    parameters: &[Parameter<'a>],
+) -> Result<Vec<Name<'a>>, AllocError>
+    ensures { IfOk result (λ v. v.items ≡ map (λ p. p.name) parameters.now) }
+{
+    let mut names = Vec::new(alloc);
+    for parameter in parameters {
+        names.push(parameter.name)?;
+    }
+    Ok(names)
+}
+
+// Adds the names of locals.
+fn push_locals<'a>(names: &mut Vec<Name<'a>>, locals: &[Local<'a>]) -> Result<(), AllocError>
+    ensures { OnOk result (names.new.items ≡ names.old.items ++ map (λ l. l.name) locals.now) }
+{
+    for local in locals {
+        names.push(local.name)?;
+    }
+    Ok(())
 }
 
 /// The names of parameters and locals, which share one scope.
@@ -46,9 +82,9 @@ pub fn body_scope<'a>(
 ) -> Result<Vec<Name<'a>>, AllocError>
     ensures { IfOk result (λ v. v.items ≡ map (λ p. p.name) parameters.now ++ map (λ l. l.name) locals.now) }
 {
-    let parameters = parameters.iter().map(|parameter| parameter.name);
-    let locals = locals.iter().map(|local| local.name);
-    parameters.chain(locals).collect(alloc)
+    let mut names = parameter_names(alloc, parameters)?;
+    push_locals(&mut names, locals)?;
+    Ok(names)
 }
 
 /// The members of all monitors.

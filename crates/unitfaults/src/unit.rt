@@ -1,10 +1,10 @@
 // The least fault of a unit.
 
-ghost use Rattle.std.specs.Prelude.{◌≡◌, ◌<◌, IfOk};
+ghost use Rattle.std.specs.Prelude.{◌≡◌, IfOk};
 ghost use Rattle.syntax.specs.Whole.{unit_of};
-ghost use Rattle.callees.specs.Names.{declarations, IsCallees};
+ghost use Rattle.callees.specs.Names.{IsCallees};
 ghost use Rattle.types.specs.Judgement.{all_calls as all_calls_of};
-ghost use Rattle.unitfaults.specs.Verdicts.{IsVerdict};
+ghost use Rattle.types.specs.Verdicts.{IsVerdict};
 
 use crate::bodies::bodies;
 use crate::calls::all_calls;
@@ -34,13 +34,16 @@ fn least_fault(
 }
 
 /// The least fault of a unit, which is its refusal: the one of the earliest place, and of these the one of the lowest
-/// number. `None` where nothing of it is faulty. The only error is that memory runs out. A unit that is read from a text
-/// declares few enough things (`callees::few_declarations`).
-pub fn first_fault(alloc: Global, unit: &Unit<'_>) -> Result<Option<Refusal>, AllocError>
-    requires { declarations (unit_of unit.now) < u32.MAX }
+/// number. `None` where nothing of it is faulty. `callees` is what the unit declares (`Callees::new`). The only error is
+/// that memory runs out.
+pub fn first_fault(
+    alloc: Global,
+    unit: &Unit<'_>,
+    callees: &Callees<'_, '_>,
+) -> Result<Option<Refusal>, AllocError>
+    requires { IsCallees (unit_of unit.now) callees.now }
     ensures { IfOk result (λ r. IsVerdict (unit_of unit.now) r) }
 {
-    let callees = Callees::new(alloc, unit)?;
-    let calls = all_calls(alloc, &callees)?;
-    least_fault(alloc, unit, &callees, &calls)
+    let calls = all_calls(alloc, callees)?;
+    least_fault(alloc, unit, callees, &calls)
 }

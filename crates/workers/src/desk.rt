@@ -1,9 +1,13 @@
-ghost use Rattle.std.specs.Prelude.{◌≡◌, ◌≤◌, ◌<◌, ◌+◌, length, true, Some, None, IfSome, IfNone};
+ghost use Rattle.std.specs.Prelude.{◌≡◌, ◌≤◌, ◌<◌, ◌+◌, length, true, is_some, Some, None, IfSome, IfNone};
 ghost use Rattle.words.specs.Limits.{most_processes};
+ghost use Rattle.machine.specs.ConcreteSteps.{can_move};
+ghost use Rattle.runner.specs.Afters.{IsAfter};
+ghost use Rattle.runner.specs.declared.next.After.TheVariants as AfterOf;
 ghost use Rattle.runner.specs.Views.{log_state};
 ghost use Rattle.workers.specs.Desks.{HasCause};
 
 use crate::seat::Seat;
+use crate::turns::Turns;
 use machine::{Entry, EventName, ThreadSet};
 use runner::{After, Piece, RunFault, RunName, Share, Shared};
 use std::marker::Model;
@@ -50,12 +54,16 @@ impl<J: RunName> Desk<J> {
     }
 
     /// Whether thread `t` can make an entry: it was made, is awake and has not ended.
-    pub fn can_move(&self, t: u32) -> bool {
+    pub fn can_move(&self, t: u32) -> bool
+        ensures { result ≡ can_move (log_state self.now.shared).concrete t }
+    {
         self.shared.machine().can_move(t)
     }
 
     /// Why the run ends before its time, if it does.
-    pub fn fault(&self) -> Option<RunFault> {
+    pub fn fault(&self) -> Option<RunFault>
+        ensures { result ≡ self.now.fault }
+    {
         self.fault
     }
 
@@ -85,41 +93,63 @@ impl<J: RunName> Desk<J> {
         Some((self.started, share))
     }
 
-    /// The piece that thread `t` goes on from, unless it can't move or the run ends before its time.
-    pub fn piece(&self, t: u32) -> Option<Piece<J>> {
-        if self.fault.is_some() {
-            return None;
-        }
-        self.shared.piece(t)
-    }
-
-    /// Takes in what thread `t` did, and says how its worker goes on. Where its entry is refused with `Limit`, that is
-    /// noted on its seat.
-    pub fn hand_in(
-        &mut self,
-        t: u32,
-        piece: &mut Piece<J>,
-        share: &mut Share<J>,
-        seat: &Seat,
-    ) -> After {
+    /// What thread `t` does: where it goes on, its piece begins anew. It ends where the run ends before its time.
+    pub fn next(&self, t: u32, piece: &mut Piece<J>) -> After
+        ensures next { self.now.fault ≡ None → IsAfter (log_state self.now.shared).concrete t piece.new result }
+        ensures ends { is_some self.now.fault ≡ true → result ≡ AfterOf.Ends }
+    {
         if self.fault.is_some() {
             return After::Ends;
         }
-        match self.shared.hand_in(t, piece, share) {
-            Ok(after) => after,
+        self.shared.next(t, piece)
+    }
+
+    /// Takes in the turns of thread `t`, an entry for each, up to one that is refused, and says how its worker goes on.
+    /// Where an entry is refused with `Limit`, that is noted on its seat.
+    pub fn hand_in(
+        &mut self,
+        t: u32,
+        turns: &mut Turns<J>,
+        share: &mut Share<J>,
+        seat: &Seat,
+    ) -> After {
+        for piece in turns.taken() {
+            if let Some(after) = self.enter(t, piece, share, seat) {
+                return after;
+            }
+        }
+        match turns.first() {
+            Some(piece) => self.next(t, piece),
+            None => After::Ends,
+        }
+    }
+
+    // Takes in what thread `t` did, and says how its worker goes on where that is refused.
+    fn enter(
+        &mut self,
+        t: u32,
+        piece: &Piece<J>,
+        share: &mut Share<J>,
+        seat: &Seat,
+    ) -> Option<After> {
+        if self.fault.is_some() {
+            return Some(After::Ends);
+        }
+        match self.shared.enter(t, piece, share) {
+            Ok(()) => None,
             // The thread has gone on without this worker, which goes on from where the thread is.
-            Err(RunFault::Stray | RunFault::CannotMove) => After::Sleeps,
+            Err(RunFault::Stray | RunFault::CannotMove) => Some(After::Sleeps),
             Err(RunFault::Limit) => {
                 seat.refuse();
-                After::Ends
+                Some(After::Ends)
             }
             Err(RunFault::Broken) => {
                 self.fault = Some(RunFault::Broken);
-                After::Ends
+                Some(After::Ends)
             }
             Err(RunFault::Memory) => {
                 self.fault = Some(RunFault::Memory);
-                After::Ends
+                Some(After::Ends)
             }
         }
     }

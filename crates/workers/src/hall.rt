@@ -3,8 +3,9 @@ ghost use Rattle.std.specs.Prelude.{◌≡◌, ◌≤◌, ◌<◌};
 use crate::desk::{Desk, News};
 use crate::lent::Lent;
 use crate::seat::Seat;
+use crate::turns::Turns;
 use crossbeam_utils::CachePadded;
-use runner::{After, Piece, RunFault, RunName, Share};
+use runner::{After, RunName, Share};
 use std::alloc::{AllocError, Global};
 use std::hint::spin_loop;
 use std::sync::{Condvar, Mutex, MutexGuard, Wait};
@@ -47,7 +48,13 @@ impl<J: RunName> Hall<J> {
     }
 
     /// Starts a worker for each thread that is made, and parks in between. It returns when all workers have ended.
-    pub fn start<R: Threads + Wait + Sync, G: Gate>(&self, rt: &R, lent: &Lent<J>, gate: &G)
+    pub fn start<R: Threads + Wait + Sync, G: Gate>(
+        &self,
+        rt: &R,
+        alloc: Global,
+        lent: &Lent<J>,
+        gate: &G,
+    )
     where
         J: Send + Sync,
     {
@@ -56,8 +63,12 @@ impl<J: RunName> Hall<J> {
                 let Some((t, share)) = self.next_worker(rt) else {
                     break;
                 };
+                let Ok(turns) = Turns::new(alloc, t) else {
+                    self.fail(rt);
+                    continue;
+                };
                 let worker = scope.spawn(move || {
-                    let share = self.work(rt, lent, gate, t, share);
+                    let share = self.work(rt, lent, gate, t, turns, share);
                     self.lock(rt).give_back(share);
                 });
                 if worker.is_err() {
@@ -82,34 +93,35 @@ impl<J: RunName> Hall<J> {
         lent: &Lent<J>,
         gate: &G,
         t: u32,
+        turns: Turns<J>,
         share: Share<J>,
     ) -> Share<J> {
+        let mut turns = turns;
         let mut share = share;
         for _ in rt.forever() {
-            let Some(mut piece) = self.piece(rt, t) else {
+            if self.wake(rt, t, &mut turns) != After::Goes {
                 break;
-            };
-            if !self.go_on(rt, lent, gate, t, &mut piece, &mut share) {
+            }
+            if !self.go_on(rt, lent, gate, t, &mut turns, &mut share) {
                 break;
             }
         }
         share
     }
 
-    // Goes on from a piece until its thread sleeps. Answers whether it does: else the worker ends.
+    // Goes on until the thread sleeps. Answers whether it does: else the worker ends.
     fn go_on<R: Wait, G: Gate>(
         &self,
         rt: &R,
         lent: &Lent<J>,
         gate: &G,
         t: u32,
-        piece: &mut Piece<J>,
+        turns: &mut Turns<J>,
         share: &mut Share<J>,
     ) -> bool {
         for _ in rt.forever() {
-            piece.go_on(lent.image);
-            gate.pass(t);
-            match self.hand_in(rt, t, piece, share) {
+            turns.take(lent, gate, t);
+            match self.hand_in(rt, t, turns, share) {
                 After::Goes => {}
                 After::Sleeps => return true,
                 After::Ends => return false,
@@ -118,28 +130,33 @@ impl<J: RunName> Hall<J> {
         false
     }
 
-    // The piece that thread `t` goes on from, once it can move. None where nobody is left to wake it.
-    fn piece<R: Wait>(&self, rt: &R, t: u32) -> Option<Piece<J>> {
-        let seat = self.seats.get(t as usize)?;
+    // Parks until thread `t` can move, or nobody is left to wake it. Then it goes on from the first of its turns.
+    fn wake<R: Wait>(&self, rt: &R, t: u32, turns: &mut Turns<J>) -> After {
+        let Some(seat) = self.seats.get(t as usize) else {
+            return After::Ends;
+        };
         let desk = seat.called().wait_while(rt, self.lock(rt), |desk| {
             !desk.can_move(t) && !self.is_over(desk)
         });
-        desk.piece(t)
+        match turns.first() {
+            Some(piece) => desk.next(t, piece),
+            None => After::Ends,
+        }
     }
 
-    // Takes in what thread `t` did, and calls whom it concerns.
+    // Takes in the turns of thread `t`, and calls whom they concern.
     fn hand_in<R: Wait>(
         &self,
         rt: &R,
         t: u32,
-        piece: &mut Piece<J>,
+        turns: &mut Turns<J>,
         share: &mut Share<J>,
     ) -> After {
         let Some(seat) = self.seats.get(t as usize) else {
             return After::Ends;
         };
         let mut desk = self.lock(rt);
-        let after = desk.hand_in(t, piece, share, seat);
+        let after = desk.hand_in(t, turns, share, seat);
         let news = desk.news();
         let is_over = after != After::Goes && self.is_over(&desk);
         drop(desk);

@@ -7,5 +7,6 @@ mod hall;
 mod lent;
 mod running;
 mod seat;
+mod turns;
 
 pub use running::run;

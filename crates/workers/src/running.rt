@@ -63,7 +63,7 @@ fn run_as<J: RunName + Send + Sync, R: Threads + Wait + Sync, G: Gate>(
         image,
         of: PhantomData,
     };
-    hall.start(rt, &lent, gate);
+    hall.start(rt, alloc, &lent, gate);
     let (shared, fault, mut kept) = hall.into_desk().into_parts();
     if let Some(fault) = fault {
         return Err(fault);

@@ -1,7 +1,7 @@
 use Rattle.std.proofs.Common.{sym, subst}
 use Rattle.syntax.specs.Whole.{unit_of}
 use Rattle.program.specs.WellFormed.{WellFormed}
-use Rattle.unitfaults.specs.Verdicts.{IsVerdict}
+use Rattle.types.specs.Verdicts.{IsVerdict}
 use Rattle.checker.proofs.checking.check.Goals as goal
 
 pub new-requires-2 : goal.new-requires-2

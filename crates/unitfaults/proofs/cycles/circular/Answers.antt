@@ -31,6 +31,7 @@ loop-number-preserved-then-not-is_named c =
 pub loop-number-preserved : goal.loop-number-preserved
 loop-number-preserved c =
     let cs = c.args.calls.now in
+    let graph = c.in_ok-graph.ensures.graph in
     let n = c.loop-number.number in
     let q = piece_of c.index-pieces-number.result in
     let before = take n (map piece_of c.args.pieces.now) in
@@ -40,6 +41,7 @@ loop-number-preserved c =
     let within : n < length c.in_ok-endless.endless.items = omega (
       arith,
       c.in_ok-endless.ensures.len,
+      c.in_ok-graph.ensures.len,
       c.in_ok-endless.endless.ok.0,
     ) in
     let mark : slice_index_or c.in_ok-endless.endless.items n false ≡ c.index.result.now =
@@ -51,9 +53,9 @@ loop-number-preserved c =
       | then-index+in_ok-least w ↦ subst after (sym w.least-is)
           (step w.in_ok-least.least here c.index-pieces-number.is c.loop-number.invariant
           (endless_step cs before q n c.loop-number.least w.in_ok-least.least same named
-          (λ k. c.in_ok-endless.ensures.every n k (mark ∙ w.if-index.true)) w.in_ok-least.ensures))
+          (λ k. c.in_ok-endless.ensures.every cs graph n k (mark ∙ w.if-index.true)) (w.in_ok-least.ensures cs graph)))
       | else-index w ↦
-          let ends = c.in_ok-endless.ensures.ends n here (mark ∙ w.if-index.false) in
+          let ends = c.in_ok-endless.ensures.ends cs graph n (omega (arith, here, c.in_ok-graph.ensures.len)) (mark ∙ w.if-index.false) in
           let far : n < length c.in_ok-long.long.items = omega
           (arith, c.in_ok-long.ensures.len, c.in_ok-long.long.ok.0) in
           let long = sym (get_or_read c.in_ok-long.long.items n w.index-else-index.result.now far

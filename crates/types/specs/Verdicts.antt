@@ -6,7 +6,11 @@ use Rattle.scanner.specs.declared.refusal.RefusalKind.{RefusalKind}
 use Rattle.syntax.specs.Tree.{UnitTree}
 use Rattle.types.specs.Judgement.{IsFaulty, IsRefusalOf}
 
--- its refusal, none where nothing of it is faulty
+-- nothing is faulty at any place
+abbrev pub IsFaultless : UnitTree → Type 0
+IsFaultless u = (place : Place) (kind : RefusalKind) → IsFaulty u place kind → ⊥
+
+-- its refusal, none where it is faultless
 abbrev pub IsVerdict : UnitTree → Option Refusal → Type 0
-IsVerdict u None = (place : Place) (kind : RefusalKind) → IsFaulty u place kind → ⊥
+IsVerdict u None = IsFaultless u
 IsVerdict u (Some e) = IsRefusalOf u e

@@ -4,7 +4,7 @@ use Rattle.machine.specs.Views.{concrete}
 use Rattle.runner.specs.Views.{PieceView, LogState, SharedView, log_state}
 use Rattle.runner.specs.Entries.{IsFine}
 use Rattle.runner.proofs.Growing.{entry, keeps}
-use Rattle.runner.proofs.shared.Shared.hand_in.Goals as goal
+use Rattle.runner.proofs.shared.Shared.enter.Goals as goal
 
 pub invariant_of-self-2 : goal.invariant_of-self-2
 invariant_of-self-2 g c =
@@ -38,3 +38,20 @@ invariant_of-self-2 g c =
         parts = counted.parts;
       },
     )
+
+pub returns-clause-legal : goal.returns-clause-legal
+returns-clause-legal g c =
+    let s = c.self.inside in
+    let p = g.J.RunName.program in
+    let limit = g.J.RunName.limit in
+    let h : LogState = record { log = s.log.items; concrete = concrete s.machine } in
+    let i = c.piece.inside in
+    let a : PieceView = record { thread = i.thread; origin = i.origin; here = i.here; count = i.count } in
+    let fine : IsFine p limit h c.args.t a =
+    subst (λ (x : PieceView). IsFine p limit h c.args.t x) (sym c.piece.view_is)
+    (subst (λ (x : SharedView). IsFine p limit (log_state x) c.args.t c.args.piece.now)
+    (sym c.self.view_is) c.in_default.ensures.none) in
+    (keeps p s.machine.program c.enter.new.machine.program limit h c.enter.new.log.items
+    (concrete c.enter.new.machine) a c.args.t s.steps s.limit c.from.result c.in-Ok.event
+    c.in-Ok.ensures.program c.self.invariant.0 c.piece.invariant.0 fine c.in-Ok.ensures.gives
+    c.in-Ok.ensures.log (c.from.ensures ∙ ap bool_byte c.is_some.ensures)).legal

@@ -1,0 +1,109 @@
+-- Steps that are taken one by one, each an entry of its own.
+use Rattle.std.proofs.Common.{◌≡◌, ℕ, ◌+◌, ◌<◌, ◌≤◌, ◌^◌, List, [], ◌∷◌, ◌++◌, map, take, length}
+use Rattle.std.proofs.Common.{Bool, true, false, is_ok, is_err, if◌then◌else◌, Some, Result, Ok, Err}
+use Rattle.std.proofs.Common.{refl, ap, sym, ◌∙◌, subst, arith, get_or, inr}
+use Rattle.std.specs.List.{All}
+use Rattle.std.proofs.lemmas.List.{take_more, take_all}
+use Rattle.std.proofs.lemmas.List.Elements.{All-append, All-cons, All-nil}
+use Rattle.std.proofs.lemmas.Option.{slice_get-get_or}
+use Rattle.isa.specs.Programs.{Program}
+use Rattle.locals.specs.Threads.{Thread}
+use Rattle.locals.specs.Steps.{local_after}
+use Rattle.machine.specs.declared.event.Entry.{Entry}
+use Rattle.machine.specs.declared.event.StepFault.{StepFault}
+use Rattle.machine.specs.declared.event.StepFault.TheVariants.{CannotMove, Broken}
+use Rattle.machine.specs.States.{ConcreteState, thread_of, opening_concrete}
+use Rattle.machine.specs.ConcreteSteps.{step_of, put_thread, can_move}
+use Rattle.machine.specs.Views.{View, concrete}
+use Rattle.machine.proofs.Refusing.{refuses_so, moves_so}
+use Rattle.runner.specs.declared.report.Report.{Report}
+use Rattle.runner.specs.declared.schedule.ScheduleFault.{ScheduleFault}
+use Rattle.runner.specs.Logs.{Enters}
+use Rattle.runner.specs.Reports.{IsVerdict}
+use Rattle.runner.specs.Schedules.{FailsAt, Follows, IsFollowed, IsOneStep, Refuses}
+use Rattle.runner.proofs.Going.{runs_more}
+use Rattle.runner.proofs.Unrolling.{put_back}
+
+map_more : (log : List Entry) (e : Entry) → map (λ (x : Entry). x.thread) (log ++ e ∷ [])
+    ≡ map (λ (x : Entry). x.thread) log ++ e.thread ∷ []
+map_more [] e = refl
+map_more (x ∷ xs) e = ap (λ ts. x.thread ∷ ts) (map_more xs e)
+
+single_more : (log : List Entry) (e : Entry) → All IsOneStep log → IsOneStep e → All IsOneStep (log ++ e ∷ [])
+single_more log e all one =
+    All-append IsOneStep log (e ∷ []) all (All-cons IsOneStep e [] one (All-nil IsOneStep))
+
+-- an entry that was pushed stands at the end
+pub pushed : {A E : Type 0} (r : Result A E) (b : Bool) (new old : List Entry) (e : Entry) → b ≡ is_err r → b ≡ false
+    → new ≡ (if is_ok r then old ++ e ∷ [] else old) → new ≡ old ++ e ∷ []
+pushed (Ok x) b new old e is ended items = items
+pushed (Err x) b new old e is ended items = absurd cc
+
+-- one entry more
+pub follows_more : (p q : Program) (schedule : List ℕ) (i t : ℕ) (log log' : List Entry) (k k' : ConcreteState)
+    (e : Entry) → i < length schedule → get_or schedule i 0 ≡ t → q ≡ p → Follows p (take i schedule) log k
+    → Enters q k e k' → e.thread ≡ t → IsOneStep e → log' ≡ log ++ e ∷ [] → Follows p (take (i + 1) schedule) log' k'
+follows_more p q schedule i t log log' k k' e inside names same f enters is one grows =
+    let entered : Enters p k e k' = (let P : Program → Type 0 = λ z. Enters z k e k' in subst P same enters) in
+    let next : take (i + 1) schedule ≡ take i schedule ++ e.thread ∷ [] =
+    take_more schedule i 0 inside ∙ ap (λ (n : ℕ). take i schedule ++ n ∷ []) (names ∙ sym is) in
+    let all : Follows p (take i schedule ++ e.thread ∷ []) (log ++ e ∷ []) k' = record {
+      legal = runs_more p (opening_concrete p) k k' log e f.legal entered;
+      threads = map_more log e ∙ ap (λ ts. ts ++ e.thread ∷ []) f.threads;
+      single = single_more log e f.single one;
+    } in
+    subst (λ (ts : List ℕ). Follows p ts log' k') (sym next)
+    (subst (λ (es : List Entry). Follows p (take i schedule ++ e.thread ∷ []) es k') (sym grows) all)
+
+-- the entry that is refused
+pub fails_at : (p q : Program) (schedule : List ℕ) (i number t : ℕ) (log : List Entry) (k : ConcreteState)
+    (fault : ScheduleFault) → i < length schedule → get_or schedule i 0 ≡ t → i < 2 ^ 32 → number ≡ i + 1 → q ≡ p
+    → Follows p (take i schedule) log k → Refuses q k number t fault → FailsAt p schedule fault
+fails_at p q schedule i number t log k fault inside names few is same f refuses =
+    inr (
+      i,
+      k,
+      t,
+      record {
+        log = log;
+        follows = f;
+        few = few;
+        names = slice_get-get_or schedule i 0 inside ∙ ap (λ (n : ℕ). Some n) names;
+      },
+      (let P : ℕ → Type 0 = λ n. Refuses p k n t fault in
+          subst P is (let Q : Program → Type 0 = λ z. Refuses z k number t fault in subst Q same refuses)),
+    )
+
+-- the report of a schedule that was followed to its end
+pub followed : (p : Program) (schedule : List ℕ) (i : ℕ) (log : List Entry) (last : View) (r : Report)
+    → length schedule ≤ i → i ≤ length schedule → i < 2 ^ 32 → Follows p (take i schedule) log (concrete last)
+    → last.program ≡ p → r.log.items ≡ log → r.last ≡ last → r.output.items ≡ last.output
+    → IsVerdict (concrete last) r.verdict → IsFollowed p schedule r
+followed p schedule i log last r past inside few f program logged same output verdict =
+    let all : Follows p schedule log (concrete last) = subst (λ (ts : List ℕ). Follows p ts log (concrete last))
+    (take_all i schedule past) f in
+    let of_log : Follows p schedule r.log.items (concrete last) = subst
+    (λ (es : List Entry). Follows p schedule es (concrete last)) (sym logged) all in
+    record {
+      follows = subst (λ (v : View). Follows p schedule r.log.items (concrete v)) (sym same) of_log;
+      few = omega arith;
+      program = ap (λ (v : View). v.program) same ∙ program;
+      output = output ∙ ap (λ (v : View). v.output) (sym same);
+      verdict = subst (λ (v : View). IsVerdict (concrete v) r.verdict) (sym same) verdict;
+    }
+
+-- a thread that can move is refused its step only where that may not be
+only_broken : (p : Program) (k : ConcreteState) (t : ℕ) (f : StepFault) → can_move k t ≡ true → step_of p k t ≡ Err f
+    → step_of p k t ≡ Err Broken
+only_broken p k t Broken moves fails = fails
+only_broken p k t CannotMove moves fails = absurd ((refuses_so p k t).0 fails ((moves_so k t).0 moves))
+
+-- a step after no local step is refused
+pub breaks_alone : (p q : Program) (k mid : ConcreteState) (t n : ℕ) (o here : Thread) (f : StepFault)
+    → can_move k t ≡ true → thread_of k t ≡ Some o → local_after p t n o ≡ Some here → n ≤ 0
+    → q ≡ p → mid ≡ put_thread k t here → step_of q mid t ≡ Err f → step_of p k t ≡ Err Broken
+breaks_alone p q k mid t n o here f moves stands goes none is there fails =
+    let n0 : n ≡ 0 = omega arith in
+    let e : Some o ≡ Some here = subst (λ (j : ℕ). local_after p t j o ≡ Some here) n0 goes in
+    let back : mid ≡ k = there ∙ put_back k t here (stands ∙ e) in
+    only_broken p k t f moves (sym (λ i. step_of (is i) (back i) t) ∙ fails)

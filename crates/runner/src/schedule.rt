@@ -1,0 +1,99 @@
+ghost use Rattle.std.specs.Prelude.{◌≡◌, ◌<◌, ◌≤◌, ◌^◌, true, IfOk, IfErr, OnErr, Err};
+ghost use Rattle.machine.specs.declared.event.StepFault.TheVariants.{Broken};
+ghost use Rattle.machine.specs.ConcreteSteps.{step_of, can_move};
+ghost use Rattle.machine.specs.Views.{concrete};
+ghost use Rattle.runner.specs.Logs.{Enters};
+ghost use Rattle.runner.specs.declared.schedule.ScheduleFault.TheVariants.{Memory};
+ghost use Rattle.runner.specs.Schedules.{FailsAt, IsFollowed, IsOneStep, Refuses};
+
+use crate::report::{Report, report_of};
+use isa::Image;
+use machine::{Entry, Machine, StepFault};
+use std::alloc::{AllocError, Global};
+use thiserror::Error;
+use words::MOST_PROCESSES;
+
+// How many buckets its sleepers are kept in: one for each thread that there can be.
+const BUCKETS: u32 = MOST_PROCESSES;
+
+/// Why a schedule is not followed to its end. Its entries are numbered from 1.
+#[derive(Clone, Copy, PartialEq, Eq, Debug, Error)]
+pub enum ScheduleFault {
+    /// The entry of this number names a thread that can't move, or its number is past 4294967295.
+    #[error("schedule entry {0}")]
+    BadEntry(u64),
+    /// The step of the thread that the entry of this number names may not be.
+    #[error("schedule entry {0}: fault 4")]
+    Broken(u64),
+    /// There is no memory for the run.
+    #[error("memory")]
+    Memory,
+}
+
+impl From<AllocError> for ScheduleFault {
+    ghost from_gives = { λ _ f. f ≡ Memory };
+
+    fn from(_error: AllocError) -> ScheduleFault {
+        ScheduleFault::Memory
+    }
+}
+
+/// Runs an image by a schedule: for each of its numbers the thread of that number takes one step of the machine, local
+/// or shared, which is an entry of the log.
+///
+/// The verdict is Limit where some thread can still move. The first entry whose thread can't take its step is refused.
+pub fn follow(alloc: Global, image: &Image, schedule: &[u32]) -> Result<Report, ScheduleFault>
+    ensures ok { IfOk result (λ report. IsFollowed image.now schedule.now report) }
+    ensures err { IfErr result (λ fault. FailsAt image.now schedule.now fault) }
+{
+    let mut machine = Machine::new(alloc, image, BUCKETS)?;
+    let mut log = Vec::new(alloc);
+    let mut number: u64 = 0;
+    for thread in schedule {
+        number += 1;
+        let entry = take_turn(&mut machine, number, *thread)?;
+        if log.push(entry).is_err() {
+            return Err(ScheduleFault::Memory);
+        }
+    }
+    Ok(report_of(alloc, log, machine)?)
+}
+
+// Takes the step of the thread that the entry of this number names.
+fn take_turn(machine: &mut Machine, number: u64, t: u32) -> Result<Entry, ScheduleFault>
+    ensures ok { IfOk result (λ e. Enters machine.old.program (concrete machine.old) e (concrete machine.new)
+        × (e.thread ≡ t) × IsOneStep e × (number < 2 ^ 32)) }
+    ensures err { IfErr result (λ fault. Refuses machine.old.program (concrete machine.old) number t fault) }
+    ensures program { machine.new.program ≡ machine.old.program }
+{
+    if number > u64::from(u32::MAX) || !machine.can_move(t) {
+        return Err(ScheduleFault::BadEntry(number));
+    }
+    machine.make_room(1)?;
+    take_step(machine, t).map_err(|_| ScheduleFault::Broken(number))
+}
+
+// Takes a step of thread `t`, which is an entry of its own. It is refused where the step may not be.
+fn take_step(machine: &mut Machine, t: u32) -> Result<Entry, StepFault>
+    requires thread { can_move (concrete machine.old) t ≡ true }
+    requires room { 1 ≤ machine.old.room }
+    ensures ok { IfOk result (λ e. Enters machine.old.program (concrete machine.old) e (concrete machine.new)
+        × (e.thread ≡ t) × IsOneStep e) }
+    ensures err { OnErr result (step_of machine.old.program (concrete machine.old) t ≡ Err Broken) }
+    ensures program { machine.new.program ≡ machine.old.program }
+{
+    let local = machine.run_local(t, 1);
+    if local > 0 {
+        return Ok(Entry {
+            thread: t,
+            local,
+            event: None,
+        });
+    }
+    let event = machine.step(t)?;
+    Ok(Entry {
+        thread: t,
+        local: 0,
+        event: Some(event),
+    })
+}
