@@ -19,3 +19,4 @@ pub mod Local
 pub mod Starting
 pub mod Acting
 pub mod Resting
+pub mod Ending
