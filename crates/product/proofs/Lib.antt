@@ -20,3 +20,4 @@ pub mod Starting
 pub mod Acting
 pub mod Resting
 pub mod Ending
+pub mod Opening
