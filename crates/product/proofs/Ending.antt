@@ -190,6 +190,100 @@ module _ (p : Program) (w : WellFormed p) (steps : ℕ) (s : State) (c : SourceS
       (dying_chain k.world c.table t (Faulted fault) NoEntry inv point) (same_puts c.process t _ proc) tt refl
       (inr enough) moves
 
+  -- the state of the machine, and the words of the world, after a return
+  abbrev returned_state : Option ℕ → State
+  returned_state None = with_outcome s t 16
+  returned_state (Some v) = with_outcome (with_word s (process_word t 4) v) t 16
+
+  abbrev returned_world : Option ℕ → World
+  returned_world r = record k.world {
+    result = put k.world.result t (result_after r (k.world.result t));
+    outcome = put k.world.outcome t 16;
+  }
+
+  returned_shares : (r : Option ℕ) → Shares (place p) (valid p) (shared_of (returned_state r)) (returned_world r)
+  returned_shares None =
+      shares_stored (place p) (valid p) (apart p) (shared_of s) (record k.world {
+        result = put k.world.result t (k.world.result t);
+      }) (OutcomeOf t) 16 valid_t (shares_result (place p) (valid p) (shared_of s) k.world t k.shares)
+  returned_shares (Some v) =
+      shares_stored (place p) (valid p) (apart p) (shared_of (with_word s (process_word t 4) v))
+      (write k.world (ResultOf t) v) (OutcomeOf t) 16 valid_t
+      (shares_stored (place p) (valid p) (apart p) (shared_of s) k.world (ResultOf t) v valid_t k.shares)
+
+  returned_words : (r : Option ℕ) (m : Member) (i : ℕ) → IsVariable p m i
+      → (returned_state r).word (variable_address p m i) ≡ s.word (variable_address p m i)
+  returned_words None m i is = other_word s.word 16 m i is
+  returned_words (Some v) m i is =
+      other_word (put s.word (process_word t 4) v) 16 m i is ∙ other_result s.word v m i is
+
+  returned_size : (r : Option ℕ) → (returned_state r).size ≡ s.size
+  returned_size None = refl
+  returned_size (Some v) = refl
+
+  returned_made : (r : Option ℕ) → (returned_state r).made ≡ s.made
+  returned_made None = refl
+  returned_made (Some v) = refl
+
+  returned_output : (r : Option ℕ) → (returned_state r).output ≡ s.output
+  returned_output None = refl
+  returned_output (Some v) = refl
+
+  returned_thread : (r : Option ℕ) → (returned_state r).thread ≡ s.thread
+  returned_thread None = refl
+  returned_thread (Some v) = refl
+
+  result_fits : (r : Option ℕ) → IsResult r → (u : ℕ) → put k.world.result t (result_after r (k.world.result t)) u < 2 ^ 32
+  result_fits None fits u = at_put k.world.result t (k.world.result t) u (λ x. x < 2 ^ 32) (λ e. k.words t)
+      (λ o. k.words u)
+  result_fits (Some v) fits u = at_put k.world.result t v u (λ x. x < 2 ^ 32) (λ e. fits) (λ o. k.words u)
+
+  -- the machine's answer is the head, whatever is returned
+  return_moves : (r : Option ℕ) → Moves s t woken (Asks (return_request r) first_exit) s'
+      → s' ≡ with_thread (returned_state r) t (Exits phase)
+  return_moves None g = g.3 ∙ ap (λ (x : State). with_thread x t (first_exit g.0)) g.2.1.1
+      ∙ ap (λ a. with_thread (returned_state None) t (first_exit a)) (g.2.1.0 ∙ head_word)
+  return_moves (Some v) g = g.3 ∙ ap (λ (x : State). with_thread x t (first_exit g.0)) g.2.1.1
+      ∙ ap (λ a. with_thread (returned_state (Some v)) t (first_exit a)) (g.2.1.0 ∙ head_word)
+
+  result_end : (r : Option ℕ) → k.world.result t ≡ 0 → returned_end k.world t r ≡ Ended (left_value r)
+  result_end None e = ap (λ (x : ℕ). Ended (signed_of x)) e
+  result_end (Some v) e = refl
+
+  -- the first procedure returns, and the exit begins; threads stand as `at` says before that
+  by_return : (r : Option ℕ) (at : ℕ → Place) (f : ℕ → Option Process) (kinds : List Kind) → IsResult r → l ≡ []
+      → Reached (record k.world { at = at }) c.table → (at t).point ≡ Runs → (at t).list ≡ l
+      → ((y : Place) → put at t y ≡ put k.world.at t y) → (k.world.at t).point ≡ Runs
+      → Puts c.process f t (Some (Leaving (left_value r))) → AreOwn kinds
+      → Leads p c (map (act t) kinds) (record c { process = f }) → IsSome kinds ⊎ (3 < n)
+      → Moves s t woken (Asks (return_request r) first_exit) s' → Next p w steps s' t pauses n c
+  by_return r at f kinds fits none reached stands list same point ps own leads paced g =
+      let end = Ended (left_value r) in
+      let pt = Walks first NoEntry end in
+      let w1 = record k.world { at = at } in
+      let m = Return r in
+      let can : Can w1 t m = record { number = number; awake = awake; stands = stands; finds = tt } in
+      let w2 = returned_world r in
+      let blank : k.world.result t ≡ 0 = k.blank t (subst (λ (i : Point). IsBefore i) (sym point) tt) in
+      let is : after w1 t m ≡ go_list w2 t pt l =
+      ap (λ (h : List ℕ). go_list (record w2 { at = at }) t (Walks first NoEntry (returned_end k.world t r)) h) list
+      ∙ ap (λ (h : End). go_list (record w2 { at = at }) t (Walks first NoEntry h) l) (result_end r blank)
+      ∙ ap (λ (h : ℕ → Place). record w2 { at = h }) (same (thread_at pt l)) in
+      begins_exit end (returned_state r) w2 f kinds none (running_chain k.world c.table t inv point)
+      (subst (λ (x : World). Reached x c.table) is (reached_on w1 c.table t m reached can))
+      (returned_shares r) (returned_size r) (returned_made r ∙ k.made) refl (returned_output r) (returned_thread r)
+      (λ d i h. returned_words r d i h) refl (result_fits r fits)
+      (λ u o. put_other k.world.result t (result_after r (k.world.result t)) u o) refl ps own leads paced
+      (return_moves r g)
+
+  -- a thread whose process leaves already
+  pub returns_step : (r : Option ℕ) (x : Thread) → IsResult r → (k.world.at t).point ≡ Runs → l ≡ []
+      → c.process t ≡ Some (Leaving (left_value r)) → look (code_of p) t x ≡ Asks (return_request r) first_exit
+      → 3 < n → Moves s t woken (look (code_of p) t x) s' → Next p w steps s' t pauses n c
+  returns_step r x fits point none proc h enough moves = by_return r k.world.at c.process [] fits none k.reached point
+      refl (λ y. refl) point (same_puts c.process t _ proc) tt refl (inr enough)
+      (subst (λ (i : Look). Moves s t woken i s') h moves)
+
   module _ (q : Process) (proc : c.process t ≡ Some q) (point : (k.world.at t).point ≡ Runs) (list : l ≡ holds q) where
     takes_up : (label : Label) (r : Process) → offer p c.variable q ≡ Does label Nothing r
         → TakesUp (offer p c.variable q) label Nothing r
@@ -214,3 +308,24 @@ module _ (p : Program) (w : WellFormed p) (steps : ℕ) (s : State) (c : SourceS
         (acted c t Nothing r c.table, action p c t q r (Alone (L.Fails fault)) Nothing c.table proc
         (takes_up (Alone (L.Fails fault)) r o') (permitted k.world c.table t move inv can).0, refl)
         (inl tt) (subst (λ (i : Thread). Moves s t woken (look (code_of p) t i) s') e moves)
+
+    -- a thread whose process leaves with this step
+    pub leaves_step : (r : Option ℕ) (x : Thread) → IsAtWork p q c.variable → IsResult r
+        → look (code_of p) t x ≡ Asks (return_request r) first_exit
+        → offer p c.variable q ≡ Does (Alone L.Return) Nothing (Leaving (left_value r))
+        → Moves s t woken (look (code_of p) t x) s' → Next p w steps s' t pauses n c
+    leaves_step r x work fits h o moves =
+        let move = Own (Alone L.Return) in
+        let can : Can k.world t move = record { number = number; awake = awake; stands = point; finds = tt } in
+        let after' = Leaving (left_value r) in
+        let takes = takes_up (Alone L.Return) after' o in
+        let none : l ≡ [] = list ∙ sym (work.keeps (Alone L.Return) Nothing after' tt takes) in
+        let z = thread_at Runs l in
+        by_return r (put k.world.at t z) (put c.process t (Some after')) (L.Return ∷ []) fits none
+        (reached_on k.world c.table t move k.reached can)
+        (ap (λ (i : Place). i.point) (put_same k.world.at t z))
+        (ap (λ (i : Place). i.list) (put_same k.world.at t z)) (λ y. put_put k.world.at t z y) point
+        (put_puts c.process t (Some after')) (tt, tt)
+        (acted c t Nothing after' c.table, action p c t q after' (Alone L.Return) Nothing c.table proc takes
+        (permitted k.world c.table t move inv can).0, refl)
+        (inl tt) (subst (λ (i : Look). Moves s t woken i s') h moves)
