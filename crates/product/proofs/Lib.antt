@@ -21,3 +21,4 @@ pub mod Acting
 pub mod Resting
 pub mod Ending
 pub mod Opening
+pub mod Claiming
