@@ -1,5 +1,5 @@
 -- How many steps a thread has left at most.
-use Rattle.std.proofs.Common.{◌≡◌, ℕ, zero, suc, ◌+◌, ◌*◌, ◌<◌, ◌≤◌, ◌==◌, Bool, true, false, List, Option, arith}
+use Rattle.std.proofs.Common.{ℕ, zero, suc, ◌+◌, ◌<◌, ◌≤◌, ◌==◌, Bool, true, false, List, Option, arith}
 use Rattle.std.specs.Prelude.{if◌then◌else◌}
 use Rattle.locals.specs.Threads.{Thread}
 use Rattle.program.specs.Trees.{Program}

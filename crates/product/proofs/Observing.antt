@@ -1,5 +1,5 @@
 -- What is seen of states that belong together: no broken step, the same ends.
-use Rattle.std.proofs.Common.{◌≡◌, ◌≢◌, ℕ, zero, suc, ◌<◌, ◌≤◌, Bool, true, false, List, [], ◌∷◌, length, Option, Some, None, refl, ap, sym, ◌∙◌, subst, arith, ℤ, pos}
+use Rattle.std.proofs.Common.{◌≡◌, ◌≢◌, ℕ, zero, suc, ◌<◌, ◌≤◌, Bool, true, false, List, [], ◌∷◌, length, Option, Some, None, refl, ap, sym, ◌∙◌, subst, arith, pos}
 use Rattle.std.specs.Prelude.{if◌then◌else◌}
 use Rattle.words.specs.declared.outcome.Fault.{Fault}
 use Rattle.words.specs.declared.outcome.Fault.TheVariants.{ResultOutOfRange, DivisionByZero, IndexOutOfRange, HandleNotJoinable, ProcessTableFull, AbortStatement, AbandonedMonitor, JoinedAborted}
@@ -8,27 +8,25 @@ use Rattle.words.specs.Process.{process_word}
 use Rattle.robustexit.specs.declared.phase.ExitPhase.{ExitPhase}
 use Rattle.robustexit.specs.declared.phase.ExitPhase.TheVariants.{Entry, Pending, ClearId, LastWake, Ended as Ended'}
 use Rattle.locals.specs.Threads.{Thread, Runs as Runs', Dies as Dies', Exits as Exits'}
-use Rattle.locals.specs.Looks.{Request, Look, Goes, Asks, look, first_exit}
-use Rattle.locals.specs.Looks as M
+use Rattle.locals.specs.Looks.{Request, Look, Goes, Asks, look}
 use Rattle.machine.specs.States.{State}
 use Rattle.machine.specs.AbstractServing.{Lies, IsUnserved}
 use Rattle.machine.specs.Runs.{IsBroken, NextIsBroken, has_ended}
 use Rattle.isa.specs.Programs.{memory_size}
-use Rattle.program.specs.declared.kinds.Member.{Member}
 use Rattle.program.specs.declared.kinds.Role.{Role}
 use Rattle.program.specs.declared.kinds.Role.TheVariants.{Recover, Main}
 use Rattle.program.specs.Scope.{recover_of}
 use Rattle.program.specs.Trees.{Block, Done, Then, Return, Part, NoPart, SomePart, Program, followed_by}
 use Rattle.program.specs.WellFormed.{WellFormed}
 use Rattle.code.specs.Pieces.{code_of}
-use Rattle.meaning.specs.Labels.{Cause, Faulted, Killed, End, Ended, Aborted}
+use Rattle.meaning.specs.Labels.{Faulted, Killed, End, Ended, Aborted}
 use Rattle.meaning.specs.Values.{Variables}
 use Rattle.meaning.specs.Processes.{Frame, Caller, Process, Entering, Before, Suspended, Joining, Returning, Failing, Dying, Leaving, Over, goes_on_by, goes_on, with_result, recovers, recovers_by, holds, callers_monitors}
-use Rattle.meaning.specs.Offers.{Offer, Rests, joined, offer}
+use Rattle.meaning.specs.Offers.{Rests, joined, offer}
 use Rattle.meaning.specs.States.{SourceState}
 use Rattle.protocol.specs.Carries.{has_died}
-use Rattle.protocol.specs.Points.{NoEntry, Point, Unmade, Runs, Walks, ClearsId, LastWakes, HasEnded, GotReads, GotLinks, GotHeads, GotUnpends, WaitReads, LeavePends, LeaveReads, LeaveHeads, LeaveSwaps}
-use Rattle.protocol.specs.World.{World, mem}
+use Rattle.protocol.specs.Points.{NoEntry, Point, Unmade, Runs, Walks, LastWakes, HasEnded, GotReads, GotLinks, GotHeads, GotUnpends, WaitReads, LeavePends, LeaveReads, LeaveHeads, LeaveSwaps}
+use Rattle.protocol.specs.World.{mem}
 use Rattle.protocol.specs.Cells.{Cell, SequenceOf, LockOf, OutcomeOf, cell_of}
 use Rattle.protocol.specs.Requests.{request}
 use Rattle.protocol.specs.Requests as P
@@ -38,8 +36,8 @@ use Rattle.protocol.specs.Runs.{IsOver, Goes as GoesOn}
 use Rattle.protocol.proofs.Good.{Good}
 use Rattle.protocol.proofs.Rest.{matches}
 use Rattle.protocol.proofs.Processes.{is_made, point_made}
-use Rattle.execution.specs.Variables.{IsVariable, variable_address}
-use Rattle.execution.specs.Walks.{View, WalksWithin, Walks as WalkData, Reads, stays, goes, loads, empty_view}
+use Rattle.execution.specs.Variables.{variable_address}
+use Rattle.execution.specs.Walks.{View, WalksWithin, Walks as WalkData, stays, goes, loads, empty_view}
 use Rattle.execution.specs.Following.{Build, own_of}
 use Rattle.execution.specs.Completing.{Completes, return_request, view_of}
 use Rattle.execution.specs.Completing as F
@@ -53,7 +51,6 @@ use Rattle.templates.specs.Locking as L
 use Rattle.templates.specs.Notifying.{NotifiesAt, BroadcastsAt}
 use Rattle.templates.specs.Notifying as N
 use Rattle.templates.specs.Inside.{Template, Enters, Exits, Waits, Notifies, Broadcasts, taken, taking_process, releasing_process, process_at, StandsIn, first_thread, first_point, Fits, IsSteady}
-use Rattle.templates.specs.Templates.{Begins, Follows}
 use Rattle.templates.proofs.Follows.{follows}
 use Rattle.templates.proofs.Begins.{begins}
 use Rattle.templates.proofs.Layouts.{valid_lies, word_lies, number_is}
@@ -285,6 +282,9 @@ module _ (p : Program) (w : WellFormed p) (s : State) (size : s.size ≡ memory_
   word_there : (u i : ℕ) → 0 < u → u ≤ 64 → i ≤ 5 → (Lies s (process_word u i) → ⊥) → ⊥
   word_there u i some few less = lies (process_word u i) (process_word u i) refl (word_lies p u i some few less)
 
+  child_there : (u i : ℕ) → 0 < u → u ≤ made → i ≤ 5 → (Lies s (process_word u i) → ⊥) → ⊥
+  child_there u i some below less = word_there u i some (omega (arith, below, few_all)) less
+
   abbrev view : Option ℕ → Variables → View
   view own v = record { program = p; own = own; variables = v }
 
@@ -356,7 +356,8 @@ module _ (p : Program) (w : WellFormed p) (s : State) (size : s.size ≡ memory_
     completes_busy v x q listed steady (F.claims child go is made' most h o j to bad) =
         asks _ go h (word_there child 3 is most (omega arith))
     completes_busy v x q listed steady (F.faults fault e o) = asks _ _ (ap (look (code_of p) t) e) (λ z. z)
-    completes_busy v x q listed steady (F.enters {m = m} {f = f} {cs = cs} {l = l} {fs = fs} base e is below held code after) =
+    completes_busy v x q listed steady (F.enters {m = m} {f = f} {cs = cs} {l = l} {fs = fs} base e is below held
+        code after) =
         begins_busy v (Enters m base l fs f cs) x is
         (record { monitor = below; held = held; code = code; after = after })
     completes_busy v x q listed steady (F.exits {z = z} {cs = cs} {l = l} {fs = fs} m base shown o held is code after) =
@@ -369,8 +370,8 @@ module _ (p : Program) (w : WellFormed p) (s : State) (size : s.size ≡ memory_
           code = code;
           after = after;
         })
-    completes_busy v x q listed steady (F.waits {f = f} {cs = cs} {l = l} {fs = fs} {ms = ms} c base is o had own held e code
-        after) =
+    completes_busy v x q listed steady (F.waits {f = f} {cs = cs} {l = l} {fs = fs} {ms = ms} c base is o had own
+        held e code after) =
         begins_busy v (Waits c base l fs q f cs ms) x e (record {
           condition = is;
           offers = o;
@@ -415,14 +416,16 @@ module _ (p : Program) (w : WellFormed p) (s : State) (size : s.size ≡ memory_
     seen v o q pt l listed (S.faults {x = x} fault left few' k) =
         busy (steps_busy left x (Dies' fault) k (asks _ _ refl (λ z. z))) refl
     seen v o q pt l listed (S.reads {child = child} {x = x} left few' is j k) =
-        busy (steps_busy left x j.reads k (asks _ _ j.read (word_there child 2 is.some (omega (arith, is.made, few_all)) (omega arith)))) refl
+        busy (steps_busy left x j.reads k (asks _ _ j.read (child_there child 2 is.some is.made (omega arith)))) refl
     seen v o q pt l listed (S.sleeps {child = child} {x = x} left few' is j k) =
-        busy (steps_busy left x j.sleeps k (asks _ _ j.sleep (word_there child 2 is.some (omega (arith, is.made, few_all)) (omega arith)))) refl
-    seen v o q pt l listed (S.learns {child = child} {end = end} {x = x} {into = i} {part = y} {f = f} {cs = cs} left few' is j k) =
-        busy (steps_busy left x j.learns k (asks _ _ j.outcome (word_there child 5 is.some (omega (arith, is.made, few_all)) (omega arith))))
+        busy (steps_busy left x j.sleeps k (asks _ _ j.sleep (child_there child 2 is.some is.made (omega arith)))) refl
+    seen v o q pt l listed (S.learns {child = child} {end = end} {x = x} {into = i} {part = y} {f = f} {cs = cs} left
+        few' is j k) =
+        busy (steps_busy left x j.learns k (asks _ _ j.outcome (child_there child 5 is.some is.made (omega arith))))
         (joined_end i y f cs end)
-    seen v o q pt l listed (S.takes {child = child} {z = z} {x = x} {into = i} {part = y} {f = f} {cs = cs} left few' is j k) =
-        busy (steps_busy left x j.takes k (asks _ _ j.result (word_there child 4 is.some (omega (arith, is.made, few_all)) (omega arith))))
+    seen v o q pt l listed (S.takes {child = child} {z = z} {x = x} {into = i} {part = y} {f = f} {cs = cs} left
+        few' is j k) =
+        busy (steps_busy left x j.takes k (asks _ _ j.result (child_there child 4 is.some is.made (omega arith))))
         (joined_end i y f cs (Ended z))
     seen v o q pt l listed (S.walks {e = e} {end = end} {ms = ms} phase is short en) =
         let g = walk_phase p e end phase is in exits g.0 g.1 (ending_end end ms)

@@ -1,5 +1,5 @@
 -- The opening states belong together.
-use Rattle.std.proofs.Common.{◌≡◌, ℕ, ◌+◌, ◌-◌, ◌<◌, ◌≤◌, ◌==◌, Bool, true, false, List, [], ◌∷◌, ◌++◌, length, Option, Some, None, refl, ap, sym, ◌∙◌, subst, arith, cond, inl, ℤ, pos}
+use Rattle.std.proofs.Common.{◌≡◌, ℕ, ◌-◌, ◌==◌, Bool, true, false, List, [], ◌++◌, length, Option, Some, None, refl, ap, sym, ◌∙◌, subst, arith, cond, inl, ℤ, pos}
 use Rattle.std.proofs.lemmas.Bool.{eqb-true, false≢true}
 use Rattle.words.specs.Updates.{put}
 use Rattle.words.specs.Process.{process_word}

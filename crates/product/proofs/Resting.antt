@@ -1,9 +1,7 @@
--- No wake is lost: where no thread can move no process can, nor can one whose thread sleeps, where all others are outside
--- the taking and giving up of locks.
-use Rattle.std.proofs.Common.{◌≡◌, ◌≢◌, ℕ, zero, suc, ◌<◌, ◌≤◌, Bool, true, false, List, Option, Some, None, refl, ap, sym, ◌∙◌, subst, arith, inl, inr, ◌⊎◌}
-use Rattle.std.proofs.lemmas.Bool.{false≢true}
+-- No wake is lost: where no thread can move no process can, nor can one whose thread sleeps, where all others are
+-- outside the taking and giving up of locks.
+use Rattle.std.proofs.Common.{◌≡◌, ℕ, zero, suc, ◌<◌, true, false, List, Option, Some, None, refl, ap, sym, ◌∙◌, subst, arith, inl, inr, ◌⊎◌}
 use Rattle.std.specs.Prelude.{is_some, slice_get, length}
-use Rattle.words.specs.Process.{process_word}
 use Rattle.robustexit.specs.declared.phase.ExitPhase.{ExitPhase}
 use Rattle.robustexit.specs.declared.phase.ExitPhase.TheVariants.{Entry, Pending, ClearId, LastWake, Ended as Ended'}
 use Rattle.locals.specs.declared.frame.Locals.{Locals}
@@ -21,11 +19,11 @@ use Rattle.program.specs.WellFormed.{WellFormed}
 use Rattle.meaning.specs.Labels.{Label}
 use Rattle.meaning.specs.Table.{Table}
 use Rattle.meaning.specs.Values.{Variables}
-use Rattle.meaning.specs.Processes.{Frame, Caller, Process}
+use Rattle.meaning.specs.Processes.{Process}
 use Rattle.meaning.specs.Offers.{Effect, offer, TakesUp}
 use Rattle.meaning.specs.States.{SourceState}
 use Rattle.meaning.specs.Runs.{CanMove}
-use Rattle.protocol.specs.Points.{Purpose, ToEnter, ToReenter, ToResume, Spot, Point, Unmade, Runs, NoEntry, Walks, HasEnded, entry_word, taking_entry}
+use Rattle.protocol.specs.Points.{Purpose, ToEnter, ToReenter, ToResume, Spot, Point, Unmade, NoEntry, Walks, HasEnded, entry_word, taking_entry}
 use Rattle.protocol.specs.World.{World}
 use Rattle.protocol.specs.Cells.{Cell, LinkOf, PendingOf}
 use Rattle.protocol.specs.Memory.{entry_address, stored_value}
@@ -258,10 +256,11 @@ ended_outside Unmade n h = tt
 ended_outside (HasEnded end) n h = tt
 ended_outside pt n h = absurd (h tt)
 
-module _ (p : Program) (w : WellFormed p) (steps : ℕ) (s : State) (c : SourceState) (k : Corresponds p w steps s c) where
+module _ (p : Program) (w : WellFormed p) (steps : ℕ) (s : State) (c : SourceState)
+    (k : Corresponds p w steps s c) where
   next_of : (q : ℕ) (can : CanMove p c q) → IsNext (k.world.at q).point can.moves.label
-  next_of q can = next_is p c.variable q can.moves.before can.moves.after can.moves.label can.moves.effect can.moves.acts
-      w k.world.made (s.thread q) (c.process q) (k.world.at q).point (k.world.at q).list (k.threads q) can.moves.stands
+  next_of q can = next_is p c.variable q can.moves.before can.moves.after can.moves.label can.moves.effect
+      can.moves.acts w k.world.made (s.thread q) (c.process q) (k.world.at q).point (k.world.at q).list (k.threads q) can.moves.stands
 
   pub at_rest : ((t : ℕ) → CanStep s t → ⊥) → (q : ℕ) → CanMove p c q → ⊥
   at_rest still q can =
