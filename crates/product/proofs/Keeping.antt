@@ -29,7 +29,7 @@ does_keeps : (l : Label) (e : Effect) (q : Process) (ms : List ℕ) → (KeepsMo
 does_keeps l e q ms h label effect r keeps takes =
     subst (λ (x : Process). Holds ms x) (sym takes.2) (h (subst KeepsMonitors takes.0 keeps))
 
-faults_keep : (fault : Fault) (f : Frame) (cs : List Caller) → Keeps (faults fault f cs) (all_monitors f cs)
+pub faults_keep : (fault : Fault) (f : Frame) (cs : List Caller) → Keeps (faults fault f cs) (all_monitors f cs)
 faults_keep fault f cs = does_keeps _ _ _ _ (λ k. refl)
 
 value_keeps : (e : Evaluated) (f : Frame) (cs : List Caller) (go : ℤ → Offer)

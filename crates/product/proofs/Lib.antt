@@ -22,3 +22,4 @@ pub mod Resting
 pub mod Ending
 pub mod Opening
 pub mod Claiming
+pub mod Joining

@@ -99,7 +99,7 @@ listed_next n (Walks (suc k) x end) l got all m h = all m (in_tail m l h)
 listed_next n pt l got all m h = all m h
 
 -- a thread that doesn't sleep in the machine doesn't in the world
-not_paused : (asleep : Option ℕ) (b pauses : Bool) → pauses ≡ (is_some asleep || b) → pauses ≡ false → asleep ≡ None
+pub not_paused : (asleep : Option ℕ) (b pauses : Bool) → pauses ≡ (is_some asleep || b) → pauses ≡ false → asleep ≡ None
 not_paused None b pauses e h = refl
 not_paused (Some a) b pauses e h = absurd (cc (e, h))
 
