@@ -1,4 +1,3 @@
-<<<<<<< HEAD
 -- The steps of a JOIN: the reading of the id word, the sleep on it, and what is learned of the child's end.
 use Rattle.std.proofs.Common.{◌≡◌, ◌≢◌, ℕ, zero, suc, ◌+◌, ◌<◌, ◌≤◌, ◌==◌, Bool, true, false, List, length, Option, Some, None, ℤ, refl, ap, sym, ◌∙◌, subst, arith, inl, inr, ◌⊎◌}
 use Rattle.std.specs.Prelude.{if◌then◌else◌, ◌^◌}
@@ -85,50 +84,10 @@ yes a b x y h = cond-true (a == b) x y (eq-eqb a b h)
 
 no : {A : Type 0} (a b : ℕ) (x y : A) → a ≢ b → (if a == b then x else y) ≡ y
 no a b x y h = cond-false (a == b) x y (ne_eqb a b h)
-=======
--- The steps of a JOIN at its first and last request.
-use Rattle.std.proofs.Common.{◌≡◌, ◌≢◌, ℕ, zero, suc, ◌+◌, ◌<◌, ◌≤◌, ◌==◌, Bool, true, false, List, [], ◌∷◌, length, Option, Some, None, ℤ, refl, ap, sym, ◌∙◌, subst, arith, inl, inr, ◌⊎◌}
-use Rattle.std.specs.Prelude.{if◌then◌else◌, ◌^◌}
-use Rattle.std.proofs.lemmas.Bool.{cond-false, eq-eqb, ne_eqb}
-use Rattle.words.specs.Process.{process_word}
-use Rattle.words.specs.Signed.{signed_of}
-use Rattle.locals.specs.Threads.{Thread}
-use Rattle.locals.specs.Looks.{Look, Asks, AskLoad, look}
-use Rattle.machine.specs.States.{State, with_thread}
-use Rattle.machine.specs.Runs.{Moves}
-use Rattle.program.specs.declared.kinds.Member.{Member}
-use Rattle.program.specs.Trees.{Program, Part}
-use Rattle.program.specs.WellFormed.{WellFormed}
-use Rattle.code.specs.Pieces.{code_of}
-use Rattle.meaning.specs.Labels.{End, Joins}
-use Rattle.meaning.specs.Processes.{Frame, Caller, Process, Joining, all_monitors}
-use Rattle.meaning.specs.Offers.{joined}
-use Rattle.meaning.specs.States.{SourceState}
-use Rattle.protocol.specs.Points.{Point, JoinReads, JoinSleeps, JoinLearns}
-use Rattle.protocol.specs.World.{World}
-use Rattle.protocol.specs.Steps.{go_list}
-use Rattle.protocol.specs.Carries.{Acts}
-use Rattle.protocol.proofs.Good.{Good}
-use Rattle.execution.specs.Completing.{Awaits, join_steps}
-use Rattle.execution.specs.Following.{Build}
-use Rattle.refinement.specs.Built.{build_of}
-use Rattle.templates.specs.Layout.{place, is_process}
-use Rattle.templates.specs.Templates.{ActsSo}
-use Rattle.templates.proofs.Layouts.{number_is}
-use Rattle.product.specs.Standing.{StandsAt, IsChild, sleeps, learns}
-use Rattle.product.specs.Ranks.{rank, steps_left, more_steps}
-use Rattle.product.specs.Corresponding.{Corresponds, IsBefore}
-use Rattle.product.specs.Serving.{IsServed}
-use Rattle.product.proofs.Worlds.{reached_good}
-use Rattle.product.proofs.Moving.{Next}
-use Rattle.product.proofs.Serving.{served}
-use Rattle.product.proofs.Stepped.{Arrives, stepped}
->>>>>>> 903e7ab (product: a JOIN reads its child's id word)
 
 module _ (p : Program) (w : WellFormed p) (steps : ℕ) (s : State) (c : SourceState) (k : Corresponds p w steps s c)
     (t : ℕ) (woken : List ℕ) (pauses : Bool) (s' : State) (n : ℕ) (number : (0 < t) × (t ≤ k.world.made))
     (few : k.world.made ≤ 64) (awake : k.world.asleep t ≡ None)
-<<<<<<< HEAD
     (low : (d : Member) → k.world.sequence d + 1 < 4294967296) (paused : pauses ≡ is_paused s' t) (child : ℕ)
     (into : Option ℕ) (part : Part) (f : Frame) (cs : List Caller)
     (is : IsChild (build_of p w k.world.made) child f cs)
@@ -140,20 +99,10 @@ module _ (p : Program) (w : WellFormed p) (steps : ℕ) (s : State) (c : SourceS
   abbrev l : List ℕ
   l = (k.world.at t).list
 
-=======
-    (low : (d : Member) → k.world.sequence d + 1 < 4294967296) {into : Option ℕ} {part : Part} {f : Frame}
-    {cs : List Caller} (child : ℕ) (is : IsChild (build_of p w k.world.made) child f cs)
-    (j : Awaits (build_of p w k.world.made) t child into part f cs) (list : (k.world.at t).list ≡ all_monitors f cs)
-    where
-  abbrev b : Build
-  b = build_of p w k.world.made
-
->>>>>>> 903e7ab (product: a JOIN reads its child's id word)
   inv : Good k.world c.table
   inv = reached_good k.world c.table k.reached
 
   valid_child : is_process child ≡ true
-<<<<<<< HEAD
   valid_child = let made = is.made in number_is child is.some (omega (arith, made, few))
 
   -- a request of a point of the JOIN, as it is served
@@ -412,68 +361,3 @@ module _ (p : Program) (w : WellFormed p) (steps : ℕ) (s : State) (c : SourceS
         stands = go.0;
         paced = λ none i. let left = go.1 (go_list sv.after t Runs l) in omega (arith, left, enough);
       }) moves
-=======
-  valid_child = number_is child is.some (omega (arith, is.made, few))
-
-  -- where the thread comes with the id word that it read
-  abbrev ReadBy : Bool → ℕ → List ℕ → World → End → ℕ → Type 0
-  ReadBy d made l w' e r =
-      (q : Process) × ActsSo p c.variable t (if d then Some (Acts t (Joins child e)) else None)
-      (Joining child into part f cs) q
-      × (stand : StandsAt (build_of p w made) c.variable t (Some (j.after_read r)) (Some q)
-      (if d then JoinLearns child e else JoinSleeps child) l)
-      × ((if d then Some (Acts t (Joins child e)) else None) ≡ None → pauses ≡ false
-      → steps_left (build_of p w made) c.variable t w' stand < n)
-
-  abbrev Read : ℕ → List ℕ → World → End → ℕ → Type 0
-  Read made l w' e r = ReadBy (r == 0) made l w' e r
-
-  read_gone : (w' : World) (e : End) → ReadBy true k.world.made (all_monitors f cs) w' e 0
-  read_gone w' e = (
-    joined into part f cs e,
-    (refl, (e, refl, refl, refl)),
-    learns join_steps (omega arith) is j j.gone,
-    λ none z. absurd cc,
-  )
-
-  read_there : (w' : World) (e : End) (m : ℕ) → 35 ≤ n → ReadBy false k.world.made (all_monitors f cs) w' e (suc m)
-  read_there w' e m enough = (
-    Joining child into part f cs,
-    refl,
-    sleeps join_steps (omega arith) is j (j.there m),
-    λ none z. omega (arith, enough),
-  )
-
-  read : (w' : World) (e : End) (r : ℕ) → (r ≢ 0 → 35 ≤ n) → Read k.world.made (all_monitors f cs) w' e r
-  read w' e zero enough = subst (λ (d : Bool). ReadBy d k.world.made (all_monitors f cs) w' e 0)
-      (sym (eq-eqb 0 0 refl)) (read_gone w' e)
-  read w' e (suc m) enough = subst (λ (d : Bool). ReadBy d k.world.made (all_monitors f cs) w' e (suc m))
-      (sym (ne_eqb (suc m) 0 (λ i. cc))) (read_there w' e m (enough (λ i. cc)))
-
-  pub reads_step : c.process t ≡ Some (Joining child into part f cs) → (k.world.at t).point ≡ JoinReads child
-      → rank (more_steps b) k.world (JoinReads child) ≤ n → Moves s t woken (look (code_of p) t j.reads) s'
-      → Next p w steps s' t pauses n c
-  reads_step proc point enough moves =
-      let g : Moves s t woken (Asks (AskLoad (process_word child 2)) j.after_read) s' =
-      subst (λ (i : Look). Moves s t woken i s') j.read moves in
-      let sv : IsServed p s g.1 k.world t (JoinReads child) g.0 =
-      served p s k.world c.table t (JoinReads child) (AskLoad (process_word child 2)) woken g.0 g.1 k.shares inv number.0
-      (omega (arith, number.1, few)) low valid_child refl g.2 in
-      stepped p w steps s c k t pauses s' g.1 n g.0 (j.after_read sv.reply) (Joining child into part f cs)
-      (JoinReads child) number awake proc point sv
-      (g.3 ∙ ap (λ i. with_thread g.1 t (j.after_read i)) sv.told) (λ e may.
-      let w' = go_list sv.after t (if sv.reply == 0 then JoinLearns child e else JoinSleeps child) (k.world.at t).list in
-      let to : Read sv.after.made (k.world.at t).list w' e sv.reply =
-      subst (λ (made : ℕ). Read made (k.world.at t).list w' e sv.reply) (sym sv.made)
-      (subst (λ (l : List ℕ). Read k.world.made l w' e sv.reply) (sym list) (read w' e sv.reply (λ some.
-      let full = cond-false {A = ℕ} (k.world.id child == 0) 1 35 (ne_eqb (k.world.id child) 0 (λ z. some (sv.serves.0 ∙ z))) in
-      omega (arith, full, enough)))) in
-      record {
-        process = to.0;
-        acts = to.1;
-        stands = to.2;
-        listed = λ m h. k.lists t m h;
-        blank = λ h. k.blank t (subst (λ (i : Point). IsBefore i) (sym point) tt);
-        paced = to.3;
-      })
->>>>>>> 903e7ab (product: a JOIN reads its child's id word)
