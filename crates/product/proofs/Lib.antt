@@ -23,3 +23,4 @@ pub mod Ending
 pub mod Opening
 pub mod Claiming
 pub mod Joining
+pub mod Making
