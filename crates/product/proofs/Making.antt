@@ -20,16 +20,33 @@ use Rattle.meaning.specs.Labels as L
 use Rattle.meaning.specs.Processes.{Process, Dying, holds}
 use Rattle.meaning.specs.Offers.{MakesOne, Nothing, Makes, Offer, offer, TakesUp}
 use Rattle.meaning.specs.States.{SourceState}
-use Rattle.protocol.specs.Points.{NoEntry, Point, Runs, Dies}
-use Rattle.protocol.specs.World.{World}
-use Rattle.protocol.specs.Moves.{ForkFull}
+use Rattle.protocol.specs.Points.{NoEntry, Point, Runs, Dies, Thread as Place, thread_at}
+use Rattle.protocol.specs.World.{World, mem}
+use Rattle.protocol.specs.Moves.{Fork, ForkFull}
+use Rattle.protocol.specs.Steps.{Can, go_list}
+use Rattle.protocol.specs.Carries.{table_after}
+use Rattle.protocol.specs.Cells.{IdOf, write}
+use Rattle.protocol.proofs.Starts.{every_start_is_a_move}
+use Rattle.protocol.proofs.Kept.{permitted}
+use Rattle.protocol.proofs.Sleeps.{at_put, put_same, put_other}
+use Rattle.execution.specs.Variables.{VariablesFit, variable_address}
+use Rattle.execution.specs.Following.{Stands}
+use Rattle.execution.proofs.Growing.{fitting_grows}
+use Rattle.templates.specs.Layout.{place, valid, is_process}
+use Rattle.templates.proofs.Layouts.{apart, number_is}
+use Rattle.templates.proofs.Addresses.{variable_apart}
 use Rattle.execution.specs.Walks.{WalksWithin, stays, empty_view}
 use Rattle.refinement.specs.Built.{build_of}
-use Rattle.product.specs.Standing.{faults}
+use Rattle.product.specs.Standing.{StandsAt, IsAtWork, faults}
 use Rattle.product.specs.Serving.{Keeps}
-use Rattle.product.specs.Corresponding.{Corresponds}
+use Rattle.product.specs.Corresponding.{Corresponds, IsBefore}
 use Rattle.product.proofs.Moving.{Next}
 use Rattle.product.proofs.Claiming.{starts}
+use Rattle.product.proofs.Acting.{held_of}
+use Rattle.product.proofs.Templating.{works_on}
+use Rattle.product.proofs.Standings.{stand_moves}
+use Rattle.product.proofs.Sourcing.{act, action, acted}
+use Rattle.product.proofs.Worlds.{reached_on, reached_good, shares_at, shares_stored}
 
 module _ (p : Program) (w : WellFormed p) (steps : ℕ) (s : State) (c : SourceState) (k : Corresponds p w steps s c)
     (t : ℕ) (woken : List ℕ) (pauses : Bool) (s' : State) (n : ℕ) (number : (0 < t) × (t ≤ k.world.made))
@@ -49,3 +66,118 @@ module _ (p : Program) (w : WellFormed p) (steps : ℕ) (s : State) (c : SourceS
       WalksWithin (code_of p) t (empty_view p) 0 (go' 0) y) full (record { count = 0; few = omega arith; walk = stays })))
       k.shares (record { size = refl; made = refl; output = refl; thread = refl; variables = λ m i is. refl })
       refl refl refl refl same
+
+  module _ (child : Process) (later : ℕ → Process) (go' : ℕ → Thread) (entry : ℕ) (arguments : List ℕ)
+      (work : IsAtWork p q c.variable) (more : k.world.made < 64)
+      (o : offer p c.variable q ≡ MakesOne child later (Dying (Faulted ProcessTableFull) (holds q)))
+      (empty : holds child ≡ [])
+      (mine : Stands (build_of p w (suc k.world.made)) t (go' (suc k.world.made)) (later (suc k.world.made)))
+      (its : Stands (build_of p w (suc k.world.made)) (suc k.world.made) (opening_thread entry arguments) child) where
+    abbrev made : ℕ
+    made = suc k.world.made
+
+    can_fork : Can k.world made (Fork t)
+    can_fork = (every_start_is_a_move k.reached.moves k.world k.reached.led).forks t
+        (record { number = number; awake = awake; stands = point }) more
+
+    takes : TakesUp (offer p c.variable q) (Forks made) (Makes made child) (later made)
+    takes = subst (λ (y : Offer). TakesUp y (Forks made) (Makes made child) (later made)) (sym o)
+        (inl (made, refl, refl, refl))
+
+    abbrev w1 : World
+    w1 = go_list (record k.world { id = put k.world.id made made; made = made }) made Runs []
+
+    abbrev c1 : SourceState
+    c1 = acted c t (Makes made child) (later made) (table_after k.world c.table made (Fork t))
+
+    abbrev grown : State
+    grown = record s {
+      word = put s.word (process_word made 2) made;
+      thread = put (put s.thread made (Some (opening_thread entry arguments))) t (Some (go' made));
+      made = made;
+    }
+
+    differs : made ≢ t
+    differs e = omega (arith, number.1, e)
+
+    valid_made : is_process made ≡ true
+    valid_made = number_is made (omega arith) (omega (arith, more))
+
+    fits : (m : ℕ) → VariablesFit made p m c.variable
+    fits m d i home there = fitting_grows k.world.made made (omega arith) _ _ (k.fit m d i home there)
+
+    abbrev Here : ℕ → Option Thread → Option Process → Place → Type 0
+    Here u x r z = StandsAt (build_of p w made) c.variable u x r z.point z.list
+
+    at_parent : Here t (Some (go' made)) (Some (later made)) (k.world.at t)
+    at_parent =
+        let stand = works_on p w made c.variable t (go' made) (go' made) (later made) fits
+        (record { count = 0; few = omega arith; walk = stays }) mine in
+        let kept = held_of (holds q) (later made) (work.keeps (Forks made) (Makes made child) (later made) tt takes) in
+        subst (λ (i : Point). StandsAt (build_of p w made) c.variable t (Some (go' made)) (Some (later made)) i
+        (k.world.at t).list) (sym point)
+        (subst (λ (i : List ℕ). StandsAt (build_of p w made) c.variable t (Some (go' made)) (Some (later made)) Runs i)
+        (kept ∙ sym list) stand.0)
+
+    at_child : Here made (Some (opening_thread entry arguments)) (Some child) (thread_at Runs [])
+    at_child =
+        subst (λ (i : List ℕ). StandsAt (build_of p w made) c.variable made (Some (opening_thread entry arguments))
+        (Some child) Runs i) empty
+        (works_on p w made c.variable made (opening_thread entry arguments) (opening_thread entry arguments) child fits
+        (record { count = 0; few = omega arith; walk = stays }) its).0
+
+    at_other : (u : ℕ) → Here u (s.thread u) (c.process u) (k.world.at u)
+    at_other u = stand_moves (build_of p w k.world.made) made (omega arith) c.variable c.variable u (s.thread u)
+        (c.process u) (k.world.at u).point (k.world.at u).list (λ m h i j. refl) (k.threads u)
+
+    at_all : (u : ℕ) → Here u (grown.thread u) (c1.process u) (w1.at u)
+    at_all u = elim (cases_eq u t) [
+      | inl e ↦ subst (λ v. Here v (grown.thread v) (c1.process v) (w1.at v)) (sym e)
+          (rw (put_same (put s.thread made (Some (opening_thread entry arguments))) t (Some (go' made)),
+          put_same (put c.process made (Some child)) t (Some (later made)),
+          put_other k.world.at made (thread_at Runs []) t (λ i. differs (sym i))) at_parent)
+      | inr d ↦ elim (cases_eq u made) [
+        | inl e ↦ subst (λ v. Here v (grown.thread v) (c1.process v) (w1.at v)) (sym e)
+            (rw (put_other (put s.thread made (Some (opening_thread entry arguments))) t (Some (go' made)) made differs,
+            put_same s.thread made (Some (opening_thread entry arguments)),
+            put_other (put c.process made (Some child)) t (Some (later made)) made differs,
+            put_same c.process made (Some child), put_same k.world.at made (thread_at Runs [])) at_child)
+        | inr e ↦
+            rw (put_other (put s.thread made (Some (opening_thread entry arguments))) t (Some (go' made)) u d,
+            put_other s.thread made (Some (opening_thread entry arguments)) u e,
+            put_other (put c.process made (Some child)) t (Some (later made)) u d,
+            put_other c.process made (Some child) u e, put_other k.world.at made (thread_at Runs []) u e) (at_other u)
+      ]
+    ]
+
+    pub forked : s' ≡ grown → Next p w steps s' t pauses n c
+    forked same = subst (λ (x : State). Next p w steps x t pauses n c) (sym same) (record {
+      after = c1;
+      ties = record {
+        world = w1;
+        reached = reached_on k.world c.table made (Fork t) k.reached can_fork;
+        shares = shares_at (place p) (valid p) _ (write k.world (IdOf made) made) _ made
+            (shares_stored (place p) (valid p) (apart p) (shared_of s) k.world (IdOf made) made valid_made k.shares);
+        size = k.size;
+        made = refl;
+        output = k.output;
+        variables = λ m i h. put_other s.word (process_word made 2) made (variable_address p m i)
+            (λ e. variable_apart p m i (IdOf made) h valid_made e) ∙ k.variables m i h;
+        fit = fits;
+        threads = at_all;
+        lists = λ u m. at_put k.world.at made (thread_at Runs []) u
+            (λ (z : Place). mem m z.list ≡ true → m < length p.monitors) (λ e h. absurd (false≢true h))
+            (λ e. k.lists u m);
+        words = k.words;
+        blank = λ u. at_put k.world.at made (thread_at Runs []) u (λ (z : Place). IsBefore z.point
+            → k.world.result u ≡ 0)
+            (λ e h. ap k.world.result e
+            ∙ k.blank made (subst (λ (y : Point). IsBefore y) (sym can_fork.stands) tt)) (λ e. k.blank u);
+        numbers = λ d. omega (arith, k.numbers d);
+      };
+      kinds = L.Fork made ∷ [];
+      own = (tt, tt);
+      leads = (c1, action p c t q (later made) (Forks made) (Makes made child) (table_after k.world c.table made (Fork t))
+          proc takes (permitted k.world c.table made (Fork t) (reached_good k.world c.table k.reached) can_fork).0, refl);
+      paced = λ z. inl tt;
+    })
