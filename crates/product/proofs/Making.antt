@@ -181,3 +181,34 @@ module _ (p : Program) (w : WellFormed p) (steps : ℕ) (s : State) (c : SourceS
           proc takes (permitted k.world c.table made (Fork t) (reached_good k.world c.table k.reached) can_fork).0, refl);
       paced = λ z. inl tt;
     })
+
+  -- the machine's step, whether a process was made or not
+  pub forks_step : (child : Process) (later : ℕ → Process) (go' : ℕ → Thread) (entry : ℕ) (arguments : List ℕ)
+      (x : Thread) → IsAtWork p q c.variable → look (code_of p) t x ≡ Asks (AskFork entry arguments true) go'
+      → go' 0 ≡ Dies' ProcessTableFull
+      → offer p c.variable q ≡ MakesOne child later (Dying (Faulted ProcessTableFull) (holds q)) → holds child ≡ []
+      → ((m : ℕ) → k.world.made ≤ suc m → suc m ≤ most_processes
+      → Stands (build_of p w (suc m)) t (go' (suc m)) (later (suc m)))
+      → ((m u : ℕ) → k.world.made ≤ m → Stands (build_of p w m) u (opening_thread entry arguments) child)
+      → Moves s t woken (look (code_of p) t x) s' → Next p w steps s' t pauses n c
+  forks_step child later go' entry arguments x work h full o empty mine its moves =
+      by_answer (subst (λ (l : Look). Moves s t woken l s') h moves)
+    where
+      by_answer : Moves s t woken (Asks (AskFork entry arguments true) go') s' → Next p w steps s' t pauses n c
+      by_answer (answer, mid, (nobody, inl (many, is, same)), e) =
+          full_step go' child later full o (omega (arith, many, k.made))
+          (e ∙ ap (λ (m : State). with_thread m t (go' answer)) same ∙ ap (λ a. with_thread s t (go' a)) is)
+      by_answer (answer, mid, (nobody, inr (less, room, is, same)), e) =
+          forked child later go' entry arguments work (omega (arith, less, k.made)) o empty
+          (mine k.world.made (omega arith) (omega (arith, less, k.made))) (its (suc k.world.made) (suc k.world.made)
+          (omega arith))
+          (e ∙ ap (λ (m : State). with_thread m t (go' answer)) same
+          ∙ ap (λ a. with_thread (record s {
+            word = put s.word (process_word (suc s.made) 2) (suc s.made);
+            thread = put s.thread (suc s.made) (Some (opening_thread entry arguments));
+            made = suc s.made;
+          }) t (go' a)) is ∙ ap (λ (m : ℕ). record s {
+            word = put s.word (process_word (suc m) 2) (suc m);
+            thread = put (put s.thread (suc m) (Some (opening_thread entry arguments))) t (Some (go' (suc m)));
+            made = suc m;
+          }) k.made)
