@@ -29,6 +29,7 @@ use Rattle.execution.specs.Following.{Build, with_made, is_first, Stands, Implem
 use Rattle.execution.specs.Completing.{Proceeds}
 use Rattle.execution.specs.Completing as F
 use Rattle.execution.specs.Builds.{IsBuild}
+use Rattle.execution.proofs.Holding.{first_holds}
 use Rattle.execution.proofs.Walking.{front_stands, back_stands, one_step, look_here, wider}
 use Rattle.execution.proofs.Contexts.{Context, frame_at, view_at, proceeds_on, stands_by}
 use Rattle.execution.proofs.Stepping.{steps_of, as_it_stands, at_once}
@@ -152,7 +153,8 @@ module _ (b : Build) (is : IsBuild b) (t : ℕ) (v : Variables) (place : ℕ) (l
           (at_once b t v place l fs values rest procedure cs entered (Runs end (stacked zs []) l fs) pending
           (F.forks (b.starts qn) (stacked zs []) go look refl o mine
           (λ n u more. begins_at (with_made b n) (build_grows b n is) u qn callee zs [] [] c.sound.fits.2
-          (values_grow b.made n more callee.parameters zs have) (is_first (inr c.sound.fits.3)))))
+          (values_grow b.made n more callee.parameters zs have) (is_first (inr c.sound.fits.3)))
+          (first_holds b _)))
       by_values (FailsAll fault) same g typed =
           let walk : WalksWithin b.image t (view_at b procedure v) (2 * arguments_tokens es) x (Dies fault) = subst
           (λ (k : EvaluatedAll). GivesAll b.image t (view_at b procedure v) (2 * arguments_tokens es) x k end [] l fs)

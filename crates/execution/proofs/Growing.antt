@@ -186,9 +186,9 @@ module _ (b : Build) (n : ℕ) (le : b.made ≤ n) where
         F.stores m i z go own first is (fitting_grows b.made n le _ z fits) h o (λ a. stands_grow (go a) r (s a))
     completes_grow v x q (F.returns h o) = F.returns h o
     completes_grow v x q (F.leaves r k h o) = F.leaves r k h o
-    completes_grow v x q (F.forks entry arguments go h e o mine child) =
+    completes_grow v x q (F.forks entry arguments go h e o mine child none) =
         F.forks entry arguments go h e o (λ k few. mine k (omega (arith, le, few)))
-        (λ k u few. child k u (omega (arith, le, few)))
+        (λ k u few. child k u (omega (arith, le, few))) none
     completes_grow v x q
         (F.claims {into = into} {part = part} {f = f} {callers = cs} child go some few most h o j w d) =
         F.claims child go some (omega (arith, few, le)) most h o (awaits_grow child into part f cs j) w d
@@ -220,8 +220,8 @@ completes_same b t v v' x q e (F.stores m i z go own first is fits h o s) =
     F.stores m i z go own first is fits h (sym e ∙ o) s
 completes_same b t v v' x q e (F.returns h o) = F.returns h o
 completes_same b t v v' x q e (F.leaves r k h o) = F.leaves r k h (sym e ∙ o)
-completes_same b t v v' x q e (F.forks entry arguments go h d o mine child) =
-    F.forks entry arguments go h d (sym e ∙ o) mine child
+completes_same b t v v' x q e (F.forks entry arguments go h d o mine child none) =
+    F.forks entry arguments go h d (sym e ∙ o) mine child none
 completes_same b t v v' x q e (F.claims child go some few most h o j w d) =
     F.claims child go some few most h (sym e ∙ o) j w d
 completes_same b t v v' x q e (F.faults fault d o) = F.faults fault d (sym e ∙ o)

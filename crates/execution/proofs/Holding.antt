@@ -1,5 +1,5 @@
 -- Which monitors a process holds in a procedure: its own first, where it is in one.
-use Rattle.std.proofs.Common.{inl, inr, ◌≡◌, ℕ, List, [], ◌∷◌, Option, Some, refl, ap, sym, ◌∙◌, subst}
+use Rattle.std.proofs.Common.{inl, inr, ◌≡◌, ℕ, List, [], ◌∷◌, Option, Some, None, refl, ap, sym, ◌∙◌, subst}
 use Rattle.program.specs.declared.kinds.Role.{Role}
 use Rattle.program.specs.declared.kinds.Role.TheVariants.{Entry, Internal, Recover, External, Main}
 use Rattle.program.specs.Trees.{Assign, If, While, Call, Fork, Join, Return, Wait, Notify, Broadcast, Print, Abort, Block, Done, Then, Procedure}
@@ -7,7 +7,7 @@ use Rattle.program.specs.Scope.{own_monitor}
 use Rattle.program.specs.Typing.{MayCall, MayBeForked}
 use Rattle.locals.specs.declared.frame.Locals.{Locals}
 use Rattle.locals.specs.declared.frame.Frame.{Frame as MachineFrame}
-use Rattle.meaning.specs.Processes.{Frame, Caller, Process, goes_on, goes_on_by, holds, all_monitors, callers_monitors, monitor_of_role}
+use Rattle.meaning.specs.Processes.{Frame, Caller, Process, goes_on, goes_on_by, begins, begins_by, holds, all_monitors, callers_monitors, monitor_of_role}
 use Rattle.execution.specs.Following.{Build, IsFirst, CallersStand, is_first, is_called, is_recovery, Running, own_of, runs, enters, returns, fails}
 use Rattle.execution.specs.Completing.{HasFirst}
 use Rattle.execution.specs.Builds.{IsBuild, IsHeld}
@@ -157,3 +157,17 @@ held b is t x q (runs entered f cs place l fs walk running e) m own =
 held b is t x q (enters k f cs place l fs walk entering e) m own = held_as b m q _ e own (λ none. absurd cc)
 held b is t x q (returns z cs place shown l fs walk returning e) m own = held_as b m q _ e own (λ none. absurd cc)
 held b is t x q (fails k f cs walk e) m own = held_as b m q _ e own (λ none. absurd cc)
+
+-- a process that was just made holds no monitor
+pub first_holds : (b : Build) (f : Frame) → holds (begins f []) ≡ []
+first_holds b f = by_role f.role refl
+  where
+    on : (role : Role) → f.role ≡ role → monitor_of_role role [] ≡ [] → holds (goes_on None f []) ≡ []
+    on role e none = goes_on_holds b None f [] (λ i. refl) ∙ ap (λ (r : Role). monitor_of_role r []) e ∙ none
+
+    by_role : (role : Role) → f.role ≡ role → holds (begins_by role f []) ≡ []
+    by_role (Entry m) e = refl
+    by_role (Internal m) e = on (Internal m) e refl
+    by_role (Recover m) e = on (Recover m) e refl
+    by_role External e = on External e refl
+    by_role Main e = on Main e refl

@@ -120,7 +120,7 @@ pub data Completes (b : Build) (t : ℕ) (v : Variables) (x : Thread) (q : Proce
       → ((n : ℕ) → b.made ≤ suc n → suc n ≤ most_processes
       → Stands (with_made b (suc n)) t (go (suc n)) (after (suc n)))
       → ((n u : ℕ) → b.made ≤ n → Stands (with_made b n) u (opening_thread entry arguments) child)
-      → Completes b t v x q
+      → holds child ≡ [] → Completes b t v x q
   claims : {into : Option ℕ} {part : Part} {f : Frame} {callers : List Caller} (child : ℕ) (go : ℕ → Thread)
       → 0 < child → child ≤ b.made → child ≤ most_processes
       → look b.image t x ≡ Asks (AskSwap (process_word child 3) 1) go

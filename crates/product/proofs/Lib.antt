@@ -24,3 +24,5 @@ pub mod Opening
 pub mod Claiming
 pub mod Joining
 pub mod Making
+pub mod Stepping
+pub mod Whole

@@ -234,7 +234,7 @@ completes_end b t v x q (F.prints n go h o st) = offers_end b.program v q (λ r.
 completes_end b t v x q (F.stores m i z go own has is fits h o st) = offers_end b.program v q (λ r. cc (r, o))
 completes_end b t v x q (F.returns h e) = subst (λ (y : Process). process_end (Some y) ≡ None) (sym e) refl
 completes_end b t v x q (F.leaves r fits h o) = offers_end b.program v q (λ e. cc (e, o))
-completes_end b t v x q (F.forks entry arguments go h full o mine its) = offers_end b.program v q (λ r. cc (r, o))
+completes_end b t v x q (F.forks entry arguments go h full o mine its empty) = offers_end b.program v q (λ r. cc (r, o))
 completes_end b t v x q (F.claims child go some made most h o j to bad) = offers_end b.program v q (λ r. cc (r, o))
 completes_end b t v x q (F.faults fault e o) = offers_end b.program v q (λ r. cc (r, o))
 completes_end b t v x q (F.enters base e is below held code after) =
@@ -352,7 +352,7 @@ module _ (p : Program) (w : WellFormed p) (s : State) (size : s.size ≡ memory_
     completes_busy v x q listed steady (F.returns h e) = asks _ _ h (λ z. z)
     completes_busy v x q listed steady (F.leaves None fits h o) = asks _ _ h (λ z. z)
     completes_busy v x q listed steady (F.leaves (Some n) fits h o) = asks _ _ h (λ z. z)
-    completes_busy v x q listed steady (F.forks entry arguments go h full o mine its) = asks _ go h (λ z. z.1 refl)
+    completes_busy v x q listed steady (F.forks entry arguments go h full o mine its empty) = asks _ go h (λ z. z.1 refl)
     completes_busy v x q listed steady (F.claims child go is made' most h o j to bad) =
         asks _ go h (word_there child 3 is most (omega arith))
     completes_busy v x q listed steady (F.faults fault e o) = asks _ _ (ap (look (code_of p) t) e) (λ z. z)

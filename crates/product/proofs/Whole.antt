@@ -1,0 +1,109 @@
+-- Each run of the machine on the code of a program is explained by a run of the program.
+use Rattle.std.proofs.Common.{◌≡◌, ℕ, suc, ◌+◌, ◌<◌, ◌≤◌, Bool, false, List, [], ◌∷◌, ◌++◌, length, refl, sym, subst, arith, inl, inr, ◌⊎◌}
+use Rattle.std.specs.Prelude.{map, ◌^◌}
+use Rattle.machine.specs.States.{State, opening_state}
+use Rattle.machine.specs.Runs.{Step, GoesBy, MachineRun}
+use Rattle.program.specs.declared.kinds.Member.{Member}
+use Rattle.program.specs.Trees.{Program}
+use Rattle.program.specs.WellFormed.{WellFormed}
+use Rattle.code.specs.Pieces.{code_of}
+use Rattle.meaning.specs.Labels.{Kind, Action}
+use Rattle.meaning.specs.Labels as L
+use Rattle.meaning.specs.States.{SourceState, opening}
+use Rattle.meaning.specs.Runs.{Leads}
+use Rattle.execution.specs.Completing.{IsOwn}
+use Rattle.refinement.specs.Pace.{stretch_length}
+use Rattle.refinement.specs.Refines.{is_stray_kind, is_kill_kind, processes_of, Explained, Refines}
+use Rattle.refinement.specs.Built.{build_of}
+use Rattle.product.specs.Corresponding.{Corresponds}
+use Rattle.product.specs.Ranks.{most_left}
+use Rattle.product.proofs.Sourcing.{act}
+use Rattle.product.proofs.Moving.{Next, AreOwn, left_of}
+use Rattle.product.proofs.Stepping.{next}
+use Rattle.product.proofs.Bounds.{left_few, left_short}
+use Rattle.product.proofs.Paces.{Trail, rests, goes, keeps_pace}
+use Rattle.product.proofs.Opening.{opens}
+use Rattle.product.proofs.Observing.{sound, ends}
+use Rattle.product.proofs.Resting.{at_rest, sleepers}
+
+abbrev AllOwn : List Action → Type 0
+AllOwn [] = Unit {0}
+AllOwn (a ∷ as') = IsOwn a.kind × AllOwn as'
+
+all_own : (t : ℕ) (ks : List Kind) (as' : List Action) → AreOwn ks → AllOwn as' → AllOwn (map (act t) ks ++ as')
+all_own t [] as' h g = g
+all_own t (k ∷ ks) as' h g = (h.0, all_own t ks as' h.1 g)
+
+leads_on : (p : Program) (s mid s' : SourceState) (as' bs : List Action) → Leads p s as' mid → Leads p mid bs s'
+    → Leads p s (as' ++ bs) s'
+leads_on p s mid s' [] bs h g = subst (λ (x : SourceState). Leads p x bs s') (sym h) g
+leads_on p s mid s' (a ∷ as') bs h g = (h.0, h.1, leads_on p h.0 mid s' as' bs h.2 g)
+
+-- a process's own action is neither a stray nor a kill
+own_kinds : (k : Kind) → IsOwn k → (is_stray_kind k ≡ false) × (is_kill_kind k ≡ false)
+own_kinds (L.Stray c) h = absurd h
+own_kinds (L.Kill r last) h = absurd h
+own_kinds k h = (refl, refl)
+
+none_from_outside : (test : Kind → Bool) → ((k : Kind) → IsOwn k → test k ≡ false) → (as' : List Action) → AllOwn as'
+    → processes_of test as' ≡ []
+none_from_outside test own_none [] h = refl
+none_from_outside test own_none (a ∷ as') h = rw (own_none a.kind h.0) (none_from_outside test own_none as' h.1)
+
+module _ (p : Program) (w : WellFormed p) where
+  abbrev most : ℕ
+  most = most_left (build_of p w 0)
+
+  few : (steps : ℕ) (s : State) (c : SourceState) (k : Corresponds p w steps s c) (u : ℕ) → left_of p w k u ≤ most
+  few steps s c k u = left_few (build_of p w k.world.made) c.variable u k.world (k.threads u)
+
+  -- what belongs to the state that a run of the machine comes to
+  record Come (s : State) (c : SourceState) (left : ℕ → ℕ) (steps : List Step) (s' : State) : Type 0 where
+    taken : ℕ
+    source : SourceState
+    ties : Corresponds p w taken s' source
+    actions : List Action
+    own : AllOwn actions
+    leads : Leads p c actions source
+    trail : Trail most left steps actions (left_of p w ties)
+
+  come : (taken : ℕ) (s : State) (c : SourceState) (k : Corresponds p w taken s c) (steps : List Step) (s' : State)
+      → taken + length steps < 2 ^ 32 → GoesBy (code_of p) s steps s' → Come s c (left_of p w k) steps s'
+  come taken s c k [] s' short run = subst (λ (x : State). Come s c (left_of p w k) [] x) run
+      (record { taken = taken; source = c; ties = k; actions = []; own = tt; leads = refl; trail = rests })
+  come taken s c k (l ∷ ls) s' short run =
+      let n = next p w taken s c k (λ d. let few = k.numbers d in omega (arith, few, short)) l run.0 run.1 in
+      let r = come (suc taken) run.0 n.after n.ties ls s' (omega (arith, short)) run.2 in
+      record {
+        taken = r.taken;
+        source = r.source;
+        ties = r.ties;
+        actions = map (act l.thread) n.kinds ++ r.actions;
+        own = all_own l.thread n.kinds r.actions n.own r.own;
+        leads = leads_on p c n.after r.source (map (act l.thread) n.kinds) r.actions n.leads r.leads;
+        trail = goes (left_of p w n.ties) l n.kinds n.paced (few (suc taken) run.0 n.after n.ties) r.trail;
+      }
+
+  explained : (steps : List Step) (s : State) → MachineRun (code_of p) steps s → length steps < 2 ^ 32
+      → Explained p (code_of p) steps s
+  explained steps s run short =
+      let k = opens p w in
+      let r = come 0 (opening_state (code_of p)) (opening p) k steps s (omega (arith, short)) run in
+      record {
+        sound = sound p w r.taken s r.source r.ties;
+        actions = r.actions;
+        source = r.source;
+        run = r.leads;
+        output = r.ties.output;
+        variables = r.ties.variables;
+        ends = ends p w r.taken s r.source r.ties;
+        at_rest = at_rest p w r.taken s r.source r.ties;
+        sleepers = sleepers p w r.taken s r.source r.ties;
+        pace = keeps_pace most (stretch_length p) (left_of p w k) (left_of p w r.ties) steps r.actions
+            (left_short p w 0) (few 0 (opening_state (code_of p)) (opening p) k) r.trail;
+        strays = none_from_outside is_stray_kind (λ i h. (own_kinds i h).0) r.actions r.own;
+        kills = none_from_outside is_kill_kind (λ i h. (own_kinds i h).1) r.actions r.own;
+      }
+
+  pub refines : Refines p (code_of p)
+  refines = record { follows = λ steps s run short. explained steps s run short }
