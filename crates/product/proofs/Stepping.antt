@@ -65,8 +65,8 @@ module _ (p : Program) (w : WellFormed p) (steps : ℕ) (s : State) (c : SourceS
       leaves_step p w steps s c k t woken pauses s' n number few awake q proc point list r x work fits h o moves
   completed x q thread proc point list work enough (F.forks {child = child} {after = later} entry arguments go h full o
       mine its empty) moves =
-      forks_step p w steps s c k t woken pauses s' n number few awake q proc point list x work moves child later entry
-      arguments go h full o mine its empty
+      forks_step p w steps s c k t woken pauses s' n number few awake q proc point list child later go entry arguments x
+      work h full o empty mine its moves
   completed x q thread proc point list work enough (F.claims {into = i} {part = y} {f = f} {callers = cs} child go some
       made most h o j to bad) moves =
       claims_step p w steps s c k t woken pauses s' n number few awake q proc point list x work moves child go some made
