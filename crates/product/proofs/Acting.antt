@@ -1,6 +1,6 @@
 -- Steps of a thread's own code: local ones, loads of variables, and those that complete an action of its process.
 use Rattle.std.proofs.Common.{◌≡◌, ◌≢◌, ℕ, suc, ◌+◌, ◌<◌, ◌≤◌, ◌==◌, ◌&&◌, Bool, true, false, List, [], ◌∷◌, ◌++◌, Option, Some, None, refl, ap, sym, ◌∙◌, subst, arith, inl, inr, ◌⊎◌, ℤ, if◌then◌else◌}
-use Rattle.std.proofs.lemmas.Bool.{cases_eq, eq-eqb, eqb-true, false≢true, or_left, or_right}
+use Rattle.std.proofs.lemmas.Bool.{eq-eqb, eqb-true, false≢true, or_left, or_right}
 use Rattle.words.specs.Updates.{put}
 use Rattle.words.specs.Signed.{word_of, signed_of}
 use Rattle.isa.specs.Programs.{Program as Image}
@@ -16,26 +16,23 @@ use Rattle.program.specs.WellFormed.{WellFormed}
 use Rattle.code.specs.Pieces.{code_of}
 use Rattle.meaning.specs.Labels.{Kind, Label, Alone, Stores, kind_of}
 use Rattle.meaning.specs.Labels as L
-use Rattle.meaning.specs.Table.{Table}
 use Rattle.meaning.specs.Values.{Variables, with_variable}
 use Rattle.meaning.specs.Processes.{Process, Entering, Before, Suspended, Joining, Returning, Failing, Dying, Leaving, Over, holds}
 use Rattle.meaning.specs.Offers.{Effect, Does, Nothing, Puts as Puts', Writes, Offer, offer, TakesUp}
 use Rattle.meaning.specs.States.{SourceState, variables_after, printed_after, processes_after}
-use Rattle.protocol.specs.Points.{Owned, Point, Runs, Thread as Place, thread_at, entry_at}
+use Rattle.protocol.specs.Points.{Point, Runs, Thread as Place, thread_at, entry_at}
 use Rattle.protocol.specs.World.{World, mem}
-use Rattle.protocol.specs.Cells.{Cell, cell}
-use Rattle.protocol.specs.Memory.{stored_value}
 use Rattle.protocol.specs.Exits.{Shares}
 use Rattle.protocol.specs.Moves.{Own}
 use Rattle.protocol.specs.Finds.{IsOwn as IsAlone}
-use Rattle.protocol.specs.Steps.{Can, after, go_list}
+use Rattle.protocol.specs.Steps.{Can, go_list}
 use Rattle.protocol.proofs.Roles.{own, holds as has}
 use Rattle.protocol.proofs.Good.{Good, one_owner}
 use Rattle.protocol.proofs.Kept.{permitted}
 use Rattle.protocol.proofs.Sleeps.{at_put, put_same, put_other}
 use Rattle.execution.specs.Variables.{IsVariable, variable_address, ValueFits, VariablesFit}
 use Rattle.execution.specs.Walks.{View, Reads, Walks, WalksWithin, stays, goes, loads}
-use Rattle.execution.specs.Following.{Build, StepsWithin, Stands}
+use Rattle.execution.specs.Following.{Build, Stands}
 use Rattle.execution.specs.Completing.{IsOwn, HasFirst, Proceeds, view_of}
 use Rattle.execution.specs.Builds.{most_steps}
 use Rattle.refinement.specs.Built.{build_of}
@@ -45,7 +42,7 @@ use Rattle.templates.proofs.Addresses.{variables_apart, variable_apart}
 use Rattle.product.specs.Standing.{StandsAt, works, IsAtWork, Holds}
 use Rattle.product.specs.Ranks.{steps_left, before_template}
 use Rattle.product.specs.Corresponding.{Corresponds, IsBefore, Reached}
-use Rattle.product.proofs.Sourcing.{act, action, acted}
+use Rattle.product.proofs.Sourcing.{action, acted}
 use Rattle.product.proofs.Standings.{first_in}
 use Rattle.product.proofs.Worlds.{reached_on, reached_good, shares_at}
 use Rattle.product.proofs.Moving.{Puts, put_puts, same_puts, HasNow, Next, moved}

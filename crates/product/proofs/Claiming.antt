@@ -1,11 +1,10 @@
 -- The claim of a JOIN, and the steps of a JOIN after it.
-use Rattle.std.proofs.Common.{◌≡◌, ◌≢◌, ℕ, zero, suc, ◌+◌, ◌<◌, ◌≤◌, Bool, true, List, [], ◌∷◌, length, Option, Some, None, refl, ap, sym, ◌∙◌, subst, arith, inl, inr, ◌⊎◌}
+use Rattle.std.proofs.Common.{◌≡◌, ◌≢◌, ℕ, zero, suc, ◌<◌, ◌≤◌, Bool, true, List, [], ◌∷◌, Option, Some, None, refl, ap, sym, ◌∙◌, subst, arith, inl, inr}
 use Rattle.std.specs.Prelude.{◌^◌}
 use Rattle.std.proofs.lemmas.Bool.{cases_eq}
 use Rattle.words.specs.Updates.{put}
-use Rattle.words.specs.Limits.{most_processes}
 use Rattle.words.specs.Process.{process_word}
-use Rattle.words.specs.declared.outcome.Fault.TheVariants.{HandleNotJoinable, ProcessTableFull}
+use Rattle.words.specs.declared.outcome.Fault.TheVariants.{HandleNotJoinable}
 use Rattle.locals.specs.Threads.{Thread, Dies as Dies'}
 use Rattle.locals.specs.Looks.{Look, Asks, AskSwap, look}
 use Rattle.machine.specs.States.{State, with_thread, with_word}
@@ -15,11 +14,11 @@ use Rattle.program.specs.declared.kinds.Member.{Member}
 use Rattle.program.specs.Trees.{Program, Part}
 use Rattle.program.specs.WellFormed.{WellFormed}
 use Rattle.code.specs.Pieces.{code_of}
-use Rattle.meaning.specs.Labels.{Kind, Label, Claims, FindsClaimed, Faulted, kind_of}
+use Rattle.meaning.specs.Labels.{Label, Claims, FindsClaimed, Faulted, kind_of}
 use Rattle.meaning.specs.Processes.{Frame, Caller, Process, Joining, Dying, holds, all_monitors}
 use Rattle.meaning.specs.Offers.{ClaimsOne, Nothing, Offer, offer, TakesUp}
 use Rattle.meaning.specs.States.{SourceState}
-use Rattle.protocol.specs.Points.{NoEntry, Point, Runs, JoinReads, Dies, Walks, ClearsId, LastWakes, HasEnded, Thread as Place, thread_at}
+use Rattle.protocol.specs.Points.{NoEntry, Point, Runs, JoinReads, Dies, Thread as Place, thread_at}
 use Rattle.protocol.specs.World.{World, mem}
 use Rattle.protocol.specs.Moves.{Move, Claim, ClaimTaken}
 use Rattle.protocol.specs.Steps.{Can, after, go, go_list}
@@ -29,18 +28,18 @@ use Rattle.protocol.specs.Exits.{Shares}
 use Rattle.protocol.proofs.Good.{Good}
 use Rattle.protocol.proofs.Kept.{permitted}
 use Rattle.protocol.proofs.Sleeps.{at_put, put_other}
-use Rattle.execution.specs.Variables.{IsVariable, variable_address, VariablesFit}
+use Rattle.execution.specs.Variables.{variable_address, VariablesFit}
 use Rattle.execution.specs.Completing.{IsOwn, Awaits, join_steps}
 use Rattle.execution.specs.Following.{Build, StepsWithin}
 use Rattle.refinement.specs.Built.{build_of}
 use Rattle.templates.specs.Layout.{place, valid, is_process}
 use Rattle.templates.proofs.Layouts.{apart, number_is}
 use Rattle.templates.proofs.Addresses.{variable_apart}
-use Rattle.product.specs.Standing.{StandsAt, IsAtWork, IsChild, reads, faults}
+use Rattle.product.specs.Standing.{StandsAt, IsAtWork, reads, faults}
 use Rattle.product.specs.Serving.{Keeps}
 use Rattle.product.specs.Corresponding.{Reached, IsBefore, Corresponds}
 use Rattle.product.proofs.Moving.{Puts, put_puts, Next, moved}
-use Rattle.product.proofs.Sourcing.{act, action, acted}
+use Rattle.product.proofs.Sourcing.{action, acted}
 use Rattle.product.proofs.Worlds.{reached_on, reached_good, shares_at, shares_stored}
 
 module _ (p : Program) (w : WellFormed p) (steps : ℕ) (s : State) (c : SourceState) (k : Corresponds p w steps s c)

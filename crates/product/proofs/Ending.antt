@@ -1,5 +1,5 @@
 -- From a fault or the return of a thread's first procedure into its exit.
-use Rattle.std.proofs.Common.{◌≡◌, ◌≢◌, ℕ, zero, suc, ◌+◌, ◌<◌, ◌≤◌, Bool, true, List, [], ◌∷◌, length, Option, Some, None, refl, ap, sym, ◌∙◌, subst, arith, pos, inl, inr, ◌⊎◌}
+use Rattle.std.proofs.Common.{◌≡◌, ◌≢◌, ℕ, zero, suc, ◌+◌, ◌<◌, ◌≤◌, Bool, true, List, [], ◌∷◌, length, Option, Some, None, refl, ap, sym, ◌∙◌, subst, arith, inl, inr, ◌⊎◌}
 use Rattle.std.specs.Prelude.{◌^◌, map}
 use Rattle.words.specs.Updates.{put}
 use Rattle.words.specs.declared.outcome.Fault.{Fault}
@@ -9,7 +9,7 @@ use Rattle.words.specs.Signed.{signed_of}
 use Rattle.robustexit.specs.declared.phase.ExitPhase.{ExitPhase}
 use Rattle.robustexit.specs.Phases.{next_entry}
 use Rattle.locals.specs.Threads.{Thread, Exits, Dies as Dies'}
-use Rattle.locals.specs.Looks.{Look, Asks, AskReturn, AskReturnValue, look, first_exit}
+use Rattle.locals.specs.Looks.{Look, Asks, look, first_exit}
 use Rattle.machine.specs.States.{State, with_thread, with_word}
 use Rattle.machine.specs.Runs.{Moves}
 use Rattle.machine.specs.AbstractServing.{with_outcome, shared_of}
@@ -25,8 +25,8 @@ use Rattle.meaning.specs.Offers.{Does, Nothing, Offer, offer, TakesUp}
 use Rattle.meaning.specs.States.{SourceState}
 use Rattle.meaning.specs.Runs.{Leads}
 use Rattle.protocol.specs.Points.{NoEntry, Point, Runs, Dies, Walks, Thread as Place, thread_at}
-use Rattle.protocol.specs.World.{World, mem}
-use Rattle.protocol.specs.Moves.{Move, Own, Raise, WriteFault, Return}
+use Rattle.protocol.specs.World.{World}
+use Rattle.protocol.specs.Moves.{Own, Raise, WriteFault, Return}
 use Rattle.protocol.specs.Steps.{Can, after, go_list, result_after, returned_end}
 use Rattle.protocol.specs.Cells.{HeadOf, ResultOf, OutcomeOf, write}
 use Rattle.protocol.specs.Exits.{Shares, PhaseIs}
@@ -45,7 +45,6 @@ use Rattle.templates.proofs.Addresses.{variable_apart}
 use Rattle.product.specs.Standing.{StandsAt, IsAtWork, IsEnding, ending, entries_seen, walks}
 use Rattle.product.specs.Ranks.{steps_left}
 use Rattle.product.specs.Corresponding.{Reached, IsBefore, Corresponds}
-use Rattle.product.proofs.Acting.{held_of}
 use Rattle.product.proofs.ExitServing.{running_chain, dying_chain, first_phase, first_short}
 use Rattle.product.proofs.Moving.{Puts, put_puts, same_puts, AreOwn, IsSome, Next, moved}
 use Rattle.product.proofs.Sourcing.{act, action, acted}
@@ -304,9 +303,12 @@ module _ (p : Program) (w : WellFormed p) (steps : ℕ) (s : State) (c : SourceS
         (reached_on k.world c.table t move k.reached can)
         (ap (λ (i : Place). i.point) (put_same k.world.at t z))
         (ap (λ (i : Place). i.list) (put_same k.world.at t z)) (λ y. put_put k.world.at t z y)
-        (running_chain k.world c.table t inv point) (put_puts c.process t (Some r)) (tt, tt)
-        (acted c t Nothing r c.table, action p c t q r (Alone (L.Fails fault)) Nothing c.table proc
-        (takes_up (Alone (L.Fails fault)) r o') (permitted k.world c.table t move inv can).0, refl)
+        (running_chain k.world c.table t inv point) (put_puts c.process t (Some r)) (tt, tt) (
+          acted c t Nothing r c.table,
+          action p c t q r (Alone (L.Fails fault)) Nothing c.table proc
+              (takes_up (Alone (L.Fails fault)) r o') (permitted k.world c.table t move inv can).0,
+          refl,
+        )
         (inl tt) (subst (λ (i : Thread). Moves s t woken (look (code_of p) t i) s') e moves)
 
     -- a thread whose process leaves with this step
@@ -325,7 +327,10 @@ module _ (p : Program) (w : WellFormed p) (steps : ℕ) (s : State) (c : SourceS
         (reached_on k.world c.table t move k.reached can)
         (ap (λ (i : Place). i.point) (put_same k.world.at t z))
         (ap (λ (i : Place). i.list) (put_same k.world.at t z)) (λ y. put_put k.world.at t z y) point
-        (put_puts c.process t (Some after')) (tt, tt)
-        (acted c t Nothing after' c.table, action p c t q after' (Alone L.Return) Nothing c.table proc takes
-        (permitted k.world c.table t move inv can).0, refl)
+        (put_puts c.process t (Some after')) (tt, tt) (
+          acted c t Nothing after' c.table,
+          action p c t q after' (Alone L.Return) Nothing c.table proc takes
+              (permitted k.world c.table t move inv can).0,
+          refl,
+        )
         (inl tt) (subst (λ (i : Look). Moves s t woken i s') h moves)

@@ -1,10 +1,9 @@
 -- The steps of a JOIN: the reading of the id word, the sleep on it, and what is learned of the child's end.
-use Rattle.std.proofs.Common.{◌≡◌, ◌≢◌, ℕ, zero, suc, ◌+◌, ◌<◌, ◌≤◌, ◌==◌, Bool, true, false, List, length, Option, Some, None, ℤ, refl, ap, sym, ◌∙◌, subst, arith, inl, inr, ◌⊎◌}
-use Rattle.std.specs.Prelude.{if◌then◌else◌, ◌^◌}
-use Rattle.std.proofs.lemmas.Bool.{cond-true, cond-false, eq-eqb, ne_eqb, cases_eq}
+use Rattle.std.proofs.Common.{◌≡◌, ◌≢◌, ℕ, zero, suc, ◌+◌, ◌<◌, ◌≤◌, ◌==◌, Bool, true, false, List, Option, Some, None, ℤ, refl, ap, sym, ◌∙◌, subst, arith, inl, inr, ◌⊎◌}
+use Rattle.std.specs.Prelude.{if◌then◌else◌}
+use Rattle.std.proofs.lemmas.Bool.{cond-true, cond-false, eq-eqb, ne_eqb}
 use Rattle.words.specs.declared.outcome.Fault.TheVariants.{ResultOutOfRange, DivisionByZero, IndexOutOfRange, HandleNotJoinable, ProcessTableFull, AbortStatement, AbandonedMonitor, JoinedAborted}
 use Rattle.words.specs.Process.{process_word}
-use Rattle.words.specs.Signed.{signed_of}
 use Rattle.locals.specs.Threads.{Thread, Dies as Dies'}
 use Rattle.locals.specs.Looks.{Request, Look, Asks, AskLoad, AskWait, look}
 use Rattle.machine.specs.States.{State, with_thread}
@@ -14,30 +13,27 @@ use Rattle.program.specs.Trees.{Part, NoPart, SomePart, followed_by, Program}
 use Rattle.program.specs.WellFormed.{WellFormed}
 use Rattle.code.specs.Pieces.{code_of}
 use Rattle.meaning.specs.Labels.{Cause, Faulted, Killed, End, Ended, Aborted, Joins}
-use Rattle.meaning.specs.Values.{Variables}
-use Rattle.meaning.specs.Table.{Table}
-use Rattle.meaning.specs.Processes.{Frame, Caller, Process, Joining, Failing, goes_on, with_result, holds, all_monitors}
-use Rattle.meaning.specs.Offers.{offer, joined, joined_part}
+use Rattle.meaning.specs.Processes.{Frame, Caller, Process, Joining, Failing, goes_on, with_result, all_monitors}
+use Rattle.meaning.specs.Offers.{joined, joined_part}
 use Rattle.meaning.specs.States.{SourceState}
-use Rattle.protocol.specs.Points.{Spot, OnId, Point, Unmade, Runs, JoinReads, JoinSleeps, JoinLearns, JoinTakes, LastWakes, HasEnded}
+use Rattle.protocol.specs.Points.{OnId, Point, Unmade, Runs, JoinReads, JoinSleeps, JoinLearns, JoinTakes, LastWakes, HasEnded}
 use Rattle.protocol.specs.World.{World, mem}
 use Rattle.protocol.specs.Finds.{cause_word, Tells}
 use Rattle.protocol.specs.Steps.{go_list}
-use Rattle.protocol.specs.Cells.{IdOf}
 use Rattle.protocol.specs.Requests.{request}
 use Rattle.protocol.specs.Answers.{next, next_list}
-use Rattle.protocol.specs.Runs.{Matches, HasJoined}
+use Rattle.protocol.specs.Runs.{HasJoined}
 use Rattle.protocol.specs.Served.{MayAnswer, carried}
 use Rattle.protocol.proofs.Good.{Good}
 use Rattle.protocol.proofs.Rest.{matches}
 use Rattle.protocol.proofs.Joins.{IdAt}
 use Rattle.protocol.proofs.Sleeps.{put_same}
-use Rattle.execution.specs.Following.{Build, StepsWithin, Stands}
+use Rattle.execution.specs.Following.{Build, Stands}
 use Rattle.execution.specs.Completing.{Awaits, GoesAborted, join_steps, view_of}
 use Rattle.execution.specs.Completing as F
 use Rattle.execution.specs.Builds.{most_steps}
 use Rattle.execution.specs.Walks.{stays}
-use Rattle.execution.proofs.Walking.{seen, wider}
+use Rattle.execution.proofs.Walking.{seen}
 use Rattle.refinement.specs.Built.{build_of}
 use Rattle.templates.specs.Layout.{place, is_process}
 use Rattle.templates.specs.Asking.{asked, told, template_steps}
@@ -45,7 +41,7 @@ use Rattle.templates.specs.Templates.{ActsSo}
 use Rattle.protocol.specs.Carries.{Event, Acts}
 use Rattle.words.specs.Updates.{put}
 use Rattle.templates.proofs.Layouts.{number_is}
-use Rattle.product.specs.Standing.{StandsAt, works, reads, sleeps, learns, takes, IsLast, IsChild, IsAtWork}
+use Rattle.product.specs.Standing.{StandsAt, works, reads, sleeps, learns, takes, IsLast, IsChild}
 use Rattle.product.specs.Ranks.{rank, steps_left, more_steps, before_template}
 use Rattle.product.specs.Corresponding.{Corresponds, IsBefore}
 use Rattle.product.specs.Serving.{IsServed, IsAskable}

@@ -1,10 +1,10 @@
 -- The steps of an exit: over the entries of the robust list, each an abandoned monitor, and to the end.
-use Rattle.std.proofs.Common.{◌≡◌, ℕ, zero, suc, ◌+◌, ◌<◌, ◌≤◌, Bool, false, List, [], ◌∷◌, length, Option, Some, None, refl, ap, sym, ◌∙◌, subst, arith}
+use Rattle.std.proofs.Common.{◌≡◌, ℕ, zero, suc, ◌+◌, ◌<◌, ◌≤◌, Bool, List, [], ◌∷◌, length, Some, None, refl, ap, sym, ◌∙◌, subst, arith}
 use Rattle.robustexit.specs.declared.phase.ExitPhase.{ExitPhase}
-use Rattle.robustexit.specs.declared.phase.ExitPhase.TheVariants.{Entry, Pending, ClearId, LastWake, Ended as Ended'}
-use Rattle.locals.specs.Threads.{Thread, Exits}
+use Rattle.robustexit.specs.declared.phase.ExitPhase.TheVariants.{ClearId, LastWake, Ended as Ended'}
+use Rattle.locals.specs.Threads.{Exits}
 use Rattle.locals.specs.Looks.{Look, Leaves, look}
-use Rattle.machine.specs.States.{State, with_thread}
+use Rattle.machine.specs.States.{State}
 use Rattle.machine.specs.Runs.{Moves}
 use Rattle.program.specs.Trees.{Program}
 use Rattle.program.specs.WellFormed.{WellFormed}
@@ -15,11 +15,9 @@ use Rattle.meaning.specs.Processes.{Process, Dying, Over}
 use Rattle.meaning.specs.Offers.{Does, Nothing, Offer, offer, TakesUp}
 use Rattle.meaning.specs.States.{SourceState}
 use Rattle.protocol.specs.Points.{NoEntry, Point, Walks, ClearsId, LastWakes, HasEnded}
-use Rattle.protocol.specs.World.{World, mem, tail}
+use Rattle.protocol.specs.World.{World, tail}
 use Rattle.protocol.specs.Steps.{go_list}
 use Rattle.protocol.specs.Exits.{PhaseIs}
-use Rattle.protocol.specs.Answers.{next, next_list}
-use Rattle.protocol.specs.Served.{MayAnswer, carried}
 use Rattle.protocol.proofs.Good.{Good}
 use Rattle.refinement.specs.Built.{build_of}
 use Rattle.templates.specs.Layout.{place, valid}
@@ -28,8 +26,8 @@ use Rattle.product.specs.Ranks.{steps_left}
 use Rattle.product.specs.Corresponding.{Corresponds}
 use Rattle.product.proofs.Worlds.{reached_good}
 use Rattle.product.proofs.Moving.{Next}
-use Rattle.product.proofs.Stepped.{Arrives, stepped}
-use Rattle.product.proofs.ExitServing.{IsExit, LeavesOn, leaves_on, first_listed, none_listed}
+use Rattle.product.proofs.Stepped.{stepped}
+use Rattle.product.proofs.ExitServing.{leaves_on, first_listed, none_listed}
 use Rattle.product.proofs.Templating.{listed_next}
 
 -- a thread in its exit takes the step of its phase
@@ -128,8 +126,11 @@ module _ (p : Program) (w : WellFormed p) (steps : ℕ) (s : State) (c : SourceS
       (λ world. refl) in
       record {
         process = Over end;
-        acts = (refl, subst (λ (o : Offer). TakesUp o (Ends end) Nothing (Over end))
-            (sym (ending_offer p c.variable end)) (refl, refl, refl));
+        acts = (
+          refl,
+          subst (λ (o : Offer). TakesUp o (Ends end) Nothing (Over end))
+              (sym (ending_offer p c.variable end)) (refl, refl, refl),
+        );
         stands = st.0;
         listed = k.lists t;
         blank = λ h. absurd h;

@@ -1,6 +1,5 @@
 -- A local step of a thread: it goes on towards where it stands, and nothing else changes.
-use Rattle.std.proofs.Common.{◌≡◌, ℕ, suc, ◌+◌, ◌<◌, ◌≤◌, Bool, false, true, List, [], length, Option, Some, None, refl, ap, sym, ◌∙◌, subst, arith, inl, inr, ◌⊎◌}
-use Rattle.std.specs.Prelude.{◌^◌}
+use Rattle.std.proofs.Common.{◌≡◌, ℕ, suc, ◌<◌, ◌≤◌, Bool, true, List, [], Some, refl, ap, sym, ◌∙◌, subst, arith, inl, inr, ◌⊎◌}
 use Rattle.words.specs.Updates.{put}
 use Rattle.isa.specs.Programs.{Program as Image}
 use Rattle.locals.specs.Threads.{Thread}
@@ -13,14 +12,14 @@ use Rattle.code.specs.Pieces.{code_of}
 use Rattle.meaning.specs.Processes.{Process}
 use Rattle.meaning.specs.States.{SourceState}
 use Rattle.protocol.specs.Points.{Point, Thread as Place, thread_at}
-use Rattle.protocol.specs.World.{World, mem}
-use Rattle.protocol.proofs.Sleeps.{at_put, put_same, put_other}
+use Rattle.protocol.specs.World.{mem}
+use Rattle.protocol.proofs.Sleeps.{at_put}
 use Rattle.execution.specs.Walks.{Walks, WalksWithin, stays, goes, loads, empty_view}
 use Rattle.refinement.specs.Built.{build_of}
 use Rattle.product.specs.Standing.{StandsAt}
 use Rattle.product.specs.Ranks.{steps_left}
 use Rattle.product.specs.Corresponding.{Corresponds, IsBefore}
-use Rattle.product.proofs.Moving.{Next, Follow, put_puts, same_puts, moved}
+use Rattle.product.proofs.Moving.{Next, put_puts, same_puts, moved}
 
 -- a change that changes nothing
 pub put_again : {A : Type 0} (f : ℕ → A) (t : ℕ) (v : A) → f t ≡ v → f ≡ put f t v

@@ -1,6 +1,5 @@
 -- A FORK: a thread more, or a fault where no more can be made.
-use Rattle.std.proofs.Common.{◌≡◌, ◌≢◌, ℕ, zero, suc, ◌+◌, ◌<◌, ◌≤◌, Bool, true, false, List, [], ◌∷◌, length, Option, Some, None, refl, ap, sym, ◌∙◌, subst, arith, inl, inr, ◌⊎◌}
-use Rattle.std.specs.Prelude.{◌^◌}
+use Rattle.std.proofs.Common.{◌≡◌, ◌≢◌, ℕ, suc, ◌<◌, ◌≤◌, Bool, true, List, [], ◌∷◌, length, Option, Some, None, refl, ap, sym, ◌∙◌, subst, arith, inl, inr}
 use Rattle.std.proofs.lemmas.Bool.{cases_eq, false≢true}
 use Rattle.words.specs.Updates.{put}
 use Rattle.words.specs.Limits.{most_processes}
@@ -10,8 +9,7 @@ use Rattle.locals.specs.Threads.{Thread, Dies as Dies', opening_thread}
 use Rattle.locals.specs.Looks.{Look, Asks, AskFork, look}
 use Rattle.machine.specs.States.{State, with_thread}
 use Rattle.machine.specs.Runs.{Moves}
-use Rattle.machine.specs.AbstractServing.{shared_of, with_child}
-use Rattle.program.specs.declared.kinds.Member.{Member}
+use Rattle.machine.specs.AbstractServing.{shared_of}
 use Rattle.program.specs.Trees.{Program}
 use Rattle.program.specs.WellFormed.{WellFormed}
 use Rattle.code.specs.Pieces.{code_of}
@@ -38,14 +36,13 @@ use Rattle.templates.proofs.Addresses.{variable_apart}
 use Rattle.execution.specs.Walks.{WalksWithin, stays, empty_view}
 use Rattle.refinement.specs.Built.{build_of}
 use Rattle.product.specs.Standing.{StandsAt, IsAtWork, faults}
-use Rattle.product.specs.Serving.{Keeps}
 use Rattle.product.specs.Corresponding.{Corresponds, IsBefore}
 use Rattle.product.proofs.Moving.{Next}
 use Rattle.product.proofs.Claiming.{starts}
 use Rattle.product.proofs.Acting.{held_of}
 use Rattle.product.proofs.Templating.{works_on}
 use Rattle.product.proofs.Standings.{stand_moves}
-use Rattle.product.proofs.Sourcing.{act, action, acted}
+use Rattle.product.proofs.Sourcing.{action, acted}
 use Rattle.product.proofs.Worlds.{reached_on, reached_good, shares_at, shares_stored}
 
 module _ (p : Program) (w : WellFormed p) (steps : ℕ) (s : State) (c : SourceState) (k : Corresponds p w steps s c)
@@ -133,20 +130,28 @@ module _ (p : Program) (w : WellFormed p) (steps : ℕ) (s : State) (c : SourceS
     at_all : (u : ℕ) → Here u (grown.thread u) (c1.process u) (w1.at u)
     at_all u = elim (cases_eq u t) [
       | inl e ↦ subst (λ v. Here v (grown.thread v) (c1.process v) (w1.at v)) (sym e)
-          (rw (put_same (put s.thread made (Some (opening_thread entry arguments))) t (Some (go' made)),
-          put_same (put c.process made (Some child)) t (Some (later made)),
-          put_other k.world.at made (thread_at Runs []) t (λ i. differs (sym i))) at_parent)
+          (rw (
+            put_same (put s.thread made (Some (opening_thread entry arguments))) t (Some (go' made)),
+            put_same (put c.process made (Some child)) t (Some (later made)),
+            put_other k.world.at made (thread_at Runs []) t (λ i. differs (sym i)),
+          ) at_parent)
       | inr d ↦ elim (cases_eq u made) [
         | inl e ↦ subst (λ v. Here v (grown.thread v) (c1.process v) (w1.at v)) (sym e)
-            (rw (put_other (put s.thread made (Some (opening_thread entry arguments))) t (Some (go' made)) made differs,
-            put_same s.thread made (Some (opening_thread entry arguments)),
-            put_other (put c.process made (Some child)) t (Some (later made)) made differs,
-            put_same c.process made (Some child), put_same k.world.at made (thread_at Runs [])) at_child)
+            (rw (
+              put_other (put s.thread made (Some (opening_thread entry arguments))) t (Some (go' made)) made differs,
+              put_same s.thread made (Some (opening_thread entry arguments)),
+              put_other (put c.process made (Some child)) t (Some (later made)) made differs,
+              put_same c.process made (Some child),
+              put_same k.world.at made (thread_at Runs []),
+            ) at_child)
         | inr e ↦
-            rw (put_other (put s.thread made (Some (opening_thread entry arguments))) t (Some (go' made)) u d,
-            put_other s.thread made (Some (opening_thread entry arguments)) u e,
-            put_other (put c.process made (Some child)) t (Some (later made)) u d,
-            put_other c.process made (Some child) u e, put_other k.world.at made (thread_at Runs []) u e) (at_other u)
+            rw (
+              put_other (put s.thread made (Some (opening_thread entry arguments))) t (Some (go' made)) u d,
+              put_other s.thread made (Some (opening_thread entry arguments)) u e,
+              put_other (put c.process made (Some child)) t (Some (later made)) u d,
+              put_other c.process made (Some child) u e,
+              put_other k.world.at made (thread_at Runs []) u e,
+            ) (at_other u)
       ]
     ]
 
@@ -177,8 +182,12 @@ module _ (p : Program) (w : WellFormed p) (steps : ℕ) (s : State) (c : SourceS
       };
       kinds = L.Fork made ∷ [];
       own = (tt, tt);
-      leads = (c1, action p c t q (later made) (Forks made) (Makes made child) (table_after k.world c.table made (Fork t))
-          proc takes (permitted k.world c.table made (Fork t) (reached_good k.world c.table k.reached) can_fork).0, refl);
+      leads = (
+        c1,
+        action p c t q (later made) (Forks made) (Makes made child) (table_after k.world c.table made (Fork t))
+            proc takes (permitted k.world c.table made (Fork t) (reached_good k.world c.table k.reached) can_fork).0,
+        refl,
+      );
       paced = λ z. inl tt;
     })
 

@@ -1,5 +1,5 @@
 -- From states that belong together to the next, by a step of a thread.
-use Rattle.std.proofs.Common.{◌≡◌, ◌≢◌, ℕ, suc, ◌<◌, ◌≤◌, Bool, true, false, List, length, Some, refl, ap, sym, ◌∙◌, subst, arith, inl, inr, ◌⊎◌}
+use Rattle.std.proofs.Common.{◌≡◌, ◌≢◌, ℕ, suc, ◌<◌, ◌≤◌, Bool, true, false, List, length, Some, refl, sym, ◌∙◌, subst, inl, inr, ◌⊎◌}
 use Rattle.std.specs.Prelude.{◌^◌, [], ◌∷◌, map, Option}
 use Rattle.std.proofs.lemmas.Bool.{cases_eq}
 use Rattle.words.specs.Updates.{put}
@@ -120,9 +120,11 @@ module _ (p : Program) (w : WellFormed p) where
     other u o =
         subst (λ (x : Option Thread). Here u x (c'.process u) (moved_at u)) (sym (f.threads.other u o))
         (subst (λ (r : Option Process). Here u (s.thread u) r (moved_at u)) (sym (f.processes.other u o))
-        (subst (λ (z : Place). Here u (s.thread u) (c.process u) z) (sym (put_other k.world.at t (thread_at pt l) u o))
-        (stand_moves (build_of p w k.world.made) w'.made f.more c.variable c'.variable u (s.thread u) (c.process u)
-        (k.world.at u).point (k.world.at u).list (λ m h n i. f.same u m o h n i) (k.threads u), λ e. absurd (o e))))
+        (subst (λ (z : Place). Here u (s.thread u) (c.process u) z) (sym (put_other k.world.at t (thread_at pt l) u o)) (
+          stand_moves (build_of p w k.world.made) w'.made f.more c.variable c'.variable u (s.thread u) (c.process u)
+              (k.world.at u).point (k.world.at u).list (λ m h n i. f.same u m o h n i) (k.threads u),
+          λ e. absurd (o e),
+        )))
 
     here : (u : ℕ) → Here u (s'.thread u) (c'.process u) (w'.at u)
     here u = subst (λ (g : ℕ → Place). Here u (s'.thread u) (c'.process u) (g u)) (sym f.at)

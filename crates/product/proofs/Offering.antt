@@ -1,7 +1,6 @@
 -- What a process offers inside a template, over the variables as they are now.
-use Rattle.std.proofs.Common.{◌≡◌, ◌≢◌, ℕ, ◌+◌, ◌==◌, Bool, true, false, List, Option, Some, None, ℤ, refl, ap, sym, ◌∙◌, subst}
+use Rattle.std.proofs.Common.{◌≡◌, ℕ, ◌+◌, ◌==◌, Bool, true, false, List, Option, Some, None, refl, sym, subst}
 use Rattle.std.specs.Prelude.{if◌then◌else◌}
-use Rattle.program.specs.declared.kinds.Member.{Member}
 use Rattle.program.specs.Trees.{Program}
 use Rattle.locals.specs.Threads.{Thread}
 use Rattle.locals.specs.declared.frame.Frame.{Frame as MachineFrame}
@@ -10,17 +9,15 @@ use Rattle.meaning.specs.Table.{Table}
 use Rattle.meaning.specs.Values.{Variables}
 use Rattle.meaning.specs.Processes.{Frame, Caller, Process}
 use Rattle.meaning.specs.Offers.{Nothing, Offer, offer, TakesUp}
-use Rattle.protocol.specs.Word.{owner, waiters}
-use Rattle.protocol.specs.Points.{Purpose, ToEnter, ToReenter, ToResume, Release, ToExit, ToWait, Point, EnterTries, ReenterTries, TakeReads, TakeMarks, TakeTries, JoinReads, JoinLearns, LeaveSwaps, HasLeft, WaitReads, LeavePends, LeaveReads, LeaveHeads, Walks}
+use Rattle.protocol.specs.Word.{owner}
+use Rattle.protocol.specs.Points.{Purpose, ToEnter, ToReenter, ToResume, ToExit, ToWait, Point, EnterTries, ReenterTries, TakeReads, TakeMarks, TakeTries, JoinReads, JoinLearns, LeaveSwaps, HasLeft, WaitReads, LeavePends, LeaveReads, LeaveHeads, Walks}
 use Rattle.protocol.specs.World.{World}
 use Rattle.protocol.specs.Carries.{Event, Acts, Strays, Kills}
 use Rattle.protocol.specs.Answers.{next}
 use Rattle.protocol.specs.Served.{carried}
 use Rattle.execution.specs.Following.{Build}
 use Rattle.templates.specs.Locking.{Takes, EntersAt, ExitsAt, WaitsAt}
-use Rattle.templates.specs.Notifying.{NotifiesAt, BroadcastsAt}
 use Rattle.templates.specs.Locking as L
-use Rattle.templates.specs.Notifying as N
 use Rattle.templates.specs.Inside.{Template, Enters, Exits, Waits, Notifies, Broadcasts, process_at, taking_process, StandsIn, Fits, IsBeforeRelease, SameBefore}
 use Rattle.templates.specs.Templates.{ActsSo}
 use Rattle.product.proofs.Ranking.{IsTemplate}

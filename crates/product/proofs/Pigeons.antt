@@ -83,8 +83,8 @@ short zero (x ∷ xs) d below =
 short (suc n) xs d below =
     let less = one_less n xs d in
     let rest = short n (without n xs) (still_distinct n xs d) (λ u h.
-        let k = kept n xs u h in
-        let b = below u k.0 in
-        let o = k.1 in
-        omega (arith, b, o)) in
+    let k = kept n xs u h in
+    let b = below u k.0 in
+    let o = k.1 in
+    omega (arith, b, o)) in
     omega (arith, less, rest)

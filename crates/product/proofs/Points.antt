@@ -1,6 +1,6 @@
 -- What the points of a template say of its thread.
-use Rattle.std.proofs.Common.{◌≡◌, ◌≢◌, ℕ, ◌+◌, ◌<◌, ◌==◌, Bool, true, false, List, [], ◌∷◌, length, Option, Some, None, ℤ, refl, ap, sym, ◌∙◌, subst, arith, inl, inr}
-use Rattle.std.specs.Prelude.{◌≤◌, if◌then◌else◌, is_some, slice_get}
+use Rattle.std.proofs.Common.{◌≡◌, ◌≢◌, ℕ, ◌+◌, ◌<◌, true, List, length, Option, Some, None, refl, sym, subst}
+use Rattle.std.specs.Prelude.{◌≤◌, is_some, slice_get}
 use Rattle.program.specs.declared.kinds.Member.{Member}
 use Rattle.program.specs.declared.kinds.MemberType.TheVariants.{Condition}
 use Rattle.program.specs.Trees.{Monitor, Program}
@@ -8,18 +8,9 @@ use Rattle.program.specs.Scope.{member_in, member_type}
 use Rattle.locals.specs.Threads.{Thread}
 use Rattle.locals.specs.declared.frame.Locals.{Locals}
 use Rattle.locals.specs.declared.frame.Frame.{Frame as MachineFrame}
-use Rattle.meaning.specs.Labels.{End}
-use Rattle.meaning.specs.Table.{Table}
 use Rattle.meaning.specs.Values.{Variables}
-use Rattle.meaning.specs.Processes.{Frame, Caller, Process, Entering, Suspended}
-use Rattle.meaning.specs.Offers.{offer, TakesUp}
-use Rattle.protocol.specs.Word.{owner}
-use Rattle.protocol.specs.Points.{Purpose, ToEnter, ToReenter, ToResume, ToExit, ToWait, Point, Runs, EnterTries, TakeReads, TakeMarks, TakeTries, LeaveWakes, HasLeft, GotReads, GotHeads}
-use Rattle.protocol.specs.World.{World}
-use Rattle.protocol.specs.Carries.{Event, Acts, Strays, Kills}
+use Rattle.protocol.specs.Points.{Purpose, ToEnter, ToReenter, ToResume, Point, Runs, GotHeads}
 use Rattle.protocol.specs.Requests.{request}
-use Rattle.protocol.specs.Answers.{next}
-use Rattle.protocol.specs.Served.{carried}
 use Rattle.protocol.specs.Cells.{SequenceOf}
 use Rattle.execution.specs.Following.{Build}
 use Rattle.templates.specs.Layout.{valid, is_process, is_monitor}
@@ -27,8 +18,7 @@ use Rattle.templates.specs.Locking.{Takes, EntersAt, ExitsAt, WaitsAt}
 use Rattle.templates.specs.Notifying.{NotifiesAt, BroadcastsAt}
 use Rattle.templates.specs.Locking as L
 use Rattle.templates.specs.Notifying as N
-use Rattle.templates.specs.Inside.{Template, Enters, Exits, Waits, Notifies, Broadcasts, process_at, StandsIn, Fits, IsBeforeRelease, SameBefore}
-use Rattle.templates.specs.Templates.{ActsSo}
+use Rattle.templates.specs.Inside.{Template, Enters, Exits, Waits, Notifies, Broadcasts, StandsIn, Fits}
 use Rattle.templates.proofs.Layouts.{number_is, monitor_valid, monitor_below, sequence_valid}
 use Rattle.product.specs.Serving.{IsAskable}
 use Rattle.product.proofs.Ranking.{IsTemplate}

@@ -295,7 +295,7 @@ module _ (p : Program) (w : WellFormed p) (steps : ℕ) (s : State) (c : SourceS
           let number = number_of p w steps s c k u x there in
           let valid' = number_is u number.0 (omega (arith, number.1, few_made p w steps s c k)) in
           let word : stored_value (place p) (PendingOf u) (k.world.pending u) ≡ 0 =
-              sym (k.shares.words.word (PendingOf u) valid') ∙ free.5 in
+          sym (k.shares.words.word (PendingOf u) valid') ∙ free.5 in
           outside p w k.world.made c.variable u (k.world.pending u) (s.thread u) (c.process u) (k.world.at u).point
           (k.world.at u).list (k.threads u) (λ e. exiting_runs (s.thread u) e free.0 free.1 free.2 free.3 free.4)
           ((reached_good k.world c.table k.reached).pends.pend u) word

@@ -314,12 +314,12 @@ module _ (p : Program) (s : State) (w : World) (t : ℕ) (pt : Point)
     requeues : ((u : ℕ) (c : Member) → w.asleep u ≡ Some (OnSequence c) → u ≤ 64) → (c : Member) (v : ℕ)
         → valid p (SequenceOf c) ≡ true → valid p (LockOf c.monitor) ≡ true
         → A.Serves t (M.AskRequeue (place p (SequenceOf c)) (place p (LockOf c.monitor)) 0 everyone v) s woken
-            answer mid
+        answer mid
         → IsAnswered p s mid w t pt (AskRequeue c v) answer
     requeues few c v ok okl h = elim h.2 [
       | inl g ↦
           let k = (calls_follow (place p) (valid p) (apart p)).requeues (shared_of s) w c everyone v woken g.0 g.1
-              shares ok okl (few_moved g.0 g.1 g.2) g.2 in
+          shares ok okl (few_moved g.0 g.1 g.2) g.2 in
           slept mid (AskRequeue c v) answer answer g.1 (requeued_sleep w.asleep c) g.4 k.1 (inl (k.0, refl)) refl
       | inr g ↦
           still mid (AskRequeue c v) answer answer g.3
@@ -331,7 +331,7 @@ module _ (p : Program) (s : State) (w : World) (t : ℕ) (pt : Point)
 
         few_moved : (moved : List ℕ) (after : ℕ → Option ℕ)
             → Requeues s.word s.asleep (place p (SequenceOf c)) (place p (LockOf c.monitor)) 0 everyone v woken moved
-                after
+            after
             → length moved < everyone
         few_moved moved after g =
             let nobody : woken ≡ [] = none_woken woken g.wakes.choice.few in
@@ -339,11 +339,11 @@ module _ (p : Program) (s : State) (w : World) (t : ℕ) (pt : Point)
             subst (λ us. IsChoice (with_place s.asleep us None) (place p (SequenceOf c)) everyone moved) nobody
             (g.moves.choice differ) in
             let less = short 65 moved (distinct moved choice.distinct) (λ u e.
-                let spot = spot_at (place p) (valid p) (OnSequence c) (w.asleep u) (apart p) ok
-                    (λ y z. shares.spots u y z)
-                    (sym (shares.sleeps u) ∙ choice.slept u (names-mem moved u ∙ e)) in
-                let small = few u c spot in
-                omega (arith, small)) in
+            let spot = spot_at (place p) (valid p) (OnSequence c) (w.asleep u) (apart p) ok
+            (λ y z. shares.spots u y z)
+            (sym (shares.sleeps u) ∙ choice.slept u (names-mem moved u ∙ e)) in
+            let small = few u c spot in
+            omega (arith, small)) in
             omega (arith, less)
 
     faults : (cause : Cause) (fault : Fault) → cause ≡ Faulted fault → 0 < t → t ≤ 64
@@ -433,7 +433,7 @@ pub served : (p : Program) (s : State) (w : World) (T : Table) (t : ℕ) (pt : P
     → A.Serves t asks s woken answer mid → IsServed p s mid w t pt answer
 served p s w T t pt asks woken answer mid shares good some few low ok e h =
     let a = answered p s w t pt (request t pt) asks woken answer mid shares some few low
-        (λ u c z. sleeper_few w T good u c z) (usual t pt) ok e h in
+    (λ u c z. sleeper_few w T good u c z) (usual t pt) ok e h in
     record {
       reply = a.reply;
       after = a.after;

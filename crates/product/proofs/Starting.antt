@@ -1,6 +1,6 @@
 -- A thread takes up a template of its code.
-use Rattle.std.proofs.Common.{◌≡◌, ◌≢◌, ℕ, suc, ◌+◌, ◌<◌, ◌≤◌, Bool, true, false, List, [], ◌∷◌, length, Option, Some, None, refl, ap, sym, ◌∙◌, subst, arith, inl, inr, ◌⊎◌}
-use Rattle.std.proofs.lemmas.Bool.{cases_eq, cases_Bool}
+use Rattle.std.proofs.Common.{◌≡◌, ◌≢◌, ℕ, suc, ◌+◌, ◌<◌, ◌≤◌, Bool, true, false, List, ◌∷◌, Option, Some, None, refl, ap, sym, ◌∙◌, subst, arith, inl, inr, ◌⊎◌}
+use Rattle.std.proofs.lemmas.Bool.{cases_eq}
 use Rattle.words.specs.Updates.{put}
 use Rattle.locals.specs.Threads.{Thread}
 use Rattle.locals.specs.Looks.{Goes, look}
@@ -15,7 +15,7 @@ use Rattle.meaning.specs.Values.{Variables}
 use Rattle.meaning.specs.Table.{Table}
 use Rattle.meaning.specs.Processes.{Process, Entering, holds}
 use Rattle.meaning.specs.States.{SourceState}
-use Rattle.protocol.specs.Points.{Point, Runs, Thread as Place, thread_at, EnterPends, ReenterPends, LeavePends, WaitReads, NotifyAdds, BroadcastAdds, ToExit}
+use Rattle.protocol.specs.Points.{Point, Runs, Thread as Place, thread_at}
 use Rattle.protocol.specs.World.{World, mem, tail}
 use Rattle.protocol.specs.Moves.{Move, Begin, Rebegin, Leave, Wait, Notify, Broadcast}
 use Rattle.protocol.specs.Steps.{Can, after, go}
@@ -95,78 +95,96 @@ module _ (p : Program) (w : WellFormed p) (steps : ℕ) (s : State) (c : SourceS
   starts (Enters m base l fs f cs) fits list = by_list (mem m (k.world.at t).list) refl
     where
       by_list : (held : Bool) → mem m (k.world.at t).list ≡ held → (h : Bool) × Starts (Enters m base l fs f cs) h
-      by_list true has = (true, record {
-        process = refl;
-        list = list;
-        move = Rebegin m;
-        can = record { number = number; awake = awake; stands = point; finds = has };
-        done = refl;
-        table = refl;
-        ne = λ e. absurd cc;
-        before = tt;
-        ranked = omega arith;
-        same = tt;
-      })
-      by_list false has = (false, record {
-        process = refl;
-        list = list;
-        move = Begin m;
-        can = record { number = number; awake = awake; stands = point; finds = has };
-        done = refl;
-        table = refl;
-        ne = λ e. absurd cc;
-        before = tt;
-        ranked = omega arith;
-        same = tt;
-      })
-  starts (Exits m base shown l fs before z cs) fits list = (false, record {
-    process = refl;
-    list = list ∙ fits.held;
-    move = Leave m;
-    can = record { number = number; awake = awake; stands = point; finds = first_of m _ (list ∙ fits.held) };
-    done = refl;
-    table = refl;
-    ne = λ e. absurd cc;
-    before = tt;
-    ranked = omega arith;
-    same = λ r m e n i. refl;
-  })
-  starts (Waits d base l fs before f cs ms) fits list = (false, record {
-    process = refl;
-    list = list ∙ fits.had;
-    move = Wait d;
-    can = record { number = number; awake = awake; stands = point; finds = first_of d.monitor ms (list ∙ fits.had) };
-    done = refl;
-    table = refl;
-    ne = λ e. absurd cc;
-    before = tt;
-    ranked = omega arith;
-    same = λ r m e n i. refl;
-  })
-  starts (Notifies d base l fs before after ms) fits list = (false, record {
-    process = refl;
-    list = list ∙ fits.held;
-    move = Notify d;
-    can = record { number = number; awake = awake; stands = point; finds = first_of d.monitor ms (list ∙ fits.held) };
-    done = refl;
-    table = refl;
-    ne = λ e. absurd cc;
-    before = tt;
-    ranked = omega arith;
-    same = λ m e n i. refl;
-  })
-  starts (Broadcasts d base l fs before after ms) fits list = (false, record {
-    process = refl;
-    list = list ∙ fits.held;
-    move = Broadcast d;
-    can = record { number = number; awake = awake; stands = point; finds = first_of d.monitor ms (list ∙ fits.held) };
-    done = refl;
-    table = refl;
-    ne = λ e. absurd cc;
-    before = tt;
-    ranked = omega arith;
-    same = λ m e n i. refl;
-  })
+      by_list true has = (
+        true,
+        record {
+          process = refl;
+          list = list;
+          move = Rebegin m;
+          can = record { number = number; awake = awake; stands = point; finds = has };
+          done = refl;
+          table = refl;
+          ne = λ e. absurd cc;
+          before = tt;
+          ranked = omega arith;
+          same = tt;
+        },
+      )
+      by_list false has = (
+        false,
+        record {
+          process = refl;
+          list = list;
+          move = Begin m;
+          can = record { number = number; awake = awake; stands = point; finds = has };
+          done = refl;
+          table = refl;
+          ne = λ e. absurd cc;
+          before = tt;
+          ranked = omega arith;
+          same = tt;
+        },
+      )
+  starts (Exits m base shown l fs before z cs) fits list = (
+    false,
+    record {
+      process = refl;
+      list = list ∙ fits.held;
+      move = Leave m;
+      can = record { number = number; awake = awake; stands = point; finds = first_of m _ (list ∙ fits.held) };
+      done = refl;
+      table = refl;
+      ne = λ e. absurd cc;
+      before = tt;
+      ranked = omega arith;
+      same = λ r m e n i. refl;
+    },
+  )
+  starts (Waits d base l fs before f cs ms) fits list = (
+    false,
+    record {
+      process = refl;
+      list = list ∙ fits.had;
+      move = Wait d;
+      can = record { number = number; awake = awake; stands = point; finds = first_of d.monitor ms (list ∙ fits.had) };
+      done = refl;
+      table = refl;
+      ne = λ e. absurd cc;
+      before = tt;
+      ranked = omega arith;
+      same = λ r m e n i. refl;
+    },
+  )
+  starts (Notifies d base l fs before after ms) fits list = (
+    false,
+    record {
+      process = refl;
+      list = list ∙ fits.held;
+      move = Notify d;
+      can = record { number = number; awake = awake; stands = point; finds = first_of d.monitor ms (list ∙ fits.held) };
+      done = refl;
+      table = refl;
+      ne = λ e. absurd cc;
+      before = tt;
+      ranked = omega arith;
+      same = λ m e n i. refl;
+    },
+  )
+  starts (Broadcasts d base l fs before after ms) fits list = (
+    false,
+    record {
+      process = refl;
+      list = list ∙ fits.held;
+      move = Broadcast d;
+      can = record { number = number; awake = awake; stands = point; finds = first_of d.monitor ms (list ∙ fits.held) };
+      done = refl;
+      table = refl;
+      ne = λ e. absurd cc;
+      before = tt;
+      ranked = omega arith;
+      same = λ m e n i. refl;
+    },
+  )
 
   -- the same states with the thread at the template's first point
   module _ (kind : Template) (x : Thread) (fits : Fits b c.variable t kind) (thread : s.thread t ≡ Some x)

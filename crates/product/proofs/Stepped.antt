@@ -1,6 +1,6 @@
 -- A step of a thread at a point of the protocol, whose request the machine has served: it is a move, and what it carries
 -- is an action of the process.
-use Rattle.std.proofs.Common.{◌≡◌, ◌≢◌, ℕ, zero, suc, ◌<◌, ◌≤◌, ◌==◌, Bool, true, false, List, [], ◌∷◌, length, Option, Some, None, refl, ap, sym, ◌∙◌, subst, arith, inl, inr, ◌⊎◌}
+use Rattle.std.proofs.Common.{◌≡◌, ℕ, zero, suc, ◌<◌, ◌≤◌, ◌==◌, Bool, true, false, List, [], ◌∷◌, length, Option, Some, None, refl, ap, sym, ◌∙◌, subst, arith, inl, inr}
 use Rattle.std.specs.Prelude.{◌^◌, if◌then◌else◌}
 use Rattle.words.specs.Updates.{put}
 use Rattle.locals.specs.Threads.{Thread}
@@ -17,7 +17,7 @@ use Rattle.meaning.specs.Offers.{Nothing, offer, TakesUp}
 use Rattle.meaning.specs.States.{SourceState}
 use Rattle.protocol.specs.Points.{Purpose, ToEnter, ToReenter, ToResume, ToExit, ToWait, Entry, NoEntry, Owned, Unowned, Point, EnterTries, TakeTries, LeaveSwaps, NotifyWakes, BroadcastMoves, JoinReads, Walks, ClearsId, Thread as Place, thread_at}
 use Rattle.protocol.specs.World.{World, mem}
-use Rattle.protocol.specs.Steps.{after, go_list}
+use Rattle.protocol.specs.Steps.{go_list}
 use Rattle.protocol.specs.Carries.{Event, Acts, Strays, Kills, has_died, taking_label, table_after, PermitsMove}
 use Rattle.protocol.specs.Exits.{Shares}
 use Rattle.protocol.specs.Answers.{next, next_list}
@@ -35,9 +35,9 @@ use Rattle.product.specs.Standing.{StandsAt}
 use Rattle.product.specs.Ranks.{steps_left}
 use Rattle.product.specs.Corresponding.{Reached, IsBefore, Corresponds}
 use Rattle.product.specs.Serving.{IsServed}
-use Rattle.product.proofs.Sourcing.{act, action, acted}
+use Rattle.product.proofs.Sourcing.{action, acted}
 use Rattle.product.proofs.Worlds.{reached_on, reached_good, shares_at}
-use Rattle.product.proofs.Moving.{Puts, put_puts, same_puts, IsSome, Next, Follow, Tied, left_of, moved}
+use Rattle.product.proofs.Moving.{Puts, put_puts, same_puts, Next, Follow, moved}
 
 -- what a step carries is an action of a process's own
 if_own : (b : Bool) (u t : ℕ) (l label : Label) → IsOwn (kind_of l) → (if b then Some (Acts t l) else None)

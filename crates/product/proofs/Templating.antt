@@ -1,5 +1,5 @@
 -- A step of a thread inside a template.
-use Rattle.std.proofs.Common.{◌≡◌, ◌≢◌, ℕ, suc, ◌+◌, ◌<◌, ◌≤◌, ◌==◌, Bool, true, false, List, [], ◌∷◌, zero, length, Option, Some, None, refl, ap, sym, ◌∙◌, subst, arith, inl, inr, ◌⊎◌}
+use Rattle.std.proofs.Common.{◌≡◌, ◌≢◌, ℕ, suc, ◌+◌, ◌<◌, ◌≤◌, ◌==◌, Bool, true, false, List, [], ◌∷◌, length, Option, Some, None, refl, ap, sym, ◌∙◌, subst, arith, inl, inr}
 use Rattle.std.specs.Prelude.{◌||◌, is_some}
 use Rattle.std.proofs.lemmas.Bool.{or_right, cases_eq, ne_eqb}
 use Rattle.locals.specs.Threads.{Thread}
@@ -14,7 +14,7 @@ use Rattle.meaning.specs.Labels.{End}
 use Rattle.meaning.specs.Values.{Variables}
 use Rattle.meaning.specs.Processes.{Process, holds}
 use Rattle.meaning.specs.States.{SourceState}
-use Rattle.protocol.specs.Points.{Spot, Point, Runs, EnterPends, GotHeads, LeaveHeads, Walks, ClearsId, LastWakes, HasEnded}
+use Rattle.protocol.specs.Points.{Spot, Point, Runs, GotHeads, LeaveHeads, Walks, ClearsId, LastWakes, HasEnded}
 use Rattle.protocol.specs.World.{World, mem, tail}
 use Rattle.protocol.specs.Cells.{Cell}
 use Rattle.protocol.specs.Exits.{sleep_address}
@@ -23,7 +23,7 @@ use Rattle.protocol.specs.Requests.{request}
 use Rattle.protocol.specs.Answers.{next, next_list}
 use Rattle.protocol.specs.Served.{MayAnswer, carried}
 use Rattle.protocol.proofs.Good.{Good}
-use Rattle.execution.specs.Following.{Build, StepsWithin, Stands, own_of}
+use Rattle.execution.specs.Following.{Build, StepsWithin, Stands}
 use Rattle.execution.specs.Completing.{view_of}
 use Rattle.execution.specs.Builds.{most_steps}
 use Rattle.execution.specs.Variables.{VariablesFit}
@@ -37,7 +37,7 @@ use Rattle.refinement.proofs.Building.{is_build}
 use Rattle.templates.specs.Layout.{place}
 use Rattle.templates.specs.Asking.{told, template_steps}
 use Rattle.templates.specs.Inside.{Template, process_at, list_at, StandsIn, Fits, SameBefore, IsSteady}
-use Rattle.templates.specs.Templates.{Follows, Comes, StandsOn}
+use Rattle.templates.specs.Templates.{Follows, StandsOn}
 use Rattle.templates.proofs.Follows.{follows}
 use Rattle.product.specs.Standing.{IsAtWork, StandsAt, works, inside}
 use Rattle.product.specs.Ranks.{rank, steps_left, more_steps, before_template}
@@ -161,9 +161,9 @@ module _ (p : Program) (w : WellFormed p) (steps : ℕ) (s : State) (c : SourceS
             inside template_steps kind u (omega arith) walk fits
                 (same_next k.world e kind pt sv.reply u c.variable within.template same) off at,
             λ none z.
-            let less = rank_falls (more_steps b) k.world c.table t sv.reply sv.after e (next k.world e pt sv.reply)
-            (next_list pt (k.world.at t).list) (after_awake z) pt within.template sv.serves may none off in
-            omega (arith, less, enough),
+                let less = rank_falls (more_steps b) k.world c.table t sv.reply sv.after e (next k.world e pt sv.reply)
+                (next_list pt (k.world.at t).list) (after_awake z) pt within.template sv.serves may none off in
+                omega (arith, less, enough),
           ))
       fine e may q l z walk (inr (off, at, on)) =
           let works = works_on p w k.world.made c.variable t y z q k.fit walk at in
@@ -184,10 +184,12 @@ module _ (p : Program) (w : WellFormed p) (steps : ℕ) (s : State) (c : SourceS
           behind to is stand left ends =
               subst (λ (i : Point). (stand : StandsAt b c.variable t (Some y) (Some q) i (holds q))
               × (carried k.world c.table t pt sv.reply sv.after e ≡ None → pauses ≡ false
-              → steps_left b c.variable t (go_list sv.after t i (next_list pt (k.world.at t).list)) stand < n)) (sym is)
-              (stand, λ none z.
-              let all = left (go_list sv.after t Runs (next_list pt (k.world.at t).list)) in
-              let less = ends none z in omega (arith, all, less, enough))
+              → steps_left b c.variable t (go_list sv.after t i (next_list pt (k.world.at t).list)) stand < n)) (sym is) (
+                stand,
+                λ none z.
+                    let all = left (go_list sv.after t Runs (next_list pt (k.world.at t).list)) in
+                    let less = ends none z in omega (arith, all, less, enough),
+              )
 
       arrives : (e : End) → MayAnswer pt sv.reply → Arrives' e
       arrives e may =

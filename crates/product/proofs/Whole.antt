@@ -1,9 +1,8 @@
 -- Each run of the machine on the code of a program is explained by a run of the program.
-use Rattle.std.proofs.Common.{◌≡◌, ℕ, suc, ◌+◌, ◌<◌, ◌≤◌, Bool, false, List, [], ◌∷◌, ◌++◌, length, refl, sym, subst, arith, inl, inr, ◌⊎◌}
+use Rattle.std.proofs.Common.{◌≡◌, ℕ, suc, ◌+◌, ◌<◌, ◌≤◌, Bool, false, List, [], ◌∷◌, ◌++◌, length, refl, sym, subst, arith}
 use Rattle.std.specs.Prelude.{map, ◌^◌}
 use Rattle.machine.specs.States.{State, opening_state}
 use Rattle.machine.specs.Runs.{Step, GoesBy, MachineRun}
-use Rattle.program.specs.declared.kinds.Member.{Member}
 use Rattle.program.specs.Trees.{Program}
 use Rattle.program.specs.WellFormed.{WellFormed}
 use Rattle.code.specs.Pieces.{code_of}
@@ -18,7 +17,7 @@ use Rattle.refinement.specs.Built.{build_of}
 use Rattle.product.specs.Corresponding.{Corresponds}
 use Rattle.product.specs.Ranks.{most_left}
 use Rattle.product.proofs.Sourcing.{act}
-use Rattle.product.proofs.Moving.{Next, AreOwn, left_of}
+use Rattle.product.proofs.Moving.{AreOwn, left_of}
 use Rattle.product.proofs.Stepping.{next}
 use Rattle.product.proofs.Bounds.{left_few, left_short}
 use Rattle.product.proofs.Paces.{Trail, rests, goes, keeps_pace}

@@ -1,5 +1,5 @@
 -- A state of the machine, a world of the protocol and a state of the source that belong together.
-use Rattle.std.specs.Prelude.{ℕ, ◌≡◌, ◌<◌, ◌≤◌, ◌+◌, ◌^◌, true, List, length}
+use Rattle.std.specs.Prelude.{ℕ, ◌≡◌, ◌<◌, ◌≤◌, ◌^◌, true, List, length}
 use Rattle.words.specs.Signed.{word_of}
 use Rattle.isa.specs.Programs.{memory_size}
 use Rattle.machine.specs.States.{State}

@@ -1,6 +1,6 @@
 -- At most how many steps a thread takes, where no other steps in between, till an action of its process, or till it
 -- sleeps or ends.
-use Rattle.std.specs.Prelude.{ℕ, zero, suc, ◌+◌, ◌==◌, List, Option, Some, None, if◌then◌else◌}
+use Rattle.std.specs.Prelude.{ℕ, zero, suc, ◌+◌, ◌==◌, List, Option, if◌then◌else◌}
 use Rattle.locals.specs.Threads.{Thread}
 use Rattle.meaning.specs.Values.{Variables}
 use Rattle.meaning.specs.Processes.{Process}

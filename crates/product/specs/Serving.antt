@@ -1,12 +1,12 @@
 -- What the machine does for a request of a thread's point, as the protocol's words serve it.
-use Rattle.std.specs.Prelude.{ℕ, suc, ◌+◌, ◌≡◌, ◌≤◌, ◌<◌, true, length}
+use Rattle.std.specs.Prelude.{ℕ, suc, ◌≡◌, ◌≤◌, true}
 use Rattle.program.specs.declared.kinds.Member.{Member}
 use Rattle.program.specs.Trees.{Program}
 use Rattle.machine.specs.States.{State}
 use Rattle.machine.specs.AbstractServing.{shared_of}
 use Rattle.protocol.specs.Points.{Point}
 use Rattle.protocol.specs.World.{World}
-use Rattle.protocol.specs.Cells.{Cell, SequenceOf, LockOf, OutcomeOf, cell_of}
+use Rattle.protocol.specs.Cells.{SequenceOf, LockOf, cell_of}
 use Rattle.protocol.specs.Exits.{Shares}
 use Rattle.protocol.specs.Requests.{Request, AskNothing, AskLoad, AskStore, AskSwap, AskCompareSwap, AskOrWaiters, AskAddOne, AskWait, AskWakeOne, AskRequeue, AskFault, AskExitStep, request}
 use Rattle.protocol.specs.Answers.{Serves}

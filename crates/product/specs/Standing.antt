@@ -1,8 +1,8 @@
 -- Where a thread of the machine stands, the process that it stands for, its point of the protocol and its robust list.
-use Rattle.std.specs.Prelude.{ℕ, ◌+◌, ◌≡◌, ◌≢◌, ◌<◌, ◌≤◌, ◌==◌, ℤ, pos, List, [], ◌∷◌, length, Option, Some, None, if◌then◌else◌}
+use Rattle.std.specs.Prelude.{ℕ, ◌+◌, ◌≡◌, ◌≢◌, ◌<◌, ◌≤◌, ℤ, List, [], length, Option, Some, None}
 use Rattle.words.specs.declared.outcome.Fault.{Fault}
 use Rattle.robustexit.specs.declared.phase.ExitPhase.{ExitPhase}
-use Rattle.robustexit.specs.declared.phase.ExitPhase.TheVariants.{Entry, Pending, ClearId, LastWake, Ended as Ended'}
+use Rattle.robustexit.specs.declared.phase.ExitPhase.TheVariants.{Entry, ClearId, LastWake, Ended as Ended'}
 use Rattle.program.specs.declared.kinds.Role.TheVariants.{Main}
 use Rattle.program.specs.Trees.{Program, Part}
 use Rattle.locals.specs.Threads.{Thread, Dies as Dies', Exits}

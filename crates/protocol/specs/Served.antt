@@ -1,6 +1,6 @@
 -- A step of a thread that the shared words serve is a move: so level by level, code that asks what its points ask, and
 -- goes on as they go on, takes the steps of the protocol and no others.
-use Rattle.std.specs.Prelude.{◌≡◌, ◌≢◌, ℕ, zero, suc, ◌==◌, Bool, true, false, if◌then◌else◌, Option, Some, None}
+use Rattle.std.specs.Prelude.{◌≡◌, ◌≢◌, ℕ, zero, suc, ◌==◌, Bool, false, if◌then◌else◌, Option, Some, None}
 use Rattle.meaning.specs.Labels.{End, Enters, Joins, Notifies, Broadcasts, Abandons, Ends}
 use Rattle.meaning.specs.Table.{Table}
 use Rattle.protocol.specs.Points.{Entry, NoEntry, Owned, Unowned, Point, EnterTries, ReenterTries, TakeTries, LeaveSwaps}

@@ -1,5 +1,5 @@
 -- The code of a program is laid out as it should be, and its statements are sound.
-use Rattle.std.proofs.Common.{◌≡◌, ℕ, zero, suc, ◌<◌, ◌≤◌, List, [], ◌∷◌, ◌-◌, length, Option, Some, None, slice_get, refl, ap, subst, arith, Contains}
+use Rattle.std.proofs.Common.{◌≡◌, ℕ, zero, suc, ◌<◌, ◌≤◌, List, [], ◌∷◌, ◌-◌, Option, Some, None, slice_get, refl, subst, arith, Contains}
 use Rattle.std.proofs.lemmas.List.Elements.{Contains-append_left, Contains-append_right}
 use Rattle.program.specs.declared.kinds.MemberType.TheVariants.{Array}
 use Rattle.program.specs.Trees.{Statement, Assign, If, While, Call, Fork, Join, Return, Wait, Notify, Broadcast, Print, Abort, Block, Done, Then, Part, NoPart, SomePart, Monitor, Procedure, Program}
