@@ -1,5 +1,6 @@
 -- Arguments on the operands, and in the locals of the procedure that was called.
-use Rattle.std.proofs.Common.{inl, inr, ◌≡◌, ◌⊎◌, ℕ, zero, suc, ◌+◌, ◌*◌, ◌<◌, ◌≤◌, List, [], ◌∷◌, ◌++◌, length, Option, Some, slice_get, refl, ap, sym, ◌∙◌, subst, arith, length-append, ℤ, pos}
+use Rattle.std.proofs.Common.{inl, inr, ◌≡◌, ◌⊎◌, ℕ, zero, suc, ◌+◌, ◌*◌, ◌<◌, ◌≤◌, List, [], ◌∷◌, ◌++◌, length, Option}
+use Rattle.std.proofs.Common.{Some, slice_get, refl, ap, sym, ◌∙◌, subst, arith, length-append, ℤ, pos}
 use Rattle.std.specs.Prelude.{slice_index, slice_set, replicate}
 use Rattle.words.specs.Signed.{word_of}
 use Rattle.isa.specs.declared.instr.Instr.TheVariants.{SetLocal}
@@ -16,7 +17,8 @@ use Rattle.code.specs.Pieces.{parameters_code}
 use Rattle.locals.specs.declared.frame.Locals.{Locals}
 use Rattle.locals.specs.declared.frame.Frame.{Frame as MachineFrame}
 use Rattle.locals.specs.Threads.{Thread, Runs, Dies, with_local, fresh}
-use Rattle.meaning.specs.Values.{Variables, Evaluated, Value, Fails, EvaluatedAll, Values, FailsAll, evaluate, evaluate_all, put_first, local_value, or_zero}
+use Rattle.meaning.specs.Values.{Variables, Evaluated, Value, Fails, EvaluatedAll, Values, FailsAll, evaluate}
+use Rattle.meaning.specs.Values.{evaluate_all, put_first, local_value, or_zero}
 use Rattle.meaning.specs.Processes.{zeros}
 use Rattle.execution.specs.Typed.{HaveValues, HoldValues}
 use Rattle.execution.specs.Evaluation.{OfType, view_in, Evaluates}

@@ -1,5 +1,6 @@
 -- The template of a JOIN, wherever it stands: the requests while it waits, and where it leads between them.
-use Rattle.std.proofs.Common.{◌≡◌, ◌≢◌, ℕ, zero, suc, ◌+◌, ◌<◌, ◌≤◌, List, [], ◌∷◌, Option, Some, slice_get, refl, ap, ◌∙◌, subst, arith, le-leb}
+use Rattle.std.proofs.Common.{◌≡◌, ◌≢◌, ℕ, zero, suc, ◌+◌, ◌<◌, ◌≤◌, List, [], ◌∷◌, Option, Some, slice_get, refl, ap}
+use Rattle.std.proofs.Common.{◌∙◌, subst, arith, le-leb}
 use Rattle.std.specs.Prelude.{◌&&◌, nat_le}
 use Rattle.std.proofs.lemmas.Bool.{ne_eqb}
 use Rattle.words.specs.declared.process.ProcessWord.{ProcessWord}

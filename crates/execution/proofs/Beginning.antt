@@ -1,6 +1,7 @@
 -- From a call or a fork to where the procedure begins: its parameters take their arguments, and an ENTRY procedure
 -- stands before its ENTER then.
-use Rattle.std.proofs.Common.{◌≡◌, ℕ, zero, suc, ◌+◌, ◌≤◌, List, [], ◌++◌, length, Some, None, slice_get, refl, ap, sym, ◌∙◌, subst, arith, ℤ}
+use Rattle.std.proofs.Common.{◌≡◌, ℕ, zero, suc, ◌+◌, ◌≤◌, List, [], ◌++◌, length, Some, None, slice_get, refl, ap, sym}
+use Rattle.std.proofs.Common.{◌∙◌, subst, arith, ℤ}
 use Rattle.program.specs.declared.kinds.ValueType.{ValueType}
 use Rattle.program.specs.declared.kinds.Role.{Role}
 use Rattle.program.specs.declared.kinds.Role.TheVariants.{Entry, Internal, Recover, External, Main}
@@ -18,12 +19,14 @@ use Rattle.meaning.specs.Values.{local_value, or_zero}
 use Rattle.meaning.specs.Processes.{Frame, Caller, goes_on, begins, begins_by, zeros}
 use Rattle.execution.specs.Typed.{HaveValues, HoldValues}
 use Rattle.execution.specs.Walks.{StandAt, empty_view}
-use Rattle.execution.specs.Following.{Build, CallersStand, Implements, finishes, IsFrame, Running, Stands, StepsWithin, runs, enters, recovery_in}
+use Rattle.execution.specs.Following.{Build, CallersStand, Implements, finishes, IsFrame, Running, Stands, StepsWithin}
+use Rattle.execution.specs.Following.{runs, enters, recovery_in}
 use Rattle.execution.specs.Builds.{IsBuild}
 use Rattle.execution.proofs.Walking.{front_stands, back_stands, wider}
 use Rattle.execution.proofs.Bodies.{block_implements}
 use Rattle.execution.proofs.Contexts.{frame_at}
-use Rattle.execution.proofs.Arguments.{stacked, stacked_by, stacked_same, set_all, set_all_length, parameters_walk, locals_typed, values_length, opening_holds}
+use Rattle.execution.proofs.Arguments.{stacked, stacked_by, stacked_same, set_all, set_all_length, parameters_walk}
+use Rattle.execution.proofs.Arguments.{locals_typed, values_length, opening_holds}
 
 followed_done : (b : Block) → followed_by b Done ≡ b
 followed_done Done = refl

@@ -1,5 +1,6 @@
 -- A call, from its arguments to the beginning of the procedure that is called.
-use Rattle.std.proofs.Common.{rules, ◌≡◌, ℕ, ◌+◌, ◌*◌, List, [], ◌∷◌, ◌++◌, length, Option, Some, None, slice_get, refl, ap, ◌∙◌, subst, arith, length-append, Contains, ℤ, lt-ltb}
+use Rattle.std.proofs.Common.{rules, ◌≡◌, ℕ, ◌+◌, ◌*◌, List, [], ◌∷◌, ◌++◌, length, Option, Some, None, slice_get, refl}
+use Rattle.std.proofs.Common.{ap, ◌∙◌, subst, arith, length-append, Contains, ℤ, lt-ltb}
 use Rattle.isa.specs.declared.instr.Instr.TheVariants.{Call as Call'}
 use Rattle.isa.specs.Programs.{Program as Image}
 use Rattle.program.specs.declared.kinds.ValueType.{ValueType}

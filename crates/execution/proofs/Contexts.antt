@@ -1,10 +1,12 @@
 -- Where a thread stands before a statement.
-use Rattle.std.proofs.Common.{◌≡◌, ℕ, ◌+◌, ◌≤◌, List, [], ◌∷◌, length, Option, Some, None, slice_get, refl, ap, ◌∙◌, arith, ℤ}
+use Rattle.std.proofs.Common.{◌≡◌, ℕ, ◌+◌, ◌≤◌, List, [], ◌∷◌, length, Option, Some, None, slice_get, refl, ap, ◌∙◌}
+use Rattle.std.proofs.Common.{arith, ℤ}
 use Rattle.std.specs.Prelude.{⊤}
 use Rattle.words.specs.Signed.{word_of}
 use Rattle.program.specs.declared.kinds.Role.{Role}
 use Rattle.program.specs.declared.kinds.Role.TheVariants.{Entry, Internal, Recover, External, Main}
-use Rattle.program.specs.Trees.{Statement, Assign, If, While, Call, Fork, Join, Return, Wait, Notify, Broadcast, Print, Abort, Block, Then, Procedure, slots}
+use Rattle.program.specs.Trees.{Statement, Assign, If, While, Call, Fork, Join, Return, Wait, Notify, Broadcast, Print}
+use Rattle.program.specs.Trees.{Abort, Block, Then, Procedure, slots}
 use Rattle.program.specs.Scope.{scope_of, own_monitor}
 use Rattle.code.specs.Pieces.{setting_of}
 use Rattle.locals.specs.declared.frame.Locals.{Locals}
@@ -19,7 +21,8 @@ use Rattle.execution.specs.Typed.{HaveValues, HoldValues}
 use Rattle.execution.specs.Variables.{ArraysAreLow}
 use Rattle.execution.specs.Evaluation.{Evaluates}
 use Rattle.execution.specs.Walks.{View, WalksWithin, Gives, stays}
-use Rattle.execution.specs.Following.{Build, IsSound, AreSound, CallersStand, Implements, Running, StepsWithin, Stands, runs}
+use Rattle.execution.specs.Following.{Build, IsSound, AreSound, CallersStand, Implements, Running, StepsWithin, Stands}
+use Rattle.execution.specs.Following.{runs}
 use Rattle.execution.specs.Completing.{Completes, Proceeds, view_of}
 use Rattle.execution.specs.Completing as F
 use Rattle.execution.proofs.Walking.{within_on, wider}

@@ -1,5 +1,7 @@
 -- The code of an expression leads to its value, or into its fault.
-use Rattle.std.proofs.Common.{rules, ◌≡◌, ℕ, zero, suc, ◌+◌, ◌*◌, ◌<◌, ◌≤◌, ◌%◌, List, [], ◌∷◌, ◌++◌, length, Option, Some, None, slice_get, refl, ap, sym, ◌∙◌, subst, arith, ℤ, pos, negsuc, Bool, true, false, lt-ltb, length-append}
+use Rattle.std.proofs.Common.{rules, ◌≡◌, ℕ, zero, suc, ◌+◌, ◌*◌, ◌<◌, ◌≤◌, ◌%◌, List, [], ◌∷◌, ◌++◌, length, Option}
+use Rattle.std.proofs.Common.{Some, None, slice_get, refl, ap, sym, ◌∙◌, subst, arith, ℤ, pos, negsuc, Bool, true}
+use Rattle.std.proofs.Common.{false, lt-ltb, length-append}
 use Rattle.std.specs.Prelude.{slice_index, nat_lt, if◌then◌else◌, FitsSigned}
 use Rattle.std.specs.Int.{w32}
 use Rattle.std.proofs.lemmas.Bool.{ltb-true}
@@ -26,14 +28,17 @@ use Rattle.locals.specs.declared.frame.Locals.{Locals}
 use Rattle.locals.specs.declared.frame.Frame.{Frame}
 use Rattle.locals.specs.Threads.{Thread, Runs, Dies}
 use Rattle.locals.specs.Looks.{Goes, look, Then, Checks, at_place, index_effect}
-use Rattle.meaning.specs.Values.{Variables, Evaluated, Value, Fails, and_then, evaluate, local_value, or_zero, unary, both, at_index, index_in}
+use Rattle.meaning.specs.Values.{Variables, Evaluated, Value, Fails, and_then, evaluate, local_value, or_zero, unary}
+use Rattle.meaning.specs.Values.{both, at_index, index_in}
 use Rattle.meaning.specs.Values as v
 use Rattle.execution.specs.Typed.{HasValue, HaveValues, HoldValues}
 use Rattle.execution.specs.Variables.{IsVariable, HasIndex, ValueFits, VariablesFit, ArraysAreLow}
 use Rattle.execution.specs.Evaluation.{OfType, view_in, IsEvaluated, Evaluates}
 use Rattle.execution.specs.Walks.{View, StandAt, Reads, WalksWithin, Gives}
-use Rattle.execution.proofs.Operators.{small_fits, word_injective, both_shown, both_typed, unary_shown, unary_typed, truth_typed}
-use Rattle.execution.proofs.Walking.{front_stands, back_stands, wider, one_step, one_load, wider_gives, walk_gives, and_gives, shown_gives, look_here, push_step, and_typed}
+use Rattle.execution.proofs.Operators.{small_fits, word_injective, both_shown, both_typed, unary_shown, unary_typed}
+use Rattle.execution.proofs.Operators.{truth_typed}
+use Rattle.execution.proofs.Walking.{front_stands, back_stands, wider, one_step, one_load, wider_gives, walk_gives}
+use Rattle.execution.proofs.Walking.{and_gives, shown_gives, look_here, push_step, and_typed}
 
 -- a local of a type has a value of it
 pub local_typed : (made : ℕ) → (ts : List ValueType) (zs : List ℤ) (slot : ℕ) (t : ValueType) → HaveValues made ts zs

@@ -1,11 +1,13 @@
 -- Every thread that stands for a process does what the process offers, or comes to the template that does.
-use Rattle.std.proofs.Common.{inl, inr, ◌≡◌, ℕ, ◌+◌, ◌*◌, ◌≤◌, List, [], ◌∷◌, ◌++◌, length, Option, Some, refl, ap, sym, ◌∙◌, subst, arith, ℤ, pos, slice_get}
+use Rattle.std.proofs.Common.{inl, inr, ◌≡◌, ℕ, ◌+◌, ◌*◌, ◌≤◌, List, [], ◌∷◌, ◌++◌, length, Option, Some, refl, ap, sym}
+use Rattle.std.proofs.Common.{◌∙◌, subst, arith, ℤ, pos, slice_get}
 use Rattle.words.specs.declared.outcome.Fault.TheVariants.{AbandonedMonitor}
 use Rattle.isa.specs.declared.instr.Instr.TheVariants.{Ret}
 use Rattle.isa.specs.Programs.{Program as Image}
 use Rattle.program.specs.declared.kinds.Role.{Role}
 use Rattle.program.specs.declared.kinds.Role.TheVariants.{Entry, Internal, Recover, External, Main}
-use Rattle.program.specs.Trees.{ToLocal, ToMember, ToElement, Statement, Assign, If, While, Call, Fork, Join, Return, Wait, Notify, Broadcast, Print, Abort, Block, Done, Then, NoPart, SomePart, Procedure}
+use Rattle.program.specs.Trees.{ToLocal, ToMember, ToElement, Statement, Assign, If, While, Call, Fork, Join, Return}
+use Rattle.program.specs.Trees.{Wait, Notify, Broadcast, Print, Abort, Block, Done, Then, NoPart, SomePart, Procedure}
 use Rattle.program.specs.Scope.{own_monitor, scope_of}
 use Rattle.program.specs.Typing.{IsNoRecover, MayCall, MayBeForked}
 use Rattle.program.specs.WellFormed.{RoleFits}
@@ -17,10 +19,12 @@ use Rattle.locals.specs.declared.frame.Locals.{Locals}
 use Rattle.locals.specs.declared.frame.Frame.{Frame as MachineFrame}
 use Rattle.locals.specs.Threads.{Thread, Runs, Dies}
 use Rattle.meaning.specs.Values.{Variables}
-use Rattle.meaning.specs.Processes.{Frame, Caller, Process, Entering, Before, Returning, Failing, Leaving, goes_on, goes_on_by}
+use Rattle.meaning.specs.Processes.{Frame, Caller, Process, Entering, Before, Returning, Failing, Leaving, goes_on}
+use Rattle.meaning.specs.Processes.{goes_on_by}
 use Rattle.execution.specs.Variables.{VariablesFit}
 use Rattle.execution.specs.Walks.{StandAt}
-use Rattle.execution.specs.Following.{Build, CallersStand, is_first, is_called, is_recovery, Implements, finishes, IsFrame, Running, Stands, runs, enters, returns, fails, own_of, result_operands}
+use Rattle.execution.specs.Following.{Build, CallersStand, is_first, is_called, is_recovery, Implements, finishes}
+use Rattle.execution.specs.Following.{IsFrame, Running, Stands, runs, enters, returns, fails, own_of, result_operands}
 use Rattle.execution.specs.Completing.{Completes, Proceeds, view_of}
 use Rattle.execution.specs.Completing as F
 use Rattle.execution.specs.Builds.{IsBuild, IsFollowed, OwnFit, most_steps}

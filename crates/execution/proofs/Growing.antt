@@ -15,7 +15,9 @@ use Rattle.meaning.specs.Processes.{Frame, Caller, Process}
 use Rattle.meaning.specs.Offers.{offer}
 use Rattle.execution.specs.Typed.{HasValue, HaveValues}
 use Rattle.execution.specs.Variables.{ValueFits, SameIn}
-use Rattle.execution.specs.Following.{Build, with_made, IsFrame, StandsBehind, CallersStand, is_first, is_called, is_recovery, Running, IsEntering, IsReturning, ShowsResult, Stands, runs, enters, returns, fails, own_of}
+use Rattle.execution.specs.Following.{Build, with_made, IsFrame, StandsBehind, CallersStand, is_first, is_called}
+use Rattle.execution.specs.Following.{is_recovery, Running, IsEntering, IsReturning, ShowsResult, Stands, runs, enters}
+use Rattle.execution.specs.Following.{returns, fails, own_of}
 use Rattle.execution.specs.Completing.{GoesAborted, Awaits, GoesOn, Completes, Proceeds}
 use Rattle.execution.specs.Completing as F
 use Rattle.execution.specs.Builds.{IsBuild}

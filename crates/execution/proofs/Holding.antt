@@ -2,13 +2,16 @@
 use Rattle.std.proofs.Common.{inl, inr, ◌≡◌, ℕ, List, [], ◌∷◌, Option, Some, None, refl, ap, sym, ◌∙◌, subst}
 use Rattle.program.specs.declared.kinds.Role.{Role}
 use Rattle.program.specs.declared.kinds.Role.TheVariants.{Entry, Internal, Recover, External, Main}
-use Rattle.program.specs.Trees.{Assign, If, While, Call, Fork, Join, Return, Wait, Notify, Broadcast, Print, Abort, Block, Done, Then, Procedure}
+use Rattle.program.specs.Trees.{Assign, If, While, Call, Fork, Join, Return, Wait, Notify, Broadcast, Print, Abort}
+use Rattle.program.specs.Trees.{Block, Done, Then, Procedure}
 use Rattle.program.specs.Scope.{own_monitor}
 use Rattle.program.specs.Typing.{MayCall, MayBeForked}
 use Rattle.locals.specs.declared.frame.Locals.{Locals}
 use Rattle.locals.specs.declared.frame.Frame.{Frame as MachineFrame}
-use Rattle.meaning.specs.Processes.{Frame, Caller, Process, goes_on, goes_on_by, begins, begins_by, holds, all_monitors, callers_monitors, monitor_of_role}
-use Rattle.execution.specs.Following.{Build, IsFirst, CallersStand, is_first, is_called, is_recovery, Running, own_of, runs, enters, returns, fails}
+use Rattle.meaning.specs.Processes.{Frame, Caller, Process, goes_on, goes_on_by, begins, begins_by, holds, all_monitors}
+use Rattle.meaning.specs.Processes.{callers_monitors, monitor_of_role}
+use Rattle.execution.specs.Following.{Build, IsFirst, CallersStand, is_first, is_called, is_recovery, Running, own_of}
+use Rattle.execution.specs.Following.{runs, enters, returns, fails}
 use Rattle.execution.specs.Completing.{HasFirst}
 use Rattle.execution.specs.Builds.{IsBuild, IsHeld}
 

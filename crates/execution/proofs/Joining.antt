@@ -1,5 +1,6 @@
 -- A JOIN: from its handle to the claim, and what comes of the child's end.
-use Rattle.std.proofs.Common.{◌≡◌, ℕ, zero, suc, ◌+◌, ◌*◌, ◌<◌, ◌≤◌, List, [], ◌∷◌, ◌++◌, length, Option, Some, None, refl, ap, sym, ◌∙◌, subst, arith, length-append, ℤ, pos, Contains, slice_get}
+use Rattle.std.proofs.Common.{◌≡◌, ℕ, zero, suc, ◌+◌, ◌*◌, ◌<◌, ◌≤◌, List, [], ◌∷◌, ◌++◌, length, Option, Some, None}
+use Rattle.std.proofs.Common.{refl, ap, sym, ◌∙◌, subst, arith, length-append, ℤ, pos, Contains, slice_get}
 use Rattle.std.specs.Prelude.{slice_set, ◌^◌}
 use Rattle.words.specs.declared.outcome.Fault.TheVariants.{HandleNotJoinable, JoinedAborted}
 use Rattle.words.specs.Process.{process_word}
@@ -32,7 +33,8 @@ use Rattle.execution.specs.Completing as F
 use Rattle.execution.proofs.Words.{signed_fits}
 use Rattle.execution.proofs.Walking.{front_stands, back_stands, one_step, look_here, wider, within_on}
 use Rattle.execution.proofs.Bodies.{block_implements, are_sound-followed, block_sound}
-use Rattle.execution.proofs.Contexts.{Context, frame_at, view_at, proceeds_on, proceeds_wider, with_evaluation, is_before, stands_by}
+use Rattle.execution.proofs.Contexts.{Context, frame_at, view_at, proceeds_on, proceeds_wider, with_evaluation}
+use Rattle.execution.proofs.Contexts.{is_before, stands_by}
 use Rattle.execution.proofs.Stepping.{at_once}
 use Rattle.execution.proofs.Putting.{slot_below, put_typed, put_holds, put_length}
 use Rattle.execution.proofs.Awaiting as J

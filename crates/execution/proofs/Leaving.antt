@@ -1,5 +1,6 @@
 -- The end of a procedure of every role: an ENTRY procedure gives up its monitor with its result, others hand it over.
-use Rattle.std.proofs.Common.{◌≡◌, ℕ, ◌+◌, List, [], ◌∷◌, ◌++◌, length, Option, Some, None, refl, ap, sym, ◌∙◌, subst, arith, ℤ, pos, slice_get}
+use Rattle.std.proofs.Common.{◌≡◌, ℕ, ◌+◌, List, [], ◌∷◌, ◌++◌, length, Option, Some, None, refl, ap, sym, ◌∙◌, subst}
+use Rattle.std.proofs.Common.{arith, ℤ, pos, slice_get}
 use Rattle.std.specs.Prelude.{⊤}
 use Rattle.isa.specs.declared.instr.Instr.TheVariants.{Push}
 use Rattle.program.specs.declared.kinds.ValueType.{ValueType}
@@ -20,7 +21,8 @@ use Rattle.locals.specs.declared.frame.Frame.{Frame as MachineFrame}
 use Rattle.locals.specs.Threads.{Runs}
 use Rattle.meaning.specs.Values.{Variables}
 use Rattle.meaning.specs.Labels.{Exits}
-use Rattle.meaning.specs.Processes.{Frame, Caller, Process, Before, Returning, Leaving, goes_on, goes_on_by, holds, monitor_of_role, callers_monitors}
+use Rattle.meaning.specs.Processes.{Frame, Caller, Process, Before, Returning, Leaving, goes_on, goes_on_by, holds}
+use Rattle.meaning.specs.Processes.{monitor_of_role, callers_monitors}
 use Rattle.meaning.specs.Offers.{Does, Nothing, offer, answers}
 use Rattle.execution.specs.Walks.{StandAt}
 use Rattle.execution.specs.Following.{Build, CallersStand, ShowsResult, result_operands, returns}

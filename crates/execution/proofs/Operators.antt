@@ -1,6 +1,8 @@
 -- The machine's operators on the words of values do what the source's operators do on the values.
-use Rattle.std.proofs.Common.{zero, suc, inl, inr, rules, ◌≡◌, ℕ, ◌+◌, ◌<◌, ◌≤◌, ◌==◌, List, ◌∷◌, ℤ, pos, negsuc, Bool, true, false, not, ◌&&◌, ◌||◌, refl, ap, ◌∙◌, sym, subst, arith}
-use Rattle.std.specs.Prelude.{FitsSigned, if◌then◌else◌, ◌+ℤ◌, ◌-ℤ◌, ◌*ℤ◌, neg_ℤ, int_lt, int_le, int_div, int_rem, nat_lt, ◌^◌, unsigned_abs}
+use Rattle.std.proofs.Common.{zero, suc, inl, inr, rules, ◌≡◌, ℕ, ◌+◌, ◌<◌, ◌≤◌, ◌==◌, List, ◌∷◌, ℤ, pos, negsuc, Bool}
+use Rattle.std.proofs.Common.{true, false, not, ◌&&◌, ◌||◌, refl, ap, ◌∙◌, sym, subst, arith}
+use Rattle.std.specs.Prelude.{FitsSigned, if◌then◌else◌, ◌+ℤ◌, ◌-ℤ◌, ◌*ℤ◌, neg_ℤ, int_lt, int_le, int_div, int_rem}
+use Rattle.std.specs.Prelude.{nat_lt, ◌^◌, unsigned_abs}
 use Rattle.std.specs.Ordering.{int_eq}
 use Rattle.std.specs.Int.{w32}
 use Rattle.std.proofs.lemmas.Int.{to_z-of_z, rem_below, fits_signed_from_abs}
@@ -12,7 +14,8 @@ use Rattle.isa.specs.declared.operator.Operator.TheVariants.{BitAnd, BitOr}
 use Rattle.program.specs.declared.kinds.ValueType.{ValueType}
 use Rattle.program.specs.declared.kinds.ValueType.TheVariants.{Integer, Boolean, Process}
 use Rattle.program.specs.declared.kinds.Operator.{Operator}
-use Rattle.program.specs.declared.kinds.Operator.TheVariants.{Add, Subtract, Multiply, Divide, Modulo, Equal, NotEqual, Less, LessEqual, Greater, GreaterEqual, And, Or}
+use Rattle.program.specs.declared.kinds.Operator.TheVariants.{Add, Subtract, Multiply, Divide, Modulo, Equal, NotEqual}
+use Rattle.program.specs.declared.kinds.Operator.TheVariants.{Less, LessEqual, Greater, GreaterEqual, And, Or}
 use Rattle.program.specs.declared.kinds.UnaryOperator.{UnaryOperator}
 use Rattle.program.specs.declared.kinds.UnaryOperator.TheVariants.{Negate as NegateOf, Not as NotOf}
 use Rattle.program.specs.Typing.{Takes, result_type, unary_type}

@@ -1,6 +1,7 @@
 -- Where a thread goes on that has taken a monitor's lock: behind the template; or, in an abandoned monitor, in its
 -- RECOVER part or into a fault.
-use Rattle.std.proofs.Common.{◌≡◌, ℕ, ◌+◌, ◌<◌, ◌≤◌, List, [], ◌∷◌, length, Option, Some, None, slice_get, refl, ap, sym, ◌∙◌, subst, arith, lt-ltb}
+use Rattle.std.proofs.Common.{◌≡◌, ℕ, ◌+◌, ◌<◌, ◌≤◌, List, [], ◌∷◌, length, Option, Some, None, slice_get, refl, ap}
+use Rattle.std.proofs.Common.{sym, ◌∙◌, subst, arith, lt-ltb}
 use Rattle.words.specs.declared.outcome.Fault.TheVariants.{AbandonedMonitor}
 use Rattle.isa.specs.declared.instr.Instr.TheVariants.{Call, Raise}
 use Rattle.program.specs.declared.kinds.ValueType.{ValueType}
@@ -20,7 +21,8 @@ use Rattle.locals.specs.Looks.{Goes, if_so, look}
 use Rattle.meaning.specs.Processes.{Frame, Caller, goes_on, frame_of, zeros, recovers_by}
 use Rattle.execution.specs.Typed.{HaveValues}
 use Rattle.execution.specs.Walks.{empty_view}
-use Rattle.execution.specs.Following.{Build, CallersStand, is_first, is_called, is_recovery, Implements, IsFrame, StandsBehind, Stands, runs, fails, recovery_in}
+use Rattle.execution.specs.Following.{Build, CallersStand, is_first, is_called, is_recovery, Implements, IsFrame}
+use Rattle.execution.specs.Following.{StandsBehind, Stands, runs, fails, recovery_in}
 use Rattle.execution.specs.Completing.{GoesOn, kept}
 use Rattle.execution.specs.Builds.{IsBuild}
 use Rattle.execution.proofs.Walking.{wider, within_on, one_step, look_here}

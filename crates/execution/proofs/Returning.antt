@@ -1,5 +1,6 @@
 -- The end of a procedure: its result goes to its caller; and the end of the main part.
-use Rattle.std.proofs.Common.{◌≡◌, ℕ, ◌+◌, ◌≤◌, List, [], ◌∷◌, Option, Some, None, slice_get, refl, ap, ◌∙◌, subst, arith, ℤ, pos, sym}
+use Rattle.std.proofs.Common.{◌≡◌, ℕ, ◌+◌, ◌≤◌, List, [], ◌∷◌, Option, Some, None, slice_get, refl, ap, ◌∙◌, subst}
+use Rattle.std.proofs.Common.{arith, ℤ, pos, sym}
 use Rattle.std.specs.Prelude.{slice_set}
 use Rattle.words.specs.Signed.{word_of}
 use Rattle.isa.specs.declared.instr.Instr.TheVariants.{Ret, RetValue, SetLocal, Pop}
@@ -22,7 +23,8 @@ use Rattle.meaning.specs.Processes.{Frame, Caller, Process, Leaving, goes_on, ha
 use Rattle.meaning.specs.Offers.{Does, Nothing, offer}
 use Rattle.execution.specs.Typed.{HasValue}
 use Rattle.execution.specs.Walks.{WalksWithin, stays}
-use Rattle.execution.specs.Following.{Build, CallersStand, is_first, is_called, is_recovery, StandsBehind, Implements, IsFrame, Stands, runs, taking_code, ShowsResult, result_operands}
+use Rattle.execution.specs.Following.{Build, CallersStand, is_first, is_called, is_recovery, StandsBehind, Implements}
+use Rattle.execution.specs.Following.{IsFrame, Stands, runs, taking_code, ShowsResult, result_operands}
 use Rattle.execution.specs.Completing.{Completes, Proceeds, view_of}
 use Rattle.execution.specs.Completing as F
 use Rattle.execution.proofs.Walking.{one_step, look_here}

@@ -4,16 +4,20 @@ use Rattle.program.specs.declared.kinds.ValueType.{ValueType}
 use Rattle.program.specs.declared.kinds.ValueType.TheVariants.{Integer, Boolean, Process as Handle}
 use Rattle.program.specs.declared.kinds.Role.{Role}
 use Rattle.program.specs.declared.kinds.Role.TheVariants.{Entry, Internal, Recover, External, Main}
-use Rattle.program.specs.Trees.{Expression, Constant, Truth, Local, Member, Element, Unary, Both, Target, ToLocal, ToMember, ToElement, Statement, Assign, If, While, Call, Fork, Join, Return, Wait, Notify, Broadcast, Print, Abort, Block, Done, Then, Procedure}
+use Rattle.program.specs.Trees.{Expression, Constant, Truth, Local, Member, Element, Unary, Both, Target, ToLocal}
+use Rattle.program.specs.Trees.{ToMember, ToElement, Statement, Assign, If, While, Call, Fork, Join, Return, Wait}
+use Rattle.program.specs.Trees.{Notify, Broadcast, Print, Abort, Block, Done, Then, Procedure}
 use Rattle.program.specs.Scope.{Scope, scope_of, own_monitor, array_size}
 use Rattle.program.specs.Typing.{HasType, TargetHasType, ArgumentsFit, ReturnFits, Fits, MayCall, unary_type}
 use Rattle.locals.specs.declared.frame.Locals.{Locals}
 use Rattle.locals.specs.declared.frame.Frame.{Frame as MachineFrame}
-use Rattle.meaning.specs.Values.{Variables, Evaluated, Value, Fails, EvaluatedAll, and_then, evaluate, evaluate_all, at_index, index_in, put_first, unary, both}
+use Rattle.meaning.specs.Values.{Variables, Evaluated, Value, Fails, EvaluatedAll, and_then, evaluate, evaluate_all}
+use Rattle.meaning.specs.Values.{at_index, index_in, put_first, unary, both}
 use Rattle.meaning.specs.Processes.{Frame, Caller, Process, goes_on, goes_on_by}
 use Rattle.meaning.specs.Offers.{Offer, offer, with_value, with_values, with_index, statement_offer, rest_offer}
 use Rattle.execution.specs.Variables.{SameIn}
-use Rattle.execution.specs.Following.{Build, AreSound, IsFrame, CallersStand, is_called, is_recovery, Running, own_of, runs, enters, returns, fails}
+use Rattle.execution.specs.Following.{Build, AreSound, IsFrame, CallersStand, is_called, is_recovery, Running, own_of}
+use Rattle.execution.specs.Following.{runs, enters, returns, fails}
 use Rattle.execution.specs.Builds.{IsBuild, IsSettled}
 
 -- the same evaluation, with the same to be done with each value

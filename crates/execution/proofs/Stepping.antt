@@ -1,5 +1,6 @@
 -- From a statement to the next: prints, assignments, tests and the ABORT statement.
-use Rattle.std.proofs.Common.{◌≡◌, ℕ, ◌+◌, ◌*◌, ◌≤◌, List, [], ◌∷◌, ◌++◌, length, Option, None, refl, ap, sym, ◌∙◌, subst, arith, length-append, ℤ}
+use Rattle.std.proofs.Common.{◌≡◌, ℕ, ◌+◌, ◌*◌, ◌≤◌, List, [], ◌∷◌, ◌++◌, length, Option, None, refl, ap, sym, ◌∙◌}
+use Rattle.std.proofs.Common.{subst, arith, length-append, ℤ}
 use Rattle.std.specs.Prelude.{slice_set}
 use Rattle.words.specs.declared.outcome.Fault.TheVariants.{AbortStatement}
 use Rattle.words.specs.Signed.{word_of}
@@ -28,7 +29,8 @@ use Rattle.execution.specs.Completing as F
 use Rattle.execution.proofs.Operators.{back}
 use Rattle.execution.proofs.Walking.{front_stands, back_stands, one_step, look_here}
 use Rattle.execution.proofs.Putting.{slot_below, put_typed, put_holds, put_length}
-use Rattle.execution.proofs.Contexts.{Context, frame_at, view_at, IsNoReturn, proceeds_on, proceeds_wider, with_evaluation, is_before, stands_on}
+use Rattle.execution.proofs.Contexts.{Context, frame_at, view_at, IsNoReturn, proceeds_on, proceeds_wider}
+use Rattle.execution.proofs.Contexts.{with_evaluation, is_before, stands_on}
 
 -- the bound of a statement's steps
 abbrev pub steps_of : Statement → ℕ

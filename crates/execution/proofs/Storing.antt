@@ -1,5 +1,6 @@
 -- A value goes into a variable of the own monitor.
-use Rattle.std.proofs.Common.{◌≡◌, ℕ, ◌+◌, ◌*◌, ◌<◌, ◌≤◌, List, [], ◌∷◌, ◌++◌, length, Option, Some, None, refl, ap, sym, ◌∙◌, subst, arith, length-append, ℤ}
+use Rattle.std.proofs.Common.{◌≡◌, ℕ, ◌+◌, ◌*◌, ◌<◌, ◌≤◌, List, [], ◌∷◌, ◌++◌, length, Option, Some, None, refl, ap}
+use Rattle.std.proofs.Common.{sym, ◌∙◌, subst, arith, length-append, ℤ}
 use Rattle.words.specs.declared.outcome.Fault.TheVariants.{IndexOutOfRange}
 use Rattle.words.specs.Signed.{word_of}
 use Rattle.isa.specs.declared.instr.Instr.TheVariants.{Push, Store}

@@ -1,10 +1,12 @@
 -- From a test to what it chooses: IF and WHILE.
-use Rattle.std.proofs.Common.{inl, inr, ◌≡◌, ℕ, suc, ◌+◌, ◌*◌, ◌≤◌, List, [], ◌∷◌, ◌++◌, length, Option, None, refl, ap, ◌∙◌, subst, arith, length-append, ℤ, Bool, true, false}
+use Rattle.std.proofs.Common.{inl, inr, ◌≡◌, ℕ, suc, ◌+◌, ◌*◌, ◌≤◌, List, [], ◌∷◌, ◌++◌, length, Option, None, refl, ap}
+use Rattle.std.proofs.Common.{◌∙◌, subst, arith, length-append, ℤ, Bool, true, false}
 use Rattle.std.proofs.lemmas.List.Elements.{Contains-append_left, Contains-append_right}
 use Rattle.words.specs.Signed.{word_of}
 use Rattle.isa.specs.declared.instr.Instr.TheVariants.{JumpIfZero, Jump}
 use Rattle.program.specs.declared.kinds.ValueType.TheVariants.{Boolean}
-use Rattle.program.specs.Trees.{Expression, Statement, If, While, Block, Done, Then, NoPart, SomePart, Procedure, followed_by}
+use Rattle.program.specs.Trees.{Expression, Statement, If, While, Block, Done, Then, NoPart, SomePart, Procedure}
+use Rattle.program.specs.Trees.{followed_by}
 use Rattle.program.specs.Scope.{scope_of}
 use Rattle.program.specs.Typing.{HasType}
 use Rattle.program.specs.Measures.{room, most_room, block_calls}

@@ -1,5 +1,6 @@
 -- Walks one after another, and what leads on from an evaluation.
-use Rattle.std.proofs.Common.{◌≡◌, ℕ, ◌+◌, ◌<◌, ◌≤◌, List, [], ◌∷◌, ◌++◌, length, Some, Option, slice_get, refl, ap, ◌∙◌, subst, arith, ℤ, lt-ltb}
+use Rattle.std.proofs.Common.{◌≡◌, ℕ, ◌+◌, ◌<◌, ◌≤◌, List, [], ◌∷◌, ◌++◌, length, Some, Option, slice_get, refl, ap}
+use Rattle.std.proofs.Common.{◌∙◌, subst, arith, ℤ, lt-ltb}
 use Rattle.words.specs.Signed.{word_of}
 use Rattle.isa.specs.declared.instr.Instr.{Instr}
 use Rattle.isa.specs.Programs.{Program}

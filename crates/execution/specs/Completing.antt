@@ -1,6 +1,7 @@
 -- What a thread that stands for a process does: the steps that complete what the process offers, or the templates that
 -- do.
-use Rattle.std.specs.Prelude.{ℕ, suc, ◌+◌, ◌≡◌, ◌≢◌, ◌<◌, ◌≤◌, ◌^◌, pos, ℤ, List, [], ◌∷◌, length, Option, Some, None, true, ⊤}
+use Rattle.std.specs.Prelude.{ℕ, suc, ◌+◌, ◌≡◌, ◌≢◌, ◌<◌, ◌≤◌, ◌^◌, pos, ℤ, List, [], ◌∷◌, length, Option, Some, None}
+use Rattle.std.specs.Prelude.{true, ⊤}
 use Rattle.words.specs.Limits.{most_processes}
 use Rattle.words.specs.Process.{process_word}
 use Rattle.words.specs.Signed.{signed_of, word_of}
@@ -17,11 +18,13 @@ use Rattle.code.specs.Marks.{placed}
 use Rattle.locals.specs.declared.frame.Locals.{Locals}
 use Rattle.locals.specs.declared.frame.Frame.{Frame as MachineFrame}
 use Rattle.locals.specs.Threads.{Thread, Runs, Dies, opening_thread}
-use Rattle.locals.specs.Looks.{Request, Goes, Asks, AskLoad, AskStore, AskSwap, AskWait, AskFork, AskPrint, AskReturn, AskReturnValue, look, first_exit}
+use Rattle.locals.specs.Looks.{Request, Goes, Asks, AskLoad, AskStore, AskSwap, AskWait, AskFork, AskPrint, AskReturn}
+use Rattle.locals.specs.Looks.{AskReturnValue, look, first_exit}
 use Rattle.meaning.specs.Values.{Variables}
 use Rattle.meaning.specs.Labels.{Faulted, Alone, Kind, Exits, Waits, Stores}
 use Rattle.meaning.specs.Labels as L
-use Rattle.meaning.specs.Processes.{Frame, Caller, Process, Entering, Suspended, Joining, Returning, Dying, Leaving, goes_on, recovers, with_result, holds, all_monitors, callers_monitors}
+use Rattle.meaning.specs.Processes.{Frame, Caller, Process, Entering, Suspended, Joining, Returning, Dying, Leaving}
+use Rattle.meaning.specs.Processes.{goes_on, recovers, with_result, holds, all_monitors, callers_monitors}
 use Rattle.meaning.specs.Offers.{Does, MakesOne, ClaimsOne, NotifiesSome, NotifiesAll, Nothing, Puts, Writes, offer}
 use Rattle.execution.specs.Variables.{IsVariable, variable_address, ValueFits}
 use Rattle.execution.specs.Walks.{View, StandAt, WalksWithin}

@@ -1,5 +1,6 @@
 -- Where a thread stands in the code of a process.
-use Rattle.std.specs.Prelude.{ℕ, suc, ◌+◌, ◌⊎◌, ◌≡◌, ◌<◌, ◌≤◌, List, [], ◌∷◌, ◌++◌, length, Option, Some, None, ℤ, pos, slice_get, Contains, ⊤}
+use Rattle.std.specs.Prelude.{ℕ, suc, ◌+◌, ◌⊎◌, ◌≡◌, ◌<◌, ◌≤◌, List, [], ◌∷◌, ◌++◌, length, Option, Some, None, ℤ, pos}
+use Rattle.std.specs.Prelude.{slice_get, Contains, ⊤}
 use Rattle.words.specs.Signed.{word_of}
 use Rattle.words.specs.declared.outcome.Fault.TheVariants.{AbandonedMonitor}
 use Rattle.isa.specs.declared.instr.Instr.{Instr}

@@ -1,6 +1,7 @@
 -- How deep statements stand in one another.
 use Rattle.std.specs.Prelude.{ℕ, ◌+◌, max}
-use Rattle.program.specs.Trees.{Statement, Assign, If, While, Call, Fork, Join, Return, Wait, Notify, Broadcast, Print, Abort, Block, Done, Then, Part, NoPart, SomePart}
+use Rattle.program.specs.Trees.{Statement, Assign, If, While, Call, Fork, Join, Return, Wait, Notify, Broadcast, Print}
+use Rattle.program.specs.Trees.{Abort, Block, Done, Then, Part, NoPart, SomePart}
 
 -- how deep IF, WHILE and ABORTED stand in one another
 abbrev mutual

@@ -1,5 +1,6 @@
 -- Steps of a thread's own code: local ones, loads of variables, and those that complete an action of its process.
-use Rattle.std.proofs.Common.{◌≡◌, ◌≢◌, ℕ, suc, ◌+◌, ◌<◌, ◌≤◌, ◌==◌, ◌&&◌, Bool, true, false, List, [], ◌∷◌, ◌++◌, Option, Some, None, refl, ap, sym, ◌∙◌, subst, arith, inl, inr, ◌⊎◌, ℤ, if◌then◌else◌}
+use Rattle.std.proofs.Common.{◌≡◌, ◌≢◌, ℕ, suc, ◌+◌, ◌<◌, ◌≤◌, ◌==◌, ◌&&◌, Bool, true, false, List, [], ◌∷◌, ◌++◌}
+use Rattle.std.proofs.Common.{Option, Some, None, refl, ap, sym, ◌∙◌, subst, arith, inl, inr, ◌⊎◌, ℤ, if◌then◌else◌}
 use Rattle.std.proofs.lemmas.Bool.{eq-eqb, eqb-true, false≢true, or_left, or_right}
 use Rattle.words.specs.Updates.{put}
 use Rattle.words.specs.Signed.{word_of, signed_of}
@@ -17,7 +18,8 @@ use Rattle.code.specs.Pieces.{code_of}
 use Rattle.meaning.specs.Labels.{Kind, Label, Alone, Stores, kind_of}
 use Rattle.meaning.specs.Labels as L
 use Rattle.meaning.specs.Values.{Variables, with_variable}
-use Rattle.meaning.specs.Processes.{Process, Entering, Before, Suspended, Joining, Returning, Failing, Dying, Leaving, Over, holds}
+use Rattle.meaning.specs.Processes.{Process, Entering, Before, Suspended, Joining, Returning, Failing, Dying, Leaving}
+use Rattle.meaning.specs.Processes.{Over, holds}
 use Rattle.meaning.specs.Offers.{Effect, Does, Nothing, Puts as Puts', Writes, Offer, offer, TakesUp}
 use Rattle.meaning.specs.States.{SourceState, variables_after, printed_after, processes_after}
 use Rattle.protocol.specs.Points.{Point, Runs, Thread as Place, thread_at, entry_at}

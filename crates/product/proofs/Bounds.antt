@@ -6,12 +6,18 @@ use Rattle.program.specs.Trees.{Program}
 use Rattle.program.specs.WellFormed.{WellFormed}
 use Rattle.meaning.specs.Values.{Variables}
 use Rattle.meaning.specs.Processes.{Process}
-use Rattle.protocol.specs.Points.{ToExit, ToWait, Point, Unmade, Runs, EnterPends, EnterTries, ReenterPends, ReenterTries, TakeReads, TakeMarks, TakeSleeps, TakeTries, GotReads, GotLinks, GotHeads, GotUnpends, WaitReads, NotifyAdds, NotifyWakes, BroadcastAdds, BroadcastMarks, BroadcastReads, BroadcastMoves, JoinReads, JoinSleeps, JoinLearns, JoinTakes, LeavePends, LeaveReads, LeaveHeads, LeaveSwaps, LeaveWakes, HasLeft, Dies, Walks, ClearsId, LastWakes, HasEnded}
+use Rattle.protocol.specs.Points.{ToExit, ToWait, Point, Unmade, Runs, EnterPends, EnterTries, ReenterPends}
+use Rattle.protocol.specs.Points.{ReenterTries, TakeReads, TakeMarks, TakeSleeps, TakeTries, GotReads, GotLinks}
+use Rattle.protocol.specs.Points.{GotHeads, GotUnpends, WaitReads, NotifyAdds, NotifyWakes, BroadcastAdds}
+use Rattle.protocol.specs.Points.{BroadcastMarks, BroadcastReads, BroadcastMoves, JoinReads, JoinSleeps, JoinLearns}
+use Rattle.protocol.specs.Points.{JoinTakes, LeavePends, LeaveReads, LeaveHeads, LeaveSwaps, LeaveWakes, HasLeft, Dies}
+use Rattle.protocol.specs.Points.{Walks, ClearsId, LastWakes, HasEnded}
 use Rattle.protocol.specs.World.{World}
 use Rattle.execution.specs.Following.{Build}
 use Rattle.refinement.specs.Built.{build_of}
 use Rattle.refinement.specs.Pace.{stretch_length}
-use Rattle.product.specs.Standing.{StandsAt, unmade, works, returns, inside, faults, reads, sleeps, learns, takes, walks, clears, wakes, rests}
+use Rattle.product.specs.Standing.{StandsAt, unmade, works, returns, inside, faults, reads, sleeps, learns, takes}
+use Rattle.product.specs.Standing.{walks, clears, wakes, rests}
 use Rattle.product.specs.Ranks.{rank, steps_left, more_steps, most_left}
 
 either_few : (b : Bool) (x y n : ℕ) → x ≤ n → y ≤ n → (if b then x else y) ≤ n

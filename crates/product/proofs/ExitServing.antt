@@ -1,11 +1,13 @@
 -- A step of robust exit, as the machine takes it, is a step of the protocol's exit, and leads to the phase of its next
 -- point.
-use Rattle.std.proofs.Common.{◌≡◌, ℕ, zero, suc, ◌+◌, ◌<◌, ◌≤◌, ◌==◌, ◌||◌, true, List, [], ◌∷◌, length, inl, inr, refl, sym, ap, ◌∙◌, subst, arith}
+use Rattle.std.proofs.Common.{◌≡◌, ℕ, zero, suc, ◌+◌, ◌<◌, ◌≤◌, ◌==◌, ◌||◌, true, List, [], ◌∷◌, length, inl, inr, refl}
+use Rattle.std.proofs.Common.{sym, ap, ◌∙◌, subst, arith}
 use Rattle.std.specs.Prelude.{nat_le}
 use Rattle.std.proofs.lemmas.Bool.{cases_Bool, cond-true, cond-false, or_left, or_right, eq-eqb}
 use Rattle.words.specs.Process.{process_word}
 use Rattle.isa.specs.Programs.{memory_size}
-use Rattle.robustexit.specs.RobustExit.{Shared, EntryStep, IsPending, IsForeign, IsOwned, PendingStep, NoEntry as NoEntry', ExitStep}
+use Rattle.robustexit.specs.RobustExit.{Shared, EntryStep, IsPending, IsForeign, IsOwned, PendingStep}
+use Rattle.robustexit.specs.RobustExit.{NoEntry as NoEntry', ExitStep}
 use Rattle.robustexit.specs.Phases.{next_entry}
 use Rattle.robustexit.specs.declared.phase.ExitPhase.{ExitPhase}
 use Rattle.robustexit.specs.declared.phase.ExitPhase.TheVariants.{Entry, Pending, ClearId, LastWake}
@@ -21,7 +23,8 @@ use Rattle.machine.specs.States.{State, with_thread}
 use Rattle.machine.specs.AbstractServing.{shared_of, with_shared}
 use Rattle.machine.specs.Runs.{Moves}
 use Rattle.protocol.specs.Word.{died_word}
-use Rattle.protocol.specs.Points.{Entry as PendingEntry, NoEntry, Spot, OnLock, OnId, Point, Walks, ClearsId, LastWakes, Runs, Dies}
+use Rattle.protocol.specs.Points.{Entry as PendingEntry, NoEntry, Spot, OnLock, OnId, Point, Walks, ClearsId, LastWakes}
+use Rattle.protocol.specs.Points.{Runs, Dies}
 use Rattle.protocol.specs.World.{World, mem, tail}
 use Rattle.protocol.specs.Cells.{LockOf, LinkOf, PendingOf, IdOf, write}
 use Rattle.protocol.specs.Memory.{entry_address}

@@ -1,8 +1,11 @@
 -- The steps of a JOIN: the reading of the id word, the sleep on it, and what is learned of the child's end.
-use Rattle.std.proofs.Common.{◌≡◌, ◌≢◌, ℕ, zero, suc, ◌+◌, ◌<◌, ◌≤◌, ◌==◌, Bool, true, false, List, Option, Some, None, ℤ, refl, ap, sym, ◌∙◌, subst, arith, inl, inr, ◌⊎◌}
+use Rattle.std.proofs.Common.{◌≡◌, ◌≢◌, ℕ, zero, suc, ◌+◌, ◌<◌, ◌≤◌, ◌==◌, Bool, true, false, List, Option, Some, None}
+use Rattle.std.proofs.Common.{ℤ, refl, ap, sym, ◌∙◌, subst, arith, inl, inr, ◌⊎◌}
 use Rattle.std.specs.Prelude.{if◌then◌else◌}
 use Rattle.std.proofs.lemmas.Bool.{cond-true, cond-false, eq-eqb, ne_eqb}
-use Rattle.words.specs.declared.outcome.Fault.TheVariants.{ResultOutOfRange, DivisionByZero, IndexOutOfRange, HandleNotJoinable, ProcessTableFull, AbortStatement, AbandonedMonitor, JoinedAborted}
+use Rattle.words.specs.declared.outcome.Fault.TheVariants.{ResultOutOfRange, DivisionByZero, IndexOutOfRange}
+use Rattle.words.specs.declared.outcome.Fault.TheVariants.{HandleNotJoinable, ProcessTableFull, AbortStatement}
+use Rattle.words.specs.declared.outcome.Fault.TheVariants.{AbandonedMonitor, JoinedAborted}
 use Rattle.words.specs.Process.{process_word}
 use Rattle.locals.specs.Threads.{Thread, Dies as Dies'}
 use Rattle.locals.specs.Looks.{Request, Look, Asks, AskLoad, AskWait, look}
@@ -16,7 +19,8 @@ use Rattle.meaning.specs.Labels.{Cause, Faulted, Killed, End, Ended, Aborted, Jo
 use Rattle.meaning.specs.Processes.{Frame, Caller, Process, Joining, Failing, goes_on, with_result, all_monitors}
 use Rattle.meaning.specs.Offers.{joined, joined_part}
 use Rattle.meaning.specs.States.{SourceState}
-use Rattle.protocol.specs.Points.{OnId, Point, Unmade, Runs, JoinReads, JoinSleeps, JoinLearns, JoinTakes, LastWakes, HasEnded}
+use Rattle.protocol.specs.Points.{OnId, Point, Unmade, Runs, JoinReads, JoinSleeps, JoinLearns, JoinTakes, LastWakes}
+use Rattle.protocol.specs.Points.{HasEnded}
 use Rattle.protocol.specs.World.{World, mem}
 use Rattle.protocol.specs.Finds.{cause_word, Tells}
 use Rattle.protocol.specs.Steps.{go_list}

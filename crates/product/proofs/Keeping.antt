@@ -1,21 +1,29 @@
 -- The actions of a process in its own code keep the monitors that it holds, but those that take or give up one.
-use Rattle.std.proofs.Common.{◌≡◌, ℕ, zero, suc, List, [], ◌∷◌, Option, Some, None, ℤ, pos, negsuc, refl, sym, ◌∙◌, subst, inl, inr}
+use Rattle.std.proofs.Common.{◌≡◌, ℕ, zero, suc, List, [], ◌∷◌, Option, Some, None, ℤ, pos, negsuc, refl, sym, ◌∙◌}
+use Rattle.std.proofs.Common.{subst, inl, inr}
 use Rattle.std.specs.Prelude.{slice_get}
 use Rattle.words.specs.declared.outcome.Fault.{Fault}
 use Rattle.words.specs.declared.outcome.Fault.TheVariants.{AbandonedMonitor}
 use Rattle.program.specs.declared.kinds.Role.{Role}
 use Rattle.program.specs.declared.kinds.Role.TheVariants.{Entry, Internal, Recover, External, Main}
-use Rattle.program.specs.Trees.{Expression, Target, ToLocal, ToMember, ToElement, Statement, Assign, If, While, Call, Fork, Join, Return, Wait, Notify, Broadcast, Print, Abort, Block, Done, Then, Part, Procedure}
+use Rattle.program.specs.Trees.{Expression, Target, ToLocal, ToMember, ToElement, Statement, Assign, If, While, Call}
+use Rattle.program.specs.Trees.{Fork, Join, Return, Wait, Notify, Broadcast, Print, Abort, Block, Done, Then, Part}
+use Rattle.program.specs.Trees.{Procedure}
 use Rattle.program.specs.Scope.{Scope, scope_of, array_size}
 use Rattle.program.specs.Typing.{Fits, MayCall}
 use Rattle.locals.specs.Threads.{Thread}
 use Rattle.locals.specs.declared.frame.Locals.{Locals}
 use Rattle.locals.specs.declared.frame.Frame.{Frame as MachineFrame}
-use Rattle.meaning.specs.Values.{Variables, Evaluated, Value, Fails, EvaluatedAll, Values, FailsAll, evaluate, evaluate_all, index_in}
+use Rattle.meaning.specs.Values.{Variables, Evaluated, Value, Fails, EvaluatedAll, Values, FailsAll, evaluate}
+use Rattle.meaning.specs.Values.{evaluate_all, index_in}
 use Rattle.meaning.specs.Labels.{Label}
-use Rattle.meaning.specs.Processes.{Frame, Caller, Process, goes_on, goes_on_by, begins, begins_by, opening_frame, frame_of, with_local, with_result, hands_over, holds, all_monitors, callers_monitors, monitor_of_role}
-use Rattle.meaning.specs.Offers.{Effect, Offer, Does, faults, with_value, with_values, with_index, answers, assigns, claims, returned, statement_offer, rest_offer, offer, TakesUp}
-use Rattle.execution.specs.Following.{Build, AreSound, IsFrame, CallersStand, is_called, is_recovery, Running, Stands, runs, enters, returns, fails}
+use Rattle.meaning.specs.Processes.{Frame, Caller, Process, goes_on, goes_on_by, begins, begins_by, opening_frame}
+use Rattle.meaning.specs.Processes.{frame_of, with_local, with_result, hands_over, holds, all_monitors}
+use Rattle.meaning.specs.Processes.{callers_monitors, monitor_of_role}
+use Rattle.meaning.specs.Offers.{Effect, Offer, Does, faults, with_value, with_values, with_index, answers, assigns}
+use Rattle.meaning.specs.Offers.{claims, returned, statement_offer, rest_offer, offer, TakesUp}
+use Rattle.execution.specs.Following.{Build, AreSound, IsFrame, CallersStand, is_called, is_recovery, Running, Stands}
+use Rattle.execution.specs.Following.{runs, enters, returns, fails}
 use Rattle.execution.proofs.Holding.{main_alone, goes_on_holds}
 use Rattle.product.specs.Standing.{IsLast, KeepsMonitors, Holds}
 

@@ -1,5 +1,6 @@
 -- A local step of a thread: it goes on towards where it stands, and nothing else changes.
-use Rattle.std.proofs.Common.{◌≡◌, ℕ, suc, ◌<◌, ◌≤◌, Bool, true, List, [], Some, refl, ap, sym, ◌∙◌, subst, arith, inl, inr, ◌⊎◌}
+use Rattle.std.proofs.Common.{◌≡◌, ℕ, suc, ◌<◌, ◌≤◌, Bool, true, List, [], Some, refl, ap, sym, ◌∙◌, subst, arith, inl}
+use Rattle.std.proofs.Common.{inr, ◌⊎◌}
 use Rattle.words.specs.Updates.{put}
 use Rattle.isa.specs.Programs.{Program as Image}
 use Rattle.locals.specs.Threads.{Thread}

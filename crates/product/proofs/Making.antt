@@ -1,5 +1,6 @@
 -- A FORK: a thread more, or a fault where no more can be made.
-use Rattle.std.proofs.Common.{◌≡◌, ◌≢◌, ℕ, suc, ◌<◌, ◌≤◌, Bool, true, List, [], ◌∷◌, length, Option, Some, None, refl, ap, sym, ◌∙◌, subst, arith, inl, inr}
+use Rattle.std.proofs.Common.{◌≡◌, ◌≢◌, ℕ, suc, ◌<◌, ◌≤◌, Bool, true, List, [], ◌∷◌, length, Option, Some, None, refl}
+use Rattle.std.proofs.Common.{ap, sym, ◌∙◌, subst, arith, inl, inr}
 use Rattle.std.proofs.lemmas.Bool.{cases_eq, false≢true}
 use Rattle.words.specs.Updates.{put}
 use Rattle.words.specs.Limits.{most_processes}

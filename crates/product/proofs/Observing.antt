@@ -1,8 +1,11 @@
 -- What is seen of states that belong together: no broken step, the same ends.
-use Rattle.std.proofs.Common.{◌≡◌, ◌≢◌, ℕ, zero, suc, ◌<◌, ◌≤◌, Bool, true, false, List, [], ◌∷◌, length, Option, Some, None, refl, ap, sym, ◌∙◌, subst, arith, pos}
+use Rattle.std.proofs.Common.{◌≡◌, ◌≢◌, ℕ, zero, suc, ◌<◌, ◌≤◌, Bool, true, false, List, [], ◌∷◌, length, Option, Some}
+use Rattle.std.proofs.Common.{None, refl, ap, sym, ◌∙◌, subst, arith, pos}
 use Rattle.std.specs.Prelude.{if◌then◌else◌}
 use Rattle.words.specs.declared.outcome.Fault.{Fault}
-use Rattle.words.specs.declared.outcome.Fault.TheVariants.{ResultOutOfRange, DivisionByZero, IndexOutOfRange, HandleNotJoinable, ProcessTableFull, AbortStatement, AbandonedMonitor, JoinedAborted}
+use Rattle.words.specs.declared.outcome.Fault.TheVariants.{ResultOutOfRange, DivisionByZero, IndexOutOfRange}
+use Rattle.words.specs.declared.outcome.Fault.TheVariants.{HandleNotJoinable, ProcessTableFull, AbortStatement}
+use Rattle.words.specs.declared.outcome.Fault.TheVariants.{AbandonedMonitor, JoinedAborted}
 use Rattle.words.specs.Outcomes.{outcome_of, fault_number}
 use Rattle.words.specs.Process.{process_word}
 use Rattle.robustexit.specs.declared.phase.ExitPhase.{ExitPhase}
@@ -21,11 +24,14 @@ use Rattle.program.specs.WellFormed.{WellFormed}
 use Rattle.code.specs.Pieces.{code_of}
 use Rattle.meaning.specs.Labels.{Faulted, Killed, End, Ended, Aborted}
 use Rattle.meaning.specs.Values.{Variables}
-use Rattle.meaning.specs.Processes.{Frame, Caller, Process, Entering, Before, Suspended, Joining, Returning, Failing, Dying, Leaving, Over, goes_on_by, goes_on, with_result, recovers, recovers_by, holds, callers_monitors}
+use Rattle.meaning.specs.Processes.{Frame, Caller, Process, Entering, Before, Suspended, Joining, Returning, Failing}
+use Rattle.meaning.specs.Processes.{Dying, Leaving, Over, goes_on_by, goes_on, with_result, recovers, recovers_by}
+use Rattle.meaning.specs.Processes.{holds, callers_monitors}
 use Rattle.meaning.specs.Offers.{Rests, joined, offer}
 use Rattle.meaning.specs.States.{SourceState}
 use Rattle.protocol.specs.Carries.{has_died}
-use Rattle.protocol.specs.Points.{NoEntry, Point, Unmade, Runs, Walks, LastWakes, HasEnded, GotReads, GotLinks, GotHeads, GotUnpends, WaitReads, LeavePends, LeaveReads, LeaveHeads, LeaveSwaps}
+use Rattle.protocol.specs.Points.{NoEntry, Point, Unmade, Runs, Walks, LastWakes, HasEnded, GotReads, GotLinks}
+use Rattle.protocol.specs.Points.{GotHeads, GotUnpends, WaitReads, LeavePends, LeaveReads, LeaveHeads, LeaveSwaps}
 use Rattle.protocol.specs.World.{mem}
 use Rattle.protocol.specs.Cells.{Cell, SequenceOf, LockOf, OutcomeOf, cell_of}
 use Rattle.protocol.specs.Requests.{request}
@@ -50,7 +56,8 @@ use Rattle.templates.specs.Locking.{Takes, EntersAt, ExitsAt, WaitsAt}
 use Rattle.templates.specs.Locking as L
 use Rattle.templates.specs.Notifying.{NotifiesAt, BroadcastsAt}
 use Rattle.templates.specs.Notifying as N
-use Rattle.templates.specs.Inside.{Template, Enters, Exits, Waits, Notifies, Broadcasts, taken, taking_process, releasing_process, process_at, StandsIn, first_thread, first_point, Fits, IsSteady}
+use Rattle.templates.specs.Inside.{Template, Enters, Exits, Waits, Notifies, Broadcasts, taken, taking_process}
+use Rattle.templates.specs.Inside.{releasing_process, process_at, StandsIn, first_thread, first_point, Fits, IsSteady}
 use Rattle.templates.proofs.Follows.{follows}
 use Rattle.templates.proofs.Begins.{begins}
 use Rattle.templates.proofs.Layouts.{valid_lies, word_lies, number_is}

@@ -10,7 +10,9 @@ use Rattle.meaning.specs.Values.{Variables}
 use Rattle.meaning.specs.Processes.{Frame, Caller, Process}
 use Rattle.meaning.specs.Offers.{Nothing, Offer, offer, TakesUp}
 use Rattle.protocol.specs.Word.{owner}
-use Rattle.protocol.specs.Points.{Purpose, ToEnter, ToReenter, ToResume, ToExit, ToWait, Point, EnterTries, ReenterTries, TakeReads, TakeMarks, TakeTries, JoinReads, JoinLearns, LeaveSwaps, HasLeft, WaitReads, LeavePends, LeaveReads, LeaveHeads, Walks}
+use Rattle.protocol.specs.Points.{Purpose, ToEnter, ToReenter, ToResume, ToExit, ToWait, Point, EnterTries}
+use Rattle.protocol.specs.Points.{ReenterTries, TakeReads, TakeMarks, TakeTries, JoinReads, JoinLearns, LeaveSwaps}
+use Rattle.protocol.specs.Points.{HasLeft, WaitReads, LeavePends, LeaveReads, LeaveHeads, Walks}
 use Rattle.protocol.specs.World.{World}
 use Rattle.protocol.specs.Carries.{Event, Acts, Strays, Kills}
 use Rattle.protocol.specs.Answers.{next}
@@ -18,7 +20,8 @@ use Rattle.protocol.specs.Served.{carried}
 use Rattle.execution.specs.Following.{Build}
 use Rattle.templates.specs.Locking.{Takes, EntersAt, ExitsAt, WaitsAt}
 use Rattle.templates.specs.Locking as L
-use Rattle.templates.specs.Inside.{Template, Enters, Exits, Waits, Notifies, Broadcasts, process_at, taking_process, StandsIn, Fits, IsBeforeRelease, SameBefore}
+use Rattle.templates.specs.Inside.{Template, Enters, Exits, Waits, Notifies, Broadcasts, process_at, taking_process}
+use Rattle.templates.specs.Inside.{StandsIn, Fits, IsBeforeRelease, SameBefore}
 use Rattle.templates.specs.Templates.{ActsSo}
 use Rattle.product.proofs.Ranking.{IsTemplate}
 

@@ -1,5 +1,6 @@
 -- The opening states belong together.
-use Rattle.std.proofs.Common.{◌≡◌, ℕ, ◌-◌, ◌==◌, Bool, true, false, List, [], ◌++◌, length, Option, Some, None, refl, ap, sym, ◌∙◌, subst, arith, cond, inl, ℤ, pos}
+use Rattle.std.proofs.Common.{◌≡◌, ℕ, ◌-◌, ◌==◌, Bool, true, false, List, [], ◌++◌, length, Option, Some, None, refl}
+use Rattle.std.proofs.Common.{ap, sym, ◌∙◌, subst, arith, cond, inl, ℤ, pos}
 use Rattle.std.proofs.lemmas.Bool.{eqb-true, false≢true}
 use Rattle.words.specs.Updates.{put}
 use Rattle.words.specs.Process.{process_word}
@@ -17,11 +18,13 @@ use Rattle.program.specs.Trees.{Block, Done, Then, Return, Procedure, Program}
 use Rattle.program.specs.WellFormed.{WellFormed, RoleFits}
 use Rattle.code.specs.Pieces.{code_of, start_of}
 use Rattle.meaning.specs.Values.{Variables}
-use Rattle.meaning.specs.Processes.{Frame, Process, goes_on, goes_on_by, begins, frame_of, zeros, holds, monitor_of_role}
+use Rattle.meaning.specs.Processes.{Frame, Process, goes_on, goes_on_by, begins, frame_of, zeros, holds}
+use Rattle.meaning.specs.Processes.{monitor_of_role}
 use Rattle.meaning.specs.States.{opening, main_process}
 use Rattle.protocol.specs.Points.{Unmade, Runs, Thread as Place, thread_at}
 use Rattle.protocol.specs.World.{opening_world, mem, opening_thread as opening_place}
-use Rattle.protocol.specs.Cells.{Cell, LockOf, LinkOf, HeadOf, PendingOf, IdOf, ClaimOf, ResultOf, OutcomeOf, SequenceOf, cell}
+use Rattle.protocol.specs.Cells.{Cell, LockOf, LinkOf, HeadOf, PendingOf, IdOf, ClaimOf, ResultOf, OutcomeOf}
+use Rattle.protocol.specs.Cells.{SequenceOf, cell}
 use Rattle.protocol.specs.Memory.{stored_value}
 use Rattle.protocol.proofs.Sleeps.{at_put}
 use Rattle.execution.specs.Typed.{HaveValues}

@@ -1,5 +1,6 @@
 -- The source goes on with the machine: a stretch of a thread holds an action of its process.
-use Rattle.std.proofs.Common.{◌≡◌, ℕ, ◌+◌, ◌<◌, ◌≤◌, ◌==◌, ◌&&◌, not, Bool, true, false, List, [], ◌∷◌, ◌++◌, length, refl, ap, sym, ◌∙◌, subst, arith, cond, inl, inr, ◌⊎◌, append_assoc}
+use Rattle.std.proofs.Common.{◌≡◌, ℕ, ◌+◌, ◌<◌, ◌≤◌, ◌==◌, ◌&&◌, not, Bool, true, false, List, [], ◌∷◌, ◌++◌, length}
+use Rattle.std.proofs.Common.{refl, ap, sym, ◌∙◌, subst, arith, cond, inl, inr, ◌⊎◌, append_assoc}
 use Rattle.std.specs.Prelude.{count_by, map}
 use Rattle.std.specs.List.{flat_map, list_all}
 use Rattle.std.proofs.lemmas.Bool.{eqb-true, eq-eqb}

@@ -1,11 +1,17 @@
 -- Inside a template each step that carries nothing, and after which the thread doesn't sleep, leaves fewer steps.
-use Rattle.std.proofs.Common.{◌≡◌, ◌≢◌, ℕ, ◌+◌, ◌<◌, ◌==◌, Bool, true, false, List, Option, Some, None, refl, ap, sym, ◌∙◌, arith, inl, inr}
+use Rattle.std.proofs.Common.{◌≡◌, ◌≢◌, ℕ, ◌+◌, ◌<◌, ◌==◌, Bool, true, false, List, Option, Some, None, refl, ap, sym}
+use Rattle.std.proofs.Common.{◌∙◌, arith, inl, inr}
 use Rattle.std.specs.Prelude.{if◌then◌else◌}
 use Rattle.std.proofs.lemmas.Bool.{cond-true, cond-false, eq-eqb, ne_eqb, eqb-true}
 use Rattle.meaning.specs.Labels.{End}
 use Rattle.meaning.specs.Table.{Table}
 use Rattle.protocol.specs.Word.{owner, with_waiters}
-use Rattle.protocol.specs.Points.{ToEnter, ToReenter, ToExit, ToWait, Spot, OnLock, OnSequence, Point, Unmade, Runs, EnterPends, EnterTries, ReenterPends, ReenterTries, TakeReads, TakeMarks, TakeSleeps, TakeTries, GotReads, GotLinks, GotHeads, GotUnpends, WaitReads, NotifyAdds, NotifyWakes, BroadcastAdds, BroadcastMarks, BroadcastReads, BroadcastMoves, JoinReads, JoinSleeps, JoinLearns, JoinTakes, LeavePends, LeaveReads, LeaveHeads, LeaveSwaps, LeaveWakes, HasLeft, Dies, Walks, ClearsId, LastWakes, HasEnded}
+use Rattle.protocol.specs.Points.{ToEnter, ToReenter, ToExit, ToWait, Spot, OnLock, OnSequence, Point, Unmade, Runs}
+use Rattle.protocol.specs.Points.{EnterPends, EnterTries, ReenterPends, ReenterTries, TakeReads, TakeMarks, TakeSleeps}
+use Rattle.protocol.specs.Points.{TakeTries, GotReads, GotLinks, GotHeads, GotUnpends, WaitReads, NotifyAdds}
+use Rattle.protocol.specs.Points.{NotifyWakes, BroadcastAdds, BroadcastMarks, BroadcastReads, BroadcastMoves, JoinReads}
+use Rattle.protocol.specs.Points.{JoinSleeps, JoinLearns, JoinTakes, LeavePends, LeaveReads, LeaveHeads, LeaveSwaps}
+use Rattle.protocol.specs.Points.{LeaveWakes, HasLeft, Dies, Walks, ClearsId, LastWakes, HasEnded}
 use Rattle.protocol.specs.World.{World}
 use Rattle.protocol.specs.Steps.{go_list}
 use Rattle.protocol.specs.Carries.{Event}

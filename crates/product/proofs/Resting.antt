@@ -1,6 +1,7 @@
 -- No wake is lost: where no thread can move no process can, nor can one whose thread sleeps, where all others are
 -- outside the taking and giving up of locks.
-use Rattle.std.proofs.Common.{◌≡◌, ℕ, zero, suc, ◌<◌, true, false, List, Option, Some, None, refl, ap, sym, ◌∙◌, subst, arith, inl, inr, ◌⊎◌}
+use Rattle.std.proofs.Common.{◌≡◌, ℕ, zero, suc, ◌<◌, true, false, List, Option, Some, None, refl, ap, sym, ◌∙◌, subst}
+use Rattle.std.proofs.Common.{arith, inl, inr, ◌⊎◌}
 use Rattle.std.specs.Prelude.{is_some, slice_get, length}
 use Rattle.robustexit.specs.declared.phase.ExitPhase.{ExitPhase}
 use Rattle.robustexit.specs.declared.phase.ExitPhase.TheVariants.{Entry, Pending, ClearId, LastWake, Ended as Ended'}
@@ -23,7 +24,8 @@ use Rattle.meaning.specs.Processes.{Process}
 use Rattle.meaning.specs.Offers.{Effect, offer, TakesUp}
 use Rattle.meaning.specs.States.{SourceState}
 use Rattle.meaning.specs.Runs.{CanMove}
-use Rattle.protocol.specs.Points.{Purpose, ToEnter, ToReenter, ToResume, Spot, Point, Unmade, NoEntry, Walks, HasEnded, entry_word, taking_entry}
+use Rattle.protocol.specs.Points.{Purpose, ToEnter, ToReenter, ToResume, Spot, Point, Unmade, NoEntry, Walks, HasEnded}
+use Rattle.protocol.specs.Points.{entry_word, taking_entry}
 use Rattle.protocol.specs.World.{World}
 use Rattle.protocol.specs.Cells.{Cell, LinkOf, PendingOf}
 use Rattle.protocol.specs.Memory.{entry_address, stored_value}

@@ -1,5 +1,6 @@
 -- What the machine does for a request of a thread's point, as the protocol's words serve it: request by request.
-use Rattle.std.proofs.Common.{◌≡◌, ◌≢◌, ℕ, suc, ◌+◌, ◌%◌, ◌<◌, ◌≤◌, ◌==◌, true, List, [], length, Option, Some, None, inl, inr, refl, sym, ap, ◌∙◌, subst, arith}
+use Rattle.std.proofs.Common.{◌≡◌, ◌≢◌, ℕ, suc, ◌+◌, ◌%◌, ◌<◌, ◌≤◌, ◌==◌, true, List, [], length, Option, Some, None}
+use Rattle.std.proofs.Common.{inl, inr, refl, sym, ap, ◌∙◌, subst, arith}
 use Rattle.std.specs.Int.Bits.{bit_or}
 use Rattle.std.proofs.lemmas.Bool.{cases_eq, eq-eqb, ne_eqb, cond-true, cond-false}
 use Rattle.words.specs.Updates.{put}
@@ -16,13 +17,18 @@ use Rattle.machine.specs.AbstractServing.{shared_of}
 use Rattle.machine.specs.AbstractServing as A
 use Rattle.code.specs.Conditions.{everyone}
 use Rattle.protocol.specs.Word.{with_waiters}
-use Rattle.protocol.specs.Points.{Spot, OnLock, OnSequence, OnId, Release, ToExit, ToWait, Point, EnterPends, EnterTries, ReenterPends, ReenterTries, TakeMarks, TakeTries, GotLinks, GotHeads, GotUnpends, NotifyAdds, BroadcastAdds, BroadcastMarks, LeavePends, LeaveHeads, LeaveSwaps, HasLeft}
+use Rattle.protocol.specs.Points.{Spot, OnLock, OnSequence, OnId, Release, ToExit, ToWait, Point, EnterPends}
+use Rattle.protocol.specs.Points.{EnterTries, ReenterPends, ReenterTries, TakeMarks, TakeTries, GotLinks, GotHeads}
+use Rattle.protocol.specs.Points.{GotUnpends, NotifyAdds, BroadcastAdds, BroadcastMarks, LeavePends, LeaveHeads}
+use Rattle.protocol.specs.Points.{LeaveSwaps, HasLeft}
 use Rattle.protocol.specs.World.{World, put_sequence, awake_after, requeued_sleep}
 use Rattle.protocol.specs.Finds.{cause_word}
-use Rattle.protocol.specs.Cells.{Cell, LockOf, LinkOf, HeadOf, PendingOf, IdOf, ClaimOf, ResultOf, OutcomeOf, SequenceOf, cell, write, cell_of}
+use Rattle.protocol.specs.Cells.{Cell, LockOf, LinkOf, HeadOf, PendingOf, IdOf, ClaimOf, ResultOf, OutcomeOf}
+use Rattle.protocol.specs.Cells.{SequenceOf, cell, write, cell_of}
 use Rattle.protocol.specs.Memory.{stored_value}
 use Rattle.protocol.specs.Exits.{Shares, sleep_address}
-use Rattle.protocol.specs.Requests.{Request, AskNothing, AskLoad, AskStore, AskSwap, AskCompareSwap, AskOrWaiters, AskAddOne, AskWait, AskWakeOne, AskRequeue, AskFault, AskExitStep, request}
+use Rattle.protocol.specs.Requests.{Request, AskNothing, AskLoad, AskStore, AskSwap, AskCompareSwap, AskOrWaiters}
+use Rattle.protocol.specs.Requests.{AskAddOne, AskWait, AskWakeOne, AskRequeue, AskFault, AskExitStep, request}
 use Rattle.protocol.specs.Answers.{Serves, WakesOne}
 use Rattle.protocol.proofs.Calls.{calls_follow}
 use Rattle.protocol.proofs.Exits.{distinct, names-mem, none_woken, spot_at}

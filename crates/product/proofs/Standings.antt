@@ -1,5 +1,6 @@
 -- Where a thread stands holds for more processes, and for variables that are the same in the monitors that it has.
-use Rattle.std.proofs.Common.{◌≡◌, ℕ, ◌+◌, ◌≤◌, ◌==◌, true, List, ◌∷◌, Option, ℤ, refl, ap, sym, ◌∙◌, subst, arith, inl, inr, ◌⊎◌}
+use Rattle.std.proofs.Common.{◌≡◌, ℕ, ◌+◌, ◌≤◌, ◌==◌, true, List, ◌∷◌, Option, ℤ, refl, ap, sym, ◌∙◌, subst, arith, inl}
+use Rattle.std.proofs.Common.{inr, ◌⊎◌}
 use Rattle.std.proofs.lemmas.Bool.{eq-eqb, or_left}
 use Rattle.locals.specs.Threads.{Thread}
 use Rattle.locals.specs.declared.frame.Locals.{Locals}
@@ -16,8 +17,10 @@ use Rattle.execution.specs.Following.{Build, with_made, own_of}
 use Rattle.execution.proofs.Growing.{stands_grow, goes_on_grows, awaits_grow, proceeds_grow, proceeds_same}
 use Rattle.templates.specs.Locking.{Takes, ExitsAt, WaitsAt}
 use Rattle.templates.specs.Locking as L
-use Rattle.templates.specs.Inside.{Template, Enters, Exits, Waits, Notifies, Broadcasts, list_at, StandsIn, Fits, IsSteady, IsBeforeRelease, SameBefore}
-use Rattle.product.specs.Standing.{IsChild, StandsAt, unmade, works, returns, inside, faults, reads, sleeps, learns, takes, walks, clears, wakes, rests}
+use Rattle.templates.specs.Inside.{Template, Enters, Exits, Waits, Notifies, Broadcasts, list_at, StandsIn, Fits}
+use Rattle.templates.specs.Inside.{IsSteady, IsBeforeRelease, SameBefore}
+use Rattle.product.specs.Standing.{IsChild, StandsAt, unmade, works, returns, inside, faults, reads, sleeps, learns}
+use Rattle.product.specs.Standing.{takes, walks, clears, wakes, rests}
 
 -- the first of a list is on it
 pub first_in : (m : ℕ) (ms l : List ℕ) → l ≡ m ∷ ms → mem m l ≡ true

@@ -1,5 +1,6 @@
 -- A thread takes up a template of its code.
-use Rattle.std.proofs.Common.{◌≡◌, ◌≢◌, ℕ, suc, ◌+◌, ◌<◌, ◌≤◌, Bool, true, false, List, ◌∷◌, Option, Some, None, refl, ap, sym, ◌∙◌, subst, arith, inl, inr, ◌⊎◌}
+use Rattle.std.proofs.Common.{◌≡◌, ◌≢◌, ℕ, suc, ◌+◌, ◌<◌, ◌≤◌, Bool, true, false, List, ◌∷◌, Option, Some, None, refl}
+use Rattle.std.proofs.Common.{ap, sym, ◌∙◌, subst, arith, inl, inr, ◌⊎◌}
 use Rattle.std.proofs.lemmas.Bool.{cases_eq}
 use Rattle.words.specs.Updates.{put}
 use Rattle.locals.specs.Threads.{Thread}
@@ -25,7 +26,8 @@ use Rattle.execution.specs.Following.{Build, StepsWithin}
 use Rattle.refinement.specs.Built.{build_of}
 use Rattle.templates.specs.Layout.{place, valid}
 use Rattle.templates.specs.Asking.{template_steps}
-use Rattle.templates.specs.Inside.{Template, Enters, Exits, Waits, Notifies, Broadcasts, process_at, list_at, StandsIn, Fits, SameBefore, first_thread, first_point}
+use Rattle.templates.specs.Inside.{Template, Enters, Exits, Waits, Notifies, Broadcasts, process_at, list_at, StandsIn}
+use Rattle.templates.specs.Inside.{Fits, SameBefore, first_thread, first_point}
 use Rattle.templates.specs.Templates.{Begins}
 use Rattle.templates.proofs.Begins.{begins}
 use Rattle.product.specs.Standing.{StandsAt, inside}

@@ -1,6 +1,7 @@
 -- A step of a thread at a point of the protocol, whose request the machine has served: it is a move, and what it carries
 -- is an action of the process.
-use Rattle.std.proofs.Common.{◌≡◌, ℕ, zero, suc, ◌<◌, ◌≤◌, ◌==◌, Bool, true, false, List, [], ◌∷◌, length, Option, Some, None, refl, ap, sym, ◌∙◌, subst, arith, inl, inr}
+use Rattle.std.proofs.Common.{◌≡◌, ℕ, zero, suc, ◌<◌, ◌≤◌, ◌==◌, Bool, true, false, List, [], ◌∷◌, length, Option, Some}
+use Rattle.std.proofs.Common.{None, refl, ap, sym, ◌∙◌, subst, arith, inl, inr}
 use Rattle.std.specs.Prelude.{◌^◌, if◌then◌else◌}
 use Rattle.words.specs.Updates.{put}
 use Rattle.locals.specs.Threads.{Thread}
@@ -15,7 +16,9 @@ use Rattle.meaning.specs.Table.{Table, Allows}
 use Rattle.meaning.specs.Processes.{Process}
 use Rattle.meaning.specs.Offers.{Nothing, offer, TakesUp}
 use Rattle.meaning.specs.States.{SourceState}
-use Rattle.protocol.specs.Points.{Purpose, ToEnter, ToReenter, ToResume, ToExit, ToWait, Entry, NoEntry, Owned, Unowned, Point, EnterTries, TakeTries, LeaveSwaps, NotifyWakes, BroadcastMoves, JoinReads, Walks, ClearsId, Thread as Place, thread_at}
+use Rattle.protocol.specs.Points.{Purpose, ToEnter, ToReenter, ToResume, ToExit, ToWait, Entry, NoEntry, Owned, Unowned}
+use Rattle.protocol.specs.Points.{Point, EnterTries, TakeTries, LeaveSwaps, NotifyWakes, BroadcastMoves, JoinReads}
+use Rattle.protocol.specs.Points.{Walks, ClearsId, Thread as Place, thread_at}
 use Rattle.protocol.specs.World.{World, mem}
 use Rattle.protocol.specs.Steps.{go_list}
 use Rattle.protocol.specs.Carries.{Event, Acts, Strays, Kills, has_died, taking_label, table_after, PermitsMove}

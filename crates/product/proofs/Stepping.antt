@@ -1,5 +1,6 @@
 -- Each step of the machine leads from states that belong together to such states, with actions of the source.
-use Rattle.std.proofs.Common.{◌≡◌, ℕ, zero, suc, ◌+◌, ◌<◌, ◌≤◌, Bool, List, length, Option, Some, None, refl, ap, sym, ◌∙◌, subst, arith, inl, inr, ◌⊎◌}
+use Rattle.std.proofs.Common.{◌≡◌, ℕ, zero, suc, ◌+◌, ◌<◌, ◌≤◌, Bool, List, length, Option, Some, None, refl, ap, sym}
+use Rattle.std.proofs.Common.{◌∙◌, subst, arith, inl, inr, ◌⊎◌}
 use Rattle.locals.specs.Threads.{Thread, Dies as Dies'}
 use Rattle.locals.specs.Looks.{Goes, look}
 use Rattle.machine.specs.States.{State}
@@ -18,7 +19,8 @@ use Rattle.execution.specs.Completing as F
 use Rattle.refinement.specs.Built.{build_of}
 use Rattle.templates.specs.Layout.{place}
 use Rattle.templates.specs.Inside.{Enters, Exits, Waits, Notifies, Broadcasts}
-use Rattle.product.specs.Standing.{StandsAt, unmade, works, returns, inside, faults, reads, sleeps, learns, takes, walks, clears, wakes, rests, IsAtWork, IsEnding, ending, entries_seen}
+use Rattle.product.specs.Standing.{StandsAt, unmade, works, returns, inside, faults, reads, sleeps, learns, takes}
+use Rattle.product.specs.Standing.{walks, clears, wakes, rests, IsAtWork, IsEnding, ending, entries_seen}
 use Rattle.product.specs.Ranks.{steps_left, before_template}
 use Rattle.product.specs.Corresponding.{Corresponds}
 use Rattle.product.proofs.Standings.{first_in}

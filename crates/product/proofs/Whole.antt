@@ -1,5 +1,6 @@
 -- Each run of the machine on the code of a program is explained by a run of the program.
-use Rattle.std.proofs.Common.{◌≡◌, ℕ, suc, ◌+◌, ◌<◌, ◌≤◌, Bool, false, List, [], ◌∷◌, ◌++◌, length, refl, sym, subst, arith}
+use Rattle.std.proofs.Common.{◌≡◌, ℕ, suc, ◌+◌, ◌<◌, ◌≤◌, Bool, false, List, [], ◌∷◌, ◌++◌, length, refl, sym, subst}
+use Rattle.std.proofs.Common.{arith}
 use Rattle.std.specs.Prelude.{map, ◌^◌}
 use Rattle.machine.specs.States.{State, opening_state}
 use Rattle.machine.specs.Runs.{Step, GoesBy, MachineRun}

@@ -8,7 +8,8 @@ use Rattle.protocol.specs.Moves.{Move}
 use Rattle.protocol.specs.Steps.{Can, after}
 use Rattle.protocol.specs.Carries.{table_after}
 use Rattle.protocol.specs.Runs.{Leads, last_table}
-use Rattle.protocol.specs.Cells.{Cell, LockOf, LinkOf, HeadOf, PendingOf, IdOf, ClaimOf, ResultOf, OutcomeOf, SequenceOf, cell, write}
+use Rattle.protocol.specs.Cells.{Cell, LockOf, LinkOf, HeadOf, PendingOf, IdOf, ClaimOf, ResultOf, OutcomeOf}
+use Rattle.protocol.specs.Cells.{SequenceOf, cell, write}
 use Rattle.protocol.specs.Exits.{Shares, sleep_address}
 use Rattle.protocol.specs.Memory.{Agrees, stored_value, IsApart}
 use Rattle.protocol.proofs.Good.{Good}

@@ -4,11 +4,16 @@ use Rattle.std.specs.Prelude.{ℕ, zero, suc, ◌+◌, ◌==◌, List, Option, i
 use Rattle.locals.specs.Threads.{Thread}
 use Rattle.meaning.specs.Values.{Variables}
 use Rattle.meaning.specs.Processes.{Process}
-use Rattle.protocol.specs.Points.{ToExit, ToWait, Point, EnterPends, EnterTries, ReenterPends, ReenterTries, TakeReads, TakeMarks, TakeSleeps, TakeTries, GotReads, GotLinks, GotHeads, GotUnpends, WaitReads, NotifyAdds, NotifyWakes, BroadcastAdds, BroadcastMarks, BroadcastReads, BroadcastMoves, JoinReads, JoinSleeps, JoinLearns, JoinTakes, LeavePends, LeaveReads, LeaveHeads, LeaveSwaps, LeaveWakes, HasLeft, Dies, Walks, ClearsId, LastWakes}
+use Rattle.protocol.specs.Points.{ToExit, ToWait, Point, EnterPends, EnterTries, ReenterPends, ReenterTries, TakeReads}
+use Rattle.protocol.specs.Points.{TakeMarks, TakeSleeps, TakeTries, GotReads, GotLinks, GotHeads, GotUnpends, WaitReads}
+use Rattle.protocol.specs.Points.{NotifyAdds, NotifyWakes, BroadcastAdds, BroadcastMarks, BroadcastReads}
+use Rattle.protocol.specs.Points.{BroadcastMoves, JoinReads, JoinSleeps, JoinLearns, JoinTakes, LeavePends, LeaveReads}
+use Rattle.protocol.specs.Points.{LeaveHeads, LeaveSwaps, LeaveWakes, HasLeft, Dies, Walks, ClearsId, LastWakes}
 use Rattle.protocol.specs.World.{World}
 use Rattle.execution.specs.Following.{Build}
 use Rattle.execution.specs.Builds.{most_steps}
-use Rattle.product.specs.Standing.{StandsAt, unmade, works, returns, inside, faults, reads, sleeps, learns, takes, walks, clears, wakes, rests}
+use Rattle.product.specs.Standing.{StandsAt, unmade, works, returns, inside, faults, reads, sleeps, learns, takes}
+use Rattle.product.specs.Standing.{walks, clears, wakes, rests}
 
 -- from its own code to the first request of the longest template
 abbrev pub before_template : ℕ

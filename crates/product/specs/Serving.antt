@@ -8,7 +8,8 @@ use Rattle.protocol.specs.Points.{Point}
 use Rattle.protocol.specs.World.{World}
 use Rattle.protocol.specs.Cells.{SequenceOf, LockOf, cell_of}
 use Rattle.protocol.specs.Exits.{Shares}
-use Rattle.protocol.specs.Requests.{Request, AskNothing, AskLoad, AskStore, AskSwap, AskCompareSwap, AskOrWaiters, AskAddOne, AskWait, AskWakeOne, AskRequeue, AskFault, AskExitStep, request}
+use Rattle.protocol.specs.Requests.{Request, AskNothing, AskLoad, AskStore, AskSwap, AskCompareSwap, AskOrWaiters}
+use Rattle.protocol.specs.Requests.{AskAddOne, AskWait, AskWakeOne, AskRequeue, AskFault, AskExitStep, request}
 use Rattle.protocol.specs.Answers.{Serves}
 use Rattle.execution.specs.Variables.{IsVariable, variable_address}
 use Rattle.templates.specs.Layout.{place, valid}

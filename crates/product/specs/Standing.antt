@@ -8,10 +8,13 @@ use Rattle.program.specs.Trees.{Program, Part}
 use Rattle.locals.specs.Threads.{Thread, Dies as Dies', Exits}
 use Rattle.locals.specs.Looks.{Asks, look, first_exit}
 use Rattle.meaning.specs.Values.{Variables}
-use Rattle.meaning.specs.Labels.{End, Ended, Aborted, Faulted, Label, Enters, Resumes, Exits as Exits', Waits, Abandons, Ends}
-use Rattle.meaning.specs.Processes.{Frame, Caller, Process, Joining, Dying, Leaving, Over, goes_on, with_result, holds, all_monitors}
+use Rattle.meaning.specs.Labels.{End, Ended, Aborted, Faulted, Label, Enters, Resumes, Exits as Exits', Waits, Abandons}
+use Rattle.meaning.specs.Labels.{Ends}
+use Rattle.meaning.specs.Processes.{Frame, Caller, Process, Joining, Dying, Leaving, Over, goes_on, with_result, holds}
+use Rattle.meaning.specs.Processes.{all_monitors}
 use Rattle.meaning.specs.Offers.{Effect, joined, offer, TakesUp}
-use Rattle.protocol.specs.Points.{NoEntry, Point, Unmade, Runs, JoinReads, JoinSleeps, JoinLearns, JoinTakes, Dies, Walks, ClearsId, LastWakes, HasEnded}
+use Rattle.protocol.specs.Points.{NoEntry, Point, Unmade, Runs, JoinReads, JoinSleeps, JoinLearns, JoinTakes, Dies}
+use Rattle.protocol.specs.Points.{Walks, ClearsId, LastWakes, HasEnded}
 use Rattle.protocol.specs.Exits.{PhaseIs}
 use Rattle.execution.specs.Following.{Build, StepsWithin}
 use Rattle.execution.specs.Completing.{Awaits, Proceeds, return_request, left_value, IsResult, join_steps}

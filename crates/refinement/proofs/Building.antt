@@ -1,8 +1,10 @@
 -- The code of a program is laid out as it should be, and its statements are sound.
-use Rattle.std.proofs.Common.{◌≡◌, ℕ, zero, suc, ◌<◌, ◌≤◌, List, [], ◌∷◌, ◌-◌, Option, Some, None, slice_get, refl, subst, arith, Contains}
+use Rattle.std.proofs.Common.{◌≡◌, ℕ, zero, suc, ◌<◌, ◌≤◌, List, [], ◌∷◌, ◌-◌, Option, Some, None, slice_get, refl}
+use Rattle.std.proofs.Common.{subst, arith, Contains}
 use Rattle.std.proofs.lemmas.List.Elements.{Contains-append_left, Contains-append_right}
 use Rattle.program.specs.declared.kinds.MemberType.TheVariants.{Array}
-use Rattle.program.specs.Trees.{Statement, Assign, If, While, Call, Fork, Join, Return, Wait, Notify, Broadcast, Print, Abort, Block, Done, Then, Part, NoPart, SomePart, Monitor, Procedure, Program}
+use Rattle.program.specs.Trees.{Statement, Assign, If, While, Call, Fork, Join, Return, Wait, Notify, Broadcast, Print}
+use Rattle.program.specs.Trees.{Abort, Block, Done, Then, Part, NoPart, SomePart, Monitor, Procedure, Program}
 use Rattle.program.specs.Scope.{Scope, scope_of, member_in}
 use Rattle.program.specs.Typing.{BlockFits}
 use Rattle.program.specs.Measures.{block_room, most_room, block_calls, calls}

@@ -13,7 +13,8 @@ use Rattle.code.specs.Cells as C
 use Rattle.code.specs.Pieces.{code_of}
 use Rattle.code.proofs.CellLaws.{cells_apart, cell_above}
 use Rattle.codelimits.proofs.Memory.{inside}
-use Rattle.protocol.specs.Cells.{Cell, LockOf, LinkOf, HeadOf, PendingOf, IdOf, ClaimOf, ResultOf, OutcomeOf, SequenceOf}
+use Rattle.protocol.specs.Cells.{Cell, LockOf, LinkOf, HeadOf, PendingOf, IdOf, ClaimOf, ResultOf, OutcomeOf}
+use Rattle.protocol.specs.Cells.{SequenceOf}
 use Rattle.execution.specs.Variables.{HasIndex, IsVariable, variable_address}
 use Rattle.templates.specs.Layout.{place, valid, is_condition}
 use Rattle.templates.proofs.Layouts.{in_code, same_place, is_cell}

@@ -1,5 +1,6 @@
 -- A thread that enters a monitor follows the protocol, and its process enters with it.
-use Rattle.std.proofs.Common.{inl, inr, ◌≡◌, ◌≢◌, ℕ, zero, suc, ◌+◌, ◌<◌, ◌≤◌, ◌==◌, Bool, true, false, List, [], Option, Some, None, refl, sym, ◌∙◌, subst, arith}
+use Rattle.std.proofs.Common.{inl, inr, ◌≡◌, ◌≢◌, ℕ, zero, suc, ◌+◌, ◌<◌, ◌≤◌, ◌==◌, Bool, true, false, List, []}
+use Rattle.std.proofs.Common.{Option, Some, None, refl, sym, ◌∙◌, subst, arith}
 use Rattle.std.specs.Prelude.{if◌then◌else◌}
 use Rattle.std.proofs.lemmas.Bool.{ne_eqb}
 use Rattle.words.specs.Process.{process_word}
@@ -15,12 +16,14 @@ use Rattle.meaning.specs.Values.{Variables}
 use Rattle.meaning.specs.Processes.{Frame, Caller, Process, Entering, goes_on, recovers as recovers', callers_monitors}
 use Rattle.protocol.specs.Word.{owner, died, with_waiters}
 use Rattle.protocol.specs.Carries.{Event, Acts, has_died, taking_label}
-use Rattle.protocol.specs.Points.{Purpose, ToEnter, ToReenter, Point, Runs, GotReads, GotUnpends, TakeReads, TakeMarks, TakeSleeps, TakeTries}
+use Rattle.protocol.specs.Points.{Purpose, ToEnter, ToReenter, Point, Runs, GotReads, GotUnpends, TakeReads, TakeMarks}
+use Rattle.protocol.specs.Points.{TakeSleeps, TakeTries}
 use Rattle.protocol.specs.World.{World}
 use Rattle.execution.specs.Following.{Build, recovery_in, Stands}
 use Rattle.execution.specs.Builds.{IsBuild}
 use Rattle.templates.specs.Asking.{AsksSo}
-use Rattle.templates.specs.Locking.{Takes, reads, marks, sleeps, tries, heads, links, lists, unpends, enters, recovers, EntersAt, kept}
+use Rattle.templates.specs.Locking.{Takes, reads, marks, sleeps, tries, heads, links, lists, unpends, enters, recovers}
+use Rattle.templates.specs.Locking.{EntersAt, kept}
 use Rattle.templates.specs.Locking as T
 use Rattle.templates.specs.Inside.{Template, Enters, taken, EnterFits}
 use Rattle.templates.specs.Templates.{ActsSo, StandsOn, Comes, Follows}

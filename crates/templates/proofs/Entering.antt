@@ -1,5 +1,6 @@
 -- The template that enters a monitor goes through its points.
-use Rattle.std.proofs.Common.{◌≡◌, ◌≢◌, ℕ, zero, suc, ◌+◌, ◌<◌, ◌≤◌, ◌==◌, Bool, List, [], ◌∷◌, ◌++◌, Some, slice_get, refl, ap, sym, ◌∙◌, subst, arith}
+use Rattle.std.proofs.Common.{◌≡◌, ◌≢◌, ℕ, zero, suc, ◌+◌, ◌<◌, ◌≤◌, ◌==◌, Bool, List, [], ◌∷◌, ◌++◌, Some, slice_get}
+use Rattle.std.proofs.Common.{refl, ap, sym, ◌∙◌, subst, arith}
 use Rattle.std.specs.Prelude.{if◌then◌else◌}
 use Rattle.std.proofs.lemmas.Bool.{ne_eqb}
 use Rattle.words.specs.declared.process.ProcessWord.TheVariants.{Pending}
@@ -21,7 +22,8 @@ use Rattle.execution.specs.Walks.{empty_view, StandAt, WalksWithin}
 use Rattle.execution.proofs.Walking.{front_stands, back_stands, within_on, wider, one_step, look_here}
 use Rattle.execution.proofs.Awaiting.{stand_index}
 use Rattle.templates.specs.Asking.{AsksSo, template_steps}
-use Rattle.templates.specs.Locking.{reads, heads, EntersAt, pends, tries, takes, pends_again, tries_again, takes_again, kept}
+use Rattle.templates.specs.Locking.{reads, heads, EntersAt, pends, tries, takes, pends_again, tries_again, takes_again}
+use Rattle.templates.specs.Locking.{kept}
 use Rattle.templates.proofs.Locking.{takes_follow, to_list, again, address_step}
 
 module _ (p : Program) (image : Image) (t m base : ℕ) (recover : Instr) (l : Locals) (fs : List Frame)

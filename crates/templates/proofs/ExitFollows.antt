@@ -1,5 +1,6 @@
 -- A thread that leaves a monitor follows the protocol, and its process leaves with it.
-use Rattle.std.proofs.Common.{inl, inr, ◌≡◌, ◌≢◌, ℕ, ◌<◌, ◌≤◌, ◌==◌, Bool, true, false, List, Option, refl, sym, subst, ℤ}
+use Rattle.std.proofs.Common.{inl, inr, ◌≡◌, ◌≢◌, ℕ, ◌<◌, ◌≤◌, ◌==◌, Bool, true, false, List, Option, refl, sym, subst}
+use Rattle.std.proofs.Common.{ℤ}
 use Rattle.std.specs.Prelude.{if◌then◌else◌}
 use Rattle.locals.specs.declared.frame.Locals.{Locals}
 use Rattle.locals.specs.declared.frame.Frame.{Frame as MachineFrame}

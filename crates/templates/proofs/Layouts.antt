@@ -1,5 +1,6 @@
 -- The words of the protocol have places of their own in a program's memory.
-use Rattle.std.proofs.Common.{◌≡◌, ℕ, zero, suc, ◌<◌, ◌≤◌, ◌^◌, Bool, true, false, List, [], ◌∷◌, length, Option, Some, None, slice_get, refl, ap, sym, ◌∙◌, subst, arith, lt-ltb, le-leb}
+use Rattle.std.proofs.Common.{◌≡◌, ℕ, zero, suc, ◌<◌, ◌≤◌, ◌^◌, Bool, true, false, List, [], ◌∷◌, length, Option, Some}
+use Rattle.std.proofs.Common.{None, slice_get, refl, ap, sym, ◌∙◌, subst, arith, lt-ltb, le-leb}
 use Rattle.std.specs.Prelude.{◌&&◌, is_some, nat_le}
 use Rattle.words.specs.declared.process.ProcessWord.TheVariants.{Head, Pending, Id, Claim, Result, Outcome}
 use Rattle.words.specs.Process.{process_word}
@@ -14,7 +15,8 @@ use Rattle.code.specs.Cells.{Cell as CodeCell, OfProcess, Link, Lock, OfMember, 
 use Rattle.code.specs.Pieces.{code_of}
 use Rattle.code.proofs.CellLaws.{cells_apart, cell_above}
 use Rattle.codelimits.proofs.Memory.{size, inside}
-use Rattle.protocol.specs.Cells.{Cell, LockOf, LinkOf, HeadOf, PendingOf, IdOf, ClaimOf, ResultOf, OutcomeOf, SequenceOf}
+use Rattle.protocol.specs.Cells.{Cell, LockOf, LinkOf, HeadOf, PendingOf, IdOf, ClaimOf, ResultOf, OutcomeOf}
+use Rattle.protocol.specs.Cells.{SequenceOf}
 use Rattle.protocol.specs.Memory.{IsApart}
 use Rattle.protocol.specs.Exits.{IsLayout}
 use Rattle.templates.specs.Layout.{place, valid, is_process, is_monitor, is_condition}

@@ -1,5 +1,6 @@
 -- The template that takes a lock goes through its points.
-use Rattle.std.proofs.Common.{◌≡◌, ◌≢◌, ℕ, zero, suc, ◌+◌, ◌<◌, ◌≤◌, ◌==◌, Bool, true, false, List, [], ◌∷◌, ◌++◌, Some, slice_get, refl, ap, sym, ◌∙◌, subst, arith, le-leb}
+use Rattle.std.proofs.Common.{◌≡◌, ◌≢◌, ℕ, zero, suc, ◌+◌, ◌<◌, ◌≤◌, ◌==◌, Bool, true, false, List, [], ◌∷◌, ◌++◌, Some}
+use Rattle.std.proofs.Common.{slice_get, refl, ap, sym, ◌∙◌, subst, arith, le-leb}
 use Rattle.std.specs.Prelude.{◌&&◌, nat_le, if◌then◌else◌}
 use Rattle.std.specs.Int.Bits.{bit_and}
 use Rattle.std.proofs.lemmas.Bool.{ne_eqb}
@@ -26,7 +27,8 @@ use Rattle.execution.proofs.Walking.{within_on, wider, one_step, look_here}
 use Rattle.execution.proofs.Awaiting.{stand_index}
 use Rattle.templates.specs.Layout.{place}
 use Rattle.templates.specs.Asking.{AsksSo, template_steps}
-use Rattle.templates.specs.Locking.{Takes, reads, marks, sleeps, tries, heads, links, lists, unpends, enters, recovers, kept}
+use Rattle.templates.specs.Locking.{Takes, reads, marks, sleeps, tries, heads, links, lists, unpends, enters, recovers}
+use Rattle.templates.specs.Locking.{kept}
 use Rattle.protocol.specs.Memory.{entry_address}
 
 pub address_step : (t place h : ℕ) (word : ProcessWord) (rest : List ℕ) (values : List ℕ) (s : ℕ) (fs : List Frame) → 0 < h

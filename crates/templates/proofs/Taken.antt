@@ -1,6 +1,7 @@
 -- A process that has taken a monitor's lock holds the monitors of its ENTRY procedures; and what follows from asking as
 -- a point asks.
-use Rattle.std.proofs.Common.{◌≡◌, ◌≢◌, ℕ, suc, ◌==◌, Bool, true, false, List, [], ◌∷◌, length, Option, Some, None, refl, ap, sym, ◌∙◌, arith}
+use Rattle.std.proofs.Common.{◌≡◌, ◌≢◌, ℕ, suc, ◌==◌, Bool, true, false, List, [], ◌∷◌, length, Option, Some, None}
+use Rattle.std.proofs.Common.{refl, ap, sym, ◌∙◌, arith}
 use Rattle.std.specs.Prelude.{if◌then◌else◌, not}
 use Rattle.std.proofs.lemmas.Bool.{ne_eqb}
 use Rattle.program.specs.declared.kinds.Role.{Role}
@@ -10,7 +11,8 @@ use Rattle.locals.specs.Threads.{Thread}
 use Rattle.meaning.specs.Labels.{End}
 use Rattle.meaning.specs.Table.{Table}
 use Rattle.meaning.specs.Values.{Variables}
-use Rattle.meaning.specs.Processes.{Frame, Caller, Process, goes_on, recovers, recovers_by, frame_of, opening_frame, all_monitors, callers_monitors, monitor_of_role, holds}
+use Rattle.meaning.specs.Processes.{Frame, Caller, Process, goes_on, recovers, recovers_by, frame_of, opening_frame}
+use Rattle.meaning.specs.Processes.{all_monitors, callers_monitors, monitor_of_role, holds}
 use Rattle.protocol.specs.Word.{died}
 use Rattle.protocol.specs.Points.{Point}
 use Rattle.protocol.specs.World.{World}

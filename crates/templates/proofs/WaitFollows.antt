@@ -1,5 +1,6 @@
 -- A thread that waits on a condition follows the protocol, and its process waits and resumes with it.
-use Rattle.std.proofs.Common.{inl, inr, ◌≡◌, ◌≢◌, ℕ, zero, suc, ◌+◌, ◌<◌, ◌≤◌, ◌==◌, Bool, true, false, List, [], Option, Some, None, refl, sym, ◌∙◌, subst, arith}
+use Rattle.std.proofs.Common.{inl, inr, ◌≡◌, ◌≢◌, ℕ, zero, suc, ◌+◌, ◌<◌, ◌≤◌, ◌==◌, Bool, true, false, List, []}
+use Rattle.std.proofs.Common.{Option, Some, None, refl, sym, ◌∙◌, subst, arith}
 use Rattle.std.specs.Prelude.{if◌then◌else◌}
 use Rattle.words.specs.Process.{process_word}
 use Rattle.program.specs.declared.kinds.Member.{Member}
@@ -16,7 +17,8 @@ use Rattle.meaning.specs.Processes.{Frame, Caller, Process, Suspended, goes_on, 
 use Rattle.meaning.specs.Offers.{Offer, TakesUp, Nothing}
 use Rattle.protocol.specs.Word.{owner, died, waiters, with_waiters}
 use Rattle.protocol.specs.Carries.{Event, Acts, has_died}
-use Rattle.protocol.specs.Points.{Purpose, ToResume, ToWait, Point, Runs, GotReads, GotUnpends, TakeReads, TakeMarks, TakeSleeps, TakeTries, HasLeft, LeaveWakes}
+use Rattle.protocol.specs.Points.{Purpose, ToResume, ToWait, Point, Runs, GotReads, GotUnpends, TakeReads, TakeMarks}
+use Rattle.protocol.specs.Points.{TakeSleeps, TakeTries, HasLeft, LeaveWakes}
 use Rattle.protocol.specs.World.{World}
 use Rattle.execution.specs.Following.{Build, recovery_in, Stands}
 use Rattle.execution.specs.Builds.{IsBuild}

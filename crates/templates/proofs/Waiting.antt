@@ -1,5 +1,6 @@
 -- The template of WAIT goes through its points.
-use Rattle.std.proofs.Common.{◌≡◌, ◌≢◌, ℕ, zero, suc, ◌+◌, ◌<◌, ◌≤◌, ◌==◌, Bool, List, [], ◌∷◌, Some, slice_get, refl, ap, sym, ◌∙◌, subst, arith, le-leb, ◌++◌}
+use Rattle.std.proofs.Common.{◌≡◌, ◌≢◌, ℕ, zero, suc, ◌+◌, ◌<◌, ◌≤◌, ◌==◌, Bool, List, [], ◌∷◌, Some, slice_get, refl}
+use Rattle.std.proofs.Common.{ap, sym, ◌∙◌, subst, arith, le-leb, ◌++◌}
 use Rattle.std.specs.Prelude.{if◌then◌else◌, ◌&&◌, nat_le}
 use Rattle.std.specs.Int.Bits.{bit_and}
 use Rattle.std.proofs.lemmas.Bool.{ne_eqb}

@@ -12,7 +12,8 @@ use Rattle.protocol.specs.Points.{Point}
 use Rattle.protocol.specs.World.{World}
 use Rattle.protocol.specs.Cells.{LockOf, SequenceOf, cell_of}
 use Rattle.protocol.specs.Memory.{entry_address, stored_value}
-use Rattle.protocol.specs.Requests.{Request, AskNothing, AskLoad, AskStore, AskSwap, AskCompareSwap, AskOrWaiters, AskAddOne, AskWait, AskWakeOne, AskRequeue, AskFault, AskExitStep, request}
+use Rattle.protocol.specs.Requests.{Request, AskNothing, AskLoad, AskStore, AskSwap, AskCompareSwap, AskOrWaiters}
+use Rattle.protocol.specs.Requests.{AskAddOne, AskWait, AskWakeOne, AskRequeue, AskFault, AskExitStep, request}
 use Rattle.protocol.specs.Answers.{next}
 use Rattle.protocol.specs.Served.{MayAnswer}
 use Rattle.execution.specs.Walks.{WalksWithin, empty_view}

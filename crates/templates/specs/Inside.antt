@@ -6,9 +6,11 @@ use Rattle.locals.specs.declared.frame.Locals.{Locals}
 use Rattle.locals.specs.declared.frame.Frame.{Frame as MachineFrame}
 use Rattle.locals.specs.Threads.{Thread, Runs as Runs'}
 use Rattle.meaning.specs.Values.{Variables}
-use Rattle.meaning.specs.Processes.{Frame, Caller, Process, Entering, Suspended, Returning, goes_on, recovers, callers_monitors}
+use Rattle.meaning.specs.Processes.{Frame, Caller, Process, Entering, Suspended, Returning, goes_on, recovers}
+use Rattle.meaning.specs.Processes.{callers_monitors}
 use Rattle.protocol.specs.Carries.{has_died}
-use Rattle.protocol.specs.Points.{Point, EnterPends, ReenterPends, GotReads, GotLinks, GotHeads, GotUnpends, WaitReads, NotifyAdds, BroadcastAdds, ToExit, LeavePends, LeaveReads, LeaveHeads, LeaveSwaps}
+use Rattle.protocol.specs.Points.{Point, EnterPends, ReenterPends, GotReads, GotLinks, GotHeads, GotUnpends, WaitReads}
+use Rattle.protocol.specs.Points.{NotifyAdds, BroadcastAdds, ToExit, LeavePends, LeaveReads, LeaveHeads, LeaveSwaps}
 use Rattle.execution.specs.Variables.{SameIn}
 use Rattle.execution.specs.Following.{Build, result_operands, own_of}
 use Rattle.templates.specs.Locking.{EntersAt, ExitsAt, WaitsAt}

@@ -7,7 +7,8 @@ use Rattle.program.specs.declared.kinds.MemberType.TheVariants.{Variable, Condit
 use Rattle.program.specs.Trees.{Program}
 use Rattle.program.specs.Scope.{member_type}
 use Rattle.code.specs.Layout.{link_word, lock_word_address, member_address}
-use Rattle.protocol.specs.Cells.{Cell, LockOf, LinkOf, HeadOf, PendingOf, IdOf, ClaimOf, ResultOf, OutcomeOf, SequenceOf}
+use Rattle.protocol.specs.Cells.{Cell, LockOf, LinkOf, HeadOf, PendingOf, IdOf, ClaimOf, ResultOf, OutcomeOf}
+use Rattle.protocol.specs.Cells.{SequenceOf}
 
 abbrev pub place : Program → Cell → ℕ
 place p (LockOf m) = lock_word_address p m

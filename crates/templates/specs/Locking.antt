@@ -8,7 +8,10 @@ use Rattle.program.specs.Trees.{Program}
 use Rattle.program.specs.declared.kinds.Member.{Member}
 use Rattle.code.specs.Layout.{link_word, lock_word_address, member_address}
 use Rattle.protocol.specs.Word.{with_waiters, died}
-use Rattle.protocol.specs.Points.{Purpose, ToEnter, ToReenter, Point, Runs, EnterPends, EnterTries, ReenterPends, ReenterTries, TakeReads, TakeMarks, TakeSleeps, TakeTries, GotReads, GotLinks, GotHeads, GotUnpends, ToExit, LeavePends, LeaveReads, LeaveHeads, LeaveSwaps, LeaveWakes, HasLeft, WaitReads, ToWait, ToResume}
+use Rattle.protocol.specs.Points.{Purpose, ToEnter, ToReenter, Point, Runs, EnterPends, EnterTries, ReenterPends}
+use Rattle.protocol.specs.Points.{ReenterTries, TakeReads, TakeMarks, TakeSleeps, TakeTries, GotReads, GotLinks}
+use Rattle.protocol.specs.Points.{GotHeads, GotUnpends, ToExit, LeavePends, LeaveReads, LeaveHeads, LeaveSwaps}
+use Rattle.protocol.specs.Points.{LeaveWakes, HasLeft, WaitReads, ToWait, ToResume}
 use Rattle.protocol.specs.Memory.{entry_address}
 use Rattle.execution.specs.Following.{result_operands}
 use Rattle.templates.specs.Layout.{place}

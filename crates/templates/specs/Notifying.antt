@@ -8,7 +8,8 @@ use Rattle.program.specs.Trees.{Program}
 use Rattle.code.specs.Layout.{lock_word_address, member_address}
 use Rattle.code.specs.Locks.{waiters}
 use Rattle.code.specs.Conditions.{everyone}
-use Rattle.protocol.specs.Points.{Point, Runs, NotifyAdds, NotifyWakes, BroadcastAdds, BroadcastMarks, BroadcastReads, BroadcastMoves}
+use Rattle.protocol.specs.Points.{Point, Runs, NotifyAdds, NotifyWakes, BroadcastAdds, BroadcastMarks, BroadcastReads}
+use Rattle.protocol.specs.Points.{BroadcastMoves}
 
 pub data NotifiesAt (p : Program) (c : Member) (base : ℕ) (l : Locals) (fs : List Frame) : Point → Thread → Type 0 where
   adds : NotifiesAt p c base l fs (NotifyAdds c) (Runs' (base + 2) (1 ∷ member_address p c ∷ []) l fs)
