@@ -1,5 +1,5 @@
 //! What the code of a program owes to the program, over every schedule of the machine; and that the code of each
-//! program that uses no monitor goes as the program goes.
+//! checked program goes as the program goes.
 #![tactic(auto)]
 
 mod law;
