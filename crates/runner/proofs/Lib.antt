@@ -8,3 +8,4 @@ pub mod Passing
 pub mod Lives
 pub mod InPlace
 pub mod Scheduling
+pub mod Locally

@@ -175,7 +175,7 @@ runs_so p log k runs =
     (r.0, r.1, as_many r.0 (steps_of log) r.2 ∙ many log, r.2)
 
 -- a piece that may not come in stands before a step that may not be
-breaks_by : (there : ConcreteState) (r : Result (ConcreteState × Event) StepFault) (ls : Option Thread)
+pub breaks_by : (there : ConcreteState) (r : Result (ConcreteState × Event) StepFault) (ls : Option Thread)
     → (let R : Type 0 = Result (ConcreteState × Option Event) StepFault in
     (let a : R = entry_end_by there r ls in a) ≡ (let b : R = Err step.Broken in b)) → r ≡ Err step.Broken
 breaks_by there r (Some x) h = absurd cc

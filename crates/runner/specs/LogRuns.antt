@@ -4,7 +4,7 @@ use Rattle.isa.specs.Programs.{Program}
 use Rattle.machine.specs.declared.event.Entry.{Entry}
 use Rattle.machine.specs.declared.event.Event.{Event}
 use Rattle.machine.specs.declared.event.EventName.TheVariants as name
-use Rattle.machine.specs.States.{State, ConcreteState, opening_concrete, state_of}
+use Rattle.machine.specs.States.{State, ConcreteState, opening_concrete, state_of, with_thread}
 use Rattle.machine.specs.ConcreteServing.{plain}
 use Rattle.machine.specs.Runs.{Step, MachineRun, NextIsBroken}
 use Rattle.machine.specs.FrontRuns.{EventStep, FrontRun, label_of, event_label}
@@ -49,3 +49,11 @@ MeetsSo =
     → (steps : List Step) × (s : State)
     × MachineRun p steps s × (length steps ≡ cost m.log + m.count) × NextIsBroken p s m.thread
     × (map label_of steps ≡ map event_label (steps_of m.log ++ replicate m.count (local_step_of m.thread)))
+
+-- there the thread is awake, and by the local steps of its piece it comes, from where the log leads, to where its next
+-- step may not be
+abbrev pub LocallySo : Type 0
+LocallySo =
+    (p : Program) (limit : ℕ) (m : MeetsBroken p limit)
+    → (m.concrete.common.asleep m.thread ≡ None)
+    × NextIsBroken p (with_thread (state_of m.concrete) m.thread m.here) m.thread

@@ -1,10 +1,12 @@
-ghost use Rattle.runner.specs.LogRuns.{StepsSo, LogsSo, RunsSo, MeetsSo};
+ghost use Rattle.runner.specs.LogRuns.{StepsSo, LogsSo, RunsSo, MeetsSo, LocallySo};
 
 /// A legal log is a run of the machine: its own steps, one by one, lead where the log leads, and each run of the
-/// machine itself is that of a log. And where a run meets a step that may not be, so does a run of the machine.
+/// machine itself is that of a log. And where a run meets a step that may not be, so does a run of the machine,
+/// and local steps of one thread lead there from where the log leads.
 pub fn logs_are_machine_runs()
     ensures steps { StepsSo }
     ensures logs { LogsSo }
     ensures runs { RunsSo }
     ensures broken { MeetsSo }
+    ensures locally { LocallySo }
 {}

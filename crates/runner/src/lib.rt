@@ -21,6 +21,7 @@ pub use naming::RunName;
 pub use next::{After, Next};
 pub use piece::Piece;
 pub use report::{Report, Verdict};
+pub use rounds::run_alone;
 pub use running::{finish, run};
 pub use schedule::{ScheduleFault, follow};
 pub use share::{PARTS, Share};

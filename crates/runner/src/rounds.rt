@@ -30,6 +30,24 @@ pub fn run_rounds<J: RunName, G: Gate>(
     Ok(())
 }
 
+/// Makes entries of thread `t` in its place on the machine, as long as no other was made, it can move, and each entry
+/// is within the limit. So one that has made no other yet isn't copied.
+pub fn run_alone<J: RunName, G: Gate>(
+    shared: &mut Shared<J>,
+    share: &mut Share<J>,
+    gate: &G,
+    t: u32,
+) -> Result<(), RunFault>
+    ensures given { shared.new.given ≡ shared.old.given }
+    ensures err { IfErr result (λ fault. CanFail J.program J.limit fault) }
+{
+    while shared.machine().threads() == 1 && shared.machine().can_move(t) && shared.has_room() {
+        gate.pass(t);
+        shared.go_on(t, share)?;
+    }
+    Ok(())
+}
+
 // Makes an entry for each thread that can move and wasn't refused before. Says whether it made any.
 fn run_round<J: RunName, G: Gate>(
     shared: &mut Shared<J>,

@@ -9,8 +9,9 @@ ghost use Rattle.workers.specs.Desks.{HasCause};
 use crate::seat::Seat;
 use crate::turns::Turns;
 use machine::{Entry, EventName, ThreadSet};
-use runner::{After, Piece, RunFault, RunName, Share, Shared};
+use runner::{After, Piece, RunFault, RunName, Share, Shared, run_alone};
 use std::marker::Model;
+use words::Gate;
 
 /// What the lock of a run keeps.
 #[derive(Drop)]
@@ -105,22 +106,32 @@ impl<J: RunName> Desk<J> {
     }
 
     /// Takes in the turns of thread `t`, an entry for each, up to one that is refused, and says how its worker goes on.
+    /// As long as no other thread was made it goes on in its place. The gate is passed before each further entry.
     /// Where an entry is refused with `Limit`, that is noted on its seat.
-    pub fn hand_in(
+    pub fn hand_in<G: Gate>(
         &mut self,
         t: u32,
         turns: &mut Turns<J>,
         share: &mut Share<J>,
         seat: &Seat,
+        gate: &G,
     ) -> After {
         for piece in turns.taken() {
             if let Some(after) = self.enter(t, piece, share, seat) {
                 return after;
             }
         }
+        self.go_on_alone(t, share, gate);
         match turns.first() {
             Some(piece) => self.next(t, piece),
             None => After::Ends,
+        }
+    }
+
+    // Lets thread `t` go on in its place, as long as no other was made: nobody waits for the lock meanwhile.
+    fn go_on_alone<G: Gate>(&mut self, t: u32, share: &mut Share<J>, gate: &G) {
+        if let Err(fault) = run_alone(&mut self.shared, share, gate, t) {
+            self.fault = Some(fault);
         }
     }
 

@@ -121,7 +121,7 @@ impl<J: RunName> Hall<J> {
     ) -> bool {
         for _ in rt.forever() {
             turns.take(lent, gate, t);
-            match self.hand_in(rt, t, turns, share) {
+            match self.hand_in(rt, gate, t, turns, share) {
                 After::Goes => {}
                 After::Sleeps => return true,
                 After::Ends => return false,
@@ -145,9 +145,10 @@ impl<J: RunName> Hall<J> {
     }
 
     // Takes in the turns of thread `t`, and calls whom they concern.
-    fn hand_in<R: Wait>(
+    fn hand_in<R: Wait, G: Gate>(
         &self,
         rt: &R,
+        gate: &G,
         t: u32,
         turns: &mut Turns<J>,
         share: &mut Share<J>,
@@ -156,7 +157,7 @@ impl<J: RunName> Hall<J> {
             return After::Ends;
         };
         let mut desk = self.lock(rt);
-        let after = desk.hand_in(t, turns, share, seat);
+        let after = desk.hand_in(t, turns, share, seat, gate);
         let news = desk.news();
         let is_over = after != After::Goes && self.is_over(&desk);
         drop(desk);

@@ -1,5 +1,6 @@
 use Rattle.runner.proofs.Unrolling.{steps_so, runs_so, meets_so}
 use Rattle.runner.proofs.OneByOne.{logs_so}
+use Rattle.runner.proofs.Locally.{locally_so}
 use Rattle.runner.proofs.laws.logs_are_machine_runs.Goals as goal
 
 pub returns-clause-steps : goal.returns-clause-steps
@@ -13,3 +14,6 @@ returns-clause-runs c = runs_so
 
 pub returns-clause-broken : goal.returns-clause-broken
 returns-clause-broken c = meets_so
+
+pub returns-clause-locally : goal.returns-clause-locally
+returns-clause-locally c = locally_so
