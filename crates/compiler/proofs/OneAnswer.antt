@@ -1,5 +1,5 @@
 -- A text is one program or has one refusal.
-use Rattle.std.proofs.Common.{◌≡◌, arith, length, inl, inr, ℕ, List, [], ◌∷◌, map, slice_get, Option, Some, None, refl, sym, ap, ◌∙◌, subst}
+use Rattle.std.proofs.Common.{◌≡◌, arith, length, inl, inr, ℕ, List, [], ◌∷◌, map, slice_get, Some, refl, sym, ap, ◌∙◌, subst}
 use Rattle.scanner.specs.declared.token.Place.{Place}
 use Rattle.scanner.specs.declared.token.Token.{Token}
 use Rattle.scanner.specs.declared.refusal.Refusal.{Refusal}
@@ -17,10 +17,7 @@ use Rattle.types.specs.Resolved.{resolved}
 use Rattle.program.specs.Trees.{Program}
 use Rattle.code.specs.Pieces.{code_of}
 use Rattle.backend.specs.Refusals.{Fits}
-use Rattle.compiler.specs.Unbuilt.{unbuilt_place}
-use Rattle.compiler.specs.Accepts.{IsUnit, Accepts, IsBuilt, IsNoUnit, IsFaultyUnit, IsUnbuilt, RefusesProgram, Refuses}
-use Rattle.compiler.specs.declared.fault.CompileFault.{CompileFault}
-use Rattle.compiler.specs.declared.fault.CompileFault.TheVariants.{Refused, NotBuilt}
+use Rattle.compiler.specs.Accepts.{IsUnit, Accepts, IsNoUnit, IsFaultyUnit, RefusesProgram, Refuses}
 use Rattle.compiler.proofs.Spoken.{said, spoken, same_lexemes}
 use Rattle.compiler.proofs.Refused.{Stops, stops, one_stop, same_refusal, unit_not_refused}
 
@@ -41,11 +38,6 @@ one_program r text p q a b =
     a.is_program.program ∙ (ap resolved (one_unit r text a.tokens b.tokens a.unit b.unit a.is_unit b.is_unit)
     ∙ sym b.is_program.program)
 
--- what stands first among the tokens of a text without code
-same_first : Reads → (text : List ℕ) (ts us : List Token) → IsTokens text (views ts) → IsTokens text (views us)
-    → unbuilt_place (views ts) ≡ unbuilt_place (views us)
-same_first r text ts us a b = ap unbuilt_place (r.one text (views ts) (views us) a b)
-
 -- a unit isn't refused as none
 unit_or_none : Reads → (text : List ℕ) (ts : List Token) (u : UnitTree) (e : Refusal) → IsUnit text ts u → IsNoUnit text e → ⊥
 unit_or_none r text ts u e a n =
@@ -60,9 +52,6 @@ program_or_fault r text p e a n =
 
 same_kind : (a b : RefusalKind) → Some a ≡ Some b → a ≡ b
 same_kind a b h = cc
-
-one_place : (a b : Place) → Some a ≡ Some b → a ≡ b
-one_place a b h = cc
 
 -- a kind is known by its number
 abbrev kinds : List RefusalKind
@@ -108,20 +97,6 @@ one_fault r text e f x y =
     let here : IsFaulty y.unit e.place e.kind = subst (λ u. IsFaulty u e.place e.kind) same x.refusal.0 in
     one_least e f (x.refusal.1 f.place f.kind there) (y.refusal.1 e.place e.kind here)
 
--- the first construct without code has one place, and a text all of whose constructs have code has none
-one_unbuilt : Reads → (text : List ℕ) (e f : Place) → IsUnbuilt text e → IsUnbuilt text f → e ≡ f
-one_unbuilt r text e f x y =
-    let same = same_first r text x.accepts.tokens y.accepts.tokens x.accepts.is_unit.scanned y.accepts.is_unit.scanned in
-    one_place e f (sym x.first ∙ (same ∙ y.first))
-
-some_or_none : (a b : Option Place) (p : Place) → a ≡ b → a ≡ Some p → b ≡ None → ⊥
-some_or_none a b p e h k = cc
-
-unbuilt_or_built : Reads → (text : List ℕ) (p : Program) (e : Place) → IsBuilt text p → IsUnbuilt text e → ⊥
-unbuilt_or_built r text p e b x =
-    some_or_none (unbuilt_place (views x.accepts.tokens)) (unbuilt_place (views b.accepts.tokens)) e
-    (same_first r text x.accepts.tokens b.accepts.tokens x.accepts.is_unit.scanned b.accepts.is_unit.scanned) x.first b.built
-
 -- each refusal of an earlier phase excludes those of the later ones
 fault_or_no_unit : Reads → (text : List ℕ) (e f : Refusal) → IsFault text e → IsNoUnit text f → ⊥
 fault_or_no_unit r text e f x y = r.either text (views y.tokens) e y.scanned x
@@ -129,51 +104,40 @@ fault_or_no_unit r text e f x y = r.either text (views y.tokens) e y.scanned x
 fault_or_unit : Reads → (text : List ℕ) (ts : List Token) (u : UnitTree) (e : Refusal) → IsFault text e → IsUnit text ts u → ⊥
 fault_or_unit r text ts u e x y = r.either text (views ts) e y.scanned x
 
--- a refused text's refusal is one
-one_refused : Reads → (text : List ℕ) (e f : Refusal) → Refuses text (Refused e) → Refuses text (Refused f) → e ≡ f
-one_refused r text e f (inl (inl x)) (inl (inl y)) = r.fault text e f x y
-one_refused r text e f (inl (inl x)) (inl (inr (inl y))) = absurd (fault_or_no_unit r text e f x y)
-one_refused r text e f (inl (inl x)) (inl (inr (inr y))) = absurd (fault_or_unit r text y.tokens y.unit e x y.is_unit)
-one_refused r text e f (inl (inl x)) (inr y) =
-    absurd (fault_or_unit r text y.is_built.accepts.tokens y.is_built.accepts.unit e x y.is_built.accepts.is_unit)
-one_refused r text e f (inl (inr (inl x))) (inl (inl y)) = absurd (fault_or_no_unit r text f e y x)
-one_refused r text e f (inl (inr (inl x))) (inl (inr (inl y))) =
+-- a text's refusal is one
+pub one_refusal : Reads → (text : List ℕ) (e f : Refusal) → Refuses text e → Refuses text f → e ≡ f
+one_refusal r text e f (inl (inl x)) (inl (inl y)) = r.fault text e f x y
+one_refusal r text e f (inl (inl x)) (inl (inr (inl y))) = absurd (fault_or_no_unit r text e f x y)
+one_refusal r text e f (inl (inl x)) (inl (inr (inr y))) = absurd (fault_or_unit r text y.tokens y.unit e x y.is_unit)
+one_refusal r text e f (inl (inl x)) (inr y) =
+    absurd (fault_or_unit r text y.accepts.tokens y.accepts.unit e x y.accepts.is_unit)
+one_refusal r text e f (inl (inr (inl x))) (inl (inl y)) = absurd (fault_or_no_unit r text f e y x)
+one_refusal r text e f (inl (inr (inl x))) (inl (inr (inl y))) =
     one_stop (views y.tokens) e f (subst (λ ts. Stops ts e) (r.one text (views x.tokens) (views y.tokens) x.scanned
     y.scanned) (stops x.tokens e x.refusal)) (stops y.tokens f y.refusal)
-one_refused r text e f (inl (inr (inl x))) (inl (inr (inr y))) = absurd (unit_or_none r text y.tokens y.unit e y.is_unit x)
-one_refused r text e f (inl (inr (inl x))) (inr y) =
-    absurd (unit_or_none r text y.is_built.accepts.tokens y.is_built.accepts.unit e y.is_built.accepts.is_unit x)
-one_refused r text e f (inl (inr (inr x))) (inl (inl y)) = absurd (fault_or_unit r text x.tokens x.unit f y x.is_unit)
-one_refused r text e f (inl (inr (inr x))) (inl (inr (inl y))) = absurd (unit_or_none r text x.tokens x.unit f x.is_unit y)
-one_refused r text e f (inl (inr (inr x))) (inl (inr (inr y))) = one_fault r text e f x y
-one_refused r text e f (inl (inr (inr x))) (inr y) = absurd (program_or_fault r text y.program e y.is_built.accepts x)
-one_refused r text e f (inr x) (inl (inl y)) =
-    absurd (fault_or_unit r text x.is_built.accepts.tokens x.is_built.accepts.unit f y x.is_built.accepts.is_unit)
-one_refused r text e f (inr x) (inl (inr (inl y))) =
-    absurd (unit_or_none r text x.is_built.accepts.tokens x.is_built.accepts.unit f x.is_built.accepts.is_unit y)
-one_refused r text e f (inr x) (inl (inr (inr y))) = absurd (program_or_fault r text x.program f x.is_built.accepts y)
-one_refused r text e f (inr x) (inr y) = x.refusal ∙ sym y.refusal
+one_refusal r text e f (inl (inr (inl x))) (inl (inr (inr y))) = absurd (unit_or_none r text y.tokens y.unit e y.is_unit x)
+one_refusal r text e f (inl (inr (inl x))) (inr y) =
+    absurd (unit_or_none r text y.accepts.tokens y.accepts.unit e y.accepts.is_unit x)
+one_refusal r text e f (inl (inr (inr x))) (inl (inl y)) = absurd (fault_or_unit r text x.tokens x.unit f y x.is_unit)
+one_refusal r text e f (inl (inr (inr x))) (inl (inr (inl y))) = absurd (unit_or_none r text x.tokens x.unit f x.is_unit y)
+one_refusal r text e f (inl (inr (inr x))) (inl (inr (inr y))) = one_fault r text e f x y
+one_refusal r text e f (inl (inr (inr x))) (inr y) = absurd (program_or_fault r text y.program e y.accepts x)
+one_refusal r text e f (inr x) (inl (inl y)) =
+    absurd (fault_or_unit r text x.accepts.tokens x.accepts.unit f y x.accepts.is_unit)
+one_refusal r text e f (inr x) (inl (inr (inl y))) =
+    absurd (unit_or_none r text x.accepts.tokens x.accepts.unit f x.accepts.is_unit y)
+one_refusal r text e f (inr x) (inl (inr (inr y))) = absurd (program_or_fault r text x.program f x.accepts y)
+one_refusal r text e f (inr x) (inr y) = x.refusal ∙ sym y.refusal
 
--- a program is not refused as none, nor one whose constructs all have code for one that has none
+-- a program is not refused as none
 program_or_refused : Reads → (text : List ℕ) (p : Program) (e : Refusal) → Accepts text p → RefusesProgram text e → ⊥
 program_or_refused r text p e a (inl x) = fault_or_unit r text a.tokens a.unit e x a.is_unit
 program_or_refused r text p e a (inr (inl x)) = unit_or_none r text a.tokens a.unit e a.is_unit x
 program_or_refused r text p e a (inr (inr x)) = program_or_fault r text p e a x
 
-unbuilt_or_refused : Reads → (text : List ℕ) (e : Refusal) (place : Place) → Refuses text (Refused e) → IsUnbuilt text place → ⊥
-unbuilt_or_refused r text e place (inl x) y = program_or_refused r text y.program e y.accepts x
-unbuilt_or_refused r text e place (inr x) y = unbuilt_or_built r text x.program place x.is_built y
-
-pub one_refusal : Reads → (text : List ℕ) (e f : CompileFault) → Refuses text e → Refuses text f → e ≡ f
-one_refusal r text (Refused e) (Refused f) x y = ap Refused (one_refused r text e f x y)
-one_refusal r text (Refused e) (NotBuilt place) x y = absurd (unbuilt_or_refused r text e place x y)
-one_refusal r text (NotBuilt place) (Refused e) x y = absurd (unbuilt_or_refused r text e place y x)
-one_refusal r text (NotBuilt a) (NotBuilt b) x y = ap NotBuilt (one_unbuilt r text a b x y)
-
-pub not_both : Reads → (text : List ℕ) (p : Program) (e : CompileFault) → IsBuilt text p → Fits p → Refuses text e → ⊥
-not_both r text p (Refused e) b fits (inl x) = program_or_refused r text p e b.accepts x
-not_both r text p (Refused e) b fits (inr x) =
-    let same = ap (λ (q : Program). length (code_of q).code) (one_program r text x.program p x.is_built.accepts b.accepts) in
+pub not_both : Reads → (text : List ℕ) (p : Program) (e : Refusal) → Accepts text p → Fits p → Refuses text e → ⊥
+not_both r text p e a fits (inl x) = program_or_refused r text p e a x
+not_both r text p e a fits (inr x) =
+    let same = ap (λ (q : Program). length (code_of q).code) (one_program r text x.program p x.accepts a) in
     let long = x.long in
     omega arith
-not_both r text p (NotBuilt place) b fits x = unbuilt_or_built r text p place b x

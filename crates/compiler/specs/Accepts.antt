@@ -1,11 +1,7 @@
 -- Which program a text is, and which refusal a text has that is none.
-use Rattle.std.specs.Prelude.{◌≡◌, ◌≤◌, ◌⊎◌, ℕ, List, Some, None}
+use Rattle.std.specs.Prelude.{◌≡◌, ◌≤◌, ◌⊎◌, ℕ, List}
 use Rattle.scanner.specs.declared.token.Token.{Token}
 use Rattle.scanner.specs.declared.refusal.Refusal.{Refusal}
-use Rattle.scanner.specs.declared.token.Place.{Place}
-use Rattle.scanner.specs.Refusals.{out_of_memory}
-use Rattle.compiler.specs.declared.fault.CompileFault.{CompileFault}
-use Rattle.compiler.specs.declared.fault.CompileFault.TheVariants.{Refused, NotBuilt}
 use Rattle.scanner.specs.Tokens.{IsTokens, views}
 use Rattle.scanner.specs.Faults.{IsFault}
 use Rattle.syntax.specs.Lexeme.{lexemes}
@@ -20,7 +16,6 @@ use Rattle.program.specs.Trees.{Program}
 use Rattle.soundness.specs.Faultless.{IsFaultless}
 use Rattle.codegen.specs.Failures.{too_long}
 use Rattle.backend.specs.Refusals as backend
-use Rattle.compiler.specs.Unbuilt.{unbuilt_place}
 
 -- the text is these tokens, and they are the unit, with no more nestings than may be
 pub record IsUnit (text : List ℕ) (tokens : List Token) (unit : UnitTree) : Type 0 where
@@ -40,11 +35,6 @@ pub record Accepts (text : List ℕ) (p : Program) : Type 0 where
   pub is_unit : IsUnit text tokens unit
   pub is_program : IsProgramOf unit p
 
--- the text is a program, each construct of which has code
-pub record IsBuilt (text : List ℕ) (p : Program) : Type 0 where
-  pub accepts : Accepts text p
-  pub built : unbuilt_place (views accepts.tokens) ≡ None
-
 -- the text has tokens, and they are no unit
 pub record IsNoUnit (text : List ℕ) (e : Refusal) : Type 0 where
   pub tokens : List Token
@@ -58,16 +48,10 @@ pub record IsFaultyUnit (text : List ℕ) (e : Refusal) : Type 0 where
   pub is_unit : IsUnit text tokens unit
   pub refusal : names.IsRefusalOf unit e
 
--- the text is a program, and its first construct that has no code yet stands at this place
-pub record IsUnbuilt (text : List ℕ) (place : Place) : Type 0 where
-  pub program : Program
-  pub accepts : Accepts text program
-  pub first : unbuilt_place (views accepts.tokens) ≡ Some place
-
--- the text is such a program, and its code is too long
+-- the text is a program, and its code is too long
 pub record IsTooLong (text : List ℕ) (e : Refusal) : Type 0 where
   pub program : Program
-  pub is_built : IsBuilt text program
+  pub accepts : Accepts text program
   pub long : backend.IsTooLong program
   pub refusal : e ≡ too_long
 
@@ -75,12 +59,6 @@ pub record IsTooLong (text : List ℕ) (e : Refusal) : Type 0 where
 abbrev pub RefusesProgram : List ℕ → Refusal → Type 0
 RefusesProgram text e = IsFault text e ⊎ (IsNoUnit text e ⊎ IsFaultyUnit text e)
 
--- why a text has no image, by the earliest phase: it is no program, a construct of it has no code yet, or its code is
--- too long
-abbrev pub Refuses : List ℕ → CompileFault → Type 0
-Refuses text (Refused e) = RefusesProgram text e ⊎ IsTooLong text e
-Refuses text (NotBuilt place) = IsUnbuilt text place
-
--- memory has run out
-abbrev pub no_memory : CompileFault
-no_memory = Refused out_of_memory
+-- the refusal of a text that has no image, by the earliest phase: it is no program, or its code is too long
+abbrev pub Refuses : List ℕ → Refusal → Type 0
+Refuses text e = RefusesProgram text e ⊎ IsTooLong text e

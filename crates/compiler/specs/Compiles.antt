@@ -1,28 +1,23 @@
 -- What is read of a text, and what an image owes to it.
 use Rattle.std.specs.Prelude.{◌≡◌, ℕ, List}
 use Rattle.isa.specs.Programs.{Program as Image}
-use Rattle.scanner.specs.declared.token.Token.{Token}
-use Rattle.syntax.specs.Tree.{UnitTree}
 use Rattle.program.specs.Names.{CheckedProgram, said_by}
 use Rattle.program.specs.Trees.{Program}
 use Rattle.program.specs.WellFormed.{WellFormed}
 use Rattle.code.specs.Pieces.{code_of}
 use Rattle.refinement.specs.Refines.{Refines}
 use Rattle.backend.specs.Refusals.{Fits}
-use Rattle.compiler.specs.Accepts.{IsUnit, IsProgramOf, IsBuilt}
+use Rattle.compiler.specs.Accepts.{Accepts}
 
--- these are the text's tokens, and this its checked program
-pub record IsRead (text : List ℕ) (tokens : List Token) (c : CheckedProgram) : Type 0 where
-  pub unit : UnitTree
-  pub is_unit : IsUnit text tokens unit
-  pub is_program : IsProgramOf unit (said_by c)
+-- the text's checked program
+pub record IsRead (text : List ℕ) (c : CheckedProgram) : Type 0 where
+  pub accepts : Accepts text (said_by c)
   pub well_formed : WellFormed (said_by c)
 
--- the text is a program, each construct of which has code; the image is its code, no longer than an image may have, and
--- refines it
+-- the text is a program; the image is its code, no longer than an image may have, and refines it
 pub record IsCompiled (text : List ℕ) (image : Image) : Type 0 where
   pub program : Program
-  pub is_built : IsBuilt text program
+  pub accepts : Accepts text program
   pub fits : Fits program
   pub code : image ≡ code_of program
   pub refines : Refines program image

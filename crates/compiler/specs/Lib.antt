@@ -1,3 +1,2 @@
-pub mod Unbuilt
 pub mod Accepts
 pub mod Compiles

@@ -1,11 +1,8 @@
-//! From a source text to its image, or to why it has none.
+//! From a source text to its image, or to its refusal.
 #![tactic(auto)]
 
 mod compiling;
-mod fault;
 mod laws;
-mod unbuilt;
 
 pub use compiling::{check_text, compile};
-pub use fault::CompileFault;
-pub use laws::{built_units_use_no_monitor, text_laws};
+pub use laws::text_laws;

@@ -6,4 +6,4 @@ returns-clause-only c =
     only_memory record {
       one = c.text_laws.ensures.one_program;
       not_both = c.text_laws.ensures.not_both;
-    } c.args.text.now c.image_or_fault.result c.image_or_fault.ensures
+    } c.args.text.now c.image_or_refusal.result c.image_or_refusal.ensures

@@ -33,15 +33,18 @@ returns-in_err-checked c =
 
 pub returns : goal.returns
 returns c = record {
-  unit = unit_of c.in_ok-unit.unit;
-  is_unit = record {
-    scanned = c.in_ok-tokens.ensures.tokens;
-    spelled = c.in_ok-unit.ensures.tree ∙ ap lexemes c.as_slice.ensures.value;
-    within = c.in_ok-unit.ensures.within;
-  };
-  is_program = record {
-    faultless = c.in_ok-checked.ensures.faultless;
-    program = c.in_ok-checked.ensures.program;
+  accepts = record {
+    tokens = c.in_ok-tokens.tokens.items;
+    unit = unit_of c.in_ok-unit.unit;
+    is_unit = record {
+      scanned = c.in_ok-tokens.ensures.tokens;
+      spelled = c.in_ok-unit.ensures.tree ∙ ap lexemes c.as_slice.ensures.value;
+      within = c.in_ok-unit.ensures.within;
+    };
+    is_program = record {
+      faultless = c.in_ok-checked.ensures.faultless;
+      program = c.in_ok-checked.ensures.program;
+    };
   };
   well_formed = c.in_ok-checked.ensures.well_formed;
 }
