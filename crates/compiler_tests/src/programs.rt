@@ -1,4 +1,4 @@
-use compiler::{CompileFault, compile, text_laws};
+use compiler::{compile, text_laws};
 use mesamon::{RunSourceFault, run_source};
 use runner::{Report, RunFault, Verdict};
 use scanner::Refusal;
@@ -22,7 +22,7 @@ fn compiles_or_names_want_of_memory(rt: HostRuntime) {
     text_laws();
     let is_well = match compile(rt.alloc(), TWO) {
         Ok(image) => image.code().len() == 5,
-        Err(fault) => fault == CompileFault::Refused(Refusal::memory()),
+        Err(refusal) => refusal == Refusal::memory(),
     };
     assert!(rt; is_well);
 }
@@ -31,7 +31,7 @@ fn compiles_or_names_want_of_memory(rt: HostRuntime) {
 fn runs_or_names_want_of_memory(rt: HostRuntime) {
     let is_well = match run_source(rt.alloc(), TWO, 8, &OpenGate) {
         Ok(report) => is_done(&report),
-        Err(RunSourceFault::Compile(fault)) => fault == CompileFault::Refused(Refusal::memory()),
+        Err(RunSourceFault::Refused(refusal)) => refusal == Refusal::memory(),
         Err(RunSourceFault::Run(fault)) => fault == RunFault::Memory,
     };
     assert!(rt; is_well);

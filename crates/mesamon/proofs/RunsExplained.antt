@@ -24,7 +24,7 @@ run_explained runs text image limit r c below report =
     let few : length steps < 2 ^ 32 = omega arith in
     record {
       program = c.program;
-      accepts = c.is_built.accepts;
+      accepts = c.accepts;
       is_report = reported;
       steps = steps;
       machine_run = run;
@@ -35,7 +35,7 @@ pub run_fails : (text : List ℕ) (image : Program) (limit : ℕ) (fault : RunFa
     → CanFail image limit fault → IsFailedRun text limit fault
 run_fails text image limit fault c fails = record {
   program = c.program;
-  accepts = c.is_built.accepts;
+  accepts = c.accepts;
   fails = subst (λ (p : Program). CanFail p limit fault) c.code fails;
 }
 

@@ -11,10 +11,8 @@ use Rattle.scanner.specs.declared.refusal.RefusalKind.TheVariants as kind
 use Rattle.runner.specs.declared.fault.RunFault.TheVariants as fault
 use Rattle.mesamon.specs.declared.source_run.RunSourceFault.{RunSourceFault}
 use Rattle.mesamon.specs.declared.source_run.RunSourceFault.TheVariants as source
-use Rattle.compiler.specs.declared.fault.CompileFault.{CompileFault}
-use Rattle.compiler.specs.declared.fault.CompileFault.TheVariants as compile
 use Rattle.mesamon.specs.declared.failure.Failure.{Failure}
-use Rattle.mesamon.specs.declared.failure.Failure.TheVariants.{Usage, Read, Write, Refused, NotBuilt, Image, Run, Output, Memory}
+use Rattle.mesamon.specs.declared.failure.Failure.TheVariants.{Usage, Read, Write, Refused, Image, Run, Output, Memory}
 use Rattle.mesamon.specs.declared.status.Status.{Status}
 use Rattle.mesamon.specs.declared.status.Status.TheVariants as status
 
@@ -23,7 +21,6 @@ status_of (Usage e) = status.Usage
 status_of (Read name) = status.Failed
 status_of (Write name) = status.Failed
 status_of (Refused e) = status.Refused
-status_of (NotBuilt place) = status.Refused
 status_of (Image e) = status.Failed
 status_of (Run e) = status.Failed
 status_of Output = status.Failed
@@ -42,17 +39,12 @@ OfWords words.Memory f = f ≡ Memory
 abbrev pub OfRefusal : Refusal → Failure → Type 0
 OfRefusal e f = ((e.kind ≡ kind.Memory) × (f ≡ Memory)) ⊎ ((e.kind ≢ kind.Memory) × (f ≡ Refused e))
 
--- and why a text has no image
-abbrev pub OfCompile : CompileFault → Failure → Type 0
-OfCompile (compile.Refused e) f = OfRefusal e f
-OfCompile (compile.NotBuilt place) f = f ≡ NotBuilt place
-
 -- and so is the fault of an image
 abbrev pub OfImage : DecodeFault → Failure → Type 0
 OfImage image.Memory f = f ≡ Memory
 OfImage e f = f ≡ Image e
 
 abbrev pub OfRun : RunSourceFault → Failure → Type 0
-OfRun (source.Compile e) f = OfCompile e f
+OfRun (source.Refused e) f = OfRefusal e f
 OfRun (source.Run fault.Memory) f = f ≡ Memory
 OfRun (source.Run e) f = f ≡ Run e

@@ -10,8 +10,9 @@ use Rattle.runner.specs.declared.fault.RunFault.{RunFault}
 use Rattle.runner.specs.declared.report.Report.{Report}
 use Rattle.runner.specs.Reports.{IsReport, CanFail}
 use Rattle.mesamon.specs.declared.source_run.RunSourceFault.{RunSourceFault}
-use Rattle.mesamon.specs.declared.source_run.RunSourceFault.TheVariants.{Compile, Run}
-use Rattle.compiler.specs.Accepts.{Accepts, Refuses, no_memory}
+use Rattle.mesamon.specs.declared.source_run.RunSourceFault.TheVariants.{Refused, Run}
+use Rattle.compiler.specs.Accepts.{Accepts, Refuses}
+use Rattle.scanner.specs.Refusals.{out_of_memory}
 
 -- a report of a run of the code of the text's program: a run of the machine, which a run of the program explains
 pub record IsRunOf (text : List ℕ) (limit : ℕ) (report : Report) : Type 0 where
@@ -30,10 +31,10 @@ pub record IsFailedRun (text : List ℕ) (limit : ℕ) (fault : RunFault) : Type
 
 -- the text's refusal, or want of memory, or a fault of the run
 abbrev pub IsRefusedRun : List ℕ → ℕ → RunSourceFault → Type 0
-IsRefusedRun text limit (Compile e) = (e ≡ no_memory) ⊎ Refuses text e
+IsRefusedRun text limit (Refused e) = (e ≡ out_of_memory) ⊎ Refuses text e
 IsRefusedRun text limit (Run fault) = IsFailedRun text limit fault
 
 -- no refusal but for want of memory
 abbrev pub IsMemory : RunSourceFault → Type 0
-IsMemory (Compile e) = e ≡ no_memory
+IsMemory (Refused e) = e ≡ out_of_memory
 IsMemory (Run fault) = Unit {0}

@@ -1,15 +1,14 @@
 ghost use Rattle.std.specs.Prelude.{◌≡◌};
 ghost use Rattle.std.specs.IoError.{error_kind};
 ghost use Rattle.mesamon.specs.declared.failure.Failure.TheVariants.{Memory as memory};
-ghost use Rattle.mesamon.specs.Failures.{status_of, OfIo, OfWords, OfRefusal, OfCompile, OfImage, OfRun};
+ghost use Rattle.mesamon.specs.Failures.{status_of, OfIo, OfWords, OfRefusal, OfImage, OfRun};
 
 use crate::source_run::RunSourceFault;
 use crate::status::Status;
 use commandline::WordsFault;
-use compiler::CompileFault;
 use isa::DecodeFault;
 use runner::RunFault;
-use scanner::{Place, Refusal, RefusalKind};
+use scanner::{Refusal, RefusalKind};
 use std::alloc::AllocError;
 use std::io;
 use thiserror::Error;
@@ -29,9 +28,6 @@ pub enum Failure<'a> {
     /// The source text was refused.
     #[error("{0}")]
     Refused(Refusal),
-    /// The source text is a program, and a construct that has no code yet stands first at this place.
-    #[error("{}:{}: error 13 NotBuilt", .0.line, .0.column)]
-    NotBuilt(Place),
     /// The bytes are no image.
     #[error("{0}")]
     Image(DecodeFault),
@@ -86,7 +82,7 @@ impl<'a> Failure<'a> {
     {
         match self {
             Failure::Usage(_) => Status::Usage,
-            Failure::Refused(_) | Failure::NotBuilt(_) => Status::Refused,
+            Failure::Refused(_) => Status::Refused,
             Failure::Memory => Status::Memory,
             Failure::Read(_)
             | Failure::Write(_)
@@ -120,17 +116,6 @@ impl From<Refusal> for Failure<'_> {
     }
 }
 
-impl From<CompileFault> for Failure<'_> {
-    ghost from_gives = { OfCompile };
-
-    fn from(fault: CompileFault) -> Self {
-        match fault {
-            CompileFault::Refused(refusal) => Failure::from(refusal),
-            CompileFault::NotBuilt(place) => Failure::NotBuilt(place),
-        }
-    }
-}
-
 impl From<DecodeFault> for Failure<'_> {
     ghost from_gives = { OfImage };
 
@@ -147,7 +132,7 @@ impl From<RunSourceFault> for Failure<'_> {
 
     fn from(fault: RunSourceFault) -> Self {
         match fault {
-            RunSourceFault::Compile(fault) => Failure::from(fault),
+            RunSourceFault::Refused(refusal) => Failure::from(refusal),
             RunSourceFault::Run(RunFault::Memory) => Failure::Memory,
             RunSourceFault::Run(fault) => Failure::Run(fault),
         }

@@ -3,12 +3,13 @@ ghost use Rattle.runner.specs.declared.fault.RunFault.TheVariants.{Broken};
 ghost use Rattle.words.specs.Limits.{most_local_steps};
 ghost use Rattle.program.specs.Trees.{Program};
 ghost use Rattle.backend.specs.Refusals.{Fits};
-ghost use Rattle.compiler.specs.Accepts.{IsBuilt};
+ghost use Rattle.compiler.specs.Accepts.{Accepts};
 ghost use Rattle.mesamon.specs.Running.{IsRunOf, IsRefusedRun, IsMemory};
-ghost use Rattle.mesamon.specs.declared.source_run.RunSourceFault.TheVariants.{Compile, Run};
+ghost use Rattle.mesamon.specs.declared.source_run.RunSourceFault.TheVariants.{Refused, Run};
 
-use compiler::{CompileFault, compile};
+use compiler::compile;
 use runner::{Report, RunFault, logs_are_machine_runs, run};
+use scanner::Refusal;
 use std::alloc::Global;
 use thiserror::Error;
 use words::Gate;
@@ -18,17 +19,17 @@ use words::Gate;
 pub enum RunSourceFault {
     /// The text has no image.
     #[error("{0}")]
-    Compile(CompileFault),
-    /// The run of its image is.
+    Refused(Refusal),
+    /// The run of its image failed.
     #[error("{0}")]
     Run(RunFault),
 }
 
-impl From<CompileFault> for RunSourceFault {
-    ghost from_gives = { λ e f. f ≡ Compile e };
+impl From<Refusal> for RunSourceFault {
+    ghost from_gives = { λ e f. f ≡ Refused e };
 
-    fn from(fault: CompileFault) -> RunSourceFault {
-        RunSourceFault::Compile(fault)
+    fn from(refusal: Refusal) -> RunSourceFault {
+        RunSourceFault::Refused(refusal)
     }
 }
 
@@ -44,7 +45,7 @@ impl From<RunFault> for RunSourceFault {
 /// entry of the log, with the number of its thread.
 ///
 /// Some run of the text's program explains the report: it has the same output and the same ends of processes, and
-/// where no thread can move, none of its processes can. A text that `compile` refuses has the same fault. The run's
+/// where no thread can move, none of its processes can. A text that `compile` refuses has the same refusal. The run's
 /// own fault is `Memory`. `Broken` comes of no text as long as the limit is at most 2^32 - 257: a run is explained as
 /// long as it has fewer than 2^32 steps, and a thread may take 256 local steps beyond the limit before it is refused.
 pub fn run_source<G: Gate>(
@@ -56,7 +57,7 @@ pub fn run_source<G: Gate>(
     ensures report { IfOk result (λ report. IsRunOf text.now limit report) }
     ensures fault { IfErr result (λ fault. IsRefusedRun text.now limit fault) }
     ensures sound { limit + most_local_steps < 2 ^ 32 → IfErr result (λ fault. fault ≢ Run Broken) }
-    ensures only { (p : Program) → IsBuilt text.now p → Fits p → IfErr result (λ fault. IsMemory fault) }
+    ensures only { (p : Program) → Accepts text.now p → Fits p → IfErr result (λ fault. IsMemory fault) }
 {
     logs_are_machine_runs();
     let image = compile(alloc, text)?;
