@@ -1,10 +1,13 @@
 -- What every moment keeps, and what the mover of a move has.
-use Rattle.std.proofs.Common.{◌≡◌, ◌≢◌, ℕ, ◌<◌, ◌≤◌, Bool, true, false, ◌==◌, ◌||◌, List, ◌∷◌, inl, inr, refl, sym, ap, ◌∙◌, subst, arith}
+use Rattle.std.proofs.Common.{◌≡◌, ◌≢◌, ℕ, ◌<◌, ◌≤◌, Bool, true, false, ◌==◌, ◌||◌, List, ◌∷◌, inl, inr, refl, sym}
+use Rattle.std.proofs.Common.{ap, ◌∙◌, subst, arith}
 use Rattle.std.proofs.lemmas.Bool.{cases_eq, false≢true, eq-eqb, ne_eqb, or_left}
 use Rattle.program.specs.declared.kinds.Member.{Member}
 use Rattle.meaning.specs.Table.{HeldBy, Table}
 use Rattle.protocol.specs.Word.{owner}
-use Rattle.protocol.specs.Points.{Purpose, ToEnter, ToReenter, ToResume, Entry, NoEntry, Owned, Unowned, Point, TakeReads, TakeMarks, TakeSleeps, TakeTries, LeaveWakes, Dies, Walks, entry_at, taking_entry, Thread, thread_at}
+use Rattle.protocol.specs.Points.{Purpose, ToEnter, ToReenter, ToResume, Entry, NoEntry, Owned, Unowned, Point}
+use Rattle.protocol.specs.Points.{TakeReads, TakeMarks, TakeSleeps, TakeTries, LeaveWakes, Dies, Walks, entry_at}
+use Rattle.protocol.specs.Points.{taking_entry, Thread, thread_at}
 use Rattle.protocol.specs.World.{World, mem, tail, Distinct}
 use Rattle.protocol.specs.Moves.{Move}
 use Rattle.protocol.specs.Origins.{from}
@@ -37,12 +40,15 @@ pub record Good (w : World) (T : Table) : Type 0 where
 pub stands_at : (w : World) (t : ℕ) (m : Move) → Can w t m → w.at t ≡ thread_at (from m) (w.at t).list
 stands_at w t m can = ap (λ q. thread_at q (w.at t).list) can.stands
 
-pub known_at : (w : World) (T : Table) (t : ℕ) (m : Move) → Good w T → Can w t m → Distinct (w.at t).list × Listed (from m) (w.at t).list
+pub known_at : (w : World) (T : Table) (t : ℕ) (m : Move) → Good w T → Can w t m
+    → Distinct (w.at t).list × Listed (from m) (w.at t).list
 unfolding Knows
 known_at w T t m inv can = subst Knows (stands_at w t m can) (inv.locks.knows t)
 
-pub chain_at : (w : World) (T : Table) (t : ℕ) (m : Move) → Good w T → Can w t m → ChainAt w.link (w.head t) (from m) (w.at t).list
-chain_at w T t m inv can = subst (λ y. ChainAt w.link (w.head t) y.point y.list) (stands_at w t m can) (inv.chains.chain t)
+pub chain_at : (w : World) (T : Table) (t : ℕ) (m : Move) → Good w T → Can w t m
+    → ChainAt w.link (w.head t) (from m) (w.at t).list
+chain_at w T t m inv can = subst (λ y. ChainAt w.link (w.head t) y.point y.list) (stands_at w t m can)
+    (inv.chains.chain t)
 
 -- tests
 pub or_again : (a b : Bool) → ((a || b) || a) ≡ (b || a)
@@ -60,12 +66,14 @@ pub listed_again : (x e : ℕ) (l : List ℕ) → l ≡ e ∷ tail l → (mem x 
 listed_again x e l is = ap (λ k. mem x k || (x == e)) is ∙ or_again (x == e) (mem x (tail l))
 
 pub listed_too : (x e : ℕ) (l : List ℕ) → l ≡ e ∷ tail l → (mem x l || (x == e)) ≡ (mem x l || false)
-listed_too x e l is = ap (λ k. mem x k || (x == e)) is ∙ or_absorb (x == e) (mem x (tail l)) ∙ sym (ap (λ k. mem x k || false) is)
+listed_too x e l is = ap (λ k. mem x k || (x == e)) is ∙ or_absorb (x == e) (mem x (tail l))
+    ∙ sym (ap (λ k. mem x k || false) is)
 
 -- of a monitor that is on the list anywhere
 pub in_anyway : (x e : ℕ) (l : List ℕ) → mem e l ≡ true → (mem x l || (x == e)) ≡ (mem x l || false)
 in_anyway x e l h = elim (cases_eq x e) [
-  | inl q ↦ or_left (mem x l) (x == e) (ap (λ y. mem y l) q ∙ h) ∙ sym (or_left (mem x l) false (ap (λ y. mem y l) q ∙ h))
+  | inl q ↦ or_left (mem x l) (x == e) (ap (λ y. mem y l) q ∙ h)
+      ∙ sym (or_left (mem x l) false (ap (λ y. mem y l) q ∙ h))
   | inr n ↦ ap (λ b. mem x l || b) (ne_eqb x e n)
 ]
 
@@ -106,15 +114,19 @@ helps_left (Walks a y end) x h = h
 helps_left p x h = absurd (false≢true h)
 
 -- what the mover holds
-pub mine_at : (w : World) (T : Table) (t : ℕ) (m : Move) → Good w T → Can w t m → (e : ℕ) → (mem e (w.at t).list || own (entry_at (from m)) e) ≡ true → T.hold e ≡ HeldBy t
+pub mine_at : (w : World) (T : Table) (t : ℕ) (m : Move) → Good w T → Can w t m → (e : ℕ)
+    → (mem e (w.at t).list || own (entry_at (from m)) e) ≡ true → T.hold e ≡ HeldBy t
 unfolding holds
 mine_at w T t m inv can e h = inv.locks.held e t (subst (λ y. holds y e ≡ true) (sym (stands_at w t m can)) h)
 
-pub owned_word : (w : World) (T : Table) (t : ℕ) (m : Move) → Good w T → Can w t m → (e : ℕ) → (mem e (w.at t).list || own (entry_at (from m)) e) ≡ true → owner (w.lock e) ≢ 0
+pub owned_word : (w : World) (T : Table) (t : ℕ) (m : Move) → Good w T → Can w t m → (e : ℕ)
+    → (mem e (w.at t).list || own (entry_at (from m)) e) ≡ true → owner (w.lock e) ≢ 0
 owned_word w T t m inv can e h =
-    let a = tie_held (T.hold e) (w.lock e) t (inv.locks.tie e) (mine_at w T t m inv can e h) in λ z. omega (arith, a.0, a.1, z)
+    let a = tie_held (T.hold e) (w.lock e) t (inv.locks.tie e) (mine_at w T t m inv can e h)
+        in λ z. omega (arith, a.0, a.1, z)
 
-pub mine_of : (w : World) (t : ℕ) (m : Move) → Can w t m → (e : ℕ) → (mem e (w.at t).list || own (entry_at (from m)) e) ≡ true → holds (w.at t) e ≡ true
+pub mine_of : (w : World) (t : ℕ) (m : Move) → Can w t m → (e : ℕ)
+    → (mem e (w.at t).list || own (entry_at (from m)) e) ≡ true → holds (w.at t) e ≡ true
 unfolding holds
 mine_of w t m can e h = subst (λ y. holds y e ≡ true) (sym (stands_at w t m can)) h
 
@@ -133,5 +145,6 @@ home_waits p c s h =
     rw e (stands_before p c s.monitor s.stands)
 
 -- a lock has one owner
-pub one_owner : (w : World) (T : Table) (e t u : ℕ) → Good w T → holds (w.at t) e ≡ true → holds (w.at u) e ≡ true → u ≡ t
+pub one_owner : (w : World) (T : Table) (e t u : ℕ) → Good w T → holds (w.at t) e ≡ true → holds (w.at u) e ≡ true
+    → u ≡ t
 one_owner w T e t u inv mine yours = one_holder w.lock w.asleep w.at T.hold e t u inv.locks mine yours

@@ -1,5 +1,6 @@
 -- The phases of robust exit are the points of the protocol's exit.
-use Rattle.std.proofs.Common.{◌≡◌, ◌≢◌, ℕ, zero, suc, ◌+◌, ◌<◌, Bool, true, false, ◌==◌, ◌||◌, inl, inr, refl, sym, ap, ◌∙◌, subst, arith}
+use Rattle.std.proofs.Common.{◌≡◌, ◌≢◌, ℕ, zero, suc, ◌+◌, ◌<◌, Bool, true, false, ◌==◌, ◌||◌, inl, inr, refl, sym}
+use Rattle.std.proofs.Common.{ap, ◌∙◌, subst, arith}
 use Rattle.std.specs.Prelude.{nat_le}
 use Rattle.std.proofs.lemmas.Bool.{ne_eqb, cond-false, lt-leb}
 use Rattle.meaning.specs.Labels.{End}
@@ -13,13 +14,17 @@ use Rattle.protocol.specs.Memory.{entry_address}
 use Rattle.protocol.specs.Exits.{IsLayout, PhaseIs, IsShort, PhasesFollow}
 
 -- the phase at an entry, before the limit
-pub at_entry : (place : Cell → ℕ) (valid : Cell → Bool) (size v seen : ℕ) (x : P.Entry) (end : End) → IsLayout place valid size → ((k : ℕ) → v ≡ suc k → valid (LinkOf k) ≡ true) → seen < 2048 → PhaseIs place valid (Walks v x end) (next_entry (entry_address place v) seen)
+pub at_entry : (place : Cell → ℕ) (valid : Cell → Bool) (size v seen : ℕ) (x : P.Entry) (end : End)
+    → IsLayout place valid size → ((k : ℕ) → v ≡ suc k → valid (LinkOf k) ≡ true) → seen < 2048
+    → PhaseIs place valid (Walks v x end) (next_entry (entry_address place v) seen)
 at_entry place valid size zero seen x end lay ok few = refl
 at_entry place valid size (suc k) seen x end lay ok few =
     let here = ok k refl in
     let some : place (LinkOf k) ≢ 0 = (λ z. omega (arith, (lay.entry k here).0, z)) in
-    let test : ((place (LinkOf k) == 0) || nat_le 2048 seen) ≡ false = ap (λ b. b || nat_le 2048 seen) (ne_eqb (place (LinkOf k)) 0 some) ∙ lt-leb 2048 seen few in
-    (here, (seen, cond-false ((place (LinkOf k) == 0) || nat_le 2048 seen) Pending (Entry (record { 0 = place (LinkOf k) }) seen) test))
+    let test : ((place (LinkOf k) == 0) || nat_le 2048 seen) ≡ false = ap (λ b. b || nat_le 2048 seen)
+        (ne_eqb (place (LinkOf k)) 0 some) ∙ lt-leb 2048 seen few in
+    (here, (seen, cond-false ((place (LinkOf k) == 0) || nat_le 2048 seen) Pending
+        (Entry (record { 0 = place (LinkOf k) }) seen) test))
 
 pub phases_follow : PhasesFollow
 phases_follow place valid size t w (Walks zero x end) e phase later s s' woken lay inv links short is step =
@@ -28,7 +33,9 @@ phases_follow place valid size t w (Walks (suc m) x end) e phase later s s' woke
     let d = subst (λ y. ExitStep size t y s woken s' later) is.1.1 step in
     let few : is.1.0 + 1 < 2048 = subst IsShort is.1.1 short in
     elim d [
-      | inl k ↦ subst (PhaseIs place valid (Walks (w.link m) x end)) (sym (k.2 ∙ ap (λ a. next_entry a (is.1.0 + 1)) (inv.words.word (LinkOf m) is.0))) (at_entry place valid size (w.link m) (is.1.0 + 1) x end lay (λ n h. links n h) few)
+      | inl k ↦ subst (PhaseIs place valid (Walks (w.link m) x end))
+          (sym (k.2 ∙ ap (λ a. next_entry a (is.1.0 + 1)) (inv.words.word (LinkOf m) is.0)))
+          (at_entry place valid size (w.link m) (is.1.0 + 1) x end lay (λ n h. links n h) few)
       | inr k ↦ absurd (k.0 (lay.entry m is.0))
     ]
 phases_follow place valid size t w (ClearsId end) e phase later s s' woken lay inv links short is step =

@@ -1,10 +1,14 @@
 -- Whole runs, and what holds where threads sleep.
-use Rattle.std.proofs.Common.{◌≡◌, ℕ, suc, Bool, true, false, ◌==◌, ◌||◌, Option, Some, None, List, [], ◌∷◌, ◌⊎◌, inl, inr, refl, sym, ap, ◌∙◌, subst, arith, ◌≤◌, ◌+◌}
+use Rattle.std.proofs.Common.{◌≡◌, ℕ, suc, Bool, true, false, ◌==◌, ◌||◌, Option, Some, None, List, [], ◌∷◌, ◌⊎◌, inl}
+use Rattle.std.proofs.Common.{inr, refl, sym, ap, ◌∙◌, subst, arith, ◌≤◌, ◌+◌}
 use Rattle.std.proofs.lemmas.Bool.{false≢true, eq-eqb, eqb-true, or_left, or_right, cases_Bool}
 use Rattle.meaning.specs.Labels.{End, Label, Joins, Enters, Resumes}
 use Rattle.meaning.specs.Table.{Hold, Free, Abandoned, HeldBy, Table, first_table, Allows}
 use Rattle.protocol.specs.Word.{owner}
-use Rattle.protocol.specs.Points.{Purpose, ToEnter, ToReenter, ToResume, Entry, NoEntry, Owned, Unowned, Spot, OnLock, OnSequence, OnId, Point, Unmade, TakeReads, TakeMarks, TakeSleeps, TakeTries, JoinReads, JoinSleeps, LeaveWakes, Dies, Walks, LastWakes, HasEnded, entry_at, taking_entry, entry_word}
+use Rattle.protocol.specs.Points.{Purpose, ToEnter, ToReenter, ToResume, Entry, NoEntry, Owned, Unowned, Spot, OnLock}
+use Rattle.protocol.specs.Points.{OnSequence, OnId, Point, Unmade, TakeReads, TakeMarks, TakeSleeps, TakeTries}
+use Rattle.protocol.specs.Points.{JoinReads, JoinSleeps, LeaveWakes, Dies, Walks, LastWakes, HasEnded, entry_at}
+use Rattle.protocol.specs.Points.{taking_entry, entry_word}
 use Rattle.protocol.specs.World.{World, mem, opening_world}
 use Rattle.protocol.specs.Moves.{Move}
 use Rattle.protocol.specs.Finds.{Tells}
@@ -25,27 +29,35 @@ use Rattle.protocol.proofs.Pend.{PendAt}
 use Rattle.protocol.proofs.Processes.{EndsAt}
 use Rattle.meaning.specs.Table.{enterable}
 use Rattle.protocol.specs.Carries.{with_event}
-use Rattle.protocol.specs.Runs.{Leads, events, last_table, PermitsAll, Matches, IsNext, CannotAct, Goes, IsOutside, LosesNoWake, IsExplained}
+use Rattle.protocol.specs.Runs.{Leads, events, last_table, PermitsAll, Matches, IsNext, CannotAct, Goes, IsOutside}
+use Rattle.protocol.specs.Runs.{LosesNoWake, IsExplained}
 use Rattle.protocol.proofs.Joins.{point_goes}
 use Rattle.protocol.proofs.KeptConds.{waiter_made}
 use Rattle.protocol.proofs.Kept.{kept, permitted, good_start}
 use Rattle.protocol.proofs.Good.{Good}
 
 -- ---- whole runs
-run_kept : (ss : List (ℕ × Move)) (w w' : World) (T : Table) → Good w T → Leads w ss w' → PermitsAll (events w T ss) T (last_table w T ss) × Good w' (last_table w T ss)
+run_kept : (ss : List (ℕ × Move)) (w w' : World) (T : Table) → Good w T → Leads w ss w'
+    → PermitsAll (events w T ss) T (last_table w T ss) × Good w' (last_table w T ss)
 run_kept [] w w' T inv run = (refl, subst (λ x. Good x T) (sym run) inv)
 run_kept (s ∷ ss) w w' T inv run =
     let rest = run_kept ss (after w s.0 s.1) w' (table_after w T s.0 s.1) (kept w T s.0 s.1 inv run.0) run.1 in
-    (with_permitted (event_of w T s.0 s.1) (events (after w s.0 s.1) (table_after w T s.0 s.1) ss) T (table_after w T s.0 s.1) (last_table (after w s.0 s.1) (table_after w T s.0 s.1) ss) (permitted w T s.0 s.1 inv run.0) rest.0, rest.1) where
-      with_permitted : (e : Option Event) (es : List Event) (T mid T' : Table) → PermitsMove e T mid → PermitsAll es mid T' → PermitsAll (with_event e es) T T'
+    (with_permitted (event_of w T s.0 s.1) (events (after w s.0 s.1) (table_after w T s.0 s.1) ss) T
+        (table_after w T s.0 s.1) (last_table (after w s.0 s.1) (table_after w T s.0 s.1) ss)
+        (permitted w T s.0 s.1 inv run.0) rest.0, rest.1) where
+      with_permitted : (e : Option Event) (es : List Event) (T mid T' : Table) → PermitsMove e T mid
+          → PermitsAll es mid T' → PermitsAll (with_event e es) T T'
       with_permitted None es T mid T' here later = subst (λ x. PermitsAll es x T') here later
       with_permitted (Some e) es T mid T' here later = (mid, here, later)
 
 -- ---- the table is the world's
 has_of : (x : ℕ) (l : List ℕ) (y : Entry) → (mem x l || own y x) ≡ true → (mem x l ≡ true) ⊎ (y ≡ Owned x)
-has_of x l NoEntry h = elim (cases_Bool (mem x l)) [ inl a ↦ inl a | inr n ↦ absurd (false≢true (ap (λ b. b || false) (sym n) ∙ h)) ]
-has_of x l (Unowned m) h = elim (cases_Bool (mem x l)) [ inl a ↦ inl a | inr n ↦ absurd (false≢true (ap (λ b. b || false) (sym n) ∙ h)) ]
-has_of x l (Owned m) h = elim (cases_Bool (mem x l)) [ inl a ↦ inl a | inr n ↦ inr (ap Owned (sym (eqb-true x m (ap (λ b. b || (x == m)) (sym n) ∙ h)))) ]
+has_of x l NoEntry h = elim (cases_Bool (mem x l)) [ inl a ↦ inl a |
+    inr n ↦ absurd (false≢true (ap (λ b. b || false) (sym n) ∙ h)) ]
+has_of x l (Unowned m) h = elim (cases_Bool (mem x l)) [ inl a ↦ inl a |
+    inr n ↦ absurd (false≢true (ap (λ b. b || false) (sym n) ∙ h)) ]
+has_of x l (Owned m) h = elim (cases_Bool (mem x l)) [ inl a ↦ inl a | inr n ↦
+    inr (ap Owned (sym (eqb-true x m (ap (λ b. b || (x == m)) (sym n) ∙ h)))) ]
 
 of_has : (x : ℕ) (l : List ℕ) (y : Entry) → (mem x l ≡ true) ⊎ (y ≡ Owned x) → (mem x l || own y x) ≡ true
 of_has x l y (inl h) = or_left (mem x l) (own y x) h
@@ -66,7 +78,8 @@ matches w T inv = record {
   waiter = λ t c h. waiter_made w T t c inv h;
   claimed = inv.claims;
   made = inv.made;
-  over = λ q e h. let k = inv.ends.past q e h in (k, over_tells (w.at q).point e (w.outcome q) (w.result q) k (inv.ends.tells q));
+  over = λ q e h. let k = inv.ends.past q e h in (k, over_tells (w.at q).point e (w.outcome q) (w.result q) k
+      (inv.ends.tells q));
   ended = λ q e h. inv.ends.ended q e h;
   joined = λ t q e h. inv.ends.learned t q e h;
 }
@@ -101,10 +114,14 @@ not_enterable : (h : Hold) (p : ℕ) (b : Bool) → h ≡ HeldBy p → h ≡ ent
 not_enterable h p true e k = let z : HeldBy p ≡ Abandoned = sym e ∙ k in cc
 not_enterable h p false e k = let z : HeldBy p ≡ Free = sym e ∙ k in cc
 
-cannot_take : (T T' : Table) (t m p : ℕ) (k : Purpose) (l : Label) → T.hold m ≡ HeldBy p → IsNext (TakeReads m k) l → Allows t l T T' → ⊥
-cannot_take T T' t m p ToEnter l h (b, is) may = let a : Allows t (Enters m b) T T' = subst (λ y. Allows t y T T') is may in not_enterable (T.hold m) p b h a.0
-cannot_take T T' t m p ToReenter l h (b, is) may = let a : Allows t (Enters m b) T T' = subst (λ y. Allows t y T T') is may in not_enterable (T.hold m) p b h a.0
-cannot_take T T' t m p (ToResume c) l h (b, is) may = let a : Allows t (Resumes m b) T T' = subst (λ y. Allows t y T T') is may in not_enterable (T.hold m) p b h a.1
+cannot_take : (T T' : Table) (t m p : ℕ) (k : Purpose) (l : Label) → T.hold m ≡ HeldBy p → IsNext (TakeReads m k) l
+    → Allows t l T T' → ⊥
+cannot_take T T' t m p ToEnter l h (b, is) may = let a : Allows t (Enters m b) T T' = subst (λ y. Allows t y T T') is
+    may in not_enterable (T.hold m) p b h a.0
+cannot_take T T' t m p ToReenter l h (b, is) may = let a : Allows t (Enters m b) T T' = subst (λ y. Allows t y T T')
+    is may in not_enterable (T.hold m) p b h a.0
+cannot_take T T' t m p (ToResume c) l h (b, is) may = let a : Allows t (Resumes m b) T T' = subst
+    (λ y. Allows t y T T') is may in not_enterable (T.hold m) p b h a.1
 
 joins_next : (p : Point) (q : ℕ) (l : Label) → point_joins p q ≡ true → IsNext p l → (end : End) × (l ≡ Joins q end)
 joins_next (JoinReads x) q l h (e, is) = (e, is ∙ ap (λ y. Joins y e) (sym (eqb-true q x h)))
@@ -121,22 +138,26 @@ last_wake_at (HasEnded end) e h g = absurd (false≢true g)
 last_wake_at p e h g = absurd h
 
 -- a thread that makes its last wake doesn't sleep
-last_waker_awake : (w : World) (T : Table) (q : ℕ) (e : End) (s : Spot) → Good w T → (w.at q).point ≡ LastWakes e → w.asleep q ≡ Some s → ⊥
+last_waker_awake : (w : World) (T : Table) (q : ℕ) (e : End) (s : Spot) → Good w T → (w.at q).point ≡ LastWakes e
+    → w.asleep q ≡ Some s → ⊥
 unfolding may_sleep joins
 last_waker_awake w T q e (OnLock m) inv is h = false≢true (sym (ap (λ y. point_sleeps y m) is) ∙ inv.locks.sleeps m q h)
-last_waker_awake w T q e (OnSequence c) inv is h = let k = inv.conds.sleeping q c h in let z : LastWakes e ≡ TakeReads k.monitor (ToResume c) = sym is ∙ k.stands in cc
+last_waker_awake w T q e (OnSequence c) inv is h = let k = inv.conds.sleeping q c h
+    in let z : LastWakes e ≡ TakeReads k.monitor (ToResume c) = sym is ∙ k.stands in cc
 last_waker_awake w T q e (OnId x) inv is h = false≢true (sym (ap (λ y. point_joins y x) is) ∙ inv.joiners.sleeps q x h)
 
 abbrev AllOutside : World → Type 0
 AllOutside w = (t : ℕ) → w.asleep t ≡ None → IsOutside (w.at t).point (w.pending t)
 
-sleeper_cannot : (w : World) (T : Table) (t : ℕ) (s : Spot) → Good w T → AllOutside w → w.asleep t ≡ Some s → CannotAct w T t
+sleeper_cannot : (w : World) (T : Table) (t : ℕ) (s : Spot) → Good w T → AllOutside w → w.asleep t ≡ Some s
+    → CannotAct w T t
 unfolding helps may_sleep joins goes
 sleeper_cannot w T t (OnLock m) inv calm h l T' next may =
     let k = sleeps_at (w.at t).point m (inv.locks.sleeps m t h) in
     let next2 : IsNext (TakeReads m k.0) l = subst (λ y. IsNext y l) k.1 next in
     elim (inv.locks.safe m t h) [
-      | inl a ↦ cannot_take T T' t m (owner (w.lock m)) k.0 l (tie_owner (T.hold m) (w.lock m) (inv.locks.tie m) a.0) next2 may
+      | inl a ↦ cannot_take T T' t m (owner (w.lock m)) k.0 l (tie_owner (T.hold m) (w.lock m) (inv.locks.tie m) a.0)
+          next2 may
       | inr u ↦ helper_inside (w.at u.0).point (w.pending u.0) m u.1 (inv.pends.pend u.0) (calm u.0 u.2)
     ]
 sleeper_cannot w T t (OnSequence c) inv calm h l T' next may =
@@ -148,7 +169,8 @@ sleeper_cannot w T t (OnSequence c) inv calm h l T' next may =
 sleeper_cannot w T t (OnId q) inv calm h l T' next may =
     let j = joins_next (w.at t).point q l (inv.joiners.sleeps t q h) next in
     let a : Allows t (Joins q j.0) T T' = subst (λ y. Allows t y T T') j.1 may in
-    let is : (w.at q).point ≡ LastWakes j.0 = last_wake_at (w.at q).point j.0 (inv.ends.past q j.0 a.0) (inv.joiners.unended t q h) in
+    let is : (w.at q).point ≡ LastWakes j.0 = last_wake_at (w.at q).point j.0 (inv.ends.past q j.0 a.0)
+        (inv.joiners.unended t q h) in
     elim (asleep_or (w.asleep q)) [
       | inl awake ↦ subst (λ y. IsOutside y (w.pending q)) is (calm q awake)
       | inr s ↦ last_waker_awake w T q j.0 s.0 inv is s.1
@@ -169,24 +191,31 @@ loses_none w T inv = record {
   sleepers = λ calm t s h. sleeper_cannot w T t s inv calm h;
   at_rest = λ still t l T' next may. elim (asleep_or (w.asleep t)) [
     | inl awake ↦ rest_next (w.at t).point l (λ g. still t (awake, g)) next
-    | inr s ↦ sleeper_cannot w T t s.0 inv (λ u awake. rest_outside (w.at u).point (w.pending u) (λ g. still u (awake, g))) s.1 l T' next may
+    | inr s ↦ sleeper_cannot w T t s.0 inv (λ u awake. rest_outside (w.at u).point (w.pending u)
+        (λ g. still u (awake, g))) s.1 l T' next may
   ];
 }
 
-pub good_run : (ss : List (ℕ × Move)) (w : World) → Leads opening_world ss w → Good w (last_table opening_world first_table ss)
+pub good_run : (ss : List (ℕ × Move)) (w : World) → Leads opening_world ss w
+    → Good w (last_table opening_world first_table ss)
 good_run ss w run = (run_kept ss opening_world w first_table good_start run).1
 
 -- a sequence number is raised at most once by a move
 raised : (w : World) (t : ℕ) (m : Move) (d : Member) → (after w t m).sequence d ≤ suc (w.sequence d)
-raised w t (AddSeq c) d = cond_both (same_member d c) (w.sequence c + 1) (w.sequence d) (λ y. y ≤ suc (w.sequence d)) (λ h. omega (arith, ap w.sequence (same-true d c h))) (λ h. omega arith)
-raised w t (AddAll c) d = cond_both (same_member d c) (w.sequence c + 1) (w.sequence d) (λ y. y ≤ suc (w.sequence d)) (λ h. omega (arith, ap w.sequence (same-true d c h))) (λ h. omega arith)
+raised w t (AddSeq c) d = cond_both (same_member d c) (w.sequence c + 1) (w.sequence d) (λ y. y ≤ suc (w.sequence d))
+    (λ h. omega (arith, ap w.sequence (same-true d c h))) (λ h. omega arith)
+raised w t (AddAll c) d = cond_both (same_member d c) (w.sequence c + 1) (w.sequence d) (λ y. y ≤ suc (w.sequence d))
+    (λ h. omega (arith, ap w.sequence (same-true d c h))) (λ h. omega arith)
 raised w t m d = omega arith
 
-all_raised : (ss : List (ℕ × Move)) (w w' : World) (d : Member) → Leads w ss w' → w'.sequence d ≤ w.sequence d + length ss
+all_raised : (ss : List (ℕ × Move)) (w w' : World) (d : Member) → Leads w ss w'
+    → w'.sequence d ≤ w.sequence d + length ss
 all_raised [] w w' d run = let e : w'.sequence d ≡ w.sequence d = ap (λ x. x.sequence d) run in omega (arith, e)
 all_raised (s ∷ ss) w w' d run = omega (arith, raised w s.0 s.1 d, all_raised ss (after w s.0 s.1) w' d run.1)
 
 pub no_wake_lost : (ss : List (ℕ × Move)) (w : World) → Leads opening_world ss w → IsExplained ss w
 no_wake_lost ss w run =
     let k = run_kept ss opening_world w first_table good_start run in
-    record { permits = k.0; matches = matches w (last_table opening_world first_table ss) k.1; waking = loses_none w (last_table opening_world first_table ss) k.1; numbers = λ d. omega (arith, all_raised ss opening_world w d run) }
+    record { permits = k.0; matches = matches w (last_table opening_world first_table ss) k.1; waking = loses_none w
+        (last_table opening_world first_table ss) k.1; numbers = λ d. omega
+        (arith, all_raised ss opening_world w d run) }

@@ -3,7 +3,12 @@ use Rattle.std.proofs.Common.{◌≡◌, ◌≢◌, ℕ, Bool, true, false, ◌=
 use Rattle.std.proofs.lemmas.Bool.{false≢true, or_left, eqb-true, or_right, cases_Bool}
 use Rattle.meaning.specs.Table.{Hold}
 use Rattle.protocol.specs.Word.{owner, waiters}
-use Rattle.protocol.specs.Points.{Purpose, ToEnter, ToReenter, ToResume, Entry, Owned, Unowned, Thread, Point, Unmade, EnterPends, EnterTries, ReenterPends, ReenterTries, TakeReads, TakeMarks, TakeSleeps, TakeTries, GotReads, GotLinks, GotHeads, GotUnpends, WaitReads, NotifyAdds, NotifyWakes, BroadcastAdds, BroadcastMarks, BroadcastReads, BroadcastMoves, LeavePends, LeaveReads, LeaveHeads, LeaveSwaps, LeaveWakes, HasLeft, Dies, Walks, entry_at, taking_entry, IsLive, NoEntry}
+use Rattle.protocol.specs.Points.{Purpose, ToEnter, ToReenter, ToResume, Entry, Owned, Unowned, Thread, Point, Unmade}
+use Rattle.protocol.specs.Points.{EnterPends, EnterTries, ReenterPends, ReenterTries, TakeReads, TakeMarks}
+use Rattle.protocol.specs.Points.{TakeSleeps, TakeTries, GotReads, GotLinks, GotHeads, GotUnpends, WaitReads}
+use Rattle.protocol.specs.Points.{NotifyAdds, NotifyWakes, BroadcastAdds, BroadcastMarks, BroadcastReads}
+use Rattle.protocol.specs.Points.{BroadcastMoves, LeavePends, LeaveReads, LeaveHeads, LeaveSwaps, LeaveWakes, HasLeft}
+use Rattle.protocol.specs.Points.{Dies, Walks, entry_at, taking_entry, IsLive, NoEntry}
 use Rattle.protocol.specs.World.{mem, tail, Distinct}
 use Rattle.protocol.specs.Runs.{HoldIs}
 
@@ -107,12 +112,14 @@ takes-same ToEnter m x h = eqb-true x m h
 takes-same ToReenter m x h = absurd (false≢true h)
 takes-same (ToResume c) m x h = eqb-true x m h
 
-sleeper_for : (k : Purpose) (m x : ℕ) (l : List ℕ) (b : Bool) → ListedFor k m l → (x == m) ≡ true → (takes k m x ≡ true) ⊎ ((mem x l || b) ≡ true)
+sleeper_for : (k : Purpose) (m x : ℕ) (l : List ℕ) (b : Bool) → ListedFor k m l → (x == m) ≡ true
+    → (takes k m x ≡ true) ⊎ ((mem x l || b) ≡ true)
 sleeper_for ToEnter m x l b known h = inl h
 sleeper_for ToReenter m x l b known h = inr (or_left (mem x l) b (ap (λ y. mem y l) (eqb-true x m h) ∙ known))
 sleeper_for (ToResume c) m x l b known h = inl h
 
-sleeper_at : (p : Point) (x : ℕ) (l : List ℕ) → Listed p l → point_sleeps p x ≡ true → (point_helps p x ≡ true) ⊎ ((mem x l || own (entry_at p) x) ≡ true)
+sleeper_at : (p : Point) (x : ℕ) (l : List ℕ) → Listed p l → point_sleeps p x ≡ true
+    → (point_helps p x ≡ true) ⊎ ((mem x l || own (entry_at p) x) ≡ true)
 sleeper_at (TakeReads m k) x l known h = sleeper_for k m x l _ known h
 sleeper_at p x l known h = absurd (false≢true h)
 
@@ -148,4 +155,5 @@ entry_listed p l live h = tt
 pub entry_tail : (x : Entry) (a : ℕ) (l : List ℕ) → l ≡ a ∷ tail l → ListedEntry x l → ListedEntry x (tail l)
 entry_tail NoEntry a l is h = tt
 entry_tail (Owned m) a l is h = tt
-entry_tail (Unowned m) a l is h = elim (cases_Bool (mem m (tail l))) [ inl y ↦ absurd (false≢true (sym (sym (ap (mem m) is) ∙ h) ∙ or_right (m == a) (mem m (tail l)) y)) | inr n ↦ n ]
+entry_tail (Unowned m) a l is h = elim (cases_Bool (mem m (tail l)))
+    [ inl y ↦ absurd (false≢true (sym (sym (ap (mem m) is) ∙ h) ∙ or_right (m == a) (mem m (tail l)) y)) | inr n ↦ n ]

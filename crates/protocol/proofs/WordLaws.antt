@@ -11,9 +11,11 @@ pub left_by_exit : (v : ℕ) → died_word v ≡ lock_word 0 true (waiters_of v)
 unfolding died_word waiters
 left_by_exit v = elim (cases_eq (bit_and v 2147483648) 0) [
   | inl z ↦ omega (arith, z) ∙ ap (λ b. lock_word 0 true (not b)) (sym (eq-eqb (bit_and v 2147483648) 0 z))
-  | inr n ↦ let full : bit_and v 2147483648 ≡ 2147483648 = waiters_full v n in omega (arith, full) ∙ ap (λ b. lock_word 0 true (not b)) (sym (ne_eqb (bit_and v 2147483648) 0 n))
+  | inr n ↦ let full : bit_and v 2147483648 ≡ 2147483648 = waiters_full v n in omega (arith, full)
+      ∙ ap (λ b. lock_word 0 true (not b)) (sym (ne_eqb (bit_and v 2147483648) 0 n))
 ]
 
 pub are_lock_words : (v : ℕ) → AreLockWords v
 unfolding owner waiters died with_waiters
-are_lock_words v = record { owner_is = refl; waiters_is = refl; died_is = refl; with_waiters_is = refl; died_word_is = left_by_exit v }
+are_lock_words v = record { owner_is = refl; waiters_is = refl; died_is = refl; with_waiters_is = refl; died_word_is =
+    left_by_exit v }

@@ -3,11 +3,18 @@ use Rattle.std.specs.Prelude.{◌≡◌, ◌≢◌, ℕ, zero, suc, ◌+◌, ◌
 use Rattle.words.specs.Updates.{put}
 use Rattle.meaning.specs.Labels.{End, Aborted}
 use Rattle.protocol.specs.Word.{owner, waiters, with_waiters, died_word}
-use Rattle.protocol.specs.Points.{ToEnter, ToReenter, ToResume, ToExit, ToWait, Spot, OnLock, OnId, Point, Runs, EnterPends, EnterTries, ReenterPends, ReenterTries, TakeReads, TakeMarks, TakeSleeps, TakeTries, GotReads, GotLinks, GotHeads, GotUnpends, WaitReads, NotifyAdds, NotifyWakes, BroadcastAdds, BroadcastMarks, BroadcastReads, BroadcastMoves, JoinReads, JoinSleeps, JoinLearns, JoinTakes, LeavePends, LeaveReads, LeaveHeads, LeaveSwaps, LeaveWakes, HasLeft, Dies, Walks, ClearsId, LastWakes, HasEnded}
+use Rattle.protocol.specs.Points.{ToEnter, ToReenter, ToResume, ToExit, ToWait, Spot, OnLock, OnId, Point, Runs}
+use Rattle.protocol.specs.Points.{EnterPends, EnterTries, ReenterPends, ReenterTries, TakeReads, TakeMarks}
+use Rattle.protocol.specs.Points.{TakeSleeps, TakeTries, GotReads, GotLinks, GotHeads, GotUnpends, WaitReads}
+use Rattle.protocol.specs.Points.{NotifyAdds, NotifyWakes, BroadcastAdds, BroadcastMarks, BroadcastReads}
+use Rattle.protocol.specs.Points.{BroadcastMoves, JoinReads, JoinSleeps, JoinLearns, JoinTakes, LeavePends}
+use Rattle.protocol.specs.Points.{LeaveReads, LeaveHeads, LeaveSwaps, LeaveWakes, HasLeft, Dies, Walks, ClearsId}
+use Rattle.protocol.specs.Points.{LastWakes, HasEnded}
 use Rattle.protocol.specs.World.{World, awake_after, requeued_sleep, tail, IsWake}
 use Rattle.protocol.specs.Finds.{cause_word}
 use Rattle.protocol.specs.Cells.{LockOf, IdOf, OutcomeOf, cell, write, cell_of}
-use Rattle.protocol.specs.Requests.{Request, AskNothing, AskLoad, AskStore, AskSwap, AskCompareSwap, AskOrWaiters, AskAddOne, AskWait, AskWakeOne, AskRequeue, AskFault, AskExitStep}
+use Rattle.protocol.specs.Requests.{Request, AskNothing, AskLoad, AskStore, AskSwap, AskCompareSwap, AskOrWaiters}
+use Rattle.protocol.specs.Requests.{AskAddOne, AskWait, AskWakeOne, AskRequeue, AskFault, AskExitStep}
 
 -- a wake of one sleeper, and what becomes of the world
 pub record WakesOne (w : World) (s : Spot) (w' : World) : Type 0 where

@@ -1,14 +1,20 @@
 -- The labels of the source that moves carry, and what they make of the source's table.
-use Rattle.std.specs.Prelude.{◌≡◌, ℕ, zero, suc, ◌+◌, ◌==◌, ◌&&◌, not, Bool, true, false, Option, Some, None, List, [], ◌∷◌}
+use Rattle.std.specs.Prelude.{◌≡◌, ℕ, zero, suc, ◌+◌, ◌==◌, ◌&&◌, not, Bool, true, false, Option, Some, None, List}
+use Rattle.std.specs.Prelude.{[], ◌∷◌}
 use Rattle.words.specs.Updates.{put}
 use Rattle.program.specs.declared.kinds.Member.{Member}
-use Rattle.meaning.specs.Labels.{End, Kind, Label, Alone, Stores, Forks, FindsFull, Claims, FindsClaimed, Joins, Enters, Resumes, Exits, Waits, Notifies, Broadcasts, Abandons, Ends}
+use Rattle.meaning.specs.Labels.{End, Kind, Label, Alone, Stores, Forks, FindsFull, Claims, FindsClaimed, Joins}
+use Rattle.meaning.specs.Labels.{Enters, Resumes, Exits, Waits, Notifies, Broadcasts, Abandons, Ends}
 use Rattle.meaning.specs.Labels as L
 use Rattle.meaning.specs.Table.{Table, Free, Abandoned, HeldBy, without_waiters, Allows, AllowsStray, AllowsKill}
 use Rattle.protocol.specs.Word.{died}
-use Rattle.protocol.specs.Points.{Purpose, ToEnter, ToReenter, ToResume, Release, ToExit, ToWait, Spot, OnLock, OnSequence, OnId, Point, NotifyWakes, BroadcastMarks, BroadcastReads, BroadcastMoves}
+use Rattle.protocol.specs.Points.{Purpose, ToEnter, ToReenter, ToResume, Release, ToExit, ToWait, Spot, OnLock}
+use Rattle.protocol.specs.Points.{OnSequence, OnId, Point, NotifyWakes, BroadcastMarks, BroadcastReads}
+use Rattle.protocol.specs.Points.{BroadcastMoves}
 use Rattle.protocol.specs.World.{World, same_member, awake_after, requeued_sleep}
-use Rattle.protocol.specs.Moves.{Move, Own, Raise, CompareSwapGot, FreeGot, SwapWake, SwapAlone, WakeSeq, MoveAll, EntryAlone, EntryWake, PendAlone, PendWake, ClearId, Fork, ForkFull, Claim, ClaimTaken, IdGone, StraySeq, Kill}
+use Rattle.protocol.specs.Moves.{Move, Own, Raise, CompareSwapGot, FreeGot, SwapWake, SwapAlone, WakeSeq, MoveAll}
+use Rattle.protocol.specs.Moves.{EntryAlone, EntryWake, PendAlone, PendWake, ClearId, Fork, ForkFull, Claim}
+use Rattle.protocol.specs.Moves.{ClaimTaken, IdGone, StraySeq, Kill}
 
 -- what a move is in the source: an action of a process, or one from outside
 pub data Event : Type 0 where

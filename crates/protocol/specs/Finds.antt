@@ -7,7 +7,12 @@ use Rattle.meaning.specs.Labels.{Cause, Faulted, Killed, End, Ended, Aborted, La
 use Rattle.protocol.specs.Word.{owner, waiters}
 use Rattle.protocol.specs.Points.{Owned, OnLock, OnSequence, OnId, Runs, LastWakes, HasEnded, IsLive, Thread}
 use Rattle.protocol.specs.World.{World, mem, tail, IsWake}
-use Rattle.protocol.specs.Moves.{Move, Own, Begin, Rebegin, Leave, Wait, Notify, Broadcast, CompareSwapGot, CompareSwapBusy, CompareSwapHeld, LoadHeld, LoadFree, MarkDone, MarkFail, Sleep, Again, FreeGot, FreeFail, SwapWake, SwapAlone, Wake, SeqSleep, SeqAgain, WakeSeq, MoveAll, Kill, EntryAlone, EntryWake, PendAlone, PendWake, PendForeign, LastWake, Fork, ForkFull, Claim, ClaimTaken, IdGone, IdThere, IdSleep, IdAgain, LearnEnded, LearnAborted}
+use Rattle.protocol.specs.Moves.{Move, Own, Begin, Rebegin, Leave, Wait, Notify, Broadcast, CompareSwapGot}
+use Rattle.protocol.specs.Moves.{CompareSwapBusy, CompareSwapHeld, LoadHeld, LoadFree, MarkDone, MarkFail, Sleep}
+use Rattle.protocol.specs.Moves.{Again, FreeGot, FreeFail, SwapWake, SwapAlone, Wake, SeqSleep, SeqAgain, WakeSeq}
+use Rattle.protocol.specs.Moves.{MoveAll, Kill, EntryAlone, EntryWake, PendAlone, PendWake, PendForeign, LastWake}
+use Rattle.protocol.specs.Moves.{Fork, ForkFull, Claim, ClaimTaken, IdGone, IdThere, IdSleep, IdAgain, LearnEnded}
+use Rattle.protocol.specs.Moves.{LearnAborted}
 
 -- a thread's innermost monitor
 abbrev pub HoldsFirst : Thread → ℕ → Type 0

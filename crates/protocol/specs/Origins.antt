@@ -1,7 +1,20 @@
 -- Where each move begins, and whether its thread may sleep.
 use Rattle.std.specs.Prelude.{◌≡◌, suc, Option, Some, None}
-use Rattle.protocol.specs.Points.{ToExit, ToWait, NoEntry, Owned, Unowned, Spot, OnLock, OnSequence, OnId, Point, Unmade, Runs, EnterPends, EnterTries, ReenterPends, ReenterTries, TakeReads, TakeMarks, TakeSleeps, TakeTries, GotReads, GotLinks, GotHeads, GotUnpends, WaitReads, NotifyAdds, NotifyWakes, BroadcastAdds, BroadcastMarks, BroadcastReads, BroadcastMoves, JoinReads, JoinSleeps, JoinLearns, JoinTakes, LeavePends, LeaveReads, LeaveHeads, LeaveSwaps, LeaveWakes, HasLeft, Dies, Walks, ClearsId, LastWakes}
-use Rattle.protocol.specs.Moves.{Move, Own, Begin, Rebegin, Leave, Wait, Notify, Broadcast, Raise, SetPend, CompareSwapGot, CompareSwapBusy, SetPendHeld, CompareSwapHeld, LoadHeld, LoadFree, MarkDone, MarkFail, Sleep, Again, FreeGot, FreeFail, ReadHead, SetLink, SetHead, ClearPend, PendAgain, ReadLink, CutHead, SwapWake, SwapAlone, Wake, Finish, ReadSeq, SeqSleep, SeqAgain, AddSeq, WakeSeq, AddAll, OrLock, LoadSeq, MoveAll, Kill, Stray, StraySeq, StrayId, Return, WriteFault, SkipEntry, EntryAlone, EntryWake, PendNone, PendAlone, PendWake, PendForeign, ClearId, LastWake, Fork, ForkFull, Claim, ClaimTaken, IdGone, IdThere, IdSleep, IdAgain, LearnEnded, LearnAborted, TakeResult}
+use Rattle.protocol.specs.Points.{ToExit, ToWait, NoEntry, Owned, Unowned, Spot, OnLock, OnSequence, OnId, Point}
+use Rattle.protocol.specs.Points.{Unmade, Runs, EnterPends, EnterTries, ReenterPends, ReenterTries, TakeReads}
+use Rattle.protocol.specs.Points.{TakeMarks, TakeSleeps, TakeTries, GotReads, GotLinks, GotHeads, GotUnpends}
+use Rattle.protocol.specs.Points.{WaitReads, NotifyAdds, NotifyWakes, BroadcastAdds, BroadcastMarks, BroadcastReads}
+use Rattle.protocol.specs.Points.{BroadcastMoves, JoinReads, JoinSleeps, JoinLearns, JoinTakes, LeavePends}
+use Rattle.protocol.specs.Points.{LeaveReads, LeaveHeads, LeaveSwaps, LeaveWakes, HasLeft, Dies, Walks, ClearsId}
+use Rattle.protocol.specs.Points.{LastWakes}
+use Rattle.protocol.specs.Moves.{Move, Own, Begin, Rebegin, Leave, Wait, Notify, Broadcast, Raise, SetPend}
+use Rattle.protocol.specs.Moves.{CompareSwapGot, CompareSwapBusy, SetPendHeld, CompareSwapHeld, LoadHeld, LoadFree}
+use Rattle.protocol.specs.Moves.{MarkDone, MarkFail, Sleep, Again, FreeGot, FreeFail, ReadHead, SetLink, SetHead}
+use Rattle.protocol.specs.Moves.{ClearPend, PendAgain, ReadLink, CutHead, SwapWake, SwapAlone, Wake, Finish, ReadSeq}
+use Rattle.protocol.specs.Moves.{SeqSleep, SeqAgain, AddSeq, WakeSeq, AddAll, OrLock, LoadSeq, MoveAll, Kill, Stray}
+use Rattle.protocol.specs.Moves.{StraySeq, StrayId, Return, WriteFault, SkipEntry, EntryAlone, EntryWake, PendNone}
+use Rattle.protocol.specs.Moves.{PendAlone, PendWake, PendForeign, ClearId, LastWake, Fork, ForkFull, Claim}
+use Rattle.protocol.specs.Moves.{ClaimTaken, IdGone, IdThere, IdSleep, IdAgain, LearnEnded, LearnAborted, TakeResult}
 
 -- the point of the thread that moves; of a fork the thread that is made, whose parent stays where it is
 abbrev pub from : Move → Point

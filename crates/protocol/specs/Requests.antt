@@ -3,7 +3,12 @@ use Rattle.std.specs.Prelude.{ℕ, suc}
 use Rattle.program.specs.declared.kinds.Member.{Member}
 use Rattle.meaning.specs.Labels.{Cause}
 use Rattle.protocol.specs.Word.{with_waiters}
-use Rattle.protocol.specs.Points.{ToExit, ToWait, Spot, OnLock, OnSequence, OnId, Point, EnterPends, EnterTries, ReenterPends, ReenterTries, TakeReads, TakeMarks, TakeSleeps, TakeTries, GotReads, GotLinks, GotHeads, GotUnpends, WaitReads, NotifyAdds, NotifyWakes, BroadcastAdds, BroadcastMarks, BroadcastReads, BroadcastMoves, JoinReads, JoinSleeps, JoinLearns, JoinTakes, LeavePends, LeaveReads, LeaveHeads, LeaveSwaps, LeaveWakes, HasLeft, Dies, Walks, ClearsId, LastWakes}
+use Rattle.protocol.specs.Points.{ToExit, ToWait, Spot, OnLock, OnSequence, OnId, Point, EnterPends, EnterTries}
+use Rattle.protocol.specs.Points.{ReenterPends, ReenterTries, TakeReads, TakeMarks, TakeSleeps, TakeTries, GotReads}
+use Rattle.protocol.specs.Points.{GotLinks, GotHeads, GotUnpends, WaitReads, NotifyAdds, NotifyWakes, BroadcastAdds}
+use Rattle.protocol.specs.Points.{BroadcastMarks, BroadcastReads, BroadcastMoves, JoinReads, JoinSleeps, JoinLearns}
+use Rattle.protocol.specs.Points.{JoinTakes, LeavePends, LeaveReads, LeaveHeads, LeaveSwaps, LeaveWakes, HasLeft}
+use Rattle.protocol.specs.Points.{Dies, Walks, ClearsId, LastWakes}
 use Rattle.protocol.specs.Cells.{Cell, LockOf, LinkOf, HeadOf, PendingOf, IdOf, ResultOf, OutcomeOf, SequenceOf}
 
 pub data Request : Type 0 where

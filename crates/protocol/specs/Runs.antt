@@ -4,7 +4,9 @@ use Rattle.program.specs.declared.kinds.Member.{Member}
 use Rattle.meaning.specs.Labels.{End, Label, Enters, Resumes, Joins}
 use Rattle.meaning.specs.Table.{Hold, Free, Abandoned, HeldBy, Table, first_table, Allows}
 use Rattle.protocol.specs.Word.{owner, died}
-use Rattle.protocol.specs.Points.{ToEnter, ToReenter, ToResume, Owned, Spot, OnSequence, Point, Unmade, TakeReads, JoinReads, JoinSleeps, JoinLearns, JoinTakes, Walks, ClearsId, LastWakes, HasEnded, entry_at}
+use Rattle.protocol.specs.Points.{ToEnter, ToReenter, ToResume, Owned, Spot, OnSequence, Point, Unmade, TakeReads}
+use Rattle.protocol.specs.Points.{JoinReads, JoinSleeps, JoinLearns, JoinTakes, Walks, ClearsId, LastWakes, HasEnded}
+use Rattle.protocol.specs.Points.{entry_at}
 use Rattle.protocol.specs.World.{World, opening_world, mem}
 use Rattle.protocol.specs.Moves.{Move}
 use Rattle.protocol.specs.Steps.{Can, after}

@@ -3,7 +3,8 @@
 use Rattle.std.specs.Prelude.{◌≡◌, ◌≢◌, ℕ, zero, suc, ◌==◌, Bool, false, if◌then◌else◌, Option, Some, None}
 use Rattle.meaning.specs.Labels.{End, Enters, Joins, Notifies, Broadcasts, Abandons, Ends}
 use Rattle.meaning.specs.Table.{Table}
-use Rattle.protocol.specs.Points.{Entry, NoEntry, Owned, Unowned, Point, EnterTries, ReenterTries, TakeTries, LeaveSwaps}
+use Rattle.protocol.specs.Points.{Entry, NoEntry, Owned, Unowned, Point, EnterTries, ReenterTries, TakeTries}
+use Rattle.protocol.specs.Points.{LeaveSwaps}
 use Rattle.protocol.specs.Points.{NotifyWakes, BroadcastMoves, JoinReads, Walks, ClearsId}
 use Rattle.protocol.specs.World.{World}
 use Rattle.protocol.specs.Moves.{Move}

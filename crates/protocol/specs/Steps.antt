@@ -5,9 +5,22 @@ use Rattle.words.specs.Signed.{signed_of}
 use Rattle.words.specs.declared.outcome.Fault.TheVariants.{HandleNotJoinable, ProcessTableFull}
 use Rattle.meaning.specs.Labels.{Faulted, Killed, End, Ended, Aborted}
 use Rattle.protocol.specs.Word.{with_waiters, died_word}
-use Rattle.protocol.specs.Points.{ToEnter, ToReenter, ToResume, ToExit, ToWait, NoEntry, Owned, OnLock, OnSequence, OnId, Point, Runs, EnterPends, EnterTries, ReenterPends, ReenterTries, TakeReads, TakeMarks, TakeSleeps, TakeTries, GotReads, GotLinks, GotHeads, GotUnpends, WaitReads, NotifyAdds, NotifyWakes, BroadcastAdds, BroadcastMarks, BroadcastReads, BroadcastMoves, JoinReads, JoinSleeps, JoinLearns, JoinTakes, LeavePends, LeaveReads, LeaveHeads, LeaveSwaps, LeaveWakes, HasLeft, Dies, Walks, ClearsId, LastWakes, HasEnded, entry_at, thread_at}
+use Rattle.protocol.specs.Points.{ToEnter, ToReenter, ToResume, ToExit, ToWait, NoEntry, Owned, OnLock, OnSequence}
+use Rattle.protocol.specs.Points.{OnId, Point, Runs, EnterPends, EnterTries, ReenterPends, ReenterTries, TakeReads}
+use Rattle.protocol.specs.Points.{TakeMarks, TakeSleeps, TakeTries, GotReads, GotLinks, GotHeads, GotUnpends}
+use Rattle.protocol.specs.Points.{WaitReads, NotifyAdds, NotifyWakes, BroadcastAdds, BroadcastMarks, BroadcastReads}
+use Rattle.protocol.specs.Points.{BroadcastMoves, JoinReads, JoinSleeps, JoinLearns, JoinTakes, LeavePends}
+use Rattle.protocol.specs.Points.{LeaveReads, LeaveHeads, LeaveSwaps, LeaveWakes, HasLeft, Dies, Walks, ClearsId}
+use Rattle.protocol.specs.Points.{LastWakes, HasEnded, entry_at, thread_at}
 use Rattle.protocol.specs.World.{World, put_sequence, awake_after, requeued_sleep, tail}
-use Rattle.protocol.specs.Moves.{Move, Begin, Rebegin, Leave, Wait, Notify, Broadcast, Raise, SetPend, CompareSwapGot, CompareSwapBusy, SetPendHeld, CompareSwapHeld, LoadHeld, LoadFree, MarkDone, MarkFail, Sleep, Again, FreeGot, FreeFail, ReadHead, SetLink, SetHead, ClearPend, PendAgain, ReadLink, CutHead, SwapWake, SwapAlone, Wake, Finish, ReadSeq, SeqSleep, SeqAgain, AddSeq, WakeSeq, AddAll, OrLock, LoadSeq, MoveAll, Kill, Stray, StraySeq, StrayId, Return, WriteFault, SkipEntry, EntryAlone, EntryWake, PendNone, PendAlone, PendWake, PendForeign, ClearId, LastWake, Fork, ForkFull, Claim, ClaimTaken, IdGone, IdThere, IdSleep, IdAgain, LearnEnded, LearnAborted, TakeResult}
+use Rattle.protocol.specs.Moves.{Move, Begin, Rebegin, Leave, Wait, Notify, Broadcast, Raise, SetPend, CompareSwapGot}
+use Rattle.protocol.specs.Moves.{CompareSwapBusy, SetPendHeld, CompareSwapHeld, LoadHeld, LoadFree, MarkDone}
+use Rattle.protocol.specs.Moves.{MarkFail, Sleep, Again, FreeGot, FreeFail, ReadHead, SetLink, SetHead, ClearPend}
+use Rattle.protocol.specs.Moves.{PendAgain, ReadLink, CutHead, SwapWake, SwapAlone, Wake, Finish, ReadSeq, SeqSleep}
+use Rattle.protocol.specs.Moves.{SeqAgain, AddSeq, WakeSeq, AddAll, OrLock, LoadSeq, MoveAll, Kill, Stray, StraySeq}
+use Rattle.protocol.specs.Moves.{StrayId, Return, WriteFault, SkipEntry, EntryAlone, EntryWake, PendNone, PendAlone}
+use Rattle.protocol.specs.Moves.{PendWake, PendForeign, ClearId, LastWake, Fork, ForkFull, Claim, ClaimTaken, IdGone}
+use Rattle.protocol.specs.Moves.{IdThere, IdSleep, IdAgain, LearnEnded, LearnAborted, TakeResult}
 use Rattle.protocol.specs.Origins.{from, Awake}
 use Rattle.protocol.specs.Finds.{cause_word, Finds, HasNumber}
 

@@ -1,5 +1,6 @@
 -- The words that the threads share, each kind a function of its own, and who sleeps where.
-use Rattle.std.specs.Prelude.{◌≡◌, ℕ, ◌<◌, ◌≤◌, Bool, true, false, ◌==◌, ◌&&◌, ◌||◌, if◌then◌else◌, Option, Some, None, List, [], ◌∷◌, length}
+use Rattle.std.specs.Prelude.{◌≡◌, ℕ, ◌<◌, ◌≤◌, Bool, true, false, ◌==◌, ◌&&◌, ◌||◌, if◌then◌else◌, Option, Some}
+use Rattle.std.specs.Prelude.{None, List, [], ◌∷◌, length}
 use Rattle.program.specs.declared.kinds.Member.{Member}
 use Rattle.protocol.specs.Points.{Spot, OnLock, OnSequence, OnId, Thread, thread_at, Unmade, Runs}
 
