@@ -29,22 +29,47 @@ fn hand_in_as<J: RunName, R: Print>(
     let (Some(mut one), Some(mut two)) = (shared.share(), shared.share()) else {
         return Ok(());
     };
+    show_pieces(rt, &mut shared, image, &mut one, &mut two)?;
+    one.merge(two);
+    Ok(audit(rt, &mut shared, &mut one)?)
+}
+
+// Hands in pieces, the last one after its thread has gone on, and prints the answers and what both shares say.
+fn show_pieces<J: RunName, R: Print>(
+    rt: &R,
+    shared: &mut Shared<J>,
+    image: &Image,
+    one: &mut Share<J>,
+    two: &mut Share<J>,
+) -> io::Result<()>
+    requires { image.now ≡ J.program }
+{
     let late = shared.piece(1);
-    step(rt, &mut shared, image, 1, 1, &mut one)?;
-    step(rt, &mut shared, image, 2, 1, &mut two)?;
-    step(rt, &mut shared, image, 2, 2, &mut two)?;
+    show_steps(rt, shared, image, one, two)?;
     if let Some(piece) = late {
-        let answer = shared.step(1, piece.run(image), &mut one);
+        let answer = shared.step(1, piece.run(image), one);
         println!(rt; "  late piece: {}", name_of(answer))?;
     }
     let entries = shared.log().len();
     let steps = shared.steps();
     println!(rt; "  {entries} entries, {steps} steps")?;
-    audit(rt, &mut shared, &mut one)?;
-    audit(rt, &mut shared, &mut two)?;
-    one.merge(two);
-    audit(rt, &mut shared, &mut one)?;
-    Ok(())
+    audit(rt, shared, one)?;
+    audit(rt, shared, two)
+}
+
+// Hands in a piece of the first thread for each of both, and then the second thread's own.
+fn show_steps<J: RunName, R: Print>(
+    rt: &R,
+    shared: &mut Shared<J>,
+    image: &Image,
+    one: &mut Share<J>,
+    two: &mut Share<J>,
+) -> io::Result<()>
+    requires { image.now ≡ J.program }
+{
+    step(rt, shared, image, 1, 1, one)?;
+    step(rt, shared, image, 2, 1, two)?;
+    step(rt, shared, image, 2, 2, two)
 }
 
 // Hands in, for thread `t`, the piece of thread `from`, if it can move.

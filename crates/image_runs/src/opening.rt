@@ -14,12 +14,18 @@ const ROOM: usize = 2;
 pub fn show_opening<R: Print>(rt: &R, alloc: Global, image: &Image) -> Result<(), Failure> {
     let mut machine = Machine::new(alloc, image, 64)?;
     machine.make_room(ROOM)?;
+    Ok(show_machine(rt, image, &machine)?)
+}
+
+fn show_machine<R: Print>(rt: &R, image: &Image, machine: &Machine) -> io::Result<()>
+    requires { machine.now.program ≡ image.now }
+{
     let threads = machine.threads();
     let has_room = machine.room() >= ROOM;
     let quiet = machine.quiet();
     println!(rt; "  opens with {threads} thread, room {has_room}, quiet {quiet}")?;
     for monitor in 0..image.monitors().len() {
-        show_members(rt, image, &machine, monitor)?;
+        show_members(rt, image, machine, monitor)?;
     }
     Ok(())
 }

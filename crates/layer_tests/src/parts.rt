@@ -1,6 +1,6 @@
 use buckets::Buckets;
 use isa::{DecodeFault, Image, Instr, Operator, Slot, first_fault, one_spelling, read_back};
-use std::alloc::AllocError;
+use std::alloc::{AllocError, Global};
 use std::test::Fail;
 use words::{
     Addr, Gate, OWNER_DIED, OpenGate, ProcessWord, TID_MASK, WAITERS, block, block_laws, has_died,
@@ -34,26 +34,34 @@ fn a_gate_is_passed() {
     first_fault();
 }
 
+// Whether faults, operators and slots have these texts and numbers.
+fn has_numbers(alloc: Global) -> Result<bool, Fail> {
+    let text = format!(in alloc; "{} {}", DecodeFault::Short, Operator::Mod)?;
+    let is_shown = text.as_str() == "image error 3 Short MOD";
+    Ok(is_shown
+        && DecodeFault::Memory.number() == 8
+        && Slot::Local(9).number() == 9
+        && Slot::Template.number() == 64)
+}
+
 #[test]
 fn numbers_of_faults_and_slots(rt: HostRuntime) -> Result<(), Fail> {
-    let text = format!(in rt.alloc(); "{} {}", DecodeFault::Short, Operator::Mod)?;
-    assert_eq!(rt; text.as_str(), "image error 3 Short MOD");
-    assert_eq!(rt;
-        (
-            DecodeFault::Memory.number(),
-            Slot::Local(9).number(),
-            Slot::Template.number()
-        ),
-        (8, 9, 64)
-    );
+    let is_well = has_numbers(rt.alloc())?;
+    assert!(rt; is_well);
     Ok(())
+}
+
+// Whether an image that is spelled, read back and copied is the one that was made.
+fn keeps_its_parts(alloc: Global) -> Result<bool, Fail> {
+    let made = Image::new(Vec::new(alloc), 0, vec![in alloc; Instr::Ret]?);
+    let image = read_back(alloc, &made)?.copy(alloc)?;
+    Ok(image.at(0) == Some(Instr::Ret))
 }
 
 #[test]
 fn an_image_of_its_parts(rt: HostRuntime) -> Result<(), Fail> {
-    let made = Image::new(Vec::new(rt.alloc()), 0, vec![in rt.alloc(); Instr::Ret]?);
-    let image = read_back(rt.alloc(), &made)?.copy(rt.alloc())?;
-    assert_eq!(rt; image.at(0), Some(Instr::Ret));
+    let is_well = keeps_its_parts(rt.alloc())?;
+    assert!(rt; is_well);
     Ok(())
 }
 
@@ -61,11 +69,9 @@ fn an_image_of_its_parts(rt: HostRuntime) -> Result<(), Fail> {
 // answer is that of ample memory or names the want of it.
 #[test]
 fn buckets_name_want_of_memory(rt: HostRuntime) {
-    match Buckets::new(rt.alloc(), 8, 64) {
-        Ok(buckets) => assert_eq!(rt;
-            (buckets.sleepers(Addr(387)), buckets.asleep(64)),
-            (0, None)
-        ),
-        Err(error) => assert_eq!(rt; error, AllocError),
-    }
+    let is_well = match Buckets::new(rt.alloc(), 8, 64) {
+        Ok(buckets) => buckets.sleepers(Addr(387)) == 0 && buckets.asleep(64).is_none(),
+        Err(error) => error == AllocError,
+    };
+    assert!(rt; is_well);
 }

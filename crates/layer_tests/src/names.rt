@@ -1,0 +1,54 @@
+use program::{MemberType, ValueType};
+use scanner::Place;
+use std::alloc::{AllocError, Global};
+use std::test::Fail;
+use syntax::{Local, LocalType, Member, Name};
+use types::{Meaning, Members, Own, Standing};
+
+fn name(text: &[u8]) -> Name<'_> {
+    Name {
+        text,
+        place: Place::START,
+    }
+}
+
+fn member(text: &[u8], kind: syntax::MemberType) -> Member<'_> {
+    Member {
+        place: Place::START,
+        name: name(text),
+        kind,
+    }
+}
+
+// Whether x is a local, c a condition and y nothing, where x is also the name of a member.
+fn means_the_local(alloc: Global) -> Result<bool, AllocError> {
+    let members = [
+        member(b"x", syntax::MemberType::Boolean),
+        member(b"c", syntax::MemberType::Condition),
+    ];
+    let locals = [Local {
+        place: Place::START,
+        name: name(b"x"),
+        kind: LocalType::Integer,
+    }];
+    let members = Members::new(alloc, &members)?;
+    let own = Own {
+        monitor: 4,
+        members: &members,
+    };
+    let standing = Standing::new(alloc, &[], &locals, Some(own))?;
+    let condition = program::Member {
+        monitor: 4,
+        number: 1,
+    };
+    Ok(standing.meaning(name(b"x")) == Meaning::Local(0, ValueType::Integer)
+        && standing.meaning(name(b"c")) == Meaning::Member(condition, MemberType::Condition)
+        && standing.meaning(name(b"y")) == Meaning::Nothing)
+}
+
+#[test]
+fn a_local_before_a_member(rt: HostRuntime) -> Result<(), Fail> {
+    let is_well = means_the_local(rt.alloc())?;
+    assert!(rt; is_well);
+    Ok(())
+}
