@@ -11,7 +11,6 @@ use Rattle.locals.specs.Threads.{Thread, Dies as Dies'}
 use Rattle.locals.specs.Looks.{Request, Look, Asks, AskLoad, AskWait, look}
 use Rattle.machine.specs.States.{State, with_thread}
 use Rattle.machine.specs.Runs.{Moves, is_paused, has_ended}
-use Rattle.program.specs.declared.kinds.Member.{Member}
 use Rattle.program.specs.Trees.{Part, NoPart, SomePart, followed_by, Program}
 use Rattle.program.specs.WellFormed.{WellFormed}
 use Rattle.code.specs.Pieces.{code_of}
@@ -50,7 +49,7 @@ use Rattle.product.specs.Ranks.{rank, steps_left, more_steps, before_template}
 use Rattle.product.specs.Corresponding.{Corresponds, IsBefore}
 use Rattle.product.specs.Serving.{IsServed, IsAskable}
 use Rattle.product.proofs.Worlds.{reached_good}
-use Rattle.product.proofs.Moving.{Next}
+use Rattle.product.proofs.Moving.{IsLow, Next}
 use Rattle.product.proofs.Stepped.{Arrives, stepped}
 use Rattle.product.proofs.Serving.{served}
 use Rattle.product.proofs.Templating.{awake_at, not_paused, works_on}
@@ -87,8 +86,7 @@ no a b x y h = cond-false (a == b) x y (ne_eqb a b h)
 
 module _ (p : Program) (w : WellFormed p) (steps : ℕ) (s : State) (c : SourceState) (k : Corresponds p w steps s c)
     (t : ℕ) (woken : List ℕ) (pauses : Bool) (s' : State) (n : ℕ) (number : (0 < t) × (t ≤ k.world.made))
-    (few : k.world.made ≤ 64) (awake : k.world.asleep t ≡ None)
-    (low : (d : Member) → k.world.sequence d + 1 < 4294967296) (paused : pauses ≡ is_paused s' t) (child : ℕ)
+    (few : k.world.made ≤ 64) (awake : k.world.asleep t ≡ None) (paused : pauses ≡ is_paused s' t) (child : ℕ)
     (into : Option ℕ) (part : Part) (f : Frame) (cs : List Caller)
     (is : IsChild (build_of p w k.world.made) child f cs)
     (j : Awaits (build_of p w k.world.made) t child into part f cs)
@@ -167,21 +165,23 @@ module _ (p : Program) (w : WellFormed p) (steps : ℕ) (s : State) (c : SourceS
 
     join_step : ((answer : ℕ) (mid : State) (sv : IsServed p s mid k.world t pt answer)
         (e' : s' ≡ with_thread mid t (go answer)) (e : End) → Goes answer mid sv e' e)
-        → Moves s t woken (look (code_of p) t x) s' → Next p w steps s' t pauses n c
-    join_step goes moves =
+        → IsLow k.world.sequence (look (code_of p) t x) → Moves s t woken (look (code_of p) t x) s'
+        → Next p w steps s' t pauses n c
+    join_step goes low moves =
         let g : Moves s t woken (Asks asks go) s' = subst (λ (i : Look). Moves s t woken i s') looks moves in
         let sv = served p s k.world c.table t pt asks woken g.0 g.1 k.shares inv number.0
-        (omega (arith, number.1, few)) low askable same g.2 in
+        (omega (arith, number.1, few)) (low asks go looks) askable same g.2 in
         went g.0 g.1 sv g.3 (goes g.0 g.1 sv g.3)
 
   -- the id word is read: the child is over, or the thread is to sleep
   pub read_step : (x : Thread) → x ≡ j.reads → c.process t ≡ Some (Joining child into part f cs)
       → (k.world.at t).point ≡ JoinReads child → rank (more_steps b) k.world (JoinReads child) ≤ n
-      → Moves s t woken (look (code_of p) t x) s' → Next p w steps s' t pauses n c
-  read_step x there proc point enough moves =
+      → IsLow k.world.sequence (look (code_of p) t x) → Moves s t woken (look (code_of p) t x) s'
+      → Next p w steps s' t pauses n c
+  read_step x there proc point enough low moves =
       join_step (JoinReads child) (Joining child into part f cs) x (AskLoad (process_word child 2)) j.after_read proc
       point (ap (look (code_of p) t) there ∙ j.read) valid_child refl tt (λ o. refl) refl
-      (λ answer mid sv e' e. by_reply answer mid sv e' e sv.reply refl) moves
+      (λ answer mid sv e' e. by_reply answer mid sv e' e sv.reply refl) low moves
     where
       by_reply : (answer : ℕ) (mid : State) (sv : IsServed p s mid k.world t (JoinReads child) answer)
           (e' : s' ≡ with_thread mid t (j.after_read answer)) (e : End) (v : ℕ) → sv.reply ≡ v
@@ -218,8 +218,9 @@ module _ (p : Program) (w : WellFormed p) (steps : ℕ) (s : State) (c : SourceS
   -- the thread sleeps, or the child is over by now
   pub sleep_step : (x : Thread) → x ≡ j.sleeps → c.process t ≡ Some (Joining child into part f cs)
       → (k.world.at t).point ≡ JoinSleeps child → 18 ≤ n
-      → Moves s t woken (look (code_of p) t x) s' → Next p w steps s' t pauses n c
-  sleep_step x there proc point enough moves =
+      → IsLow k.world.sequence (look (code_of p) t x) → Moves s t woken (look (code_of p) t x) s'
+      → Next p w steps s' t pauses n c
+  sleep_step x there proc point enough low moves =
       join_step (JoinSleeps child) (Joining child into part f cs) x (AskWait (process_word child 2) child) j.after_sleep
       proc point (ap (look (code_of p) t) there ∙ j.sleep) valid_child refl tt (λ o. refl) refl
       (λ answer mid sv e' e. record {
@@ -233,7 +234,7 @@ module _ (p : Program) (w : WellFormed p) (steps : ℕ) (s : State) (c : SourceS
         paced = λ none i. fewer sv.after (after_awake (JoinSleeps child) (Joining child into part f cs) x
             (AskWait (process_word child 2) child) j.after_sleep proc point (ap (look (code_of p) t) there ∙ j.sleep)
             valid_child refl tt (λ o. refl) refl answer mid sv e' i) sv.serves;
-      }) moves
+      }) low moves
     where
       fewer : (world : World) → world.asleep t ≡ None
           → ((k.world.id child ≡ child) × (world ≡ record k.world { asleep = put k.world.asleep t (Some (OnId child)) }))
@@ -286,8 +287,9 @@ module _ (p : Program) (w : WellFormed p) (steps : ℕ) (s : State) (c : SourceS
   -- the outcome is read: the child's result is taken, or the process goes on after its abort
   pub learn_step : (x : Thread) (end : End) → x ≡ j.learns → c.process t ≡ Some (joined into part f cs end)
       → (k.world.at t).point ≡ JoinLearns child end → more_steps b + 34 ≤ n
-      → Moves s t woken (look (code_of p) t x) s' → Next p w steps s' t pauses n c
-  learn_step x (Ended z) there proc point enough moves =
+      → IsLow k.world.sequence (look (code_of p) t x) → Moves s t woken (look (code_of p) t x) s'
+      → Next p w steps s' t pauses n c
+  learn_step x (Ended z) there proc point enough low moves =
       let tell = tells (JoinLearns child (Ended z)) (Ended z) point (refl, refl) in
       join_step (JoinLearns child (Ended z)) (joined into part f cs (Ended z)) x (AskLoad (process_word child 5))
       j.after_outcome proc point (ap (look (code_of p) t) there ∙ j.outcome) valid_child refl tt (λ o. refl) refl
@@ -300,8 +302,8 @@ module _ (p : Program) (w : WellFormed p) (steps : ℕ) (s : State) (c : SourceS
         acts = refl;
         stands = takes join_steps (omega arith) is j j.ended;
         paced = λ none i. omega (arith, enough);
-      }) moves
-  learn_step x (Aborted cause) there proc point enough moves =
+      }) low moves
+  learn_step x (Aborted cause) there proc point enough low moves =
       let tell = tells (JoinLearns child (Aborted cause)) (Aborted cause) point (refl, refl) in
       let v = cause_word cause in
       let go = aborted part v (j.aborted v (cause_small cause)) in
@@ -317,7 +319,7 @@ module _ (p : Program) (w : WellFormed p) (steps : ℕ) (s : State) (c : SourceS
         acts = refl;
         stands = go.0;
         paced = λ none i. let left = go.1 (go_list sv.after t Runs l) in omega (arith, left, enough);
-      }) moves
+      }) low moves
 
   -- a result changes neither which monitors a procedure holds nor whether it is the last
   result_last : (into : Option ℕ) (z : ℤ) → IsLast (with_result into z f) cs
@@ -331,8 +333,9 @@ module _ (p : Program) (w : WellFormed p) (steps : ℕ) (s : State) (c : SourceS
   -- the result is read, and taken
   pub take_step : (x : Thread) (z : ℤ) → x ≡ j.takes → c.process t ≡ Some (goes_on None (with_result into z f) cs)
       → (k.world.at t).point ≡ JoinTakes child (Ended z) → more_steps b + 17 ≤ n
-      → Moves s t woken (look (code_of p) t x) s' → Next p w steps s' t pauses n c
-  take_step x z there proc point enough moves =
+      → IsLow k.world.sequence (look (code_of p) t x) → Moves s t woken (look (code_of p) t x) s'
+      → Next p w steps s' t pauses n c
+  take_step x z there proc point enough low moves =
       let tell = tells (JoinTakes child (Ended z)) (Ended z) point (refl, refl) in
       let v = k.world.result child in
       let q = goes_on None (with_result into z f) cs in
@@ -360,4 +363,4 @@ module _ (p : Program) (w : WellFormed p) (steps : ℕ) (s : State) (c : SourceS
         acts = refl;
         stands = go.0;
         paced = λ none i. let left = go.1 (go_list sv.after t Runs l) in omega (arith, left, enough);
-      }) moves
+      }) low moves

@@ -1,11 +1,12 @@
 -- From states that belong together to the next, by a step of a thread.
-use Rattle.std.proofs.Common.{◌≡◌, ◌≢◌, ℕ, suc, ◌<◌, ◌≤◌, Bool, true, false, List, length, Some, refl, sym, ◌∙◌, subst}
-use Rattle.std.proofs.Common.{inl, inr, ◌⊎◌}
+use Rattle.std.proofs.Common.{◌≡◌, ◌≢◌, ℕ, suc, ◌+◌, ◌<◌, ◌≤◌, Bool, true, false, List, length, Some, refl, sym}
+use Rattle.std.proofs.Common.{◌∙◌, subst, inl, inr, ◌⊎◌}
 use Rattle.std.specs.Prelude.{◌^◌, [], ◌∷◌, map, Option}
 use Rattle.std.proofs.lemmas.Bool.{cases_eq}
 use Rattle.words.specs.Updates.{put}
 use Rattle.words.specs.Signed.{word_of}
 use Rattle.locals.specs.Threads.{Thread}
+use Rattle.locals.specs.Looks.{Request, Look, Asks}
 use Rattle.machine.specs.States.{State}
 use Rattle.machine.specs.AbstractServing.{shared_of}
 use Rattle.program.specs.declared.kinds.Member.{Member}
@@ -39,6 +40,11 @@ put_puts f t v = record { here = put_same f t v; other = λ u o. put_other f t v
 
 pub same_puts : {A : Type 0} (f : ℕ → A) (t : ℕ) (v : A) → f t ≡ v → Puts f f t v
 same_puts f t v h = record { here = h; other = λ u o. refl }
+
+-- where a thread asks for something, no sequence number is about to wrap
+abbrev pub IsLow : (Member → ℕ) → Look → Type 0
+IsLow numbers l = (request : Request) (go : ℕ → Thread) → l ≡ Asks request go
+    → (d : Member) → numbers d + 1 < 4294967296
 
 abbrev pub AreOwn : List Kind → Type 0
 AreOwn [] = Unit {0}

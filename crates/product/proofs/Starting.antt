@@ -8,7 +8,6 @@ use Rattle.locals.specs.Looks.{Goes, look}
 use Rattle.machine.specs.States.{State}
 use Rattle.machine.specs.AbstractServing.{shared_of}
 use Rattle.machine.specs.Runs.{Moves, is_paused}
-use Rattle.program.specs.declared.kinds.Member.{Member}
 use Rattle.program.specs.Trees.{Program}
 use Rattle.program.specs.WellFormed.{WellFormed}
 use Rattle.code.specs.Pieces.{code_of}
@@ -34,29 +33,30 @@ use Rattle.product.specs.Standing.{StandsAt, inside}
 use Rattle.product.specs.Ranks.{rank, more_steps, before_template}
 use Rattle.product.specs.Corresponding.{Reached, Corresponds, IsBefore}
 use Rattle.product.proofs.Worlds.{reached_on, shares_at}
-use Rattle.product.proofs.Moving.{Next}
+use Rattle.product.proofs.Moving.{IsLow, Next}
 use Rattle.product.proofs.Local.{first_step, goes_local}
 use Rattle.product.proofs.Templating.{inside_step}
 
 module _ (p : Program) (w : WellFormed p) (steps : ℕ) (s : State) (c : SourceState) (k : Corresponds p w steps s c)
     (t : ℕ) (woken : List ℕ) (pauses : Bool) (s' : State) (n : ℕ) (number : (0 < t) × (t ≤ k.world.made))
-    (few : k.world.made ≤ 64) (awake : k.world.asleep t ≡ None)
-    (low : (d : Member) → k.world.sequence d + 1 < 4294967296) (paused : pauses ≡ is_paused s' t) where
+    (few : k.world.made ≤ 64) (awake : k.world.asleep t ≡ None) (paused : pauses ≡ is_paused s' t) where
   -- a thread on the way to the request of its point
   pub inside_any : (kind : Template) (u : Variables) (pt : Point) (left : ℕ) (x y : Thread) → left ≤ template_steps
       → StepsWithin (build_of p w k.world.made) t left x y → Fits (build_of p w k.world.made) u t kind
       → SameBefore kind pt u c.variable → pt ≢ Runs → StandsIn p t kind pt y
       → c.process t ≡ Some (process_at p kind pt) → (k.world.at t).point ≡ pt
       → (k.world.at t).list ≡ list_at kind pt → left + rank (more_steps (build_of p w k.world.made)) k.world pt ≤ n
-      → Moves s t woken (look (code_of p) t x) s' → Next p w steps s' t pauses n c
-  inside_any kind u pt left x y small walk fits same ne stands proc point list enough moves =
+      → IsLow k.world.sequence (look (code_of p) t x) → Moves s t woken (look (code_of p) t x) s'
+      → Next p w steps s' t pauses n c
+  inside_any kind u pt left x y small walk fits same ne stands proc point list enough low moves =
       by_step (first_step p (code_of p) t left x y walk)
     where
       by_step : (x ≡ y) ⊎ ((z : Thread) × (m : ℕ) × (look (code_of p) t x ≡ Goes z) × (suc m ≤ left)
           × StepsWithin (build_of p w k.world.made) t m z y) → Next p w steps s' t pauses n c
       by_step (inl e) =
-          inside_step p w steps s c k t woken pauses s' n number few awake low paused kind u pt y fits same ne stands
+          inside_step p w steps s c k t woken pauses s' n number few awake paused kind u pt y fits same ne stands
           proc point list (omega (arith, enough))
+          (subst (λ (z : Thread). IsLow k.world.sequence (look (code_of p) t z)) e low)
           (subst (λ (z : Thread). Moves s t woken (look (code_of p) t z) s') e moves)
       by_step (inr (z, m, h, le, more)) =
           goes_local p w steps s c k t woken pauses s' n x z (process_at p kind pt) pt (list_at kind pt) proc point list
@@ -244,25 +244,25 @@ module _ (p : Program) (w : WellFormed p) (steps : ℕ) (s : State) (c : SourceS
       numbers = k.numbers;
     }
 
-    start_step : (low : (d : Member) → k.world.sequence d + 1 < 4294967296) (woken : List ℕ) (pauses : Bool)
-        (s' : State) (n : ℕ) → pauses ≡ is_paused s' t → before_template ≤ n
-        → Moves s t woken (look (code_of p) t x) s' → Next p w steps s' t pauses n c
+    start_step : (low : IsLow k.world.sequence (look (code_of p) t x)) (woken : List ℕ) (pauses : Bool) (s' : State)
+        (n : ℕ) → pauses ≡ is_paused s' t → before_template ≤ n → Moves s t woken (look (code_of p) t x) s'
+        → Next p w steps s' t pauses n c
     unfolding started
     start_step low woken pauses s' n paused enough moves =
         let placed : world.at t ≡ thread_at pt (k.world.at t).list =
         put_same k.world.at t (thread_at pt (k.world.at t).list) in
         let ranked = st.ranked in
-        inside_any p w steps s c started t woken pauses s' n number few awake low paused kind c.variable pt
+        inside_any p w steps s c started t woken pauses s' n number few awake paused kind c.variable pt
         template_steps x bg.thread (omega arith)
         (subst (λ (z : Thread). StepsWithin b t template_steps z bg.thread) (sym is) bg.walk) fits st.same st.ne
         bg.stands now (ap (λ (z : Place). z.point) placed) (ap (λ (z : Place). z.list) placed ∙ st.list)
-        (omega (arith, ranked, enough)) moves
+        (omega (arith, ranked, enough)) low moves
 
   -- a thread before a template that does what its process offers
   pub template_step : (kind : Template) (x : Thread) → Fits b c.variable t kind → s.thread t ≡ Some x
       → c.process t ≡ Some (before_of kind) → (k.world.at t).list ≡ holds (before_of kind) → x ≡ first_thread kind
-      → (low : (d : Member) → k.world.sequence d + 1 < 4294967296) (woken : List ℕ) (pauses : Bool) (s' : State)
-      (n : ℕ) → pauses ≡ is_paused s' t → before_template ≤ n → Moves s t woken (look (code_of p) t x) s'
+      → (low : IsLow k.world.sequence (look (code_of p) t x)) (woken : List ℕ) (pauses : Bool) (s' : State) (n : ℕ)
+      → pauses ≡ is_paused s' t → before_template ≤ n → Moves s t woken (look (code_of p) t x) s'
       → Next p w steps s' t pauses n c
   template_step kind x fits thread proc list is low woken pauses s' n paused enough moves =
       let st = starts kind fits list in

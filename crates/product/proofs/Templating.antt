@@ -7,7 +7,6 @@ use Rattle.locals.specs.Threads.{Thread}
 use Rattle.locals.specs.Looks.{Look, Asks, look}
 use Rattle.machine.specs.States.{State, with_thread}
 use Rattle.machine.specs.Runs.{Moves, is_paused, has_ended}
-use Rattle.program.specs.declared.kinds.Member.{Member}
 use Rattle.program.specs.Trees.{Program}
 use Rattle.program.specs.WellFormed.{WellFormed}
 use Rattle.code.specs.Pieces.{code_of}
@@ -46,7 +45,7 @@ use Rattle.product.specs.Corresponding.{Corresponds, IsBefore}
 use Rattle.product.specs.Serving.{IsServed}
 use Rattle.product.proofs.Keeping.{kept_monitors}
 use Rattle.product.proofs.Worlds.{reached_good}
-use Rattle.product.proofs.Moving.{Next}
+use Rattle.product.proofs.Moving.{IsLow, Next}
 use Rattle.product.proofs.Stepped.{Arrives, stepped}
 use Rattle.product.proofs.Serving.{served}
 use Rattle.product.proofs.Ranking.{IsTemplate, rank_falls, rank_ends}
@@ -110,8 +109,7 @@ awake_at at a (Some x) e h = absurd (cc (e, h))
 
 module _ (p : Program) (w : WellFormed p) (steps : ℕ) (s : State) (c : SourceState) (k : Corresponds p w steps s c)
     (t : ℕ) (woken : List ℕ) (pauses : Bool) (s' : State) (n : ℕ) (number : (0 < t) × (t ≤ k.world.made))
-    (few : k.world.made ≤ 64) (awake : k.world.asleep t ≡ None)
-    (low : (d : Member) → k.world.sequence d + 1 < 4294967296) (paused : pauses ≡ is_paused s' t) where
+    (few : k.world.made ≤ 64) (awake : k.world.asleep t ≡ None) (paused : pauses ≡ is_paused s' t) where
   abbrev b : Build
   b = build_of p w k.world.made
 
@@ -214,8 +212,9 @@ module _ (p : Program) (w : WellFormed p) (steps : ℕ) (s : State) (c : SourceS
       answered = stepped p w steps s c k t pauses s' mid n answer y (process_at p kind pt) pt number awake proc point sv
           came arrives
 
-    pub inside_step : Moves s t woken (look (code_of p) t x) s' → Next p w steps s' t pauses n c
-    inside_step moves =
+    pub inside_step : IsLow k.world.sequence (look (code_of p) t x) → Moves s t woken (look (code_of p) t x) s'
+        → Next p w steps s' t pauses n c
+    inside_step low moves =
         let g : Moves s t woken (Asks goes.asks goes.go) s' = subst (λ (l : Look). Moves s t woken l s') goes.look moves in
         answered g.0 g.1 (served p s k.world c.table t pt goes.asks woken g.0 g.1 k.shares inv number.0
-        (omega (arith, number.1, few)) low within.askable goes.same g.2) g.3
+        (omega (arith, number.1, few)) (low goes.asks goes.go goes.look) within.askable goes.same g.2) g.3

@@ -1,9 +1,12 @@
 -- Each run of the machine on the code of a program is explained by a run of the program.
-use Rattle.std.proofs.Common.{◌≡◌, ℕ, suc, ◌+◌, ◌<◌, ◌≤◌, Bool, false, List, [], ◌∷◌, ◌++◌, length, refl, sym, subst}
-use Rattle.std.proofs.Common.{arith}
+use Rattle.std.proofs.Common.{◌≡◌, ℕ, zero, suc, ◌+◌, ◌<◌, ◌≤◌, Bool, false, List, [], ◌∷◌, ◌++◌, length, refl, sym}
+use Rattle.std.proofs.Common.{subst, arith, Option, Some, None, ◌∙◌}
 use Rattle.std.specs.Prelude.{map, ◌^◌}
-use Rattle.machine.specs.States.{State, opening_state}
-use Rattle.machine.specs.Runs.{Step, GoesBy, MachineRun}
+use Rattle.locals.specs.Threads.{Thread}
+use Rattle.locals.specs.Looks.{Look, Goes, Asks, Leaves, Breaks, Rests, look}
+use Rattle.locals.specs.Steps.{local_next, and_step, local_after}
+use Rattle.machine.specs.States.{State, opening_state, with_thread}
+use Rattle.machine.specs.Runs.{Step, GoesBy, MachineRun, IsStep, Moves, NextIsBroken, is_paused}
 use Rattle.program.specs.Trees.{Program}
 use Rattle.program.specs.WellFormed.{WellFormed}
 use Rattle.code.specs.Pieces.{code_of}
@@ -11,6 +14,7 @@ use Rattle.meaning.specs.Labels.{Kind, Action}
 use Rattle.meaning.specs.Labels as L
 use Rattle.meaning.specs.States.{SourceState, opening}
 use Rattle.meaning.specs.Runs.{Leads}
+use Rattle.protocol.proofs.Sleeps.{put_same}
 use Rattle.execution.specs.Completing.{IsOwn}
 use Rattle.refinement.specs.Pace.{stretch_length}
 use Rattle.refinement.specs.Refines.{is_stray_kind, is_kill_kind, processes_of, Explained, Refines}
@@ -18,6 +22,8 @@ use Rattle.refinement.specs.Built.{build_of}
 use Rattle.product.specs.Corresponding.{Corresponds}
 use Rattle.product.specs.Ranks.{most_left}
 use Rattle.product.proofs.Sourcing.{act}
+use Rattle.product.proofs.Worlds.{put_put}
+use Rattle.product.proofs.Local.{put_again}
 use Rattle.product.proofs.Moving.{AreOwn, left_of}
 use Rattle.product.proofs.Stepping.{next}
 use Rattle.product.proofs.Bounds.{left_few, left_short}
@@ -50,6 +56,14 @@ none_from_outside : (test : Kind → Bool) → ((k : Kind) → IsOwn k → test 
 none_from_outside test own_none [] h = refl
 none_from_outside test own_none (a ∷ as') h = rw (own_none a.kind h.0) (none_from_outside test own_none as' h.1)
 
+-- a local step is one of a thread that goes
+goes_by : (l : Look) (y : Thread) → local_next l ≡ Some y → l ≡ Goes y
+goes_by (Goes z) y e = cc
+goes_by (Asks request go) y e = absurd cc
+goes_by (Leaves phase) y e = absurd cc
+goes_by Breaks y e = absurd cc
+goes_by Rests y e = absurd cc
+
 module _ (p : Program) (w : WellFormed p) where
   abbrev most : ℕ
   most = most_left (build_of p w 0)
@@ -72,7 +86,8 @@ module _ (p : Program) (w : WellFormed p) where
   come taken s c k [] s' short run = subst (λ (x : State). Come s c (left_of p w k) [] x) run
       (record { taken = taken; source = c; ties = k; actions = []; own = tt; leads = refl; trail = rests })
   come taken s c k (l ∷ ls) s' short run =
-      let n = next p w taken s c k (λ d. let few = k.numbers d in omega (arith, few, short)) l run.0 run.1 in
+      let n = next p w taken s c k l run.0 run.1
+      (λ request go e d. let few = k.numbers d in omega (arith, few, short)) in
       let r = come (suc taken) run.0 n.after n.ties ls s' (omega (arith, short)) run.2 in
       record {
         taken = r.taken;
@@ -83,6 +98,51 @@ module _ (p : Program) (w : WellFormed p) where
         leads = leads_on p c n.after r.source (map (act l.thread) n.kinds) r.actions n.leads r.leads;
         trail = goes (left_of p w n.ties) l n.kinds n.paced (few (suc taken) run.0 n.after n.ties) r.trail;
       }
+
+  -- what belongs to the state in which a thread stands elsewhere, to where it came by local steps
+  record Stays (s : State) (t : ℕ) (y : Thread) : Type 0 where
+    taken : ℕ
+    source : SourceState
+    ties : Corresponds p w taken (with_thread s t y) source
+
+  -- one local step more
+  goes_on : (s : State) (t : ℕ) (m y : Thread) → s.asleep t ≡ None → look (code_of p) t m ≡ Goes y → Stays s t m
+      → Stays s t y
+  goes_on s t m y awake h r =
+      let mid = with_thread s t m in
+      let after = with_thread mid t y in
+      let step : IsStep (code_of p) mid (record { thread = t; woken = []; pauses = is_paused after t }) after = record {
+        thread = m;
+        stands = put_same s.thread t (Some m);
+        awake = awake;
+        moves = subst (λ (l : Look). Moves mid t [] l after) (sym h) (refl, refl);
+        pauses = refl;
+      } in
+      let n = next p w r.taken mid r.source r.ties (record { thread = t; woken = []; pauses = is_paused after t }) after
+      step (λ request go e d. absurd (cc (h, e))) in
+      record {
+        taken = suc r.taken;
+        source = n.after;
+        ties = subst (λ (f : ℕ → Option Thread). Corresponds p w (suc r.taken) (record s { thread = f }) n.after)
+            (put_put s.thread t (Some m) (Some y)) n.ties;
+      }
+
+  stays : (taken : ℕ) (s : State) (c : SourceState) (k : Corresponds p w taken s c) (t : ℕ) (x : Thread)
+      → s.thread t ≡ Some x → s.asleep t ≡ None → (n : ℕ) (y : Thread) → local_after (code_of p) t n x ≡ Some y
+      → Stays s t y
+  stays taken s c k t x stands awake zero y e = record {
+    taken = taken;
+    source = c;
+    ties = subst (λ (f : ℕ → Option Thread). Corresponds p w taken (record s { thread = f }) c)
+        (put_again s.thread t (Some y) (stands ∙ e)) k;
+  }
+  stays taken s c k t x stands awake (suc n) y e =
+      by_mid (local_after (code_of p) t n x) (λ m is. stays taken s c k t x stands awake n m is) e
+    where
+      by_mid : (o : Option Thread) → ((m : Thread) → o ≡ Some m → Stays s t m) → and_step (code_of p) t o ≡ Some y
+          → Stays s t y
+      by_mid None before e = absurd cc
+      by_mid (Some m) before e = goes_on s t m y awake (goes_by (look (code_of p) t m) y e) (before m refl)
 
   explained : (steps : List Step) (s : State) → MachineRun (code_of p) steps s → length steps < 2 ^ 32
       → Explained p (code_of p) steps s
@@ -105,5 +165,16 @@ module _ (p : Program) (w : WellFormed p) where
         kills = none_from_outside is_kill_kind (λ i h. (own_kinds i h).1) r.actions r.own;
       }
 
+  fine_locally : (steps : List Step) (s : State) → MachineRun (code_of p) steps s → length steps < 2 ^ 32
+      → (t n : ℕ) (x y : Thread) → s.thread t ≡ Some x → s.asleep t ≡ None → local_after (code_of p) t n x ≡ Some y
+      → NextIsBroken (code_of p) (with_thread s t y) t → ⊥
+  fine_locally steps s run short t n x y stands awake local =
+      let r = come 0 (opening_state (code_of p)) (opening p) (opens p w) steps s (omega (arith, short)) run in
+      let on = stays r.taken s r.source r.ties t x stands awake n y local in
+      sound p w on.taken (with_thread s t y) on.source on.ties t
+
   pub refines : Refines p (code_of p)
-  refines = record { follows = λ steps s run short. explained steps s run short }
+  refines = record {
+    follows = λ steps s run short. explained steps s run short;
+    locally = λ steps s run short t n x y stands awake local. fine_locally steps s run short t n x y stands awake local;
+  }

@@ -1,12 +1,13 @@
 -- What the code owes to the program.
-use Rattle.std.specs.Prelude.{ℕ, ◌≡◌, ◌<◌, ◌^◌, ◌⊎◌, Bool, true, false, List, [], length, map, filter, Some}
+use Rattle.std.specs.Prelude.{ℕ, ◌≡◌, ◌<◌, ◌^◌, ◌⊎◌, Bool, true, false, List, [], length, map, filter, Some, None}
 use Rattle.words.specs.Process.{process_word}
 use Rattle.words.specs.Signed.{word_of}
 use Rattle.isa.specs.Programs.{Program as Image}
 use Rattle.locals.specs.declared.frame.Locals.{Locals}
 use Rattle.locals.specs.declared.frame.Frame.{Frame}
 use Rattle.locals.specs.Threads.{Thread, Runs}
-use Rattle.machine.specs.States.{State}
+use Rattle.locals.specs.Steps.{local_after}
+use Rattle.machine.specs.States.{State, with_thread}
 use Rattle.machine.specs.Runs.{Step, MachineRun, CanStep, NextIsBroken, has_ended}
 use Rattle.program.specs.declared.kinds.Member.{Member}
 use Rattle.program.specs.Trees.{Program}
@@ -72,7 +73,11 @@ pub record Explained (p : Program) (image : Image) (steps : List Step) (s : Stat
   pub strays : processes_of is_stray_kind actions ≡ stray_threads steps
   pub kills : processes_of is_kill_kind actions ≡ killed_threads steps
 
--- each run of the machine on the image, of fewer than 2^32 steps, is explained by a run of the program
+-- each run of the machine on the image, of fewer than 2^32 steps, is explained by a run of the program; and a thread
+-- that goes on behind it by local steps alone, however many they are, comes to no step that may not be
 pub record Refines (p : Program) (image : Image) : Type 0 where
   pub follows : (steps : List Step) (s : State) → MachineRun image steps s → length steps < 2 ^ 32
       → Explained p image steps s
+  pub locally : (steps : List Step) (s : State) → MachineRun image steps s → length steps < 2 ^ 32
+      → (t n : ℕ) (x y : Thread) → s.thread t ≡ Some x → s.asleep t ≡ None → local_after image t n x ≡ Some y
+      → NextIsBroken image (with_thread s t y) t → ⊥
