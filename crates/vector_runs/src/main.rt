@@ -1,0 +1,107 @@
+//! Takes lists of actions of source programs, which stand as rows on standard input, and prints of each what comes of
+//! it. A row is a list, a `|`, and the text of a program on the same line. A list has actions, with commas between
+//! them; an action is the process, the action's name, and its numbers:
+//!
+//! ```text
+//! assign  test  call  return  end             none
+//! print NUMBER                                the number printed
+//! fork PROCESS  claim PROCESS  join PROCESS   the process made, claimed or joined
+//! fault NUMBER                                the fault, from 1 to 8
+//! enter MONITOR  exit MONITOR                 the monitor, from 0 in the order of the text
+//! resume MONITOR  abandon MONITOR
+//! wait MONITOR MEMBER                         the monitor and the condition, from 0 among its members
+//! notify MONITOR MEMBER PROCESS ..            the same, and the processes resumed
+//! broadcast MONITOR MEMBER PROCESS ..
+//! ```
+//!
+//! Of a list that is a run of its program the line printed has the processes that can move at its end and the numbers
+//! printed; of any other it has the first action that isn't possible, from 1.
+#![tactic(auto)]
+
+mod action;
+mod failure;
+mod reading;
+
+use crate::action::actions_of;
+use crate::failure::Failure;
+use crate::reading::program_of;
+use program::Checked;
+use sourcemoves::movers;
+use sourcestates::{Action, SourceState, accepts};
+use std::alloc::{AllocError, Global};
+use std::io;
+
+fn main(rt: HostRuntime) -> io::Result<()> {
+    for line in rt.lines(rt.alloc()) {
+        let line = line?;
+        if let Err(failure) = take_row(&rt, line.as_str()) {
+            println!(rt; "{failure}")?;
+        }
+    }
+    Ok(())
+}
+
+// Prints what comes of one row.
+fn take_row(rt: &HostRuntime, row: &str) -> Result<(), Failure> {
+    let (list, text) = row.split_once('|').ok_or(Failure::Row)?;
+    let checked = program_of(rt.alloc(), text.as_bytes())?;
+    answer(rt, &checked, list)
+}
+
+// Prints what comes of a list of actions.
+fn answer(rt: &HostRuntime, checked: &Checked, list: &str) -> Result<(), Failure> {
+    let actions = actions_of(rt.alloc(), list)?;
+    match accepts(rt.alloc(), checked, actions.as_slice())? {
+        Some(state) => show_end(rt, checked, &state),
+        None => {
+            let number = first_impossible(rt.alloc(), checked, actions.as_slice())?;
+            println!(rt; "no run, action {number}")?;
+            Ok(())
+        }
+    }
+}
+
+// The number of the first action that isn't possible, from 1; where all are, one more than there are.
+fn first_impossible(
+    alloc: Global,
+    checked: &Checked,
+    actions: &[Action],
+) -> Result<usize, AllocError> {
+    let mut state = SourceState::opening(alloc, checked)?;
+    let mut number: usize = 1;
+    for action in actions {
+        match state.step(alloc, checked, action)? {
+            None => break,
+            Some(next) => state = next,
+        }
+        number = number.saturating_add(1);
+    }
+    Ok(number)
+}
+
+// Prints the processes that can move in a state, and the numbers printed.
+fn show_end(rt: &HostRuntime, checked: &Checked, state: &SourceState) -> Result<(), Failure> {
+    let movers = movers(rt.alloc(), checked, state)?;
+    print!(rt; "run, movers")?;
+    show_movers(rt, movers.as_slice())?;
+    print!(rt; ", printed")?;
+    show_printed(rt, state.printed())?;
+    println!(rt; "")?;
+    Ok(())
+}
+
+// Prints the numbers of processes, each behind a blank.
+fn show_movers(rt: &HostRuntime, movers: &[u64]) -> io::Result<()> {
+    for process in movers {
+        print!(rt; " {process}")?;
+    }
+    Ok(())
+}
+
+// Prints the numbers that a program printed, each behind a blank.
+fn show_printed(rt: &HostRuntime, printed: &[i64]) -> io::Result<()> {
+    for number in printed {
+        print!(rt; " {number}")?;
+    }
+    Ok(())
+}
