@@ -1,4 +1,5 @@
 use isa::DecodeFault;
+use machine::StepFault;
 use runner::RunFault;
 use std::alloc::AllocError;
 use std::io;
@@ -16,6 +17,9 @@ pub enum Failure {
     /// Its run was refused.
     #[error("{0}")]
     Run(RunFault),
+    /// A step of its schedule was refused.
+    #[error("{0:?}")]
+    Step(StepFault),
     /// There is no memory for it.
     #[error("memory")]
     Memory,
@@ -33,6 +37,12 @@ impl From<DecodeFault> for Failure {
 impl From<RunFault> for Failure {
     fn from(fault: RunFault) -> Failure {
         Failure::Run(fault)
+    }
+}
+
+impl From<StepFault> for Failure {
+    fn from(fault: StepFault) -> Failure {
+        Failure::Step(fault)
     }
 }
 

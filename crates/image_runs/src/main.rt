@@ -7,7 +7,23 @@
 //! workers_meet        the same through a gate at which the workers of the first two threads wait for one another
 //! alone_meet          on the calling thread through that gate
 //! by_hand             not at all: a few pieces are handed in, and counted by two shares
+//! schedules COUNT OUTCOME ..
+//!                     step by step on the machine, by the schedules of the seeds 1 to COUNT, none of which may end
+//!                     otherwise than in one of these ways
 //! ```
+//!
+//! Empty lines and lines that begin with `#` say nothing.
+//!
+//! The schedule of a seed follows from a sequence of 32-bit numbers, which begins with the seed: the next one is the
+//! last one times 1,664,525, plus 1,013,904,223, modulo 2^32. A draw is the next number of the sequence divided by 2^16,
+//! rounded down. For each turn there are two draws. The first, modulo the number of threads that can move, is the place,
+//! from 0, of the turn's thread among these, by rising number. The second, modulo 2^(seed MOD 8), is one less than the
+//! most steps that the turn has; it ends earlier where its thread can't move. The steps are those of the machine, local
+//! or shared. So there are schedules in which the threads change at each step, and such in which one goes on for up to
+//! 128.
+//!
+//! An outcome is a word: Done, Stuck or Limit, then the numbers that were printed, then `T=FAULT` for each thread that
+//! aborted and `T@ADDRESS` for each that sleeps, by rising number, with a comma before each of these.
 //!
 //! The script ./benchmark times it.
 #![tactic(auto)]
@@ -16,12 +32,16 @@ mod by_hand;
 mod failure;
 mod meeting;
 mod opening;
+mod outcome;
+mod schedule;
+mod schedules;
 mod show;
 
 use crate::by_hand::hand_in;
 use crate::failure::Failure;
 use crate::meeting::Meeting;
 use crate::opening::show_opening;
+use crate::schedules::run_schedules;
 use crate::show::{show, show_end};
 use isa::{Image, decode};
 use runner::run;
@@ -40,6 +60,9 @@ const FEW_TURNS: u32 = 1000;
 fn main(rt: HostRuntime) -> io::Result<()> {
     for line in rt.lines(rt.alloc()) {
         let line = line?;
+        if line.trim().is_empty() || line.starts_with('#') {
+            continue;
+        }
         if let Err(failure) = run_row(&rt, rt.alloc(), line.as_str()) {
             println!(rt; "{failure}")?;
         }
@@ -67,6 +90,7 @@ fn run_row<R: Threads + Wait + Sync + Print>(
         Some("workers_meet") => meet_workers(rt, alloc, &image, limit),
         Some("alone_meet") => meet_alone(rt, alloc, &image, limit),
         Some("by_hand") => hand_in(rt, alloc, &image, limit),
+        Some("schedules") => run_schedules(rt, alloc, &image, limit, words),
         Some(_) => Err(Failure::Row),
     }
 }
