@@ -7,21 +7,36 @@ use words::{
     has_waiters, lock_word_laws, locked_word, signed, signed_laws, tid, word,
 };
 
-// The words and numbers of the robust-futex ABI and of two's complement.
+// Whether the parts of a lock word are those of the robust-futex ABI.
+fn has_lock_words() -> bool {
+    WAITERS == 2147483648
+        && OWNER_DIED == 1073741824
+        && TID_MASK == 1073741823
+        && locked_word(5, true) == 0x8000_0005
+        && locked_word(5, false) == 5
+        && tid(0xC000_0007) == 7
+}
+
+// Whether the bits of a lock word are read as they are set.
+fn has_bits() -> bool {
+    has_waiters(0xC000_0007)
+        && has_died(0x4000_0000)
+        && !has_waiters(0x4000_0007)
+        && !has_died(0x8000_0007)
+}
+
+// Whether numbers are two's complement, and the words of processes stand where they have to.
+fn has_numbers_and_places() -> bool {
+    signed(u32::MAX) == -1
+        && word(-2) == 0xFFFF_FFFE
+        && block(1, ProcessWord::Id) == Addr(3)
+        && block(64, ProcessWord::Outcome) == Addr(384)
+}
+
 #[test]
 fn word_parts(rt: HostRuntime) {
-    assert_eq!(rt;
-        (WAITERS, OWNER_DIED, TID_MASK),
-        (2147483648, 1073741824, 1073741823)
-    );
-    assert_eq!(rt; locked_word(5, true), 0x8000_0005);
-    assert_eq!(rt; locked_word(5, false), 5);
-    assert_eq!(rt; tid(0xC000_0007), 7);
-    assert!(rt; has_waiters(0xC000_0007) && has_died(0x4000_0000));
-    assert!(rt; !has_waiters(0x4000_0007) && !has_died(0x8000_0007));
-    assert_eq!(rt; (signed(u32::MAX), word(-2)), (-1, 0xFFFF_FFFE));
-    assert_eq!(rt; block(1, ProcessWord::Id), Addr(3));
-    assert_eq!(rt; block(64, ProcessWord::Outcome), Addr(384));
+    let is_well = has_lock_words() && has_bits() && has_numbers_and_places();
+    assert!(rt; is_well);
 }
 
 #[test]
