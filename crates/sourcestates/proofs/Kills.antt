@@ -75,15 +75,15 @@ put_over false v w x = refl
 -- a kill that is possible
 pub killed : (p : Program) (s s' : SourceState) (n : ℕ) (before : Process) (o : Offer) (entered given : Option ℕ)
     (held ms : List ℕ) (last : Option ℕ) (notified : Option Member) (resumed : List ℕ) (t : Table)
-    (f : ℕ → Option Process)
+    (f : ℕ → Option Process) (w : Option Process)
     → s.process n ≡ Some before → IsKillable before → o ≡ offer p s.variable before → held ≡ holds before
     → IsTheOne entered (Enters before) → IsTheOne given (GivesUp o)
     → IsLeftOf held (λ m. (entered ≡ Some m) ⊎ (given ≡ Some m)) last ms
     → ((c : Member) → IsNotifying o (Some c) ↔ (notified ≡ Some c))
-    → AllowsKill n notified resumed s.table t → f ≡ put s.process n None
+    → AllowsKill n notified resumed s.table t → f ≡ put s.process n w
     → s' ≡ record s { table = t; process = put f n (Some (Dying Killed ms)) }
     → IsKill p s n resumed last s'
-killed p s s' n before o entered given held ms last notified resumed t f stands killable offers is enters gives left
+killed p s s' n before o entered given held ms last notified resumed t f w stands killable offers is enters gives left
     notifies allows out done = record {
       before = before;
       monitors = ms;
@@ -96,7 +96,7 @@ killed p s s' n before o entered given held ms last notified resumed t f stands 
       variables = ap (λ (x : SourceState). x.variable) done;
       printed = ap (λ (x : SourceState). x.printed) done;
       processes = ap (λ (x : SourceState). x.process) done ∙ ap (λ g. put g n (Some (Dying Killed ms))) out
-          ∙ (λ i j. put_over (j == n) (Some (Dying Killed ms)) None (s.process j) i);
+          ∙ (λ i j. put_over (j == n) (Some (Dying Killed ms)) w (s.process j) i);
     }
 
 -- a kill isn't possible where no monitors can be left so

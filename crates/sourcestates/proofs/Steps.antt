@@ -1,5 +1,5 @@
 -- Actions of a process's own, by the offer that they take up.
-use Rattle.std.proofs.Common.{◌≡◌, ◌==◌, ℕ, Bool, true, false, cond, Option, Some, None, refl, sym, ◌∙◌, subst}
+use Rattle.std.proofs.Common.{◌≡◌, ◌==◌, ℕ, Bool, true, false, cond, Option, Some, refl, sym, ◌∙◌, subst}
 use Rattle.words.specs.Updates.{put}
 use Rattle.program.specs.Trees.{Program}
 use Rattle.meaning.specs.Labels.{Action, Label}
@@ -26,34 +26,34 @@ overwritten (Puts m k l z) f n w v = λ i j. put_over (j == n) v w (f j) i
 overwritten (Writes z) f n w v = λ i j. put_over (j == n) v w (f j) i
 overwritten (Makes child q) f n w v = λ i j. put_over_two (j == n) (j == child) v (Some q) w (f j) i
 
-done_without : (n : ℕ) (l : Label) (e : Effect) (q : Process) (s u : SourceState)
-    → IsDone n l e q (record s { process = put s.process n None }) u → IsDone n l e q s u
-done_without n l e q s u d = record {
+done_without : (n : ℕ) (l : Label) (e : Effect) (q : Process) (w : Option Process) (s u : SourceState)
+    → IsDone n l e q (record s { process = put s.process n w }) u → IsDone n l e q s u
+done_without n l e q w s u d = record {
   allows = d.allows;
   variables = d.variables;
   printed = d.printed;
-  processes = d.processes ∙ overwritten e s.process n None (Some q);
+  processes = d.processes ∙ overwritten e s.process n w (Some q);
 }
 
-done_with : (n : ℕ) (l : Label) (e : Effect) (q : Process) (s u : SourceState)
-    → IsDone n l e q s u → IsDone n l e q (record s { process = put s.process n None }) u
-done_with n l e q s u d = record {
+done_with : (n : ℕ) (l : Label) (e : Effect) (q : Process) (w : Option Process) (s u : SourceState)
+    → IsDone n l e q s u → IsDone n l e q (record s { process = put s.process n w }) u
+done_with n l e q w s u d = record {
   allows = d.allows;
   variables = d.variables;
   printed = d.printed;
-  processes = d.processes ∙ sym (overwritten e s.process n None (Some q));
+  processes = d.processes ∙ sym (overwritten e s.process n w (Some q));
 }
 
 some_once : {A : Type 0} (x y : A) → Some x ≡ Some y → x ≡ y
 some_once x y e = cc
 
--- a process that is taken out of the state takes up its offer: that is its action
-pub taken_out : (p : Program) (s : SourceState) (a : Action) (before : Process) (b : Bool) (u : SourceState)
-    → s.process a.process ≡ Some before
+-- a process that another stands for in the state takes up its offer: that is its action
+pub taken_out : (p : Program) (s : SourceState) (a : Action) (before : Process) (w : Option Process) (b : Bool)
+    (u : SourceState) → s.process a.process ≡ Some before
     → IsAnswer b (IsTakenUp a.process a.kind (offer p s.variable before)
-    (record s { process = put s.process a.process None })) u
+    (record s { process = put s.process a.process w })) u
     → IsAnswer b (IsAction p s a) u
-taken_out p s a before true u stands r = record {
+taken_out p s a before w true u stands r = record {
   before = before;
   after = r.after;
   label = r.label;
@@ -64,16 +64,16 @@ taken_out p s a before true u stands r = record {
   allows = r.done.allows;
   variables = r.done.variables;
   printed = r.done.printed;
-  processes = (done_without a.process r.label r.effect r.after s u r.done).processes;
+  processes = (done_without a.process r.label r.effect r.after w s u r.done).processes;
 }
-taken_out p s a before false u stands never = λ t x. never t (record {
+taken_out p s a before w false u stands never = λ t x. never t (record {
   label = x.label;
   effect = x.effect;
   after = x.after;
   takes = subst (λ q. TakesUp (offer p s.variable q) x.label x.effect x.after)
       (some_once x.before before (sym x.stands ∙ stands)) x.acts;
   named = x.named;
-  done = done_with a.process x.label x.effect x.after s t (record {
+  done = done_with a.process x.label x.effect x.after w s t (record {
     allows = x.allows;
     variables = x.variables;
     printed = x.printed;
@@ -82,12 +82,12 @@ taken_out p s a before false u stands never = λ t x. never t (record {
 })
 
 -- the same of the offer and of the processes that the code finds
-pub answered : (p : Program) (s : SourceState) (a : Action) (before : Process) (o : Offer) (b : Bool) (u : SourceState)
-    (f : ℕ → Option Process) → s.process a.process ≡ Some before → o ≡ offer p s.variable before
-    → f ≡ put s.process a.process None
+pub answered : (p : Program) (s : SourceState) (a : Action) (before : Process) (w : Option Process) (o : Offer)
+    (b : Bool) (u : SourceState) (f : ℕ → Option Process) → s.process a.process ≡ Some before
+    → o ≡ offer p s.variable before → f ≡ put s.process a.process w
     → IsAnswer b (IsTakenUp a.process a.kind o (record s { process = f })) u
     → IsAnswer b (IsAction p s a) u
-answered p s a before o b u f stands offers is h =
-    taken_out p s a before b u stands
+answered p s a before w o b u f stands offers is h =
+    taken_out p s a before w b u stands
     (subst (λ g. IsAnswer b (IsTakenUp a.process a.kind (offer p s.variable before) (record s { process = g })) u) is
     (subst (λ x. IsAnswer b (IsTakenUp a.process a.kind x (record s { process = f })) u) offers h))

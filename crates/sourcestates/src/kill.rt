@@ -3,6 +3,7 @@ ghost use Rattle.program.specs.Views.{program_of};
 ghost use Rattle.meaning.specs.Runs.{IsKill};
 
 use crate::dying::{entered, given_up, held, is_killable, left, notified};
+use crate::placing::blank;
 use crate::state::SourceState;
 use program::Program;
 use sourceruns::{Cause, Stage, next_offer};
@@ -24,7 +25,8 @@ impl<'a> SourceState<'a> {
         ensures { IfOk result (λ b. IsAnswer b
             (IsKill (program_of program.now) (state_of self.old) number resumed.now last) (state_of self.new)) }
     {
-        let Some(mut process) = self.processes.remove(&number) else {
+        let found = self.processes.insert(number, blank(alloc))?;
+        let Some(mut process) = found else {
             return Ok(false);
         };
         if !is_killable(&process) {

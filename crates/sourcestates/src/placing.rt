@@ -7,9 +7,24 @@ ghost use Rattle.sourceruns.specs.Stages.{process_of};
 
 use crate::action::ActionKind;
 use crate::state::SourceState;
-use sourceruns::{Cause, Process};
+use program::Role;
+use sourceruns::{Cause, Frame, Process, Stage};
 use std::alloc::{AllocError, Global};
 use words::Fault;
+
+// What stands in a process's place while it acts. It takes no memory.
+pub(crate) fn blank<'a>(alloc: Global) -> Process<'a> {
+    Process {
+        frame: Frame {
+            role: Role::External,
+            locals: Vec::new(alloc),
+            rest: Vec::new(alloc),
+            into: None,
+        },
+        callers: Vec::new(alloc),
+        stage: Stage::Leaving(0),
+    }
+}
 
 impl<'a> SourceState<'a> {
     ghost use Rattle.sourcestates.specs.Actions.{kind_of};

@@ -11,6 +11,7 @@ ghost use Rattle.sourcestates.specs.States.{state_of as state_in};
 
 use crate::action::{Action, ActionKind};
 use crate::naming::is_named;
+use crate::placing::blank;
 use crate::state::SourceState;
 use program::{Checked, Program};
 use sourceruns::{Effect, Label, Offer, Offered, Process, next_offer};
@@ -105,7 +106,8 @@ impl<'a> SourceState<'a> {
         ensures { IfOk result (λ b. IsAnswer b
             (IsAction (program_of program.now) (state_of self.old) (action_of action.now)) (state_of self.new)) }
     {
-        let Some(mut process) = self.processes.remove(&action.process) else {
+        let found = self.processes.insert(action.process, blank(alloc))?;
+        let Some(mut process) = found else {
             return Ok(false);
         };
         let offer = next_offer(alloc, program, &self.variables, &mut process)?;
@@ -164,9 +166,8 @@ pub fn accepts<'a>(
 {
     let mut state = SourceState::opening(alloc, checked)?;
     for action in actions {
-        match state.step(alloc, checked, action)? {
-            None => return Ok(None),
-            Some(next) => state = next,
+        if !state.advance(alloc, checked.program(), action)? {
+            return Ok(None);
         }
     }
     Ok(Some(state))

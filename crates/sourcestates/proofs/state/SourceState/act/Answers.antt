@@ -1,4 +1,4 @@
-use Rattle.std.proofs.Common.{None, ap, sym}
+use Rattle.std.proofs.Common.{Some, ap, sym, ◌∙◌}
 use Rattle.std.proofs.lemmas.Result.{IfOk-weaker}
 use Rattle.std.specs.Prelude.{option_map}
 use Rattle.program.specs.Views.{program_of}
@@ -14,10 +14,11 @@ pub returns : goal.returns
 returns c =
     IfOk-weaker c.take_up.result _ _ (λ b h.
     answered (program_of c.args.program.now) (state_of c.args.self.now)
-    (action_of c.args.action.now) (process_of c.in-Some.process)
+    (action_of c.args.action.now) (process_of c.in-Some.process) (Some (process_of c.blank.result))
     (offer_of (program_of c.args.program.now) c.in_ok-offer.offer c.next_offer.new.process) b
     (state_of c.take_up.new.self)
-    (processes_in c.remove.new.self) (ap (option_map process_of) (sym c.in-Some.ensures.value)) c.in_ok-offer.ensures
-    (put_at (option_map process_of) c.args.self.now.processes c.remove.new.self c.args.action.now.process None
-    c.in-Some.ensures.updates.0)
+    (processes_in c.insert.new.self) (ap (option_map process_of) (sym c.in_ok-found.ensures.old ∙ c.in-Some.is))
+    c.in_ok-offer.ensures
+    (put_at (option_map process_of) c.args.self.now.processes c.insert.new.self c.args.action.now.process
+    (Some c.blank.result) c.in_ok-found.ensures.updates.0)
     h) c.take_up.ensures

@@ -1,4 +1,4 @@
-use Rattle.std.proofs.Common.{None, ap, sym}
+use Rattle.std.proofs.Common.{Some, ap, sym, ◌∙◌}
 use Rattle.std.specs.Prelude.{option_map}
 use Rattle.program.specs.Views.{program_of}
 use Rattle.sourceruns.specs.NextAction.{offer_of}
@@ -14,7 +14,7 @@ returns-in_default-2 c =
     not_left (program_of c.args.program.now) (state_of c.args.self.now) c.args.number (process_of c.in-Some.process)
     (offer_of (program_of c.args.program.now) c.in_ok-offer.offer c.next_offer.new.process) c.entered-taken.result
     c.given_up.result c.in_ok-monitors.monitors.items c.args.last c.args.resumed.now
-    (ap (option_map process_of) (sym c.in-Some.ensures.value)) c.in_ok-offer.ensures c.in_ok-monitors.ensures
+    (ap (option_map process_of) (sym c.in_ok-found.ensures.old ∙ c.in-Some.is)) c.in_ok-offer.ensures c.in_ok-monitors.ensures
     c.entered-taken.ensures (c.given_up.ensures (program_of c.args.program.now) c.next_offer.new.process)
     (rw c.in_default-2.is at c.in_ok-monitors-2.ensures)
 
@@ -23,7 +23,7 @@ returns-then-not-kill c =
     not_allowed (program_of c.args.program.now) (state_of c.args.self.now) c.args.number (process_of c.in-Some.process)
     (offer_of (program_of c.args.program.now) c.in_ok-offer.offer c.next_offer.new.process) c.args.last
     c.notified.result c.args.resumed.now
-    (ap (option_map process_of) (sym c.in-Some.ensures.value)) c.in_ok-offer.ensures
+    (ap (option_map process_of) (sym c.in_ok-found.ensures.old ∙ c.in-Some.is)) c.in_ok-offer.ensures
     (c.notified.ensures (program_of c.args.program.now) c.next_offer.new.process) c.if-not-kill.ensures.0
 
 pub returns : goal.returns
@@ -32,11 +32,11 @@ returns c =
     (process_of c.in-Some.process)
     (offer_of (program_of c.args.program.now) c.in_ok-offer.offer c.next_offer.new.process) c.entered-taken.result
     c.given_up.result c.in_ok-monitors.monitors.items c.in-Some-2.monitors.items c.args.last c.notified.result
-    c.args.resumed.now (table_of c.kill.new.self) (processes_in c.remove.new.self)
-    (ap (option_map process_of) (sym c.in-Some.ensures.value)) c.if-not-is_killable.ensures c.in_ok-offer.ensures
+    c.args.resumed.now (table_of c.kill.new.self) (processes_in c.insert.new.self) (Some (process_of c.blank.result))
+    (ap (option_map process_of) (sym c.in_ok-found.ensures.old ∙ c.in-Some.is)) c.if-not-is_killable.ensures c.in_ok-offer.ensures
     c.in_ok-monitors.ensures c.entered-taken.ensures
     (c.given_up.ensures (program_of c.args.program.now) c.next_offer.new.process)
     (rw c.in-Some-2.is at c.in_ok-monitors-2.ensures)
     (c.notified.ensures (program_of c.args.program.now) c.next_offer.new.process) c.if-not-kill.ensures
-    (put_at (option_map process_of) c.args.self.now.processes c.remove.new.self c.args.number None
-    c.in-Some.ensures.updates.0) c.in_ok-place.ensures
+    (put_at (option_map process_of) c.args.self.now.processes c.insert.new.self c.args.number (Some c.blank.result)
+    c.in_ok-found.ensures.updates.0) c.in_ok-place.ensures
