@@ -7,7 +7,7 @@ ghost use Rattle.types.specs.Scope.{Scope};
 ghost use Rattle.types.specs.Standings.{IsStanding};
 ghost use Rattle.faults.specs.Operands as o;
 
-use crate::operands::operand;
+use crate::operands::{name_operand, operand};
 use program::ValueType;
 use scanner::Refusal;
 use syntax::{
@@ -68,13 +68,18 @@ fn factor_operand(
     ensures { (s : Scope) → IsStanding s standing.now
         → Gathers (o.factor_operand s wanted (v.factor_of tree.now)) least result }
 {
-    let inside = factor(standing, tree, least);
-    operand(
-        wanted,
-        standing.factor_type(tree),
-        factor_place(tree),
-        inside,
-    )
+    match tree {
+        Factor::Name(name) => name_operand(standing, wanted, *name, least),
+        _ => {
+            let inside = factor(standing, tree, least);
+            operand(
+                wanted,
+                standing.factor_type(tree),
+                factor_place(tree),
+                inside,
+            )
+        }
+    }
 }
 
 // Factors with `*`, `/` or `MOD` between them.
@@ -101,16 +106,18 @@ fn term(standing: &Standing<'_, '_>, tree: &Term<'_>, least: Option<Refusal>) ->
     ensures { (s : Scope) → IsStanding s standing.now
         → Gathers (o.term_operand s (v.term_of tree.now)) least result }
 {
-    let inside = match tree {
-        Term::Factor(tree) => factor(standing, tree, least),
-        Term::Product(tree) => product(standing, tree, least),
-    };
-    operand(
-        ValueType::Integer,
-        standing.term_type(tree),
-        term_place(tree),
-        inside,
-    )
+    match tree {
+        Term::Factor(inner) => factor_operand(standing, ValueType::Integer, inner, least),
+        Term::Product(inner) => {
+            let inside = product(standing, inner, least);
+            operand(
+                ValueType::Integer,
+                standing.term_type(tree),
+                term_place(tree),
+                inside,
+            )
+        }
+    }
 }
 
 // Terms with `+` or `-` between them.

@@ -1,4 +1,4 @@
-use Rattle.std.proofs.Common.{◌++◌, refl, sym, subst}
+use Rattle.std.proofs.Common.{◌++◌, append-nil, refl, sym, subst}
 use Rattle.program.specs.declared.kinds.ValueType.TheVariants.{Integer, Boolean}
 use Rattle.syntax.specs.Tree.{NoIndex, At}
 use Rattle.syntax.specs.View.{conjunction_of, relation_of, sum_of, total_of, term_of, product_of, factor_of}
@@ -15,28 +15,27 @@ use Rattle.faults.specs.Operands as o
 use Rattle.faults.proofs.Gathering.{lone, lone2, lone3, lone4, lone5, gathers_operand, gathers_use}
 use Rattle.faults.proofs.Gathering.{gathers_comparison, gathers_chain, gathers_next, gathers_past}
 use Rattle.faults.proofs.Rows.{all_of_seen, any_of_seen, gathers_product, gathers_total}
-use Rattle.faults.proofs.expressions.+expressions.Goals.{term-in-Factor, term-in-Product, relation-in-Factor, relation-in-Product}
+use Rattle.faults.proofs.expressions.+expressions.Goals.{relation-in-Factor, relation-in-Product}
 use Rattle.faults.proofs.expressions.+expressions.Goals.{relation-in-Total, relation-in-Comparison, conjunction-in-Factor, conjunction-in-Product}
 use Rattle.faults.proofs.expressions.+expressions.Goals.{conjunction-in-Total, conjunction-in-Comparison, conjunction-in-AllOf}
 use Rattle.faults.proofs.expressions.+expressions.Goals as goal
 
-pub term-returns : goal.term-returns
-term-returns t c = λ s h.
+pub term-returns-in-Factor : goal.term-returns-in-Factor
+term-returns-in-Factor t c = λ s h.
+    subst (λ y. Gathers (o.term_operand s (term_of y)) c.args.least c.factor_operand.result) (sym c.in-Factor.is)
+    (subst (λ fs. Gathers (fs ++ x.wants Integer (factor_type s (factor_of c.in-Factor.inner))
+    (factor_place (factor_of c.in-Factor.inner))) c.args.least c.factor_operand.result)
+    (sym (append-nil (x.factor_faults s (factor_of c.in-Factor.inner)))) (c.factor_operand.ensures s h))
+
+pub term-returns-in-Product : goal.term-returns-in-Product
+term-returns-in-Product t c = λ s h.
     gathers_operand (x.term_faults s (term_of c.args.tree.now)) Integer c.term_type.result
     (term_type s (term_of c.args.tree.now))
-    c.term_place.result (term_place (term_of c.args.tree.now)) c.args.least c.match-tree.inside c.operand.result
+    c.term_place.result (term_place (term_of c.args.tree.now)) c.args.least c.product-inside.result c.operand.result
     (c.term_type.ensures s h) c.term_place.ensures
-    (elim c.match-tree.branch [
-      | term-in-Factor w ↦ subst (λ r. Gathers (x.term_faults s (term_of c.args.tree.now)) c.args.least r)
-          (sym w.inside-is)
-          (subst (λ y. Gathers (x.term_faults s (term_of y)) c.args.least w.factor-inside.result) (sym w.in-Factor.is)
-          (lone _ c.args.least w.factor-inside.result (w.factor-inside.ensures s h)))
-      | term-in-Product w ↦ subst (λ r. Gathers (x.term_faults s (term_of c.args.tree.now)) c.args.least r)
-          (sym w.inside-is)
-          (subst (λ y. Gathers (x.term_faults s (term_of y)) c.args.least w.product-inside.result) (sym w.in-Product.is)
-          (subst (λ y. Gathers (x.term_faults s (product_of y)) c.args.least w.product-inside.result) w.deref.ensures
-          (w.product-inside.ensures s h)))
-    ])
+    (subst (λ y. Gathers (x.term_faults s (term_of y)) c.args.least c.product-inside.result) (sym c.in-Product.is)
+    (subst (λ y. Gathers (x.term_faults s (product_of y)) c.args.least c.product-inside.result) c.deref.ensures
+    (c.product-inside.ensures s h)))
     c.operand.ensures
 
 pub relation-returns : goal.relation-returns
@@ -192,8 +191,13 @@ comparison-returns t c = λ s h.
     (c.comparison_faults-sides.ensures c.sum_place.result c.sum_place-2.result)
     (c.sum-left.ensures s h) (c.sum-right.ensures s h) c.note-first.ensures c.note.ensures
 
-pub factor_operand-returns : goal.factor_operand-returns
-factor_operand-returns t c = λ s h.
+pub factor_operand-returns-in-Name : goal.factor_operand-returns-in-Name
+factor_operand-returns-in-Name t c = λ s h.
+    subst (λ y. Gathers (o.factor_operand s c.args.wanted (factor_of y)) c.args.least c.name_operand.result)
+    (sym c.in-Name.is) (c.name_operand.ensures s h)
+
+pub factor_operand-returns-in_default : goal.factor_operand-returns-in_default
+factor_operand-returns-in_default t c = λ s h.
     gathers_operand (x.factor_faults s (factor_of c.args.tree.now)) c.args.wanted c.factor_type.result
     (factor_type s (factor_of c.args.tree.now))
     c.factor_place.result
