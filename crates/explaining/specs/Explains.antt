@@ -1,0 +1,39 @@
+-- What comes of a log that is to be explained.
+use Rattle.std.specs.Prelude.{◌≡◌, List}
+use Rattle.isa.specs.Programs.{Program as Image}
+use Rattle.machine.specs.declared.event.Entry.{Entry}
+use Rattle.machine.specs.States.{ConcreteState, opening_concrete, state_of}
+use Rattle.runner.specs.Logs.{Runs}
+use Rattle.program.specs.Trees.{Program}
+use Rattle.code.specs.Pieces.{code_of}
+use Rattle.meaning.specs.Labels.{Action}
+use Rattle.meaning.specs.States.{SourceState}
+use Rattle.meaning.specs.Runs.{IsRun}
+use Rattle.explaining.specs.declared.fault.ExplainFault.{ExplainFault}
+use Rattle.explaining.specs.declared.fault.ExplainFault.TheVariants.{NotARun, OtherImage, Memory, Unexplained}
+use Rattle.explaining.specs.Alike.{IsSeenAlike}
+
+-- the log is legal for the image, and leads there
+abbrev pub LeadsTo : Image → List Entry → ConcreteState → Type 0
+LeadsTo image log k = Runs image (opening_concrete image) log k
+
+-- the log isn't legal
+abbrev pub IsIllegal : Image → List Entry → Type 0
+IsIllegal image log = (k : ConcreteState) → LeadsTo image log k → ⊥
+
+-- the image is the program's, the log is legal for it, and the actions are a run of the program, at whose end the same
+-- is seen as of the machine where the log leads
+pub record IsExplained (p : Program) (image : Image) (log : List Entry) (actions : List Action) : Type 0 where
+  pub code : image ≡ code_of p
+  pub machine : ConcreteState
+  pub legal : LeadsTo image log machine
+  pub source : SourceState
+  pub run : IsRun p actions source
+  pub alike : IsSeenAlike (state_of machine) source
+
+-- why a log isn't explained
+abbrev pub Refuses : Program → Image → List Entry → ExplainFault → Type 0
+Refuses p image log OtherImage = image ≡ code_of p → ⊥
+Refuses p image log NotARun = (image ≡ code_of p) × IsIllegal image log
+Refuses p image log Unexplained = (image ≡ code_of p) × (k : ConcreteState) × LeadsTo image log k
+Refuses p image log Memory = Unit {0}

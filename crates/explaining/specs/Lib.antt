@@ -1,0 +1,3 @@
+pub mod Places
+pub mod Alike
+pub mod Explains

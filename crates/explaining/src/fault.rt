@@ -1,0 +1,31 @@
+use std::alloc::AllocError;
+use thiserror::Error;
+
+/// Why a log is not explained. `OtherImage` is tested before `NotARun`.
+#[derive(Clone, Copy, PartialEq, Eq, Debug, Error)]
+pub enum ExplainFault {
+    /// The log isn't legal for the image.
+    #[error("fault 1")]
+    NotARun = 1,
+    /// The image isn't the code of the program.
+    #[error("fault 2")]
+    OtherImage = 2,
+    /// There is no memory for the walk.
+    #[error("memory")]
+    Memory = 3,
+    /// The actions that were found are no run of the program, or one at whose end another thing is seen than on the
+    /// machine. No log is known that is answered so; that there is none is not proved.
+    #[error("fault 4")]
+    Unexplained = 4,
+}
+
+impl From<AllocError> for ExplainFault {
+    ghost use Rattle.std.specs.Prelude.{◌≡◌};
+    ghost use Rattle.explaining.specs.declared.fault.ExplainFault.TheVariants.{Memory};
+
+    ghost from_gives = { λ _ f. f ≡ Memory };
+
+    fn from(_error: AllocError) -> ExplainFault {
+        ExplainFault::Memory
+    }
+}
