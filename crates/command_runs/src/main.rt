@@ -6,6 +6,7 @@
 //! text LINE           a line of the file program.mesa
 //! times COUNT TEXT    this text so many times, in program.mesa
 //! bytes DIGITS        these bytes, in hexadecimal digits, in program.mesa
+//! schedule LINE       a line of the file program.schedule
 //! words WORD ..       the words of the command line
 //! output LINE         a line that standard output has to have
 //! errors LINE         a line that standard error has to have
@@ -14,7 +15,8 @@
 //! ```
 //!
 //! Empty lines and lines that begin with `#` say nothing. With no `text`, `times` and
-//! `bytes` there is no program.mesa, and with no `image` there may be no program.image afterwards.
+//! `bytes` there is no program.mesa, with no `schedule` no program.schedule, and with no `image` there may be no
+//! program.image afterwards.
 #![tactic(auto)]
 
 mod fault;

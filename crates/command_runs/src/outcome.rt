@@ -2,10 +2,16 @@ use crate::fault::RowFault;
 use crate::row::Row;
 use mesamon::perform;
 use std::alloc::Global;
+use std::rt::Files;
+use std::sync::Wait;
+use std::thread::Threads;
 use std::{fs, io};
 
 // The file that a row's source text is written to.
 const SOURCE: &str = "program.mesa";
+
+// The file that a row's schedule is written to.
+const SCHEDULE: &str = "program.schedule";
 
 // The file whose bytes a row tells.
 const IMAGE: &str = "program.image";
@@ -35,19 +41,23 @@ impl Outcome {
     }
 
     /// That of a row's command.
-    pub fn of_row(rt: &HostRuntime, row: &Row) -> Result<Outcome, RowFault> {
-        if let Some(source) = &row.source {
-            fs::write(rt, SOURCE, source.as_slice())?;
-        }
+    pub fn of_row<R: Files + AllocGlobal + Threads + Wait + Sync>(
+        rt: &R,
+        row: &Row,
+    ) -> Result<Outcome, RowFault> {
+        put_file(rt, SOURCE, &row.source)?;
+        put_file(rt, SCHEDULE, &row.schedule)?;
         let mut outcome = Outcome::of_words(rt, row.words.as_slice())?;
         outcome.image = take_file(rt, IMAGE)?;
-        if row.source.is_some() {
-            fs::remove_file(rt, SOURCE)?;
-        }
+        take_file(rt, SOURCE)?;
+        take_file(rt, SCHEDULE)?;
         Ok(outcome)
     }
 
-    fn of_words(rt: &HostRuntime, words: &[String]) -> Result<Outcome, RowFault> {
+    fn of_words<R: Files + AllocGlobal + Threads + Wait + Sync>(
+        rt: &R,
+        words: &[String],
+    ) -> Result<Outcome, RowFault> {
         let words: Vec<&str> = words.iter().map(|word| word.as_str()).collect(rt.alloc())?;
         let mut outcome = Outcome::new(rt.alloc());
         outcome.status = perform(
@@ -60,8 +70,16 @@ impl Outcome {
     }
 }
 
+// Writes a file of these bytes, where there are any.
+fn put_file<R: Files>(rt: &R, name: &str, bytes: &Option<Vec<u8>>) -> io::Result<()> {
+    match bytes {
+        Some(bytes) => fs::write(rt, name, bytes.as_slice()),
+        None => Ok(()),
+    }
+}
+
 // The bytes of a file, which is removed, where it stands.
-fn take_file(rt: &HostRuntime, name: &str) -> io::Result<Option<Vec<u8>>> {
+fn take_file<R: Files + AllocGlobal>(rt: &R, name: &str) -> io::Result<Option<Vec<u8>>> {
     if !fs::exists(rt, name)? {
         return Ok(None);
     }

@@ -9,6 +9,8 @@ pub struct Row {
     pub name: String,
     /// The source text, where there is one.
     pub source: Option<Vec<u8>>,
+    /// The schedule, where there is one.
+    pub schedule: Option<Vec<u8>>,
     /// The words of the command line.
     pub words: Vec<String>,
     /// What has to come of it.
@@ -22,6 +24,7 @@ impl Row {
         Ok(Row {
             name: String::from_str(alloc, name)?,
             source: None,
+            schedule: None,
             words: Vec::new(alloc),
             wanted: Outcome::new(alloc),
             alloc,
@@ -31,7 +34,8 @@ impl Row {
     /// Takes a line of the row: its key, and what it says.
     pub fn take_line(&mut self, key: &str, said: &str) -> Result<(), RowFault> {
         match key {
-            "text" => self.add_text(said),
+            "text" => add_text(self.alloc, &mut self.source, said),
+            "schedule" => add_text(self.alloc, &mut self.schedule, said),
             "times" => self.add_repeated(said),
             "bytes" => self.add_bytes(said),
             "words" => self.add_words(said),
@@ -41,13 +45,6 @@ impl Row {
             "status" => self.set_status(said),
             _ => Err(RowFault::Key),
         }
-    }
-
-    fn add_text(&mut self, said: &str) -> Result<(), RowFault> {
-        let mut source = self.source.take().unwrap_or(Vec::new(self.alloc));
-        add_line(&mut source, said)?;
-        self.source = Some(source);
-        Ok(())
     }
 
     fn add_repeated(&mut self, said: &str) -> Result<(), RowFault> {
@@ -86,6 +83,13 @@ impl Row {
         self.wanted.status = said.parse().map_err(|_| RowFault::Number)?;
         Ok(())
     }
+}
+
+fn add_text(alloc: Global, file: &mut Option<Vec<u8>>, line: &str) -> Result<(), RowFault> {
+    let mut text = file.take().unwrap_or(Vec::new(alloc));
+    add_line(&mut text, line)?;
+    *file = Some(text);
+    Ok(())
 }
 
 fn add_line(text: &mut Vec<u8>, line: &str) -> Result<(), RowFault> {

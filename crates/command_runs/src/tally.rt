@@ -3,6 +3,9 @@ use crate::outcome::Outcome;
 use crate::row::Row;
 use std::io;
 use std::process::ExitCode;
+use std::rt::Files;
+use std::sync::Wait;
+use std::thread::Threads;
 
 /// The rows so far: how many there were, how many of them failed, and the row that is being read.
 #[derive(Drop)]
@@ -23,7 +26,11 @@ impl Tally {
     }
 
     /// Takes a line of standard input. Where a row begins, the one before it is run.
-    pub fn take_line(&mut self, rt: &HostRuntime, line: &str) -> io::Result<()> {
+    pub fn take_line<R: Files + AllocGlobal + Print + Threads + Wait + Sync>(
+        &mut self,
+        rt: &R,
+        line: &str,
+    ) -> io::Result<()> {
         if line.trim().is_empty() || line.starts_with('#') {
             return Ok(());
         }
@@ -45,7 +52,10 @@ impl Tally {
     }
 
     /// Runs the last row, and tells how many there were.
-    pub fn finish(mut self, rt: &HostRuntime) -> io::Result<ExitCode> {
+    pub fn finish<R: Files + AllocGlobal + Print + Threads + Wait + Sync>(
+        mut self,
+        rt: &R,
+    ) -> io::Result<ExitCode> {
         self.run_row(rt)?;
         let rows = self.rows;
         let failures = self.failures;
@@ -54,7 +64,10 @@ impl Tally {
     }
 
     // Runs the row that was read, where there is one, and tells what came out otherwise.
-    fn run_row(&mut self, rt: &HostRuntime) -> io::Result<()> {
+    fn run_row<R: Files + AllocGlobal + Print + Threads + Wait + Sync>(
+        &mut self,
+        rt: &R,
+    ) -> io::Result<()> {
         let Some(row) = self.row.take() else {
             return Ok(());
         };
@@ -75,7 +88,7 @@ impl Tally {
 }
 
 // Whether a row's command left what is wanted; prints what it left otherwise.
-fn compare(rt: &HostRuntime, row: &Row, outcome: &Outcome) -> io::Result<bool> {
+fn compare<R: Print + AllocGlobal>(rt: &R, row: &Row, outcome: &Outcome) -> io::Result<bool> {
     let wanted = &row.wanted;
     let is_well = outcome.status == wanted.status
         && outcome.output == wanted.output
@@ -96,7 +109,7 @@ fn compare(rt: &HostRuntime, row: &Row, outcome: &Outcome) -> io::Result<bool> {
 }
 
 // Prints what was written to a device, each line after the device's key.
-fn show(rt: &HostRuntime, key: &str, written: &[u8]) -> io::Result<()> {
+fn show<R: Print + AllocGlobal>(rt: &R, key: &str, written: &[u8]) -> io::Result<()> {
     let text = String::from_utf8_lossy(rt.alloc(), written)?;
     for line in text.as_str().lines() {
         println!(rt; "{key} {line}")?;

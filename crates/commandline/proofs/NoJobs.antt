@@ -2,30 +2,30 @@
 use Rattle.std.proofs.Common.{◌≡◌, ◌<◌, ◌^◌, ◌⊎◌, inl, inr, ℕ, List, None, Some, codes}
 use Rattle.std.specs.Str.Parse.{IsNumeral, digits_value, without_leading_plus}
 use Rattle.clap.specs.Words.{Row, Text, first_of, one_of}
-use Rattle.commandline.specs.CommandLine.{IsCheckOf, IsCompileOf, IsListOf, IsRunOf}
+use Rattle.commandline.specs.CommandLine.{IsCheckOf, IsCompileOf, IsListOf, IsReplayOf, IsRunOf}
 use Rattle.commandline.specs.declared.job.Job.{Job}
-use Rattle.commandline.specs.declared.job.Job.TheVariants.{Check, Compile, List as List', Run}
+use Rattle.commandline.specs.declared.job.Job.TheVariants.{Check, Compile, List as List', Run, Replay}
 use Rattle.commandline.proofs.Numbers.{no_value}
 
 pub no_check : (rows : List Row) (job : Job) → first_of (codes "FILE") rows ≡ None → IsCheckOf rows job → ⊥
 no_check rows (Check file) none h = no_value _ _ none h
-no_check rows (Compile file out) none h = h
-no_check rows (List' image) none h = h
-no_check rows (Run file steps trace) none h = h
+no_check rows other none h = h
 
 pub no_compile : (rows : List Row) (job : Job)
     → (first_of (codes "FILE") rows ≡ None) ⊎ (first_of (codes "OUT") rows ≡ None) → IsCompileOf rows job → ⊥
-no_compile rows (Check file) missing h = h
 no_compile rows (Compile file out) (inl none) h = no_value _ _ none h.0
 no_compile rows (Compile file out) (inr none) h = no_value _ _ none h.1
-no_compile rows (List' image) missing h = h
-no_compile rows (Run file steps trace) missing h = h
+no_compile rows other missing h = h
 
 pub no_list : (rows : List Row) (job : Job) → first_of (codes "IMAGE") rows ≡ None → IsListOf rows job → ⊥
-no_list rows (Check file) none h = h
-no_list rows (Compile file out) none h = h
 no_list rows (List' image) none h = no_value _ _ none h
-no_list rows (Run file steps trace) none h = h
+no_list rows other none h = h
+
+pub no_replay : (rows : List Row) (job : Job)
+    → (first_of (codes "FILE") rows ≡ None) ⊎ (first_of (codes "SCHEDULE") rows ≡ None) → IsReplayOf rows job → ⊥
+no_replay rows (Replay file schedule trace) (inl none) h = no_value _ _ none h.0
+no_replay rows (Replay file schedule trace) (inr none) h = no_value _ _ none h.1
+no_replay rows other missing h = h
 
 -- no number of 32 bits stands for `--steps`
 abbrev pub NoSteps : List Row → Type 0
@@ -35,10 +35,8 @@ NoSteps rows =
 
 pub no_run : (rows : List Row) (job : Job) → (first_of (codes "FILE") rows ≡ None) ⊎ NoSteps rows → IsRunOf rows job
     → ⊥
-no_run rows (Check file) missing h = h
-no_run rows (Compile file out) missing h = h
-no_run rows (List' image) missing h = h
 no_run rows (Run file steps trace) (inl none) h = no_value _ _ none h.0
 no_run rows (Run file steps trace) (inr none) h =
     let s = h.1 in
     none s.0 steps s.1 s.2 s.3 s.4
+no_run rows other missing h = h

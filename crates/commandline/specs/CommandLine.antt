@@ -7,7 +7,7 @@ use Rattle.clap.specs.Words.{subcommand_of}
 use Rattle.clap.specs.declared.builder.action.ArgAction.TheVariants.{SetTrue}
 use Rattle.clap.specs.declared.builder.value_parser.ValueParser.TheVariants.{Unsigned}
 use Rattle.commandline.specs.declared.job.Job.{Job}
-use Rattle.commandline.specs.declared.job.Job.TheVariants.{Check, Compile, List as List', Run}
+use Rattle.commandline.specs.declared.job.Job.TheVariants.{Check, Compile, List as List', Run, Replay}
 
 -- an argument that has to stand, told by its position
 abbrev pub positional : Text → Rule
@@ -44,6 +44,12 @@ abbrev pub run_command : App
 run_command =
     with_rule (with_rule (with_rule (new_app (codes "run")) (positional (codes "FILE"))) steps_option) trace_option
 
+-- `replay FILE SCHEDULE [--trace]`
+abbrev pub replay_command : App
+replay_command =
+    with_rule (with_rule (with_rule (new_app (codes "replay")) (positional (codes "FILE")))
+    (positional (codes "SCHEDULE"))) trace_option
+
 -- the text that stands for `--steps` is this number
 abbrev pub ReadsSteps : List Row → ℕ → Type 0
 ReadsSteps rows steps =
@@ -56,50 +62,50 @@ ReadsTrace rows trace =
     (one_of (codes "trace") rows ≡ Some (codes "true") → trace ≡ true)
     × (one_of (codes "trace") rows ≡ Some (codes "false") → trace ≡ false)
 
--- `mesamon`, and behind it one of the four; the words hold no name of the program
+-- `mesamon`, and behind it one of the five; the words hold no name of the program
 abbrev pub command_line : App
 command_line =
     let named = new_app (codes "mesamon") in
-    with_subcommand (with_subcommand (with_subcommand (with_subcommand (record named {
+    with_subcommand (with_subcommand (with_subcommand (with_subcommand (with_subcommand (record named {
       top = record named.top { no_binary_name = true; subcommand_required = true };
-    }) check_command.top) compile_command.top) list_command.top) run_command.top
+    }) check_command.top) compile_command.top) list_command.top) run_command.top) replay_command.top
 
 -- a job of checking, from the values of its command's arguments
 abbrev pub IsCheckOf : List Row → Job → Type 0
 IsCheckOf rows (Check file) = first_of (codes "FILE") rows ≡ Some file.now
-IsCheckOf rows (Compile file out) = ⊥
-IsCheckOf rows (List' image) = ⊥
-IsCheckOf rows (Run file steps trace) = ⊥
+IsCheckOf rows other = ⊥
 
 -- a job of compiling
 abbrev pub IsCompileOf : List Row → Job → Type 0
-IsCompileOf rows (Check file) = ⊥
 IsCompileOf rows (Compile file out) =
     (first_of (codes "FILE") rows ≡ Some file.now) × (first_of (codes "OUT") rows ≡ Some out.now)
-IsCompileOf rows (List' image) = ⊥
-IsCompileOf rows (Run file steps trace) = ⊥
+IsCompileOf rows other = ⊥
 
 -- a job of listing
 abbrev pub IsListOf : List Row → Job → Type 0
-IsListOf rows (Check file) = ⊥
-IsListOf rows (Compile file out) = ⊥
 IsListOf rows (List' image) = first_of (codes "IMAGE") rows ≡ Some image.now
-IsListOf rows (Run file steps trace) = ⊥
+IsListOf rows other = ⊥
 
 -- a job of running
 abbrev pub IsRunOf : List Row → Job → Type 0
-IsRunOf rows (Check file) = ⊥
-IsRunOf rows (Compile file out) = ⊥
-IsRunOf rows (List' image) = ⊥
 IsRunOf rows (Run file steps trace) =
     (first_of (codes "FILE") rows ≡ Some file.now) × ReadsSteps rows steps × ReadsTrace rows trace
+IsRunOf rows other = ⊥
+
+-- a job of running by a schedule
+abbrev pub IsReplayOf : List Row → Job → Type 0
+IsReplayOf rows (Replay file schedule trace) =
+    (first_of (codes "FILE") rows ≡ Some file.now) × (first_of (codes "SCHEDULE") rows ≡ Some schedule.now)
+    × ReadsTrace rows trace
+IsReplayOf rows other = ⊥
 
 -- the job that the command of a name asks for, with these values of its arguments
 abbrev pub IsAskedBy : Option (Text × List Row) → Job → Type 0
 IsAskedBy None job = ⊥
 IsAskedBy (Some (name, rows)) job =
     ((name ≡ codes "check") × IsCheckOf rows job) ⊎ (((name ≡ codes "compile") × IsCompileOf rows job)
-    ⊎ (((name ≡ codes "list") × IsListOf rows job) ⊎ ((name ≡ codes "run") × IsRunOf rows job)))
+    ⊎ (((name ≡ codes "list") × IsListOf rows job) ⊎ (((name ≡ codes "run") × IsRunOf rows job)
+    ⊎ ((name ≡ codes "replay") × IsReplayOf rows job))))
 
 -- the words ask for this job
 abbrev pub AsksFor : List Text → Job → Type 0

@@ -1,5 +1,6 @@
 ghost use Rattle.std.specs.Prelude.{◌≡◌, false, IfOk};
 ghost use Rattle.clap.specs.Words.{app_of, rule_of};
+ghost use Rattle.clap.specs.declared.builder.command.Command.TheViews.{out-Command as fields_of};
 ghost use Rattle.commandline.specs.CommandLine as line;
 
 use clap::builder::ValueParser;
@@ -13,30 +14,66 @@ const STEPS: &str = "1000000";
 pub fn command<'a>(alloc: Global) -> Result<Command<'a>, AllocError>
     ensures { IfOk result (λ c. app_of c ≡ line.command_line) }
 {
-    let check = Command::new(alloc, "check")
-        .about("Checks a source text")
-        .arg(positional(alloc, "FILE", "The source text"))?;
-    let compile = Command::new(alloc, "compile")
-        .about("Writes the image of a source text")
-        .arg(positional(alloc, "FILE", "The source text"))?
-        .arg(positional(alloc, "OUT", "Where the image is written"))?;
-    let list = Command::new(alloc, "list")
-        .about("Prints the instructions of an image")
-        .arg(positional(alloc, "IMAGE", "The image"))?;
-    let run = Command::new(alloc, "run")
-        .about("Runs a source text and prints its output")
-        .arg(positional(alloc, "FILE", "The source text"))?
-        .arg(steps_option(alloc))?
-        .arg(trace_option(alloc))?;
     Command::new(alloc, "mesamon")
         .about("Compiles programs of processes and monitors, and runs them")
         .bin_name("mesamon")?
         .no_binary_name(true)
         .subcommand_required(true)
-        .subcommand(check)?
-        .subcommand(compile)?
-        .subcommand(list)?
-        .subcommand(run)
+        .subcommand(check_command(alloc)?)?
+        .subcommand(compile_command(alloc)?)?
+        .subcommand(list_command(alloc)?)?
+        .subcommand(run_command(alloc)?)?
+        .subcommand(replay_command(alloc)?)
+}
+
+fn check_command<'a>(alloc: Global) -> Result<Command<'a>, AllocError>
+    ensures app { IfOk result (λ c. app_of c ≡ line.check_command) }
+    ensures local { IfOk result (λ c. (fields_of c).has_globals ≡ false) }
+{
+    Command::new(alloc, "check")
+        .about("Checks a source text")
+        .arg(positional(alloc, "FILE", "The source text"))
+}
+
+fn compile_command<'a>(alloc: Global) -> Result<Command<'a>, AllocError>
+    ensures app { IfOk result (λ c. app_of c ≡ line.compile_command) }
+    ensures local { IfOk result (λ c. (fields_of c).has_globals ≡ false) }
+{
+    Command::new(alloc, "compile")
+        .about("Writes the image of a source text")
+        .arg(positional(alloc, "FILE", "The source text"))?
+        .arg(positional(alloc, "OUT", "Where the image is written"))
+}
+
+fn list_command<'a>(alloc: Global) -> Result<Command<'a>, AllocError>
+    ensures app { IfOk result (λ c. app_of c ≡ line.list_command) }
+    ensures local { IfOk result (λ c. (fields_of c).has_globals ≡ false) }
+{
+    Command::new(alloc, "list")
+        .about("Prints the instructions of an image")
+        .arg(positional(alloc, "IMAGE", "The image"))
+}
+
+fn run_command<'a>(alloc: Global) -> Result<Command<'a>, AllocError>
+    ensures app { IfOk result (λ c. app_of c ≡ line.run_command) }
+    ensures local { IfOk result (λ c. (fields_of c).has_globals ≡ false) }
+{
+    Command::new(alloc, "run")
+        .about("Runs a source text and prints its output")
+        .arg(positional(alloc, "FILE", "The source text"))?
+        .arg(steps_option(alloc))?
+        .arg(trace_option(alloc))
+}
+
+fn replay_command<'a>(alloc: Global) -> Result<Command<'a>, AllocError>
+    ensures app { IfOk result (λ c. app_of c ≡ line.replay_command) }
+    ensures local { IfOk result (λ c. (fields_of c).has_globals ≡ false) }
+{
+    Command::new(alloc, "replay")
+        .about("Runs a source text by a schedule and prints its output")
+        .arg(positional(alloc, "FILE", "The source text"))?
+        .arg(positional(alloc, "SCHEDULE", "The threads of its steps"))?
+        .arg(trace_option(alloc))
 }
 
 fn positional<'a>(alloc: Global, name: &'a str, help: &'a str) -> Arg<'a>

@@ -1,7 +1,8 @@
 ghost use Rattle.std.specs.Prelude.{IfOk, IfErr, IfSome, None, true, map, ◌≡◌};
 ghost use Rattle.clap.specs.Words.{found_of, kind_of, subcommand_rows_of, takes};
 ghost use Rattle.clap.specs.Walk.{rows_of};
-ghost use Rattle.commandline.specs.CommandLine.{AsksFor, IsAskedBy, IsCheckOf, IsCompileOf, IsListOf, IsRunOf, command_line};
+ghost use Rattle.commandline.specs.CommandLine.{AsksFor, IsAskedBy, IsCheckOf, IsCompileOf, IsListOf, IsReplayOf};
+ghost use Rattle.commandline.specs.CommandLine.{IsRunOf, command_line};
 ghost use Rattle.commandline.specs.declared.job.Job.{Job as JobOf};
 
 use crate::builder::command;
@@ -36,6 +37,15 @@ pub enum Job<'a> {
         file: &'a str,
         /// The most steps of the machine.
         steps: u32,
+        /// Whether the log is shown.
+        trace: bool,
+    },
+    /// Run the source text of a file by the schedule of another, and show the log where it is wanted.
+    Replay {
+        /// The name of the source text's file.
+        file: &'a str,
+        /// The name of the schedule's file.
+        schedule: &'a str,
         /// Whether the log is shown.
         trace: bool,
     },
@@ -76,6 +86,7 @@ fn job_of<'a>(matches: &ArgMatches<'a>) -> Option<Job<'a>>
         "compile" => compile_of(inner),
         "list" => list_of(inner),
         "run" => run_of(inner),
+        "replay" => replay_of(inner),
         _ => None,
     }
 }
@@ -113,4 +124,18 @@ fn run_of<'a>(matches: &ArgMatches<'a>) -> Option<Job<'a>>
     let steps = matches.get_one::<u32>("steps")?;
     let trace = matches.get_flag("trace");
     Some(Job::Run { file, steps, trace })
+}
+
+fn replay_of<'a>(matches: &ArgMatches<'a>) -> Option<Job<'a>>
+    ensures job { IfSome result (IsReplayOf (rows_of (found_of matches.now))) }
+    ensures none { result ≡ None → (job : JobOf) → IsReplayOf (rows_of (found_of matches.now)) job → ⊥ }
+{
+    let file = matches.get_str("FILE")?;
+    let schedule = matches.get_str("SCHEDULE")?;
+    let trace = matches.get_flag("trace");
+    Some(Job::Replay {
+        file,
+        schedule,
+        trace,
+    })
 }

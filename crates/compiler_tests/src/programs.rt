@@ -1,5 +1,5 @@
 use compiler::{compile, text_laws};
-use mesamon::{RunSourceFault, run_source};
+use mesamon::{RunSourceFault, run_in_order};
 use runner::{Report, RunFault, Verdict};
 use scanner::Refusal;
 use std::test::*;
@@ -29,7 +29,7 @@ fn compiles_or_names_want_of_memory(rt: HostRuntime) {
 
 #[test]
 fn runs_or_names_want_of_memory(rt: HostRuntime) {
-    let is_well = match run_source(rt.alloc(), TWO, 8, &OpenGate) {
+    let is_well = match run_in_order(rt.alloc(), TWO, 8, &OpenGate) {
         Ok(report) => is_done(&report),
         Err(RunSourceFault::Refused(refusal)) => refusal == Refusal::memory(),
         Err(RunSourceFault::Run(fault)) => fault == RunFault::Memory,

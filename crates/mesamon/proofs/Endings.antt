@@ -1,9 +1,11 @@
 -- How a command that ran a program has ended.
-use Rattle.std.proofs.Common.{◌≡◌, arith, ℕ, List, inl, inr, sym, subst}
+use Rattle.std.proofs.Common.{◌≡◌, arith, ℕ, Bool, List, Result, Ok, Err, IfOk, OnOk, inl, inr, sym, subst}
 use Rattle.mesamon.specs.declared.status.Status.{Status}
 use Rattle.mesamon.specs.declared.status.Status.TheVariants.{Done, Refused, Usage, Stuck, Limit, Memory, Failed}
 use Rattle.mesamon.specs.Statuses.{status_code}
-use Rattle.mesamon.specs.Commands.{HasDone, HasRun, status_of_verdict}
+use Rattle.mesamon.specs.Accounts.{account, output_lines}
+use Rattle.mesamon.specs.Commands.{HasDone, HasRun, IsReportOf, status_of_verdict}
+use Rattle.runner.specs.declared.report.Report.{Report}
 use Rattle.runner.specs.declared.report.Verdict.{Verdict}
 use Rattle.runner.specs.declared.report.Verdict.TheVariants as verdict
 
@@ -13,6 +15,25 @@ pub done-at : (W E : List ℕ → Type 0) (v : Verdict) (s : Status) → HasRun 
 done-at W E verdict.Done s h e = subst (HasDone W E) (sym e) (inr (inr (inl h)))
 done-at W E verdict.Stuck s h e = subst (HasDone W E) (sym e) h
 done-at W E verdict.Limit s h e = subst (HasDone W E) (sym e) h
+
+-- a run ended as its verdict says
+pub ran : (W E : List ℕ → Type 0) (s : Status) → HasRun W E s → HasDone W E s
+ran W E s h =
+    done-at W E h.report.verdict s (subst (HasRun W E) h.ended h) h.ended
+
+-- what a run told was written, if it could be
+pub has_run : (W E : List ℕ → Type 0) (F : Type 0) (text : List ℕ) (trace : Bool) (report : Report)
+    (r : Result Status F) → IsReportOf text report → IfOk r (λ s. s ≡ status_of_verdict report.verdict)
+    → OnOk r (W (output_lines report.output.items)) → OnOk r (E (account report trace)) → IfOk r (HasRun W E)
+has_run W E F text trace report (Ok s) run ended wrote told =
+    record { text = text; trace = trace; report = report; run = run; ended = ended; wrote = wrote; told = told }
+has_run W E F text trace report (Err f) run ended wrote told = tt
+
+-- a command that ran nothing was done
+pub done_by : (W E : List ℕ → Type 0) (F : Type 0) (A : Type 0) (r : Result Status F) → (A → HasDone W E Done)
+    → IfOk r (λ s. s ≡ Done) → OnOk r A → IfOk r (HasDone W E)
+done_by W E F A (Ok s) goes is wrote = subst (HasDone W E) (sym is) (goes wrote)
+done_by W E F A (Err f) goes is wrote = tt
 
 -- status 0 is that of a command that was done
 pub done-zero : (W E : List ℕ → Type 0) (s : Status) (n : ℕ) → HasDone W E s → n ≡ status_code s → n ≡ 0

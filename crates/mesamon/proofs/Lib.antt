@@ -1,3 +1,4 @@
 pub mod RunsExplained
 mod Endings
 mod Lines
+mod Replays

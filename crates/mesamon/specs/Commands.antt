@@ -12,6 +12,7 @@ use Rattle.program.specs.Trees.{Program as ProgramOf}
 use Rattle.compiler.specs.Accepts.{Accepts}
 use Rattle.compiler.specs.Compiles.{IsCompiled}
 use Rattle.mesamon.specs.Running.{IsRunOf}
+use Rattle.mesamon.specs.Replaying.{IsReplayOf}
 use Rattle.mesamon.specs.Accounts.{account, image_line, output_lines}
 
 -- some text was checked, and it was told that it is a program
@@ -41,13 +42,17 @@ status_of_verdict verdict.Done = Done
 status_of_verdict verdict.Stuck = Stuck
 status_of_verdict verdict.Limit = Limit
 
+-- a report of a run of the text within some limit of steps, or by some schedule
+abbrev pub IsReportOf : List ℕ → Report → Type 0
+IsReportOf text report =
+    ((limit : ℕ) × IsRunOf text limit report) ⊎ ((schedule : List ℕ) × IsReplayOf text schedule report)
+
 -- some text was run, and its output and its account were written
 pub record HasRun (Wrote WroteErrors : List ℕ → Type 0) (status : Status) : Type 0 where
   pub text : List ℕ
-  pub limit : ℕ
   pub trace : Bool
   pub report : Report
-  pub run : IsRunOf text limit report
+  pub run : IsReportOf text report
   pub ended : status ≡ status_of_verdict report.verdict
   pub wrote : Wrote (output_lines report.output.items)
   pub told : WroteErrors (account report trace)

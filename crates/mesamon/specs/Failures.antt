@@ -11,8 +11,11 @@ use Rattle.scanner.specs.declared.refusal.RefusalKind.TheVariants as kind
 use Rattle.runner.specs.declared.fault.RunFault.TheVariants as fault
 use Rattle.mesamon.specs.declared.source_run.RunSourceFault.{RunSourceFault}
 use Rattle.mesamon.specs.declared.source_run.RunSourceFault.TheVariants as source
+use Rattle.mesamon.specs.declared.replaying.ReplayFault.{ReplayFault}
+use Rattle.mesamon.specs.declared.replaying.ReplayFault.TheVariants as replay
 use Rattle.mesamon.specs.declared.failure.Failure.{Failure}
-use Rattle.mesamon.specs.declared.failure.Failure.TheVariants.{Usage, Read, Write, Refused, Image, Run, Output, Memory}
+use Rattle.mesamon.specs.declared.failure.Failure.TheVariants.{Usage, Read, Write, Refused, Image, Run, Schedule}
+use Rattle.mesamon.specs.declared.failure.Failure.TheVariants.{Output, Memory}
 use Rattle.mesamon.specs.declared.status.Status.{Status}
 use Rattle.mesamon.specs.declared.status.Status.TheVariants as status
 
@@ -23,6 +26,7 @@ status_of (Write name) = status.Failed
 status_of (Refused e) = status.Refused
 status_of (Image e) = status.Failed
 status_of (Run e) = status.Failed
+status_of (Schedule number) = status.Failed
 status_of Output = status.Failed
 status_of Memory = status.Memory
 
@@ -48,3 +52,8 @@ abbrev pub OfRun : RunSourceFault → Failure → Type 0
 OfRun (source.Refused e) f = OfRefusal e f
 OfRun (source.Run fault.Memory) f = f ≡ Memory
 OfRun (source.Run e) f = f ≡ Run e
+
+abbrev pub OfReplay : ReplayFault → Failure → Type 0
+OfReplay (replay.Refused e) f = OfRefusal e f
+OfReplay (replay.BadEntry number) f = f ≡ Schedule number
+OfReplay replay.Memory f = f ≡ Memory

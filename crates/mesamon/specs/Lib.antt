@@ -1,4 +1,5 @@
 pub mod Running
+pub mod Replaying
 pub mod Statuses
 pub mod Accounts
 pub mod Failures

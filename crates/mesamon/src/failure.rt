@@ -1,8 +1,9 @@
 ghost use Rattle.std.specs.Prelude.{◌≡◌};
 ghost use Rattle.std.specs.IoError.{error_kind};
-ghost use Rattle.mesamon.specs.declared.failure.Failure.TheVariants.{Memory as memory};
-ghost use Rattle.mesamon.specs.Failures.{status_of, OfIo, OfWords, OfRefusal, OfImage, OfRun};
+ghost use Rattle.mesamon.specs.declared.failure.Failure.TheVariants.{Memory as memory, Output as output};
+ghost use Rattle.mesamon.specs.Failures.{status_of, OfIo, OfWords, OfRefusal, OfImage, OfRun, OfReplay};
 
+use crate::replaying::ReplayFault;
 use crate::source_run::RunSourceFault;
 use crate::status::Status;
 use commandline::WordsFault;
@@ -34,6 +35,10 @@ pub enum Failure<'a> {
     /// The run failed.
     #[error("{0}")]
     Run(RunFault),
+    /// The entry of the schedule that has this number is no number or names a thread that can't move; 0 is for a schedule
+    /// of too many bytes.
+    #[error("schedule entry {0}")]
+    Schedule(u64),
     /// Output could not be written.
     #[error("cannot write output")]
     Output,
@@ -65,17 +70,6 @@ impl<'a> Failure<'a> {
         }
     }
 
-    /// The failure of writing output.
-    pub fn of_output(error: &io::Error) -> Failure<'a>
-        ensures { OfIo (error_kind error.now) (Failure.Output) result }
-    {
-        if error.kind() == io::ErrorKind::OutOfMemory {
-            Failure::Memory
-        } else {
-            Failure::Output
-        }
-    }
-
     /// How the command ended.
     pub fn status(&self) -> Status
         ensures { result ≡ status_of self.now }
@@ -88,6 +82,7 @@ impl<'a> Failure<'a> {
             | Failure::Write(_)
             | Failure::Image(_)
             | Failure::Run(_)
+            | Failure::Schedule(_)
             | Failure::Output => Status::Failed,
         }
     }
@@ -135,6 +130,31 @@ impl From<RunSourceFault> for Failure<'_> {
             RunSourceFault::Refused(refusal) => Failure::from(refusal),
             RunSourceFault::Run(RunFault::Memory) => Failure::Memory,
             RunSourceFault::Run(fault) => Failure::Run(fault),
+        }
+    }
+}
+
+impl From<ReplayFault> for Failure<'_> {
+    ghost from_gives = { OfReplay };
+
+    fn from(fault: ReplayFault) -> Self {
+        match fault {
+            ReplayFault::Refused(refusal) => Failure::from(refusal),
+            ReplayFault::BadEntry(number) => Failure::Schedule(number),
+            ReplayFault::Memory => Failure::Memory,
+        }
+    }
+}
+
+// The failure of writing output. A file's is named: `of_read`, `of_write`.
+impl From<io::Error> for Failure<'_> {
+    ghost from_gives = { λ error f. OfIo (error_kind error) output f };
+
+    fn from(error: io::Error) -> Self {
+        if error.kind() == io::ErrorKind::OutOfMemory {
+            Failure::Memory
+        } else {
+            Failure::Output
         }
     }
 }

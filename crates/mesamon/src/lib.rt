@@ -4,10 +4,13 @@
 mod commands;
 mod failure;
 mod files;
+mod replaying;
 mod report;
+mod schedule;
 mod source_run;
 mod status;
 
 pub use commands::perform;
-pub use source_run::{RunSourceFault, run_source};
+pub use replaying::{ReplayFault, replay};
+pub use source_run::{RunSourceFault, run_in_order, run_source};
 pub use status::Status;

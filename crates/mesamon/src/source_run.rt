@@ -8,9 +8,11 @@ ghost use Rattle.mesamon.specs.Running.{IsRunOf, IsRefusedRun, IsMemory};
 ghost use Rattle.mesamon.specs.declared.source_run.RunSourceFault.TheVariants.{Refused, Run};
 
 use compiler::compile;
-use runner::{Report, RunFault, logs_are_machine_runs, run};
+use runner::{Report, RunFault, logs_are_machine_runs};
 use scanner::Refusal;
 use std::alloc::Global;
+use std::sync::Wait;
+use std::thread::Threads;
 use thiserror::Error;
 use words::Gate;
 
@@ -41,14 +43,16 @@ impl From<RunFault> for RunSourceFault {
     }
 }
 
-/// Compiles a source text and runs its image within a limit of steps, as `run` does. The gate is passed before each
-/// entry of the log, with the number of its thread.
+/// Compiles a source text and runs its image within a limit of steps, with a worker for each thread, as `workers::run`
+/// does. The gate is passed before each entry of the log, with the number of its thread.
 ///
 /// Some run of the text's program explains the report: it has the same output and the same ends of processes, and
 /// where no thread can move, none of its processes can. A text that `compile` refuses has the same refusal. The run's
-/// own fault is `Memory`. `Broken` comes of no text as long as the limit is at most 2^32 - 257: a run is explained as
-/// long as it has fewer than 2^32 steps, and a thread may take 256 local steps beyond the limit before it is refused.
-pub fn run_source<G: Gate>(
+/// own fault is `Memory`, also where a worker can't be started. `Broken` comes of no text as long as the limit is at
+/// most 2^32 - 257: a run is explained as long as it has fewer than 2^32 steps, and a thread may take 256 local steps
+/// beyond the limit before it is refused.
+pub fn run_source<R: Threads + Wait + Sync, G: Gate>(
+    rt: &R,
     alloc: Global,
     text: &[u8],
     limit: u32,
@@ -61,5 +65,23 @@ pub fn run_source<G: Gate>(
 {
     logs_are_machine_runs();
     let image = compile(alloc, text)?;
-    Ok(run(alloc, &image, limit, gate)?)
+    Ok(workers::run(rt, alloc, &image, limit, gate)?)
+}
+
+/// The same on the calling thread, as `runner::run` does: round after round, an entry of each thread that can move, by
+/// rising number. So the report depends on the text and the limit alone, want of memory aside.
+pub fn run_in_order<G: Gate>(
+    alloc: Global,
+    text: &[u8],
+    limit: u32,
+    gate: &G,
+) -> Result<Report, RunSourceFault>
+    ensures report { IfOk result (λ report. IsRunOf text.now limit report) }
+    ensures fault { IfErr result (λ fault. IsRefusedRun text.now limit fault) }
+    ensures sound { limit + most_local_steps < 2 ^ 32 → IfErr result (λ fault. fault ≢ Run Broken) }
+    ensures only { (p : Program) → Accepts text.now p → Fits p → IfErr result (λ fault. IsMemory fault) }
+{
+    logs_are_machine_runs();
+    let image = compile(alloc, text)?;
+    Ok(runner::run(alloc, &image, limit, gate)?)
 }

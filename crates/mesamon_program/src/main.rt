@@ -2,21 +2,29 @@
 #![tactic(auto)]
 
 use mesamon::{Status, perform};
+use std::io::Write;
 use std::process::ExitCode;
+use std::rt::{Env, Files};
+use std::sync::Wait;
+use std::thread::Threads;
 use std::{env, io};
 
 fn main(rt: HostRuntime) -> ExitCode {
-    match perform_words(&rt) {
+    match perform_words(&rt, &mut rt.stdout(), &mut rt.stderr()) {
         Ok(status) => ExitCode::from(status),
         Err(error) => ExitCode::from(refuse(&rt, &error).code()),
     }
 }
 
 // Does what the words of the command line ask for.
-fn perform_words(rt: &HostRuntime) -> io::Result<u8> {
+fn perform_words<R: Env + Files + AllocGlobal + Threads + Wait + Sync, O: Write, E: Write>(
+    rt: &R,
+    output: &mut O,
+    errors: &mut E,
+) -> io::Result<u8> {
     let words: Vec<String> = env::args(rt)?.skip(1).collect(rt.alloc())?;
     let texts: Vec<&str> = words.iter().map(|word| word.as_str()).collect(rt.alloc())?;
-    Ok(perform(rt, texts.as_slice(), &mut rt.stdout(), &mut rt.stderr()))
+    Ok(perform(rt, texts.as_slice(), output, errors))
 }
 
 // Says why there are no words: one of them is no UTF-8, or there was no memory for them.

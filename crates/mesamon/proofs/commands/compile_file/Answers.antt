@@ -1,8 +1,8 @@
 use Rattle.std.proofs.Common.{rules}
 use Rattle.mesamon.proofs.commands.compile_file.Goals as goal
 
-pub returns : goal.returns
-returns g c = record {
+pub returns-clause-wrote : goal.returns-clause-wrote
+returns-clause-wrote g c = record {
   text = _;
   image = _;
   compiled = c.in_ok-image.ensures.accepted;

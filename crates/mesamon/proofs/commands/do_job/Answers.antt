@@ -1,20 +1,25 @@
-use Rattle.std.proofs.Common.{refl}
-use Rattle.mesamon.proofs.Endings.{done-at}
+use Rattle.std.proofs.Common.{inl, inr}
+use Rattle.std.proofs.lemmas.Result.{IfOk-weaker}
+use Rattle.mesamon.proofs.Endings.{done_by, ran}
 use Rattle.mesamon.proofs.commands.do_job.Goals as goal
 
-pub returns-in_ok-show-in-Run : goal.returns-in_ok-show-in-Run
-returns-in_ok-show-in-Run g c =
-    let r = c.in_ok-report-in-Run in
-    let told = c.in_ok-show-in-Run.ensures in
-    done-at _ _ r.report.verdict _ (record {
-      text = r.ensures.0;
-      limit = c.in-Run.steps;
-      trace =
-          c.in-Run.trace;
-      report = r.report;
-      run = r.ensures.1;
-      ended = refl;
-      wrote = told.output;
-      told = told.errors;
-    })
-    c.status_of.ensures
+pub returns-in-Check : goal.returns-in-Check
+returns-in-Check g c =
+    let told = c.check_file.ensures in
+    done_by _ _ _ _ c.check_file.result (λ h. inr (inr (inr h))) told.done told.wrote
+
+pub returns-in-Compile : goal.returns-in-Compile
+returns-in-Compile g c =
+    let told = c.compile_file.ensures in
+    done_by _ _ _ _ c.compile_file.result (λ h. inl h) told.done told.wrote
+
+pub returns-in-List : goal.returns-in-List
+returns-in-List g c =
+    let told = c.list_file.ensures in
+    done_by _ _ _ _ c.list_file.result (λ h. inr (inl h)) told.done told.wrote
+
+pub returns-in-Run : goal.returns-in-Run
+returns-in-Run g c = IfOk-weaker c.run_file.result _ _ (λ s h. ran _ _ s h) c.run_file.ensures
+
+pub returns-in-Replay : goal.returns-in-Replay
+returns-in-Replay g c = IfOk-weaker c.replay_file.result _ _ (λ s h. ran _ _ s h) c.replay_file.ensures

@@ -1,8 +1,8 @@
 use Rattle.std.proofs.Common.{rules}
 use Rattle.mesamon.proofs.commands.list_file.Goals as goal
 
-pub returns : goal.returns
-returns g c = record {
+pub returns-clause-wrote : goal.returns-clause-wrote
+returns-clause-wrote g c = record {
   bytes = _;
   image = _;
   spelled = c.in_ok-image.ensures.found.0;

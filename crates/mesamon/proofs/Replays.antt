@@ -1,0 +1,111 @@
+-- A report of a run of compiled code by a schedule is explained by a run of the program.
+use Rattle.std.proofs.Common.{◌≡◌, ◌<◌, ◌+◌, ◌^◌, ◌++◌, ℕ, zero, suc, List, [], ◌∷◌, Option, Some, None, Err}
+use Rattle.std.proofs.Common.{inl, inr, length, map, min, replicate, take, refl, ap, ap₂, sym, ◌∙◌, subst, arith}
+use Rattle.std.specs.List.{All}
+use Rattle.std.proofs.lemmas.List.{length-map, length-take, map-append}
+use Rattle.std.proofs.lemmas.Simd.{map-map}
+use Rattle.std.proofs.lemmas.List.Elements.{All-head, All-tail}
+use Rattle.std.proofs.lemmas.List.Sums.{sum_by-cons}
+use Rattle.isa.specs.Programs.{Program}
+use Rattle.machine.specs.declared.event.Entry.{Entry}
+use Rattle.machine.specs.declared.event.Event.{Event}
+use Rattle.machine.specs.declared.event.StepFault.TheVariants as step
+use Rattle.machine.specs.ConcreteSteps.{step_of}
+use Rattle.machine.specs.FrontRuns.{EventStep, Label, label_of, event_label}
+use Rattle.machine.specs.Runs.{Step}
+use Rattle.machine.specs.States.{state_of}
+use Rattle.machine.specs.Views.{concrete}
+use Rattle.machine.proofs.Refusing.{breaks_so}
+use Rattle.code.specs.Pieces.{code_of}
+use Rattle.refinement.specs.Refines.{Refines}
+use Rattle.runner.specs.Logs.{cost, event_cost}
+use Rattle.runner.specs.LogRuns.{local_step_of, shared_step_of, steps_of}
+use Rattle.runner.specs.Schedules.{FailsAt, IsFollowed, IsOneStep}
+use Rattle.runner.specs.declared.report.Report.{Report}
+use Rattle.runner.specs.declared.schedule.ScheduleFault.TheVariants.{Broken}
+use Rattle.runner.proofs.Unrolling.{holds, runs_so}
+use Rattle.compiler.specs.Compiles.{IsCompiled}
+use Rattle.mesamon.specs.Replaying.{IsReplayOf}
+
+-- entries of one step cost as many steps as there are
+ones_cost : (log : List Entry) → All IsOneStep log → cost log ≡ length log
+ones_cost [] all = refl
+ones_cost (e ∷ es) all =
+    let one : e.local + event_cost e.event ≡ 1 = All-head IsOneStep e es all in
+    let rest = ones_cost es (All-tail IsOneStep e es all) in
+    let more : cost (e ∷ es) ≡ e.local + event_cost e.event + cost es =
+    sum_by-cons (λ (x : Entry). x.local + event_cost x.event) e es in
+    omega (arith, one, rest, more)
+
+-- the step of an entry of one step is its thread's
+entry_thread : (t n : ℕ) (event : Option Event) → n + event_cost event ≡ 1
+    → map (λ (s : EventStep). s.thread) (replicate n (local_step_of t) ++ shared_step_of t event) ≡ t ∷ []
+entry_thread t zero None one = absurd cc
+entry_thread t zero (Some e) one = refl
+entry_thread t (suc zero) None one = refl
+entry_thread t (suc zero) (Some e) one = absurd (omega (arith, one))
+entry_thread t (suc (suc n)) event one = absurd (omega (arith, one))
+
+steps_threads : (log : List Entry) → All IsOneStep log
+    → map (λ (s : EventStep). s.thread) (steps_of log) ≡ map (λ (e : Entry). e.thread) log
+steps_threads [] all = refl
+steps_threads (e ∷ es) all =
+    map-append (λ (s : EventStep). s.thread) (replicate e.local (local_step_of e.thread)
+    ++ shared_step_of e.thread e.event) (steps_of es)
+    ∙ ap₂ (λ xs ys. xs ++ ys) (entry_thread e.thread e.local e.event (All-head IsOneStep e es all))
+    (steps_threads es (All-tail IsOneStep e es all))
+
+-- steps that are seen as others are the same threads'
+same_threads : (run : List Step) (steps : List EventStep) → map label_of run ≡ map event_label steps
+    → map (λ (s : Step). s.thread) run ≡ map (λ (s : EventStep). s.thread) steps
+same_threads run steps same =
+    sym (map-map (λ (l : Label). l.thread) label_of run) ∙ ap (map (λ (l : Label). l.thread)) same
+    ∙ map-map (λ (l : Label). l.thread) event_label steps
+
+pub replay_explained : (text : List ℕ) (image : Program) (schedule : List ℕ) (r : Report) → IsCompiled text image
+    → IsFollowed image schedule r → IsReplayOf text schedule r
+replay_explained text image schedule r c f =
+    let followed : IsFollowed (code_of c.program) schedule r = subst (λ (p : Program). IsFollowed p schedule r) c.code
+    f in
+    let refines : Refines c.program (code_of c.program) = subst (λ (p : Program). Refines c.program p) c.code
+    c.refines in
+    let (steps, run, count, same) = runs_so (code_of c.program) r.log.items (concrete r.last)
+    followed.follows.legal in
+    let single = followed.follows.single in
+    let total = ones_cost r.log.items single in
+    let many : length r.log.items ≡ length schedule =
+    sym (length-map r.log.items (λ (e : Entry). e.thread)) ∙ ap length followed.follows.threads in
+    let below = followed.few in
+    let few : length steps < 2 ^ 32 = omega (arith, count, total, many, below) in
+    record {
+      program = c.program;
+      accepts = c.accepts;
+      followed = followed;
+      steps = steps;
+      threads = same_threads steps (steps_of r.log.items) same ∙ steps_threads r.log.items single
+          ∙ followed.follows.threads;
+      machine_run = run;
+      explained = refines.follows steps (state_of (concrete r.last)) run few;
+    }
+
+sound_at : (text : List ℕ) (image : Program) (schedule : List ℕ) (number : ℕ) (c : IsCompiled text image)
+    → FailsAt (code_of c.program) schedule (Broken number) → ⊥
+sound_at text image schedule number c (inl memory) = absurd memory
+sound_at text image schedule number c (inr (before, k, t, comes, refuses)) =
+    let refines : Refines c.program (code_of c.program) = subst (λ (p : Program). Refines c.program p) c.code
+    c.refines in
+    let (steps, run, count, same) = runs_so (code_of c.program) comes.log k comes.follows.legal in
+    let total = ones_cost comes.log comes.follows.single in
+    let many : length comes.log ≡ min before (length schedule) =
+    sym (length-map comes.log (λ (e : Entry). e.thread)) ∙ ap length comes.follows.threads
+    ∙ length-take before schedule in
+    let below = comes.few in
+    let few : length steps < 2 ^ 32 = omega (arith, count, total, many, below) in
+    (refines.follows steps (state_of k) run few).sound t ((breaks_so (code_of c.program) k t
+    (holds (code_of c.program) comes.log k comes.follows.legal)).0 refuses.3)
+
+-- by no schedule compiled code meets a step that may not be
+pub replay_sound : (text : List ℕ) (image : Program) (schedule : List ℕ) (number : ℕ) → IsCompiled text image
+    → FailsAt image schedule (Broken number) → ⊥
+replay_sound text image schedule number c fails =
+    sound_at text image schedule number c (subst (λ (p : Program). FailsAt p schedule (Broken number)) c.code fails)

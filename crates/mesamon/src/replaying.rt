@@ -1,0 +1,55 @@
+ghost use Rattle.std.specs.Prelude.{◌≡◌, IfOk, IfErr};
+ghost use Rattle.program.specs.Trees.{Program};
+ghost use Rattle.backend.specs.Refusals.{Fits};
+ghost use Rattle.compiler.specs.Accepts.{Accepts};
+ghost use Rattle.mesamon.specs.Replaying.{IsReplayOf, IsRefusedReplay, IsNoRefusal};
+ghost use Rattle.mesamon.specs.declared.replaying.ReplayFault.TheVariants.{Refused};
+
+use compiler::compile;
+use runner::{Report, ScheduleFault, follow};
+use scanner::Refusal;
+use std::alloc::Global;
+use thiserror::Error;
+
+/// Why a source text was not run by a schedule to its end.
+#[derive(Clone, Copy, PartialEq, Eq, Debug, Error)]
+pub enum ReplayFault {
+    /// The text has no image.
+    #[error("{0}")]
+    Refused(Refusal),
+    /// The entry of the schedule that has this number, from 1, names a thread that can't move, or its number is past
+    /// 4294967295.
+    #[error("schedule entry {0}")]
+    BadEntry(u64),
+    /// There is no memory for the run.
+    #[error("memory")]
+    Memory,
+}
+
+impl From<Refusal> for ReplayFault {
+    ghost from_gives = { λ e f. f ≡ Refused e };
+
+    fn from(refusal: Refusal) -> ReplayFault {
+        ReplayFault::Refused(refusal)
+    }
+}
+
+/// Compiles a source text and runs its image by a schedule: for each of its numbers the thread of that number takes one
+/// step of the machine, local or shared, which is an entry of the log.
+///
+/// Some run of the text's program explains the report, as with `run_source`. The verdict is Limit where some thread can
+/// still move. A text that `compile` refuses has the same refusal; else the first entry whose thread can't move is
+/// refused. No step of a program's code may not be, so there is no other fault but want of memory.
+pub fn replay(alloc: Global, text: &[u8], schedule: &[u32]) -> Result<Report, ReplayFault>
+    ensures report { IfOk result (λ report. IsReplayOf text.now schedule.now report) }
+    ensures fault { IfErr result (λ fault. IsRefusedReplay text.now schedule.now fault) }
+    ensures only { (p : Program) → Accepts text.now p → Fits p → IfErr result (λ fault. IsNoRefusal fault) }
+{
+    let image = compile(alloc, text)?;
+    match follow(alloc, &image, schedule) {
+        Ok(report) => Ok(report),
+        Err(ScheduleFault::BadEntry(number)) => Err(ReplayFault::BadEntry(number)),
+        Err(ScheduleFault::Broken(_)) => unreachable!(),
+        Err(ScheduleFault::Memory) => Err(ReplayFault::Memory),
+    }
+}

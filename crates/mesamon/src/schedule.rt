@@ -1,0 +1,31 @@
+use std::alloc::{AllocError, Global};
+
+/// The threads that a schedule's text names: decimal numbers between white space.
+///
+/// What is no number to 4294967295 names thread 0, which there never is, so that it is refused as an entry of a thread
+/// that can't move.
+pub fn threads_of(alloc: Global, text: &[u8]) -> Result<Vec<u32>, AllocError> {
+    let mut threads = Vec::new(alloc);
+    for word in text.split(|byte| byte.is_ascii_whitespace()) {
+        if !word.is_empty() {
+            threads.push(thread_of(word))?;
+        }
+    }
+    Ok(threads)
+}
+
+// The number that decimal digits write. Where they write none of 32 bits it is 0.
+fn thread_of(digits: &[u8]) -> u32 {
+    let mut number: u32 = 0;
+    for byte in digits {
+        let more = match number.checked_mul(10) {
+            Some(tens) if byte.is_ascii_digit() => tens.checked_add(u32::from(*byte - b'0')),
+            _ => None,
+        };
+        let Some(more) = more else {
+            return 0;
+        };
+        number = more;
+    }
+    number
+}
