@@ -1,5 +1,5 @@
 -- A report of a run of compiled code is explained by a run of the program.
-use Rattle.std.proofs.Common.{◌≢◌, ◌<◌, ◌+◌, ◌^◌, ℕ, List, length, subst, arith}
+use Rattle.std.proofs.Common.{◌≢◌, ◌<◌, ◌^◌, ℕ, List, length, subst, arith}
 use Rattle.isa.specs.Programs.{Program}
 use Rattle.machine.specs.States.{state_of}
 use Rattle.machine.specs.Views.{concrete}
@@ -8,7 +8,7 @@ use Rattle.refinement.specs.Refines.{Refines}
 use Rattle.runner.specs.declared.fault.RunFault.{RunFault}
 use Rattle.runner.specs.declared.fault.RunFault.TheVariants.{Broken, Memory, Stray, CannotMove, Limit}
 use Rattle.runner.specs.declared.report.Report.{Report}
-use Rattle.runner.specs.LogRuns.{RunsSo, MeetsSo}
+use Rattle.runner.specs.LogRuns.{RunsSo, LocallySo}
 use Rattle.runner.specs.Reports.{IsReport, CanFail, MeetsBroken}
 use Rattle.compiler.specs.Compiles.{IsCompiled}
 use Rattle.mesamon.specs.Running.{IsFailedRun, IsRunOf}
@@ -39,17 +39,20 @@ run_fails text image limit fault c fails = record {
   fails = subst (λ (p : Program). CanFail p limit fault) c.code fails;
 }
 
--- compiled code meets no step that may not be in fewer than 2^32 steps
-pub run_sound : MeetsSo → (text : List ℕ) (image : Program) (limit : ℕ) (fault : RunFault) → IsCompiled text image
-    → CanFail image limit fault → limit + 256 < 2 ^ 32 → fault ≢ Broken
-run_sound meets text image limit Broken c fails small e =
+-- compiled code meets no step that may not be: the log that it would follow is a run of the machine, and local steps
+-- lead to none from there
+pub run_sound : RunsSo → LocallySo → (text : List ℕ) (image : Program) (limit : ℕ) (fault : RunFault)
+    → IsCompiled text image → CanFail image limit fault → limit < 2 ^ 32 → fault ≢ Broken
+run_sound runs locally text image limit Broken c fails below e =
     let m : MeetsBroken (code_of c.program) limit = subst (λ (p : Program). MeetsBroken p limit) c.code fails in
     let refines : Refines c.program (code_of c.program) = subst (λ (p : Program). Refines c.program p) c.code
     c.refines in
-    let (steps, s, run, count, broken, same) = meets (code_of c.program) limit m in
-    let few : length steps < 2 ^ 32 = omega (arith, m.within, m.turn, count) in
-    (refines.follows steps s run few).sound m.thread broken
-run_sound meets text image limit Memory c fails small e = absurd cc
-run_sound meets text image limit Stray c fails small e = absurd cc
-run_sound meets text image limit CannotMove c fails small e = absurd cc
-run_sound meets text image limit Limit c fails small e = absurd cc
+    let (steps, run, count, same) = runs (code_of c.program) m.log m.concrete m.legal in
+    let within = m.within in
+    let few : length steps < 2 ^ 32 = omega arith in
+    let (awake, broken) = locally (code_of c.program) limit m in
+    refines.locally steps (state_of m.concrete) run few m.thread m.count m.origin m.here m.stands awake m.goes broken
+run_sound runs locally text image limit Memory c fails below e = absurd cc
+run_sound runs locally text image limit Stray c fails below e = absurd cc
+run_sound runs locally text image limit CannotMove c fails below e = absurd cc
+run_sound runs locally text image limit Limit c fails below e = absurd cc

@@ -1,6 +1,5 @@
-ghost use Rattle.std.specs.Prelude.{◌≡◌, ◌≢◌, ◌<◌, ◌+◌, ◌^◌, IfOk, IfErr};
+ghost use Rattle.std.specs.Prelude.{◌≡◌, ◌≢◌, IfOk, IfErr};
 ghost use Rattle.runner.specs.declared.fault.RunFault.TheVariants.{Broken};
-ghost use Rattle.words.specs.Limits.{most_local_steps};
 ghost use Rattle.program.specs.Trees.{Program};
 ghost use Rattle.backend.specs.Refusals.{Fits};
 ghost use Rattle.compiler.specs.Accepts.{Accepts};
@@ -48,9 +47,9 @@ impl From<RunFault> for RunSourceFault {
 ///
 /// Some run of the text's program explains the report: it has the same output and the same ends of processes, and
 /// where no thread can move, none of its processes can. A text that `compile` refuses has the same refusal. The run's
-/// own fault is `Memory`, also where a worker can't be started. `Broken` comes of no text as long as the limit is at
-/// most 2^32 - 257: a run is explained as long as it has fewer than 2^32 steps, and a thread may take 256 local steps
-/// beyond the limit before it is refused.
+/// own fault is `Memory`, also where a worker can't be started: `Broken` comes of no text, whatever the limit. A run
+/// within the limit has fewer than 2^32 steps and is explained; and from where it leads no thread comes, by local steps
+/// of its own, to a step that may not be.
 pub fn run_source<R: Threads + Wait + Sync, G: Gate>(
     rt: &R,
     alloc: Global,
@@ -60,7 +59,7 @@ pub fn run_source<R: Threads + Wait + Sync, G: Gate>(
 ) -> Result<Report, RunSourceFault>
     ensures report { IfOk result (λ report. IsRunOf text.now limit report) }
     ensures fault { IfErr result (λ fault. IsRefusedRun text.now limit fault) }
-    ensures sound { limit + most_local_steps < 2 ^ 32 → IfErr result (λ fault. fault ≢ Run Broken) }
+    ensures sound { IfErr result (λ fault. fault ≢ Run Broken) }
     ensures only { (p : Program) → Accepts text.now p → Fits p → IfErr result (λ fault. IsMemory fault) }
 {
     logs_are_machine_runs();
@@ -78,7 +77,7 @@ pub fn run_in_order<G: Gate>(
 ) -> Result<Report, RunSourceFault>
     ensures report { IfOk result (λ report. IsRunOf text.now limit report) }
     ensures fault { IfErr result (λ fault. IsRefusedRun text.now limit fault) }
-    ensures sound { limit + most_local_steps < 2 ^ 32 → IfErr result (λ fault. fault ≢ Run Broken) }
+    ensures sound { IfErr result (λ fault. fault ≢ Run Broken) }
     ensures only { (p : Program) → Accepts text.now p → Fits p → IfErr result (λ fault. IsMemory fault) }
 {
     logs_are_machine_runs();

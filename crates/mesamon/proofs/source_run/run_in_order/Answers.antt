@@ -6,11 +6,13 @@ use Rattle.mesamon.proofs.RunsExplained.{run_explained, run_sound}
 use Rattle.mesamon.proofs.source_run.run_in_order.Goals as goal
 
 pub returns-in_err-run-clause-sound : goal.returns-in_err-run-clause-sound
-returns-in_err-run-clause-sound g c = λ small.
+returns-in_err-run-clause-sound g c =
+    let below : c.args.limit < 2 ^ 32 = omega (arith, c.ranges.limit.fits) in
     let p = err_from_is_err_and c.from_residual-in_err-run.result c.from_residual-in_err-run.ensures.1 in
     let fault = c.in_err-run.field-0.0 in
-    rw (p.1, p.2) (λ (same : Run fault ≡ Run Broken). run_sound c.logs_are_machine_runs.ensures.broken c.args.text.now
-    c.in_ok-image.image c.args.limit fault c.in_ok-image.ensures.accepted c.in_err-run.ensures.err small cc)
+    rw (p.1, p.2) (λ (same : Run fault ≡ Run Broken). run_sound c.logs_are_machine_runs.ensures.runs
+    c.logs_are_machine_runs.ensures.locally c.args.text.now c.in_ok-image.image c.args.limit fault
+    c.in_ok-image.ensures.accepted c.in_err-run.ensures.err below cc)
 
 pub returns-clause-report : goal.returns-clause-report
 returns-clause-report g c =
