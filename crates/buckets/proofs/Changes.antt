@@ -1,5 +1,6 @@
 -- What changes when the list of one bucket does.
-use Rattle.std.proofs.Common.{◌≡◌, ◌≢◌, ℕ, ◌<◌, ◌%◌, true, Option, Some, None, List, [], ◌∷◌, length, get_or, set, sym, ◌∙◌, arith, inl, inr}
+use Rattle.std.proofs.Common.{◌≡◌, ◌≢◌, ℕ, ◌<◌, ◌%◌, true, Option, Some, None, List, [], ◌∷◌, length, get_or, set}
+use Rattle.std.proofs.Common.{sym, ◌∙◌, arith, inl, inr}
 use Rattle.std.proofs.lemmas.Bool.{cases_eq}
 use Rattle.std.proofs.lemmas.List.{get_or-set_same, get_or-set_other, length-set}
 use Rattle.words.specs.declared.mem.Addr.{Addr}

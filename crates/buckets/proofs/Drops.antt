@@ -1,7 +1,9 @@
 -- A thread leaves its bucket's list, wherever it stands in it.
-use Rattle.std.proofs.Common.{◌≡◌, ◌≢◌, ℕ, ◌<◌, ◌%◌, true, false, not, eqb, Option, Some, None, List, [], ◌∷◌, length, get_or, set, refl, sym, ap, ◌∙◌, inl, inr}
+use Rattle.std.proofs.Common.{◌≡◌, ◌≢◌, ℕ, ◌<◌, ◌%◌, true, false, not, eqb, Option, Some, None, List, [], ◌∷◌, length}
+use Rattle.std.proofs.Common.{get_or, set, refl, sym, ap, ◌∙◌, inl, inr}
 use Rattle.std.specs.List.{filter}
-use Rattle.std.proofs.lemmas.Bool.{cases_eq, eq-eqb, ne_eqb, eqb-true, or_cases, or_parts, or_left, or_right, both_ways, false_from_ne_true}
+use Rattle.std.proofs.lemmas.Bool.{cases_eq, eq-eqb, ne_eqb, eqb-true, or_cases, or_parts, or_left, or_right}
+use Rattle.std.proofs.lemmas.Bool.{both_ways, false_from_ne_true}
 use Rattle.std.proofs.lemmas.List.{get_or-set_same, get_or-set_other, length-set}
 use Rattle.words.specs.declared.mem.Addr.{Addr}
 use Rattle.buckets.specs.declared.sleeper.Sleeper.{Sleeper}

@@ -1,12 +1,15 @@
 -- The first sleepers on an address leave their bucket's list.
-use Rattle.std.proofs.Common.{◌≡◌, ◌≢◌, ℕ, zero, suc, ◌-◌, ◌<◌, ◌%◌, true, false, cond, eqb, Option, Some, None, List, [], ◌∷◌, length, get_or, take, drop, refl, sym, ap, ◌∙◌, arith, ◌⊎◌, inl, inr}
+use Rattle.std.proofs.Common.{◌≡◌, ◌≢◌, ℕ, zero, suc, ◌-◌, ◌<◌, ◌%◌, true, false, cond, eqb, Option, Some, None, List}
+use Rattle.std.proofs.Common.{[], ◌∷◌, length, get_or, take, drop, refl, sym, ap, ◌∙◌, arith, ◌⊎◌, inl, inr}
 use Rattle.std.specs.Option.{option_map}
-use Rattle.std.proofs.lemmas.Bool.{cases_eq, cases_lt, cases_Bool, or_cases, or_parts, or_left, or_right, or_from, both_ways, false_from_ne_true, eqb-true, eq-eqb}
+use Rattle.std.proofs.lemmas.Bool.{cases_eq, cases_lt, cases_Bool, or_cases, or_parts, or_left, or_right, or_from}
+use Rattle.std.proofs.lemmas.Bool.{both_ways, false_from_ne_true, eqb-true, eq-eqb}
 use Rattle.words.specs.declared.mem.Addr.{Addr}
 use Rattle.buckets.specs.declared.sleeper.Sleeper.{Sleeper}
 use Rattle.buckets.specs.Places.{names}
 use Rattle.buckets.specs.Lists.{without, among, Stand, IsConsistent}
-use Rattle.buckets.proofs.Fronts.{on, on-here, on-elsewhere, IsPassed, without-taken, without-kept, take-cons, take-passed}
+use Rattle.buckets.proofs.Fronts.{on, on-here, on-elsewhere, IsPassed, without-taken, without-kept, take-cons}
+use Rattle.buckets.proofs.Fronts.{take-passed}
 use Rattle.buckets.proofs.Rows.{mod_lt, place-on, among-on}
 use Rattle.buckets.proofs.Changes.{Replaces}
 

@@ -1,5 +1,6 @@
 -- The lists of the buckets, in each of which sleepers of several addresses stand, and the table of the threads' places.
-use Rattle.std.specs.Prelude.{◌≡◌, ℕ, ◌+◌, ◌-◌, ◌<◌, ◌≤◌, ◌%◌, Bool, false, ◌&&◌, ◌==◌, nat_lt, nat_eq, if◌then◌else◌, Option, Some, None, List, [], ◌∷◌, length, slice_index_or, IsTrue, ⊤}
+use Rattle.std.specs.Prelude.{◌≡◌, ℕ, ◌+◌, ◌-◌, ◌<◌, ◌≤◌, ◌%◌, Bool, false, ◌&&◌, ◌==◌, nat_lt, nat_eq, if◌then◌else◌}
+use Rattle.std.specs.Prelude.{Option, Some, None, List, [], ◌∷◌, length, slice_index_or, IsTrue, ⊤}
 use Rattle.std.specs.List.{flat_map, list_any}
 use Rattle.words.specs.Limits.{most_processes}
 use Rattle.words.specs.declared.mem.Addr.{Addr}

@@ -1,4 +1,5 @@
-ghost use Rattle.std.specs.Prelude.{◌≡◌, ◌≢◌, ℕ, ◌<◌, ◌≤◌, ◌++◌, ◌∷◌, [], ◌↔◌, ◌==◌, not, None, Some, if◌then◌else◌, length, take, drop, slice_get, IfOk, IsTrue, nat_eq};
+ghost use Rattle.std.specs.Prelude.{◌≡◌, ◌≢◌, ℕ, ◌<◌, ◌≤◌, ◌++◌, ◌∷◌, [], ◌↔◌, ◌==◌, not, None, Some, if◌then◌else◌};
+ghost use Rattle.std.specs.Prelude.{length, take, drop, slice_get, IfOk, IsTrue, nat_eq};
 ghost use Rattle.std.specs.List.{filter, IsDistinct};
 ghost use Rattle.std.specs.Option.{option_map};
 ghost use Rattle.buckets.specs.Places.{names, with_place};

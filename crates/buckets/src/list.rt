@@ -1,4 +1,5 @@
-ghost use Rattle.std.specs.Prelude.{◌≡◌, ℕ, ◌+◌, ◌%◌, ◌<◌, ◌≤◌, ◌==◌, if◌then◌else◌, None, [], length, slice_get, IfOk, take, slice_index_or, vec_len, vec_capacity};
+ghost use Rattle.std.specs.Prelude.{◌≡◌, ℕ, ◌+◌, ◌%◌, ◌<◌, ◌≤◌, ◌==◌, if◌then◌else◌, None, [], length, slice_get};
+ghost use Rattle.std.specs.Prelude.{IfOk, take, slice_index_or, vec_len, vec_capacity};
 ghost use Rattle.std.specs.List.{All, count_by, filter_map};
 ghost use Rattle.buckets.specs.Places.{names};
 ghost use Rattle.buckets.specs.Sleepers.{thread_on};

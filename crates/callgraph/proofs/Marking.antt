@@ -1,5 +1,6 @@
 -- Marks of what calls lead to.
-use Rattle.std.proofs.Common.{◌≡◌, ℕ, zero, suc, ◌<◌, ◌+◌, ◌-◌, List, [], ◌∷◌, ◌++◌, length, slice_index_or, Bool, true, false}
+use Rattle.std.proofs.Common.{◌≡◌, ℕ, zero, suc, ◌<◌, ◌+◌, ◌-◌, List, [], ◌∷◌, ◌++◌, length, slice_index_or, Bool}
+use Rattle.std.proofs.Common.{true, false}
 use Rattle.std.proofs.Common.{◌⊎◌, inl, inr, refl, ap, ◌∙◌, sym, subst, arith, count_by, take, replicate, length-append}
 use Rattle.std.specs.Prelude.{Contains}
 use Rattle.std.proofs.lemmas.List.{take_more, length-replicate}
@@ -143,7 +144,8 @@ walk_on calls start count x row marks old new all pending after w len e f g p m 
 
 pub falls : (x : ℕ) (row : List ℕ) (marks old new written : List Bool) (all pending after : List ℕ)
     → all ≡ pending ++ x ∷ [] → old ≡ marks → written ≡ new → Marks row old pending new after
-    → (length written - count_by (λ m. m) written) + length after < (length marks - count_by (λ m. m) marks) + length all
+    → (length written - count_by (λ m. m) written) + length after < (length marks - count_by (λ m. m) marks) + length
+        all
 falls x row marks old new written all pending after e g h m =
     let a : length all ≡ length pending + 1 = ap length e ∙ length-append pending (x ∷ []) in
     let l : length written ≡ length marks = ap length h ∙ m.len ∙ ap length g in

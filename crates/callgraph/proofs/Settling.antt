@@ -1,6 +1,8 @@
 -- Procedures whose chains of calls all end.
-use Rattle.std.proofs.Common.{◌≡◌, ℕ, zero, suc, ◌<◌, ◌≤◌, ◌+◌, ◌-◌, List, [], ◌∷◌, length, slice_index_or, slice_set, Bool}
-use Rattle.std.proofs.Common.{true, false, ◌⊎◌, inl, inr, refl, ap, ◌∙◌, sym, subst, arith, count_by, ◌&&◌, ◌||◌, nat_eq}
+use Rattle.std.proofs.Common.{◌≡◌, ℕ, zero, suc, ◌<◌, ◌≤◌, ◌+◌, ◌-◌, List, [], ◌∷◌, length, slice_index_or, slice_set}
+use Rattle.std.proofs.Common.{Bool}
+use Rattle.std.proofs.Common.{true, false, ◌⊎◌, inl, inr, refl, ap, ◌∙◌, sym, subst, arith, count_by, ◌&&◌, ◌||◌}
+use Rattle.std.proofs.Common.{nat_eq}
 use Rattle.std.proofs.Common.{eqb-true, eq-eqb, replicate}
 use Rattle.std.specs.Prelude.{Contains}
 use Rattle.std.specs.List.{list_any}

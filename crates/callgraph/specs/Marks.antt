@@ -1,5 +1,6 @@
 -- Marks of procedures.
-use Rattle.std.specs.Prelude.{ℕ, ◌≡◌, ◌<◌, ◌+◌, ◌⊎◌, List, length, slice_index_or, true, false, Bool, count_by, Contains}
+use Rattle.std.specs.Prelude.{ℕ, ◌≡◌, ◌<◌, ◌+◌, ◌⊎◌, List, length, slice_index_or, true, false, Bool, count_by}
+use Rattle.std.specs.Prelude.{Contains}
 use Rattle.callgraph.specs.declared.Call.{Call}
 use Rattle.callgraph.specs.Calls.{has_chain}
 

@@ -1,6 +1,7 @@
 // Where calls lead.
 
-ghost use Rattle.std.specs.Prelude.{◌≡◌, ℕ, ◌<◌, ◌+◌, ◌⊎◌, [], List, length, slice_index_or, IfOk, OnOk, true, false, vec_len};
+ghost use Rattle.std.specs.Prelude.{◌≡◌, ℕ, ◌<◌, ◌+◌, ◌⊎◌, [], List, length, slice_index_or, IfOk, OnOk, true, false};
+ghost use Rattle.std.specs.Prelude.{vec_len};
 ghost use Rattle.std.specs.Prelude.{count_by, Contains};
 ghost use Rattle.callgraph.specs.Calls.{Leads};
 ghost use Rattle.callgraph.specs.Graphs.{IsGraph};
@@ -47,8 +48,8 @@ fn mark_all(
 }
 
 impl Graph {
-    /// Where calls lead from a procedure. It is on a cycle where they lead to itself. The only error is that memory runs
-    /// out. Each call is looked at once.
+    /// Where calls lead from a procedure. It is on a cycle where they lead to itself. The only error is that memory
+    /// runs out. Each call is looked at once.
     pub fn reached(&self, alloc: Global, start: u32) -> Result<Vec<bool>, AllocError>
         ensures sound { (calls : List CallOf) → IsGraph calls self.now → IfOk result (λ v. (b : ℕ)
             → slice_index_or v.items b false ≡ true → Leads calls start b) }

@@ -1,4 +1,5 @@
-ghost use Rattle.std.specs.Prelude.{◌≡◌, ◌≢◌, ℕ, ◌<◌, ◌≤◌, ◌==◌, [], ◌∷◌, ◌++◌, None, if◌then◌else◌, length, take, drop, IsOk, IfOk, OnOk, OnErr};
+ghost use Rattle.std.specs.Prelude.{◌≡◌, ◌≢◌, ℕ, ◌<◌, ◌≤◌, ◌==◌, [], ◌∷◌, ◌++◌, None, if◌then◌else◌, length, take};
+ghost use Rattle.std.specs.Prelude.{drop, IsOk, IfOk, OnOk, OnErr};
 ghost use Rattle.buckets.specs.Sleepers.{queue, place_of, thread_count, IsSound};
 ghost use Rattle.futexcalls.specs.FutexCalls.{Wakes, Requeues};
 ghost use Rattle.futexcalls.specs.Answers.{word_of, Waits};

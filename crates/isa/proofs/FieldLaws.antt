@@ -1,5 +1,7 @@
 -- A field that is read is the field that was spelled, and a field that is spelled is read.
-use Rattle.std.proofs.Common.{◌≡◌, ℕ, zero, suc, ◌+◌, ◌-◌, ◌<◌, ◌≤◌, ◌^◌, cond, ltb, eqb, inl, inr, List, [], ◌∷◌, ◌++◌, length, sum, Option, Some, None, Ok, Err, refl, sym, ap, subst, ◌∙◌, append_assoc, arith}
+use Rattle.std.proofs.Common.{◌≡◌, ℕ, zero, suc, ◌+◌, ◌-◌, ◌<◌, ◌≤◌, ◌^◌, cond, ltb, eqb, inl, inr, List, [], ◌∷◌}
+use Rattle.std.proofs.Common.{◌++◌, length, sum, Option, Some, None, Ok, Err, refl, sym, ap, subst, ◌∙◌, append_assoc}
+use Rattle.std.proofs.Common.{arith}
 use Rattle.std.specs.List.{AllByRecursion}
 use Rattle.std.specs.Prelude.{option_map}
 use Rattle.std.proofs.lemmas.Bool.{ltb-true, ltb-false, lt-ltb, le-ltb, eqb-true, eq-eqb}
@@ -10,21 +12,29 @@ use Rattle.isa.specs.Limits.{most_monitors, most_member_words, most_instructions
 use Rattle.isa.specs.declared.fault.DecodeFault.{DecodeFault}
 use Rattle.isa.specs.declared.fault.DecodeFault.TheVariants.{Limit}
 use Rattle.isa.specs.declared.instr.Instr.{Instr}
-use Rattle.isa.specs.declared.instr.Instr.TheVariants.{Push, GetLocal, SetLocal, Pop, Operate, Negate, Not, Jump, JumpIfZero, Call, Ret, RetValue, Index, OwnNumber, ProcessAddress, Raise, Load, Store, Swap, CompareSwap, FetchOr, FetchAdd, Fork, Print, FutexWait, FutexWake, FutexRequeue}
-use Rattle.isa.specs.declared.operator.Operator.TheVariants.{Add, Sub, Mul, Div, Mod, Eq, Ne, Lt, Le, Gt, Ge, BitAnd, BitOr}
+use Rattle.isa.specs.declared.instr.Instr.TheVariants.{Push, GetLocal, SetLocal, Pop, Operate, Negate, Not, Jump}
+use Rattle.isa.specs.declared.instr.Instr.TheVariants.{JumpIfZero, Call, Ret, RetValue, Index, OwnNumber}
+use Rattle.isa.specs.declared.instr.Instr.TheVariants.{ProcessAddress, Raise, Load, Store, Swap, CompareSwap, FetchOr}
+use Rattle.isa.specs.declared.instr.Instr.TheVariants.{FetchAdd, Fork, Print, FutexWait, FutexWake, FutexRequeue}
+use Rattle.isa.specs.declared.operator.Operator.TheVariants.{Add, Sub, Mul, Div, Mod, Eq, Ne, Lt, Le, Gt, Ge, BitAnd}
+use Rattle.isa.specs.declared.operator.Operator.TheVariants.{BitOr}
 use Rattle.isa.specs.declared.slot.Slot.{Slot}
 use Rattle.isa.specs.declared.slot.Slot.TheVariants.{Local, Template}
 use Rattle.isa.specs.Instructions.{slot_number, operands, IsSlot, IsInstruction}
 use Rattle.isa.specs.Numbers.{number}
-use Rattle.isa.specs.Opcodes.{row_of, process_words, faults, slot_of, plain_opcodes, Form, with_one, with_two, place_opcodes, operand_opcodes, opcode}
+use Rattle.isa.specs.Opcodes.{row_of, process_words, faults, slot_of, plain_opcodes, Form, with_one, with_two}
+use Rattle.isa.specs.Opcodes.{place_opcodes, operand_opcodes, opcode}
 use Rattle.words.specs.declared.outcome.Fault.{Fault}
-use Rattle.words.specs.declared.outcome.Fault.TheVariants.{ResultOutOfRange, DivisionByZero, IndexOutOfRange, HandleNotJoinable, ProcessTableFull, AbortStatement, AbandonedMonitor, JoinedAborted}
+use Rattle.words.specs.declared.outcome.Fault.TheVariants.{ResultOutOfRange, DivisionByZero, IndexOutOfRange}
+use Rattle.words.specs.declared.outcome.Fault.TheVariants.{HandleNotJoinable, ProcessTableFull, AbortStatement}
+use Rattle.words.specs.declared.outcome.Fault.TheVariants.{AbandonedMonitor, JoinedAborted}
 use Rattle.words.specs.declared.process.ProcessWord.{ProcessWord}
 use Rattle.words.specs.declared.process.ProcessWord.TheVariants.{Head, Pending, Id, Claim, Result, Outcome}
 use Rattle.words.specs.Outcomes.{fault_number}
 use Rattle.words.specs.Process.{number_of}
 use Rattle.isa.specs.Spelling.{numbers, instruction, instructions, monitor_table, code_table, AreWords}
-use Rattle.isa.specs.Reading.{◌>>=◌, fixed_at, number_at, limited_at, numbers_at, monitors_at, made_at, operands_at, behind_opcode, instruction_at, instructions_at, code_at}
+use Rattle.isa.specs.Reading.{◌>>=◌, fixed_at, number_at, limited_at, numbers_at, monitors_at, made_at, operands_at}
+use Rattle.isa.specs.Reading.{behind_opcode, instruction_at, instructions_at, code_at}
 use Rattle.isa.proofs.NumberLaws.{groups_take, groups_again}
 use Rattle.isa.proofs.Parts.{bind_ok, guard_ok, chosen, ok_is, IsBytes, IsBytes-rest, Takes, Takes-nothing, Takes-then}
 

@@ -1,18 +1,22 @@
 -- The laws of whole images: what is read is spelled so, and what is spelled so is read.
-use Rattle.std.proofs.Common.{◌≡◌, ℕ, ◌≤◌, true, cond, eqb, inl, inr, List, [], ◌++◌, length, sum, Result, Ok, Err, refl, sym, ap, subst, ◌∙◌, append_assoc, arith}
+use Rattle.std.proofs.Common.{◌≡◌, ℕ, ◌≤◌, true, cond, eqb, inl, inr, List, [], ◌++◌, length, sum, Result, Ok, Err}
+use Rattle.std.proofs.Common.{refl, sym, ap, subst, ◌∙◌, append_assoc, arith}
 use Rattle.std.specs.List.{AllByRecursion}
 use Rattle.std.specs.Prelude.{IfOk, MatchResult}
 use Rattle.std.proofs.lemmas.Bool.{eqb-true}
 use Rattle.std.proofs.lemmas.List.{append-nil, nil_from_length}
 use Rattle.isa.specs.Limits.{most_monitors, most_member_words, most_instructions}
 use Rattle.isa.specs.declared.fault.DecodeFault.{DecodeFault}
-use Rattle.isa.specs.declared.fault.DecodeFault.TheVariants.{BadMagic, Version, Short, BadInstr, BadTarget, Trailing, Limit, Memory}
+use Rattle.isa.specs.declared.fault.DecodeFault.TheVariants.{BadMagic, Version, Short, BadInstr, BadTarget, Trailing}
+use Rattle.isa.specs.declared.fault.DecodeFault.TheVariants.{Limit, Memory}
 use Rattle.isa.specs.Numbers.{number}
 use Rattle.isa.specs.Instructions.{operands, IsInstruction}
 use Rattle.isa.specs.Programs.{Program, IsProgram}
 use Rattle.isa.specs.Spelling.{AreWords, magic, version, monitor_table, code_table, spelling, IsSpelled}
-use Rattle.isa.specs.Reading.{◌>>=◌, Gives, fixed_at, number_at, monitors_at, code_at, image_at, stays_inside, at_end, program_of}
-use Rattle.isa.proofs.FieldLaws.{number_takes, number_again, fixed_takes, fixed_again, monitors_take, monitors_bound, monitors_again, code_takes, code_bound, code_limit, code_again}
+use Rattle.isa.specs.Reading.{◌>>=◌, Gives, fixed_at, number_at, monitors_at, code_at, image_at, stays_inside, at_end}
+use Rattle.isa.specs.Reading.{program_of}
+use Rattle.isa.proofs.FieldLaws.{number_takes, number_again, fixed_takes, fixed_again, monitors_take, monitors_bound}
+use Rattle.isa.proofs.FieldLaws.{monitors_again, code_takes, code_bound, code_limit, code_again}
 use Rattle.isa.proofs.TargetLaws.{lies, lies_again}
 use Rattle.isa.proofs.Parts.{bind_ok, chosen, done, ok_is, IsBytes, Takes, Takes-then}
 

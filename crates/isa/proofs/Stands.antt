@@ -1,5 +1,6 @@
 -- What is read of some bytes stands when more follow, but for a byte that is missing.
-use Rattle.std.proofs.Common.{◌≡◌, ◌≢◌, ℕ, zero, suc, ◌+◌, ◌-◌, ◌*◌, Bool, true, false, cond, ltb, eqb, List, [], ◌∷◌, ◌++◌, Option, Some, None, Result, Ok, Err, refl}
+use Rattle.std.proofs.Common.{◌≡◌, ◌≢◌, ℕ, zero, suc, ◌+◌, ◌-◌, ◌*◌, Bool, true, false, cond, ltb, eqb, List, [], ◌∷◌}
+use Rattle.std.proofs.Common.{◌++◌, Option, Some, None, Result, Ok, Err, refl}
 use Rattle.isa.specs.Limits.{most_monitors, most_member_words, most_instructions}
 use Rattle.isa.specs.declared.fault.DecodeFault.{DecodeFault}
 use Rattle.isa.specs.declared.fault.DecodeFault.TheVariants.{BadMagic, Version, Short, BadInstr, Limit}
@@ -7,7 +8,8 @@ use Rattle.isa.specs.declared.instr.Instr.{Instr}
 use Rattle.isa.specs.Opcodes.{Form, with_one, with_two, plain_opcodes, operand_opcodes, row_of}
 use Rattle.isa.specs.Programs.{Program}
 use Rattle.isa.specs.Spelling.{magic, version}
-use Rattle.isa.specs.Reading.{◌>>=◌, fixed_at, groups_at, number_at, limited_at, numbers_at, monitors_at, made_at, operands_at, behind_opcode, instruction_at, instructions_at, code_at, image_at}
+use Rattle.isa.specs.Reading.{◌>>=◌, fixed_at, groups_at, number_at, limited_at, numbers_at, monitors_at, made_at}
+use Rattle.isa.specs.Reading.{operands_at, behind_opcode, instruction_at, instructions_at, code_at, image_at}
 
 -- of one answer, and the answer with more bytes behind
 abbrev pub StandsAt : {A : Type 0} → Result (A × List ℕ) DecodeFault → Result (A × List ℕ) DecodeFault → List ℕ → Type 0

@@ -1,7 +1,8 @@
 -- The numbers that messages show for the faults of an image.
 use Rattle.std.specs.Prelude.{ℕ}
 use Rattle.isa.specs.declared.fault.DecodeFault.{DecodeFault}
-use Rattle.isa.specs.declared.fault.DecodeFault.TheVariants.{BadMagic, Version, Short, BadInstr, BadTarget, Trailing, Limit, Memory}
+use Rattle.isa.specs.declared.fault.DecodeFault.TheVariants.{BadMagic, Version, Short, BadInstr, BadTarget, Trailing}
+use Rattle.isa.specs.declared.fault.DecodeFault.TheVariants.{Limit, Memory}
 
 abbrev pub fault_number : DecodeFault → ℕ
 fault_number BadMagic = 1

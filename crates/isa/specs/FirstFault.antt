@@ -1,7 +1,8 @@
 -- The first fault of bytes that are no image.
 use Rattle.std.specs.Prelude.{◌≡◌, ℕ, ◌+◌, ◌<◌, ◌≤◌, List, length, take, ◌++◌, Err}
 use Rattle.isa.specs.declared.fault.DecodeFault.{DecodeFault}
-use Rattle.isa.specs.declared.fault.DecodeFault.TheVariants.{BadMagic, Version, Short, BadInstr, BadTarget, Trailing, Limit, Memory}
+use Rattle.isa.specs.declared.fault.DecodeFault.TheVariants.{BadMagic, Version, Short, BadInstr, BadTarget, Trailing}
+use Rattle.isa.specs.declared.fault.DecodeFault.TheVariants.{Limit, Memory}
 use Rattle.isa.specs.Reading.{program_of}
 
 -- a fault of one byte: not that a byte is missing, nor what is tested behind the last instruction

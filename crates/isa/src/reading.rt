@@ -1,7 +1,9 @@
 ghost use Rattle.std.specs.Prelude.{◌≡◌, [], ◌∷◌, Some, None, IfOk, MatchResult};
-ghost use Rattle.isa.specs.Opcodes.{row_of, slot_of, process_words, faults, plain_opcodes, place_opcodes, operand_opcodes};
+ghost use Rattle.isa.specs.Opcodes.{row_of, slot_of, process_words, faults, plain_opcodes, place_opcodes};
+ghost use Rattle.isa.specs.Opcodes.{operand_opcodes};
 ghost use Rattle.isa.specs.Programs.{Program};
-ghost use Rattle.isa.specs.Reading.{Gives, fixed_at, number_at, limited_at, numbers_at, monitors_at, operands_at, instruction_at, instructions_at, code_at, program_of};
+ghost use Rattle.isa.specs.Reading.{Gives, fixed_at, number_at, limited_at, numbers_at, monitors_at, operands_at};
+ghost use Rattle.isa.specs.Reading.{instruction_at, instructions_at, code_at, program_of};
 ghost use Rattle.isa.specs.Reading as Reading;
 ghost use Rattle.isa.specs.Spelling.{IsSpelled, spelling};
 

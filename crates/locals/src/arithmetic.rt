@@ -12,7 +12,8 @@ use words::{Fault, signed, word};
 /// What an operator makes of two words, or the fault that it meets.
 pub fn operate(operator: Operator, a: u32, b: u32) -> Result<u32, Fault>
     ensures { (place : ℕ) (rest : List ℕ) (locals : LocalsOf) (callers : List FrameOf)
-        → at_place place locals callers (operator_effect operator a b rest) ≡ outcome_at result place rest locals callers }
+        → at_place place locals callers (operator_effect operator a b rest)
+            ≡ outcome_at result place rest locals callers }
 {
     match operator {
         Operator::Add => add(a, b),

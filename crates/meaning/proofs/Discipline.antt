@@ -8,10 +8,13 @@ use Rattle.program.specs.declared.kinds.Role.TheVariants.{Entry, Internal, Recov
 use Rattle.program.specs.Trees.{Block, Part, NoPart, SomePart, Program, followed_by}
 use Rattle.program.specs.Scope.{Scope}
 use Rattle.program.specs.Typing.{BlockFits}
-use Rattle.meaning.specs.Labels.{End, Kind, Notify, Broadcast, Label, Alone, Enters, Resumes, Exits, Waits, Notifies, Broadcasts, Abandons}
+use Rattle.meaning.specs.Labels.{End, Kind, Notify, Broadcast, Label, Alone, Enters, Resumes, Exits, Waits, Notifies}
+use Rattle.meaning.specs.Labels.{Broadcasts, Abandons}
 use Rattle.meaning.specs.Table.{Hold, HeldBy, enterable}
-use Rattle.meaning.specs.Processes.{Frame, Caller, Process, Entering, Before, Suspended, Joining, Returning, Failing, Dying, Leaving, Over, callers_monitors, all_monitors, holds}
-use Rattle.meaning.specs.Offers.{Effect, Puts, Makes, Offer, Rests, Does, Takes, MakesOne, ClaimsOne, JoinsOne, NotifiesSome, NotifiesAll}
+use Rattle.meaning.specs.Processes.{Frame, Caller, Process, Entering, Before, Suspended, Joining, Returning, Failing}
+use Rattle.meaning.specs.Processes.{Dying, Leaving, Over, callers_monitors, all_monitors, holds}
+use Rattle.meaning.specs.Offers.{Effect, Puts, Makes, Offer, Rests, Does, Takes, MakesOne, ClaimsOne, JoinsOne}
+use Rattle.meaning.specs.Offers.{NotifiesSome, NotifiesAll}
 use Rattle.words.specs.Updates.{put}
 use Rattle.meaning.proofs.Members.{IsIn, IsDistinct}
 

@@ -1,12 +1,15 @@
 -- Processes that are made, and processes that are over.
-use Rattle.std.proofs.Common.{◌≡◌, ◌⊎◌, ℕ, ◌+◌, ◌<◌, ◌≤◌, ℤ, List, [], ◌∷◌, ◌++◌, Option, Some, None, refl, sym, ap, ◌∙◌, inl, inr, subst, arith, append-nil}
+use Rattle.std.proofs.Common.{◌≡◌, ◌⊎◌, ℕ, ◌+◌, ◌<◌, ◌≤◌, ℤ, List, [], ◌∷◌, ◌++◌, Option, Some, None, refl, sym, ap}
+use Rattle.std.proofs.Common.{◌∙◌, inl, inr, subst, arith, append-nil}
 use Rattle.std.proofs.lemmas.Bool.{cases_eq, cases_lt, ne_eqb}
 use Rattle.words.specs.Updates.{put}
 use Rattle.program.specs.Trees.{Program}
-use Rattle.meaning.specs.Labels.{End, Label, Alone, Stores, Forks, FindsFull, Claims, FindsClaimed, Joins, Enters, Resumes, Exits, Waits, Notifies, Broadcasts, Abandons, Ends, Action}
+use Rattle.meaning.specs.Labels.{End, Label, Alone, Stores, Forks, FindsFull, Claims, FindsClaimed, Joins, Enters}
+use Rattle.meaning.specs.Labels.{Resumes, Exits, Waits, Notifies, Broadcasts, Abandons, Ends, Action}
 use Rattle.meaning.specs.Table.{Table, Allows}
 use Rattle.meaning.specs.Processes.{Process, Over}
-use Rattle.meaning.specs.Offers.{Effect, Nothing, Puts, Writes, Makes, Offer, Rests, Does, Takes, MakesOne, ClaimsOne, JoinsOne, NotifiesSome, NotifiesAll, offer, TakesUp}
+use Rattle.meaning.specs.Offers.{Effect, Nothing, Puts, Writes, Makes, Offer, Rests, Does, Takes, MakesOne, ClaimsOne}
+use Rattle.meaning.specs.Offers.{JoinsOne, NotifiesSome, NotifiesAll, offer, TakesUp}
 use Rattle.meaning.specs.States.{SourceState, opening, printed_after, processes_after}
 use Rattle.meaning.specs.Runs.{IsAction, IsKillable, IsStep, Leads}
 use Rattle.meaning.proofs.Offered.{IsQuiet, IsPlain, plain}

@@ -5,9 +5,12 @@ use Rattle.program.specs.declared.kinds.Member.{Member}
 use Rattle.program.specs.Trees.{Program}
 use Rattle.program.specs.WellFormed.{WellFormed}
 use Rattle.meaning.specs.Values.{Variables}
-use Rattle.meaning.specs.Labels.{Kind, Notify, Broadcast, kind_of, Label, Alone, Stores, Forks, FindsFull, Claims, FindsClaimed, Joins, Enters, Resumes, Exits, Waits, Notifies, Broadcasts, Abandons, Ends, Action}
+use Rattle.meaning.specs.Labels.{Kind, Notify, Broadcast, kind_of, Label, Alone, Stores, Forks, FindsFull, Claims}
+use Rattle.meaning.specs.Labels.{FindsClaimed, Joins, Enters, Resumes, Exits, Waits, Notifies, Broadcasts, Abandons}
+use Rattle.meaning.specs.Labels.{Ends, Action}
 use Rattle.meaning.specs.Table.{HeldBy}
-use Rattle.meaning.specs.Processes.{Process, Entering, Before, Suspended, Joining, Returning, Failing, Dying, Leaving, Over, holds, all_monitors}
+use Rattle.meaning.specs.Processes.{Process, Entering, Before, Suspended, Joining, Returning, Failing, Dying, Leaving}
+use Rattle.meaning.specs.Processes.{Over, holds, all_monitors}
 use Rattle.meaning.specs.Offers.{Effect, Nothing, Puts, Writes, Makes}
 use Rattle.meaning.specs.States.{SourceState, opening, variables_after}
 use Rattle.meaning.specs.Runs.{IsAction, IsStep, Leads}
@@ -16,7 +19,8 @@ use Rattle.meaning.proofs.Discipline.{WaitsAt, EffectFits, IsSilent, LabelFits}
 use Rattle.meaning.proofs.Keeping.{Stands}
 use Rattle.meaning.proofs.Holding.{acted, acting, all_stand}
 
-module _ (p : Program) (wf : WellFormed p) (actions : List Action) (s : SourceState) (led : Leads p (opening p) actions s) where
+module _ (p : Program) (wf : WellFormed p) (actions : List Action) (s : SourceState)
+    (led : Leads p (opening p) actions s) where
   at_hand : (q : ℕ) (b : Process) → s.process q ≡ Some b → Stands p s.table q (Some b)
   at_hand q b is = subst (λ (o : Option Process). Stands p s.table q o) is (all_stand p wf actions s led q)
 

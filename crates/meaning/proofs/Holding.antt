@@ -1,5 +1,6 @@
 -- In each state of a run the table has each process as the holder of just the monitors that it holds.
-use Rattle.std.proofs.Common.{◌≡◌, ◌⊎◌, ℕ, ◌+◌, ◌-◌, Bool, true, false, List, [], ◌∷◌, length, Option, Some, None, if◌then◌else◌, refl, sym, ap, ◌∙◌, inl, inr, subst, arith}
+use Rattle.std.proofs.Common.{◌≡◌, ◌⊎◌, ℕ, ◌+◌, ◌-◌, Bool, true, false, List, [], ◌∷◌, length, Option, Some, None}
+use Rattle.std.proofs.Common.{if◌then◌else◌, refl, sym, ap, ◌∙◌, inl, inr, subst, arith}
 use Rattle.std.proofs.lemmas.Bool.{cases_eq, eq-eqb, ne_eqb}
 use Rattle.words.specs.Updates.{put}
 use Rattle.program.specs.declared.kinds.Member.{Member}
@@ -10,17 +11,22 @@ use Rattle.meaning.specs.Labels.{Killed, Label, Forks, Enters, Resumes, Waits, A
 use Rattle.meaning.specs.Labels as L
 use Rattle.meaning.specs.Offers as O
 use Rattle.meaning.specs.Table.{Hold, HeldBy, Table, enterable, Allows, without_waiters, first_table}
-use Rattle.meaning.specs.Processes.{Process, Entering, Before, Suspended, Joining, Returning, Failing, Dying, Leaving, Over, holds, without_monitor, all_monitors, opening_frame}
-use Rattle.meaning.specs.Offers.{Effect, Makes, Offer, Rests, Does, Takes, MakesOne, ClaimsOne, JoinsOne, NotifiesSome, NotifiesAll, offer, TakesUp}
+use Rattle.meaning.specs.Processes.{Process, Entering, Before, Suspended, Joining, Returning, Failing, Dying, Leaving}
+use Rattle.meaning.specs.Processes.{Over, holds, without_monitor, all_monitors, opening_frame}
+use Rattle.meaning.specs.Offers.{Effect, Makes, Offer, Rests, Does, Takes, MakesOne, ClaimsOne, JoinsOne}
+use Rattle.meaning.specs.Offers.{NotifiesSome, NotifiesAll, offer, TakesUp}
 use Rattle.meaning.specs.States.{SourceState, opening, main_process, processes_after}
 use Rattle.meaning.specs.Runs.{IsAction, IsStray, IsKill, IsStep, IsLeft, Leads}
 use Rattle.meaning.proofs.Offered.{plain}
 use Rattle.meaning.proofs.Ends.{IsNumbered, MakesOnlyForking, made_by, numbered_step, numbered_opening, quiet_processes}
 use Rattle.meaning.proofs.Waits.{still_waits}
-use Rattle.meaning.proofs.Members.{IsIn, IsDistinct, in_without, in_with, distinct_without, in_behind, behind_in, distinct_behind, in_contained}
-use Rattle.meaning.proofs.Discipline.{StandsOn, ProcessFits, Keeps, Change, Same, Taken, change_of, Moves, Opens, EffectFits, WaitsAt, LabelFits, ActFits, TakesFits, OfferFits}
+use Rattle.meaning.proofs.Members.{IsIn, IsDistinct, in_without, in_with, distinct_without, in_behind, behind_in}
+use Rattle.meaning.proofs.Members.{distinct_behind, in_contained}
+use Rattle.meaning.proofs.Discipline.{StandsOn, ProcessFits, Keeps, Change, Same, Taken, change_of, Moves, Opens}
+use Rattle.meaning.proofs.Discipline.{EffectFits, WaitsAt, LabelFits, ActFits, TakesFits, OfferFits}
 use Rattle.meaning.proofs.Offering.{fitting, begun, opened}
-use Rattle.meaning.proofs.Keeping.{OptionWaits, Stands, enterable_held, Changes, changes, Waited, waited, new_held, new_holder, others_hold, others_held}
+use Rattle.meaning.proofs.Keeping.{OptionWaits, Stands, enterable_held, Changes, changes, Waited, waited, new_held}
+use Rattle.meaning.proofs.Keeping.{new_holder, others_hold, others_held}
 
 act_of : (p : Program) (hs : List ℕ) (k l : Label) (d e : Effect) (a b : Process) → l ≡ k → e ≡ d → b ≡ a
     → ActFits p hs k d a → ActFits p hs l e b

@@ -1,16 +1,19 @@
 -- Each step keeps the processes to the rules of monitors, and the table to what they hold.
-use Rattle.std.proofs.Common.{◌≡◌, ◌⊎◌, ℕ, Bool, true, false, List, [], Option, Some, None, refl, sym, ap, ◌∙◌, inl, inr, subst}
+use Rattle.std.proofs.Common.{◌≡◌, ◌⊎◌, ℕ, Bool, true, false, List, [], Option, Some, None, refl, sym, ap, ◌∙◌, inl}
+use Rattle.std.proofs.Common.{inr, subst}
 use Rattle.std.specs.Prelude.{⊤}
 use Rattle.std.proofs.lemmas.Bool.{cases_eq, eq-eqb, ne_eqb}
 use Rattle.words.specs.Updates.{put}
 use Rattle.program.specs.declared.kinds.Member.{Member}
 use Rattle.program.specs.Trees.{Program}
-use Rattle.meaning.specs.Labels.{Label, Alone, Stores, Forks, FindsFull, Claims, FindsClaimed, Joins, Enters, Resumes, Exits, Waits, Notifies, Broadcasts, Abandons, Ends}
+use Rattle.meaning.specs.Labels.{Label, Alone, Stores, Forks, FindsFull, Claims, FindsClaimed, Joins, Enters, Resumes}
+use Rattle.meaning.specs.Labels.{Exits, Waits, Notifies, Broadcasts, Abandons, Ends}
 use Rattle.meaning.specs.Table.{Hold, HeldBy, Table, enterable, Allows}
 use Rattle.meaning.specs.Processes.{Process, holds}
 use Rattle.meaning.proofs.Waits.{still_waits}
 use Rattle.meaning.proofs.Members.{IsIn}
-use Rattle.meaning.proofs.Discipline.{ProcessFits, Change, Same, Taken, Given, change_of, hold_after, Moves, Opens, WaitsAt}
+use Rattle.meaning.proofs.Discipline.{ProcessFits, Change, Same, Taken, Given, change_of, hold_after, Moves, Opens}
+use Rattle.meaning.proofs.Discipline.{WaitsAt}
 
 abbrev pub OptionFits : Program → Option Process → Type 0
 OptionFits p None = ⊤
@@ -143,7 +146,8 @@ module _ (q : ℕ) (hold : ℕ → Hold) (hs ks : List ℕ) (held : (m : ℕ) �
     | inr apart ↦ put_else hold n m (enterable w) apart ∙ is
   ]
 
-  pub others_held : (c : Change) → (r : ℕ) → (r ≡ q → ⊥) → (m : ℕ) → hold_after q c hold m ≡ HeldBy r → hold m ≡ HeldBy r
+  pub others_held : (c : Change) → (r : ℕ) → (r ≡ q → ⊥) → (m : ℕ) → hold_after q c hold m ≡ HeldBy r → hold m
+      ≡ HeldBy r
   others_held Same r ne m is = is
   others_held (Taken n) r ne m is = elim (cases_eq m n) [
     | inl e ↦ absurd (let two : HeldBy q ≡ HeldBy r = sym (put_same hold n m (HeldBy q) e) ∙ is in

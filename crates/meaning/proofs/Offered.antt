@@ -1,14 +1,21 @@
 -- What holds of each offer of a process.
-use Rattle.std.proofs.Common.{◌≡◌, ◌⊎◌, ℕ, zero, suc, ℤ, pos, negsuc, Bool, List, [], ◌∷◌, Option, Some, None, refl, inl, inr, subst, sym}
+use Rattle.std.proofs.Common.{◌≡◌, ◌⊎◌, ℕ, zero, suc, ℤ, pos, negsuc, Bool, List, [], ◌∷◌, Option, Some, None, refl}
+use Rattle.std.proofs.Common.{inl, inr, subst, sym}
 use Rattle.std.specs.Prelude.{⊤}
 use Rattle.program.specs.declared.kinds.Role.{Role}
 use Rattle.program.specs.declared.kinds.Role.TheVariants.{Entry, Internal, Recover, External, Main}
 use Rattle.program.specs.Scope.{array_size}
-use Rattle.program.specs.Trees.{Expression, Target, ToLocal, ToMember, ToElement, Statement, Assign, If, While, Call, Fork, Join, Return, Wait, Notify, Broadcast, Print, Abort, Block, Done, Then, Part, Program}
-use Rattle.meaning.specs.Values.{Variables, Evaluated, Value, Fails, EvaluatedAll, Values, FailsAll, evaluate, evaluate_all, index_in}
+use Rattle.program.specs.Trees.{Expression, Target, ToLocal, ToMember, ToElement, Statement, Assign, If, While, Call}
+use Rattle.program.specs.Trees.{Fork, Join, Return, Wait, Notify, Broadcast, Print, Abort, Block, Done, Then, Part}
+use Rattle.program.specs.Trees.{Program}
+use Rattle.meaning.specs.Values.{Variables, Evaluated, Value, Fails, EvaluatedAll, Values, FailsAll, evaluate}
+use Rattle.meaning.specs.Values.{evaluate_all, index_in}
 use Rattle.meaning.specs.Labels.{Kind, Stray, Kill, Label, Enters, Resumes, kind_of}
-use Rattle.meaning.specs.Processes.{Frame, Caller, Process, Entering, Before, Suspended, Joining, Returning, Failing, Dying, Leaving, Over}
-use Rattle.meaning.specs.Offers.{Effect, Makes, Offer, Rests, Does, Takes, MakesOne, ClaimsOne, JoinsOne, NotifiesSome, NotifiesAll, with_value, with_values, with_index, answers, claims, assigns, returned, statement_offer, rest_offer, offer, TakesUp}
+use Rattle.meaning.specs.Processes.{Frame, Caller, Process, Entering, Before, Suspended, Joining, Returning, Failing}
+use Rattle.meaning.specs.Processes.{Dying, Leaving, Over}
+use Rattle.meaning.specs.Offers.{Effect, Makes, Offer, Rests, Does, Takes, MakesOne, ClaimsOne, JoinsOne}
+use Rattle.meaning.specs.Offers.{NotifiesSome, NotifiesAll, with_value, with_values, with_index, answers, claims}
+use Rattle.meaning.specs.Offers.{assigns, returned, statement_offer, rest_offer, offer, TakesUp}
 
 -- an action of a process's own is no stray wake-up and no kill
 abbrev pub IsOwn : Kind → Type 0

@@ -1,5 +1,6 @@
 -- What a process that keeps to the rules of monitors offers to do keeps to them.
-use Rattle.std.proofs.Common.{◌≡◌, ◌⊎◌, ℕ, zero, suc, ℤ, pos, negsuc, Bool, true, false, List, [], ◌∷◌, Option, Some, None, slice_get, refl, sym, ◌∙◌, inl, inr, subst}
+use Rattle.std.proofs.Common.{◌≡◌, ◌⊎◌, ℕ, zero, suc, ℤ, pos, negsuc, Bool, true, false, List, [], ◌∷◌, Option, Some}
+use Rattle.std.proofs.Common.{None, slice_get, refl, sym, ◌∙◌, inl, inr, subst}
 use Rattle.std.proofs.lemmas.Bool.{cases_eq}
 use Rattle.words.specs.declared.outcome.Fault.{Fault}
 use Rattle.words.specs.declared.outcome.Fault.TheVariants.{ProcessTableFull, HandleNotJoinable}
@@ -7,16 +8,25 @@ use Rattle.program.specs.declared.kinds.Member.{Member}
 use Rattle.program.specs.declared.kinds.Role.{Role}
 use Rattle.program.specs.declared.kinds.Role.TheVariants.{Entry, Internal, Recover, External, Main}
 use Rattle.program.specs.Scope.{Scope, own_monitor, scope_of, recover_of, array_size}
-use Rattle.program.specs.Trees.{Expression, Target, ToLocal, ToMember, ToElement, Statement, Assign, If, While, Call, Fork, Join, Return, Wait, Notify, Broadcast, Print, Abort, Block, Done, Then, Part, NoPart, SomePart, Procedure, Program, followed_by, block_of_part}
+use Rattle.program.specs.Trees.{Expression, Target, ToLocal, ToMember, ToElement, Statement, Assign, If, While, Call}
+use Rattle.program.specs.Trees.{Fork, Join, Return, Wait, Notify, Broadcast, Print, Abort, Block, Done, Then, Part}
+use Rattle.program.specs.Trees.{NoPart, SomePart, Procedure, Program, followed_by, block_of_part}
 use Rattle.program.specs.Typing.{Fits, BlockFits, PartFits, MayCall, MayBeForked}
 use Rattle.program.specs.WellFormed.{WellFormed}
-use Rattle.meaning.specs.Values.{Variables, Evaluated, Value, Fails, EvaluatedAll, Values, FailsAll, evaluate, evaluate_all, index_in, is_true}
+use Rattle.meaning.specs.Values.{Variables, Evaluated, Value, Fails, EvaluatedAll, Values, FailsAll, evaluate}
+use Rattle.meaning.specs.Values.{evaluate_all, index_in, is_true}
 use Rattle.meaning.specs.Labels.{End, Ended, Aborted, Kind, Label, Alone, Stores, Enters, Resumes}
 use Rattle.meaning.specs.Labels as L
-use Rattle.meaning.specs.Processes.{Frame, Caller, Process, Entering, Before, Suspended, Joining, Returning, Failing, Dying, Leaving, Over, goes_on, goes_on_by, begins, opening_frame, recovers, recovers_by, with_local, with_result, hands_over, callers_monitors, all_monitors, monitor_of_role, holds, without_monitor}
-use Rattle.meaning.specs.Offers.{Effect, Nothing, Puts, Writes, Offer, with_value, with_values, with_index, faults, dies, answers, chosen, joined, claims, assigns, returned, statement_offer, rest_offer, offer}
+use Rattle.meaning.specs.Processes.{Frame, Caller, Process, Entering, Before, Suspended, Joining, Returning, Failing}
+use Rattle.meaning.specs.Processes.{Dying, Leaving, Over, goes_on, goes_on_by, begins, opening_frame, recovers}
+use Rattle.meaning.specs.Processes.{recovers_by, with_local, with_result, hands_over, callers_monitors, all_monitors}
+use Rattle.meaning.specs.Processes.{monitor_of_role, holds, without_monitor}
+use Rattle.meaning.specs.Offers.{Effect, Nothing, Puts, Writes, Offer, with_value, with_values, with_index, faults}
+use Rattle.meaning.specs.Offers.{dies, answers, chosen, joined, claims, assigns, returned, statement_offer}
+use Rattle.meaning.specs.Offers.{rest_offer, offer}
 use Rattle.meaning.proofs.Members.{IsIn, IsDistinct, in_without, in_with}
-use Rattle.meaning.proofs.Discipline.{RestFits, StandsOn, CallersFit, StackFits, PartLeads, ProcessFits, Keeps, Given, Moves, EffectFits, IsSilent, ActFits, TakesFits, OfferFits}
+use Rattle.meaning.proofs.Discipline.{RestFits, StandsOn, CallersFit, StackFits, PartLeads, ProcessFits, Keeps, Given}
+use Rattle.meaning.proofs.Discipline.{Moves, EffectFits, IsSilent, ActFits, TakesFits, OfferFits}
 
 follow : (s : Scope) (b later : Block) → BlockFits s b → BlockFits s later → BlockFits s (followed_by b later)
 follow s Done later fits rest = rest
@@ -218,7 +228,9 @@ module _ (p : Program) where
   indexed (Some k) f cs go distinct each = each k
 
 -- the next statement of a procedure, in its scope
-module _ (p : Program) (wf : WellFormed p) (v : Variables) (s : Scope) (of : s.program ≡ p) (f : Frame) (role : s.role ≡ f.role) (cs : List Caller) (rest : BlockFits s f.rest) (stands : StandsOn f.role cs) (fits : CallersFit p cs) (distinct : IsDistinct (all_monitors f cs)) where
+module _ (p : Program) (wf : WellFormed p) (v : Variables) (s : Scope) (of : s.program ≡ p) (f : Frame)
+    (role : s.role ≡ f.role) (cs : List Caller) (rest : BlockFits s f.rest) (stands : StandsOn f.role cs)
+    (fits : CallersFit p cs) (distinct : IsDistinct (all_monitors f cs)) where
   stack : StackFits p f cs
   stack = ((s, of, role, rest), stands, fits)
 
@@ -282,7 +294,8 @@ module _ (p : Program) (wf : WellFormed p) (v : Variables) (s : Scope) (of : s.p
       let at : slice_get p.procedures q ≡ Some is.1 =
       subst (λ (g : Program). slice_get g.procedures q ≡ Some is.1) of is.2 in
       begun p (opening_frame p q zs) (record { into = into; frame = f } ∷ cs)
-      (opened p wf q is.1 zs (record { into = into; frame = f } ∷ cs) at (may_call (is.1).role is.3 into) stack) distinct
+      (opened p wf q is.1 zs (record { into = into; frame = f } ∷ cs) at (may_call (is.1).role is.3 into) stack)
+          distinct
 
   forked : (q : ℕ) (es : List Expression) (into : ℕ) → Fits s (Fork q es into) → (zs : List ℤ)
       → Keeps p [] (begins (opening_frame p q zs) [])

@@ -1,14 +1,18 @@
 -- An action leads to at most one state.
-use Rattle.std.proofs.Common.{◌≡◌, ◌⊎◌, if◌then◌else◌, ℕ, Bool, true, false, List, Option, Some, None, refl, sym, ap, ◌∙◌, inl, inr, subst}
+use Rattle.std.proofs.Common.{◌≡◌, ◌⊎◌, if◌then◌else◌, ℕ, Bool, true, false, List, Option, Some, None, refl, sym, ap}
+use Rattle.std.proofs.Common.{◌∙◌, inl, inr, subst}
 use Rattle.words.specs.Updates.{put}
 use Rattle.words.specs.declared.outcome.Fault.TheVariants.{HandleNotJoinable, ProcessTableFull}
 use Rattle.program.specs.declared.kinds.Member.{Member}
 use Rattle.program.specs.Trees.{Program}
 use Rattle.meaning.specs.Values.{Variables}
-use Rattle.meaning.specs.Labels.{Killed, Label, Alone, Stores, Forks, FindsFull, Claims, FindsClaimed, Joins, Enters, Resumes, Exits, Waits, Notifies, Broadcasts, Abandons, Ends, Stray, Kill, Fork, Claim, Notify, Broadcast, Fails, kind_of, Action}
+use Rattle.meaning.specs.Labels.{Killed, Label, Alone, Stores, Forks, FindsFull, Claims, FindsClaimed, Joins, Enters}
+use Rattle.meaning.specs.Labels.{Resumes, Exits, Waits, Notifies, Broadcasts, Abandons, Ends, Stray, Kill, Fork}
+use Rattle.meaning.specs.Labels.{Claim, Notify, Broadcast, Fails, kind_of, Action}
 use Rattle.meaning.specs.Table.{Table, Allows, enterable}
 use Rattle.meaning.specs.Processes.{Process, Dying}
-use Rattle.meaning.specs.Offers.{Effect, Makes, Offer, Rests, Does, Takes, MakesOne, ClaimsOne, JoinsOne, NotifiesSome, NotifiesAll, offer, TakesUp}
+use Rattle.meaning.specs.Offers.{Effect, Makes, Offer, Rests, Does, Takes, MakesOne, ClaimsOne, JoinsOne}
+use Rattle.meaning.specs.Offers.{NotifiesSome, NotifiesAll, offer, TakesUp}
 use Rattle.meaning.specs.States.{SourceState, variables_after, printed_after, processes_after}
 use Rattle.meaning.specs.Runs.{IsAction, IsStray, IsKill, IsStep, IsLeft}
 use Rattle.meaning.proofs.Offered.{IsOwn, IsPlain, plain, own_kind}

@@ -1,16 +1,25 @@
 -- What a process does next, for itself: it is determined but for what it learns of the others.
-use Rattle.std.specs.Prelude.{ℕ, zero, suc, ℤ, pos, negsuc, ◌≡◌, ◌⊎◌, Bool, true, false, List, [], ◌∷◌, Option, Some, None, if◌then◌else◌}
+use Rattle.std.specs.Prelude.{ℕ, zero, suc, ℤ, pos, negsuc, ◌≡◌, ◌⊎◌, Bool, true, false, List, [], ◌∷◌, Option, Some}
+use Rattle.std.specs.Prelude.{None, if◌then◌else◌}
 use Rattle.words.specs.declared.outcome.Fault.{Fault}
-use Rattle.words.specs.declared.outcome.Fault.TheVariants.{HandleNotJoinable, ProcessTableFull, AbortStatement, JoinedAborted, IndexOutOfRange}
+use Rattle.words.specs.declared.outcome.Fault.TheVariants.{HandleNotJoinable, ProcessTableFull, AbortStatement}
+use Rattle.words.specs.declared.outcome.Fault.TheVariants.{JoinedAborted, IndexOutOfRange}
 use Rattle.program.specs.declared.kinds.Member.{Member}
 use Rattle.program.specs.declared.kinds.Role.{Role}
 use Rattle.program.specs.declared.kinds.Role.TheVariants.{Entry, Internal, Recover, External, Main}
 use Rattle.program.specs.Scope.{array_size}
-use Rattle.program.specs.Trees.{Expression, Target, ToLocal, ToMember, ToElement, Statement, Assign, If, While, Call, Fork, Join, Return, Wait, Notify, Broadcast, Print, Abort, Block, Done, Then, Part, NoPart, SomePart, Program, followed_by, block_of_part}
-use Rattle.meaning.specs.Values.{Variables, Evaluated, Value, Fails, EvaluatedAll, Values, FailsAll, evaluate, evaluate_all, index_in, is_true}
-use Rattle.meaning.specs.Labels.{Cause, Faulted, End, Ended, Aborted, Kind, Label, Alone, Stores, Forks, FindsFull, Claims, FindsClaimed, Joins, Enters, Resumes, Exits, Waits, Notifies, Broadcasts, Abandons, Ends}
+use Rattle.program.specs.Trees.{Expression, Target, ToLocal, ToMember, ToElement, Statement, Assign, If, While, Call}
+use Rattle.program.specs.Trees.{Fork, Join, Return, Wait, Notify, Broadcast, Print, Abort, Block, Done, Then, Part}
+use Rattle.program.specs.Trees.{NoPart, SomePart, Program, followed_by, block_of_part}
+use Rattle.meaning.specs.Values.{Variables, Evaluated, Value, Fails, EvaluatedAll, Values, FailsAll, evaluate}
+use Rattle.meaning.specs.Values.{evaluate_all, index_in, is_true}
+use Rattle.meaning.specs.Labels.{Cause, Faulted, End, Ended, Aborted, Kind, Label, Alone, Stores, Forks, FindsFull}
+use Rattle.meaning.specs.Labels.{Claims, FindsClaimed, Joins, Enters, Resumes, Exits, Waits, Notifies, Broadcasts}
+use Rattle.meaning.specs.Labels.{Abandons, Ends}
 use Rattle.meaning.specs.Labels as L
-use Rattle.meaning.specs.Processes.{Frame, Caller, Process, Entering, Before, Suspended, Joining, Returning, Failing, Dying, Leaving, Over, goes_on, begins, opening_frame, recovers, with_local, with_result, hands_over, all_monitors}
+use Rattle.meaning.specs.Processes.{Frame, Caller, Process, Entering, Before, Suspended, Joining, Returning, Failing}
+use Rattle.meaning.specs.Processes.{Dying, Leaving, Over, goes_on, begins, opening_frame, recovers, with_local}
+use Rattle.meaning.specs.Processes.{with_result, hands_over, all_monitors}
 
 -- what an action does to variables, output and processes beside the process itself
 pub data Effect : Type 0 where
@@ -80,17 +89,21 @@ joined into part f callers (Aborted cause) = joined_part part f callers
 -- a handle that is empty can't be claimed
 abbrev pub claims : ℤ → Option ℕ → Part → Frame → List Caller → Offer
 claims (pos zero) into part f callers = faults HandleNotJoinable f callers
-claims (pos (suc n)) into part f callers = ClaimsOne (suc n) (Joining (suc n) into part f callers) (dies HandleNotJoinable f callers)
+claims (pos (suc n)) into part f callers = ClaimsOne (suc n) (Joining (suc n) into part f callers)
+    (dies HandleNotJoinable f callers)
 claims (negsuc n) into part f callers = faults HandleNotJoinable f callers
 
 abbrev pub assigns : Program → Variables → Frame → List Caller → Target → Expression → Offer
 assigns p v f callers (ToLocal slot) e =
-    with_value (evaluate p v f.locals e) f callers (λ z. Does (Alone L.Assign) Nothing (goes_on None (with_local f slot z) callers))
+    with_value (evaluate p v f.locals e) f callers (λ z. Does (Alone L.Assign) Nothing
+        (goes_on None (with_local f slot z) callers))
 assigns p v f callers (ToMember m) e =
-    with_value (evaluate p v f.locals e) f callers (λ z. Does (Stores m.monitor) (Puts m.monitor m.number 0 z) (goes_on None f callers))
+    with_value (evaluate p v f.locals e) f callers (λ z. Does (Stores m.monitor) (Puts m.monitor m.number 0 z)
+        (goes_on None f callers))
 assigns p v f callers (ToElement a i) e =
     with_value (evaluate p v f.locals i) f callers (λ n. with_index (index_in (array_size p a) n) f callers (λ k.
-    with_value (evaluate p v f.locals e) f callers (λ z. Does (Stores a.monitor) (Puts a.monitor a.number k z) (goes_on None f callers))))
+    with_value (evaluate p v f.locals e) f callers (λ z. Does (Stores a.monitor) (Puts a.monitor a.number k z)
+        (goes_on None f callers))))
 
 -- the value of a RETURN: a RETURN without an expression, and a body that ends without one, answer 0 or FALSE
 abbrev pub returned : Program → Variables → Frame → Option Expression → Evaluated
@@ -102,18 +115,23 @@ abbrev pub statement_offer : Program → Variables → Frame → List Caller →
 statement_offer p v f callers (Assign target e) = assigns p v f callers target e
 statement_offer p v f callers (If e b part) =
     with_value (evaluate p v f.locals e) f callers (λ z.
-    Does (Alone L.Test) Nothing (goes_on None (record f { rest = followed_by (chosen (is_true z) b (block_of_part part)) f.rest }) callers))
+    Does (Alone L.Test) Nothing (goes_on None (record f { rest = followed_by
+        (chosen (is_true z) b (block_of_part part)) f.rest }) callers))
 statement_offer p v f callers (While e b) =
     with_value (evaluate p v f.locals e) f callers (λ z.
-    Does (Alone L.Test) Nothing (goes_on None (record f { rest = chosen (is_true z) (followed_by b (Then (While e b) f.rest)) f.rest }) callers))
+    Does (Alone L.Test) Nothing (goes_on None (record f { rest = chosen (is_true z)
+        (followed_by b (Then (While e b) f.rest)) f.rest }) callers))
 statement_offer p v f callers (Call q es into) =
     with_values (evaluate_all p v f.locals es) f callers (λ zs.
     Does (Alone L.Call) Nothing (begins (opening_frame p q zs) (record { into = into; frame = f } ∷ callers)))
 statement_offer p v f callers (Fork q es into) =
     with_values (evaluate_all p v f.locals es) f callers (λ zs.
-    MakesOne (begins (opening_frame p q zs) []) (λ child. goes_on None (with_local f into (pos child)) callers) (dies ProcessTableFull f callers))
-statement_offer p v f callers (Join e into part) = with_value (evaluate p v f.locals e) f callers (λ z. claims z into part f callers)
-statement_offer p v f callers (Return value) = with_value (returned p v f value) f callers (λ z. answers f.role z callers)
+    MakesOne (begins (opening_frame p q zs) []) (λ child. goes_on None (with_local f into (pos child)) callers)
+        (dies ProcessTableFull f callers))
+statement_offer p v f callers (Join e into part) = with_value (evaluate p v f.locals e) f callers
+    (λ z. claims z into part f callers)
+statement_offer p v f callers (Return value) = with_value (returned p v f value) f callers
+    (λ z. answers f.role z callers)
 statement_offer p v f callers (Wait c) = Does (Waits c) Nothing (Suspended c f callers)
 statement_offer p v f callers (Notify c) = NotifiesSome c (goes_on None f callers)
 statement_offer p v f callers (Broadcast c) = NotifiesAll c (goes_on None f callers)
@@ -129,7 +147,8 @@ rest_offer p v f callers (Then s rest) = statement_offer p v (record f { rest = 
 abbrev pub offer : Program → Variables → Process → Offer
 offer p v (Entering m f callers) = Takes (Enters m) (goes_on (Some m) f callers) (recovers p m f callers)
 offer p v (Before entered f callers) = rest_offer p v f callers f.rest
-offer p v (Suspended c f callers) = Takes (Resumes c.monitor) (goes_on (Some c.monitor) f callers) (recovers p c.monitor f callers)
+offer p v (Suspended c f callers) = Takes (Resumes c.monitor) (goes_on (Some c.monitor) f callers)
+    (recovers p c.monitor f callers)
 offer p v (Joining child into part f callers) = JoinsOne child (joined into part f callers)
 offer p v (Returning z callers) = Does (Alone L.Return) Nothing (hands_over z callers)
 offer p v (Failing fault entered f callers) = faults fault f callers
@@ -143,11 +162,17 @@ abbrev pub TakesUp : Offer → Label → Effect → Process → Type 0
 TakesUp Rests label effect after = ⊥
 TakesUp (Does l e q) label effect after = (label ≡ l) × (effect ≡ e) × (after ≡ q)
 TakesUp (Takes l free abandoned) label effect after =
-    (was_abandoned : Bool) × (label ≡ l was_abandoned) × (effect ≡ Nothing) × (after ≡ (if was_abandoned then abandoned else free))
+    (was_abandoned : Bool) × (label ≡ l was_abandoned) × (effect ≡ Nothing)
+        × (after ≡ (if was_abandoned then abandoned else free))
 TakesUp (MakesOne child q full) label effect after =
-    ((n : ℕ) × (label ≡ Forks n) × (effect ≡ Makes n child) × (after ≡ q n)) ⊎ ((label ≡ FindsFull) × (effect ≡ Nothing) × (after ≡ full))
+    ((n : ℕ) × (label ≡ Forks n) × (effect ≡ Makes n child) × (after ≡ q n))
+        ⊎ ((label ≡ FindsFull) × (effect ≡ Nothing) × (after ≡ full))
 TakesUp (ClaimsOne child q refused) label effect after =
-    ((label ≡ Claims child) × (effect ≡ Nothing) × (after ≡ q)) ⊎ ((label ≡ FindsClaimed child) × (effect ≡ Nothing) × (after ≡ refused))
-TakesUp (JoinsOne child q) label effect after = (end : End) × (label ≡ Joins child end) × (effect ≡ Nothing) × (after ≡ q end)
-TakesUp (NotifiesSome c q) label effect after = (resumed : List ℕ) × (label ≡ Notifies c resumed) × (effect ≡ Nothing) × (after ≡ q)
-TakesUp (NotifiesAll c q) label effect after = (resumed : List ℕ) × (label ≡ Broadcasts c resumed) × (effect ≡ Nothing) × (after ≡ q)
+    ((label ≡ Claims child) × (effect ≡ Nothing) × (after ≡ q))
+        ⊎ ((label ≡ FindsClaimed child) × (effect ≡ Nothing) × (after ≡ refused))
+TakesUp (JoinsOne child q) label effect after = (end : End) × (label ≡ Joins child end) × (effect ≡ Nothing)
+    × (after ≡ q end)
+TakesUp (NotifiesSome c q) label effect after = (resumed : List ℕ) × (label ≡ Notifies c resumed) × (effect ≡ Nothing)
+    × (after ≡ q)
+TakesUp (NotifiesAll c q) label effect after = (resumed : List ℕ) × (label ≡ Broadcasts c resumed)
+    × (effect ≡ Nothing) × (after ≡ q)

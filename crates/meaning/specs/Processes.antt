@@ -1,5 +1,7 @@
--- Where a process of the source stands: a rest of program with its locals and callers, or between two statements' halves.
-use Rattle.std.specs.Prelude.{ℕ, ◌==◌, ℤ, pos, List, [], ◌∷◌, ◌++◌, slice_get, slice_set, map, filter, not, Option, Some, None}
+-- Where a process of the source stands: a rest of program with its locals and callers, or between two statements'
+-- halves.
+use Rattle.std.specs.Prelude.{ℕ, ◌==◌, ℤ, pos, List, [], ◌∷◌, ◌++◌, slice_get, slice_set, map, filter, not, Option}
+use Rattle.std.specs.Prelude.{Some, None}
 use Rattle.words.specs.declared.outcome.Fault.{Fault}
 use Rattle.words.specs.declared.outcome.Fault.TheVariants.{AbandonedMonitor}
 use Rattle.program.specs.declared.kinds.Member.{Member}

@@ -65,7 +65,8 @@ IsNotifying other (Some d) = ⊥
 IsNotifying other None = ⊤
 
 -- a kill from outside: the process dies where it stands
-pub record IsKill (p : Program) (s : SourceState) (process : ℕ) (resumed : List ℕ) (last : Option ℕ) (s' : SourceState) : Type 0 where
+pub record IsKill (p : Program) (s : SourceState) (process : ℕ) (resumed : List ℕ) (last : Option ℕ)
+    (s' : SourceState) : Type 0 where
   pub before : Process
   pub monitors : List ℕ
   pub notified : Option Member

@@ -4,7 +4,8 @@ use Rattle.std.specs.Prelude.{ℕ, ◌+◌, ◌≡◌, ◌≤◌, ◌<◌, Bool,
 use Rattle.words.specs.Updates.{put}
 use Rattle.words.specs.Limits.{most_processes}
 use Rattle.program.specs.declared.kinds.Member.{Member}
-use Rattle.meaning.specs.Labels.{End, Label, Alone, Stores, Forks, FindsFull, Claims, FindsClaimed, Joins, Enters, Resumes, Exits, Waits, Notifies, Broadcasts, Abandons, Ends}
+use Rattle.meaning.specs.Labels.{End, Label, Alone, Stores, Forks, FindsFull, Claims, FindsClaimed, Joins, Enters}
+use Rattle.meaning.specs.Labels.{Resumes, Exits, Waits, Notifies, Broadcasts, Abandons, Ends}
 
 -- a monitor is free, or abandoned by a process that died in it, or held by a process
 pub data Hold : Type 0 where
@@ -57,13 +58,16 @@ Allows p FindsFull t t' = (most_processes ≤ t.made) × (t' ≡ t)
 Allows p (Claims child) t t' = (t.claimed child ≡ false) × (t' ≡ record t { claimed = put t.claimed child true })
 Allows p (FindsClaimed child) t t' = (t.claimed child ≡ true) × (t' ≡ t)
 Allows p (Joins child end) t t' = (t.over child ≡ Some end) × (t' ≡ t)
-Allows p (Enters m was_abandoned) t t' = (t.hold m ≡ enterable was_abandoned) × (t' ≡ record t { hold = put t.hold m (HeldBy p) })
+Allows p (Enters m was_abandoned) t t' = (t.hold m ≡ enterable was_abandoned)
+    × (t' ≡ record t { hold = put t.hold m (HeldBy p) })
 Allows p (Resumes m was_abandoned) t t' =
     (t.waits p ≡ None) × (t.hold m ≡ enterable was_abandoned) × (t' ≡ record t { hold = put t.hold m (HeldBy p) })
 Allows p (Exits m) t t' = t' ≡ record t { hold = put t.hold m Free }
 Allows p (Waits c) t t' = t' ≡ record t { hold = put t.hold c.monitor Free; waits = put t.waits p (Some c) }
-Allows p (Notifies c resumed) t t' = IsNotified t c resumed × (t' ≡ record t { waits = without_waiters resumed t.waits })
-Allows p (Broadcasts c resumed) t t' = IsBroadcast t c resumed × (t' ≡ record t { waits = without_waiters resumed t.waits })
+Allows p (Notifies c resumed) t t' = IsNotified t c resumed
+    × (t' ≡ record t { waits = without_waiters resumed t.waits })
+Allows p (Broadcasts c resumed) t t' = IsBroadcast t c resumed
+    × (t' ≡ record t { waits = without_waiters resumed t.waits })
 Allows p (Abandons m) t t' = t' ≡ record t { hold = put t.hold m Abandoned }
 Allows p (Ends end) t t' = t' ≡ record t { over = put t.over p (Some end) }
 

@@ -1,13 +1,17 @@
 -- Values of the source, and what an expression's value is. A value is a number: FALSE is 0, TRUE is 1, a handle is the
 -- number of its process, 0 where it is empty.
-use Rattle.std.specs.Prelude.{ℕ, ℤ, pos, negsuc, ◌+ℤ◌, ◌-ℤ◌, ◌*ℤ◌, neg_ℤ, int_lt, int_le, int_div, int_rem, nat_lt, ◌==◌, ◌&&◌, ◌||◌, not, Bool, true, false, List, [], ◌∷◌, slice_get, Option, Some, None, if◌then◌else◌}
+use Rattle.std.specs.Prelude.{ℕ, ℤ, pos, negsuc, ◌+ℤ◌, ◌-ℤ◌, ◌*ℤ◌, neg_ℤ, int_lt, int_le, int_div, int_rem, nat_lt}
+use Rattle.std.specs.Prelude.{◌==◌, ◌&&◌, ◌||◌, not, Bool, true, false, List, [], ◌∷◌, slice_get, Option, Some, None}
+use Rattle.std.specs.Prelude.{if◌then◌else◌}
 use Rattle.std.specs.Ordering.{int_eq}
 use Rattle.words.specs.declared.outcome.Fault.{Fault}
 use Rattle.words.specs.declared.outcome.Fault.TheVariants.{ResultOutOfRange, DivisionByZero, IndexOutOfRange}
 use Rattle.program.specs.declared.kinds.UnaryOperator.{UnaryOperator}
 use Rattle.program.specs.declared.kinds.UnaryOperator.TheVariants.{Negate, Not}
 use Rattle.program.specs.declared.kinds.Operator.{Operator}
-use Rattle.program.specs.declared.kinds.Operator.TheVariants.{Add, Subtract, Multiply, Divide, Modulo, Equal, NotEqual, Less, LessEqual, Greater, GreaterEqual, And, Or}
+use Rattle.program.specs.declared.kinds.Operator.TheVariants.{Add, Subtract, Multiply, Divide, Modulo, Equal}
+use Rattle.program.specs.declared.kinds.Operator.TheVariants.{NotEqual, Less, LessEqual, Greater, GreaterEqual, And}
+use Rattle.program.specs.declared.kinds.Operator.TheVariants.{Or}
 use Rattle.program.specs.Trees.{Expression, Constant, Truth, Local, Member, Element, Unary, Both, Program}
 use Rattle.program.specs.Scope.{array_size}
 
@@ -86,7 +90,8 @@ evaluate p v locals (Constant n) = Value (pos n)
 evaluate p v locals (Truth b) = Value (truth b)
 evaluate p v locals (Local slot) = Value (local_value locals slot)
 evaluate p v locals (Member m) = Value (v m.monitor m.number 0)
-evaluate p v locals (Element a e) = and_then (evaluate p v locals e) (λ z. at_index (index_in (array_size p a) z) (λ i. Value (v a.monitor a.number i)))
+evaluate p v locals (Element a e) = and_then (evaluate p v locals e)
+    (λ z. at_index (index_in (array_size p a) z) (λ i. Value (v a.monitor a.number i)))
 evaluate p v locals (Unary op e) = and_then (evaluate p v locals e) (unary op)
 evaluate p v locals (Both op l r) = and_then (evaluate p v locals l) (λ a. and_then (evaluate p v locals r) (both op a))
 

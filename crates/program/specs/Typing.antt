@@ -5,10 +5,14 @@ use Rattle.program.specs.declared.kinds.ValueType.TheVariants.{Integer, Boolean,
 use Rattle.program.specs.declared.kinds.UnaryOperator.{UnaryOperator}
 use Rattle.program.specs.declared.kinds.UnaryOperator.TheVariants.{Negate, Not}
 use Rattle.program.specs.declared.kinds.Operator.{Operator}
-use Rattle.program.specs.declared.kinds.Operator.TheVariants.{Add, Subtract, Multiply, Divide, Modulo, Equal, NotEqual, Less, LessEqual, Greater, GreaterEqual, And, Or}
+use Rattle.program.specs.declared.kinds.Operator.TheVariants.{Add, Subtract, Multiply, Divide, Modulo, Equal}
+use Rattle.program.specs.declared.kinds.Operator.TheVariants.{NotEqual, Less, LessEqual, Greater, GreaterEqual, And}
+use Rattle.program.specs.declared.kinds.Operator.TheVariants.{Or}
 use Rattle.program.specs.declared.kinds.Role.{Role}
 use Rattle.program.specs.declared.kinds.Role.TheVariants.{Entry, Internal, Recover, External, Main}
-use Rattle.program.specs.Trees.{Expression, Constant, Truth, Local, Member, Element, Unary, Both, Target, ToLocal, ToMember, ToElement, Statement, Assign, If, While, Call, Fork, Join, Return, Wait, Notify, Broadcast, Print, Abort, Block, Done, Then, Part, NoPart, SomePart, Procedure}
+use Rattle.program.specs.Trees.{Expression, Constant, Truth, Local, Member, Element, Unary, Both, Target, ToLocal}
+use Rattle.program.specs.Trees.{ToMember, ToElement, Statement, Assign, If, While, Call, Fork, Join, Return, Wait}
+use Rattle.program.specs.Trees.{Notify, Broadcast, Print, Abort, Block, Done, Then, Part, NoPart, SomePart, Procedure}
 use Rattle.program.specs.Scope.{Scope, own_monitor, IsVariable, IsArray, IsCondition, IsLocal}
 
 -- what a unary operator takes and gives
@@ -114,9 +118,14 @@ abbrev mutual
   Fits s (Assign target e) = (t : ValueType) × TargetHasType s target t × HasType s e t
   Fits s (If e b part) = HasType s e Boolean × BlockFits s b × PartFits s part
   Fits s (While e b) = HasType s e Boolean × BlockFits s b
-  Fits s (Call q es into) = IsNoRecover s.role × (callee : Procedure) × (slice_get s.program.procedures q ≡ Some callee) × MayCall s.role callee.role × ArgumentsFit s es callee.parameters × ResultFits s into callee.result
-  Fits s (Fork q es into) = IsNoRecover s.role × (callee : Procedure) × (slice_get s.program.procedures q ≡ Some callee) × MayBeForked callee.role × ArgumentsFit s es callee.parameters × IsLocal s into Process
-  Fits s (Join e into part) = IsNoRecover s.role × HasType s e Process × ResultFits s into (Some Integer) × PartFits s part
+  Fits s (Call q es into) = IsNoRecover s.role × (callee : Procedure)
+      × (slice_get s.program.procedures q ≡ Some callee) × MayCall s.role callee.role
+      × ArgumentsFit s es callee.parameters × ResultFits s into callee.result
+  Fits s (Fork q es into) = IsNoRecover s.role × (callee : Procedure)
+      × (slice_get s.program.procedures q ≡ Some callee) × MayBeForked callee.role
+      × ArgumentsFit s es callee.parameters × IsLocal s into Process
+  Fits s (Join e into part) = IsNoRecover s.role × HasType s e Process × ResultFits s into (Some Integer)
+      × PartFits s part
   Fits s (Return value) = IsNoRecover s.role × ReturnFits s s.result value
   Fits s (Wait c) = IsNoRecover s.role × IsCondition s c
   Fits s (Notify c) = IsCondition s c

@@ -2,15 +2,25 @@
 use Rattle.std.specs.Prelude.{List, [], ◌∷◌, Option, Some, None, map, Vec}
 use Rattle.std.specs.Global.{Global}
 use Rattle.program.specs.declared.expression.Expression.{Expression as ExpressionOf}
-use Rattle.program.specs.declared.expression.Expression.TheBlock.{Number as Number', Truth as Truth', Local as Local', Member as Member', Element', Unary', Both'}
+use Rattle.program.specs.declared.expression.Expression.TheBlock.{Number as Number', Truth as Truth', Local as Local'}
+use Rattle.program.specs.declared.expression.Expression.TheBlock.{Member as Member', Element', Unary', Both'}
 use Rattle.program.specs.declared.statement.Target.{Target as TargetOf}
-use Rattle.program.specs.declared.statement.Target.TheVariants.{Local as LocalTarget, Member as MemberTarget, Element as ElementTarget}
+use Rattle.program.specs.declared.statement.Target.TheVariants.{Local as LocalTarget, Member as MemberTarget}
+use Rattle.program.specs.declared.statement.Target.TheVariants.{Element as ElementTarget}
 use Rattle.program.specs.declared.statement.Statement.{Statement as StatementOf}
-use Rattle.program.specs.declared.statement.Statement.TheBlock.{Assign as Assign', If', While', Call as Call', Fork as Fork', Join', Return as Return', Wait as Wait', Notify as Notify', Broadcast as Broadcast', Print as Print', Abort as Abort', Row_of-Statement, end_of-Statement, more_of-Statement, Held-Statement-If-2, None', Some'}
+use Rattle.program.specs.declared.statement.Statement.TheBlock.{Assign as Assign', If', While', Call as Call'}
+use Rattle.program.specs.declared.statement.Statement.TheBlock.{Fork as Fork', Join', Return as Return'}
+use Rattle.program.specs.declared.statement.Statement.TheBlock.{Wait as Wait', Notify as Notify'}
+use Rattle.program.specs.declared.statement.Statement.TheBlock.{Broadcast as Broadcast', Print as Print'}
+use Rattle.program.specs.declared.statement.Statement.TheBlock.{Abort as Abort', Row_of-Statement, end_of-Statement}
+use Rattle.program.specs.declared.statement.Statement.TheBlock.{more_of-Statement, Held-Statement-If-2, None', Some'}
 use Rattle.program.specs.declared.unit.Monitor.{Monitor as MonitorOf}
 use Rattle.program.specs.declared.unit.Procedure.{Procedure as ProcedureOf}
 use Rattle.program.specs.declared.unit.Program.{Program as ProgramOf}
-use Rattle.program.specs.Trees.{Expression, Constant, Truth, Local, Member, Element, Unary, Both, Target, ToLocal, ToMember, ToElement, Statement, Assign, If, While, Call, Fork, Join, Return, Wait, Notify, Broadcast, Print, Abort, Block, Done, Then, Part, NoPart, SomePart, Monitor, Procedure, Program}
+use Rattle.program.specs.Trees.{Expression, Constant, Truth, Local, Member, Element, Unary, Both, Target, ToLocal}
+use Rattle.program.specs.Trees.{ToMember, ToElement, Statement, Assign, If, While, Call, Fork, Join, Return, Wait}
+use Rattle.program.specs.Trees.{Notify, Broadcast, Print, Abort, Block, Done, Then, Part, NoPart, SomePart, Monitor}
+use Rattle.program.specs.Trees.{Procedure, Program}
 
 abbrev pub expression_of : ExpressionOf → Expression
 expression_of (Number' n) = Constant n

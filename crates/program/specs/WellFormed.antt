@@ -55,13 +55,15 @@ pub record IsProper (p : Program) (number : ℕ) (q : Procedure) : Type 0 where
 -- that calls it
 pub record IsAcyclic (p : Program) : Type 0 where
   pub height : ℕ → ℕ
-  pub falls : (n callee : ℕ) (q : Procedure) → slice_get p.procedures n ≡ Some q → Contains (block_calls q.body) callee → height callee < height n
+  pub falls : (n callee : ℕ) (q : Procedure) → slice_get p.procedures n ≡ Some q
+      → Contains (block_calls q.body) callee → height callee < height n
   pub bounded : (n : ℕ) → height n < 15
 
 pub record WellFormed (p : Program) : Type 0 where
   pub monitors : length p.monitors ≤ 64
   pub words : all_words p.monitors ≤ 1024
-  pub arrays : (m : ℕ) (monitor : Monitor) (n : ℕ) (t : MemberType) → slice_get p.monitors m ≡ Some monitor → slice_get monitor.members n ≡ Some t → HasElements t
+  pub arrays : (m : ℕ) (monitor : Monitor) (n : ℕ) (t : MemberType) → slice_get p.monitors m ≡ Some monitor
+      → slice_get monitor.members n ≡ Some t → HasElements t
   -- 512 procedures, a RECOVER part of each monitor, and the main part
   pub pieces : length p.procedures ≤ 577
   -- the main part is the last piece
@@ -69,6 +71,7 @@ pub record WellFormed (p : Program) : Type 0 where
   pub is_last : slice_get p.procedures (length p.procedures - 1) ≡ Some main
   pub is_main : main.role ≡ Main
   -- a monitor's RECOVER part is a piece of that role
-  pub recovers : (m r : ℕ) → recover_of p m ≡ Some r → (q : Procedure) × (slice_get p.procedures r ≡ Some q) × (q.role ≡ Recover m)
+  pub recovers : (m r : ℕ) → recover_of p m ≡ Some r → (q : Procedure) × (slice_get p.procedures r ≡ Some q)
+      × (q.role ≡ Recover m)
   pub procedures : (n : ℕ) (q : Procedure) → slice_get p.procedures n ≡ Some q → IsProper p n q
   pub acyclic : IsAcyclic p

@@ -1,5 +1,5 @@
-//! The protocol of locks, conditions, joins and exits, at the grain of shared steps: what threads do to shared words and
-//! sleepers keeps the table of monitors, conditions and processes, and loses no wake.
+//! The protocol of locks, conditions, joins and exits, at the grain of shared steps: what threads do to shared words
+//! and sleepers keeps the table of monitors, conditions and processes, and loses no wake.
 #![tactic(auto)]
 
 ghost use Rattle.std.specs.Prelude.{◌≡◌, ℕ, ◌<◌, ◌≤◌, Bool, List, None};
@@ -18,17 +18,18 @@ ghost use Rattle.protocol.specs.Cells.{Cell};
 ghost use Rattle.protocol.specs.Memory.{IsApart};
 ghost use Rattle.protocol.specs.Calls.{CallsFollow};
 
-/// Each run of moves is explained by the source: the labels that it carries, in order, are allowed one after another, to a
-/// table that is that of the last world, in which no wake was lost.
+/// Each run of moves is explained by the source: the labels that it carries, in order, are allowed one after another,
+/// to a table that is that of the last world, in which no wake was lost.
 pub fn no_wake_lost()
     ensures { (ss : List (ℕ × Move)) (w : World) → Leads opening_world ss w → IsExplained ss w }
 {}
 
-/// Where a run has come, each step of a thread inside a template is a move: what its point asks for, and the shared words
-/// answer, leads to the next point of the template.
+/// Where a run has come, each step of a thread inside a template is a move: what its point asks for, and the shared
+/// words answer, leads to the next point of the template.
 pub fn every_step_is_a_move()
     ensures { (ss : List (ℕ × Move)) (w : World) → Leads opening_world ss w → (t : ℕ) (p : Point) (r : ℕ) (w' : World) →
-        0 < t → t ≤ w.made → w.asleep t ≡ None → (w.at t).point ≡ p → Serves w t p (request t p) r w' → IsMove w t p r w' }
+        0 < t → t ≤ w.made → w.asleep t ≡ None → (w.at t).point ≡ p → Serves w t p (request t p) r w'
+        → IsMove w t p r w' }
 {}
 
 /// A store into a flat memory that holds the words of a world is a write in the world: so the two go on to agree.
@@ -46,13 +47,14 @@ pub fn lock_words()
     ensures { (v : ℕ) → AreLockWords v }
 {}
 
-/// Over a flat memory that shares words and sleepers with a world, each step of robust exit is a step of the protocol's.
+/// Over a flat memory that shares words and sleepers with a world, each step of robust exit is a step of the
+/// protocol's.
 pub fn exits_follow()
     ensures { ExitsFollow }
 {}
 
-/// Over a flat memory that shares words and sleepers with a world, a wait that sleeps, a wake of one and a requeue of all
-/// are what the protocol's words serve.
+/// Over a flat memory that shares words and sleepers with a world, a wait that sleeps, a wake of one and a requeue of
+/// all are what the protocol's words serve.
 pub fn calls_follow()
     ensures { (place : Cell → ℕ) (valid : Cell → Bool) → IsApart place valid → CallsFollow place valid }
 {}

@@ -1,5 +1,6 @@
 -- What the calls of a step mean for the words and the sleepers of the definition.
-use Rattle.std.proofs.Common.{◌≡◌, ◌≢◌, ℕ, ◌<◌, ◌≤◌, ◌||◌, true, false, cond, eqb, List, length, take, drop, min, set, refl, sym, ap, ◌∙◌, arith, inl, inr}
+use Rattle.std.proofs.Common.{◌≡◌, ◌≢◌, ℕ, ◌<◌, ◌≤◌, ◌||◌, true, false, cond, eqb, List, length, take, drop, min, set}
+use Rattle.std.proofs.Common.{refl, sym, ap, ◌∙◌, arith, inl, inr}
 use Rattle.std.proofs.Math.Path.{fun_ext}
 use Rattle.std.proofs.lemmas.Bool.{cases_eq, cases_lt, eq-eqb, ne_eqb, le-leb}
 use Rattle.std.proofs.lemmas.List.{get_or-set_same, get_or-set_other, take_min, length-take}

@@ -1,4 +1,5 @@
-ghost use Rattle.std.specs.Prelude.{◌≡◌, ◌+◌, ◌<◌, ℕ, Bool, true, length, take, drop, if◌then◌else◌, IfNone, IfSome, slice_set, ◌≢◌};
+ghost use Rattle.std.specs.Prelude.{◌≡◌, ◌+◌, ◌<◌, ℕ, Bool, true, length, take, drop, if◌then◌else◌, IfNone, IfSome};
+ghost use Rattle.std.specs.Prelude.{slice_set, ◌≢◌};
 ghost use Rattle.words.specs.LockWord.{lock_word, waiters_of};
 ghost use Rattle.buckets.specs.Sleepers.{queue, place_of, thread_count, IsSound};
 ghost use Rattle.futexcalls.specs.FutexCalls.{Wakes};

@@ -61,7 +61,8 @@ module _ (p : Program) (image : Image) (t m base : ℕ) (recover : Instr) (l : L
       (λ n. Goes (Runs' n operands' k' fs)) same)
 
   then_go : (n : ℕ) (x y z : Thread) → Go 1 x y → Go n y z → Go (suc n) x z
-  then_go n x y z v w = wider image t (empty_view p) (1 + n) (suc n) x z (omega arith) (within_on image t (empty_view p) 1 n
+  then_go n x y z v w = wider image t (empty_view p) (1 + n) (suc n) x z (omega arith)
+      (within_on image t (empty_view p) 1 n
       x y z v w)
 
   asks : (i j : ℕ) (x : Marked) (operands : List ℕ) (after : ℕ → List ℕ) (request : Request)

@@ -131,7 +131,8 @@ module _ (p : Program) (image : Image) (t m base : ℕ) (shown : Option ℕ) (l 
   unfolding waiters
   after_swap v zero e = (
     at 22 (0 ∷ process_word t 1 ∷ rest),
-    enough 6 _ _ (omega arith) (then_go 5 _ _ _ (push 12 13 2147483648 _ (v ∷ rest) refl refl (room_above v) (omega arith))
+    enough 6 _ _ (omega arith) (then_go 5 _ _ _ (push 12 13 2147483648 _ (v ∷ rest) refl refl (room_above v)
+        (omega arith))
         (then_go 4 _ _ _ (step 13 14 _ _ (2147483648 ∷ v ∷ rest) (bit_and v 2147483648 ∷ rest) refl refl (omega arith))
         (then_go 3 _ _ _ (step 14 19 _ _ (bit_and v 2147483648 ∷ rest) rest refl
         (ap (λ z. Goes (Runs' (place_after_test z (base + 19) (base + 14 + 1)) rest l fs)) e) refl) to_unpend))),

@@ -31,7 +31,8 @@ use Rattle.templates.specs.Locking.{Takes, reads, marks, sleeps, tries, heads, l
 use Rattle.templates.specs.Locking.{kept}
 use Rattle.protocol.specs.Memory.{entry_address}
 
-pub address_step : (t place h : ℕ) (word : ProcessWord) (rest : List ℕ) (values : List ℕ) (s : ℕ) (fs : List Frame) → 0 < h
+pub address_step : (t place h : ℕ) (word : ProcessWord) (rest : List ℕ) (values : List ℕ) (s : ℕ) (fs : List Frame)
+    → 0 < h
     → h ≤ 64 → at_place place (kept values s) fs (effect t (ProcessAddress word) (h ∷ rest) (kept values s))
     ≡ Goes (Runs' (place + 1) (process_word h (number_of word) ∷ rest) (kept values s) fs)
 address_step t place h word rest values s fs some few =
@@ -69,7 +70,8 @@ module _ (p : Program) (image : Image) (t m : ℕ) (k : Purpose) (mark : Mark) (
       ≡ Goes (Runs' place operands' (kept values s') fs) → place ≡ first + j
       → Go 1 (at i operands s) (at j operands' s')
   step i j x operands operands' s s' place e h same =
-      one_step image t (empty_view p) _ _ (look_here image t (empty_view p) (first + i) x.instruction operands (kept values
+      one_step image t (empty_view p) _ _ (look_here image t (empty_view p) (first + i) x.instruction operands
+          (kept values
       s) fs
       (stand_index image first segment i (first + i) x code e refl)
       ∙ h ∙ ap (λ n. Goes (Runs' n operands' (kept values s') fs)) same)
@@ -82,7 +84,8 @@ module _ (p : Program) (image : Image) (t m : ℕ) (k : Purpose) (mark : Mark) (
       ∙ address_step t (first + i) t word rest values s fs some few) same
 
   then_go : (n : ℕ) (x y z : Thread) → Go 1 x y → Go n y z → Go (suc n) x z
-  then_go n x y z v w = wider image t (empty_view p) (1 + n) (suc n) x z (omega arith) (within_on image t (empty_view p) 1 n
+  then_go n x y z v w = wider image t (empty_view p) (1 + n) (suc n) x z (omega arith)
+      (within_on image t (empty_view p) 1 n
       x y z v w)
 
   enough : (n : ℕ) (x y : Thread) → n ≤ 16 → Go n x y → Go template_steps x y

@@ -1,4 +1,5 @@
--- What holds of each template where it stands: its code, what the process offers before it, and where the thread goes on
+-- What holds of each template where it stands: its code, what the process offers before it, and where the thread goes
+-- on
 -- behind it.
 use Rattle.std.specs.Prelude.{ℕ, ◌+◌, ◌≡◌, ◌<◌, ℤ, List, [], ◌∷◌, length, Option, Some}
 use Rattle.program.specs.declared.kinds.Member.{Member}
@@ -21,7 +22,8 @@ use Rattle.execution.specs.Walks.{StandAt}
 use Rattle.execution.specs.Following.{Build, recovery_in, result_operands, own_of, Stands}
 use Rattle.execution.specs.Completing.{GoesOn, HasFirst}
 
--- what a process offers is the same for all variables with the same values in its own monitor, which it holds, innermost
+-- what a process offers is the same for all variables with the same values in its own monitor, which it holds,
+-- innermost
 pub record IsSteady (p : Program) (q : Process) (v : Variables) : Type 0 where
   pub first : (m : ℕ) → own_of q ≡ Some m → HasFirst q m
   pub same : (v' : Variables) → SameIn (own_of q) v v' → offer p v' q ≡ offer p v q

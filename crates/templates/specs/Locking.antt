@@ -59,7 +59,8 @@ pub data EntersAt (p : Program) (t m base : ℕ) (l : Locals) (fs : List Frame) 
       → EntersAt p t m base l fs pt x
 
 -- in the leaving of a monitor, with a result on the operands beneath
-pub data ExitsAt (p : Program) (t m base : ℕ) (shown : Option ℕ) (l : Locals) (fs : List Frame) : Point → Thread → Type 0 where
+pub data ExitsAt (p : Program) (t m base : ℕ) (shown : Option ℕ) (l : Locals) (fs : List Frame) : Point → Thread
+    → Type 0 where
   pends : ExitsAt p t m base shown l fs (LeavePends m ToExit)
       (Runs' (base + 3) (link_word p m ∷ process_word t 1 ∷ result_operands shown) l fs)
   reads : ExitsAt p t m base shown l fs (LeaveReads m ToExit)

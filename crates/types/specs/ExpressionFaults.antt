@@ -42,7 +42,8 @@ use_faults (ALocal slot t) NoIndex place = []
 use_faults (ALocal slot t) (At e) place = mismatch place
 use_faults (AMember member kind) index place = kind_faults kind index place
 
--- `=` and `#` take two INTEGER or two BOOLEAN: a PROCESS on the left is a fault there, else a right side of another type
+-- `=` and `#` take two INTEGER or two BOOLEAN: a PROCESS on the left is a fault there, else a right side of another
+-- type
 abbrev pub equality_faults : Option ValueType → Option ValueType → Place → Place → List Refusal
 equality_faults (Some Process) right left_place right_place = mismatch left_place
 equality_faults left right left_place right_place = where_true (differ left right) TypeMismatch right_place

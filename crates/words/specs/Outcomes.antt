@@ -1,7 +1,9 @@
 -- The outcome word of a process: 0 not yet, 1 to 8 a fault, 16 ended.
 use Rattle.std.specs.Prelude.{ℕ, ◌==◌, if◌then◌else◌}
 use Rattle.words.specs.declared.outcome.Fault.{Fault}
-use Rattle.words.specs.declared.outcome.Fault.TheVariants.{ResultOutOfRange, DivisionByZero, IndexOutOfRange, HandleNotJoinable, ProcessTableFull, AbortStatement, AbandonedMonitor, JoinedAborted}
+use Rattle.words.specs.declared.outcome.Fault.TheVariants.{ResultOutOfRange, DivisionByZero, IndexOutOfRange}
+use Rattle.words.specs.declared.outcome.Fault.TheVariants.{HandleNotJoinable, ProcessTableFull, AbortStatement}
+use Rattle.words.specs.declared.outcome.Fault.TheVariants.{AbandonedMonitor, JoinedAborted}
 use Rattle.words.specs.declared.outcome.Outcome.{Outcome}
 use Rattle.words.specs.declared.outcome.Outcome.TheVariants.{Unfinished, Aborted, Ended, Foreign}
 

@@ -1,4 +1,5 @@
-ghost use Rattle.std.specs.Prelude.{◌≡◌, ◌+◌, ◌%◌, ◌^◌, ◌<◌, length, replicate, IfOk, if◌then◌else◌, ◌==◌, Some, slice_get, slice_index, slice_set};
+ghost use Rattle.std.specs.Prelude.{◌≡◌, ◌+◌, ◌%◌, ◌^◌, ◌<◌, length, replicate, IfOk, if◌then◌else◌, ◌==◌, Some};
+ghost use Rattle.std.specs.Prelude.{slice_get, slice_index, slice_set};
 ghost use Rattle.std.specs.Int.Bits.{bit_or};
 
 use std::alloc::{AllocError, Global};

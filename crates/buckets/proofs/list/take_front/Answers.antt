@@ -2,7 +2,9 @@
 use Rattle.std.proofs.Common.{◌<◌, length, inl, inr, arith}
 use Rattle.buckets.proofs.Fronts.{Fronts-taken, Fronts-kept}
 use Rattle.buckets.proofs.list.take_front.Goals as goal
-use Rattle.buckets.proofs.list.take_front.Goals.{then-sleeper-a+then-len-most, else-sleeper-a, else-sleeper-a-via-then-sleeper-a+else-len-most, else-sleeper-a-via-else-sleeper-a}
+use Rattle.buckets.proofs.list.take_front.Goals.{then-sleeper-a+then-len-most, else-sleeper-a}
+use Rattle.buckets.proofs.list.take_front.Goals.{else-sleeper-a-via-then-sleeper-a+else-len-most}
+use Rattle.buckets.proofs.list.take_front.Goals.{else-sleeper-a-via-else-sleeper-a}
 
 pub loop-i-preserved : goal.loop-i-preserved
 loop-i-preserved c =

@@ -1,7 +1,10 @@
 use Rattle.std.proofs.Common.{◌≡◌, ◌≤◌, ◌+◌, ◌*◌, Ok, get_or, ap, ◌∙◌, arith}
 use Rattle.isa.proofs.NumberLoop.{goes_on, is_last, is_long, is_past, is_short, rest_of}
 use Rattle.isa.proofs.reading.number.Goals as goal
-use Rattle.isa.proofs.reading.number.Goals.{else-place-eq4-via-then-place-eq4+else-byte-gt15, else-place-eq4-via-else-place-eq4, else-byte-eq0-via-then-byte-eq0+else-place-gt0, else-byte-eq0-via-else-byte-eq0}
+use Rattle.isa.proofs.reading.number.Goals.{else-place-eq4-via-then-place-eq4+else-byte-gt15}
+use Rattle.isa.proofs.reading.number.Goals.{else-place-eq4-via-else-place-eq4}
+use Rattle.isa.proofs.reading.number.Goals.{else-byte-eq0-via-then-byte-eq0+else-place-gt0}
+use Rattle.isa.proofs.reading.number.Goals.{else-byte-eq0-via-else-byte-eq0}
 
 pub returns-then-byte-gt15 : goal.returns-then-byte-gt15
 returns-then-byte-gt15 c = λ _. is_past c.args.bytes.now c.loop-place.place c.loop-place.value c.loop-place.weight

@@ -11,7 +11,8 @@ pub returns-clause-one : goal.returns-clause-one
 returns-clause-one c = λ p actions s q r m b d wf run is also x y. one p wf actions s run q r m b d is also x y
 
 pub returns-clause-variables : goal.returns-clause-variables
-returns-clause-variables c = λ p actions s a s' m n i wf run step apart. changes p wf actions s run a s' m n i step apart
+returns-clause-variables c = λ p actions s a s' m n i wf run step apart. changes p wf actions s run a s' m n i step
+    apart
 
 pub returns-clause-notify : goal.returns-clause-notify
 returns-clause-notify c = λ p actions s q d resumed s' wf run x. notifies p wf actions s run q d resumed s' x

@@ -1,4 +1,5 @@
-use Rattle.std.proofs.Common.{◌≡◌, ◌∙◌, refl, ap, sym, subst, length, replicate, List, ℕ, Bool, false, arith, ◌++◌, ◌∷◌, []}
+use Rattle.std.proofs.Common.{◌≡◌, ◌∙◌, refl, ap, sym, subst, length, replicate, List, ℕ, Bool, false, arith, ◌++◌}
+use Rattle.std.proofs.Common.{◌∷◌, []}
 use Rattle.std.proofs.lemmas.Grind.{common_steps}
 use Rattle.callgraph.specs.Calls.{Within}
 use Rattle.callgraph.proofs.Marking.{Walk, written_back, walk_begun, walk_on, falls, all_marked}
@@ -51,5 +52,6 @@ returns-clause-sound c calls g = (c.walk.invariant.walk calls g).sound
 pub returns-clause-complete : goal.returns-clause-complete
 returns-clause-complete c calls g =
     let empty : c.walk.pending.items ≡ [] = none c.walk.pending.items (grind arith) in
-    all_marked calls c.args.start c.walk.marks.items (subst (λ (q : List ℕ). Walk calls c.args.start c.walk.marks.items q)
+    all_marked calls c.args.start c.walk.marks.items (subst (λ (q : List ℕ). Walk calls c.args.start
+        c.walk.marks.items q)
     empty (c.walk.invariant.walk calls g))
