@@ -145,7 +145,7 @@ walk_on calls start count x row marks old new all pending after w len e f g p m 
 pub falls : (x : ℕ) (row : List ℕ) (marks old new written : List Bool) (all pending after : List ℕ)
     → all ≡ pending ++ x ∷ [] → old ≡ marks → written ≡ new → Marks row old pending new after
     → (length written - count_by (λ m. m) written) + length after < (length marks - count_by (λ m. m) marks) + length
-        all
+    all
 falls x row marks old new written all pending after e g h m =
     let a : length all ≡ length pending + 1 = ap length e ∙ length-append pending (x ∷ []) in
     let l : length written ≡ length marks = ap length h ∙ m.len ∙ ap length g in

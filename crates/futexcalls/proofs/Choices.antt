@@ -20,8 +20,10 @@ choice-front q s a n ok = record {
 
 pub wakes-front : (s s' : Sleepers) (a n : ℕ) (front : List ℕ) → IsSound s → front ≡ take n (queue s a) → place_of s'
     ≡ with_place (place_of s) front None → Wakes (place_of s) a n front (place_of s')
-wakes-front s s' a n front ok f p = record { choice = rw f (choice-front (queue s) (place_of s) a n ok.agree); awake =
-    p }
+wakes-front s s' a n front ok f p = record {
+  choice = rw f (choice-front (queue s) (place_of s) a n ok.agree);
+  awake = p;
+}
 
 pub requeues-front : (word : ℕ → ℕ) (s s1 s2 : Sleepers) (a b n m expected : ℕ) (woken moved : List ℕ) → word a
     ≡ expected → IsSound s → IsSound s1 → woken ≡ take n (queue s a) → place_of s1 ≡ with_place (place_of s) woken

@@ -36,9 +36,11 @@ fn means_the_local(alloc: Global, members: &Members<'_>) -> Result<bool, AllocEr
         number: 1,
     };
     let standing = Standing::new(alloc, &[], &locals, Some(own))?;
-    Ok(standing.meaning(name(b"x")) == Meaning::Local(0, ValueType::Integer)
-        && standing.meaning(name(b"c")) == Meaning::Member(condition, MemberType::Condition)
-        && standing.meaning(name(b"y")) == Meaning::Nothing)
+    Ok(
+        standing.meaning(name(b"x")) == Meaning::Local(0, ValueType::Integer)
+            && standing.meaning(name(b"c")) == Meaning::Member(condition, MemberType::Condition)
+            && standing.meaning(name(b"y")) == Meaning::Nothing,
+    )
 }
 
 // The same of a monitor whose members are x and c.

@@ -53,10 +53,12 @@ fn a_gate_is_passed() {
 fn has_numbers(alloc: Global) -> Result<bool, Fail> {
     let text = format!(in alloc; "{} {}", DecodeFault::Short, Operator::Mod)?;
     let is_shown = text.as_str() == "image error 3 Short MOD";
-    Ok(is_shown
-        && DecodeFault::Memory.number() == 8
-        && Slot::Local(9).number() == 9
-        && Slot::Template.number() == 64)
+    Ok(
+        is_shown
+            && DecodeFault::Memory.number() == 8
+            && Slot::Local(9).number() == 9
+            && Slot::Template.number() == 64,
+    )
 }
 
 #[test]

@@ -13,7 +13,7 @@ use words::{Fault, signed, word};
 pub fn operate(operator: Operator, a: u32, b: u32) -> Result<u32, Fault>
     ensures { (place : ℕ) (rest : List ℕ) (locals : LocalsOf) (callers : List FrameOf)
         → at_place place locals callers (operator_effect operator a b rest)
-            ≡ outcome_at result place rest locals callers }
+        ≡ outcome_at result place rest locals callers }
 {
     match operator {
         Operator::Add => add(a, b),

@@ -295,7 +295,7 @@ module _ (p : Program) (wf : WellFormed p) (v : Variables) (s : Scope) (of : s.p
       subst (λ (g : Program). slice_get g.procedures q ≡ Some is.1) of is.2 in
       begun p (opening_frame p q zs) (record { into = into; frame = f } ∷ cs)
       (opened p wf q is.1 zs (record { into = into; frame = f } ∷ cs) at (may_call (is.1).role is.3 into) stack)
-          distinct
+      distinct
 
   forked : (q : ℕ) (es : List Expression) (into : ℕ) → Fits s (Fork q es into) → (zs : List ℤ)
       → Keeps p [] (begins (opening_frame p q zs) [])

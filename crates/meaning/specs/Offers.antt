@@ -96,14 +96,14 @@ claims (negsuc n) into part f callers = faults HandleNotJoinable f callers
 abbrev pub assigns : Program → Variables → Frame → List Caller → Target → Expression → Offer
 assigns p v f callers (ToLocal slot) e =
     with_value (evaluate p v f.locals e) f callers (λ z. Does (Alone L.Assign) Nothing
-        (goes_on None (with_local f slot z) callers))
+    (goes_on None (with_local f slot z) callers))
 assigns p v f callers (ToMember m) e =
     with_value (evaluate p v f.locals e) f callers (λ z. Does (Stores m.monitor) (Puts m.monitor m.number 0 z)
-        (goes_on None f callers))
+    (goes_on None f callers))
 assigns p v f callers (ToElement a i) e =
     with_value (evaluate p v f.locals i) f callers (λ n. with_index (index_in (array_size p a) n) f callers (λ k.
     with_value (evaluate p v f.locals e) f callers (λ z. Does (Stores a.monitor) (Puts a.monitor a.number k z)
-        (goes_on None f callers))))
+    (goes_on None f callers))))
 
 -- the value of a RETURN: a RETURN without an expression, and a body that ends without one, answer 0 or FALSE
 abbrev pub returned : Program → Variables → Frame → Option Expression → Evaluated
@@ -115,19 +115,23 @@ abbrev pub statement_offer : Program → Variables → Frame → List Caller →
 statement_offer p v f callers (Assign target e) = assigns p v f callers target e
 statement_offer p v f callers (If e b part) =
     with_value (evaluate p v f.locals e) f callers (λ z.
-    Does (Alone L.Test) Nothing (goes_on None (record f { rest = followed_by
-        (chosen (is_true z) b (block_of_part part)) f.rest }) callers))
+    Does (Alone L.Test) Nothing (goes_on None (record f {
+      rest = followed_by
+          (chosen (is_true z) b (block_of_part part)) f.rest;
+    }) callers))
 statement_offer p v f callers (While e b) =
     with_value (evaluate p v f.locals e) f callers (λ z.
-    Does (Alone L.Test) Nothing (goes_on None (record f { rest = chosen (is_true z)
-        (followed_by b (Then (While e b) f.rest)) f.rest }) callers))
+    Does (Alone L.Test) Nothing (goes_on None (record f {
+      rest = chosen (is_true z)
+          (followed_by b (Then (While e b) f.rest)) f.rest;
+    }) callers))
 statement_offer p v f callers (Call q es into) =
     with_values (evaluate_all p v f.locals es) f callers (λ zs.
     Does (Alone L.Call) Nothing (begins (opening_frame p q zs) (record { into = into; frame = f } ∷ callers)))
 statement_offer p v f callers (Fork q es into) =
     with_values (evaluate_all p v f.locals es) f callers (λ zs.
     MakesOne (begins (opening_frame p q zs) []) (λ child. goes_on None (with_local f into (pos child)) callers)
-        (dies ProcessTableFull f callers))
+    (dies ProcessTableFull f callers))
 statement_offer p v f callers (Join e into part) = with_value (evaluate p v f.locals e) f callers
     (λ z. claims z into part f callers)
 statement_offer p v f callers (Return value) = with_value (returned p v f value) f callers
@@ -163,13 +167,13 @@ TakesUp Rests label effect after = ⊥
 TakesUp (Does l e q) label effect after = (label ≡ l) × (effect ≡ e) × (after ≡ q)
 TakesUp (Takes l free abandoned) label effect after =
     (was_abandoned : Bool) × (label ≡ l was_abandoned) × (effect ≡ Nothing)
-        × (after ≡ (if was_abandoned then abandoned else free))
+    × (after ≡ (if was_abandoned then abandoned else free))
 TakesUp (MakesOne child q full) label effect after =
     ((n : ℕ) × (label ≡ Forks n) × (effect ≡ Makes n child) × (after ≡ q n))
-        ⊎ ((label ≡ FindsFull) × (effect ≡ Nothing) × (after ≡ full))
+    ⊎ ((label ≡ FindsFull) × (effect ≡ Nothing) × (after ≡ full))
 TakesUp (ClaimsOne child q refused) label effect after =
     ((label ≡ Claims child) × (effect ≡ Nothing) × (after ≡ q))
-        ⊎ ((label ≡ FindsClaimed child) × (effect ≡ Nothing) × (after ≡ refused))
+    ⊎ ((label ≡ FindsClaimed child) × (effect ≡ Nothing) × (after ≡ refused))
 TakesUp (JoinsOne child q) label effect after = (end : End) × (label ≡ Joins child end) × (effect ≡ Nothing)
     × (after ≡ q end)
 TakesUp (NotifiesSome c q) label effect after = (resumed : List ℕ) × (label ≡ Notifies c resumed) × (effect ≡ Nothing)

@@ -89,8 +89,10 @@ c_same seq asleep asleep' at st t p p' inv stands same less more awake = record 
   sleeping = λ u c h. at_put at t p' u (λ y. StandsBefore y c)
       (λ q. absurd (awake c (subst (λ y. asleep' y ≡ Some (OnSequence c)) q h))) (λ n. inv.sleeping u c (less u c h));
   sleeper = λ u c h. inv.sleeper u c (less u c h);
-  waits = λ u c h. elim (inv.waits u c h) [ inl a ↦ inl (more u c a) |
-      inr b ↦ elim b [ inl k ↦ inr (inl (grind (arith, k))) | inr r ↦ inr (inr (r.0, grind (arith, r.1))) ] ];
+  waits = λ u c h. elim (inv.waits u c h) [
+    | inl a ↦ inl (more u c a)
+    | inr b ↦ elim b [ inl k ↦ inr (inl (grind (arith, k))) | inr r ↦ inr (inr (r.0, grind (arith, r.1))) ]
+  ];
   rings = λ n u c s h k. inv.rings n u c s (grind (arith, h)) (grind (arith, k));
 }
 
@@ -107,9 +109,11 @@ c_resumed seq asleep at st t c p p' inv stands awake was is none = record {
   past = λ u d h. inv.past u d (grind (arith, h));
   sleeping = λ u d h. let o : u ≢ t = grind (arith, h, awake) in rw (put_other at t p' u o) (inv.sleeping u d h);
   sleeper = λ u d h. inv.sleeper u d h;
-  waits = λ u d h. let o : u ≢ t = grind (arith, h, none)
-      in elim (inv.waits u d h) [ inl a ↦ inl a | inr b ↦ elim b
-      [ inl k ↦ inr (inl (grind (arith, k, o))) | inr r ↦ inr (inr (r.0, grind (arith, r.1))) ] ];
+  waits = λ u d h. let o : u ≢ t = grind (arith, h, none) in elim (inv.waits u d h) [
+    | inl a ↦ inl a
+    | inr b ↦ elim b
+        [ inl k ↦ inr (inl (grind (arith, k, o))) | inr r ↦ inr (inr (r.0, grind (arith, r.1))) ]
+  ];
   rings = λ n u d s h k. inv.rings n u d s (grind (arith, h)) (grind (arith, k));
 }
 
@@ -122,16 +126,22 @@ c_waited seq asleep at st t c s p p' inv stands awake was is fresh silent = reco
   going = λ u h. grind (arith, inv.going u, h);
   ringing = λ u d h. grind (arith, inv.ringing u d, h);
   low = λ u d r h. grind (arith, inv.low u d r, h);
-  between = λ u d r h. elim (cases_eq u t) [ inl q ↦ inl (grind (arith, h, q)) |
-      inr o ↦ rw (put_other st t (Some c) u o) (inv.between u d r (grind (arith, h, o))) ];
+  between = λ u d r h. elim (cases_eq u t) [
+    | inl q ↦ inl (grind (arith, h, q))
+    | inr o ↦ rw (put_other st t (Some c) u o) (inv.between u d r (grind (arith, h, o)))
+  ];
   current = λ u d r h e. grind (arith, inv.current u d r, h);
   past = λ u d h. let o : u ≢ t = grind (arith, h) in rw (put_other st t (Some c) u o)
       (inv.past u d (grind (arith, h, o)));
   sleeping = λ u d h. let o : u ≢ t = grind (arith, h, awake) in rw (put_other at t p' u o) (inv.sleeping u d h);
   sleeper = λ u d h. let o : u ≢ t = grind (arith, h, awake) in rw (put_other st t (Some c) u o) (inv.sleeper u d h);
-  waits = λ u d h. elim (cases_eq u t) [ inl q ↦ inr (inl (grind (arith, h, q))) |
-      inr o ↦ elim (inv.waits u d (grind (arith, h, o))) [ inl a ↦ inl a |
-      inr b ↦ elim b [ inl k ↦ inr (inl (grind (arith, k, o))) | inr r ↦ inr (inr (r.0, grind (arith, r.1))) ] ] ];
+  waits = λ u d h. elim (cases_eq u t) [
+    | inl q ↦ inr (inl (grind (arith, h, q)))
+    | inr o ↦ elim (inv.waits u d (grind (arith, h, o))) [
+      | inl a ↦ inl a
+      | inr b ↦ elim b [ inl k ↦ inr (inl (grind (arith, k, o))) | inr r ↦ inr (inr (r.0, grind (arith, r.1))) ]
+    ]
+  ];
   rings = λ n u d r h k. grind (arith, inv.rings n u d r, silent n, h, k);
 }
 
@@ -146,15 +156,24 @@ c_slept seq asleep at st t c s p p' inv stands was is fresh waits = record {
   low = λ u d r h. grind (arith, inv.low u d r, h);
   between = λ u d r h. inv.between u d r (grind (arith, h));
   current = λ u d r h e. grind (arith, inv.current u d r, h);
-  past = λ u d h. elim (cases_eq u t) [ inl q ↦ inl (grind (arith, inv.current t c s, h, q)) | inr o ↦
-      inv.past u d (grind (arith, h, o)) ];
-  sleeping = λ u d h. elim (cases_eq u t) [ inl q ↦ let e : c ≡ d = grind (arith, h, q)
-      in rw (q, put_same at t p') (subst (StandsBefore p') e waits) |
-      inr o ↦ rw (put_other at t p' u o) (inv.sleeping u d (grind (arith, h, o))) ];
+  past = λ u d h. elim (cases_eq u t) [
+    | inl q ↦ inl (grind (arith, inv.current t c s, h, q))
+    | inr o ↦
+        inv.past u d (grind (arith, h, o))
+  ];
+  sleeping = λ u d h. elim (cases_eq u t) [
+    | inl q ↦ let e : c ≡ d = grind (arith, h, q)
+        in rw (q, put_same at t p') (subst (StandsBefore p') e waits)
+    | inr o ↦ rw (put_other at t p' u o) (inv.sleeping u d (grind (arith, h, o)))
+  ];
   sleeper = λ u d h. grind (arith, inv.sleeper u d, inv.current t c s, h);
-  waits = λ u d h. elim (cases_eq u t) [ inl q ↦ inl (grind (arith, inv.current t c s, h, q)) |
-      inr o ↦ elim (inv.waits u d h) [ inl a ↦ inl (grind (arith, a, o)) |
-      inr b ↦ elim b [ inl k ↦ inr (inl (grind (arith, k, o))) | inr r ↦ inr (inr (r.0, grind (arith, r.1))) ] ] ];
+  waits = λ u d h. elim (cases_eq u t) [
+    | inl q ↦ inl (grind (arith, inv.current t c s, h, q))
+    | inr o ↦ elim (inv.waits u d h) [
+      | inl a ↦ inl (grind (arith, a, o))
+      | inr b ↦ elim b [ inl k ↦ inr (inl (grind (arith, k, o))) | inr r ↦ inr (inr (r.0, grind (arith, r.1))) ]
+    ]
+  ];
   rings = λ n u d r h k. inv.rings n u d r (grind (arith, h)) (grind (arith, k));
 }
 
@@ -168,13 +187,18 @@ c_again seq asleep at st t c s p p' inv stands awake was is stale = record {
   low = λ u d r h. grind (arith, inv.low u d r, h);
   between = λ u d r h. inv.between u d r (grind (arith, h));
   current = λ u d r h e. grind (arith, inv.current u d r, h);
-  past = λ u d h. elim (cases_eq u t) [ inl q ↦ let e : c ≡ d = grind (arith, h, q)
-      in rw q (subst (Either (st t)) e (inv.between t c s (grind (arith, was, stands)))) | inr o ↦
-      inv.past u d (grind (arith, h, o)) ];
+  past = λ u d h. elim (cases_eq u t) [
+    | inl q ↦ let e : c ≡ d = grind (arith, h, q)
+        in rw q (subst (Either (st t)) e (inv.between t c s (grind (arith, was, stands))))
+    | inr o ↦
+        inv.past u d (grind (arith, h, o))
+  ];
   sleeping = λ u d h. let o : u ≢ t = grind (arith, h, awake) in rw (put_other at t p' u o) (inv.sleeping u d h);
   sleeper = λ u d h. inv.sleeper u d h;
-  waits = λ u d h. elim (inv.waits u d h) [ inl a ↦ inl a |
-      inr b ↦ elim b [ inl k ↦ inr (inl (grind (arith, k))) | inr r ↦ inr (inr (r.0, grind (arith, r.1))) ] ];
+  waits = λ u d h. elim (inv.waits u d h) [
+    | inl a ↦ inl a
+    | inr b ↦ elim b [ inl k ↦ inr (inl (grind (arith, k))) | inr r ↦ inr (inr (r.0, grind (arith, r.1))) ]
+  ];
   rings = λ n u d r h k. inv.rings n u d r (grind (arith, h)) (grind (arith, k));
 }
 
@@ -186,24 +210,34 @@ pub c_added : (seq seq' : Member → ℕ) (asleep : ℕ → Option Spot) (at : �
 c_added seq seq' asleep at st t c p p' inv stands awake was is more same = record {
   going = λ u h. grind (arith, inv.going u, h);
   ringing = λ u d h. grind (arith, inv.ringing u d, inv.going u, h);
-  low = λ u d r h. let k = inv.low u d r (grind (arith, h))
-      in elim (cases_member d c) [ inl q ↦ omega (arith, k, ap seq q, ap seq' q, more) |
-      inr o ↦ omega (arith, k, same d o) ];
+  low = λ u d r h. let k = inv.low u d r (grind (arith, h)) in elim (cases_member d c) [
+    | inl q ↦ omega (arith, k, ap seq q, ap seq' q, more)
+    | inr o ↦ omega (arith, k, same d o)
+  ];
   between = λ u d r h. inv.between u d r (grind (arith, h));
-  current = λ u d r h e. let old : stage (at u) ≡ Between d r = grind (arith, h)
-      in elim (cases_member d c) [ inl q ↦ absurd (omega (arith, inv.low u d r old, ap seq q, ap seq' q, more, e)) |
-      inr o ↦ inv.current u d r old (e ∙ same d o) ];
+  current = λ u d r h e. let old : stage (at u) ≡ Between d r = grind (arith, h) in elim (cases_member d c) [
+    | inl q ↦ absurd (omega (arith, inv.low u d r old, ap seq q, ap seq' q, more, e))
+    | inr o ↦ inv.current u d r old (e ∙ same d o)
+  ];
   past = λ u d h. inv.past u d (grind (arith, h));
   sleeping = λ u d h. let o : u ≢ t = grind (arith, h, awake) in rw (put_other at t p' u o) (inv.sleeping u d h);
   sleeper = λ u d h. inv.sleeper u d h;
-  waits = λ u d h. elim (cases_member d c) [ inl q ↦ inr (inr (t, grind (arith, is, q))) |
-      inr o ↦ elim (inv.waits u d h) [ inl a ↦ inl a |
-      inr b ↦ elim b [ inl k ↦ inr (inl (rw (same d o) (grind (arith, k)))) | inr r ↦
-      inr (inr (r.0, grind (arith, r.1))) ] ] ];
-  rings = λ n u d r h k. let old : stage (at u) ≡ Between d r = grind (arith, k)
-      in elim (cases_member d c) [ inl q ↦ omega (arith, inv.low u d r old, ap seq q, ap seq' q, more) |
-      inr o ↦ let was_so : stage (at n) ≡ Notifying d = grind (arith, h, o)
-      in omega (arith, inv.rings n u d r was_so old, same d o) ];
+  waits = λ u d h. elim (cases_member d c) [
+    | inl q ↦ inr (inr (t, grind (arith, is, q)))
+    | inr o ↦ elim (inv.waits u d h) [
+      | inl a ↦ inl a
+      | inr b ↦ elim b [
+        | inl k ↦ inr (inl (rw (same d o) (grind (arith, k))))
+        | inr r ↦
+            inr (inr (r.0, grind (arith, r.1)))
+      ]
+    ]
+  ];
+  rings = λ n u d r h k. let old : stage (at u) ≡ Between d r = grind (arith, k) in elim (cases_member d c) [
+    | inl q ↦ omega (arith, inv.low u d r old, ap seq q, ap seq' q, more)
+    | inr o ↦ let was_so : stage (at n) ≡ Notifying d = grind (arith, h, o)
+        in omega (arith, inv.rings n u d r was_so old, same d o)
+  ];
 }
 
 -- what a notify leaves
@@ -227,9 +261,13 @@ c_notified seq asleep asleep' at st st' t c p p' inv stands awake was is less mo
   ringing = λ u d h. elim (res.or_same u) [ inl e ↦ e ∙ grind (arith, inv.ringing u d, h) | inr e ↦ e.1 ];
   low = λ u d r h. grind (arith, inv.low u d r, h);
   between = λ u d r h. either_after (st u) (st' u) c d (res.or_same u) (inv.between u d r (grind (arith, h)));
-  current = λ u d r h e. elim (cases_member d c) [ inl q ↦ absurd (grind (arith, inv.rings t u c r, h, e, q)) |
-      inr o ↦ elim (res.or_same u) [ inl k ↦ k ∙ inv.current u d r (grind (arith, h)) e |
-      inr w ↦ absurd (grind (arith, inv.current u d r, w.0, h, o, e)) ] ];
+  current = λ u d r h e. elim (cases_member d c) [
+    | inl q ↦ absurd (grind (arith, inv.rings t u c r, h, e, q))
+    | inr o ↦ elim (res.or_same u) [
+      | inl k ↦ k ∙ inv.current u d r (grind (arith, h)) e
+      | inr w ↦ absurd (grind (arith, inv.current u d r, w.0, h, o, e))
+    ]
+  ];
   past = λ u d h. either_after (st u) (st' u) c d (res.or_same u) (inv.past u d (grind (arith, h)));
   sleeping = λ u d h. let o : u ≢ t = grind (arith, h, awake)
       in rw (put_other at t p' u o) (inv.sleeping u d (less u d h));
@@ -242,9 +280,13 @@ c_notified seq asleep asleep' at st st' t c p p' inv stands awake was is less mo
       | inl k ↦
           let wait : st u ≡ Some d = sym k ∙ h in
           let o2 : u ≢ t = grind (arith, inv.ringing t c, wait) in
-          elim (inv.waits u d wait) [ inl x ↦ inl (more u d o o2 x) |
-              inr b ↦ elim b [ inl k2 ↦ inr (inl (grind (arith, k2, o2))) |
-              inr r ↦ let o3 : r.0 ≢ t = grind (arith, r.1, o) in inr (inr (r.0, grind (arith, r.1, o3))) ] ]
+          elim (inv.waits u d wait) [
+            | inl x ↦ inl (more u d o o2 x)
+            | inr b ↦ elim b [
+              | inl k2 ↦ inr (inl (grind (arith, k2, o2)))
+              | inr r ↦ let o3 : r.0 ≢ t = grind (arith, r.1, o) in inr (inr (r.0, grind (arith, r.1, o3)))
+            ]
+          ]
     ]
   ];
   rings = λ n u d r h k. inv.rings n u d r (grind (arith, h)) (grind (arith, k));
@@ -277,8 +319,11 @@ pub resumption_ok : (c : Member) (asleep' : ℕ → Option Spot) (st : ℕ → O
     → Resumption c asleep' st (without_waiters (chosen_from (is_resumed c asleep' st) n 1) st)
 resumption_ok c asleep' st n made = record {
   or_same = λ u. elim (cases_Bool (mem u (chosen_from (is_resumed c asleep' st) n 1))) [
-    | inl y ↦ inr (resumed_waits c asleep' st u (chosen_sound (is_resumed c asleep' st) n 1 u y), without_in
-        (chosen_from (is_resumed c asleep' st) n 1) st u y)
+    | inl y ↦ inr (
+      resumed_waits c asleep' st u (chosen_sound (is_resumed c asleep' st) n 1 u y),
+      without_in
+          (chosen_from (is_resumed c asleep' st) n 1) st u y,
+    )
     | inr z ↦ inl (without_out (chosen_from (is_resumed c asleep' st) n 1) st u z)
   ];
   none = λ u h. elim (cases_Bool (mem u (chosen_from (is_resumed c asleep' st) n 1))) [
@@ -325,11 +370,14 @@ c_died seq asleep at st t p p' inv stands was is = record {
       in rw (put_other at t p' u o) (inv.sleeping u d (grind (arith, h, o)));
   sleeper = λ u d h. let o : u ≢ t = grind (arith, h)
       in rw (put_other st t None u o) (inv.sleeper u d (grind (arith, h, o)));
-  waits = λ u d h. let o : u ≢ t = grind (arith, h)
-      in elim (inv.waits u d (grind (arith, h, o))) [ inl a ↦ inl (grind (arith, a, o)) |
-      inr b ↦ elim b [ inl k ↦ inr (inl (grind (arith, k, o))) |
-      inr r ↦ let o2 : r.0 ≢ t = (λ q. was d (grind (arith, r.1, q, stands))) in
-      inr (inr (r.0, grind (arith, r.1, o2))) ] ];
+  waits = λ u d h. let o : u ≢ t = grind (arith, h) in elim (inv.waits u d (grind (arith, h, o))) [
+    | inl a ↦ inl (grind (arith, a, o))
+    | inr b ↦ elim b [
+      | inl k ↦ inr (inl (grind (arith, k, o)))
+      | inr r ↦ let o2 : r.0 ≢ t = (λ q. was d (grind (arith, r.1, q, stands))) in
+          inr (inr (r.0, grind (arith, r.1, o2)))
+    ]
+  ];
   rings = λ n u d s h k. inv.rings n u d s (grind (arith, h)) (grind (arith, k));
 }
 
@@ -344,15 +392,21 @@ c_stray seq asleep at st t c p p' inv stands was is = record {
   between = λ u d s h. let o : u ≢ t = grind (arith, h)
       in rw (put_other st t None u o) (inv.between u d s (grind (arith, h, o)));
   current = λ u d s h e. grind (arith, inv.current u d s, h);
-  past = λ u d h. elim (cases_eq u t) [ inl q ↦ inr (grind (arith, h, q)) |
-      inr o ↦ rw (put_other st t None u o) (inv.past u d (grind (arith, h, o))) ];
+  past = λ u d h. elim (cases_eq u t) [
+    | inl q ↦ inr (grind (arith, h, q))
+    | inr o ↦ rw (put_other st t None u o) (inv.past u d (grind (arith, h, o)))
+  ];
   sleeping = λ u d h. let o : u ≢ t = grind (arith, h)
       in rw (put_other at t p' u o) (inv.sleeping u d (grind (arith, h, o)));
   sleeper = λ u d h. let o : u ≢ t = grind (arith, h)
       in rw (put_other st t None u o) (inv.sleeper u d (grind (arith, h, o)));
-  waits = λ u d h. let o : u ≢ t = grind (arith, h)
-      in elim (inv.waits u d (grind (arith, h, o))) [ inl a ↦ inl (grind (arith, a, o)) |
-      inr b ↦ elim b [ inl k ↦ inr (inl (grind (arith, k, o))) | inr r ↦ let o2 : r.0 ≢ t = grind (arith, r.1) in
-      inr (inr (r.0, grind (arith, r.1, o2))) ] ];
+  waits = λ u d h. let o : u ≢ t = grind (arith, h) in elim (inv.waits u d (grind (arith, h, o))) [
+    | inl a ↦ inl (grind (arith, a, o))
+    | inr b ↦ elim b [
+      | inl k ↦ inr (inl (grind (arith, k, o)))
+      | inr r ↦ let o2 : r.0 ≢ t = grind (arith, r.1) in
+          inr (inr (r.0, grind (arith, r.1, o2)))
+    ]
+  ];
   rings = λ n u d s h k. inv.rings n u d s (grind (arith, h)) (grind (arith, k));
 }

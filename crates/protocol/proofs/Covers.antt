@@ -85,7 +85,7 @@ unfolding holds Knows
 foreign w T t a m end inv pos s owns =
     let k : mem m (w.at t).list ≡ false = subst (λ y. Listed y (w.at t).list) s (inv.locks.knows t).1 in
     let h : (mem m (w.at t).list || false) ≡ true = subst (λ y. (mem m (w.at t).list || own (entry_at y) m) ≡ true) s
-        (owner_holds w T t m inv pos owns) in
+    (owner_holds w T t m inv pos owns) in
     false≢true (sym (ap (λ b. b || false) k) ∙ h)
 
 has_entry : (w : World) (T : Table) (t a m : ℕ) (end : End) → Good w T → (w.at t).point ≡ Walks a (Owned m) end
@@ -98,21 +98,36 @@ abandon_covers : (w : World) (T : Table) (t m : ℕ) (end : End) (r : ℕ) (w' :
     → w.asleep t ≡ None → (w.at t).point ≡ Walks zero (Owned m) end → Abandon w t m w'
     → IsMove w t (Walks zero (Owned m) end) r w'
 abandon_covers w T t m end r w' pos high a s d = elim d.1 [
-  | inl z ↦ record { end = any; move = PendAlone m end; can = record
-      { number = (pos, high); awake = a; stands = s; finds = z.0 }; done = fin _ w' t _ _ _ z.1 refl; possible = tt;
-      carries = λ X. refl }
-  | inr z ↦ record { end = any; move = PendWake m end z.1.woken; can = record
-      { number = (pos, high); awake = a; stands = s; finds = (z.0, z.1.wake) }; done = fin _ w' t _ _ _ z.1.awake
-      refl; possible = tt; carries = λ X. refl }
+  | inl z ↦ record {
+    end = any;
+    move = PendAlone m end;
+    can = record { number = (pos, high); awake = a; stands = s; finds = z.0 };
+    done = fin _ w' t _ _ _ z.1 refl;
+    possible = tt;
+    carries = λ X. refl;
+  }
+  | inr z ↦ record {
+    end = any;
+    move = PendWake m end z.1.woken;
+    can = record { number = (pos, high); awake = a; stands = s; finds = (z.0, z.1.wake) };
+    done = fin _ w' t _ _ _ z.1.awake refl;
+    possible = tt;
+    carries = λ X. refl;
+  }
 ]
 
 walk_end : (w : World) (T : Table) (t : ℕ) (x : Entry) (end : End) (r : ℕ) (w' : World) → Good w T → 0 < t
     → t ≤ w.made → w.asleep t ≡ None → (w.at t).point ≡ Walks zero x end → w.pending t ≡ entry_word x
     → ExitDoes w t (Walks zero x end) w' → IsMove w t (Walks zero x end) r w'
 walk_end w T t NoEntry end r w' inv pos high a s pend d = elim d [
-  | inl k ↦ record { end = any; move = PendNone end; can = record
-      { number = (pos, high); awake = a; stands = s; finds = tt }; done = fin _ w' t _ _ _ k.1 refl; possible = tt;
-      carries = λ X. refl }
+  | inl k ↦ record {
+    end = any;
+    move = PendNone end;
+    can = record { number = (pos, high); awake = a; stands = s; finds = tt };
+    done = fin _ w' t _ _ _ k.1 refl;
+    possible = tt;
+    carries = λ X. refl;
+  }
   | inr k ↦ absurd (omega (arith, pend, k.1))
 ]
 walk_end w T t (Owned m) end r w' inv pos high a s pend d = elim d [
@@ -131,9 +146,14 @@ walk_end w T t (Unowned m) end r w' inv pos high a s pend d = elim d [
       elim k.2 [
         | inl f ↦
             let wk : WakesOne w (OnLock m) w' = subst (λ y. WakesOne w (OnLock y) w') q f.1 in
-            record { end = any; move = PendForeign m end wk.woken; can = record
-                { number = (pos, high); awake = a; stands = s; finds = wk.wake }; done = fin _ w' t _ _ _ wk.awake
-                refl; possible = tt; carries = λ X. refl }
+            record {
+              end = any;
+              move = PendForeign m end wk.woken;
+              can = record { number = (pos, high); awake = a; stands = s; finds = wk.wake };
+              done = fin _ w' t _ _ _ wk.awake refl;
+              possible = tt;
+              carries = λ X. refl;
+            }
         | inr f ↦ absurd (foreign w T t zero m end inv pos s (ap (λ y. owner (w.lock y)) (sym q) ∙ f.0))
       ]
 ]
@@ -147,12 +167,23 @@ entry_covers : (w : World) (t m : ℕ) (x : Entry) (end : End) (r : ℕ) (w' : W
     → w.asleep t ≡ None → (w.at t).point ≡ Walks (suc m) x end → x ≢ Owned m → Abandon w t m w'
     → IsMove w t (Walks (suc m) x end) r w'
 entry_covers w t m x end r w' pos high a s n d = elim d.1 [
-  | inl z ↦ record { end = any; move = EntryAlone m x end; can = record
-      { number = (pos, high); awake = a; stands = s; finds = (n, z.0) }; done = fin _ w' t _ _ _ z.1 refl; possible =
-      tt; carries = λ X. sym (cond-false (is_pending x m) _ _ (other_pending x m n)) }
-  | inr z ↦ record { end = any; move = EntryWake m x end z.1.woken; can = record
-      { number = (pos, high); awake = a; stands = s; finds = (n, z.0, z.1.wake) }; done = fin _ w' t _ _ _ z.1.awake
-      refl; possible = tt; carries = λ X. sym (cond-false (is_pending x m) _ _ (other_pending x m n)) }
+  | inl z ↦ record {
+    end = any;
+    move = EntryAlone m x end;
+    can = record { number = (pos, high); awake = a; stands = s; finds = (n, z.0) };
+    done = fin _ w' t _ _ _ z.1 refl;
+    possible =
+        tt;
+    carries = λ X. sym (cond-false (is_pending x m) _ _ (other_pending x m n));
+  }
+  | inr z ↦ record {
+    end = any;
+    move = EntryWake m x end z.1.woken;
+    can = record { number = (pos, high); awake = a; stands = s; finds = (n, z.0, z.1.wake) };
+    done = fin _ w' t _ _ _ z.1.awake refl;
+    possible = tt;
+    carries = λ X. sym (cond-false (is_pending x m) _ _ (other_pending x m n));
+  }
 ]
 
 walk_covers : (w : World) (T : Table) (t a : ℕ) (x : Entry) (end : End) (r : ℕ) (w' : World) → Good w T → 0 < t
@@ -164,16 +195,21 @@ walk_covers w T t zero x end r w' inv pos high aw s d = walk_end w T t x end r w
 walk_covers w T t (suc m) x end r w' inv pos high aw s d =
     let pend : w.pending t ≡ entry_word x = subst (λ y. PendAt y (w.pending t)) s (inv.pends.pend t) in
     let chain : Chain w.link (suc m) (w.at t).list = subst (λ y. ChainAt w.link (w.head t) y (w.at t).list) s
-        (inv.chains.chain t) in
+    (inv.chains.chain t) in
     let first = (chain_some w.link m (w.at t).list chain).0 in
     let listed : mem m (w.at t).list ≡ true = ap (mem m) first
-        ∙ or_left (m == m) (mem m (tail (w.at t).list)) (eq-eqb m m refl) in
+    ∙ or_left (m == m) (mem m (tail (w.at t).list)) (eq-eqb m m refl) in
     elim d [
       | inl k ↦ elim (entry_suc x m (sym pend ∙ k.0)) [
-        | inl e ↦ record { end = any; move = SkipEntry m end; can = record
-            { number = (pos, high); awake = aw; stands = s ∙ ap (λ y. Walks (suc m) y end) e; finds = tt }; done = fin
-            _ w' t _ _ _ k.1 (ap (λ y. Walks (w.link m) y end) e); possible = tt; carries = λ X. sym
-            (cond-true (is_pending x m) _ _ (ap (λ y. is_pending y m) e ∙ eq-eqb m m refl)) }
+        | inl e ↦ record {
+          end = any;
+          move = SkipEntry m end;
+          can = record { number = (pos, high); awake = aw; stands = s ∙ ap (λ y. Walks (suc m) y end) e; finds = tt };
+          done = fin
+              _ w' t _ _ _ k.1 (ap (λ y. Walks (w.link m) y end) e);
+          possible = tt;
+          carries = λ X. sym (cond-true (is_pending x m) _ _ (ap (λ y. is_pending y m) e ∙ eq-eqb m m refl));
+        }
         | inr e ↦ let not_listed : ListedEntry (Unowned m) (w.at t).list = subst (λ y. ListedEntry y (w.at t).list) e
             (subst (λ y. Listed y (w.at t).list) s (inv.locks.knows t).1)
             in absurd (false≢true (sym not_listed ∙ listed))
@@ -187,98 +223,229 @@ walk_covers w T t (suc m) x end r w' inv pos high aw s d =
 pub covers : (w : World) (T : Table) (t : ℕ) (p : Point) (r : ℕ) (w' : World) → Good w T → 0 < t → t ≤ w.made
     → w.asleep t ≡ None → (w.at t).point ≡ p → Serves w t p (request t p) r w' → IsMove w t p r w'
 unfolding joins is_made holds Knows
-covers w T t (EnterPends m) r w' inv pos high a s d = record { end = any; move = SetPend m; can = record
-    { number = (pos, high); awake = a; stands = s; finds = tt }; done = fin _ w' t _ _ _ d refl; possible = tt;
-    carries = λ X. refl }
+covers w T t (EnterPends m) r w' inv pos high a s d = record {
+  end = any;
+  move = SetPend m;
+  can = record { number = (pos, high); awake = a; stands = s; finds = tt };
+  done = fin _ w' t _ _ _ d refl;
+  possible = tt;
+  carries = λ X. refl;
+}
 covers w T t (EnterTries m) r w' inv pos high a s d = elim d.1 [
-  | inl k ↦ record { end = any; move = CompareSwapGot m; can = record
-      { number = (pos, high); awake = a; stands = s; finds = k.0 }; done = fin _ w' t _ _ _ k.1
-      (yes r 0 _ _ (d.0 ∙ k.0)); possible = tt; carries = λ X. sym (yes r 0 _ _ (d.0 ∙ k.0)) }
-  | inr k ↦ record { end = any; move = CompareSwapBusy m; can = record
-      { number = (pos, high); awake = a; stands = s; finds = k.0 }; done = fin _ w' t _ _ _ k.1
-      (no r 0 _ _ (λ z. k.0 (sym d.0 ∙ z))); possible = tt; carries = λ X. sym (no r 0 _ _ (λ z. k.0 (sym d.0 ∙ z))) }
+  | inl k ↦ record {
+    end = any;
+    move = CompareSwapGot m;
+    can = record { number = (pos, high); awake = a; stands = s; finds = k.0 };
+    done = fin _ w' t _ _ _ k.1 (yes r 0 _ _ (d.0 ∙ k.0));
+    possible = tt;
+    carries = λ X. sym (yes r 0 _ _ (d.0 ∙ k.0));
+  }
+  | inr k ↦ record {
+    end = any;
+    move = CompareSwapBusy m;
+    can = record { number = (pos, high); awake = a; stands = s; finds = k.0 };
+    done = fin _ w' t _ _ _ k.1 (no r 0 _ _ (λ z. k.0 (sym d.0 ∙ z)));
+    possible = tt;
+    carries = λ X. sym (no r 0 _ _ (λ z. k.0 (sym d.0 ∙ z)));
+  }
 ]
-covers w T t (ReenterPends m) r w' inv pos high a s d = record
-    { end = any; move = SetPendHeld m; can = record { number = (pos, high); awake = a; stands = s; finds = tt }; done
-    = fin _ w' t _ _ _ d refl; possible = tt; carries = λ X. refl }
+covers w T t (ReenterPends m) r w' inv pos high a s d = record {
+  end = any;
+  move = SetPendHeld m;
+  can = record { number = (pos, high); awake = a; stands = s; finds = tt };
+  done
+      = fin _ w' t _ _ _ d refl;
+  possible = tt;
+  carries = λ X. refl;
+}
 covers w T t (ReenterTries m) r w' inv pos high a s d = elim d.1 [
   | inl k ↦
       let known : mem m (w.at t).list ≡ true = subst (λ y. Listed y (w.at t).list) s (inv.locks.knows t).1 in
       let h = inv.locks.held m t (or_left (mem m (w.at t).list) _ known) in
       let b = tie_held (T.hold m) (w.lock m) t (inv.locks.tie m) h in
       absurd (omega (arith, b.0, b.1, ap owner k.0, owner-small 0 (omega arith)))
-  | inr k ↦ record { end = any; move = CompareSwapHeld m; can = record
-      { number = (pos, high); awake = a; stands = s; finds = k.0 }; done = fin _ w' t _ _ _ k.1
-      (no r 0 _ _ (λ z. k.0 (sym d.0 ∙ z))); possible = λ z. k.0 (sym d.0 ∙ z); carries = λ X. refl }
+  | inr k ↦ record {
+    end = any;
+    move = CompareSwapHeld m;
+    can = record { number = (pos, high); awake = a; stands = s; finds = k.0 };
+    done = fin _ w' t _ _ _ k.1 (no r 0 _ _ (λ z. k.0 (sym d.0 ∙ z)));
+    possible = λ z. k.0 (sym d.0 ∙ z);
+    carries = λ X. refl;
+  }
 ]
 covers w T t (TakeReads m k) r w' inv pos high a s d = elim (cases_eq (owner (w.lock m)) 0) [
-  | inl z ↦ record { end = any; move = LoadFree m k; can = record
-      { number = (pos, high); awake = a; stands = s; finds = z }; done = fin _ w' t _ _ _ d.1
-      (yes (owner r) 0 _ _ (ap owner d.0 ∙ z) ∙ ap (λ x. TakeTries m x k) d.0); possible = tt; carries = λ X. refl }
-  | inr z ↦ record { end = any; move = LoadHeld m k; can = record
-      { number = (pos, high); awake = a; stands = s; finds = z }; done = fin _ w' t _ _ _ d.1
-      (no (owner r) 0 _ _ (λ q. z (sym (ap owner d.0) ∙ q)) ∙ ap (λ x. TakeMarks m x k) d.0); possible = tt; carries =
-      λ X. refl }
+  | inl z ↦ record {
+    end = any;
+    move = LoadFree m k;
+    can = record { number = (pos, high); awake = a; stands = s; finds = z };
+    done = fin _ w' t _ _ _ d.1 (yes (owner r) 0 _ _ (ap owner d.0 ∙ z) ∙ ap (λ x. TakeTries m x k) d.0);
+    possible = tt;
+    carries = λ X. refl;
+  }
+  | inr z ↦ record {
+    end = any;
+    move = LoadHeld m k;
+    can = record { number = (pos, high); awake = a; stands = s; finds = z };
+    done = fin _ w' t _ _ _ d.1
+        (no (owner r) 0 _ _ (λ q. z (sym (ap owner d.0) ∙ q)) ∙ ap (λ x. TakeMarks m x k) d.0);
+    possible = tt;
+    carries =
+        λ X. refl;
+  }
 ]
 covers w T t (TakeMarks m v k) r w' inv pos high a s d = elim d.1 [
-  | inl z ↦ record { end = any; move = MarkDone m v k; can = record
-      { number = (pos, high); awake = a; stands = s; finds = z.0 }; done = fin _ w' t _ _ _ z.1
-      (yes r v _ _ (d.0 ∙ z.0)); possible = tt; carries = λ X. refl }
-  | inr z ↦ record { end = any; move = MarkFail m v k; can = record
-      { number = (pos, high); awake = a; stands = s; finds = z.0 }; done = fin _ w' t _ _ _ z.1
-      (no r v _ _ (λ q. z.0 (sym d.0 ∙ q))); possible = tt; carries = λ X. refl }
+  | inl z ↦ record {
+    end = any;
+    move = MarkDone m v k;
+    can = record { number = (pos, high); awake = a; stands = s; finds = z.0 };
+    done = fin _ w' t _ _ _ z.1 (yes r v _ _ (d.0 ∙ z.0));
+    possible = tt;
+    carries = λ X. refl;
+  }
+  | inr z ↦ record {
+    end = any;
+    move = MarkFail m v k;
+    can = record { number = (pos, high); awake = a; stands = s; finds = z.0 };
+    done = fin _ w' t _ _ _ z.1 (no r v _ _ (λ q. z.0 (sym d.0 ∙ q)));
+    possible = tt;
+    carries = λ X. refl;
+  }
 ]
 covers w T t (TakeSleeps m v k) r w' inv pos high a s d = elim d [
-  | inl z ↦ record { end = any; move = Sleep m v k; can = record
-      { number = (pos, high); awake = a; stands = s; finds = z.0 }; done = fin _ w' t _ _ _ z.1 refl; possible = tt;
-      carries = λ X. refl }
-  | inr z ↦ record { end = any; move = Again m v k; can = record
-      { number = (pos, high); awake = a; stands = s; finds = z.0 }; done = fin _ w' t _ _ _ z.1 refl; possible = tt;
-      carries = λ X. refl }
+  | inl z ↦ record {
+    end = any;
+    move = Sleep m v k;
+    can = record { number = (pos, high); awake = a; stands = s; finds = z.0 };
+    done = fin _ w' t _ _ _ z.1 refl;
+    possible = tt;
+    carries = λ X. refl;
+  }
+  | inr z ↦ record {
+    end = any;
+    move = Again m v k;
+    can = record { number = (pos, high); awake = a; stands = s; finds = z.0 };
+    done = fin _ w' t _ _ _ z.1 refl;
+    possible = tt;
+    carries = λ X. refl;
+  }
 ]
 covers w T t (TakeTries m v k) r w' inv pos high a s d = elim d.1 [
-  | inl z ↦ record { end = any; move = FreeGot m v k; can = record
-      { number = (pos, high); awake = a; stands = s; finds = z.0 }; done = fin _ w' t _ _ _ z.1
-      (yes r v _ _ (d.0 ∙ z.0)); possible = tt; carries = λ X. sym (yes r v _ _ (d.0 ∙ z.0)) }
-  | inr z ↦ record { end = any; move = FreeFail m v k; can = record
-      { number = (pos, high); awake = a; stands = s; finds = z.0 }; done = fin _ w' t _ _ _ z.1
-      (no r v _ _ (λ q. z.0 (sym d.0 ∙ q))); possible = tt; carries = λ X. sym (no r v _ _ (λ q. z.0 (sym d.0 ∙ q))) }
+  | inl z ↦ record {
+    end = any;
+    move = FreeGot m v k;
+    can = record { number = (pos, high); awake = a; stands = s; finds = z.0 };
+    done = fin _ w' t _ _ _ z.1 (yes r v _ _ (d.0 ∙ z.0));
+    possible = tt;
+    carries = λ X. sym (yes r v _ _ (d.0 ∙ z.0));
+  }
+  | inr z ↦ record {
+    end = any;
+    move = FreeFail m v k;
+    can = record { number = (pos, high); awake = a; stands = s; finds = z.0 };
+    done = fin _ w' t _ _ _ z.1 (no r v _ _ (λ q. z.0 (sym d.0 ∙ q)));
+    possible = tt;
+    carries = λ X. sym (no r v _ _ (λ q. z.0 (sym d.0 ∙ q)));
+  }
 ]
-covers w T t (GotReads m v) r w' inv pos high a s d = record { end = any; move = ReadHead m v; can = record
-    { number = (pos, high); awake = a; stands = s; finds = tt }; done = fin _ w' t _ _ _ d.1
-    (ap (λ x. GotLinks m v x) d.0); possible = tt; carries = λ X. refl }
-covers w T t (GotLinks m v h) r w' inv pos high a s d = record
-    { end = any; move = SetLink m v h; can = record { number = (pos, high); awake = a; stands = s; finds = tt }; done
-    = fin _ w' t _ _ _ d refl; possible = tt; carries = λ X. refl }
-covers w T t (GotHeads m v) r w' inv pos high a s d = record { end = any; move = SetHead m v; can = record
-    { number = (pos, high); awake = a; stands = s; finds = tt }; done = fin _ w' t _ _ _ d refl; possible = tt;
-    carries = λ X. refl }
-covers w T t (GotUnpends m v) r w' inv pos high a s d = record
-    { end = any; move = ClearPend m v; can = record { number = (pos, high); awake = a; stands = s; finds = tt }; done
-    = fin _ w' t _ _ _ d refl; possible = tt; carries = λ X. refl }
-covers w T t (WaitReads c) r w' inv pos high a s d = record { end = any; move = ReadSeq c; can = record
-    { number = (pos, high); awake = a; stands = s; finds = tt }; done = fin _ w' t _ _ _ d.1
-    (ap (λ x. LeavePends c.monitor (ToWait c x)) d.0); possible = tt; carries = λ X. refl }
-covers w T t (NotifyAdds c) r w' inv pos high a s d = record { end = any; move = AddSeq c; can = record
-    { number = (pos, high); awake = a; stands = s; finds = tt }; done = fin _ w' t _ _ _ d.1 refl; possible = tt;
-    carries = λ X. refl }
-covers w T t (NotifyWakes c) r w' inv pos high a s d = record
-    { end = any; move = WakeSeq c d.woken; can = record { number = (pos, high); awake = a; stands = s; finds = d.wake
-    }; done = fin _ w' t _ _ _ d.awake refl; possible = tt; carries = λ X. ap
-    (λ (x : World). Some (Acts t (Notifies c (resumed_by w X c x.asleep)))) (sym d.awake) }
-covers w T t (BroadcastAdds c) r w' inv pos high a s d = record
-    { end = any; move = AddAll c; can = record { number = (pos, high); awake = a; stands = s; finds = tt }; done = fin
-    _ w' t _ _ _ d.1 refl; possible = tt; carries = λ X. refl }
-covers w T t (BroadcastMarks c) r w' inv pos high a s d = record
-    { end = any; move = OrLock c; can = record { number = (pos, high); awake = a; stands = s; finds = tt }; done = fin
-    _ w' t _ _ _ d.1 refl; possible = tt; carries = λ X. refl }
-covers w T t (BroadcastReads c) r w' inv pos high a s d = record
-    { end = any; move = LoadSeq c; can = record { number = (pos, high); awake = a; stands = s; finds = tt }; done =
-    fin _ w' t _ _ _ d.1 (ap (λ x. BroadcastMoves c x) d.0); possible = tt; carries = λ X. refl }
+covers w T t (GotReads m v) r w' inv pos high a s d = record {
+  end = any;
+  move = ReadHead m v;
+  can = record { number = (pos, high); awake = a; stands = s; finds = tt };
+  done = fin _ w' t _ _ _ d.1 (ap (λ x. GotLinks m v x) d.0);
+  possible = tt;
+  carries = λ X. refl;
+}
+covers w T t (GotLinks m v h) r w' inv pos high a s d = record {
+  end = any;
+  move = SetLink m v h;
+  can = record { number = (pos, high); awake = a; stands = s; finds = tt };
+  done
+      = fin _ w' t _ _ _ d refl;
+  possible = tt;
+  carries = λ X. refl;
+}
+covers w T t (GotHeads m v) r w' inv pos high a s d = record {
+  end = any;
+  move = SetHead m v;
+  can = record { number = (pos, high); awake = a; stands = s; finds = tt };
+  done = fin _ w' t _ _ _ d refl;
+  possible = tt;
+  carries = λ X. refl;
+}
+covers w T t (GotUnpends m v) r w' inv pos high a s d = record {
+  end = any;
+  move = ClearPend m v;
+  can = record { number = (pos, high); awake = a; stands = s; finds = tt };
+  done
+      = fin _ w' t _ _ _ d refl;
+  possible = tt;
+  carries = λ X. refl;
+}
+covers w T t (WaitReads c) r w' inv pos high a s d = record {
+  end = any;
+  move = ReadSeq c;
+  can = record { number = (pos, high); awake = a; stands = s; finds = tt };
+  done = fin _ w' t _ _ _ d.1 (ap (λ x. LeavePends c.monitor (ToWait c x)) d.0);
+  possible = tt;
+  carries = λ X. refl;
+}
+covers w T t (NotifyAdds c) r w' inv pos high a s d = record {
+  end = any;
+  move = AddSeq c;
+  can = record { number = (pos, high); awake = a; stands = s; finds = tt };
+  done = fin _ w' t _ _ _ d.1 refl;
+  possible = tt;
+  carries = λ X. refl;
+}
+covers w T t (NotifyWakes c) r w' inv pos high a s d = record {
+  end = any;
+  move = WakeSeq c d.woken;
+  can = record {
+    number = (pos, high);
+    awake = a;
+    stands = s;
+    finds = d.wake;
+  };
+  done = fin _ w' t _ _ _ d.awake refl;
+  possible = tt;
+  carries = λ X. ap (λ (x : World). Some (Acts t (Notifies c (resumed_by w X c x.asleep)))) (sym d.awake);
+}
+covers w T t (BroadcastAdds c) r w' inv pos high a s d = record {
+  end = any;
+  move = AddAll c;
+  can = record { number = (pos, high); awake = a; stands = s; finds = tt };
+  done = fin
+      _ w' t _ _ _ d.1 refl;
+  possible = tt;
+  carries = λ X. refl;
+}
+covers w T t (BroadcastMarks c) r w' inv pos high a s d = record {
+  end = any;
+  move = OrLock c;
+  can = record { number = (pos, high); awake = a; stands = s; finds = tt };
+  done = fin
+      _ w' t _ _ _ d.1 refl;
+  possible = tt;
+  carries = λ X. refl;
+}
+covers w T t (BroadcastReads c) r w' inv pos high a s d = record {
+  end = any;
+  move = LoadSeq c;
+  can = record { number = (pos, high); awake = a; stands = s; finds = tt };
+  done =
+      fin _ w' t _ _ _ d.1 (ap (λ x. BroadcastMoves c x) d.0);
+  possible = tt;
+  carries = λ X. refl;
+}
 covers w T t (BroadcastMoves c x) r w' inv pos high a s d = elim d [
-  | inl z ↦ record { end = any; move = MoveAll c x; can = record
-      { number = (pos, high); awake = a; stands = s; finds = z.0 }; done = fin _ w' t _ _ _ z.1 refl; possible = tt;
-      carries = λ X. ap (λ (y : World). Some (Acts t (Broadcasts c (resumed_by w X c y.asleep)))) (sym z.1) }
+  | inl z ↦ record {
+    end = any;
+    move = MoveAll c x;
+    can = record { number = (pos, high); awake = a; stands = s; finds = z.0 };
+    done = fin _ w' t _ _ _ z.1 refl;
+    possible = tt;
+    carries = λ X. ap (λ (y : World). Some (Acts t (Broadcasts c (resumed_by w X c y.asleep)))) (sym z.1);
+  }
   | inr z ↦ let f : x ≡ w.sequence c = subst (FreshAt w.sequence) s (inv.fresh.fresh t) in absurd (z.0 (sym f))
 ]
 covers w T t (JoinReads q) r w' inv pos high a s d = elim (cases_eq (w.id q) 0) [
@@ -286,74 +453,190 @@ covers w T t (JoinReads q) r w' inv pos high a s d = elim (cases_eq (w.id q) 0) 
       let j : joins (w.at t) q ≡ true = ap (λ y. point_joins y q) s ∙ eq-eqb q q refl in
       let c = inv.joiners.claimed t q j in
       let g = gone (w.at q).point q (w.id q) (inv.joiners.ids q) z c.1
-          (inv.threads.exist q c.1 (inv.threads.joined t q j)) in
-      record { end = g.0; move = IdGone q g.0; can = record { number = (pos, high); awake = a; stands = s; finds =
-          (z, g.1) }; done = fin _ w' t _ _ _ d.1 (yes r 0 _ _ (d.0 ∙ z)); possible = tt; carries = λ X. sym
-          (yes r 0 _ _ (d.0 ∙ z)) }
-  | inr z ↦ record { end = any; move = IdThere q; can = record
-      { number = (pos, high); awake = a; stands = s; finds = z }; done = fin _ w' t _ _ _ d.1
-      (no r 0 _ _ (λ k. z (sym d.0 ∙ k))); possible = tt; carries = λ X. sym (no r 0 _ _ (λ k. z (sym d.0 ∙ k))) }
+      (inv.threads.exist q c.1 (inv.threads.joined t q j)) in
+      record {
+        end = g.0;
+        move = IdGone q g.0;
+        can = record {
+          number = (pos, high);
+          awake = a;
+          stands = s;
+          finds =
+              (z, g.1);
+        };
+        done = fin _ w' t _ _ _ d.1 (yes r 0 _ _ (d.0 ∙ z));
+        possible = tt;
+        carries = λ X. sym (yes r 0 _ _ (d.0 ∙ z));
+      }
+  | inr z ↦ record {
+    end = any;
+    move = IdThere q;
+    can = record { number = (pos, high); awake = a; stands = s; finds = z };
+    done = fin _ w' t _ _ _ d.1 (no r 0 _ _ (λ k. z (sym d.0 ∙ k)));
+    possible = tt;
+    carries = λ X. sym (no r 0 _ _ (λ k. z (sym d.0 ∙ k)));
+  }
 ]
 covers w T t (JoinSleeps q) r w' inv pos high a s d = elim d [
-  | inl z ↦ record { end = any; move = IdSleep q; can = record
-      { number = (pos, high); awake = a; stands = s; finds = z.0 }; done = fin _ w' t _ _ _ z.1 refl; possible = tt;
-      carries = λ X. refl }
-  | inr z ↦ record { end = any; move = IdAgain q; can = record
-      { number = (pos, high); awake = a; stands = s; finds = z.0 }; done = fin _ w' t _ _ _ z.1 refl; possible = tt;
-      carries = λ X. refl }
+  | inl z ↦ record {
+    end = any;
+    move = IdSleep q;
+    can = record { number = (pos, high); awake = a; stands = s; finds = z.0 };
+    done = fin _ w' t _ _ _ z.1 refl;
+    possible = tt;
+    carries = λ X. refl;
+  }
+  | inr z ↦ record {
+    end = any;
+    move = IdAgain q;
+    can = record { number = (pos, high); awake = a; stands = s; finds = z.0 };
+    done = fin _ w' t _ _ _ z.1 refl;
+    possible = tt;
+    carries = λ X. refl;
+  }
 ]
 covers w T t (JoinLearns q end) r w' inv pos high a s d = elim (cases_eq (w.outcome q) 16) [
-  | inl z ↦ record { end = any; move = LearnEnded q end; can = record
-      { number = (pos, high); awake = a; stands = s; finds = z }; done = fin _ w' t _ _ _ d.1
-      (yes r 16 _ _ (d.0 ∙ z)); possible = tt; carries = λ X. refl }
-  | inr z ↦ record { end = any; move = LearnAborted q end; can = record
-      { number = (pos, high); awake = a; stands = s; finds = z }; done = fin _ w' t _ _ _ d.1
-      (no r 16 _ _ (λ k. z (sym d.0 ∙ k))); possible = tt; carries = λ X. refl }
+  | inl z ↦ record {
+    end = any;
+    move = LearnEnded q end;
+    can = record { number = (pos, high); awake = a; stands = s; finds = z };
+    done = fin _ w' t _ _ _ d.1 (yes r 16 _ _ (d.0 ∙ z));
+    possible = tt;
+    carries = λ X. refl;
+  }
+  | inr z ↦ record {
+    end = any;
+    move = LearnAborted q end;
+    can = record { number = (pos, high); awake = a; stands = s; finds = z };
+    done = fin _ w' t _ _ _ d.1 (no r 16 _ _ (λ k. z (sym d.0 ∙ k)));
+    possible = tt;
+    carries = λ X. refl;
+  }
 ]
-covers w T t (JoinTakes q end) r w' inv pos high a s d = record
-    { end = any; move = TakeResult q end; can = record { number = (pos, high); awake = a; stands = s; finds = tt };
-    done = fin _ w' t _ _ _ d.1 refl; possible = tt; carries = λ X. refl }
-covers w T t (LeavePends m k) r w' inv pos high a s d = record
-    { end = any; move = PendAgain m k; can = record { number = (pos, high); awake = a; stands = s; finds = tt }; done
-    = fin _ w' t _ _ _ d refl; possible = tt; carries = λ X. refl }
-covers w T t (LeaveReads m k) r w' inv pos high a s d = record
-    { end = any; move = ReadLink m k; can = record { number = (pos, high); awake = a; stands = s; finds = tt }; done =
-    fin _ w' t _ _ _ d.1 (ap (λ x. LeaveHeads m x k) d.0); possible = tt; carries = λ X. refl }
-covers w T t (LeaveHeads m h k) r w' inv pos high a s d = record
-    { end = any; move = CutHead m h k; can = record { number = (pos, high); awake = a; stands = s; finds = tt }; done
-    = fin _ w' t _ _ _ d refl; possible = tt; carries = λ X. refl }
+covers w T t (JoinTakes q end) r w' inv pos high a s d = record {
+  end = any;
+  move = TakeResult q end;
+  can = record { number = (pos, high); awake = a; stands = s; finds = tt };
+  done = fin _ w' t _ _ _ d.1 refl;
+  possible = tt;
+  carries = λ X. refl;
+}
+covers w T t (LeavePends m k) r w' inv pos high a s d = record {
+  end = any;
+  move = PendAgain m k;
+  can = record { number = (pos, high); awake = a; stands = s; finds = tt };
+  done
+      = fin _ w' t _ _ _ d refl;
+  possible = tt;
+  carries = λ X. refl;
+}
+covers w T t (LeaveReads m k) r w' inv pos high a s d = record {
+  end = any;
+  move = ReadLink m k;
+  can = record { number = (pos, high); awake = a; stands = s; finds = tt };
+  done =
+      fin _ w' t _ _ _ d.1 (ap (λ x. LeaveHeads m x k) d.0);
+  possible = tt;
+  carries = λ X. refl;
+}
+covers w T t (LeaveHeads m h k) r w' inv pos high a s d = record {
+  end = any;
+  move = CutHead m h k;
+  can = record { number = (pos, high); awake = a; stands = s; finds = tt };
+  done
+      = fin _ w' t _ _ _ d refl;
+  possible = tt;
+  carries = λ X. refl;
+}
 covers w T t (LeaveSwaps m k) r w' inv pos high a s d = elim (cases_eq (waiters (w.lock m)) 0) [
-  | inl z ↦ record { end = any; move = SwapAlone m k; can = record
-      { number = (pos, high); awake = a; stands = s; finds = z }; done = fin _ w' t _ _ _ d.1
-      (yes (waiters r) 0 _ _ (ap waiters d.0 ∙ z)); possible = tt; carries = λ X. refl }
-  | inr z ↦ record { end = any; move = SwapWake m k; can = record
-      { number = (pos, high); awake = a; stands = s; finds = z }; done = fin _ w' t _ _ _ d.1
-      (no (waiters r) 0 _ _ (λ q. z (sym (ap waiters d.0) ∙ q))); possible = tt; carries = λ X. refl }
+  | inl z ↦ record {
+    end = any;
+    move = SwapAlone m k;
+    can = record { number = (pos, high); awake = a; stands = s; finds = z };
+    done = fin _ w' t _ _ _ d.1 (yes (waiters r) 0 _ _ (ap waiters d.0 ∙ z));
+    possible = tt;
+    carries = λ X. refl;
+  }
+  | inr z ↦ record {
+    end = any;
+    move = SwapWake m k;
+    can = record { number = (pos, high); awake = a; stands = s; finds = z };
+    done = fin _ w' t _ _ _ d.1 (no (waiters r) 0 _ _ (λ q. z (sym (ap waiters d.0) ∙ q)));
+    possible = tt;
+    carries = λ X. refl;
+  }
 ]
-covers w T t (LeaveWakes m k) r w' inv pos high a s d = record
-    { end = any; move = Wake m k d.woken; can = record { number = (pos, high); awake = a; stands = s; finds = d.wake
-    }; done = fin _ w' t _ _ _ d.awake refl; possible = tt; carries = λ X. refl }
-covers w T t (HasLeft m ToExit) r w' inv pos high a s d = record
-    { end = any; move = Finish m; can = record { number = (pos, high); awake = a; stands = s; finds = tt }; done = fin
-    _ w' t _ _ _ d refl; possible = tt; carries = λ X. refl }
+covers w T t (LeaveWakes m k) r w' inv pos high a s d = record {
+  end = any;
+  move = Wake m k d.woken;
+  can = record {
+    number = (pos, high);
+    awake = a;
+    stands = s;
+    finds = d.wake;
+  };
+  done = fin _ w' t _ _ _ d.awake refl;
+  possible = tt;
+  carries = λ X. refl;
+}
+covers w T t (HasLeft m ToExit) r w' inv pos high a s d = record {
+  end = any;
+  move = Finish m;
+  can = record { number = (pos, high); awake = a; stands = s; finds = tt };
+  done = fin
+      _ w' t _ _ _ d refl;
+  possible = tt;
+  carries = λ X. refl;
+}
 covers w T t (HasLeft m (ToWait c x)) r w' inv pos high a s d = elim d [
-  | inl z ↦ record { end = any; move = SeqSleep m c x; can = record
-      { number = (pos, high); awake = a; stands = s; finds = z.0 }; done = fin _ w' t _ _ _ z.1 refl; possible = tt;
-      carries = λ X. refl }
-  | inr z ↦ record { end = any; move = SeqAgain m c x; can = record
-      { number = (pos, high); awake = a; stands = s; finds = z.0 }; done = fin _ w' t _ _ _ z.1 refl; possible = tt;
-      carries = λ X. refl }
+  | inl z ↦ record {
+    end = any;
+    move = SeqSleep m c x;
+    can = record { number = (pos, high); awake = a; stands = s; finds = z.0 };
+    done = fin _ w' t _ _ _ z.1 refl;
+    possible = tt;
+    carries = λ X. refl;
+  }
+  | inr z ↦ record {
+    end = any;
+    move = SeqAgain m c x;
+    can = record { number = (pos, high); awake = a; stands = s; finds = z.0 };
+    done = fin _ w' t _ _ _ z.1 refl;
+    possible = tt;
+    carries = λ X. refl;
+  }
 ]
-covers w T t (Dies cause x) r w' inv pos high a s d = record { end = any; move = WriteFault cause x; can = record
-    { number = (pos, high); awake = a; stands = s; finds = tt }; done = fin _ w' t _ _ _ d.1
-    (ap (λ y. Walks y x (Aborted cause)) d.0); possible = tt; carries = λ X. refl }
+covers w T t (Dies cause x) r w' inv pos high a s d = record {
+  end = any;
+  move = WriteFault cause x;
+  can = record { number = (pos, high); awake = a; stands = s; finds = tt };
+  done = fin _ w' t _ _ _ d.1 (ap (λ y. Walks y x (Aborted cause)) d.0);
+  possible = tt;
+  carries = λ X. refl;
+}
 covers w T t (Walks a x end) r w' inv pos high aw s d = walk_covers w T t a x end r w' inv pos high aw s d.1
-covers w T t (ClearsId end) r w' inv pos high a s d = record { end = any; move = ClearId end; can = record
-    { number = (pos, high); awake = a; stands = s; finds = tt }; done = fin _ w' t _ _ _ d.1 refl; possible = tt;
-    carries = λ X. refl }
-covers w T t (LastWakes end) r w' inv pos high a s d = record
-    { end = any; move = LastWake end d.1.woken; can = record { number = (pos, high); awake = a; stands = s; finds =
-    d.1.wake }; done = fin _ w' t _ _ _ d.1.awake refl; possible = tt; carries = λ X. refl }
+covers w T t (ClearsId end) r w' inv pos high a s d = record {
+  end = any;
+  move = ClearId end;
+  can = record { number = (pos, high); awake = a; stands = s; finds = tt };
+  done = fin _ w' t _ _ _ d.1 refl;
+  possible = tt;
+  carries = λ X. refl;
+}
+covers w T t (LastWakes end) r w' inv pos high a s d = record {
+  end = any;
+  move = LastWake end d.1.woken;
+  can = record {
+    number = (pos, high);
+    awake = a;
+    stands = s;
+    finds =
+        d.1.wake;
+  };
+  done = fin _ w' t _ _ _ d.1.awake refl;
+  possible = tt;
+  carries = λ X. refl;
+}
 covers w T t p r w' inv pos high a s d = absurd d
 
 pub every_step_is_a_move : (ss : List (ℕ × Move)) (w : World) → Leads opening_world ss w

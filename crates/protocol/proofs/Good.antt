@@ -123,7 +123,7 @@ pub owned_word : (w : World) (T : Table) (t : ℕ) (m : Move) → Good w T → C
     → (mem e (w.at t).list || own (entry_at (from m)) e) ≡ true → owner (w.lock e) ≢ 0
 owned_word w T t m inv can e h =
     let a = tie_held (T.hold e) (w.lock e) t (inv.locks.tie e) (mine_at w T t m inv can e h)
-        in λ z. omega (arith, a.0, a.1, z)
+    in λ z. omega (arith, a.0, a.1, z)
 
 pub mine_of : (w : World) (t : ℕ) (m : Move) → Can w t m → (e : ℕ)
     → (mem e (w.at t).list || own (entry_at (from m)) e) ≡ true → holds (w.at t) e ≡ true

@@ -60,8 +60,11 @@ kept w T t m inv can = record {
 own_allowed : (w : World) (T : Table) (t : ℕ) (l : Label) → Good w T → Can w t (Own l) → IsOwn (w.at t) l
     → Allows t l T T × IsByHolder t l T
 own_allowed w T t (Alone kind) inv can own = (refl, tt)
-own_allowed w T t (Stores m) inv can own = (refl, mine_at w T t (Own (Stores m))
-    inv can m (or_left (mem m (w.at t).list) _ own))
+own_allowed w T t (Stores m) inv can own = (
+  refl,
+  mine_at w T t (Own (Stores m))
+      inv can m (or_left (mem m (w.at t).list) _ own),
+)
 own_allowed w T t l inv can own = absurd own
 
 -- a thread holds the monitor of its pending entry
@@ -96,9 +99,11 @@ some_resumed c asleep waits [] u wake slept h = elim (resumed_or_asleep c (awake
     [ inl r ↦ (u, r) | inr a ↦ absurd (false≢true (wake.all (omega arith) u a)) ]
 some_resumed c asleep waits (x ∷ xs) u wake slept h =
     let here : mem x (x ∷ xs) ≡ true = or_left (x == x) (mem x xs) (eq-eqb x x refl) in
-    elim (resumed_or_asleep c (awake_after asleep (x ∷ xs)) waits x (slept x (wake.slept x here)))
-        [ inl r ↦ (x, r) | inr a ↦ let z : awake_after asleep (x ∷ xs) x ≡ None = cond-true (mem x (x ∷ xs)) None
-        (asleep x) here in absurd cc ]
+    elim (resumed_or_asleep c (awake_after asleep (x ∷ xs)) waits x (slept x (wake.slept x here))) [
+      | inl r ↦ (x, r)
+      | inr a ↦ let z : awake_after asleep (x ∷ xs) x ≡ None = cond-true (mem x (x ∷ xs)) None
+          (asleep x) here in absurd cc
+    ]
 
 resumed_wait : (w : World) (T : Table) (c : Member) (asleep' : ℕ → Option Spot) (q : ℕ)
     → Contains (resumed_by w T c asleep') q → T.waits q ≡ Some c
@@ -154,14 +159,25 @@ permitted w T t (Own l) inv can = own_allowed w T t l inv can can.finds
 permitted w T t (Raise fault) inv can = (refl, tt)
 permitted w T t (CompareSwapGot e) inv can = ((tie_zero (T.hold e) (w.lock e) (inv.locks.tie e) can.finds, refl), tt)
 permitted w T t (FreeGot e v ToEnter) inv can =
-    let z : owner (w.lock e) ≡ 0 = rw can.finds (known_at w T t (FreeGot e v ToEnter) inv can).1.1 in
-    ((subst (λ x. T.hold e ≡ enterable (has_died x)) can.finds
-        (tie_enterable (T.hold e) (w.lock e) (inv.locks.tie e) z), refl), tt)
+    let z : owner (w.lock e) ≡ 0 = rw can.finds (known_at w T t (FreeGot e v ToEnter) inv can).1.1 in (
+      (
+        subst (λ x. T.hold e ≡ enterable (has_died x)) can.finds
+            (tie_enterable (T.hold e) (w.lock e) (inv.locks.tie e) z),
+        refl,
+      ),
+      tt,
+    )
 permitted w T t (FreeGot e v ToReenter) inv can = absurd (known_at w T t (FreeGot e v ToReenter) inv can).1.0
 permitted w T t (FreeGot e v (ToResume c)) inv can =
-    let z : owner (w.lock e) ≡ 0 = rw can.finds (known_at w T t (FreeGot e v (ToResume c)) inv can).1.1 in
-    ((resuming w T t e v c inv can, subst (λ x. T.hold e ≡ enterable (has_died x)) can.finds
-        (tie_enterable (T.hold e) (w.lock e) (inv.locks.tie e) z), refl), tt)
+    let z : owner (w.lock e) ≡ 0 = rw can.finds (known_at w T t (FreeGot e v (ToResume c)) inv can).1.1 in (
+      (
+        resuming w T t e v c inv can,
+        subst (λ x. T.hold e ≡ enterable (has_died x)) can.finds
+            (tie_enterable (T.hold e) (w.lock e) (inv.locks.tie e) z),
+        refl,
+      ),
+      tt,
+    )
 permitted w T t (SwapWake e ToExit) inv can = (refl, holds_pending w T t e (SwapWake e ToExit) inv can refl)
 permitted w T t (SwapWake e (ToWait c s)) inv can =
     let home : c.monitor ≡ e = subst HomeAt can.stands (inv.homes.home_ok t) in
@@ -170,18 +186,26 @@ permitted w T t (SwapAlone e ToExit) inv can = (refl, holds_pending w T t e (Swa
 permitted w T t (SwapAlone e (ToWait c s)) inv can =
     let home : c.monitor ≡ e = subst HomeAt can.stands (inv.homes.home_ok t) in
     (waits_permitted t e c T home, rw home (holds_pending w T t e (SwapAlone e (ToWait c s)) inv can refl))
-permitted w T t (WakeSeq c woken) inv can =
-    ((notified w T c woken inv can.finds, refl), holds_first w T t c.monitor (WakeSeq c woken)
-        inv can (known_at w T t (WakeSeq c woken) inv can).1)
-permitted w T t (MoveAll c s) inv can =
-    ((broadcast w T c inv, refl), holds_first w T t c.monitor (MoveAll c s)
-        inv can (known_at w T t (MoveAll c s) inv can).1)
-permitted w T t (EntryAlone e x end) inv can =
-    (refl, holds_first w T t e (EntryAlone e x end)
-        inv can (chain_some w.link e _ (chain_at w T t (EntryAlone e x end) inv can)).0)
-permitted w T t (EntryWake e x end woken) inv can =
-    (refl, holds_first w T t e (EntryWake e x end woken)
-        inv can (chain_some w.link e _ (chain_at w T t (EntryWake e x end woken) inv can)).0)
+permitted w T t (WakeSeq c woken) inv can = (
+  (notified w T c woken inv can.finds, refl),
+  holds_first w T t c.monitor (WakeSeq c woken)
+      inv can (known_at w T t (WakeSeq c woken) inv can).1,
+)
+permitted w T t (MoveAll c s) inv can = (
+  (broadcast w T c inv, refl),
+  holds_first w T t c.monitor (MoveAll c s)
+      inv can (known_at w T t (MoveAll c s) inv can).1,
+)
+permitted w T t (EntryAlone e x end) inv can = (
+  refl,
+  holds_first w T t e (EntryAlone e x end)
+      inv can (chain_some w.link e _ (chain_at w T t (EntryAlone e x end) inv can)).0,
+)
+permitted w T t (EntryWake e x end woken) inv can = (
+  refl,
+  holds_first w T t e (EntryWake e x end woken)
+      inv can (chain_some w.link e _ (chain_at w T t (EntryWake e x end woken) inv can)).0,
+)
 permitted w T t (PendAlone e end) inv can = (refl, holds_pending w T t e (PendAlone e end) inv can refl)
 permitted w T t (PendWake e end woken) inv can = (refl, holds_pending w T t e (PendWake e end woken) inv can refl)
 permitted w T t (ClearId end) inv can = (refl, tt)
@@ -216,34 +240,62 @@ opening_number t = elim (cases_eq t 1) [
 pub good_start : Good opening_world first_table
 unfolding holds helps may_sleep Knows stage joins goes is_made
 good_start = record {
-  locks = record { tie = λ e. tie_of_free; owned = λ e t h. absurd cc; held = λ e t. opening_case
-      (λ y. holds y e ≡ true → Free ≡ HeldBy t) (λ h. absurd (false≢true h)) (λ h. absurd (false≢true h)) t; knows = λ
-      t. opening_case Knows (tt, tt) (tt, refl) t; sleeps = λ e t h. absurd cc; safe = λ e t h. absurd cc; stuck = λ e
-      t h k. absurd cc };
+  locks = record {
+    tie = λ e. tie_of_free;
+    owned = λ e t h. absurd cc;
+    held = λ e t. opening_case
+        (λ y. holds y e ≡ true → Free ≡ HeldBy t) (λ h. absurd (false≢true h)) (λ h. absurd (false≢true h)) t;
+    knows = λ t. opening_case Knows (tt, tt) (tt, refl) t;
+    sleeps = λ e t h. absurd cc;
+    safe = λ e t h. absurd cc;
+    stuck = λ e t h k. absurd cc;
+  };
   chains = record { chain = λ t. opening_case (λ y. ChainAt (λ m. 0) 0 y.point y.list) refl refl t };
   pends = record { pend = λ t. opening_case (λ y. PendAt y.point 0) refl refl t };
   homes = record { home_ok = λ t. opening_case (λ y. HomeAt y.point) tt tt t };
   fresh = record { fresh = λ t. opening_case (λ y. FreshAt (λ c. 0) y.point) tt tt t };
-  marked_locks = record { mark = λ t e. opening_case (λ y. marks y.point e ≡ true → waiters 0 ≡ 2147483648)
-      (λ h. absurd (false≢true h)) (λ h. absurd (false≢true h)) t };
-  conds = record { going = λ u h. refl; ringing = λ u c h. refl; low = λ u c s. opening_case
-      (λ y. stage y ≡ Between c s → s ≤ 0) (λ h. absurd cc) (λ h. absurd cc) u; between = λ u c s h.
-      inr refl; current = λ u c s. opening_case (λ y. stage y ≡ Between c s → s ≡ 0 → None ≡ Some c)
-      (λ h e. absurd cc) (λ h e. absurd cc) u; past = λ u c h.
-      inr refl; sleeping = λ u c h. absurd cc; sleeper = λ u c h. absurd cc; waits = λ u c h. absurd cc; rings = λ n u
-      c s. opening_case (λ y. stage y ≡ Notifying c → stage (opening_thread u) ≡ Between c s → s < 0)
-      (λ h k. absurd cc) (λ h k. absurd cc) n };
-  joiners = record { claimed = λ u q. opening_case (λ y. joins y q ≡ true → (opening_world.claim q ≡ 1) × (0 < q))
-      (λ h. absurd (false≢true h)) (λ h. absurd (false≢true h)) u; one = λ u v q. opening_case
-      (λ y. joins y q ≡ true → joins (opening_thread v) q ≡ true → u ≡ v) (λ h k. absurd (false≢true h))
-      (λ h k. absurd (false≢true h)) u; ids = λ q. opening_id q; sleeps = λ u q h. absurd cc; unended = λ u q h.
-      absurd cc };
-  threads = record { few = omega arith; exist = λ t a b. let e : t ≡ 1 = omega (arith, a, b)
-      in subst (λ y. is_made (opening_thread y) ≡ true) (sym e) refl; number = λ t. opening_number t; joined = λ u q.
-      opening_case (λ y. joins y q ≡ true → q ≤ 1) (λ h. absurd (false≢true h)) (λ h. absurd (false≢true h)) u };
-  ends = record { tells = λ t. opening_case (λ y. EndsAt y.point 0 0) tt tt t; past = λ q e h. absurd cc; ended = λ q
-      e. opening_case (λ y. IsOver y.point e → None ≡ Some e) (λ h. absurd h) (λ h. absurd h) q; learned = λ t q e.
-      opening_case (λ y. HasJoined y.point q e → None ≡ Some e) (λ h. absurd h) (λ h. absurd h) t };
+  marked_locks = record {
+    mark = λ t e. opening_case (λ y. marks y.point e ≡ true → waiters 0 ≡ 2147483648)
+        (λ h. absurd (false≢true h)) (λ h. absurd (false≢true h)) t;
+  };
+  conds = record {
+    going = λ u h. refl;
+    ringing = λ u c h. refl;
+    low = λ u c s. opening_case (λ y. stage y ≡ Between c s → s ≤ 0) (λ h. absurd cc) (λ h. absurd cc) u;
+    between = λ u c s h. inr refl;
+    current = λ u c s. opening_case (λ y. stage y ≡ Between c s → s ≡ 0 → None ≡ Some c)
+        (λ h e. absurd cc) (λ h e. absurd cc) u;
+    past = λ u c h. inr refl;
+    sleeping = λ u c h. absurd cc;
+    sleeper = λ u c h. absurd cc;
+    waits = λ u c h. absurd cc;
+    rings = λ n u c s. opening_case (λ y. stage y ≡ Notifying c → stage (opening_thread u) ≡ Between c s → s < 0)
+        (λ h k. absurd cc) (λ h k. absurd cc) n;
+  };
+  joiners = record {
+    claimed = λ u q. opening_case (λ y. joins y q ≡ true → (opening_world.claim q ≡ 1) × (0 < q))
+        (λ h. absurd (false≢true h)) (λ h. absurd (false≢true h)) u;
+    one = λ u v q. opening_case
+        (λ y. joins y q ≡ true → joins (opening_thread v) q ≡ true → u ≡ v) (λ h k. absurd (false≢true h))
+        (λ h k. absurd (false≢true h)) u;
+    ids = λ q. opening_id q;
+    sleeps = λ u q h. absurd cc;
+    unended = λ u q h. absurd cc;
+  };
+  threads = record {
+    few = omega arith;
+    exist = λ t a b. let e : t ≡ 1 = omega (arith, a, b)
+        in subst (λ y. is_made (opening_thread y) ≡ true) (sym e) refl;
+    number = λ t. opening_number t;
+    joined = λ u q.
+        opening_case (λ y. joins y q ≡ true → q ≤ 1) (λ h. absurd (false≢true h)) (λ h. absurd (false≢true h)) u;
+  };
+  ends = record {
+    tells = λ t. opening_case (λ y. EndsAt y.point 0 0) tt tt t;
+    past = λ q e h. absurd cc;
+    ended = λ q e. opening_case (λ y. IsOver y.point e → None ≡ Some e) (λ h. absurd h) (λ h. absurd h) q;
+    learned = λ t q e. opening_case (λ y. HasJoined y.point q e → None ≡ Some e) (λ h. absurd h) (λ h. absurd h) t;
+  };
   claims = λ q. refl;
   made = refl;
 }

@@ -88,9 +88,9 @@ kill_notifier : (w : World) (T : Table) (t : ℕ) (c : Member) (p p' : Thread) �
     (put (without_waiters (resumed_by w T c (put w.asleep t None)) T.waits) t None)
 kill_notifier w T t c p p' inv stands was is =
     c_notified _ _ _ _ _ _ t c p p' inv.conds stands (put_same w.asleep t None) was is
-        (λ u d h. put_less w.asleep t None _ u (λ q. absurd cc) h) (λ u d n o h. put_other w.asleep t None u o ∙ h)
-        (resumption_put c (put w.asleep t None) T.waits _ t (inv.conds.ringing t c (ap stage stands ∙ was))
-        (resumed_ok w T c (put w.asleep t None) inv))
+    (λ u d h. put_less w.asleep t None _ u (λ q. absurd cc) h) (λ u d n o h. put_other w.asleep t None u o ∙ h)
+    (resumption_put c (put w.asleep t None) T.waits _ t (inv.conds.ringing t c (ap stage stands ∙ was))
+    (resumed_ok w T c (put w.asleep t None) inv))
 
 kill_conds : (w : World) (T : Table) (t : ℕ) (p : Point) → Good w T → w.at t ≡ thread_at p (w.at t).list
     → Conds w.sequence (put w.asleep t None) (put w.at t (thread_at (Dies Killed (entry_at p)) (w.at t).list))
@@ -123,9 +123,9 @@ resuming w T t e v c inv can =
           | inr n ↦
               let h = notifier w T n.0 c inv n.1 in
               let a = tie_held (T.hold c.monitor) (w.lock c.monitor) n.0 (inv.locks.tie c.monitor)
-                  (inv.locks.held c.monitor n.0 h) in
+              (inv.locks.held c.monitor n.0 h) in
               let free : owner (w.lock c.monitor) ≡ 0 = rw (home, can.finds)
-                  (known_at w T t (FreeGot e v (ToResume c)) inv can).1.1 in
+              (known_at w T t (FreeGot e v (ToResume c)) inv can).1.1 in
               absurd (omega (arith, a.0, a.1, free))
         ]
       ]
@@ -136,81 +136,81 @@ pub kept_conds : (w : World) (T : Table) (t : ℕ) (m : Move) → Good w T → C
 unfolding stage
 kept_conds w T t (Sleep e v k) inv can =
     c_same _ _ _ _ _ t _ _ inv.conds (stands_at w t (Sleep e v k) can) refl
-        (λ u c h. put_less w.asleep t (Some (OnLock e)) _ u (λ q. absurd cc) h)
-        (λ u c h. put_more w.asleep t _ _ u (λ q. let z = can.awake in absurd cc) h)
-        (λ c h. let z = put_same w.asleep t (Some (OnLock e)) in absurd cc)
+    (λ u c h. put_less w.asleep t (Some (OnLock e)) _ u (λ q. absurd cc) h)
+    (λ u c h. put_more w.asleep t _ _ u (λ q. let z = can.awake in absurd cc) h)
+    (λ c h. let z = put_same w.asleep t (Some (OnLock e)) in absurd cc)
 kept_conds w T t (Wake e m woken) inv can =
     c_same _ _ _ _ _ t _ _ inv.conds (stands_at w t (Wake e m woken) can) refl
-        (λ u c h. awakened_less w.asleep woken u _ h) (λ u c h. awakened_more w.asleep (OnLock e) 1 woken u _
-        can.finds (λ q. absurd cc) h) (λ c h. let z = awakened_less w.asleep woken t _ h in let y = can.awake
-        in absurd cc)
+    (λ u c h. awakened_less w.asleep woken u _ h) (λ u c h. awakened_more w.asleep (OnLock e) 1 woken u _
+    can.finds (λ q. absurd cc) h) (λ c h. let z = awakened_less w.asleep woken t _ h in let y = can.awake
+    in absurd cc)
 kept_conds w T t (EntryWake a y end woken) inv can =
     c_same _ _ _ _ _ t _ _ inv.conds (stands_at w t (EntryWake a y end woken) can) refl
-        (λ u c h. awakened_less w.asleep woken u _ h) (λ u c h. awakened_more w.asleep (OnLock a) 1 woken u _
-        can.finds.2 (λ q. absurd cc) h) (λ c h. let z = awakened_less w.asleep woken t _ h in let y = can.awake
-        in absurd cc)
+    (λ u c h. awakened_less w.asleep woken u _ h) (λ u c h. awakened_more w.asleep (OnLock a) 1 woken u _
+    can.finds.2 (λ q. absurd cc) h) (λ c h. let z = awakened_less w.asleep woken t _ h in let y = can.awake
+    in absurd cc)
 kept_conds w T t (PendWake e end woken) inv can =
     c_same _ _ _ _ _ t _ _ inv.conds (stands_at w t (PendWake e end woken) can) refl
-        (λ u c h. awakened_less w.asleep woken u _ h) (λ u c h. awakened_more w.asleep (OnLock e) 1 woken u _
-        can.finds.1 (λ q. absurd cc) h) (λ c h. let z = awakened_less w.asleep woken t _ h in let y = can.awake
-        in absurd cc)
+    (λ u c h. awakened_less w.asleep woken u _ h) (λ u c h. awakened_more w.asleep (OnLock e) 1 woken u _
+    can.finds.1 (λ q. absurd cc) h) (λ c h. let z = awakened_less w.asleep woken t _ h in let y = can.awake
+    in absurd cc)
 kept_conds w T t (PendForeign e end woken) inv can =
     c_same _ _ _ _ _ t _ _ inv.conds (stands_at w t (PendForeign e end woken) can) refl
-        (λ u c h. awakened_less w.asleep woken u _ h) (λ u c h. awakened_more w.asleep (OnLock e) 1 woken u _
-        can.finds (λ q. absurd cc) h) (λ c h. let z = awakened_less w.asleep woken t _ h in let y = can.awake
-        in absurd cc)
+    (λ u c h. awakened_less w.asleep woken u _ h) (λ u c h. awakened_more w.asleep (OnLock e) 1 woken u _
+    can.finds (λ q. absurd cc) h) (λ c h. let z = awakened_less w.asleep woken t _ h in let y = can.awake
+    in absurd cc)
 kept_conds w T t (Stray e p) inv can =
     c_same _ _ _ _ _ t _ _ inv.conds (stands_at w t (Stray e p) can) refl
-        (λ u c h. put_less w.asleep t None _ u (λ q. absurd cc) h)
-        (λ u c h. put_more w.asleep t _ _ u (λ q. let z = can.awake in absurd cc) h)
-        (λ c h. let z = put_same w.asleep t None in absurd cc)
+    (λ u c h. put_less w.asleep t None _ u (λ q. absurd cc) h)
+    (λ u c h. put_more w.asleep t _ _ u (λ q. let z = can.awake in absurd cc) h)
+    (λ c h. let z = put_same w.asleep t None in absurd cc)
 kept_conds w T t (StrayId q p) inv can =
     c_same _ _ _ _ _ t _ _ inv.conds (stands_at w t (StrayId q p) can) refl
-        (λ u c h. put_less w.asleep t None _ u (λ q. absurd cc) h)
-        (λ u c h. put_more w.asleep t _ _ u (λ q. let z = can.awake in absurd cc) h)
-        (λ c h. let z = put_same w.asleep t None in absurd cc)
+    (λ u c h. put_less w.asleep t None _ u (λ q. absurd cc) h)
+    (λ u c h. put_more w.asleep t _ _ u (λ q. let z = can.awake in absurd cc) h)
+    (λ c h. let z = put_same w.asleep t None in absurd cc)
 kept_conds w T t (IdSleep q) inv can =
     c_same _ _ _ _ _ t _ _ inv.conds (stands_at w t (IdSleep q) can) refl
-        (λ u c h. put_less w.asleep t (Some (OnId q)) _ u (λ q. absurd cc) h)
-        (λ u c h. put_more w.asleep t _ _ u (λ q. let z = can.awake in absurd cc) h)
-        (λ c h. let z = put_same w.asleep t (Some (OnId q)) in absurd cc)
+    (λ u c h. put_less w.asleep t (Some (OnId q)) _ u (λ q. absurd cc) h)
+    (λ u c h. put_more w.asleep t _ _ u (λ q. let z = can.awake in absurd cc) h)
+    (λ c h. let z = put_same w.asleep t (Some (OnId q)) in absurd cc)
 kept_conds w T t (LastWake end woken) inv can =
     c_same _ _ _ _ _ t _ _ inv.conds (stands_at w t (LastWake end woken) can) refl
-        (λ u c h. awakened_less w.asleep woken u _ h) (λ u c h. awakened_more w.asleep (OnId t) 1 woken u _ can.finds
-        (λ q. absurd cc) h) (λ c h. let z = awakened_less w.asleep woken t _ h in let y = can.awake in absurd cc)
+    (λ u c h. awakened_less w.asleep woken u _ h) (λ u c h. awakened_more w.asleep (OnId t) 1 woken u _ can.finds
+    (λ q. absurd cc) h) (λ c h. let z = awakened_less w.asleep woken t _ h in let y = can.awake in absurd cc)
 kept_conds w T t (StraySeq c p) inv can =
     let s = waits_past (w.at t) c (inv.conds.sleeping t c can.awake) in
     c_stray _ _ _ _ t c _ _ inv.conds refl s (ap stage_of (sym can.stands) ∙ s)
 kept_conds w T t (FreeGot e v ToEnter) inv can =
     c_same _ _ _ _ _ t _ _ inv.conds (stands_at w t (FreeGot e v ToEnter) can) refl (λ u c h. h) (λ u c h. h)
-        (λ c h. let y = can.awake in absurd cc)
+    (λ c h. let y = can.awake in absurd cc)
 kept_conds w T t (FreeGot e v ToReenter) inv can =
     c_same _ _ _ _ _ t _ _ inv.conds (stands_at w t (FreeGot e v ToReenter) can) refl (λ u c h. h) (λ u c h. h)
-        (λ c h. let y = can.awake in absurd cc)
+    (λ c h. let y = can.awake in absurd cc)
 kept_conds w T t (FreeGot e v (ToResume c)) inv can =
     c_resumed _ _ _ _ t c _ _ inv.conds (stands_at w t (FreeGot e v (ToResume c)) can) can.awake refl refl
-        (resuming w T t e v c inv can)
+    (resuming w T t e v c inv can)
 kept_conds w T t (SwapWake e ToExit) inv can =
     c_same _ _ _ _ _ t _ _ inv.conds (stands_at w t (SwapWake e ToExit) can) refl (λ u c h. h) (λ u c h. h)
-        (λ c h. let y = can.awake in absurd cc)
+    (λ c h. let y = can.awake in absurd cc)
 kept_conds w T t (SwapAlone e ToExit) inv can =
     c_same _ _ _ _ _ t _ _ inv.conds (stands_at w t (SwapAlone e ToExit) can) refl (λ u c h. h) (λ u c h. h)
-        (λ c h. let y = can.awake in absurd cc)
+    (λ c h. let y = can.awake in absurd cc)
 kept_conds w T t (SwapWake e (ToWait c s)) inv can =
     let f : s ≡ w.sequence c = subst (FreshAt w.sequence) can.stands (inv.fresh.fresh t) in
     let home : c.monitor ≡ e = subst HomeAt can.stands (inv.homes.home_ok t) in
     c_waited _ _ _ _ t c s _ _ inv.conds (stands_at w t (SwapWake e (ToWait c s)) can) can.awake refl refl f
-        (silent_at w T t (SwapWake e (ToWait c s)) c
-        inv can (rw home (or_right (mem e (w.at t).list) (e == e) (eq-eqb e e refl))) (λ q. cc))
+    (silent_at w T t (SwapWake e (ToWait c s)) c
+    inv can (rw home (or_right (mem e (w.at t).list) (e == e) (eq-eqb e e refl))) (λ q. cc))
 kept_conds w T t (SwapAlone e (ToWait c s)) inv can =
     let f : s ≡ w.sequence c = subst (FreshAt w.sequence) can.stands (inv.fresh.fresh t) in
     let home : c.monitor ≡ e = subst HomeAt can.stands (inv.homes.home_ok t) in
     c_waited _ _ _ _ t c s _ _ inv.conds (stands_at w t (SwapAlone e (ToWait c s)) can) can.awake refl refl f
-        (silent_at w T t (SwapAlone e (ToWait c s)) c
-        inv can (rw home (or_right (mem e (w.at t).list) (e == e) (eq-eqb e e refl))) (λ q. cc))
+    (silent_at w T t (SwapAlone e (ToWait c s)) c
+    inv can (rw home (or_right (mem e (w.at t).list) (e == e) (eq-eqb e e refl))) (λ q. cc))
 kept_conds w T t (SeqSleep e c s) inv can =
     c_slept _ _ _ _ t c s _ _ inv.conds (stands_at w t (SeqSleep e c s) can) refl refl (sym can.finds)
-        (record { monitor = e; stands = refl })
+    (record { monitor = e; stands = refl })
 kept_conds w T t (SeqAgain e c s) inv can =
     c_again _ _ _ _ t c s _ _ inv.conds (stands_at w t (SeqAgain e c s) can) can.awake refl refl can.finds
 kept_conds w T t (AddSeq c) inv can = c_added _ _ _ _ _ t c _ _
@@ -221,14 +221,14 @@ kept_conds w T t (AddAll c) inv can = c_added _ _ _ _ _ t c _ _
     (λ d o. sequence_other w.sequence c _ d o)
 kept_conds w T t (WakeSeq c woken) inv can =
     c_notified _ _ _ _ _ _ t c _ _ inv.conds (stands_at w t (WakeSeq c woken) can)
-        (awakened_none w.asleep woken t can.awake) refl refl (λ u d h. awakened_less w.asleep woken u _ h)
-        (λ u d n o h. awakened_more w.asleep (OnSequence c) 1 woken u _ can.finds (λ q. n cc) h)
-        (resumed_ok w T c _ inv)
+    (awakened_none w.asleep woken t can.awake) refl refl (λ u d h. awakened_less w.asleep woken u _ h)
+    (λ u d n o h. awakened_more w.asleep (OnSequence c) 1 woken u _ can.finds (λ q. n cc) h)
+    (resumed_ok w T c _ inv)
 kept_conds w T t (MoveAll c s) inv can =
     c_notified _ _ _ _ _ _ t c _ _ inv.conds (stands_at w t (MoveAll c s) can) (ap (moved_sleep c) can.awake) refl
-        refl (λ u d h. (requeue_less w.asleep c u d h).0) (λ u d n o h. requeue_more w.asleep c u d n h)
-        (resumed_ok w T c _ inv)
+    refl (λ u d h. (requeue_less w.asleep c u d h).0) (λ u d n o h. requeue_more w.asleep c u d n h)
+    (resumed_ok w T c _ inv)
 kept_conds w T t (Kill p) inv can = kill_conds w T t p inv (stands_at w t (Kill p) can)
 kept_conds w T t m inv can =
     c_same _ _ _ _ _ t _ _ inv.conds (stands_at w t m can) refl (λ u c h. h) (λ u c h. h)
-        (λ c h. let y = can.awake in absurd cc)
+    (λ c h. let y = can.awake in absurd cc)

@@ -95,9 +95,17 @@ taken lock asleep at hold t e v p p' inv awake stands same mine more known pos f
   held = λ x u h. grind (arith, inv.held x u, same x, tie_held (hold e) (lock e) u (inv.tie e), h);
   knows = λ u. at_put at t p' u Knows (λ h. known) (λ h. inv.knows u);
   sleeps = λ x u h. grind (arith, inv.sleeps x u h);
-  safe = λ x u h. elim (inv.safe x u h) [ inl m ↦ inl (grind (arith, m.0, m.1)) |
-      inr w ↦ elim (cases_eq x e) [ inl q ↦ elim mark [ inl k ↦ inl (grind (arith, q, k, own, pos)) | inr n ↦
-      inr (w.0, grind (arith, w.1, q, n), w.2) ] | inr n ↦ inr (w.0, grind (arith, w.1, more x n), w.2) ] ];
+  safe = λ x u h. elim (inv.safe x u h) [
+    | inl m ↦ inl (grind (arith, m.0, m.1))
+    | inr w ↦ elim (cases_eq x e) [
+      | inl q ↦ elim mark [
+        | inl k ↦ inl (grind (arith, q, k, own, pos))
+        | inr n ↦
+            inr (w.0, grind (arith, w.1, q, n), w.2)
+      ]
+      | inr n ↦ inr (w.0, grind (arith, w.1, more x n), w.2)
+    ]
+  ];
   stuck = λ x u h k. let o : u ≢ t = grind (arith, h, awake)
       in let k2 : holds (at u) x ≡ true = sym (ap (λ y. holds y x) (put_other at t p' u o)) ∙ k
       in let n : x ≢ e = (λ q. let a = tie_held (hold x) (lock x) u (inv.tie x) (inv.held x u k2)
@@ -117,10 +125,16 @@ marked lock asleep at hold t e v p p' inv awake stands same more known own tid_i
   held = λ x u h. grind (arith, inv.held x u, same x);
   knows = λ u. at_put at t p' u Knows (λ h. known) (λ h. inv.knows u);
   sleeps = λ x u h. grind (arith, inv.sleeps x u h);
-  safe = λ x u h. elim (inv.safe x u h) [ inl m ↦ inl (grind (arith, m.0, m.1)) | inr w ↦
-      inr (w.0, grind (arith, w.1, more x), w.2) ];
-  stuck = λ x u h k. elim (cases_eq x e) [ inl q ↦ at_put lock e v x (λ y. waiters y ≡ 2147483648) (λ z. mark)
-      (λ n. absurd (n q)) | inr n ↦ rw (put_other lock e v x n) (inv.stuck x u h (grind (arith, k, same x))) ];
+  safe = λ x u h. elim (inv.safe x u h) [
+    | inl m ↦ inl (grind (arith, m.0, m.1))
+    | inr w ↦
+        inr (w.0, grind (arith, w.1, more x), w.2)
+  ];
+  stuck = λ x u h k. elim (cases_eq x e) [
+    | inl q ↦ at_put lock e v x (λ y. waiters y ≡ 2147483648) (λ z. mark)
+        (λ n. absurd (n q))
+    | inr n ↦ rw (put_other lock e v x n) (inv.stuck x u h (grind (arith, k, same x)))
+  ];
 }
 
 -- the mover falls asleep
@@ -134,12 +148,19 @@ slept lock asleep at hold t e p p' inv awake stands same only known may own mark
   held = λ x u h. grind (arith, inv.held x u, same x);
   knows = λ u. at_put at t p' u Knows (λ h. known) (λ h. inv.knows u);
   sleeps = λ x u h. grind (arith, inv.sleeps x u);
-  safe = λ x u h. elim (cases_eq x e) [ inl q ↦ inl (grind (arith, q)) |
-      inr n ↦ elim (inv.safe x u (grind (arith, h, n))) [ inl m ↦ inl m |
-      inr w ↦ let other : w.0 ≢ t = grind (arith, w.1, only x) in
-      inr (w.0, grind (arith, w.1, other), grind (arith, w.2, other)) ] ];
-  stuck = λ x u h k. elim (cases_eq x e) [ inl q ↦ rw q mark | inr n ↦
-      inv.stuck x u (grind (arith, h, n)) (grind (arith, k, same x)) ];
+  safe = λ x u h. elim (cases_eq x e) [
+    | inl q ↦ inl (grind (arith, q))
+    | inr n ↦ elim (inv.safe x u (grind (arith, h, n))) [
+      | inl m ↦ inl m
+      | inr w ↦ let other : w.0 ≢ t = grind (arith, w.1, only x) in
+          inr (w.0, grind (arith, w.1, other), grind (arith, w.2, other))
+    ]
+  ];
+  stuck = λ x u h k. elim (cases_eq x e) [
+    | inl q ↦ rw q mark
+    | inr n ↦
+        inv.stuck x u (grind (arith, h, n)) (grind (arith, k, same x))
+  ];
 }
 
 -- the owner gives up the lock
@@ -153,9 +174,13 @@ released lock asleep at hold t e p p' inv awake stands same mine gone more known
   held = λ x u h. grind (arith, inv.held x u, inv.held x t, same x, h);
   knows = λ u. at_put at t p' u Knows (λ h. known) (λ h. inv.knows u);
   sleeps = λ x u h. grind (arith, inv.sleeps x u h);
-  safe = λ x u h. elim (inv.safe x u h) [ inl m ↦ elim (cases_eq x e)
-      [ inl q ↦ elim owe [ inl k ↦ inr (t, grind (arith, q, k), awake) | inr z ↦ absurd (grind (arith, m.1, z, q)) ] |
-      inr n ↦ inl (grind (arith, m.0, m.1, n)) ] | inr w ↦ inr (w.0, grind (arith, w.1, more x), w.2) ];
+  safe = λ x u h. elim (inv.safe x u h) [
+    | inl m ↦ elim (cases_eq x e) [
+      | inl q ↦ elim owe [ inl k ↦ inr (t, grind (arith, q, k), awake) | inr z ↦ absurd (grind (arith, m.1, z, q)) ]
+      | inr n ↦ inl (grind (arith, m.0, m.1, n))
+    ]
+    | inr w ↦ inr (w.0, grind (arith, w.1, more x), w.2)
+  ];
   stuck = λ x u h k. let o : u ≢ t = grind (arith, h, awake)
       in let k2 : holds (at u) x ≡ true = sym (ap (λ y. holds y x) (put_other at t p' u o)) ∙ k
       in let n : x ≢ e = (λ q. o (one_holder lock asleep at hold e t u
@@ -184,8 +209,11 @@ woke lock asleep at hold t e n woken p p' inv awake stands same more known pos w
           | inr has ↦ let a = tie_held (hold e) (lock e) s.0 (inv.tie e) (inv.held e s.0 has) in let bit =
               inv.stuck e s.0 was has in inl (rw q (λ z. omega (arith, a.0, a.1, z)), rw q bit)
         ]
-    | inr n ↦ elim (inv.safe x u (grind (arith, h))) [ inl m ↦ inl m | inr w ↦
-        inr (w.0, grind (arith, w.1, more x n), grind (arith, w.2)) ]
+    | inr n ↦ elim (inv.safe x u (grind (arith, h))) [
+      | inl m ↦ inl m
+      | inr w ↦
+          inr (w.0, grind (arith, w.1, more x n), grind (arith, w.2))
+    ]
   ];
   stuck = λ x u h k. inv.stuck x u (grind (arith, h)) (grind (arith, k, same x));
 }
@@ -200,8 +228,11 @@ killed lock asleep at hold t p p' inv stands same more known = record {
   held = λ e u h. grind (arith, inv.held e u, same e);
   knows = λ u. at_put at t p' u Knows (λ h. known) (λ h. inv.knows u);
   sleeps = λ e u h. grind (arith, inv.sleeps e u, h);
-  safe = λ e u h. elim (inv.safe e u (grind (arith, h))) [ inl m ↦ inl m | inr w ↦
-      inr (w.0, grind (arith, w.1, more e), grind (arith, w.2)) ];
+  safe = λ e u h. elim (inv.safe e u (grind (arith, h))) [
+    | inl m ↦ inl m
+    | inr w ↦
+        inr (w.0, grind (arith, w.1, more e), grind (arith, w.2))
+  ];
   stuck = λ x u h k. inv.stuck x u (grind (arith, h)) (grind (arith, k, same x));
 }
 
@@ -220,8 +251,11 @@ abandoned lock asleep at hold t e v woken p p' inv awake stands same mine gone m
   sleeps = λ x u h. grind (arith, inv.sleeps x u, h);
   safe = λ x u h. let was : asleep u ≡ Some (OnLock x) = grind (arith, h) in elim (cases_eq x e) [
     | inl q ↦ elim how [
-      | inl d ↦ elim (inv.safe x u was) [ inl m ↦ absurd (grind (arith, m.1, d.0, q)) | inr w ↦
-          inr (w.0, grind (arith, w.1, more x), grind (arith, w.2)) ]
+      | inl d ↦ elim (inv.safe x u was) [
+        | inl m ↦ absurd (grind (arith, m.1, d.0, q))
+        | inr w ↦
+            inr (w.0, grind (arith, w.1, more x), grind (arith, w.2))
+      ]
       | inr wake ↦
           let s = some_woken asleep (OnLock e) 1 u woken wake (omega arith) (grind (arith, q, was)) in
           let slept : asleep s.0 ≡ Some (OnLock e) = wake.slept s.0 s.1 in
@@ -232,8 +266,11 @@ abandoned lock asleep at hold t e v woken p p' inv awake stands same mine gone m
                 inv (ap (λ y. holds y e) stands ∙ mine) has))
           ]
     ]
-    | inr n ↦ elim (inv.safe x u was) [ inl m ↦ inl (grind (arith, m.0, m.1, n)) | inr w ↦
-        inr (w.0, grind (arith, w.1, more x), grind (arith, w.2)) ]
+    | inr n ↦ elim (inv.safe x u was) [
+      | inl m ↦ inl (grind (arith, m.0, m.1, n))
+      | inr w ↦
+          inr (w.0, grind (arith, w.1, more x), grind (arith, w.2))
+    ]
   ];
   stuck = λ x u h k. let was : asleep u ≡ Some (OnLock x) = grind (arith, h)
       in let o : u ≢ t = grind (arith, was, awake) in let k2 : holds (at u) x ≡ true = sym
@@ -255,9 +292,11 @@ elsewhere lock asleep asleep' at hold t p p' inv stands same idle known less sti
   held = λ e u h. grind (arith, inv.held e u, same e);
   knows = λ u. at_put at t p' u Knows (λ h. known) (λ h. inv.knows u);
   sleeps = λ e u h. grind (arith, inv.sleeps e u, less u e h);
-  safe = λ e u h. elim (inv.safe e u (less u e h)) [ inl m ↦ inl m |
-      inr w ↦ let other : w.0 ≢ t = grind (arith, w.1, idle e) in
-      inr (w.0, grind (arith, w.1, other), still w.0 other w.2) ];
+  safe = λ e u h. elim (inv.safe e u (less u e h)) [
+    | inl m ↦ inl m
+    | inr w ↦ let other : w.0 ≢ t = grind (arith, w.1, idle e) in
+        inr (w.0, grind (arith, w.1, other), still w.0 other w.2)
+  ];
   stuck = λ x u h k. inv.stuck x u (less u x h) (grind (arith, k, same x));
 }
 
@@ -278,10 +317,15 @@ requeued lock asleep at hold t c p p' inv stands same idle known awake owns mark
       in rw (put_other at t p' u o) (elim (requeue_lock asleep c u x h)
       [ inl k ↦ inv.sleeps x u k | inr k ↦ rw k.1 (may u k.0) ]);
   safe = λ x u h. elim (requeue_lock asleep c u x h) [
-    | inl k ↦ elim (inv.safe x u k) [ inl m ↦ inl m | inr w ↦ let other : w.0 ≢ t = grind (arith, w.1, idle x) in
-        inr (w.0, grind (arith, w.1, other), ap (moved_sleep c) w.2) ]
+    | inl k ↦ elim (inv.safe x u k) [
+      | inl m ↦ inl m
+      | inr w ↦ let other : w.0 ≢ t = grind (arith, w.1, idle x) in
+          inr (w.0, grind (arith, w.1, other), ap (moved_sleep c) w.2)
+    ]
     | inr k ↦ inl (rw k.1 owns, rw k.1 marks)
   ];
-  stuck = λ x u h k. elim (requeue_lock asleep c u x h) [ inl z ↦ inv.stuck x u z (grind (arith, k, same x)) |
-      inr z ↦ rw z.1 marks ];
+  stuck = λ x u h k. elim (requeue_lock asleep c u x h) [
+    | inl z ↦ inv.stuck x u z (grind (arith, k, same x))
+    | inr z ↦ rw z.1 marks
+  ];
 }

@@ -41,10 +41,12 @@ run_kept : (ss : List (ℕ × Move)) (w w' : World) (T : Table) → Good w T →
     → PermitsAll (events w T ss) T (last_table w T ss) × Good w' (last_table w T ss)
 run_kept [] w w' T inv run = (refl, subst (λ x. Good x T) (sym run) inv)
 run_kept (s ∷ ss) w w' T inv run =
-    let rest = run_kept ss (after w s.0 s.1) w' (table_after w T s.0 s.1) (kept w T s.0 s.1 inv run.0) run.1 in
-    (with_permitted (event_of w T s.0 s.1) (events (after w s.0 s.1) (table_after w T s.0 s.1) ss) T
-        (table_after w T s.0 s.1) (last_table (after w s.0 s.1) (table_after w T s.0 s.1) ss)
-        (permitted w T s.0 s.1 inv run.0) rest.0, rest.1) where
+    let rest = run_kept ss (after w s.0 s.1) w' (table_after w T s.0 s.1) (kept w T s.0 s.1 inv run.0) run.1 in (
+      with_permitted (event_of w T s.0 s.1) (events (after w s.0 s.1) (table_after w T s.0 s.1) ss) T
+          (table_after w T s.0 s.1) (last_table (after w s.0 s.1) (table_after w T s.0 s.1) ss)
+          (permitted w T s.0 s.1 inv run.0) rest.0,
+      rest.1,
+    ) where
       with_permitted : (e : Option Event) (es : List Event) (T mid T' : Table) → PermitsMove e T mid
           → PermitsAll es mid T' → PermitsAll (with_event e es) T T'
       with_permitted None es T mid T' here later = subst (λ x. PermitsAll es x T') here later
@@ -52,12 +54,19 @@ run_kept (s ∷ ss) w w' T inv run =
 
 -- ---- the table is the world's
 has_of : (x : ℕ) (l : List ℕ) (y : Entry) → (mem x l || own y x) ≡ true → (mem x l ≡ true) ⊎ (y ≡ Owned x)
-has_of x l NoEntry h = elim (cases_Bool (mem x l)) [ inl a ↦ inl a |
-    inr n ↦ absurd (false≢true (ap (λ b. b || false) (sym n) ∙ h)) ]
-has_of x l (Unowned m) h = elim (cases_Bool (mem x l)) [ inl a ↦ inl a |
-    inr n ↦ absurd (false≢true (ap (λ b. b || false) (sym n) ∙ h)) ]
-has_of x l (Owned m) h = elim (cases_Bool (mem x l)) [ inl a ↦ inl a | inr n ↦
-    inr (ap Owned (sym (eqb-true x m (ap (λ b. b || (x == m)) (sym n) ∙ h)))) ]
+has_of x l NoEntry h = elim (cases_Bool (mem x l)) [
+  | inl a ↦ inl a
+  | inr n ↦ absurd (false≢true (ap (λ b. b || false) (sym n) ∙ h))
+]
+has_of x l (Unowned m) h = elim (cases_Bool (mem x l)) [
+  | inl a ↦ inl a
+  | inr n ↦ absurd (false≢true (ap (λ b. b || false) (sym n) ∙ h))
+]
+has_of x l (Owned m) h = elim (cases_Bool (mem x l)) [
+  | inl a ↦ inl a
+  | inr n ↦
+      inr (ap Owned (sym (eqb-true x m (ap (λ b. b || (x == m)) (sym n) ∙ h))))
+]
 
 of_has : (x : ℕ) (l : List ℕ) (y : Entry) → (mem x l ≡ true) ⊎ (y ≡ Owned x) → (mem x l || own y x) ≡ true
 of_has x l y (inl h) = or_left (mem x l) (own y x) h
@@ -78,8 +87,11 @@ matches w T inv = record {
   waiter = λ t c h. waiter_made w T t c inv h;
   claimed = inv.claims;
   made = inv.made;
-  over = λ q e h. let k = inv.ends.past q e h in (k, over_tells (w.at q).point e (w.outcome q) (w.result q) k
-      (inv.ends.tells q));
+  over = λ q e h. let k = inv.ends.past q e h in (
+    k,
+    over_tells (w.at q).point e (w.outcome q) (w.result q) k
+        (inv.ends.tells q),
+  );
   ended = λ q e h. inv.ends.ended q e h;
   joined = λ t q e h. inv.ends.learned t q e h;
 }
@@ -170,7 +182,7 @@ sleeper_cannot w T t (OnId q) inv calm h l T' next may =
     let j = joins_next (w.at t).point q l (inv.joiners.sleeps t q h) next in
     let a : Allows t (Joins q j.0) T T' = subst (λ y. Allows t y T T') j.1 may in
     let is : (w.at q).point ≡ LastWakes j.0 = last_wake_at (w.at q).point j.0 (inv.ends.past q j.0 a.0)
-        (inv.joiners.unended t q h) in
+    (inv.joiners.unended t q h) in
     elim (asleep_or (w.asleep q)) [
       | inl awake ↦ subst (λ y. IsOutside y (w.pending q)) is (calm q awake)
       | inr s ↦ last_waker_awake w T q j.0 s.0 inv is s.1
@@ -216,6 +228,9 @@ all_raised (s ∷ ss) w w' d run = omega (arith, raised w s.0 s.1 d, all_raised 
 pub no_wake_lost : (ss : List (ℕ × Move)) (w : World) → Leads opening_world ss w → IsExplained ss w
 no_wake_lost ss w run =
     let k = run_kept ss opening_world w first_table good_start run in
-    record { permits = k.0; matches = matches w (last_table opening_world first_table ss) k.1; waking = loses_none w
-        (last_table opening_world first_table ss) k.1; numbers = λ d. omega
-        (arith, all_raised ss opening_world w d run) }
+    record {
+      permits = k.0;
+      matches = matches w (last_table opening_world first_table ss) k.1;
+      waking = loses_none w (last_table opening_world first_table ss) k.1;
+      numbers = λ d. omega (arith, all_raised ss opening_world w d run);
+    }

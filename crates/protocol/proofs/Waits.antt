@@ -38,8 +38,9 @@ pub record Homes (at : ℕ → Thread) : Type 0 where
   pub home_ok : (t : ℕ) → HomeAt (at t).point
 
 pub homed : (at : ℕ → Thread) (t : ℕ) (p' : Thread) → Homes at → HomeAt p'.point → Homes (put at t p')
-homed at t p' inv mine = record { home_ok = λ u. at_put at t p' u (λ y. HomeAt y.point) (λ h. mine)
-    (λ h. inv.home_ok u) }
+homed at t p' inv mine = record {
+  home_ok = λ u. at_put at t p' u (λ y. HomeAt y.point) (λ h. mine) (λ h. inv.home_ok u);
+}
 
 -- ---- a sequence number that was read under the lock is still the word's
 abbrev pub FreshRelease : (Member → ℕ) → Release → Type 0

@@ -17,5 +17,11 @@ left_by_exit v = elim (cases_eq (bit_and v 2147483648) 0) [
 
 pub are_lock_words : (v : ℕ) → AreLockWords v
 unfolding owner waiters died with_waiters
-are_lock_words v = record { owner_is = refl; waiters_is = refl; died_is = refl; with_waiters_is = refl; died_word_is =
-    left_by_exit v }
+are_lock_words v = record {
+  owner_is = refl;
+  waiters_is = refl;
+  died_is = refl;
+  with_waiters_is = refl;
+  died_word_is =
+      left_by_exit v;
+}

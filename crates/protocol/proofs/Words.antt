@@ -34,8 +34,12 @@ died_clear o false h = omega (arith, and_pow (o + 0 + 0) 30)
 
 pub or-w : (o : ℕ) (w d : Bool) → o < 1073741824 → with_waiters (lock_word o w d) ≡ lock_word o true d
 unfolding with_waiters lock_word
-or-w o true true h = omega (arith, and_pow (o + 1073741824 + 2147483648) 31, or_add_and (o + 1073741824 + 2147483648)
-    2147483648)
+or-w o true true h = omega (
+  arith,
+  and_pow (o + 1073741824 + 2147483648) 31,
+  or_add_and (o + 1073741824 + 2147483648)
+      2147483648,
+)
 or-w o true false h = omega (arith, and_pow (o + 0 + 2147483648) 31, or_add_and (o + 0 + 2147483648) 2147483648)
 or-w o false true h = omega (arith, and_pow (o + 1073741824 + 0) 31, or_add_and (o + 1073741824 + 0) 2147483648)
 or-w o false false h = omega (arith, and_pow (o + 0 + 0) 31, or_add_and (o + 0 + 0) 2147483648)

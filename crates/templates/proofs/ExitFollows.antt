@@ -33,7 +33,7 @@ module _ (b : Build) (vs : Variables) (t m base : ℕ) (shown : Option ℕ) (l :
 
   after_swap : (x : Bool) (y : Thread) → In (if x then HasLeft m ToExit else LeaveWakes m ToExit) y
       → StandsOn b t k (if x then HasLeft m ToExit else LeaveWakes m ToExit) (callers_monitors cs) y
-          (Returning value cs)
+      (Returning value cs)
   after_swap true y s = inl ((λ n. absurd cc), s, refl, refl)
   after_swap false y s = inl ((λ n. absurd cc), s, refl, refl)
 

@@ -71,7 +71,7 @@ module _ (p : Program) (image : Image) (t m : ℕ) (k : Purpose) (mark : Mark) (
       → Go 1 (at i operands s) (at j operands' s')
   step i j x operands operands' s s' place e h same =
       one_step image t (empty_view p) _ _ (look_here image t (empty_view p) (first + i) x.instruction operands
-          (kept values
+      (kept values
       s) fs
       (stand_index image first segment i (first + i) x code e refl)
       ∙ h ∙ ap (λ n. Goes (Runs' n operands' (kept values s') fs)) same)

@@ -128,10 +128,10 @@ module _ (p : Program) (image : Image) (t base : ℕ) (c : Member) (l : Locals) 
           (step p image t base l fs broadcast code 9 10 _ _ (s ∷ []) (lock ∷ s ∷ []) refl refl (omega arith))
           (then_go p image t base l fs broadcast code 2 _ _ _
           (step p image t base l fs broadcast code 10 11 _ _ (lock ∷ s ∷ []) (0 ∷ lock ∷ s ∷ []) refl refl
-              (omega arith))
+          (omega arith))
           (then_go p image t base l fs broadcast code 1 _ _ _
           (step p image t base l fs broadcast code 11 12 _ _ (0 ∷ lock ∷ s ∷ []) (everyone ∷ 0 ∷ lock ∷ s ∷ []) refl
-              refl
+          refl
           (omega arith))
           (step p image t base l fs broadcast code 12 13 _ _ (everyone ∷ 0 ∷ lock ∷ s ∷ []) _ refl refl (omega
           arith))))))),

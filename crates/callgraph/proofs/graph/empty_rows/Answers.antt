@@ -13,7 +13,7 @@ loop-row-preserved c =
       len = grind (arith, common_steps);
       empty = λ a. ap (λ rs. slice_index_or (rows_of rs) a []) c.in_ok-push.ensures.items
           ∙ ap (λ xs. slice_index_or xs a []) (map-append (λ (r : Row). r.callees.items) c.loop-row.rows.items
-              (row ∷ []))
+          (row ∷ []))
           ∙ ap (λ ys. slice_index_or (rows_of c.loop-row.rows.items ++ ys ∷ []) a []) c.new.ensures.items
           ∙ empty_more _ c.loop-row.invariant.empty a;
     }

@@ -10,5 +10,5 @@ loop-procedure-preserved c =
     c.loop-procedure.marks c.loop-procedure.pending.items c.mark.new.marks c.mark.new.pending.items
     c.loop-procedure-test.true c.loop-procedure.invariant c.mark.auto.marks c.in_ok-mark.ensures.marked
     c.mark.ensures.kept c.mark.ensures.only c.in_ok-mark.ensures.added c.in_ok-mark.ensures.queued
-        c.mark.ensures.waiting
+    c.mark.ensures.waiting
     c.in_ok-mark.ensures.counted

@@ -21,7 +21,7 @@ loop-call-preserved c =
       rows = λ a. ap (λ xs. slice_index_or xs a []) (map-set (λ (r : Row). r.callees.items) rows call.caller row)
           ∙ ap (λ y. slice_index_or (slice_set (rows_of rows) call.caller y) a []) (c.in_ok-push.ensures.items
           ∙ ap (λ xs. xs ++ call.callee ∷ []) (row_at rows call.caller c.index_mut.result.now far
-              c.index_mut.ensures.value))
+          c.index_mut.ensures.value))
           ∙ row_more c.args.calls.now (rows_of rows) i d c.loop-call-test.true
           (let e : length (rows_of rows) ≡ length rows = length-map rows _ in omega (arith, e, far))
           c.loop-call.invariant.rows a;

@@ -53,5 +53,5 @@ pub returns-clause-complete : goal.returns-clause-complete
 returns-clause-complete c calls g =
     let empty : c.walk.pending.items ≡ [] = none c.walk.pending.items (grind arith) in
     all_marked calls c.args.start c.walk.marks.items (subst (λ (q : List ℕ). Walk calls c.args.start
-        c.walk.marks.items q)
+    c.walk.marks.items q)
     empty (c.walk.invariant.walk calls g))
