@@ -5,7 +5,8 @@ use Rattle.std.specs.Fmt.{decimal, signed_decimal}
 use Rattle.words.specs.Outcomes.{fault_number}
 use Rattle.program.specs.declared.kinds.Member.{Member}
 use Rattle.program.specs.Names.{MonitorNaming, Naming}
-use Rattle.meaning.specs.Labels.{Action, Kind, Assign, Test, Call, Return, Print, Fork, Claim, Join, Fails, Enter, Exit, Wait, Resume, Notify, Broadcast, Abandon, Finish, Stray, Kill}
+use Rattle.meaning.specs.Labels.{Action, Kind, Assign, Test, Call, Return, Print, Fork, Claim, Join, Fails, Enter}
+use Rattle.meaning.specs.Labels.{Exit, Wait, Resume, Notify, Broadcast, Abandon, Finish, Stray, Kill}
 
 -- the name of an action
 abbrev pub word : Kind → List ℕ

@@ -1,10 +1,12 @@
 -- A text is one program or has one refusal.
-use Rattle.std.proofs.Common.{◌≡◌, arith, length, inl, inr, ℕ, List, [], ◌∷◌, map, slice_get, Some, refl, sym, ap, ◌∙◌, subst}
+use Rattle.std.proofs.Common.{◌≡◌, arith, length, inl, inr, ℕ, List, [], ◌∷◌, map, slice_get, Some, refl, sym, ap}
+use Rattle.std.proofs.Common.{◌∙◌, subst}
 use Rattle.scanner.specs.declared.token.Place.{Place}
 use Rattle.scanner.specs.declared.token.Token.{Token}
 use Rattle.scanner.specs.declared.refusal.Refusal.{Refusal}
 use Rattle.scanner.specs.declared.refusal.RefusalKind.{RefusalKind}
-use Rattle.scanner.specs.declared.refusal.RefusalKind.TheVariants.{NotAscii, BadToken, Expected, Redeclared, Unknown, TypeMismatch, WrongPlace}
+use Rattle.scanner.specs.declared.refusal.RefusalKind.TheVariants.{NotAscii, BadToken, Expected, Redeclared, Unknown}
+use Rattle.scanner.specs.declared.refusal.RefusalKind.TheVariants.{TypeMismatch, WrongPlace}
 use Rattle.scanner.specs.declared.refusal.RefusalKind.TheVariants.{DirectReentry, Recursion, Limit, Memory, StrayPiece}
 use Rattle.scanner.specs.Refusals.{number_of}
 use Rattle.scanner.specs.Faults.{IsFault}
@@ -29,7 +31,8 @@ pub record Reads : Type 0 where
   pub tree : (u v : UnitTree) → unit_text u ≡ unit_text v → u ≡ v
 
 -- a text is one unit
-pub one_unit : Reads → (text : List ℕ) (ts us : List Token) (u v : UnitTree) → IsUnit text ts u → IsUnit text us v → u ≡ v
+pub one_unit : Reads → (text : List ℕ) (ts us : List Token) (u v : UnitTree) → IsUnit text ts u → IsUnit text us v → u
+    ≡ v
 one_unit r text ts us u v a b =
     r.tree u v (a.spelled ∙ (same_lexemes ts us (r.one text (views ts) (views us) a.scanned b.scanned) ∙ sym b.spelled))
 
@@ -39,9 +42,11 @@ one_program r text p q a b =
     ∙ sym b.is_program.program)
 
 -- a unit isn't refused as none
-unit_or_none : Reads → (text : List ℕ) (ts : List Token) (u : UnitTree) (e : Refusal) → IsUnit text ts u → IsNoUnit text e → ⊥
+unit_or_none : Reads → (text : List ℕ) (ts : List Token) (u : UnitTree) (e : Refusal) → IsUnit text ts u
+    → IsNoUnit text e → ⊥
 unit_or_none r text ts u e a n =
-    unit_not_refused (views n.tokens) u e (a.spelled ∙ (spoken ts ∙ ap (map said) (r.one text (views ts) (views n.tokens)
+    unit_not_refused (views n.tokens) u e (a.spelled
+    ∙ (spoken ts ∙ ap (map said) (r.one text (views ts) (views n.tokens)
     a.scanned n.scanned))) a.within (stops n.tokens e n.refusal)
 
 -- a program has no fault
@@ -101,7 +106,8 @@ one_fault r text e f x y =
 fault_or_no_unit : Reads → (text : List ℕ) (e f : Refusal) → IsFault text e → IsNoUnit text f → ⊥
 fault_or_no_unit r text e f x y = r.either text (views y.tokens) e y.scanned x
 
-fault_or_unit : Reads → (text : List ℕ) (ts : List Token) (u : UnitTree) (e : Refusal) → IsFault text e → IsUnit text ts u → ⊥
+fault_or_unit : Reads → (text : List ℕ) (ts : List Token) (u : UnitTree) (e : Refusal) → IsFault text e
+    → IsUnit text ts u → ⊥
 fault_or_unit r text ts u e x y = r.either text (views ts) e y.scanned x
 
 -- a text's refusal is one
@@ -115,11 +121,13 @@ one_refusal r text e f (inl (inr (inl x))) (inl (inl y)) = absurd (fault_or_no_u
 one_refusal r text e f (inl (inr (inl x))) (inl (inr (inl y))) =
     one_stop (views y.tokens) e f (subst (λ ts. Stops ts e) (r.one text (views x.tokens) (views y.tokens) x.scanned
     y.scanned) (stops x.tokens e x.refusal)) (stops y.tokens f y.refusal)
-one_refusal r text e f (inl (inr (inl x))) (inl (inr (inr y))) = absurd (unit_or_none r text y.tokens y.unit e y.is_unit x)
+one_refusal r text e f (inl (inr (inl x))) (inl (inr (inr y))) = absurd
+    (unit_or_none r text y.tokens y.unit e y.is_unit x)
 one_refusal r text e f (inl (inr (inl x))) (inr y) =
     absurd (unit_or_none r text y.accepts.tokens y.accepts.unit e y.accepts.is_unit x)
 one_refusal r text e f (inl (inr (inr x))) (inl (inl y)) = absurd (fault_or_unit r text x.tokens x.unit f y x.is_unit)
-one_refusal r text e f (inl (inr (inr x))) (inl (inr (inl y))) = absurd (unit_or_none r text x.tokens x.unit f x.is_unit y)
+one_refusal r text e f (inl (inr (inr x))) (inl (inr (inl y))) = absurd
+    (unit_or_none r text x.tokens x.unit f x.is_unit y)
 one_refusal r text e f (inl (inr (inr x))) (inl (inr (inr y))) = one_fault r text e f x y
 one_refusal r text e f (inl (inr (inr x))) (inr y) = absurd (program_or_fault r text y.program e y.accepts x)
 one_refusal r text e f (inr x) (inl (inl y)) =

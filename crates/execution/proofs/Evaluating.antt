@@ -151,7 +151,8 @@ code_truth true = refl
 code_truth false = refl
 
 -- a member that is a variable has one, of its type; and an array one of each index
-pub single_variable : (p : Program) (m : MemberOf) (u : ValueType) → member_type p m ≡ Some (Variable u) → IsVariable p m 0
+pub single_variable : (p : Program) (m : MemberOf) (u : ValueType) → member_type p m ≡ Some (Variable u)
+    → IsVariable p m 0
 single_variable p m u e = subst (λ (o : Option MemberType). HasIndex o 0) (sym e) refl
 
 pub element_variable : (p : Program) (a : MemberOf) (n i : ℕ) → member_type p a ≡ Some (Array n) → i < n

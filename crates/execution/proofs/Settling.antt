@@ -154,7 +154,8 @@ module _ (b : Build) (v v' : Variables) where
 
       by_role : (role : Role) (rest : Block) (cs : List Caller) → h.procedure.role ≡ role
           → CallersStand b h.number h.procedure fs cs → SameIn (own_of (goes_on_by role rest entered f cs)) v v'
-          → offer b.program v (goes_on_by role rest entered f cs) ≡ offer b.program v' (goes_on_by role rest entered f cs)
+          → offer b.program v (goes_on_by role rest entered f cs)
+          ≡ offer b.program v' (goes_on_by role rest entered f cs)
       by_role (Entry m) rest cs e below same = before cs same
       by_role (Internal m) rest cs e below same = before cs same
       by_role (Recover m) Done [] e below same = refl

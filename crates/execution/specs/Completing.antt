@@ -108,7 +108,8 @@ pub data Completes (b : Build) (t : ℕ) (v : Variables) (x : Thread) (q : Proce
   prints : {r : Process} (w : ℕ) (go : ℕ → Thread) → look b.image t x ≡ Asks (AskPrint w) go
       → offer b.program v q ≡ Does (Alone (L.Print (signed_of w))) (Writes (signed_of w)) r
       → ((answer : ℕ) → Stands b t (go answer) r) → Completes b t v x q
-  stores : {r : Process} (m : Member) (i : ℕ) (z : ℤ) (go : ℕ → Thread) → own_of q ≡ Some m.monitor → HasFirst q m.monitor
+  stores : {r : Process} (m : Member) (i : ℕ) (z : ℤ) (go : ℕ → Thread) → own_of q ≡ Some m.monitor
+      → HasFirst q m.monitor
       → IsVariable b.program m i → ValueFits b.made (member_type b.program m) z
       → look b.image t x ≡ Asks (AskStore (variable_address b.program m i) (word_of z)) go
       → offer b.program v q ≡ Does (Stores m.monitor) (Puts m.monitor m.number i z) r

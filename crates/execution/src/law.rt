@@ -16,9 +16,9 @@ pub fn expressions_evaluate()
 {}
 
 /// Code goes as its process goes: a thread that stands for a process comes, within a bounded number of steps, to the
-/// step that does what the process offers, and then stands for the process after it, or to the beginning of the template
-/// that does it: ENTER with what comes behind it, in the body or in a RECOVER part, EXIT, WAIT, NOTIFY, BROADCAST. What
-/// the process offers depends on the variables of its own monitor alone, which it holds.
+/// step that does what the process offers, and then stands for the process after it, or to the beginning of the
+/// template that does it: ENTER with what comes behind it, in the body or in a RECOVER part, EXIT, WAIT, NOTIFY,
+/// BROADCAST. What the process offers depends on the variables of its own monitor alone, which it holds.
 pub fn code_goes_as_its_process()
     ensures goes { (b : Build) → IsBuild b → IsFollowed b }
     ensures settles { (b : Build) → IsBuild b → IsSettled b }

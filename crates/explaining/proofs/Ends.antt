@@ -48,5 +48,6 @@ all_ends k s numbers made is among all same (suc t) =
       | inl inside ↦ (let some : 0 < suc t = omega arith in
           let within : suc t ≤ length k.threads = omega (arith, inside) in same (suc t) some within)
       | inr out ↦ ap (end_by ((state_of k).word (process_word (suc t) 5))) (no_thread k.threads t out)
-          ∙ sym (unmade s numbers made (suc t) among all (λ h. let within = h.1 in absurd (omega (arith, within, is, out))))
+          ∙ sym (unmade s numbers made (suc t) among all (λ h. let within = h.1
+          in absurd (omega (arith, within, is, out))))
     ]

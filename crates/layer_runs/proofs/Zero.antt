@@ -1,6 +1,8 @@
 -- The answer 0 can be given to every request.
 use Rattle.std.proofs.Common.{refl, inl}
-use Rattle.locals.specs.Looks.{AskLoad, AskStore, AskSwap, AskCompareSwap, AskOr, AskAdd, AskFork, AskPrint, AskWait, AskWake, AskRequeue, AskReturn, AskReturnValue, AskFault, Request, Look, Goes, Asks, Leaves, Breaks, Rests}
+use Rattle.locals.specs.Looks.{AskLoad, AskStore, AskSwap, AskCompareSwap, AskOr, AskAdd, AskFork, AskPrint, AskWait}
+use Rattle.locals.specs.Looks.{AskWake, AskRequeue, AskReturn, AskReturnValue, AskFault, Request, Look, Goes, Asks}
+use Rattle.locals.specs.Looks.{Leaves, Breaks, Rests}
 use Rattle.locals.specs.Requests.{Answers, CanBeAnswered}
 
 answers : (request : Request) → Answers 0 request

@@ -282,7 +282,8 @@ module _ (p : Program) (w : WellFormed p) (steps : ℕ) (s : State) (c : SourceS
         listed = first_in m.monitor first.0 (k.world.at t).list (list ∙ first.1)
 
         -- no word of the protocol lies there
-        stored_shares : Shares (place p) (valid p) (shared_of (with_word s (variable_address p m i) (word_of z))) k.world
+        stored_shares : Shares (place p) (valid p) (shared_of (with_word s (variable_address p m i) (word_of z)))
+            k.world
         stored_shares = record {
           words = record {
             word = λ a ok. put_other s.word (variable_address p m i) (word_of z) (place p a)

@@ -131,7 +131,8 @@ module _ (p : Program) (w : WellFormed p) (steps : ℕ) (s : State) (c : SourceS
 
         shares : Shares (place p) (valid p) (shared_of (with_word s (process_word child 3) 1))
             (write k.world (ClaimOf child) 1)
-        shares = shares_stored (place p) (valid p) (apart p) (shared_of s) k.world (ClaimOf child) 1 valid_child k.shares
+        shares = shares_stored (place p) (valid p) (apart p) (shared_of s) k.world (ClaimOf child) 1 valid_child
+            k.shares
 
         keeps : Keeps p s (with_word s (process_word child 3) 1)
         keeps = record {

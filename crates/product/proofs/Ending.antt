@@ -110,7 +110,8 @@ module _ (p : Program) (w : WellFormed p) (steps : ℕ) (s : State) (c : SourceS
       walks phase at_entry short ends in
       let w' = go_list w2 t pt l in
       let c1 = record c { process = f } in
-      let m = moved p w steps s c k t (with_thread mid t (Exits phase)) c1 (Exits phase) (ending end l) pt l w' (record {
+      let m = moved p w steps s c k t (with_thread mid t (Exits phase)) c1 (Exits phase) (ending end l) pt l w'
+      (record {
         reached = reached;
         shares = shares_at (place p) (valid p) (shared_of mid) w2 _ w2.made shares;
         size = size;
@@ -233,7 +234,8 @@ module _ (p : Program) (w : WellFormed p) (steps : ℕ) (s : State) (c : SourceS
   returned_thread None = refl
   returned_thread (Some v) = refl
 
-  result_fits : (r : Option ℕ) → IsResult r → (u : ℕ) → put k.world.result t (result_after r (k.world.result t)) u < 2 ^ 32
+  result_fits : (r : Option ℕ) → IsResult r → (u : ℕ)
+      → put k.world.result t (result_after r (k.world.result t)) u < 2 ^ 32
   result_fits None fits u = at_put k.world.result t (k.world.result t) u (λ x. x < 2 ^ 32) (λ e. k.words t)
       (λ o. k.words u)
   result_fits (Some v) fits u = at_put k.world.result t v u (λ x. x < 2 ^ 32) (λ e. fits) (λ o. k.words u)

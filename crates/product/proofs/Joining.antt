@@ -237,7 +237,8 @@ module _ (p : Program) (w : WellFormed p) (steps : ℕ) (s : State) (c : SourceS
       }) low moves
     where
       fewer : (world : World) → world.asleep t ≡ None
-          → ((k.world.id child ≡ child) × (world ≡ record k.world { asleep = put k.world.asleep t (Some (OnId child)) }))
+          → ((k.world.id child ≡ child) × (world ≡ record k.world
+          { asleep = put k.world.asleep t (Some (OnId child)) }))
           ⊎ ((k.world.id child ≢ child) × (world ≡ k.world))
           → join_steps + ranks (world.id child) < n
       fewer world up (inl h) =
@@ -245,7 +246,8 @@ module _ (p : Program) (w : WellFormed p) (steps : ℕ) (s : State) (c : SourceS
           absurd (cc (up, asleep))
       fewer world up (inr h) =
           let gone = id_zero (k.world.at child).point child (k.world.id child) (inv.joiners.ids child) h.0 in
-          let ranked : ranks (world.id child) ≡ 1 = yes {A = ℕ} (world.id child) 0 1 35 (ap (λ (x : World). x.id child) h.1 ∙ gone) in
+          let ranked : ranks (world.id child) ≡ 1 = yes {A = ℕ} (world.id child) 0 1 35
+          (ap (λ (x : World). x.id child) h.1 ∙ gone) in
           omega (arith, ranked, enough)
 
   -- the end that the thread learns of is the child's
@@ -257,7 +259,8 @@ module _ (p : Program) (w : WellFormed p) (steps : ℕ) (s : State) (c : SourceS
 
   -- what is done after an abort
   aborted : (y : Part) (v : ℕ) → GoesAborted b t (j.after_outcome v) y f cs
-      → (stand : StandsAt b c.variable t (Some (j.after_outcome v)) (Some (joined_part y f cs)) Runs (all_monitors f cs))
+      → (stand : StandsAt b c.variable t (Some (j.after_outcome v)) (Some (joined_part y f cs)) Runs
+      (all_monitors f cs))
       × ((world : World) → steps_left b c.variable t world stand ≤ template_steps + most_steps b + before_template)
   aborted NoPart v h = (
     works join_steps (omega arith) (record {
@@ -308,7 +311,8 @@ module _ (p : Program) (w : WellFormed p) (steps : ℕ) (s : State) (c : SourceS
       let v = cause_word cause in
       let go = aborted part v (j.aborted v (cause_small cause)) in
       join_step (JoinLearns child (Aborted cause)) (joined into part f cs (Aborted cause)) x
-      (AskLoad (process_word child 5)) j.after_outcome proc point (ap (look (code_of p) t) there ∙ j.outcome) valid_child
+      (AskLoad (process_word child 5)) j.after_outcome proc point (ap (look (code_of p) t) there ∙ j.outcome)
+      valid_child
       refl tt (λ o. refl) refl
       (λ answer mid sv e' e. record {
         to = Runs;

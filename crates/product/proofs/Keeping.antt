@@ -158,7 +158,8 @@ module _ (b : Build) (s : Scope) (v : Variables) (f : Frame) (cs : List Caller) 
       (λ zs. does_keeps _ _ _ _ (λ k. calls_keep q zs into h.1 h.2 h.3))
   statement_keeps (Fork q es into) h = values_keep (evaluate_all s.program v f.locals es) f cs _
       (λ zs label effect r keeps takes. elim takes [
-        | inl m ↦ subst (λ (x : Process). Holds ms x) (sym m.3) (goes_on_keeps b None (with_local f into (pos m.0)) cs last)
+        | inl m ↦ subst (λ (x : Process). Holds ms x) (sym m.3)
+            (goes_on_keeps b None (with_local f into (pos m.0)) cs last)
         | inr m ↦ subst (λ (x : Process). Holds ms x) (sym m.2) refl
       ])
   statement_keeps (Join e into part) h = value_keeps (evaluate s.program v f.locals e) f cs _
@@ -197,7 +198,8 @@ module _ (b : Build) (v : Variables) where
           → Keeps (rest_offer b.program v f cs rest) (all_monitors f cs)
       by_rest Done sound = answers_keep b f.role (pos 0) cs (below_by q number fs cs callers)
       by_rest (Then s rest) sound =
-          statement_keeps b (scope_of b.program q) v (record f { rest = rest }) cs last (below_by q number fs cs callers)
+          statement_keeps b (scope_of b.program q) v (record f { rest = rest }) cs last
+          (below_by q number fs cs callers)
           s sound.0.fits
 
   -- a procedure that interrupted itself for a RECOVER part

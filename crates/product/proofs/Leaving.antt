@@ -38,7 +38,8 @@ walking_look p t zero end phase is = ap (λ (f : ExitPhase). look (code_of p) t 
 walking_look p t (suc m) end phase is =
     ap (λ (f : ExitPhase). look (code_of p) t (Exits f)) is.1.1 ∙ ap Leaves (sym is.1.1)
 
-ending_offer : (p : Program) (v : Variables) (end : End) → offer p v (ending end []) ≡ Does (Ends end) Nothing (Over end)
+ending_offer : (p : Program) (v : Variables) (end : End) → offer p v (ending end [])
+    ≡ Does (Ends end) Nothing (Over end)
 ending_offer p v (Ended z) = refl
 ending_offer p v (Aborted cause) = refl
 
@@ -83,7 +84,8 @@ module _ (p : Program) (w : WellFormed p) (steps : ℕ) (s : State) (c : SourceS
       (Walks zero NoEntry end) phase woken s' tt point (k.lists t) is short
       (subst (λ (g : Look). Moves s t woken g s') (walking_look p t zero end phase is) moves) in
       let none = none_listed k.world c.table t end inv point in
-      stepped p w steps s c k t pauses s' on.mid n 0 (Exits on.later) (ending end l) (Walks zero NoEntry end) number awake
+      stepped p w steps s c k t pauses s' on.mid n 0 (Exits on.later) (ending end l) (Walks zero NoEntry end) number
+      awake
       proc point on.served on.same
       (λ e may.
       let st = at_phase on.later ClearId (ending end []) (ClearsId end) l 2 on.served.after.made (on.phase e) clears

@@ -61,7 +61,8 @@ module _ (p : Program) (w : WellFormed p) (steps : ℕ) (s : State) (c : SourceS
       (subst (λ (i : Offer). TakesUp i FindsFull Nothing (Dying (Faulted ProcessTableFull) (holds q))) (sym o)
       (inr (refl, refl, refl))) tt refl
       (faults ProcessTableFull 0 (omega arith) (subst (λ (y : Thread).
-      WalksWithin (code_of p) t (empty_view p) 0 (go' 0) y) full (record { count = 0; few = omega arith; walk = stays })))
+      WalksWithin (code_of p) t (empty_view p) 0 (go' 0) y) full
+      (record { count = 0; few = omega arith; walk = stays })))
       k.shares (record { size = refl; made = refl; output = refl; thread = refl; variables = λ m i is. refl })
       refl refl refl refl same
 

@@ -127,7 +127,8 @@ module _ (p : Program) (w : WellFormed p) where
     other u o =
         subst (λ (x : Option Thread). Here u x (c'.process u) (moved_at u)) (sym (f.threads.other u o))
         (subst (λ (r : Option Process). Here u (s.thread u) r (moved_at u)) (sym (f.processes.other u o))
-        (subst (λ (z : Place). Here u (s.thread u) (c.process u) z) (sym (put_other k.world.at t (thread_at pt l) u o)) (
+        (subst (λ (z : Place). Here u (s.thread u) (c.process u) z)
+        (sym (put_other k.world.at t (thread_at pt l) u o)) (
           stand_moves (build_of p w k.world.made) w'.made f.more c.variable c'.variable u (s.thread u) (c.process u)
               (k.world.at u).point (k.world.at u).list (λ m h n i. f.same u m o h n i) (k.threads u),
           λ e. absurd (o e),

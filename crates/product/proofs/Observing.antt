@@ -359,7 +359,8 @@ module _ (p : Program) (w : WellFormed p) (s : State) (size : s.size ≡ memory_
     completes_busy v x q listed steady (F.returns h e) = asks _ _ h (λ z. z)
     completes_busy v x q listed steady (F.leaves None fits h o) = asks _ _ h (λ z. z)
     completes_busy v x q listed steady (F.leaves (Some n) fits h o) = asks _ _ h (λ z. z)
-    completes_busy v x q listed steady (F.forks entry arguments go h full o mine its empty) = asks _ go h (λ z. z.1 refl)
+    completes_busy v x q listed steady (F.forks entry arguments go h full o mine its empty) = asks _ go h
+        (λ z. z.1 refl)
     completes_busy v x q listed steady (F.claims child go is made' most h o j to bad) =
         asks _ go h (word_there child 3 is most (omega arith))
     completes_busy v x q listed steady (F.faults fault e o) = asks _ _ (ap (look (code_of p) t) e) (λ z. z)

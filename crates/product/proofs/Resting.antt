@@ -262,7 +262,8 @@ module _ (p : Program) (w : WellFormed p) (steps : ℕ) (s : State) (c : SourceS
     (k : Corresponds p w steps s c) where
   next_of : (q : ℕ) (can : CanMove p c q) → IsNext (k.world.at q).point can.moves.label
   next_of q can = next_is p c.variable q can.moves.before can.moves.after can.moves.label can.moves.effect
-      can.moves.acts w k.world.made (s.thread q) (c.process q) (k.world.at q).point (k.world.at q).list (k.threads q) can.moves.stands
+      can.moves.acts w k.world.made (s.thread q) (c.process q) (k.world.at q).point (k.world.at q).list (k.threads q)
+      can.moves.stands
 
   pub at_rest : ((t : ℕ) → CanStep s t → ⊥) → (q : ℕ) → CanMove p c q → ⊥
   at_rest still q can =

@@ -387,7 +387,8 @@ usual t pt = tt
 -- what the machine answers to a usual request, by the request alone
 answered : (p : Program) (s : State) (w : World) (t : ℕ) (pt : Point) (r : Request) (asks : M.Request) (woken : List ℕ)
     (answer : ℕ) (mid : State) → Shares (place p) (valid p) (shared_of s) w → 0 < t → t ≤ 64
-    → ((c : Member) → w.sequence c + 1 < 4294967296) → ((u : ℕ) (c : Member) → w.asleep u ≡ Some (OnSequence c) → u ≤ 64)
+    → ((c : Member) → w.sequence c + 1 < 4294967296)
+    → ((u : ℕ) (c : Member) → w.asleep u ≡ Some (OnSequence c) → u ≤ 64)
     → IsUsual r → IsAskable p r → asked p r ≡ Some asks → A.Serves t asks s woken answer mid
     → IsAnswered p s mid w t pt r answer
 answered p s w t pt r asks woken answer mid shares some few low sleepers = by_request r

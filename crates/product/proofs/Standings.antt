@@ -149,10 +149,12 @@ module _ (b : Build) (made : ℕ) (le : b.made ≤ made) (v v' : Variables) (t :
       (wait_has b.program t c base l fs before f cs ms pt x stands r) near)
   same_before u (Notifies c base l fs before after ms) pt x fit stands near same =
       same_on (own_of before) u v v' same
-      (same_own b.program before u v v' (c.monitor ∷ ms) pt c.monitor ms fit.steady fit.held (inl (first_in c.monitor ms (c.monitor ∷ ms) refl)) near)
+      (same_own b.program before u v v' (c.monitor ∷ ms) pt c.monitor ms fit.steady fit.held
+      (inl (first_in c.monitor ms (c.monitor ∷ ms) refl)) near)
   same_before u (Broadcasts c base l fs before after ms) pt x fit stands near same =
       same_on (own_of before) u v v' same
-      (same_own b.program before u v v' (c.monitor ∷ ms) pt c.monitor ms fit.steady fit.held (inl (first_in c.monitor ms (c.monitor ∷ ms) refl)) near)
+      (same_own b.program before u v v' (c.monitor ∷ ms) pt c.monitor ms fit.steady fit.held
+      (inl (first_in c.monitor ms (c.monitor ∷ ms) refl)) near)
 
   child_grows : (c : ℕ) (f : Frame) (cs : List Caller) → IsChild b c f cs → IsChild (with_made b made) c f cs
   child_grows c f cs is = record { some = is.some; made = omega (arith, le, is.made); last = is.last }

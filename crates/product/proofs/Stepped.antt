@@ -1,4 +1,5 @@
--- A step of a thread at a point of the protocol, whose request the machine has served: it is a move, and what it carries
+-- A step of a thread at a point of the protocol, whose request the machine has served: it is a move, and what it
+-- carries
 -- is an action of the process.
 use Rattle.std.proofs.Common.{◌≡◌, ℕ, zero, suc, ◌<◌, ◌≤◌, ◌==◌, Bool, true, false, List, [], ◌∷◌, length, Option, Some}
 use Rattle.std.proofs.Common.{None, refl, ap, sym, ◌∙◌, subst, arith, inl, inr}
@@ -55,7 +56,8 @@ taking_own (ToResume c) m b = tt
 
 pending_own : (t u : ℕ) (x : Entry) (label : Label) → pending_event t x ≡ Some (Acts u label) → IsOwn (kind_of label)
 pending_own t u NoEntry label e = absurd cc
-pending_own t u (Owned m) label e = let same : Abandons m ≡ label = cc in subst (λ (k : Label). IsOwn (kind_of k)) same tt
+pending_own t u (Owned m) label e = let same : Abandons m ≡ label = cc
+    in subst (λ (k : Label). IsOwn (kind_of k)) same tt
 pending_own t u (Unowned m) label e = absurd cc
 
 one_own : (u t : ℕ) (l label : Label) → IsOwn (kind_of l) → Some (Acts t l) ≡ Some (Acts u label)
@@ -176,7 +178,8 @@ module _ (p : Program) (w : WellFormed p) (steps : ℕ) (s : State) (c : SourceS
       quiet : event end ≡ None → table ≡ c.table → a.process ≡ q → Next p w steps s' t pauses n c
       quiet none is stays =
           let m = moved p w steps s c k t s' c y a.process (to end) list (on end)
-          (follow c a.process (sym is) refl refl (same_puts c.process t _ (proc ∙ ap Some (sym stays))) a.stands a.listed
+          (follow c a.process (sym is) refl refl (same_puts c.process t _ (proc ∙ ap Some (sym stays))) a.stands
+          a.listed
           a.blank) in
           record {
             after = c;

@@ -94,7 +94,8 @@ module _ (p : Program) (w : WellFormed p) (steps : ℕ) (s : State) (c : SourceS
         code = code;
         after = after;
       }) thread proc list is low woken pauses s' n paused enough moves
-  completed x q thread proc point list work enough (F.waits {f = f} {cs = cs} {l = l} {fs = fs} {ms = ms} d base is o had
+  completed x q thread proc point list work enough (F.waits {f = f} {cs = cs} {l = l} {fs = fs} {ms = ms} d base is o
+      had
       own held e code after) low moves =
       template_step p w steps s c k t number few awake point (Waits d base l fs q f cs ms) x (record {
         condition = is;
@@ -162,7 +163,8 @@ module _ (p : Program) (w : WellFormed p) (steps : ℕ) (s : State) (c : SourceS
   from_stand o q pt l (returns r fits h) proc point list enough x thread e low moves =
       returns_step p w steps s c k t woken pauses s' n number few awake r x fits point list proc
       (ap (look (code_of p) t) (same_thread e) ∙ h) (omega (arith, enough)) moves
-  from_stand o q pt l (inside {x = x'} {y = y} {pt = at} left kind u few' walk fits same ne stands) proc point list enough
+  from_stand o q pt l (inside {x = x'} {y = y} {pt = at} left kind u few' walk fits same ne stands) proc point list
+      enough
       x thread e low moves =
       inside_any p w steps s c k t woken pauses s' n number few awake paused kind u at left x y few'
       (subst (λ (v : Thread). StepsWithin b t left v y) (sym (same_thread e)) walk) fits same ne stands proc point list
@@ -188,14 +190,16 @@ module _ (p : Program) (w : WellFormed p) (steps : ℕ) (s : State) (c : SourceS
       there proc point (omega (arith, enough)) low moves)
       (λ z m g le more. goes_local p w steps s c k t woken pauses s' n x z _ _ _ proc point list
       (sleeps m (omega (arith, le, few')) is j more) (omega (arith, le, enough)) g moves)
-  from_stand o q pt l (learns {child = child} {end = end} {x = y} {into = i} {part = part} {f = f} {cs = cs} left few' is
+  from_stand o q pt l (learns {child = child} {end = end} {x = y} {into = i} {part = part} {f = f} {cs = cs} left few'
+      is
       j h) proc point list enough x thread e low moves =
       walking x y j.learns left (same_thread e) h
       (λ there. learn_step p w steps s c k t woken pauses s' n number few awake paused child i part f cs is j list x
       end there proc point (omega (arith, enough)) low moves)
       (λ z m g le more. goes_local p w steps s c k t woken pauses s' n x z _ _ _ proc point list
       (learns m (omega (arith, le, few')) is j more) (omega (arith, le, enough)) g moves)
-  from_stand o q pt l (takes {child = child} {z = z} {x = y} {into = i} {part = part} {f = f} {cs = cs} left few' is j h)
+  from_stand o q pt l (takes {child = child} {z = z} {x = y} {into = i} {part = part} {f = f} {cs = cs} left few' is j
+      h)
       proc point list enough x thread e low moves =
       walking x y j.takes left (same_thread e) h
       (λ there. take_step p w steps s c k t woken pauses s' n number few awake paused child i part f cs is j list x

@@ -57,7 +57,8 @@ pub works_on : (p : Program) (w : WellFormed p) (made : ℕ) (v : Variables) (t 
     → ((m : ℕ) → VariablesFit made p m v) → StepsWithin (build_of p w made) t template_steps x y
     → Stands (build_of p w made) t y q
     → (stand : StandsAt (build_of p w made) v t (Some x) (Some q) Runs (holds q))
-    × ((world : World) → steps_left (build_of p w made) v t world stand ≡ template_steps + most_steps (build_of p w made)
+    × ((world : World) → steps_left (build_of p w made) v t world stand
+    ≡ template_steps + most_steps (build_of p w made)
     + before_template)
 works_on p w made v t x y q fit walk stands =
     let b = build_of p w made in
@@ -135,7 +136,8 @@ module _ (p : Program) (w : WellFormed p) (steps : ℕ) (s : State) (c : SourceS
       came = e' ∙ ap (λ a. with_thread mid t (goes.go a)) sv.told
 
       abbrev Arrives' : End → Type 0
-      Arrives' e = Arrives p w steps s c k t pauses s' mid n answer y (process_at p kind pt) pt number awake proc point sv
+      Arrives' e = Arrives p w steps s c k t pauses s' mid n answer y (process_at p kind pt) pt number awake proc
+          point sv
           came e
 
       after_awake : pauses ≡ false → sv.after.asleep t ≡ None
@@ -183,7 +185,8 @@ module _ (p : Program) (w : WellFormed p) (steps : ℕ) (s : State) (c : SourceS
           behind to is stand left ends =
               subst (λ (i : Point). (stand : StandsAt b c.variable t (Some y) (Some q) i (holds q))
               × (carried k.world c.table t pt sv.reply sv.after e ≡ None → pauses ≡ false
-              → steps_left b c.variable t (go_list sv.after t i (next_list pt (k.world.at t).list)) stand < n)) (sym is) (
+              → steps_left b c.variable t (go_list sv.after t i (next_list pt (k.world.at t).list)) stand < n))
+              (sym is) (
                 stand,
                 λ none z.
                     let all = left (go_list sv.after t Runs (next_list pt (k.world.at t).list)) in
@@ -215,6 +218,7 @@ module _ (p : Program) (w : WellFormed p) (steps : ℕ) (s : State) (c : SourceS
     pub inside_step : IsLow k.world.sequence (look (code_of p) t x) → Moves s t woken (look (code_of p) t x) s'
         → Next p w steps s' t pauses n c
     inside_step low moves =
-        let g : Moves s t woken (Asks goes.asks goes.go) s' = subst (λ (l : Look). Moves s t woken l s') goes.look moves in
+        let g : Moves s t woken (Asks goes.asks goes.go) s' = subst (λ (l : Look). Moves s t woken l s') goes.look
+        moves in
         answered g.0 g.1 (served p s k.world c.table t pt goes.asks woken g.0 g.1 k.shares inv number.0
         (omega (arith, number.1, few)) (low goes.asks goes.go goes.look) within.askable goes.same g.2) g.3

@@ -88,17 +88,20 @@ pub data StandsAt (b : Build) (v : Variables) (t : ℕ) : Option Thread → Opti
       → StandsAt b v t (Some x) (Some (Dying (Faulted fault) ms)) (Dies (Faulted fault) NoEntry) ms
   -- in a JOIN: on the way to each of its requests
   reads : {child : ℕ} {x : Thread} {into : Option ℕ} {part : Part} {f : Frame} {cs : List Caller} (left : ℕ)
-      → left ≤ join_steps → IsChild b child f cs → (j : Awaits b t child into part f cs) → StepsWithin b t left x j.reads
+      → left ≤ join_steps → IsChild b child f cs → (j : Awaits b t child into part f cs)
+      → StepsWithin b t left x j.reads
       → StandsAt b v t (Some x) (Some (Joining child into part f cs)) (JoinReads child) (all_monitors f cs)
   sleeps : {child : ℕ} {x : Thread} {into : Option ℕ} {part : Part} {f : Frame} {cs : List Caller} (left : ℕ)
-      → left ≤ join_steps → IsChild b child f cs → (j : Awaits b t child into part f cs) → StepsWithin b t left x j.sleeps
+      → left ≤ join_steps → IsChild b child f cs → (j : Awaits b t child into part f cs)
+      → StepsWithin b t left x j.sleeps
       → StandsAt b v t (Some x) (Some (Joining child into part f cs)) (JoinSleeps child) (all_monitors f cs)
   learns : {child : ℕ} {end : End} {x : Thread} {into : Option ℕ} {part : Part} {f : Frame} {cs : List Caller}
       (left : ℕ) → left ≤ join_steps → IsChild b child f cs → (j : Awaits b t child into part f cs)
       → StepsWithin b t left x j.learns
       → StandsAt b v t (Some x) (Some (joined into part f cs end)) (JoinLearns child end) (all_monitors f cs)
   takes : {child : ℕ} {z : ℤ} {x : Thread} {into : Option ℕ} {part : Part} {f : Frame} {cs : List Caller} (left : ℕ)
-      → left ≤ join_steps → IsChild b child f cs → (j : Awaits b t child into part f cs) → StepsWithin b t left x j.takes
+      → left ≤ join_steps → IsChild b child f cs → (j : Awaits b t child into part f cs)
+      → StepsWithin b t left x j.takes
       → StandsAt b v t (Some x) (Some (goes_on None (with_result into z f) cs)) (JoinTakes child (Ended z))
       (all_monitors f cs)
   -- in its exit: at an entry of its robust list, or behind the last; and then

@@ -1,4 +1,5 @@
--- What is seen of a machine and of a source: their ends. (The output is a list in both; variables have their addresses.)
+-- What is seen of a machine and of a source: their ends. (The output is a list in both; variables have their
+-- addresses.)
 use Rattle.std.specs.Prelude.{ℕ, Option, Some, None}
 use Rattle.words.specs.declared.outcome.Outcome.{Outcome}
 use Rattle.words.specs.declared.outcome.Outcome.TheVariants as outcome

@@ -1,5 +1,7 @@
 -- Movers that were found, and the numbers that are left.
-use Rattle.std.proofs.Common.{◌≡◌, ◌↔◌, ◌⊎◌, ◌++◌, ◌+◌, ◌<◌, ℕ, zero, suc, List, [], ◌∷◌, length, get_or, drop, Contains, ap, sym, ◌∙◌, subst, inl, inr, append_assoc, add-one, drop-cons, nat_cmp, arith}
+use Rattle.std.proofs.Common.{◌≡◌, ◌↔◌, ◌⊎◌, ◌++◌, ◌+◌, ◌<◌, ℕ, zero, suc, List, [], ◌∷◌, length, get_or, drop}
+use Rattle.std.proofs.Common.{Contains, ap, sym, ◌∙◌, subst, inl, inr, append_assoc, add-one, drop-cons, nat_cmp}
+use Rattle.std.proofs.Common.{arith}
 use Rattle.std.proofs.lemmas.List.{append-nil}
 use Rattle.std.proofs.lemmas.List.Elements.{Contains-append_cases, Contains-append_left, Contains-append_right}
 use Rattle.std.specs.List.{AllByRecursion}

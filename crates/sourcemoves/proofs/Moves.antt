@@ -1,12 +1,15 @@
 -- Which offers can be taken up, and so which processes can move.
-use Rattle.std.proofs.Common.{if◌then◌else◌, ◌≡◌, ◌⊎◌, ◌↔◌, ◌<◌, ◌≤◌, ◌+◌, ℕ, Bool, true, false, MatchBool, List, [], Option, Some, None, Contains, refl, sym, ◌∙◌, subst, inl, inr, arith}
+use Rattle.std.proofs.Common.{if◌then◌else◌, ◌≡◌, ◌⊎◌, ◌↔◌, ◌<◌, ◌≤◌, ◌+◌, ℕ, Bool, true, false, MatchBool, List, []}
+use Rattle.std.proofs.Common.{Option, Some, None, Contains, refl, sym, ◌∙◌, subst, inl, inr, arith}
 use Rattle.std.specs.Prelude.{IsSome}
 use Rattle.words.specs.Limits.{most_processes}
 use Rattle.words.specs.Updates.{put}
 use Rattle.program.specs.declared.kinds.Member.{Member}
 use Rattle.program.specs.Trees.{Program}
-use Rattle.meaning.specs.Labels.{End, Label, Alone, Stores, Forks, FindsFull, Claims, FindsClaimed, Joins, Enters, Resumes, Exits, Waits, Notifies, Broadcasts, Abandons, Ends, kind_of}
-use Rattle.meaning.specs.Offers.{Nothing, Makes, Offer, Rests, Does, Takes, MakesOne, ClaimsOne, JoinsOne, NotifiesSome, NotifiesAll, TakesUp, offer}
+use Rattle.meaning.specs.Labels.{End, Label, Alone, Stores, Forks, FindsFull, Claims, FindsClaimed, Joins, Enters}
+use Rattle.meaning.specs.Labels.{Resumes, Exits, Waits, Notifies, Broadcasts, Abandons, Ends, kind_of}
+use Rattle.meaning.specs.Offers.{Nothing, Makes, Offer, Rests, Does, Takes, MakesOne, ClaimsOne, JoinsOne}
+use Rattle.meaning.specs.Offers.{NotifiesSome, NotifiesAll, TakesUp, offer}
 use Rattle.meaning.specs.Processes.{Process}
 use Rattle.meaning.specs.Runs.{CanMove}
 use Rattle.meaning.specs.States.{SourceState, variables_after, printed_after, processes_after}

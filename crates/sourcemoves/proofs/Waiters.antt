@@ -1,5 +1,6 @@
 -- The processes that wait on a condition are those of a list.
-use Rattle.std.proofs.Common.{◌≡◌, eqb, ◌&&◌, ℕ, zero, suc, Bool, true, false, cond, List, [], ◌∷◌, filter, Option, Some, None, Contains, refl, ap, sym, ◌∙◌, subst, nat_cmp, arith}
+use Rattle.std.proofs.Common.{◌≡◌, eqb, ◌&&◌, ℕ, zero, suc, Bool, true, false, cond, List, [], ◌∷◌, filter, Option}
+use Rattle.std.proofs.Common.{Some, None, Contains, refl, ap, sym, ◌∙◌, subst, nat_cmp, arith}
 use Rattle.std.proofs.lemmas.Bool.Decides.{nat_tests}
 use Rattle.std.proofs.lemmas.Grind.{common_steps}
 use Rattle.std.proofs.lemmas.List.Elements.{All-contains, filter_passes}

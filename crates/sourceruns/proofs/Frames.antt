@@ -1,12 +1,15 @@
 -- Positions in a body, one over the other.
-use Rattle.std.proofs.Common.{◌≡◌, Option, Some, None, ◌-◌, ◌≤◌, get_or, ℕ, zero, suc, ◌+◌, ◌<◌, ℤ, pos, List, [], ◌∷◌, ◌++◌, length, take, refl, ap, sym, ◌∙◌, arith, append_assoc, add-one}
+use Rattle.std.proofs.Common.{◌≡◌, Option, Some, None, ◌-◌, ◌≤◌, get_or, ℕ, zero, suc, ◌+◌, ◌<◌, ℤ, pos, List, []}
+use Rattle.std.proofs.Common.{◌∷◌, ◌++◌, length, take, refl, ap, sym, ◌∙◌, arith, append_assoc, add-one}
 use Rattle.program.specs.declared.kinds.ValueType.{ValueType}
 use Rattle.meaning.specs.Processes.{zeros}
 use Rattle.program.specs.Scope.{recover_of}
 use Rattle.program.specs.Trees.{Done, Program}
 use Rattle.sourceruns.proofs.Rests.{last_split}
 use Rattle.program.specs.declared.kinds.Role.TheVariants.{Recover}
-use Rattle.meaning.specs.Processes.{Frame, Caller, Process, Before, begins, goes_on, goes_on_by, hands_over, with_result, opening_frame, recovers, recovers_by, callers_monitors, monitor_of_role}
+use Rattle.meaning.specs.Processes.{Frame, Caller, Process, Before, begins, goes_on, goes_on_by, hands_over}
+use Rattle.meaning.specs.Processes.{with_result, opening_frame, recovers, recovers_by, callers_monitors}
+use Rattle.meaning.specs.Processes.{monitor_of_role}
 use Rattle.sourceruns.specs.declared.frame.Frame.{Frame as FrameOf}
 use Rattle.sourceruns.specs.Frames.{frame_of, caller_of, callers_from, callers_of}
 

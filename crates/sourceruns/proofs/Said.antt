@@ -1,7 +1,9 @@
 -- What a statement that holds lists of statements says.
 use Rattle.std.proofs.Common.{◌≡◌, Option, Some, None, refl, ap, ◌∙◌, Vec, Global}
 use Rattle.program.specs.declared.expression.Expression.{Expression as ExpressionOf}
-use Rattle.program.specs.declared.statement.Statement.{Statement as StatementOf, Row_of-Statement, end_of-Statement, more_of-Statement, items-the_row-Statement, items_hidden-the_row-Statement-0}
+use Rattle.program.specs.declared.statement.Statement.{Statement as StatementOf, Row_of-Statement, end_of-Statement}
+use Rattle.program.specs.declared.statement.Statement.{more_of-Statement, items-the_row-Statement}
+use Rattle.program.specs.declared.statement.Statement.{items_hidden-the_row-Statement-0}
 use Rattle.program.specs.declared.statement.Statement as Code
 use Rattle.program.specs.declared.statement.Statement.TheBlock.{hidden-the_row-Statement-0}
 use Rattle.program.specs.Trees.{Then, If, While, Join, NoPart, SomePart}

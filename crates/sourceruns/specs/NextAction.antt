@@ -6,7 +6,8 @@ use Rattle.meaning.specs.Processes.{goes_on, recovers}
 use Rattle.meaning.specs.Offers as O
 use Rattle.meaning.specs.Offers.{Takes, JoinsOne, joined}
 use Rattle.sourceruns.specs.declared.next_action.Offer.{Offer as OfferOf}
-use Rattle.sourceruns.specs.declared.next_action.Offer.TheVariants.{Own as Own', Enters as Enters', Resumes as Resumes', Joins as Joins'}
+use Rattle.sourceruns.specs.declared.next_action.Offer.TheVariants.{Own as Own', Enters as Enters'}
+use Rattle.sourceruns.specs.declared.next_action.Offer.TheVariants.{Resumes as Resumes', Joins as Joins'}
 use Rattle.sourceruns.specs.declared.process.Process.{Process as ProcessOf}
 use Rattle.sourceruns.specs.Frames.{frame_of, callers_of}
 use Rattle.sourceruns.specs.Stages.{part_at}

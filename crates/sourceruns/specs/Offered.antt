@@ -7,11 +7,16 @@ use Rattle.meaning.specs.Processes.{Joining, goes_on, with_local}
 use Rattle.meaning.specs.Offers as O
 use Rattle.meaning.specs.Offers.{Effect, Offer, Rests, Does, MakesOne, ClaimsOne, NotifiesSome, NotifiesAll, dies}
 use Rattle.sourceruns.specs.declared.offers.Label.{Label as LabelOf}
-use Rattle.sourceruns.specs.declared.offers.Label.TheVariants.{Assigns as Assigns', Tests as Tests', Calls as Calls', Returns as Returns', Prints as Prints', Fails as Fails', Stores as Stores', Exits as Exits', Waits as Waits', Abandons as Abandons', Ends as Ends'}
+use Rattle.sourceruns.specs.declared.offers.Label.TheVariants.{Assigns as Assigns', Tests as Tests', Calls as Calls'}
+use Rattle.sourceruns.specs.declared.offers.Label.TheVariants.{Returns as Returns', Prints as Prints'}
+use Rattle.sourceruns.specs.declared.offers.Label.TheVariants.{Fails as Fails', Stores as Stores', Exits as Exits'}
+use Rattle.sourceruns.specs.declared.offers.Label.TheVariants.{Waits as Waits', Abandons as Abandons', Ends as Ends'}
 use Rattle.sourceruns.specs.declared.offers.Effect.{Effect as EffectOf}
 use Rattle.sourceruns.specs.declared.offers.Effect.TheVariants.{Nothing as Nothing', Puts as Puts', Writes as Writes'}
 use Rattle.sourceruns.specs.declared.offers.Offered.{Offered}
-use Rattle.sourceruns.specs.declared.offers.Offered.TheVariants.{Rests as Rests', Does as Does', Makes as Makes', Claims as Claims', NotifiesSome as NotifiesSome', NotifiesAll as NotifiesAll'}
+use Rattle.sourceruns.specs.declared.offers.Offered.TheVariants.{Rests as Rests', Does as Does', Makes as Makes'}
+use Rattle.sourceruns.specs.declared.offers.Offered.TheVariants.{Claims as Claims', NotifiesSome as NotifiesSome'}
+use Rattle.sourceruns.specs.declared.offers.Offered.TheVariants.{NotifiesAll as NotifiesAll'}
 use Rattle.sourceruns.specs.declared.process.Process.{Process as ProcessOf}
 use Rattle.sourceruns.specs.Frames.{frame_of, callers_of}
 use Rattle.sourceruns.specs.Stages.{end_of, part_at, process_of}

@@ -5,13 +5,17 @@ use Rattle.program.specs.declared.statement.Statement.{Statement as StatementOf}
 use Rattle.program.specs.Trees.{Part, NoPart, SomePart}
 use Rattle.program.specs.Views.{block_in}
 use Rattle.meaning.specs.Labels.{Cause, Faulted, Killed, End, Ended, Aborted}
-use Rattle.meaning.specs.Processes.{Frame, Caller, Process, Entering, Before, Suspended, Joining, Returning, Failing, Dying, Leaving, Over}
+use Rattle.meaning.specs.Processes.{Frame, Caller, Process, Entering, Before, Suspended, Joining, Returning, Failing}
+use Rattle.meaning.specs.Processes.{Dying, Leaving, Over}
 use Rattle.sourceruns.specs.declared.process.Cause.{Cause as CauseOf}
 use Rattle.sourceruns.specs.declared.process.Cause.TheVariants.{Faulted as Faulted', Killed as Killed'}
 use Rattle.sourceruns.specs.declared.process.End.{End as EndOf}
 use Rattle.sourceruns.specs.declared.process.End.TheVariants.{Ended as Ended', Aborted as Aborted'}
 use Rattle.sourceruns.specs.declared.process.Stage.{Stage as StageOf}
-use Rattle.sourceruns.specs.declared.process.Stage.TheVariants.{Entering as Entering', Before as Before', Suspended as Suspended', Joining as Joining', Returning as Returning', Failing as Failing', Dying as Dying', Leaving as Leaving', Over as Over'}
+use Rattle.sourceruns.specs.declared.process.Stage.TheVariants.{Entering as Entering', Before as Before'}
+use Rattle.sourceruns.specs.declared.process.Stage.TheVariants.{Suspended as Suspended', Joining as Joining'}
+use Rattle.sourceruns.specs.declared.process.Stage.TheVariants.{Returning as Returning', Failing as Failing'}
+use Rattle.sourceruns.specs.declared.process.Stage.TheVariants.{Dying as Dying', Leaving as Leaving', Over as Over'}
 use Rattle.sourceruns.specs.declared.process.Process.{Process as ProcessOf}
 use Rattle.sourceruns.specs.Frames.{frame_of, callers_of}
 

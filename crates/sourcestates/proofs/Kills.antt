@@ -1,10 +1,12 @@
 -- Kills that are possible, and that aren't.
-use Rattle.std.proofs.Common.{◌≡◌, ◌⊎◌, ◌↔◌, ◌==◌, ◌++◌, ℕ, Bool, true, false, cond, List, [], ◌∷◌, Option, Some, None, Contains, refl, ap, sym, ◌∙◌, subst, inl, inr, arith}
+use Rattle.std.proofs.Common.{◌≡◌, ◌⊎◌, ◌↔◌, ◌==◌, ◌++◌, ℕ, Bool, true, false, cond, List, [], ◌∷◌, Option, Some}
+use Rattle.std.proofs.Common.{None, Contains, refl, ap, sym, ◌∙◌, subst, inl, inr, arith}
 use Rattle.words.specs.Updates.{put}
 use Rattle.program.specs.declared.kinds.Member.{Member}
 use Rattle.program.specs.Trees.{Program}
 use Rattle.meaning.specs.Labels.{Killed}
-use Rattle.meaning.specs.Offers.{Offer, Rests, Does, Takes, MakesOne, ClaimsOne, JoinsOne, NotifiesSome, NotifiesAll, offer}
+use Rattle.meaning.specs.Offers.{Offer, Rests, Does, Takes, MakesOne, ClaimsOne, JoinsOne, NotifiesSome, NotifiesAll}
+use Rattle.meaning.specs.Offers.{offer}
 use Rattle.meaning.specs.Processes.{Process, Dying, holds, without_monitor}
 use Rattle.meaning.specs.Runs.{Enters, GivesUp, IsKill, IsKillable, IsLeft, IsNotifying}
 use Rattle.meaning.specs.States.{SourceState}

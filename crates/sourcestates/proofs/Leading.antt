@@ -1,5 +1,6 @@
 -- Actions one after another, the first of which is possible or isn't.
-use Rattle.std.proofs.Common.{◌≡◌, ◌↔◌, ◌<◌, ◌+◌, ℕ, List, ◌∷◌, length, get_or, drop, map, ap, sym, ◌∙◌, subst, add-one, drop-cons}
+use Rattle.std.proofs.Common.{◌≡◌, ◌↔◌, ◌<◌, ◌+◌, ℕ, List, ◌∷◌, length, get_or, drop, map, ap, sym, ◌∙◌, subst}
+use Rattle.std.proofs.Common.{add-one, drop-cons}
 use Rattle.program.specs.Trees.{Program}
 use Rattle.meaning.specs.Labels.{Action}
 use Rattle.meaning.specs.Runs.{IsStep, Leads}

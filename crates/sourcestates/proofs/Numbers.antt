@@ -1,5 +1,6 @@
 -- The numbers of a map's keys.
-use Rattle.std.proofs.Common.{◌≡◌, ◌==◌, ◌↔◌, ℕ, true, List, Contains, Option, Some, None, refl, sym, ◌∙◌, nat_cmp, arith}
+use Rattle.std.proofs.Common.{◌≡◌, ◌==◌, ◌↔◌, ℕ, true, List, Contains, Option, Some, None, refl, sym, ◌∙◌, nat_cmp}
+use Rattle.std.proofs.Common.{arith}
 use Rattle.std.proofs.lemmas.Bool.Decides.{nat_tests}
 use Rattle.std.proofs.lemmas.Map.Made.{is_member-Decides}
 use Rattle.std.specs.Cmp.{unsigned_tied}

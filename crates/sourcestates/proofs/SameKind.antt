@@ -1,6 +1,7 @@
 -- An action of the code has the name of another only where it is the other.
 use Rattle.std.proofs.Common.{◌≡◌, ◌⊎◌, Option, Some, None, refl, ap, sym, ◌∙◌, inl, inr}
-use Rattle.meaning.specs.Labels.{Kind, Assign, Test, Call, Return, Print, Fork, Claim, Join, Fails, Enter, Exit, Wait, Resume, Notify, Broadcast, Abandon, Finish, Stray, Kill}
+use Rattle.meaning.specs.Labels.{Kind, Assign, Test, Call, Return, Print, Fork, Claim, Join, Fails, Enter, Exit, Wait}
+use Rattle.meaning.specs.Labels.{Resume, Notify, Broadcast, Abandon, Finish, Stray, Kill}
 use Rattle.sourcestates.specs.declared.action.ActionKind.{ActionKind}
 use Rattle.sourcestates.specs.declared.action.ActionKind.TheVariants as Code
 use Rattle.sourcestates.specs.Actions.{kind_of}

@@ -1,10 +1,12 @@
 -- Offers that are taken up, and that can't be.
 use Rattle.std.proofs.lemmas.Bool.Decides.{nat_tests}
-use Rattle.std.proofs.Common.{eqb, not, ◌&&◌, ◌≡◌, ◌⊎◌, if◌then◌else◌, ℕ, Bool, true, false, MatchBool, List, Some, refl, ap, sym, ◌∙◌, subst, inl, inr, arith}
+use Rattle.std.proofs.Common.{eqb, not, ◌&&◌, ◌≡◌, ◌⊎◌, if◌then◌else◌, ℕ, Bool, true, false, MatchBool, List, Some}
+use Rattle.std.proofs.Common.{refl, ap, sym, ◌∙◌, subst, inl, inr, arith}
 use Rattle.words.specs.Updates.{put}
 use Rattle.words.specs.declared.outcome.Fault.TheVariants.{HandleNotJoinable, ProcessTableFull}
 use Rattle.program.specs.declared.kinds.Member.{Member}
-use Rattle.meaning.specs.Labels.{Label, Forks, FindsFull, Claims, FindsClaimed, Notifies, Broadcasts, Kind, Fork, Claim, Fails, Notify, Broadcast, kind_of}
+use Rattle.meaning.specs.Labels.{Label, Forks, FindsFull, Claims, FindsClaimed, Notifies, Broadcasts, Kind, Fork}
+use Rattle.meaning.specs.Labels.{Claim, Fails, Notify, Broadcast, kind_of}
 use Rattle.meaning.specs.Table.{Table, Allows}
 use Rattle.meaning.specs.Offers.{Nothing, Makes, Takes, MakesOne, ClaimsOne, NotifiesSome, NotifiesAll}
 use Rattle.meaning.specs.Processes.{Process}

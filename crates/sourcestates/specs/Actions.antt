@@ -1,5 +1,6 @@
 -- The actions of the code, as actions of the meaning.
-use Rattle.meaning.specs.Labels.{Action, Kind, Assign, Test, Call, Return, Print, Fork, Claim, Join, Fails, Enter, Exit, Wait, Resume, Notify, Broadcast, Abandon, Finish, Stray, Kill}
+use Rattle.meaning.specs.Labels.{Action, Kind, Assign, Test, Call, Return, Print, Fork, Claim, Join, Fails, Enter}
+use Rattle.meaning.specs.Labels.{Exit, Wait, Resume, Notify, Broadcast, Abandon, Finish, Stray, Kill}
 use Rattle.sourcestates.specs.declared.action.Action.{Action as ActionOf}
 use Rattle.sourcestates.specs.declared.action.ActionKind.{ActionKind}
 use Rattle.sourcestates.specs.declared.action.ActionKind.TheVariants as Code

@@ -1,5 +1,6 @@
 -- Processes that wait, and wait no longer.
-use Rattle.std.proofs.Common.{◌≡◌, ◌↔◌, ℕ, zero, suc, Bool, true, false, cond, ◌==◌, ◌+◌, drop, sym, Option, Some, None, List, [], ◌∷◌, Contains, refl, ap, subst, ◌∙◌, arith}
+use Rattle.std.proofs.Common.{◌≡◌, ◌↔◌, ℕ, zero, suc, Bool, true, false, cond, ◌==◌, ◌+◌, drop, sym, Option, Some}
+use Rattle.std.proofs.Common.{None, List, [], ◌∷◌, Contains, refl, ap, subst, ◌∙◌, arith}
 use Rattle.std.proofs.lemmas.Grind.{common_steps}
 use Rattle.std.proofs.lemmas.Cmp.{nat_cmp_total}
 use Rattle.std.proofs.lemmas.Map.Views.{btree_map_get_iff}

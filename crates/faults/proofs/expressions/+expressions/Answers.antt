@@ -16,8 +16,10 @@ use Rattle.faults.proofs.Gathering.{lone, lone2, lone3, lone4, lone5, gathers_op
 use Rattle.faults.proofs.Gathering.{gathers_comparison, gathers_chain, gathers_next, gathers_past}
 use Rattle.faults.proofs.Rows.{all_of_seen, any_of_seen, gathers_product, gathers_total}
 use Rattle.faults.proofs.expressions.+expressions.Goals.{relation-in-Factor, relation-in-Product}
-use Rattle.faults.proofs.expressions.+expressions.Goals.{relation-in-Total, relation-in-Comparison, conjunction-in-Factor, conjunction-in-Product}
-use Rattle.faults.proofs.expressions.+expressions.Goals.{conjunction-in-Total, conjunction-in-Comparison, conjunction-in-AllOf}
+use Rattle.faults.proofs.expressions.+expressions.Goals.{relation-in-Total, relation-in-Comparison}
+use Rattle.faults.proofs.expressions.+expressions.Goals.{conjunction-in-Factor, conjunction-in-Product}
+use Rattle.faults.proofs.expressions.+expressions.Goals.{conjunction-in-Total, conjunction-in-Comparison}
+use Rattle.faults.proofs.expressions.+expressions.Goals.{conjunction-in-AllOf}
 use Rattle.faults.proofs.expressions.+expressions.Goals as goal
 
 pub term-returns-in-Factor : goal.term-returns-in-Factor

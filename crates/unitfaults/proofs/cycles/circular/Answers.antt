@@ -55,7 +55,8 @@ loop-number-preserved c =
           (endless_step cs before q n c.loop-number.least w.in_ok-least.least same named
           (λ k. c.in_ok-endless.ensures.every cs graph n k (mark ∙ w.if-index.true)) (w.in_ok-least.ensures cs graph)))
       | else-index w ↦
-          let ends = c.in_ok-endless.ensures.ends cs graph n (omega (arith, here, c.in_ok-graph.ensures.len)) (mark ∙ w.if-index.false) in
+          let ends = c.in_ok-endless.ensures.ends cs graph n (omega (arith, here, c.in_ok-graph.ensures.len))
+          (mark ∙ w.if-index.false) in
           let far : n < length c.in_ok-long.long.items = omega
           (arith, c.in_ok-long.ensures.len, c.in_ok-long.long.ok.0) in
           let long = sym (get_or_read c.in_ok-long.long.items n w.index-else-index.result.now far

@@ -14,7 +14,8 @@ returns-in_default-2 c =
     not_left (program_of c.args.program.now) (state_of c.args.self.now) c.args.number (process_of c.in-Some.process)
     (offer_of (program_of c.args.program.now) c.in_ok-offer.offer c.next_offer.new.process) c.entered-taken.result
     c.given_up.result c.in_ok-monitors.monitors.items c.args.last c.args.resumed.now
-    (ap (option_map process_of) (sym c.in_ok-found.ensures.old ∙ c.in-Some.is)) c.in_ok-offer.ensures c.in_ok-monitors.ensures
+    (ap (option_map process_of) (sym c.in_ok-found.ensures.old ∙ c.in-Some.is)) c.in_ok-offer.ensures
+    c.in_ok-monitors.ensures
     c.entered-taken.ensures (c.given_up.ensures (program_of c.args.program.now) c.next_offer.new.process)
     (rw c.in_default-2.is at c.in_ok-monitors-2.ensures)
 
@@ -33,7 +34,8 @@ returns c =
     (offer_of (program_of c.args.program.now) c.in_ok-offer.offer c.next_offer.new.process) c.entered-taken.result
     c.given_up.result c.in_ok-monitors.monitors.items c.in-Some-2.monitors.items c.args.last c.notified.result
     c.args.resumed.now (table_of c.kill.new.self) (processes_in c.insert.new.self) (Some (process_of c.blank.result))
-    (ap (option_map process_of) (sym c.in_ok-found.ensures.old ∙ c.in-Some.is)) c.if-not-is_killable.ensures c.in_ok-offer.ensures
+    (ap (option_map process_of) (sym c.in_ok-found.ensures.old ∙ c.in-Some.is)) c.if-not-is_killable.ensures
+    c.in_ok-offer.ensures
     c.in_ok-monitors.ensures c.entered-taken.ensures
     (c.given_up.ensures (program_of c.args.program.now) c.next_offer.new.process)
     (rw c.in-Some-2.is at c.in_ok-monitors-2.ensures)
