@@ -1,7 +1,7 @@
 ghost use Rattle.std.specs.Prelude.{◌≡◌, ◌≢◌, ◌≤◌, MatchBool, Some, None, is_some, length, reverse};
 ghost use Rattle.robustexit.specs.declared.phase.ExitPhase.TheVariants.{Ended};
 ghost use Rattle.locals.specs.Limits.{most_operands};
-ghost use Rattle.locals.specs.Threads.{Exits, opening_thread};
+ghost use Rattle.locals.specs.Threads.{Exits, opening_thread, place_in_code};
 ghost use Rattle.locals.specs.Looks.{look};
 ghost use Rattle.locals.specs.Steps.{local_step};
 ghost use Rattle.locals.specs.Requests.{next_step_of, after_answer, fork_child, CanBeAnswered};
@@ -115,6 +115,16 @@ impl Local {
         ensures { MatchBool result (self.now ≡ Exits Ended) (self.now ≢ Exits Ended) }
     {
         matches!(&self.stage, Stage::Exiting(ExitPhase::Ended))
+    }
+
+    /// The place of the next instruction, where the thread runs its code.
+    pub fn place(&self) -> Option<u32>
+        ensures { result ≡ place_in_code self.now }
+    {
+        match &self.stage {
+            Stage::Running(activation) => Some(activation.place),
+            Stage::Dying(_) | Stage::Exiting(_) => None,
+        }
     }
 
     /// What the next step of this state of thread `t` is.

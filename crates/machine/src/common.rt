@@ -72,6 +72,13 @@ impl Common {
         self.output.capacity() - self.output.len()
     }
 
+    /// How many words the memory has.
+    pub fn memory_len(&self) -> usize
+        ensures { result ≡ length self.now.words }
+    {
+        self.words.len()
+    }
+
     /// The word at an address.
     pub fn word(&self, a: Addr) -> u32
         requires { a.0 < length self.now.words }

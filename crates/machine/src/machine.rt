@@ -3,6 +3,7 @@ ghost use Rattle.std.specs.Prelude.{true, false, Some, None, Ok, Err, IfOk, IfEr
 ghost use Rattle.words.specs.Limits.{most_processes};
 ghost use Rattle.words.specs.Process.{process_word};
 ghost use Rattle.words.specs.Outcomes.{outcome_of};
+ghost use Rattle.isa.specs.Programs.{memory_size};
 ghost use Rattle.buckets.specs.BucketCount.{IsBucketCount};
 ghost use Rattle.locals.specs.Steps.{local_step};
 ghost use Rattle.machine.specs.States.{thread_of, state_of, opening_concrete};
@@ -168,6 +169,22 @@ impl Machine {
             ≡ (state_of (concrete self.now)).word (variable_address self.now.program.monitors monitor index) }
     {
         self.common.word(variable(&self.image, monitor, index))
+    }
+
+    /// How many words the memory has.
+    pub fn memory_len(&self) -> usize
+        ensures value { result ≡ length self.now.words }
+        ensures size { result ≡ memory_size self.now.program }
+    {
+        self.common.memory_len()
+    }
+
+    /// The word at an address.
+    pub fn word(&self, address: Addr) -> u32
+        requires { address.0 < length self.now.words }
+        ensures { result ≡ (state_of (concrete self.now)).word address.0 }
+    {
+        self.common.word(address)
     }
 
     /// The numbers that were printed.
