@@ -1,6 +1,7 @@
 //! What the source means, decided by code: values of expressions over the variables and locals as they stand.
 #![tactic(auto)]
 
+mod copies;
 mod evaluation;
 mod frame;
 mod monitors;

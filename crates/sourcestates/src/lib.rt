@@ -10,6 +10,7 @@ mod kill;
 mod laws;
 mod naming;
 mod notifying;
+mod offering;
 mod placing;
 mod state;
 mod step;
