@@ -114,8 +114,8 @@ impl<'a> SourceState<'a> {
         self.take_up(alloc, program, action.process, &action.kind, offer, process)
     }
 
-    // An action; false where it isn't possible, and then nothing is known of the state.
-    fn advance(
+    /// Does an action; false where it isn't possible, and then nothing is known of the state.
+    pub fn advance(
         &mut self,
         alloc: Global,
         program: &'a Program,
