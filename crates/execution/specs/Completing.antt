@@ -36,6 +36,15 @@ IsOwn (L.Stray c) = ⊥
 IsOwn (L.Kill resumed last) = ⊥
 IsOwn kind = ⊤
 
+-- an action of a process's own that no other process learns of
+abbrev pub IsQuiet : Kind → Type 0
+IsQuiet L.Assign = ⊤
+IsQuiet L.Test = ⊤
+IsQuiet L.Call = ⊤
+IsQuiet L.Return = ⊤
+IsQuiet (L.Fails fault) = ⊤
+IsQuiet kind = ⊥
+
 -- the return of a process's first procedure, without a value and with one; and what it leaves with
 abbrev pub return_request : Option ℕ → Request
 return_request None = AskReturn
@@ -102,7 +111,7 @@ HasFirst q m = (ms : List ℕ) × (holds q ≡ m ∷ ms)
 -- the return of its first procedure, a fork, the claim of a JOIN, or, once it has met it, a fault; or the template,
 -- before which it stands, that does it
 pub data Completes (b : Build) (t : ℕ) (v : Variables) (x : Thread) (q : Process) : Type 0 where
-  acts : {y : Thread} {r : Process} (kind : Kind) → IsOwn kind → look b.image t x ≡ Goes y
+  acts : {y : Thread} {r : Process} (kind : Kind) → IsQuiet kind → look b.image t x ≡ Goes y
       → offer b.program v q ≡ Does (Alone kind) Nothing r
       → Stands b t y r → Completes b t v x q
   prints : {r : Process} (w : ℕ) (go : ℕ → Thread) → look b.image t x ≡ Asks (AskPrint w) go

@@ -1,15 +1,14 @@
 -- The claim of a JOIN, and the steps of a JOIN after it.
 use Rattle.std.proofs.Common.{◌≡◌, ◌≢◌, ℕ, zero, suc, ◌<◌, ◌≤◌, Bool, true, List, [], ◌∷◌, Option, Some, None, refl, ap}
 use Rattle.std.proofs.Common.{sym, ◌∙◌, subst, arith, inl, inr}
-use Rattle.std.specs.Prelude.{◌^◌}
-use Rattle.std.proofs.lemmas.Bool.{cases_eq}
+use Rattle.std.specs.Prelude.{◌^◌, ◌==◌}
+use Rattle.std.proofs.lemmas.Bool.{cases_eq, ne_eqb}
 use Rattle.words.specs.Updates.{put}
 use Rattle.words.specs.Process.{process_word}
 use Rattle.words.specs.declared.outcome.Fault.TheVariants.{HandleNotJoinable}
 use Rattle.locals.specs.Threads.{Thread, Dies as Dies'}
 use Rattle.locals.specs.Looks.{Look, Asks, AskSwap, look}
 use Rattle.machine.specs.States.{State, with_thread, with_word}
-use Rattle.machine.specs.Runs.{Moves}
 use Rattle.machine.specs.AbstractServing.{shared_of}
 use Rattle.program.specs.declared.kinds.Member.{Member}
 use Rattle.program.specs.Trees.{Program, Part}
@@ -36,15 +35,17 @@ use Rattle.refinement.specs.Built.{build_of}
 use Rattle.templates.specs.Layout.{place, valid, is_process}
 use Rattle.templates.proofs.Layouts.{apart, number_is}
 use Rattle.templates.proofs.Addresses.{variable_apart}
+use Rattle.product.specs.Placing.{MovesSo, Places, waits, acts}
 use Rattle.product.specs.Standing.{StandsAt, IsAtWork, reads, faults}
 use Rattle.product.specs.Serving.{Keeps}
 use Rattle.product.specs.Corresponding.{Reached, IsBefore, Corresponds}
 use Rattle.product.proofs.Moving.{Puts, put_puts, Next, moved}
 use Rattle.product.proofs.Sourcing.{action, acted}
+use Rattle.product.proofs.Deferred.{may_wait}
 use Rattle.product.proofs.Worlds.{reached_on, reached_good, shares_at, shares_stored}
 
 module _ (p : Program) (w : WellFormed p) (steps : ℕ) (s : State) (c : SourceState) (k : Corresponds p w steps s c)
-    (t : ℕ) (woken : List ℕ) (pauses : Bool) (s' : State) (n : ℕ) (number : (0 < t) × (t ≤ k.world.made))
+    (t : ℕ) (woken : List ℕ) (done pauses : Bool) (s' : State) (n : ℕ) (number : (0 < t) × (t ≤ k.world.made))
     (few : k.world.made ≤ 64) (awake : k.world.asleep t ≡ None) (q : Process) (proc : c.process t ≡ Some q)
     (point : (k.world.at t).point ≡ Runs) (list : (k.world.at t).list ≡ holds q) where
   abbrev b : Build
@@ -60,14 +61,16 @@ module _ (p : Program) (w : WellFormed p) (steps : ℕ) (s : State) (c : SourceS
       → IsOwn (kind_of label) → l ≡ holds q → StandsAt b c.variable t (Some y) (Some r) pt l
       → Shares (place p) (valid p) (shared_of mid) w2 → Keeps p s mid → w2.made ≡ k.world.made
       → w2.at ≡ k.world.at → w2.result ≡ k.world.result → w2.sequence ≡ k.world.sequence
-      → s' ≡ with_thread mid t y → Next p w steps s' t pauses n c
-  starts move label mid w2 y r pt l can done carries takes own has stands shares keeps made at result sequence same =
+      → Places p t c (acted c t Nothing r (table_after k.world c.table t move)) done (kind_of label ∷ [])
+      → s' ≡ with_thread mid t y → Next p w steps s' t done pauses n c
+  starts move label mid w2 y r pt l can comes carries takes own has stands shares keeps made at result sequence places
+      same =
       let T = table_after k.world c.table t move in
       let c' = acted c t Nothing r T in
       let w' = go_list w2 t pt l in
       let listed : (k.world.at t).list ≡ l = list ∙ sym has in
       let is : after k.world t move ≡ w' =
-      done ∙ ap (λ (i : List ℕ). go_list w2 t pt i) (ap (λ (f : ℕ → Place). (f t).list) at ∙ listed) in
+      comes ∙ ap (λ (i : List ℕ). go_list w2 t pt i) (ap (λ (f : ℕ → Place). (f t).list) at ∙ listed) in
       let m = moved p w steps s c k t (with_thread mid t y) c' y r pt l w' (record {
         reached = subst (λ (x : World). Reached x T) is (reached_on k.world c.table t move k.reached can);
         shares = shares_at (place p) (valid p) (shared_of mid) w2 _ w2.made shares;
@@ -93,28 +96,29 @@ module _ (p : Program) (w : WellFormed p) (steps : ℕ) (s : State) (c : SourceS
       }) in
       let permits = subst (λ (e : Option Event). PermitsMove e c.table T) carries
       (permitted k.world c.table t move inv can) in
-      subst (λ (x : State). Next p w steps x t pauses n c) (sym same) (record {
+      subst (λ (x : State). Next p w steps x t done pauses n c) (sym same) (record {
         after = c';
         ties = m.ties;
         kinds = kind_of label ∷ [];
         own = (own, tt);
         leads = (c', action p c t q r label Nothing T proc takes permits.0, refl);
+        places = places;
         paced = λ z. inl tt;
       })
 
-  module _ (x : Thread) (work : IsAtWork p q c.variable) (moves : Moves s t woken (look (code_of p) t x) s') where
+  module _ (x : Thread) (work : IsAtWork p q c.variable) (moves : MovesSo p done s t woken (look (code_of p) t x) s') where
     pub claims_step : {into : Option ℕ} {part : Part} {f : Frame} {cs : List Caller} (child : ℕ) (go' : ℕ → Thread)
         → 0 < child → child ≤ k.world.made → look (code_of p) t x ≡ Asks (AskSwap (process_word child 3) 1) go'
         → offer p c.variable q ≡ ClaimsOne child (Joining child into part f cs)
         (Dying (Faulted HandleNotJoinable) (holds q)) → (j : Awaits b t child into part f cs)
         → StepsWithin b t join_steps (go' 0) j.reads
         → ((m : ℕ) → StepsWithin b t join_steps (go' (suc m)) (Dies' HandleNotJoinable))
-        → Next p w steps s' t pauses n c
+        → Next p w steps s' t done pauses n c
     claims_step {into = into} {part = part} {f = f} {cs = cs} child go' some below h o j free taken =
         elim (cases_eq (k.world.claim child) 0) [ inl z ↦ claimed z | inr z ↦ refused z ]
       where
-        g : Moves s t woken (Asks (AskSwap (process_word child 3) 1) go') s'
-        g = subst (λ (l : Look). Moves s t woken l s') h moves
+        g : MovesSo p done s t woken (Asks (AskSwap (process_word child 3) 1) go') s'
+        g = subst (λ (l : Look). MovesSo p done s t woken l s') h moves
 
         valid_child : is_process child ≡ true
         valid_child = number_is child some (omega (arith, below, few))
@@ -148,26 +152,41 @@ module _ (p : Program) (w : WellFormed p) (steps : ℕ) (s : State) (c : SourceS
         takes = subst (λ (i : Offer). TakesUp i (Claims child) Nothing (Joining child into part f cs)) (sym o)
             (inl (refl, refl, refl))
 
-        claimed : k.world.claim child ≡ 0 → Next p w steps s' t pauses n c
+        free_to_claim : k.world.claim child ≡ 0 → Can k.world t (Claim child)
+        free_to_claim z = record { number = number; awake = awake; stands = point; finds = (some, below, z) }
+
+        not_free : k.world.claim child ≢ 0 → Can k.world t (ClaimTaken child)
+        not_free z = record { number = number; awake = awake; stands = point; finds = (some, below, z) }
+
+        found_claimed : TakesUp (offer p c.variable q) (FindsClaimed child) Nothing
+            (Dying (Faulted HandleNotJoinable) (holds q))
+        found_claimed = subst (λ (i : Offer). TakesUp i (FindsClaimed child) Nothing
+            (Dying (Faulted HandleNotJoinable) (holds q))) (sym o) (inr (refl, refl, refl))
+
+        claimed : k.world.claim child ≡ 0 → Next p w steps s' t done pauses n c
         claimed z =
             let had = work.keeps (Claims child) Nothing (Joining child into part f cs) tt takes in
             starts (Claim child) (Claims child) (with_word s (process_word child 3) 1) (write k.world (ClaimOf child) 1)
             (go' 0) (Joining child into part f cs) (JoinReads child) (all_monitors f cs)
-            (record { number = number; awake = awake; stands = point; finds = (some, below, z) }) refl refl takes tt
+            (free_to_claim z) refl refl takes tt
             had.0 (reads join_steps (omega arith) (record { some = some; made = below; last = had.1 }) j free)
-            shares keeps refl refl refl refl (same 0 z)
+            shares keeps refl refl refl refl
+            (acts _ _ (Claims child) Nothing _ (g.4 ∙ ap (λ (i : ℕ). i == 0) (answer ∙ z)) refl proc takes
+            ((permitted k.world c.table t (Claim child) inv (free_to_claim z)).0) tt refl) (same 0 z)
 
-        refused : k.world.claim child ≢ 0 → Next p w steps s' t pauses n c
+        refused : k.world.claim child ≢ 0 → Next p w steps s' t done pauses n c
         refused z = by_word (k.world.claim child) refl
           where
-            by_word : (v : ℕ) → k.world.claim child ≡ v → Next p w steps s' t pauses n c
+            by_word : (v : ℕ) → k.world.claim child ≡ v → Next p w steps s' t done pauses n c
             by_word zero e = absurd (z e)
             by_word (suc v) e =
                 starts (ClaimTaken child) (FindsClaimed child) (with_word s (process_word child 3) 1)
                 (write k.world (ClaimOf child) 1) (go' (suc v)) (Dying (Faulted HandleNotJoinable) (holds q))
                 (Dies (Faulted HandleNotJoinable) NoEntry) (holds q)
-                (record { number = number; awake = awake; stands = point; finds = (some, below, z) }) refl refl
-                (subst (λ (i : Offer). TakesUp i (FindsClaimed child) Nothing
-                (Dying (Faulted HandleNotJoinable) (holds q))) (sym o) (inr (refl, refl, refl))) tt refl
+                (not_free z) refl refl found_claimed tt refl
                 (faults HandleNotJoinable join_steps (omega arith) (taken v)) shares keeps refl refl refl refl
+                (waits _ _ (FindsClaimed child)
+                (g.4 ∙ ap (λ (i : ℕ). i == 0) (answer ∙ e) ∙ ne_eqb (suc v) 0 (λ i. absurd cc)) proc
+                (may_wait p w steps s c k t number awake point q _ (FindsClaimed child) list work.steady refl
+                (found_claimed) ((permitted k.world c.table t (ClaimTaken child) inv (not_free z)).0) (λ end h. cc)) refl)
                 (same (suc v) e)

@@ -1,5 +1,5 @@
 -- From a fault or the return of a thread's first procedure into its exit.
-use Rattle.std.proofs.Common.{◌≡◌, ◌≢◌, ℕ, zero, suc, ◌+◌, ◌<◌, ◌≤◌, Bool, true, List, [], ◌∷◌, length, Option, Some}
+use Rattle.std.proofs.Common.{◌≡◌, ◌≢◌, ℕ, zero, suc, ◌+◌, ◌<◌, ◌≤◌, Bool, true, List, [], ◌∷◌, length, Option, Some, false}
 use Rattle.std.proofs.Common.{None, refl, ap, sym, ◌∙◌, subst, arith, inl, inr, ◌⊎◌}
 use Rattle.std.specs.Prelude.{◌^◌, map}
 use Rattle.words.specs.Updates.{put}
@@ -12,7 +12,6 @@ use Rattle.robustexit.specs.Phases.{next_entry}
 use Rattle.locals.specs.Threads.{Thread, Exits, Dies as Dies'}
 use Rattle.locals.specs.Looks.{Look, Asks, look, first_exit}
 use Rattle.machine.specs.States.{State, with_thread, with_word}
-use Rattle.machine.specs.Runs.{Moves}
 use Rattle.machine.specs.AbstractServing.{with_outcome, shared_of}
 use Rattle.program.specs.declared.kinds.Member.{Member}
 use Rattle.program.specs.Trees.{Program}
@@ -43,12 +42,14 @@ use Rattle.refinement.specs.Built.{build_of}
 use Rattle.templates.specs.Layout.{place, valid, is_process}
 use Rattle.templates.proofs.Layouts.{apart, number_is}
 use Rattle.templates.proofs.Addresses.{variable_apart}
+use Rattle.product.specs.Placing.{MovesSo, Places, nothing, waits}
 use Rattle.product.specs.Standing.{StandsAt, IsAtWork, IsEnding, ending, entries_seen, walks}
 use Rattle.product.specs.Ranks.{steps_left}
 use Rattle.product.specs.Corresponding.{Reached, IsBefore, Corresponds}
 use Rattle.product.proofs.ExitServing.{running_chain, dying_chain, first_phase, first_short}
 use Rattle.product.proofs.Moving.{Puts, put_puts, same_puts, AreOwn, IsSome, Next, moved}
 use Rattle.product.proofs.Sourcing.{act, action, acted}
+use Rattle.product.proofs.Deferred.{may_wait}
 use Rattle.product.proofs.Worlds.{reached_on, reached_good, shares_at, shares_stored, shares_result, put_put}
 
 -- few steps are left at the beginning of an exit
@@ -60,7 +61,7 @@ walks_left b v t w zero end ms phase is short ends = omega arith
 walks_left b v t w (suc m) end ms phase is short ends = omega arith
 
 module _ (p : Program) (w : WellFormed p) (steps : ℕ) (s : State) (c : SourceState) (k : Corresponds p w steps s c)
-    (t : ℕ) (woken : List ℕ) (pauses : Bool) (s' : State) (n : ℕ) (number : (0 < t) × (t ≤ k.world.made))
+    (t : ℕ) (woken : List ℕ) (done pauses : Bool) (s' : State) (n : ℕ) (number : (0 < t) × (t ≤ k.world.made))
     (few : k.world.made ≤ 64) (awake : k.world.asleep t ≡ None) where
   abbrev b : Build
   b = build_of p w k.world.made
@@ -99,10 +100,11 @@ module _ (p : Program) (w : WellFormed p) (steps : ℕ) (s : State) (c : SourceS
       → mid.word (variable_address p m i) ≡ s.word (variable_address p m i))
       → w2.at ≡ k.world.at → ((u : ℕ) → w2.result u < 2 ^ 32) → ((u : ℕ) → u ≢ t → w2.result u ≡ k.world.result u)
       → w2.sequence ≡ k.world.sequence → Puts c.process f t (Some (ending end l)) → AreOwn kinds
-      → Leads p c (map (act t) kinds) (record c { process = f }) → IsSome kinds ⊎ (3 < n)
-      → s' ≡ with_thread mid t (Exits phase) → Next p w steps s' t pauses n c
+      → Leads p c (map (act t) kinds) (record c { process = f }) → Places p t c (record c { process = f }) done kinds
+      → IsSome kinds ⊎ (3 < n)
+      → s' ≡ with_thread mid t (Exits phase) → Next p w steps s' t done pauses n c
   begins_exit end mid w2 f kinds ends chain reached shares size made same_made output thread words at results others
-      numbers ps own leads paced same =
+      numbers ps own leads places paced same =
       let pt = Walks first NoEntry end in
       let at_entry = first_phase p w k.world t NoEntry end (λ m h. k.lists t m h) chain in
       let short = first_short p w k.world c.table t (entry_address (place p) first) inv (λ m h. k.lists t m h) in
@@ -132,12 +134,13 @@ module _ (p : Program) (w : WellFormed p) (steps : ℕ) (s : State) (c : SourceS
         numbers = λ d. omega (arith, k.numbers d, ap (λ (g : Member → ℕ). g d) numbers);
       }) in
       let less = walks_left (build_of p w w2.made) c.variable t w' first end l phase at_entry short ends in
-      subst (λ (x : State). Next p w steps x t pauses n c) (sym same) (record {
+      subst (λ (x : State). Next p w steps x t done pauses n c) (sym same) (record {
         after = c1;
         ties = m.ties;
         kinds = kinds;
         own = own;
         leads = leads;
+        places = places;
         paced = λ z. elim paced [
           | inl h ↦ inl h
           | inr h ↦ inr (omega (arith, less, m.is, h))
@@ -163,9 +166,10 @@ module _ (p : Program) (w : WellFormed p) (steps : ℕ) (s : State) (c : SourceS
       → Reached (record k.world { at = at }) c.table → (at t).point ≡ Dies (Faulted fault) NoEntry → (at t).list ≡ l
       → ((y : Place) → put at t y ≡ put k.world.at t y) → Chain k.world.link first l
       → Puts c.process f t (Some (Dying (Faulted fault) l)) → AreOwn kinds
-      → Leads p c (map (act t) kinds) (record c { process = f }) → IsSome kinds ⊎ (3 < n)
-      → Moves s t woken (look (code_of p) t (Dies' fault)) s' → Next p w steps s' t pauses n c
-  by_fault fault at f kinds reached stands list same chain ps own leads paced g =
+      → Leads p c (map (act t) kinds) (record c { process = f }) → Places p t c (record c { process = f }) done kinds
+      → IsSome kinds ⊎ (3 < n)
+      → MovesSo p done s t woken (look (code_of p) t (Dies' fault)) s' → Next p w steps s' t done pauses n c
+  by_fault fault at f kinds reached stands list same chain ps own leads places paced g =
       let end = Aborted (Faulted fault) in
       let pt = Walks first NoEntry end in
       let v = fault_number fault in
@@ -179,16 +183,17 @@ module _ (p : Program) (w : WellFormed p) (steps : ℕ) (s : State) (c : SourceS
       begins_exit end (with_outcome s t v) w2 f kinds tt chain
       (subst (λ (x : World). Reached x c.table) is (reached_on w1 c.table t m reached can))
       (shares_stored (place p) (valid p) (apart p) (shared_of s) k.world (OutcomeOf t) v valid_t k.shares)
-      refl k.made refl refl refl (λ d i h. other_word s.word v d i h) refl k.words (λ u o. refl) refl ps own leads paced
+      refl k.made refl refl refl (λ d i h. other_word s.word v d i h) refl k.words (λ u o. refl) refl ps own leads places paced
       (g.3 ∙ ap (λ (x : State). with_thread x t (first_exit g.0)) g.2.1.1
       ∙ ap (λ a. with_thread (with_outcome s t v) t (first_exit a)) (g.2.1.0 ∙ head_word))
 
   -- a thread that comes to a fault which it met in the source already
   pub dies_step : (fault : Fault) → (k.world.at t).point ≡ Dies (Faulted fault) NoEntry
       → c.process t ≡ Some (Dying (Faulted fault) l) → 3 < n
-      → Moves s t woken (look (code_of p) t (Dies' fault)) s' → Next p w steps s' t pauses n c
+      → MovesSo p done s t woken (look (code_of p) t (Dies' fault)) s' → Next p w steps s' t done pauses n c
   dies_step fault point proc enough moves = by_fault fault k.world.at c.process [] k.reached point refl (λ y. refl)
       (dying_chain k.world c.table t (Faulted fault) NoEntry inv point) (same_puts c.process t _ proc) tt refl
+      (nothing moves.4 refl)
       (inr enough) moves
 
   -- the state of the machine, and the words of the world, after a return
@@ -241,7 +246,7 @@ module _ (p : Program) (w : WellFormed p) (steps : ℕ) (s : State) (c : SourceS
   result_fits (Some v) fits u = at_put k.world.result t v u (λ x. x < 2 ^ 32) (λ e. fits) (λ o. k.words u)
 
   -- the machine's answer is the head, whatever is returned
-  return_moves : (r : Option ℕ) → Moves s t woken (Asks (return_request r) first_exit) s'
+  return_moves : (r : Option ℕ) → MovesSo p done s t woken (Asks (return_request r) first_exit) s'
       → s' ≡ with_thread (returned_state r) t (Exits phase)
   return_moves None g = g.3 ∙ ap (λ (x : State). with_thread x t (first_exit g.0)) g.2.1.1
       ∙ ap (λ a. with_thread (returned_state None) t (first_exit a)) (g.2.1.0 ∙ head_word)
@@ -257,9 +262,10 @@ module _ (p : Program) (w : WellFormed p) (steps : ℕ) (s : State) (c : SourceS
       → Reached (record k.world { at = at }) c.table → (at t).point ≡ Runs → (at t).list ≡ l
       → ((y : Place) → put at t y ≡ put k.world.at t y) → (k.world.at t).point ≡ Runs
       → Puts c.process f t (Some (Leaving (left_value r))) → AreOwn kinds
-      → Leads p c (map (act t) kinds) (record c { process = f }) → IsSome kinds ⊎ (3 < n)
-      → Moves s t woken (Asks (return_request r) first_exit) s' → Next p w steps s' t pauses n c
-  by_return r at f kinds fits none reached stands list same point ps own leads paced g =
+      → Leads p c (map (act t) kinds) (record c { process = f }) → Places p t c (record c { process = f }) done kinds
+      → IsSome kinds ⊎ (3 < n)
+      → MovesSo p done s t woken (Asks (return_request r) first_exit) s' → Next p w steps s' t done pauses n c
+  by_return r at f kinds fits none reached stands list same point ps own leads places paced g =
       let end = Ended (left_value r) in
       let pt = Walks first NoEntry end in
       let w1 = record k.world { at = at } in
@@ -275,16 +281,22 @@ module _ (p : Program) (w : WellFormed p) (steps : ℕ) (s : State) (c : SourceS
       (subst (λ (x : World). Reached x c.table) is (reached_on w1 c.table t m reached can))
       (returned_shares r) (returned_size r) (returned_made r ∙ k.made) refl (returned_output r) (returned_thread r)
       (λ d i h. returned_words r d i h) refl (result_fits r fits)
-      (λ u o. put_other k.world.result t (result_after r (k.world.result t)) u o) refl ps own leads paced
+      (λ u o. put_other k.world.result t (result_after r (k.world.result t)) u o) refl ps own leads places paced
       (return_moves r g)
+
+  -- a return is no action that others learn of
+  returns_done : (r : Option ℕ) → MovesSo p done s t woken (Asks (return_request r) first_exit) s' → done ≡ false
+  returns_done None g = g.4
+  returns_done (Some v) g = g.4
 
   -- a thread whose process leaves already
   pub returns_step : (r : Option ℕ) (x : Thread) → IsResult r → (k.world.at t).point ≡ Runs → l ≡ []
       → c.process t ≡ Some (Leaving (left_value r)) → look (code_of p) t x ≡ Asks (return_request r) first_exit
-      → 3 < n → Moves s t woken (look (code_of p) t x) s' → Next p w steps s' t pauses n c
+      → 3 < n → MovesSo p done s t woken (look (code_of p) t x) s' → Next p w steps s' t done pauses n c
   returns_step r x fits point none proc h enough moves = by_return r k.world.at c.process [] fits none k.reached point
-      refl (λ y. refl) point (same_puts c.process t _ proc) tt refl (inr enough)
-      (subst (λ (i : Look). Moves s t woken i s') h moves)
+      refl (λ y. refl) point (same_puts c.process t _ proc) tt refl
+      (nothing (returns_done r (subst (λ (i : Look). MovesSo p done s t woken i s') h moves)) refl) (inr enough)
+      (subst (λ (i : Look). MovesSo p done s t woken i s') h moves)
 
   module _ (q : Process) (proc : c.process t ≡ Some q) (point : (k.world.at t).point ≡ Runs) (list : l ≡ holds q) where
     takes_up : (label : Label) (r : Process) → offer p c.variable q ≡ Does label Nothing r
@@ -292,16 +304,18 @@ module _ (p : Program) (w : WellFormed p) (steps : ℕ) (s : State) (c : SourceS
     takes_up label r o = subst (λ (i : Offer). TakesUp i label Nothing r) (sym o) (refl, refl, refl)
 
     -- a thread that meets a fault
-    pub faults_step : (fault : Fault) (x : Thread) → x ≡ Dies' fault
+    pub faults_step : (fault : Fault) (x : Thread) → IsAtWork p q c.variable → x ≡ Dies' fault
         → offer p c.variable q ≡ Does (Alone (L.Fails fault)) Nothing (Dying (Faulted fault) (holds q))
-        → Moves s t woken (look (code_of p) t x) s' → Next p w steps s' t pauses n c
-    faults_step fault x e o moves =
+        → MovesSo p done s t woken (look (code_of p) t x) s' → Next p w steps s' t done pauses n c
+    faults_step fault x work e o moves =
         let move = Raise fault in
         let can : Can k.world t move = record { number = number; awake = awake; stands = point; finds = tt } in
         let r = Dying (Faulted fault) l in
         let o' : offer p c.variable q ≡ Does (Alone (L.Fails fault)) Nothing r =
         o ∙ ap (λ (i : List ℕ). Does (Alone (L.Fails fault)) Nothing (Dying (Faulted fault) i)) (sym list) in
         let z = thread_at (Dies (Faulted fault) NoEntry) l in
+        let g : MovesSo p done s t woken (look (code_of p) t (Dies' fault)) s' =
+        subst (λ (i : Thread). MovesSo p done s t woken (look (code_of p) t i) s') e moves in
         by_fault fault (put k.world.at t z) (put c.process t (Some r)) (L.Fails fault ∷ [])
         (reached_on k.world c.table t move k.reached can)
         (ap (λ (i : Place). i.point) (put_same k.world.at t z))
@@ -312,13 +326,15 @@ module _ (p : Program) (w : WellFormed p) (steps : ℕ) (s : State) (c : SourceS
               (takes_up (Alone (L.Fails fault)) r o') (permitted k.world c.table t move inv can).0,
           refl,
         )
-        (inl tt) (subst (λ (i : Thread). Moves s t woken (look (code_of p) t i) s') e moves)
+        (waits _ _ (Alone (L.Fails fault)) g.4 proc (may_wait p w steps s c k t number awake point q r
+        (Alone (L.Fails fault)) list work.steady refl (takes_up (Alone (L.Fails fault)) r o') refl (λ end h. cc)) refl)
+        (inl tt) g
 
     -- a thread whose process leaves with this step
     pub leaves_step : (r : Option ℕ) (x : Thread) → IsAtWork p q c.variable → IsResult r
         → look (code_of p) t x ≡ Asks (return_request r) first_exit
         → offer p c.variable q ≡ Does (Alone L.Return) Nothing (Leaving (left_value r))
-        → Moves s t woken (look (code_of p) t x) s' → Next p w steps s' t pauses n c
+        → MovesSo p done s t woken (look (code_of p) t x) s' → Next p w steps s' t done pauses n c
     leaves_step r x work fits h o moves =
         let move = Own (Alone L.Return) in
         let can : Can k.world t move = record { number = number; awake = awake; stands = point; finds = tt } in
@@ -336,4 +352,7 @@ module _ (p : Program) (w : WellFormed p) (steps : ℕ) (s : State) (c : SourceS
               (permitted k.world c.table t move inv can).0,
           refl,
         )
-        (inl tt) (subst (λ (i : Look). Moves s t woken i s') h moves)
+        (waits _ _ (Alone L.Return) (returns_done r (subst (λ (i : Look). MovesSo p done s t woken i s') h moves)) proc
+        (may_wait p w steps s c k t number awake point q after' (Alone L.Return) list work.steady refl takes refl
+        (λ end h. cc)) refl)
+        (inl tt) (subst (λ (i : Look). MovesSo p done s t woken i s') h moves)

@@ -1,7 +1,7 @@
 -- The steps of a JOIN: the reading of the id word, the sleep on it, and what is learned of the child's end.
 use Rattle.std.proofs.Common.{◌≡◌, ◌≢◌, ℕ, zero, suc, ◌+◌, ◌<◌, ◌≤◌, ◌==◌, Bool, true, false, List, Option, Some, None}
 use Rattle.std.proofs.Common.{ℤ, refl, ap, sym, ◌∙◌, subst, arith, inl, inr, ◌⊎◌}
-use Rattle.std.specs.Prelude.{if◌then◌else◌}
+use Rattle.std.specs.Prelude.{if◌then◌else◌, is_some}
 use Rattle.std.proofs.lemmas.Bool.{cond-true, cond-false, eq-eqb, ne_eqb}
 use Rattle.words.specs.declared.outcome.Fault.TheVariants.{ResultOutOfRange, DivisionByZero, IndexOutOfRange}
 use Rattle.words.specs.declared.outcome.Fault.TheVariants.{HandleNotJoinable, ProcessTableFull, AbortStatement}
@@ -10,7 +10,7 @@ use Rattle.words.specs.Process.{process_word}
 use Rattle.locals.specs.Threads.{Thread, Dies as Dies'}
 use Rattle.locals.specs.Looks.{Request, Look, Asks, AskLoad, AskWait, look}
 use Rattle.machine.specs.States.{State, with_thread}
-use Rattle.machine.specs.Runs.{Moves, is_paused, has_ended}
+use Rattle.machine.specs.Runs.{is_paused, has_ended}
 use Rattle.program.specs.Trees.{Part, NoPart, SomePart, followed_by, Program}
 use Rattle.program.specs.WellFormed.{WellFormed}
 use Rattle.code.specs.Pieces.{code_of}
@@ -44,11 +44,13 @@ use Rattle.templates.specs.Templates.{ActsSo}
 use Rattle.protocol.specs.Carries.{Event, Acts}
 use Rattle.words.specs.Updates.{put}
 use Rattle.templates.proofs.Layouts.{number_is}
+use Rattle.product.specs.Placing.{MovesSo, completes}
 use Rattle.product.specs.Standing.{StandsAt, works, reads, sleeps, learns, takes, IsLast, IsChild}
 use Rattle.product.specs.Ranks.{rank, steps_left, more_steps, before_template}
 use Rattle.product.specs.Corresponding.{Corresponds, IsBefore}
 use Rattle.product.specs.Serving.{IsServed, IsAskable}
 use Rattle.product.proofs.Worlds.{reached_good}
+use Rattle.product.proofs.Completions.{point_completes, listed_at}
 use Rattle.product.proofs.Moving.{IsLow, Next}
 use Rattle.product.proofs.Stepped.{Arrives, stepped}
 use Rattle.product.proofs.Serving.{served}
@@ -85,7 +87,7 @@ no : {A : Type 0} (a b : ℕ) (x y : A) → a ≢ b → (if a == b then x else y
 no a b x y h = cond-false (a == b) x y (ne_eqb a b h)
 
 module _ (p : Program) (w : WellFormed p) (steps : ℕ) (s : State) (c : SourceState) (k : Corresponds p w steps s c)
-    (t : ℕ) (woken : List ℕ) (pauses : Bool) (s' : State) (n : ℕ) (number : (0 < t) × (t ≤ k.world.made))
+    (t : ℕ) (woken : List ℕ) (done pauses : Bool) (s' : State) (n : ℕ) (number : (0 < t) × (t ≤ k.world.made))
     (few : k.world.made ≤ 64) (awake : k.world.asleep t ≡ None) (paused : pauses ≡ is_paused s' t) (child : ℕ)
     (into : Option ℕ) (part : Part) (f : Frame) (cs : List Caller)
     (is : IsChild (build_of p w k.world.made) child f cs)
@@ -139,7 +141,7 @@ module _ (p : Program) (w : WellFormed p) (steps : ℕ) (s : State) (c : SourceS
           → steps_left (build_of p w made) c.variable t (go_list sv.after t to ms) stand < n)
 
       arrives : ((e : End) → Goes e) → (e : End) → MayAnswer pt sv.reply
-          → Arrives p w steps s c k t pauses s' mid n answer y q pt number awake proc point sv came e
+          → Arrives p w steps s c k t done pauses s' mid n answer y q pt number awake proc point sv came e
       arrives goes e may =
           let g = goes e in
           let mine : Fine e k.world.made g.thread g.process g.to l =
@@ -160,24 +162,31 @@ module _ (p : Program) (w : WellFormed p) (steps : ℕ) (s : State) (c : SourceS
             paced = now.1;
           }
 
-      went : ((e : End) → Goes e) → Next p w steps s' t pauses n c
-      went goes = stepped p w steps s c k t pauses s' mid n answer y q pt number awake proc point sv came (arrives goes)
+      shown : done ≡ completes p asks answer → (e : End) → MayAnswer pt sv.reply
+          → done ≡ is_some (carried k.world c.table t pt sv.reply sv.after e)
+      shown seen e may = seen ∙ ap (λ a. completes p asks a) sv.told
+          ∙ point_completes p k.world c.table t pt sv.reply sv.after e (k.world.at t).list asks
+          (number_is t number.0 (omega (arith, number.1, few))) (listed_at k.world c.table t pt inv point) may askable same
+
+      went : done ≡ completes p asks answer → ((e : End) → Goes e) → Next p w steps s' t done pauses n c
+      went seen goes = stepped p w steps s c k t done pauses s' mid n answer y q pt number awake proc point sv came
+          (shown seen) (arrives goes)
 
     join_step : ((answer : ℕ) (mid : State) (sv : IsServed p s mid k.world t pt answer)
         (e' : s' ≡ with_thread mid t (go answer)) (e : End) → Goes answer mid sv e' e)
-        → IsLow k.world.sequence (look (code_of p) t x) → Moves s t woken (look (code_of p) t x) s'
-        → Next p w steps s' t pauses n c
+        → IsLow k.world.sequence (look (code_of p) t x) → MovesSo p done s t woken (look (code_of p) t x) s'
+        → Next p w steps s' t done pauses n c
     join_step goes low moves =
-        let g : Moves s t woken (Asks asks go) s' = subst (λ (i : Look). Moves s t woken i s') looks moves in
+        let g : MovesSo p done s t woken (Asks asks go) s' = subst (λ (i : Look). MovesSo p done s t woken i s') looks moves in
         let sv = served p s k.world c.table t pt asks woken g.0 g.1 k.shares inv number.0
         (omega (arith, number.1, few)) (low asks go looks) askable same g.2 in
-        went g.0 g.1 sv g.3 (goes g.0 g.1 sv g.3)
+        went g.0 g.1 sv g.3 g.4 (goes g.0 g.1 sv g.3)
 
   -- the id word is read: the child is over, or the thread is to sleep
   pub read_step : (x : Thread) → x ≡ j.reads → c.process t ≡ Some (Joining child into part f cs)
       → (k.world.at t).point ≡ JoinReads child → rank (more_steps b) k.world (JoinReads child) ≤ n
-      → IsLow k.world.sequence (look (code_of p) t x) → Moves s t woken (look (code_of p) t x) s'
-      → Next p w steps s' t pauses n c
+      → IsLow k.world.sequence (look (code_of p) t x) → MovesSo p done s t woken (look (code_of p) t x) s'
+      → Next p w steps s' t done pauses n c
   read_step x there proc point enough low moves =
       join_step (JoinReads child) (Joining child into part f cs) x (AskLoad (process_word child 2)) j.after_read proc
       point (ap (look (code_of p) t) there ∙ j.read) valid_child refl tt (λ o. refl) refl
@@ -218,8 +227,8 @@ module _ (p : Program) (w : WellFormed p) (steps : ℕ) (s : State) (c : SourceS
   -- the thread sleeps, or the child is over by now
   pub sleep_step : (x : Thread) → x ≡ j.sleeps → c.process t ≡ Some (Joining child into part f cs)
       → (k.world.at t).point ≡ JoinSleeps child → 18 ≤ n
-      → IsLow k.world.sequence (look (code_of p) t x) → Moves s t woken (look (code_of p) t x) s'
-      → Next p w steps s' t pauses n c
+      → IsLow k.world.sequence (look (code_of p) t x) → MovesSo p done s t woken (look (code_of p) t x) s'
+      → Next p w steps s' t done pauses n c
   sleep_step x there proc point enough low moves =
       join_step (JoinSleeps child) (Joining child into part f cs) x (AskWait (process_word child 2) child) j.after_sleep
       proc point (ap (look (code_of p) t) there ∙ j.sleep) valid_child refl tt (λ o. refl) refl
@@ -290,8 +299,8 @@ module _ (p : Program) (w : WellFormed p) (steps : ℕ) (s : State) (c : SourceS
   -- the outcome is read: the child's result is taken, or the process goes on after its abort
   pub learn_step : (x : Thread) (end : End) → x ≡ j.learns → c.process t ≡ Some (joined into part f cs end)
       → (k.world.at t).point ≡ JoinLearns child end → more_steps b + 34 ≤ n
-      → IsLow k.world.sequence (look (code_of p) t x) → Moves s t woken (look (code_of p) t x) s'
-      → Next p w steps s' t pauses n c
+      → IsLow k.world.sequence (look (code_of p) t x) → MovesSo p done s t woken (look (code_of p) t x) s'
+      → Next p w steps s' t done pauses n c
   learn_step x (Ended z) there proc point enough low moves =
       let tell = tells (JoinLearns child (Ended z)) (Ended z) point (refl, refl) in
       join_step (JoinLearns child (Ended z)) (joined into part f cs (Ended z)) x (AskLoad (process_word child 5))
@@ -337,8 +346,8 @@ module _ (p : Program) (w : WellFormed p) (steps : ℕ) (s : State) (c : SourceS
   -- the result is read, and taken
   pub take_step : (x : Thread) (z : ℤ) → x ≡ j.takes → c.process t ≡ Some (goes_on None (with_result into z f) cs)
       → (k.world.at t).point ≡ JoinTakes child (Ended z) → more_steps b + 17 ≤ n
-      → IsLow k.world.sequence (look (code_of p) t x) → Moves s t woken (look (code_of p) t x) s'
-      → Next p w steps s' t pauses n c
+      → IsLow k.world.sequence (look (code_of p) t x) → MovesSo p done s t woken (look (code_of p) t x) s'
+      → Next p w steps s' t done pauses n c
   take_step x z there proc point enough low moves =
       let tell = tells (JoinTakes child (Ended z)) (Ended z) point (refl, refl) in
       let v = k.world.result child in

@@ -2,6 +2,8 @@ pub mod Standings
 pub mod Worlds
 pub mod Sourcing
 pub mod Moving
+pub mod Completions
+pub mod Deferred
 pub mod Stepped
 pub mod Pigeons
 pub mod Serving

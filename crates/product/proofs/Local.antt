@@ -6,7 +6,6 @@ use Rattle.isa.specs.Programs.{Program as Image}
 use Rattle.locals.specs.Threads.{Thread}
 use Rattle.locals.specs.Looks.{Look, Goes, look}
 use Rattle.machine.specs.States.{State, with_thread}
-use Rattle.machine.specs.Runs.{Moves}
 use Rattle.program.specs.Trees.{Program}
 use Rattle.program.specs.WellFormed.{WellFormed}
 use Rattle.code.specs.Pieces.{code_of}
@@ -17,6 +16,7 @@ use Rattle.protocol.specs.World.{mem}
 use Rattle.protocol.proofs.Sleeps.{at_put}
 use Rattle.execution.specs.Walks.{Walks, WalksWithin, stays, goes, loads, empty_view}
 use Rattle.refinement.specs.Built.{build_of}
+use Rattle.product.specs.Placing.{MovesSo, nothing}
 use Rattle.product.specs.Standing.{StandsAt}
 use Rattle.product.specs.Ranks.{steps_left}
 use Rattle.product.specs.Corresponding.{Corresponds, IsBefore}
@@ -44,15 +44,15 @@ first_step source image t n x z walk = by_walk walk.few walk.walk
     by_walk few (loads h r more) = let none = r.mine in absurd cc
 
 module _ (p : Program) (w : WellFormed p) (steps : ℕ) (s : State) (c : SourceState) (k : Corresponds p w steps s c)
-    (t : ℕ) (woken : List ℕ) (pauses : Bool) (s' : State) (n : ℕ) where
+    (t : ℕ) (woken : List ℕ) (done pauses : Bool) (s' : State) (n : ℕ) where
   -- the thread stands for the same at another place of its code, with fewer steps left
   pub goes_local : (x y : Thread) (q : Process) (pt : Point) (l : List ℕ) → c.process t ≡ Some q
       → (k.world.at t).point ≡ pt → (k.world.at t).list ≡ l
       → (stand : StandsAt (build_of p w k.world.made) c.variable t (Some y) (Some q) pt l)
       → steps_left (build_of p w k.world.made) c.variable t k.world stand < n
-      → look (code_of p) t x ≡ Goes y → Moves s t woken (look (code_of p) t x) s' → Next p w steps s' t pauses n c
+      → look (code_of p) t x ≡ Goes y → MovesSo p done s t woken (look (code_of p) t x) s' → Next p w steps s' t done pauses n c
   goes_local x y q pt l proc point list stand less h moves =
-      let g : Moves s t woken (Goes y) s' = subst (λ (i : Look). Moves s t woken i s') h moves in
+      let g : MovesSo p done s t woken (Goes y) s' = subst (λ (i : Look). MovesSo p done s t woken i s') h moves in
       let at : k.world.at ≡ put k.world.at t (thread_at pt l) =
       put_again k.world.at t (thread_at pt l) (ap (λ (i : Point). thread_at i (k.world.at t).list) point
       ∙ ap (thread_at pt) list) in
@@ -75,11 +75,12 @@ module _ (p : Program) (w : WellFormed p) (steps : ℕ) (s : State) (c : SourceS
         blank = λ u h. k.blank u (subst (λ (f : ℕ → Place). IsBefore (f u).point) (sym at) h);
         numbers = λ d. let few = k.numbers d in omega (arith, few);
       }) in
-      subst (λ (x : State). Next p w steps x t pauses n c) (sym g.1) (record {
+      subst (λ (x : State). Next p w steps x t done pauses n c) (sym g.1) (record {
         after = c;
         ties = m.ties;
         kinds = [];
         own = tt;
         leads = refl;
+        places = nothing g.2 refl;
         paced = λ z. inr (subst (λ i. i < n) (sym m.is) less);
       })

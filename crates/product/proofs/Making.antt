@@ -1,7 +1,8 @@
 -- A FORK: a thread more, or a fault where no more can be made.
-use Rattle.std.proofs.Common.{◌≡◌, ◌≢◌, ℕ, suc, ◌<◌, ◌≤◌, Bool, true, List, [], ◌∷◌, length, Option, Some, None, refl}
+use Rattle.std.proofs.Common.{◌≡◌, ◌≢◌, ℕ, suc, ◌<◌, ◌≤◌, Bool, true, List, [], ◌∷◌, length, Option, Some, None, refl, false}
 use Rattle.std.proofs.Common.{ap, sym, ◌∙◌, subst, arith, inl, inr}
-use Rattle.std.proofs.lemmas.Bool.{cases_eq, false≢true}
+use Rattle.std.proofs.lemmas.Bool.{cases_eq, false≢true, ne_eqb}
+use Rattle.std.specs.Prelude.{not, ◌==◌}
 use Rattle.words.specs.Updates.{put}
 use Rattle.words.specs.Limits.{most_processes}
 use Rattle.words.specs.Process.{process_word}
@@ -9,7 +10,6 @@ use Rattle.words.specs.declared.outcome.Fault.TheVariants.{ProcessTableFull}
 use Rattle.locals.specs.Threads.{Thread, Dies as Dies', opening_thread}
 use Rattle.locals.specs.Looks.{Look, Asks, AskFork, look}
 use Rattle.machine.specs.States.{State, with_thread}
-use Rattle.machine.specs.Runs.{Moves}
 use Rattle.machine.specs.AbstractServing.{shared_of}
 use Rattle.program.specs.Trees.{Program}
 use Rattle.program.specs.WellFormed.{WellFormed}
@@ -36,10 +36,13 @@ use Rattle.templates.proofs.Layouts.{apart, number_is}
 use Rattle.templates.proofs.Addresses.{variable_apart}
 use Rattle.execution.specs.Walks.{WalksWithin, stays, empty_view}
 use Rattle.refinement.specs.Built.{build_of}
+use Rattle.templates.specs.Inside.{IsSteady}
+use Rattle.product.specs.Placing.{MovesSo, waits, acts}
 use Rattle.product.specs.Standing.{StandsAt, IsAtWork, faults}
 use Rattle.product.specs.Corresponding.{Corresponds, IsBefore}
 use Rattle.product.proofs.Moving.{Next}
 use Rattle.product.proofs.Claiming.{starts}
+use Rattle.product.proofs.Deferred.{may_wait}
 use Rattle.product.proofs.Acting.{held_of}
 use Rattle.product.proofs.Templating.{works_on}
 use Rattle.product.proofs.Standings.{stand_moves}
@@ -47,24 +50,28 @@ use Rattle.product.proofs.Sourcing.{action, acted}
 use Rattle.product.proofs.Worlds.{reached_on, reached_good, shares_at, shares_stored}
 
 module _ (p : Program) (w : WellFormed p) (steps : ℕ) (s : State) (c : SourceState) (k : Corresponds p w steps s c)
-    (t : ℕ) (woken : List ℕ) (pauses : Bool) (s' : State) (n : ℕ) (number : (0 < t) × (t ≤ k.world.made))
+    (t : ℕ) (woken : List ℕ) (done pauses : Bool) (s' : State) (n : ℕ) (number : (0 < t) × (t ≤ k.world.made))
     (few : k.world.made ≤ 64) (awake : k.world.asleep t ≡ None) (q : Process) (proc : c.process t ≡ Some q)
     (point : (k.world.at t).point ≡ Runs) (list : (k.world.at t).list ≡ holds q) where
   -- no more can be made
   pub full_step : (go' : ℕ → Thread) (child : Process) (later : ℕ → Process) → go' 0 ≡ Dies' ProcessTableFull
       → offer p c.variable q ≡ MakesOne child later (Dying (Faulted ProcessTableFull) (holds q))
-      → most_processes ≤ k.world.made → s' ≡ with_thread s t (go' 0) → Next p w steps s' t pauses n c
-  full_step go' child later full o many same =
-      starts p w steps s c k t woken pauses s' n number few awake q proc point list ForkFull FindsFull s k.world (go' 0)
+      → most_processes ≤ k.world.made → done ≡ false → IsSteady p q c.variable → s' ≡ with_thread s t (go' 0) → Next p w steps s' t done pauses n c
+  full_step go' child later full o many none steady same =
+      let can : Can k.world t ForkFull = record { number = number; awake = awake; stands = point; finds = many } in
+      let takes : TakesUp (offer p c.variable q) FindsFull Nothing (Dying (Faulted ProcessTableFull) (holds q)) =
+      subst (λ (i : Offer). TakesUp i FindsFull Nothing (Dying (Faulted ProcessTableFull) (holds q))) (sym o)
+      (inr (refl, refl, refl)) in
+      starts p w steps s c k t woken done pauses s' n number few awake q proc point list ForkFull FindsFull s k.world (go' 0)
       (Dying (Faulted ProcessTableFull) (holds q)) (Dies (Faulted ProcessTableFull) NoEntry) (holds q)
-      (record { number = number; awake = awake; stands = point; finds = many }) refl refl
-      (subst (λ (i : Offer). TakesUp i FindsFull Nothing (Dying (Faulted ProcessTableFull) (holds q))) (sym o)
-      (inr (refl, refl, refl))) tt refl
+      can refl refl takes tt refl
       (faults ProcessTableFull 0 (omega arith) (subst (λ (y : Thread).
       WalksWithin (code_of p) t (empty_view p) 0 (go' 0) y) full
       (record { count = 0; few = omega arith; walk = stays })))
       k.shares (record { size = refl; made = refl; output = refl; thread = refl; variables = λ m i is. refl })
-      refl refl refl refl same
+      refl refl refl refl
+      (waits _ _ FindsFull none proc (may_wait p w steps s c k t number awake point q _ FindsFull list steady refl takes
+      ((permitted k.world c.table t ForkFull (reached_good k.world c.table k.reached) can).0) (λ end h. cc)) refl) same
 
   module _ (child : Process) (later : ℕ → Process) (go' : ℕ → Thread) (entry : ℕ) (arguments : List ℕ)
       (work : IsAtWork p q c.variable) (more : k.world.made < 64)
@@ -157,8 +164,8 @@ module _ (p : Program) (w : WellFormed p) (steps : ℕ) (s : State) (c : SourceS
       ]
     ]
 
-    pub forked : s' ≡ grown → Next p w steps s' t pauses n c
-    forked same = subst (λ (x : State). Next p w steps x t pauses n c) (sym same) (record {
+    pub forked : done ≡ true → s' ≡ grown → Next p w steps s' t done pauses n c
+    forked is same = subst (λ (x : State). Next p w steps x t done pauses n c) (sym same) (record {
       after = c1;
       ties = record {
         world = w1;
@@ -190,6 +197,8 @@ module _ (p : Program) (w : WellFormed p) (steps : ℕ) (s : State) (c : SourceS
             proc takes (permitted k.world c.table made (Fork t) (reached_good k.world c.table k.reached) can_fork).0,
         refl,
       );
+      places = acts _ _ (Forks made) (Makes made child) (table_after k.world c.table made (Fork t)) is refl proc takes
+          ((permitted k.world c.table made (Fork t) (reached_good k.world c.table k.reached) can_fork).0) tt refl;
       paced = λ z. inl tt;
     })
 
@@ -201,18 +210,18 @@ module _ (p : Program) (w : WellFormed p) (steps : ℕ) (s : State) (c : SourceS
       → ((m : ℕ) → k.world.made ≤ suc m → suc m ≤ most_processes
       → Stands (build_of p w (suc m)) t (go' (suc m)) (later (suc m)))
       → ((m u : ℕ) → k.world.made ≤ m → Stands (build_of p w m) u (opening_thread entry arguments) child)
-      → Moves s t woken (look (code_of p) t x) s' → Next p w steps s' t pauses n c
+      → MovesSo p done s t woken (look (code_of p) t x) s' → Next p w steps s' t done pauses n c
   forks_step child later go' entry arguments x work h full o empty mine its moves =
-      by_answer (subst (λ (l : Look). Moves s t woken l s') h moves)
+      by_answer (subst (λ (l : Look). MovesSo p done s t woken l s') h moves)
     where
-      by_answer : Moves s t woken (Asks (AskFork entry arguments true) go') s' → Next p w steps s' t pauses n c
-      by_answer (answer, mid, (nobody, inl (many, is, same)), e) =
-          full_step go' child later full o (omega (arith, many, k.made))
+      by_answer : MovesSo p done s t woken (Asks (AskFork entry arguments true) go') s' → Next p w steps s' t done pauses n c
+      by_answer (answer, mid, (nobody, inl (many, is, same)), e, d) =
+          full_step go' child later full o (omega (arith, many, k.made)) (d ∙ ap (λ (a : ℕ). not (a == 0)) is) work.steady
           (e ∙ ap (λ (m : State). with_thread m t (go' answer)) same ∙ ap (λ a. with_thread s t (go' a)) is)
-      by_answer (answer, mid, (nobody, inr (less, room, is, same)), e) =
+      by_answer (answer, mid, (nobody, inr (less, room, is, same)), e, d) =
           forked child later go' entry arguments work (omega (arith, less, k.made)) o empty
           (mine k.world.made (omega arith) (omega (arith, less, k.made))) (its (suc k.world.made) (suc k.world.made)
-          (omega arith))
+          (omega arith)) (d ∙ ap (λ (a : ℕ). not (a == 0)) is ∙ ap not (ne_eqb (suc s.made) 0 (λ i. absurd cc)))
           (e ∙ ap (λ (m : State). with_thread m t (go' answer)) same
           ∙ ap (λ a. with_thread (record s {
             word = put s.word (process_word (suc s.made) 2) (suc s.made);

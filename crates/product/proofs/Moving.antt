@@ -24,6 +24,7 @@ use Rattle.execution.specs.Completing.{IsOwn}
 use Rattle.execution.specs.Variables.{IsVariable, variable_address, VariablesFit}
 use Rattle.refinement.specs.Built.{build_of}
 use Rattle.templates.specs.Layout.{place, valid}
+use Rattle.product.specs.Placing.{Places}
 use Rattle.product.specs.Standing.{StandsAt}
 use Rattle.product.specs.Ranks.{steps_left}
 use Rattle.product.specs.Corresponding.{Reached, IsBefore, Corresponds}
@@ -65,12 +66,13 @@ module _ (p : Program) (w : WellFormed p) where
 
   -- what belongs to the machine's state after a step of thread t: with the actions of its process, one at least where
   -- it doesn't pause and no fewer steps are left
-  pub record Next (steps : ℕ) (s' : State) (t : ℕ) (pauses : Bool) (n : ℕ) (c : SourceState) : Type 0 where
+  pub record Next (steps : ℕ) (s' : State) (t : ℕ) (done pauses : Bool) (n : ℕ) (c : SourceState) : Type 0 where
     pub after : SourceState
     pub ties : Corresponds p w (suc steps) s' after
     pub kinds : List Kind
     pub own : AreOwn kinds
     pub leads : Leads p c (map (act t) kinds) after
+    pub places : Places p t c after done kinds
     pub paced : pauses ≡ false → IsSome kinds ⊎ (left_of ties t < n)
 
   -- states that belong together, with how many steps thread t has left

@@ -7,7 +7,7 @@ use Rattle.locals.specs.Threads.{Thread}
 use Rattle.locals.specs.Looks.{Goes, look}
 use Rattle.machine.specs.States.{State}
 use Rattle.machine.specs.AbstractServing.{shared_of}
-use Rattle.machine.specs.Runs.{Moves, is_paused}
+use Rattle.machine.specs.Runs.{is_paused}
 use Rattle.program.specs.Trees.{Program}
 use Rattle.program.specs.WellFormed.{WellFormed}
 use Rattle.code.specs.Pieces.{code_of}
@@ -29,6 +29,7 @@ use Rattle.templates.specs.Inside.{Template, Enters, Exits, Waits, Notifies, Bro
 use Rattle.templates.specs.Inside.{Fits, SameBefore, first_thread, first_point}
 use Rattle.templates.specs.Templates.{Begins}
 use Rattle.templates.proofs.Begins.{begins}
+use Rattle.product.specs.Placing.{MovesSo}
 use Rattle.product.specs.Standing.{StandsAt, inside}
 use Rattle.product.specs.Ranks.{rank, more_steps, before_template}
 use Rattle.product.specs.Corresponding.{Reached, Corresponds, IsBefore}
@@ -38,7 +39,7 @@ use Rattle.product.proofs.Local.{first_step, goes_local}
 use Rattle.product.proofs.Templating.{inside_step}
 
 module _ (p : Program) (w : WellFormed p) (steps : ℕ) (s : State) (c : SourceState) (k : Corresponds p w steps s c)
-    (t : ℕ) (woken : List ℕ) (pauses : Bool) (s' : State) (n : ℕ) (number : (0 < t) × (t ≤ k.world.made))
+    (t : ℕ) (woken : List ℕ) (done pauses : Bool) (s' : State) (n : ℕ) (number : (0 < t) × (t ≤ k.world.made))
     (few : k.world.made ≤ 64) (awake : k.world.asleep t ≡ None) (paused : pauses ≡ is_paused s' t) where
   -- a thread on the way to the request of its point
   pub inside_any : (kind : Template) (u : Variables) (pt : Point) (left : ℕ) (x y : Thread) → left ≤ template_steps
@@ -46,20 +47,20 @@ module _ (p : Program) (w : WellFormed p) (steps : ℕ) (s : State) (c : SourceS
       → SameBefore kind pt u c.variable → pt ≢ Runs → StandsIn p t kind pt y
       → c.process t ≡ Some (process_at p kind pt) → (k.world.at t).point ≡ pt
       → (k.world.at t).list ≡ list_at kind pt → left + rank (more_steps (build_of p w k.world.made)) k.world pt ≤ n
-      → IsLow k.world.sequence (look (code_of p) t x) → Moves s t woken (look (code_of p) t x) s'
-      → Next p w steps s' t pauses n c
+      → IsLow k.world.sequence (look (code_of p) t x) → MovesSo p done s t woken (look (code_of p) t x) s'
+      → Next p w steps s' t done pauses n c
   inside_any kind u pt left x y small walk fits same ne stands proc point list enough low moves =
       by_step (first_step p (code_of p) t left x y walk)
     where
       by_step : (x ≡ y) ⊎ ((z : Thread) × (m : ℕ) × (look (code_of p) t x ≡ Goes z) × (suc m ≤ left)
-          × StepsWithin (build_of p w k.world.made) t m z y) → Next p w steps s' t pauses n c
+          × StepsWithin (build_of p w k.world.made) t m z y) → Next p w steps s' t done pauses n c
       by_step (inl e) =
-          inside_step p w steps s c k t woken pauses s' n number few awake paused kind u pt y fits same ne stands
+          inside_step p w steps s c k t woken done pauses s' n number few awake paused kind u pt y fits same ne stands
           proc point list (omega (arith, enough))
           (subst (λ (z : Thread). IsLow k.world.sequence (look (code_of p) t z)) e low)
-          (subst (λ (z : Thread). Moves s t woken (look (code_of p) t z) s') e moves)
+          (subst (λ (z : Thread). MovesSo p done s t woken (look (code_of p) t z) s') e moves)
       by_step (inr (z, m, h, le, more)) =
-          goes_local p w steps s c k t woken pauses s' n x z (process_at p kind pt) pt (list_at kind pt) proc point list
+          goes_local p w steps s c k t woken done pauses s' n x z (process_at p kind pt) pt (list_at kind pt) proc point list
           (inside m kind u (omega (arith, le, small)) more fits same ne stands) (omega (arith, le, enough)) h moves
 
 -- the process before a template
@@ -244,15 +245,15 @@ module _ (p : Program) (w : WellFormed p) (steps : ℕ) (s : State) (c : SourceS
       numbers = k.numbers;
     }
 
-    start_step : (low : IsLow k.world.sequence (look (code_of p) t x)) (woken : List ℕ) (pauses : Bool) (s' : State)
-        (n : ℕ) → pauses ≡ is_paused s' t → before_template ≤ n → Moves s t woken (look (code_of p) t x) s'
-        → Next p w steps s' t pauses n c
+    start_step : (low : IsLow k.world.sequence (look (code_of p) t x)) (woken : List ℕ) (done pauses : Bool) (s' : State)
+        (n : ℕ) → pauses ≡ is_paused s' t → before_template ≤ n → MovesSo p done s t woken (look (code_of p) t x) s'
+        → Next p w steps s' t done pauses n c
     unfolding started
-    start_step low woken pauses s' n paused enough moves =
+    start_step low woken done pauses s' n paused enough moves =
         let placed : world.at t ≡ thread_at pt (k.world.at t).list =
         put_same k.world.at t (thread_at pt (k.world.at t).list) in
         let ranked = st.ranked in
-        inside_any p w steps s c started t woken pauses s' n number few awake paused kind c.variable pt
+        inside_any p w steps s c started t woken done pauses s' n number few awake paused kind c.variable pt
         template_steps x bg.thread (omega arith)
         (subst (λ (z : Thread). StepsWithin b t template_steps z bg.thread) (sym is) bg.walk) fits st.same st.ne
         bg.stands now (ap (λ (z : Place). z.point) placed) (ap (λ (z : Place). z.list) placed ∙ st.list)
@@ -261,11 +262,11 @@ module _ (p : Program) (w : WellFormed p) (steps : ℕ) (s : State) (c : SourceS
   -- a thread before a template that does what its process offers
   pub template_step : (kind : Template) (x : Thread) → Fits b c.variable t kind → s.thread t ≡ Some x
       → c.process t ≡ Some (before_of kind) → (k.world.at t).list ≡ holds (before_of kind) → x ≡ first_thread kind
-      → (low : IsLow k.world.sequence (look (code_of p) t x)) (woken : List ℕ) (pauses : Bool) (s' : State) (n : ℕ)
-      → pauses ≡ is_paused s' t → before_template ≤ n → Moves s t woken (look (code_of p) t x) s'
-      → Next p w steps s' t pauses n c
-  template_step kind x fits thread proc list is low woken pauses s' n paused enough moves =
+      → (low : IsLow k.world.sequence (look (code_of p) t x)) (woken : List ℕ) (done pauses : Bool) (s' : State) (n : ℕ)
+      → pauses ≡ is_paused s' t → before_template ≤ n → MovesSo p done s t woken (look (code_of p) t x) s'
+      → Next p w steps s' t done pauses n c
+  template_step kind x fits thread proc list is low woken done pauses s' n paused enough moves =
       let st = starts kind fits list in
       start_step kind x fits thread proc st.0 st.1
-      (begins b c.variable t st.0 kind number.0 (omega (arith, number.1, few)) fits) is low woken pauses s' n paused
+      (begins b c.variable t st.0 kind number.0 (omega (arith, number.1, few)) fits) is low woken done pauses s' n paused
       enough moves

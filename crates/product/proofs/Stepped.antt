@@ -3,7 +3,7 @@
 -- is an action of the process.
 use Rattle.std.proofs.Common.{◌≡◌, ℕ, zero, suc, ◌<◌, ◌≤◌, ◌==◌, Bool, true, false, List, [], ◌∷◌, length, Option, Some}
 use Rattle.std.proofs.Common.{None, refl, ap, sym, ◌∙◌, subst, arith, inl, inr}
-use Rattle.std.specs.Prelude.{◌^◌, if◌then◌else◌}
+use Rattle.std.specs.Prelude.{◌^◌, if◌then◌else◌, is_some}
 use Rattle.words.specs.Updates.{put}
 use Rattle.locals.specs.Threads.{Thread}
 use Rattle.words.specs.Signed.{word_of}
@@ -22,7 +22,7 @@ use Rattle.protocol.specs.Points.{Point, EnterTries, TakeTries, LeaveSwaps, Noti
 use Rattle.protocol.specs.Points.{Walks, ClearsId, Thread as Place, thread_at}
 use Rattle.protocol.specs.World.{World, mem}
 use Rattle.protocol.specs.Steps.{go_list}
-use Rattle.protocol.specs.Carries.{Event, Acts, Strays, Kills, has_died, taking_label, table_after, PermitsMove}
+use Rattle.protocol.specs.Carries.{Event, Acts, Strays, Kills, has_died, taking_label, table_after, PermitsMove, IsByHolder}
 use Rattle.protocol.specs.Exits.{Shares}
 use Rattle.protocol.specs.Answers.{next, next_list}
 use Rattle.protocol.specs.Served.{IsMove, MayAnswer, carried, is_pending, pending_event}
@@ -35,6 +35,8 @@ use Rattle.execution.specs.Variables.{VariablesFit, variable_address}
 use Rattle.refinement.specs.Built.{build_of}
 use Rattle.templates.specs.Layout.{place, valid}
 use Rattle.templates.specs.Templates.{ActsSo}
+use Rattle.deferral.specs.Deferring.{is_quiet}
+use Rattle.product.specs.Placing as P
 use Rattle.product.specs.Standing.{StandsAt}
 use Rattle.product.specs.Ranks.{steps_left}
 use Rattle.product.specs.Corresponding.{Reached, IsBefore, Corresponds}
@@ -43,49 +45,61 @@ use Rattle.product.proofs.Sourcing.{action, acted}
 use Rattle.product.proofs.Worlds.{reached_on, reached_good, shares_at}
 use Rattle.product.proofs.Moving.{Puts, put_puts, same_puts, Next, Follow, moved}
 
+-- an action of a process's own that others learn of
+abbrev IsHeard : Label → Type 0
+IsHeard label = IsOwn (kind_of label) × (is_quiet label ≡ false)
+
 -- what a step carries is an action of a process's own
-if_own : (b : Bool) (u t : ℕ) (l label : Label) → IsOwn (kind_of l) → (if b then Some (Acts t l) else None)
-    ≡ Some (Acts u label) → IsOwn (kind_of label)
-if_own true u t l label own e = let same : l ≡ label = cc in subst (λ (k : Label). IsOwn (kind_of k)) same own
-if_own false u t l label own e = absurd cc
+if_heard : (b : Bool) (u t : ℕ) (l label : Label) → IsHeard l → (if b then Some (Acts t l) else None)
+    ≡ Some (Acts u label) → IsHeard label
+if_heard true u t l label own e = let same : l ≡ label = cc in subst (λ (k : Label). IsHeard k) same own
+if_heard false u t l label own e = absurd cc
 
-taking_own : (k : Purpose) (m : ℕ) (b : Bool) → IsOwn (kind_of (taking_label k m b))
-taking_own ToEnter m b = tt
-taking_own ToReenter m b = tt
-taking_own (ToResume c) m b = tt
+taking_heard : (k : Purpose) (m : ℕ) (b : Bool) → IsHeard (taking_label k m b)
+taking_heard ToEnter m b = (tt, refl)
+taking_heard ToReenter m b = (tt, refl)
+taking_heard (ToResume c) m b = (tt, refl)
 
-pending_own : (t u : ℕ) (x : Entry) (label : Label) → pending_event t x ≡ Some (Acts u label) → IsOwn (kind_of label)
-pending_own t u NoEntry label e = absurd cc
-pending_own t u (Owned m) label e = let same : Abandons m ≡ label = cc
-    in subst (λ (k : Label). IsOwn (kind_of k)) same tt
-pending_own t u (Unowned m) label e = absurd cc
+pending_heard : (t u : ℕ) (x : Entry) (label : Label) → pending_event t x ≡ Some (Acts u label) → IsHeard label
+pending_heard t u NoEntry label e = absurd cc
+pending_heard t u (Owned m) label e = let same : Abandons m ≡ label = cc
+    in subst (λ (k : Label). IsHeard k) same (tt, refl)
+pending_heard t u (Unowned m) label e = absurd cc
 
-one_own : (u t : ℕ) (l label : Label) → IsOwn (kind_of l) → Some (Acts t l) ≡ Some (Acts u label)
-    → IsOwn (kind_of label)
-one_own u t l label own e = let same : l ≡ label = cc in subst (λ (k : Label). IsOwn (kind_of k)) same own
+one_heard : (u t : ℕ) (l label : Label) → IsHeard l → Some (Acts t l) ≡ Some (Acts u label)
+    → IsHeard label
+one_heard u t l label own e = let same : l ≡ label = cc in subst (λ (k : Label). IsHeard k) same own
 
 -- the walk passes an entry over, or abandons it
-walk_own : (b : Bool) (u t m : ℕ) (label : Label) → (if b then None else Some (Acts t (Abandons m)))
-    ≡ Some (Acts u label) → IsOwn (kind_of label)
-walk_own true u t m label e = absurd cc
-walk_own false u t m label e = one_own u t (Abandons m) label tt e
+walk_heard : (b : Bool) (u t m : ℕ) (label : Label) → (if b then None else Some (Acts t (Abandons m)))
+    ≡ Some (Acts u label) → IsHeard label
+walk_heard true u t m label e = absurd cc
+walk_heard false u t m label e = one_heard u t (Abandons m) label (tt, refl) e
+
+carried_heard : (w : World) (T : Table) (t : ℕ) (pt : Point) (r : ℕ) (w' : World) (e : End) (u : ℕ) (label : Label)
+    → carried w T t pt r w' e ≡ Some (Acts u label) → IsHeard label
+carried_heard w T t (EnterTries m) r w' e u label h = if_heard (r == 0) u t _ label (tt, refl) h
+carried_heard w T t (TakeTries m v k) r w' e u label h = if_heard (r == v) u t _ label (taking_heard k m (has_died v)) h
+carried_heard w T t (LeaveSwaps m ToExit) r w' e u label h = one_heard u t _ label (tt, refl) h
+carried_heard w T t (LeaveSwaps m (ToWait c s)) r w' e u label h = one_heard u t _ label (tt, refl) h
+carried_heard w T t (NotifyWakes c) r w' e u label h = one_heard u t _ label (tt, refl) h
+carried_heard w T t (BroadcastMoves c s) r w' e u label h = one_heard u t _ label (tt, refl) h
+carried_heard w T t (JoinReads q) r w' e u label h = if_heard (r == 0) u t _ label (tt, refl) h
+carried_heard w T t (Walks zero x end) r w' e u label h = pending_heard t u x label h
+carried_heard w T t (Walks (suc m) x end) r w' e u label h = walk_heard (is_pending x m) u t m label h
+carried_heard w T t (ClearsId end) r w' e u label h = one_heard u t _ label (tt, refl) h
+carried_heard w T t pt r w' e u label h = absurd cc
 
 carried_own : (w : World) (T : Table) (t : ℕ) (pt : Point) (r : ℕ) (w' : World) (e : End) (u : ℕ) (label : Label)
     → carried w T t pt r w' e ≡ Some (Acts u label) → IsOwn (kind_of label)
-carried_own w T t (EnterTries m) r w' e u label h = if_own (r == 0) u t _ label tt h
-carried_own w T t (TakeTries m v k) r w' e u label h = if_own (r == v) u t _ label (taking_own k m (has_died v)) h
-carried_own w T t (LeaveSwaps m ToExit) r w' e u label h = one_own u t _ label tt h
-carried_own w T t (LeaveSwaps m (ToWait c s)) r w' e u label h = one_own u t _ label tt h
-carried_own w T t (NotifyWakes c) r w' e u label h = one_own u t _ label tt h
-carried_own w T t (BroadcastMoves c s) r w' e u label h = one_own u t _ label tt h
-carried_own w T t (JoinReads q) r w' e u label h = if_own (r == 0) u t _ label tt h
-carried_own w T t (Walks zero x end) r w' e u label h = pending_own t u x label h
-carried_own w T t (Walks (suc m) x end) r w' e u label h = walk_own (is_pending x m) u t m label h
-carried_own w T t (ClearsId end) r w' e u label h = one_own u t _ label tt h
-carried_own w T t pt r w' e u label h = absurd cc
+carried_own w T t pt r w' e u label h = (carried_heard w T t pt r w' e u label h).0
+
+carried_loud : (w : World) (T : Table) (t : ℕ) (pt : Point) (r : ℕ) (w' : World) (e : End) (u : ℕ) (label : Label)
+    → carried w T t pt r w' e ≡ Some (Acts u label) → is_quiet label ≡ false
+carried_loud w T t pt r w' e u label h = (carried_heard w T t pt r w' e u label h).1
 
 module _ (p : Program) (w : WellFormed p) (steps : ℕ) (s : State) (c : SourceState) (k : Corresponds p w steps s c)
-    (t : ℕ) (pauses : Bool) (s' mid : State) (n answer : ℕ) (y : Thread) (q : Process) (pt : Point)
+    (t : ℕ) (done pauses : Bool) (s' mid : State) (n answer : ℕ) (y : Thread) (q : Process) (pt : Point)
     (number : (0 < t) × (t ≤ k.world.made)) (awake : k.world.asleep t ≡ None) (proc : c.process t ≡ Some q)
     (point : (k.world.at t).point ≡ pt) (served : IsServed p s mid k.world t pt answer)
     (same : s' ≡ with_thread mid t y) where
@@ -167,15 +181,20 @@ module _ (p : Program) (w : WellFormed p) (steps : ℕ) (s : State) (c : SourceS
     numbers = λ d. omega (arith, served.numbers d, k.numbers d);
   }
 
-  pub stepped : ((e : End) → MayAnswer pt served.reply → Arrives e) → Next p w steps s' t pauses n c
-  stepped arrives =
+  -- whether it carries an action is what is seen of it
+  pub stepped : ((e : End) → MayAnswer pt served.reply → done ≡ is_some (event e))
+      → ((e : End) → MayAnswer pt served.reply → Arrives e) → Next p w steps s' t done pauses n c
+  stepped shown arrives =
       let a = arrives end is_move.possible in
       by_event (event end) refl permits a.acts
     where
       a : Arrives end
       a = arrives end is_move.possible
 
-      quiet : event end ≡ None → table ≡ c.table → a.process ≡ q → Next p w steps s' t pauses n c
+      seen : done ≡ is_some (event end)
+      seen = shown end is_move.possible
+
+      quiet : event end ≡ None → table ≡ c.table → a.process ≡ q → Next p w steps s' t done pauses n c
       quiet none is stays =
           let m = moved p w steps s c k t s' c y a.process (to end) list (on end)
           (follow c a.process (sym is) refl refl (same_puts c.process t _ (proc ∙ ap Some (sym stays))) a.stands
@@ -187,12 +206,14 @@ module _ (p : Program) (w : WellFormed p) (steps : ℕ) (s : State) (c : SourceS
             kinds = [];
             own = tt;
             leads = refl;
+            places = P.nothing (seen ∙ ap (λ (e : Option Event). is_some e) none) refl;
             paced = λ z. inr (subst (λ (x : ℕ). x < n) (sym m.is) (a.paced none z));
           }
 
       acting : (u : ℕ) (label : Label) → event end ≡ Some (Acts u label) → Allows t label c.table table
-          → TakesUp (offer p c.variable q) label Nothing a.process → Next p w steps s' t pauses n c
-      acting u label e allows takes =
+          → IsByHolder t label c.table
+          → TakesUp (offer p c.variable q) label Nothing a.process → Next p w steps s' t done pauses n c
+      acting u label e allows held takes =
           let c1 = acted c t Nothing a.process table in
           let m = moved p w steps s c k t s' c1 y a.process (to end) list (on end)
           (follow c1 a.process refl refl refl (put_puts c.process t (Some a.process)) a.stands a.listed a.blank) in
@@ -202,13 +223,16 @@ module _ (p : Program) (w : WellFormed p) (steps : ℕ) (s : State) (c : SourceS
             kinds = kind_of label ∷ [];
             own = (carried_own k.world c.table t pt served.reply served.after end u label e, tt);
             leads = (c1, action p c t q a.process label Nothing table proc takes allows, refl);
+            places = P.acts _ _ label Nothing table (seen ∙ ap (λ (i : Option Event). is_some i) e)
+                (carried_loud k.world c.table t pt served.reply served.after end u label e) proc takes allows held refl;
             paced = λ z. inl tt;
           }
 
       by_event : (e : Option Event) → event end ≡ e → PermitsMove e c.table table → ActsSo p c.variable t e q a.process
-          → Next p w steps s' t pauses n c
+          → Next p w steps s' t done pauses n c
       by_event None h is stays = quiet h is stays
       by_event (Some (Acts u label)) h allows acts =
-          acting u label h (subst (λ i. Allows i label c.table table) acts.0 allows.0) acts.1
+          acting u label h (subst (λ i. Allows i label c.table table) acts.0 allows.0)
+          (subst (λ i. IsByHolder i label c.table) acts.0 allows.1) acts.1
       by_event (Some (Strays u x)) h allows acts = absurd acts
       by_event (Some (Kills u x us)) h allows acts = absurd acts

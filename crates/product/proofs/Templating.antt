@@ -6,7 +6,7 @@ use Rattle.std.proofs.lemmas.Bool.{or_right, cases_eq, ne_eqb}
 use Rattle.locals.specs.Threads.{Thread}
 use Rattle.locals.specs.Looks.{Look, Asks, look}
 use Rattle.machine.specs.States.{State, with_thread}
-use Rattle.machine.specs.Runs.{Moves, is_paused, has_ended}
+use Rattle.machine.specs.Runs.{is_paused, has_ended}
 use Rattle.program.specs.Trees.{Program}
 use Rattle.program.specs.WellFormed.{WellFormed}
 use Rattle.code.specs.Pieces.{code_of}
@@ -39,12 +39,15 @@ use Rattle.templates.specs.Asking.{told, template_steps}
 use Rattle.templates.specs.Inside.{Template, process_at, list_at, StandsIn, Fits, SameBefore, IsSteady}
 use Rattle.templates.specs.Templates.{Follows, StandsOn}
 use Rattle.templates.proofs.Follows.{follows}
+use Rattle.product.specs.Placing.{MovesSo, completes}
 use Rattle.product.specs.Standing.{IsAtWork, StandsAt, works, inside}
 use Rattle.product.specs.Ranks.{rank, steps_left, more_steps, before_template}
 use Rattle.product.specs.Corresponding.{Corresponds, IsBefore}
 use Rattle.product.specs.Serving.{IsServed}
 use Rattle.product.proofs.Keeping.{kept_monitors}
 use Rattle.product.proofs.Worlds.{reached_good}
+use Rattle.templates.proofs.Layouts.{number_is}
+use Rattle.product.proofs.Completions.{point_completes, listed_at}
 use Rattle.product.proofs.Moving.{IsLow, Next}
 use Rattle.product.proofs.Stepped.{Arrives, stepped}
 use Rattle.product.proofs.Serving.{served}
@@ -109,7 +112,7 @@ awake_at at a None e h = refl
 awake_at at a (Some x) e h = absurd (cc (e, h))
 
 module _ (p : Program) (w : WellFormed p) (steps : ℕ) (s : State) (c : SourceState) (k : Corresponds p w steps s c)
-    (t : ℕ) (woken : List ℕ) (pauses : Bool) (s' : State) (n : ℕ) (number : (0 < t) × (t ≤ k.world.made))
+    (t : ℕ) (woken : List ℕ) (done pauses : Bool) (s' : State) (n : ℕ) (number : (0 < t) × (t ≤ k.world.made))
     (few : k.world.made ≤ 64) (awake : k.world.asleep t ≡ None) (paused : pauses ≡ is_paused s' t) where
   abbrev b : Build
   b = build_of p w k.world.made
@@ -128,7 +131,7 @@ module _ (p : Program) (w : WellFormed p) (steps : ℕ) (s : State) (c : SourceS
     goes = follows b u t kind (is_build p w k.world.made) number.0 (omega (arith, number.1, few)) fits pt x ne stands
 
     module _ (answer : ℕ) (mid : State) (sv : IsServed p s mid k.world t pt answer)
-        (e' : s' ≡ with_thread mid t (goes.go answer)) where
+        (e' : s' ≡ with_thread mid t (goes.go answer)) (seen : done ≡ completes p goes.asks answer) where
       abbrev y : Thread
       y = goes.go (told p (request t pt) sv.reply)
 
@@ -136,7 +139,7 @@ module _ (p : Program) (w : WellFormed p) (steps : ℕ) (s : State) (c : SourceS
       came = e' ∙ ap (λ a. with_thread mid t (goes.go a)) sv.told
 
       abbrev Arrives' : End → Type 0
-      Arrives' e = Arrives p w steps s c k t pauses s' mid n answer y (process_at p kind pt) pt number awake proc
+      Arrives' e = Arrives p w steps s c k t done pauses s' mid n answer y (process_at p kind pt) pt number awake proc
           point sv
           came e
 
@@ -211,14 +214,21 @@ module _ (p : Program) (w : WellFormed p) (steps : ℕ) (s : State) (c : SourceS
             paced = now.1;
           }
 
-      answered : Next p w steps s' t pauses n c
-      answered = stepped p w steps s c k t pauses s' mid n answer y (process_at p kind pt) pt number awake proc point sv
-          came arrives
+      shown : (e : End) → MayAnswer pt sv.reply
+          → done ≡ is_some (carried k.world c.table t pt sv.reply sv.after e)
+      shown e may = seen ∙ ap (λ a. completes p goes.asks a) sv.told
+          ∙ point_completes p k.world c.table t pt sv.reply sv.after e (k.world.at t).list goes.asks
+          (number_is t number.0 (omega (arith, number.1, few))) (listed_at k.world c.table t pt inv point) may
+          within.askable goes.same
 
-    pub inside_step : IsLow k.world.sequence (look (code_of p) t x) → Moves s t woken (look (code_of p) t x) s'
-        → Next p w steps s' t pauses n c
+      answered : Next p w steps s' t done pauses n c
+      answered = stepped p w steps s c k t done pauses s' mid n answer y (process_at p kind pt) pt number awake proc point sv
+          came shown arrives
+
+    pub inside_step : IsLow k.world.sequence (look (code_of p) t x) → MovesSo p done s t woken (look (code_of p) t x) s'
+        → Next p w steps s' t done pauses n c
     inside_step low moves =
-        let g : Moves s t woken (Asks goes.asks goes.go) s' = subst (λ (l : Look). Moves s t woken l s') goes.look
+        let g : MovesSo p done s t woken (Asks goes.asks goes.go) s' = subst (λ (l : Look). MovesSo p done s t woken l s') goes.look
         moves in
         answered g.0 g.1 (served p s k.world c.table t pt goes.asks woken g.0 g.1 k.shares inv number.0
-        (omega (arith, number.1, few)) (low goes.asks goes.go goes.look) within.askable goes.same g.2) g.3
+        (omega (arith, number.1, few)) (low goes.asks goes.go goes.look) within.askable goes.same g.2) g.3 g.4

@@ -25,6 +25,7 @@ use Rattle.product.proofs.Sourcing.{act}
 use Rattle.product.proofs.Worlds.{put_put}
 use Rattle.product.proofs.Local.{put_again}
 use Rattle.product.proofs.Moving.{AreOwn, left_of}
+use Rattle.product.proofs.Completions.{told_apart}
 use Rattle.product.proofs.Stepping.{next}
 use Rattle.product.proofs.Bounds.{left_few, left_short}
 use Rattle.product.proofs.Paces.{Trail, rests, goes, keeps_pace}
@@ -86,7 +87,8 @@ module _ (p : Program) (w : WellFormed p) where
   come taken s c k [] s' short run = subst (λ (x : State). Come s c (left_of p w k) [] x) run
       (record { taken = taken; source = c; ties = k; actions = []; own = tt; leads = refl; trail = rests })
   come taken s c k (l ∷ ls) s' short run =
-      let n = next p w taken s c k l run.0 run.1
+      let so = told_apart p s l.thread l.woken (look (code_of p) l.thread run.1.thread) run.0 run.1.moves in
+      let n = next p w taken s c k l run.0 run.1 so.0 so.1
       (λ request go e d. let few = k.numbers d in omega (arith, few, short)) in
       let r = come (suc taken) run.0 n.after n.ties ls s' (omega (arith, short)) run.2 in
       record {
@@ -118,8 +120,9 @@ module _ (p : Program) (w : WellFormed p) where
         moves = subst (λ (l : Look). Moves mid t [] l after) (sym h) (refl, refl);
         pauses = refl;
       } in
+      let so = told_apart p mid t [] (look (code_of p) t m) after step.moves in
       let n = next p w r.taken mid r.source r.ties (record { thread = t; woken = []; pauses = is_paused after t }) after
-      step (λ request go e d. absurd (cc (h, e))) in
+      step so.0 so.1 (λ request go e d. absurd (cc (h, e))) in
       record {
         taken = suc r.taken;
         source = n.after;

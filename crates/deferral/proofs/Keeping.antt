@@ -1,0 +1,80 @@
+-- What waits of a process may wait behind the actions of others too.
+use Rattle.std.proofs.Common.{◌≡◌, ℕ, ◌+◌, ◌≤◌, true, List, [], ◌∷◌, Option, Some, None, refl, sym, ap}
+use Rattle.std.proofs.Common.{◌∙◌, subst, arith}
+use Rattle.std.proofs.lemmas.Bool.{false≢true}
+use Rattle.words.specs.Limits.{most_processes}
+use Rattle.program.specs.Trees.{Program}
+use Rattle.meaning.specs.Values.{Variables}
+use Rattle.meaning.specs.Labels.{Kind, Label, Alone, Stores, Forks, FindsFull, Claims, FindsClaimed, Joins, Enters}
+use Rattle.meaning.specs.Labels.{Resumes, Exits, Waits, Notifies, Broadcasts, Abandons, Ends}
+use Rattle.meaning.specs.Table.{Table, HeldBy, Allows}
+use Rattle.meaning.specs.Processes.{Process}
+use Rattle.deferral.specs.Deferring.{is_quiet, SameHeld, MayWait, Wait, WaitAt}
+use Rattle.deferral.proofs.Puts.{at_put}
+
+-- the process table stays full, and what is claimed stays claimed
+pub record Grows (T T' : Table) : Type 0 where
+  pub full : most_processes ≤ T.made → most_processes ≤ T'.made
+  pub claimed : (child : ℕ) → T.claimed child ≡ true → T'.claimed child ≡ true
+
+same_grows : (T T' : Table) → T'.made ≡ T.made → T'.claimed ≡ T.claimed → Grows T T'
+same_grows T T' made claimed = record {
+  full = λ h. subst (λ n. most_processes ≤ n) (sym made) h;
+  claimed = λ child h. subst (λ f. f child ≡ true) (sym claimed) h;
+}
+
+pub grows : (t : ℕ) (label : Label) (T T' : Table) → Allows t label T T' → Grows T T'
+grows t (Forks child) T T' a = record {
+  full = λ h. subst (λ X. most_processes ≤ X.made) (sym a.2) (let g : most_processes ≤ T.made + 1 = omega (arith, h) in g);
+  claimed = λ other h. subst (λ X. X.claimed other ≡ true) (sym a.2) h;
+}
+grows t (Claims child) T T' a = record {
+  full = λ h. subst (λ X. most_processes ≤ X.made) (sym a.1) h;
+  claimed = λ other h. subst (λ X. X.claimed other ≡ true) (sym a.1)
+      (at_put T.claimed child true other (λ b. b ≡ true) (λ e. refl) (λ o. h));
+}
+grows t (Alone kind) T T' a = same_grows T T' (ap (λ X. X.made) a) (ap (λ X. X.claimed) a)
+grows t (Stores m) T T' a = same_grows T T' (ap (λ X. X.made) a) (ap (λ X. X.claimed) a)
+grows t FindsFull T T' a = same_grows T T' (ap (λ X. X.made) a.1) (ap (λ X. X.claimed) a.1)
+grows t (FindsClaimed child) T T' a = same_grows T T' (ap (λ X. X.made) a.1) (ap (λ X. X.claimed) a.1)
+grows t (Joins child end) T T' a = same_grows T T' (ap (λ X. X.made) a.1) (ap (λ X. X.claimed) a.1)
+grows t (Enters m w) T T' a = same_grows T T' (ap (λ X. X.made) a.1) (ap (λ X. X.claimed) a.1)
+grows t (Resumes m w) T T' a = same_grows T T' (ap (λ X. X.made) a.2) (ap (λ X. X.claimed) a.2)
+grows t (Exits m) T T' a = same_grows T T' (ap (λ X. X.made) a) (ap (λ X. X.claimed) a)
+grows t (Waits c) T T' a = same_grows T T' (ap (λ X. X.made) a) (ap (λ X. X.claimed) a)
+grows t (Notifies c resumed) T T' a = same_grows T T' (ap (λ X. X.made) a.1) (ap (λ X. X.claimed) a.1)
+grows t (Broadcasts c resumed) T T' a = same_grows T T' (ap (λ X. X.made) a.1) (ap (λ X. X.claimed) a.1)
+grows t (Abandons m) T T' a = same_grows T T' (ap (λ X. X.made) a) (ap (λ X. X.claimed) a)
+grows t (Ends end) T T' a = same_grows T T' (ap (λ X. X.made) a) (ap (λ X. X.claimed) a)
+
+quiet_allowed : (u : ℕ) (label : Label) (T T' : Table) → is_quiet label ≡ true → Grows T T' → Allows u label T T
+    → Allows u label T' T'
+quiet_allowed u (Alone kind) T T' quiet g a = refl
+quiet_allowed u FindsFull T T' quiet g a = (g.full a.0, refl)
+quiet_allowed u (FindsClaimed child) T T' quiet g a = (g.claimed child a.0, refl)
+quiet_allowed u other T T' quiet g a = absurd (false≢true quiet)
+
+-- of a process that keeps its monitors, and the values in them
+pub record Stays (u : ℕ) (v v' : Variables) (T T' : Table) : Type 0 where
+  pub grows : Grows T T'
+  pub held : (m : ℕ) → T.hold m ≡ HeldBy u → T'.hold m ≡ HeldBy u
+  pub same : SameHeld u T v v'
+
+module _ (p : Program) (u : ℕ) (v v' : Variables) (T T' : Table) (s : Stays u v v' T T') where
+  may_still : (q r : Process) (label : Label) → MayWait p u v T q label r → MayWait p u v' T' q label r
+  may_still q r label may = record {
+    quiet = may.quiet;
+    takes = λ v'' also. may.takes v'' (λ m is n i. s.same m is n i ∙ also m (s.held m is) n i);
+    allows = quiet_allowed u label T T' may.quiet s.grows may.allows;
+    goes_on = may.goes_on;
+  }
+
+  waits_still : (ks : List Kind) (q r : Process) → Wait p u v T ks q r → Wait p u v' T' ks q r
+  waits_still [] q r w = w
+  waits_still (k ∷ ks) q r w = (w.0, w.1, w.2, may_still q w.1 w.0 w.3, waits_still ks w.1 r w.4)
+
+  pub at_still : (ks : List Kind) (x y : Option Process) → WaitAt p u v T ks x y → WaitAt p u v' T' ks x y
+  at_still ks None None w = w
+  at_still ks None (Some r) w = absurd w
+  at_still ks (Some q) None w = absurd w
+  at_still ks (Some q) (Some r) w = waits_still ks q r w

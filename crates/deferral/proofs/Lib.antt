@@ -1,0 +1,4 @@
+pub mod Puts
+pub mod Waiting
+pub mod Keeping
+pub mod Behind

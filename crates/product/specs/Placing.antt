@@ -1,0 +1,98 @@
+-- Where the actions of the source stand among the steps of the machine.
+use Rattle.std.specs.Prelude.{ℕ, zero, suc, ◌≡◌, ◌==◌, ◌&&◌, ◌||◌, not, Bool, true, false, List, [], ◌∷◌, length, Option}
+use Rattle.std.specs.Prelude.{Some}
+use Rattle.words.specs.Updates.{put}
+use Rattle.words.specs.Process.{process_word}
+use Rattle.words.specs.Limits.{most_processes}
+use Rattle.robustexit.specs.declared.phase.ExitPhase.{ExitPhase}
+use Rattle.robustexit.specs.declared.phase.ExitPhase.TheVariants.{Entry, Pending, ClearId, LastWake, Ended}
+use Rattle.robustexit.specs.RobustExit.{Shared, ExitStep}
+use Rattle.locals.specs.Threads.{Thread, Exits}
+use Rattle.locals.specs.Looks.{Request, Look, Goes, Asks, Leaves, Breaks, Rests, AskLoad, AskStore, AskSwap}
+use Rattle.locals.specs.Looks.{AskCompareSwap, AskFork, AskPrint, AskWake, AskRequeue}
+use Rattle.machine.specs.States.{State, with_thread}
+use Rattle.machine.specs.AbstractServing.{Serves, shared_of, with_shared}
+use Rattle.program.specs.Trees.{Program}
+use Rattle.code.specs.Layout.{link_word, lock_word_address}
+use Rattle.meaning.specs.Labels.{Kind, Action, Label, kind_of}
+use Rattle.meaning.specs.Table.{Table, Allows}
+use Rattle.meaning.specs.Processes.{Process}
+use Rattle.meaning.specs.Offers.{Effect, Nothing, offer, TakesUp}
+use Rattle.meaning.specs.States.{SourceState, variables_after, printed_after, processes_after}
+use Rattle.deferral.specs.Deferring.{is_quiet, MayWait}
+use Rattle.protocol.specs.Word.{owner}
+use Rattle.protocol.specs.Carries.{IsByHolder}
+
+-- the test holds of a number below this one
+abbrev pub any_below : ℕ → (ℕ → Bool) → Bool
+any_below zero test = false
+any_below (suc n) test = test n || any_below n test
+
+-- the address is that of the k-th word of a process
+abbrev pub is_process_word : ℕ → ℕ → Bool
+is_process_word k a = any_below most_processes (λ n. process_word (suc n) k == a)
+
+-- the address is that of a monitor's link word, or of its lock word
+abbrev pub is_link_word : Program → ℕ → Bool
+is_link_word p a = any_below (length p.monitors) (λ m. link_word p m == a)
+
+abbrev pub is_lock_word : Program → ℕ → Bool
+is_lock_word p a = any_below (length p.monitors) (λ m. lock_word_address p m == a)
+
+-- whether the answer to a request is that of an action which others learn of: a free lock is taken (all that is compared
+-- and swapped is a lock word); a lock is given up (all that a 0 is swapped into is one), or a process claimed; an id word
+-- is read as 0; a variable is stored, which is all that is stored but list heads, pending words and links; a condition's
+-- word is woken, or all that sleep on it are moved; a number is printed; a process is made
+abbrev pub completes : Program → Request → (answer : ℕ) → Bool
+completes p (AskCompareSwap a expected new) r = (r == expected) && (owner expected == 0)
+completes p (AskSwap a v) r = (v == 0) || (r == 0)
+completes p (AskLoad a) r = is_process_word 2 a && (r == 0)
+completes p (AskStore a v) r = not (is_process_word 0 a) && not (is_process_word 1 a) && not (is_link_word p a)
+completes p (AskWake a n) r = not (is_lock_word p a)
+completes p (AskRequeue a b n m expected) r = true
+completes p (AskPrint number) r = true
+completes p (AskFork entry arguments has_room) r = not (r == 0)
+completes p request r = false
+
+-- whether a step of an exit is one: a monitor is abandoned, or the id word cleared
+abbrev pub completes_exit : ExitPhase → Bool
+completes_exit (Entry entry seen) = true
+completes_exit Pending = false
+completes_exit ClearId = true
+completes_exit LastWake = false
+completes_exit Ended = false
+
+-- what a thread that looks so does in one step, and whether that is an action which others learn of
+abbrev pub MovesSo : Program → Bool → State → ℕ → List ℕ → Look → State → Type 0
+MovesSo p done s t woken (Goes x) s' = (woken ≡ []) × (s' ≡ with_thread s t x) × (done ≡ false)
+MovesSo p done s t woken (Asks request go) s' =
+    (answer : ℕ) × (mid : State) × Serves t request s woken answer mid × (s' ≡ with_thread mid t (go answer))
+    × (done ≡ completes p request answer)
+MovesSo p done s t woken (Leaves phase) s' =
+    (after : Shared) × (next : ExitPhase) × ExitStep s.size t phase (shared_of s) woken after next
+    × (s' ≡ with_thread (with_shared s after) t (Exits next)) × (done ≡ completes_exit phase)
+MovesSo p done s t woken Breaks s' = ⊥
+MovesSo p done s t woken Rests s' = ⊥
+
+abbrev pub act : ℕ → Kind → Action
+act t k = record { process = t; kind = k }
+
+-- the state after an action
+abbrev pub acted : SourceState → ℕ → Effect → Process → Table → SourceState
+acted c t effect r T = record {
+  table = T;
+  variable = variables_after effect c.variable;
+  printed = printed_after effect c.printed;
+  process = put (processes_after effect c.process) t (Some r);
+}
+
+-- what process t does in the source by a step of its thread: nothing; an action that may wait; or, just where the step
+-- is an action which others learn of, that
+pub data Places (p : Program) (t : ℕ) (c c' : SourceState) (done : Bool) : List Kind → Type 0 where
+  nothing : done ≡ false → c' ≡ c → Places p t c c' done []
+  waits : (q r : Process) (label : Label) → done ≡ false → c.process t ≡ Some q
+      → MayWait p t c.variable c.table q label r → c' ≡ acted c t Nothing r c.table
+      → Places p t c c' done (kind_of label ∷ [])
+  acts : (q r : Process) (label : Label) (effect : Effect) (T : Table) → done ≡ true → is_quiet label ≡ false
+      → c.process t ≡ Some q → TakesUp (offer p c.variable q) label effect r → Allows t label c.table T
+      → IsByHolder t label c.table → c' ≡ acted c t effect r T → Places p t c c' done (kind_of label ∷ [])
