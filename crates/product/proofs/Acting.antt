@@ -204,7 +204,7 @@ module _ (p : Program) (w : WellFormed p) (steps : ℕ) (s : State) (c : SourceS
         → ((m : ℕ) → VariablesFit k.world.made p m (variables_after effect c.variable))
         → ((u m : ℕ) → u ≢ t → HasNow k.world u m → (i j : ℕ)
         → c.variable m i j ≡ variables_after effect c.variable m i j)
-        → Places p t c (acted c t effect r c.table) done (kind_of label ∷ [])
+        → Places p (with_thread mid t y) t c (acted c t effect r c.table) done (kind_of label ∷ [])
         → s' ≡ with_thread mid t y → Next p w steps s' t done pauses n c
     does mid label effect y r takes alone mine others kept stands size made thread output shares variables fit same places
         e =
@@ -280,7 +280,8 @@ module _ (p : Program) (w : WellFormed p) (steps : ℕ) (s : State) (c : SourceS
           does (record s { output = s.output ++ z ∷ [] }) (Alone (L.Print z)) (Writes z) (go g.0) r takes tt tt refl
           (held_of (holds q) r (work.keeps (Alone (L.Print z)) (Writes z) r tt takes)) (stands g.0) refl refl refl
           (ap (λ (zs : List ℤ). zs ++ z ∷ []) k.output) k.shares k.variables k.fit (λ u m d i j e. refl)
-          (acts _ _ (Alone (L.Print z)) (Writes z) c.table g.4 refl proc takes refl tt refl)
+          (acts _ _ (Alone (L.Print z)) (Writes z) c.table g.4 refl proc takes refl tt
+          (λ m j i other. refl) tt refl)
           (g.3 ∙ ap (λ (m : State). with_thread m t (go g.0)) g.2.1.1)
 
       module _ (m : Member) (i : ℕ) (z : ℤ) (first : HasFirst q m.monitor) (is : IsVariable p m i)
@@ -346,10 +347,12 @@ module _ (p : Program) (w : WellFormed p) (steps : ℕ) (s : State) (c : SourceS
             let g : MovesSo p done s t woken (Asks (AskStore a (word_of z)) go) s' =
             subst (λ (l : Look). MovesSo p done s t woken l s') h moves in
             let effect = Puts' m.monitor m.number i z in
+            let mine = holder p w steps s c k t number awake point m.monitor listed in
             let takes = takes_up (Stores m.monitor) effect r o in
             does (with_word s a (word_of z)) (Stores m.monitor) effect (go g.0) r takes listed tt refl
             (held_of (holds q) r (work.keeps (Stores m.monitor) effect r tt takes)) (stands g.0) refl refl refl k.output
             stored_shares stored_words stored_fit stored_same
             (acts _ _ (Stores m.monitor) effect c.table (g.4 ∙ variable_stored p m i (word_of z) g.0 is) refl proc takes refl
-            (holder p w steps s c k t number awake point m.monitor listed) refl)
+            mine (λ d j a other. variable_at (λ (v : ℤ). v ≡ c.variable d j a) c.variable m.monitor m.number i z d j a
+            (λ e f h. absurd (other (ap c.table.hold e ∙ mine))) (λ no. refl)) tt refl)
             (g.3 ∙ ap (λ (e : State). with_thread e t (go g.0)) g.2.1.1.1)

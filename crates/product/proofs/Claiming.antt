@@ -61,7 +61,7 @@ module _ (p : Program) (w : WellFormed p) (steps : ℕ) (s : State) (c : SourceS
       → IsOwn (kind_of label) → l ≡ holds q → StandsAt b c.variable t (Some y) (Some r) pt l
       → Shares (place p) (valid p) (shared_of mid) w2 → Keeps p s mid → w2.made ≡ k.world.made
       → w2.at ≡ k.world.at → w2.result ≡ k.world.result → w2.sequence ≡ k.world.sequence
-      → Places p t c (acted c t Nothing r (table_after k.world c.table t move)) done (kind_of label ∷ [])
+      → Places p (with_thread mid t y) t c (acted c t Nothing r (table_after k.world c.table t move)) done (kind_of label ∷ [])
       → s' ≡ with_thread mid t y → Next p w steps s' t done pauses n c
   starts move label mid w2 y r pt l can comes carries takes own has stands shares keeps made at result sequence places
       same =
@@ -172,7 +172,8 @@ module _ (p : Program) (w : WellFormed p) (steps : ℕ) (s : State) (c : SourceS
             had.0 (reads join_steps (omega arith) (record { some = some; made = below; last = had.1 }) j free)
             shares keeps refl refl refl refl
             (acts _ _ (Claims child) Nothing _ (g.4 ∙ ap (λ (i : ℕ). i == 0) (answer ∙ z)) refl proc takes
-            ((permitted k.world c.table t (Claim child) inv (free_to_claim z)).0) tt refl) (same 0 z)
+            ((permitted k.world c.table t (Claim child) inv (free_to_claim z)).0) tt (λ m j i other. refl) tt refl)
+            (same 0 z)
 
         refused : k.world.claim child ≢ 0 → Next p w steps s' t done pauses n c
         refused z = by_word (k.world.claim child) refl

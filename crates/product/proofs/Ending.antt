@@ -100,7 +100,7 @@ module _ (p : Program) (w : WellFormed p) (steps : ℕ) (s : State) (c : SourceS
       → mid.word (variable_address p m i) ≡ s.word (variable_address p m i))
       → w2.at ≡ k.world.at → ((u : ℕ) → w2.result u < 2 ^ 32) → ((u : ℕ) → u ≢ t → w2.result u ≡ k.world.result u)
       → w2.sequence ≡ k.world.sequence → Puts c.process f t (Some (ending end l)) → AreOwn kinds
-      → Leads p c (map (act t) kinds) (record c { process = f }) → Places p t c (record c { process = f }) done kinds
+      → Leads p c (map (act t) kinds) (record c { process = f }) → Places p s' t c (record c { process = f }) done kinds
       → IsSome kinds ⊎ (3 < n)
       → s' ≡ with_thread mid t (Exits phase) → Next p w steps s' t done pauses n c
   begins_exit end mid w2 f kinds ends chain reached shares size made same_made output thread words at results others
@@ -140,7 +140,7 @@ module _ (p : Program) (w : WellFormed p) (steps : ℕ) (s : State) (c : SourceS
         kinds = kinds;
         own = own;
         leads = leads;
-        places = places;
+        places = subst (λ (x : State). Places p x t c (record c { process = f }) done kinds) same places;
         paced = λ z. elim paced [
           | inl h ↦ inl h
           | inr h ↦ inr (omega (arith, less, m.is, h))
@@ -166,7 +166,7 @@ module _ (p : Program) (w : WellFormed p) (steps : ℕ) (s : State) (c : SourceS
       → Reached (record k.world { at = at }) c.table → (at t).point ≡ Dies (Faulted fault) NoEntry → (at t).list ≡ l
       → ((y : Place) → put at t y ≡ put k.world.at t y) → Chain k.world.link first l
       → Puts c.process f t (Some (Dying (Faulted fault) l)) → AreOwn kinds
-      → Leads p c (map (act t) kinds) (record c { process = f }) → Places p t c (record c { process = f }) done kinds
+      → Leads p c (map (act t) kinds) (record c { process = f }) → Places p s' t c (record c { process = f }) done kinds
       → IsSome kinds ⊎ (3 < n)
       → MovesSo p done s t woken (look (code_of p) t (Dies' fault)) s' → Next p w steps s' t done pauses n c
   by_fault fault at f kinds reached stands list same chain ps own leads places paced g =
@@ -262,7 +262,7 @@ module _ (p : Program) (w : WellFormed p) (steps : ℕ) (s : State) (c : SourceS
       → Reached (record k.world { at = at }) c.table → (at t).point ≡ Runs → (at t).list ≡ l
       → ((y : Place) → put at t y ≡ put k.world.at t y) → (k.world.at t).point ≡ Runs
       → Puts c.process f t (Some (Leaving (left_value r))) → AreOwn kinds
-      → Leads p c (map (act t) kinds) (record c { process = f }) → Places p t c (record c { process = f }) done kinds
+      → Leads p c (map (act t) kinds) (record c { process = f }) → Places p s' t c (record c { process = f }) done kinds
       → IsSome kinds ⊎ (3 < n)
       → MovesSo p done s t woken (Asks (return_request r) first_exit) s' → Next p w steps s' t done pauses n c
   by_return r at f kinds fits none reached stands list same point ps own leads places paced g =

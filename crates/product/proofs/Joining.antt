@@ -51,6 +51,7 @@ use Rattle.product.specs.Corresponding.{Corresponds, IsBefore}
 use Rattle.product.specs.Serving.{IsServed, IsAskable}
 use Rattle.product.proofs.Worlds.{reached_good}
 use Rattle.product.proofs.Completions.{point_completes, listed_at}
+use Rattle.product.proofs.Resumed.{who_resumes}
 use Rattle.product.proofs.Moving.{IsLow, Next}
 use Rattle.product.proofs.Stepped.{Arrives, stepped}
 use Rattle.product.proofs.Serving.{served}
@@ -170,7 +171,9 @@ module _ (p : Program) (w : WellFormed p) (steps : ℕ) (s : State) (c : SourceS
 
       went : done ≡ completes p asks answer → ((e : End) → Goes e) → Next p w steps s' t done pauses n c
       went seen goes = stepped p w steps s c k t done pauses s' mid n answer y q pt number awake proc point sv came
-          (shown seen) (arrives goes)
+          (shown seen)
+          (λ e u label h. who_resumes p s' k.world c.table t pt sv.reply sv.after e u label inv.made
+          (λ v. ap (λ (x : State). x.asleep v) came ∙ sv.shares.sleeps v) sv.shares.spots askable h) (arrives goes)
 
     join_step : ((answer : ℕ) (mid : State) (sv : IsServed p s mid k.world t pt answer)
         (e' : s' ≡ with_thread mid t (go answer)) (e : End) → Goes answer mid sv e' e)

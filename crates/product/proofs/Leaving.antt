@@ -9,7 +9,7 @@ use Rattle.machine.specs.States.{State}
 use Rattle.program.specs.Trees.{Program}
 use Rattle.program.specs.WellFormed.{WellFormed}
 use Rattle.code.specs.Pieces.{code_of}
-use Rattle.meaning.specs.Labels.{End, Ended, Aborted, Abandons, Ends}
+use Rattle.meaning.specs.Labels.{End, Ended, Aborted, Label, Abandons, Ends}
 use Rattle.meaning.specs.Values.{Variables}
 use Rattle.meaning.specs.Processes.{Process, Dying, Over}
 use Rattle.meaning.specs.Offers.{Does, Nothing, Offer, offer, TakesUp}
@@ -21,7 +21,7 @@ use Rattle.protocol.specs.Exits.{PhaseIs}
 use Rattle.protocol.proofs.Good.{Good}
 use Rattle.refinement.specs.Built.{build_of}
 use Rattle.templates.specs.Layout.{place, valid}
-use Rattle.product.specs.Placing.{MovesSo, completes_exit}
+use Rattle.product.specs.Placing.{MovesSo, completes_exit, Resumes}
 use Rattle.product.specs.Standing.{StandsAt, walks, clears, wakes, rests, ending, IsEnding, entries_seen}
 use Rattle.product.specs.Ranks.{steps_left}
 use Rattle.product.specs.Corresponding.{Corresponds}
@@ -90,6 +90,7 @@ module _ (p : Program) (w : WellFormed p) (steps : ℕ) (s : State) (c : SourceS
       stepped p w steps s c k t done pauses s' on.mid n 0 (Exits on.later) (ending end l) (Walks zero NoEntry end) number
       awake
       proc point on.served on.same (λ e may. g.4 ∙ ap completes_exit is)
+      (λ e u label h. absurd cc)
       (λ e may.
       let st = at_phase on.later ClearId (ending end []) (ClearsId end) l 2 on.served.after.made (on.phase e) clears
       (λ world. refl) in
@@ -112,6 +113,7 @@ module _ (p : Program) (w : WellFormed p) (steps : ℕ) (s : State) (c : SourceS
       let does = abandons end m ends first in
       stepped p w steps s c k t done pauses s' on.mid n 0 (Exits on.later) (ending end l) (Walks (suc m) NoEntry end) number
       awake proc point on.served on.same (λ e may. g.4 ∙ ap completes_exit is.1.1)
+      (λ e u label h. let same : Abandons m ≡ label = cc in subst (λ (i : Label). Resumes p s' c.table i) same tt)
       (λ e may. record {
         process = ending end (tail l);
         acts = (refl, does.0);
@@ -129,6 +131,7 @@ module _ (p : Program) (w : WellFormed p) (steps : ℕ) (s : State) (c : SourceS
       (ClearsId end) ClearId woken s' tt point (k.lists t) refl tt (plainly p done s t woken (Leaves ClearId) s' moves) in
       stepped p w steps s c k t done pauses s' on.mid n 0 (Exits on.later) (ending end []) (ClearsId end) number awake
       proc point on.served on.same (λ e may. moves.4)
+      (λ e u label h. let same : Ends end ≡ label = cc in subst (λ (i : Label). Resumes p s' c.table i) same tt)
       (λ e may.
       let st = at_phase on.later LastWake (Over end) (LastWakes end) l 1 on.served.after.made (on.phase e) wakes
       (λ world. refl) in
@@ -154,6 +157,7 @@ module _ (p : Program) (w : WellFormed p) (steps : ℕ) (s : State) (c : SourceS
       in
       stepped p w steps s c k t done pauses s' on.mid n 0 (Exits on.later) (Over end) (LastWakes end) number awake
       proc point on.served on.same (λ e may. moves.4)
+      (λ e u label h. absurd cc)
       (λ e may.
       let st = at_phase on.later Ended' (Over end) (HasEnded end) l 0 on.served.after.made (on.phase e) rests
       (λ world. refl) in

@@ -3,6 +3,7 @@ pub mod Worlds
 pub mod Sourcing
 pub mod Moving
 pub mod Completions
+pub mod Resumed
 pub mod Deferred
 pub mod Stepped
 pub mod Pigeons
@@ -28,3 +29,4 @@ pub mod Joining
 pub mod Making
 pub mod Stepping
 pub mod Whole
+pub mod Tracking

@@ -198,7 +198,8 @@ module _ (p : Program) (w : WellFormed p) (steps : ℕ) (s : State) (c : SourceS
         refl,
       );
       places = acts _ _ (Forks made) (Makes made child) (table_after k.world c.table made (Fork t)) is refl proc takes
-          ((permitted k.world c.table made (Fork t) (reached_good k.world c.table k.reached) can_fork).0) tt refl;
+          ((permitted k.world c.table made (Fork t) (reached_good k.world c.table k.reached) can_fork).0) tt
+          (λ m j i other. refl) tt refl;
       paced = λ z. inl tt;
     })
 

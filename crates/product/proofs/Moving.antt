@@ -72,7 +72,7 @@ module _ (p : Program) (w : WellFormed p) where
     pub kinds : List Kind
     pub own : AreOwn kinds
     pub leads : Leads p c (map (act t) kinds) after
-    pub places : Places p t c after done kinds
+    pub places : Places p s' t c after done kinds
     pub paced : pauses ≡ false → IsSome kinds ⊎ (left_of ties t < n)
 
   -- states that belong together, with how many steps thread t has left

@@ -37,6 +37,7 @@ use Rattle.templates.specs.Layout.{place, valid}
 use Rattle.templates.specs.Templates.{ActsSo}
 use Rattle.deferral.specs.Deferring.{is_quiet}
 use Rattle.product.specs.Placing as P
+use Rattle.product.specs.Placing.{Resumes}
 use Rattle.product.specs.Standing.{StandsAt}
 use Rattle.product.specs.Ranks.{steps_left}
 use Rattle.product.specs.Corresponding.{Reached, IsBefore, Corresponds}
@@ -183,8 +184,9 @@ module _ (p : Program) (w : WellFormed p) (steps : ℕ) (s : State) (c : SourceS
 
   -- whether it carries an action is what is seen of it
   pub stepped : ((e : End) → MayAnswer pt served.reply → done ≡ is_some (event e))
+      → ((e : End) (u : ℕ) (label : Label) → event e ≡ Some (Acts u label) → Resumes p s' c.table label)
       → ((e : End) → MayAnswer pt served.reply → Arrives e) → Next p w steps s' t done pauses n c
-  stepped shown arrives =
+  stepped shown resumes arrives =
       let a = arrives end is_move.possible in
       by_event (event end) refl permits a.acts
     where
@@ -224,7 +226,8 @@ module _ (p : Program) (w : WellFormed p) (steps : ℕ) (s : State) (c : SourceS
             own = (carried_own k.world c.table t pt served.reply served.after end u label e, tt);
             leads = (c1, action p c t q a.process label Nothing table proc takes allows, refl);
             places = P.acts _ _ label Nothing table (seen ∙ ap (λ (i : Option Event). is_some i) e)
-                (carried_loud k.world c.table t pt served.reply served.after end u label e) proc takes allows held refl;
+                (carried_loud k.world c.table t pt served.reply served.after end u label e) proc takes allows held
+                (λ m j i other. refl) (resumes end u label e) refl;
             paced = λ z. inl tt;
           }
 

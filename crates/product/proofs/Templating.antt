@@ -48,6 +48,7 @@ use Rattle.product.proofs.Keeping.{kept_monitors}
 use Rattle.product.proofs.Worlds.{reached_good}
 use Rattle.templates.proofs.Layouts.{number_is}
 use Rattle.product.proofs.Completions.{point_completes, listed_at}
+use Rattle.product.proofs.Resumed.{who_resumes}
 use Rattle.product.proofs.Moving.{IsLow, Next}
 use Rattle.product.proofs.Stepped.{Arrives, stepped}
 use Rattle.product.proofs.Serving.{served}
@@ -223,7 +224,8 @@ module _ (p : Program) (w : WellFormed p) (steps : ℕ) (s : State) (c : SourceS
 
       answered : Next p w steps s' t done pauses n c
       answered = stepped p w steps s c k t done pauses s' mid n answer y (process_at p kind pt) pt number awake proc point sv
-          came shown arrives
+          came shown (λ e u label h. who_resumes p s' k.world c.table t pt sv.reply sv.after e u label inv.made
+          (λ v. ap (λ (x : State). x.asleep v) came ∙ sv.shares.sleeps v) sv.shares.spots within.askable h) arrives
 
     pub inside_step : IsLow k.world.sequence (look (code_of p) t x) → MovesSo p done s t woken (look (code_of p) t x) s'
         → Next p w steps s' t done pauses n c

@@ -2,4 +2,5 @@ pub mod Placing
 pub mod Standing
 pub mod Ranks
 pub mod Corresponding
+pub mod Tracking
 pub mod Serving

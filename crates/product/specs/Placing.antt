@@ -1,6 +1,6 @@
 -- Where the actions of the source stand among the steps of the machine.
 use Rattle.std.specs.Prelude.{ℕ, zero, suc, ◌≡◌, ◌==◌, ◌&&◌, ◌||◌, not, Bool, true, false, List, [], ◌∷◌, length, Option}
-use Rattle.std.specs.Prelude.{Some}
+use Rattle.std.specs.Prelude.{Some, None}
 use Rattle.words.specs.Updates.{put}
 use Rattle.words.specs.Process.{process_word}
 use Rattle.words.specs.Limits.{most_processes}
@@ -13,15 +13,17 @@ use Rattle.locals.specs.Looks.{AskCompareSwap, AskFork, AskPrint, AskWake, AskRe
 use Rattle.machine.specs.States.{State, with_thread}
 use Rattle.machine.specs.AbstractServing.{Serves, shared_of, with_shared}
 use Rattle.program.specs.Trees.{Program}
-use Rattle.code.specs.Layout.{link_word, lock_word_address}
-use Rattle.meaning.specs.Labels.{Kind, Action, Label, kind_of}
-use Rattle.meaning.specs.Table.{Table, Allows}
+use Rattle.program.specs.declared.kinds.Member.{Member}
+use Rattle.code.specs.Layout.{link_word, lock_word_address, member_address}
+use Rattle.meaning.specs.Values.{Variables}
+use Rattle.meaning.specs.Labels.{Kind, Action, Label, Notifies, Broadcasts, kind_of}
+use Rattle.meaning.specs.Table.{Table, HeldBy, Allows}
 use Rattle.meaning.specs.Processes.{Process}
 use Rattle.meaning.specs.Offers.{Effect, Nothing, offer, TakesUp}
 use Rattle.meaning.specs.States.{SourceState, variables_after, printed_after, processes_after}
 use Rattle.deferral.specs.Deferring.{is_quiet, MayWait}
 use Rattle.protocol.specs.Word.{owner}
-use Rattle.protocol.specs.Carries.{IsByHolder}
+use Rattle.protocol.specs.Carries.{IsByHolder, chosen_from, waits_on}
 
 -- the test holds of a number below this one
 abbrev pub any_below : ℕ → (ℕ → Bool) → Bool
@@ -86,13 +88,33 @@ acted c t effect r T = record {
   process = put (processes_after effect c.process) t (Some r);
 }
 
--- what process t does in the source by a step of its thread: nothing; an action that may wait; or, just where the step
+-- who sleeps there sleeps on the word of the condition
+abbrev pub sleeps_on : Program → Member → Option ℕ → Bool
+sleeps_on p c None = false
+sleeps_on p c (Some a) = a == member_address p c
+
+-- those who wait on the condition and don't sleep on its word in this state of the machine
+abbrev pub awake_waiters : Program → State → Table → Member → List ℕ
+awake_waiters p s T c = chosen_from (λ u. waits_on c (T.waits u) && not (sleeps_on p c (s.asleep u))) T.made 1
+
+-- a notify or a broadcast resumes those, in the state behind the step
+abbrev pub Resumes : Program → State → Table → Label → Type 0
+Resumes p s T (Notifies c resumed) = resumed ≡ awake_waiters p s T c
+Resumes p s T (Broadcasts c resumed) = resumed ≡ awake_waiters p s T c
+Resumes p s T label = Unit {0}
+
+-- the variables of monitors that process t doesn't hold stay as they are
+abbrev pub KeepsOthers : ℕ → Table → Variables → Variables → Type 0
+KeepsOthers t T v v' = (m n i : ℕ) → (T.hold m ≡ HeldBy t → ⊥) → v' m n i ≡ v m n i
+
+-- what process t does in the source by a step of its thread to a state of the machine: nothing; an action that may wait; or, just where the step
 -- is an action which others learn of, that
-pub data Places (p : Program) (t : ℕ) (c c' : SourceState) (done : Bool) : List Kind → Type 0 where
-  nothing : done ≡ false → c' ≡ c → Places p t c c' done []
+pub data Places (p : Program) (s : State) (t : ℕ) (c c' : SourceState) (done : Bool) : List Kind → Type 0 where
+  nothing : done ≡ false → c' ≡ c → Places p s t c c' done []
   waits : (q r : Process) (label : Label) → done ≡ false → c.process t ≡ Some q
       → MayWait p t c.variable c.table q label r → c' ≡ acted c t Nothing r c.table
-      → Places p t c c' done (kind_of label ∷ [])
+      → Places p s t c c' done (kind_of label ∷ [])
   acts : (q r : Process) (label : Label) (effect : Effect) (T : Table) → done ≡ true → is_quiet label ≡ false
       → c.process t ≡ Some q → TakesUp (offer p c.variable q) label effect r → Allows t label c.table T
-      → IsByHolder t label c.table → c' ≡ acted c t effect r T → Places p t c c' done (kind_of label ∷ [])
+      → IsByHolder t label c.table → KeepsOthers t c.table c.variable (variables_after effect c.variable)
+      → Resumes p s c.table label → c' ≡ acted c t effect r T → Places p s t c c' done (kind_of label ∷ [])

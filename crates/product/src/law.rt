@@ -1,7 +1,21 @@
+ghost use Rattle.std.specs.Prelude.{◌≡◌, ◌+◌, ◌<◌, ◌^◌, ◌∷◌, [], ℕ, suc, Bool, true, false, List};
 ghost use Rattle.code.specs.Pieces.{code_of};
+ghost use Rattle.deferral.specs.Deferring.{is_quiet};
+ghost use Rattle.execution.specs.Variables.{IsVariable, variable_address};
+ghost use Rattle.locals.specs.Looks.{look};
+ghost use Rattle.machine.specs.Runs.{IsStep, Step};
+ghost use Rattle.machine.specs.States.{State, opening_state};
+ghost use Rattle.meaning.specs.Labels.{Kind, Label, kind_of};
+ghost use Rattle.meaning.specs.Runs.{IsStep as IsSourceStep};
+ghost use Rattle.meaning.specs.States.{SourceState, opening};
+ghost use Rattle.product.specs.Placing.{MovesSo, Resumes, act};
+ghost use Rattle.product.specs.Tracking.{CanTake, Owes, Tracks};
 ghost use Rattle.program.specs.Trees.{Program};
 ghost use Rattle.program.specs.WellFormed.{WellFormed};
+ghost use Rattle.program.specs.declared.kinds.Member.{Member};
 ghost use Rattle.refinement.specs.Refines.{Refines};
+ghost use Rattle.refinement.specs.Seen.{machine_end, source_end};
+ghost use Rattle.words.specs.Signed.{word_of};
 
 /// The code of each checked program refines it, in the whole language: locals, expressions, IF, WHILE, procedures with
 /// arguments and results, PRINT, ABORT, faults, FORK, and JOIN with INTO and ABORTED; monitors with ENTRY and INTERNAL
@@ -9,4 +23,34 @@ ghost use Rattle.refinement.specs.Refines.{Refines};
 /// schedule of the machine.
 pub fn code_refines()
     ensures { (p : Program) → WellFormed p → Refines p (code_of p) }
+{}
+
+/// The source follows the machine, step by step. It tracks the machine's opening state; a step of the machine that is no
+/// action which other processes learn of (`MovesSo` says which steps are, by the request and its answer) leaves it where
+/// it is; at one that is, the actions that still wait of the process are possible one by one, and then that action is,
+/// whose label the offer of the process tells; a notify or a broadcast resumes those who wait and don't sleep on the
+/// word of the condition. Where it tracks the machine, the same is printed, variables have the same values, and
+/// processes the same ends.
+pub fn source_follows()
+    ensures opens { (p : Program) (w : WellFormed p) → Tracks p w 0 (opening_state (code_of p)) (opening p) }
+    ensures tracks { (p : Program) (w : WellFormed p) (steps : ℕ) (s : State) (a : SourceState)
+        → Tracks p w steps s a → (l : Step) (s' : State) (st : IsStep (code_of p) s l s') (done : Bool)
+        → MovesSo p done s l.thread l.woken (look (code_of p) l.thread st.thread) s' → steps + 1 < 2 ^ 32
+        → (done ≡ false → Tracks p w (suc steps) s' a)
+        × (done ≡ true → (ks : List Kind) × Owes p w (suc steps) s' l.thread a ks) }
+    ensures pays { (p : Program) (w : WellFormed p) (steps : ℕ) (s : State) (t : ℕ) (a : SourceState) (k : Kind)
+        (ks : List Kind) → Owes p w steps s t a (k ∷ ks)
+        → (label : Label) × (k ≡ kind_of label) × (is_quiet label ≡ true) × CanTake p a t label
+        × ((a' : SourceState) → IsSourceStep p a (act t k) a' → Owes p w steps s t a' ks) }
+    ensures settles { (p : Program) (w : WellFormed p) (steps : ℕ) (s : State) (t : ℕ) (a : SourceState)
+        → Owes p w steps s t a []
+        → (label : Label) × (is_quiet label ≡ false) × CanTake p a t label × Resumes p s a.table label
+        × ((a' : SourceState) → IsSourceStep p a (act t (kind_of label)) a' → Tracks p w steps s a') }
+    ensures output { (p : Program) (w : WellFormed p) (steps : ℕ) (s : State) (a : SourceState)
+        → Tracks p w steps s a → s.output ≡ a.printed }
+    ensures variables { (p : Program) (w : WellFormed p) (steps : ℕ) (s : State) (a : SourceState)
+        → Tracks p w steps s a → (m : Member) (i : ℕ) → IsVariable p m i
+        → s.word (variable_address p m i) ≡ word_of (a.variable m.monitor m.number i) }
+    ensures ends { (p : Program) (w : WellFormed p) (steps : ℕ) (s : State) (a : SourceState)
+        → Tracks p w steps s a → (q : ℕ) → machine_end s q ≡ source_end a q }
 {}

@@ -1,0 +1,55 @@
+-- The source behind the machine: what its processes have done that others learn of, while actions that may wait still
+-- wait.
+use Rattle.std.specs.Prelude.{ℕ, suc, ◌+◌, ◌≡◌, Bool, true, false, List, Option, Some, None}
+use Rattle.machine.specs.States.{State}
+use Rattle.program.specs.Trees.{Program}
+use Rattle.program.specs.WellFormed.{WellFormed}
+use Rattle.meaning.specs.Labels.{Kind, Label, kind_of}
+use Rattle.meaning.specs.Table.{Table, Allows}
+use Rattle.meaning.specs.Processes.{Process}
+use Rattle.meaning.specs.Offers.{Effect, offer, TakesUp}
+use Rattle.meaning.specs.States.{SourceState, variables_after}
+use Rattle.deferral.specs.Deferring.{is_quiet, IsBehind}
+use Rattle.protocol.specs.Carries.{IsByHolder}
+use Rattle.product.specs.Corresponding.{Corresponds}
+use Rattle.product.specs.Placing.{KeepsOthers, Resumes, acted}
+
+-- a process can take an action of this label
+pub record CanTake (p : Program) (a : SourceState) (t : ℕ) (label : Label) : Type 0 where
+  pub before : Process
+  pub after : Process
+  pub effect : Effect
+  pub table : Table
+  pub stands : a.process t ≡ Some before
+  pub takes : TakesUp (offer p a.variable before) label effect after
+  pub allows : Allows t label a.table table
+
+-- the source goes with the machine after so many steps, but that actions which may wait still wait
+pub record Tracks (p : Program) (w : WellFormed p) (steps : ℕ) (s : State) (a : SourceState) : Type 0 where
+  pub waiting : ℕ → List Kind
+  pub ahead : SourceState
+  pub ties : Corresponds p w steps s ahead
+  pub behind : IsBehind p waiting a ahead
+
+-- a step of thread t led to a state of the machine, and was an action of its process which others learn of. First come
+-- the actions that still wait of the process, and then that
+pub record Owes (p : Program) (w : WellFormed p) (steps : ℕ) (s : State) (t : ℕ) (a : SourceState)
+    (ks : List Kind) : Type 0 where
+  pub waiting : ℕ → List Kind
+  pub now : SourceState
+  pub behind : IsBehind p waiting a now
+  pub mine : waiting t ≡ ks
+  pub before : Process
+  pub after : Process
+  pub label : Label
+  pub effect : Effect
+  pub table : Table
+  pub heard : is_quiet label ≡ false
+  pub stands : now.process t ≡ Some before
+  pub takes : TakesUp (offer p now.variable before) label effect after
+  pub allows : Allows t label now.table table
+  pub holder : IsByHolder t label now.table
+  pub keeps : KeepsOthers t now.table now.variable (variables_after effect now.variable)
+  pub resumes : Resumes p s now.table label
+  pub fresh : now.process (now.table.made + 1) ≡ None
+  pub ties : Corresponds p w steps s (acted now t effect after table)
