@@ -1,6 +1,6 @@
 -- The source goes on behind the machine, step by step.
 use Rattle.std.proofs.Common.{◌≡◌, ◌≢◌, ℕ, zero, suc, ◌+◌, ◌<◌, ◌≤◌, Bool, true, false, List, [], ◌∷◌, Option, Some}
-use Rattle.std.proofs.Common.{None, refl, ap, sym, ◌∙◌, subst, arith, inl, inr}
+use Rattle.std.proofs.Common.{None, refl, ap, sym, ◌∙◌, subst, arith, length, length-append}
 use Rattle.std.proofs.lemmas.Bool.{false≢true}
 use Rattle.std.specs.Prelude.{◌^◌, ◌++◌, ◌↔◌}
 use Rattle.words.specs.Updates.{put}
@@ -86,6 +86,7 @@ module _ (p : Program) (w : WellFormed p) where
     ahead = opening p;
     ties = opens p w;
     behind = D.begins p (opening p);
+    few = λ t. omega arith;
   }
 
   -- no process has the next number
@@ -135,6 +136,7 @@ module _ (p : Program) (w : WellFormed p) where
           ahead = n.after;
           ties = n.ties;
           behind = subst (λ (x : SourceState). IsBehind p r.waiting a x) (sym same) r.behind;
+          few = λ u. let less = r.few u in omega (arith, less);
         },
         λ e. absurd (false≢true (sym none ∙ e)),
       )
@@ -146,6 +148,9 @@ module _ (p : Program) (w : WellFormed p) where
           behind = D.waits p r.waiting a c n.after t q after label r.behind stands may
               (ap (λ (x : SourceState). x.table) same) (ap (λ (x : SourceState). x.variable) same)
               (ap (λ (x : SourceState). x.printed) same) (ap (λ (x : SourceState). x.process) same);
+          few = λ u. at_put r.waiting t (r.waiting t ++ kind_of label ∷ []) u (λ ks. length ks ≤ suc steps)
+              (λ e. let less = r.few t in let long = length-append (r.waiting t) (kind_of label ∷ []) in
+              omega (arith, less, long)) (λ o. let less = r.few u in omega (arith, less));
         },
         λ e. absurd (false≢true (sym none ∙ e)),
       )
@@ -158,6 +163,7 @@ module _ (p : Program) (w : WellFormed p) where
             now = c;
             behind = r.behind;
             mine = refl;
+            few = λ u. let less = r.few u in omega (arith, less);
             before = q;
             after = after;
             label = label;
@@ -202,6 +208,9 @@ module _ (p : Program) (w : WellFormed p) where
             now = o.now;
             behind = subst (λ (x : SourceState). IsBehind p (put o.waiting t ks) x o.now) (sym same) taken.2;
             mine = put_same o.waiting t ks;
+            few = λ u. at_put o.waiting t ks u (λ l. length l ≤ steps)
+                (λ e. let less = o.few t in let long = ap (λ (l : List Kind). length l) o.mine in
+                omega (arith, less, long)) (λ v. o.few u);
             before = o.before;
             after = o.after;
             label = o.label;
@@ -269,6 +278,7 @@ module _ (p : Program) (w : WellFormed p) where
             ahead = c';
             ties = o.ties;
             behind = subst (λ (x : SourceState). IsBehind p o.waiting x c') (sym same) on.2;
+            few = o.few;
           },
     )
 

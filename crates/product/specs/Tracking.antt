@@ -1,6 +1,6 @@
 -- The source behind the machine: what its processes have done that others learn of, while actions that may wait still
 -- wait.
-use Rattle.std.specs.Prelude.{ℕ, suc, ◌+◌, ◌≡◌, Bool, true, false, List, Option, Some, None}
+use Rattle.std.specs.Prelude.{ℕ, ◌+◌, ◌≡◌, ◌≤◌, false, List, length, Some, None}
 use Rattle.machine.specs.States.{State}
 use Rattle.program.specs.Trees.{Program}
 use Rattle.program.specs.WellFormed.{WellFormed}
@@ -24,12 +24,14 @@ pub record CanTake (p : Program) (a : SourceState) (t : ℕ) (label : Label) : T
   pub takes : TakesUp (offer p a.variable before) label effect after
   pub allows : Allows t label a.table table
 
--- the source goes with the machine after so many steps, but that actions which may wait still wait
+-- the source goes with the machine after so many steps, but that actions which may wait still wait, of each process no
+-- more than there were steps
 pub record Tracks (p : Program) (w : WellFormed p) (steps : ℕ) (s : State) (a : SourceState) : Type 0 where
   pub waiting : ℕ → List Kind
   pub ahead : SourceState
   pub ties : Corresponds p w steps s ahead
   pub behind : IsBehind p waiting a ahead
+  pub few : (t : ℕ) → length (waiting t) ≤ steps
 
 -- a step of thread t led to a state of the machine, and was an action of its process which others learn of. First come
 -- the actions that still wait of the process, and then that
@@ -39,6 +41,7 @@ pub record Owes (p : Program) (w : WellFormed p) (steps : ℕ) (s : State) (t : 
   pub now : SourceState
   pub behind : IsBehind p waiting a now
   pub mine : waiting t ≡ ks
+  pub few : (u : ℕ) → length (waiting u) ≤ steps
   pub before : Process
   pub after : Process
   pub label : Label
