@@ -20,6 +20,9 @@ pub enum Failure {
     /// A step of its schedule was refused.
     #[error("{0:?}")]
     Step(StepFault),
+    /// It names an address outside the memory of its image.
+    #[error("no word {0}")]
+    Address(u32),
     /// There is no memory for it.
     #[error("memory")]
     Memory,

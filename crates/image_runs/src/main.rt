@@ -7,9 +7,9 @@
 //! workers_meet        the same through a gate at which the workers of the first two threads wait for one another
 //! alone_meet          on the calling thread through that gate
 //! by_hand             not at all: a few pieces are handed in, and counted by two shares
-//! schedules COUNT OUTCOME ..
+//! schedules COUNT ADDRESS .. OUTCOME ..
 //!                     step by step on the machine, by the schedules of the seeds 1 to COUNT, none of which may end
-//!                     otherwise than in one of these ways
+//!                     otherwise than in one of these ways, with these words at the addresses
 //! ```
 //!
 //! Empty lines and lines that begin with `#` say nothing.
@@ -23,7 +23,8 @@
 //! 128.
 //!
 //! An outcome is a word: Done, Stuck or Limit, then the numbers that were printed, then `T=FAULT` for each thread that
-//! aborted and `T@ADDRESS` for each that sleeps, by rising number, with a comma before each of these.
+//! aborted and `T@ADDRESS` for each that sleeps, by rising number, then `ADDRESS:WORD` for each address that the row
+//! names, with the word at the end in hexadecimal digits, and with a comma before each of these.
 //!
 //! The script ./benchmark times it.
 #![tactic(auto)]

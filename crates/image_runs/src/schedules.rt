@@ -6,6 +6,7 @@ use machine::Machine;
 use std::alloc::{AllocError, Global};
 use std::io;
 use std::str::SplitWhitespace;
+use words::Addr;
 
 // How a run may end, and how many did.
 #[derive(Drop)]
@@ -14,8 +15,16 @@ struct Allowed {
     runs: u32,
 }
 
-/// Runs an image by as many schedules as the first of these words says, those of the seeds from 1 on. Prints each seed
-/// whose run ended in none of the outcomes that the other words are, and how many runs ended in each of these.
+// What a row says of the ends of its runs: the words that are looked at, and the outcomes.
+#[derive(Drop)]
+struct Ends {
+    addresses: Vec<Addr>,
+    allowed: Vec<Allowed>,
+}
+
+/// Runs an image by as many schedules as the first of these words says, those of the seeds from 1 on. The other words
+/// are addresses, whose words belong to an outcome, and the outcomes that are allowed. Prints each seed whose run ended
+/// otherwise, and how many runs ended in each of these.
 pub fn run_schedules<R: Print>(
     rt: &R,
     alloc: Global,
@@ -25,20 +34,25 @@ pub fn run_schedules<R: Print>(
 ) -> Result<(), Failure> {
     let count = words.next().ok_or(Failure::Row)?;
     let count: u32 = count.parse().map_err(|_| Failure::Row)?;
-    let mut allowed = allowed_of(alloc, words)?;
-    run_seeds(rt, alloc, image, limit, count, allowed.as_mut_slice())?;
-    show_allowed(rt, count, allowed.as_slice())?;
+    let mut ends = ends_of(alloc, words)?;
+    run_seeds(rt, alloc, image, limit, count, &mut ends)?;
+    show_allowed(rt, count, ends.allowed.as_slice())?;
     Ok(())
 }
 
-// Takes the words of the outcomes that a row allows.
-fn allowed_of(alloc: Global, words: SplitWhitespace) -> Result<Vec<Allowed>, AllocError> {
+// Takes the words that tell of the ends: a number is an address, any other word an outcome.
+fn ends_of(alloc: Global, words: SplitWhitespace) -> Result<Ends, AllocError> {
+    let mut addresses = Vec::new(alloc);
     let mut allowed = Vec::new(alloc);
     for word in words {
-        let outcome = String::from_str(alloc, word)?;
-        allowed.push(Allowed { outcome, runs: 0 })?;
+        if let Ok(address) = word.parse() {
+            addresses.push(Addr(address))?;
+        } else {
+            let outcome = String::from_str(alloc, word)?;
+            allowed.push(Allowed { outcome, runs: 0 })?;
+        }
     }
-    Ok(allowed)
+    Ok(Ends { addresses, allowed })
 }
 
 // Runs an image by the schedules of the seeds from 1 to a number.
@@ -48,22 +62,17 @@ fn run_seeds<R: Print>(
     image: &Image,
     limit: u32,
     count: u32,
-    allowed: &mut [Allowed],
+    ends: &mut Ends,
 ) -> Result<(), Failure> {
     for before in 0..count {
         let seed = before + 1;
-        let outcome = outcome_by(alloc, image, limit, seed)?;
-        if !is_noted(allowed, outcome.as_str()) {
+        let machine = run_schedule(alloc, image, limit, seed)?;
+        let outcome = outcome_of(alloc, &machine, ends.addresses.as_slice())?;
+        if !is_noted(ends.allowed.as_mut_slice(), outcome.as_str()) {
             println!(rt; "  seed {seed}: {outcome}, which is not allowed")?;
         }
     }
     Ok(())
-}
-
-// How the run by the schedule of a seed ends.
-fn outcome_by(alloc: Global, image: &Image, limit: u32, seed: u32) -> Result<String, Failure> {
-    let machine = run_schedule(alloc, image, limit, seed)?;
-    Ok(outcome_of(alloc, &machine)?)
 }
 
 // Runs an image by the schedule of a seed, within a limit of steps.
