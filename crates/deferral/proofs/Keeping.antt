@@ -25,7 +25,8 @@ same_grows T T' made claimed = record {
 
 pub grows : (t : ℕ) (label : Label) (T T' : Table) → Allows t label T T' → Grows T T'
 grows t (Forks child) T T' a = record {
-  full = λ h. subst (λ X. most_processes ≤ X.made) (sym a.2) (let g : most_processes ≤ T.made + 1 = omega (arith, h) in g);
+  full = λ h. subst (λ X. most_processes ≤ X.made) (sym a.2)
+      (let more : most_processes ≤ T.made + 1 = omega (arith, h) in more);
   claimed = λ other h. subst (λ X. X.claimed other ≡ true) (sym a.2) h;
 }
 grows t (Claims child) T T' a = record {
