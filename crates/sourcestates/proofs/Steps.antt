@@ -1,9 +1,10 @@
 -- Actions of a process's own, by the offer that they take up.
-use Rattle.std.proofs.Common.{◌≡◌, ◌==◌, ℕ, Bool, true, false, cond, Option, Some, refl, sym, ◌∙◌, subst}
+use Rattle.std.proofs.Common.{◌≡◌, ◌==◌, ℕ, Bool, true, false, cond, Option, Some, refl, ap, sym, ◌∙◌, subst}
+use Rattle.std.proofs.lemmas.Bool.{eqb-false}
 use Rattle.words.specs.Updates.{put}
 use Rattle.program.specs.Trees.{Program}
-use Rattle.meaning.specs.Labels.{Action, Label}
-use Rattle.meaning.specs.Offers.{Effect, Nothing, Puts, Writes, Makes, Offer, TakesUp, offer}
+use Rattle.meaning.specs.Labels.{Action, Kind, Label}
+use Rattle.meaning.specs.Offers.{Does, Effect, Nothing, Puts, Writes, Makes, Offer, TakesUp, offer}
 use Rattle.meaning.specs.Processes.{Process}
 use Rattle.meaning.specs.Runs.{IsAction}
 use Rattle.meaning.specs.States.{SourceState, processes_after}
@@ -44,7 +45,7 @@ done_with n l e q w s u d = record {
   processes = d.processes ∙ sym (overwritten e s.process n w (Some q));
 }
 
-some_once : {A : Type 0} (x y : A) → Some x ≡ Some y → x ≡ y
+pub some_once : {A : Type 0} (x y : A) → Some x ≡ Some y → x ≡ y
 some_once x y e = cc
 
 -- a process that another stands for in the state takes up its offer: that is its action
@@ -91,3 +92,43 @@ answered p s a before w o b u f stands offers is h =
     taken_out p s a before w b u stands
     (subst (λ g. IsAnswer b (IsTakenUp a.process a.kind (offer p s.variable before) (record s { process = g })) u) is
     (subst (λ x. IsAnswer b (IsTakenUp a.process a.kind x (record s { process = f })) u) offers h))
+
+-- a process that another stands for in the state takes up its offer, as it would there
+pub elsewhere : (n : ℕ) (k : Kind) (o : Offer) (s : SourceState) (w : Option Process) (f : ℕ → Option Process)
+    (b : Bool) (u : SourceState) → f ≡ put s.process n w
+    → IsAnswer b (IsTakenUp n k o (record s { process = f })) u → IsAnswer b (IsTakenUp n k o s) u
+elsewhere n k o s w f true u is r = record {
+  label = r.label;
+  effect = r.effect;
+  after = r.after;
+  takes = r.takes;
+  named = r.named;
+  done = done_without n r.label r.effect r.after w s u
+      (subst (λ g. IsDone n r.label r.effect r.after (record s { process = g }) u) is r.done);
+}
+elsewhere n k o s w f false u is never = λ t x. never t (record {
+  label = x.label;
+  effect = x.effect;
+  after = x.after;
+  takes = x.takes;
+  named = x.named;
+  done = subst (λ g. IsDone n x.label x.effect x.after (record s { process = g }) t) (sym is)
+      (done_with n x.label x.effect x.after w s t x.done);
+})
+
+put_same : {X : Type 0} (f : ℕ → X) (n : ℕ) (v : X) → put f n v n ≡ v
+put_same f n v = at (n == n) refl
+  where
+    at : (b : Bool) → (n == n) ≡ b → put f n v n ≡ v
+    at true e = ap (λ b. cond b v (f n)) e
+    at false e = absurd (eqb-false n n e refl)
+
+-- a process is put where it stands after an action, and does it there
+pub done_there : (n : ℕ) (k : Kind) (label : Label) (effect : Effect) (q : Process) (s t u : SourceState) (b : Bool)
+    → t ≡ record s { process = put s.process n (Some q) }
+    → ((after : Process) → t.process n ≡ Some after → IsAnswer b (IsTakenUp n k (Does label effect after) t) u)
+    → IsAnswer b (IsTakenUp n k (Does label effect q) s) u
+done_there n k label effect q s t u b is h =
+    elsewhere n k (Does label effect q) s (Some q) (put s.process n (Some q)) b u refl
+    (subst (λ x. IsAnswer b (IsTakenUp n k (Does label effect q) x) u) is
+    (h q (ap (λ (x : SourceState). x.process n) is ∙ put_same s.process n (Some q))))

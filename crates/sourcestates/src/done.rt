@@ -1,12 +1,12 @@
-ghost use Rattle.std.specs.Prelude.{◌≡◌, OnOk};
+ghost use Rattle.std.specs.Prelude.{◌≡◌, OnOk, Some};
+ghost use Rattle.meaning.specs.Processes.{Process as ProcessOf};
 ghost use Rattle.meaning.specs.States.{printed_after, variables_after};
 ghost use Rattle.meaning.specs.Table.{Allows};
 ghost use Rattle.sourceruns.specs.Offered.{effect_of, label_of};
-ghost use Rattle.sourceruns.specs.Stages.{process_of};
 ghost use Rattle.sourcetable.specs.Tables.{table_of};
 
 use crate::state::SourceState;
-use sourceruns::{Effect, Label, Process};
+use sourceruns::{Effect, Label};
 use sourcetable::Table;
 use std::alloc::AllocError;
 
@@ -43,20 +43,13 @@ impl<'a> SourceState<'a> {
         Ok(())
     }
 
-    /// Does an action of a process that stands here after it.
-    pub fn perform(
-        &mut self,
-        process: u64,
-        label: Label,
-        effect: Effect,
-        after: Process<'a>,
-    ) -> Result<(), AllocError>
-        ensures { OnOk result (IsDone process (label_of label) (effect_of effect) (process_of after.entry)
-            (state_of self.old) (state_of self.new)) }
+    /// Does an action of a process that stands after it already.
+    pub fn perform(&mut self, process: u64, label: Label, effect: Effect) -> Result<(), AllocError>
+        ensures { OnOk result ((after : ProcessOf) → (state_of self.old).process process ≡ Some after
+            → IsDone process (label_of label) (effect_of effect) after (state_of self.old) (state_of self.new)) }
     {
         permit(&mut self.table, process, label)?;
         self.affect(effect)?;
-        let _before = self.processes.insert(process, after)?;
         Ok(())
     }
 }

@@ -1,11 +1,14 @@
-ghost use Rattle.std.specs.Prelude.{IfOk, MatchOption, map};
+ghost use Rattle.std.specs.Prelude.{◌≡◌, IfOk, MatchOption, Some, map};
+ghost use Rattle.std.specs.BTreeMap.{get};
+ghost use Rattle.std.specs.Ordering.{nat_cmp};
 ghost use Rattle.program.specs.Views.{program_of};
 ghost use Rattle.meaning.specs.Offers.{Does};
+ghost use Rattle.meaning.specs.Processes.{Process as ProcessOf};
 ghost use Rattle.meaning.specs.Runs.{IsAction, IsRun, IsStep};
 ghost use Rattle.meaning.specs.States.{SourceState as SourceStateOf};
 ghost use Rattle.sourceruns.specs.NextAction.{offer_of};
 ghost use Rattle.sourceruns.specs.Offered.{effect_of, label_of, offered};
-ghost use Rattle.sourceruns.specs.Stages.{process_of};
+ghost use Rattle.sourceruns.specs.declared.process.Process.{Process as ProcessIn};
 ghost use Rattle.sourcestates.specs.Actions.{action_of as action_named};
 ghost use Rattle.sourcestates.specs.States.{state_of as state_in};
 
@@ -22,24 +25,22 @@ impl<'a> SourceState<'a> {
     ghost use Rattle.sourcestates.specs.States.{state_of};
     ghost use Rattle.sourcestates.specs.Taken.{IsAnswer, IsTakenUp};
 
-    // A process that offers one action does it, where the action is named so.
+    // A process that stands after an action already does it, where the action is named so.
     fn act_alone(
         &mut self,
         number: u64,
         kind: &ActionKind,
         label: Label,
         effect: Effect,
-        process: Process<'a>,
     ) -> Result<bool, AllocError>
-        ensures { IfOk result (λ b. IsAnswer b
-            (IsTakenUp number (kind_of kind.now)
-            (Does (label_of label) (effect_of effect) (process_of process.entry)) (state_of self.old))
-            (state_of self.new)) }
+        ensures { IfOk result (λ b. (after : ProcessOf) → (state_of self.old).process number ≡ Some after
+            → IsAnswer b (IsTakenUp number (kind_of kind.now) (Does (label_of label) (effect_of effect) after)
+            (state_of self.old)) (state_of self.new)) }
     {
         if !is_named(kind, label) {
             return Ok(false);
         }
-        self.perform(number, label, effect, process)?;
+        self.perform(number, label, effect)?;
         Ok(true)
     }
 
@@ -58,7 +59,10 @@ impl<'a> SourceState<'a> {
     {
         match own {
             Offered::Rests => Ok(false),
-            Offered::Does(label, effect) => self.act_alone(number, kind, label, effect, process),
+            Offered::Does(label, effect) => {
+                self.place(number, process)?;
+                self.act_alone(number, kind, label, effect)
+            }
             Offered::Makes(child, into) => self.fork(alloc, number, kind, child, into, process),
             Offered::Claims {
                 child,
@@ -96,7 +100,27 @@ impl<'a> SourceState<'a> {
         }
     }
 
-    // An action of a process's own.
+    // A process takes up its offer, and is out of the state meanwhile.
+    fn take_up_outside(
+        &mut self,
+        alloc: Global,
+        program: &'a Program,
+        number: u64,
+        kind: &ActionKind,
+        offer: Offer<'a>,
+    ) -> Result<bool, AllocError>
+        ensures { IfOk result (λ b. (q : ProcessIn) → get nat_cmp self.old.processes number ≡ Some q
+            → IsAnswer b (IsTakenUp number (kind_of kind.now) (offer_of (program_of program.now) offer.entry q)
+            (state_of self.old)) (state_of self.new)) }
+    {
+        let found = self.processes.insert(number, blank(alloc))?;
+        let Some(process) = found else {
+            return Ok(false);
+        };
+        self.take_up(alloc, program, number, kind, offer, process)
+    }
+
+    // An action of a process's own. Mostly the process stays where it is in the state, since moving it takes time.
     fn act(
         &mut self,
         alloc: Global,
@@ -106,12 +130,15 @@ impl<'a> SourceState<'a> {
         ensures { IfOk result (λ b. IsAnswer b
             (IsAction (program_of program.now) (state_of self.old) (action_of action.now)) (state_of self.new)) }
     {
-        let found = self.processes.insert(action.process, blank(alloc))?;
-        let Some(mut process) = found else {
+        let number = action.process;
+        let Some(process) = self.processes.get_mut(&number) else {
             return Ok(false);
         };
-        let offer = next_offer(alloc, program, &self.variables, &mut process)?;
-        self.take_up(alloc, program, action.process, &action.kind, offer, process)
+        let offer = next_offer(alloc, program, &self.variables, process)?;
+        if let Offer::Own(Offered::Does(label, effect)) = offer {
+            return self.act_alone(number, &action.kind, label, effect);
+        }
+        self.take_up_outside(alloc, program, number, &action.kind, offer)
     }
 
     /// Does an action; false where it isn't possible, and then nothing is known of the state.

@@ -1,24 +1,47 @@
-use Rattle.std.proofs.Common.{Some, ap, sym, ◌∙◌}
+use Rattle.std.proofs.Common.{Some, ap, sym, subst, rules}
 use Rattle.std.proofs.lemmas.Result.{IfOk-weaker}
 use Rattle.std.specs.Prelude.{option_map}
 use Rattle.program.specs.Views.{program_of}
 use Rattle.sourceruns.specs.NextAction.{offer_of}
+use Rattle.sourceruns.specs.Offered.{offered}
 use Rattle.sourceruns.specs.Stages.{process_of}
 use Rattle.sourcetable.proofs.Tables.{put_at}
-use Rattle.sourcestates.specs.Actions.{action_of}
+use Rattle.sourcestates.specs.Actions.{action_of, kind_of}
 use Rattle.sourcestates.specs.States.{processes_in, state_of}
+use Rattle.sourcestates.specs.Taken.{IsAnswer, IsTakenUp}
 use Rattle.sourcestates.proofs.Steps.{answered}
 use Rattle.sourcestates.proofs.state.SourceState.act.Goals as goal
 
+pub returns-in-Own-Does : goal.returns-in-Own-Does
+returns-in-Own-Does c =
+    let q = c.next_offer.new.process in
+    let after = c.get_mut.follows.lender q in
+    let at = (c.get_mut.follows.holds q).3 (search rules) in
+    IfOk-weaker c.act_alone.result _ _ (λ b h.
+    answered (program_of c.args.program.now) (state_of c.args.self.now)
+    (action_of c.args.action.now) (process_of c.in-Some.process.now) (Some (process_of q))
+    (offer_of (program_of c.args.program.now) c.in_ok-offer.offer q) b (state_of c.act_alone.new.self)
+    (processes_in after) (ap (option_map process_of) (sym c.in-Some.ensures.value))
+    c.in_ok-offer.ensures
+    (put_at (option_map process_of) c.args.self.now.processes after c.args.action.now.process (Some q) at.0)
+    (subst (λ o. IsAnswer b (IsTakenUp c.args.action.now.process (kind_of c.args.action.now.kind)
+    (offer_of (program_of c.args.program.now) o q) (record (state_of c.args.self.now) { process = processes_in after }))
+    (state_of c.act_alone.new.self)) (sym c.in-Own-Does.is)
+    (subst (λ o. IsAnswer b (IsTakenUp c.args.action.now.process (kind_of c.args.action.now.kind)
+    (offered o q) (record (state_of c.args.self.now) { process = processes_in after }))
+    (state_of c.act_alone.new.self)) (sym (rw c.in-Own-Does.is at c.in-Own-Does.field-0-is))
+    (h (process_of q) (ap (option_map process_of) at.1))))) c.act_alone.ensures
+
 pub returns : goal.returns
 returns c =
-    IfOk-weaker c.take_up.result _ _ (λ b h.
+    let q = c.next_offer.new.process in
+    let after = c.get_mut.follows.lender q in
+    let at = (c.get_mut.follows.holds q).3 (search rules) in
+    IfOk-weaker c.take_up_outside.result _ _ (λ b h.
     answered (program_of c.args.program.now) (state_of c.args.self.now)
-    (action_of c.args.action.now) (process_of c.in-Some.process) (Some (process_of c.blank.result))
-    (offer_of (program_of c.args.program.now) c.in_ok-offer.offer c.next_offer.new.process) b
-    (state_of c.take_up.new.self)
-    (processes_in c.insert.new.self) (ap (option_map process_of) (sym c.in_ok-found.ensures.old ∙ c.in-Some.is))
+    (action_of c.args.action.now) (process_of c.in-Some.process.now) (Some (process_of q))
+    (offer_of (program_of c.args.program.now) c.in_ok-offer.offer q) b _
+    (processes_in after) (ap (option_map process_of) (sym c.in-Some.ensures.value))
     c.in_ok-offer.ensures
-    (put_at (option_map process_of) c.args.self.now.processes c.insert.new.self c.args.action.now.process
-    (Some c.blank.result) c.in_ok-found.ensures.updates.0)
-    h) c.take_up.ensures
+    (put_at (option_map process_of) c.args.self.now.processes after c.args.action.now.process (Some q) at.0)
+    (h q at.1)) c.take_up_outside.ensures

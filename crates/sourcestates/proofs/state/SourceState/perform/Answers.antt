@@ -4,16 +4,16 @@ use Rattle.meaning.specs.Table.{Allows}
 use Rattle.sourceruns.specs.Offered.{label_of}
 use Rattle.sourcetable.specs.Tables.{table_of}
 use Rattle.sourcestates.specs.States.{processes_in}
-use Rattle.sourcestates.proofs.Effects.{put_process}
+use Rattle.sourcestates.proofs.Effects.{stands_already}
 use Rattle.sourcestates.proofs.state.SourceState.perform.Goals as goal
 
 pub returns : goal.returns
-returns c = record {
+returns c = λ after stands. record {
   allows = subst (Allows c.args.process (label_of c.args.label) (table_of c.args.self.now.table))
       (sym (ap (λ (s : SourceState). s.table) c.in_ok-affect.ensures)) c.in_ok-permit.ensures;
   variables = ap (λ (s : SourceState). s.variable) c.in_ok-affect.ensures;
   printed = ap (λ (s : SourceState). s.printed) c.in_ok-affect.ensures;
-  processes = put_process c.args.effect (processes_in c.args.self.now.processes) c.affect.new.self.processes
-      c.insert.new.self c.args.process c.args.after
-      (ap (λ (s : SourceState). s.process) c.in_ok-affect.ensures) c.in_ok-_before.ensures.updates.0;
+  processes = stands_already c.args.effect (processes_in c.args.self.now.processes)
+      (processes_in c.affect.new.self.processes) c.args.process after
+      (ap (λ (s : SourceState). s.process) c.in_ok-affect.ensures) stands;
 }
