@@ -1,0 +1,52 @@
+use crate::shapes::append_shape;
+use crate::sheet::{Sheet, index_of};
+use std::alloc::AllocError;
+
+/// What leads from one process to another.
+#[derive(Clone, Copy)]
+pub(crate) enum Arrow {
+    /// A process makes another.
+    Fork,
+    /// A process resumes another.
+    Notify,
+    /// The end of a process lets another go on.
+    Join,
+}
+
+impl Arrow {
+    // How it is drawn: from a point to another height.
+    fn form(self) -> &'static str {
+        match self {
+            Arrow::Fork => "<path class='fork' d='M$,$V$'/>",
+            Arrow::Notify => "<path class='notify' d='M$,$V$'/>",
+            Arrow::Join => "<path class='join' d='M$,$V$'/>",
+        }
+    }
+}
+
+// Where an arrow's head ends: at the nearer edge of the bars of a row.
+fn head(start: u64, goal: u64) -> u64 {
+    if start < goal {
+        goal.saturating_sub(8)
+    } else {
+        goal.saturating_add(8)
+    }
+}
+
+impl<'c, 'n> Sheet<'c, 'n> {
+    /// The middle of a process's row.
+    pub fn middle(&self, process: u64) -> u64 {
+        match self.rows.get(index_of(process)) {
+            None => 0,
+            Some(row) => row.middle,
+        }
+    }
+
+    /// Draws an arrow in the column of the last action.
+    pub fn draw_arrow(&mut self, arrow: Arrow, from: u64, to: u64) -> Result<(), AllocError> {
+        let left = self.moment(1).left;
+        let start = self.middle(from);
+        let end = head(start, self.middle(to));
+        append_shape(&mut self.marks, arrow.form(), &[left, start, end])
+    }
+}

@@ -1,0 +1,141 @@
+use crate::arrows::Arrow;
+use crate::labels::monitor_name;
+use crate::shapes::{append_escaped, append_shape, append_text};
+use crate::sheet::{Sheet, index_of};
+use actionlines::append_line;
+use itoa::Buffer;
+use sourceruns::{Cause, End};
+use sourcestates::{Action, ActionKind, SourceState};
+use sourcetable::Hold;
+use std::alloc::AllocError;
+
+/// Whether an action takes a monitor that was abandoned.
+pub(crate) fn finds_abandoned(state: &SourceState, kind: &ActionKind) -> bool {
+    match kind {
+        ActionKind::Enter(monitor) | ActionKind::Resume(monitor) => {
+            state.hold(*monitor) == Hold::Abandoned
+        }
+        _ => false,
+    }
+}
+
+impl<'c, 'n> Sheet<'c, 'n> {
+    // Writes a note below the bars of a process, behind the notes before it.
+    fn note(&mut self, process: u64, form: &str, text: &[u8]) -> Result<(), AllocError> {
+        let middle = self.moment(1).left;
+        let wide = (text.len() as u64).saturating_mul(6);
+        let Some(row) = self.rows.get_mut(index_of(process)) else {
+            return Ok(());
+        };
+        let left = middle.saturating_sub(wide / 2).max(row.notes_end);
+        row.notes_end = left.saturating_add(wide).saturating_add(3);
+        let below = row.middle.saturating_add(17);
+        append_text(&mut self.marks, form, &[left, below], text)
+    }
+
+    // Writes that a monitor is abandoned.
+    fn note_abandoned(&mut self, process: u64, monitor: u32) -> Result<(), AllocError> {
+        let mut text = Vec::from_slice(self.alloc, b"abandons ")?;
+        text.extend_from_slice(monitor_name(self.names, monitor))?;
+        self.note(process, "<text class='fault' x='$' y='$'>", text.as_slice())
+    }
+
+    // Draws a form in the middle of the last action's column.
+    fn dot(&mut self, process: u64, form: &str) -> Result<(), AllocError> {
+        let left = self.moment(1).left;
+        let middle = self.middle(process);
+        append_shape(&mut self.marks, form, &[left, middle])
+    }
+
+    // Draws the end of a process, and why it aborted.
+    fn draw_end(&mut self, process: u64, end: Option<End>) -> Result<(), AllocError> {
+        let left = self.moment(1).left.saturating_add(9);
+        let middle = self.middle(process).saturating_add(3);
+        match end {
+            Some(End::Aborted(cause)) => {
+                self.dot(
+                    process,
+                    "<path class='cross' d='M$,$m-5,-5l10,10m0,-10l-10,10'/>",
+                )?;
+                match cause {
+                    Cause::Faulted(fault) => append_shape(
+                        &mut self.marks,
+                        "<text class='fault' x='$' y='$'>fault $</text>",
+                        &[left, middle, u64::from(fault.number())],
+                    ),
+                    Cause::Killed => append_shape(
+                        &mut self.marks,
+                        "<text class='fault' x='$' y='$'>killed</text>",
+                        &[left, middle],
+                    ),
+                }
+            }
+            _ => self.dot(process, "<path class='end' d='M$,$m-4,-4h8v8h-8z'/>"),
+        }
+    }
+
+    // Draws the arrows to resumed processes, or that there are none.
+    fn draw_resumed(&mut self, process: u64, resumed: &[u64]) -> Result<(), AllocError> {
+        for other in resumed {
+            self.draw_arrow(Arrow::Notify, process, *other)?;
+        }
+        self.dot(process, "<circle class='notifies' cx='$' cy='$' r='3'/>")
+    }
+
+    // Draws what an action does.
+    fn draw_kind(&mut self, state: &SourceState, action: &Action) -> Result<(), AllocError> {
+        let process = action.process;
+        match &action.kind {
+            ActionKind::Fork(child) => self.draw_arrow(Arrow::Fork, process, *child)?,
+            ActionKind::Join(child) => self.draw_arrow(Arrow::Join, *child, process)?,
+            ActionKind::Notify(_, resumed) | ActionKind::Broadcast(_, resumed) => {
+                return self.draw_resumed(process, resumed.as_slice());
+            }
+            ActionKind::Kill(resumed, _) => {
+                self.draw_resumed(process, resumed.as_slice())?;
+                return self.dot(process, "<circle class='fails' cx='$' cy='$' r='3'/>");
+            }
+            ActionKind::Finish => return self.draw_end(process, state.over(process)),
+            ActionKind::Fails(_) => {
+                return self.dot(process, "<circle class='fails' cx='$' cy='$' r='3'/>");
+            }
+            ActionKind::Abandon(monitor) => {
+                self.note_abandoned(process, *monitor)?;
+                return self.dot(process, "<circle class='fails' cx='$' cy='$' r='3'/>");
+            }
+            ActionKind::Stray(_) => {
+                self.note(process, "<text class='note' x='$' y='$'>", b"stray")?;
+            }
+            ActionKind::Print(number) => {
+                let mut buffer = Buffer::new();
+                let text = buffer.format(*number);
+                self.note(process, "<text class='print' x='$' y='$'>", text.as_bytes())?;
+            }
+            _ => {}
+        }
+        self.dot(process, "<circle class='action' cx='$' cy='$' r='2'/>")
+    }
+
+    /// Draws the marks of an action, with its line.
+    pub fn draw_action(
+        &mut self,
+        state: &SourceState,
+        action: &Action,
+        finds_abandoned: bool,
+    ) -> Result<(), AllocError> {
+        let mut line = Vec::new(self.alloc);
+        append_line(self.alloc, &mut line, self.names, action)?;
+        append_shape(&mut self.marks, "<g><title>$: ", &[self.drawn])?;
+        append_escaped(&mut self.marks, line.as_slice())?;
+        append_shape(&mut self.marks, "</title>", &[])?;
+        if finds_abandoned {
+            self.note(
+                action.process,
+                "<text class='fault' x='$' y='$'>",
+                b"was abandoned",
+            )?;
+        }
+        self.draw_kind(state, action)?;
+        append_shape(&mut self.marks, "</g>\n", &[])
+    }
+}

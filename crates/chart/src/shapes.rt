@@ -1,0 +1,47 @@
+use itoa::Buffer;
+use std::alloc::AllocError;
+
+/// Appends a form of XML text, with the next number in place of each `$`.
+pub(crate) fn append_shape(
+    out: &mut Vec<u8>,
+    form: &str,
+    numbers: &[u64],
+) -> Result<(), AllocError> {
+    let mut buffer = Buffer::new();
+    let mut rest = numbers.iter();
+    for byte in form.as_bytes() {
+        match (*byte, rest.as_slice()) {
+            (b'$', [number, ..]) => {
+                out.extend_from_slice(buffer.format(*number).as_bytes())?;
+                let _number = rest.next();
+            }
+            _ => out.push(*byte)?,
+        }
+    }
+    Ok(())
+}
+
+/// Appends a form with numbers, a text, and a second form.
+pub(crate) fn append_text(
+    out: &mut Vec<u8>,
+    form: &str,
+    numbers: &[u64],
+    text: &[u8],
+) -> Result<(), AllocError> {
+    append_shape(out, form, numbers)?;
+    append_escaped(out, text)?;
+    append_shape(out, "</text>\n", &[])
+}
+
+/// Appends a text, with what XML has for the bytes that mark its tags.
+pub(crate) fn append_escaped(out: &mut Vec<u8>, text: &[u8]) -> Result<(), AllocError> {
+    for byte in text {
+        match *byte {
+            b'<' => out.extend_from_slice(b"&lt;")?,
+            b'>' => out.extend_from_slice(b"&gt;")?,
+            b'&' => out.extend_from_slice(b"&amp;")?,
+            other => out.push(other)?,
+        }
+    }
+    Ok(())
+}

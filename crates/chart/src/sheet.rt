@@ -1,0 +1,231 @@
+use crate::bar::Bar;
+use crate::labels::{condition_name, monitor_name};
+use crate::layer::{Layer, layers_of};
+use crate::palette::colour;
+use crate::row::{Moment, Row};
+use crate::shapes::{append_shape, append_text};
+use program::Names;
+use sourcestates::SourceState;
+use std::alloc::{AllocError, Global};
+
+/// Where the first action's column begins.
+pub(crate) const LEFT: u64 = 84;
+
+/// How many actions stand side by side; more stand below them.
+pub(crate) const COLUMNS: u64 = 80;
+
+/// The width of an action's column.
+pub(crate) const COLUMN: u64 = 14;
+
+// The height of a row, and of a strip's numbers above its rows.
+const ROW: u64 = 36;
+
+const TICKS: u64 = 18;
+
+/// A picture while it is drawn, in strips of columns.
+#[derive(Drop)]
+pub(crate) struct Sheet<'c, 'n> {
+    pub alloc: Global,
+    pub names: &'c Names<'n>,
+    /// What lies behind the bars.
+    pub lines: Vec<u8>,
+    /// The bars.
+    pub bars: Vec<u8>,
+    /// What lies before the bars.
+    pub marks: Vec<u8>,
+    /// The rows of the processes, the first of process 1.
+    pub rows: Vec<Row>,
+    /// The processes that others join.
+    pub joined: Vec<u64>,
+    /// How many actions were drawn.
+    pub drawn: u64,
+    /// The upper edge of this strip.
+    pub top: u64,
+    /// The lower edge of this strip's rows.
+    pub bottom: u64,
+}
+
+// The place of a process's row.
+pub(crate) fn index_of(process: u64) -> usize {
+    process.saturating_sub(1) as usize
+}
+
+// Writes the name of what a bar shows above it, where no other name stands.
+fn label(
+    marks: &mut Vec<u8>,
+    names: &Names,
+    middle: u64,
+    names_end: &mut u64,
+    bar: Bar,
+) -> Result<(), AllocError> {
+    let (form, monitor, name) = match bar.layer {
+        Layer::Holds(monitor) => (
+            "<text class='m$' x='$' y='$'>",
+            monitor,
+            monitor_name(names, monitor),
+        ),
+        Layer::Waits(condition) => (
+            "<text class='condition m$' x='$' y='$'>",
+            condition.monitor,
+            condition_name(names, condition),
+        ),
+        _ => return Ok(()),
+    };
+    if bar.left < *names_end {
+        return Ok(());
+    }
+    let wide = (name.len() as u64).saturating_mul(6).saturating_add(4);
+    *names_end = bar.left.saturating_add(wide);
+    let above = middle.saturating_sub(11);
+    append_text(marks, form, &[colour(monitor), bar.left, above], name)
+}
+
+impl<'c, 'n> Sheet<'c, 'n> {
+    /// An empty picture.
+    pub fn new(alloc: Global, names: &'c Names<'n>, joined: Vec<u64>) -> Sheet<'c, 'n> {
+        Sheet {
+            alloc,
+            names,
+            lines: Vec::new(alloc),
+            bars: Vec::new(alloc),
+            marks: Vec::new(alloc),
+            rows: Vec::new(alloc),
+            joined,
+            drawn: 0,
+            top: 40,
+            bottom: 58,
+        }
+    }
+
+    /// A moment in the column of the last action: 0 is its left edge, 1 its middle, and 2 its right edge.
+    pub fn moment(&self, half: u64) -> Moment {
+        let column = self.drawn.saturating_sub(1) % COLUMNS;
+        Moment {
+            left: (column * COLUMN)
+                .saturating_add(LEFT)
+                .saturating_add(half.saturating_mul(COLUMN / 2)),
+            action: self.drawn,
+        }
+    }
+
+    // Gives each process that wasn't joined a row of this strip.
+    fn place_rows(&mut self, first: usize) -> Result<(), AllocError> {
+        for (index, row) in self.rows.iter_mut().enumerate().skip(first) {
+            if row.gone {
+                continue;
+            }
+            row.middle = self.bottom.saturating_add(ROW / 2);
+            self.bottom = self.bottom.saturating_add(ROW);
+            let number = (index as u64).saturating_add(1);
+            let below = row.middle.saturating_add(4);
+            append_shape(
+                &mut self.lines,
+                "<text class='process' x='12' y='$'>process $</text>\n",
+                &[below, number],
+            )?;
+            for bar in row.bars.iter() {
+                label(
+                    &mut self.marks,
+                    self.names,
+                    row.middle,
+                    &mut row.names_end,
+                    *bar,
+                )?;
+            }
+        }
+        Ok(())
+    }
+
+    /// Adds the row of the next process.
+    pub fn add_row(&mut self) -> Result<(), AllocError> {
+        let first = self.rows.len();
+        self.rows.push(Row::new(self.alloc))?;
+        self.place_rows(first)
+    }
+
+    // Draws the grid of this strip, with the numbers of each tenth action.
+    fn draw_grid(&mut self) -> Result<(), AllocError> {
+        let columns = self.drawn.saturating_sub(1) % COLUMNS + 1;
+        let before = self.drawn.saturating_sub(columns);
+        for column in 1..=columns {
+            let number = before.saturating_add(column);
+            if number % 10 == 0 || number == 1 {
+                let left = (column * COLUMN).saturating_add(LEFT - COLUMN / 2);
+                let tick = self.top.saturating_add(10);
+                append_shape(
+                    &mut self.lines,
+                    "<text class='tick' x='$' y='$'>$</text><path class='grid' d='M$,$V$'/>\n",
+                    &[
+                        left,
+                        tick,
+                        number,
+                        left,
+                        tick.saturating_add(4),
+                        self.bottom,
+                    ],
+                )?;
+            }
+        }
+        Ok(())
+    }
+
+    /// Ends this strip: its bars are drawn up to its right edge.
+    pub fn end_strip(&mut self) -> Result<(), AllocError> {
+        let moment = self.moment(2);
+        for row in self.rows.iter_mut() {
+            row.cut(&mut self.bars, self.names, moment, LEFT)?;
+        }
+        self.draw_grid()
+    }
+
+    // Ends this strip, and begins the next.
+    fn begin_strip(&mut self) -> Result<(), AllocError> {
+        self.end_strip()?;
+        self.top = self.bottom.saturating_add(14);
+        self.bottom = self.top.saturating_add(TICKS);
+        self.place_rows(0)
+    }
+
+    /// Goes on to the column of the next action, in a new strip where this one is full.
+    pub fn advance(&mut self) -> Result<(), AllocError> {
+        if self.drawn > 0 && self.drawn % COLUMNS == 0 {
+            self.begin_strip()?;
+        }
+        self.drawn = self.drawn.saturating_add(1);
+        Ok(())
+    }
+
+    /// From a moment on a process does what the state says.
+    pub fn follow(
+        &mut self,
+        state: &SourceState,
+        process: u64,
+        moment: Moment,
+    ) -> Result<(), AllocError> {
+        let layers = layers_of(self.alloc, state, process)?;
+        let Some(row) = self.rows.get_mut(index_of(process)) else {
+            return Ok(());
+        };
+        let kept = row.change(&mut self.bars, self.names, layers.as_slice(), moment)?;
+        for bar in row.bars.iter().skip(kept) {
+            label(
+                &mut self.marks,
+                self.names,
+                row.middle,
+                &mut row.names_end,
+                *bar,
+            )?;
+        }
+        Ok(())
+    }
+
+    /// A process was joined: its row ends.
+    pub fn leave(&mut self, process: u64, moment: Moment) -> Result<(), AllocError> {
+        let Some(row) = self.rows.get_mut(index_of(process)) else {
+            return Ok(());
+        };
+        let _kept = row.change(&mut self.bars, self.names, &[], moment)?;
+        row.gone = true;
+        Ok(())
+    }
+}
