@@ -106,7 +106,7 @@ module _ (p : Program) where
   )
 
 -- a process is made with the next number
-made_next : (t : ℕ) (o : Offer) (label : Label) (child : ℕ) (q r : Process) (T T' : Table) → IsPlain o
+pub made_next : (t : ℕ) (o : Offer) (label : Label) (child : ℕ) (q r : Process) (T T' : Table) → IsPlain o
     → TakesUp o label (Makes child q) r → Allows t label T T' → child ≡ T.made + 1
 made_next t Rests label child q r T T' is x a = absurd x
 made_next t (Does l e s) label child q r T T' is x a = absurd (subst IsQuiet (sym x.1) is.1)

@@ -2,3 +2,6 @@ pub mod Puts
 pub mod Waiting
 pub mod Keeping
 pub mod Behind
+pub mod Following
+pub mod Reordering
+pub mod Same

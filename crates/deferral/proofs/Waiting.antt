@@ -34,6 +34,12 @@ module _ (p : Program) (t : ℕ) (v : Variables) (T : Table) where
   at_none ks None w = w
   at_none ks (Some q) w = absurd w
 
+  pub at_equal : (x y : Option Process) → WaitAt p t v T [] x y → x ≡ y
+  at_equal None None w = refl
+  at_equal None (Some r) w = absurd w
+  at_equal (Some q) None w = absurd w
+  at_equal (Some q) (Some r) w = ap Some w
+
   -- the first of the actions that wait
   pub record First (k : Kind) (ks : List Kind) (x y : Option Process) : Type 0 where
     pub before : Process

@@ -1,1 +1,2 @@
 pub mod Deferring
+pub mod Placed

@@ -3,5 +3,7 @@
 #![tactic(auto)]
 
 mod law;
+mod placing;
 
 pub use law::deferral_laws;
+pub use placing::placing_laws;
