@@ -2,3 +2,4 @@ pub mod Moves
 pub mod Waiters
 pub mod Ready
 pub mod Found
+pub mod Ways

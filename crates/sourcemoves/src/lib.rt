@@ -1,6 +1,8 @@
-//! Which processes of a source program can move in a state.
+//! Which processes of a source program can move in a state, and how long a run a list of actions begins with.
 #![tactic(auto)]
 
 mod moving;
+mod running;
 
 pub use moving::{can_move, movers};
+pub use running::run_length;
