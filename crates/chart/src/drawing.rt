@@ -1,6 +1,7 @@
 use crate::legend::append_legend;
 use crate::marks::finds_abandoned;
 use crate::palette::STYLES;
+use crate::row::LEVELS;
 use crate::shapes::append_shape;
 use crate::sheet::{COLUMN, COLUMNS, LEFT, Sheet};
 use program::Checked;
@@ -59,6 +60,15 @@ fn joined(alloc: Global, actions: &[Action]) -> Result<Vec<u64>, AllocError> {
     Ok(joined)
 }
 
+// Where the bars of each level are written.
+fn no_bars(alloc: Global) -> Result<Vec<Vec<u8>>, AllocError> {
+    let mut bars = Vec::new(alloc);
+    for _level in 0..LEVELS {
+        bars.push(Vec::new(alloc))?;
+    }
+    Ok(bars)
+}
+
 // Draws the actions, up to the first that isn't possible.
 fn draw_run(
     alloc: Global,
@@ -102,7 +112,9 @@ fn append_head(out: &mut Vec<u8>, sheet: &Sheet, wide: u64, tall: u64) -> Result
 // Appends what was drawn.
 fn append_layers(out: &mut Vec<u8>, sheet: &Sheet) -> Result<(), AllocError> {
     out.extend_from_slice(sheet.lines.as_slice())?;
-    out.extend_from_slice(sheet.bars.as_slice())?;
+    for level in sheet.bars.iter() {
+        out.extend_from_slice(level.as_slice())?;
+    }
     out.extend_from_slice(sheet.marks.as_slice())
 }
 
@@ -124,7 +136,8 @@ fn assemble(alloc: Global, sheet: &Sheet) -> Result<Vec<u8>, AllocError> {
 
 /// The picture of a run, as SVG. Of actions that aren't a run it shows those before the first that isn't possible.
 pub fn chart(alloc: Global, checked: &Checked, actions: &[Action]) -> Result<Vec<u8>, AllocError> {
-    let mut sheet = Sheet::new(alloc, checked.names(), joined(alloc, actions)?);
+    let joined = joined(alloc, actions)?;
+    let mut sheet = Sheet::new(alloc, checked.names(), joined, no_bars(alloc)?);
     draw_run(alloc, checked, actions, &mut sheet)?;
     assemble(alloc, &sheet)
 }

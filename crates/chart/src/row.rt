@@ -3,13 +3,18 @@ use crate::layer::Layer;
 use program::Names;
 use std::alloc::{AllocError, Global};
 
+/// On how many levels bars are drawn; those that stand on more share the last.
+pub(crate) const LEVELS: usize = 6;
+
 /// A process in the picture.
 #[derive(Drop)]
 pub(crate) struct Row {
     /// What it is doing, from the outermost monitor that it holds.
     pub bars: Vec<Bar>,
-    /// The middle of its row in this part of the picture.
+    /// The middle of its row in this strip.
     pub middle: u64,
+    /// Whether it has a row in this strip.
+    pub placed: bool,
     /// Where the names above its bars end.
     pub names_end: u64,
     /// Where the notes below its bars end.
@@ -43,10 +48,32 @@ impl Row {
         Row {
             bars: Vec::new(alloc),
             middle: 0,
+            placed: false,
             names_end: 0,
             notes_end: 0,
             gone: false,
         }
+    }
+
+    /// Whether it is over, and only waits to be joined.
+    pub fn is_over(&self) -> bool {
+        matches!(self.bars.as_slice(), [bar] if bar.layer == Layer::IsOver)
+    }
+
+    // Draws its bars from a level on, up to a moment, each over those that it stands on.
+    fn draw_from(
+        &self,
+        levels: &mut [Vec<u8>],
+        names: &Names,
+        first: usize,
+        moment: Moment,
+    ) -> Result<(), AllocError> {
+        for (level, bar) in self.bars.iter().enumerate().skip(first) {
+            if let Some(out) = levels.get_mut(level.min(LEVELS - 1)) {
+                bar.draw(out, names, place(level, self.middle, moment))?;
+            }
+        }
+        Ok(())
     }
 
     // How many of its bars go on, from the lowest.
@@ -64,15 +91,13 @@ impl Row {
     /// From a moment on the process does this: bars that end are drawn, and others begin. How many are the same.
     pub fn change(
         &mut self,
-        out: &mut Vec<u8>,
+        levels: &mut [Vec<u8>],
         names: &Names,
         layers: &[Layer],
         moment: Moment,
     ) -> Result<usize, AllocError> {
         let kept = self.kept(layers);
-        for (level, bar) in self.bars.iter().enumerate().skip(kept) {
-            bar.draw(out, names, place(level, self.middle, moment))?;
-        }
+        self.draw_from(levels, names, kept, moment)?;
         self.bars.truncate(kept);
         for layer in layers.iter().skip(kept) {
             self.bars.push(Bar {
@@ -84,18 +109,21 @@ impl Row {
         Ok(kept)
     }
 
-    /// Draws all bars up to a moment, from which on they go on elsewhere.
+    /// Ends its row in this strip: its bars go on from the next strip's left edge.
     pub fn cut(
         &mut self,
-        out: &mut Vec<u8>,
+        levels: &mut [Vec<u8>],
         names: &Names,
         moment: Moment,
         left: u64,
     ) -> Result<(), AllocError> {
-        for (level, bar) in self.bars.iter_mut().enumerate() {
-            bar.draw(out, names, place(level, self.middle, moment))?;
+        if self.placed {
+            self.draw_from(levels, names, 0, moment)?;
+        }
+        for bar in self.bars.iter_mut() {
             bar.left = left;
         }
+        self.placed = false;
         self.names_end = 0;
         self.notes_end = 0;
         Ok(())

@@ -29,8 +29,8 @@ pub(crate) struct Sheet<'c, 'n> {
     pub names: &'c Names<'n>,
     /// What lies behind the bars.
     pub lines: Vec<u8>,
-    /// The bars.
-    pub bars: Vec<u8>,
+    /// The bars, those that stand on others behind them.
+    pub bars: Vec<Vec<u8>>,
     /// What lies before the bars.
     pub marks: Vec<u8>,
     /// The rows of the processes, the first of process 1.
@@ -82,12 +82,17 @@ fn label(
 
 impl<'c, 'n> Sheet<'c, 'n> {
     /// An empty picture.
-    pub fn new(alloc: Global, names: &'c Names<'n>, joined: Vec<u64>) -> Sheet<'c, 'n> {
+    pub fn new(
+        alloc: Global,
+        names: &'c Names<'n>,
+        joined: Vec<u64>,
+        bars: Vec<Vec<u8>>,
+    ) -> Sheet<'c, 'n> {
         Sheet {
             alloc,
             names,
             lines: Vec::new(alloc),
-            bars: Vec::new(alloc),
+            bars,
             marks: Vec::new(alloc),
             rows: Vec::new(alloc),
             joined,
@@ -108,29 +113,46 @@ impl<'c, 'n> Sheet<'c, 'n> {
         }
     }
 
-    // Gives each process that wasn't joined a row of this strip.
-    fn place_rows(&mut self, first: usize) -> Result<(), AllocError> {
-        for (index, row) in self.rows.iter_mut().enumerate().skip(first) {
-            if row.gone {
-                continue;
-            }
-            row.middle = self.bottom.saturating_add(ROW / 2);
-            self.bottom = self.bottom.saturating_add(ROW);
-            let number = (index as u64).saturating_add(1);
-            let below = row.middle.saturating_add(4);
-            append_shape(
-                &mut self.lines,
-                "<text class='process' x='12' y='$'>process $</text>\n",
-                &[below, number],
+    // Gives a process a row of this strip.
+    fn place_row(&mut self, index: usize) -> Result<(), AllocError> {
+        let Some(row) = self.rows.get_mut(index) else {
+            return Ok(());
+        };
+        row.placed = true;
+        row.middle = self.bottom.saturating_add(ROW / 2);
+        self.bottom = self.bottom.saturating_add(ROW);
+        let number = (index as u64).saturating_add(1);
+        let below = row.middle.saturating_add(4);
+        append_shape(
+            &mut self.lines,
+            "<text class='process' x='12' y='$'>process $</text>\n",
+            &[below, number],
+        )?;
+        for bar in row.bars.iter() {
+            label(
+                &mut self.marks,
+                self.names,
+                row.middle,
+                &mut row.names_end,
+                *bar,
             )?;
-            for bar in row.bars.iter() {
-                label(
-                    &mut self.marks,
-                    self.names,
-                    row.middle,
-                    &mut row.names_end,
-                    *bar,
-                )?;
+        }
+        Ok(())
+    }
+
+    // Whether a process is to have a row of a strip from its beginning.
+    fn goes_on(&self, index: usize) -> bool {
+        match self.rows.get(index) {
+            None => false,
+            Some(row) => !row.gone && !row.is_over(),
+        }
+    }
+
+    // Gives each process that goes on a row of this strip.
+    fn place_rows(&mut self) -> Result<(), AllocError> {
+        for index in 0..self.rows.len() {
+            if self.goes_on(index) {
+                self.place_row(index)?;
             }
         }
         Ok(())
@@ -140,7 +162,7 @@ impl<'c, 'n> Sheet<'c, 'n> {
     pub fn add_row(&mut self) -> Result<(), AllocError> {
         let first = self.rows.len();
         self.rows.push(Row::new(self.alloc))?;
-        self.place_rows(first)
+        self.place_row(first)
     }
 
     // Draws the grid of this strip, with the numbers of each tenth action.
@@ -173,7 +195,7 @@ impl<'c, 'n> Sheet<'c, 'n> {
     pub fn end_strip(&mut self) -> Result<(), AllocError> {
         let moment = self.moment(2);
         for row in self.rows.iter_mut() {
-            row.cut(&mut self.bars, self.names, moment, LEFT)?;
+            row.cut(self.bars.as_mut_slice(), self.names, moment, LEFT)?;
         }
         self.draw_grid()
     }
@@ -183,7 +205,7 @@ impl<'c, 'n> Sheet<'c, 'n> {
         self.end_strip()?;
         self.top = self.bottom.saturating_add(14);
         self.bottom = self.top.saturating_add(TICKS);
-        self.place_rows(0)
+        self.place_rows()
     }
 
     /// Goes on to the column of the next action, in a new strip where this one is full.
@@ -206,7 +228,12 @@ impl<'c, 'n> Sheet<'c, 'n> {
         let Some(row) = self.rows.get_mut(index_of(process)) else {
             return Ok(());
         };
-        let kept = row.change(&mut self.bars, self.names, layers.as_slice(), moment)?;
+        let kept = row.change(
+            self.bars.as_mut_slice(),
+            self.names,
+            layers.as_slice(),
+            moment,
+        )?;
         for bar in row.bars.iter().skip(kept) {
             label(
                 &mut self.marks,
@@ -219,12 +246,21 @@ impl<'c, 'n> Sheet<'c, 'n> {
         Ok(())
     }
 
-    /// A process was joined: its row ends.
+    // Sees that a process has a row of this strip.
+    fn see(&mut self, index: usize) -> Result<(), AllocError> {
+        match self.rows.get(index) {
+            Some(row) if !row.placed => self.place_row(index),
+            _ => Ok(()),
+        }
+    }
+
+    /// A process is joined, or is over and never joined: its row ends.
     pub fn leave(&mut self, process: u64, moment: Moment) -> Result<(), AllocError> {
+        self.see(index_of(process))?;
         let Some(row) = self.rows.get_mut(index_of(process)) else {
             return Ok(());
         };
-        let _kept = row.change(&mut self.bars, self.names, &[], moment)?;
+        let _kept = row.change(self.bars.as_mut_slice(), self.names, &[], moment)?;
         row.gone = true;
         Ok(())
     }
