@@ -1,1 +1,4 @@
 pub mod Desks
+pub mod Handed
+pub mod Told
+pub mod Taken

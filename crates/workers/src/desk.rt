@@ -1,10 +1,11 @@
-ghost use Rattle.std.specs.Prelude.{◌≡◌, ◌≤◌, ◌<◌, ◌+◌, length, true, is_some, Some, None, IfSome, IfNone};
+ghost use Rattle.std.specs.Prelude.{◌≡◌, ◌≤◌, ◌<◌, ◌+◌, length, take, true, is_some, Some, None, IfSome, IfNone};
+ghost use Rattle.std.specs.Prelude.{◌⊎◌, MatchBool, unwrap_or};
 ghost use Rattle.words.specs.Limits.{most_processes};
 ghost use Rattle.machine.specs.ConcreteSteps.{can_move};
-ghost use Rattle.runner.specs.Afters.{IsAfter};
-ghost use Rattle.runner.specs.declared.next.After.TheVariants as AfterOf;
-ghost use Rattle.runner.specs.Views.{log_state};
-ghost use Rattle.workers.specs.Desks.{HasCause};
+ghost use Rattle.runner.specs.declared.fault.RunFault.TheVariants.{Memory};
+ghost use Rattle.workers.specs.Desks.{HasCause, KeepsWorkers, StartsWorker, state_of};
+ghost use Rattle.workers.specs.Handed.{ComesIn, StaysAway, ComeIn, StopsAt, IsNextOf, IsNextOfFirst};
+ghost use Rattle.workers.specs.Told.{Concerns, last_event};
 
 use crate::seat::Seat;
 use crate::turns::Turns;
@@ -27,7 +28,12 @@ impl<J: RunName> Model for Desk<J> {
 
     ghost Value = { DeskView };
 
-    ghost view = { λ d. record { shared = d.shared; fault = d.fault; started = d.started } };
+    ghost view = { λ d. record {
+      shared = d.shared;
+      fault = d.fault;
+      started = d.started;
+      kept = d.kept;
+    } };
 
     ghost invariant = { λ d. IsDesk J.program J.limit d.shared.given d.started d.fault };
 }
@@ -45,6 +51,7 @@ impl<J: RunName> Desk<J> {
     /// A run, with the calling thread's part of its count, before any worker was started.
     pub fn new(shared: Shared<J>, kept: Share<J>) -> Desk<J>
         requires { shared.given ≡ 1 }
+        ensures { result ≡ record { shared = shared; fault = None; started = 0; kept = kept } }
     {
         Desk {
             shared,
@@ -56,7 +63,7 @@ impl<J: RunName> Desk<J> {
 
     /// Whether thread `t` can make an entry: it was made, is awake and has not ended.
     pub fn can_move(&self, t: u32) -> bool
-        ensures { result ≡ can_move (log_state self.now.shared).concrete t }
+        ensures { result ≡ can_move (state_of self.now) t }
     {
         self.shared.machine().can_move(t)
     }
@@ -69,7 +76,9 @@ impl<J: RunName> Desk<J> {
     }
 
     /// Ends the run for want of memory, if nothing else has ended it.
-    pub fn fail(&mut self) {
+    pub fn fail(&mut self)
+        ensures { self.new ≡ record self.old { fault = Some (unwrap_or self.old.fault Memory) } }
+    {
         if self.fault.is_none() {
             self.fault = Some(RunFault::Memory);
         }
@@ -77,13 +86,20 @@ impl<J: RunName> Desk<J> {
 
     /// Whether there is a thread without a worker.
     pub fn lacks_worker(&self) -> bool
-        ensures { result ≡ true → self.now.started < most_processes }
+        ensures whole { MatchBool result (self.now.started < length (state_of self.now).threads)
+            (length (state_of self.now).threads ≤ self.now.started) }
+        ensures few { result ≡ true → self.now.started < most_processes }
     {
         self.started < self.shared.machine().threads()
     }
 
     /// The next thread without a worker, with a part of the count for it.
-    pub fn next_worker(&mut self) -> Option<(u32, Share<J>)> {
+    pub fn next_worker(&mut self) -> Option<(u32, Share<J>)>
+        ensures some { IfSome result (λ worker. StartsWorker self.old worker.0 worker.1 self.new) }
+        ensures few { IfSome result (λ worker. worker.0 ≤ most_processes) }
+        ensures none { IfNone result ((self.new ≡ self.old)
+            × ((is_some self.old.fault ≡ true) ⊎ (length (state_of self.old).threads ≤ self.old.started))) }
+    {
         if self.fault.is_some() || !self.lacks_worker() {
             return None;
         }
@@ -96,8 +112,7 @@ impl<J: RunName> Desk<J> {
 
     /// What thread `t` does: where it goes on, its piece begins anew. It ends where the run ends before its time.
     pub fn next(&self, t: u32, piece: &mut Piece<J>) -> After
-        ensures next { self.now.fault ≡ None → IsAfter (log_state self.now.shared).concrete t piece.new result }
-        ensures ends { is_some self.now.fault ≡ true → result ≡ AfterOf.Ends }
+        ensures { IsNextOf self.now t piece.new result }
     {
         if self.fault.is_some() {
             return After::Ends;
@@ -115,21 +130,45 @@ impl<J: RunName> Desk<J> {
         share: &mut Share<J>,
         seat: &Seat,
         gate: &G,
-    ) -> After {
-        for piece in turns.taken() {
-            if let Some(after) = self.enter(t, piece, share, seat) {
-                return after;
-            }
+    ) -> After
+        ensures goes_on { StopsAt J.program J.limit self.old t (take turns.old.taken turns.old.pieces.items) self.new
+            share.old share.new result
+            ⊎ IsNextOfFirst self.new t turns.new.pieces.items result }
+        ensures workers { KeepsWorkers self.old self.new }
+    {
+        if let Some(after) = self.take_in(t, turns.taken(), share, seat) {
+            return after;
         }
         self.go_on_alone(t, share, gate);
-        match turns.first() {
-            Some(piece) => self.next(t, piece),
-            None => After::Ends,
+        self.next(t, &mut turns.pieces[0])
+    }
+
+    // Takes in these pieces of thread `t`, up to one that is refused, and says how its worker goes on where one is.
+    fn take_in(
+        &mut self,
+        t: u32,
+        pieces: &[Piece<J>],
+        share: &mut Share<J>,
+        seat: &Seat,
+    ) -> Option<After>
+        ensures all { IfNone result
+            (ComeIn J.program J.limit self.old t pieces.now self.new share.old share.new) }
+        ensures some { IfSome result
+            (λ after. StopsAt J.program J.limit self.old t pieces.now self.new share.old share.new after) }
+        ensures workers { KeepsWorkers self.old self.new }
+    {
+        for piece in pieces {
+            if let Some(after) = self.enter(t, piece, share, seat) {
+                return Some(after);
+            }
         }
+        None
     }
 
     // Lets thread `t` go on in its place, as long as no other was made: nobody waits for the lock meanwhile.
-    fn go_on_alone<G: Gate>(&mut self, t: u32, share: &mut Share<J>, gate: &G) {
+    fn go_on_alone<G: Gate>(&mut self, t: u32, share: &mut Share<J>, gate: &G)
+        ensures { KeepsWorkers self.old self.new }
+    {
         if let Err(fault) = run_alone(&mut self.shared, share, gate, t) {
             self.fault = Some(fault);
         }
@@ -142,7 +181,13 @@ impl<J: RunName> Desk<J> {
         piece: &Piece<J>,
         share: &mut Share<J>,
         seat: &Seat,
-    ) -> Option<After> {
+    ) -> Option<After>
+        ensures comes_in { IfNone result
+            (ComesIn J.program J.limit self.old t piece.now self.new share.old share.new) }
+        ensures away { IfSome result (λ after. StaysAway J.program J.limit self.old t piece.now self.new after
+            × (share.new ≡ share.old)) }
+        ensures workers { KeepsWorkers self.old self.new }
+    {
         if self.fault.is_some() {
             return Some(After::Ends);
         }
@@ -166,7 +211,9 @@ impl<J: RunName> Desk<J> {
     }
 
     /// Whom the last entry concerns.
-    pub fn news(&self) -> News {
+    pub fn news(&self) -> News
+        ensures { Concerns (last_event self.now.shared.log) result }
+    {
         match self.shared.log().last() {
             Some(
                 Entry {
@@ -185,13 +232,21 @@ impl<J: RunName> Desk<J> {
     }
 
     /// Takes back what a worker counted.
-    pub fn give_back(&mut self, share: Share<J>) {
+    pub fn give_back(&mut self, share: Share<J>)
+        ensures { self.new ≡ record self.old {
+          kept = record {
+            parts = self.old.kept.parts + share.parts;
+            count = self.old.kept.count + share.count;
+          };
+        } }
+    {
         self.kept.merge(share);
     }
 
     /// The run, why it ended before its time, and what the calling thread counted and was given back.
     pub fn into_parts(self) -> (Shared<J>, Option<RunFault>, Share<J>)
-        ensures { HasCause J.program J.limit result.1 }
+        ensures cause { HasCause J.program J.limit result.1 }
+        ensures whole { (result.0 ≡ self.shared) × (result.1 ≡ self.fault) × (result.2 ≡ self.kept) }
     {
         let Desk {
             shared,

@@ -1,4 +1,7 @@
-ghost use Rattle.std.specs.Prelude.{◌≡◌, ◌≤◌, ◌<◌};
+ghost use Rattle.std.specs.Prelude.{ℕ, ◌≡◌, ◌≤◌, true, false, is_some, None, IfSome};
+ghost use Rattle.words.specs.Limits.{most_processes};
+ghost use Rattle.machine.specs.ConcreteSteps.{can_move};
+ghost use Rattle.workers.specs.Desks.{state_of};
 
 use crate::desk::{Desk, News};
 use crate::lent::Lent;
@@ -79,7 +82,10 @@ impl<J: RunName> Hall<J> {
     }
 
     // The next thread without a worker, once it was made. None where nobody is left to make one.
-    fn next_worker<R: Wait>(&self, rt: &R) -> Option<(u32, Share<J>)> {
+    fn next_worker<R: Wait>(&self, rt: &R) -> Option<(u32, Share<J>)>
+        ensures { IfSome result (λ worker. (1 ≤ worker.0) × (worker.0 ≤ most_processes)
+            × (worker.1 ≡ record { parts = 1; count = 0 })) }
+    {
         let mut desk = self.made.wait_while(rt, self.lock(rt), |desk| {
             !desk.lacks_worker() && !self.is_over(desk)
         });
@@ -138,10 +144,7 @@ impl<J: RunName> Hall<J> {
         let desk = seat.called().wait_while(rt, self.lock(rt), |desk| {
             !desk.can_move(t) && !self.is_over(desk)
         });
-        match turns.first() {
-            Some(piece) => desk.next(t, piece),
-            None => After::Ends,
-        }
+        desk.next(t, &mut turns.pieces[0])
     }
 
     // Takes in the turns of thread `t`, and calls whom they concern.
@@ -186,7 +189,10 @@ impl<J: RunName> Hall<J> {
     }
 
     // Whether no worker is left to make an entry.
-    fn is_over(&self, desk: &Desk<J>) -> bool {
+    fn is_over(&self, desk: &Desk<J>) -> bool
+        ensures over { is_some desk.now.fault ≡ true → result ≡ true }
+        ensures goes_on { result ≡ false → (t : ℕ) × (can_move (state_of desk.now) t ≡ true) }
+    {
         if desk.fault().is_some() {
             return true;
         }

@@ -1,4 +1,5 @@
-ghost use Rattle.std.specs.Prelude.{◌<◌, length};
+ghost use Rattle.std.specs.Prelude.{◌≡◌, ◌<◌, ◌≤◌, [], ◌∷◌, vec_len, take, IfOk, MatchBool};
+ghost use Rattle.workers.specs.Taken.{AreTurns, IsTurn, IsGrown, StartsAt, idle};
 
 use crate::lent::Lent;
 use runner::{Piece, RunName};
@@ -6,68 +7,90 @@ use std::alloc::{AllocError, Global};
 use words::{Gate, MOST_LOCAL_STEPS};
 
 // How many turns a worker takes at most before it hands them in. Each has a piece of some 12 kilobytes.
-const MOST_TURNS: u32 = 8;
+const MOST_TURNS: usize = 16;
 
 /// The turns of one thread that its worker has taken and not handed in: a piece for each, which began where the one
 /// before has come. So the lock is taken once for all of them.
 #[derive(Drop)]
 pub struct Turns<J: RunName> {
-    pieces: Vec<Piece<J>>,
-    taken: usize,
+    /// The pieces, of which there is always a first one. More are made when they are wanted.
+    pub pieces: Vec<Piece<J>>,
+    /// How many of them are turns that were taken.
+    pub taken: usize,
+    ghost some: { 0 < vec_len pieces },
+    ghost within: { taken ≤ vec_len pieces },
 }
 
 impl<J: RunName> Turns<J> {
     /// None yet, of thread `t`.
-    pub fn new(alloc: Global, t: u32) -> Result<Turns<J>, AllocError> {
+    pub fn new(alloc: Global, t: u32) -> Result<Turns<J>, AllocError>
+        ensures { IfOk result (λ turns. (turns.pieces.items ≡ idle t ∷ []) × (turns.taken ≡ 0)) }
+    {
         let mut pieces = Vec::new(alloc);
-        for _ in 0..MOST_TURNS {
-            pieces.push(Piece::idle(t))?;
-        }
+        pieces.push(Piece::idle(t))?;
         Ok(Turns { pieces, taken: 0 })
     }
 
-    /// The piece that the next turns begin with.
-    pub fn first(&mut self) -> Option<&mut Piece<J>> {
-        self.pieces.get_mut(0)
-    }
-
     /// The pieces of the turns, in order.
-    pub fn taken(&self) -> &[Piece<J>] {
-        let taken = self.taken.min(self.pieces.len());
-        &self.pieces.as_slice()[..taken]
+    pub fn taken(&self) -> &[Piece<J>]
+        ensures { result.now ≡ take self.now.taken self.now.pieces.items }
+    {
+        &self.pieces.as_slice()[..self.taken]
     }
 
     /// Takes turns from the first piece on, until another step than a local one comes, or there is no piece left. The
     /// gate is passed after each.
-    pub fn take<G: Gate>(&mut self, lent: &Lent<J>, gate: &G, t: u32) {
-        self.taken = take_turns(self.pieces.as_mut_slice(), lent, gate, t);
+    pub fn take<G: Gate>(&mut self, lent: &Lent<J>, gate: &G, t: u32)
+        ensures { AreTurns J.program self.old.pieces.items self.new.pieces.items self.new.taken }
+    {
+        self.taken = take_turns(&mut self.pieces, lent, gate, t);
     }
 }
 
 // Takes turns on these pieces, and answers how many.
 fn take_turns<J: RunName, G: Gate>(
-    pieces: &mut [Piece<J>],
+    pieces: &mut Vec<Piece<J>>,
     lent: &Lent<J>,
     gate: &G,
     t: u32,
-) -> usize {
-    for at in 0..pieces.len() {
-        if at > 0 {
-            follow(pieces, at);
-        }
-        pieces[at].go_on(lent.image);
-        gate.pass(t);
-        if pieces[at].count() < MOST_LOCAL_STEPS {
-            return at + 1;
-        }
+) -> usize
+    requires { 0 < vec_len pieces.old }
+    ensures { AreTurns J.program pieces.old.items pieces.new.items result }
+{
+    take_turn(&mut pieces[0], lent, gate, t);
+    let mut taken = 1;
+    while pieces[taken - 1].count() == MOST_LOCAL_STEPS && has_piece(pieces, taken, t) {
+        follow(pieces, taken);
+        take_turn(&mut pieces[taken], lent, gate, t);
+        taken += 1;
     }
-    pieces.len()
+    taken
+}
+
+// Takes a turn, or what is left of one.
+fn take_turn<J: RunName, G: Gate>(piece: &mut Piece<J>, lent: &Lent<J>, gate: &G, t: u32)
+    ensures same { (piece.new.thread ≡ piece.old.thread) × (piece.new.origin ≡ piece.old.origin) }
+    ensures turn { IsTurn J.program piece.new }
+{
+    piece.go_on(lent.image);
+    gate.pass(t);
+}
+
+// Whether there is a piece of this number, from 0. It is made where there is room for it.
+fn has_piece<J: RunName>(pieces: &mut Vec<Piece<J>>, at: usize, t: u32) -> bool
+    requires { at ≤ vec_len pieces.old }
+    ensures { MatchBool result
+        ((at < vec_len pieces.new) × (at < 16) × IsGrown t pieces.old.items pieces.new.items)
+        (pieces.new.items ≡ pieces.old.items) }
+{
+    at < MOST_TURNS && (at < pieces.len() || pieces.push(Piece::idle(t)).is_ok())
 }
 
 // Lets a piece begin where the one before it has come.
-fn follow<J: RunName>(pieces: &mut [Piece<J>], at: usize)
-    requires { (0 < at) × (at < length pieces.old) }
+fn follow<J: RunName>(pieces: &mut Vec<Piece<J>>, at: usize)
+    requires { (0 < at) × (at < vec_len pieces.old) }
+    ensures { StartsAt at pieces.old.items pieces.new.items }
 {
-    let (before, rest) = pieces.split_at_mut(at);
+    let (before, rest) = pieces.as_mut_slice().split_at_mut(at);
     rest[0].follow(&before[at - 1]);
 }

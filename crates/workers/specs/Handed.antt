@@ -1,0 +1,65 @@
+-- What comes of the turns that a worker hands in.
+use Rattle.std.specs.Prelude.{ℕ, ◌≡◌, ◌⊎◌, ◌+◌, true, List, [], ◌∷◌, take, slice_get, Option, Some, None, is_some, MatchOption}
+use Rattle.isa.specs.Programs.{Program}
+use Rattle.runner.specs.declared.fault.RunFault.{RunFault}
+use Rattle.runner.specs.declared.fault.RunFault.TheVariants.{Stray, CannotMove, Limit}
+use Rattle.runner.specs.declared.next.After.{After}
+use Rattle.runner.specs.declared.next.After.TheVariants.{Goes, Sleeps, Ends}
+use Rattle.runner.specs.Afters.{IsAfter}
+use Rattle.runner.specs.Entries.{Takes, Refuses}
+use Rattle.runner.specs.Views.{PieceView, LogState, ShareView, log_state}
+use Rattle.workers.specs.Desks.{DeskView, state_of}
+
+-- the piece came in as an entry, which the share counts
+pub record ComesIn (p : Program) (limit : ℕ) (old : DeskView) (t : ℕ) (piece : PieceView) (new : DeskView)
+    (share share' : ShareView) : Type 0 where
+  pub goes_on : old.fault ≡ None
+  pub takes : Takes p limit (log_state old.shared) t piece (log_state new.shared)
+  pub fault : new.fault ≡ None
+  pub counted : share' ≡ record share { count = share.count + 1 }
+
+-- why the run ends before its time is as it was, or that this piece was refused
+abbrev pub IsFaultAfter : Program → ℕ → LogState → ℕ → PieceView → Option RunFault → Option RunFault → Type 0
+IsFaultAfter p limit h t piece old new =
+    (new ≡ old) ⊎ ((old ≡ None) × (fault : RunFault) × (new ≡ Some fault) × Refuses p limit h t piece fault)
+
+-- how a worker goes on whose piece doesn't come in: it goes on from where its thread is, where that has gone on without
+-- it or can't move; it ends where the run ends before its time, or the entry would pass the limit
+abbrev pub IsAway : Program → ℕ → LogState → ℕ → PieceView → Option RunFault → After → Type 0
+IsAway p limit h t piece fault Goes = ⊥
+IsAway p limit h t piece fault Sleeps =
+    (fault ≡ None) × (Refuses p limit h t piece Stray ⊎ Refuses p limit h t piece CannotMove)
+IsAway p limit h t piece fault Ends = (is_some fault ≡ true) ⊎ Refuses p limit h t piece Limit
+
+-- the piece doesn't come in, and the run is as it was
+pub record StaysAway (p : Program) (limit : ℕ) (old : DeskView) (t : ℕ) (piece : PieceView) (new : DeskView)
+    (after : After) : Type 0 where
+  pub run : log_state new.shared ≡ log_state old.shared
+  pub fault : IsFaultAfter p limit (log_state old.shared) t piece old.fault new.fault
+  pub away : IsAway p limit (log_state old.shared) t piece new.fault after
+
+-- the pieces came in, one after the other
+abbrev pub ComeIn : Program → ℕ → DeskView → ℕ → List PieceView → DeskView → ShareView → ShareView → Type 0
+ComeIn p limit old t [] new share share' = (new ≡ old) × (share' ≡ share)
+ComeIn p limit old t (piece ∷ pieces) new share share' =
+    (mid : DeskView) × (counted : ShareView) × ComesIn p limit old t piece mid share counted
+    × ComeIn p limit mid t pieces new counted share'
+
+-- the pieces before one came in, and that one stays away
+pub record StopsAt (p : Program) (limit : ℕ) (old : DeskView) (t : ℕ) (pieces : List PieceView) (new : DeskView)
+    (share share' : ShareView) (after : After) : Type 0 where
+  pub at : ℕ
+  pub piece : PieceView
+  pub is : slice_get pieces at ≡ Some piece
+  pub mid : DeskView
+  pub come : ComeIn p limit old t (take at pieces) mid share share'
+  pub away : StaysAway p limit mid t piece new after
+
+-- how the worker goes on from a piece: as its thread does, and it ends where the run ends before its time
+abbrev pub IsNextOf : DeskView → ℕ → PieceView → After → Type 0
+IsNextOf d t piece after = MatchOption d.fault (IsAfter (state_of d) t piece after) (λ _. after ≡ Ends)
+
+-- the same from the first of its pieces
+abbrev pub IsNextOfFirst : DeskView → ℕ → List PieceView → After → Type 0
+IsNextOfFirst d t pieces after =
+    (piece : PieceView) × (slice_get pieces 0 ≡ Some piece) × IsNextOf d t piece after
