@@ -63,3 +63,11 @@ IsNextOf d t piece after = MatchOption d.fault (IsAfter (state_of d) t piece aft
 abbrev pub IsNextOfFirst : DeskView → ℕ → List PieceView → After → Type 0
 IsNextOfFirst d t pieces after =
     (piece : PieceView) × (slice_get pieces 0 ≡ Some piece) × IsNextOf d t piece after
+
+-- where the worker goes on, the first of its pieces begins anew as its thread's
+abbrev pub IsAfresh : ℕ → List PieceView → After → Type 0
+IsAfresh t pieces Goes =
+    (piece : PieceView) × (slice_get pieces 0 ≡ Some piece) × (piece.thread ≡ t) × (piece.count ≡ 0)
+    × (piece.here ≡ piece.origin)
+IsAfresh t pieces Sleeps = Unit {0}
+IsAfresh t pieces Ends = Unit {0}

@@ -2,6 +2,7 @@ ghost use Rattle.std.specs.Prelude.{ℕ, ◌≡◌, ◌≤◌, true, false, is_s
 ghost use Rattle.words.specs.Limits.{most_processes};
 ghost use Rattle.machine.specs.ConcreteSteps.{can_move};
 ghost use Rattle.workers.specs.Desks.{state_of};
+ghost use Rattle.workers.specs.Handed.{IsAfresh};
 
 use crate::desk::{Desk, News};
 use crate::lent::Lent;
@@ -137,7 +138,9 @@ impl<J: RunName> Hall<J> {
     }
 
     // Parks until thread `t` can move, or nobody is left to wake it. Then it goes on from the first of its turns.
-    fn wake<R: Wait>(&self, rt: &R, t: u32, turns: &mut Turns<J>) -> After {
+    fn wake<R: Wait>(&self, rt: &R, t: u32, turns: &mut Turns<J>) -> After
+        ensures { IsAfresh t turns.new.pieces.items result }
+    {
         let Some(seat) = self.seats.get(t as usize) else {
             return After::Ends;
         };
@@ -155,7 +158,9 @@ impl<J: RunName> Hall<J> {
         t: u32,
         turns: &mut Turns<J>,
         share: &mut Share<J>,
-    ) -> After {
+    ) -> After
+        ensures { IsAfresh t turns.new.pieces.items result }
+    {
         let Some(seat) = self.seats.get(t as usize) else {
             return After::Ends;
         };
