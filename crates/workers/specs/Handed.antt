@@ -1,5 +1,6 @@
 -- What comes of the turns that a worker hands in.
-use Rattle.std.specs.Prelude.{ℕ, ◌≡◌, ◌⊎◌, ◌+◌, true, List, [], ◌∷◌, take, slice_get, Option, Some, None, is_some, MatchOption}
+use Rattle.std.specs.Prelude.{ℕ, ◌≡◌, ◌⊎◌, ◌+◌, true, List, [], ◌∷◌, take, slice_get, Option, Some, None, is_some}
+use Rattle.std.specs.Prelude.{MatchOption}
 use Rattle.isa.specs.Programs.{Program}
 use Rattle.runner.specs.declared.fault.RunFault.{RunFault}
 use Rattle.runner.specs.declared.fault.RunFault.TheVariants.{Stray, CannotMove, Limit}
