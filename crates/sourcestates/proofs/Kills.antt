@@ -1,5 +1,5 @@
 -- Kills that are possible, and that aren't.
-use Rattle.std.proofs.Common.{◌≡◌, ◌⊎◌, ◌↔◌, ◌==◌, ◌++◌, ℕ, Bool, true, false, cond, List, [], ◌∷◌, Option, Some}
+use Rattle.std.proofs.Common.{◌≡◌, ◌⊎◌, ◌↔◌, ◌++◌, ℕ, List, [], ◌∷◌, Option, Some}
 use Rattle.std.proofs.Common.{None, Contains, refl, ap, sym, ◌∙◌, subst, inl, inr, arith}
 use Rattle.words.specs.Updates.{put}
 use Rattle.program.specs.declared.kinds.Member.{Member}
@@ -70,23 +70,18 @@ none_resumed t None resumed none = none
 none_resumed t (Some c) resumed none =
     λ q (k, l, e). absurd (let m = subst (λ xs. Contains xs q) none (k, l, e) in omega (arith, m.1))
 
-put_over : {X : Type 0} (b : Bool) (v w x : X) → cond b v (cond b w x) ≡ cond b v x
-put_over true v w x = refl
-put_over false v w x = refl
-
 -- a kill that is possible
 pub killed : (p : Program) (s s' : SourceState) (n : ℕ) (before : Process) (o : Offer) (entered given : Option ℕ)
     (held ms : List ℕ) (last : Option ℕ) (notified : Option Member) (resumed : List ℕ) (t : Table)
-    (f : ℕ → Option Process) (w : Option Process)
     → s.process n ≡ Some before → IsKillable before → o ≡ offer p s.variable before → held ≡ holds before
     → IsTheOne entered (Enters before) → IsTheOne given (GivesUp o)
     → IsLeftOf held (λ m. (entered ≡ Some m) ⊎ (given ≡ Some m)) last ms
     → ((c : Member) → IsNotifying o (Some c) ↔ (notified ≡ Some c))
-    → AllowsKill n notified resumed s.table t → f ≡ put s.process n w
-    → s' ≡ record s { table = t; process = put f n (Some (Dying Killed ms)) }
+    → AllowsKill n notified resumed s.table t
+    → s' ≡ record s { table = t; process = put s.process n (Some (Dying Killed ms)) }
     → IsKill p s n resumed last s'
-killed p s s' n before o entered given held ms last notified resumed t f w stands killable offers is enters gives left
-    notifies allows out done = record {
+killed p s s' n before o entered given held ms last notified resumed t stands killable offers is enters gives left
+    notifies allows done = record {
       before = before;
       monitors = ms;
       notified = notified;
@@ -97,8 +92,7 @@ killed p s s' n before o entered given held ms last notified resumed t f w stand
       allows = subst (AllowsKill n notified resumed s.table) (sym (ap (λ (x : SourceState). x.table) done)) allows;
       variables = ap (λ (x : SourceState). x.variable) done;
       printed = ap (λ (x : SourceState). x.printed) done;
-      processes = ap (λ (x : SourceState). x.process) done ∙ ap (λ g. put g n (Some (Dying Killed ms))) out
-          ∙ (λ i j. put_over (j == n) (Some (Dying Killed ms)) w (s.process j) i);
+      processes = ap (λ (x : SourceState). x.process) done;
     }
 
 -- a kill isn't possible where no monitors can be left so

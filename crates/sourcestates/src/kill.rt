@@ -3,7 +3,6 @@ ghost use Rattle.program.specs.Views.{program_of};
 ghost use Rattle.meaning.specs.Runs.{IsKill};
 
 use crate::dying::{entered, given_up, held, is_killable, left, notified};
-use crate::placing::blank;
 use crate::state::SourceState;
 use program::Program;
 use sourceruns::{Cause, Stage, next_offer};
@@ -25,16 +24,15 @@ impl<'a> SourceState<'a> {
         ensures { IfOk result (λ b. IsAnswer b
             (IsKill (program_of program.now) (state_of self.old) number resumed.now last) (state_of self.new)) }
     {
-        let found = self.processes.insert(number, blank(alloc))?;
-        let Some(mut process) = found else {
+        let Some(process) = self.processes.get_mut(&number) else {
             return Ok(false);
         };
-        if !is_killable(&process) {
+        if !is_killable(process) {
             return Ok(false);
         }
-        let monitors = held(alloc, &process)?;
-        let taken = entered(&process);
-        let offer = next_offer(alloc, program, &self.variables, &mut process)?;
+        let monitors = held(alloc, process)?;
+        let taken = entered(process);
+        let offer = next_offer(alloc, program, &self.variables, process)?;
         let Some(monitors) = left(alloc, monitors, taken, given_up(&offer), last)? else {
             return Ok(false);
         };
@@ -42,7 +40,6 @@ impl<'a> SourceState<'a> {
             return Ok(false);
         }
         process.stage = Stage::Dying(Cause::Killed, monitors);
-        self.place(number, process)?;
         Ok(true)
     }
 }
