@@ -1,3 +1,7 @@
+ghost use Rattle.std.specs.Prelude.{◌≡◌, ◌++◌, OnOk};
+ghost use Rattle.std.specs.List.{flat_map};
+ghost use Rattle.chart.specs.Texts.{escaped};
+
 use itoa::Buffer;
 use std::alloc::AllocError;
 
@@ -33,15 +37,24 @@ pub(crate) fn append_text(
     append_shape(out, "</text>\n", &[])
 }
 
-/// Appends a text, with what XML has for the bytes that mark its tags.
-pub(crate) fn append_escaped(out: &mut Vec<u8>, text: &[u8]) -> Result<(), AllocError> {
+// Appends a byte, or what XML has for it where it begins or ends a tag or an entity.
+fn append_byte(out: &mut Vec<u8>, byte: u8) -> Result<(), AllocError>
+    ensures { OnOk result (out.new.items ≡ out.old.items ++ escaped byte) }
+{
+    match byte {
+        b'<' => out.extend_from_slice(b"&lt;"),
+        b'>' => out.extend_from_slice(b"&gt;"),
+        b'&' => out.extend_from_slice(b"&amp;"),
+        other => out.extend_from_slice(&[other]),
+    }
+}
+
+/// Appends a text, with what XML has for the bytes that begin or end a tag or an entity.
+pub(crate) fn append_escaped(out: &mut Vec<u8>, text: &[u8]) -> Result<(), AllocError>
+    ensures { OnOk result (out.new.items ≡ out.old.items ++ flat_map escaped text.now) }
+{
     for byte in text {
-        match *byte {
-            b'<' => out.extend_from_slice(b"&lt;")?,
-            b'>' => out.extend_from_slice(b"&gt;")?,
-            b'&' => out.extend_from_slice(b"&amp;")?,
-            other => out.push(other)?,
-        }
+        append_byte(out, *byte)?;
     }
     Ok(())
 }
