@@ -26,9 +26,8 @@ use crate::action::actions_of;
 use crate::failure::Failure;
 use crate::reading::program_of;
 use program::Checked;
-use sourcemoves::movers;
-use sourcestates::{Action, SourceState, accepts};
-use std::alloc::{AllocError, Global};
+use sourcemoves::{movers, run_length};
+use sourcestates::{SourceState, accepts};
 use std::io;
 
 fn main(rt: HostRuntime) -> io::Result<()> {
@@ -54,29 +53,11 @@ fn answer(rt: &HostRuntime, checked: &Checked, list: &str) -> Result<(), Failure
     match accepts(rt.alloc(), checked, actions.as_slice())? {
         Some(state) => show_end(rt, checked, &state),
         None => {
-            let number = first_impossible(rt.alloc(), checked, actions.as_slice())?;
+            let number = run_length(rt.alloc(), checked, actions.as_slice())?.saturating_add(1);
             println!(rt; "no run, action {number}")?;
             Ok(())
         }
     }
-}
-
-// The number of the first action that isn't possible, from 1; where all are, one more than there are.
-fn first_impossible(
-    alloc: Global,
-    checked: &Checked,
-    actions: &[Action],
-) -> Result<usize, AllocError> {
-    let mut state = SourceState::opening(alloc, checked)?;
-    let mut number: usize = 1;
-    for action in actions {
-        match state.step(alloc, checked, action)? {
-            None => break,
-            Some(next) => state = next,
-        }
-        number = number.saturating_add(1);
-    }
-    Ok(number)
 }
 
 // Prints the processes that can move in a state, and the numbers printed.
