@@ -172,7 +172,8 @@ module _ (p : Program) (w : WellFormed p) (steps : ℕ) (s : State) (c : SourceS
       went : done ≡ completes p asks answer → ((e : End) → Goes e) → Next p w steps s' t done pauses n c
       went seen goes = stepped p w steps s c k t done pauses s' mid n answer y q pt number awake proc point sv came
           (shown seen)
-          (λ e u label h. who_resumes p s' k.world c.table t pt sv.reply sv.after e u label inv.made
+          (λ e u label h. who_resumes p s' k.world c.table t pt sv.reply sv.after e u label
+          (ap (λ (x : State). x.made) came ∙ sv.keeps.made ∙ k.made)
           (λ v. ap (λ (x : State). x.asleep v) came ∙ sv.shares.sleeps v) sv.shares.spots askable h) (arrives goes)
 
     join_step : ((answer : ℕ) (mid : State) (sv : IsServed p s mid k.world t pt answer)

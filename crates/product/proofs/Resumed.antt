@@ -73,7 +73,7 @@ module _ (p : Program) (s : State) (w : World) (T : Table) where
           differs apart' is = let yes = same-same c in
               let here = subst (λ (i : Member). same_member i c ≡ false) is apart' in absurd (cc (yes, here))
 
-  waiters : (c : Member) (asleep : ℕ → Option Spot) → T.made ≡ w.made → valid p (SequenceOf c) ≡ true
+  waiters : (c : Member) (asleep : ℕ → Option Spot) → s.made ≡ w.made → valid p (SequenceOf c) ≡ true
       → ((u : ℕ) → s.asleep u ≡ sleep_address (place p) (asleep u))
       → ((u : ℕ) (x : Spot) → asleep u ≡ Some x → valid p (cell_of x) ≡ true)
       → resumed_by w T c asleep ≡ awake_waiters p s T c
@@ -84,7 +84,7 @@ module _ (p : Program) (s : State) (w : World) (T : Table) where
       each : (u : ℕ) → is_resumed c asleep T.waits u ≡ (waits_on c (T.waits u) && not (sleeps_on p c (s.asleep u)))
       each u = ap (λ b. waits_on c (T.waits u) && not b) (by_place c ok (asleep u) (s.asleep u) (spots u) (sleeps u))
 
-  pub who_resumes : (t : ℕ) (pt : Point) (r : ℕ) (w' : World) (e : End) (u : ℕ) (label : Label) → T.made ≡ w.made
+  pub who_resumes : (t : ℕ) (pt : Point) (r : ℕ) (w' : World) (e : End) (u : ℕ) (label : Label) → s.made ≡ w.made
       → ((u : ℕ) → s.asleep u ≡ sleep_address (place p) (w'.asleep u))
       → ((u : ℕ) (x : Spot) → w'.asleep u ≡ Some x → valid p (cell_of x) ≡ true) → IsAskable p (request t pt)
       → carried w T t pt r w' e ≡ Some (Acts u label) → Resumes p s T label

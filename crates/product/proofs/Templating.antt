@@ -224,7 +224,8 @@ module _ (p : Program) (w : WellFormed p) (steps : ℕ) (s : State) (c : SourceS
 
       answered : Next p w steps s' t done pauses n c
       answered = stepped p w steps s c k t done pauses s' mid n answer y (process_at p kind pt) pt number awake proc point sv
-          came shown (λ e u label h. who_resumes p s' k.world c.table t pt sv.reply sv.after e u label inv.made
+          came shown (λ e u label h. who_resumes p s' k.world c.table t pt sv.reply sv.after e u label
+          (ap (λ (x : State). x.made) came ∙ sv.keeps.made ∙ k.made)
           (λ v. ap (λ (x : State). x.asleep v) came ∙ sv.shares.sleeps v) sv.shares.spots within.askable h) arrives
 
     pub inside_step : IsLow k.world.sequence (look (code_of p) t x) → MovesSo p done s t woken (look (code_of p) t x) s'

@@ -95,7 +95,7 @@ sleeps_on p c (Some a) = a == member_address p c
 
 -- those who wait on the condition and don't sleep on its word in this state of the machine
 abbrev pub awake_waiters : Program → State → Table → Member → List ℕ
-awake_waiters p s T c = chosen_from (λ u. waits_on c (T.waits u) && not (sleeps_on p c (s.asleep u))) T.made 1
+awake_waiters p s T c = chosen_from (λ u. waits_on c (T.waits u) && not (sleeps_on p c (s.asleep u))) s.made 1
 
 -- a notify or a broadcast resumes those, in the state behind the step
 abbrev pub Resumes : Program → State → Table → Label → Type 0

@@ -111,6 +111,13 @@ impl<'a> SourceState<'a> {
         self.table.waits(process)
     }
 
+    /// Whether a process was claimed for a JOIN.
+    pub fn claimed(&self, process: u64) -> bool
+        ensures { result ≡ (state_of self.now).table.claimed process }
+    {
+        self.table.claimed(process)
+    }
+
     /// How a process is over, where it is.
     pub fn over(&self, process: u64) -> Option<End>
         ensures { option_map end_of result ≡ (state_of self.now).table.over process }

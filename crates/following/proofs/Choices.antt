@@ -1,0 +1,128 @@
+-- What a process can take next is what its offer tells.
+use Rattle.std.proofs.Common.{◌≡◌, ℕ, suc, ◌+◌, ◌<◌, ◌≤◌, Bool, true, false, List, [], ◌∷◌, Option, Some, None, refl, ap}
+use Rattle.std.proofs.Common.{sym, ◌∙◌, subst, arith, inl, inr, option_map}
+use Rattle.std.proofs.lemmas.Bool.{false≢true, le-leb, lt-leb, lt-ltb}
+use Rattle.std.specs.Prelude.{if◌then◌else◌, nat_le, nat_lt}
+use Rattle.words.specs.Limits.{most_processes}
+use Rattle.words.specs.declared.outcome.Fault.TheVariants.{HandleNotJoinable, ProcessTableFull}
+use Rattle.machine.specs.States.{State}
+use Rattle.program.specs.declared.kinds.Member.{Member}
+use Rattle.program.specs.Trees.{Program}
+use Rattle.meaning.specs.Labels.{Kind, kind_of}
+use Rattle.meaning.specs.Labels as L
+use Rattle.meaning.specs.Table.{Table, Allows}
+use Rattle.meaning.specs.Processes.{Process}
+use Rattle.meaning.specs.Offers.{Effect, TakesUp, offer}
+use Rattle.meaning.specs.Offers as O
+use Rattle.meaning.specs.States.{SourceState}
+use Rattle.deferral.specs.Deferring.{is_quiet}
+use Rattle.sourceruns.specs.declared.offers.Label.{Label}
+use Rattle.sourceruns.specs.declared.offers.Label.TheVariants.{Assigns, Tests, Calls, Returns, Prints, Fails, Stores}
+use Rattle.sourceruns.specs.declared.offers.Label.TheVariants.{Exits, Waits, Abandons, Ends}
+use Rattle.sourceruns.specs.declared.offers.Offered.{Offered}
+use Rattle.sourceruns.specs.declared.offers.Offered.TheVariants.{Rests, Does, Makes, Claims, NotifiesSome, NotifiesAll}
+use Rattle.sourceruns.specs.declared.next_action.Offer.{Offer}
+use Rattle.sourceruns.specs.declared.next_action.Offer.TheVariants.{Own, Enters, Resumes, Joins}
+use Rattle.sourceruns.specs.declared.process.Process.{Process as ProcessOf}
+use Rattle.sourceruns.specs.Offered.{label_of}
+use Rattle.sourceruns.specs.NextAction.{offer_of}
+use Rattle.product.specs.Placing.{awake_waiters, Resumes as Resumes'}
+use Rattle.product.specs.Tracking.{CanTake}
+use Rattle.following.specs.Choosing.{quiet_label, quiet_own, quiet_kind, heard_label, heard_own, heard_kind, resumed_own}
+use Rattle.following.specs.Choosing.{resumed_only}
+
+quiet_by_label : (l : Label) → is_quiet (label_of l) ≡ true → quiet_label l ≡ Some (kind_of (label_of l))
+quiet_by_label Assigns h = refl
+quiet_by_label Tests h = refl
+quiet_by_label Calls h = refl
+quiet_by_label Returns h = refl
+quiet_by_label (Fails fault) h = refl
+quiet_by_label l h = absurd cc
+
+none_by_label : (l : Label) → is_quiet (label_of l) ≡ false → quiet_label l ≡ None
+none_by_label Assigns h = absurd cc
+none_by_label Tests h = absurd cc
+none_by_label Calls h = absurd cc
+none_by_label Returns h = absurd cc
+none_by_label (Fails fault) h = absurd cc
+none_by_label l h = refl
+
+-- a label that is quiet is none that isn't
+not_both : {A : Type 0} (label other : L.Label) → label ≡ other → is_quiet label ≡ true → is_quiet other ≡ false → A
+not_both label other same quiet heard = absurd (false≢true (sym heard ∙ ap is_quiet (sym same) ∙ quiet))
+
+chosen : {A : Type 0} (b : Bool) (x y : A) → b ≡ true → (if b then x else y) ≡ x
+chosen true x y h = refl
+chosen false x y h = absurd cc
+
+other : {A : Type 0} (b : Bool) (x y : A) → b ≡ false → (if b then x else y) ≡ y
+other true x y h = absurd cc
+other false x y h = refl
+
+module _ (p : Program) (q : ProcessOf) (t : ℕ) (T T' : Table) (label : L.Label) (effect : Effect)
+    (after : Process) where
+  pub quiet_found : (o : Offer) → TakesUp (offer_of p o q) label effect after → Allows t label T T'
+      → is_quiet label ≡ true → quiet_kind o T ≡ Some (kind_of label)
+  quiet_found (Own Rests) takes allows quiet = absurd takes
+  quiet_found (Own (Does l e)) takes allows quiet =
+      quiet_by_label l (ap is_quiet (sym takes.0) ∙ quiet) ∙ ap (λ i. Some (kind_of i)) (sym takes.0)
+  quiet_found (Own (Makes child into)) (inl made) allows quiet = not_both label _ made.1 quiet refl
+  quiet_found (Own (Makes child into)) (inr full) allows quiet =
+      let here = subst (λ i. Allows t i T T') full.0 allows in
+      chosen (nat_le most_processes T.made) _ _ (le-leb most_processes T.made here.0)
+      ∙ ap (λ i. Some (kind_of i)) (sym full.0)
+  quiet_found (Own (Claims child into aborted)) (inl free) allows quiet = not_both label _ free.0 quiet refl
+  quiet_found (Own (Claims child into aborted)) (inr claimed) allows quiet =
+      let here = subst (λ i. Allows t i T T') claimed.0 allows in
+      chosen (T.claimed child) _ _ here.0 ∙ ap (λ i. Some (kind_of i)) (sym claimed.0)
+  quiet_found (Own (NotifiesSome c)) takes allows quiet = not_both label _ takes.1 quiet refl
+  quiet_found (Own (NotifiesAll c)) takes allows quiet = not_both label _ takes.1 quiet refl
+  quiet_found (Enters m) takes allows quiet = not_both label _ takes.1 quiet refl
+  quiet_found (Resumes m) takes allows quiet = not_both label _ takes.1 quiet refl
+  quiet_found (Joins child into aborted) takes allows quiet = not_both label _ takes.1 quiet refl
+
+  pub quiet_none : (o : Offer) → TakesUp (offer_of p o q) label effect after → Allows t label T T'
+      → is_quiet label ≡ false → quiet_kind o T ≡ None
+  quiet_none (Own Rests) takes allows heard = refl
+  quiet_none (Own (Does l e)) takes allows heard = none_by_label l (ap is_quiet (sym takes.0) ∙ heard)
+  quiet_none (Own (Makes child into)) (inl made) allows heard =
+      let here = subst (λ i. Allows t i T T') made.1 allows in
+      other (nat_le most_processes T.made) _ _ (lt-leb most_processes T.made here.0)
+  quiet_none (Own (Makes child into)) (inr full) allows heard =
+      absurd (false≢true (sym heard ∙ ap is_quiet full.0))
+  quiet_none (Own (Claims child into aborted)) (inl free) allows heard =
+      let here = subst (λ i. Allows t i T T') free.0 allows in other (T.claimed child) _ _ here.0
+  quiet_none (Own (Claims child into aborted)) (inr claimed) allows heard =
+      absurd (false≢true (sym heard ∙ ap is_quiet claimed.0))
+  quiet_none (Own (NotifiesSome c)) takes allows heard = refl
+  quiet_none (Own (NotifiesAll c)) takes allows heard = refl
+  quiet_none (Enters m) takes allows heard = refl
+  quiet_none (Resumes m) takes allows heard = refl
+  quiet_none (Joins child into aborted) takes allows heard = refl
+
+  pub heard_found : (s : State) (o : Offer) (resumed : List ℕ) → TakesUp (offer_of p o q) label effect after
+      → Allows t label T T' → is_quiet label ≡ false → Resumes' p s T label
+      → ((c : Member) → resumed_only o ≡ Some c → resumed ≡ awake_waiters p s T c)
+      → heard_kind o T.made resumed ≡ Some (kind_of label)
+  heard_found s (Own Rests) resumed takes allows heard who waiters = absurd takes
+  heard_found s (Own (Does l e)) resumed takes allows heard who waiters = ap (λ i. Some (kind_of i)) (sym takes.0)
+  heard_found s (Own (Makes child into)) resumed (inl made) allows heard who waiters =
+      let here = subst (λ i. Allows t i T T') made.1 allows in
+      chosen (nat_lt T.made most_processes) _ _ (lt-ltb T.made most_processes here.0)
+      ∙ ap (λ n. Some (L.Fork n)) (sym here.1) ∙ ap (λ i. Some (kind_of i)) (sym made.1)
+  heard_found s (Own (Makes child into)) resumed (inr full) allows heard who waiters =
+      absurd (false≢true (sym heard ∙ ap is_quiet full.0))
+  heard_found s (Own (Claims child into aborted)) resumed (inl free) allows heard who waiters =
+      ap (λ i. Some (kind_of i)) (sym free.0)
+  heard_found s (Own (Claims child into aborted)) resumed (inr claimed) allows heard who waiters =
+      absurd (false≢true (sym heard ∙ ap is_quiet claimed.0))
+  heard_found s (Own (NotifiesSome c)) resumed takes allows heard who waiters =
+      let here : takes.0 ≡ awake_waiters p s T c = subst (λ i. Resumes' p s T i) takes.1 who in
+      ap (λ l. Some (L.Notify c l)) (waiters c refl ∙ sym here) ∙ ap (λ i. Some (kind_of i)) (sym takes.1)
+  heard_found s (Own (NotifiesAll c)) resumed takes allows heard who waiters =
+      let here : takes.0 ≡ awake_waiters p s T c = subst (λ i. Resumes' p s T i) takes.1 who in
+      ap (λ l. Some (L.Broadcast c l)) (waiters c refl ∙ sym here) ∙ ap (λ i. Some (kind_of i)) (sym takes.1)
+  heard_found s (Enters m) resumed takes allows heard who waiters = ap (λ i. Some (kind_of i)) (sym takes.1)
+  heard_found s (Resumes m) resumed takes allows heard who waiters = ap (λ i. Some (kind_of i)) (sym takes.1)
+  heard_found s (Joins child into aborted) resumed takes allows heard who waiters =
+      ap (λ i. Some (kind_of i)) (sym takes.1)

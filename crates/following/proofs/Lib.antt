@@ -1,0 +1,3 @@
+pub mod Choices
+pub mod Settling
+pub mod Waiting

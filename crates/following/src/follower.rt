@@ -1,0 +1,195 @@
+ghost use Rattle.std.specs.Prelude.{◌≡◌, ◌≤◌, [], IfOk, List, None, Some, false, length, option_map, true, ℕ};
+ghost use Rattle.machine.specs.States.{State, state_of as machine_state};
+ghost use Rattle.machine.specs.Views.{concrete};
+ghost use Rattle.program.specs.Names.{said_by};
+ghost use Rattle.program.specs.WellFormed.{WellFormed};
+ghost use Rattle.program.specs.declared.kinds.Member.{Member as MemberOf};
+ghost use Rattle.code.specs.Layout.{layout_of};
+ghost use Rattle.deferral.specs.Deferring.{is_quiet};
+ghost use Rattle.meaning.specs.Labels.{Kind, Label, kind_of as name_of};
+ghost use Rattle.meaning.specs.Runs.{IsStep};
+ghost use Rattle.meaning.specs.States.{opening};
+ghost use Rattle.sourcestates.specs.Actions.{kind_of};
+ghost use Rattle.sourcestates.specs.States.{state_of};
+ghost use Rattle.sourcestates.specs.Taken.{IsAnswer};
+ghost use Rattle.product.specs.Placing.{Resumes, act, awake_waiters};
+ghost use Rattle.product.specs.Tracking.{CanTake, Owes, Tracks};
+ghost use Rattle.following.specs.Choosing.{resumed_only};
+ghost use Rattle.following.specs.Waiting.{is_awake};
+
+use crate::choosing::{heard_action, notified, quiet_action};
+use layout::Layout;
+use machine::Machine;
+use program::{Checked, Member};
+use sourceruns::Offer;
+use sourcestates::{Action, ActionKind, SourceState};
+use std::alloc::{AllocError, Global};
+use words::Addr;
+
+/// A run of the source that follows a run of the machine: where it led, and its actions.
+#[derive(Drop)]
+pub struct Follower<'a> {
+    alloc: Global,
+    checked: &'a Checked<'a>,
+    layout: Layout,
+    state: SourceState<'a>,
+    actions: Vec<Action>,
+}
+
+impl<'a> Follower<'a> {
+    /// At the opening states of both, with the layout of the program.
+    pub fn new(
+        alloc: Global,
+        checked: &'a Checked<'a>,
+        layout: Layout,
+    ) -> Result<Follower<'a>, AllocError>
+        requires { layout ≡ layout_of (said_by checked.now) }
+        ensures { IfOk result (λ f. (state_of f.state ≡ opening (said_by checked.now)) × (f.actions.items ≡ [])
+            × (f.checked.now ≡ checked.now) × (f.layout ≡ layout_of (said_by checked.now))) }
+    {
+        Ok(Follower {
+            alloc,
+            checked,
+            layout,
+            state: SourceState::opening(alloc, checked)?,
+            actions: Vec::new(alloc),
+        })
+    }
+
+    /// The actions, in order.
+    pub fn actions(&self) -> &[Action]
+        ensures { result.now ≡ self.now.actions.items }
+    {
+        self.actions.as_slice()
+    }
+
+    // Takes an action, if it is possible; else nothing is known of the state.
+    fn take(&mut self, t: u32, kind: ActionKind) -> Result<bool, AllocError>
+        ensures step { IfOk result (λ b. IsAnswer b
+            (IsStep (said_by self.old.checked.now) (state_of self.old.state) (act t (kind_of kind)))
+            (state_of self.new.state)) }
+        ensures kept { IfOk result (λ _. (self.new.checked ≡ self.old.checked)
+            × (self.new.layout ≡ self.old.layout)) }
+    {
+        let action = Action {
+            process: u64::from(t),
+            kind,
+        };
+        let is_possible = self
+            .state
+            .advance(self.alloc, self.checked.program(), &action)?;
+        if is_possible {
+            self.actions.push(action)?;
+        }
+        Ok(is_possible)
+    }
+
+    // The quiet action that a process can take next: where it can take one that others learn of, it can take none.
+    fn next_quiet(&self, t: u32) -> Result<Option<ActionKind>, AllocError>
+        ensures quiet { IfOk result (λ o. (label : Label)
+            → CanTake (said_by self.now.checked.now) (state_of self.now.state) t label → is_quiet label ≡ true
+            → option_map kind_of o ≡ Some (name_of label)) }
+        ensures heard { IfOk result (λ o. (label : Label)
+            → CanTake (said_by self.now.checked.now) (state_of self.now.state) t label → is_quiet label ≡ false
+            → option_map kind_of o ≡ None) }
+    {
+        match self.state.offered(self.alloc, self.checked, u64::from(t))? {
+            Some((offer, _)) => Ok(quiet_action(&offer, &self.state)),
+            None => Ok(None),
+        }
+    }
+
+    // Takes the quiet actions that a process can take next, so many at most; false where one wasn't possible.
+    fn settle(&mut self, t: u32, most: u32) -> Result<bool, AllocError>
+        ensures pays { IfOk result (λ b. (w : WellFormed (said_by self.old.checked.now)) (steps : ℕ)
+            (s : State) (ks : List Kind)
+            → Owes (said_by self.old.checked.now) w steps s t (state_of self.old.state) ks → length ks ≤ most
+            → (b ≡ true) × Owes (said_by self.old.checked.now) w steps s t (state_of self.new.state) []) }
+        ensures kept { IfOk result (λ _. (self.new.checked ≡ self.old.checked)
+            × (self.new.layout ≡ self.old.layout)) }
+    {
+        for _ in 0..most {
+            let Some(kind) = self.next_quiet(t)? else {
+                return Ok(true);
+            };
+            if !self.take(t, kind)? {
+                return Ok(false);
+            }
+        }
+        Ok(true)
+    }
+
+    // Whether a process waits on a condition, and its thread doesn't sleep on this word.
+    fn has_waited(&self, machine: &Machine, condition: Member, word: Addr, t: u32) -> bool
+        ensures { result ≡ is_awake word.0 (machine_state (concrete machine.now))
+            (state_of self.now.state).table condition t }
+    {
+        self.state.waits(u64::from(t)) == Some(condition) && machine.asleep(t) != Some(word)
+    }
+
+    // Who waits on a condition, and doesn't sleep on its word.
+    fn waiters(&self, machine: &Machine, condition: Member) -> Result<Vec<u64>, AllocError>
+        ensures { IfOk result (λ v. self.now.layout ≡ layout_of (said_by self.now.checked.now)
+            → v.items ≡ awake_waiters (said_by self.now.checked.now) (machine_state (concrete machine.now))
+            (state_of self.now.state).table condition) }
+    {
+        let word = Addr(self.layout.address(condition));
+        let mut waiters = Vec::new(self.alloc);
+        for before in 0..machine.threads() {
+            let t = before + 1;
+            if self.has_waited(machine, condition, word, t) {
+                waiters.push(u64::from(t))?;
+            }
+        }
+        Ok(waiters)
+    }
+
+    // Whom a process with this offer resumes, where it notifies or broadcasts a condition.
+    fn resumed(&self, machine: &Machine, offer: &Offer) -> Result<Vec<u64>, AllocError>
+        ensures { IfOk result (λ v. self.now.layout ≡ layout_of (said_by self.now.checked.now)
+            → (c : MemberOf) → resumed_only offer.now ≡ Some c
+            → v.items ≡ awake_waiters (said_by self.now.checked.now) (machine_state (concrete machine.now))
+            (state_of self.now.state).table c) }
+    {
+        match notified(offer) {
+            Some(condition) => self.waiters(machine, condition),
+            None => Ok(Vec::new(self.alloc)),
+        }
+    }
+
+    // The action that others learn of, which a process takes next, where it can take one.
+    fn next_heard(&self, machine: &Machine, t: u32) -> Result<Option<ActionKind>, AllocError>
+        ensures { IfOk result (λ o. (label : Label) → self.now.layout ≡ layout_of (said_by self.now.checked.now)
+            → CanTake (said_by self.now.checked.now) (state_of self.now.state) t label → is_quiet label ≡ false
+            → Resumes (said_by self.now.checked.now) (machine_state (concrete machine.now))
+            (state_of self.now.state).table label → option_map kind_of o ≡ Some (name_of label)) }
+    {
+        let Some((offer, _)) = self.state.offered(self.alloc, self.checked, u64::from(t))? else {
+            return Ok(None);
+        };
+        let resumed = self.resumed(machine, &offer)?;
+        Ok(heard_action(&offer, &self.state, resumed))
+    }
+
+    /// Follows a step of thread `t` to this machine, which is an action that other processes learn of: first come the
+    /// quiet actions of its process, at most so many, and then that. False where one wasn't possible.
+    pub fn follow(&mut self, machine: &Machine, t: u32, most: u32) -> Result<bool, AllocError>
+        ensures settles { IfOk result (λ b. (w : WellFormed (said_by self.old.checked.now)) (steps : ℕ)
+            (ks : List Kind) → self.old.layout ≡ layout_of (said_by self.old.checked.now)
+            → Owes (said_by self.old.checked.now) w steps (machine_state (concrete machine.now)) t
+            (state_of self.old.state) ks → length ks ≤ most
+            → (b ≡ true)
+            × Tracks (said_by self.old.checked.now) w steps (machine_state (concrete machine.now))
+            (state_of self.new.state)) }
+        ensures kept { IfOk result (λ _. (self.new.checked ≡ self.old.checked)
+            × (self.new.layout ≡ self.old.layout)) }
+    {
+        if !self.settle(t, most)? {
+            return Ok(false);
+        }
+        match self.next_heard(machine, t)? {
+            Some(kind) => self.take(t, kind),
+            None => Ok(false),
+        }
+    }
+}

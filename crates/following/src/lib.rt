@@ -1,0 +1,7 @@
+//! The source that follows a run of the machine: by its steps that are actions which others learn of.
+#![tactic(auto)]
+
+mod choosing;
+mod follower;
+
+pub use follower::Follower;
