@@ -6,6 +6,7 @@
 //! text LINE           a line of the file program.mesa
 //! times COUNT TEXT    this text so many times, in program.mesa
 //! bytes DIGITS        these bytes, in hexadecimal digits, in program.mesa
+//! again               the program.mesa of the row before
 //! schedule LINE       a line of the file program.schedule
 //! words WORD ..       the words of the command line
 //! output LINE         a line that standard output has to have
@@ -14,9 +15,8 @@
 //! status NUMBER       the exit status that is wanted, where it isn't 0
 //! ```
 //!
-//! Empty lines and lines that begin with `#` say nothing. With no `text`, `times` and
-//! `bytes` there is no program.mesa, with no `schedule` no program.schedule, and with no `image` there may be no
-//! program.image afterwards.
+//! Empty lines and lines that begin with `#` say nothing. With no `text`, `times`, `bytes` and `again` there is no
+//! program.mesa, with no `schedule` no program.schedule, and with no `image` there may be no program.image afterwards.
 #![tactic(auto)]
 
 mod fault;

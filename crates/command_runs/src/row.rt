@@ -16,11 +16,13 @@ pub struct Row {
     /// What has to come of it.
     pub wanted: Outcome,
     alloc: Global,
+    // The source text of the row before.
+    before: Option<Vec<u8>>,
 }
 
 impl Row {
-    /// A row of this name, with nothing said yet.
-    pub fn new(alloc: Global, name: &str) -> Result<Row, AllocError> {
+    /// A row of this name, behind one with this source text, with nothing said yet.
+    pub fn new(alloc: Global, name: &str, before: Option<Vec<u8>>) -> Result<Row, AllocError> {
         Ok(Row {
             name: String::from_str(alloc, name)?,
             source: None,
@@ -28,6 +30,7 @@ impl Row {
             words: Vec::new(alloc),
             wanted: Outcome::new(alloc),
             alloc,
+            before,
         })
     }
 
@@ -38,6 +41,7 @@ impl Row {
             "schedule" => add_text(self.alloc, &mut self.schedule, said),
             "times" => self.add_repeated(said),
             "bytes" => self.add_bytes(said),
+            "again" => self.take_before(),
             "words" => self.add_words(said),
             "output" => add_line(&mut self.wanted.output, said),
             "errors" => add_line(&mut self.wanted.errors, said),
@@ -45,6 +49,11 @@ impl Row {
             "status" => self.set_status(said),
             _ => Err(RowFault::Key),
         }
+    }
+
+    fn take_before(&mut self) -> Result<(), RowFault> {
+        self.source = self.before.take();
+        Ok(())
     }
 
     fn add_repeated(&mut self, said: &str) -> Result<(), RowFault> {

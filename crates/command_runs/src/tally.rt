@@ -36,8 +36,8 @@ impl Tally {
         }
         let (key, said) = line.split_once(' ').unwrap_or((line, ""));
         if key == "row" {
-            self.run_row(rt)?;
-            self.row = Some(Row::new(rt.alloc(), said)?);
+            let before = self.run_row(rt)?;
+            self.row = Some(Row::new(rt.alloc(), said, before)?);
             return Ok(());
         }
         let taken = match &mut self.row {
@@ -56,20 +56,20 @@ impl Tally {
         mut self,
         rt: &R,
     ) -> io::Result<ExitCode> {
-        self.run_row(rt)?;
+        let _source = self.run_row(rt)?;
         let rows = self.rows;
         let failures = self.failures;
         println!(rt; "{rows} rows, {failures} failures")?;
         Ok(ExitCode::from(u8::from(failures > 0)))
     }
 
-    // Runs the row that was read, where there is one, and tells what came out otherwise.
+    // Runs the row that was read, where there is one, and tells what came out otherwise. Its source text is given back.
     fn run_row<R: Files + AllocGlobal + Print + Threads + Wait + Sync>(
         &mut self,
         rt: &R,
-    ) -> io::Result<()> {
+    ) -> io::Result<Option<Vec<u8>>> {
         let Some(row) = self.row.take() else {
-            return Ok(());
+            return Ok(None);
         };
         self.rows = self.rows.saturating_add(1);
         let is_well = match Outcome::of_row(rt, &row) {
@@ -83,7 +83,7 @@ impl Tally {
         if !is_well {
             self.failures = self.failures.saturating_add(1);
         }
-        Ok(())
+        Ok(row.source)
     }
 }
 

@@ -2,9 +2,9 @@
 use Rattle.std.proofs.Common.{◌≡◌, ◌<◌, ◌^◌, ◌⊎◌, inl, inr, ℕ, List, None, Some, codes}
 use Rattle.std.specs.Str.Parse.{IsNumeral, digits_value, without_leading_plus}
 use Rattle.clap.specs.Words.{Row, Text, first_of, one_of}
-use Rattle.commandline.specs.CommandLine.{IsCheckOf, IsCompileOf, IsListOf, IsReplayOf, IsRunOf}
+use Rattle.commandline.specs.CommandLine.{IsCheckOf, IsCompileOf, IsExplainOf, IsListOf, IsReplayOf, IsRunOf}
 use Rattle.commandline.specs.declared.job.Job.{Job}
-use Rattle.commandline.specs.declared.job.Job.TheVariants.{Check, Compile, List as List', Run, Replay}
+use Rattle.commandline.specs.declared.job.Job.TheVariants.{Check, Compile, List as List', Run, Replay, Explain}
 use Rattle.commandline.proofs.Numbers.{no_value}
 
 pub no_check : (rows : List Row) (job : Job) → first_of (codes "FILE") rows ≡ None → IsCheckOf rows job → ⊥
@@ -40,3 +40,11 @@ no_run rows (Run file steps trace) (inr none) h =
     let s = h.1 in
     none s.0 steps s.1 s.2 s.3 s.4
 no_run rows other missing h = h
+
+pub no_explain : (rows : List Row) (job : Job) → (first_of (codes "FILE") rows ≡ None) ⊎ NoSteps rows
+    → IsExplainOf rows job → ⊥
+no_explain rows (Explain file steps) (inl none) h = no_value _ _ none h.0
+no_explain rows (Explain file steps) (inr none) h =
+    let s = h.1 in
+    none s.0 steps s.1 s.2 s.3 s.4
+no_explain rows other missing h = h

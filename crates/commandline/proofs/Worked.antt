@@ -16,6 +16,9 @@ plain_compile = codes "compile" ∷ codes "a.mesa" ∷ codes "a.image" ∷ []
 abbrev plain_list : List Text
 plain_list = codes "list" ∷ codes "a.image" ∷ []
 
+abbrev plain_explain : List Text
+plain_explain = codes "explain" ∷ codes "a.mesa" ∷ []
+
 -- the command's name, and the text of an argument
 abbrev told : Text → List Text → Option (Text × Option Text)
 told id words = option_map (λ p. (p.0, one_of id p.1)) (subcommand_of command_line words)
@@ -47,6 +50,10 @@ out_told = refl
 image_told : told (codes "IMAGE") plain_list ≡ Some (codes "list", Some (codes "a.image"))
 unfolding clap_on_literals
 image_told = refl
+
+explained_file_told : told (codes "FILE") plain_explain ≡ Some (codes "explain", Some (codes "a.mesa"))
+unfolding clap_on_literals
+explained_file_told = refl
 
 taken : takes command_line five_steps ≡ true
 unfolding clap_on_literals

@@ -7,7 +7,7 @@ use Rattle.clap.specs.Words.{subcommand_of}
 use Rattle.clap.specs.declared.builder.action.ArgAction.TheVariants.{SetTrue}
 use Rattle.clap.specs.declared.builder.value_parser.ValueParser.TheVariants.{Unsigned}
 use Rattle.commandline.specs.declared.job.Job.{Job}
-use Rattle.commandline.specs.declared.job.Job.TheVariants.{Check, Compile, List as List', Run, Replay}
+use Rattle.commandline.specs.declared.job.Job.TheVariants.{Check, Compile, List as List', Run, Replay, Explain}
 
 -- an argument that has to stand, told by its position
 abbrev pub positional : Text → Rule
@@ -50,6 +50,10 @@ replay_command =
     with_rule (with_rule (with_rule (new_app (codes "replay")) (positional (codes "FILE")))
     (positional (codes "SCHEDULE"))) trace_option
 
+-- `explain FILE [--steps N]`
+abbrev pub explain_command : App
+explain_command = with_rule (with_rule (new_app (codes "explain")) (positional (codes "FILE"))) steps_option
+
 -- the text that stands for `--steps` is this number
 abbrev pub ReadsSteps : List Row → ℕ → Type 0
 ReadsSteps rows steps =
@@ -62,13 +66,13 @@ ReadsTrace rows trace =
     (one_of (codes "trace") rows ≡ Some (codes "true") → trace ≡ true)
     × (one_of (codes "trace") rows ≡ Some (codes "false") → trace ≡ false)
 
--- `mesamon`, and behind it one of the five; the words hold no name of the program
+-- `mesamon`, and behind it one of the six; the words hold no name of the program
 abbrev pub command_line : App
 command_line =
     let named = new_app (codes "mesamon") in
-    with_subcommand (with_subcommand (with_subcommand (with_subcommand (with_subcommand (record named {
-      top = record named.top { no_binary_name = true; subcommand_required = true };
-    }) check_command.top) compile_command.top) list_command.top) run_command.top) replay_command.top
+    let settled = record named { top = record named.top { no_binary_name = true; subcommand_required = true } } in
+    with_subcommand (with_subcommand (with_subcommand (with_subcommand (with_subcommand (with_subcommand settled
+    check_command.top) compile_command.top) list_command.top) run_command.top) replay_command.top) explain_command.top
 
 -- a job of checking, from the values of its command's arguments
 abbrev pub IsCheckOf : List Row → Job → Type 0
@@ -99,13 +103,18 @@ IsReplayOf rows (Replay file schedule trace) =
     × ReadsTrace rows trace
 IsReplayOf rows other = ⊥
 
+-- a job of explaining
+abbrev pub IsExplainOf : List Row → Job → Type 0
+IsExplainOf rows (Explain file steps) = (first_of (codes "FILE") rows ≡ Some file.now) × ReadsSteps rows steps
+IsExplainOf rows other = ⊥
+
 -- the job that the command of a name asks for, with these values of its arguments
 abbrev pub IsAskedBy : Option (Text × List Row) → Job → Type 0
 IsAskedBy None job = ⊥
 IsAskedBy (Some (name, rows)) job =
     ((name ≡ codes "check") × IsCheckOf rows job) ⊎ (((name ≡ codes "compile") × IsCompileOf rows job)
     ⊎ (((name ≡ codes "list") × IsListOf rows job) ⊎ (((name ≡ codes "run") × IsRunOf rows job)
-    ⊎ ((name ≡ codes "replay") × IsReplayOf rows job))))
+    ⊎ (((name ≡ codes "replay") × IsReplayOf rows job) ⊎ ((name ≡ codes "explain") × IsExplainOf rows job)))))
 
 -- the words ask for this job
 abbrev pub AsksFor : List Text → Job → Type 0

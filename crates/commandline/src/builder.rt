@@ -23,7 +23,8 @@ pub fn command<'a>(alloc: Global) -> Result<Command<'a>, AllocError>
         .subcommand(compile_command(alloc)?)?
         .subcommand(list_command(alloc)?)?
         .subcommand(run_command(alloc)?)?
-        .subcommand(replay_command(alloc)?)
+        .subcommand(replay_command(alloc)?)?
+        .subcommand(explain_command(alloc)?)
 }
 
 fn check_command<'a>(alloc: Global) -> Result<Command<'a>, AllocError>
@@ -74,6 +75,16 @@ fn replay_command<'a>(alloc: Global) -> Result<Command<'a>, AllocError>
         .arg(positional(alloc, "FILE", "The source text"))?
         .arg(positional(alloc, "SCHEDULE", "The threads of its steps"))?
         .arg(trace_option(alloc))
+}
+
+fn explain_command<'a>(alloc: Global) -> Result<Command<'a>, AllocError>
+    ensures app { IfOk result (λ c. app_of c ≡ line.explain_command) }
+    ensures local { IfOk result (λ c. (fields_of c).has_globals ≡ false) }
+{
+    Command::new(alloc, "explain")
+        .about("Runs a source text in order and prints what its processes do")
+        .arg(positional(alloc, "FILE", "The source text"))?
+        .arg(steps_option(alloc))
 }
 
 fn positional<'a>(alloc: Global, name: &'a str, help: &'a str) -> Arg<'a>

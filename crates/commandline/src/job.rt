@@ -1,8 +1,8 @@
 ghost use Rattle.std.specs.Prelude.{IfOk, IfErr, IfSome, None, true, map, ◌≡◌};
 ghost use Rattle.clap.specs.Words.{found_of, kind_of, subcommand_rows_of, takes};
 ghost use Rattle.clap.specs.Walk.{rows_of};
-ghost use Rattle.commandline.specs.CommandLine.{AsksFor, IsAskedBy, IsCheckOf, IsCompileOf, IsListOf, IsReplayOf};
-ghost use Rattle.commandline.specs.CommandLine.{IsRunOf, command_line};
+ghost use Rattle.commandline.specs.CommandLine.{AsksFor, IsAskedBy, IsCheckOf, IsCompileOf, IsExplainOf, IsListOf};
+ghost use Rattle.commandline.specs.CommandLine.{IsReplayOf, IsRunOf, command_line};
 ghost use Rattle.commandline.specs.declared.job.Job.{Job as JobOf};
 
 use crate::builder::command;
@@ -49,6 +49,13 @@ pub enum Job<'a> {
         /// Whether the log is shown.
         trace: bool,
     },
+    /// Run the source text of a file, within a limit of steps, and print the source actions that its run is.
+    Explain {
+        /// The name of the source text's file.
+        file: &'a str,
+        /// The most steps of the machine.
+        steps: u32,
+    },
 }
 
 /// The job that the words of a command line ask for, those after the program's name.
@@ -87,6 +94,7 @@ fn job_of<'a>(matches: &ArgMatches<'a>) -> Option<Job<'a>>
         "list" => list_of(inner),
         "run" => run_of(inner),
         "replay" => replay_of(inner),
+        "explain" => explain_of(inner),
         _ => None,
     }
 }
@@ -138,4 +146,13 @@ fn replay_of<'a>(matches: &ArgMatches<'a>) -> Option<Job<'a>>
         schedule,
         trace,
     })
+}
+
+fn explain_of<'a>(matches: &ArgMatches<'a>) -> Option<Job<'a>>
+    ensures job { IfSome result (IsExplainOf (rows_of (found_of matches.now))) }
+    ensures none { result ≡ None → (job : JobOf) → IsExplainOf (rows_of (found_of matches.now)) job → ⊥ }
+{
+    let file = matches.get_str("FILE")?;
+    let steps = matches.get_one::<u32>("steps")?;
+    Some(Job::Explain { file, steps })
 }

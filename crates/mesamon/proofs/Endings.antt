@@ -1,16 +1,19 @@
 -- How a command that ran a program has ended.
-use Rattle.std.proofs.Common.{◌≡◌, arith, ℕ, Bool, List, Result, Ok, Err, IfOk, OnOk, inl, inr, sym, subst}
+use Rattle.std.proofs.Common.{◌≡◌, arith, ℕ, Bool, List, [], Option, Some, None, Result, Ok, Err, IfOk, OnOk, inl, inr}
+use Rattle.std.proofs.Common.{sym, subst}
+use Rattle.std.proofs.lemmas.List.{append-nil}
+use Rattle.std.specs.Io.KnownBytes.{Appends}
 use Rattle.mesamon.specs.declared.status.Status.{Status}
 use Rattle.mesamon.specs.declared.status.Status.TheVariants.{Done, Refused, Usage, Stuck, Limit, Memory, Failed}
 use Rattle.mesamon.specs.Statuses.{status_code}
 use Rattle.mesamon.specs.Accounts.{account, output_lines}
-use Rattle.mesamon.specs.Commands.{HasDone, HasRun, IsReportOf, status_of_verdict}
+use Rattle.mesamon.specs.Commands.{HasDone, HasEnded, HasExplained, HasRun, IsReportOf, status_of_verdict}
 use Rattle.runner.specs.declared.report.Report.{Report}
 use Rattle.runner.specs.declared.report.Verdict.{Verdict}
 use Rattle.runner.specs.declared.report.Verdict.TheVariants as verdict
 
 -- a run that came to its end so has ended so
-pub done-at : (W E : List ℕ → Type 0) (v : Verdict) (s : Status) → HasRun W E (status_of_verdict v)
+pub done-at : (W E : List ℕ → Type 0) (v : Verdict) (s : Status) → HasEnded W E (status_of_verdict v)
     → s ≡ status_of_verdict v → HasDone W E s
 done-at W E verdict.Done s h e = subst (HasDone W E) (sym e) (inr (inr (inl h)))
 done-at W E verdict.Stuck s h e = subst (HasDone W E) (sym e) h
@@ -19,7 +22,17 @@ done-at W E verdict.Limit s h e = subst (HasDone W E) (sym e) h
 -- a run ended as its verdict says
 pub ran : (W E : List ℕ → Type 0) (s : Status) → HasRun W E s → HasDone W E s
 ran W E s h =
-    done-at W E h.report.verdict s (subst (HasRun W E) h.ended h) h.ended
+    done-at W E h.report.verdict s (inl (subst (HasRun W E) h.ended h)) h.ended
+
+-- so did one that was explained
+pub explained : (W E : List ℕ → Type 0) (s : Status) → E [] → HasExplained W s → HasDone W E s
+explained W E s told h =
+    done-at W E h.explained_run.report.verdict s (inr (subst (HasExplained W) h.ended h, told)) h.ended
+
+-- where nothing is written, known bytes grow by none
+pub nothing_written : (known : Option (List ℕ)) → Appends known known []
+nothing_written None = tt
+nothing_written (Some xs) = sym (append-nil xs)
 
 -- what a run told was written, if it could be
 pub has_run : (W E : List ℕ → Type 0) (F : Type 0) (text : List ℕ) (trace : Bool) (report : Report)

@@ -2,3 +2,4 @@ pub mod RunsExplained
 mod Endings
 mod Lines
 mod Replays
+mod Readings

@@ -1,15 +1,19 @@
 -- A report of a run of compiled code is explained by a run of the program.
-use Rattle.std.proofs.Common.{◌≢◌, ◌<◌, ◌^◌, ℕ, List, length, subst, arith}
+use Rattle.std.proofs.Common.{◌≡◌, ◌≢◌, ◌<◌, ◌^◌, ℕ, List, length, subst, arith}
 use Rattle.isa.specs.Programs.{Program}
+use Rattle.machine.specs.declared.event.Entry.{Entry}
 use Rattle.machine.specs.States.{state_of}
 use Rattle.machine.specs.Views.{concrete}
+use Rattle.program.specs.Trees.{Program as ProgramOf}
 use Rattle.code.specs.Pieces.{code_of}
+use Rattle.meaning.specs.Labels.{Action}
 use Rattle.refinement.specs.Refines.{Refines}
 use Rattle.runner.specs.declared.fault.RunFault.{RunFault}
 use Rattle.runner.specs.declared.fault.RunFault.TheVariants.{Broken, Memory, Stray, CannotMove, Limit}
 use Rattle.runner.specs.declared.report.Report.{Report}
 use Rattle.runner.specs.LogRuns.{RunsSo, LocallySo}
 use Rattle.runner.specs.Reports.{IsReport, CanFail, MeetsBroken}
+use Rattle.explaining.specs.Explains.{IsExplained}
 use Rattle.compiler.specs.Compiles.{IsCompiled}
 use Rattle.mesamon.specs.Running.{IsFailedRun, IsRunOf}
 
@@ -56,3 +60,10 @@ run_sound runs locally text image limit Memory c fails below e = absurd cc
 run_sound runs locally text image limit Stray c fails below e = absurd cc
 run_sound runs locally text image limit CannotMove c fails below e = absurd cc
 run_sound runs locally text image limit Limit c fails below e = absurd cc
+
+-- what is explained by the image of a program is explained by its code
+pub of_code : (p : ProgramOf) (image : Program) (log entries : List Entry) (actions : List Action) → image ≡ code_of p
+    → log ≡ entries → IsExplained p image log actions → IsExplained p (code_of p) entries actions
+of_code p image log entries actions own same h =
+    subst (λ (es : List Entry). IsExplained p (code_of p) es actions) same
+    (subst (λ (i : Program). IsExplained p i log actions) own h)

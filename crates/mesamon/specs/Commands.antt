@@ -1,5 +1,6 @@
 -- What a command that ended well has done: it wrote of some text, whose bytes a file gave.
-use Rattle.std.specs.Prelude.{codes, ◌≡◌, ◌⊎◌, ℕ, Bool, List, length}
+use Rattle.std.specs.Prelude.{codes, ◌≡◌, ◌⊎◌, ℕ, Bool, List, [], length, map}
+use Rattle.std.specs.List.{flat_map}
 use Rattle.isa.specs.Programs.{Program}
 use Rattle.isa.specs.Spelling.{IsSpelled, spelling}
 use Rattle.listing.specs.Lines.{lines}
@@ -9,9 +10,13 @@ use Rattle.runner.specs.declared.report.Report.{Report}
 use Rattle.mesamon.specs.declared.status.Status.{Status}
 use Rattle.mesamon.specs.declared.status.Status.TheVariants.{Done, Stuck, Limit}
 use Rattle.program.specs.Trees.{Program as ProgramOf}
+use Rattle.sourcestates.specs.Actions.{action_of}
+use Rattle.actionlines.specs.Lines.{line}
 use Rattle.compiler.specs.Accepts.{Accepts}
 use Rattle.compiler.specs.Compiles.{IsCompiled}
+use Rattle.mesamon.specs.declared.explained_run.ExplainedRun.{ExplainedRun}
 use Rattle.mesamon.specs.Running.{IsRunOf}
+use Rattle.mesamon.specs.Explaining.{IsExplainedRun}
 use Rattle.mesamon.specs.Replaying.{IsReplayOf}
 use Rattle.mesamon.specs.Accounts.{account, image_line, output_lines}
 
@@ -57,9 +62,28 @@ pub record HasRun (Wrote WroteErrors : List ℕ → Type 0) (status : Status) : 
   pub wrote : Wrote (output_lines report.output.items)
   pub told : WroteErrors (account report trace)
 
--- a command that ended well has compiled, has listed, has run or has checked
+-- the lines of the actions of an explained run, by the names of its program
+abbrev pub explained_lines : ExplainedRun → List ℕ
+explained_lines r = flat_map (line r.checked.names) (map action_of r.actions.items)
+
+-- some text was run and its run explained, and the lines of the actions were written
+pub record HasExplained (Wrote : List ℕ → Type 0) (status : Status) : Type 0 where
+  pub text : List ℕ
+  pub limit : ℕ
+  pub explained_run : ExplainedRun
+  pub explained : IsExplainedRun text limit explained_run
+  pub ended : status ≡ status_of_verdict explained_run.report.verdict
+  pub wrote : Wrote (explained_lines explained_run)
+
+-- a command that ended so has run some text, or has explained its run, with nothing told of it as an error
+abbrev pub HasEnded : (Wrote WroteErrors : List ℕ → Type 0) → Status → Type 0
+HasEnded Wrote WroteErrors status =
+    HasRun Wrote WroteErrors status ⊎ (HasExplained Wrote status × WroteErrors [])
+
+-- a command that ended well has compiled, has listed, has run, has explained or has checked
 abbrev pub HasDone : (Wrote WroteErrors : List ℕ → Type 0) → Status → Type 0
-HasDone Wrote WroteErrors Done = HasCompiled Wrote ⊎ (HasListed Wrote ⊎ (HasRun Wrote WroteErrors Done ⊎ HasChecked Wrote))
-HasDone Wrote WroteErrors Stuck = HasRun Wrote WroteErrors Stuck
-HasDone Wrote WroteErrors Limit = HasRun Wrote WroteErrors Limit
+HasDone Wrote WroteErrors Done =
+    HasCompiled Wrote ⊎ (HasListed Wrote ⊎ (HasEnded Wrote WroteErrors Done ⊎ HasChecked Wrote))
+HasDone Wrote WroteErrors Stuck = HasEnded Wrote WroteErrors Stuck
+HasDone Wrote WroteErrors Limit = HasEnded Wrote WroteErrors Limit
 HasDone Wrote WroteErrors _ = ⊥

@@ -1,5 +1,6 @@
 pub mod Running
 pub mod Replaying
+pub mod Explaining
 pub mod Statuses
 pub mod Accounts
 pub mod Failures

@@ -1,16 +1,19 @@
 ghost use Rattle.std.specs.Prelude.{◌≡◌, ◌≤◌, ◌⊎◌, ℕ, List, IfOk, IfErr, OnOk};
 ghost use Rattle.std.specs.Io.KnownBytes.{Appends};
 ghost use Rattle.mesamon.specs.Accounts.{output_lines, account};
-ghost use Rattle.mesamon.specs.Commands.{HasChecked, HasCompiled, HasDone, HasListed, HasRun, status_of_verdict};
+ghost use Rattle.mesamon.specs.Commands.{HasChecked, HasCompiled, HasDone, HasEnded, HasExplained, HasListed, HasRun};
+ghost use Rattle.mesamon.specs.Commands.{status_of_verdict};
 ghost use Rattle.mesamon.specs.Running.{IsRunOf};
 
+use crate::explained_run::explain_source;
 use crate::failure::Failure;
 use crate::files::{read_file, write_image};
 use crate::replaying::replay;
-use crate::report::{write_account, write_image_line, write_output, write_text};
+use crate::report::{write_account, write_bytes, write_image_line, write_output, write_text};
 use crate::schedule::threads_of;
 use crate::source_run::{RunSourceFault, run_in_order, run_source};
 use crate::status::Status;
+use actionlines::action_lines;
 use commandline::{Job, read_job};
 use compiler::{check_text, compile};
 use isa::{decode, encode};
@@ -29,8 +32,8 @@ use words::OpenGate;
 ///
 /// The first fault decides: of the words, of reading the files, of the source text or the image, of its run, of writing.
 ///
-/// A text is run with a worker for each thread, but where its log is shown: then on the calling thread, so that the log
-/// is the same each time.
+/// A text is run with a worker for each thread, but where its log is shown or explained: then on the calling thread, so
+/// that the log is the same each time.
 ///
 /// The status is 0 where the command was done, 1 where the source text is refused, 2 for words that are no command, 3
 /// where the run was stuck, 4 where it reached its limit, 5 where memory ran out, and 6 for any other failure.
@@ -43,12 +46,12 @@ pub fn perform<R: Files + AllocGlobal + Threads + Wait + Sync, O: Write, E: Writ
     ensures known { result ≤ 6 }
     ensures done { result ≡ 0 → HasCompiled (Appends (O.contents output.old) (O.contents output.new))
         ⊎ (HasListed (Appends (O.contents output.old) (O.contents output.new))
-        ⊎ (HasRun (Appends (O.contents output.old) (O.contents output.new))
+        ⊎ (HasEnded (Appends (O.contents output.old) (O.contents output.new))
         (Appends (E.contents errors.old) (E.contents errors.new)) Status.Done
         ⊎ HasChecked (Appends (O.contents output.old) (O.contents output.new)))) }
-    ensures stuck { result ≡ 3 → HasRun (Appends (O.contents output.old) (O.contents output.new))
+    ensures stuck { result ≡ 3 → HasEnded (Appends (O.contents output.old) (O.contents output.new))
         (Appends (E.contents errors.old) (E.contents errors.new)) Status.Stuck }
-    ensures limit { result ≡ 4 → HasRun (Appends (O.contents output.old) (O.contents output.new))
+    ensures limit { result ≡ 4 → HasEnded (Appends (O.contents output.old) (O.contents output.new))
         (Appends (E.contents errors.old) (E.contents errors.new)) Status.Limit }
 {
     match do_job(rt, words, output, errors) {
@@ -88,6 +91,7 @@ fn do_job<'a, R: Files + AllocGlobal + Threads + Wait + Sync, O: Write, E: Write
             schedule,
             trace,
         } => { replay_file(rt, file, schedule, trace, output, errors) }
+        Job::Explain { file, steps } => explain_file(rt, file, steps, output),
     }
 }
 
@@ -195,6 +199,22 @@ fn replay_file<'a, R: Files + AllocGlobal, O: Write, E: Write>(
     let threads = schedule_of(rt, schedule)?;
     let report = replay(rt.alloc(), text.as_slice(), threads.as_slice())?;
     show(rt, &report, trace, output, errors)
+}
+
+// Prints what a run of a file is in its source.
+fn explain_file<'a, R: Files + AllocGlobal, O: Write>(
+    rt: &R,
+    file: &'a str,
+    steps: u32,
+    output: &mut O,
+) -> Result<Status, Failure<'a>>
+    ensures { IfOk result (λ s. HasExplained (Appends (O.contents output.old) (O.contents output.new)) s) }
+{
+    let text = bytes_of(rt, file)?;
+    let run = explain_source(rt.alloc(), text.as_slice(), steps)?;
+    let lines = action_lines(rt.alloc(), run.checked.names(), run.actions.as_slice())?;
+    write_bytes(output, lines.as_slice())?;
+    Ok(status_of(run.report.verdict))
 }
 
 // The threads that a schedule's file names.

@@ -1,8 +1,10 @@
 ghost use Rattle.std.specs.Prelude.{◌≡◌};
 ghost use Rattle.std.specs.IoError.{error_kind};
 ghost use Rattle.mesamon.specs.declared.failure.Failure.TheVariants.{Memory as memory, Output as output};
-ghost use Rattle.mesamon.specs.Failures.{status_of, OfIo, OfWords, OfRefusal, OfImage, OfRun, OfReplay};
+ghost use Rattle.mesamon.specs.Failures.{status_of, OfExplain, OfImage, OfIo, OfRefusal};
+ghost use Rattle.mesamon.specs.Failures.{OfReplay, OfRun, OfWords};
 
+use crate::explained_run::ExplainSourceFault;
 use crate::replaying::ReplayFault;
 use crate::source_run::RunSourceFault;
 use crate::status::Status;
@@ -39,6 +41,9 @@ pub enum Failure<'a> {
     /// of too many bytes.
     #[error("schedule entry {0}")]
     Schedule(u64),
+    /// What was found to explain the run is no run of the program.
+    #[error("unexplained")]
+    Unexplained,
     /// Output could not be written.
     #[error("cannot write output")]
     Output,
@@ -83,6 +88,7 @@ impl<'a> Failure<'a> {
             | Failure::Image(_)
             | Failure::Run(_)
             | Failure::Schedule(_)
+            | Failure::Unexplained
             | Failure::Output => Status::Failed,
         }
     }
@@ -142,6 +148,18 @@ impl From<ReplayFault> for Failure<'_> {
             ReplayFault::Refused(refusal) => Failure::from(refusal),
             ReplayFault::BadEntry(number) => Failure::Schedule(number),
             ReplayFault::Memory => Failure::Memory,
+        }
+    }
+}
+
+impl From<ExplainSourceFault> for Failure<'_> {
+    ghost from_gives = { OfExplain };
+
+    fn from(fault: ExplainSourceFault) -> Self {
+        match fault {
+            ExplainSourceFault::Refused(refusal) => Failure::from(refusal),
+            ExplainSourceFault::Memory => Failure::Memory,
+            ExplainSourceFault::Unexplained => Failure::Unexplained,
         }
     }
 }

@@ -2,8 +2,10 @@
 #![tactic(auto)]
 
 mod commands;
+mod explained_run;
 mod failure;
 mod files;
+mod reading;
 mod replaying;
 mod report;
 mod schedule;
@@ -11,6 +13,7 @@ mod source_run;
 mod status;
 
 pub use commands::perform;
+pub use explained_run::{ExplainSourceFault, ExplainedRun, explain_source};
 pub use replaying::{ReplayFault, replay};
 pub use source_run::{RunSourceFault, run_in_order, run_source};
 pub use status::Status;

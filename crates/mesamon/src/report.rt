@@ -24,7 +24,14 @@ pub fn write_image_line<W: Write>(writer: &mut W, count: usize) -> io::Result<()
 pub fn write_text<W: Write>(writer: &mut W, text: &str) -> io::Result<()>
     ensures { OnOk result (Appends (W.contents writer.old) (W.contents writer.new) text.now) }
 {
-    writer.write_all(text.as_bytes())?;
+    write_bytes(writer, text.as_bytes())
+}
+
+/// Writes bytes.
+pub fn write_bytes<W: Write>(writer: &mut W, bytes: &[u8]) -> io::Result<()>
+    ensures { OnOk result (Appends (W.contents writer.old) (W.contents writer.new) bytes.now) }
+{
+    writer.write_all(bytes)?;
     writer.flush()
 }
 
@@ -34,8 +41,7 @@ pub fn write_output<W: Write>(alloc: Global, writer: &mut W, output: &[i32]) -> 
 {
     let mut text = String::new(alloc);
     append_output(&mut text, output)?;
-    writer.write_all(text.as_bytes())?;
-    writer.flush()
+    write_bytes(writer, text.as_bytes())
 }
 
 /// Writes what else a run tells: the log where it is wanted, the verdict where not all threads have ended, and the
@@ -50,8 +56,7 @@ pub fn write_account<W: Write>(
 {
     let mut text = String::new(alloc);
     append_account(&mut text, report, trace)?;
-    writer.write_all(text.as_bytes())?;
-    writer.flush()
+    write_bytes(writer, text.as_bytes())
 }
 
 fn append_output(text: &mut String, output: &[i32]) -> Result<(), AllocError>

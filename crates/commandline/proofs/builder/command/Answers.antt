@@ -19,5 +19,7 @@ returns c =
     ∙ ap₂ with_subcommand with_compile (ap (λ (a : App). a.top) c.in_ok-list_command.ensures.app) in
     let with_run = c.in_ok-subcommand-4.ensures.shape c.in_ok-run_command.ensures.local
     ∙ ap₂ with_subcommand with_list (ap (λ (a : App). a.top) c.in_ok-run_command.ensures.app) in
-    IfOk-weaker c.subcommand-5.result _ _ (λ r h. h.shape c.in_ok-replay_command.ensures.local
-    ∙ ap₂ with_subcommand with_run (ap (λ (a : App). a.top) c.in_ok-replay_command.ensures.app)) c.subcommand-5.ensures
+    let with_replay = c.in_ok-subcommand-5.ensures.shape c.in_ok-replay_command.ensures.local
+    ∙ ap₂ with_subcommand with_run (ap (λ (a : App). a.top) c.in_ok-replay_command.ensures.app) in
+    IfOk-weaker c.subcommand-6.result _ _ (λ r h. h.shape c.in_ok-explain_command.ensures.local
+    ∙ ap₂ with_subcommand with_replay (ap (λ (a : App). a.top) c.in_ok-explain_command.ensures.app)) c.subcommand-6.ensures

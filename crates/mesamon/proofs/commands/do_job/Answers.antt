@@ -1,6 +1,6 @@
 use Rattle.std.proofs.Common.{inl, inr}
 use Rattle.std.proofs.lemmas.Result.{IfOk-weaker}
-use Rattle.mesamon.proofs.Endings.{done_by, ran}
+use Rattle.mesamon.proofs.Endings.{done_by, explained, nothing_written, ran}
 use Rattle.mesamon.proofs.commands.do_job.Goals as goal
 
 pub returns-in-Check : goal.returns-in-Check
@@ -23,3 +23,7 @@ returns-in-Run g c = IfOk-weaker c.run_file.result _ _ (λ s h. ran _ _ s h) c.r
 
 pub returns-in-Replay : goal.returns-in-Replay
 returns-in-Replay g c = IfOk-weaker c.replay_file.result _ _ (λ s h. ran _ _ s h) c.replay_file.ensures
+
+pub returns-in-Explain : goal.returns-in-Explain
+returns-in-Explain g c =
+    IfOk-weaker c.explain_file.result _ _ (λ s h. explained _ _ s (nothing_written _) h) c.explain_file.ensures

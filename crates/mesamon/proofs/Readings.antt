@@ -1,0 +1,51 @@
+-- The checked program and the image of a text, or its refusal.
+use Rattle.std.proofs.Common.{◌≡◌, ◌⊎◌, inl, inr, ℕ, List, sym, subst, Result, Ok, Err, IfErr, MatchResult}
+use Rattle.scanner.specs.declared.refusal.Refusal.{Refusal}
+use Rattle.scanner.specs.Refusals.{out_of_memory}
+use Rattle.isa.specs.Programs.{Program as Image}
+use Rattle.program.specs.Names.{CheckedProgram, said_by}
+use Rattle.program.specs.Trees.{Program}
+use Rattle.code.specs.Pieces.{code_of}
+use Rattle.backend.specs.Refusals as backend
+use Rattle.refinement.specs.Refines.{Refines}
+use Rattle.compiler.specs.Accepts.{Accepts, RefusesProgram, Refuses}
+use Rattle.compiler.specs.Compiles.{IsRead}
+use Rattle.mesamon.specs.Explaining.{IsReadImage}
+
+-- a text that is no program
+pub unread : (text : List ℕ) (e : Refusal) → (e ≡ out_of_memory) ⊎ RefusesProgram text e
+    → (e ≡ out_of_memory) ⊎ Refuses text e
+unread text e (inl memory) = inl memory
+unread text e (inr refused) = inr (inl refused)
+
+-- a program whose code is too long
+pub not_fitting : (text : List ℕ) (p : Program) (e : Refusal) → Accepts text p → backend.Refuses p e
+    → (e ≡ out_of_memory) ⊎ Refuses text e
+not_fitting text p e a (inl memory) = inl memory
+not_fitting text p e a (inr long) =
+    inr (inr record { program = p; accepts = a; long = long.1; refusal = long.0 })
+
+-- a program whose code fits
+pub read_whole : (text : List ℕ) (c : CheckedProgram) (image : Image) → IsRead text c
+    → Refines (said_by c) (code_of (said_by c)) → (image ≡ code_of (said_by c)) × backend.Fits (said_by c)
+    → IsReadImage text c image
+read_whole text c image read refines (same, fits) = record {
+  accepts = read.accepts;
+  code = same;
+  compiled = record {
+    program = said_by c;
+    accepts = read.accepts;
+    fits = fits;
+    code = same;
+    refines = subst (λ (i : Image). Refines (said_by c) i) (sym same) refines;
+  };
+}
+
+-- a text whose program's code fits is refused for want of memory alone
+pub only_memory : ((text : List ℕ) (p : Program) (e : Refusal) → Accepts text p → backend.Fits p → Refuses text e → ⊥)
+    → (text : List ℕ) (A : Type 0) (Good : A → Type 0) (r : Result A Refusal)
+    → MatchResult r Good (λ e. (e ≡ out_of_memory) ⊎ Refuses text e) → (p : Program) → Accepts text p → backend.Fits p
+    → IfErr r (λ e. e ≡ out_of_memory)
+only_memory not_both text A Good (Ok x) h p a fits = tt
+only_memory not_both text A Good (Err e) (inl memory) p a fits = memory
+only_memory not_both text A Good (Err e) (inr refused) p a fits = absurd (not_both text p e a fits refused)

@@ -1,0 +1,6 @@
+use Rattle.mesamon.proofs.Readings.{only_memory}
+use Rattle.mesamon.proofs.reading.compile_checked.Goals as goal
+
+pub returns-clause-only : goal.returns-clause-only
+returns-clause-only c = only_memory c.text_laws.ensures.not_both c.args.text.now _ _ c.read_image.result
+    c.read_image.ensures

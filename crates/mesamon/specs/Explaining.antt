@@ -1,0 +1,42 @@
+-- What a run of a source text that is explained answers.
+use Rattle.std.specs.Prelude.{◌≡◌, ◌⊎◌, ℕ, List, map}
+use Rattle.isa.specs.Programs.{Program as Image}
+use Rattle.scanner.specs.Refusals.{out_of_memory}
+use Rattle.program.specs.Names.{CheckedProgram, said_by}
+use Rattle.code.specs.Pieces.{code_of}
+use Rattle.sourcestates.specs.Actions.{action_of}
+use Rattle.explaining.specs.Explains.{IsExplained}
+use Rattle.compiler.specs.Accepts.{Accepts, Refuses}
+use Rattle.compiler.specs.Compiles.{IsCompiled}
+use Rattle.mesamon.specs.Running.{IsRunOf}
+use Rattle.mesamon.specs.declared.explained_run.ExplainedRun.{ExplainedRun}
+use Rattle.mesamon.specs.declared.explained_run.ExplainSourceFault.{ExplainSourceFault}
+use Rattle.mesamon.specs.declared.explained_run.ExplainSourceFault.TheVariants.{Refused, Memory, Unexplained}
+
+-- the text's checked program, and its image
+pub record IsReadImage (text : List ℕ) (c : CheckedProgram) (image : Image) : Type 0 where
+  pub accepts : Accepts text (said_by c)
+  pub code : image ≡ code_of (said_by c)
+  pub compiled : IsCompiled text image
+
+-- a run of the text's program within the limit, and the actions that the log of its code is
+pub record IsExplainedRun (text : List ℕ) (limit : ℕ) (r : ExplainedRun) : Type 0 where
+  pub accepts : Accepts text (said_by r.checked)
+  pub run : IsRunOf text limit r.report
+  pub explained : IsExplained (said_by r.checked) (code_of (said_by r.checked)) r.report.log.items
+      (map action_of r.actions.items)
+
+-- the text's refusal, or a fault of explaining
+abbrev pub IsRefusedExplanation : List ℕ → ExplainSourceFault → Type 0
+IsRefusedExplanation text (Refused e) = (e ≡ out_of_memory) ⊎ Refuses text e
+IsRefusedExplanation text other = Unit {0}
+
+-- no refusal of the text but for want of memory
+abbrev pub IsNoTextRefusal : ExplainSourceFault → Type 0
+IsNoTextRefusal (Refused e) = e ≡ out_of_memory
+IsNoTextRefusal other = Unit {0}
+
+-- a fault of explaining
+abbrev pub IsOfExplaining : ExplainSourceFault → Type 0
+IsOfExplaining (Refused e) = ⊥
+IsOfExplaining other = Unit {0}

@@ -1,0 +1,120 @@
+ghost use Rattle.std.specs.Prelude.{◌≡◌, IfOk, IfErr, List, MatchResult, map, ℕ};
+ghost use Rattle.machine.specs.States.{ConcreteState};
+ghost use Rattle.program.specs.Names.{said_by};
+ghost use Rattle.program.specs.Trees.{Program};
+ghost use Rattle.code.specs.Pieces.{code_of};
+ghost use Rattle.sourcestates.specs.Actions.{action_of};
+ghost use Rattle.runner.specs.Reports.{IsReport};
+ghost use Rattle.explaining.specs.Explains.{IsExplained, LeadsTo};
+ghost use Rattle.backend.specs.Refusals.{Fits};
+ghost use Rattle.compiler.specs.Accepts.{Accepts};
+ghost use Rattle.compiler.specs.Compiles.{IsCompiled};
+ghost use Rattle.mesamon.specs.Explaining.{IsExplainedRun, IsRefusedExplanation, IsNoTextRefusal, IsOfExplaining};
+ghost use Rattle.mesamon.specs.declared.explained_run.ExplainSourceFault.TheVariants.{Refused, Memory};
+
+use crate::reading::compile_checked;
+use explaining::{ExplainFault, explain};
+use isa::Image;
+use machine::Entry;
+use program::Checked;
+use runner::{Report, RunFault, logs_are_machine_runs};
+use scanner::Refusal;
+use sourcestates::Action;
+use std::alloc::Global;
+use thiserror::Error;
+use words::OpenGate;
+
+/// A run of a source text's image, and the run of its program that it is.
+#[derive(Drop)]
+pub struct ExplainedRun<'a> {
+    /// The text's program.
+    pub checked: Checked<'a>,
+    /// What the run of the image left.
+    pub report: Report,
+    /// The actions of the program, in order.
+    pub actions: Vec<Action>,
+}
+
+/// Why the run of a source text was not explained.
+#[derive(Clone, Copy, PartialEq, Eq, Debug, Error)]
+pub enum ExplainSourceFault {
+    /// The text has no image.
+    #[error("{0}")]
+    Refused(Refusal),
+    /// There is no memory for the run, or for what explains it.
+    #[error("memory")]
+    Memory,
+    /// What was found to explain the log is no run of the program.
+    #[error("unexplained")]
+    Unexplained,
+}
+
+impl From<Refusal> for ExplainSourceFault {
+    ghost from_gives = { λ e f. f ≡ Refused e };
+
+    fn from(refusal: Refusal) -> ExplainSourceFault {
+        ExplainSourceFault::Refused(refusal)
+    }
+}
+
+// Runs the image of a text in order. There is no fault but want of memory.
+fn run_image(alloc: Global, image: &Image, limit: u32) -> Result<Report, ExplainSourceFault>
+    requires { (text : List ℕ) × IsCompiled text image.now }
+    ensures { MatchResult result (λ report. IsReport image.now limit report) (λ fault. fault ≡ Memory) }
+{
+    logs_are_machine_runs();
+    match runner::run(alloc, image, limit, &OpenGate) {
+        Ok(report) => Ok(report),
+        Err(RunFault::Broken) => unreachable!(),
+        Err(RunFault::Stray | RunFault::CannotMove | RunFault::Limit) => unreachable!(),
+        Err(RunFault::Memory) => Err(ExplainSourceFault::Memory),
+    }
+}
+
+// Explains a legal log of a program's image.
+fn explain_log(
+    alloc: Global,
+    checked: &Checked,
+    image: &Image,
+    log: &[Entry],
+) -> Result<Vec<Action>, ExplainSourceFault>
+    requires own { image.now ≡ code_of (said_by checked.now) }
+    requires legal { (k : ConcreteState) × LeadsTo image.now log.now k }
+    ensures { MatchResult result
+        (λ actions. IsExplained (said_by checked.now) image.now log.now (map action_of actions.items))
+        (λ fault. IsOfExplaining fault) }
+{
+    match explain(alloc, checked, image, log) {
+        Ok(actions) => Ok(actions),
+        Err(ExplainFault::Memory) => Err(ExplainSourceFault::Memory),
+        Err(ExplainFault::Unexplained) => Err(ExplainSourceFault::Unexplained),
+        Err(ExplainFault::OtherImage | ExplainFault::NotARun) => unreachable!(),
+    }
+}
+
+/// Compiles a source text, runs its image within a limit of steps as `run_in_order` does, and explains the log: the
+/// actions are a run of the text's program, at whose end the same is seen as of the machine.
+///
+/// # Errors
+///
+/// A text that `compile` refuses has the same refusal. Else there is no fault but want of memory, and `Unexplained`,
+/// as `explaining::explain` says.
+pub fn explain_source<'a>(
+    alloc: Global,
+    text: &'a [u8],
+    limit: u32,
+) -> Result<ExplainedRun<'a>, ExplainSourceFault>
+    ensures explained { IfOk result (λ run. IsExplainedRun text.now limit run) }
+    ensures fault { IfErr result (λ fault. IsRefusedExplanation text.now fault) }
+    ensures only { (p : Program) → Accepts text.now p → Fits p → IfErr result (λ fault. IsNoTextRefusal fault) }
+{
+    logs_are_machine_runs();
+    let (checked, image) = compile_checked(alloc, text)?;
+    let report = run_image(alloc, &image, limit)?;
+    let actions = explain_log(alloc, &checked, &image, report.log.as_slice())?;
+    Ok(ExplainedRun {
+        checked,
+        report,
+        actions,
+    })
+}
