@@ -1,10 +1,9 @@
 -- What a process can take next is what its offer tells.
-use Rattle.std.proofs.Common.{◌≡◌, ℕ, suc, ◌+◌, ◌<◌, ◌≤◌, Bool, true, false, List, [], ◌∷◌, Option, Some, None, refl, ap}
-use Rattle.std.proofs.Common.{sym, ◌∙◌, subst, arith, inl, inr, option_map}
+use Rattle.std.proofs.Common.{◌≡◌, ℕ, Bool, true, false, List, Some, None, refl, ap}
+use Rattle.std.proofs.Common.{sym, ◌∙◌, subst, inl, inr}
 use Rattle.std.proofs.lemmas.Bool.{false≢true, le-leb, lt-leb, lt-ltb}
 use Rattle.std.specs.Prelude.{if◌then◌else◌, nat_le, nat_lt}
 use Rattle.words.specs.Limits.{most_processes}
-use Rattle.words.specs.declared.outcome.Fault.TheVariants.{HandleNotJoinable, ProcessTableFull}
 use Rattle.machine.specs.States.{State}
 use Rattle.program.specs.declared.kinds.Member.{Member}
 use Rattle.program.specs.Trees.{Program}
@@ -12,14 +11,10 @@ use Rattle.meaning.specs.Labels.{Kind, kind_of}
 use Rattle.meaning.specs.Labels as L
 use Rattle.meaning.specs.Table.{Table, Allows}
 use Rattle.meaning.specs.Processes.{Process}
-use Rattle.meaning.specs.Offers.{Effect, TakesUp, offer}
-use Rattle.meaning.specs.Offers as O
-use Rattle.meaning.specs.States.{SourceState}
+use Rattle.meaning.specs.Offers.{Effect, TakesUp}
 use Rattle.deferral.specs.Deferring.{is_quiet}
 use Rattle.sourceruns.specs.declared.offers.Label.{Label}
-use Rattle.sourceruns.specs.declared.offers.Label.TheVariants.{Assigns, Tests, Calls, Returns, Prints, Fails, Stores}
-use Rattle.sourceruns.specs.declared.offers.Label.TheVariants.{Exits, Waits, Abandons, Ends}
-use Rattle.sourceruns.specs.declared.offers.Offered.{Offered}
+use Rattle.sourceruns.specs.declared.offers.Label.TheVariants.{Assigns, Tests, Calls, Returns, Fails}
 use Rattle.sourceruns.specs.declared.offers.Offered.TheVariants.{Rests, Does, Makes, Claims, NotifiesSome, NotifiesAll}
 use Rattle.sourceruns.specs.declared.next_action.Offer.{Offer}
 use Rattle.sourceruns.specs.declared.next_action.Offer.TheVariants.{Own, Enters, Resumes, Joins}
@@ -27,8 +22,7 @@ use Rattle.sourceruns.specs.declared.process.Process.{Process as ProcessOf}
 use Rattle.sourceruns.specs.Offered.{label_of}
 use Rattle.sourceruns.specs.NextAction.{offer_of}
 use Rattle.product.specs.Placing.{awake_waiters, Resumes as Resumes'}
-use Rattle.product.specs.Tracking.{CanTake}
-use Rattle.following.specs.Choosing.{quiet_label, quiet_own, quiet_kind, heard_label, heard_own, heard_kind, resumed_own}
+use Rattle.following.specs.Choosing.{quiet_label, quiet_kind, heard_kind}
 use Rattle.following.specs.Choosing.{resumed_only}
 
 quiet_by_label : (l : Label) → is_quiet (label_of l) ≡ true → quiet_label l ≡ Some (kind_of (label_of l))

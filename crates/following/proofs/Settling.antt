@@ -1,5 +1,5 @@
 -- The quiet actions that wait of a process are taken, and then the action that others learn of.
-use Rattle.std.proofs.Common.{◌≡◌, ℕ, suc, ◌+◌, ◌≤◌, true, false, List, [], ◌∷◌, length, Option, Some, None, refl, ap, sym}
+use Rattle.std.proofs.Common.{◌≡◌, ℕ, ◌+◌, ◌≤◌, true, false, List, [], ◌∷◌, length, Option, Some, None, refl, ap, sym}
 use Rattle.std.proofs.Common.{◌∙◌, subst, arith, option_map}
 use Rattle.std.specs.Prelude.{Bool, Result, Ok, Err, IfOk}
 use Rattle.machine.specs.States.{State}

@@ -1,6 +1,6 @@
 -- The list of those who wait on a condition and don't sleep on its word, one by one.
 use Rattle.std.proofs.Common.{◌≡◌, ◌≢◌, ℕ, zero, suc, ◌+◌, ◌==◌, ◌&&◌, not, Bool, true, false, List, [], ◌∷◌, ◌++◌}
-use Rattle.std.proofs.Common.{Option, Some, None, refl, ap, sym, ◌∙◌, subst, arith}
+use Rattle.std.proofs.Common.{Option, Some, None, refl, ap, sym, ◌∙◌, arith}
 use Rattle.std.proofs.lemmas.Bool.{eq-eqb, ne_eqb}
 use Rattle.machine.specs.States.{State}
 use Rattle.program.specs.Trees.{Program}
@@ -9,7 +9,7 @@ use Rattle.code.specs.Layout.{Layout, layout_of, address_at, member_address}
 use Rattle.meaning.specs.Table.{Table}
 use Rattle.protocol.specs.Carries.{waits_on, chosen_from, with_number}
 use Rattle.protocol.specs.World.{same_member}
-use Rattle.protocol.proofs.Sleeps.{same-true, same-same, same-other}
+use Rattle.protocol.proofs.Sleeps.{same-same, same-other}
 use Rattle.product.specs.Placing.{sleeps_on, awake_waiters}
 use Rattle.following.specs.Waiting.{sleeps_at, is_awake}
 

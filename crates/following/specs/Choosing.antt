@@ -1,5 +1,5 @@
 -- Which action a process takes next, by its offer: a quiet one where it can take one, else one that others learn of.
-use Rattle.std.specs.Prelude.{ℕ, suc, ◌+◌, Bool, List, Option, Some, None, nat_le, nat_lt, if◌then◌else◌}
+use Rattle.std.specs.Prelude.{ℕ, ◌+◌, List, Option, Some, None, nat_le, nat_lt, if◌then◌else◌}
 use Rattle.words.specs.Limits.{most_processes}
 use Rattle.words.specs.declared.outcome.Fault.TheVariants.{HandleNotJoinable, ProcessTableFull}
 use Rattle.program.specs.declared.kinds.Member.{Member}
@@ -7,8 +7,7 @@ use Rattle.meaning.specs.Labels.{Kind, kind_of}
 use Rattle.meaning.specs.Labels as L
 use Rattle.meaning.specs.Table.{Table}
 use Rattle.sourceruns.specs.declared.offers.Label.{Label}
-use Rattle.sourceruns.specs.declared.offers.Label.TheVariants.{Assigns, Tests, Calls, Returns, Prints, Fails, Stores}
-use Rattle.sourceruns.specs.declared.offers.Label.TheVariants.{Exits, Waits, Abandons, Ends}
+use Rattle.sourceruns.specs.declared.offers.Label.TheVariants.{Assigns, Tests, Calls, Returns, Fails}
 use Rattle.sourceruns.specs.declared.offers.Offered.{Offered}
 use Rattle.sourceruns.specs.declared.offers.Offered.TheVariants.{Rests, Does, Makes, Claims, NotifiesSome, NotifiesAll}
 use Rattle.sourceruns.specs.declared.next_action.Offer.{Offer}

@@ -1,2 +1,4 @@
 pub mod Choosing
 pub mod Waiting
+pub mod Requests
+pub mod Going

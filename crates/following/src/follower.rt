@@ -15,10 +15,14 @@ ghost use Rattle.sourcestates.specs.Taken.{IsAnswer};
 ghost use Rattle.product.specs.Placing.{Resumes, act, awake_waiters};
 ghost use Rattle.product.specs.Tracking.{CanTake, Owes, Tracks};
 ghost use Rattle.following.specs.Choosing.{resumed_only};
+ghost use Rattle.following.specs.Going.{GoesOn};
+ghost use Rattle.following.specs.Requests.{heard_step};
 ghost use Rattle.following.specs.Waiting.{is_awake};
 
 use crate::choosing::{heard_action, notified, quiet_action};
+use crate::requests::is_heard;
 use layout::Layout;
+use locals::NextStep;
 use machine::Machine;
 use program::{Checked, Member};
 use sourceruns::Offer;
@@ -63,6 +67,16 @@ impl<'a> Follower<'a> {
         self.actions.as_slice()
     }
 
+    /// Whether the step of a thread that comes to this, with this value in its event, is an action of its process which
+    /// other processes learn of.
+    pub fn hears(&self, step: NextStep, value: u32) -> bool
+        ensures { self.now.layout ≡ layout_of (said_by self.now.checked.now)
+            → result ≡ heard_step (said_by self.now.checked.now) step value }
+    {
+        let monitors = self.checked.program().monitors.len() as u32;
+        is_heard(&self.layout, monitors, step, value)
+    }
+
     // Takes an action, if it is possible; else nothing is known of the state.
     fn take(&mut self, t: u32, kind: ActionKind) -> Result<bool, AllocError>
         ensures step { IfOk result (λ b. IsAnswer b
@@ -70,6 +84,7 @@ impl<'a> Follower<'a> {
             (state_of self.new.state)) }
         ensures kept { IfOk result (λ _. (self.new.checked ≡ self.old.checked)
             × (self.new.layout ≡ self.old.layout)) }
+        ensures run { IfOk result (λ b. b ≡ true → GoesOn self.old self.new) }
     {
         let action = Action {
             process: u64::from(t),
@@ -107,6 +122,7 @@ impl<'a> Follower<'a> {
             → (b ≡ true) × Owes (said_by self.old.checked.now) w steps s t (state_of self.new.state) []) }
         ensures kept { IfOk result (λ _. (self.new.checked ≡ self.old.checked)
             × (self.new.layout ≡ self.old.layout)) }
+        ensures run { IfOk result (λ b. b ≡ true → GoesOn self.old self.new) }
     {
         for _ in 0..most {
             let Some(kind) = self.next_quiet(t)? else {
@@ -183,6 +199,7 @@ impl<'a> Follower<'a> {
             (state_of self.new.state)) }
         ensures kept { IfOk result (λ _. (self.new.checked ≡ self.old.checked)
             × (self.new.layout ≡ self.old.layout)) }
+        ensures run { IfOk result (λ b. b ≡ true → GoesOn self.old self.new) }
     {
         if !self.settle(t, most)? {
             return Ok(false);

@@ -3,5 +3,7 @@
 
 mod choosing;
 mod follower;
+mod requests;
 
 pub use follower::Follower;
+pub use requests::is_heard;

@@ -1,4 +1,4 @@
-use Rattle.std.proofs.Common.{◌≡◌, ap, sym, ◌∙◌, subst, option_map, true, Some}
+use Rattle.std.proofs.Common.{◌≡◌, ap, sym, ◌∙◌, option_map, true}
 use Rattle.std.proofs.lemmas.Bool.{false≢true}
 use Rattle.machine.specs.States.{state_of as machine_state}
 use Rattle.machine.specs.Views.{concrete}
@@ -9,6 +9,8 @@ use Rattle.sourcestates.specs.Actions.{kind_of}
 use Rattle.sourcestates.specs.States.{state_of}
 use Rattle.sourcestates.specs.Taken.{IsAnswer}
 use Rattle.product.specs.Placing.{act}
+use Rattle.following.specs.Going.{GoesOn}
+use Rattle.following.proofs.Going.{more_after}
 use Rattle.following.proofs.Settling.{follows_on, finds_one, if_ok}
 use Rattle.following.proofs.follower.Follower.follow.Goals as goal
 
@@ -45,3 +47,10 @@ returns-in-None-clause-settles c = λ w steps ks layout o few.
     (λ label can heard who. c.in_ok-kind.ensures label
     (c.in_ok-settle.ensures.kept.1 ∙ layout ∙ ap layout_of (sym same)) can heard who)
     (ap (option_map kind_of) c.in-None.is))
+
+pub returns-in-Some-clause-run : goal.returns-in-Some-clause-run
+returns-in-Some-clause-run c =
+    if_ok (λ b. b ≡ true → GoesOn c.settle.new.self c.take.new.self)
+    (λ b. b ≡ true → GoesOn c.args.self.now c.take.new.self) c.take.result
+    (λ b later e. more_after c.args.self.now c.settle.new.self c.take.new.self c.in_ok-settle.ensures.kept.0
+    (c.in_ok-settle.ensures.run c.if-not-branch.false) (later e)) c.take.ensures.run

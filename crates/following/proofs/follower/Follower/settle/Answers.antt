@@ -1,10 +1,11 @@
-use Rattle.std.proofs.Common.{refl, ap, sym, ◌∙◌, subst, arith, option_map, Some, false, true}
+use Rattle.std.proofs.Common.{refl, ◌∙◌, subst, arith, option_map}
 use Rattle.program.specs.Names.{said_by}
 use Rattle.meaning.specs.Runs.{IsStep}
 use Rattle.sourcestates.specs.Actions.{kind_of}
 use Rattle.sourcestates.specs.States.{state_of}
 use Rattle.sourcestates.specs.Taken.{IsAnswer}
 use Rattle.product.specs.Placing.{act}
+use Rattle.following.proofs.Going.{stays, more_after}
 use Rattle.following.proofs.Settling.{Finds, begins_paying, goes_on_paying, never_refused, none_waits, all_paid}
 use Rattle.following.proofs.follower.Follower.settle.Goals as goal
 
@@ -12,6 +13,7 @@ pub loop-init : goal.loop-init
 loop-init c = record {
   checked = refl;
   layout = refl;
+  run = stays c.args.self.now;
   pays = begins_paying (said_by c.args.self.now.checked.now) c.args.t (state_of c.args.self.now.state) c.args.most;
 }
 
@@ -64,6 +66,8 @@ loop-preserved c =
     record {
       checked = c.in_ok-take.ensures.kept.0 ∙ c.loop.invariant.checked;
       layout = c.in_ok-take.ensures.kept.1 ∙ c.loop.invariant.layout;
+      run = more_after c.args.self.now c.loop.self c.take.new.self c.loop.invariant.checked c.loop.invariant.run
+          (c.in_ok-take.ensures.run c.if-not-branch.false);
       pays = goes_on_paying p c.args.t (state_of c.args.self.now.state) b c.args.most c.loop.counter
           c.loop.invariant.pays k (state_of c.take.new.self.state)
           (subst (λ x. Finds p b c.args.t (option_map kind_of x)) c.in-Some.is finds)
@@ -77,3 +81,9 @@ returns-clause-pays c = λ w steps s ks o few. (
   all_paid (said_by c.args.self.now.checked.now) c.args.t (state_of c.args.self.now.state) (state_of c.loop.self.state)
       c.args.most c.loop.counter c.loop.invariant.pays (omega (arith, c.loop-test.false)) w steps s ks o few,
 )
+
+pub returns-in_default-clause-run : goal.returns-in_default-clause-run
+returns-in_default-clause-run c = λ e. c.loop.invariant.run
+
+pub returns-clause-run : goal.returns-clause-run
+returns-clause-run c = λ e. c.loop.invariant.run

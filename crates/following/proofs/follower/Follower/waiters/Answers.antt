@@ -1,4 +1,4 @@
-use Rattle.std.proofs.Common.{ap, sym, ◌∙◌, refl, [], ◌∷◌, ◌++◌, ℕ, List, ◌+◌}
+use Rattle.std.proofs.Common.{ap, sym, ◌∙◌, refl, [], ◌∷◌, ◌++◌, ◌+◌}
 use Rattle.machine.specs.States.{state_of as machine_state}
 use Rattle.machine.specs.Views.{concrete}
 use Rattle.sourcestates.specs.States.{state_of}

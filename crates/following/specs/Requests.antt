@@ -1,0 +1,30 @@
+-- Whether a step is an action that others learn of, as the code tells the step.
+use Rattle.std.specs.Prelude.{ℕ, ◌==◌, ◌&&◌, ◌||◌, not, Bool, true, false}
+use Rattle.locals.specs.declared.request.Request.{Request}
+use Rattle.locals.specs.declared.request.Request.TheVariants as told
+use Rattle.locals.specs.declared.request.NextStep.{NextStep}
+use Rattle.locals.specs.declared.request.NextStep.TheVariants as next
+use Rattle.program.specs.Trees.{Program}
+use Rattle.product.specs.Placing.{is_process_word, is_link_word, is_lock_word, completes_exit}
+use Rattle.protocol.specs.Word.{owner}
+
+-- the address is that of the k-th word of a process
+unfoldable pub is_word_of : ℕ → ℕ → Bool
+is_word_of k a = is_process_word k a
+
+abbrev pub heard_request : Program → Request → ℕ → Bool
+heard_request p (told.CompareSwap a expected new) v = (v == expected) && (owner expected == 0)
+heard_request p (told.Swap a new) v = (new == 0) || (v == 0)
+heard_request p (told.Load a) v = is_word_of 2 a.0 && (v == 0)
+heard_request p (told.Store a value) v =
+    not (is_word_of 0 a.0) && not (is_word_of 1 a.0) && not (is_link_word p a.0)
+heard_request p (told.Wake a n) v = not (is_lock_word p a.0)
+heard_request p (told.Requeue from to wake moves expected) v = true
+heard_request p (told.Print number) v = true
+heard_request p request v = false
+
+abbrev pub heard_step : Program → NextStep → ℕ → Bool
+heard_step p (next.Shared request) v = heard_request p request v
+heard_step p (next.Fork entry count has_room) v = not (v == 0)
+heard_step p (next.Exit phase) v = completes_exit phase
+heard_step p step v = false
