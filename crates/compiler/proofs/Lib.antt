@@ -2,3 +2,4 @@ pub mod Spoken
 pub mod Refused
 pub mod OneAnswer
 pub mod Compiled
+pub mod Readings

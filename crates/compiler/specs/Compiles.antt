@@ -21,3 +21,9 @@ pub record IsCompiled (text : List ℕ) (image : Image) : Type 0 where
   pub fits : Fits program
   pub code : image ≡ code_of program
   pub refines : Refines program image
+
+-- the text's checked program, and its image
+pub record IsReadImage (text : List ℕ) (c : CheckedProgram) (image : Image) : Type 0 where
+  pub accepts : Accepts text (said_by c)
+  pub code : image ≡ code_of (said_by c)
+  pub compiled : IsCompiled text image

@@ -6,7 +6,7 @@ ghost use Rattle.program.specs.Trees.{Program};
 ghost use Rattle.code.specs.Pieces.{code_of};
 ghost use Rattle.backend.specs.Refusals.{Fits};
 ghost use Rattle.compiler.specs.Accepts.{Accepts, RefusesProgram, Refuses};
-ghost use Rattle.compiler.specs.Compiles.{IsCompiled, IsRead};
+ghost use Rattle.compiler.specs.Compiles.{IsCompiled, IsRead, IsReadImage};
 
 use crate::laws::text_laws;
 use backend::image_of;
@@ -57,6 +57,27 @@ fn image_or_refusal(alloc: Global, text: &[u8]) -> Result<Image, Refusal>
     code_refines();
     let checked = read(alloc, text)?;
     image_of(alloc, &checked)
+}
+
+// The checked program of a text, and its image; or its refusal.
+fn read_image<'a>(alloc: Global, text: &'a [u8]) -> Result<(Checked<'a>, Image), Refusal>
+    ensures { MatchResult result (λ r. IsReadImage text.now r.0 r.1)
+        (λ e. (e ≡ out_of_memory) ⊎ Refuses text.now e) }
+{
+    code_refines();
+    let checked = read(alloc, text)?;
+    let image = image_of(alloc, &checked)?;
+    Ok((checked, image))
+}
+
+/// The checked program of a source text, and its image. The refusals are those of `compile`.
+pub fn compile_checked<'a>(alloc: Global, text: &'a [u8]) -> Result<(Checked<'a>, Image), Refusal>
+    ensures compiled { MatchResult result (λ r. IsReadImage text.now r.0 r.1)
+        (λ e. (e ≡ out_of_memory) ⊎ Refuses text.now e) }
+    ensures only { (p : Program) → Accepts text.now p → Fits p → IfErr result (λ e. e ≡ out_of_memory) }
+{
+    text_laws();
+    read_image(alloc, text)
 }
 
 /// The image of a source text.

@@ -4,5 +4,5 @@
 mod compiling;
 mod laws;
 
-pub use compiling::{check_text, compile};
+pub use compiling::{check_text, compile, compile_checked};
 pub use laws::text_laws;

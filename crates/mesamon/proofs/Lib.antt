@@ -2,4 +2,3 @@ pub mod RunsExplained
 mod Endings
 mod Lines
 mod Replays
-mod Readings

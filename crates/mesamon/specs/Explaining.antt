@@ -2,7 +2,7 @@
 use Rattle.std.specs.Prelude.{◌≡◌, ◌⊎◌, ℕ, List, map}
 use Rattle.isa.specs.Programs.{Program as Image}
 use Rattle.scanner.specs.Refusals.{out_of_memory}
-use Rattle.program.specs.Names.{CheckedProgram, said_by}
+use Rattle.program.specs.Names.{said_by}
 use Rattle.code.specs.Pieces.{code_of}
 use Rattle.sourcestates.specs.Actions.{action_of}
 use Rattle.explaining.specs.Explains.{IsExplained}
@@ -12,12 +12,6 @@ use Rattle.mesamon.specs.Running.{IsRunOf}
 use Rattle.mesamon.specs.declared.explained_run.ExplainedRun.{ExplainedRun}
 use Rattle.mesamon.specs.declared.explained_run.ExplainSourceFault.{ExplainSourceFault}
 use Rattle.mesamon.specs.declared.explained_run.ExplainSourceFault.TheVariants.{Refused, Memory, Unexplained}
-
--- the text's checked program, and its image
-pub record IsReadImage (text : List ℕ) (c : CheckedProgram) (image : Image) : Type 0 where
-  pub accepts : Accepts text (said_by c)
-  pub code : image ≡ code_of (said_by c)
-  pub compiled : IsCompiled text image
 
 -- a run of the text's program within the limit, and the actions that the log of its code is
 pub record IsExplainedRun (text : List ℕ) (limit : ℕ) (r : ExplainedRun) : Type 0 where

@@ -12,7 +12,7 @@ ghost use Rattle.compiler.specs.Compiles.{IsCompiled};
 ghost use Rattle.mesamon.specs.Explaining.{IsExplainedRun, IsRefusedExplanation, IsNoTextRefusal, IsOfExplaining};
 ghost use Rattle.mesamon.specs.declared.explained_run.ExplainSourceFault.TheVariants.{Refused, Memory};
 
-use crate::reading::compile_checked;
+use compiler::compile_checked;
 use explaining::{ExplainFault, explain};
 use isa::Image;
 use machine::Entry;

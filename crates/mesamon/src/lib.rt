@@ -5,7 +5,6 @@ mod commands;
 mod explained_run;
 mod failure;
 mod files;
-mod reading;
 mod replaying;
 mod report;
 mod schedule;

@@ -1,7 +1,7 @@
 use Rattle.std.proofs.lemmas.Result.{err_from_is_err_and}
 use Rattle.program.specs.Names.{said_by}
-use Rattle.mesamon.proofs.Readings.{not_fitting, read_whole, unread}
-use Rattle.mesamon.proofs.reading.read_image.Goals as goal
+use Rattle.compiler.proofs.Readings.{not_fitting, read_whole, unread}
+use Rattle.compiler.proofs.compiling.read_image.Goals as goal
 
 pub returns-in_err-checked : goal.returns-in_err-checked
 returns-in_err-checked c =

@@ -9,8 +9,7 @@ use Rattle.code.specs.Pieces.{code_of}
 use Rattle.backend.specs.Refusals as backend
 use Rattle.refinement.specs.Refines.{Refines}
 use Rattle.compiler.specs.Accepts.{Accepts, RefusesProgram, Refuses}
-use Rattle.compiler.specs.Compiles.{IsRead}
-use Rattle.mesamon.specs.Explaining.{IsReadImage}
+use Rattle.compiler.specs.Compiles.{IsRead, IsReadImage}
 
 -- a text that is no program
 pub unread : (text : List ℕ) (e : Refusal) → (e ≡ out_of_memory) ⊎ RefusesProgram text e
