@@ -9,6 +9,7 @@ use crate::next::before;
 use crate::offers::{Effect, Label, Offered, fault};
 use crate::process::{End, Process, Stage};
 use crate::variables::Variables;
+use abandoning::abandon_next;
 use program::{Program, Statement};
 use std::alloc::{AllocError, Global};
 
@@ -64,16 +65,15 @@ pub fn next_offer<'a>(
             let reason = *reason;
             Ok(Offer::Own(fault(alloc, process, reason)?))
         }
-        Stage::Dying(cause, monitors) => {
+        Stage::Dying(cause, _) => {
             let end = End::Aborted(*cause);
-            if monitors.is_empty() {
-                process.stage = Stage::Over(end);
-                return Ok(Offer::Own(Offered::Does(Label::Ends(end), Effect::Nothing)));
-            }
-            let Stage::Dying(_, left) = &mut process.stage else {
+            let Stage::Dying(_, held) = &mut process.stage else {
                 return Ok(Offer::Own(Offered::Rests));
             };
-            let monitor = left.remove(0);
+            let Some(monitor) = abandon_next(held) else {
+                process.stage = Stage::Over(end);
+                return Ok(Offer::Own(Offered::Does(Label::Ends(end), Effect::Nothing)));
+            };
             Ok(Offer::Own(Offered::Does(Label::Abandons(monitor), Effect::Nothing)))
         }
         Stage::Leaving(value) => {
