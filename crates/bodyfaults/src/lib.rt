@@ -1,10 +1,12 @@
 //! The least fault of each statement that calls nothing, without those of the statements that it holds.
 #![tactic(auto)]
 
+mod callee;
 mod names;
 mod simple;
 mod values;
 
+pub use callee::{callee_place, is_empty, is_hidden, is_internal, is_miscounted, is_reentry};
 pub use names::{condition, into, note_where, outside, recover, taker};
 pub use simple::{join, notify, print, returned, wait};
 pub use values::{assignment, typed};

@@ -13,24 +13,13 @@ use crate::simple::ending;
 use crate::site::Site;
 use crate::statement::block;
 use code::{Mark, Marked, append};
-use isa::{Instr, Slot};
+use isa::Instr;
 use layout::Layout;
 use locklower::enter;
+use proclower::parameters;
 use program::{Procedure, Program, Role, ValueType};
 use scanner::Refusal;
 use std::alloc::{AllocError, Global};
-
-// The parameters go from the operands into the first locals.
-fn parameters(count: u32, code: &mut Vec<Marked>) -> Result<(), AllocError>
-    ensures { OnOk result (code.new.items ≡ code.old.items ++ pieces.parameters_code count) }
-{
-    let mut left = count;
-    while left > 0 {
-        left -= 1;
-        append(code, Mark::Plain, Instr::SetLocal(Slot::Local(left)))?;
-    }
-    Ok(())
-}
 
 // The lock is taken at the beginning of an ENTRY procedure.
 fn entering(site: &Site, code: &mut Vec<Marked>) -> Result<(), AllocError>

@@ -13,9 +13,11 @@ ghost use Rattle.statementfaults.specs.Calls.{call_name_faults, fork_name_faults
 ghost use Rattle.statementfaults.specs.Contexts.{IsContext};
 
 use crate::arguments::{arguments, matched};
-use crate::callee::{callee_place, is_empty, is_hidden, is_internal, is_miscounted, is_reentry};
 use crate::context::Context;
-use bodyfaults::{into, note_where, recover, taker};
+use bodyfaults::{
+    callee_place, into, is_empty, is_hidden, is_internal, is_miscounted, is_reentry, note_where,
+    recover, taker,
+};
 use callees::Piece;
 use program::ValueType;
 use scanner::{Place, Refusal, RefusalKind};

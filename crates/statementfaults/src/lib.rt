@@ -3,7 +3,6 @@
 
 mod arguments;
 mod call;
-mod callee;
 mod context;
 mod statement;
 

@@ -8,7 +8,7 @@ use program::Role;
 use scanner::Place;
 use syntax::{Callee, Parameter, ResultType};
 
-// The place of the name of the procedure.
+/// The place of the name of the procedure.
 pub fn callee_place(callee: &Callee<'_>) -> Place
     ensures { result ≡ f.callee_place (v.callee_of callee.now) }
 {
@@ -22,14 +22,14 @@ fn is_dotted(callee: &Callee<'_>) -> bool
     callee.monitor.is_some()
 }
 
-// Whether a piece is an INTERNAL procedure.
+/// Whether a piece is an INTERNAL procedure.
 pub fn is_internal(role: Role) -> bool
     ensures { result ≡ f.is_internal role }
 {
     matches!(role, Role::Internal(_))
 }
 
-// Whether a piece is an ENTRY procedure of the monitor whose lock the calling piece has.
+/// Whether a piece is an ENTRY procedure of the monitor whose lock the calling piece has.
 pub fn is_reentry(caller: Role, callee: Role) -> bool
     ensures { result ≡ f.own_role caller callee }
 {
@@ -41,7 +41,7 @@ pub fn is_reentry(caller: Role, callee: Role) -> bool
     }
 }
 
-// Whether there are more or fewer arguments than parameters.
+/// Whether there are more or fewer arguments than parameters.
 pub fn is_miscounted(callee: &Callee<'_>, parameters: &[Parameter<'_>]) -> bool
     ensures { result ≡ not (nat_eq (length (v.callee_of callee.now).arguments)
         (length (map v.parameter_of parameters.now))) }
@@ -49,14 +49,14 @@ pub fn is_miscounted(callee: &Callee<'_>, parameters: &[Parameter<'_>]) -> bool
     callee.arguments.len() != parameters.len()
 }
 
-// Whether an INTERNAL procedure stands behind a dot.
+/// Whether an INTERNAL procedure stands behind a dot.
 pub fn is_hidden(callee: &Callee<'_>, role: Role) -> bool
     ensures { result ≡ (is_some (v.callee_of callee.now).dotted && f.is_internal role) }
 {
     is_dotted(callee) && is_internal(role)
 }
 
-// Whether a result is taken where there is none.
+/// Whether a result is taken where there is none.
 pub fn is_empty(takes: bool, returns: Option<ResultType>) -> bool
     ensures { result ≡ (takes && is_none returns) }
 {

@@ -1,6 +1,6 @@
 use Rattle.std.proofs.Common.{◌≡◌, ◌++◌}
 use Rattle.code.specs.Pieces.{parameters_code}
-use Rattle.codegen.proofs.piece.parameters.Given as goal
+use Rattle.proclower.proofs.beginning.parameters.Given as goal
 
 abbrev pub invariant-loop-left : goal.invariant-loop-left
 invariant-loop-left l = l.code.items ++ parameters_code l.left ≡ l.fn.code.items ++ parameters_code l.count
