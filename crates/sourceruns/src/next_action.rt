@@ -9,8 +9,8 @@ use crate::next::before;
 use crate::offers::{Effect, Label, Offered, fault};
 use crate::process::{End, Process, Stage};
 use crate::variables::Variables;
-use abandoning::abandon_next;
 use program::{Program, Statement};
+use sourcerules::abandon_next;
 use std::alloc::{AllocError, Global};
 
 /// What a process offers to do next, wherever it stands.

@@ -16,6 +16,7 @@ use crate::offers::{Effect, Label, Offered, claim, fault};
 use crate::process::{Process, Stage};
 use crate::variables::Variables;
 use program::{Expression, Program, Statement};
+use sourcerules::tested;
 use std::alloc::{AllocError, Global};
 use std::mem;
 
@@ -57,15 +58,11 @@ pub fn branch<'a>(
         (callers_of process.old.callers.items)
         (If (expression_of condition.now) (block_in then_part.now) (part_at else_part.entry))) }
 {
-    match evaluate(
-        program,
-        variables,
-        process.frame.locals.as_slice(),
-        condition,
-    ) {
+    let locals = process.frame.locals.as_slice();
+    match tested(evaluate(program, variables, locals, condition)) {
         Err(reason) => fault(alloc, process, reason),
-        Ok(value) if value != 0 => precede(process, then_part),
-        Ok(_) => match else_part {
+        Ok(true) => precede(process, then_part),
+        Ok(false) => match else_part {
             None => Ok(pass(process)),
             Some(block) => precede(process, block),
         },
@@ -106,15 +103,11 @@ pub fn repeat_while<'a>(
         ≡ statement_offer (program_of program.now) (variables_of variables.now) (frame_of process.old.frame)
         (callers_of process.old.callers.items) (While (expression_of condition.now) (block_in body.now))) }
 {
-    match evaluate(
-        program,
-        variables,
-        process.frame.locals.as_slice(),
-        condition,
-    ) {
+    let locals = process.frame.locals.as_slice();
+    match tested(evaluate(program, variables, locals, condition)) {
         Err(reason) => fault(alloc, process, reason),
-        Ok(value) if value != 0 => repeat(process, body, this),
-        Ok(_) => Ok(pass(process)),
+        Ok(true) => repeat(process, body, this),
+        Ok(false) => Ok(pass(process)),
     }
 }
 

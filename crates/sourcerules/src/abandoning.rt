@@ -4,7 +4,7 @@ ghost use Rattle.meaning.specs.Labels.{Cause};
 ghost use Rattle.meaning.specs.Offers.{offer};
 ghost use Rattle.meaning.specs.Processes.{Dying};
 ghost use Rattle.meaning.specs.Values.{Variables};
-ghost use Rattle.abandoning.specs.Offered.{offer_dying};
+ghost use Rattle.sourcerules.specs.Dying.{offer_dying};
 
 /// Takes the monitor that a dying process abandons next from those that it holds, innermost first; None where it holds
 /// none, and is over next.
