@@ -28,7 +28,8 @@ use Rattle.execution.specs.Builds.{IsBuild}
 use Rattle.execution.proofs.Walking.{front_stands, back_stands}
 use Rattle.execution.proofs.Contexts.{Context, frame_at, proceeds_wider, with_evaluation}
 use Rattle.execution.proofs.Stepping.{steps_of}
-use Rattle.execution.proofs.Leaving.{HandsOver, before_answer, leaves_at, main_leaves}
+use Rattle.execution.proofs.Returning.{HandsOver}
+use Rattle.execution.proofs.Leaving.{before_answer, leaves_at, main_leaves}
 
 -- without a result, a RETURN has no expression
 bare_return : (s : Scope) (result : Option ValueType) (value : Option Expression) → result ≡ None
@@ -56,7 +57,7 @@ module _ (b : Build) (is : IsBuild b) (t : ℕ) (v : Variables) (place : ℕ) (l
   -- with a value, if there is a result
   value_returns : (y : Option Expression) (result : Option ValueType) → value ≡ y → procedure.result ≡ result
       → HandsOver procedure.role → ReturnFits (scope_of b.program procedure) result y
-      → StandAt b.image place (value_code b.program y ++ ending_code (setting_of b.program b.starts procedure)
+      → StandAt b.code place (value_code b.program y ++ ending_code (setting_of b.program b.starts procedure)
       (place + length (value_code b.program y))) → value_room y ≤ most_room
       → offer b.program v pending ≡ with_value (returned b.program v after y) after cs
       (λ z. answers procedure.role z cs)
@@ -66,7 +67,7 @@ module _ (b : Build) (is : IsBuild b) (t : ℕ) (v : Variables) (place : ℕ) (l
       proceeds_wider b t v 1 (steps_of (Return None)) x pending (omega arith)
       (leaves_at b t v None place l fs c.number procedure cs (pos 0) pending hands c.callers
       (subst (λ (k : Option ValueType). ShowsResult b.made k None (pos 0)) (sym same) refl)
-      (subst (λ k. StandAt b.image place (ending_code (setting_of b.program b.starts procedure) k)) at code) o refl)
+      (subst (λ k. StandAt b.code place (ending_code (setting_of b.program b.starts procedure) k)) at code) o refl)
   value_returns None (Some u) e same hands fit code space o = absurd fit
   value_returns (Some y) None e same hands fit code space o = absurd fit
   value_returns (Some y) (Some u) e same hands fit code space o =
@@ -74,14 +75,14 @@ module _ (b : Build) (is : IsBuild b) (t : ℕ) (v : Variables) (place : ℕ) (l
       let end = place + length first in
       let last = ending_code (setting_of b.program b.starts procedure) end in
       let ev = c.evaluates in
-      let give = ev.gives y u place [] fs fit (front_stands b.image place first last code) (omega (arith, space)) in
+      let give = ev.gives y u place [] fs fit (front_stands b.code place first last code) (omega (arith, space)) in
       proceeds_wider b t v (2 * expression_tokens y + 1) (steps_of (Return (Some y))) x pending (omega arith)
       (with_evaluation b t v (2 * expression_tokens y) 1 x (evaluate b.program v values y) end [] l fs after cs _
       pending o
       refl give
       (λ z is_z o'. leaves_at b t v (Some (word_of z)) end l fs c.number procedure cs z pending hands c.callers
       (subst (λ (k : Option ValueType). ShowsResult b.made k (Some (word_of z)) z) (sym same)
-      (refl, subst (OfType b.made u) is_z (ev.type y u fit))) (back_stands b.image place first last code) o' refl))
+      (refl, subst (OfType b.made u) is_z (ev.type y u fit))) (back_stands b.code place first last code) o' refl))
 
   hands_over : HandsOver procedure.role → Proceeds b t v (steps_of (Return value)) x (goes_on entered f cs)
   hands_over hands =
@@ -95,15 +96,15 @@ module _ (b : Build) (is : IsBuild b) (t : ℕ) (v : Variables) (place : ℕ) (l
       let fits : RoleFits b.program c.number procedure Main =
       subst (RoleFits b.program c.number procedure) main (is.role c.number procedure c.is_there) in
       let bare = bare_return (scope_of b.program procedure) procedure.result value fits.2 c.sound.fits.1 in
-      let code : StandAt b.image place (ending_code (setting_of b.program b.starts procedure) (place + 0)) =
-      subst (λ (y : Option Expression). StandAt b.image place (value_code b.program y ++ ending_code
+      let code : StandAt b.code place (ending_code (setting_of b.program b.starts procedure) (place + 0)) =
+      subst (λ (y : Option Expression). StandAt b.code place (value_code b.program y ++ ending_code
       (setting_of b.program b.starts procedure) (place + length (value_code b.program y)))) bare c.head.here in
       let at : place + 0 ≡ place = omega arith in
       let left : goes_on entered f cs ≡ Leaving (pos 0) =
       ap (λ (role : Role). goes_on_by role (Then (Return value) rest) entered f cs) main in
       proceeds_wider b t v 0 (steps_of (Return value)) x _ (omega arith)
       (main_leaves b t v is place l fs c.number procedure cs _ c.is_there main c.callers
-      (subst (λ k. StandAt b.image place (ending_code (setting_of b.program b.starts procedure) k)) at code) left)
+      (subst (λ k. StandAt b.code place (ending_code (setting_of b.program b.starts procedure) k)) at code) left)
 
   pub return_proceeds : Proceeds b t v (steps_of (Return value)) x (goes_on entered f cs)
   return_proceeds = by_role procedure.role refl

@@ -5,7 +5,7 @@ use Rattle.std.specs.Prelude.{slice_index, slice_set, replicate}
 use Rattle.words.specs.Signed.{word_of}
 use Rattle.isa.specs.declared.instr.Instr.TheVariants.{SetLocal}
 use Rattle.isa.specs.declared.slot.Slot.TheVariants.{Local as Slot'}
-use Rattle.isa.specs.Programs.{Program as Image}
+use Rattle.execution.specs.Later.{MarkedImage, later_mark}
 use Rattle.program.specs.declared.kinds.ValueType.{ValueType}
 use Rattle.program.specs.Trees.{Expression}
 use Rattle.program.specs.Scope.{Scope}
@@ -37,7 +37,7 @@ stacked_by zero g operands = operands
 stacked_by (suc n) g operands = word_of (g n) ∷ stacked_by n g operands
 
 -- where the evaluation of arguments leads
-abbrev pub GivesAll : Image → ℕ → View → ℕ → Thread → EvaluatedAll → ℕ → List ℕ → Locals → List MachineFrame
+abbrev pub GivesAll : MarkedImage → ℕ → View → ℕ → Thread → EvaluatedAll → ℕ → List ℕ → Locals → List MachineFrame
     → Type 0
 GivesAll p t view n x (Values zs) place operands l fs = WalksWithin p t view n x
     (Runs place (stacked zs operands) l fs)
@@ -47,7 +47,7 @@ abbrev pub HaveAll : ℕ → List ValueType → EvaluatedAll → Type 0
 HaveAll made ts (Values zs) = HaveValues made ts zs
 HaveAll made ts (FailsAll fault) = Unit {0}
 
-module _ (image : Image) (made t : ℕ) (s : Scope) (v : Variables) (values : List ℤ) (l : Locals)
+module _ (image : MarkedImage) (made t : ℕ) (s : Scope) (v : Variables) (values : List ℤ) (l : Locals)
     (ev : Evaluates image made t s v values l) where
   -- what is in view there
   abbrev view : View
@@ -133,7 +133,7 @@ set_all zero g l = l
 set_all (suc n) g l = set_all n g (with_local l (Slot' n) (word_of (g n)))
 
 -- the parameters go from the operands into the locals
-pub parameters_walk : (image : Image) (t : ℕ) (view : View) (n : ℕ) (g : ℕ → ℤ) (place : ℕ)
+pub parameters_walk : (image : MarkedImage) (t : ℕ) (view : View) (n : ℕ) (g : ℕ → ℤ) (place : ℕ)
     (operands : List ℕ) (l : Locals) (fs : List MachineFrame) → StandAt image place (parameters_code n)
     → WalksWithin image t view n (Runs place (stacked_by n g operands) l fs)
     (Runs (place + length (parameters_code n)) operands (set_all n g l) fs)
@@ -143,7 +143,7 @@ parameters_walk image t view zero g place operands l fs code = let e : place ≡
 parameters_walk image t view (suc n) g place operands l fs code =
     let step = one_step image t view (Runs place (word_of (g n) ∷ stacked_by n g operands) l fs)
     (Runs (place + 1) (stacked_by n g operands) (with_local l (Slot' n) (word_of (g n))) fs)
-    (look_here image t view place (SetLocal (Slot' n)) (word_of (g n) ∷ stacked_by n g operands) l fs code.0) in
+    (look_here image t view place (SetLocal (Slot' n)) (word_of (g n) ∷ stacked_by n g operands) l fs code.0) (ap later_mark code.0.1) in
     let more = parameters_walk image t view n g (place + 1) operands
     (with_local l (Slot' n) (word_of (g n))) fs code.1 in
     let e : place + 1 + length (parameters_code n) ≡ place + suc (length (parameters_code n)) = omega arith in

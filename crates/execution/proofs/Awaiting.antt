@@ -9,9 +9,9 @@ use Rattle.words.specs.declared.outcome.Fault.TheVariants.{HandleNotJoinable}
 use Rattle.words.specs.Process.{process_word, number_of}
 use Rattle.isa.specs.declared.instr.Instr.{Instr}
 use Rattle.isa.specs.declared.instr.Instr.TheVariants.{ProcessAddress}
-use Rattle.isa.specs.Programs.{Program as Image}
+use Rattle.execution.specs.Later.{MarkedImage, IsAt, later_mark}
 use Rattle.code.specs.declared.mark.Marked.{Marked}
-use Rattle.code.specs.Marks.{placed}
+use Rattle.code.specs.Marks.{plain, placed}
 use Rattle.code.specs.Processes.{join_code}
 use Rattle.locals.specs.declared.frame.Locals.{Locals}
 use Rattle.locals.specs.declared.frame.Frame.{Frame as MachineFrame}
@@ -21,14 +21,14 @@ use Rattle.execution.specs.Walks.{View, StandAt, WalksWithin, stays}
 use Rattle.execution.proofs.Walking.{within_on, wider, one_step, look_here}
 
 -- what stands in a list stands in the code
-pub stand_index : (p : Image) (place : ℕ) (xs : List Marked) (n k : ℕ) (i : Marked) → StandAt p place xs
+pub stand_index : (p : MarkedImage) (place : ℕ) (xs : List Marked) (n k : ℕ) (i : Marked) → StandAt p place xs
     → slice_get xs n ≡ Some i
-    → k ≡ place + n → slice_get p.code k ≡ Some i.instruction
+    → k ≡ place + n → IsAt p k i
 stand_index p place [] n k i h e same = absurd cc
 stand_index p place (x ∷ xs) zero k i h e same =
     let here : x ≡ i = cc in
     let at : place ≡ k = omega (arith, same) in
-    subst (λ j. slice_get p.code j ≡ Some i.instruction) at (h.0 ∙ ap (λ (y : Marked). Some y.instruction) here)
+    subst (λ j. IsAt p j i) at (subst (λ (y : Marked). IsAt p place y) here h.0)
 stand_index p place (x ∷ xs) (suc n) k i h e same = stand_index p (place + 1) xs n k i h.1 e (omega (arith, same))
 
 -- the address of a word of a process that there can be
@@ -41,21 +41,21 @@ address_step t place h word rest l fs some few =
     (le-leb 1 h (omega (arith, some)))
     ∙ ap (λ k. if_so k (Goes (Runs (place + 1) (process_word h (number_of word) ∷ rest) l fs))) (le-leb h 64 few)
 
-module _ (p : Image) (t : ℕ) (view : View) (base : ℕ) (into : Option ℕ)
+module _ (p : MarkedImage) (t : ℕ) (view : View) (base : ℕ) (into : Option ℕ)
     (code : StandAt p base (placed base (join_code into))) (l : Locals) (fs : List MachineFrame) where
   abbrev pub at : ℕ → List ℕ → Thread
   at n operands = Runs (base + n) operands l fs
 
   -- one step of the template
-  pub step : (n m place : ℕ) (i : Marked) (operands operands' : List ℕ)
-      → slice_get (placed base (join_code into)) n ≡ Some i
-      → at_place (base + n) l fs (effect t i.instruction operands l) ≡ Goes (Runs place operands' l fs)
+  pub step : (n m place : ℕ) (i : Instr) (operands operands' : List ℕ)
+      → slice_get (placed base (join_code into)) n ≡ Some (plain i)
+      → at_place (base + n) l fs (effect t i operands l) ≡ Goes (Runs place operands' l fs)
       → place ≡ base + m → WalksWithin p t view 1 (Runs (base + n) operands l fs) (Runs (base + m) operands' l
       fs)
   step n m place i operands operands' e h same =
-      one_step p t view _ _ (look_here p t view (base + n) i.instruction operands l fs
-      (stand_index p base (placed base (join_code into)) n (base + n) i code e refl)
-      ∙ h ∙ ap (λ k. Goes (Runs k operands' l fs)) same)
+      let here = stand_index p base (placed base (join_code into)) n (base + n) (plain i) code e refl in
+      one_step p t view _ _ (look_here p t view (base + n) i operands l fs here
+      ∙ h ∙ ap (λ k. Goes (Runs k operands' l fs)) same) (ap later_mark here.1)
 
   pub next : (n : ℕ) (x y z : Thread) → WalksWithin p t view 1 x y → WalksWithin p t view n y z
       → WalksWithin p t view (suc n) x z
@@ -80,8 +80,8 @@ module _ (p : Image) (t : ℕ) (view : View) (base : ℕ) (into : Option ℕ)
     abbrev pub claims : Thread
     claims = at 6 (1 ∷ process_word l.scratch 3 ∷ [])
 
-    address : (n m : ℕ) (i : Marked) (word : ProcessWord) (rest : List ℕ)
-        → slice_get (placed base (join_code into)) n ≡ Some i → i.instruction ≡ ProcessAddress word
+    address : (n m : ℕ) (i : Instr) (word : ProcessWord) (rest : List ℕ)
+        → slice_get (placed base (join_code into)) n ≡ Some (plain i) → i ≡ ProcessAddress word
         → base + n + 1 ≡ base + m
         → WalksWithin p t view 1 (at n (l.scratch ∷ rest)) (at m (process_word l.scratch (number_of word) ∷
         rest))
@@ -103,8 +103,8 @@ module _ (p : Image) (t : ℕ) (view : View) (base : ℕ) (into : Option ℕ)
 
     pub refused : (n : ℕ) → WalksWithin p t view 2 (at 7 (suc n ∷ [])) (Dies HandleNotJoinable)
     refused n = next 1 _ _ _ (step 7 8 _ _ (suc n ∷ []) [] refl refl (omega arith))
-        (one_step p t view _ _ (look_here p t view (base + 8) _ [] l fs
-        (stand_index p base (placed base (join_code into)) 8 (base + 8) _ code refl refl)))
+        (let here = stand_index p base (placed base (join_code into)) 8 (base + 8) _ code refl refl in
+        one_step p t view _ _ (look_here p t view (base + 8) _ [] l fs here) (ap later_mark here.1))
 
     pub gone : WalksWithin p t view 3 (at 12 (0 ∷ [])) learns
     gone = next 2 _ _ _ (step 12 19 _ _ (0 ∷ []) [] refl refl refl)

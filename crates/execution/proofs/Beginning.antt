@@ -45,11 +45,11 @@ pub record HasBegun (b : Build) (t n : ℕ) (q : Procedure) (zs : List ℤ) (fs 
   pub locals : Locals
   pub walk : StepsWithin b t (length q.parameters) (Runs (b.starts n) (stacked zs []) fresh fs)
       (Runs place [] locals fs)
-  pub entering : StandAt b.image place (entering_code (setting_of b.program b.starts q) q.role place)
+  pub entering : StandAt b.code place (entering_code (setting_of b.program b.starts q) q.role place)
   pub frame : IsFrame b.program b.height b.made b.width n q (frame_at q (zs ++ zeros q.locals) q.body) locals
   pub jumps : ℕ
   pub few : jumps ≤ b.most
-  pub code : Implements b.image (setting_of b.program b.starts q) b.most jumps
+  pub code : Implements b.code (setting_of b.program b.starts q) b.most jumps
       (place + length (entering_code (setting_of b.program b.starts q) q.role place)) q.body
 
 module _ (b : Build) (is : IsBuild b) (t : ℕ) where
@@ -69,18 +69,18 @@ module _ (b : Build) (is : IsBuild b) (t : ℕ) where
       let body = block_code c q.body at2 in
       let at3 = at2 + length body in
       let final = default_code q.result ++ ending_code c (at3 + length (default_code q.result)) in
-      let tail = back_stands b.image start first _ laid in
-      let opening = front_stands b.image at1 (entering_code c q.role at1) (body ++ final) tail in
-      let inner = back_stands b.image at1 (entering_code c q.role at1) (body ++ final) tail in
-      let bodies = front_stands b.image at2 body final inner in
-      let last = back_stands b.image at2 body final inner in
+      let tail = back_stands b.code start first _ laid in
+      let opening = front_stands b.code at1 (entering_code c q.role at1) (body ++ final) tail in
+      let inner = back_stands b.code at1 (entering_code c q.role at1) (body ++ final) tail in
+      let bodies = front_stands b.code at2 body final inner in
+      let last = back_stands b.code at2 body final inner in
       let deep = is.deep n q there in
-      let code = block_implements b.image c b.most q.body 0 0 at2 Done bodies (omega arith) (omega (arith, deep))
+      let code = block_implements b.code c b.most q.body 0 0 at2 Done bodies (omega arith) (omega (arith, deep))
       (finishes last) in
       let words : stacked zs [] ≡ stacked_by count (local_value zs) [] = stacked_same zs 0 (local_value zs) []
       (λ i z e. ap_value zs i z e) ∙ ap (λ k. stacked_by k (local_value zs) []) (omega (arith, same)) in
-      let go = parameters_walk b.image t (empty_view p) count (local_value zs) start [] fresh fs
-      (front_stands b.image start first _ laid) in
+      let go = parameters_walk b.code t (empty_view p) count (local_value zs) start [] fresh fs
+      (front_stands b.code start first _ laid) in
       record {
         place = at1;
         locals = set_all count (local_value zs) fresh;
@@ -98,7 +98,7 @@ module _ (b : Build) (is : IsBuild b) (t : ℕ) where
         };
         jumps = code.0;
         few = omega (arith, code.1);
-        code = subst (λ (k : Block). Implements b.image c b.most code.0 at2 k) (followed_done q.body) code.2;
+        code = subst (λ (k : Block). Implements b.code c b.most code.0 at2 k) (followed_done q.body) code.2;
       }
     where
       ap_value : (zs : List ℤ) (i : ℕ) (z : ℤ) → slice_get zs i ≡ Some z → local_value zs (0 + i) ≡ z
@@ -118,7 +118,7 @@ module _ (b : Build) (is : IsBuild b) (t : ℕ) where
         frame = h.frame;
         jumps = h.jumps;
         few = h.few;
-        code = subst (λ k. Implements b.image (setting_of b.program b.starts q) b.most h.jumps k q.body) at h.code;
+        code = subst (λ k. Implements b.code (setting_of b.program b.starts q) b.most h.jumps k q.body) at h.code;
         callers = callers;
       }
 
@@ -135,7 +135,7 @@ module _ (b : Build) (is : IsBuild b) (t : ℕ) where
       f = frame_at q (zs ++ zeros q.locals) q.body
 
       walk : StepsWithin b t 16 (Runs (b.starts n) (stacked zs []) fresh fs) (Runs h.place [] h.locals fs)
-      walk = wider b.image t (empty_view b.program) (length q.parameters) 16 _ _ (is.parameters n q there) h.walk
+      walk = wider b.code t (empty_view b.program) (length q.parameters) 16 _ _ (is.parameters n q there) h.walk
 
       plainly : ((place : ℕ) → entering_code (setting_of b.program b.starts q) q.role place ≡ [])
           → begins f cs ≡ goes_on None f cs → Stands b t (Runs (b.starts n) (stacked zs []) fresh fs) (begins f cs)
@@ -147,8 +147,8 @@ module _ (b : Build) (is : IsBuild b) (t : ℕ) where
       by_role External e = plainly (λ k. rw e refl) (ap (λ (r : Role). begins_by r f cs) e)
       by_role Main e = plainly (λ k. rw e refl) (ap (λ (r : Role). begins_by r f cs) e)
       by_role (Entry m) e =
-          let template : StandAt b.image h.place (placed h.place (enter_code m (link_word b.program m)
-          (recovery_in b m))) = subst (λ (r : Role). StandAt b.image h.place
+          let template : StandAt b.code h.place (placed h.place (enter_code m (link_word b.program m)
+          (recovery_in b m))) = subst (λ (r : Role). StandAt b.code h.place
           (entering_code (setting_of b.program b.starts q) r h.place)) e h.entering in
           let len : h.place + length (entering_code (setting_of b.program b.starts q) q.role h.place) ≡ h.place + 61 =
           ap (λ (r : Role). h.place + length (entering_code (setting_of b.program b.starts q) r h.place)) e in
@@ -160,6 +160,6 @@ module _ (b : Build) (is : IsBuild b) (t : ℕ) where
             template = template;
             jumps = h.jumps;
             few = h.few;
-            code = subst (λ k. Implements b.image (setting_of b.program b.starts q) b.most h.jumps k q.body) len h.code;
+            code = subst (λ k. Implements b.code (setting_of b.program b.starts q) b.most h.jumps k q.body) len h.code;
             callers = callers;
           }) (ap (λ (r : Role). begins_by r f cs) e)

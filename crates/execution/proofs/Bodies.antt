@@ -1,8 +1,8 @@
 -- Bodies, one behind the other, and their code.
-use Rattle.std.proofs.Common.{◌≡◌, ℕ, ◌+◌, ◌<◌, ◌≤◌, List, ◌++◌, length, subst, arith, length-append, Contains}
+use Rattle.std.proofs.Common.{◌≡◌, ℕ, ◌+◌, ◌<◌, ◌≤◌, List, ◌++◌, length, ap, subst, arith, length-append, Contains}
 use Rattle.std.proofs.lemmas.List.Elements.{Contains-append_left, Contains-append_right}
 use Rattle.isa.specs.declared.instr.Instr.TheVariants.{Jump}
-use Rattle.isa.specs.Programs.{Program as Image}
+use Rattle.execution.specs.Later.{MarkedImage, later_mark}
 use Rattle.program.specs.Trees.{Statement, Block, Done, Then, followed_by}
 use Rattle.program.specs.Scope.{Scope}
 use Rattle.program.specs.Typing.{BlockFits}
@@ -17,7 +17,7 @@ use Rattle.execution.specs.Following.{nesting, block_nesting, Implements, finish
 use Rattle.execution.proofs.Walking.{front_stands, back_stands, within_on, one_step, look_here}
 
 -- the code of a block, and then what comes after it
-pub block_implements : (image : Image) (c : Setting) (most : ℕ) (b : Block) (depth jumps place : ℕ) (rest : Block)
+pub block_implements : (image : MarkedImage) (c : Setting) (most : ℕ) (b : Block) (depth jumps place : ℕ) (rest : Block)
     → StandAt image place (block_code c b place) → jumps ≤ depth → depth + block_nesting b ≤ most
     → Implements image c most jumps (place + length (block_code c b place)) rest
     → (k : ℕ) × (k ≤ depth) × Implements image c most k place (followed_by b rest)
@@ -34,7 +34,7 @@ block_implements image c most (Then s b) depth jumps place rest h few deep more 
     (0, omega arith, states depth r.0 (front_stands image place here _ h) r.1 (omega (arith, deep)) r.2)
 
 -- jumps lead to the code of the next statement, or to the end
-pub after_jumps : (image : Image) (c : Setting) (most t : ℕ) (view : View) (operands : List ℕ) (l : Locals)
+pub after_jumps : (image : MarkedImage) (c : Setting) (most t : ℕ) (view : View) (operands : List ℕ) (l : Locals)
     (fs : List MachineFrame) → {k place : ℕ} {rest : Block} → Implements image c most k place rest
     → (to : ℕ) × WalksWithin image t view k (Runs place operands l fs) (Runs to operands l fs)
     × Implements image c most 0 to rest
@@ -45,7 +45,7 @@ after_jumps image c most t view operands l fs (states {place = place} depth jump
 after_jumps image c most t view operands l fs (follows {place = place} {jumps = k} to h more) =
     let r = after_jumps image c most t view operands l fs more in
     let step = one_step image t view (Runs place operands l fs) (Runs to operands l fs)
-    (look_here image t view place (Jump to) operands l fs h) in (
+    (look_here image t view place (Jump to) operands l fs h) (ap later_mark h.1) in (
       r.0,
       subst (λ n. WalksWithin image t view n (Runs place operands l fs) (Runs r.0 operands l fs))
           (omega arith) (within_on image t view 1 k _ _ _ step r.1),
@@ -53,7 +53,7 @@ after_jumps image c most t view operands l fs (follows {place = place} {jumps = 
     )
 
 -- the statement at a place, and what comes after it
-pub record Head (image : Image) (c : Setting) (most place : ℕ) (s : Statement) (rest : Block) : Type 0 where
+pub record Head (image : MarkedImage) (c : Setting) (most place : ℕ) (s : Statement) (rest : Block) : Type 0 where
   pub depth : ℕ
   pub jumps : ℕ
   pub here : StandAt image place (statement_code c s place)
@@ -61,7 +61,7 @@ pub record Head (image : Image) (c : Setting) (most place : ℕ) (s : Statement)
   pub deep : depth + nesting s ≤ most
   pub more : Implements image c most jumps (place + length (statement_code c s place)) rest
 
-pub head_of : {image : Image} {c : Setting} {most place : ℕ} {s : Statement} {rest : Block}
+pub head_of : {image : MarkedImage} {c : Setting} {most place : ℕ} {s : Statement} {rest : Block}
     → Implements image c most 0 place (Then s rest) → Head image c most place s rest
 head_of (states depth jumps h few deep more) = record {
   depth = depth;

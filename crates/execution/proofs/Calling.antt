@@ -1,8 +1,8 @@
 -- A call, from its arguments to the beginning of the procedure that is called.
-use Rattle.std.proofs.Common.{rules, ◌≡◌, ℕ, ◌+◌, ◌*◌, List, [], ◌∷◌, ◌++◌, length, Option, Some, None, slice_get, refl}
+use Rattle.std.proofs.Common.{rules, ◌≡◌, ℕ, ◌+◌, ◌*◌, List, [], ◌∷◌, ◌++◌, length, Option, Some, None, refl}
 use Rattle.std.proofs.Common.{ap, ◌∙◌, subst, arith, length-append, Contains, ℤ, lt-ltb}
 use Rattle.isa.specs.declared.instr.Instr.TheVariants.{Call as Call'}
-use Rattle.isa.specs.Programs.{Program as Image}
+use Rattle.execution.specs.Later.{MarkedImage, IsAt, later_mark}
 use Rattle.program.specs.declared.kinds.ValueType.{ValueType}
 use Rattle.program.specs.Trees.{Expression, Call, Block, Then, Procedure}
 use Rattle.program.specs.Scope.{scope_of}
@@ -11,6 +11,8 @@ use Rattle.code.specs.Expressions.{arguments_code}
 use Rattle.code.specs.Processes.{call_code}
 use Rattle.code.specs.Statements.{result_of, result_in}
 use Rattle.code.specs.Pieces.{setting_of}
+use Rattle.code.specs.Marks.{marked}
+use Rattle.code.specs.declared.mark.Mark.TheVariants as M
 use Rattle.locals.specs.declared.frame.Locals.{Locals}
 use Rattle.locals.specs.declared.frame.Frame.{Frame as MachineFrame}
 use Rattle.locals.specs.Threads.{Thread, Runs, Dies, fresh}
@@ -34,8 +36,8 @@ use Rattle.execution.proofs.Beginning.{begins_at}
 use Rattle.execution.proofs.Recovering.{chain}
 
 -- a call, and what stands behind it
-call_stands : (image : Image) (place start : ℕ) (into : Option ℕ) (result : Option ValueType) → StandAt image place
-    (call_code start into result) → (slice_get image.code place ≡ Some (Call' start)) × StandAt image (place + 1)
+call_stands : (image : MarkedImage) (place start : ℕ) (into : Option ℕ) (result : Option ValueType) → StandAt image place
+    (call_code start into result) → IsAt image place (marked M.Call (Call' start)) × StandAt image (place + 1)
     (taking_code into result)
 call_stands image place start (Some slot) result h = h
 call_stands image place start None (Some u) h = h
@@ -62,13 +64,13 @@ module _ (b : Build) (is : IsBuild b) (t : ℕ) (v : Variables) (place : ℕ) (l
       let args = arguments_code p es in
       let ev = c.evaluates in
       let fits = c.sound.fits in
-      let here = front_stands b.image place args _ c.head.here in
-      let give = arguments_give b.image b.made t
+      let here = front_stands b.code place args _ c.head.here in
+      let give = arguments_give b.code b.made t
       (scope_of p procedure) v values l ev es fits.1.parameters place [] fs fits.4 here
       (omega (arith, c.sound.room)) in
       as_it_stands b t v place l fs values rest procedure cs entered s c tt (2 * arguments_tokens es + 0)
       (omega arith)
-      (by_values (evaluate_all p v values es) refl give (arguments_typed b.image b.made t
+      (by_values (evaluate_all p v values es) refl give (arguments_typed b.code b.made t
       (scope_of p procedure) v values l ev es fits.1.parameters fits.4))
     where
       x : Thread
@@ -89,16 +91,16 @@ module _ (b : Build) (is : IsBuild b) (t : ℕ) (v : Variables) (place : ℕ) (l
       back : MachineFrame
       back = record { back = end + 1; locals = l }
 
-      behind : StandAt b.image end (call_code (b.starts qn) into (result_of b.program qn))
-      behind = back_stands b.image place (arguments_code b.program es) _ c.head.here
+      behind : StandAt b.code end (call_code (b.starts qn) into (result_of b.program qn))
+      behind = back_stands b.code place (arguments_code b.program es) _ c.head.here
 
       result_same : result_of b.program qn ≡ callee.result
       result_same = ap result_in c.sound.fits.2
 
-      takes : (slice_get b.image.code end ≡ Some (Call' (b.starts qn))) × StandAt b.image (end + 1)
+      takes : IsAt b.code end (marked M.Call (Call' (b.starts qn))) × StandAt b.code (end + 1)
           (taking_code into callee.result)
-      takes = call_stands b.image end (b.starts qn) into callee.result
-          (subst (λ (k : Option ValueType). StandAt b.image end (call_code (b.starts qn) into k)) result_same behind)
+      takes = call_stands b.code end (b.starts qn) into callee.result
+          (subst (λ (k : Option ValueType). StandAt b.code end (call_code (b.starts qn) into k)) result_same behind)
 
       length_same : place + length (arguments_code b.program es ++ call_code (b.starts qn) into
           (result_of b.program qn)) ≡ end + 1 + length (taking_code into callee.result)
@@ -128,24 +130,24 @@ module _ (b : Build) (is : IsBuild b) (t : ℕ) (v : Variables) (place : ℕ) (l
             here = takes.1;
             jumps = c.head.jumps;
             few = omega (arith, c.head.few, c.head.deep);
-            more = subst (λ k. Implements b.image (setting_of b.program b.starts procedure) b.most c.head.jumps k rest)
+            more = subst (λ k. Implements b.code (setting_of b.program b.starts procedure) b.most c.head.jumps k rest)
                 length_same c.head.more;
           }) c.callers
 
-      by_values : (zs : EvaluatedAll) → evaluate_all b.program v values es ≡ zs → GivesAll b.image t
+      by_values : (zs : EvaluatedAll) → evaluate_all b.program v values es ≡ zs → GivesAll b.code t
           (view_at b procedure v)
           (2 * arguments_tokens es) x (evaluate_all b.program v values es) end [] l fs
           → HaveAll b.made callee.parameters
           (evaluate_all b.program v values es)
           → Proceeds b t v (2 * arguments_tokens es + 0) x pending
       by_values (Values zs) same g typed =
-          let walk : WalksWithin b.image t (view_at b procedure v) (2 * arguments_tokens es) x
+          let walk : WalksWithin b.code t (view_at b procedure v) (2 * arguments_tokens es) x
           (Runs end (stacked zs []) l fs) =
-          subst (λ (k : EvaluatedAll). GivesAll b.image t (view_at b procedure v)
+          subst (λ (k : EvaluatedAll). GivesAll b.code t (view_at b procedure v)
           (2 * arguments_tokens es) x k end [] l fs) same g in
           let have : HaveValues b.made callee.parameters zs = subst (HaveAll b.made callee.parameters) same typed in
           let low = chain b is c.number procedure fs cs c.sound.fits.0 c.callers in
-          let step = look_here b.image t (view_at b procedure v) end (Call' (b.starts qn)) (stacked zs []) l fs takes.0
+          let step = look_here b.code t (view_at b procedure v) end (Call' (b.starts qn)) (stacked zs []) l fs takes.0
           ∙ ap
           (λ k. if_so k (Goes (Runs (b.starts qn) (stacked zs []) fresh (back ∷ fs))))
           (lt-ltb (length fs) 15 (omega (arith, low))) in
@@ -158,11 +160,11 @@ module _ (b : Build) (is : IsBuild b) (t : ℕ) (v : Variables) (place : ℕ) (l
           ap (λ (k : Option Procedure). begins (frame_of k zs) (caller ∷ cs)) c.sound.fits.2 in
           proceeds_on b t v (2 * arguments_tokens es) 0 x _ pending walk
           (at_once b t v place l fs values rest procedure cs entered (Runs end (stacked zs []) l fs) pending
-          (F.acts L.Call tt step (o ∙ ap (λ (k : Process). Does (Alone L.Call) Nothing k) opened)
+          (F.acts L.Call tt step (ap later_mark takes.0.1) (o ∙ ap (λ (k : Process). Does (Alone L.Call) Nothing k) opened)
           (begins_at b is t qn callee zs (back ∷ fs) (caller ∷ cs) c.sound.fits.2 have callers)))
       by_values (FailsAll fault) same g typed =
-          let walk : WalksWithin b.image t (view_at b procedure v) (2 * arguments_tokens es) x (Dies fault) = subst
-          (λ (k : EvaluatedAll). GivesAll b.image t (view_at b procedure v) (2 * arguments_tokens es) x k end [] l fs)
+          let walk : WalksWithin b.code t (view_at b procedure v) (2 * arguments_tokens es) x (Dies fault) = subst
+          (λ (k : EvaluatedAll). GivesAll b.code t (view_at b procedure v) (2 * arguments_tokens es) x k end [] l fs)
           same g in
           let o = ap (λ (k : EvaluatedAll). with_values k (frame_at procedure values rest) cs
           (λ ys. Does (Alone L.Call) Nothing (begins (opening_frame b.program qn ys) (caller ∷ cs)))) same in

@@ -1,11 +1,11 @@
 -- WAIT, NOTIFY and BROADCAST: a thread stands before the template, and where it goes on behind it.
-use Rattle.std.proofs.Common.{◌≡◌, ℕ, ◌+◌, List, [], Option, Some, None, slice_get, refl, ap, ◌∙◌, subst, arith, ℤ}
+use Rattle.std.proofs.Common.{◌≡◌, ℕ, ◌+◌, List, [], Option, Some, None, refl, subst, arith, ℤ}
 use Rattle.program.specs.declared.kinds.Member.{Member}
 use Rattle.program.specs.Trees.{Statement, Wait, Notify, Broadcast, Block, Then, Procedure}
 use Rattle.program.specs.Scope.{own_monitor, recover_of}
 use Rattle.code.specs.Layout.{link_word, member_address}
 use Rattle.code.specs.Conditions.{wait_code}
-use Rattle.code.specs.Marks.{placed}
+use Rattle.code.specs.Marks.{plain, placed}
 use Rattle.code.specs.Statements.{start_in}
 use Rattle.code.specs.Pieces.{setting_of}
 use Rattle.locals.specs.declared.frame.Locals.{Locals}
@@ -22,6 +22,7 @@ use Rattle.execution.proofs.Stepping.{steps_of, as_it_stands, at_once}
 use Rattle.execution.proofs.Awaiting.{stand_index}
 use Rattle.execution.proofs.Holding.{own_first_by, goes_on_holds, main_alone}
 use Rattle.execution.proofs.Recovering.{moved_recovery, goes_on_here}
+use Rattle.execution.specs.Later.{IsAt}
 
 module _ (b : Build) (is : IsBuild b) (t : ℕ) (v : Variables) (place : ℕ) (l : Locals) (fs : List MachineFrame)
     (values : List ℤ) (rest : Block) (procedure : Procedure) (cs : List Caller) (entered : Option ℕ) where
@@ -55,16 +56,16 @@ module _ (b : Build) (is : IsBuild b) (t : ℕ) (v : Variables) (place : ℕ) (l
         body = c.later;
       }
 
-      here : slice_get b.image.code (place + 73) ≡ Some (recovery_in b m.monitor)
-      here = stand_index b.image place (placed place (wait_code m (link_word b.program m.monitor)
-          (member_address b.program m) (recovery_in b m.monitor))) 73 (place + 73) _ c.head.here refl refl
-          ∙ ap Some (moved_recovery place (start_in b.starts (recover_of b.program m.monitor)))
+      here : IsAt b.code (place + 73) (plain (recovery_in b m.monitor))
+      here = subst (λ i. IsAt b.code (place + 73) (plain i))
+          (moved_recovery place (start_in b.starts (recover_of b.program m.monitor))) (stand_index b.code place (placed place (wait_code m (link_word b.program m.monitor)
+          (member_address b.program m) (recovery_in b m.monitor))) 73 (place + 73) _ c.head.here refl refl)
 
       at : place + 74 ≡ place + 73 + 1
       at = omega arith
 
-      behind : Implements b.image (setting_of b.program b.starts procedure) b.most c.head.jumps (place + 73 + 1) rest
-      behind = subst (λ k. Implements b.image (setting_of b.program b.starts procedure) b.most c.head.jumps k rest) at
+      behind : Implements b.code (setting_of b.program b.starts procedure) b.most c.head.jumps (place + 73 + 1) rest
+      behind = subst (λ k. Implements b.code (setting_of b.program b.starts procedure) b.most c.head.jumps k rest) at
           c.head.more
 
   pub wait_proceeds : (m : Member) → Context b t v place l fs values (Wait m) rest procedure cs

@@ -53,18 +53,18 @@ before_next (Recover m) s rest entered f cs k = refl
 before_next External s rest entered f cs k = refl
 
 module _ (b : Build) (t : ℕ) (v : Variables) where
-  pub proceeds_on : (n m : ℕ) (x y : Thread) (q : Process) → WalksWithin b.image t (view_of b q v) n x y
+  pub proceeds_on : (n m : ℕ) (x y : Thread) (q : Process) → WalksWithin b.code t (view_of b q v) n x y
       → Proceeds b t v m y q → Proceeds b t v (n + m) x q
   proceeds_on n m x y q w h = record {
     last = h.last;
-    walk = within_on b.image t (view_of b q v) n m x y h.last w h.walk;
+    walk = within_on b.code t (view_of b q v) n m x y h.last w h.walk;
     completes = h.completes;
   }
 
   pub proceeds_wider : (n m : ℕ) (x : Thread) (q : Process) → n ≤ m → Proceeds b t v n x q → Proceeds b t v m x q
   proceeds_wider n m x q le h = record {
     last = h.last;
-    walk = wider b.image t (view_of b q v) n m x h.last le h.walk;
+    walk = wider b.code t (view_of b q v) n m x h.last le h.walk;
     completes = h.completes;
   }
 
@@ -72,14 +72,14 @@ module _ (b : Build) (t : ℕ) (v : Variables) where
   pub with_evaluation : (n m : ℕ) (x : Thread) (e : Evaluated) (place : ℕ) (operands : List ℕ) (l : Locals)
       (fs : List MachineFrame) (f : Frame) (cs : List Caller) (go : ℤ → Offer) (q : Process)
       → offer b.program v q ≡ with_value e f cs go → all_monitors f cs ≡ holds q
-      → Gives b.image t (view_of b q v) n x e place operands l fs
+      → Gives b.code t (view_of b q v) n x e place operands l fs
       → ((z : ℤ) → e ≡ Value z → offer b.program v q ≡ go z → Proceeds b t v m (Runs place (word_of z ∷ operands) l fs)
       q)
       → Proceeds b t v (n + m) x q
   with_evaluation n m x (Value z) place operands l fs f cs go q o same g k = proceeds_on n m x _ q g (k z refl o)
   with_evaluation n m x (Fails fault) place operands l fs f cs go q o same g k = record {
     last = Dies fault;
-    walk = wider b.image t (view_of b q v) n (n + m) x (Dies fault) (omega arith) g;
+    walk = wider b.code t (view_of b q v) n (n + m) x (Dies fault) (omega arith) g;
     completes = F.faults fault refl (o ∙ ap (λ (ms : List ℕ). Does (Alone (L.Fails fault)) Nothing
         (Dying (Faulted fault) ms)) same);
   }
@@ -95,9 +95,9 @@ pub record Context (b : Build) (t : ℕ) (v : Variables) (place : ℕ) (l : Loca
   pub few : length (slots procedure) ≤ 64
   pub sound : IsSound b.height b.width number (scope_of b.program procedure) s
   pub later : AreSound b.height b.width number (scope_of b.program procedure) rest
-  pub head : Head b.image (setting_of b.program b.starts procedure) b.most place s rest
+  pub head : Head b.code (setting_of b.program b.starts procedure) b.most place s rest
   pub callers : CallersStand b number procedure fs cs
-  pub evaluates : Evaluates b.image b.made t (scope_of b.program procedure) v values l
+  pub evaluates : Evaluates b.code b.made t (scope_of b.program procedure) v values l
   pub low : ArraysAreLow b.program
 
 -- the frame of a procedure with these values and this rest
@@ -120,7 +120,7 @@ module _ (b : Build) (t : ℕ) (fs : List MachineFrame) (procedure : Procedure) 
   pub runs_at : (l : Locals) (values : List ℤ) (rest : Block) (place jumps : ℕ) → HaveValues b.made (slots procedure)
       values → HoldValues l.values values → length l.values ≡ 64
       → AreSound b.height b.width number (scope_of b.program procedure) rest → jumps ≤ b.most
-      → Implements b.image (setting_of b.program b.starts procedure) b.most jumps place rest
+      → Implements b.code (setting_of b.program b.starts procedure) b.most jumps place rest
       → Running b place l fs (frame_at procedure values rest) cs
   runs_at l values rest place jumps ty ho wo so few code = record {
     number = number;
@@ -144,7 +144,7 @@ module _ (b : Build) (t : ℕ) (fs : List MachineFrame) (procedure : Procedure) 
   pub stands_by : (x : Thread) (l : Locals) (values : List ℤ) (rest : Block) (place jumps : ℕ) → HaveValues b.made
       (slots procedure) values → HoldValues l.values values → length l.values ≡ 64
       → AreSound b.height b.width number (scope_of b.program procedure) rest → jumps ≤ b.most
-      → Implements b.image (setting_of b.program b.starts procedure) b.most jumps place rest
+      → Implements b.code (setting_of b.program b.starts procedure) b.most jumps place rest
       → StepsWithin b t 16 x (Runs place [] l fs) → Stands b t x (goes_on None (frame_at procedure values rest) cs)
   stands_by x l values rest place jumps ty ho wo so few code walk = runs None (frame_at procedure values rest) cs place
       l fs walk (runs_at l values rest place jumps ty ho wo so few code) refl
@@ -160,7 +160,7 @@ module _ (b : Build) (t : ℕ) (v : Variables) (place : ℕ) (l : Locals) (fs : 
   pub stands_on : (l' : Locals) (values' : List ℤ) (rest' : Block) (place' jumps : ℕ) → HaveValues b.made
       (slots procedure) values' → HoldValues l'.values values' → length l'.values ≡ 64
       → AreSound b.height b.width c.number (scope_of b.program procedure) rest' → jumps ≤ b.most
-      → Implements b.image (setting_of b.program b.starts procedure) b.most jumps place' rest'
+      → Implements b.code (setting_of b.program b.starts procedure) b.most jumps place' rest'
       → Stands b t (Runs place' [] l' fs) (goes_on None (frame_at procedure values' rest') cs)
   stands_on l' values' rest' place' jumps ty ho wo so few code = stands_by b t fs procedure cs c.number c.is_there c.few
       c.callers (Runs place' [] l' fs) l' values' rest' place' jumps ty ho wo so few code

@@ -1,5 +1,5 @@
 -- Before the ENTER of an ENTRY procedure.
-use Rattle.std.proofs.Common.{◌≡◌, ℕ, ◌+◌, List, [], ◌∷◌, Some, slice_get, refl, ap, sym, ◌∙◌, subst, arith}
+use Rattle.std.proofs.Common.{◌≡◌, ℕ, ◌+◌, List, [], ◌∷◌, refl, ap, sym, ◌∙◌, subst, arith}
 use Rattle.program.specs.declared.kinds.Role.{Role}
 use Rattle.program.specs.declared.kinds.Role.TheVariants.{Entry}
 use Rattle.program.specs.Scope.{own_monitor, recover_of}
@@ -7,7 +7,7 @@ use Rattle.program.specs.Typing.{IsNoRecover}
 use Rattle.program.specs.WellFormed.{RoleFits}
 use Rattle.code.specs.Layout.{link_word}
 use Rattle.code.specs.Locks.{enter_code}
-use Rattle.code.specs.Marks.{placed}
+use Rattle.code.specs.Marks.{plain, placed}
 use Rattle.code.specs.Statements.{start_in}
 use Rattle.code.specs.Pieces.{setting_of}
 use Rattle.locals.specs.declared.frame.Locals.{Locals}
@@ -22,6 +22,7 @@ use Rattle.execution.specs.Builds.{IsBuild}
 use Rattle.execution.proofs.Awaiting.{stand_index}
 use Rattle.execution.proofs.Returning.{done}
 use Rattle.execution.proofs.Recovering.{moved_recovery, goes_on_here}
+use Rattle.execution.specs.Later.{IsAt}
 
 pub entering_proceeds : (b : Build) → IsBuild b → (t : ℕ) (v : Variables) (m place : ℕ) (l : Locals)
     (fs : List MachineFrame) (f : Frame) (cs : List Caller) → IsEntering b m place l fs f cs
@@ -32,12 +33,13 @@ entering_proceeds b is t v m place l fs f cs h =
     subst (RoleFits b.program h.number q) h.role (is.role h.number q h.frame.procedure) in
     let held : all_monitors f cs ≡ m ∷ callers_monitors cs =
     ap (λ (role : Role). monitor_of_role role (callers_monitors cs)) (h.frame.role ∙ h.role) in
-    let here : slice_get b.image.code (place + 60) ≡ Some (recovery_in b m) =
-    stand_index b.image place (placed place (enter_code m (link_word b.program m) (recovery_in b m))) 60 (place + 60) _
-    h.template refl refl ∙ ap Some (moved_recovery place (start_in b.starts (recover_of b.program m))) in
+    let here : IsAt b.code (place + 60) (plain (recovery_in b m)) =
+    subst (λ i. IsAt b.code (place + 60) (plain i)) (moved_recovery place (start_in b.starts (recover_of b.program m)))
+    (stand_index b.code place (placed place (enter_code m (link_word b.program m) (recovery_in b m))) 60 (place + 60) _
+    h.template refl refl) in
     let at : place + 61 ≡ place + 60 + 1 = omega arith in
-    let code : Implements b.image (setting_of b.program b.starts q) b.most h.jumps (place + 60 + 1) f.rest =
-    subst (λ k. Implements b.image (setting_of b.program b.starts q) b.most h.jumps k f.rest) at h.code in
+    let code : Implements b.code (setting_of b.program b.starts q) b.most h.jumps (place + 60 + 1) f.rest =
+    subst (λ k. Implements b.code (setting_of b.program b.starts q) b.most h.jumps k f.rest) at h.code in
     let on : GoesOn b t m (place + 60) l fs f cs = goes_on_here b is t m (place + 60) l fs f cs h.number q h.frame
     (ap own_monitor h.role) (subst IsNoRecover (sym h.role) tt) here h.jumps h.few code h.callers in
     done b t v (Runs place [] l fs) (Entering m f cs) (F.enters place refl refl there held h.template on)

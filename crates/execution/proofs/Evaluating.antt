@@ -9,7 +9,7 @@ use Rattle.words.specs.declared.outcome.Fault.TheVariants.{IndexOutOfRange}
 use Rattle.words.specs.Signed.{word_of}
 use Rattle.isa.specs.declared.slot.Slot.TheVariants.{Local as Slot'}
 use Rattle.isa.specs.declared.instr.Instr.TheVariants.{Push, GetLocal, Load, Operate, Index}
-use Rattle.isa.specs.Programs.{Program as Image}
+use Rattle.execution.specs.Later.{MarkedImage, IsAt, later_mark}
 use Rattle.program.specs.declared.kinds.ValueType.{ValueType}
 use Rattle.program.specs.declared.kinds.ValueType.TheVariants.{Integer}
 use Rattle.program.specs.declared.kinds.Member.{Member as MemberOf}
@@ -93,15 +93,15 @@ indexed_out : (base size w : ℕ) (rest : List ℕ) → nat_lt w size ≡ false
 indexed_out base size w rest h = rw h refl
 
 -- where an index leads, by the address of the first element: to the address of that element, or to the fault
-abbrev pub Indexes : Image → ℕ → View → ℕ → ℕ → Thread → Option ℕ → ℕ → List ℕ → Locals → List Frame → Type 0
+abbrev pub Indexes : MarkedImage → ℕ → View → ℕ → ℕ → Thread → Option ℕ → ℕ → List ℕ → Locals → List Frame → Type 0
 Indexes p t view base size x None place operands l fs = WalksWithin p t view 1 x (Dies IndexOutOfRange)
 Indexes p t view base size x (Some i) place operands l fs =
     (i < size) × WalksWithin p t view 1 x (Runs (place + 1) ((base + i) ∷ operands) l fs)
 
-module _ (p : Image) (t : ℕ) (view : View) (base size : ℕ) (small : size ≤ 1024)
+module _ (p : MarkedImage) (t : ℕ) (view : View) (base size : ℕ) (small : size ≤ 1024)
     (low : base + size ≤ 4294967296) where
   pub index_steps : (z : ℤ) (place : ℕ) (operands : List ℕ) (l : Locals) (fs : List Frame)
-      → FitsSigned w32 z → slice_get p.code place ≡ Some (Index base size)
+      → FitsSigned w32 z → IsAt p place (plain (Index base size))
       → Indexes p t view base size (Runs place (word_of z ∷ operands) l fs) (index_in size z) place operands l fs
   index_steps z place operands l fs fits here = by_test (nat_lt (word_of z) size) refl
     where
@@ -117,20 +117,20 @@ module _ (p : Image) (t : ℕ) (view : View) (base size : ℕ) (small : size ≤
           (sym (small_word w (omega (arith, lt, small)))) in
           let h = look_here p t view place (Index base size) (w ∷ operands) l fs here in
           let step = one_step p t view x (Runs (place + 1) ((base + w) ∷ operands) l fs)
-          (h ∙ ap (at_place place l fs) (indexed_in base size w operands lt small low)) in
+          (h ∙ ap (at_place place l fs) (indexed_in base size w operands lt small low)) (ap later_mark here.1) in
           subst (λ (o : Option ℕ). Indexes p t view base size x o place operands l fs)
           (sym (in_index size z w same lt)) (lt, step)
       by_test false e =
           let w = word_of z in
           let h = look_here p t view place (Index base size) (w ∷ operands) l fs here in
           let step = one_step p t view x (Dies IndexOutOfRange)
-          (h ∙ ap (at_place place l fs) (indexed_out base size w operands e)) in
+          (h ∙ ap (at_place place l fs) (indexed_out base size w operands e)) (ap later_mark here.1) in
           subst (λ (o : Option ℕ). Indexes p t view base size x o place operands l fs)
           (sym (out_index size z small e)) step
 
   pub index_gives : (z : ℤ) (place : ℕ) (operands : List ℕ) (l : Locals) (fs : List Frame) (k : ℕ → Evaluated)
       (place' : ℕ)
-      → FitsSigned w32 z → slice_get p.code place ≡ Some (Index base size)
+      → FitsSigned w32 z → IsAt p place (plain (Index base size))
       → ((i : ℕ) → i < size → Gives p t view 1 (Runs (place + 1) ((base + i) ∷ operands) l fs)
       (k i) place' operands l fs)
       → Gives p t view 2 (Runs place (word_of z ∷ operands) l fs)
@@ -159,7 +159,7 @@ pub element_variable : (p : Program) (a : MemberOf) (n i : ℕ) → member_type 
     → IsVariable p a i
 element_variable p a n i e lt = subst (λ (o : Option MemberType). HasIndex o i) (sym e) lt
 
-module _ (image : Image) (made t : ℕ) (s : Scope) (vars : Variables) (values : List ℤ)
+module _ (image : MarkedImage) (made t : ℕ) (s : Scope) (vars : Variables) (values : List ℤ)
     (locals_typed : HaveValues made s.locals values)
     (fit : (m : ℕ) → own_monitor s.role ≡ Some m → VariablesFit made s.program m vars)
     (low : ArraysAreLow s.program) where
@@ -195,16 +195,16 @@ module _ (image : Image) (made t : ℕ) (s : Scope) (vars : Variables) (values :
 
   -- a word that holds a value is pushed
   pushes : (place : ℕ) (operands : List ℕ) (l : Locals) (fs : List Frame) (w : ℕ) (z : ℤ) → w ≡ word_of z
-      → look image t (Runs place operands l fs) ≡ Goes (Runs (place + 1) (w ∷ operands) l fs)
-      → WalksWithin image t view 2 (Runs place operands l fs) (Runs (place + 1) (word_of z ∷ operands) l fs)
-  pushes place operands l fs w z e h =
+      → look image.image t (Runs place operands l fs) ≡ Goes (Runs (place + 1) (w ∷ operands) l fs)
+      → later_mark (slice_get image.marks place) ≡ None → WalksWithin image t view 2 (Runs place operands l fs) (Runs (place + 1) (word_of z ∷ operands) l fs)
+  pushes place operands l fs w z e h none =
       wider image t view 1 2 _ _ (omega arith)
       (subst (λ (k : ℕ). WalksWithin image t view 1 (Runs place operands l fs)
-      (Runs (place + 1) (k ∷ operands) l fs)) e (one_step image t view _ _ h))
+      (Runs (place + 1) (k ∷ operands) l fs)) e (one_step image t view _ _ h none))
 
   -- a word that holds a value is loaded
   load_gives : (place a : ℕ) (operands : List ℕ) (l : Locals) (fs : List Frame) (z : ℤ)
-      → slice_get image.code place ≡ Some Load → Reads view a (word_of z) → WalksWithin image t view 1
+      → IsAt image place (plain Load) → Reads view a (word_of z) → WalksWithin image t view 1
       (Runs place (a ∷ operands) l fs) (Runs (place + 1) (word_of z ∷ operands) l fs)
   load_gives place a operands l fs z here reads =
       one_load image t view _ a (word_of z) (λ w. Runs (place + 1) (w ∷ operands) l fs)
@@ -252,18 +252,18 @@ module _ (image : Image) (made t : ℕ) (s : Scope) (vars : Variables) (values :
       let w = small_word n h.0 in
       wider image t view 1 2 _ _ (omega arith)
       (subst (λ (k : ℕ). WalksWithin image t view 1 (Runs place operands l fs)
-      (Runs (place + 1) (k ∷ operands) l fs)) (sym w) (one_step image t view _ _ step))
+      (Runs (place + 1) (k ∷ operands) l fs)) (sym w) (one_step image t view _ _ step (ap later_mark code.0.1)))
   expression_gives (Truth b) u place operands l fs h held code fits =
       let look = look_here image t view place (Push (c.truth_word b)) operands l fs code.0 in
       let step = push_step image t view place (c.truth_word b) operands l fs look (omega (arith, fits)) in
-      pushes place operands l fs (c.truth_word b) (v.truth b) (code_truth b) step
+      pushes place operands l fs (c.truth_word b) (v.truth b) (code_truth b) step (ap later_mark code.0.1)
   expression_gives (Local slot) u place operands l fs h held code fits =
       let look = look_here image t view place (GetLocal (Slot' slot)) operands l fs code.0 in
       let step = push_step image t view place (slice_index l.values slot) operands l fs look
       (omega (arith, fits)) in
       let x = local_typed made s.locals values slot u locals_typed h in
       pushes place operands l fs (slice_index l.values slot) (local_value values slot)
-      (held slot x.0 x.1 ∙ ap (λ (o : Option ℤ). word_of (or_zero o)) (sym x.1)) step
+      (held slot x.0 x.1 ∙ ap (λ (o : Option ℤ). word_of (or_zero o)) (sym x.1)) step (ap later_mark code.0.1)
   expression_gives (Member m) u place operands l fs h held code fits =
       let a = member_address s.program m in
       let look = look_here image t view place (Push a) operands l fs code.0 in
@@ -273,7 +273,7 @@ module _ (image : Image) (made t : ℕ) (s : Scope) (vars : Variables) (values :
       gives_at 2 (Runs place operands l fs) (place + 1 + 1) _ operands l fs (Value (vars m.monitor m.number 0))
       (omega arith)
       (walk_gives image t view 1 1 _ _ (Value (vars m.monitor m.number 0)) _ operands l fs
-      (one_step image t view _ _ step) load)
+      (one_step image t view _ _ step (ap later_mark code.0.1)) load)
   expression_gives (Element a e) u place operands l fs h held code fits =
       let p = s.program in
       let ce = expression_code p e in
@@ -312,7 +312,7 @@ module _ (image : Image) (made t : ℕ) (s : Scope) (vars : Variables) (values :
       (expression_typed e (unary_type op) h.0)
       (λ z k. shown_gives image t view _ (unary op z) (place + length ce) operands l fs
       (look_here image t view (place + length ce) (unary_code op) (word_of z ∷ operands) l fs tail.0
-      ∙ unary_shown made t op z operands (place + length ce) l fs k))))
+      ∙ unary_shown made t op z operands (place + length ce) l fs k) (ap later_mark tail.0.1))))
   expression_gives (Both op a b) u place operands l fs h held code fits =
       let p = s.program in
       let ca = expression_code p a in
@@ -342,9 +342,9 @@ module _ (image : Image) (made t : ℕ) (s : Scope) (vars : Variables) (values :
       (λ z k'. shown_gives image t view _ (both op y z) (place + length ca + length cb) operands l fs
       (look_here image t view (place + length ca + length cb) (Operate (operation op))
       (word_of z ∷ word_of y ∷ operands) l fs last.0 ∙ both_shown made op h.0 y z operands
-      (place + length ca + length cb) l fs h.1 k k')))))
+      (place + length ca + length cb) l fs h.1 k k') (ap later_mark last.0.1)))))
 
-pub expressions_evaluate : (image : Image) (made t : ℕ) (s : Scope) (v : Variables) (values : List ℤ) (l : Locals)
+pub expressions_evaluate : (image : MarkedImage) (made t : ℕ) (s : Scope) (v : Variables) (values : List ℤ) (l : Locals)
     → IsEvaluated made s v values l → Evaluates image made t s v values l
 expressions_evaluate image made t s v values l h = record {
   gives = λ e u place operands callers fits code room.

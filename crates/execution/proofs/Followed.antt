@@ -1,9 +1,9 @@
 -- Every thread that stands for a process does what the process offers, or comes to the template that does.
 use Rattle.std.proofs.Common.{inl, inr, ◌≡◌, ℕ, ◌+◌, ◌*◌, ◌≤◌, List, [], ◌∷◌, ◌++◌, length, Option, Some, refl, ap, sym}
-use Rattle.std.proofs.Common.{◌∙◌, subst, arith, ℤ, pos, slice_get}
+use Rattle.std.proofs.Common.{◌∙◌, subst, arith, ℤ, pos}
 use Rattle.words.specs.declared.outcome.Fault.TheVariants.{AbandonedMonitor}
 use Rattle.isa.specs.declared.instr.Instr.TheVariants.{Ret}
-use Rattle.isa.specs.Programs.{Program as Image}
+use Rattle.execution.specs.Later.{MarkedImage, IsAt, later_mark}
 use Rattle.program.specs.declared.kinds.Role.{Role}
 use Rattle.program.specs.declared.kinds.Role.TheVariants.{Entry, Internal, Recover, External, Main}
 use Rattle.program.specs.Trees.{ToLocal, ToMember, ToElement, Statement, Assign, If, While, Call, Fork, Join, Return}
@@ -12,9 +12,10 @@ use Rattle.program.specs.Scope.{own_monitor, scope_of}
 use Rattle.program.specs.Typing.{IsNoRecover, MayCall, MayBeForked}
 use Rattle.program.specs.WellFormed.{RoleFits}
 use Rattle.program.specs.Tokens.{statement_tokens}
-use Rattle.code.specs.Processes.{return_code, return_instruction}
+use Rattle.code.specs.Processes.{return_code}
 use Rattle.code.specs.Statements.{Setting, ending_code, leaving_code}
 use Rattle.code.specs.Pieces.{setting_of, default_code}
+use Rattle.code.specs.Marks.{plain}
 use Rattle.locals.specs.declared.frame.Locals.{Locals}
 use Rattle.locals.specs.declared.frame.Frame.{Frame as MachineFrame}
 use Rattle.locals.specs.Threads.{Thread, Runs, Dies}
@@ -35,16 +36,16 @@ use Rattle.execution.proofs.Contexts.{Context, frame_at, proceeds_on, proceeds_w
 use Rattle.execution.proofs.Stepping.{print_proceeds, abort_proceeds, assign_proceeds}
 use Rattle.execution.proofs.Storing.{member_proceeds, element_proceeds}
 use Rattle.execution.proofs.Testing.{if_proceeds, if_else_proceeds, while_proceeds}
-use Rattle.execution.proofs.Returning.{called_returns, done}
+use Rattle.execution.proofs.Returning.{HandsOver, called_returns, done}
 use Rattle.execution.proofs.Calling.{call_proceeds}
 use Rattle.execution.proofs.Forking.{fork_proceeds}
 use Rattle.execution.proofs.Joining.{join_proceeds}
 use Rattle.execution.proofs.Conditions.{wait_proceeds, notify_proceeds, broadcast_proceeds}
-use Rattle.execution.proofs.Leaving.{HandsOver, before_answer, body_leaves, main_leaves}
+use Rattle.execution.proofs.Leaving.{before_answer, body_leaves, main_leaves}
 use Rattle.execution.proofs.Answering.{return_proceeds}
 use Rattle.execution.proofs.Entering.{entering_proceeds}
 
-finish_of : {image : Image} {c : Setting} {most place : ℕ} → Implements image c most 0 place Done
+finish_of : {image : MarkedImage} {c : Setting} {most place : ℕ} → Implements image c most 0 place Done
     → StandAt image place (default_code c.result ++ ending_code c (place + length (default_code c.result)))
 finish_of (finishes h) = h
 
@@ -118,7 +119,7 @@ module _ (b : Build) (is : IsBuild b) (t : ℕ) (v : Variables) where
   -- at the next statement, or at the end of a procedure that is no RECOVER part
   rest_proceeds : (rest : Block) (place : ℕ) (l : Locals) (fs : List MachineFrame) (values : List ℤ) (q : Procedure)
       (cs : List Caller) (entered : Option ℕ) (number : ℕ)
-      → IsFrame b.program b.height b.made b.width number q (frame_at q values rest) l → Implements b.image
+      → IsFrame b.program b.height b.made b.width number q (frame_at q values rest) l → Implements b.code
       (setting_of b.program b.starts q) b.most 0 place rest → CallersStand b number q fs cs → FitIn b q.role v
       → (rest ≡ Done → IsNoRecover q.role)
       → Proceeds b t v (2 * b.width + 2) (Runs place [] l fs) (goes_on entered (frame_at q values rest) cs)
@@ -136,7 +137,7 @@ module _ (b : Build) (is : IsBuild b) (t : ℕ) (v : Variables) where
         later = f.body.1;
         head = head_of code;
         callers = callers;
-        evaluates = expressions_evaluate b.image b.made t (scope_of b.program q) v values l (record {
+        evaluates = expressions_evaluate b.code b.made t (scope_of b.program q) v values l (record {
           typed = f.typed;
           holds = f.holds;
           fit = fit;
@@ -160,32 +161,32 @@ module _ (b : Build) (is : IsBuild b) (t : ℕ) (v : Variables) where
       by_role Main e =
           let fits : RoleFits b.program number q Main =
           subst (RoleFits b.program number q) e (is.role number q f.procedure) in
-          let bare : StandAt b.image place (ending_code (setting_of b.program b.starts q) (place + 0)) =
-          subst (λ (k : Option _). StandAt b.image place (default_code k ++ ending_code
+          let bare : StandAt b.code place (ending_code (setting_of b.program b.starts q) (place + 0)) =
+          subst (λ (k : Option _). StandAt b.code place (default_code k ++ ending_code
           (setting_of b.program b.starts q) (place + length (default_code k)))) fits.2 (finish_of code) in
           let at : place + 0 ≡ place = omega arith in
           let left : goes_on entered (frame_at q values Done) cs ≡ Leaving (pos 0) =
           ap (λ (role : Role). goes_on_by role Done entered (frame_at q values Done) cs) e in
           proceeds_wider b t v 0 _ _ _ (omega arith)
           (main_leaves b t v is place l fs number q cs _ f.procedure e callers
-          (subst (λ k. StandAt b.image place (ending_code (setting_of b.program b.starts q) k)) at bare) left)
+          (subst (λ k. StandAt b.code place (ending_code (setting_of b.program b.starts q) k)) at bare) left)
 
   -- by way of jumps
   jumps_proceed : (rest : Block) (place jumps : ℕ) (l : Locals) (fs : List MachineFrame) (values : List ℤ)
       (q : Procedure) (cs : List Caller) (entered : Option ℕ) (number : ℕ)
       → IsFrame b.program b.height b.made b.width number q (frame_at q values rest) l → jumps ≤ b.most
-      → Implements b.image (setting_of b.program b.starts q) b.most jumps place rest → CallersStand b number q fs cs
+      → Implements b.code (setting_of b.program b.starts q) b.most jumps place rest → CallersStand b number q fs cs
       → FitIn b q.role v → (rest ≡ Done → IsNoRecover q.role)
       → Proceeds b t v (b.most + (2 * b.width + 2)) (Runs place [] l fs) (goes_on entered (frame_at q values rest) cs)
   jumps_proceed rest place jumps l fs values q cs entered number f few code callers fit ordinary =
       let view = view_of b (goes_on entered (frame_at q values rest) cs) v in
-      let to = after_jumps b.image (setting_of b.program b.starts q) b.most t view [] l fs code in
-      proceeds_on b t v b.most (2 * b.width + 2) _ _ _ (wider b.image t view jumps b.most _ _ few to.1)
+      let to = after_jumps b.code (setting_of b.program b.starts q) b.most t view [] l fs code in
+      proceeds_on b t v b.most (2 * b.width + 2) _ _ _ (wider b.code t view jumps b.most _ _ few to.1)
       (rest_proceeds rest to.0 l fs values q cs entered number f to.2 callers fit ordinary)
 
   -- the end of a RECOVER part: on in the procedure that it interrupted
   recovery_ends : (place : ℕ) (l : Locals) (fs : List MachineFrame) (values : List ℤ) (q : Procedure)
-      (cs : List Caller) (entered : Option ℕ) (number m : ℕ) → q.role ≡ Recover m → Implements b.image
+      (cs : List Caller) (entered : Option ℕ) (number m : ℕ) → q.role ≡ Recover m → Implements b.code
       (setting_of b.program b.starts q) b.most 0 place Done
       → CallersStand b number q fs cs → OwnFit b (goes_on entered (frame_at q values Done) cs) v
       → Proceeds b t v (1 + (b.most + (2 * b.width + 2))) (Runs place [] l fs)
@@ -213,17 +214,18 @@ module _ (b : Build) (is : IsBuild b) (t : ℕ) (v : Variables) where
       ∙ sym (before_answer caller.role c.frame.rest entered interrupted cs hands) in
       let shown = on ∙ before_answer caller.role c.frame.rest entered interrupted cs hands in
       let fit' : FitIn b caller.role v = subst (λ (r : Process). OwnFit b r v) shown fit in
-      let bare : StandAt b.image place (ending_code (setting_of b.program b.starts q) (place + 0)) =
-      subst (λ (k : Option _). StandAt b.image place (default_code k ++ ending_code
+      let bare : StandAt b.code place (ending_code (setting_of b.program b.starts q) (place + 0)) =
+      subst (λ (k : Option _). StandAt b.code place (default_code k ++ ending_code
       (setting_of b.program b.starts q) (place + length (default_code k)))) none (finish_of code) in
-      let ret : StandAt b.image place (return_code (Recover m) q.result ∷ []) =
-      subst (λ (r : Role). StandAt b.image place (leaving_code b.program r (place + 0) ++ return_code r q.result ∷ []))
+      let ret : StandAt b.code place (return_code (Recover m) q.result ∷ []) =
+      subst (λ (r : Role). StandAt b.code place (leaving_code b.program r (place + 0) ++ return_code r q.result ∷ []))
       e bare in
-      let at_ret : slice_get b.image.code place ≡ Some Ret =
-      ret.0 ∙ ap (λ (k : Option _). Some (return_instruction k)) none in
+      let at_ret : IsAt b.code place (plain Ret) =
+      subst (λ (k : Option _). IsAt b.code place (return_code (Recover m) k)) none ret.0 in
       let view = view_of b (goes_on entered interrupted cs) v in
-      let step = one_step b.image t view (Runs place [] l (mf ∷ fs)) (Runs mf.back [] mf.locals fs)
-      (look_here b.image t view place Ret [] l (mf ∷ fs) at_ret) in
+      let step = one_step b.code t view (Runs place [] l (mf ∷ fs)) (Runs mf.back [] mf.locals fs)
+      (look_here b.code t view place Ret [] l (mf ∷ fs) at_ret)
+      (ap later_mark at_ret.1) in
       let at : mf.back + 0 ≡ mf.back = omega arith in
       let frame : IsFrame b.program b.height b.made b.width n caller interrupted mf.locals = record {
         procedure = behind.frame.procedure;
@@ -234,7 +236,7 @@ module _ (b : Build) (is : IsBuild b) (t : ℕ) (v : Variables) where
         few = behind.frame.few;
         body = behind.frame.body;
       } in
-      let more = subst (λ k. Implements b.image (setting_of b.program b.starts caller) b.most behind.jumps k
+      let more = subst (λ k. Implements b.code (setting_of b.program b.starts caller) b.most behind.jumps k
       c.frame.rest) at behind.more in
       subst (λ (r : Process). Proceeds b t v (1 + (b.most + (2 * b.width + 2))) (Runs place [] l (mf ∷ fs)) r) (sym on)
       (proceeds_on b t v 1 (b.most + (2 * b.width + 2)) _ _ _ step
@@ -252,7 +254,7 @@ module _ (b : Build) (is : IsBuild b) (t : ℕ) (v : Variables) where
   body_proceeds : (rest : Block) (place jumps : ℕ) (l : Locals) (fs : List MachineFrame) (values : List ℤ)
       (q : Procedure) (cs : List Caller) (entered : Option ℕ) (number : ℕ)
       → IsFrame b.program b.height b.made b.width number q (frame_at q values rest) l → jumps ≤ b.most
-      → Implements b.image (setting_of b.program b.starts q) b.most jumps place rest → CallersStand b number q fs cs
+      → Implements b.code (setting_of b.program b.starts q) b.most jumps place rest → CallersStand b number q fs cs
       → OwnFit b (goes_on entered (frame_at q values rest) cs) v
       → Proceeds b t v (b.most + (1 + (b.most + (2 * b.width + 2)))) (Runs place [] l fs)
       (goes_on entered (frame_at q values rest) cs)
@@ -280,9 +282,9 @@ module _ (b : Build) (is : IsBuild b) (t : ℕ) (v : Variables) where
       by_role Main e = ends (subst IsNoRecover (sym e) tt)
       by_role (Recover m) e =
           let view = view_of b (goes_on entered (frame_at q values Done) cs) v in
-          let to = after_jumps b.image (setting_of b.program b.starts q) b.most t view [] l fs code in
+          let to = after_jumps b.code (setting_of b.program b.starts q) b.most t view [] l fs code in
           proceeds_on b t v b.most (1 + (b.most + (2 * b.width + 2))) _ _ _
-          (wider b.image t view jumps b.most _ _ few to.1)
+          (wider b.code t view jumps b.most _ _ few to.1)
           (recovery_ends to.0 l fs values q cs entered number m e to.2 callers fit)
 
   running_proceeds : (place : ℕ) (l : Locals) (fs : List MachineFrame) (f : Frame) (cs : List Caller)
@@ -313,29 +315,29 @@ module _ (b : Build) (is : IsBuild b) (t : ℕ) (v : Variables) where
       subst (λ (k : Process). Proceeds b t v (most_steps b) x k) (sym same)
       (proceeds_wider b t v (16 + steps) (most_steps b) x p (omega arith)
       (proceeds_on b t v 16 steps x (Runs place [] l fs) p
-      (seen b.image t b.program (view_of b p v) 16 x (Runs place [] l fs) walk)
+      (seen b.code t b.program (view_of b p v) 16 x (Runs place [] l fs) walk)
       (running_proceeds place l fs f cs entered r (subst (λ (k : Process). OwnFit b k v) same fit))))
   stands_proceeds x q (enters m f cs place l fs walk h same) fit =
       let p = Entering m f cs in
       subst (λ (k : Process). Proceeds b t v (most_steps b) x k) (sym same)
       (proceeds_wider b t v (16 + 0) (most_steps b) x p (omega arith)
       (proceeds_on b t v 16 0 x (Runs place [] l fs) p
-      (seen b.image t b.program (view_of b p v) 16 x (Runs place [] l fs) walk)
+      (seen b.code t b.program (view_of b p v) 16 x (Runs place [] l fs) walk)
       (entering_proceeds b is t v m place l fs f cs h)))
   stands_proceeds x q (returns z cs place shown l fs walk h same) fit =
       let p = Returning z cs in
       let y = Runs place (result_operands shown) l fs in
       subst (λ (k : Process). Proceeds b t v (most_steps b) x k) (sym same)
       (proceeds_wider b t v (16 + 1) (most_steps b) x p (omega arith)
-      (proceeds_on b t v 16 1 x y p (seen b.image t b.program (view_of b p v) 16 x y walk)
+      (proceeds_on b t v 16 1 x y p (seen b.code t b.program (view_of b p v) 16 x y walk)
       (called_returns b t v h.procedure.result shown place l fs h.number h.procedure cs z p
-      (subst IsNoRecover (sym h.role) tt) refl h.callers h.result h.code.0 refl)))
+      (subst IsNoRecover (sym h.role) tt) (subst HandsOver (sym h.role) tt) refl h.callers h.result h.code.0 refl)))
   stands_proceeds x q (fails m f cs walk same) fit =
       let p = Failing AbandonedMonitor (Some m) f cs in
       subst (λ (k : Process). Proceeds b t v (most_steps b) x k) (sym same)
       (proceeds_wider b t v (16 + 0) (most_steps b) x p (omega arith)
       (proceeds_on b t v 16 0 x (Dies AbandonedMonitor) p
-      (seen b.image t b.program (view_of b p v) 16 x (Dies AbandonedMonitor) walk)
+      (seen b.code t b.program (view_of b p v) 16 x (Dies AbandonedMonitor) walk)
       (done b t v (Dies AbandonedMonitor) p (F.faults AbandonedMonitor refl refl))))
 
 pub followed : (b : Build) → IsBuild b → IsFollowed b

@@ -1,5 +1,5 @@
 -- A FORK, from its arguments to the beginning of the process that it makes.
-use Rattle.std.proofs.Common.{◌≡◌, ℕ, suc, ◌+◌, ◌*◌, ◌≤◌, List, [], ◌∷◌, ◌++◌, length, Option, Some, None, slice_get}
+use Rattle.std.proofs.Common.{◌≡◌, ℕ, suc, ◌+◌, ◌*◌, ◌≤◌, List, [], ◌∷◌, ◌++◌, length, Option, None}
 use Rattle.std.proofs.Common.{refl, ap, ◌∙◌, subst, arith, length-append, ℤ, pos, true, inr}
 use Rattle.std.specs.Prelude.{slice_set}
 use Rattle.std.proofs.Math.Seq.{take-length, drop-length}
@@ -16,6 +16,8 @@ use Rattle.program.specs.Tokens.{arguments_tokens}
 use Rattle.code.specs.Expressions.{arguments_code}
 use Rattle.code.specs.Processes.{fork_code}
 use Rattle.code.specs.Pieces.{setting_of}
+use Rattle.code.specs.Marks.{marked}
+use Rattle.code.specs.declared.mark.Mark.TheVariants as M
 use Rattle.locals.specs.declared.frame.Locals.{Locals}
 use Rattle.locals.specs.declared.frame.Frame.{Frame as MachineFrame}
 use Rattle.locals.specs.Threads.{Thread, Runs, Dies, with_local}
@@ -39,6 +41,7 @@ use Rattle.execution.proofs.Arguments.{stacked, arguments_typed, arguments_give,
 use Rattle.execution.proofs.Beginning.{begins_at}
 use Rattle.execution.proofs.Growing.{values_grow, build_grows, callers_grow}
 use Rattle.words.specs.Signed.{word_of}
+use Rattle.execution.specs.Later.{IsAt, later_mark}
 
 stacked_length : (zs : List ℤ) (operands : List ℕ) → length (stacked zs operands) ≡ length zs + length operands
 stacked_length [] operands = omega arith
@@ -54,11 +57,11 @@ module _ (b : Build) (is : IsBuild b) (t : ℕ) (v : Variables) (place : ℕ) (l
     (fs : List MachineFrame) (values : List ℤ) (rest : Block) (procedure : Procedure) (cs : List Caller)
     (entered : Option ℕ) where
   -- the look at a FORK that takes all operands
-  fork_look : (at entry : ℕ) (operands : List ℕ) → slice_get b.image.code at ≡ Some (Fork' entry (length operands))
-      → look b.image t (Runs at operands l fs) ≡ Asks (AskFork entry operands true)
+  fork_look : (at entry : ℕ) (operands : List ℕ) → IsAt b.code at (marked M.Fork (Fork' entry (length operands)))
+      → look b.code.image t (Runs at operands l fs) ≡ Asks (AskFork entry operands true)
       (λ n. thread_after_try ProcessTableFull n (Runs (at + 1) (n ∷ []) l fs))
   fork_look at entry operands h =
-      look_here b.image t (view_at b procedure v) at (Fork' entry (length operands)) operands l fs h
+      look_here b.code t (view_at b procedure v) at (Fork' entry (length operands)) operands l fs h
       ∙ rw (take-length operands, drop-length operands, le-leb (length operands) (length operands) (omega arith)) refl
 
   pub fork_proceeds : (qn : ℕ) (es : List Expression) (into : ℕ) → Context b t v place l fs values
@@ -70,13 +73,13 @@ module _ (b : Build) (is : IsBuild b) (t : ℕ) (v : Variables) (place : ℕ) (l
       let args = arguments_code p es in
       let ev = c.evaluates in
       let fits = c.sound.fits in
-      let here = front_stands b.image place args _ c.head.here in
-      let give = arguments_give b.image b.made t
+      let here = front_stands b.code place args _ c.head.here in
+      let give = arguments_give b.code b.made t
       (scope_of p procedure) v values l ev es fits.1.parameters place [] fs fits.4 here
       (omega (arith, c.sound.room)) in
       as_it_stands b t v place l fs values rest procedure cs entered s c tt (2 * arguments_tokens es + 0)
       (omega arith)
-      (by_values (evaluate_all p v values es) refl give (arguments_typed b.image b.made t
+      (by_values (evaluate_all p v values es) refl give (arguments_typed b.code b.made t
       (scope_of p procedure) v values l ev es fits.1.parameters fits.4))
     where
       x : Thread
@@ -91,8 +94,8 @@ module _ (b : Build) (is : IsBuild b) (t : ℕ) (v : Variables) (place : ℕ) (l
       callee : Procedure
       callee = c.sound.fits.1
 
-      behind : StandAt b.image end (fork_code (b.starts qn) (length es) into)
-      behind = back_stands b.image place (arguments_code b.program es) _ c.head.here
+      behind : StandAt b.code end (fork_code (b.starts qn) (length es) into)
+      behind = back_stands b.code place (arguments_code b.program es) _ c.head.here
 
       after : ℕ → Process
       after child = goes_on None (P.with_local (frame_at procedure values rest) into (pos child)) cs
@@ -118,22 +121,22 @@ module _ (b : Build) (is : IsBuild b) (t : ℕ) (v : Variables) (place : ℕ) (l
           (made, refl, omega arith, few))
           (put_holds l.values values into (pos made) c.holds (omega (arith, within, c.few, c.words)))
           (put_length l.values into made ∙ c.words) c.later (omega (arith, c.head.few, c.head.deep))
-          (subst (λ k. Implements b.image (setting_of b.program b.starts procedure) b.most c.head.jumps k rest) len
+          (subst (λ k. Implements b.code (setting_of b.program b.starts procedure) b.most c.head.jumps k rest) len
           c.head.more)
-          (wider b.image t (empty_view b.program) 1 16 _ _ (omega arith)
-          (one_step b.image t (empty_view b.program) (go made) _
-          (look_here b.image t (empty_view b.program) (end + 1) (SetLocal (Slot' into)) (made ∷ []) l fs behind.1.0)))
+          (wider b.code t (empty_view b.program) 1 16 _ _ (omega arith)
+          (one_step b.code t (empty_view b.program) (go made) _
+          (look_here b.code t (empty_view b.program) (end + 1) (SetLocal (Slot' into)) (made ∷ []) l fs behind.1.0) (ap later_mark behind.1.0.1)))
 
-      by_values : (zs : EvaluatedAll) → evaluate_all b.program v values es ≡ zs → GivesAll b.image t
+      by_values : (zs : EvaluatedAll) → evaluate_all b.program v values es ≡ zs → GivesAll b.code t
           (view_at b procedure v)
           (2 * arguments_tokens es) x (evaluate_all b.program v values es) end [] l fs
           → HaveAll b.made callee.parameters
           (evaluate_all b.program v values es)
           → Proceeds b t v (2 * arguments_tokens es + 0) x pending
       by_values (Values zs) same g typed =
-          let walk : WalksWithin b.image t (view_at b procedure v) (2 * arguments_tokens es) x
+          let walk : WalksWithin b.code t (view_at b procedure v) (2 * arguments_tokens es) x
           (Runs end (stacked zs []) l fs) =
-          subst (λ (k : EvaluatedAll). GivesAll b.image t (view_at b procedure v)
+          subst (λ (k : EvaluatedAll). GivesAll b.code t (view_at b procedure v)
           (2 * arguments_tokens es) x k end [] l fs) same g in
           let have : HaveValues b.made callee.parameters zs = subst (HaveAll b.made callee.parameters) same typed in
           let child = begins (frame_at callee (zs ++ zeros callee.locals) callee.body) [] in
@@ -149,7 +152,7 @@ module _ (b : Build) (is : IsBuild b) (t : ℕ) (v : Variables) (place : ℕ) (l
           (λ ys. MakesOne (begins (opening_frame b.program qn ys) []) after full)) same
           ∙ ap (λ (k : Process). MakesOne k after full) opened in
           let look = fork_look end (b.starts qn) (stacked zs [])
-          (behind.0 ∙ ap (λ k. Some (Fork' (b.starts qn) k)) count) in
+          (subst (λ k. IsAt b.code end (marked M.Fork (Fork' (b.starts qn) k))) count behind.0) in
           proceeds_on b t v (2 * arguments_tokens es) 0 x _ pending walk
           (at_once b t v place l fs values rest procedure cs entered (Runs end (stacked zs []) l fs) pending
           (F.forks (b.starts qn) (stacked zs []) go look refl o mine
@@ -157,8 +160,8 @@ module _ (b : Build) (is : IsBuild b) (t : ℕ) (v : Variables) (place : ℕ) (l
           (values_grow b.made n more callee.parameters zs have) (is_first (inr c.sound.fits.3)))
           (first_holds b _)))
       by_values (FailsAll fault) same g typed =
-          let walk : WalksWithin b.image t (view_at b procedure v) (2 * arguments_tokens es) x (Dies fault) = subst
-          (λ (k : EvaluatedAll). GivesAll b.image t (view_at b procedure v) (2 * arguments_tokens es) x k end [] l fs)
+          let walk : WalksWithin b.code t (view_at b procedure v) (2 * arguments_tokens es) x (Dies fault) = subst
+          (λ (k : EvaluatedAll). GivesAll b.code t (view_at b procedure v) (2 * arguments_tokens es) x k end [] l fs)
           same g in
           let o = ap (λ (k : EvaluatedAll). with_values k (frame_at procedure values rest) cs
           (λ ys. MakesOne (begins (opening_frame b.program qn ys) []) after

@@ -182,12 +182,12 @@ module _ (b : Build) (n : ℕ) (le : b.made ≤ n) where
     pub completes_grow : (v : Variables) (x : Thread) (q : Process) → Completes b t v x q
         → Completes (with_made b n) t v x q
     unfolding awaits_grow
-    completes_grow v x q (F.acts {y = y} {r = r} kind own h o s) = F.acts kind own h o (stands_grow y r s)
+    completes_grow v x q (F.acts {y = y} {r = r} kind own h n o s) = F.acts kind own h n o (stands_grow y r s)
     completes_grow v x q (F.prints {r = r} w go h o s) = F.prints w go h o (λ a. stands_grow (go a) r (s a))
     completes_grow v x q (F.stores {r = r} m i z go own first is fits h o s) =
         F.stores m i z go own first is (fitting_grows b.made n le _ z fits) h o (λ a. stands_grow (go a) r (s a))
-    completes_grow v x q (F.returns h o) = F.returns h o
-    completes_grow v x q (F.leaves r k h o) = F.leaves r k h o
+    completes_grow v x q (F.returns h n o) = F.returns h n o
+    completes_grow v x q (F.leaves r k h n o) = F.leaves r k h n o
     completes_grow v x q (F.forks entry arguments go h e o mine child none) =
         F.forks entry arguments go h e o (λ k few. mine k (omega (arith, le, few)))
         (λ k u few. child k u (omega (arith, le, few))) none
@@ -216,12 +216,12 @@ module _ (b : Build) (n : ℕ) (le : b.made ≤ n) where
 
 pub completes_same : (b : Build) (t : ℕ) (v v' : Variables) (x : Thread) (q : Process)
     → offer b.program v q ≡ offer b.program v' q → Completes b t v x q → Completes b t v' x q
-completes_same b t v v' x q e (F.acts kind own h o s) = F.acts kind own h (sym e ∙ o) s
+completes_same b t v v' x q e (F.acts kind own h n o s) = F.acts kind own h n (sym e ∙ o) s
 completes_same b t v v' x q e (F.prints w go h o s) = F.prints w go h (sym e ∙ o) s
 completes_same b t v v' x q e (F.stores m i z go own first is fits h o s) =
     F.stores m i z go own first is fits h (sym e ∙ o) s
-completes_same b t v v' x q e (F.returns h o) = F.returns h o
-completes_same b t v v' x q e (F.leaves r k h o) = F.leaves r k h (sym e ∙ o)
+completes_same b t v v' x q e (F.returns h n o) = F.returns h n o
+completes_same b t v v' x q e (F.leaves r k h n o) = F.leaves r k h n (sym e ∙ o)
 completes_same b t v v' x q e (F.forks entry arguments go h d o mine child none) =
     F.forks entry arguments go h d (sym e ∙ o) mine child none
 completes_same b t v v' x q e (F.claims child go some few most h o j w d) =
@@ -243,6 +243,6 @@ pub proceeds_same : (b : Build) (t : ℕ) (v v' : Variables) (steps : ℕ) (x : 
     → Proceeds b t v' steps x q
 proceeds_same b t v v' steps x q same e h = record {
   last = h.last;
-  walk = same_within b.image t b.program (own_of q) v v' steps x h.last same h.walk;
+  walk = same_within b.code t b.program (own_of q) v v' steps x h.last same h.walk;
   completes = completes_same b t v v' h.last q e h.completes;
 }

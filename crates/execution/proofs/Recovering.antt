@@ -1,6 +1,6 @@
 -- Where a thread goes on that has taken a monitor's lock: behind the template; or, in an abandoned monitor, in its
 -- RECOVER part or into a fault.
-use Rattle.std.proofs.Common.{◌≡◌, ℕ, ◌+◌, ◌<◌, ◌≤◌, List, [], ◌∷◌, length, Option, Some, None, slice_get, refl, ap}
+use Rattle.std.proofs.Common.{◌≡◌, ℕ, ◌+◌, ◌<◌, ◌≤◌, List, [], ◌∷◌, length, Option, Some, None, refl, ap}
 use Rattle.std.proofs.Common.{sym, ◌∙◌, subst, arith, lt-ltb}
 use Rattle.words.specs.declared.outcome.Fault.TheVariants.{AbandonedMonitor}
 use Rattle.isa.specs.declared.instr.Instr.TheVariants.{Call, Raise}
@@ -11,7 +11,7 @@ use Rattle.program.specs.Scope.{own_monitor, recover_of}
 use Rattle.program.specs.Typing.{IsNoRecover}
 use Rattle.program.specs.WellFormed.{RoleFits}
 use Rattle.code.specs.Locks.{recovery}
-use Rattle.code.specs.Marks.{moved}
+use Rattle.code.specs.Marks.{plain, moved}
 use Rattle.code.specs.Statements.{start_in}
 use Rattle.code.specs.Pieces.{setting_of, entering_code}
 use Rattle.locals.specs.declared.frame.Locals.{Locals}
@@ -29,6 +29,7 @@ use Rattle.execution.proofs.Walking.{wider, within_on, one_step, look_here}
 use Rattle.execution.proofs.Contexts.{frame_at, stay}
 use Rattle.execution.proofs.Returning.{recover_is_one}
 use Rattle.execution.proofs.Beginning.{has_begun, in_body}
+use Rattle.execution.specs.Later.{IsAt, later_mark}
 
 -- calls are so deep that no frame is missing
 pub chain : (b : Build) → IsBuild b → (n : ℕ) (q : Procedure) (fs : List MachineFrame) (cs : List Caller)
@@ -57,9 +58,9 @@ no_parameters ts e = ap length e
 module _ (b : Build) (is : IsBuild b) (t : ℕ) (m place : ℕ) (l : Locals) (fs : List MachineFrame) (f : Frame)
     (cs : List Caller) (number : ℕ) (procedure : Procedure)
     (frame : IsFrame b.program b.height b.made b.width number procedure f l) (own : own_monitor procedure.role ≡ Some m)
-    (role : IsNoRecover procedure.role) (here : slice_get b.image.code place ≡ Some (recovery_in b m))
+    (role : IsNoRecover procedure.role) (here : IsAt b.code place (plain (recovery_in b m)))
     (jumps : ℕ) (few : jumps ≤ b.most)
-    (code : Implements b.image (setting_of b.program b.starts procedure) b.most jumps (place + 1) f.rest)
+    (code : Implements b.code (setting_of b.program b.starts procedure) b.most jumps (place + 1) f.rest)
     (callers : CallersStand b number procedure fs cs) where
   -- the frame with another word in the templates' own local
   kept_frame : (word : ℕ) → IsFrame b.program b.height b.made b.width number procedure f (kept l word)
@@ -77,22 +78,22 @@ module _ (b : Build) (is : IsBuild b) (t : ℕ) (m place : ℕ) (l : Locals) (fs
   recovers_here : (word : ℕ) (o : Option ℕ) → recover_of b.program m ≡ o → Stands b t (Runs place [] (kept l word) fs)
       (recovers_by b.program o m f cs)
   recovers_here word None e =
-      let at : slice_get b.image.code place ≡ Some (Raise AbandonedMonitor) =
-      here ∙ ap (λ (r : Option ℕ). Some (recovery (start_in b.starts r))) e in
-      fails m f cs (wider b.image t (empty_view b.program) 1 16 _ _ (omega arith)
-      (one_step b.image t (empty_view b.program) _ _
-      (look_here b.image t (empty_view b.program) place (Raise AbandonedMonitor) [] (kept l word) fs at))) refl
+      let at : IsAt b.code place (plain (Raise AbandonedMonitor)) =
+      subst (λ (r : Option ℕ). IsAt b.code place (plain (recovery (start_in b.starts r)))) e here in
+      fails m f cs (wider b.code t (empty_view b.program) 1 16 _ _ (omega arith)
+      (one_step b.code t (empty_view b.program) _ _
+      (look_here b.code t (empty_view b.program) place (Raise AbandonedMonitor) [] (kept l word) fs at) (ap later_mark at.1))) refl
   recovers_here word (Some r) e =
       let part = is.recovers m r e in
       let q = part.0 in
       let back : MachineFrame = record { back = place + 1; locals = kept l word } in
       let caller : Caller = record { into = None; frame = f } in
       let fits : RoleFits b.program r q (Recover m) = subst (RoleFits b.program r q) part.2 (is.role r q part.1) in
-      let at : slice_get b.image.code place ≡ Some (Call (b.starts r)) =
-      here ∙ ap (λ (k : Option ℕ). Some (recovery (start_in b.starts k))) e in
+      let at : IsAt b.code place (plain (Call (b.starts r))) =
+      subst (λ (k : Option ℕ). IsAt b.code place (plain (recovery (start_in b.starts k)))) e here in
       let deep = chain b is number procedure fs cs role callers in
-      let step : look b.image t (Runs place [] (kept l word) fs) ≡ Goes (Runs (b.starts r) [] fresh (back ∷ fs)) =
-      look_here b.image t (empty_view b.program) place (Call (b.starts r)) [] (kept l word) fs at ∙ ap
+      let step : look b.code.image t (Runs place [] (kept l word) fs) ≡ Goes (Runs (b.starts r) [] fresh (back ∷ fs)) =
+      look_here b.code t (empty_view b.program) place (Call (b.starts r)) [] (kept l word) fs at ∙ ap
       (λ k. if_so k (Goes (Runs (b.starts r) [] fresh (back ∷ fs)))) (lt-ltb (length fs) 15 (omega (arith, deep))) in
       let begun = has_begun b is t r q [] (back ∷ fs) part.1 (no_values q.parameters fits.1) in
       let at_end : place + 1 + 0 ≡ place + 1 = omega arith in
@@ -102,7 +103,7 @@ module _ (b : Build) (is : IsBuild b) (t : ℕ) (m place : ℕ) (l : Locals) (fs
         here = tt;
         jumps = jumps;
         few = few;
-        more = subst (λ k. Implements b.image (setting_of b.program b.starts procedure) b.most jumps k f.rest)
+        more = subst (λ k. Implements b.code (setting_of b.program b.starts procedure) b.most jumps k f.rest)
             (sym at_end) code;
       } in
       let stand : CallersStand b r q (back ∷ fs) (caller ∷ cs) =
@@ -111,9 +112,9 @@ module _ (b : Build) (is : IsBuild b) (t : ℕ) (m place : ℕ) (l : Locals) (fs
       (caller ∷ cs) = ap (λ (k : Option Procedure). goes_on (Some m) (frame_of k []) (caller ∷ cs)) part.1 in
       let none = no_parameters q.parameters fits.1 in
       runs (Some m) (frame_at q (zeros q.locals) q.body) (caller ∷ cs) begun.place begun.locals (back ∷ fs)
-      (wider b.image t (empty_view b.program) (1 + length q.parameters) 16 _ _ (omega (arith, none))
-      (within_on b.image t (empty_view b.program) 1 (length q.parameters) _ _ _
-      (one_step b.image t (empty_view b.program) _ _ step) begun.walk))
+      (wider b.code t (empty_view b.program) (1 + length q.parameters) 16 _ _ (omega (arith, none))
+      (within_on b.code t (empty_view b.program) 1 (length q.parameters) _ _ _
+      (one_step b.code t (empty_view b.program) _ _ step (ap later_mark at.1)) begun.walk))
       (in_body b is t r q [] (back ∷ fs) (caller ∷ cs) begun stand (recover_enters b q m part.2)) opened
     where
       no_values : (ts : List ValueType) → ts ≡ [] → HaveValues b.made ts []

@@ -22,6 +22,7 @@ use Rattle.meaning.specs.Labels as L
 use Rattle.meaning.specs.Processes.{Caller, Process, Before, goes_on}
 use Rattle.meaning.specs.Offers.{Does, Writes}
 use Rattle.execution.specs.Evaluation.{OfType}
+use Rattle.execution.specs.Later.{later_mark}
 use Rattle.execution.specs.Walks.{stays}
 use Rattle.execution.specs.Following.{Build, Implements, Stands}
 use Rattle.execution.specs.Completing.{Completes, Proceeds}
@@ -66,8 +67,8 @@ module _ (b : Build) (t : ℕ) (v : Variables) (place : ℕ) (l : Locals) (fs : 
       let code = expression_code p e in
       let fits = c.sound.fits in
       let ev = c.evaluates in
-      let here = front_stands b.image place code _ c.head.here in
-      let last = back_stands b.image place code _ c.head.here in
+      let here = front_stands b.code place code _ c.head.here in
+      let last = back_stands b.code place code _ c.head.here in
       let end = place + length code in
       let give = ev.gives e Integer place [] fs fits here (omega (arith, c.sound.room)) in
       let len : place + length (code ++ marked M.Print Print' ∷ []) ≡ end + 1 = omega
@@ -76,7 +77,7 @@ module _ (b : Build) (t : ℕ) (v : Variables) (place : ℕ) (l : Locals) (fs : 
       stands_on b t v place l fs values s rest procedure cs c l values rest
       (end + 1) c.head.jumps c.typed c.holds c.words c.later (omega (arith, c.head.few, c.head.deep))
       (subst
-      (λ n. Implements b.image (setting_of p b.starts procedure) b.most c.head.jumps n rest) len c.head.more) in
+      (λ n. Implements b.code (setting_of p b.starts procedure) b.most c.head.jumps n rest) len c.head.more) in
       as_it_stands s c tt (2 * expression_tokens e + 0) (omega arith)
       (with_evaluation b t v (2 * expression_tokens e) 0 x (evaluate p v values e) end [] l fs
       (frame_at procedure values rest) cs _ (q s) refl
@@ -85,7 +86,7 @@ module _ (b : Build) (t : ℕ) (v : Variables) (place : ℕ) (l : Locals) (fs : 
       let typed : OfType b.made Integer (Value z) = subst (OfType b.made Integer) same (ev.type e Integer fits) in
       let signed = back z typed in
       at_once (Runs end (word_of z ∷ []) l fs) (q s)
-      (F.prints (word_of z) (λ a. Runs (end + 1) [] l fs) (look_here b.image t (view_at b procedure v) end Print'
+      (F.prints (word_of z) (λ a. Runs (end + 1) [] l fs) (look_here b.code t (view_at b procedure v) end Print'
       (word_of z ∷ []) l fs last.0)
       (o ∙ ap (λ (k : ℤ). Does (Alone (L.Print k)) (Writes k) (goes_on None (frame_at procedure values rest) cs))
       (sym signed)) (λ a. after))))
@@ -93,8 +94,9 @@ module _ (b : Build) (t : ℕ) (v : Variables) (place : ℕ) (l : Locals) (fs : 
   pub abort_proceeds : Context b t v place l fs values Abort rest procedure cs → Proceeds b t v (steps_of Abort) x
       (goes_on entered (frame_at procedure values (Then Abort rest)) cs)
   abort_proceeds c =
-      let step = one_step b.image t (view_at b procedure v) x (Dies AbortStatement)
-      (look_here b.image t (view_at b procedure v) place (Raise AbortStatement) [] l fs c.head.here.0) in
+      let step = one_step b.code t (view_at b procedure v) x (Dies AbortStatement)
+      (look_here b.code t (view_at b procedure v) place (Raise AbortStatement) [] l fs c.head.here.0)
+      (ap later_mark c.head.here.0.1) in
       as_it_stands Abort c tt (1 + 0) (omega arith)
       (proceeds_on b t v 1 0 x (Dies AbortStatement) (q Abort) step
       (at_once (Dies AbortStatement) (q Abort)
@@ -112,8 +114,8 @@ module _ (b : Build) (t : ℕ) (v : Variables) (place : ℕ) (l : Locals) (fs : 
       let is_local = c.sound.fits.1 in
       let fits = c.sound.fits.2 in
       let ev = c.evaluates in
-      let here = front_stands b.image place code _ c.head.here in
-      let last = back_stands b.image place code _ c.head.here in
+      let here = front_stands b.code place code _ c.head.here in
+      let last = back_stands b.code place code _ c.head.here in
       let end = place + length code in
       let give = ev.gives e u place [] fs fits here (omega (arith, c.sound.room)) in
       let len : place + length (code ++ marked M.AssignLocal (SetLocal (Slot' slot)) ∷ []) ≡ end + 1 = omega
@@ -132,8 +134,8 @@ module _ (b : Build) (t : ℕ) (v : Variables) (place : ℕ) (l : Locals) (fs : 
       (put_typed b.made (slots procedure) values slot u z c.typed is_local typed)
       (put_holds l.values values slot z c.holds (omega (arith, within, c.few, c.words)))
       (put_length l.values slot (word_of z) ∙ c.words) c.later
-      (omega (arith, c.head.few, c.head.deep)) (subst (λ n. Implements b.image
+      (omega (arith, c.head.few, c.head.deep)) (subst (λ n. Implements b.code
       (setting_of p b.starts procedure) b.most c.head.jumps n rest) len c.head.more) in
       at_once (Runs end (word_of z ∷ []) l fs) (q s)
-      (F.acts L.Assign tt (look_here b.image t (view_at b procedure v) end (SetLocal (Slot' slot))
-      (word_of z ∷ []) l fs last.0) o after)))
+      (F.acts L.Assign tt (look_here b.code t (view_at b procedure v) end (SetLocal (Slot' slot))
+      (word_of z ∷ []) l fs last.0) (ap later_mark last.0.1) o after)))

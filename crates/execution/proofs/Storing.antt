@@ -31,6 +31,7 @@ use Rattle.meaning.specs.Offers.{Offer, Does, Puts, offer, with_value, with_inde
 use Rattle.execution.specs.Typed.{HasValue}
 use Rattle.execution.specs.Variables.{IsVariable, variable_address, ValueFits}
 use Rattle.execution.specs.Evaluation.{OfType}
+use Rattle.execution.specs.Later.{later_mark}
 use Rattle.execution.specs.Walks.{StandAt}
 use Rattle.execution.specs.Following.{Build, Implements, Stands}
 use Rattle.execution.specs.Completing.{Proceeds}
@@ -66,18 +67,18 @@ module _ (b : Build) (t : ℕ) (v : Variables) (place : ℕ) (l : Locals) (fs : 
       → own_monitor procedure.role ≡ Some m.monitor → IsVariable b.program m i
       → ((z : ℤ) → HasValue b.made u z → ValueFits b.made (member_type b.program m) z)
       → HasType (scope_of b.program procedure) e u
-      → StandAt b.image start (expression_code b.program e ++ store_code)
+      → StandAt b.code start (expression_code b.program e ++ store_code)
       → room e + 1 ≤ 512 → jumps ≤ b.most
-      → Implements b.image (setting_of b.program b.starts procedure) b.most jumps
+      → Implements b.code (setting_of b.program b.starts procedure) b.most jumps
       (start + length (expression_code b.program e) + 1) rest
       → offer b.program v (process s) ≡ with_value (evaluate b.program v values e) f cs (put m i)
       → Proceeds b t v (2 * expression_tokens e + 0) (Runs start (a ∷ []) l fs) (process s)
   stores_value s c m i a u e start jumps address own variable fits typed code space few more o =
       let p = b.program in
       let end = start + length (expression_code p e) in
-      let last = back_stands b.image start (expression_code p e) store_code code in
+      let last = back_stands b.code start (expression_code p e) store_code code in
       let give = c.evaluates.gives e u start (a ∷ []) fs typed
-      (front_stands b.image start (expression_code p e) store_code code) (omega (arith, space)) in
+      (front_stands b.code start (expression_code p e) store_code code) (omega (arith, space)) in
       let after : Stands b t (Runs (end + 1) [] l fs) (goes_on None f cs) =
       stands_on b t v place l fs values s rest procedure cs c l values rest (end + 1) jumps c.typed c.holds c.words
       c.later few more in
@@ -85,7 +86,7 @@ module _ (b : Build) (t : ℕ) (v : Variables) (place : ℕ) (l : Locals) (fs : 
       l fs f cs (put m i) (process s) o refl give
       (λ z same o'.
       let value : OfType b.made u (Value z) = subst (OfType b.made u) same (c.evaluates.type e u typed) in
-      let seen = look_here b.image t (view_at b procedure v) end Store (word_of z ∷ a ∷ []) l fs last.0 in
+      let seen = look_here b.code t (view_at b procedure v) end Store (word_of z ∷ a ∷ []) l fs last.0 in
       at_once b t v place l fs values rest procedure cs entered (Runs end (word_of z ∷ a ∷ []) l fs) (process s)
       (F.stores m i z (λ answer. Runs (end + 1) [] l fs) own
       (own_first_by b m.monitor procedure.role c.number procedure fs cs refl c.callers own) variable (fits z value)
@@ -105,11 +106,11 @@ module _ (b : Build) (t : ℕ) (v : Variables) (place : ℕ) (l : Locals) (fs : 
       let a = member_address p m in
       let len : place + length (plain (Push a) ∷ (expression_code p e ++ store_code))
       ≡ place + 1 + length (expression_code p e) + 1 = omega (arith, length-append (expression_code p e) store_code) in
-      let more = subst (λ (n : ℕ). Implements b.image (setting_of p b.starts procedure) b.most c.head.jumps n rest) len
+      let more = subst (λ (n : ℕ). Implements b.code (setting_of p b.starts procedure) b.most c.head.jumps n rest) len
       c.head.more in
-      let seen = look_here b.image t (view_at b procedure v) place (Push a) [] l fs c.head.here.0 in
-      let step = one_step b.image t (view_at b procedure v) x (Runs (place + 1) (a ∷ []) l fs)
-      (push_step b.image t (view_at b procedure v) place a [] l fs seen (omega arith)) in
+      let seen = look_here b.code t (view_at b procedure v) place (Push a) [] l fs c.head.here.0 in
+      let step = one_step b.code t (view_at b procedure v) x (Runs (place + 1) (a ∷ []) l fs)
+      (push_step b.code t (view_at b procedure v) place a [] l fs seen (omega arith)) (ap later_mark c.head.here.0.1) in
       as_it_stands b t v place l fs values rest procedure cs entered s c tt (1 + (2 * expression_tokens e + 0))
       (omega arith)
       (proceeds_on b t v 1 (2 * expression_tokens e + 0) x (Runs (place + 1) (a ∷ []) l fs) (process s) step
@@ -121,16 +122,16 @@ module _ (b : Build) (t : ℕ) (v : Variables) (place : ℕ) (l : Locals) (fs : 
   element_stores : (s : Statement) → (c : Context b t v place l fs values s rest procedure cs) → (a : Member) (n : ℕ)
       (u : ValueType) (e : Expression) (end : ℕ) → member_type b.program a ≡ Some (Array n)
       → own_monitor procedure.role ≡ Some a.monitor → u ≡ Integer → HasType (scope_of b.program procedure) e u
-      → StandAt b.image (end + 1) (expression_code b.program e ++ store_code) → room e + 1 ≤ 512
-      → Implements b.image (setting_of b.program b.starts procedure) b.most c.head.jumps
+      → StandAt b.code (end + 1) (expression_code b.program e ++ store_code) → room e + 1 ≤ 512
+      → Implements b.code (setting_of b.program b.starts procedure) b.most c.head.jumps
       (end + 1 + length (expression_code b.program e) + 1) rest → (o : Option ℕ) (y : Thread)
-      → Indexes b.image t (view_at b procedure v) (member_address b.program a) (array_size b.program a) y o end [] l fs
+      → Indexes b.code t (view_at b procedure v) (member_address b.program a) (array_size b.program a) y o end [] l fs
       → offer b.program v (process s)
       ≡ with_index o f cs (λ k. with_value (evaluate b.program v values e) f cs (put a k))
       → Proceeds b t v (1 + (2 * expression_tokens e + 0)) y (process s)
   element_stores s c a n u e end is_array own integer typed code space more None y step offered = record {
     last = Dies IndexOutOfRange;
-    walk = wider b.image t (view_at b procedure v) 1 (1 + (2 * expression_tokens e + 0)) y (Dies IndexOutOfRange)
+    walk = wider b.code t (view_at b procedure v) 1 (1 + (2 * expression_tokens e + 0)) y (Dies IndexOutOfRange)
         (omega arith) step;
     completes = F.faults IndexOutOfRange refl offered;
   }
@@ -165,13 +166,13 @@ module _ (b : Build) (t : ℕ) (v : Variables) (place : ℕ) (l : Locals) (fs : 
       let ci = expression_code p i in
       let ce = expression_code p e in
       let end = place + length ci in
-      let tail = back_stands b.image place ci (plain (index_code p a) ∷ (ce ++ store_code)) c.head.here in
+      let tail = back_stands b.code place ci (plain (index_code p a) ∷ (ce ++ store_code)) c.head.here in
       let give = c.evaluates.gives i Integer place [] fs is_index
-      (front_stands b.image place ci (plain (index_code p a) ∷ (ce ++ store_code)) c.head.here)
+      (front_stands b.code place ci (plain (index_code p a) ∷ (ce ++ store_code)) c.head.here)
       (omega (arith, c.sound.room)) in
       let len : place + length (ci ++ (plain (index_code p a) ∷ (ce ++ store_code))) ≡ end + 1 + length ce + 1 = omega
       (arith, length-append ci (plain (index_code p a) ∷ (ce ++ store_code)), length-append ce store_code) in
-      let more = subst (λ (k : ℕ). Implements b.image (setting_of p b.starts procedure) b.most c.head.jumps k rest) len
+      let more = subst (λ (k : ℕ). Implements b.code (setting_of p b.starts procedure) b.most c.head.jumps k rest) len
       c.head.more in
       as_it_stands b t v place l fs values rest procedure cs entered s c tt
       (2 * expression_tokens i + (1 + (2 * expression_tokens e + 0))) (omega arith)
@@ -182,5 +183,5 @@ module _ (b : Build) (t : ℕ) (v : Variables) (place : ℕ) (l : Locals) (fs : 
       subst (OfType b.made Integer) same (c.evaluates.type i Integer is_index) in
       element_stores s c a n u e end is_array own integer fits tail.1 (omega (arith, c.sound.room)) more
       (index_in size z) (Runs end (word_of z ∷ []) l fs)
-      (index_steps b.image t (view_at b procedure v) base size (omega (arith, same_size, array.0))
+      (index_steps b.code t (view_at b procedure v) base size (omega (arith, same_size, array.0))
       (omega (arith, same_size, array.1)) z end [] l fs value tail.0) o))

@@ -1,6 +1,6 @@
 -- From a test to what it chooses: IF and WHILE.
-use Rattle.std.proofs.Common.{inl, inr, ◌≡◌, ℕ, suc, ◌+◌, ◌*◌, ◌≤◌, List, [], ◌∷◌, ◌++◌, length, Option, None, refl, ap}
-use Rattle.std.proofs.Common.{◌∙◌, subst, arith, length-append, ℤ, Bool, true, false}
+use Rattle.std.proofs.Common.{inl, inr, ◌≡◌, ℕ, suc, ◌+◌, ◌*◌, ◌≤◌, List, [], ◌∷◌, ◌++◌, length, Option, Some, None, refl, ap}
+use Rattle.std.proofs.Common.{◌∙◌, subst, arith, length-append, ℤ, Bool, true, false, slice_get}
 use Rattle.std.proofs.lemmas.List.Elements.{Contains-append_left, Contains-append_right}
 use Rattle.words.specs.Signed.{word_of}
 use Rattle.isa.specs.declared.instr.Instr.TheVariants.{JumpIfZero, Jump}
@@ -28,6 +28,7 @@ use Rattle.meaning.specs.Processes.{Caller, Process, Before, goes_on}
 use Rattle.meaning.specs.Offers.{Does, Nothing, offer, with_value, chosen}
 use Rattle.execution.specs.Typed.{HasValue}
 use Rattle.execution.specs.Evaluation.{OfType}
+use Rattle.execution.specs.Later.{later_mark}
 use Rattle.execution.specs.Walks.{StandAt}
 use Rattle.execution.specs.Following.{Build, Implements, states, follows, Stands}
 use Rattle.execution.specs.Completing.{Completes, Proceeds}
@@ -53,7 +54,7 @@ module _ (b : Build) (t : ℕ) (v : Variables) (place : ℕ) (l : Locals) (fs : 
       (e : Expression)
       (go : Bool → Block) (target : ℕ) (tail : List Marked)
       → HasType (scope_of b.program procedure) e Boolean → room e ≤ most_room → 2 * expression_tokens e ≤ steps_of s
-      → StandAt b.image place (expression_code b.program e ++ marked M.Test (JumpIfZero target) ∷ tail)
+      → StandAt b.code place (expression_code b.program e ++ marked M.Test (JumpIfZero target) ∷ tail)
       → offer b.program v (pending s) ≡ with_value (evaluate b.program v values e) (frame_at procedure values rest) cs
       (λ z. Does (Alone L.Test) Nothing (at_rest (go (is_true z))))
       → Stands b t (Runs (place + length (expression_code b.program e) + 1) [] l fs) (at_rest (go true))
@@ -63,8 +64,8 @@ module _ (b : Build) (t : ℕ) (v : Variables) (place : ℕ) (l : Locals) (fs : 
       let p = b.program in
       let code = expression_code p e in
       let ev = c.evaluates in
-      let here = front_stands b.image place code _ stand in
-      let last = back_stands b.image place code _ stand in
+      let here = front_stands b.code place code _ stand in
+      let last = back_stands b.code place code _ stand in
       let end = place + length code in
       let give = ev.gives e Boolean place [] fs fits here (omega (arith, fit)) in
       as_it_stands b t v place l fs values rest procedure cs entered s c k (2 * expression_tokens e + 0)
@@ -75,23 +76,24 @@ module _ (b : Build) (t : ℕ) (v : Variables) (place : ℕ) (l : Locals) (fs : 
       (λ z same o'.
       let typed : OfType b.made Boolean (Value z) = subst (OfType b.made Boolean) same (ev.type e Boolean fits) in
       at_once b t v place l fs values rest procedure cs entered (Runs end (word_of z ∷ []) l fs) (pending s)
-      (by_value z (look_here b.image t (view_at b procedure v) end (JumpIfZero target) (word_of z ∷ []) l fs last.0) o'
+      (by_value z (look_here b.code t (view_at b procedure v) end (JumpIfZero target) (word_of z ∷ []) l fs last.0) (ap later_mark last.0.1) o'
       typed)))
     where
-      by_value : (z : ℤ) → look b.image t (Runs (place + length (expression_code b.program e))
+      by_value : (z : ℤ) → look b.code.image t (Runs (place + length (expression_code b.program e))
           (word_of z ∷ []) l fs) ≡ Goes (Runs (place_after_test (word_of z) target
           (place + length (expression_code b.program e) + 1)) [] l fs)
+          → later_mark (slice_get b.code.marks (place + length (expression_code b.program e))) ≡ Some L.Test
           → offer b.program v (pending s) ≡ Does (Alone L.Test) Nothing (at_rest (go (is_true z)))
           → HasValue b.made Boolean z
           → Completes b t v (Runs (place + length (expression_code b.program e)) (word_of z ∷ []) l fs)
           (pending s)
-      by_value z h k (inl is_zero) = F.acts L.Test tt
+      by_value z h m k (inl is_zero) = F.acts L.Test tt
           (h ∙ ap (λ (y : ℤ). Goes (Runs (place_after_test (word_of y) target
-          (place + length (expression_code b.program e) + 1)) [] l fs)) is_zero)
+          (place + length (expression_code b.program e) + 1)) [] l fs)) is_zero) m
           (k ∙ ap (λ (y : ℤ). Does (Alone L.Test) Nothing (at_rest (go (is_true y)))) is_zero) when_false
-      by_value z h k (inr is_one) = F.acts L.Test tt
+      by_value z h m k (inr is_one) = F.acts L.Test tt
           (h ∙ ap (λ (y : ℤ). Goes (Runs (place_after_test (word_of y) target
-          (place + length (expression_code b.program e) + 1)) [] l fs)) is_one)
+          (place + length (expression_code b.program e) + 1)) [] l fs)) is_one) m
           (k ∙ ap (λ (y : ℤ). Does (Alone L.Test) Nothing (at_rest (go (is_true y)))) is_one) when_true
 
   pub if_proceeds : (e : Expression) (then_part : Block) (c : Context b t v place l fs values
@@ -107,11 +109,11 @@ module _ (b : Build) (t : ℕ) (v : Variables) (place : ℕ) (l : Locals) (fs : 
       let body = block_code setting then_part then_start in
       let end = then_start + length body in
       let d = c.head.depth in
-      let tail = back_stands b.image place test _ c.head.here in
+      let tail = back_stands b.code place test _ c.head.here in
       let len : place + length (test ++ marked M.Test (JumpIfZero end) ∷ body) ≡ end = omega
       (arith, length-append test (marked M.Test (JumpIfZero end) ∷ body)) in
-      let more = subst (λ n. Implements b.image setting b.most c.head.jumps n rest) len c.head.more in
-      let inner = block_implements b.image setting b.most then_part d c.head.jumps then_start rest tail.1 c.head.few
+      let more = subst (λ n. Implements b.code setting b.most c.head.jumps n rest) len c.head.more in
+      let inner = block_implements b.code setting b.most then_part d c.head.jumps then_start rest tail.1 c.head.few
       (omega (arith, c.head.deep)) more in
       let sound = block_sound b.height b.width c.number scope then_part c.sound.fits.1
       (λ n h. c.sound.lower n (Contains-append_left (block_calls then_part) [] n h)) (omega (arith, c.sound.room))
@@ -142,19 +144,19 @@ module _ (b : Build) (t : ℕ) (v : Variables) (place : ℕ) (l : Locals) (fs : 
       let end = else_start + length other in
       let d = c.head.depth in
       let behind = plain (Jump end) ∷ other in
-      let tail = back_stands b.image place test _ c.head.here in
-      let jump = back_stands b.image then_start body behind tail.1 in
+      let tail = back_stands b.code place test _ c.head.here in
+      let jump = back_stands b.code then_start body behind tail.1 in
       let len : place + length (test ++ marked M.Test (JumpIfZero else_start) ∷ (body ++ behind)) ≡ end =
       omega (
         arith,
         length-append test (marked M.Test (JumpIfZero else_start) ∷ (body ++ behind)),
         length-append body behind,
       ) in
-      let more = subst (λ n. Implements b.image setting b.most c.head.jumps n rest) len c.head.more in
-      let inner = block_implements b.image setting b.most then_part (d + 1) (suc c.head.jumps) then_start rest
-      (front_stands b.image then_start body behind tail.1) (omega (arith, c.head.few))
+      let more = subst (λ n. Implements b.code setting b.most c.head.jumps n rest) len c.head.more in
+      let inner = block_implements b.code setting b.most then_part (d + 1) (suc c.head.jumps) then_start rest
+      (front_stands b.code then_start body behind tail.1) (omega (arith, c.head.few))
       (omega (arith, c.head.deep)) (follows end jump.0 more) in
-      let outer = block_implements b.image setting b.most else_part d c.head.jumps else_start rest jump.1 c.head.few
+      let outer = block_implements b.code setting b.most else_part d c.head.jumps else_start rest jump.1 c.head.few
       (omega (arith, c.head.deep)) more in
       let first = block_sound b.height b.width c.number scope then_part c.sound.fits.1
       (λ n h. c.sound.lower n (Contains-append_left (block_calls then_part) (block_calls else_part) n h))
@@ -188,18 +190,18 @@ module _ (b : Build) (t : ℕ) (v : Variables) (place : ℕ) (l : Locals) (fs : 
       let end = body_start + length inside + 1 in
       let d = c.head.depth in
       let behind = plain (Jump place) ∷ [] in
-      let tail = back_stands b.image place test _ c.head.here in
-      let jump = back_stands b.image body_start inside behind tail.1 in
+      let tail = back_stands b.code place test _ c.head.here in
+      let jump = back_stands b.code body_start inside behind tail.1 in
       let len : place + length (test ++ marked M.Test (JumpIfZero end) ∷ (inside ++ behind)) ≡ end =
       omega (
         arith,
         length-append test (marked M.Test (JumpIfZero end) ∷ (inside ++ behind)),
         length-append inside behind,
       ) in
-      let more = subst (λ n. Implements b.image setting b.most c.head.jumps n rest) len c.head.more in
+      let more = subst (λ n. Implements b.code setting b.most c.head.jumps n rest) len c.head.more in
       let again = states c.head.depth c.head.jumps c.head.here c.head.few c.head.deep c.head.more in
-      let inner = block_implements b.image setting b.most body (d + 1) 1 body_start (Then s rest)
-      (front_stands b.image body_start inside behind tail.1) (omega arith) (omega (arith, c.head.deep))
+      let inner = block_implements b.code setting b.most body (d + 1) 1 body_start (Then s rest)
+      (front_stands b.code body_start inside behind tail.1) (omega arith) (omega (arith, c.head.deep))
       (follows place jump.0 again) in
       let sound = block_sound b.height b.width c.number scope body c.sound.fits.1 c.sound.lower
       (omega (arith, c.sound.room)) (omega (arith, c.sound.tokens)) in

@@ -1,10 +1,12 @@
 -- Walks one after another, and what leads on from an evaluation.
-use Rattle.std.proofs.Common.{◌≡◌, ℕ, ◌+◌, ◌<◌, ◌≤◌, List, [], ◌∷◌, ◌++◌, length, Some, Option, slice_get, refl, ap}
+use Rattle.std.proofs.Common.{◌≡◌, ℕ, ◌+◌, ◌<◌, ◌≤◌, List, [], ◌∷◌, ◌++◌, length, None, Option, refl, ap}
 use Rattle.std.proofs.Common.{◌∙◌, subst, arith, ℤ, lt-ltb}
 use Rattle.words.specs.Signed.{word_of}
 use Rattle.isa.specs.declared.instr.Instr.{Instr}
-use Rattle.isa.specs.Programs.{Program}
+use Rattle.execution.specs.Later.{MarkedImage, IsAt, mark_of, later_mark}
+use Rattle.code.specs.declared.mark.Mark.{Mark}
 use Rattle.code.specs.declared.mark.Marked.{Marked}
+use Rattle.code.specs.Marks.{marked}
 use Rattle.program.specs.declared.kinds.ValueType.{ValueType}
 use Rattle.locals.specs.declared.frame.Locals.{Locals}
 use Rattle.locals.specs.declared.frame.Frame.{Frame}
@@ -18,23 +20,23 @@ use Rattle.execution.specs.Evaluation.{OfType}
 use Rattle.execution.specs.Walks.{View, empty_view, StandAt, Reads, Walks, stays, goes, loads, WalksWithin, Gives}
 use Rattle.execution.proofs.Operators.{shown}
 
-pub front_stands : (p : Program) (place : ℕ) (a b : List Marked) → StandAt p place (a ++ b) → StandAt p place a
+pub front_stands : (p : MarkedImage) (place : ℕ) (a b : List Marked) → StandAt p place (a ++ b) → StandAt p place a
 front_stands p place [] b h = tt
 front_stands p place (i ∷ a) b h = (h.0, front_stands p (place + 1) a b h.1)
 
-pub back_stands : (p : Program) (place : ℕ) (a b : List Marked) → StandAt p place (a ++ b) → StandAt p
+pub back_stands : (p : MarkedImage) (place : ℕ) (a b : List Marked) → StandAt p place (a ++ b) → StandAt p
     (place + length a) b
 back_stands p place [] b h = let e : place ≡ place + 0 = omega arith in subst (λ n. StandAt p n b) e h
 back_stands p place (i ∷ a) b h =
     let e : place + 1 + length a ≡ place + length (i ∷ a) = omega arith in
     subst (λ n. StandAt p n b) e (back_stands p (place + 1) a b h.1)
 
-module _ (p : Program) (t : ℕ) (s : View) where
+module _ (p : MarkedImage) (t : ℕ) (s : View) where
   pub walks_on : (m : ℕ) (z : Thread) → {n : ℕ} {x y : Thread} → Walks p t s n x y
       → Walks p t s m y z → Walks p t s (n + m) x z
   walks_on m z (stays {x = a}) w = subst (λ k. Walks p t s k a z) (omega arith) w
-  walks_on m z (goes {n = k} {x = a} h v) w = subst (λ i. Walks p t s i a z) (omega arith)
-      (goes h (walks_on m z v w))
+  walks_on m z (goes {n = k} {x = a} h none v) w = subst (λ i. Walks p t s i a z) (omega arith)
+      (goes h none (walks_on m z v w))
   walks_on m z (loads {n = k} {x = a} h r v) w = subst (λ i. Walks p t s i a z) (omega arith)
       (loads h r (walks_on m z v w))
 
@@ -50,10 +52,10 @@ module _ (p : Program) (t : ℕ) (s : View) where
   pub wider : (n m : ℕ) (x y : Thread) → n ≤ m → WalksWithin p t s n x y → WalksWithin p t s m x y
   wider n m x y le w = record { count = w.count; few = omega (arith, le, w.few); walk = w.walk }
 
-  pub one_step : (x y : Thread) → look p t x ≡ Goes y → WalksWithin p t s 1 x y
-  one_step x y h = record { count = 1; few = omega arith; walk = goes h stays }
+  pub one_step : (x y : Thread) → look p.image t x ≡ Goes y → later_mark (mark_of p.marks x) ≡ None → WalksWithin p t s 1 x y
+  one_step x y h none = record { count = 1; few = omega arith; walk = goes h none stays }
 
-  pub one_load : (x : Thread) (a word : ℕ) (k : ℕ → Thread) → look p t x ≡ Asks (AskLoad a) k → Reads s a word
+  pub one_load : (x : Thread) (a word : ℕ) (k : ℕ → Thread) → look p.image t x ≡ Asks (AskLoad a) k → Reads s a word
       → WalksWithin p t s 1 x (k word)
   one_load x a word k h r = record { count = 1; few = omega arith; walk = loads h r stays }
 
@@ -82,19 +84,20 @@ module _ (p : Program) (t : ℕ) (s : View) where
 
   -- one instruction that shows an evaluation
   pub shown_gives : (x : Thread) (e : Evaluated) (place : ℕ) (operands : List ℕ) (l : Locals) (fs : List Frame)
-      → look p t x ≡ shown e operands place l fs → Gives p t s 1 x e (place + 1) operands l fs
-  shown_gives x (Value z) place operands l fs h = one_step x _ h
-  shown_gives x (Fails fault) place operands l fs h = one_step x _ h
+      → look p.image t x ≡ shown e operands place l fs → later_mark (mark_of p.marks x) ≡ None
+      → Gives p t s 1 x e (place + 1) operands l fs
+  shown_gives x (Value z) place operands l fs h none = one_step x _ h none
+  shown_gives x (Fails fault) place operands l fs h none = one_step x _ h none
 
   -- what the look at a place is, by its instruction
-  pub look_here : (place : ℕ) (i : Instr) (operands : List ℕ) (l : Locals) (fs : List Frame)
-      → slice_get p.code place ≡ Some i → look p t (Runs place operands l fs) ≡ at_place place l fs
+  pub look_here : {mark : Mark} (place : ℕ) (i : Instr) (operands : List ℕ) (l : Locals) (fs : List Frame)
+      → IsAt p place (marked mark i) → look p.image t (Runs place operands l fs) ≡ at_place place l fs
       (effect t i operands l)
-  look_here place i operands l fs h = rw h refl
+  look_here place i operands l fs h = rw (h.0) refl
 
   -- a word is pushed where there is room
-  pub push_step : (place v : ℕ) (operands : List ℕ) (l : Locals) (fs : List Frame) → look p t
-      (Runs place operands l fs) ≡ at_place place l fs (push_effect v operands) → length operands < 512 → look p t
+  pub push_step : (place v : ℕ) (operands : List ℕ) (l : Locals) (fs : List Frame) → look p.image t
+      (Runs place operands l fs) ≡ at_place place l fs (push_effect v operands) → length operands < 512 → look p.image t
       (Runs place operands l fs) ≡ Goes (Runs (place + 1) (v ∷ operands) l fs)
   push_step place v operands l fs h room =
       h ∙ ap (λ b. if_so b (Goes (Runs (place + 1) (v ∷ operands) l fs))) (lt-ltb (length operands) 512 room)
@@ -105,22 +108,22 @@ and_typed made u t (Value z) go h k = k z h
 and_typed made u t (Fails fault) go h k = tt
 
 -- a walk that reads nothing is one in any view
-seen_walk : (p : Program) (t : ℕ) (source : Source) (s : View) → {n : ℕ} {x y : Thread}
+seen_walk : (p : MarkedImage) (t : ℕ) (source : Source) (s : View) → {n : ℕ} {x y : Thread}
     → Walks p t (empty_view source) n x y → Walks p t s n x y
 seen_walk p t source s stays = stays
-seen_walk p t source s (goes h w) = goes h (seen_walk p t source s w)
+seen_walk p t source s (goes h none w) = goes h none (seen_walk p t source s w)
 seen_walk p t source s (loads h r w) = let none = r.mine in absurd cc
 
-pub seen : (p : Program) (t : ℕ) (source : Source) (s : View) (n : ℕ) (x y : Thread)
+pub seen : (p : MarkedImage) (t : ℕ) (source : Source) (s : View) (n : ℕ) (x y : Thread)
     → WalksWithin p t (empty_view source) n x y → WalksWithin p t s n x y
 seen p t source s n x y w = record { count = w.count; few = w.few; walk = seen_walk p t source s w.walk }
 
 -- a walk reads the same where the own monitor's variables are the same
-same_walk : (p : Program) (t : ℕ) (source : Source) (own : Option ℕ) (v v' : Variables) → SameIn own v v' → {n : ℕ}
+same_walk : (p : MarkedImage) (t : ℕ) (source : Source) (own : Option ℕ) (v v' : Variables) → SameIn own v v' → {n : ℕ}
     {x y : Thread} → Walks p t (record { program = source; own = own; variables = v }) n x y
     → Walks p t (record { program = source; own = own; variables = v' }) n x y
 same_walk p t source own v v' same stays = stays
-same_walk p t source own v v' same (goes h w) = goes h (same_walk p t source own v v' same w)
+same_walk p t source own v v' same (goes h none w) = goes h none (same_walk p t source own v v' same w)
 same_walk p t source own v v' same (loads h r w) =
     loads h (record {
       member = r.member;
@@ -131,7 +134,7 @@ same_walk p t source own v v' same (loads h r w) =
       shown = r.shown ∙ ap word_of (same r.member.monitor r.mine r.member.number r.index);
     }) (same_walk p t source own v v' same w)
 
-pub same_within : (p : Program) (t : ℕ) (source : Source) (own : Option ℕ) (v v' : Variables) (n : ℕ) (x y : Thread)
+pub same_within : (p : MarkedImage) (t : ℕ) (source : Source) (own : Option ℕ) (v v' : Variables) (n : ℕ) (x y : Thread)
     → SameIn own v v' → WalksWithin p t (record { program = source; own = own; variables = v }) n x y
     → WalksWithin p t (record { program = source; own = own; variables = v' }) n x y
 same_within p t source own v v' n x y same w =

@@ -20,7 +20,7 @@ pub record IsBuild (b : Build) : Type 0 where
   pub recovers : (m r : ℕ) → recover_of b.program m ≡ Some r
       → (q : Procedure) × (slice_get b.program.procedures r ≡ Some q) × (q.role ≡ Recover m)
   pub low : ArraysAreLow b.program
-  pub laid : (n : ℕ) (q : Procedure) → slice_get b.program.procedures n ≡ Some q → StandAt b.image (b.starts n)
+  pub laid : (n : ℕ) (q : Procedure) → slice_get b.program.procedures n ≡ Some q → StandAt b.code (b.starts n)
       (piece_code b.program b.starts q (b.starts n))
   pub sound : (n : ℕ) (q : Procedure) → slice_get b.program.procedures n ≡ Some q → AreSound b.height b.width n
       (scope_of b.program q) q.body

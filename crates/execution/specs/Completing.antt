@@ -27,6 +27,7 @@ use Rattle.meaning.specs.Processes.{Frame, Caller, Process, Entering, Suspended,
 use Rattle.meaning.specs.Processes.{goes_on, recovers, with_result, holds, all_monitors, callers_monitors}
 use Rattle.meaning.specs.Offers.{Does, MakesOne, ClaimsOne, NotifiesSome, NotifiesAll, Nothing, Puts, Writes, offer}
 use Rattle.execution.specs.Variables.{IsVariable, variable_address, ValueFits}
+use Rattle.execution.specs.Later.{mark_of, later_mark, last_mark}
 use Rattle.execution.specs.Walks.{View, StandAt, WalksWithin}
 use Rattle.execution.specs.Following.{Build, with_made, recovery_in, result_operands, own_of, StepsWithin, Stands}
 
@@ -80,10 +81,10 @@ pub record Awaits (b : Build) (t child : ℕ) (into : Option ℕ) (part : Part) 
   pub after_sleep : ℕ → Thread
   pub after_outcome : ℕ → Thread
   pub after_result : ℕ → Thread
-  pub read : look b.image t reads ≡ Asks (AskLoad (process_word child 2)) after_read
-  pub sleep : look b.image t sleeps ≡ Asks (AskWait (process_word child 2) child) after_sleep
-  pub outcome : look b.image t learns ≡ Asks (AskLoad (process_word child 5)) after_outcome
-  pub result : look b.image t takes ≡ Asks (AskLoad (process_word child 4)) after_result
+  pub read : look b.code.image t reads ≡ Asks (AskLoad (process_word child 2)) after_read
+  pub sleep : look b.code.image t sleeps ≡ Asks (AskWait (process_word child 2) child) after_sleep
+  pub outcome : look b.code.image t learns ≡ Asks (AskLoad (process_word child 5)) after_outcome
+  pub result : look b.code.image t takes ≡ Asks (AskLoad (process_word child 4)) after_result
   pub there : (n : ℕ) → StepsWithin b t join_steps (after_read (suc n)) sleeps
   pub gone : StepsWithin b t join_steps (after_read 0) learns
   pub again : (n : ℕ) → StepsWithin b t join_steps (after_sleep n) reads
@@ -111,24 +112,27 @@ HasFirst q m = (ms : List ℕ) × (holds q ≡ m ∷ ms)
 -- the return of its first procedure, a fork, the claim of a JOIN, or, once it has met it, a fault; or the template,
 -- before which it stands, that does it
 pub data Completes (b : Build) (t : ℕ) (v : Variables) (x : Thread) (q : Process) : Type 0 where
-  acts : {y : Thread} {r : Process} (kind : Kind) → IsQuiet kind → look b.image t x ≡ Goes y
+  acts : {y : Thread} {r : Process} (kind : Kind) → IsQuiet kind → look b.code.image t x ≡ Goes y
+      → later_mark (mark_of b.code.marks x) ≡ Some kind
       → offer b.program v q ≡ Does (Alone kind) Nothing r
       → Stands b t y r → Completes b t v x q
-  prints : {r : Process} (w : ℕ) (go : ℕ → Thread) → look b.image t x ≡ Asks (AskPrint w) go
+  prints : {r : Process} (w : ℕ) (go : ℕ → Thread) → look b.code.image t x ≡ Asks (AskPrint w) go
       → offer b.program v q ≡ Does (Alone (L.Print (signed_of w))) (Writes (signed_of w)) r
       → ((answer : ℕ) → Stands b t (go answer) r) → Completes b t v x q
   stores : {r : Process} (m : Member) (i : ℕ) (z : ℤ) (go : ℕ → Thread) → own_of q ≡ Some m.monitor
       → HasFirst q m.monitor
       → IsVariable b.program m i → ValueFits b.made (member_type b.program m) z
-      → look b.image t x ≡ Asks (AskStore (variable_address b.program m i) (word_of z)) go
+      → look b.code.image t x ≡ Asks (AskStore (variable_address b.program m i) (word_of z)) go
       → offer b.program v q ≡ Does (Stores m.monitor) (Puts m.monitor m.number i z) r
       → ((answer : ℕ) → Stands b t (go answer) r) → Completes b t v x q
-  returns : look b.image t x ≡ Asks AskReturn first_exit → q ≡ Leaving (pos 0) → Completes b t v x q
-  leaves : (result : Option ℕ) → IsResult result → look b.image t x ≡ Asks (return_request result) first_exit
+  returns : look b.code.image t x ≡ Asks AskReturn first_exit → last_mark (mark_of b.code.marks x) ≡ None
+      → q ≡ Leaving (pos 0) → Completes b t v x q
+  leaves : (result : Option ℕ) → IsResult result → look b.code.image t x ≡ Asks (return_request result) first_exit
+      → last_mark (mark_of b.code.marks x) ≡ Some L.Return
       → offer b.program v q ≡ Does (Alone L.Return) Nothing (Leaving (left_value result))
       → Completes b t v x q
   forks : {child : Process} {after : ℕ → Process} (entry : ℕ) (arguments : List ℕ) (go : ℕ → Thread)
-      → look b.image t x ≡ Asks (AskFork entry arguments true) go → go 0 ≡ Dies ProcessTableFull
+      → look b.code.image t x ≡ Asks (AskFork entry arguments true) go → go 0 ≡ Dies ProcessTableFull
       → offer b.program v q ≡ MakesOne child after (Dying (Faulted ProcessTableFull) (holds q))
       → ((n : ℕ) → b.made ≤ suc n → suc n ≤ most_processes
       → Stands (with_made b (suc n)) t (go (suc n)) (after (suc n)))
@@ -136,7 +140,7 @@ pub data Completes (b : Build) (t : ℕ) (v : Variables) (x : Thread) (q : Proce
       → holds child ≡ [] → Completes b t v x q
   claims : {into : Option ℕ} {part : Part} {f : Frame} {callers : List Caller} (child : ℕ) (go : ℕ → Thread)
       → 0 < child → child ≤ b.made → child ≤ most_processes
-      → look b.image t x ≡ Asks (AskSwap (process_word child 3) 1) go
+      → look b.code.image t x ≡ Asks (AskSwap (process_word child 3) 1) go
       → offer b.program v q ≡ ClaimsOne child (Joining child into part f callers)
       (Dying (Faulted HandleNotJoinable) (holds q))
       → (j : Awaits b t child into part f callers)
@@ -149,28 +153,28 @@ pub data Completes (b : Build) (t : ℕ) (v : Variables) (x : Thread) (q : Proce
   enters : {m : ℕ} {f : Frame} {cs : List Caller} {l : Locals} {fs : List MachineFrame} (base : ℕ)
       → q ≡ Entering m f cs → x ≡ Runs base [] l fs → m < length b.program.monitors
       → all_monitors f cs ≡ m ∷ callers_monitors cs
-      → StandAt b.image base (placed base (enter_code m (link_word b.program m) (recovery_in b m)))
+      → StandAt b.code base (placed base (enter_code m (link_word b.program m) (recovery_in b m)))
       → GoesOn b t m (base + 60) l fs f cs → Completes b t v x q
   exits : {z : ℤ} {cs : List Caller} {l : Locals} {fs : List MachineFrame} (m base : ℕ) (shown : Option ℕ)
       → offer b.program v q ≡ Does (Exits m) Nothing (Returning z cs) → holds q ≡ m ∷ callers_monitors cs
       → x ≡ Runs base (result_operands shown) l fs
-      → StandAt b.image base (placed base (exit_code m (link_word b.program m)))
+      → StandAt b.code base (placed base (exit_code m (link_word b.program m)))
       → Stands b t (Runs (base + 23) (result_operands shown) l fs) (Returning z cs) → Completes b t v x q
   waits : {f : Frame} {cs : List Caller} {l : Locals} {fs : List MachineFrame} {ms : List ℕ} (c : Member) (base : ℕ)
       → member_type b.program c ≡ Some Condition
       → offer b.program v q ≡ Does (Waits c) Nothing (Suspended c f cs) → holds q ≡ c.monitor ∷ ms
       → own_monitor f.role ≡ Some c.monitor → all_monitors f cs ≡ c.monitor ∷ ms → x ≡ Runs base [] l fs
-      → StandAt b.image base (placed base (wait_code c (link_word b.program c.monitor) (member_address b.program c)
+      → StandAt b.code base (placed base (wait_code c (link_word b.program c.monitor) (member_address b.program c)
       (recovery_in b c.monitor)))
       → GoesOn b t c.monitor (base + 73) l fs f cs → Completes b t v x q
   notifies : {r : Process} {l : Locals} {fs : List MachineFrame} (c : Member) (base : ℕ)
       → member_type b.program c ≡ Some Condition → offer b.program v q ≡ NotifiesSome c r → HasFirst q c.monitor
-      → holds r ≡ holds q → x ≡ Runs base [] l fs → StandAt b.image base (notify_code c (member_address b.program c))
+      → holds r ≡ holds q → x ≡ Runs base [] l fs → StandAt b.code base (notify_code c (member_address b.program c))
       → Stands b t (Runs (base + 8) [] l fs) r → Completes b t v x q
   broadcasts : {r : Process} {l : Locals} {fs : List MachineFrame} (c : Member) (base : ℕ)
       → member_type b.program c ≡ Some Condition → offer b.program v q ≡ NotifiesAll c r → HasFirst q c.monitor
       → holds r ≡ holds q → x ≡ Runs base [] l fs
-      → StandAt b.image base (broadcast_code c (link_word b.program c.monitor) (member_address b.program c))
+      → StandAt b.code base (broadcast_code c (link_word b.program c.monitor) (member_address b.program c))
       → Stands b t (Runs (base + 16) [] l fs) r → Completes b t v x q
 
 -- what is in view of a process
@@ -180,5 +184,5 @@ view_of b q v = record { program = b.program; own = own_of q; variables = v }
 -- within so many steps to the one that completes what the process offers, or to the template that does
 pub record Proceeds (b : Build) (t : ℕ) (v : Variables) (steps : ℕ) (x : Thread) (q : Process) : Type 0 where
   pub last : Thread
-  pub walk : WalksWithin b.image t (view_of b q v) steps x last
+  pub walk : WalksWithin b.code t (view_of b q v) steps x last
   pub completes : Completes b t v last q

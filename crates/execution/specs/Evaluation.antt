@@ -1,6 +1,6 @@
 -- What is promised of the code of an expression.
 use Rattle.std.specs.Prelude.{ℕ, ◌+◌, ◌*◌, ◌≡◌, ◌≤◌, ℤ, List, length, Some}
-use Rattle.isa.specs.Programs.{Program as Image}
+use Rattle.execution.specs.Later.{MarkedImage}
 use Rattle.program.specs.declared.kinds.ValueType.{ValueType}
 use Rattle.program.specs.Trees.{Expression}
 use Rattle.program.specs.Scope.{Scope, own_monitor}
@@ -35,7 +35,7 @@ pub record IsEvaluated (made : ℕ) (s : Scope) (v : Variables) (values : List �
 
 -- from the code of an expression that fits, wherever it stands, a thread goes to the expression's value, or to its
 -- first fault, within twice as many steps as the expression has tokens; and a value has the expression's type
-pub record Evaluates (image : Image) (made t : ℕ) (s : Scope) (v : Variables) (values : List ℤ)
+pub record Evaluates (image : MarkedImage) (made t : ℕ) (s : Scope) (v : Variables) (values : List ℤ)
     (l : Locals) : Type 0 where
   pub gives : (e : Expression) (u : ValueType) (place : ℕ) (operands : List ℕ) (callers : List Frame)
       → HasType s e u → StandAt image place (expression_code s.program e) → room e + length operands ≤ 512

@@ -5,7 +5,7 @@ use Rattle.words.specs.Signed.{word_of}
 use Rattle.words.specs.declared.outcome.Fault.TheVariants.{AbandonedMonitor}
 use Rattle.isa.specs.declared.instr.Instr.{Instr}
 use Rattle.isa.specs.declared.instr.Instr.TheVariants.{Jump}
-use Rattle.isa.specs.Programs.{Program as Image}
+use Rattle.execution.specs.Later.{MarkedImage, IsAt}
 use Rattle.program.specs.declared.kinds.ValueType.{ValueType}
 use Rattle.program.specs.declared.kinds.Role.TheVariants.{Entry, Recover, Main}
 use Rattle.program.specs.Trees.{Statement, Block, Done, Then, Procedure, Program, slots}
@@ -15,7 +15,8 @@ use Rattle.program.specs.Tokens.{statement_tokens}
 use Rattle.program.specs.Measures.{statement_room, most_room, calls}
 use Rattle.code.specs.Layout.{link_word}
 use Rattle.code.specs.Locks.{recovery, enter_code}
-use Rattle.code.specs.Marks.{plain, placed}
+use Rattle.code.specs.declared.mark.Mark.TheVariants as M
+use Rattle.code.specs.Marks.{marked, plain, placed}
 use Rattle.code.specs.Statements.{Setting, start_in, statement_code, ending_code}
 use Rattle.code.specs.Processes.{into_code, return_code}
 use Rattle.code.specs.declared.mark.Marked.{Marked}
@@ -30,14 +31,14 @@ pub use Rattle.execution.specs.Shapes.{nesting, block_nesting, part_nesting}
 
 -- the code from a place on does what is left of a body, by way of so many jumps at first. Of each statement: how deep
 -- it stands, so that at most so many jumps lead from its end to what comes after it
-pub data Implements (image : Image) (c : Setting) (most : ℕ) : ℕ → ℕ → Block → Type 0 where
+pub data Implements (image : MarkedImage) (c : Setting) (most : ℕ) : ℕ → ℕ → Block → Type 0 where
   finishes : {place : ℕ} → StandAt image place (default_code c.result ++ ending_code c
       (place + length (default_code c.result))) → Implements image c most 0 place Done
   states : {place : ℕ} {s : Statement} {rest : Block} (depth jumps : ℕ) → StandAt image place
       (statement_code c s place) → jumps ≤ depth → depth + nesting s ≤ most
       → Implements image c most jumps (place + length (statement_code c s place)) rest
       → Implements image c most 0 place (Then s rest)
-  follows : {place jumps : ℕ} {rest : Block} (to : ℕ) → slice_get image.code place ≡ Some (Jump to)
+  follows : {place jumps : ℕ} {rest : Block} (to : ℕ) → IsAt image place (plain (Jump to))
       → Implements image c most jumps to rest → Implements image c most (suc jumps) place rest
 
 -- a statement of a procedure: it fits there, calls lower procedures only, and has room
@@ -65,15 +66,15 @@ pub record IsFrame (p : Program) (height : ℕ → ℕ) (made width number : ℕ
 
 -- what stands behind a call: the result is taken
 abbrev pub taking_code : Option ℕ → Option ValueType → List Marked
-taking_code (Some slot) result = plain (into_code (Some slot)) ∷ []
-taking_code None (Some t) = plain (into_code None) ∷ []
+taking_code (Some slot) result = marked M.Return (into_code (Some slot)) ∷ []
+taking_code None (Some t) = marked M.Return (into_code None) ∷ []
 taking_code None None = []
 
--- a program, its image with the places where its pieces begin, the heights of its procedures, how deep
+-- a program, its code with the places where its pieces begin, the heights of its procedures, how deep
 -- statements stand, the most tokens of one, and how many processes were made
 pub record Build : Type 0 where
   pub program : Program
-  pub image : Image
+  pub code : MarkedImage
   pub starts : ℕ → ℕ
   pub height : ℕ → ℕ
   pub most : ℕ
@@ -85,7 +86,7 @@ with_made b made = record b { made = made }
 
 -- at most so many local steps, without a load
 abbrev pub StepsWithin : Build → ℕ → ℕ → Thread → Thread → Type 0
-StepsWithin b t n x y = WalksWithin b.image t (empty_view b.program) n x y
+StepsWithin b t n x y = WalksWithin b.code t (empty_view b.program) n x y
 
 -- a procedure that no other called: the main part, or one that was forked
 abbrev pub IsFirst : Procedure → Type 0
@@ -95,10 +96,10 @@ IsFirst q = ((q.role ≡ Main) × (q.result ≡ None)) ⊎ MayBeForked q.role
 pub record StandsBehind (b : Build) (m : MachineFrame) (c : Caller) (number : ℕ) (q : Procedure)
     (code : List Marked) : Type 0 where
   pub frame : IsFrame b.program b.height b.made b.width number q c.frame m.locals
-  pub here : StandAt b.image m.back code
+  pub here : StandAt b.code m.back code
   pub jumps : ℕ
   pub few : jumps ≤ b.most
-  pub more : Implements b.image (setting_of b.program b.starts q) b.most jumps (m.back + length code) c.frame.rest
+  pub more : Implements b.code (setting_of b.program b.starts q) b.most jumps (m.back + length code) c.frame.rest
 
 -- the machine's frames stand for the callers of a procedure. A RECOVER part is called by the procedure that took the
 -- abandoned monitor, in the midst of its ENTER or WAIT
@@ -122,7 +123,7 @@ pub record Running (b : Build) (place : ℕ) (l : Locals) (fs : List MachineFram
   pub frame : IsFrame b.program b.height b.made b.width number procedure f l
   pub jumps : ℕ
   pub few : jumps ≤ b.most
-  pub code : Implements b.image (setting_of b.program b.starts procedure) b.most jumps place f.rest
+  pub code : Implements b.code (setting_of b.program b.starts procedure) b.most jumps place f.rest
   pub callers : CallersStand b number procedure fs cs
 
 -- what is done with an abandoned monitor: its RECOVER part is called, or the process faults
@@ -136,10 +137,10 @@ pub record IsEntering (b : Build) (m place : ℕ) (l : Locals) (fs : List Machin
   pub procedure : Procedure
   pub role : procedure.role ≡ Entry m
   pub frame : IsFrame b.program b.height b.made b.width number procedure f l
-  pub template : StandAt b.image place (placed place (enter_code m (link_word b.program m) (recovery_in b m)))
+  pub template : StandAt b.code place (placed place (enter_code m (link_word b.program m) (recovery_in b m)))
   pub jumps : ℕ
   pub few : jumps ≤ b.most
-  pub code : Implements b.image (setting_of b.program b.starts procedure) b.most jumps (place + 61) f.rest
+  pub code : Implements b.code (setting_of b.program b.starts procedure) b.most jumps (place + 61) f.rest
   pub callers : CallersStand b number procedure fs cs
 
 -- the operands at a return, and the result that they show
@@ -160,7 +161,7 @@ pub record IsReturning (b : Build) (place : ℕ) (shown : Option ℕ) (fs : List
   pub procedure : Procedure
   pub monitor : ℕ
   pub role : procedure.role ≡ Entry monitor
-  pub code : StandAt b.image place (return_code procedure.role procedure.result ∷ [])
+  pub code : StandAt b.code place (return_code procedure.role procedure.result ∷ [])
   pub result : ShowsResult b.made procedure.result shown z
   pub callers : CallersStand b number procedure fs cs
 

@@ -1,5 +1,6 @@
 pub mod Typed
 pub mod Variables
+pub mod Later
 pub mod Walks
 pub mod Evaluation
 pub mod Shapes

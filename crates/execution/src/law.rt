@@ -2,7 +2,7 @@ ghost use Rattle.std.specs.Prelude.{ℕ, ℤ, List};
 ghost use Rattle.execution.specs.Builds.{IsBuild, IsFollowed, IsHeld, IsSettled};
 ghost use Rattle.execution.specs.Evaluation.{Evaluates, IsEvaluated};
 ghost use Rattle.execution.specs.Following.{Build};
-ghost use Rattle.isa.specs.Programs.{Program};
+ghost use Rattle.execution.specs.Later.{MarkedImage};
 ghost use Rattle.locals.specs.declared.frame.Locals.{Locals};
 ghost use Rattle.meaning.specs.Values.{Variables};
 ghost use Rattle.program.specs.Scope.{Scope};
@@ -11,7 +11,7 @@ ghost use Rattle.program.specs.Scope.{Scope};
 /// any operands beneath, as long as the variables of the own monitor don't change. Handles are those of so many
 /// processes that were `made`.
 pub fn expressions_evaluate()
-    ensures { (image : Program) (made t : ℕ) (s : Scope) (v : Variables) (values : List ℤ) (l : Locals)
+    ensures { (image : MarkedImage) (made t : ℕ) (s : Scope) (v : Variables) (values : List ℤ) (l : Locals)
         → IsEvaluated made s v values l → Evaluates image made t s v values l }
 {}
 

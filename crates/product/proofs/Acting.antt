@@ -4,7 +4,7 @@ use Rattle.std.proofs.Common.{Option, Some, None, refl, ap, sym, ◌∙◌, subs
 use Rattle.std.proofs.lemmas.Bool.{eq-eqb, eqb-true, false≢true, or_left, or_right}
 use Rattle.words.specs.Updates.{put}
 use Rattle.words.specs.Signed.{word_of, signed_of}
-use Rattle.isa.specs.Programs.{Program as Image}
+use Rattle.execution.specs.Later.{MarkedImage, mark_of, later_mark}
 use Rattle.locals.specs.Threads.{Thread}
 use Rattle.locals.specs.Looks.{Look, Goes, Asks, AskLoad, AskStore, AskPrint, look}
 use Rattle.machine.specs.States.{State, with_thread, with_word}
@@ -36,7 +36,7 @@ use Rattle.execution.specs.Walks.{View, Reads, Walks, WalksWithin, stays, goes, 
 use Rattle.execution.specs.Following.{Build, Stands}
 use Rattle.execution.specs.Completing.{IsOwn, IsQuiet, HasFirst, Proceeds, view_of}
 use Rattle.execution.specs.Builds.{most_steps}
-use Rattle.refinement.specs.Built.{build_of}
+use Rattle.refinement.specs.Built.{build_of, marked_image}
 use Rattle.templates.specs.Layout.{place, valid}
 use Rattle.templates.specs.Asking.{template_steps}
 use Rattle.templates.proofs.Addresses.{variables_apart, variable_apart}
@@ -53,21 +53,21 @@ use Rattle.product.proofs.Deferred.{own_kind, quiet_kind, stands_open, holder, m
 use Rattle.product.proofs.Templating.{works_on}
 
 -- a thread is where it goes, takes a local step towards it, or loads a variable in view
-pub data FirstStep (image : Image) (t : ℕ) (s : View) (n : ℕ) (x z : Thread) : Type 0 where
+pub data FirstStep (image : MarkedImage) (t : ℕ) (s : View) (n : ℕ) (x z : Thread) : Type 0 where
   at_end : x ≡ z → FirstStep image t s n x z
-  goes_on : (y : Thread) (m : ℕ) → look image t x ≡ Goes y → suc m ≤ n → WalksWithin image t s m y z
+  goes_on : (y : Thread) (m : ℕ) → look image.image t x ≡ Goes y → later_mark (mark_of image.marks x) ≡ None → suc m ≤ n → WalksWithin image t s m y z
       → FirstStep image t s n x z
-  loads_on : (a word : ℕ) (go : ℕ → Thread) (m : ℕ) → look image t x ≡ Asks (AskLoad a) go → Reads s a word → suc m ≤ n
+  loads_on : (a word : ℕ) (go : ℕ → Thread) (m : ℕ) → look image.image t x ≡ Asks (AskLoad a) go → Reads s a word → suc m ≤ n
       → WalksWithin image t s m (go word) z → FirstStep image t s n x z
 
-pub first_step : (image : Image) (t : ℕ) (s : View) (n : ℕ) (x z : Thread) → WalksWithin image t s n x z
+pub first_step : (image : MarkedImage) (t : ℕ) (s : View) (n : ℕ) (x z : Thread) → WalksWithin image t s n x z
     → FirstStep image t s n x z
 first_step image t s n x z walk = by_walk walk.few walk.walk
   where
     by_walk : {k : ℕ} {x z : Thread} → k ≤ n → Walks image t s k x z → FirstStep image t s n x z
     by_walk few stays = at_end refl
-    by_walk few (goes {n = m} {y = y} h more) =
-        goes_on y m h (omega (arith, few)) (record { count = m; few = omega arith; walk = more })
+    by_walk few (goes {n = m} {y = y} h plain more) =
+        goes_on y m h plain (omega (arith, few)) (record { count = m; few = omega arith; walk = more })
     by_walk few (loads {n = m} {a = a} {v = v} {k = go} h shown more) =
         loads_on a v go m h shown (omega (arith, few)) (record { count = m; few = omega arith; walk = more })
 
@@ -168,18 +168,18 @@ module _ (p : Program) (w : WellFormed p) (steps : ℕ) (s : State) (c : SourceS
         → (h : Proceeds b t c.variable left x q) → IsAtWork p q c.variable → left + before_template ≤ n
         → MovesSo p done s t woken (look (code_of p) t x) s' → (x ≡ h.last) ⊎ Next p w steps s' t done pauses n c
     works_step x left few h work enough moves =
-        by_step (first_step (code_of p) t (view_of b q c.variable) left x h.last h.walk)
+        by_step (first_step (marked_image p) t (view_of b q c.variable) left x h.last h.walk)
       where
-        on : done ≡ false → (y : Thread) (m : ℕ) → suc m ≤ left → WalksWithin (code_of p) t (view_of b q c.variable) m y h.last
+        on : done ≡ false → (y : Thread) (m : ℕ) → suc m ≤ left → WalksWithin (marked_image p) t (view_of b q c.variable) m y h.last
             → s' ≡ with_thread s t y → Next p w steps s' t done pauses n c
         on none y m less walk same = remains none y q Runs (holds q) proc point list same
             (works m (omega (arith, less, few)) (record { last = h.last; walk = walk; completes = h.completes }) work)
             (omega (arith, less, enough))
 
-        by_step : FirstStep (code_of p) t (view_of b q c.variable) left x h.last
+        by_step : FirstStep (marked_image p) t (view_of b q c.variable) left x h.last
             → (x ≡ h.last) ⊎ Next p w steps s' t done pauses n c
         by_step (at_end e) = inl e
-        by_step (goes_on y m e less walk) =
+        by_step (goes_on y m e plain less walk) =
             let g : MovesSo p done s t woken (Goes y) s' = subst (λ (l : Look). MovesSo p done s t woken l s') e moves in
             inr (on g.2 y m less walk g.1)
         by_step (loads_on a word go m e shown less walk) =

@@ -1,10 +1,9 @@
 -- The answer to a request is that of an action which others learn of just where the protocol's step carries one.
-use Rattle.std.proofs.Common.{◌≡◌, ◌≢◌, ℕ, zero, suc, ◌<◌, ◌≤◌, ◌==◌, ◌&&◌, ◌||◌, Bool, true, false, Option, Some, None}
+use Rattle.std.proofs.Common.{◌≡◌, ℕ, zero, suc, ◌<◌, ◌==◌, ◌&&◌, Bool, true, false, Option, Some, None}
 use Rattle.std.proofs.Common.{refl, ap, sym, ◌∙◌, subst, arith, inl, inr, List, length, if◌then◌else◌}
 use Rattle.std.specs.Prelude.{not, is_some}
 use Rattle.std.proofs.lemmas.Bool.{cases_eq, eq-eqb, ne_eqb, or_left, or_right}
 use Rattle.words.specs.Process.{process_word}
-use Rattle.locals.specs.Threads.{Thread}
 use Rattle.locals.specs.Looks.{Request, Look, Goes, Asks, Leaves, Breaks, Rests, AskLoad, AskStore}
 use Rattle.machine.specs.States.{State}
 use Rattle.machine.specs.Runs.{Moves}
@@ -13,14 +12,14 @@ use Rattle.program.specs.Trees.{Program}
 use Rattle.meaning.specs.Labels.{End, Faulted, Killed}
 use Rattle.meaning.specs.Table.{Table}
 use Rattle.protocol.specs.Word.{owner}
-use Rattle.protocol.specs.Points.{Point, ToExit, ToWait, EnterPends, EnterTries, ReenterPends, ReenterTries, TakeReads}
-use Rattle.protocol.specs.Points.{TakeMarks, TakeSleeps, TakeTries, GotReads, GotLinks, GotHeads, GotUnpends, WaitReads}
-use Rattle.protocol.specs.Points.{NotifyAdds, NotifyWakes, BroadcastAdds, BroadcastMarks, BroadcastReads}
-use Rattle.protocol.specs.Points.{BroadcastMoves, JoinReads, JoinSleeps, JoinLearns, JoinTakes, LeavePends, LeaveReads}
-use Rattle.protocol.specs.Points.{LeaveHeads, LeaveSwaps, LeaveWakes, HasLeft, Dies, Walks, ClearsId, LastWakes}
+use Rattle.protocol.specs.Points.{Point, ToExit, EnterPends, EnterTries, ReenterPends, ReenterTries, TakeReads}
+use Rattle.protocol.specs.Points.{TakeMarks, TakeTries, GotReads, GotLinks, GotHeads, GotUnpends, WaitReads}
+use Rattle.protocol.specs.Points.{NotifyWakes, BroadcastReads}
+use Rattle.protocol.specs.Points.{JoinReads, JoinLearns, JoinTakes, LeavePends, LeaveReads}
+use Rattle.protocol.specs.Points.{LeaveHeads, LeaveWakes, HasLeft, Dies, Walks, ClearsId, LastWakes}
 use Rattle.protocol.specs.Points.{Unmade, Runs, HasEnded}
 use Rattle.protocol.specs.World.{World}
-use Rattle.protocol.specs.Cells.{Cell, LockOf, LinkOf, HeadOf, PendingOf, IdOf, ClaimOf, ResultOf, OutcomeOf}
+use Rattle.protocol.specs.Cells.{Cell, LockOf, LinkOf, HeadOf, PendingOf, IdOf, ResultOf, OutcomeOf}
 use Rattle.protocol.specs.Cells.{SequenceOf}
 use Rattle.protocol.specs.Requests.{request}
 use Rattle.protocol.specs.Served.{MayAnswer, carried}

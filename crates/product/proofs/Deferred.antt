@@ -1,6 +1,6 @@
 -- Which actions of a process may wait.
-use Rattle.std.proofs.Common.{◌≡◌, ℕ, ◌<◌, ◌≤◌, true, Option, Some, None, List, [], ◌∷◌, refl, sym, subst, ◌∙◌, ap}
-use Rattle.program.specs.Trees.{Program, Statement, Return, Block, Done, Then}
+use Rattle.std.proofs.Common.{◌≡◌, ℕ, ◌<◌, ◌≤◌, true, Option, Some, None, List, [], ◌∷◌, refl, sym, subst, ◌∙◌}
+use Rattle.program.specs.Trees.{Program, Return, Block, Done, Then}
 use Rattle.program.specs.WellFormed.{WellFormed}
 use Rattle.program.specs.declared.kinds.Role.{Role}
 use Rattle.program.specs.declared.kinds.Role.TheVariants.{Recover, Main}
@@ -9,12 +9,12 @@ use Rattle.locals.specs.Threads.{Thread}
 use Rattle.meaning.specs.Labels.{End, Kind, Label, Alone, Stores}
 use Rattle.meaning.specs.Labels as L
 use Rattle.meaning.specs.Table.{Allows, HeldBy}
-use Rattle.meaning.specs.Processes.{Frame, Caller, Process, Over, goes_on, goes_on_by, holds}
+use Rattle.meaning.specs.Processes.{Frame, Caller, Process, Over, goes_on_by, holds}
 use Rattle.meaning.specs.Offers.{Offer, Nothing, offer, TakesUp}
 use Rattle.meaning.specs.States.{SourceState}
 use Rattle.deferral.specs.Deferring.{is_quiet, MayWait}
 use Rattle.protocol.specs.Points.{Runs}
-use Rattle.protocol.specs.World.{World, mem}
+use Rattle.protocol.specs.World.{mem}
 use Rattle.protocol.specs.Moves.{Own}
 use Rattle.protocol.proofs.Good.{Good}
 use Rattle.protocol.proofs.Kept.{permitted}

@@ -278,7 +278,7 @@ module _ (p : Program) (w : WellFormed p) (steps : ℕ) (s : State) (c : SourceS
   aborted NoPart v h = (
     works join_steps (omega arith) (record {
       last = Dies' JoinedAborted;
-      walk = seen b.image t p (view_of b (Failing JoinedAborted None f cs) c.variable) join_steps (j.after_outcome v)
+      walk = seen b.code t p (view_of b (Failing JoinedAborted None f cs) c.variable) join_steps (j.after_outcome v)
           (Dies' JoinedAborted) h;
       completes = F.faults JoinedAborted refl refl;
     }) (record {

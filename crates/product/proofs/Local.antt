@@ -1,8 +1,8 @@
 -- A local step of a thread: it goes on towards where it stands, and nothing else changes.
-use Rattle.std.proofs.Common.{◌≡◌, ℕ, suc, ◌<◌, ◌≤◌, Bool, true, List, [], Some, refl, ap, sym, ◌∙◌, subst, arith, inl}
+use Rattle.std.proofs.Common.{◌≡◌, ℕ, suc, ◌<◌, ◌≤◌, Bool, true, List, [], Some, None, refl, ap, sym, ◌∙◌, subst, arith, inl}
 use Rattle.std.proofs.Common.{inr, ◌⊎◌}
 use Rattle.words.specs.Updates.{put}
-use Rattle.isa.specs.Programs.{Program as Image}
+use Rattle.execution.specs.Later.{MarkedImage, mark_of, later_mark}
 use Rattle.locals.specs.Threads.{Thread}
 use Rattle.locals.specs.Looks.{Look, Goes, look}
 use Rattle.machine.specs.States.{State, with_thread}
@@ -30,17 +30,17 @@ put_again f t v h = λ i u. same u i
     same u = at_put f t v u (λ x. f u ≡ x) (λ e. ap f e ∙ h) (λ o. refl)
 
 -- a thread is where it goes, or takes a local step towards it
-pub first_step : (source : Program) (image : Image) (t n : ℕ) (x z : Thread)
+pub first_step : (source : Program) (image : MarkedImage) (t n : ℕ) (x z : Thread)
     → WalksWithin image t (empty_view source) n x z → (x ≡ z)
-    ⊎ ((y : Thread) × (m : ℕ) × (look image t x ≡ Goes y) × (suc m ≤ n) × WalksWithin image t (empty_view source) m y z)
+    ⊎ ((y : Thread) × (m : ℕ) × (look image.image t x ≡ Goes y) × (later_mark (mark_of image.marks x) ≡ None) × (suc m ≤ n) × WalksWithin image t (empty_view source) m y z)
 first_step source image t n x z walk = by_walk walk.few walk.walk
   where
     by_walk : {k : ℕ} {x z : Thread} → k ≤ n → Walks image t (empty_view source) k x z → (x ≡ z)
-        ⊎ ((y : Thread) × (m : ℕ) × (look image t x ≡ Goes y) × (suc m ≤ n)
+        ⊎ ((y : Thread) × (m : ℕ) × (look image.image t x ≡ Goes y) × (later_mark (mark_of image.marks x) ≡ None) × (suc m ≤ n)
         × WalksWithin image t (empty_view source) m y z)
     by_walk few stays = inl refl
-    by_walk few (goes {n = m} {y = y} h more) =
-        inr (y, m, h, omega (arith, few), record { count = m; few = omega arith; walk = more })
+    by_walk few (goes {n = m} {y = y} h plain more) =
+        inr (y, m, h, plain, omega (arith, few), record { count = m; few = omega arith; walk = more })
     by_walk few (loads h r more) = let none = r.mine in absurd cc
 
 module _ (p : Program) (w : WellFormed p) (steps : ℕ) (s : State) (c : SourceState) (k : Corresponds p w steps s c)

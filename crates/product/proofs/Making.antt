@@ -35,7 +35,7 @@ use Rattle.templates.specs.Layout.{place, valid, is_process}
 use Rattle.templates.proofs.Layouts.{apart, number_is}
 use Rattle.templates.proofs.Addresses.{variable_apart}
 use Rattle.execution.specs.Walks.{WalksWithin, stays, empty_view}
-use Rattle.refinement.specs.Built.{build_of}
+use Rattle.refinement.specs.Built.{build_of, marked_image}
 use Rattle.templates.specs.Inside.{IsSteady}
 use Rattle.product.specs.Placing.{MovesSo, waits, acts}
 use Rattle.product.specs.Standing.{StandsAt, IsAtWork, faults}
@@ -66,7 +66,7 @@ module _ (p : Program) (w : WellFormed p) (steps : ℕ) (s : State) (c : SourceS
       (Dying (Faulted ProcessTableFull) (holds q)) (Dies (Faulted ProcessTableFull) NoEntry) (holds q)
       can refl refl takes tt refl
       (faults ProcessTableFull 0 (omega arith) (subst (λ (y : Thread).
-      WalksWithin (code_of p) t (empty_view p) 0 (go' 0) y) full
+      WalksWithin (marked_image p) t (empty_view p) 0 (go' 0) y) full
       (record { count = 0; few = omega arith; walk = stays })))
       k.shares (record { size = refl; made = refl; output = refl; thread = refl; variables = λ m i is. refl })
       refl refl refl refl

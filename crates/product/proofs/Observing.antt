@@ -48,7 +48,7 @@ use Rattle.execution.specs.Following.{Build, own_of}
 use Rattle.execution.specs.Completing.{Completes, return_request, view_of}
 use Rattle.execution.specs.Completing as F
 use Rattle.refinement.specs.Seen.{end_by, machine_end, source_end, process_end, outcome_of_end}
-use Rattle.refinement.specs.Built.{build_of}
+use Rattle.refinement.specs.Built.{build_of, marked_image}
 use Rattle.refinement.proofs.Building.{is_build}
 use Rattle.templates.specs.Layout.{place, valid}
 use Rattle.templates.specs.Asking.{asked}
@@ -236,11 +236,11 @@ module _ (p : Program) (w : WellFormed p) (steps' : ℕ) (s : State) (c : Source
 -- a process whose thread comes to what it does isn't over
 completes_end : (b : Build) (t : ℕ) (v : Variables) (x : Thread) (q : Process) → Completes b t v x q
     → process_end (Some q) ≡ None
-completes_end b t v x q (F.acts kind own h o st) = offers_end b.program v q (λ r. cc (r, o))
+completes_end b t v x q (F.acts kind own h m o st) = offers_end b.program v q (λ r. cc (r, o))
 completes_end b t v x q (F.prints n go h o st) = offers_end b.program v q (λ r. cc (r, o))
 completes_end b t v x q (F.stores m i z go own has is fits h o st) = offers_end b.program v q (λ r. cc (r, o))
-completes_end b t v x q (F.returns h e) = subst (λ (y : Process). process_end (Some y) ≡ None) (sym e) refl
-completes_end b t v x q (F.leaves r fits h o) = offers_end b.program v q (λ e. cc (e, o))
+completes_end b t v x q (F.returns h m e) = subst (λ (y : Process). process_end (Some y) ≡ None) (sym e) refl
+completes_end b t v x q (F.leaves r fits h m o) = offers_end b.program v q (λ e. cc (e, o))
 completes_end b t v x q (F.forks entry arguments go h full o mine its empty) = offers_end b.program v q (λ r. cc (r, o))
 completes_end b t v x q (F.claims child go some made most h o j to bad) = offers_end b.program v q (λ r. cc (r, o))
 completes_end b t v x q (F.faults fault e o) = offers_end b.program v q (λ r. cc (r, o))
@@ -295,14 +295,14 @@ module _ (p : Program) (w : WellFormed p) (s : State) (size : s.size ≡ memory_
   abbrev view : Option ℕ → Variables → View
   view own v = record { program = p; own = own; variables = v }
 
-  walk_busy : (own : Option ℕ) (v : Variables) (n : ℕ) (x z : Thread) → WalkData (code_of p) t (view own v) n x z
+  walk_busy : (own : Option ℕ) (v : Variables) (n : ℕ) (x z : Thread) → WalkData (marked_image p) t (view own v) n x z
       → IsBusy p s t z → IsBusy p s t x
   walk_busy own v n x z stays h = h
-  walk_busy own v n x z (goes {y = y} e more) h = steps y e
+  walk_busy own v n x z (goes {y = y} e plain more) h = steps y e
   walk_busy own v n x z (loads {a = a} {k = go} e r more) h =
       asks _ go e (lies a (variable_address p r.member r.index) r.there (variable_lies p r.member r.index r.variable))
 
-  steps_busy : (n : ℕ) (x z : Thread) → WalksWithin (code_of p) t (empty_view p) n x z → IsBusy p s t z
+  steps_busy : (n : ℕ) (x z : Thread) → WalksWithin (marked_image p) t (empty_view p) n x z → IsBusy p s t z
       → IsBusy p s t x
   steps_busy n x z walk h = walk_busy None (λ m i j. pos zero) walk.count x z walk.walk h
 
@@ -352,13 +352,13 @@ module _ (p : Program) (w : WellFormed p) (s : State) (size : s.size ≡ memory_
     completes_busy : (v : Variables) (x : Thread) (q : Process)
         → ((m : ℕ) → mem m (holds q) ≡ true → m < length p.monitors) → IsSteady p q v → Completes b t v x q
         → IsBusy p s t x
-    completes_busy v x q listed steady (F.acts {y = y} kind own h o st) = steps y h
+    completes_busy v x q listed steady (F.acts {y = y} kind own h m o st) = steps y h
     completes_busy v x q listed steady (F.prints n go h o st) = asks _ go h (λ z. z)
     completes_busy v x q listed steady (F.stores m i z go own has is fits h o st) =
         asks _ go h (lies (variable_address p m i) (variable_address p m i) refl (variable_lies p m i is))
-    completes_busy v x q listed steady (F.returns h e) = asks _ _ h (λ z. z)
-    completes_busy v x q listed steady (F.leaves None fits h o) = asks _ _ h (λ z. z)
-    completes_busy v x q listed steady (F.leaves (Some n) fits h o) = asks _ _ h (λ z. z)
+    completes_busy v x q listed steady (F.returns h m e) = asks _ _ h (λ z. z)
+    completes_busy v x q listed steady (F.leaves None fits h m o) = asks _ _ h (λ z. z)
+    completes_busy v x q listed steady (F.leaves (Some n) fits h m o) = asks _ _ h (λ z. z)
     completes_busy v x q listed steady (F.forks entry arguments go h full o mine its empty) = asks _ go h
         (λ z. z.1 refl)
     completes_busy v x q listed steady (F.claims child go is made' most h o j to bad) =

@@ -1,20 +1,20 @@
 -- Who is resumed by a notify or a broadcast, as the machine's sleepers tell it.
-use Rattle.std.proofs.Common.{◌≡◌, ◌≢◌, ℕ, zero, suc, ◌==◌, ◌&&◌, Bool, true, false, Option, Some, None, refl, ap, sym, ◌∙◌, subst}
-use Rattle.std.proofs.Common.{inl, inr, if◌then◌else◌}
+use Rattle.std.proofs.Common.{◌≡◌, ℕ, zero, suc, ◌==◌, ◌&&◌, Bool, true, false, Option, Some, None, refl, ap, sym, ◌∙◌, subst}
+use Rattle.std.proofs.Common.{if◌then◌else◌}
 use Rattle.std.specs.Prelude.{not}
-use Rattle.std.proofs.lemmas.Bool.{cases_eq, eq-eqb, ne_eqb}
+use Rattle.std.proofs.lemmas.Bool.{eq-eqb, ne_eqb}
 use Rattle.machine.specs.States.{State}
 use Rattle.program.specs.declared.kinds.Member.{Member}
 use Rattle.program.specs.Trees.{Program}
 use Rattle.code.specs.Layout.{member_address}
-use Rattle.meaning.specs.Labels.{End, Label, Enters, Joins, Abandons, Ends, Exits, Waits, Notifies, Broadcasts}
+use Rattle.meaning.specs.Labels.{End, Label, Abandons}
 use Rattle.meaning.specs.Table.{Table}
 use Rattle.protocol.specs.Points.{Purpose, ToEnter, ToReenter, ToResume, ToExit, ToWait, Entry, NoEntry, Owned, Unowned}
 use Rattle.protocol.specs.Points.{Spot, OnLock, OnSequence, OnId, Point, EnterTries, TakeTries, LeaveSwaps, NotifyWakes}
 use Rattle.protocol.specs.Points.{BroadcastMoves, JoinReads, Walks, ClearsId}
 use Rattle.protocol.specs.World.{World, same_member}
-use Rattle.protocol.specs.Cells.{Cell, LockOf, IdOf, SequenceOf, cell_of}
-use Rattle.protocol.specs.Carries.{Event, Acts, has_died, taking_label, on_sequence, is_resumed, waits_on, chosen_from}
+use Rattle.protocol.specs.Cells.{LockOf, IdOf, SequenceOf, cell_of}
+use Rattle.protocol.specs.Carries.{Acts, has_died, taking_label, on_sequence, is_resumed, waits_on, chosen_from}
 use Rattle.protocol.specs.Carries.{resumed_by}
 use Rattle.protocol.specs.Exits.{sleep_address}
 use Rattle.protocol.specs.Requests.{request}

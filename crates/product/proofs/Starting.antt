@@ -10,7 +10,8 @@ use Rattle.machine.specs.AbstractServing.{shared_of}
 use Rattle.machine.specs.Runs.{is_paused}
 use Rattle.program.specs.Trees.{Program}
 use Rattle.program.specs.WellFormed.{WellFormed}
-use Rattle.code.specs.Pieces.{code_of}
+use Rattle.code.specs.Pieces.{code_of, marks_of}
+use Rattle.execution.specs.Later.{later_mark, mark_of}
 use Rattle.meaning.specs.Values.{Variables}
 use Rattle.meaning.specs.Table.{Table}
 use Rattle.meaning.specs.Processes.{Process, Entering, holds}
@@ -22,7 +23,7 @@ use Rattle.protocol.specs.Steps.{Can, after, go}
 use Rattle.protocol.specs.Carries.{table_after}
 use Rattle.protocol.proofs.Sleeps.{at_put, put_same, put_other}
 use Rattle.execution.specs.Following.{Build, StepsWithin}
-use Rattle.refinement.specs.Built.{build_of}
+use Rattle.refinement.specs.Built.{build_of, marked_image}
 use Rattle.templates.specs.Layout.{place, valid}
 use Rattle.templates.specs.Asking.{template_steps}
 use Rattle.templates.specs.Inside.{Template, Enters, Exits, Waits, Notifies, Broadcasts, process_at, list_at, StandsIn}
@@ -50,16 +51,17 @@ module _ (p : Program) (w : WellFormed p) (steps : ℕ) (s : State) (c : SourceS
       → IsLow k.world.sequence (look (code_of p) t x) → MovesSo p done s t woken (look (code_of p) t x) s'
       → Next p w steps s' t done pauses n c
   inside_any kind u pt left x y small walk fits same ne stands proc point list enough low moves =
-      by_step (first_step p (code_of p) t left x y walk)
+      by_step (first_step p (marked_image p) t left x y walk)
     where
-      by_step : (x ≡ y) ⊎ ((z : Thread) × (m : ℕ) × (look (code_of p) t x ≡ Goes z) × (suc m ≤ left)
+      by_step : (x ≡ y) ⊎ ((z : Thread) × (m : ℕ) × (look (code_of p) t x ≡ Goes z)
+          × (later_mark (mark_of (marks_of p) x) ≡ None) × (suc m ≤ left)
           × StepsWithin (build_of p w k.world.made) t m z y) → Next p w steps s' t done pauses n c
       by_step (inl e) =
           inside_step p w steps s c k t woken done pauses s' n number few awake paused kind u pt y fits same ne stands
           proc point list (omega (arith, enough))
           (subst (λ (z : Thread). IsLow k.world.sequence (look (code_of p) t z)) e low)
           (subst (λ (z : Thread). MovesSo p done s t woken (look (code_of p) t z) s') e moves)
-      by_step (inr (z, m, h, le, more)) =
+      by_step (inr (z, m, h, plain, le, more)) =
           goes_local p w steps s c k t woken done pauses s' n x z (process_at p kind pt) pt (list_at kind pt) proc point list
           (inside m kind u (omega (arith, le, small)) more fits same ne stands) (omega (arith, le, enough)) h moves
 

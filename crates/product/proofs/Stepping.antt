@@ -7,7 +7,8 @@ use Rattle.machine.specs.States.{State}
 use Rattle.machine.specs.Runs.{Step, IsStep, is_paused}
 use Rattle.program.specs.Trees.{Program}
 use Rattle.program.specs.WellFormed.{WellFormed}
-use Rattle.code.specs.Pieces.{code_of}
+use Rattle.code.specs.Pieces.{code_of, marks_of}
+use Rattle.execution.specs.Later.{later_mark, mark_of}
 use Rattle.meaning.specs.Labels.{Faulted}
 use Rattle.meaning.specs.Processes.{Process, Dying, holds}
 use Rattle.meaning.specs.States.{SourceState}
@@ -15,7 +16,7 @@ use Rattle.protocol.specs.Points.{Point, Runs}
 use Rattle.execution.specs.Following.{Build, StepsWithin}
 use Rattle.execution.specs.Completing.{Completes}
 use Rattle.execution.specs.Completing as F
-use Rattle.refinement.specs.Built.{build_of}
+use Rattle.refinement.specs.Built.{build_of, marked_image}
 use Rattle.templates.specs.Layout.{place}
 use Rattle.templates.specs.Inside.{Enters, Exits, Waits, Notifies, Broadcasts}
 use Rattle.product.specs.Placing.{MovesSo}
@@ -55,17 +56,17 @@ module _ (p : Program) (w : WellFormed p) (steps : ℕ) (s : State) (c : SourceS
   completed : (x : Thread) (q : Process) → s.thread t ≡ Some x → c.process t ≡ Some q → (k.world.at t).point ≡ Runs
       → (k.world.at t).list ≡ holds q → IsAtWork p q c.variable → before_template ≤ n → Completes b t c.variable x q
       → IsLow' x → Goes' x → Next p w steps s' t done pauses n c
-  completed x q thread proc point list work enough (F.acts {y = y} {r = r} kind own h o stands) low moves =
+  completed x q thread proc point list work enough (F.acts {y = y} {r = r} kind own h mark o stands) low moves =
       acts_step p w steps s c k t woken done pauses s' n number awake q proc point list x work moves kind y r own h o stands
   completed x q thread proc point list work enough (F.prints {r = r} v go h o stands) low moves =
       prints_step p w steps s c k t woken done pauses s' n number awake q proc point list x work moves v go r h o stands
   completed x q thread proc point list work enough (F.stores {r = r} m i z go own first is fits h o stands) low moves =
       stores_step p w steps s c k t woken done pauses s' n number awake q proc point list x work moves m i z first is fits go
       r h o stands
-  completed x q thread proc point list work enough (F.returns h e) low moves =
+  completed x q thread proc point list work enough (F.returns h mark e) low moves =
       returns_step p w steps s c k t woken done pauses s' n number few awake None x tt point (list ∙ ap holds e)
       (proc ∙ ap Some e) h (omega (arith, enough)) moves
-  completed x q thread proc point list work enough (F.leaves r fits h o) low moves =
+  completed x q thread proc point list work enough (F.leaves r fits h mark o) low moves =
       leaves_step p w steps s c k t woken done pauses s' n number few awake q proc point list r x work fits h o moves
   completed x q thread proc point list work enough (F.forks {child = child} {after = later} entry arguments go h full o
       mine its empty) low moves =
@@ -136,13 +137,14 @@ module _ (p : Program) (w : WellFormed p) (steps : ℕ) (s : State) (c : SourceS
       → (x ≡ z → Next p w steps s' t done pauses n c)
       → ((y' : Thread) (m : ℕ) → look (code_of p) t x ≡ Goes y' → suc m ≤ left
       → StepsWithin b t m y' z → Next p w steps s' t done pauses n c) → Next p w steps s' t done pauses n c
-  walking x y z left same walk there on = by_step (first_step p (code_of p) t left x z
+  walking x y z left same walk there on = by_step (first_step p (marked_image p) t left x z
       (subst (λ (v : Thread). StepsWithin b t left v z) (sym same) walk))
     where
-      by_step : (x ≡ z) ⊎ ((y' : Thread) × (m : ℕ) × (look (code_of p) t x ≡ Goes y') × (suc m ≤ left)
+      by_step : (x ≡ z) ⊎ ((y' : Thread) × (m : ℕ) × (look (code_of p) t x ≡ Goes y')
+          × (later_mark (mark_of (marks_of p) x) ≡ None) × (suc m ≤ left)
           × StepsWithin b t m y' z) → Next p w steps s' t done pauses n c
       by_step (inl e) = there e
-      by_step (inr (y', m, g, le, more)) = on y' m g le more
+      by_step (inr (y', m, g, plain, le, more)) = on y' m g le more
 
   from_stand : (o : Option Thread) (q : Option Process) (pt : Point) (l : List ℕ)
       → (stand : StandsAt b c.variable t o q pt l) → c.process t ≡ q → (k.world.at t).point ≡ pt

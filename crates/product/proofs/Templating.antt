@@ -73,7 +73,7 @@ works_on p w made v t x y q fit walk stands =
       same = λ v' h. sym (settled b is t v v' y q stands h);
     } in
     let whole = proceeds_on b t v template_steps (most_steps b) x y q
-    (seen b.image t p (view_of b q v) template_steps x y walk) goes in
+    (seen b.code t p (view_of b q v) template_steps x y walk) goes in
     let work : IsAtWork p q v = record { steady = steady; keeps = kept_monitors b v t y q stands } in
     (works (template_steps + most_steps b) (omega arith) whole work, λ world. refl)
 

@@ -1,5 +1,5 @@
 -- The source goes on behind the machine, step by step.
-use Rattle.std.proofs.Common.{◌≡◌, ◌≢◌, ℕ, zero, suc, ◌+◌, ◌<◌, ◌≤◌, Bool, true, false, List, [], ◌∷◌, Option, Some}
+use Rattle.std.proofs.Common.{◌≡◌, ◌≢◌, ℕ, suc, ◌+◌, ◌<◌, ◌≤◌, Bool, true, false, List, [], ◌∷◌, Option, Some}
 use Rattle.std.proofs.Common.{None, refl, ap, sym, ◌∙◌, subst, arith, length, length-append}
 use Rattle.std.proofs.lemmas.Bool.{false≢true}
 use Rattle.std.specs.Prelude.{◌^◌, ◌++◌, ◌↔◌}
@@ -24,7 +24,7 @@ use Rattle.deferral.specs.Deferring.{is_quiet, IsBehind, WaitAt}
 use Rattle.deferral.proofs.Waiting.{First, at_first, at_same}
 use Rattle.deferral.proofs.Behind as D
 use Rattle.protocol.specs.Carries.{IsByHolder}
-use Rattle.protocol.specs.Points.{Point, Unmade}
+use Rattle.protocol.specs.Points.{Point}
 use Rattle.protocol.proofs.Sleeps.{at_put, put_same}
 use Rattle.refinement.specs.Built.{build_of}
 use Rattle.execution.specs.Variables.{IsVariable, variable_address}
@@ -39,7 +39,6 @@ use Rattle.product.specs.Placing as P
 use Rattle.product.specs.Tracking.{CanTake, Tracks, Owes}
 use Rattle.product.proofs.Moving.{Next, left_of}
 use Rattle.product.proofs.Observing.{number_of, ends}
-use Rattle.product.proofs.Sourcing.{action}
 use Rattle.product.proofs.Stepping.{next}
 use Rattle.product.proofs.Opening.{opens}
 use Rattle.product.proofs.Worlds.{reached_good}

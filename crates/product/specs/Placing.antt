@@ -7,7 +7,7 @@ use Rattle.words.specs.Limits.{most_processes}
 use Rattle.robustexit.specs.declared.phase.ExitPhase.{ExitPhase}
 use Rattle.robustexit.specs.declared.phase.ExitPhase.TheVariants.{Entry, Pending, ClearId, LastWake, Ended}
 use Rattle.robustexit.specs.RobustExit.{Shared, ExitStep}
-use Rattle.locals.specs.Threads.{Thread, Exits}
+use Rattle.locals.specs.Threads.{Exits}
 use Rattle.locals.specs.Looks.{Request, Look, Goes, Asks, Leaves, Breaks, Rests, AskLoad, AskStore, AskSwap}
 use Rattle.locals.specs.Looks.{AskCompareSwap, AskFork, AskPrint, AskWake, AskRequeue}
 use Rattle.machine.specs.States.{State, with_thread}

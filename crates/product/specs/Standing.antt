@@ -76,7 +76,7 @@ pub data StandsAt (b : Build) (v : Variables) (t : ℕ) : Option Thread → Opti
   works : {x : Thread} {q : Process} (left : ℕ) → left ≤ most_steps b + template_steps → Proceeds b t v left x q
       → IsAtWork b.program q v → StandsAt b v t (Some x) (Some q) Runs (holds q)
   returns : {x : Thread} (result : Option ℕ) → IsResult result
-      → look b.image t x ≡ Asks (return_request result) first_exit
+      → look b.code.image t x ≡ Asks (return_request result) first_exit
       → StandsAt b v t (Some x) (Some (Leaving (left_value result))) Runs []
   -- in a template of its code, to which it came over the variables `u`, on the way to the request of its point
   inside : {x y : Thread} {pt : Point} (left : ℕ) (k : Template) (u : Variables) → left ≤ template_steps

@@ -4,7 +4,7 @@ use Rattle.std.specs.Prelude.{ℕ, ◌+◌, ◌≡◌, ◌≤◌, false, List, l
 use Rattle.machine.specs.States.{State}
 use Rattle.program.specs.Trees.{Program}
 use Rattle.program.specs.WellFormed.{WellFormed}
-use Rattle.meaning.specs.Labels.{Kind, Label, kind_of}
+use Rattle.meaning.specs.Labels.{Kind, Label}
 use Rattle.meaning.specs.Table.{Table, Allows}
 use Rattle.meaning.specs.Processes.{Process}
 use Rattle.meaning.specs.Offers.{Effect, offer, TakesUp}

@@ -13,31 +13,31 @@ use Rattle.templates.proofs.Notifying.{notifies_begin, broadcasts_begin}
 pub begins : TemplatesBegin
 begins b v t true (Enters m base l fs f cs) some few fits = record {
   thread = _;
-  walk = enters_begin b.program b.image t m base (recovery_in b m) l fs fits.code some few;
+  walk = enters_begin b.program b.code t m base (recovery_in b m) l fs fits.code some few;
   stands = L.pends_again;
 }
 begins b v t false (Enters m base l fs f cs) some few fits = record {
   thread = _;
-  walk = enters_begin b.program b.image t m base (recovery_in b m) l fs fits.code some few;
+  walk = enters_begin b.program b.code t m base (recovery_in b m) l fs fits.code some few;
   stands = L.EntersAt.pends;
 }
 begins b v t held (Exits m base shown l fs before z cs) some few fits = record {
   thread = _;
-  walk = exits_begin b.program b.image t m base shown l fs fits.code some few;
+  walk = exits_begin b.program b.code t m base shown l fs fits.code some few;
   stands = L.ExitsAt.pends;
 }
 begins b v t held (Waits c base l fs before f cs ms) some few fits = record {
   thread = _;
-  walk = waits_begin b.program b.image t base c (recovery_in b c.monitor) l fs fits.code some few;
+  walk = waits_begin b.program b.code t base c (recovery_in b c.monitor) l fs fits.code some few;
   stands = L.WaitsAt.numbers;
 }
 begins b v t held (Notifies c base l fs before after ms) some few fits = record {
   thread = _;
-  walk = notifies_begin b.program b.image t base c l fs fits.code;
+  walk = notifies_begin b.program b.code t base c l fs fits.code;
   stands = N.NotifiesAt.adds;
 }
 begins b v t held (Broadcasts c base l fs before after ms) some few fits = record {
   thread = _;
-  walk = broadcasts_begin b.program b.image t base c l fs fits.code;
+  walk = broadcasts_begin b.program b.code t base c l fs fits.code;
   stands = N.BroadcastsAt.adds;
 }

@@ -46,8 +46,8 @@ module _ (b : Build) (vs : Variables) (t m base : ℕ) (l : Locals) (fs : List M
   abbrev On : Option Event → Process → Point → List ℕ → Thread → Type 0
   On event q pt ms y = (q' : Process) × ActsSo b.program vs t event q q' × StandsOn b t k pt ms y q'
 
-  asks : (pt : Point) (x : Thread) → (pt ≡ Runs → ⊥) → In pt x → AsksSo b.program b.image t In pt x
-  asks = enters_follow b.program b.image t m base (recovery_in b m) l fs fits.code some few
+  asks : (pt : Point) (x : Thread) → (pt ≡ Runs → ⊥) → In pt x → AsksSo b.program b.code t In pt x
+  asks = enters_follow b.program b.code t m base (recovery_in b m) l fs fits.code some few
 
   nobody : died 0 ≡ 0
   unfolding died
@@ -97,8 +97,8 @@ module _ (b : Build) (vs : Variables) (t m base : ℕ) (l : Locals) (fs : List M
       got : (v n : ℕ) → died v ≡ n → Comes b vs t k (GotUnpends m v) w table e r w' (at 45 v)
       got v zero free = record {
         thread = at 50 v;
-        walk = to_enter b.program b.image t m K (Enter m) (recovery_in b m) base 11 l.values fs
-            (taking b.program b.image t m base (recovery_in b m) l fs fits.code some few) some few v free;
+        walk = to_enter b.program b.code t m K (Enter m) (recovery_in b m) base 11 l.values fs
+            (taking b.program b.code t m base (recovery_in b m) l fs fits.code some few) some few v free;
         process = taken b.program m f cs v;
         acts = refl;
         stands = inr (
@@ -114,8 +114,8 @@ module _ (b : Build) (vs : Variables) (t m base : ℕ) (l : Locals) (fs : List M
           got_abandoned : (v : ℕ) → died v ≢ 0 → Comes b vs t k (GotUnpends m v) w table e r w' (at 45 v)
           got_abandoned v ne = record {
             thread = at 49 v;
-            walk = to_recover b.program b.image t m K (Enter m) (recovery_in b m) base 11 l.values fs
-                (taking b.program b.image t m base (recovery_in b m) l fs fits.code some few) some few v ne;
+            walk = to_recover b.program b.code t m K (Enter m) (recovery_in b m) base 11 l.values fs
+                (taking b.program b.code t m base (recovery_in b m) l fs fits.code some few) some few v ne;
             process = taken b.program m f cs v;
             acts = refl;
             stands = inr (
@@ -147,8 +147,8 @@ module _ (b : Build) (vs : Variables) (t m base : ℕ) (l : Locals) (fs : List M
       asks = AskStore (process_word t 1) 0;
       go = λ r. at 45 v;
       same = refl;
-      look = unpends_look b.program b.image t m K (Enter m) (recovery_in b m) base 11 l.values fs
-          (taking b.program b.image t m base (recovery_in b m) l fs fits.code some few) some few v;
+      look = unpends_look b.program b.code t m K (Enter m) (recovery_in b m) base 11 l.values fs
+          (taking b.program b.code t m base (recovery_in b m) l fs fits.code some few) some few v;
       goes = λ w tb e r w' may. got w tb e r w' v (died v) refl;
     }
     takes_go pt x inside s (enters v e) = absurd (inside refl)

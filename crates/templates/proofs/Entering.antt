@@ -6,7 +6,7 @@ use Rattle.std.proofs.lemmas.Bool.{ne_eqb}
 use Rattle.words.specs.declared.process.ProcessWord.TheVariants.{Pending}
 use Rattle.words.specs.Process.{process_word}
 use Rattle.isa.specs.declared.instr.Instr.{Instr}
-use Rattle.isa.specs.Programs.{Program as Image}
+use Rattle.execution.specs.Later.{later_mark, MarkedImage}
 use Rattle.locals.specs.declared.frame.Locals.{Locals}
 use Rattle.locals.specs.declared.frame.Frame.{Frame}
 use Rattle.locals.specs.Threads.{Thread, Runs as Runs'}
@@ -14,7 +14,7 @@ use Rattle.locals.specs.Looks.{Request, Goes, Asks, AskStore, AskCompareSwap, lo
 use Rattle.program.specs.Trees.{Program}
 use Rattle.code.specs.declared.mark.Mark.TheVariants.{Enter}
 use Rattle.code.specs.declared.mark.Marked.{Marked}
-use Rattle.code.specs.Marks.{placed}
+use Rattle.code.specs.Marks.{plain, placed}
 use Rattle.code.specs.Layout.{link_word, lock_word_address}
 use Rattle.code.specs.Locks.{try_code, take_at, got_at, enter_code}
 use Rattle.protocol.specs.Points.{ToEnter, ToReenter, Point, Runs, GotReads, TakeReads}
@@ -26,7 +26,7 @@ use Rattle.templates.specs.Locking.{reads, heads, EntersAt, pends, tries, takes,
 use Rattle.templates.specs.Locking.{kept}
 use Rattle.templates.proofs.Locking.{takes_follow, to_list, again, address_step}
 
-module _ (p : Program) (image : Image) (t m base : ℕ) (recover : Instr) (l : Locals) (fs : List Frame)
+module _ (p : Program) (image : MarkedImage) (t m base : ℕ) (recover : Instr) (l : Locals) (fs : List Frame)
     (code : StandAt image base (placed base (enter_code m (link_word p m) recover))) (some : 0 < t) (few : t ≤ 64) where
   abbrev link : ℕ
   link = link_word p m
@@ -52,13 +52,13 @@ module _ (p : Program) (image : Image) (t m base : ℕ) (recover : Instr) (l : L
   abbrev at : ℕ → List ℕ → Locals → Thread
   at i operands k = Runs' (base + i) operands k fs
 
-  step : (i j place : ℕ) (x : Marked) (operands operands' : List ℕ) (k k' : Locals) → slice_get first_part i ≡ Some x
-      → at_place (base + i) k fs (effect t x.instruction operands k) ≡ Goes (Runs' place operands' k' fs)
+  step : (i j place : ℕ) (x : Instr) (operands operands' : List ℕ) (k k' : Locals) → slice_get first_part i ≡ Some (plain x)
+      → at_place (base + i) k fs (effect t x operands k) ≡ Goes (Runs' place operands' k' fs)
       → place ≡ base + j → Go 1 (at i operands k) (at j operands' k')
   step i j place x operands operands' k k' e h same =
-      one_step image t (empty_view p) _ _ (look_here image t (empty_view p) (base + i) x.instruction operands k fs
-      (stand_index image base first_part i (base + i) x trying e refl) ∙ h ∙ ap
-      (λ n. Goes (Runs' n operands' k' fs)) same)
+      let here = stand_index image base first_part i (base + i) (plain x) trying e refl in
+      one_step image t (empty_view p) _ _ (look_here image t (empty_view p) (base + i) x operands k fs here
+      ∙ h ∙ ap (λ n. Goes (Runs' n operands' k' fs)) same) (ap later_mark here.1)
 
   then_go : (n : ℕ) (x y z : Thread) → Go 1 x y → Go n y z → Go (suc n) x z
   then_go n x y z v w = wider image t (empty_view p) (1 + n) (suc n) x z (omega arith)
@@ -69,7 +69,7 @@ module _ (p : Program) (image : Image) (t m base : ℕ) (recover : Instr) (l : L
       → slice_get first_part i ≡ Some x
       → at_place (base + i) l fs (effect t x.instruction operands l) ≡ Asks request
       (λ r. Runs' (base + i + 1) (after r) l fs)
-      → base + i + 1 ≡ base + j → look image t (at i operands l) ≡ Asks request (λ r. at j (after r) l)
+      → base + i + 1 ≡ base + j → look image.image t (at i operands l) ≡ Asks request (λ r. at j (after r) l)
   asks i j x operands after request e h same =
       look_here image t (empty_view p) (base + i) x.instruction operands l fs
       (stand_index image base first_part i (base + i) x trying e refl)
@@ -126,11 +126,11 @@ module _ (p : Program) (image : Image) (t m base : ℕ) (recover : Instr) (l : L
         (sym (ne_eqb (suc n) 0 (λ z. omega (arith, z)))) (takes_again (reads (suc n))),
   )
 
-  pended_look : look image t (at 3 (link ∷ process_word t 1 ∷ []) l) ≡ Asks (AskStore (process_word t 1) link)
+  pended_look : look image.image t (at 3 (link ∷ process_word t 1 ∷ []) l) ≡ Asks (AskStore (process_word t 1) link)
       (λ r. at 4 [] l)
   pended_look = asks 3 4 _ (link ∷ process_word t 1 ∷ []) (λ r. []) _ refl refl (omega arith)
 
-  tried_look : look image t (at 7 (t ∷ 0 ∷ lock ∷ []) l) ≡ Asks (AskCompareSwap lock 0 t) (λ r. at 8 (r ∷ []) l)
+  tried_look : look image.image t (at 7 (t ∷ 0 ∷ lock ∷ []) l) ≡ Asks (AskCompareSwap lock 0 t) (λ r. at 8 (r ∷ []) l)
   tried_look = asks 7 8 _ (t ∷ 0 ∷ lock ∷ []) (λ r. r ∷ []) _ refl refl (omega arith)
 
   to_try : Go template_steps (at 4 [] l) (at 7 (t ∷ 0 ∷ lock ∷ []) l)

@@ -28,8 +28,8 @@ module _ (b : Build) (vs : Variables) (t m base : ℕ) (shown : Option ℕ) (l :
   abbrev In : Point → Thread → Type 0
   In = ExitsAt b.program t m base shown l fs
 
-  asks : (pt : Point) (x : Thread) → (pt ≡ Runs → ⊥) → In pt x → AsksSo b.program b.image t In pt x
-  asks = exits_follow b.program b.image t m base shown l fs fits.code some few
+  asks : (pt : Point) (x : Thread) → (pt ≡ Runs → ⊥) → In pt x → AsksSo b.program b.code t In pt x
+  asks = exits_follow b.program b.code t m base shown l fs fits.code some few
 
   after_swap : (x : Bool) (y : Thread) → In (if x then HasLeft m ToExit else LeaveWakes m ToExit) y
       → StandsOn b t k (if x then HasLeft m ToExit else LeaveWakes m ToExit) (callers_monitors cs) y

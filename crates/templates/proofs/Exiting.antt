@@ -9,14 +9,14 @@ use Rattle.words.specs.declared.process.ProcessWord.TheVariants.{Head, Pending}
 use Rattle.words.specs.Process.{process_word, number_of}
 use Rattle.isa.specs.declared.instr.Instr.{Instr}
 use Rattle.isa.specs.declared.instr.Instr.TheVariants.{ProcessAddress}
-use Rattle.isa.specs.Programs.{Program as Image}
+use Rattle.execution.specs.Later.{later_mark, MarkedImage}
 use Rattle.locals.specs.declared.frame.Locals.{Locals}
 use Rattle.locals.specs.declared.frame.Frame.{Frame}
 use Rattle.locals.specs.Threads.{Thread, Runs as Runs'}
 use Rattle.locals.specs.Looks.{Request, Goes, Asks, look, at_place, effect, push_effect, if_so, place_after_test}
 use Rattle.program.specs.Trees.{Program}
 use Rattle.code.specs.declared.mark.Marked.{Marked}
-use Rattle.code.specs.Marks.{placed}
+use Rattle.code.specs.Marks.{plain, placed}
 use Rattle.code.specs.Layout.{link_word, lock_word_address}
 use Rattle.code.specs.Locks.{exit_code}
 use Rattle.protocol.specs.Word.{waiters}
@@ -35,7 +35,7 @@ room_beneath : (shown : Option ℕ) → length (result_operands shown) ≤ 1
 room_beneath None = omega arith
 room_beneath (Some w) = omega arith
 
-module _ (p : Program) (image : Image) (t m base : ℕ) (shown : Option ℕ) (l : Locals) (fs : List Frame)
+module _ (p : Program) (image : MarkedImage) (t m base : ℕ) (shown : Option ℕ) (l : Locals) (fs : List Frame)
     (code : StandAt image base (placed base (exit_code m (link_word p m)))) (some : 0 < t) (few : t ≤ 64) where
   abbrev link : ℕ
   link = link_word p m
@@ -56,30 +56,35 @@ module _ (p : Program) (image : Image) (t m base : ℕ) (shown : Option ℕ) (l 
   at i operands = Runs' (base + i) operands l fs
 
   looks : (i : ℕ) (x : Marked) (operands : List ℕ) → slice_get segment i ≡ Some x
-      → look image t (at i operands) ≡ at_place (base + i) l fs (effect t x.instruction operands l)
+      → look image.image t (at i operands) ≡ at_place (base + i) l fs (effect t x.instruction operands l)
   looks i x operands e =
       look_here image t (empty_view p) (base + i) x.instruction operands l fs
       (stand_index image base segment i (base + i) x code e refl)
 
-  step : (i j place : ℕ) (x : Marked) (operands operands' : List ℕ) → slice_get segment i ≡ Some x
-      → at_place (base + i) l fs (effect t x.instruction operands l) ≡ Goes (Runs' place operands' l fs)
+  quiet : (i : ℕ) (x : Instr) → slice_get segment i ≡ Some (plain x)
+      → later_mark (slice_get image.marks (base + i)) ≡ None
+  quiet i x e = ap later_mark (stand_index image base segment i (base + i) (plain x) code e refl).1
+
+  step : (i j place : ℕ) (x : Instr) (operands operands' : List ℕ) → slice_get segment i ≡ Some (plain x)
+      → at_place (base + i) l fs (effect t x operands l) ≡ Goes (Runs' place operands' l fs)
       → place ≡ base + j → Go 1 (at i operands) (at j operands')
   step i j place x operands operands' e h same =
-      one_step image t (empty_view p) _ _ (looks i x operands e ∙ h ∙ ap (λ n. Goes (Runs' n operands' l fs)) same)
+      one_step image t (empty_view p) _ _
+      (looks i (plain x) operands e ∙ h ∙ ap (λ n. Goes (Runs' n operands' l fs)) same) (quiet i x e)
 
   -- a word is pushed: there is room for it
-  push : (i j word : ℕ) (x : Marked) (operands : List ℕ) → slice_get segment i ≡ Some x
-      → effect t x.instruction operands l ≡ push_effect word operands → length operands < 512 → base + i + 1 ≡ base + j
+  push : (i j word : ℕ) (x : Instr) (operands : List ℕ) → slice_get segment i ≡ Some (plain x)
+      → effect t x operands l ≡ push_effect word operands → length operands < 512 → base + i + 1 ≡ base + j
       → Go 1 (at i operands) (at j (word ∷ operands))
   push i j word x operands e is room same =
       one_step image t (empty_view p) _ _
       (push_step image t (empty_view p) (base + i) word operands l fs
-      (looks i x operands e ∙ ap (at_place (base + i) l fs) is) room
-      ∙ ap (λ n. Goes (Runs' n (word ∷ operands) l fs)) same)
+      (looks i (plain x) operands e ∙ ap (at_place (base + i) l fs) is) room
+      ∙ ap (λ n. Goes (Runs' n (word ∷ operands) l fs)) same) (quiet i x e)
 
   -- the address of a word of the thread's own
-  address : (i j : ℕ) (x : Marked) (word : ProcessWord) → slice_get segment i ≡ Some x
-      → x.instruction ≡ ProcessAddress word → base + i + 1 ≡ base + j
+  address : (i j : ℕ) (x : Instr) (word : ProcessWord) → slice_get segment i ≡ Some (plain x)
+      → x ≡ ProcessAddress word → base + i + 1 ≡ base + j
       → Go 1 (at i (t ∷ rest)) (at j (process_word t (number_of word) ∷ rest))
   address i j x word e is same = step i j (base + i + 1) x (t ∷ rest) _ e
       (ap (λ (n : Instr). at_place (base + i) l fs (effect t n (t ∷ rest) l)) is
@@ -99,7 +104,7 @@ module _ (p : Program) (image : Image) (t m base : ℕ) (shown : Option ℕ) (l 
       → slice_get segment i ≡ Some x
       → at_place (base + i) l fs (effect t x.instruction operands l)
       ≡ Asks request (λ r. Runs' (base + i + 1) (after r) l fs)
-      → base + i + 1 ≡ base + j → look image t (at i operands) ≡ Asks request (λ r. at j (after r))
+      → base + i + 1 ≡ base + j → look image.image t (at i operands) ≡ Asks request (λ r. at j (after r))
   asks i j x operands after request e h same =
       looks i x operands e ∙ h ∙ ap (λ n. Asks request (λ r. Runs' n (after r) l fs)) same
 

@@ -9,14 +9,14 @@ use Rattle.words.specs.declared.process.ProcessWord.TheVariants.{Head, Pending}
 use Rattle.words.specs.Process.{process_word, number_of}
 use Rattle.isa.specs.declared.instr.Instr.{Instr}
 use Rattle.isa.specs.declared.instr.Instr.TheVariants.{ProcessAddress}
-use Rattle.isa.specs.Programs.{Program as Image}
+use Rattle.execution.specs.Later.{later_mark, MarkedImage}
 use Rattle.locals.specs.declared.frame.Frame.{Frame}
 use Rattle.locals.specs.Threads.{Thread, Runs as Runs'}
 use Rattle.locals.specs.Looks.{Request, Goes, Asks, AskStore, look, at_place, effect, if_so, truth, place_after_test}
 use Rattle.program.specs.Trees.{Program}
 use Rattle.code.specs.declared.mark.Mark.{Mark}
 use Rattle.code.specs.declared.mark.Marked.{Marked}
-use Rattle.code.specs.Marks.{placed}
+use Rattle.code.specs.Marks.{plain, placed}
 use Rattle.code.specs.Layout.{link_word, lock_word_address}
 use Rattle.code.specs.Locks.{take_at, got_at}
 use Rattle.protocol.specs.Word.{owner, died, with_waiters}
@@ -42,7 +42,7 @@ address_step t place h word rest values s fs some few =
     ∙ ap (λ k. if_so k (Goes (Runs' (place + 1) (process_word h (number_of word) ∷ rest) (kept values s) fs)))
     (le-leb h 64 few)
 
-module _ (p : Program) (image : Image) (t m : ℕ) (k : Purpose) (mark : Mark) (recover : Instr) (base a : ℕ)
+module _ (p : Program) (image : MarkedImage) (t m : ℕ) (k : Purpose) (mark : Mark) (recover : Instr) (base a : ℕ)
     (values : List ℕ) (fs : List Frame)
     (code : StandAt image (base + a) (placed base (take_at mark (link_word p m) a ++ got_at (link_word p m) recover
     (a + 32))))
@@ -65,19 +65,17 @@ module _ (p : Program) (image : Image) (t m : ℕ) (k : Purpose) (mark : Mark) (
   abbrev Go : ℕ → Thread → Thread → Type 0
   Go n x y = WalksWithin image t (empty_view p) n x y
 
-  step : (i j : ℕ) (x : Marked) (operands operands' : List ℕ) (s s' place : ℕ) → slice_get segment i ≡ Some x
-      → at_place (first + i) (kept values s) fs (effect t x.instruction operands (kept values s))
+  step : (i j : ℕ) (x : Instr) (operands operands' : List ℕ) (s s' place : ℕ) → slice_get segment i ≡ Some (plain x)
+      → at_place (first + i) (kept values s) fs (effect t x operands (kept values s))
       ≡ Goes (Runs' place operands' (kept values s') fs) → place ≡ first + j
       → Go 1 (at i operands s) (at j operands' s')
   step i j x operands operands' s s' place e h same =
-      one_step image t (empty_view p) _ _ (look_here image t (empty_view p) (first + i) x.instruction operands
-      (kept values
-      s) fs
-      (stand_index image first segment i (first + i) x code e refl)
-      ∙ h ∙ ap (λ n. Goes (Runs' n operands' (kept values s') fs)) same)
+      let here = stand_index image first segment i (first + i) (plain x) code e refl in
+      one_step image t (empty_view p) _ _ (look_here image t (empty_view p) (first + i) x operands (kept values s) fs here
+      ∙ h ∙ ap (λ n. Goes (Runs' n operands' (kept values s') fs)) same) (ap later_mark here.1)
 
-  address : (i j : ℕ) (x : Marked) (word : ProcessWord) (rest : List ℕ) (s : ℕ) → slice_get segment i ≡ Some x
-      → x.instruction ≡ ProcessAddress word → first + i + 1 ≡ first + j
+  address : (i j : ℕ) (x : Instr) (word : ProcessWord) (rest : List ℕ) (s : ℕ) → slice_get segment i ≡ Some (plain x)
+      → x ≡ ProcessAddress word → first + i + 1 ≡ first + j
       → Go 1 (at i (t ∷ rest) s) (at j (process_word t (number_of word) ∷ rest) s)
   address i j x word rest s e is same = step i j x (t ∷ rest) _ s s (first + i + 1) e
       (ap (λ (n : Instr). at_place (first + i) (kept values s) fs (effect t n (t ∷ rest) (kept values s))) is
@@ -95,7 +93,7 @@ module _ (p : Program) (image : Image) (t m : ℕ) (k : Purpose) (mark : Mark) (
       → slice_get segment i ≡ Some x
       → at_place (first + i) (kept values s) fs (effect t x.instruction operands (kept values s))
       ≡ Asks request (λ r. Runs' (first + i + 1) (after r) (kept values s) fs) → first + i + 1 ≡ first + j
-      → look image t (at i operands s) ≡ Asks request (λ r. at j (after r) s)
+      → look image.image t (at i operands s) ≡ Asks request (λ r. at j (after r) s)
   asks i j x operands s after request e h same =
       look_here image t (empty_view p) (first + i) x.instruction operands (kept values s) fs
       (stand_index image first segment i (first + i) x code e refl)
@@ -241,7 +239,7 @@ module _ (p : Program) (image : Image) (t m : ℕ) (k : Purpose) (mark : Mark) (
       let other : died v ≢ 0 = λ z. omega (arith, e, z) in (at 49 [] v, to_recover v other, recovers v other)
 
   pub unpends_look : (v : ℕ)
-      → look image t (at 44 (0 ∷ process_word t 1 ∷ []) v) ≡ Asks (AskStore (process_word t 1) 0) (λ r. at 45 [] v)
+      → look image.image t (at 44 (0 ∷ process_word t 1 ∷ []) v) ≡ Asks (AskStore (process_word t 1) 0) (λ r. at 45 [] v)
   unpends_look v = asks 44 45 _ (0 ∷ process_word t 1 ∷ []) v (λ r. []) _ refl refl (omega arith)
 
   stay : (x : Thread) → Go template_steps x x

@@ -1,6 +1,6 @@
 -- The templates of NOTIFY and BROADCAST go through their points.
 use Rattle.std.proofs.Common.{◌≡◌, ℕ, suc, ◌+◌, ◌≤◌, List, [], ◌∷◌, Some, slice_get, refl, ap, ◌∙◌, subst, arith}
-use Rattle.isa.specs.Programs.{Program as Image}
+use Rattle.execution.specs.Later.{later_mark, MarkedImage}
 use Rattle.locals.specs.declared.frame.Locals.{Locals}
 use Rattle.locals.specs.declared.frame.Frame.{Frame}
 use Rattle.locals.specs.Threads.{Thread, Runs as Runs'}
@@ -18,18 +18,21 @@ use Rattle.execution.proofs.Awaiting.{stand_index}
 use Rattle.templates.specs.Asking.{AsksSo, template_steps}
 use Rattle.templates.specs.Notifying.{NotifiesAt, BroadcastsAt}
 use Rattle.templates.specs.Notifying as T
+use Rattle.code.specs.Marks.{plain}
+use Rattle.isa.specs.declared.instr.Instr.{Instr}
 
-module _ (p : Program) (image : Image) (t base : ℕ) (l : Locals) (fs : List Frame) (segment : List Marked)
+module _ (p : Program) (image : MarkedImage) (t base : ℕ) (l : Locals) (fs : List Frame) (segment : List Marked)
     (code : StandAt image base segment) where
   abbrev Go : ℕ → Thread → Thread → Type 0
   Go n x y = WalksWithin image t (empty_view p) n x y
 
-  step : (i j place : ℕ) (x : Marked) (operands operands' : List ℕ) → slice_get segment i ≡ Some x
-      → at_place (base + i) l fs (effect t x.instruction operands l) ≡ Goes (Runs' place operands' l fs)
+  step : (i j place : ℕ) (x : Instr) (operands operands' : List ℕ) → slice_get segment i ≡ Some (plain x)
+      → at_place (base + i) l fs (effect t x operands l) ≡ Goes (Runs' place operands' l fs)
       → place ≡ base + j → Go 1 (Runs' (base + i) operands l fs) (Runs' (base + j) operands' l fs)
   step i j place x operands operands' e h same =
-      one_step image t (empty_view p) _ _ (look_here image t (empty_view p) (base + i) x.instruction operands l fs
-      (stand_index image base segment i (base + i) x code e refl) ∙ h ∙ ap (λ n. Goes (Runs' n operands' l fs)) same)
+      let here = stand_index image base segment i (base + i) (plain x) code e refl in
+      one_step image t (empty_view p) _ _ (look_here image t (empty_view p) (base + i) x operands l fs here
+      ∙ h ∙ ap (λ n. Goes (Runs' n operands' l fs)) same) (ap later_mark here.1)
 
   then_go : (n : ℕ) (x y z : Thread) → Go 1 x y → Go n y z → Go (suc n) x z
   then_go n x y z v w = wider image t (empty_view p) (1 + n) (suc n) x z (omega arith)
@@ -42,13 +45,13 @@ module _ (p : Program) (image : Image) (t base : ℕ) (l : Locals) (fs : List Fr
       → slice_get segment i ≡ Some x
       → at_place (base + i) l fs (effect t x.instruction operands l)
       ≡ Asks request (λ r. Runs' (base + i + 1) (after r) l fs) → base + i + 1 ≡ base + j
-      → look image t (Runs' (base + i) operands l fs) ≡ Asks request (λ r. Runs' (base + j) (after r) l fs)
+      → look image.image t (Runs' (base + i) operands l fs) ≡ Asks request (λ r. Runs' (base + j) (after r) l fs)
   asks i j x operands after request e h same =
       look_here image t (empty_view p) (base + i) x.instruction operands l fs
       (stand_index image base segment i (base + i) x code e refl)
       ∙ h ∙ ap (λ n. Asks request (λ r. Runs' n (after r) l fs)) same
 
-module _ (p : Program) (image : Image) (t base : ℕ) (c : Member) (l : Locals) (fs : List Frame) where
+module _ (p : Program) (image : MarkedImage) (t base : ℕ) (c : Member) (l : Locals) (fs : List Frame) where
   abbrev s : ℕ
   s = member_address p c
 

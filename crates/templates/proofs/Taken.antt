@@ -82,7 +82,7 @@ Moves b vs t k pt w T e r w' y = (q : Process)
     × StandsOn b t k (next w e pt r) (next_list pt (list_at k pt)) y q
 
 pub follows_by : (b : Build) (vs : Variables) (t : ℕ) (k : Template) (pt : Point) (x : Thread)
-    → AsksSo b.program b.image t (StandsIn b.program t k) pt x
+    → AsksSo b.program b.code t (StandsIn b.program t k) pt x
     → ((w : World) (T : Table) (e : End) (r : ℕ) (w' : World) (y : Thread) → MayAnswer pt r
     → StandsIn b.program t k (next w e pt r) y → Moves b vs t k pt w T e r w' y) → Follows b vs t k pt x
 follows_by b vs t k pt x a moves = record {

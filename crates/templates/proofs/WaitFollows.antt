@@ -53,8 +53,8 @@ module _ (b : Build) (vs : Variables) (t : ℕ) (c : Member) (base : ℕ) (l : L
   abbrev On : Option Event → Point → Thread → Type 0
   On event pt y = (q' : Process) × ActsSo b.program vs t event (Suspended c f cs) q' × StandsOn b t k pt ms y q'
 
-  asks : (pt : Point) (x : Thread) → (pt ≡ Runs → ⊥) → In pt x → AsksSo b.program b.image t In pt x
-  asks = waits_follow b.program b.image t base c (recovery_in b c.monitor) l fs fits.code some few
+  asks : (pt : Point) (x : Thread) → (pt ≡ Runs → ⊥) → In pt x → AsksSo b.program b.code t In pt x
+  asks = waits_follow b.program b.code t base c (recovery_in b c.monitor) l fs fits.code some few
 
   after_swap : (x : Bool) (v : ℕ) (y : Thread) → In (if x then HasLeft m (ToWait c v) else LeaveWakes m (ToWait c v)) y
       → StandsOn b t k (if x then HasLeft m (ToWait c v) else LeaveWakes m (ToWait c v)) ms y (Suspended c f cs)
@@ -85,8 +85,8 @@ module _ (b : Build) (vs : Variables) (t : ℕ) (c : Member) (base : ℕ) (l : L
     got : (v n : ℕ) → died v ≡ n → Comes b vs t k (GotUnpends m v) w table e r w' (at 45 v)
     got v zero free = record {
       thread = at 50 v;
-      walk = to_enter b.program b.image t m K (Resume m) (recovery_in b m) base 24 l.values fs
-          (taking b.program b.image t base c (recovery_in b m) l fs fits.code some few) some few v free;
+      walk = to_enter b.program b.code t m K (Resume m) (recovery_in b m) base 24 l.values fs
+          (taking b.program b.code t base c (recovery_in b m) l fs fits.code some few) some few v free;
       process = taken b.program m f cs v;
       acts = refl;
       stands = inr (
@@ -102,8 +102,8 @@ module _ (b : Build) (vs : Variables) (t : ℕ) (c : Member) (base : ℕ) (l : L
         got_abandoned : (v : ℕ) → died v ≢ 0 → Comes b vs t k (GotUnpends m v) w table e r w' (at 45 v)
         got_abandoned v ne = record {
           thread = at 49 v;
-          walk = to_recover b.program b.image t m K (Resume m) (recovery_in b m) base 24 l.values fs
-              (taking b.program b.image t base c (recovery_in b m) l fs fits.code some few) some few v ne;
+          walk = to_recover b.program b.code t m K (Resume m) (recovery_in b m) base 24 l.values fs
+              (taking b.program b.code t base c (recovery_in b m) l fs fits.code some few) some few v ne;
           process = taken b.program m f cs v;
           acts = refl;
           stands = inr (
@@ -135,8 +135,8 @@ module _ (b : Build) (vs : Variables) (t : ℕ) (c : Member) (base : ℕ) (l : L
     asks = AskStore (process_word t 1) 0;
     go = λ r. at 45 v;
     same = refl;
-    look = unpends_look b.program b.image t m K (Resume m) (recovery_in b m) base 24 l.values fs
-        (taking b.program b.image t base c (recovery_in b m) l fs fits.code some few) some few v;
+    look = unpends_look b.program b.code t m K (Resume m) (recovery_in b m) base 24 l.values fs
+        (taking b.program b.code t base c (recovery_in b m) l fs fits.code some few) some few v;
     goes = λ w tb e r w' may. got w tb e r w' v (died v) refl;
   }
   takes_go pt x inside s (T.Takes.enters v e) = absurd (inside refl)

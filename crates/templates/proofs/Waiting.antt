@@ -9,14 +9,14 @@ use Rattle.words.specs.declared.process.ProcessWord.TheVariants.{Head, Pending}
 use Rattle.words.specs.Process.{process_word, number_of}
 use Rattle.isa.specs.declared.instr.Instr.{Instr}
 use Rattle.isa.specs.declared.instr.Instr.TheVariants.{ProcessAddress}
-use Rattle.isa.specs.Programs.{Program as Image}
+use Rattle.execution.specs.Later.{later_mark, MarkedImage}
 use Rattle.locals.specs.declared.frame.Locals.{Locals}
 use Rattle.locals.specs.declared.frame.Frame.{Frame}
 use Rattle.locals.specs.Threads.{Thread, Runs as Runs'}
 use Rattle.locals.specs.Looks.{Request, Goes, Asks, look, at_place, effect, if_so, place_after_test}
 use Rattle.program.specs.Trees.{Program}
 use Rattle.code.specs.declared.mark.Marked.{Marked}
-use Rattle.code.specs.Marks.{placed}
+use Rattle.code.specs.Marks.{plain, placed}
 use Rattle.code.specs.Layout.{link_word, lock_word_address, member_address}
 use Rattle.code.specs.Locks.{take_at, got_at}
 use Rattle.code.specs.Conditions.{sleep_code, wait_code}
@@ -35,7 +35,7 @@ use Rattle.templates.specs.Locking.WaitsAt.{numbers, pends, reads, cuts, swaps, 
 use Rattle.templates.specs.Locking as L
 use Rattle.templates.proofs.Locking as T
 
-module _ (p : Program) (image : Image) (t base : ℕ) (c : Member) (recover : Instr) (l : Locals) (fs : List Frame)
+module _ (p : Program) (image : MarkedImage) (t base : ℕ) (c : Member) (recover : Instr) (l : Locals) (fs : List Frame)
     (code : StandAt image base (placed base (wait_code c (link_word p c.monitor) (member_address p c) recover)))
     (some : 0 < t) (few : t ≤ 64) where
   abbrev link : ℕ
@@ -66,17 +66,17 @@ module _ (p : Program) (image : Image) (t base : ℕ) (c : Member) (recover : In
   abbrev at : ℕ → List ℕ → Thread
   at i operands = Runs' (base + i) operands l fs
 
-  step : (i j place : ℕ) (x : Marked) (operands operands' : List ℕ) → slice_get segment i ≡ Some x
-      → at_place (base + i) l fs (effect t x.instruction operands l) ≡ Goes (Runs' place operands' l fs)
+  step : (i j place : ℕ) (x : Instr) (operands operands' : List ℕ) → slice_get segment i ≡ Some (plain x)
+      → at_place (base + i) l fs (effect t x operands l) ≡ Goes (Runs' place operands' l fs)
       → place ≡ base + j → Go 1 (at i operands) (at j operands')
   step i j place x operands operands' e h same =
-      one_step image t (empty_view p) _ _ (look_here image t (empty_view p) (base + i) x.instruction operands l fs
-      (stand_index image base segment i (base + i) x sleeping e refl) ∙ h ∙ ap
-      (λ n. Goes (Runs' n operands' l fs)) same)
+      let here = stand_index image base segment i (base + i) (plain x) sleeping e refl in
+      one_step image t (empty_view p) _ _ (look_here image t (empty_view p) (base + i) x operands l fs here
+      ∙ h ∙ ap (λ n. Goes (Runs' n operands' l fs)) same) (ap later_mark here.1)
 
   -- the address of a word of the thread's own
-  address : (i j : ℕ) (x : Marked) (word : ProcessWord) (rest : List ℕ) → slice_get segment i ≡ Some x
-      → x.instruction ≡ ProcessAddress word → base + i + 1 ≡ base + j
+  address : (i j : ℕ) (x : Instr) (word : ProcessWord) (rest : List ℕ) → slice_get segment i ≡ Some (plain x)
+      → x ≡ ProcessAddress word → base + i + 1 ≡ base + j
       → Go 1 (at i (t ∷ rest)) (at j (process_word t (number_of word) ∷ rest))
   address i j x word rest e is same = step i j (base + i + 1) x (t ∷ rest) _ e
       (ap (λ (n : Instr). at_place (base + i) l fs (effect t n (t ∷ rest) l)) is
@@ -96,7 +96,7 @@ module _ (p : Program) (image : Image) (t base : ℕ) (c : Member) (recover : In
       → slice_get segment i ≡ Some x
       → at_place (base + i) l fs (effect t x.instruction operands l)
       ≡ Asks request (λ r. Runs' (base + i + 1) (after r) l fs)
-      → base + i + 1 ≡ base + j → look image t (at i operands) ≡ Asks request (λ r. at j (after r))
+      → base + i + 1 ≡ base + j → look image.image t (at i operands) ≡ Asks request (λ r. at j (after r))
   asks i j x operands after request e h same =
       look_here image t (empty_view p) (base + i) x.instruction operands l fs
       (stand_index image base segment i (base + i) x sleeping e refl)

@@ -1,6 +1,6 @@
 -- What a point of the protocol asks of the shared words, as a request of the machine.
 use Rattle.std.specs.Prelude.{ℕ, ◌≡◌, Option, Some, None}
-use Rattle.isa.specs.Programs.{Program as Image}
+use Rattle.execution.specs.Later.{MarkedImage}
 use Rattle.locals.specs.Threads.{Thread}
 use Rattle.locals.specs.Looks.{Asks, look}
 use Rattle.locals.specs.Looks as M
@@ -47,11 +47,11 @@ template_steps = 16
 
 -- a thread asks what its point asks, and comes after each answer, within few local steps, to where a thread of the next
 -- point stands
-pub record AsksSo (p : Program) (image : Image) (t : ℕ) (stands : Point → Thread → Type 0) (pt : Point)
+pub record AsksSo (p : Program) (image : MarkedImage) (t : ℕ) (stands : Point → Thread → Type 0) (pt : Point)
     (x : Thread) : Type 0 where
   pub asks : M.Request
   pub go : ℕ → Thread
   pub same : asked p (request t pt) ≡ Some asks
-  pub look : look image t x ≡ Asks asks go
+  pub look : look image.image t x ≡ Asks asks go
   pub goes : (w : World) (e : End) (r : ℕ) → MayAnswer pt r → (y : Thread)
       × WalksWithin image t (empty_view p) template_steps (go (told p (request t pt) r)) y × stands (next w e pt r) y

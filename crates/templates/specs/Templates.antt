@@ -48,7 +48,7 @@ pub record Follows (b : Build) (v : Variables) (t : ℕ) (k : Template) (pt : Po
   pub asks : M.Request
   pub go : ℕ → Thread
   pub same : asked b.program (request t pt) ≡ Some asks
-  pub look : look b.image t x ≡ Asks asks go
+  pub look : look b.code.image t x ≡ Asks asks go
   pub goes : (w : World) (T : Table) (e : End) (r : ℕ) (w' : World) → MayAnswer pt r
       → Comes b v t k pt w T e r w' (go (told b.program (request t pt) r))
 
