@@ -9,11 +9,11 @@ ghost use Rattle.types.specs.Standings.{IsStanding};
 ghost use Rattle.types.specs.StatementFaults as f;
 
 use crate::names::note_where;
-use faults::{element, expression, operand};
+use faults::{element, judge_expression, operand};
 use program::ValueType;
 use scanner::{Refusal, RefusalKind};
 use syntax::{Element, Expression, Name, Variable};
-use types::{Standing, differ, element_type, expression_place, note, read_fault, variable_type};
+use types::{Standing, differ, expression_place, note, read_fault, variable_type};
 
 /// The least fault, where an expression of this type is wanted.
 pub fn typed(
@@ -25,13 +25,8 @@ pub fn typed(
     ensures { (s : Scope) → IsStanding s standing.now
         → Gathers (f.typed_faults s wanted (v.expression_of tree.now)) least result }
 {
-    let inside = expression(standing, tree, least);
-    operand(
-        wanted,
-        standing.expression_type(tree),
-        expression_place(tree),
-        inside,
-    )
+    let judged = judge_expression(standing, tree, least);
+    operand(wanted, judged.kind, expression_place(tree), judged.least)
 }
 
 // The least fault of what is assigned to something of this type.
@@ -44,13 +39,13 @@ fn value(
     ensures { (s : Scope) → IsStanding s standing.now
         → Gathers (f.value_faults s target (v.expression_of tree.now)) least result }
 {
-    let inside = expression(standing, tree, least);
-    let test = differ(target, standing.expression_type(tree));
+    let judged = judge_expression(standing, tree, least);
+    let test = differ(target, judged.kind);
     note_where(
         test,
         RefusalKind::TypeMismatch,
         expression_place(tree),
-        inside,
+        judged.least,
     )
 }
 
@@ -83,9 +78,8 @@ fn to_element(
           index = At (v.expression_of target.now.index);
         }) (v.expression_of tree.now))) least result }
 {
-    let before = element(standing, target, least);
-    let kind = element_type(standing.meaning(target.name));
-    value(standing, kind, tree, before)
+    let judged = element(standing, target, least);
+    value(standing, judged.kind, tree, judged.least)
 }
 
 /// The least fault, where an assignment stands behind what has this one.

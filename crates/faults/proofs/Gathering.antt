@@ -1,6 +1,6 @@
 -- The least fault, part by part.
 use Rattle.std.proofs.Common.{◌≡◌, ◌<◌, ◌+◌, ℕ, suc, List, [], ◌∷◌, ◌++◌, Option, length, drop, drop-cons, get_or}
-use Rattle.std.proofs.Common.{◌≤◌, arith, append_assoc, ap, ◌∙◌, sym, subst}
+use Rattle.std.proofs.Common.{◌≤◌, arith, append_assoc, append-nil, ap, ◌∙◌, sym, subst}
 use Rattle.std.proofs.lemmas.List.{at_drop_all}
 use Rattle.scanner.specs.declared.token.Place.{Place}
 use Rattle.scanner.specs.declared.refusal.Refusal.{Refusal}
@@ -30,6 +30,17 @@ lone4 fs a b g = lone (((fs ++ []) ++ []) ++ []) a b (lone3 fs a b g)
 pub lone5 : (fs : List Refusal) (a b : Option Refusal) → Gathers fs a b
     → Gathers (((((fs ++ []) ++ []) ++ []) ++ []) ++ []) a b
 lone5 fs a b g = lone ((((fs ++ []) ++ []) ++ []) ++ []) a b (lone4 fs a b g)
+
+-- nor does it come between an operand's own faults and that of its type
+pub behind3 : (fs ws : List Refusal) (a b : Option Refusal) → Gathers (fs ++ ws) a b
+    → Gathers ((((fs ++ []) ++ []) ++ []) ++ ws) a b
+behind3 fs ws a b g = subst (λ xs. Gathers (xs ++ ws) a b)
+    (sym (append-nil ((fs ++ []) ++ []) ∙ append-nil (fs ++ []) ∙ append-nil fs)) g
+
+pub behind4 : (fs ws : List Refusal) (a b : Option Refusal) → Gathers (fs ++ ws) a b
+    → Gathers (((((fs ++ []) ++ []) ++ []) ++ []) ++ ws) a b
+behind4 fs ws a b g = subst (λ xs. Gathers (xs ++ ws) a b) (sym (append-nil (((fs ++ []) ++ []) ++ [])))
+    (behind3 fs ws a b g)
 
 -- an operand's own faults, and that of its type
 pub gathers_operand : (fs : List Refusal) (w : ValueType) (k m : Option ValueType) (p q : Place)

@@ -1,13 +1,16 @@
 // The least fault of an expression, from the least one of what stands before it.
 
+ghost use Rattle.std.specs.Prelude.{◌≡◌};
+ghost use Rattle.syntax.specs.Tree.{Reads, At};
 ghost use Rattle.syntax.specs.View as v;
 ghost use Rattle.types.specs.ExpressionFaults as x;
 ghost use Rattle.types.specs.Faults.{Gathers};
 ghost use Rattle.types.specs.Scope.{Scope};
 ghost use Rattle.types.specs.Standings.{IsStanding};
+ghost use Rattle.types.specs.Typing as t;
 ghost use Rattle.faults.specs.Operands as o;
 
-use crate::operands::{name_operand, operand};
+use crate::operands::{Judged, judge_name, name_operand, operand};
 use program::ValueType;
 use scanner::Refusal;
 use syntax::{
@@ -15,8 +18,8 @@ use syntax::{
     Term, Total,
 };
 use types::{
-    Standing, comparison_faults, conjunction_place, expression_place, factor_place, index_fault,
-    note, read_fault, relation_place, sum_place, term_place,
+    Standing, comparison_faults, conjunction_place, element_type, expression_place, factor_place,
+    index_fault, note, relation_place, sum_place, term_place,
 };
 
 // A factor.
@@ -28,33 +31,55 @@ fn factor(standing: &Standing<'_, '_>, tree: &Factor<'_>, least: Option<Refusal>
     match tree {
         Factor::Number(_) => least,
         Factor::Truth(_) => least,
-        Factor::Name(name) => note(read_fault(standing.meaning(*name)), name.place, least),
-        Factor::Element(inner) => element(standing, inner, least),
+        Factor::Name(name) => judge_name(standing, *name, least).least,
+        Factor::Element(inner) => element(standing, inner, least).least,
         Factor::Group(_, inner) => expression(standing, inner, least),
         Factor::Minus(_, inner) => factor_operand(standing, ValueType::Integer, inner, least),
         Factor::Not(_, inner) => factor_operand(standing, ValueType::Boolean, inner, least),
     }
 }
 
-/// The least fault, where an element of an array stands behind what has this one.
+/// An element of an array: the least fault, where it stands behind what has this one, and its type.
 #[cycle(expressions)]
-pub fn element(
-    standing: &Standing<'_, '_>,
-    tree: &Element<'_>,
-    least: Option<Refusal>,
-) -> Option<Refusal>
-    ensures { (s : Scope) → IsStanding s standing.now
-        → Gathers (o.element s (v.name_of tree.now.name) (v.expression_of tree.now.index)) least result }
+pub fn element(standing: &Standing<'_, '_>, tree: &Element<'_>, least: Option<Refusal>) -> Judged
+    ensures least { (s : Scope) → IsStanding s standing.now
+        → Gathers (o.element s (v.name_of tree.now.name) (v.expression_of tree.now.index)) least result.least }
+    ensures kind { (s : Scope) → IsStanding s standing.now → result.kind
+        ≡ t.factor_type s (Reads (v.name_of tree.now.name) (At (v.expression_of tree.now.index))) }
 {
-    let fault = index_fault(standing.meaning(tree.name));
-    let before = note(fault, tree.name.place, least);
-    let inside = expression(standing, &tree.index, before);
-    operand(
-        ValueType::Integer,
-        standing.expression_type(&tree.index),
-        expression_place(&tree.index),
-        inside,
-    )
+    let meaning = standing.meaning(tree.name);
+    let before = note(index_fault(meaning), tree.name.place, least);
+    let index = judge_expression(standing, &tree.index, before);
+    Judged {
+        least: operand(
+            ValueType::Integer,
+            index.kind,
+            expression_place(&tree.index),
+            index.least,
+        ),
+        kind: element_type(meaning),
+    }
+}
+
+// A factor, and its type. A name is looked up once for both.
+#[cycle(expressions)]
+fn judge_factor(standing: &Standing<'_, '_>, tree: &Factor<'_>, least: Option<Refusal>) -> Judged
+    ensures least { (s : Scope) → IsStanding s standing.now
+        → Gathers (x.factor_faults s (v.factor_of tree.now)) least result.least }
+    ensures kind { (s : Scope) → IsStanding s standing.now → result.kind ≡ t.factor_type s (v.factor_of tree.now) }
+{
+    match tree {
+        Factor::Number(_) => Judged {
+            least,
+            kind: Some(ValueType::Integer),
+        },
+        Factor::Name(name) => judge_name(standing, *name, least),
+        Factor::Element(inner) => element(standing, inner, least),
+        _ => Judged {
+            least: factor(standing, tree, least),
+            kind: standing.factor_type(tree),
+        },
+    }
 }
 
 // A factor of which a type is wanted.
@@ -69,7 +94,16 @@ fn factor_operand(
         → Gathers (o.factor_operand s wanted (v.factor_of tree.now)) least result }
 {
     match tree {
+        Factor::Number(number) => operand(wanted, Some(ValueType::Integer), number.place, least),
         Factor::Name(name) => name_operand(standing, wanted, *name, least),
+        Factor::Element(inner) => {
+            let judged = element(standing, inner, least);
+            operand(wanted, judged.kind, inner.name.place, judged.least)
+        }
+        Factor::Group(place, inner) => {
+            let judged = judge_expression(standing, inner, least);
+            operand(wanted, judged.kind, *place, judged.least)
+        }
         _ => {
             let inside = factor(standing, tree, least);
             operand(
@@ -147,6 +181,22 @@ fn sum(standing: &Standing<'_, '_>, tree: &Sum<'_>, least: Option<Refusal>) -> O
     }
 }
 
+// A sum, and its type.
+#[cycle(expressions)]
+fn judge_sum(standing: &Standing<'_, '_>, tree: &Sum<'_>, least: Option<Refusal>) -> Judged
+    ensures least { (s : Scope) → IsStanding s standing.now
+        → Gathers (x.sum_faults s (v.sum_of tree.now)) least result.least }
+    ensures kind { (s : Scope) → IsStanding s standing.now → result.kind ≡ t.sum_type s (v.sum_of tree.now) }
+{
+    match tree {
+        Sum::Factor(inner) => judge_factor(standing, inner, least),
+        _ => Judged {
+            least: sum(standing, tree, least),
+            kind: standing.sum_type(tree),
+        },
+    }
+}
+
 // Two sums with the sign of a comparison between them.
 #[cycle(expressions)]
 fn comparison(
@@ -158,14 +208,10 @@ fn comparison(
         → Gathers (o.comparison s (v.sum_of tree.now.left) tree.now.comparator (v.sum_of tree.now.right))
         least result }
 {
-    let left = sum(standing, &tree.left, least);
-    let right = sum(standing, &tree.right, left);
-    let sides = comparison_faults(
-        tree.comparator,
-        standing.sum_type(&tree.left),
-        standing.sum_type(&tree.right),
-    );
-    let first = note(sides.left, sum_place(&tree.left), right);
+    let left = judge_sum(standing, &tree.left, least);
+    let right = judge_sum(standing, &tree.right, left.least);
+    let sides = comparison_faults(tree.comparator, left.kind, right.kind);
+    let first = note(sides.left, sum_place(&tree.left), right.least);
     note(sides.right, sum_place(&tree.right), first)
 }
 
@@ -180,7 +226,9 @@ fn relation(
         → Gathers (o.relation_operand s (v.relation_of tree.now)) least result }
 {
     let inside = match tree {
-        Relation::Factor(tree) => factor(standing, tree, least),
+        Relation::Factor(tree) => {
+            return factor_operand(standing, ValueType::Boolean, tree, least);
+        }
         Relation::Product(tree) => product(standing, tree, least),
         Relation::Total(tree) => total(standing, tree, least),
         Relation::Comparison(tree) => comparison(standing, tree, least),
@@ -219,7 +267,9 @@ fn conjunction(
         → Gathers (o.conjunction_operand s (v.conjunction_of tree.now)) least result }
 {
     let inside = match tree {
-        Conjunction::Factor(tree) => factor(standing, tree, least),
+        Conjunction::Factor(tree) => {
+            return factor_operand(standing, ValueType::Boolean, tree, least);
+        }
         Conjunction::Product(tree) => product(standing, tree, least),
         Conjunction::Total(tree) => total(standing, tree, least),
         Conjunction::Comparison(tree) => comparison(standing, tree, least),
@@ -265,5 +315,26 @@ pub fn expression(
         Expression::Comparison(tree) => comparison(standing, tree, least),
         Expression::AllOf(tree) => all_of(standing, tree, least),
         Expression::AnyOf(tree) => any_of(standing, tree, least),
+    }
+}
+
+/// The least fault, where an expression stands behind what has this one, and its type.
+#[cycle(expressions)]
+pub fn judge_expression(
+    standing: &Standing<'_, '_>,
+    tree: &Expression<'_>,
+    least: Option<Refusal>,
+) -> Judged
+    ensures least { (s : Scope) → IsStanding s standing.now
+        → Gathers (x.expression_faults s (v.expression_of tree.now)) least result.least }
+    ensures kind { (s : Scope) → IsStanding s standing.now
+        → result.kind ≡ t.expression_type s (v.expression_of tree.now) }
+{
+    match tree {
+        Expression::Factor(inner) => judge_factor(standing, inner, least),
+        _ => Judged {
+            least: expression(standing, tree, least),
+            kind: standing.expression_type(tree),
+        },
     }
 }

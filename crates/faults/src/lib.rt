@@ -4,5 +4,5 @@
 mod expressions;
 mod operands;
 
-pub use expressions::{element, expression};
-pub use operands::operand;
+pub use expressions::{element, expression, judge_expression};
+pub use operands::{Judged, operand};

@@ -1,4 +1,4 @@
-use Rattle.std.proofs.Common.{ap, ◌∙◌, subst}
+use Rattle.std.proofs.Common.{subst}
 use Rattle.syntax.specs.Tree.{At}
 use Rattle.syntax.specs.View.{name_of, expression_of}
 use Rattle.types.specs.Faults.{Gathers}
@@ -14,7 +14,8 @@ returns c = λ s h.
     let n = name_of c.args.target.now.name in
     let i = expression_of c.args.target.now.index in
     let e = expression_of c.args.tree.now in
+    let judged = c.element-judged.result in
     gathers_both (element s n i) (value_faults s (type_of_use (meaning s n) (At i)) e) c.args.least
-    c.element-before.result c.value.result (c.element-before.ensures s h)
-    (subst (λ t. Gathers (value_faults s t e) c.element-before.result c.value.result)
-    (c.element_type-kind.ensures i ∙ ap (λ m. type_of_use m (At i)) (c.meaning.ensures s h)) (c.value.ensures s h))
+    judged.least c.value.result (c.element-judged.ensures.least s h)
+    (subst (λ t. Gathers (value_faults s t e) judged.least c.value.result)
+    (c.element-judged.ensures.kind s h) (c.value.ensures s h))

@@ -1,6 +1,6 @@
-use Rattle.std.proofs.Common.{◌++◌, append-nil, refl, sym, subst}
+use Rattle.std.proofs.Common.{◌++◌, ◌∙◌, append-nil, refl, ap, sym, subst}
 use Rattle.program.specs.declared.kinds.ValueType.TheVariants.{Integer, Boolean}
-use Rattle.syntax.specs.Tree.{NoIndex, At}
+use Rattle.syntax.specs.Tree.{At, Reads}
 use Rattle.syntax.specs.View.{conjunction_of, relation_of, sum_of, total_of, term_of, product_of, factor_of}
 use Rattle.syntax.specs.View.{expression_of, name_of, conjunctions_in, relations_in, summands_in, multipliers_in}
 use Rattle.types.specs.Scope.{meaning}
@@ -8,16 +8,16 @@ use Rattle.types.specs.Standings.{meaning_of}
 use Rattle.types.specs.Faults.{Gathers}
 use Rattle.types.specs.Typing.{expression_type, conjunction_type, relation_type, term_type, factor_type, sum_type}
 use Rattle.types.specs.Typing.{expression_place, conjunction_place, relation_place, term_place, factor_place}
-use Rattle.types.specs.Typing.{sum_place}
+use Rattle.types.specs.Typing.{sum_place, type_of_use}
 use Rattle.types.specs.ExpressionFaults as x
 use Rattle.types.proofs.Gathered.{gathers_none, gathers_both}
 use Rattle.faults.specs.Operands as o
-use Rattle.faults.proofs.Gathering.{lone, lone2, lone3, lone4, lone5, gathers_operand, gathers_use}
+use Rattle.faults.proofs.Gathering.{lone, lone2, lone3, lone4, lone5, behind3, behind4, gathers_operand, gathers_use}
 use Rattle.faults.proofs.Gathering.{gathers_comparison, gathers_chain, gathers_next, gathers_past}
 use Rattle.faults.proofs.Rows.{all_of_seen, any_of_seen, gathers_product, gathers_total}
-use Rattle.faults.proofs.expressions.+expressions.Goals.{relation-in-Factor, relation-in-Product}
+use Rattle.faults.proofs.expressions.+expressions.Goals.{relation-in-Product}
 use Rattle.faults.proofs.expressions.+expressions.Goals.{relation-in-Total, relation-in-Comparison}
-use Rattle.faults.proofs.expressions.+expressions.Goals.{conjunction-in-Factor, conjunction-in-Product}
+use Rattle.faults.proofs.expressions.+expressions.Goals.{conjunction-in-Product}
 use Rattle.faults.proofs.expressions.+expressions.Goals.{conjunction-in-Total, conjunction-in-Comparison}
 use Rattle.faults.proofs.expressions.+expressions.Goals.{conjunction-in-AllOf}
 use Rattle.faults.proofs.expressions.+expressions.Goals as goal
@@ -48,11 +48,6 @@ relation-returns t c = λ s h.
     (relation_place (relation_of c.args.tree.now)) c.args.least c.match-tree.inside c.operand.result
     (c.relation_type.ensures s h) c.relation_place.ensures
     (elim c.match-tree.branch [
-      | relation-in-Factor w ↦ subst (λ r. Gathers (x.relation_faults s (relation_of c.args.tree.now)) c.args.least r)
-          (sym w.inside-is)
-          (subst (λ y. Gathers (x.relation_faults s (relation_of y)) c.args.least w.factor-inside.result)
-          (sym w.in-Factor.is)
-          (lone3 _ c.args.least w.factor-inside.result (w.factor-inside.ensures s h)))
       | relation-in-Product w ↦ subst (λ r. Gathers (x.relation_faults s
           (relation_of c.args.tree.now)) c.args.least r) (sym w.inside-is)
           (subst (λ y. Gathers (x.relation_faults s (relation_of y)) c.args.least w.product-inside.result)
@@ -85,11 +80,6 @@ conjunction-returns t c = λ s h.
     (conjunction_place (conjunction_of c.args.tree.now)) c.args.least c.match-tree.inside c.operand.result
     (c.conjunction_type.ensures s h) c.conjunction_place.ensures
     (elim c.match-tree.branch [
-      | conjunction-in-Factor w ↦ subst (λ r. Gathers (x.conjunction_faults s
-          (conjunction_of c.args.tree.now)) c.args.least r) (sym w.inside-is)
-          (subst (λ y. Gathers (x.conjunction_faults s (conjunction_of y)) c.args.least w.factor-inside.result)
-          (sym w.in-Factor.is)
-          (lone4 _ c.args.least w.factor-inside.result (w.factor-inside.ensures s h)))
       | conjunction-in-Product w ↦ subst (λ r. Gathers (x.conjunction_faults s
           (conjunction_of c.args.tree.now)) c.args.least r) (sym w.inside-is)
           (subst (λ y. Gathers (x.conjunction_faults s (conjunction_of y)) c.args.least w.product-inside.result)
@@ -181,49 +171,88 @@ expression-returns-in-AnyOf t c = λ s h.
 
 pub comparison-returns : goal.comparison-returns
 comparison-returns t c = λ s h.
+    let left = c.judge_sum-left.result in
+    let right = c.judge_sum-right.result in
     gathers_comparison (x.sum_faults s (sum_of c.args.tree.now.left))
     (x.sum_faults s (sum_of c.args.tree.now.right)) c.args.tree.now.comparator
-    c.sum_type.result (sum_type s (sum_of c.args.tree.now.left)) c.sum_type-2.result
+    left.kind (sum_type s (sum_of c.args.tree.now.left)) right.kind
     (sum_type s (sum_of c.args.tree.now.right))
     c.sum_place.result (sum_place (sum_of c.args.tree.now.left)) c.sum_place-2.result
     (sum_place (sum_of c.args.tree.now.right))
     c.comparison_faults-sides.result.left c.comparison_faults-sides.result.right
-    c.args.least c.sum-left.result c.sum-right.result c.note-first.result c.note.result
-    (c.sum_type.ensures s h) (c.sum_type-2.ensures s h) c.sum_place.ensures c.sum_place-2.ensures
+    c.args.least left.least right.least c.note-first.result c.note.result
+    (c.judge_sum-left.ensures.kind s h) (c.judge_sum-right.ensures.kind s h) c.sum_place.ensures c.sum_place-2.ensures
     (c.comparison_faults-sides.ensures c.sum_place.result c.sum_place-2.result)
-    (c.sum-left.ensures s h) (c.sum-right.ensures s h) c.note-first.ensures c.note.ensures
+    (c.judge_sum-left.ensures.least s h) (c.judge_sum-right.ensures.least s h) c.note-first.ensures c.note.ensures
 
 pub factor_operand-returns-in-Name : goal.factor_operand-returns-in-Name
 factor_operand-returns-in-Name t c = λ s h.
     subst (λ y. Gathers (o.factor_operand s c.args.wanted (factor_of y)) c.args.least c.name_operand.result)
     (sym c.in-Name.is) (c.name_operand.ensures s h)
 
+pub factor_operand-returns-in-Number : goal.factor_operand-returns-in-Number
+factor_operand-returns-in-Number t c = λ s h.
+    subst (λ y. Gathers (o.factor_operand s c.args.wanted (factor_of y)) c.args.least c.operand.result)
+    (sym c.in-Number.is) c.operand.ensures
+
+pub factor_operand-returns-in-Element : goal.factor_operand-returns-in-Element
+factor_operand-returns-in-Element t c = λ s h.
+    let judged = c.element-judged.result in
+    let place = c.in-Element.inner.value.name.place in
+    subst (λ y. Gathers (o.factor_operand s c.args.wanted (factor_of y)) c.args.least c.operand-in-Element.result)
+    (sym c.in-Element.is)
+    (subst (λ y. Gathers (o.element s (name_of y.name) (expression_of y.index)
+    ++ x.wants c.args.wanted (factor_type s (Reads (name_of y.name) (At (expression_of y.index)))) place) c.args.least
+    c.operand-in-Element.result) c.deref.ensures
+    (gathers_operand _ c.args.wanted judged.kind _ c.deref-in-Element.result.now.name.place place c.args.least judged.least c.operand-in-Element.result
+    (c.element-judged.ensures.kind s h)
+    (ap (λ y. y.name.place) c.deref-in-Element.ensures) (c.element-judged.ensures.least s h) c.operand-in-Element.ensures))
+
+pub factor_operand-returns-in-Group : goal.factor_operand-returns-in-Group
+factor_operand-returns-in-Group t c = λ s h.
+    let judged = c.judge_expression-judged.result in
+    let place = c.in-Group.place in
+    subst (λ y. Gathers (o.factor_operand s c.args.wanted (factor_of y)) c.args.least c.operand-in-Group.result)
+    (sym c.in-Group.is)
+    (subst (λ y. Gathers (x.expression_faults s (expression_of y)
+    ++ x.wants c.args.wanted (expression_type s (expression_of y)) place) c.args.least c.operand-in-Group.result)
+    c.deref-in-Group.ensures
+    (gathers_operand _ c.args.wanted judged.kind _ place place c.args.least judged.least c.operand-in-Group.result
+    (c.judge_expression-judged.ensures.kind s h) refl (c.judge_expression-judged.ensures.least s h)
+    c.operand-in-Group.ensures))
+
 pub factor_operand-returns-in_default : goal.factor_operand-returns-in_default
 factor_operand-returns-in_default t c = λ s h.
     gathers_operand (x.factor_faults s (factor_of c.args.tree.now)) c.args.wanted c.factor_type.result
     (factor_type s (factor_of c.args.tree.now))
     c.factor_place.result
-    (factor_place (factor_of c.args.tree.now)) c.args.least c.factor-inside.result c.operand.result
-    (c.factor_type.ensures s h) c.factor_place.ensures (c.factor-inside.ensures s h) c.operand.ensures
+    (factor_place (factor_of c.args.tree.now)) c.args.least c.factor-inside.result c.operand-in_default.result
+    (c.factor_type.ensures s h) c.factor_place.ensures (c.factor-inside.ensures s h) c.operand-in_default.ensures
 
-pub element-returns : goal.element-returns
-element-returns t c = λ s h.
+pub element-returns-clause-least : goal.element-returns-clause-least
+element-returns-clause-least t c = λ s h.
+    let index = c.judge_expression-index.result in
     gathers_both (x.use_faults (meaning s (name_of c.args.tree.now.name))
     (At (expression_of c.args.tree.now.index)) c.args.tree.now.name.place)
     (x.expression_faults s (expression_of c.args.tree.now.index)
     ++ x.wants Integer (expression_type s (expression_of c.args.tree.now.index))
     (expression_place (expression_of c.args.tree.now.index)))
     c.args.least c.note-before.result c.operand.result
-    (gathers_use (At (expression_of c.args.tree.now.index)) (meaning_of c.meaning.result)
+    (gathers_use (At (expression_of c.args.tree.now.index)) (meaning_of c.meaning-meaning.result)
     (meaning s (name_of c.args.tree.now.name))
-    c.index_fault-fault.result c.args.tree.now.name.place c.args.least c.note-before.result (c.meaning.ensures s h)
-    (c.index_fault-fault.ensures
+    c.index_fault.result c.args.tree.now.name.place c.args.least c.note-before.result (c.meaning-meaning.ensures s h)
+    (c.index_fault.ensures
     (expression_of c.args.tree.now.index) c.args.tree.now.name.place) c.note-before.ensures)
-    (gathers_operand (x.expression_faults s (expression_of c.args.tree.now.index)) Integer c.expression_type.result
+    (gathers_operand (x.expression_faults s (expression_of c.args.tree.now.index)) Integer index.kind
     (expression_type s (expression_of c.args.tree.now.index)) c.expression_place.result
     (expression_place
-    (expression_of c.args.tree.now.index)) c.note-before.result c.expression-inside.result c.operand.result
-    (c.expression_type.ensures s h) c.expression_place.ensures (c.expression-inside.ensures s h) c.operand.ensures)
+    (expression_of c.args.tree.now.index)) c.note-before.result index.least c.operand.result
+    (c.judge_expression-index.ensures.kind s h) c.expression_place.ensures
+    (c.judge_expression-index.ensures.least s h) c.operand.ensures)
+
+pub element-returns-clause-kind : goal.element-returns-clause-kind
+element-returns-clause-kind t c = λ s h. c.element_type.ensures (expression_of c.args.tree.now.index)
+    ∙ ap (λ m. type_of_use m (At (expression_of c.args.tree.now.index))) (c.meaning-meaning.ensures s h)
 
 pub factor-returns-in-Number : goal.factor-returns-in-Number
 factor-returns-in-Number t c = λ s h.
@@ -237,17 +266,14 @@ factor-returns-in-Truth t c = λ s h.
 
 pub factor-returns-in-Name : goal.factor-returns-in-Name
 factor-returns-in-Name t c = λ s h.
-    subst (λ y. Gathers (x.factor_faults s (factor_of y)) c.args.least c.note.result) (sym c.in-Name.is)
-    (lone _ c.args.least c.note.result
-    (gathers_use NoIndex (meaning_of c.meaning.result) (meaning s (name_of c.in-Name.name)) c.read_fault.result
-    c.in-Name.name.place c.args.least c.note.result (c.meaning.ensures s h)
-    (c.read_fault.ensures c.in-Name.name.place) c.note.ensures))
+    subst (λ y. Gathers (x.factor_faults s (factor_of y)) c.args.least c.judge_name.result.least) (sym c.in-Name.is)
+    (c.judge_name.ensures.least s h)
 
 pub factor-returns-in-Element : goal.factor-returns-in-Element
 factor-returns-in-Element t c = λ s h.
-    subst (λ y. Gathers (x.factor_faults s (factor_of y)) c.args.least c.element.result) (sym c.in-Element.is)
-    (subst (λ y. Gathers (o.element s (name_of y.name) (expression_of y.index)) c.args.least c.element.result)
-    c.deref.ensures (c.element.ensures s h))
+    subst (λ y. Gathers (x.factor_faults s (factor_of y)) c.args.least c.element.result.least) (sym c.in-Element.is)
+    (subst (λ y. Gathers (o.element s (name_of y.name) (expression_of y.index)) c.args.least c.element.result.least)
+    c.deref.ensures (c.element.ensures.least s h))
 
 pub factor-returns-in-Group : goal.factor-returns-in-Group
 factor-returns-in-Group t c = λ s h.
@@ -358,3 +384,42 @@ any_of-returns t c = λ s h.
     (λ ms. x.conjunctions_faults s
     (conjunctions_in ms)) refl c.deref-further-items.result.now c.loop-further.further-index c.loop-further.all
     c.loop-further-test.false)))
+
+pub judge_expression-returns-in-Factor-clause-least : goal.judge_expression-returns-in-Factor-clause-least
+judge_expression-returns-in-Factor-clause-least t c = λ s h.
+    subst (λ y. Gathers (x.expression_faults s (expression_of y)) c.args.least c.judge_factor.result.least)
+    (sym c.in-Factor.is)
+    (lone5 _ c.args.least c.judge_factor.result.least (c.judge_factor.ensures.least s h))
+
+pub judge_sum-returns-in-Factor-clause-least : goal.judge_sum-returns-in-Factor-clause-least
+judge_sum-returns-in-Factor-clause-least t c = λ s h.
+    subst (λ y. Gathers (x.sum_faults s (sum_of y)) c.args.least c.judge_factor.result.least) (sym c.in-Factor.is)
+    (lone2 _ c.args.least c.judge_factor.result.least (c.judge_factor.ensures.least s h))
+
+pub judge_factor-returns-in-Name-clause-least : goal.judge_factor-returns-in-Name-clause-least
+judge_factor-returns-in-Name-clause-least t c = λ s h.
+    subst (λ y. Gathers (x.factor_faults s (factor_of y)) c.args.least c.judge_name.result.least) (sym c.in-Name.is)
+    (c.judge_name.ensures.least s h)
+
+pub judge_factor-returns-in-Element-clause-least : goal.judge_factor-returns-in-Element-clause-least
+judge_factor-returns-in-Element-clause-least t c = λ s h.
+    subst (λ y. Gathers (x.factor_faults s (factor_of y)) c.args.least c.element.result.least) (sym c.in-Element.is)
+    (subst (λ y. Gathers (o.element s (name_of y.name) (expression_of y.index)) c.args.least c.element.result.least)
+    c.deref.ensures (c.element.ensures.least s h))
+
+pub judge_factor-returns-in-Number-clause-least : goal.judge_factor-returns-in-Number-clause-least
+judge_factor-returns-in-Number-clause-least t c = λ s h.
+    subst (λ y. Gathers (x.factor_faults s (factor_of y)) c.args.least c.args.least) (sym c.in-Number.is)
+    (gathers_none c.args.least)
+
+pub relation-returns-in-Factor : goal.relation-returns-in-Factor
+relation-returns-in-Factor t c = λ s h.
+    subst (λ y. Gathers (o.relation_operand s (relation_of y)) c.args.least c.factor_operand.result)
+    (sym c.in-Factor.is) (behind3 (x.factor_faults s (factor_of c.in-Factor.tree)) (x.wants Boolean (factor_type s (factor_of c.in-Factor.tree))
+    (factor_place (factor_of c.in-Factor.tree))) c.args.least c.factor_operand.result (c.factor_operand.ensures s h))
+
+pub conjunction-returns-in-Factor : goal.conjunction-returns-in-Factor
+conjunction-returns-in-Factor t c = λ s h.
+    subst (λ y. Gathers (o.conjunction_operand s (conjunction_of y)) c.args.least c.factor_operand.result)
+    (sym c.in-Factor.is) (behind4 (x.factor_faults s (factor_of c.in-Factor.tree)) (x.wants Boolean (factor_type s (factor_of c.in-Factor.tree))
+    (factor_place (factor_of c.in-Factor.tree))) c.args.least c.factor_operand.result (c.factor_operand.ensures s h))
