@@ -13,7 +13,7 @@ use Rattle.program.specs.declared.kinds.Member.{Member}
 use Rattle.program.specs.Trees.{Program}
 use Rattle.program.specs.Scope.{member_type}
 use Rattle.program.specs.WellFormed.{WellFormed}
-use Rattle.code.specs.Pieces.{code_of}
+use Rattle.code.specs.Pieces.{marks_of, code_of}
 use Rattle.meaning.specs.Labels.{Kind, Label, Alone, Stores, kind_of}
 use Rattle.meaning.specs.Labels as L
 use Rattle.meaning.specs.Values.{Variables, with_variable}
@@ -40,7 +40,7 @@ use Rattle.refinement.specs.Built.{build_of, marked_image}
 use Rattle.templates.specs.Layout.{place, valid}
 use Rattle.templates.specs.Asking.{template_steps}
 use Rattle.templates.proofs.Addresses.{variables_apart, variable_apart}
-use Rattle.product.specs.Placing.{MovesSo, Places, nothing, waits, acts}
+use Rattle.product.specs.Placing.{StepsSo, Places, nothing, waits, acts}
 use Rattle.product.specs.Standing.{StandsAt, works, IsAtWork, Holds}
 use Rattle.product.specs.Ranks.{steps_left, before_template}
 use Rattle.product.specs.Corresponding.{Corresponds, IsBefore, Reached}
@@ -51,6 +51,9 @@ use Rattle.product.proofs.Moving.{Puts, put_puts, same_puts, HasNow, Next, moved
 use Rattle.product.proofs.Completions.{variable_loaded, variable_stored}
 use Rattle.product.proofs.Deferred.{own_kind, quiet_kind, stands_open, holder, may_wait}
 use Rattle.product.proofs.Templating.{works_on}
+use Rattle.code.specs.declared.mark.Mark.TheVariants.{AssignLocal, Test, Call, Return}
+use Rattle.product.specs.Waiting.{stages, stage_of, is_failing, Works}
+use Rattle.code.specs.declared.mark.Mark.{Mark}
 
 -- a thread is where it goes, takes a local step towards it, or loads a variable in view
 pub data FirstStep (image : MarkedImage) (t : ℕ) (s : View) (n : ℕ) (x z : Thread) : Type 0 where
@@ -70,6 +73,14 @@ first_step image t s n x z walk = by_walk walk.few walk.walk
         goes_on y m h plain (omega (arith, few)) (record { count = m; few = omega arith; walk = more })
     by_walk few (loads {n = m} {a = a} {v = v} {k = go} h shown more) =
         loads_on a v go m h shown (omega (arith, few)) (record { count = m; few = omega arith; walk = more })
+
+-- an action at a local step is no fault
+no_fault : (mark : Option Mark) (kind : Kind) → later_mark mark ≡ Some kind → is_failing kind ≡ false
+no_fault (Some AssignLocal) kind h = let same : L.Assign ≡ kind = cc in sym (ap is_failing same)
+no_fault (Some Test) kind h = let same : L.Test ≡ kind = cc in sym (ap is_failing same)
+no_fault (Some Call) kind h = let same : L.Call ≡ kind = cc in sym (ap is_failing same)
+no_fault (Some Return) kind h = let same : L.Return ≡ kind = cc in sym (ap is_failing same)
+no_fault mark kind h = absurd cc
 
 -- the monitors that a process holds
 pub held_of : (ms : List ℕ) (r : Process) → Holds ms r → holds r ≡ ms
@@ -113,19 +124,19 @@ has_now w u m (inr e) =
     or_right (mem m (w.at u).list) (own (entry_at (w.at u).point) m) (ap (λ y. own y m) e ∙ eq-eqb m m refl)
 
 module _ (p : Program) (w : WellFormed p) (steps : ℕ) (s : State) (c : SourceState) (k : Corresponds p w steps s c)
-    (t : ℕ) (woken : List ℕ) (done pauses : Bool) (s' : State) (n : ℕ) where
+    (t : ℕ) (woken : List ℕ) (done : Bool) (late : Option Kind) (pauses : Bool) (s' : State) (n : ℕ) where
   abbrev b : Build
   b = build_of p w k.world.made
 
-  pub next_at : (mid : State) → s' ≡ mid → Next p w steps mid t done pauses n c → Next p w steps s' t done pauses n c
-  next_at mid same next = subst (λ (x : State). Next p w steps x t done pauses n c) (sym same) next
+  pub next_at : (mid : State) → s' ≡ mid → Next p w steps mid t done late pauses n c (stages k.world) → Next p w steps s' t done late pauses n c (stages k.world)
+  next_at mid same next = subst (λ (x : State). Next p w steps x t done late pauses n c (stages k.world)) (sym same) next
 
   -- a local step, and no move: a thread stands where it stood, with fewer steps left
-  pub remains : done ≡ false → (y : Thread) (q : Process) (pt : Point) (l : List ℕ) → c.process t ≡ Some q
+  pub remains : done ≡ false → late ≡ None → (y : Thread) (q : Process) (pt : Point) (l : List ℕ) → c.process t ≡ Some q
       → (k.world.at t).point ≡ pt → (k.world.at t).list ≡ l → s' ≡ with_thread s t y
       → (stand : StandsAt b c.variable t (Some y) (Some q) pt l)
-      → steps_left b c.variable t k.world stand < n → Next p w steps s' t done pauses n c
-  remains none y q pt l proc point list same stand less =
+      → steps_left b c.variable t k.world stand < n → Next p w steps s' t done late pauses n c (stages k.world)
+  remains none plain y q pt l proc point list same stand less =
       let here : k.world.at t ≡ thread_at pt l =
       ap (λ (i : Point). thread_at i (k.world.at t).list) point ∙ ap (λ (i : List ℕ). thread_at pt i) list in
       let at = put_here k.world.at t (thread_at pt l) here in
@@ -154,7 +165,9 @@ module _ (p : Program) (w : WellFormed p) (steps : ℕ) (s : State) (c : SourceS
         kinds = [];
         own = tt;
         leads = refl;
-        places = nothing none refl;
+        stage = stage_of pt;
+        staged = m.staged;
+        places = nothing none plain (inl (ap stage_of (sym point))) refl;
         paced = λ z. inr (subst (λ (i : ℕ). i < n) (sym m.is) less);
       })
 
@@ -166,27 +179,27 @@ module _ (p : Program) (w : WellFormed p) (steps : ℕ) (s : State) (c : SourceS
     -- a thread on its way to what its process does next
     pub works_step : (x : Thread) (left : ℕ) → left ≤ most_steps b + template_steps
         → (h : Proceeds b t c.variable left x q) → IsAtWork p q c.variable → left + before_template ≤ n
-        → MovesSo p done s t woken (look (code_of p) t x) s' → (x ≡ h.last) ⊎ Next p w steps s' t done pauses n c
+        → StepsSo p done late (mark_of (marks_of p) x) s t woken (look (code_of p) t x) s' → (x ≡ h.last) ⊎ Next p w steps s' t done late pauses n c (stages k.world)
     works_step x left few h work enough moves =
         by_step (first_step (marked_image p) t (view_of b q c.variable) left x h.last h.walk)
       where
-        on : done ≡ false → (y : Thread) (m : ℕ) → suc m ≤ left → WalksWithin (marked_image p) t (view_of b q c.variable) m y h.last
-            → s' ≡ with_thread s t y → Next p w steps s' t done pauses n c
-        on none y m less walk same = remains none y q Runs (holds q) proc point list same
+        on : done ≡ false → late ≡ None → (y : Thread) (m : ℕ) → suc m ≤ left → WalksWithin (marked_image p) t (view_of b q c.variable) m y h.last
+            → s' ≡ with_thread s t y → Next p w steps s' t done late pauses n c (stages k.world)
+        on none plain y m less walk same = remains none plain y q Runs (holds q) proc point list same
             (works m (omega (arith, less, few)) (record { last = h.last; walk = walk; completes = h.completes }) work)
             (omega (arith, less, enough))
 
         by_step : FirstStep (marked_image p) t (view_of b q c.variable) left x h.last
-            → (x ≡ h.last) ⊎ Next p w steps s' t done pauses n c
+            → (x ≡ h.last) ⊎ Next p w steps s' t done late pauses n c (stages k.world)
         by_step (at_end e) = inl e
         by_step (goes_on y m e plain less walk) =
-            let g : MovesSo p done s t woken (Goes y) s' = subst (λ (l : Look). MovesSo p done s t woken l s') e moves in
-            inr (on g.2 y m less walk g.1)
+            let g : StepsSo p done late (mark_of (marks_of p) x) s t woken (Goes y) s' = subst (λ (l : Look). StepsSo p done late (mark_of (marks_of p) x) s t woken l s') e moves in
+            inr (on g.2 (g.3 ∙ plain) y m less walk g.1)
         by_step (loads_on a word go m e shown less walk) =
-            let g : MovesSo p done s t woken (Asks (AskLoad a) go) s' = subst (λ (l : Look). MovesSo p done s t woken l s') e moves in
+            let g : StepsSo p done late (mark_of (marks_of p) x) s t woken (Asks (AskLoad a) go) s' = subst (λ (l : Look). StepsSo p done late (mark_of (marks_of p) x) s t woken l s') e moves in
             let value : g.0 ≡ word =
             g.2.1.1.0 ∙ ap s.word shown.there ∙ k.variables shown.member shown.index shown.variable ∙ sym shown.shown in
-            inr (on (g.4 ∙ variable_loaded p shown.member shown.index a g.0 shown.variable shown.there) (go word) m less
+            inr (on (g.4 ∙ variable_loaded p shown.member shown.index a g.0 shown.variable shown.there) g.5 (go word) m less
             walk (g.3 ∙ ap (λ (i : State). with_thread i t (go g.0)) g.2.1.1.1
             ∙ ap (λ i. with_thread s t (go i)) value))
 
@@ -204,8 +217,8 @@ module _ (p : Program) (w : WellFormed p) (steps : ℕ) (s : State) (c : SourceS
         → ((m : ℕ) → VariablesFit k.world.made p m (variables_after effect c.variable))
         → ((u m : ℕ) → u ≢ t → HasNow k.world u m → (i j : ℕ)
         → c.variable m i j ≡ variables_after effect c.variable m i j)
-        → Places p (with_thread mid t y) t c (acted c t effect r c.table) done (kind_of label ∷ [])
-        → s' ≡ with_thread mid t y → Next p w steps s' t done pauses n c
+        → Places p (with_thread mid t y) t c (acted c t effect r c.table) done late (stages k.world t) Works (kind_of label ∷ [])
+        → s' ≡ with_thread mid t y → Next p w steps s' t done late pauses n c (stages k.world)
     does mid label effect y r takes alone mine others kept stands size made thread output shares variables fit same places
         e =
         let c' = acted c t effect r c.table in
@@ -250,37 +263,41 @@ module _ (p : Program) (w : WellFormed p) (steps : ℕ) (s : State) (c : SourceS
             action p c t q r label effect c.table proc takes (permitted k.world c.table t (Own label) inv can).0,
             refl,
           );
+          stage = Works;
+          staged = m.staged;
           places = places;
           paced = λ z. inl tt;
         })
 
-    module _ (x : Thread) (work : IsAtWork p q c.variable) (moves : MovesSo p done s t woken (look (code_of p) t x) s') where
+    module _ (x : Thread) (work : IsAtWork p q c.variable) (moves : StepsSo p done late (mark_of (marks_of p) x) s t woken (look (code_of p) t x) s') where
       takes_up : (l : Label) (effect : Effect) (r : Process) → offer p c.variable q ≡ Does l effect r
           → TakesUp (offer p c.variable q) l effect r
       takes_up l effect r o = subst (λ (i : Offer). TakesUp i l effect r) (sym o) (refl, refl, refl)
 
       pub acts_step : (kind : Kind) (y : Thread) (r : Process) → IsQuiet kind → look (code_of p) t x ≡ Goes y
-          → offer p c.variable q ≡ Does (Alone kind) Nothing r → Stands b t y r → Next p w steps s' t done pauses n c
-      acts_step kind y r mine h o stands =
-          let g : MovesSo p done s t woken (Goes y) s' = subst (λ (l : Look). MovesSo p done s t woken l s') h moves in
+          → later_mark (mark_of (marks_of p) x) ≡ Some kind
+          → offer p c.variable q ≡ Does (Alone kind) Nothing r → Stands b t y r → Next p w steps s' t done late pauses n c (stages k.world)
+      acts_step kind y r mine h mark o stands =
+          let g : StepsSo p done late (mark_of (marks_of p) x) s t woken (Goes y) s' = subst (λ (l : Look). StepsSo p done late (mark_of (marks_of p) x) s t woken l s') h moves in
           let takes = takes_up (Alone kind) Nothing r o in
           does s (Alone kind) Nothing y r takes tt (own_kind kind mine) refl
           (held_of (holds q) r (work.keeps (Alone kind) Nothing r tt takes)) stands refl refl refl k.output k.shares
           k.variables k.fit (λ u m d i j e. refl)
-          (waits _ _ (Alone kind) g.2 proc (may_wait p w steps s c k t number awake point q r (Alone kind) list work.steady
+          (waits _ _ (Alone kind) g.2 (g.3 ∙ mark) (ap stage_of point) (no_fault (mark_of (marks_of p) x) kind mark) proc
+          (may_wait p w steps s c k t number awake point q r (Alone kind) list work.steady
           (quiet_kind kind mine) takes refl (stands_open b t y r stands)) refl) g.1
 
       pub prints_step : (v : ℕ) (go : ℕ → Thread) (r : Process) → look (code_of p) t x ≡ Asks (AskPrint v) go
           → offer p c.variable q ≡ Does (Alone (L.Print (signed_of v))) (Writes (signed_of v)) r
-          → ((answer : ℕ) → Stands b t (go answer) r) → Next p w steps s' t done pauses n c
+          → ((answer : ℕ) → Stands b t (go answer) r) → Next p w steps s' t done late pauses n c (stages k.world)
       prints_step v go r h o stands =
-          let g : MovesSo p done s t woken (Asks (AskPrint v) go) s' = subst (λ (l : Look). MovesSo p done s t woken l s') h moves in
+          let g : StepsSo p done late (mark_of (marks_of p) x) s t woken (Asks (AskPrint v) go) s' = subst (λ (l : Look). StepsSo p done late (mark_of (marks_of p) x) s t woken l s') h moves in
           let z = signed_of v in
           let takes = takes_up (Alone (L.Print z)) (Writes z) r o in
           does (record s { output = s.output ++ z ∷ [] }) (Alone (L.Print z)) (Writes z) (go g.0) r takes tt tt refl
           (held_of (holds q) r (work.keeps (Alone (L.Print z)) (Writes z) r tt takes)) (stands g.0) refl refl refl
           (ap (λ (zs : List ℤ). zs ++ z ∷ []) k.output) k.shares k.variables k.fit (λ u m d i j e. refl)
-          (acts _ _ (Alone (L.Print z)) (Writes z) c.table g.4 refl proc takes refl tt
+          (acts _ _ (Alone (L.Print z)) (Writes z) c.table g.4 refl refl proc takes refl tt
           (λ m j i other. refl) tt refl)
           (g.3 ∙ ap (λ (m : State). with_thread m t (go g.0)) g.2.1.1)
 
@@ -341,18 +358,18 @@ module _ (p : Program) (w : WellFormed p) (steps : ℕ) (s : State) (c : SourceS
         pub stores_step : (go : ℕ → Thread) (r : Process)
             → look (code_of p) t x ≡ Asks (AskStore (variable_address p m i) (word_of z)) go
             → offer p c.variable q ≡ Does (Stores m.monitor) (Puts' m.monitor m.number i z) r
-            → ((answer : ℕ) → Stands b t (go answer) r) → Next p w steps s' t done pauses n c
+            → ((answer : ℕ) → Stands b t (go answer) r) → Next p w steps s' t done late pauses n c (stages k.world)
         stores_step go r h o stands =
             let a = variable_address p m i in
-            let g : MovesSo p done s t woken (Asks (AskStore a (word_of z)) go) s' =
-            subst (λ (l : Look). MovesSo p done s t woken l s') h moves in
+            let g : StepsSo p done late (mark_of (marks_of p) x) s t woken (Asks (AskStore a (word_of z)) go) s' =
+            subst (λ (l : Look). StepsSo p done late (mark_of (marks_of p) x) s t woken l s') h moves in
             let effect = Puts' m.monitor m.number i z in
             let mine = holder p w steps s c k t number awake point m.monitor listed in
             let takes = takes_up (Stores m.monitor) effect r o in
             does (with_word s a (word_of z)) (Stores m.monitor) effect (go g.0) r takes listed tt refl
             (held_of (holds q) r (work.keeps (Stores m.monitor) effect r tt takes)) (stands g.0) refl refl refl k.output
             stored_shares stored_words stored_fit stored_same
-            (acts _ _ (Stores m.monitor) effect c.table (g.4 ∙ variable_stored p m i (word_of z) g.0 is) refl proc takes refl
+            (acts _ _ (Stores m.monitor) effect c.table (g.4 ∙ variable_stored p m i (word_of z) g.0 is) refl refl proc takes refl
             mine (λ d j a other. variable_at (λ (v : ℤ). v ≡ c.variable d j a) c.variable m.monitor m.number i z d j a
             (λ e f h. absurd (other (ap c.table.hold e ∙ mine))) (λ no. refl)) tt refl)
             (g.3 ∙ ap (λ (e : State). with_thread e t (go g.0)) g.2.1.1.1)

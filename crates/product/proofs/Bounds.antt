@@ -73,7 +73,7 @@ module _ (b : Build) (v : Variables) (t : ℕ) (w : World) where
       → steps_left b v t w stand ≤ most_left b
   left_few unmade = omega arith
   left_few (works left few h s) = omega (arith, few)
-  left_few (returns r fits h) = omega arith
+  left_few (returns r fits h mark) = omega arith
   left_few (inside {pt = pt} left k u few walk fits same ne stands) = let r = at_most pt in omega (arith, few, r)
   left_few (faults fault left few h) = omega (arith, few)
   left_few (reads {child = child} left few c j h) = let r = at_most (JoinReads child) in omega (arith, few, r)

@@ -13,8 +13,8 @@ use Rattle.machine.specs.AbstractServing.{shared_of}
 use Rattle.program.specs.declared.kinds.Member.{Member}
 use Rattle.program.specs.Trees.{Program, Part}
 use Rattle.program.specs.WellFormed.{WellFormed}
-use Rattle.code.specs.Pieces.{code_of}
-use Rattle.meaning.specs.Labels.{Label, Claims, FindsClaimed, Faulted, kind_of}
+use Rattle.code.specs.Pieces.{marks_of, code_of}
+use Rattle.meaning.specs.Labels.{Kind, Label, Claims, FindsClaimed, Faulted, kind_of}
 use Rattle.meaning.specs.Processes.{Frame, Caller, Process, Joining, Dying, holds, all_monitors}
 use Rattle.meaning.specs.Offers.{ClaimsOne, Nothing, Offer, offer, TakesUp}
 use Rattle.meaning.specs.States.{SourceState}
@@ -35,7 +35,7 @@ use Rattle.refinement.specs.Built.{build_of}
 use Rattle.templates.specs.Layout.{place, valid, is_process}
 use Rattle.templates.proofs.Layouts.{apart, number_is}
 use Rattle.templates.proofs.Addresses.{variable_apart}
-use Rattle.product.specs.Placing.{MovesSo, Places, waits, acts}
+use Rattle.product.specs.Placing.{StepsSo, Places, waits, acts}
 use Rattle.product.specs.Standing.{StandsAt, IsAtWork, reads, faults}
 use Rattle.product.specs.Serving.{Keeps}
 use Rattle.product.specs.Corresponding.{Reached, IsBefore, Corresponds}
@@ -43,9 +43,13 @@ use Rattle.product.proofs.Moving.{Puts, put_puts, Next, moved}
 use Rattle.product.proofs.Sourcing.{action, acted}
 use Rattle.product.proofs.Deferred.{may_wait}
 use Rattle.product.proofs.Worlds.{reached_on, reached_good, shares_at, shares_stored}
+use Rattle.product.specs.Waiting.{stages, stage_of}
+use Rattle.execution.specs.Later.{mark_of}
+use Rattle.std.specs.Prelude.{if◌then◌else◌}
+use Rattle.meaning.specs.Labels as L
 
 module _ (p : Program) (w : WellFormed p) (steps : ℕ) (s : State) (c : SourceState) (k : Corresponds p w steps s c)
-    (t : ℕ) (woken : List ℕ) (done pauses : Bool) (s' : State) (n : ℕ) (number : (0 < t) × (t ≤ k.world.made))
+    (t : ℕ) (woken : List ℕ) (done : Bool) (late : Option Kind) (pauses : Bool) (s' : State) (n : ℕ) (number : (0 < t) × (t ≤ k.world.made))
     (few : k.world.made ≤ 64) (awake : k.world.asleep t ≡ None) (q : Process) (proc : c.process t ≡ Some q)
     (point : (k.world.at t).point ≡ Runs) (list : (k.world.at t).list ≡ holds q) where
   abbrev b : Build
@@ -61,8 +65,8 @@ module _ (p : Program) (w : WellFormed p) (steps : ℕ) (s : State) (c : SourceS
       → IsOwn (kind_of label) → l ≡ holds q → StandsAt b c.variable t (Some y) (Some r) pt l
       → Shares (place p) (valid p) (shared_of mid) w2 → Keeps p s mid → w2.made ≡ k.world.made
       → w2.at ≡ k.world.at → w2.result ≡ k.world.result → w2.sequence ≡ k.world.sequence
-      → Places p (with_thread mid t y) t c (acted c t Nothing r (table_after k.world c.table t move)) done (kind_of label ∷ [])
-      → s' ≡ with_thread mid t y → Next p w steps s' t done pauses n c
+      → Places p (with_thread mid t y) t c (acted c t Nothing r (table_after k.world c.table t move)) done late (stages k.world t) (stage_of pt) (kind_of label ∷ [])
+      → s' ≡ with_thread mid t y → Next p w steps s' t done late pauses n c (stages k.world)
   starts move label mid w2 y r pt l can comes carries takes own has stands shares keeps made at result sequence places
       same =
       let T = table_after k.world c.table t move in
@@ -96,29 +100,34 @@ module _ (p : Program) (w : WellFormed p) (steps : ℕ) (s : State) (c : SourceS
       }) in
       let permits = subst (λ (e : Option Event). PermitsMove e c.table T) carries
       (permitted k.world c.table t move inv can) in
-      subst (λ (x : State). Next p w steps x t done pauses n c) (sym same) (record {
+      subst (λ (x : State). Next p w steps x t done late pauses n c (stages k.world)) (sym same) (record {
         after = c';
         ties = m.ties;
         kinds = kind_of label ∷ [];
         own = (own, tt);
         leads = (c', action p c t q r label Nothing T proc takes permits.0, refl);
+        stage = stage_of pt;
+        staged = m.staged;
         places = places;
         paced = λ z. inl tt;
       })
 
-  module _ (x : Thread) (work : IsAtWork p q c.variable) (moves : MovesSo p done s t woken (look (code_of p) t x) s') where
+  module _ (x : Thread) (work : IsAtWork p q c.variable) (moves : StepsSo p done late (mark_of (marks_of p) x) s t woken (look (code_of p) t x) s') where
+    abbrev refusal : Bool → Option Kind
+    refusal free = if free then None else Some (L.Fails HandleNotJoinable)
+
     pub claims_step : {into : Option ℕ} {part : Part} {f : Frame} {cs : List Caller} (child : ℕ) (go' : ℕ → Thread)
         → 0 < child → child ≤ k.world.made → look (code_of p) t x ≡ Asks (AskSwap (process_word child 3) 1) go'
         → offer p c.variable q ≡ ClaimsOne child (Joining child into part f cs)
         (Dying (Faulted HandleNotJoinable) (holds q)) → (j : Awaits b t child into part f cs)
         → StepsWithin b t join_steps (go' 0) j.reads
         → ((m : ℕ) → StepsWithin b t join_steps (go' (suc m)) (Dies' HandleNotJoinable))
-        → Next p w steps s' t done pauses n c
+        → Next p w steps s' t done late pauses n c (stages k.world)
     claims_step {into = into} {part = part} {f = f} {cs = cs} child go' some below h o j free taken =
         elim (cases_eq (k.world.claim child) 0) [ inl z ↦ claimed z | inr z ↦ refused z ]
       where
-        g : MovesSo p done s t woken (Asks (AskSwap (process_word child 3) 1) go') s'
-        g = subst (λ (l : Look). MovesSo p done s t woken l s') h moves
+        g : StepsSo p done late (mark_of (marks_of p) x) s t woken (Asks (AskSwap (process_word child 3) 1) go') s'
+        g = subst (λ (l : Look). StepsSo p done late (mark_of (marks_of p) x) s t woken l s') h moves
 
         valid_child : is_process child ≡ true
         valid_child = number_is child some (omega (arith, below, few))
@@ -163,7 +172,7 @@ module _ (p : Program) (w : WellFormed p) (steps : ℕ) (s : State) (c : SourceS
         found_claimed = subst (λ (i : Offer). TakesUp i (FindsClaimed child) Nothing
             (Dying (Faulted HandleNotJoinable) (holds q))) (sym o) (inr (refl, refl, refl))
 
-        claimed : k.world.claim child ≡ 0 → Next p w steps s' t done pauses n c
+        claimed : k.world.claim child ≡ 0 → Next p w steps s' t done late pauses n c (stages k.world)
         claimed z =
             let had = work.keeps (Claims child) Nothing (Joining child into part f cs) tt takes in
             starts (Claim child) (Claims child) (with_word s (process_word child 3) 1) (write k.world (ClaimOf child) 1)
@@ -171,14 +180,14 @@ module _ (p : Program) (w : WellFormed p) (steps : ℕ) (s : State) (c : SourceS
             (free_to_claim z) refl refl takes tt
             had.0 (reads join_steps (omega arith) (record { some = some; made = below; last = had.1 }) j free)
             shares keeps refl refl refl refl
-            (acts _ _ (Claims child) Nothing _ (g.4 ∙ ap (λ (i : ℕ). i == 0) (answer ∙ z)) refl proc takes
+            (acts _ _ (Claims child) Nothing _ (g.4 ∙ ap (λ (i : ℕ). i == 0) (answer ∙ z)) refl refl proc takes
             ((permitted k.world c.table t (Claim child) inv (free_to_claim z)).0) tt (λ m j i other. refl) tt refl)
             (same 0 z)
 
-        refused : k.world.claim child ≢ 0 → Next p w steps s' t done pauses n c
+        refused : k.world.claim child ≢ 0 → Next p w steps s' t done late pauses n c (stages k.world)
         refused z = by_word (k.world.claim child) refl
           where
-            by_word : (v : ℕ) → k.world.claim child ≡ v → Next p w steps s' t done pauses n c
+            by_word : (v : ℕ) → k.world.claim child ≡ v → Next p w steps s' t done late pauses n c (stages k.world)
             by_word zero e = absurd (z e)
             by_word (suc v) e =
                 starts (ClaimTaken child) (FindsClaimed child) (with_word s (process_word child 3) 1)
@@ -187,7 +196,9 @@ module _ (p : Program) (w : WellFormed p) (steps : ℕ) (s : State) (c : SourceS
                 (not_free z) refl refl found_claimed tt refl
                 (faults HandleNotJoinable join_steps (omega arith) (taken v)) shares keeps refl refl refl refl
                 (waits _ _ (FindsClaimed child)
-                (g.4 ∙ ap (λ (i : ℕ). i == 0) (answer ∙ e) ∙ ne_eqb (suc v) 0 (λ i. absurd cc)) proc
+                (g.4 ∙ ap (λ (i : ℕ). i == 0) (answer ∙ e) ∙ ne_eqb (suc v) 0 (λ i. absurd cc))
+                (g.5 ∙ ap (λ (i : ℕ). refusal (i == 0)) (answer ∙ e) ∙ ap refusal (ne_eqb (suc v) 0 (λ i. absurd cc)))
+                (ap stage_of point) refl proc
                 (may_wait p w steps s c k t number awake point q _ (FindsClaimed child) list work.steady refl
                 (found_claimed) ((permitted k.world c.table t (ClaimTaken child) inv (not_free z)).0) (λ end h. cc)) refl)
                 (same (suc v) e)

@@ -9,10 +9,10 @@ use Rattle.machine.specs.States.{State}
 use Rattle.machine.specs.Runs.{Moves}
 use Rattle.program.specs.declared.kinds.Member.{Member}
 use Rattle.program.specs.Trees.{Program}
-use Rattle.meaning.specs.Labels.{End, Faulted, Killed}
+use Rattle.meaning.specs.Labels.{Kind, End, Faulted, Killed}
 use Rattle.meaning.specs.Table.{Table}
-use Rattle.protocol.specs.Word.{owner}
-use Rattle.protocol.specs.Points.{Point, ToExit, EnterPends, EnterTries, ReenterPends, ReenterTries, TakeReads}
+use Rattle.protocol.specs.Word.{waiters, owner}
+use Rattle.protocol.specs.Points.{LeaveSwaps, ToWait, Point, ToExit, EnterPends, EnterTries, ReenterPends, ReenterTries, TakeReads}
 use Rattle.protocol.specs.Points.{TakeMarks, TakeTries, GotReads, GotLinks, GotHeads, GotUnpends, WaitReads}
 use Rattle.protocol.specs.Points.{NotifyWakes, BroadcastReads}
 use Rattle.protocol.specs.Points.{JoinReads, JoinLearns, JoinTakes, LeavePends, LeaveReads}
@@ -22,6 +22,7 @@ use Rattle.protocol.specs.World.{World}
 use Rattle.protocol.specs.Cells.{Cell, LockOf, LinkOf, HeadOf, PendingOf, IdOf, ResultOf, OutcomeOf}
 use Rattle.protocol.specs.Cells.{SequenceOf}
 use Rattle.protocol.specs.Requests.{request}
+use Rattle.protocol.specs.Answers.{next}
 use Rattle.protocol.specs.Served.{MayAnswer, carried}
 use Rattle.protocol.proofs.Roles.{Listed, Knows}
 use Rattle.protocol.proofs.Good.{Good}
@@ -30,9 +31,12 @@ use Rattle.templates.specs.Layout.{place, valid}
 use Rattle.templates.specs.Asking.{asked, told}
 use Rattle.templates.proofs.Addresses.{variable_apart}
 use Rattle.templates.proofs.Layouts.{apart, number_is, is_number, monitor_valid, monitor_below}
-use Rattle.product.specs.Placing.{any_below, is_process_word, is_link_word, is_lock_word, completes, completes_exit}
+use Rattle.product.specs.Placing.{StepsSo, any_below, is_process_word, is_link_word, is_lock_word, completes, completes_exit}
 use Rattle.product.specs.Placing.{MovesSo}
 use Rattle.product.specs.Serving.{IsAskable}
+use Rattle.product.specs.Waiting.{Stage, stage_of, Agrees, Stays, Works}
+use Rattle.code.specs.declared.mark.Mark.{Mark}
+use Rattle.execution.specs.Later.{later_mark, later_request}
 
 none_below : (k : ℕ) (test : ℕ → Bool) → ((n : ℕ) → n < k → test n ≡ false) → any_below k test ≡ false
 none_below zero test h = refl
@@ -46,13 +50,13 @@ found_below (suc k) test n l h = elim (cases_eq n k) [
 ]
 
 -- what a step does, as it is an action or none
-pub plainly : (p : Program) (done : Bool) (s : State) (t : ℕ) (woken : List ℕ) (l : Look) (s' : State)
-    → MovesSo p done s t woken l s' → Moves s t woken l s'
-plainly p done s t woken (Goes x) s' g = (g.0, g.1)
-plainly p done s t woken (Asks request go) s' g = (g.0, g.1, g.2, g.3)
-plainly p done s t woken (Leaves phase) s' g = (g.0, g.1, g.2, g.3)
-plainly p done s t woken Breaks s' g = g
-plainly p done s t woken Rests s' g = g
+pub plainly : (p : Program) (done : Bool) (late : Option Kind) (mark : Option Mark) (s : State) (t : ℕ)
+    (woken : List ℕ) (l : Look) (s' : State) → StepsSo p done late mark s t woken l s' → Moves s t woken l s'
+plainly p done late mark s t woken (Goes x) s' g = (g.0, g.1)
+plainly p done late mark s t woken (Asks request go) s' g = (g.0, g.1, g.2, g.3)
+plainly p done late mark s t woken (Leaves phase) s' g = (g.0, g.1, g.2, g.3)
+plainly p done late mark s t woken Breaks s' g = g
+plainly p done late mark s t woken Rests s' g = g
 
 -- and which of the two
 pub told_apart : (p : Program) (s : State) (t : ℕ) (woken : List ℕ) (l : Look) (s' : State) → Moves s t woken l s'
@@ -62,6 +66,64 @@ told_apart p s t woken (Asks request go) s' g = (completes p request g.0, (g.0, 
 told_apart p s t woken (Leaves phase) s' g = (completes_exit phase, (g.0, g.1, g.2, g.3, refl))
 told_apart p s t woken Breaks s' g = absurd g
 told_apart p s t woken Rests s' g = absurd g
+
+-- and the action that waits
+pub told_late : (p : Program) (done : Bool) (mark : Option Mark) (s : State) (t : ℕ) (woken : List ℕ) (l : Look)
+    (s' : State) → MovesSo p done s t woken l s' → (late : Option Kind) × StepsSo p done late mark s t woken l s'
+told_late p done mark s t woken (Goes x) s' g = (later_mark mark, (g.0, g.1, g.2, refl))
+told_late p done mark s t woken (Asks request go) s' g =
+    (later_request mark request g.0, (g.0, g.1, g.2, g.3, g.4, refl))
+told_late p done mark s t woken (Leaves phase) s' g = (None, (g.0, g.1, g.2, g.3, g.4, refl))
+told_late p done mark s t woken Breaks s' g = absurd g
+told_late p done mark s t woken Rests s' g = absurd g
+
+-- what a point asks is no action that waits, but where a fault is written
+abbrev LateOf : Option Mark → Option Request → ℕ → Option Kind
+LateOf mark None r = None
+LateOf mark (Some q) r = later_request mark q r
+
+none_late : (p : Program) (mark : Option Mark) (t : ℕ) (pt : Point) (r : ℕ) → stage_of pt ≡ Works
+    → LateOf mark (asked p (request t pt)) r ≡ None
+none_late p mark t (Dies cause x) r h = absurd cc
+none_late p mark t (LeaveSwaps m ToExit) r h = refl
+none_late p mark t (LeaveSwaps m (ToWait c s)) r h = refl
+none_late p mark t (HasLeft m ToExit) r h = refl
+none_late p mark t (HasLeft m (ToWait c s)) r h = refl
+none_late p mark t pt r h = refl
+
+pub point_late : (p : Program) (mark : Option Mark) (t : ℕ) (pt : Point) (r : ℕ) (asks : Request)
+    → stage_of pt ≡ Works → asked p (request t pt) ≡ Some asks → later_request mark asks r ≡ None
+point_late p mark t pt r asks h same =
+    sym (ap (λ (o : Option Request). LateOf mark o r) same) ∙ none_late p mark t pt r h
+
+-- a step from a point leads to no fault
+either_works : (b : Bool) (x y : Point) → stage_of x ≡ Works → stage_of y ≡ Works → stage_of (if b then x else y) ≡ Works
+either_works true x y h g = h
+either_works false x y h g = g
+
+pub next_stays : (w : World) (e : End) (pt : Point) (r : ℕ) → Stays (stage_of pt) (stage_of (next w e pt r))
+next_stays w e (EnterTries m) r = inl (either_works (r == 0) _ _ refl refl)
+next_stays w e (ReenterTries m) r = inl (either_works (r == 0) _ _ refl refl)
+next_stays w e (TakeReads m k) r = inl (either_works (owner r == 0) _ _ refl refl)
+next_stays w e (TakeMarks m v k) r = inl (either_works (r == v) _ _ refl refl)
+next_stays w e (TakeTries m v k) r = inl (either_works (r == v) _ _ refl refl)
+next_stays w e (JoinReads q) r = inl (either_works (r == 0) _ _ refl refl)
+next_stays w e (JoinLearns q end) r = inl (either_works (r == 16) _ _ refl refl)
+next_stays w e (LeaveSwaps m k) r = inl (either_works (waiters r == 0) _ _ refl refl)
+next_stays w e (HasLeft m ToExit) r = inl refl
+next_stays w e (HasLeft m (ToWait c s)) r = inl refl
+next_stays w e (Dies cause x) r = inr refl
+next_stays w e (Walks zero x end) r = inl refl
+next_stays w e (Walks (suc m) x end) r = inl refl
+next_stays w e pt r = inl refl
+
+-- so that no fault waits, where none did
+pub next_calm : (w : World) (e : End) (pt : Point) (r : ℕ) → Agrees (stage_of pt) false
+    → Agrees (stage_of (next w e pt r)) false
+next_calm w e pt r h = elim (next_stays w e pt r) [
+  | inl same ↦ subst (λ (x : Stage). Agrees x false) (sym same) h
+  | inr leaves ↦ subst (λ (x : Stage). Agrees x false) (sym leaves) tt
+]
 
 -- what a thread knows of the words in its hands
 pub listed_at : (w : World) (T : Table) (t : ℕ) (pt : Point) → Good w T → (w.at t).point ≡ pt → Listed pt (w.at t).list

@@ -16,7 +16,7 @@ use Rattle.machine.specs.AbstractServing.{with_outcome, shared_of}
 use Rattle.program.specs.declared.kinds.Member.{Member}
 use Rattle.program.specs.Trees.{Program}
 use Rattle.program.specs.WellFormed.{WellFormed}
-use Rattle.code.specs.Pieces.{code_of}
+use Rattle.code.specs.Pieces.{marks_of, code_of}
 use Rattle.meaning.specs.Labels.{Kind, Label, Alone, End, Ended, Aborted, Faulted}
 use Rattle.meaning.specs.Labels as L
 use Rattle.meaning.specs.Values.{Variables}
@@ -42,7 +42,7 @@ use Rattle.refinement.specs.Built.{build_of}
 use Rattle.templates.specs.Layout.{place, valid, is_process}
 use Rattle.templates.proofs.Layouts.{apart, number_is}
 use Rattle.templates.proofs.Addresses.{variable_apart}
-use Rattle.product.specs.Placing.{MovesSo, Places, nothing, waits}
+use Rattle.product.specs.Placing.{StepsSo, Places, nothing, again, waits}
 use Rattle.product.specs.Standing.{StandsAt, IsAtWork, IsEnding, ending, entries_seen, walks}
 use Rattle.product.specs.Ranks.{steps_left}
 use Rattle.product.specs.Corresponding.{Reached, IsBefore, Corresponds}
@@ -51,6 +51,10 @@ use Rattle.product.proofs.Moving.{Puts, put_puts, same_puts, AreOwn, IsSome, Nex
 use Rattle.product.proofs.Sourcing.{act, action, acted}
 use Rattle.product.proofs.Deferred.{may_wait}
 use Rattle.product.proofs.Worlds.{reached_on, reached_good, shares_at, shares_stored, shares_result, put_put}
+use Rattle.product.specs.Waiting.{stages, stage_of}
+use Rattle.code.specs.declared.mark.Mark.{Mark}
+use Rattle.execution.specs.Later.{last_mark, mark_of}
+use Rattle.product.specs.Waiting as W
 
 -- few steps are left at the beginning of an exit
 walks_left : (b : Build) (v : Variables) (t : ℕ) (w : World) (e : ℕ) (end : End) (ms : List ℕ) (phase : ExitPhase)
@@ -61,7 +65,7 @@ walks_left b v t w zero end ms phase is short ends = omega arith
 walks_left b v t w (suc m) end ms phase is short ends = omega arith
 
 module _ (p : Program) (w : WellFormed p) (steps : ℕ) (s : State) (c : SourceState) (k : Corresponds p w steps s c)
-    (t : ℕ) (woken : List ℕ) (done pauses : Bool) (s' : State) (n : ℕ) (number : (0 < t) × (t ≤ k.world.made))
+    (t : ℕ) (woken : List ℕ) (done : Bool) (late : Option Kind) (pauses : Bool) (s' : State) (n : ℕ) (number : (0 < t) × (t ≤ k.world.made))
     (few : k.world.made ≤ 64) (awake : k.world.asleep t ≡ None) where
   abbrev b : Build
   b = build_of p w k.world.made
@@ -100,9 +104,9 @@ module _ (p : Program) (w : WellFormed p) (steps : ℕ) (s : State) (c : SourceS
       → mid.word (variable_address p m i) ≡ s.word (variable_address p m i))
       → w2.at ≡ k.world.at → ((u : ℕ) → w2.result u < 2 ^ 32) → ((u : ℕ) → u ≢ t → w2.result u ≡ k.world.result u)
       → w2.sequence ≡ k.world.sequence → Puts c.process f t (Some (ending end l)) → AreOwn kinds
-      → Leads p c (map (act t) kinds) (record c { process = f }) → Places p s' t c (record c { process = f }) done kinds
+      → Leads p c (map (act t) kinds) (record c { process = f }) → Places p s' t c (record c { process = f }) done late (stages k.world t) W.Leaves kinds
       → IsSome kinds ⊎ (3 < n)
-      → s' ≡ with_thread mid t (Exits phase) → Next p w steps s' t done pauses n c
+      → s' ≡ with_thread mid t (Exits phase) → Next p w steps s' t done late pauses n c (stages k.world)
   begins_exit end mid w2 f kinds ends chain reached shares size made same_made output thread words at results others
       numbers ps own leads places paced same =
       let pt = Walks first NoEntry end in
@@ -134,13 +138,15 @@ module _ (p : Program) (w : WellFormed p) (steps : ℕ) (s : State) (c : SourceS
         numbers = λ d. omega (arith, k.numbers d, ap (λ (g : Member → ℕ). g d) numbers);
       }) in
       let less = walks_left (build_of p w w2.made) c.variable t w' first end l phase at_entry short ends in
-      subst (λ (x : State). Next p w steps x t done pauses n c) (sym same) (record {
+      subst (λ (x : State). Next p w steps x t done late pauses n c (stages k.world)) (sym same) (record {
         after = c1;
         ties = m.ties;
         kinds = kinds;
         own = own;
         leads = leads;
-        places = subst (λ (x : State). Places p x t c (record c { process = f }) done kinds) same places;
+        stage = W.Leaves;
+        staged = m.staged;
+        places = subst (λ (x : State). Places p x t c (record c { process = f }) done late (stages k.world t) W.Leaves kinds) same places;
         paced = λ z. elim paced [
           | inl h ↦ inl h
           | inr h ↦ inr (omega (arith, less, m.is, h))
@@ -166,9 +172,9 @@ module _ (p : Program) (w : WellFormed p) (steps : ℕ) (s : State) (c : SourceS
       → Reached (record k.world { at = at }) c.table → (at t).point ≡ Dies (Faulted fault) NoEntry → (at t).list ≡ l
       → ((y : Place) → put at t y ≡ put k.world.at t y) → Chain k.world.link first l
       → Puts c.process f t (Some (Dying (Faulted fault) l)) → AreOwn kinds
-      → Leads p c (map (act t) kinds) (record c { process = f }) → Places p s' t c (record c { process = f }) done kinds
+      → Leads p c (map (act t) kinds) (record c { process = f }) → Places p s' t c (record c { process = f }) done late (stages k.world t) W.Leaves kinds
       → IsSome kinds ⊎ (3 < n)
-      → MovesSo p done s t woken (look (code_of p) t (Dies' fault)) s' → Next p w steps s' t done pauses n c
+      → StepsSo p done late (mark_of (marks_of p) (Dies' fault)) s t woken (look (code_of p) t (Dies' fault)) s' → Next p w steps s' t done late pauses n c (stages k.world)
   by_fault fault at f kinds reached stands list same chain ps own leads places paced g =
       let end = Aborted (Faulted fault) in
       let pt = Walks first NoEntry end in
@@ -190,10 +196,10 @@ module _ (p : Program) (w : WellFormed p) (steps : ℕ) (s : State) (c : SourceS
   -- a thread that comes to a fault which it met in the source already
   pub dies_step : (fault : Fault) → (k.world.at t).point ≡ Dies (Faulted fault) NoEntry
       → c.process t ≡ Some (Dying (Faulted fault) l) → 3 < n
-      → MovesSo p done s t woken (look (code_of p) t (Dies' fault)) s' → Next p w steps s' t done pauses n c
+      → StepsSo p done late (mark_of (marks_of p) (Dies' fault)) s t woken (look (code_of p) t (Dies' fault)) s' → Next p w steps s' t done late pauses n c (stages k.world)
   dies_step fault point proc enough moves = by_fault fault k.world.at c.process [] k.reached point refl (λ y. refl)
       (dying_chain k.world c.table t (Faulted fault) NoEntry inv point) (same_puts c.process t _ proc) tt refl
-      (nothing moves.4 refl)
+      (again fault moves.4 moves.5 (ap stage_of point) refl refl)
       (inr enough) moves
 
   -- the state of the machine, and the words of the world, after a return
@@ -246,11 +252,11 @@ module _ (p : Program) (w : WellFormed p) (steps : ℕ) (s : State) (c : SourceS
   result_fits (Some v) fits u = at_put k.world.result t v u (λ x. x < 2 ^ 32) (λ e. fits) (λ o. k.words u)
 
   -- the machine's answer is the head, whatever is returned
-  return_moves : (r : Option ℕ) → MovesSo p done s t woken (Asks (return_request r) first_exit) s'
+  return_moves : (mark : Option Mark) (r : Option ℕ) → StepsSo p done late mark s t woken (Asks (return_request r) first_exit) s'
       → s' ≡ with_thread (returned_state r) t (Exits phase)
-  return_moves None g = g.3 ∙ ap (λ (x : State). with_thread x t (first_exit g.0)) g.2.1.1
+  return_moves mark None g = g.3 ∙ ap (λ (x : State). with_thread x t (first_exit g.0)) g.2.1.1
       ∙ ap (λ a. with_thread (returned_state None) t (first_exit a)) (g.2.1.0 ∙ head_word)
-  return_moves (Some v) g = g.3 ∙ ap (λ (x : State). with_thread x t (first_exit g.0)) g.2.1.1
+  return_moves mark (Some v) g = g.3 ∙ ap (λ (x : State). with_thread x t (first_exit g.0)) g.2.1.1
       ∙ ap (λ a. with_thread (returned_state (Some v)) t (first_exit a)) (g.2.1.0 ∙ head_word)
 
   result_end : (r : Option ℕ) → k.world.result t ≡ 0 → returned_end k.world t r ≡ Ended (left_value r)
@@ -258,14 +264,14 @@ module _ (p : Program) (w : WellFormed p) (steps : ℕ) (s : State) (c : SourceS
   result_end (Some v) e = refl
 
   -- the first procedure returns, and the exit begins; threads stand as `at` says before that
-  by_return : (r : Option ℕ) (at : ℕ → Place) (f : ℕ → Option Process) (kinds : List Kind) → IsResult r → l ≡ []
+  by_return : (mark : Option Mark) (r : Option ℕ) (at : ℕ → Place) (f : ℕ → Option Process) (kinds : List Kind) → IsResult r → l ≡ []
       → Reached (record k.world { at = at }) c.table → (at t).point ≡ Runs → (at t).list ≡ l
       → ((y : Place) → put at t y ≡ put k.world.at t y) → (k.world.at t).point ≡ Runs
       → Puts c.process f t (Some (Leaving (left_value r))) → AreOwn kinds
-      → Leads p c (map (act t) kinds) (record c { process = f }) → Places p s' t c (record c { process = f }) done kinds
+      → Leads p c (map (act t) kinds) (record c { process = f }) → Places p s' t c (record c { process = f }) done late (stages k.world t) W.Leaves kinds
       → IsSome kinds ⊎ (3 < n)
-      → MovesSo p done s t woken (Asks (return_request r) first_exit) s' → Next p w steps s' t done pauses n c
-  by_return r at f kinds fits none reached stands list same point ps own leads places paced g =
+      → StepsSo p done late mark s t woken (Asks (return_request r) first_exit) s' → Next p w steps s' t done late pauses n c (stages k.world)
+  by_return mark r at f kinds fits none reached stands list same point ps own leads places paced g =
       let end = Ended (left_value r) in
       let pt = Walks first NoEntry end in
       let w1 = record k.world { at = at } in
@@ -282,21 +288,30 @@ module _ (p : Program) (w : WellFormed p) (steps : ℕ) (s : State) (c : SourceS
       (returned_shares r) (returned_size r) (returned_made r ∙ k.made) refl (returned_output r) (returned_thread r)
       (λ d i h. returned_words r d i h) refl (result_fits r fits)
       (λ u o. put_other k.world.result t (result_after r (k.world.result t)) u o) refl ps own leads places paced
-      (return_moves r g)
+      (return_moves mark r g)
 
   -- a return is no action that others learn of
-  returns_done : (r : Option ℕ) → MovesSo p done s t woken (Asks (return_request r) first_exit) s' → done ≡ false
-  returns_done None g = g.4
-  returns_done (Some v) g = g.4
+  returns_done : (mark : Option Mark) (r : Option ℕ)
+      → StepsSo p done late mark s t woken (Asks (return_request r) first_exit) s' → done ≡ false
+  returns_done mark None g = g.4
+  returns_done mark (Some v) g = g.4
+
+  -- it is an action that waits, by its mark
+  returns_late : (mark : Option Mark) (r : Option ℕ)
+      → StepsSo p done late mark s t woken (Asks (return_request r) first_exit) s' → late ≡ last_mark mark
+  returns_late mark None g = g.5
+  returns_late mark (Some v) g = g.5
 
   -- a thread whose process leaves already
   pub returns_step : (r : Option ℕ) (x : Thread) → IsResult r → (k.world.at t).point ≡ Runs → l ≡ []
       → c.process t ≡ Some (Leaving (left_value r)) → look (code_of p) t x ≡ Asks (return_request r) first_exit
-      → 3 < n → MovesSo p done s t woken (look (code_of p) t x) s' → Next p w steps s' t done pauses n c
-  returns_step r x fits point none proc h enough moves = by_return r k.world.at c.process [] fits none k.reached point
+      → last_mark (mark_of (marks_of p) x) ≡ None → 3 < n → StepsSo p done late (mark_of (marks_of p) x) s t woken (look (code_of p) t x) s' → Next p w steps s' t done late pauses n c (stages k.world)
+  returns_step r x fits point none proc h mark enough moves = by_return (mark_of (marks_of p) x) r k.world.at c.process [] fits none k.reached point
       refl (λ y. refl) point (same_puts c.process t _ proc) tt refl
-      (nothing (returns_done r (subst (λ (i : Look). MovesSo p done s t woken i s') h moves)) refl) (inr enough)
-      (subst (λ (i : Look). MovesSo p done s t woken i s') h moves)
+      (nothing (returns_done (mark_of (marks_of p) x) r (subst (λ (i : Look). StepsSo p done late (mark_of (marks_of p) x) s t woken i s') h moves))
+      (returns_late (mark_of (marks_of p) x) r (subst (λ (i : Look). StepsSo p done late (mark_of (marks_of p) x) s t woken i s') h moves) ∙ mark)
+      (inr refl) refl) (inr enough)
+      (subst (λ (i : Look). StepsSo p done late (mark_of (marks_of p) x) s t woken i s') h moves)
 
   module _ (q : Process) (proc : c.process t ≡ Some q) (point : (k.world.at t).point ≡ Runs) (list : l ≡ holds q) where
     takes_up : (label : Label) (r : Process) → offer p c.variable q ≡ Does label Nothing r
@@ -306,7 +321,7 @@ module _ (p : Program) (w : WellFormed p) (steps : ℕ) (s : State) (c : SourceS
     -- a thread that meets a fault
     pub faults_step : (fault : Fault) (x : Thread) → IsAtWork p q c.variable → x ≡ Dies' fault
         → offer p c.variable q ≡ Does (Alone (L.Fails fault)) Nothing (Dying (Faulted fault) (holds q))
-        → MovesSo p done s t woken (look (code_of p) t x) s' → Next p w steps s' t done pauses n c
+        → StepsSo p done late (mark_of (marks_of p) x) s t woken (look (code_of p) t x) s' → Next p w steps s' t done late pauses n c (stages k.world)
     faults_step fault x work e o moves =
         let move = Raise fault in
         let can : Can k.world t move = record { number = number; awake = awake; stands = point; finds = tt } in
@@ -314,8 +329,8 @@ module _ (p : Program) (w : WellFormed p) (steps : ℕ) (s : State) (c : SourceS
         let o' : offer p c.variable q ≡ Does (Alone (L.Fails fault)) Nothing r =
         o ∙ ap (λ (i : List ℕ). Does (Alone (L.Fails fault)) Nothing (Dying (Faulted fault) i)) (sym list) in
         let z = thread_at (Dies (Faulted fault) NoEntry) l in
-        let g : MovesSo p done s t woken (look (code_of p) t (Dies' fault)) s' =
-        subst (λ (i : Thread). MovesSo p done s t woken (look (code_of p) t i) s') e moves in
+        let g : StepsSo p done late (mark_of (marks_of p) (Dies' fault)) s t woken (look (code_of p) t (Dies' fault)) s' =
+        subst (λ (i : Thread). StepsSo p done late (mark_of (marks_of p) i) s t woken (look (code_of p) t i) s') e moves in
         by_fault fault (put k.world.at t z) (put c.process t (Some r)) (L.Fails fault ∷ [])
         (reached_on k.world c.table t move k.reached can)
         (ap (λ (i : Place). i.point) (put_same k.world.at t z))
@@ -326,23 +341,24 @@ module _ (p : Program) (w : WellFormed p) (steps : ℕ) (s : State) (c : SourceS
               (takes_up (Alone (L.Fails fault)) r o') (permitted k.world c.table t move inv can).0,
           refl,
         )
-        (waits _ _ (Alone (L.Fails fault)) g.4 proc (may_wait p w steps s c k t number awake point q r
+        (waits _ _ (Alone (L.Fails fault)) g.4 g.5 (ap stage_of point) tt proc (may_wait p w steps s c k t number awake point q r
         (Alone (L.Fails fault)) list work.steady refl (takes_up (Alone (L.Fails fault)) r o') refl (λ end h. cc)) refl)
         (inl tt) g
 
     -- a thread whose process leaves with this step
     pub leaves_step : (r : Option ℕ) (x : Thread) → IsAtWork p q c.variable → IsResult r
         → look (code_of p) t x ≡ Asks (return_request r) first_exit
+        → last_mark (mark_of (marks_of p) x) ≡ Some L.Return
         → offer p c.variable q ≡ Does (Alone L.Return) Nothing (Leaving (left_value r))
-        → MovesSo p done s t woken (look (code_of p) t x) s' → Next p w steps s' t done pauses n c
-    leaves_step r x work fits h o moves =
+        → StepsSo p done late (mark_of (marks_of p) x) s t woken (look (code_of p) t x) s' → Next p w steps s' t done late pauses n c (stages k.world)
+    leaves_step r x work fits h mark o moves =
         let move = Own (Alone L.Return) in
         let can : Can k.world t move = record { number = number; awake = awake; stands = point; finds = tt } in
         let after' = Leaving (left_value r) in
         let takes = takes_up (Alone L.Return) after' o in
         let none : l ≡ [] = list ∙ sym (work.keeps (Alone L.Return) Nothing after' tt takes) in
         let z = thread_at Runs l in
-        by_return r (put k.world.at t z) (put c.process t (Some after')) (L.Return ∷ []) fits none
+        by_return (mark_of (marks_of p) x) r (put k.world.at t z) (put c.process t (Some after')) (L.Return ∷ []) fits none
         (reached_on k.world c.table t move k.reached can)
         (ap (λ (i : Place). i.point) (put_same k.world.at t z))
         (ap (λ (i : Place). i.list) (put_same k.world.at t z)) (λ y. put_put k.world.at t z y) point
@@ -352,7 +368,10 @@ module _ (p : Program) (w : WellFormed p) (steps : ℕ) (s : State) (c : SourceS
               (permitted k.world c.table t move inv can).0,
           refl,
         )
-        (waits _ _ (Alone L.Return) (returns_done r (subst (λ (i : Look). MovesSo p done s t woken i s') h moves)) proc
+        (waits _ _ (Alone L.Return)
+        (returns_done (mark_of (marks_of p) x) r (subst (λ (i : Look). StepsSo p done late (mark_of (marks_of p) x) s t woken i s') h moves))
+        (returns_late (mark_of (marks_of p) x) r (subst (λ (i : Look). StepsSo p done late (mark_of (marks_of p) x) s t woken i s') h moves) ∙ mark)
+        (ap stage_of point) tt proc
         (may_wait p w steps s c k t number awake point q after' (Alone L.Return) list work.steady refl takes refl
         (λ end h. cc)) refl)
-        (inl tt) (subst (λ (i : Look). MovesSo p done s t woken i s') h moves)
+        (inl tt) (subst (λ (i : Look). StepsSo p done late (mark_of (marks_of p) x) s t woken i s') h moves)

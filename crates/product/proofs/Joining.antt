@@ -13,8 +13,8 @@ use Rattle.machine.specs.States.{State, with_thread}
 use Rattle.machine.specs.Runs.{is_paused, has_ended}
 use Rattle.program.specs.Trees.{Part, NoPart, SomePart, followed_by, Program}
 use Rattle.program.specs.WellFormed.{WellFormed}
-use Rattle.code.specs.Pieces.{code_of}
-use Rattle.meaning.specs.Labels.{Cause, Faulted, Killed, End, Ended, Aborted, Joins}
+use Rattle.code.specs.Pieces.{marks_of, code_of}
+use Rattle.meaning.specs.Labels.{Kind, Cause, Faulted, Killed, End, Ended, Aborted, Joins}
 use Rattle.meaning.specs.Processes.{Frame, Caller, Process, Joining, Failing, goes_on, with_result, all_monitors}
 use Rattle.meaning.specs.Offers.{joined, joined_part}
 use Rattle.meaning.specs.States.{SourceState}
@@ -44,13 +44,13 @@ use Rattle.templates.specs.Templates.{ActsSo}
 use Rattle.protocol.specs.Carries.{Event, Acts}
 use Rattle.words.specs.Updates.{put}
 use Rattle.templates.proofs.Layouts.{number_is}
-use Rattle.product.specs.Placing.{MovesSo, completes}
+use Rattle.product.specs.Placing.{StepsSo, completes}
 use Rattle.product.specs.Standing.{StandsAt, works, reads, sleeps, learns, takes, IsLast, IsChild}
 use Rattle.product.specs.Ranks.{rank, steps_left, more_steps, before_template}
 use Rattle.product.specs.Corresponding.{Corresponds, IsBefore}
 use Rattle.product.specs.Serving.{IsServed, IsAskable}
 use Rattle.product.proofs.Worlds.{reached_good}
-use Rattle.product.proofs.Completions.{point_completes, listed_at}
+use Rattle.product.proofs.Completions.{point_late, point_completes, listed_at}
 use Rattle.product.proofs.Resumed.{who_resumes}
 use Rattle.product.proofs.Moving.{IsLow, Next}
 use Rattle.product.proofs.Stepped.{Arrives, stepped}
@@ -58,6 +58,8 @@ use Rattle.product.proofs.Serving.{served}
 use Rattle.product.proofs.Templating.{awake_at, not_paused, works_on}
 use Rattle.product.proofs.Keeping.{goes_on_keeps, faults_keep}
 use Rattle.product.proofs.Acting.{held_of}
+use Rattle.product.specs.Waiting.{Stage, stages, stage_of, Agrees, Works}
+use Rattle.execution.specs.Later.{mark_of, later_request}
 
 cause_small : (cause : Cause) → cause_word cause ≢ 16
 cause_small (Faulted ResultOutOfRange) e = absurd cc
@@ -88,7 +90,7 @@ no : {A : Type 0} (a b : ℕ) (x y : A) → a ≢ b → (if a == b then x else y
 no a b x y h = cond-false (a == b) x y (ne_eqb a b h)
 
 module _ (p : Program) (w : WellFormed p) (steps : ℕ) (s : State) (c : SourceState) (k : Corresponds p w steps s c)
-    (t : ℕ) (woken : List ℕ) (done pauses : Bool) (s' : State) (n : ℕ) (number : (0 < t) × (t ≤ k.world.made))
+    (t : ℕ) (woken : List ℕ) (done : Bool) (late : Option Kind) (pauses : Bool) (s' : State) (n : ℕ) (number : (0 < t) × (t ≤ k.world.made))
     (few : k.world.made ≤ 64) (awake : k.world.asleep t ≡ None) (paused : pauses ≡ is_paused s' t) (child : ℕ)
     (into : Option ℕ) (part : Part) (f : Frame) (cs : List Caller)
     (is : IsChild (build_of p w k.world.made) child f cs)
@@ -110,7 +112,7 @@ module _ (p : Program) (w : WellFormed p) (steps : ℕ) (s : State) (c : SourceS
   module _ (pt : Point) (q : Process) (x : Thread) (asks : Request) (go : ℕ → Thread)
       (proc : c.process t ≡ Some q) (point : (k.world.at t).point ≡ pt) (looks : look (code_of p) t x ≡ Asks asks go)
       (askable : IsAskable p (request t pt)) (same : asked p (request t pt) ≡ Some asks)
-      (before : IsBefore pt) (stays' : (o : ℕ) → told p (request t pt) o ≡ o) (on : next_list pt l ≡ l) where
+      (before : IsBefore pt) (working : stage_of pt ≡ Works) (stays' : (o : ℕ) → told p (request t pt) o ≡ o) (on : next_list pt l ≡ l) where
     module _ (answer : ℕ) (mid : State) (sv : IsServed p s mid k.world t pt answer)
         (e' : s' ≡ with_thread mid t (go answer)) where
       abbrev y : Thread
@@ -142,7 +144,7 @@ module _ (p : Program) (w : WellFormed p) (steps : ℕ) (s : State) (c : SourceS
           → steps_left (build_of p w made) c.variable t (go_list sv.after t to ms) stand < n)
 
       arrives : ((e : End) → Goes e) → (e : End) → MayAnswer pt sv.reply
-          → Arrives p w steps s c k t done pauses s' mid n answer y q pt number awake proc point sv came e
+          → Arrives p w steps s c k t done late pauses s' mid n answer y q pt number awake proc point sv came e
       arrives goes e may =
           let g = goes e in
           let mine : Fine e k.world.made g.thread g.process g.to l =
@@ -169,8 +171,11 @@ module _ (p : Program) (w : WellFormed p) (steps : ℕ) (s : State) (c : SourceS
           ∙ point_completes p k.world c.table t pt sv.reply sv.after e (k.world.at t).list asks
           (number_is t number.0 (omega (arith, number.1, few))) (listed_at k.world c.table t pt inv point) may askable same
 
-      went : done ≡ completes p asks answer → ((e : End) → Goes e) → Next p w steps s' t done pauses n c
-      went seen goes = stepped p w steps s c k t done pauses s' mid n answer y q pt number awake proc point sv came
+      went : done ≡ completes p asks answer → late ≡ later_request (mark_of (marks_of p) x) asks answer
+          → ((e : End) → Goes e) → Next p w steps s' t done late pauses n c (stages k.world)
+      went seen told_of goes = stepped p w steps s c k t done late pauses s' mid n answer y q pt number awake proc point sv came
+          (told_of ∙ point_late p (mark_of (marks_of p) x) t pt answer asks working same)
+          (subst (λ (i : Stage). Agrees i false) (sym working) refl)
           (shown seen)
           (λ e u label h. who_resumes p s' k.world c.table t pt sv.reply sv.after e u label
           (ap (λ (x : State). x.made) came ∙ sv.keeps.made ∙ k.made)
@@ -178,28 +183,28 @@ module _ (p : Program) (w : WellFormed p) (steps : ℕ) (s : State) (c : SourceS
 
     join_step : ((answer : ℕ) (mid : State) (sv : IsServed p s mid k.world t pt answer)
         (e' : s' ≡ with_thread mid t (go answer)) (e : End) → Goes answer mid sv e' e)
-        → IsLow k.world.sequence (look (code_of p) t x) → MovesSo p done s t woken (look (code_of p) t x) s'
-        → Next p w steps s' t done pauses n c
+        → IsLow k.world.sequence (look (code_of p) t x) → StepsSo p done late (mark_of (marks_of p) x) s t woken (look (code_of p) t x) s'
+        → Next p w steps s' t done late pauses n c (stages k.world)
     join_step goes low moves =
-        let g : MovesSo p done s t woken (Asks asks go) s' = subst (λ (i : Look). MovesSo p done s t woken i s') looks moves in
+        let g : StepsSo p done late (mark_of (marks_of p) x) s t woken (Asks asks go) s' = subst (λ (i : Look). StepsSo p done late (mark_of (marks_of p) x) s t woken i s') looks moves in
         let sv = served p s k.world c.table t pt asks woken g.0 g.1 k.shares inv number.0
         (omega (arith, number.1, few)) (low asks go looks) askable same g.2 in
-        went g.0 g.1 sv g.3 g.4 (goes g.0 g.1 sv g.3)
+        went g.0 g.1 sv g.3 g.4 g.5 (goes g.0 g.1 sv g.3)
 
   -- the id word is read: the child is over, or the thread is to sleep
   pub read_step : (x : Thread) → x ≡ j.reads → c.process t ≡ Some (Joining child into part f cs)
       → (k.world.at t).point ≡ JoinReads child → rank (more_steps b) k.world (JoinReads child) ≤ n
-      → IsLow k.world.sequence (look (code_of p) t x) → MovesSo p done s t woken (look (code_of p) t x) s'
-      → Next p w steps s' t done pauses n c
+      → IsLow k.world.sequence (look (code_of p) t x) → StepsSo p done late (mark_of (marks_of p) x) s t woken (look (code_of p) t x) s'
+      → Next p w steps s' t done late pauses n c (stages k.world)
   read_step x there proc point enough low moves =
       join_step (JoinReads child) (Joining child into part f cs) x (AskLoad (process_word child 2)) j.after_read proc
-      point (ap (look (code_of p) t) there ∙ j.read) valid_child refl tt (λ o. refl) refl
+      point (ap (look (code_of p) t) there ∙ j.read) valid_child refl tt refl (λ o. refl) refl
       (λ answer mid sv e' e. by_reply answer mid sv e' e sv.reply refl) low moves
     where
       by_reply : (answer : ℕ) (mid : State) (sv : IsServed p s mid k.world t (JoinReads child) answer)
           (e' : s' ≡ with_thread mid t (j.after_read answer)) (e : End) (v : ℕ) → sv.reply ≡ v
           → Goes (JoinReads child) (Joining child into part f cs) x (AskLoad (process_word child 2)) j.after_read proc
-          point (ap (look (code_of p) t) there ∙ j.read) valid_child refl tt (λ o. refl) refl answer mid sv e' e
+          point (ap (look (code_of p) t) there ∙ j.read) valid_child refl tt refl (λ o. refl) refl answer mid sv e' e
       by_reply answer mid sv e' e zero z = record {
         to = JoinLearns child e;
         leads = yes sv.reply 0 _ _ z;
@@ -231,11 +236,11 @@ module _ (p : Program) (w : WellFormed p) (steps : ℕ) (s : State) (c : SourceS
   -- the thread sleeps, or the child is over by now
   pub sleep_step : (x : Thread) → x ≡ j.sleeps → c.process t ≡ Some (Joining child into part f cs)
       → (k.world.at t).point ≡ JoinSleeps child → 18 ≤ n
-      → IsLow k.world.sequence (look (code_of p) t x) → MovesSo p done s t woken (look (code_of p) t x) s'
-      → Next p w steps s' t done pauses n c
+      → IsLow k.world.sequence (look (code_of p) t x) → StepsSo p done late (mark_of (marks_of p) x) s t woken (look (code_of p) t x) s'
+      → Next p w steps s' t done late pauses n c (stages k.world)
   sleep_step x there proc point enough low moves =
       join_step (JoinSleeps child) (Joining child into part f cs) x (AskWait (process_word child 2) child) j.after_sleep
-      proc point (ap (look (code_of p) t) there ∙ j.sleep) valid_child refl tt (λ o. refl) refl
+      proc point (ap (look (code_of p) t) there ∙ j.sleep) valid_child refl tt refl (λ o. refl) refl
       (λ answer mid sv e' e. record {
         to = JoinReads child;
         leads = refl;
@@ -246,7 +251,7 @@ module _ (p : Program) (w : WellFormed p) (steps : ℕ) (s : State) (c : SourceS
         stands = reads join_steps (omega arith) is j (j.again sv.reply);
         paced = λ none i. fewer sv.after (after_awake (JoinSleeps child) (Joining child into part f cs) x
             (AskWait (process_word child 2) child) j.after_sleep proc point (ap (look (code_of p) t) there ∙ j.sleep)
-            valid_child refl tt (λ o. refl) refl answer mid sv e' i) sv.serves;
+            valid_child refl tt refl (λ o. refl) refl answer mid sv e' i) sv.serves;
       }) low moves
     where
       fewer : (world : World) → world.asleep t ≡ None
@@ -303,12 +308,12 @@ module _ (p : Program) (w : WellFormed p) (steps : ℕ) (s : State) (c : SourceS
   -- the outcome is read: the child's result is taken, or the process goes on after its abort
   pub learn_step : (x : Thread) (end : End) → x ≡ j.learns → c.process t ≡ Some (joined into part f cs end)
       → (k.world.at t).point ≡ JoinLearns child end → more_steps b + 34 ≤ n
-      → IsLow k.world.sequence (look (code_of p) t x) → MovesSo p done s t woken (look (code_of p) t x) s'
-      → Next p w steps s' t done pauses n c
+      → IsLow k.world.sequence (look (code_of p) t x) → StepsSo p done late (mark_of (marks_of p) x) s t woken (look (code_of p) t x) s'
+      → Next p w steps s' t done late pauses n c (stages k.world)
   learn_step x (Ended z) there proc point enough low moves =
       let tell = tells (JoinLearns child (Ended z)) (Ended z) point (refl, refl) in
       join_step (JoinLearns child (Ended z)) (joined into part f cs (Ended z)) x (AskLoad (process_word child 5))
-      j.after_outcome proc point (ap (look (code_of p) t) there ∙ j.outcome) valid_child refl tt (λ o. refl) refl
+      j.after_outcome proc point (ap (look (code_of p) t) there ∙ j.outcome) valid_child refl tt refl (λ o. refl) refl
       (λ answer mid sv e' e. record {
         to = JoinTakes child (Ended z);
         leads = yes sv.reply 16 _ _ (sv.serves.0 ∙ tell.0);
@@ -326,7 +331,7 @@ module _ (p : Program) (w : WellFormed p) (steps : ℕ) (s : State) (c : SourceS
       join_step (JoinLearns child (Aborted cause)) (joined into part f cs (Aborted cause)) x
       (AskLoad (process_word child 5)) j.after_outcome proc point (ap (look (code_of p) t) there ∙ j.outcome)
       valid_child
-      refl tt (λ o. refl) refl
+      refl tt refl (λ o. refl) refl
       (λ answer mid sv e' e. record {
         to = Runs;
         leads = no sv.reply 16 _ _ (λ i. cause_small cause (sym (sv.serves.0 ∙ tell) ∙ i));
@@ -350,8 +355,8 @@ module _ (p : Program) (w : WellFormed p) (steps : ℕ) (s : State) (c : SourceS
   -- the result is read, and taken
   pub take_step : (x : Thread) (z : ℤ) → x ≡ j.takes → c.process t ≡ Some (goes_on None (with_result into z f) cs)
       → (k.world.at t).point ≡ JoinTakes child (Ended z) → more_steps b + 17 ≤ n
-      → IsLow k.world.sequence (look (code_of p) t x) → MovesSo p done s t woken (look (code_of p) t x) s'
-      → Next p w steps s' t done pauses n c
+      → IsLow k.world.sequence (look (code_of p) t x) → StepsSo p done late (mark_of (marks_of p) x) s t woken (look (code_of p) t x) s'
+      → Next p w steps s' t done late pauses n c (stages k.world)
   take_step x z there proc point enough low moves =
       let tell = tells (JoinTakes child (Ended z)) (Ended z) point (refl, refl) in
       let v = k.world.result child in
@@ -370,7 +375,7 @@ module _ (p : Program) (w : WellFormed p) (steps : ℕ) (s : State) (c : SourceS
       × ((world : World) → steps_left b c.variable t world stand ≡ template_steps + most_steps b + before_template))
       held stand in
       join_step (JoinTakes child (Ended z)) q x (AskLoad (process_word child 4)) j.after_result proc point
-      (ap (look (code_of p) t) there ∙ j.result) valid_child refl tt (λ o. refl) refl
+      (ap (look (code_of p) t) there ∙ j.result) valid_child refl tt refl (λ o. refl) refl
       (λ answer mid sv e' e. record {
         to = Runs;
         leads = refl;

@@ -30,3 +30,4 @@ pub mod Making
 pub mod Stepping
 pub mod Whole
 pub mod Tracking
+pub mod Finishing

@@ -1,5 +1,5 @@
 -- A local step of a thread: it goes on towards where it stands, and nothing else changes.
-use Rattle.std.proofs.Common.{◌≡◌, ℕ, suc, ◌<◌, ◌≤◌, Bool, true, List, [], Some, None, refl, ap, sym, ◌∙◌, subst, arith, inl}
+use Rattle.std.proofs.Common.{Option, ◌≡◌, ℕ, suc, ◌<◌, ◌≤◌, Bool, true, List, [], Some, None, refl, ap, sym, ◌∙◌, subst, arith, inl}
 use Rattle.std.proofs.Common.{inr, ◌⊎◌}
 use Rattle.words.specs.Updates.{put}
 use Rattle.execution.specs.Later.{MarkedImage, mark_of, later_mark}
@@ -8,7 +8,7 @@ use Rattle.locals.specs.Looks.{Look, Goes, look}
 use Rattle.machine.specs.States.{State, with_thread}
 use Rattle.program.specs.Trees.{Program}
 use Rattle.program.specs.WellFormed.{WellFormed}
-use Rattle.code.specs.Pieces.{code_of}
+use Rattle.code.specs.Pieces.{marks_of, code_of}
 use Rattle.meaning.specs.Processes.{Process}
 use Rattle.meaning.specs.States.{SourceState}
 use Rattle.protocol.specs.Points.{Point, Thread as Place, thread_at}
@@ -16,11 +16,13 @@ use Rattle.protocol.specs.World.{mem}
 use Rattle.protocol.proofs.Sleeps.{at_put}
 use Rattle.execution.specs.Walks.{Walks, WalksWithin, stays, goes, loads, empty_view}
 use Rattle.refinement.specs.Built.{build_of}
-use Rattle.product.specs.Placing.{MovesSo, nothing}
+use Rattle.product.specs.Placing.{StepsSo, nothing}
 use Rattle.product.specs.Standing.{StandsAt}
 use Rattle.product.specs.Ranks.{steps_left}
 use Rattle.product.specs.Corresponding.{Corresponds, IsBefore}
 use Rattle.product.proofs.Moving.{Next, put_puts, same_puts, moved}
+use Rattle.product.specs.Waiting.{stages, stage_of}
+use Rattle.meaning.specs.Labels.{Kind}
 
 -- a change that changes nothing
 pub put_again : {A : Type 0} (f : ℕ → A) (t : ℕ) (v : A) → f t ≡ v → f ≡ put f t v
@@ -44,15 +46,15 @@ first_step source image t n x z walk = by_walk walk.few walk.walk
     by_walk few (loads h r more) = let none = r.mine in absurd cc
 
 module _ (p : Program) (w : WellFormed p) (steps : ℕ) (s : State) (c : SourceState) (k : Corresponds p w steps s c)
-    (t : ℕ) (woken : List ℕ) (done pauses : Bool) (s' : State) (n : ℕ) where
+    (t : ℕ) (woken : List ℕ) (done : Bool) (late : Option Kind) (pauses : Bool) (s' : State) (n : ℕ) where
   -- the thread stands for the same at another place of its code, with fewer steps left
   pub goes_local : (x y : Thread) (q : Process) (pt : Point) (l : List ℕ) → c.process t ≡ Some q
       → (k.world.at t).point ≡ pt → (k.world.at t).list ≡ l
       → (stand : StandsAt (build_of p w k.world.made) c.variable t (Some y) (Some q) pt l)
       → steps_left (build_of p w k.world.made) c.variable t k.world stand < n
-      → look (code_of p) t x ≡ Goes y → MovesSo p done s t woken (look (code_of p) t x) s' → Next p w steps s' t done pauses n c
-  goes_local x y q pt l proc point list stand less h moves =
-      let g : MovesSo p done s t woken (Goes y) s' = subst (λ (i : Look). MovesSo p done s t woken i s') h moves in
+      → look (code_of p) t x ≡ Goes y → later_mark (mark_of (marks_of p) x) ≡ None → StepsSo p done late (mark_of (marks_of p) x) s t woken (look (code_of p) t x) s' → Next p w steps s' t done late pauses n c (stages k.world)
+  goes_local x y q pt l proc point list stand less h plain moves =
+      let g : StepsSo p done late (mark_of (marks_of p) x) s t woken (Goes y) s' = subst (λ (i : Look). StepsSo p done late (mark_of (marks_of p) x) s t woken i s') h moves in
       let at : k.world.at ≡ put k.world.at t (thread_at pt l) =
       put_again k.world.at t (thread_at pt l) (ap (λ (i : Point). thread_at i (k.world.at t).list) point
       ∙ ap (thread_at pt) list) in
@@ -75,12 +77,14 @@ module _ (p : Program) (w : WellFormed p) (steps : ℕ) (s : State) (c : SourceS
         blank = λ u h. k.blank u (subst (λ (f : ℕ → Place). IsBefore (f u).point) (sym at) h);
         numbers = λ d. let few = k.numbers d in omega (arith, few);
       }) in
-      subst (λ (x : State). Next p w steps x t done pauses n c) (sym g.1) (record {
+      subst (λ (x : State). Next p w steps x t done late pauses n c (stages k.world)) (sym g.1) (record {
         after = c;
         ties = m.ties;
         kinds = [];
         own = tt;
         leads = refl;
-        places = nothing g.2 refl;
+        stage = stage_of pt;
+        staged = m.staged;
+        places = nothing g.2 (g.3 ∙ plain) (inl (ap stage_of (sym point))) refl;
         paced = λ z. inr (subst (λ i. i < n) (sym m.is) less);
       })

@@ -13,8 +13,8 @@ use Rattle.machine.specs.States.{State, with_thread}
 use Rattle.machine.specs.AbstractServing.{shared_of}
 use Rattle.program.specs.Trees.{Program}
 use Rattle.program.specs.WellFormed.{WellFormed}
-use Rattle.code.specs.Pieces.{code_of}
-use Rattle.meaning.specs.Labels.{Forks, FindsFull, Faulted}
+use Rattle.code.specs.Pieces.{marks_of, code_of}
+use Rattle.meaning.specs.Labels.{Kind, Forks, FindsFull, Faulted}
 use Rattle.meaning.specs.Labels as L
 use Rattle.meaning.specs.Processes.{Process, Dying, holds}
 use Rattle.meaning.specs.Offers.{MakesOne, Nothing, Makes, Offer, offer, TakesUp}
@@ -37,7 +37,7 @@ use Rattle.templates.proofs.Addresses.{variable_apart}
 use Rattle.execution.specs.Walks.{WalksWithin, stays, empty_view}
 use Rattle.refinement.specs.Built.{build_of, marked_image}
 use Rattle.templates.specs.Inside.{IsSteady}
-use Rattle.product.specs.Placing.{MovesSo, waits, acts}
+use Rattle.product.specs.Placing.{StepsSo, waits, acts}
 use Rattle.product.specs.Standing.{StandsAt, IsAtWork, faults}
 use Rattle.product.specs.Corresponding.{Corresponds, IsBefore}
 use Rattle.product.proofs.Moving.{Next}
@@ -48,21 +48,24 @@ use Rattle.product.proofs.Templating.{works_on}
 use Rattle.product.proofs.Standings.{stand_moves}
 use Rattle.product.proofs.Sourcing.{action, acted}
 use Rattle.product.proofs.Worlds.{reached_on, reached_good, shares_at, shares_stored}
+use Rattle.product.specs.Waiting.{Stage, stages, stage_of, Works}
+use Rattle.execution.specs.Later.{mark_of}
+use Rattle.std.specs.Prelude.{if◌then◌else◌}
 
 module _ (p : Program) (w : WellFormed p) (steps : ℕ) (s : State) (c : SourceState) (k : Corresponds p w steps s c)
-    (t : ℕ) (woken : List ℕ) (done pauses : Bool) (s' : State) (n : ℕ) (number : (0 < t) × (t ≤ k.world.made))
+    (t : ℕ) (woken : List ℕ) (done : Bool) (late : Option Kind) (pauses : Bool) (s' : State) (n : ℕ) (number : (0 < t) × (t ≤ k.world.made))
     (few : k.world.made ≤ 64) (awake : k.world.asleep t ≡ None) (q : Process) (proc : c.process t ≡ Some q)
     (point : (k.world.at t).point ≡ Runs) (list : (k.world.at t).list ≡ holds q) where
   -- no more can be made
   pub full_step : (go' : ℕ → Thread) (child : Process) (later : ℕ → Process) → go' 0 ≡ Dies' ProcessTableFull
       → offer p c.variable q ≡ MakesOne child later (Dying (Faulted ProcessTableFull) (holds q))
-      → most_processes ≤ k.world.made → done ≡ false → IsSteady p q c.variable → s' ≡ with_thread s t (go' 0) → Next p w steps s' t done pauses n c
-  full_step go' child later full o many none steady same =
+      → most_processes ≤ k.world.made → done ≡ false → late ≡ Some (L.Fails ProcessTableFull) → IsSteady p q c.variable → s' ≡ with_thread s t (go' 0) → Next p w steps s' t done late pauses n c (stages k.world)
+  full_step go' child later full o many none fails steady same =
       let can : Can k.world t ForkFull = record { number = number; awake = awake; stands = point; finds = many } in
       let takes : TakesUp (offer p c.variable q) FindsFull Nothing (Dying (Faulted ProcessTableFull) (holds q)) =
       subst (λ (i : Offer). TakesUp i FindsFull Nothing (Dying (Faulted ProcessTableFull) (holds q))) (sym o)
       (inr (refl, refl, refl)) in
-      starts p w steps s c k t woken done pauses s' n number few awake q proc point list ForkFull FindsFull s k.world (go' 0)
+      starts p w steps s c k t woken done late pauses s' n number few awake q proc point list ForkFull FindsFull s k.world (go' 0)
       (Dying (Faulted ProcessTableFull) (holds q)) (Dies (Faulted ProcessTableFull) NoEntry) (holds q)
       can refl refl takes tt refl
       (faults ProcessTableFull 0 (omega arith) (subst (λ (y : Thread).
@@ -70,7 +73,7 @@ module _ (p : Program) (w : WellFormed p) (steps : ℕ) (s : State) (c : SourceS
       (record { count = 0; few = omega arith; walk = stays })))
       k.shares (record { size = refl; made = refl; output = refl; thread = refl; variables = λ m i is. refl })
       refl refl refl refl
-      (waits _ _ FindsFull none proc (may_wait p w steps s c k t number awake point q _ FindsFull list steady refl takes
+      (waits _ _ FindsFull none fails (ap stage_of point) refl proc (may_wait p w steps s c k t number awake point q _ FindsFull list steady refl takes
       ((permitted k.world c.table t ForkFull (reached_good k.world c.table k.reached) can).0) (λ end h. cc)) refl) same
 
   module _ (child : Process) (later : ℕ → Process) (go' : ℕ → Thread) (entry : ℕ) (arguments : List ℕ)
@@ -164,8 +167,8 @@ module _ (p : Program) (w : WellFormed p) (steps : ℕ) (s : State) (c : SourceS
       ]
     ]
 
-    pub forked : done ≡ true → s' ≡ grown → Next p w steps s' t done pauses n c
-    forked is same = subst (λ (x : State). Next p w steps x t done pauses n c) (sym same) (record {
+    pub forked : done ≡ true → s' ≡ grown → Next p w steps s' t done late pauses n c (stages k.world)
+    forked is same = subst (λ (x : State). Next p w steps x t done late pauses n c (stages k.world)) (sym same) (record {
       after = c1;
       ties = record {
         world = w1;
@@ -197,7 +200,14 @@ module _ (p : Program) (w : WellFormed p) (steps : ℕ) (s : State) (c : SourceS
             proc takes (permitted k.world c.table made (Fork t) (reached_good k.world c.table k.reached) can_fork).0,
         refl,
       );
-      places = acts _ _ (Forks made) (Makes made child) (table_after k.world c.table made (Fork t)) is refl proc takes
+      stage = Works;
+      staged = λ u. at_put k.world.at made (thread_at Runs []) u (λ (z : Place). stage_of z.point
+          ≡ put (stages k.world) t Works u)
+          (λ e. at_put (stages k.world) t Works u (λ (x : Stage). Works ≡ x) (λ i. refl)
+          (λ i. sym (ap stage_of (ap (λ v. (k.world.at v).point) e ∙ can_fork.stands))))
+          (λ e. at_put (stages k.world) t Works u (λ (x : Stage). stages k.world u ≡ x)
+          (λ i. ap (stages k.world) i ∙ ap stage_of point) (λ i. refl));
+      places = acts _ _ (Forks made) (Makes made child) (table_after k.world c.table made (Fork t)) is refl refl proc takes
           ((permitted k.world c.table made (Fork t) (reached_good k.world c.table k.reached) can_fork).0) tt
           (λ m j i other. refl) tt refl;
       paced = λ z. inl tt;
@@ -211,15 +221,16 @@ module _ (p : Program) (w : WellFormed p) (steps : ℕ) (s : State) (c : SourceS
       → ((m : ℕ) → k.world.made ≤ suc m → suc m ≤ most_processes
       → Stands (build_of p w (suc m)) t (go' (suc m)) (later (suc m)))
       → ((m u : ℕ) → k.world.made ≤ m → Stands (build_of p w m) u (opening_thread entry arguments) child)
-      → MovesSo p done s t woken (look (code_of p) t x) s' → Next p w steps s' t done pauses n c
+      → StepsSo p done late (mark_of (marks_of p) x) s t woken (look (code_of p) t x) s' → Next p w steps s' t done late pauses n c (stages k.world)
   forks_step child later go' entry arguments x work h full o empty mine its moves =
-      by_answer (subst (λ (l : Look). MovesSo p done s t woken l s') h moves)
+      by_answer (subst (λ (l : Look). StepsSo p done late (mark_of (marks_of p) x) s t woken l s') h moves)
     where
-      by_answer : MovesSo p done s t woken (Asks (AskFork entry arguments true) go') s' → Next p w steps s' t done pauses n c
-      by_answer (answer, mid, (nobody, inl (many, is, same)), e, d) =
-          full_step go' child later full o (omega (arith, many, k.made)) (d ∙ ap (λ (a : ℕ). not (a == 0)) is) work.steady
+      by_answer : StepsSo p done late (mark_of (marks_of p) x) s t woken (Asks (AskFork entry arguments true) go') s' → Next p w steps s' t done late pauses n c (stages k.world)
+      by_answer (answer, mid, (nobody, inl (many, is, same)), e, d, f) =
+          full_step go' child later full o (omega (arith, many, k.made)) (d ∙ ap (λ (a : ℕ). not (a == 0)) is)
+          (f ∙ ap (λ (a : ℕ). if a == 0 then Some (L.Fails ProcessTableFull) else None) is) work.steady
           (e ∙ ap (λ (m : State). with_thread m t (go' answer)) same ∙ ap (λ a. with_thread s t (go' a)) is)
-      by_answer (answer, mid, (nobody, inr (less, room, is, same)), e, d) =
+      by_answer (answer, mid, (nobody, inr (less, room, is, same)), e, d, f) =
           forked child later go' entry arguments work (omega (arith, less, k.made)) o empty
           (mine k.world.made (omega arith) (omega (arith, less, k.made))) (its (suc k.world.made) (suc k.world.made)
           (omega arith)) (d ∙ ap (λ (a : ℕ). not (a == 0)) is ∙ ap not (ne_eqb (suc s.made) 0 (λ i. absurd cc)))

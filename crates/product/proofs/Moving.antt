@@ -1,5 +1,5 @@
 -- From states that belong together to the next, by a step of a thread.
-use Rattle.std.proofs.Common.{◌≡◌, ◌≢◌, ℕ, suc, ◌+◌, ◌<◌, ◌≤◌, Bool, true, false, List, length, Some, refl, sym}
+use Rattle.std.proofs.Common.{ap, ◌≡◌, ◌≢◌, ℕ, suc, ◌+◌, ◌<◌, ◌≤◌, Bool, true, false, List, length, Some, refl, sym}
 use Rattle.std.proofs.Common.{◌∙◌, subst, inl, inr, ◌⊎◌}
 use Rattle.std.specs.Prelude.{◌^◌, [], ◌∷◌, map, Option}
 use Rattle.std.proofs.lemmas.Bool.{cases_eq}
@@ -30,6 +30,8 @@ use Rattle.product.specs.Ranks.{steps_left}
 use Rattle.product.specs.Corresponding.{Reached, IsBefore, Corresponds}
 use Rattle.product.proofs.Sourcing.{act}
 use Rattle.product.proofs.Standings.{stand_moves}
+use Rattle.product.specs.Waiting.{Stage, stages, stage_of}
+use Rattle.std.specs.Prelude.{if◌then◌else◌, ◌==◌}
 
 -- a function with a value at a place, and the rest as before
 pub record Puts {A : Type 0} (f f' : ℕ → A) (t : ℕ) (v : A) : Type 0 where
@@ -59,6 +61,16 @@ IsSome (k ∷ ks) = Unit {0}
 abbrev pub HasNow : World → ℕ → ℕ → Type 0
 HasNow w u m = (mem m (w.at u).list ≡ true) ⊎ (entry_at (w.at u).point ≡ Owned m)
 
+-- how far threads are, where one is at another point
+pub put_stage : (at : ℕ → Place) (t : ℕ) (pt : Point) (l : List ℕ) (u : ℕ)
+    → stage_of (put at t (thread_at pt l) u).point ≡ put (λ v. stage_of (at v).point) t (stage_of pt) u
+put_stage at t pt l u = by_test (u == t)
+  where
+    by_test : (b : Bool) → stage_of (if b then thread_at pt l else at u).point
+        ≡ (if b then stage_of pt else stage_of (at u).point)
+    by_test true = refl
+    by_test false = refl
+
 module _ (p : Program) (w : WellFormed p) where
   -- how many steps a thread has left
   abbrev pub left_of : {steps : ℕ} {s : State} {c : SourceState} → Corresponds p w steps s c → ℕ → ℕ
@@ -66,19 +78,24 @@ module _ (p : Program) (w : WellFormed p) where
 
   -- what belongs to the machine's state after a step of thread t: with the actions of its process, one at least where
   -- it doesn't pause and no fewer steps are left
-  pub record Next (steps : ℕ) (s' : State) (t : ℕ) (done pauses : Bool) (n : ℕ) (c : SourceState) : Type 0 where
+  pub record Next (steps : ℕ) (s' : State) (t : ℕ) (done : Bool) (late : Option Kind) (pauses : Bool) (n : ℕ)
+      (c : SourceState) (was : ℕ → Stage) : Type 0 where
     pub after : SourceState
     pub ties : Corresponds p w (suc steps) s' after
     pub kinds : List Kind
     pub own : AreOwn kinds
     pub leads : Leads p c (map (act t) kinds) after
-    pub places : Places p s' t c after done kinds
+    -- how far each thread is then
+    pub stage : Stage
+    pub staged : (u : ℕ) → stages ties.world u ≡ put was t stage u
+    pub places : Places p s' t c after done late (was t) stage kinds
     pub paced : pauses ≡ false → IsSome kinds ⊎ (left_of ties t < n)
 
   -- states that belong together, with how many steps thread t has left
-  pub record Tied (steps : ℕ) (s : State) (c : SourceState) (t n : ℕ) : Type 0 where
+  pub record Tied (steps : ℕ) (s : State) (c : SourceState) (t n : ℕ) (now : ℕ → Stage) : Type 0 where
     pub ties : Corresponds p w steps s c
     pub is : left_of ties t ≡ n
+    pub staged : (u : ℕ) → stages ties.world u ≡ now u
 
   -- what is to be shown for the next states to belong together, where thread t has stepped from a point to another
   pub record Follow (steps : ℕ) (s : State) (c : SourceState) (k : Corresponds p w steps s c) (t : ℕ) (s' : State)
@@ -140,7 +157,7 @@ module _ (p : Program) (w : WellFormed p) where
     here u = subst (λ (g : ℕ → Place). Here u (s'.thread u) (c'.process u) (g u)) (sym f.at)
         (elim (cases_eq u t) [ inl e ↦ mine u e | inr o ↦ other u o ])
 
-    pub moved : Tied (suc steps) s' c' t now
+    pub moved : Tied (suc steps) s' c' t now (put (stages k.world) t (stage_of pt))
     moved = record {
       ties = record {
         world = w';
@@ -160,4 +177,5 @@ module _ (p : Program) (w : WellFormed p) where
         numbers = f.numbers;
       };
       is = (here t).1 refl;
+      staged = λ u. ap (λ (g : ℕ → Place). stage_of (g u).point) f.at ∙ put_stage k.world.at t pt l u;
     }

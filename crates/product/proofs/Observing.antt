@@ -417,8 +417,8 @@ module _ (p : Program) (w : WellFormed p) (s : State) (size : s.size ≡ memory_
     seen v o q pt l listed (S.works {x = x} {q = r} left few' k work) =
         busy (walk_busy (own_of r) v k.walk.count x k.last k.walk.walk (completes_busy v k.last r listed work.steady
         k.completes)) (completes_end b t v k.last r k.completes)
-    seen v o q pt l listed (S.returns None fits k) = busy (asks _ _ k (λ z. z)) refl
-    seen v o q pt l listed (S.returns (Some n) fits k) = busy (asks _ _ k (λ z. z)) refl
+    seen v o q pt l listed (S.returns None fits k mark) = busy (asks _ _ k (λ z. z)) refl
+    seen v o q pt l listed (S.returns (Some n) fits k mark) = busy (asks _ _ k (λ z. z)) refl
     seen v o q pt l listed (S.inside {x = x} {y = y} {pt = at} left k u few' walk fits same ne stands) =
         busy (steps_busy left x y walk (inside_busy u k at y fits ne stands)) (template_end b u t k at fits)
     seen v o q pt l listed (S.faults {x = x} fault left few' k) =

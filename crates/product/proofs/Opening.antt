@@ -41,6 +41,8 @@ use Rattle.templates.proofs.Addresses.{variable_apart}
 use Rattle.product.specs.Standing.{StandsAt, unmade}
 use Rattle.product.specs.Corresponding.{Corresponds}
 use Rattle.product.proofs.Templating.{works_on}
+use Rattle.product.specs.Waiting.{stages, stage_of}
+use Rattle.product.specs.Waiting as W
 
 begins_main : (values : List ℤ) (q : Procedure) → q.role ≡ Main → begins
     (record { role = q.role; locals = values; rest = q.body }) [] ≡ goes_on None
@@ -173,3 +175,12 @@ module _ (p : Program) (w : WellFormed p) where
           by_test : (b : Bool) → mem m (first_place b).list ≡ true → ⊥
           by_test true g = false≢true g
           by_test false g = false≢true g
+
+-- each thread works at first
+pub opens_calm : (p : Program) (w : WellFormed p) (u : ℕ) → stages (opens p w).world u ≡ W.Works
+unfolding opens
+opens_calm p w u = by_test (u == 1)
+  where
+    by_test : (b : Bool) → stage_of (first_place b).point ≡ W.Works
+    by_test true = refl
+    by_test false = refl

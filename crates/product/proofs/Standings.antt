@@ -174,7 +174,7 @@ module _ (b : Build) (made : ℕ) (le : b.made ≤ made) (v v' : Variables) (t :
         keeps = λ label effect after is takes. work.keeps label effect after is
             (subst (λ (o : Offer). TakesUp o label effect after) (steady.same v' same) takes);
       })
-  stand_moves x q pt l near (returns r fits h) = returns r fits h
+  stand_moves x q pt l near (returns r fits h mark) = returns r fits h mark
   stand_moves x q pt l near (inside {y = y} {pt = at} left k u few walk fits same ne stands) =
       inside left k u few walk (fits_grows u k fits) (same_before u k at y fits stands near same) ne stands
   stand_moves x q pt l near (faults f left few h) = faults f left few h

@@ -11,7 +11,7 @@ use Rattle.machine.specs.States.{State, with_thread}
 use Rattle.machine.specs.AbstractServing.{shared_of}
 use Rattle.program.specs.Trees.{Program}
 use Rattle.program.specs.WellFormed.{WellFormed}
-use Rattle.meaning.specs.Labels.{Label, Abandons, End, kind_of}
+use Rattle.meaning.specs.Labels.{Kind, Label, Abandons, End, kind_of}
 use Rattle.meaning.specs.Values.{Variables}
 use Rattle.meaning.specs.Table.{Table, Allows}
 use Rattle.meaning.specs.Processes.{Process}
@@ -45,6 +45,8 @@ use Rattle.product.specs.Serving.{IsServed}
 use Rattle.product.proofs.Sourcing.{action, acted}
 use Rattle.product.proofs.Worlds.{reached_on, reached_good, shares_at}
 use Rattle.product.proofs.Moving.{Puts, put_puts, same_puts, Next, Follow, moved}
+use Rattle.product.proofs.Completions.{next_stays, next_calm}
+use Rattle.product.specs.Waiting.{Stage, stages, stage_of, Agrees, Stays}
 
 -- an action of a process's own that others learn of
 abbrev IsHeard : Label → Type 0
@@ -100,7 +102,7 @@ carried_loud : (w : World) (T : Table) (t : ℕ) (pt : Point) (r : ℕ) (w' : Wo
 carried_loud w T t pt r w' e u label h = (carried_heard w T t pt r w' e u label h).1
 
 module _ (p : Program) (w : WellFormed p) (steps : ℕ) (s : State) (c : SourceState) (k : Corresponds p w steps s c)
-    (t : ℕ) (done pauses : Bool) (s' mid : State) (n answer : ℕ) (y : Thread) (q : Process) (pt : Point)
+    (t : ℕ) (done : Bool) (late : Option Kind) (pauses : Bool) (s' mid : State) (n answer : ℕ) (y : Thread) (q : Process) (pt : Point)
     (number : (0 < t) × (t ≤ k.world.made)) (awake : k.world.asleep t ≡ None) (proc : c.process t ≡ Some q)
     (point : (k.world.at t).point ≡ pt) (served : IsServed p s mid k.world t pt answer)
     (same : s' ≡ with_thread mid t y) where
@@ -183,10 +185,10 @@ module _ (p : Program) (w : WellFormed p) (steps : ℕ) (s : State) (c : SourceS
   }
 
   -- whether it carries an action is what is seen of it
-  pub stepped : ((e : End) → MayAnswer pt served.reply → done ≡ is_some (event e))
+  pub stepped : late ≡ None → Agrees (stage_of pt) false → ((e : End) → MayAnswer pt served.reply → done ≡ is_some (event e))
       → ((e : End) (u : ℕ) (label : Label) → event e ≡ Some (Acts u label) → Resumes p s' c.table label)
-      → ((e : End) → MayAnswer pt served.reply → Arrives e) → Next p w steps s' t done pauses n c
-  stepped shown resumes arrives =
+      → ((e : End) → MayAnswer pt served.reply → Arrives e) → Next p w steps s' t done late pauses n c (stages k.world)
+  stepped plain calm shown resumes arrives =
       let a = arrives end is_move.possible in
       by_event (event end) refl permits a.acts
     where
@@ -196,7 +198,7 @@ module _ (p : Program) (w : WellFormed p) (steps : ℕ) (s : State) (c : SourceS
       seen : done ≡ is_some (event end)
       seen = shown end is_move.possible
 
-      quiet : event end ≡ None → table ≡ c.table → a.process ≡ q → Next p w steps s' t done pauses n c
+      quiet : event end ≡ None → table ≡ c.table → a.process ≡ q → Next p w steps s' t done late pauses n c (stages k.world)
       quiet none is stays =
           let m = moved p w steps s c k t s' c y a.process (to end) list (on end)
           (follow c a.process (sym is) refl refl (same_puts c.process t _ (proc ∙ ap Some (sym stays))) a.stands
@@ -208,13 +210,17 @@ module _ (p : Program) (w : WellFormed p) (steps : ℕ) (s : State) (c : SourceS
             kinds = [];
             own = tt;
             leads = refl;
-            places = P.nothing (seen ∙ ap (λ (e : Option Event). is_some e) none) refl;
+            stage = stage_of (to end);
+            staged = m.staged;
+            places = P.nothing (seen ∙ ap (λ (e : Option Event). is_some e) none) plain
+                (subst (λ (i : Stage). Stays i (stage_of (to end))) (ap stage_of (sym point))
+                (next_stays k.world end pt served.reply)) refl;
             paced = λ z. inr (subst (λ (x : ℕ). x < n) (sym m.is) (a.paced none z));
           }
 
       acting : (u : ℕ) (label : Label) → event end ≡ Some (Acts u label) → Allows t label c.table table
           → IsByHolder t label c.table
-          → TakesUp (offer p c.variable q) label Nothing a.process → Next p w steps s' t done pauses n c
+          → TakesUp (offer p c.variable q) label Nothing a.process → Next p w steps s' t done late pauses n c (stages k.world)
       acting u label e allows held takes =
           let c1 = acted c t Nothing a.process table in
           let m = moved p w steps s c k t s' c1 y a.process (to end) list (on end)
@@ -225,14 +231,17 @@ module _ (p : Program) (w : WellFormed p) (steps : ℕ) (s : State) (c : SourceS
             kinds = kind_of label ∷ [];
             own = (carried_own k.world c.table t pt served.reply served.after end u label e, tt);
             leads = (c1, action p c t q a.process label Nothing table proc takes allows, refl);
+            stage = stage_of (to end);
+            staged = m.staged;
             places = P.acts _ _ label Nothing table (seen ∙ ap (λ (i : Option Event). is_some i) e)
+                (next_calm k.world end pt served.reply calm)
                 (carried_loud k.world c.table t pt served.reply served.after end u label e) proc takes allows held
                 (λ m j i other. refl) (resumes end u label e) refl;
             paced = λ z. inl tt;
           }
 
       by_event : (e : Option Event) → event end ≡ e → PermitsMove e c.table table → ActsSo p c.variable t e q a.process
-          → Next p w steps s' t done pauses n c
+          → Next p w steps s' t done late pauses n c (stages k.world)
       by_event None h is stays = quiet h is stays
       by_event (Some (Acts u label)) h allows acts =
           acting u label h (subst (λ i. Allows i label c.table table) acts.0 allows.0)

@@ -9,12 +9,12 @@ use Rattle.machine.specs.States.{State, with_thread}
 use Rattle.machine.specs.Runs.{is_paused, has_ended}
 use Rattle.program.specs.Trees.{Program}
 use Rattle.program.specs.WellFormed.{WellFormed}
-use Rattle.code.specs.Pieces.{code_of}
-use Rattle.meaning.specs.Labels.{End}
+use Rattle.code.specs.Pieces.{marks_of, code_of}
+use Rattle.meaning.specs.Labels.{Kind, End}
 use Rattle.meaning.specs.Values.{Variables}
 use Rattle.meaning.specs.Processes.{Process, holds}
 use Rattle.meaning.specs.States.{SourceState}
-use Rattle.protocol.specs.Points.{Spot, Point, Runs, GotHeads, LeaveHeads, Walks, ClearsId, LastWakes, HasEnded}
+use Rattle.protocol.specs.Points.{Dies, Spot, Point, Runs, GotHeads, LeaveHeads, Walks, ClearsId, LastWakes, HasEnded}
 use Rattle.protocol.specs.World.{World, mem, tail}
 use Rattle.protocol.specs.Cells.{Cell}
 use Rattle.protocol.specs.Exits.{sleep_address}
@@ -39,7 +39,7 @@ use Rattle.templates.specs.Asking.{told, template_steps}
 use Rattle.templates.specs.Inside.{Template, process_at, list_at, StandsIn, Fits, SameBefore, IsSteady}
 use Rattle.templates.specs.Templates.{Follows, StandsOn}
 use Rattle.templates.proofs.Follows.{follows}
-use Rattle.product.specs.Placing.{MovesSo, completes}
+use Rattle.product.specs.Placing.{StepsSo, completes}
 use Rattle.product.specs.Standing.{IsAtWork, StandsAt, works, inside}
 use Rattle.product.specs.Ranks.{rank, steps_left, more_steps, before_template}
 use Rattle.product.specs.Corresponding.{Corresponds, IsBefore}
@@ -47,7 +47,7 @@ use Rattle.product.specs.Serving.{IsServed}
 use Rattle.product.proofs.Keeping.{kept_monitors}
 use Rattle.product.proofs.Worlds.{reached_good}
 use Rattle.templates.proofs.Layouts.{number_is}
-use Rattle.product.proofs.Completions.{point_completes, listed_at}
+use Rattle.product.proofs.Completions.{point_late, point_completes, listed_at}
 use Rattle.product.proofs.Resumed.{who_resumes}
 use Rattle.product.proofs.Moving.{IsLow, Next}
 use Rattle.product.proofs.Stepped.{Arrives, stepped}
@@ -55,6 +55,9 @@ use Rattle.product.proofs.Serving.{served}
 use Rattle.product.proofs.Ranking.{IsTemplate, rank_falls, rank_ends}
 use Rattle.product.proofs.Points.{InTemplate, in_template}
 use Rattle.product.proofs.Offering.{acts_now, same_next}
+use Rattle.product.specs.Waiting.{Stage, stages, stage_of, Agrees}
+use Rattle.execution.specs.Later.{mark_of, later_request}
+use Rattle.product.specs.Waiting as W
 
 -- a thread that comes within a few steps to where it stands for a process works at what the process offers
 pub works_on : (p : Program) (w : WellFormed p) (made : ℕ) (v : Variables) (t : ℕ) (x y : Thread) (q : Process)
@@ -76,6 +79,15 @@ works_on p w made v t x y q fit walk stands =
     (seen b.code t p (view_of b q v) template_steps x y walk) goes in
     let work : IsAtWork p q v = record { steady = steady; keeps = kept_monitors b v t y q stands } in
     (works (template_steps + most_steps b) (omega arith) whole work, λ world. refl)
+
+-- a thread at one works
+template_works : (pt : Point) → IsTemplate pt → stage_of pt ≡ W.Works
+template_works (Dies cause x) is = absurd is
+template_works (Walks e x end) is = absurd is
+template_works (ClearsId end) is = absurd is
+template_works (LastWakes end) is = absurd is
+template_works (HasEnded end) is = absurd is
+template_works pt is = refl
 
 -- a point of a template comes before the exit
 before_exit : (pt : Point) → IsTemplate pt → IsBefore pt
@@ -113,7 +125,7 @@ awake_at at a None e h = refl
 awake_at at a (Some x) e h = absurd (cc (e, h))
 
 module _ (p : Program) (w : WellFormed p) (steps : ℕ) (s : State) (c : SourceState) (k : Corresponds p w steps s c)
-    (t : ℕ) (woken : List ℕ) (done pauses : Bool) (s' : State) (n : ℕ) (number : (0 < t) × (t ≤ k.world.made))
+    (t : ℕ) (woken : List ℕ) (done : Bool) (late : Option Kind) (pauses : Bool) (s' : State) (n : ℕ) (number : (0 < t) × (t ≤ k.world.made))
     (few : k.world.made ≤ 64) (awake : k.world.asleep t ≡ None) (paused : pauses ≡ is_paused s' t) where
   abbrev b : Build
   b = build_of p w k.world.made
@@ -132,7 +144,8 @@ module _ (p : Program) (w : WellFormed p) (steps : ℕ) (s : State) (c : SourceS
     goes = follows b u t kind (is_build p w k.world.made) number.0 (omega (arith, number.1, few)) fits pt x ne stands
 
     module _ (answer : ℕ) (mid : State) (sv : IsServed p s mid k.world t pt answer)
-        (e' : s' ≡ with_thread mid t (goes.go answer)) (seen : done ≡ completes p goes.asks answer) where
+        (e' : s' ≡ with_thread mid t (goes.go answer)) (seen : done ≡ completes p goes.asks answer)
+        (told_of : late ≡ later_request (mark_of (marks_of p) x) goes.asks answer) where
       abbrev y : Thread
       y = goes.go (told p (request t pt) sv.reply)
 
@@ -140,7 +153,7 @@ module _ (p : Program) (w : WellFormed p) (steps : ℕ) (s : State) (c : SourceS
       came = e' ∙ ap (λ a. with_thread mid t (goes.go a)) sv.told
 
       abbrev Arrives' : End → Type 0
-      Arrives' e = Arrives p w steps s c k t done pauses s' mid n answer y (process_at p kind pt) pt number awake proc
+      Arrives' e = Arrives p w steps s c k t done late pauses s' mid n answer y (process_at p kind pt) pt number awake proc
           point sv
           came e
 
@@ -222,16 +235,19 @@ module _ (p : Program) (w : WellFormed p) (steps : ℕ) (s : State) (c : SourceS
           (number_is t number.0 (omega (arith, number.1, few))) (listed_at k.world c.table t pt inv point) may
           within.askable goes.same
 
-      answered : Next p w steps s' t done pauses n c
-      answered = stepped p w steps s c k t done pauses s' mid n answer y (process_at p kind pt) pt number awake proc point sv
-          came shown (λ e u label h. who_resumes p s' k.world c.table t pt sv.reply sv.after e u label
+      answered : Next p w steps s' t done late pauses n c (stages k.world)
+      answered = stepped p w steps s c k t done late pauses s' mid n answer y (process_at p kind pt) pt number awake proc point sv
+          came
+          (told_of ∙ point_late p (mark_of (marks_of p) x) t pt answer goes.asks (template_works pt within.template) goes.same)
+          (subst (λ (i : Stage). Agrees i false) (sym (template_works pt within.template)) refl)
+          shown (λ e u label h. who_resumes p s' k.world c.table t pt sv.reply sv.after e u label
           (ap (λ (x : State). x.made) came ∙ sv.keeps.made ∙ k.made)
           (λ v. ap (λ (x : State). x.asleep v) came ∙ sv.shares.sleeps v) sv.shares.spots within.askable h) arrives
 
-    pub inside_step : IsLow k.world.sequence (look (code_of p) t x) → MovesSo p done s t woken (look (code_of p) t x) s'
-        → Next p w steps s' t done pauses n c
+    pub inside_step : IsLow k.world.sequence (look (code_of p) t x) → StepsSo p done late (mark_of (marks_of p) x) s t woken (look (code_of p) t x) s'
+        → Next p w steps s' t done late pauses n c (stages k.world)
     inside_step low moves =
-        let g : MovesSo p done s t woken (Asks goes.asks goes.go) s' = subst (λ (l : Look). MovesSo p done s t woken l s') goes.look
+        let g : StepsSo p done late (mark_of (marks_of p) x) s t woken (Asks goes.asks goes.go) s' = subst (λ (l : Look). StepsSo p done late (mark_of (marks_of p) x) s t woken l s') goes.look
         moves in
         answered g.0 g.1 (served p s k.world c.table t pt goes.asks woken g.0 g.1 k.shares inv number.0
-        (omega (arith, number.1, few)) (low goes.asks goes.go goes.look) within.askable goes.same g.2) g.3 g.4
+        (omega (arith, number.1, few)) (low goes.asks goes.go goes.look) within.askable goes.same g.2) g.3 g.4 g.5

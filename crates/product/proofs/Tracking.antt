@@ -1,7 +1,7 @@
 -- The source goes on behind the machine, step by step.
-use Rattle.std.proofs.Common.{◌≡◌, ◌≢◌, ℕ, suc, ◌+◌, ◌<◌, ◌≤◌, Bool, true, false, List, [], ◌∷◌, Option, Some}
+use Rattle.std.proofs.Common.{inr, inl, ◌≡◌, ◌≢◌, ℕ, suc, ◌+◌, ◌<◌, ◌≤◌, Bool, true, false, List, [], ◌∷◌, Option, Some}
 use Rattle.std.proofs.Common.{None, refl, ap, sym, ◌∙◌, subst, arith, length, length-append}
-use Rattle.std.proofs.lemmas.Bool.{false≢true}
+use Rattle.std.proofs.lemmas.Bool.{cases_eq, false≢true}
 use Rattle.std.specs.Prelude.{◌^◌, ◌++◌, ◌↔◌}
 use Rattle.words.specs.Updates.{put}
 use Rattle.locals.specs.Looks.{look}
@@ -10,7 +10,7 @@ use Rattle.machine.specs.States.{State, opening_state}
 use Rattle.machine.specs.Runs.{Step, IsStep}
 use Rattle.program.specs.Trees.{Program}
 use Rattle.program.specs.WellFormed.{WellFormed}
-use Rattle.code.specs.Pieces.{code_of}
+use Rattle.code.specs.Pieces.{marks_of, code_of}
 use Rattle.meaning.specs.Labels.{Kind, Label, Alone, Stores, Forks, FindsFull, Claims, FindsClaimed, Joins, Enters}
 use Rattle.meaning.specs.Labels.{Resumes, Exits, Waits, Notifies, Broadcasts, Abandons, Ends, kind_of, End}
 use Rattle.meaning.specs.Processes.{Process, Over}
@@ -25,7 +25,7 @@ use Rattle.deferral.proofs.Waiting.{First, at_first, at_same}
 use Rattle.deferral.proofs.Behind as D
 use Rattle.protocol.specs.Carries.{IsByHolder}
 use Rattle.protocol.specs.Points.{Point}
-use Rattle.protocol.proofs.Sleeps.{at_put, put_same}
+use Rattle.protocol.proofs.Sleeps.{put_other, at_put, put_same}
 use Rattle.refinement.specs.Built.{build_of}
 use Rattle.execution.specs.Variables.{IsVariable, variable_address}
 use Rattle.program.specs.declared.kinds.Member.{Member}
@@ -34,14 +34,21 @@ use Rattle.refinement.specs.Seen.{machine_end, source_end, process_end}
 use Rattle.product.specs.Standing.{StandsAt}
 use Rattle.product.specs.Standing as S
 use Rattle.product.specs.Corresponding.{Corresponds}
-use Rattle.product.specs.Placing.{MovesSo, Places, act, acted, Resumes as Resumes'}
+use Rattle.product.specs.Placing.{StepsSo, MovesSo, Places, act, acted, Resumes as Resumes'}
 use Rattle.product.specs.Placing as P
 use Rattle.product.specs.Tracking.{CanTake, Tracks, Owes}
 use Rattle.product.proofs.Moving.{Next, left_of}
 use Rattle.product.proofs.Observing.{number_of, ends}
 use Rattle.product.proofs.Stepping.{next}
-use Rattle.product.proofs.Opening.{opens}
+use Rattle.product.proofs.Opening.{opens_calm, opens}
 use Rattle.product.proofs.Worlds.{reached_good}
+use Rattle.words.specs.declared.outcome.Fault.{Fault}
+use Rattle.product.proofs.Local.{put_again}
+use Rattle.product.proofs.Completions.{told_late}
+use Rattle.product.specs.Waiting.{Stage, stages, Agrees, Stays, is_failing, has_failed, waits_then, Works, Meets}
+use Rattle.execution.specs.Later.{mark_of}
+use Rattle.meaning.specs.Labels as L
+use Rattle.std.specs.Prelude.{if◌then◌else◌, ◌||◌, ◌&&◌}
 
 -- who holds a monitor keeps it by another's action
 hold_other : (hold : ℕ → Hold) (n m : ℕ) (x : Hold) (u : ℕ) → (m ≡ n → hold m ≡ HeldBy u → ⊥) → hold m ≡ HeldBy u
@@ -78,6 +85,47 @@ keeps_holders t u m (Abandons n) T T' other allows mine h = ap (λ (x : Table). 
     ∙ hold_other T.hold n m Abandoned u (λ e i. other (sym (same_holder t u (sym mine ∙ ap T.hold (sym e) ∙ i)))) h
 keeps_holders t u m (Ends end) T T' other allows mine h = ap (λ (x : Table). x.hold m) allows ∙ h
 
+-- a fault waits just where the stage of a thread says so, behind a step of one thread
+agrees_next : (was : ℕ → Stage) (now : Stage) (t : ℕ) (failed : ℕ → Bool) (after : ℕ → Stage)
+    → ((u : ℕ) → after u ≡ put was t now u) → ((u : ℕ) → u ≢ t → Agrees (was u) (failed u)) → Agrees now (failed t)
+    → (u : ℕ) → Agrees (after u) (failed u)
+agrees_next was now t failed after staged others here u =
+    subst (λ (x : Stage). Agrees x (failed u)) (sym (staged u))
+    (at_put was t now u (λ (x : Stage). Agrees x (failed u))
+    (λ e. subst (λ v. Agrees now (failed v)) (sym e) here) (λ o. others u o))
+
+stays_agreed : (was now : Stage) (failed : Bool) → Stays was now → Agrees was failed → Agrees now failed
+stays_agreed was now failed (inl e) h = subst (λ (x : Stage). Agrees x failed) (sym e) h
+stays_agreed was now failed (inr e) h = subst (λ (x : Stage). Agrees x failed) (sym e) tt
+
+or_false : (b : Bool) → (b || false) ≡ b
+or_false true = refl
+or_false false = refl
+
+or_on : (a b d : Bool) → ((a || b) || d) ≡ (a || (b || d))
+or_on true b d = refl
+or_on false b d = refl
+
+and_false : (b : Bool) → (b && false) ≡ false
+and_false true = refl
+and_false false = refl
+
+-- one more that waits
+failed_more : (ks : List Kind) (k : Kind) → has_failed (ks ++ k ∷ []) ≡ (has_failed ks || is_failing k)
+failed_more [] k = or_false (is_failing k)
+failed_more (x ∷ ks) k = ap (λ b. is_failing x || b) (failed_more ks k)
+    ∙ sym (or_on (is_failing x) (has_failed ks) (is_failing k))
+
+failed_first : (ks : List Kind) (k : Kind) → has_failed ks ≡ false → has_failed (ks ++ k ∷ []) ≡ is_failing k
+failed_first ks k h = failed_more ks k ∙ ap (λ b. b || is_failing k) h
+
+waits_more : (ks : List Kind) (k : Kind) → has_failed ks ≡ false → waits_then (Some k) ks ≡ ks ++ k ∷ []
+waits_more ks k h = ap (λ b. if is_failing k && b then ks else ks ++ k ∷ []) h
+    ∙ ap (λ b. if b then ks else ks ++ k ∷ []) (and_false (is_failing k))
+
+waits_again : (ks : List Kind) (fault : Fault) → has_failed ks ≡ true → waits_then (Some (L.Fails fault)) ks ≡ ks
+waits_again ks fault h = ap (λ b. if b then ks else ks ++ L.Fails fault ∷ []) h
+
 module _ (p : Program) (w : WellFormed p) where
   pub opens_tracking : Tracks p w 0 (opening_state (code_of p)) (opening p)
   opens_tracking = record {
@@ -86,7 +134,12 @@ module _ (p : Program) (w : WellFormed p) where
     ties = opens p w;
     behind = D.begins p (opening p);
     few = λ t. omega arith;
+    agrees = λ t. subst (λ (x : Stage). Agrees x false) (sym (opens_calm p w t)) refl;
   }
+
+  pub opens_waiting : (o : Tracks p w 0 (opening_state (code_of p)) (opening p)) × (o.waiting ≡ (λ t. []))
+  unfolding opens_tracking
+  opens_waiting = (opens_tracking, refl)
 
   -- no process has the next number
   fresh : (steps : ℕ) (s : State) (c : SourceState) → Corresponds p w steps s c
@@ -108,13 +161,15 @@ module _ (p : Program) (w : WellFormed p) where
           let made = (reached_good k.world c.table k.reached).made in
           absurd (omega (arith, number.1, made))
 
-  -- a step of the machine, which is none that others learn of, or is one
-  pub tracks : (steps : ℕ) (s : State) (a : SourceState) → Tracks p w steps s a → (l : Step) (s' : State)
-      (st : IsStep (code_of p) s l s') (done : Bool)
-      → MovesSo p done s l.thread l.woken (look (code_of p) l.thread st.thread) s' → steps + 1 < 2 ^ 32
-      → (done ≡ false → Tracks p w (suc steps) s' a)
-      × (done ≡ true → (ks : List Kind) × Owes p w (suc steps) s' l.thread a ks)
-  tracks steps s a r l s' st done moves short = by_places n.kinds n.places
+  -- a step of the machine, which is none that others learn of, or is one; and what waits behind it
+  pub tracks_waiting : (steps : ℕ) (s : State) (a : SourceState) (r : Tracks p w steps s a) (l : Step) (s' : State)
+      (st : IsStep (code_of p) s l s') (done : Bool) (late : Option Kind)
+      → StepsSo p done late (mark_of (marks_of p) st.thread) s l.thread l.woken (look (code_of p) l.thread st.thread) s'
+      → steps + 1 < 2 ^ 32
+      → (done ≡ false → (n : Tracks p w (suc steps) s' a)
+      × (n.waiting ≡ put r.waiting l.thread (waits_then late (r.waiting l.thread))))
+      × (done ≡ true → (o : Owes p w (suc steps) s' l.thread a (r.waiting l.thread)) × (o.waiting ≡ r.waiting))
+  tracks_waiting steps s a r l s' st done late moves short = by_places n.kinds n.places
     where
       c : SourceState
       c = r.ahead
@@ -122,71 +177,129 @@ module _ (p : Program) (w : WellFormed p) where
       t : ℕ
       t = l.thread
 
-      n : Next p w steps s' l.thread done l.pauses (left_of p w r.ties l.thread) r.ahead
-      n = next p w steps s r.ahead r.ties l s' st done moves
+      ks : List Kind
+      ks = r.waiting l.thread
+
+      n : Next p w steps s' l.thread done late l.pauses (left_of p w r.ties l.thread) r.ahead (stages r.ties.world)
+      n = next p w steps s r.ahead r.ties l s' st done late moves
           (λ request go e d. let few = r.ties.numbers d in omega (arith, few, short))
 
-      by_places : (ks : List Kind) → Places p s' t c n.after done ks
-          → (done ≡ false → Tracks p w (suc steps) s' a)
-          × (done ≡ true → (ks : List Kind) × Owes p w (suc steps) s' t a ks)
-      by_places ks (P.nothing none same) = (
-        λ e. record {
+      -- nothing is one more that waits
+      still : n.after ≡ c → waits_then late ks ≡ ks → Agrees n.stage (has_failed ks)
+          → (x : Tracks p w (suc steps) s' a) × (x.waiting ≡ put r.waiting t (waits_then late ks))
+      still same none here = (
+        record {
           waiting = r.waiting;
           ahead = n.after;
           ties = n.ties;
           behind = subst (λ (x : SourceState). IsBehind p r.waiting a x) (sym same) r.behind;
           few = λ u. let less = r.few u in omega (arith, less);
+          agrees = agrees_next (stages r.ties.world) n.stage t (λ u. has_failed (r.waiting u)) (stages n.ties.world)
+              n.staged (λ u o. r.agrees u) here;
         },
+        put_again r.waiting t ks refl ∙ ap (λ (i : List Kind). put r.waiting t i) (sym none),
+      )
+
+      met : (x : Stage) (failed : Bool) → x ≡ Meets → Agrees x failed → failed ≡ true
+      met x failed e h = subst (λ (i : Stage). Agrees i failed) e h
+
+      unmet : (x : Stage) (failed : Bool) → x ≡ Works → Agrees x failed → failed ≡ false
+      unmet x failed e h = subst (λ (i : Stage). Agrees i failed) e h
+
+      by_places : (kinds : List Kind) → Places p s' t c n.after done late (stages r.ties.world t) n.stage kinds
+          → (done ≡ false → (x : Tracks p w (suc steps) s' a) × (x.waiting ≡ put r.waiting t (waits_then late ks)))
+          × (done ≡ true → (o : Owes p w (suc steps) s' t a ks) × (o.waiting ≡ r.waiting))
+      by_places kinds (P.nothing none plain stays same) = (
+        λ e. still same (ap (λ (i : Option Kind). waits_then i ks) plain)
+            (stays_agreed (stages r.ties.world t) n.stage (has_failed ks) stays (r.agrees t)),
         λ e. absurd (false≢true (sym none ∙ e)),
       )
-      by_places ks (P.waits q after label none stands may same) = (
-        λ e. record {
-          waiting = put r.waiting t (r.waiting t ++ kind_of label ∷ []);
-          ahead = n.after;
-          ties = n.ties;
-          behind = D.waits p r.waiting a c n.after t q after label r.behind stands may
-              (ap (λ (x : SourceState). x.table) same) (ap (λ (x : SourceState). x.variable) same)
-              (ap (λ (x : SourceState). x.printed) same) (ap (λ (x : SourceState). x.process) same);
-          few = λ u. at_put r.waiting t (r.waiting t ++ kind_of label ∷ []) u (λ ks. length ks ≤ suc steps)
-              (λ e. let less = r.few t in let long = length-append (r.waiting t) (kind_of label ∷ []) in
-              omega (arith, less, long)) (λ o. let less = r.few u in omega (arith, less));
-        },
+      by_places kinds (P.again fault none fails was now same) = (
+        λ e. still same
+            (ap (λ (i : Option Kind). waits_then i ks) fails
+            ∙ waits_again ks fault (met (stages r.ties.world t) (has_failed ks) was (r.agrees t)))
+            (subst (λ (x : Stage). Agrees x (has_failed ks)) (sym now) tt),
         λ e. absurd (false≢true (sym none ∙ e)),
       )
-      by_places ks (P.acts q after label effect T is heard stands takes allows holder keeps resumes same) = (
+      by_places kinds (P.waits q after label none told was here stands may same) =
+          let k = kind_of label in
+          let first = unmet (stages r.ties.world t) (has_failed ks) was (r.agrees t) in (
+            λ e. (
+              record {
+                waiting = put r.waiting t (ks ++ k ∷ []);
+                ahead = n.after;
+                ties = n.ties;
+                behind = D.waits p r.waiting a c n.after t q after label r.behind stands may
+                    (ap (λ (x : SourceState). x.table) same) (ap (λ (x : SourceState). x.variable) same)
+                    (ap (λ (x : SourceState). x.printed) same) (ap (λ (x : SourceState). x.process) same);
+                few = λ u. at_put r.waiting t (ks ++ k ∷ []) u (λ is. length is ≤ suc steps)
+                    (λ e. let less = r.few t in let long = length-append ks (k ∷ []) in omega (arith, less, long))
+                    (λ o. let less = r.few u in omega (arith, less));
+                agrees = agrees_next (stages r.ties.world) n.stage t
+                    (λ u. has_failed (put r.waiting t (ks ++ k ∷ []) u)) (stages n.ties.world) n.staged
+                    (λ u o. subst (λ (i : List Kind). Agrees (stages r.ties.world u) (has_failed i))
+                    (sym (put_other r.waiting t (ks ++ k ∷ []) u o)) (r.agrees u))
+                    (subst (λ (i : List Kind). Agrees n.stage (has_failed i))
+                    (sym (put_same r.waiting t (ks ++ k ∷ [])))
+                    (subst (λ (i : Bool). Agrees n.stage i) (sym (failed_first ks k first)) here));
+              },
+              ap (λ (i : List Kind). put r.waiting t i)
+                  (sym (ap (λ (i : Option Kind). waits_then i ks) told ∙ waits_more ks k first)),
+            ),
+            λ e. absurd (false≢true (sym none ∙ e)),
+          )
+      by_places kinds (P.acts q after label effect T is calm heard stands takes allows holder keeps resumes same) = (
         λ e. absurd (false≢true (sym e ∙ is)),
-        λ e. (
-          r.waiting t,
-          record {
-            waiting = r.waiting;
-            now = c;
-            behind = r.behind;
-            mine = refl;
-            few = λ u. let less = r.few u in omega (arith, less);
-            before = q;
-            after = after;
-            label = label;
-            effect = effect;
-            table = T;
-            heard = heard;
-            stands = stands;
-            takes = takes;
-            allows = allows;
-            holder = holder;
-            keeps = keeps;
-            resumes = resumes;
-            fresh = fresh steps s c r.ties;
-            ties = subst (λ (x : SourceState). Corresponds p w (suc steps) s' x) same n.ties;
-          },
-        ),
+        λ e.
+            let tied = subst (λ (x : SourceState). (k : Corresponds p w (suc steps) s' x)
+            × ((u : ℕ) → stages k.world u ≡ put (stages r.ties.world) t n.stage u)) same (n.ties, n.staged) in (
+              record {
+                waiting = r.waiting;
+                now = c;
+                behind = r.behind;
+                mine = refl;
+                few = λ u. let less = r.few u in omega (arith, less);
+                before = q;
+                after = after;
+                label = label;
+                effect = effect;
+                table = T;
+                heard = heard;
+                stands = stands;
+                takes = takes;
+                allows = allows;
+                holder = holder;
+                keeps = keeps;
+                resumes = resumes;
+                fresh = fresh steps s c r.ties;
+                ties = tied.0;
+                agrees = λ u o. subst (λ (x : Stage). Agrees x (has_failed (r.waiting u)))
+                    (sym (tied.1 u ∙ put_other (stages r.ties.world) t n.stage u o)) (r.agrees u);
+                calm = subst (λ (x : Stage). Agrees x false)
+                    (sym (tied.1 t ∙ put_same (stages r.ties.world) t n.stage)) calm;
+              },
+              refl,
+            ),
       )
+
+  pub tracks : (steps : ℕ) (s : State) (a : SourceState) → Tracks p w steps s a → (l : Step) (s' : State)
+      (st : IsStep (code_of p) s l s') (done : Bool)
+      → MovesSo p done s l.thread l.woken (look (code_of p) l.thread st.thread) s' → steps + 1 < 2 ^ 32
+      → (done ≡ false → Tracks p w (suc steps) s' a)
+      × (done ≡ true → (ks : List Kind) × Owes p w (suc steps) s' l.thread a ks)
+  tracks steps s a r l s' st done moves short =
+      let late = told_late p done (mark_of (marks_of p) st.thread) s l.thread l.woken
+      (look (code_of p) l.thread st.thread) s' moves in
+      let on = tracks_waiting steps s a r l s' st done late.0 late.1 short in
+      (λ e. (on.0 e).0, λ e. (r.waiting l.thread, (on.1 e).0))
 
   module _ (steps : ℕ) (s : State) (t : ℕ) (a : SourceState) where
     -- the first action that waits is possible, and waits no longer behind it
-    pub pays : (k : Kind) (ks : List Kind) → Owes p w steps s t a (k ∷ ks)
+    pub pays_waiting : (k : Kind) (ks : List Kind) (o : Owes p w steps s t a (k ∷ ks))
         → (label : Label) × (k ≡ kind_of label) × (is_quiet label ≡ true) × CanTake p a t label
-        × ((a' : SourceState) → IsSourceStep p a (act t k) a' → Owes p w steps s t a' ks)
-    pays k ks o = (
+        × ((a' : SourceState) → IsSourceStep p a (act t k) a'
+        → (n : Owes p w steps s t a' ks) × (n.waiting ≡ put o.waiting t ks))
+    pays_waiting k ks o = (
       f.label,
       f.named,
       f.may.quiet,
@@ -201,30 +314,35 @@ module _ (p : Program) (w : WellFormed p) where
       },
       λ a' step.
           let taken = D.takes p o.waiting a o.now t k ks o.behind o.mine in
-          let same : a' ≡ taken.0 = step_once p (act t k) a a' taken.0 step taken.1 in
-          record {
-            waiting = put o.waiting t ks;
-            now = o.now;
-            behind = subst (λ (x : SourceState). IsBehind p (put o.waiting t ks) x o.now) (sym same) taken.2;
-            mine = put_same o.waiting t ks;
-            few = λ u. at_put o.waiting t ks u (λ l. length l ≤ steps)
-                (λ e. let less = o.few t in let long = ap (λ (l : List Kind). length l) o.mine in
-                omega (arith, less, long)) (λ v. o.few u);
-            before = o.before;
-            after = o.after;
-            label = o.label;
-            effect = o.effect;
-            table = o.table;
-            heard = o.heard;
-            stands = o.stands;
-            takes = o.takes;
-            allows = o.allows;
-            holder = o.holder;
-            keeps = o.keeps;
-            resumes = o.resumes;
-            fresh = o.fresh;
-            ties = o.ties;
-          },
+          let same : a' ≡ taken.0 = step_once p (act t k) a a' taken.0 step taken.1 in (
+            record {
+              waiting = put o.waiting t ks;
+              now = o.now;
+              behind = subst (λ (x : SourceState). IsBehind p (put o.waiting t ks) x o.now) (sym same) taken.2;
+              mine = put_same o.waiting t ks;
+              few = λ u. at_put o.waiting t ks u (λ l. length l ≤ steps)
+                  (λ e. let less = o.few t in let long = ap (λ (l : List Kind). length l) o.mine in
+                  omega (arith, less, long)) (λ v. o.few u);
+              before = o.before;
+              after = o.after;
+              label = o.label;
+              effect = o.effect;
+              table = o.table;
+              heard = o.heard;
+              stands = o.stands;
+              takes = o.takes;
+              allows = o.allows;
+              holder = o.holder;
+              keeps = o.keeps;
+              resumes = o.resumes;
+              fresh = o.fresh;
+              ties = o.ties;
+              agrees = λ u other. subst (λ (i : List Kind). Agrees (stages o.ties.world u) (has_failed i))
+                  (sym (put_other o.waiting t ks u other)) (o.agrees u other);
+              calm = o.calm;
+            },
+            refl,
+          ),
     )
       where
         f : First p t o.now.variable o.now.table k ks (a.process t) (o.now.process t)
@@ -233,10 +351,11 @@ module _ (p : Program) (w : WellFormed p) where
             (o.behind.processes t))
 
     -- where none waits, the action that the step is comes next, and the source tracks the machine behind it
-    pub settles : Owes p w steps s t a []
+    pub settles_waiting : (o : Owes p w steps s t a [])
         → (label : Label) × (is_quiet label ≡ false) × CanTake p a t label × Resumes' p s a.table label
-        × ((a' : SourceState) → IsSourceStep p a (act t (kind_of label)) a' → Tracks p w steps s a')
-    settles o = (
+        × ((a' : SourceState) → IsSourceStep p a (act t (kind_of label)) a'
+        → (n : Tracks p w steps s a') × (n.waiting ≡ o.waiting))
+    settles_waiting o = (
       o.label,
       o.heard,
       record {
@@ -271,15 +390,34 @@ module _ (p : Program) (w : WellFormed p) where
           } in
           let on = D.goes_on p o.waiting a o.now c' t kind o.behind o.mine is o.keeps
           (λ u m other h. keeps_holders t u m o.label o.now.table o.table other o.allows o.holder h) o.fresh in
-          let same : a' ≡ on.0 = step_once p (act t kind) a a' on.0 step on.1 in
-          record {
-            waiting = o.waiting;
-            ahead = c';
-            ties = o.ties;
-            behind = subst (λ (x : SourceState). IsBehind p o.waiting x c') (sym same) on.2;
-            few = o.few;
-          },
+          let same : a' ≡ on.0 = step_once p (act t kind) a a' on.0 step on.1 in (
+            record {
+              waiting = o.waiting;
+              ahead = c';
+              ties = o.ties;
+              behind = subst (λ (x : SourceState). IsBehind p o.waiting x c') (sym same) on.2;
+              few = o.few;
+              agrees = λ u. elim (cases_eq u t) [
+                | inl e ↦ subst (λ v. Agrees (stages o.ties.world v) (has_failed (o.waiting v))) (sym e)
+                    (subst (λ (i : List Kind). Agrees (stages o.ties.world t) (has_failed i)) (sym o.mine) o.calm)
+                | inr other ↦ o.agrees u other
+              ];
+            },
+            refl,
+          ),
     )
+
+    pub pays : (k : Kind) (ks : List Kind) → Owes p w steps s t a (k ∷ ks)
+        → (label : Label) × (k ≡ kind_of label) × (is_quiet label ≡ true) × CanTake p a t label
+        × ((a' : SourceState) → IsSourceStep p a (act t k) a' → Owes p w steps s t a' ks)
+    pays k ks o =
+        let r = pays_waiting k ks o in (r.0, r.1, r.2, r.3, λ a' step. (r.4 a' step).0)
+
+    pub settles : Owes p w steps s t a []
+        → (label : Label) × (is_quiet label ≡ false) × CanTake p a t label × Resumes' p s a.table label
+        × ((a' : SourceState) → IsSourceStep p a (act t (kind_of label)) a' → Tracks p w steps s a')
+    settles o =
+        let r = settles_waiting o in (r.0, r.1, r.2, r.3, λ a' step. (r.4 a' step).0)
 
   -- the same is seen of both
   module _ (steps : ℕ) (s : State) (a : SourceState) (r : Tracks p w steps s a) where

@@ -9,7 +9,7 @@ use Rattle.machine.specs.States.{State, opening_state, with_thread}
 use Rattle.machine.specs.Runs.{Step, GoesBy, MachineRun, IsStep, Moves, NextIsBroken, is_paused}
 use Rattle.program.specs.Trees.{Program}
 use Rattle.program.specs.WellFormed.{WellFormed}
-use Rattle.code.specs.Pieces.{code_of}
+use Rattle.code.specs.Pieces.{marks_of, code_of}
 use Rattle.meaning.specs.Labels.{Kind, Action}
 use Rattle.meaning.specs.Labels as L
 use Rattle.meaning.specs.States.{SourceState, opening}
@@ -25,13 +25,14 @@ use Rattle.product.proofs.Sourcing.{act}
 use Rattle.product.proofs.Worlds.{put_put}
 use Rattle.product.proofs.Local.{put_again}
 use Rattle.product.proofs.Moving.{AreOwn, left_of}
-use Rattle.product.proofs.Completions.{told_apart}
+use Rattle.product.proofs.Completions.{told_late, told_apart}
 use Rattle.product.proofs.Stepping.{next}
 use Rattle.product.proofs.Bounds.{left_few, left_short}
 use Rattle.product.proofs.Paces.{Trail, rests, goes, keeps_pace}
 use Rattle.product.proofs.Opening.{opens}
 use Rattle.product.proofs.Observing.{sound, ends}
 use Rattle.product.proofs.Resting.{at_rest, sleepers}
+use Rattle.execution.specs.Later.{mark_of}
 
 abbrev AllOwn : List Action → Type 0
 AllOwn [] = Unit {0}
@@ -41,7 +42,7 @@ all_own : (t : ℕ) (ks : List Kind) (as' : List Action) → AreOwn ks → AllOw
 all_own t [] as' h g = g
 all_own t (k ∷ ks) as' h g = (h.0, all_own t ks as' h.1 g)
 
-leads_on : (p : Program) (s mid s' : SourceState) (as' bs : List Action) → Leads p s as' mid → Leads p mid bs s'
+pub leads_on : (p : Program) (s mid s' : SourceState) (as' bs : List Action) → Leads p s as' mid → Leads p mid bs s'
     → Leads p s (as' ++ bs) s'
 leads_on p s mid s' [] bs h g = subst (λ (x : SourceState). Leads p x bs s') (sym h) g
 leads_on p s mid s' (a ∷ as') bs h g = (h.0, h.1, leads_on p h.0 mid s' as' bs h.2 g)
@@ -88,7 +89,9 @@ module _ (p : Program) (w : WellFormed p) where
       (record { taken = taken; source = c; ties = k; actions = []; own = tt; leads = refl; trail = rests })
   come taken s c k (l ∷ ls) s' short run =
       let so = told_apart p s l.thread l.woken (look (code_of p) l.thread run.1.thread) run.0 run.1.moves in
-      let n = next p w taken s c k l run.0 run.1 so.0 so.1
+      let late = told_late p so.0 (mark_of (marks_of p) run.1.thread) s l.thread l.woken
+      (look (code_of p) l.thread run.1.thread) run.0 so.1 in
+      let n = next p w taken s c k l run.0 run.1 so.0 late.0 late.1
       (λ request go e d. let few = k.numbers d in omega (arith, few, short)) in
       let r = come (suc taken) run.0 n.after n.ties ls s' (omega (arith, short)) run.2 in
       record {
@@ -121,8 +124,9 @@ module _ (p : Program) (w : WellFormed p) where
         pauses = refl;
       } in
       let so = told_apart p mid t [] (look (code_of p) t m) after step.moves in
+      let late = told_late p so.0 (mark_of (marks_of p) m) mid t [] (look (code_of p) t m) after so.1 in
       let n = next p w r.taken mid r.source r.ties (record { thread = t; woken = []; pauses = is_paused after t }) after
-      step so.0 so.1 (λ request go e d. absurd (cc (h, e))) in
+      step so.0 late.0 late.1 (λ request go e d. absurd (cc (h, e))) in
       record {
         taken = suc r.taken;
         source = n.after;

@@ -1,3 +1,4 @@
+pub mod Waiting
 pub mod Placing
 pub mod Standing
 pub mod Ranks

@@ -24,6 +24,12 @@ use Rattle.meaning.specs.States.{SourceState, variables_after, printed_after, pr
 use Rattle.deferral.specs.Deferring.{is_quiet, MayWait}
 use Rattle.protocol.specs.Word.{owner}
 use Rattle.protocol.specs.Carries.{IsByHolder, chosen_from, waits_on}
+use Rattle.words.specs.declared.outcome.Fault.{Fault}
+use Rattle.code.specs.declared.mark.Mark.{Mark}
+use Rattle.execution.specs.Later.{later_mark, later_request}
+use Rattle.meaning.specs.Labels.{Fails}
+use Rattle.product.specs.Waiting.{Stage, Works, Meets, Agrees, Stays, is_failing}
+use Rattle.product.specs.Waiting as W
 
 -- the test holds of a number below this one
 abbrev pub any_below : ℕ → (ℕ → Bool) → Bool
@@ -76,6 +82,19 @@ MovesSo p done s t woken (Leaves phase) s' =
 MovesSo p done s t woken Breaks s' = ⊥
 MovesSo p done s t woken Rests s' = ⊥
 
+-- the same, with the action that waits, if the step of a thread at this mark has one
+abbrev pub StepsSo : Program → Bool → Option Kind → Option Mark → State → ℕ → List ℕ → Look → State → Type 0
+StepsSo p done late mark s t woken (Goes x) s' =
+    (woken ≡ []) × (s' ≡ with_thread s t x) × (done ≡ false) × (late ≡ later_mark mark)
+StepsSo p done late mark s t woken (Asks request go) s' =
+    (answer : ℕ) × (mid : State) × Serves t request s woken answer mid × (s' ≡ with_thread mid t (go answer))
+    × (done ≡ completes p request answer) × (late ≡ later_request mark request answer)
+StepsSo p done late mark s t woken (Leaves phase) s' =
+    (after : Shared) × (next : ExitPhase) × ExitStep s.size t phase (shared_of s) woken after next
+    × (s' ≡ with_thread (with_shared s after) t (Exits next)) × (done ≡ completes_exit phase) × (late ≡ None)
+StepsSo p done late mark s t woken Breaks s' = ⊥
+StepsSo p done late mark s t woken Rests s' = ⊥
+
 abbrev pub act : ℕ → Kind → Action
 act t k = record { process = t; kind = k }
 
@@ -107,14 +126,21 @@ Resumes p s T label = Unit {0}
 abbrev pub KeepsOthers : ℕ → Table → Variables → Variables → Type 0
 KeepsOthers t T v v' = (m n i : ℕ) → (T.hold m ≡ HeldBy t → ⊥) → v' m n i ≡ v m n i
 
--- what process t does in the source by a step of its thread to a state of the machine: nothing; an action that may wait; or, just where the step
--- is an action which others learn of, that
-pub data Places (p : Program) (s : State) (t : ℕ) (c c' : SourceState) (done : Bool) : List Kind → Type 0 where
-  nothing : done ≡ false → c' ≡ c → Places p s t c c' done []
-  waits : (q r : Process) (label : Label) → done ≡ false → c.process t ≡ Some q
+-- what process t does in the source by a step of its thread to a state of the machine, from a stage to the next:
+-- nothing; nothing more, where the fault that is written was met already; an action that waits, just where the step has
+-- one; or, just where the step is an action which others learn of, that
+pub data Places (p : Program) (s : State) (t : ℕ) (c c' : SourceState) (done : Bool) (late : Option Kind)
+    (was now : Stage) : List Kind → Type 0 where
+  nothing : done ≡ false → late ≡ None → Stays was now → c' ≡ c → Places p s t c c' done late was now []
+  again : (fault : Fault) → done ≡ false → late ≡ Some (Fails fault) → was ≡ Meets → now ≡ W.Leaves → c' ≡ c
+      → Places p s t c c' done late was now []
+  waits : (q r : Process) (label : Label) → done ≡ false → late ≡ Some (kind_of label) → was ≡ Works
+      → Agrees now (is_failing (kind_of label)) → c.process t ≡ Some q
       → MayWait p t c.variable c.table q label r → c' ≡ acted c t Nothing r c.table
-      → Places p s t c c' done (kind_of label ∷ [])
-  acts : (q r : Process) (label : Label) (effect : Effect) (T : Table) → done ≡ true → is_quiet label ≡ false
+      → Places p s t c c' done late was now (kind_of label ∷ [])
+  acts : (q r : Process) (label : Label) (effect : Effect) (T : Table) → done ≡ true → Agrees now false
+      → is_quiet label ≡ false
       → c.process t ≡ Some q → TakesUp (offer p c.variable q) label effect r → Allows t label c.table T
       → IsByHolder t label c.table → KeepsOthers t c.table c.variable (variables_after effect c.variable)
-      → Resumes p s c.table label → c' ≡ acted c t effect r T → Places p s t c c' done (kind_of label ∷ [])
+      → Resumes p s c.table label → c' ≡ acted c t effect r T
+      → Places p s t c c' done late was now (kind_of label ∷ [])

@@ -69,7 +69,7 @@ abbrev pub steps_left : (b : Build) (v : Variables) (t : ℕ) (w : World) → {x
     {pt : Point} {l : List ℕ} → StandsAt b v t x q pt l → ℕ
 steps_left b v t w unmade = 0
 steps_left b v t w (works left few h s) = left + before_template
-steps_left b v t w (returns r fits h) = 5
+steps_left b v t w (returns r fits h mark) = 5
 steps_left b v t w (inside {pt = pt} left k u few walk fits same ne stands) = left + rank (more_steps b) w pt
 steps_left b v t w (faults fault left few h) = left + 5
 steps_left b v t w (reads {child = child} left few c j h) = left + rank (more_steps b) w (JoinReads child)

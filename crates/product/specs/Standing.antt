@@ -16,6 +16,7 @@ use Rattle.meaning.specs.Offers.{Effect, joined, offer, TakesUp}
 use Rattle.protocol.specs.Points.{NoEntry, Point, Unmade, Runs, JoinReads, JoinSleeps, JoinLearns, JoinTakes, Dies}
 use Rattle.protocol.specs.Points.{Walks, ClearsId, LastWakes, HasEnded}
 use Rattle.protocol.specs.Exits.{PhaseIs}
+use Rattle.execution.specs.Later.{mark_of, last_mark}
 use Rattle.execution.specs.Following.{Build, StepsWithin}
 use Rattle.execution.specs.Completing.{Awaits, Proceeds, return_request, left_value, IsResult, join_steps}
 use Rattle.execution.specs.Builds.{most_steps}
@@ -76,7 +77,7 @@ pub data StandsAt (b : Build) (v : Variables) (t : ℕ) : Option Thread → Opti
   works : {x : Thread} {q : Process} (left : ℕ) → left ≤ most_steps b + template_steps → Proceeds b t v left x q
       → IsAtWork b.program q v → StandsAt b v t (Some x) (Some q) Runs (holds q)
   returns : {x : Thread} (result : Option ℕ) → IsResult result
-      → look b.code.image t x ≡ Asks (return_request result) first_exit
+      → look b.code.image t x ≡ Asks (return_request result) first_exit → last_mark (mark_of b.code.marks x) ≡ None
       → StandsAt b v t (Some x) (Some (Leaving (left_value result))) Runs []
   -- in a template of its code, to which it came over the variables `u`, on the way to the request of its point
   inside : {x y : Thread} {pt : Point} (left : ℕ) (k : Template) (u : Variables) → left ≤ template_steps

@@ -1,5 +1,5 @@
-ghost use Rattle.std.specs.Prelude.{◌≡◌, ◌+◌, ◌<◌, ◌^◌, ◌∷◌, [], ℕ, suc, Bool, true, false, List};
-ghost use Rattle.code.specs.Pieces.{code_of};
+ghost use Rattle.std.specs.Prelude.{◌≡◌, ◌+◌, ◌<◌, ◌^◌, ◌∷◌, [], ℕ, suc, Bool, true, false, List, Option};
+ghost use Rattle.code.specs.Pieces.{code_of, marks_of};
 ghost use Rattle.deferral.specs.Deferring.{is_quiet};
 ghost use Rattle.execution.specs.Variables.{IsVariable, variable_address};
 ghost use Rattle.locals.specs.Looks.{look};
@@ -8,7 +8,13 @@ ghost use Rattle.machine.specs.States.{State, opening_state};
 ghost use Rattle.meaning.specs.Labels.{Kind, Label, kind_of};
 ghost use Rattle.meaning.specs.Runs.{IsStep as IsSourceStep};
 ghost use Rattle.meaning.specs.States.{SourceState, opening};
-ghost use Rattle.product.specs.Placing.{MovesSo, Resumes, act};
+ghost use Rattle.product.specs.Placing.{MovesSo, Resumes, StepsSo, act};
+ghost use Rattle.product.specs.Waiting.{waits_then};
+ghost use Rattle.product.specs.Corresponding.{Corresponds};
+ghost use Rattle.deferral.specs.Placed.{actions_up_to};
+ghost use Rattle.execution.specs.Later.{mark_of};
+ghost use Rattle.meaning.specs.Runs.{Leads};
+ghost use Rattle.words.specs.Updates.{put};
 ghost use Rattle.product.specs.Tracking.{CanTake, Owes, Tracks};
 ghost use Rattle.program.specs.Trees.{Program};
 ghost use Rattle.program.specs.WellFormed.{WellFormed};
@@ -53,4 +59,35 @@ pub fn source_follows()
         → s.word (variable_address p m i) ≡ word_of (a.variable m.monitor m.number i) }
     ensures ends { (p : Program) (w : WellFormed p) (steps : ℕ) (s : State) (a : SourceState)
         → Tracks p w steps s a → (q : ℕ) → machine_end s q ≡ source_end a q }
+{}
+
+/// What waits behind the machine is told by the code's marks. At a step that no other process learns of, the process has
+/// one more action that waits just where the step has one (`StepsSo` says which steps have, and which action, by the mark
+/// at which the thread stands, the request and its answer): an assignment of a local, a test, a call, a return, a fault,
+/// which waits once. Behind one that others learn of, all that waits of the process is taken first, in order, and then
+/// nothing waits of it. At any time all that waits may be taken, by rising number of process, and then the source is
+/// where the machine is.
+pub fn source_waits()
+    ensures opens { (p : Program) (w : WellFormed p)
+        → (o : Tracks p w 0 (opening_state (code_of p)) (opening p)) × (o.waiting ≡ (λ t. [])) }
+    ensures waits { (p : Program) (w : WellFormed p) (steps : ℕ) (s : State) (a : SourceState) (r : Tracks p w steps s a)
+        (l : Step) (s' : State) (st : IsStep (code_of p) s l s') (done : Bool) (late : Option Kind)
+        → StepsSo p done late (mark_of (marks_of p) st.thread) s l.thread l.woken (look (code_of p) l.thread st.thread) s'
+        → steps + 1 < 2 ^ 32
+        → (done ≡ false → (n : Tracks p w (suc steps) s' a)
+        × (n.waiting ≡ put r.waiting l.thread (waits_then late (r.waiting l.thread))))
+        × (done ≡ true → (o : Owes p w (suc steps) s' l.thread a (r.waiting l.thread)) × (o.waiting ≡ r.waiting)) }
+    ensures pays { (p : Program) (w : WellFormed p) (steps : ℕ) (s : State) (t : ℕ) (a : SourceState) (k : Kind)
+        (ks : List Kind) (o : Owes p w steps s t a (k ∷ ks))
+        → (label : Label) × (k ≡ kind_of label) × (is_quiet label ≡ true) × CanTake p a t label
+        × ((a' : SourceState) → IsSourceStep p a (act t k) a'
+        → (n : Owes p w steps s t a' ks) × (n.waiting ≡ put o.waiting t ks)) }
+    ensures settles { (p : Program) (w : WellFormed p) (steps : ℕ) (s : State) (t : ℕ) (a : SourceState)
+        (o : Owes p w steps s t a [])
+        → (label : Label) × (is_quiet label ≡ false) × CanTake p a t label × Resumes p s a.table label
+        × ((a' : SourceState) → IsSourceStep p a (act t (kind_of label)) a'
+        → (n : Tracks p w steps s a') × (n.waiting ≡ o.waiting)) }
+    ensures finishes { (p : Program) (w : WellFormed p) (steps : ℕ) (s : State) (a : SourceState)
+        (r : Tracks p w steps s a)
+        → (source : SourceState) × Leads p a (actions_up_to s.made r.waiting) source × Corresponds p w steps s source }
 {}

@@ -4,4 +4,4 @@
 
 mod law;
 
-pub use law::{code_refines, source_follows};
+pub use law::{code_refines, source_follows, source_waits};
