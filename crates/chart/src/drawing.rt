@@ -23,29 +23,53 @@ fn side(kind: &ActionKind) -> u64 {
 }
 
 impl<'c, 'n> Sheet<'c, 'n> {
-    // Draws what an action does to the rows.
-    fn follow_all(&mut self, state: &SourceState, action: &Action) -> Result<(), AllocError> {
+    // A process is made: its row begins.
+    fn begin(&mut self, state: &SourceState, child: u64) -> Result<(), AllocError> {
+        self.add_row()?;
+        self.follow(state, child, self.moment(1))
+    }
+
+    // The row of the main process begins.
+    fn begin_first(&mut self, state: &SourceState) -> Result<(), AllocError> {
+        self.add_row()?;
+        self.follow(state, 1, self.moment(0))
+    }
+
+    // A process is over: its row ends, where no other joins it.
+    fn end(&mut self, process: u64) -> Result<(), AllocError> {
+        if self.joined.contains(&process) {
+            return Ok(());
+        }
+        self.leave(process, self.moment(1))
+    }
+
+    // Draws what an action does to the rows of processes that it resumes.
+    fn follow_each(&mut self, state: &SourceState, resumed: &[u64]) -> Result<(), AllocError> {
         let moment = self.moment(1);
-        self.follow(state, action.process, self.moment(side(&action.kind)))?;
+        for process in resumed {
+            self.follow(state, *process, moment)?;
+        }
+        Ok(())
+    }
+
+    // Draws what an action does to the rows of other processes, and to one that ends.
+    fn follow_others(&mut self, state: &SourceState, action: &Action) -> Result<(), AllocError> {
         match &action.kind {
-            ActionKind::Fork(child) => {
-                self.add_row()?;
-                self.follow(state, *child, moment)
-            }
-            ActionKind::Join(child) => self.leave(*child, moment),
-            ActionKind::Finish if !self.joined.contains(&action.process) => {
-                self.leave(action.process, moment)
-            }
+            ActionKind::Fork(child) => self.begin(state, *child),
+            ActionKind::Join(child) => self.leave(*child, self.moment(1)),
+            ActionKind::Finish => self.end(action.process),
             ActionKind::Notify(_, resumed)
             | ActionKind::Broadcast(_, resumed)
-            | ActionKind::Kill(resumed, _) => {
-                for process in resumed.as_slice() {
-                    self.follow(state, *process, moment)?;
-                }
-                Ok(())
-            }
+            | ActionKind::Kill(resumed, _) => self.follow_each(state, resumed.as_slice()),
             _ => Ok(()),
         }
+    }
+
+    // Draws what an action does to the rows.
+    fn follow_all(&mut self, state: &SourceState, action: &Action) -> Result<(), AllocError> {
+        let moment = self.moment(side(&action.kind));
+        self.follow(state, action.process, moment)?;
+        self.follow_others(state, action)
     }
 }
 
@@ -69,6 +93,42 @@ fn no_bars(alloc: Global) -> Result<Vec<Vec<u8>>, AllocError> {
     Ok(bars)
 }
 
+// Does an action, and draws it; false where it isn't possible.
+fn draw_step<'a>(
+    alloc: Global,
+    checked: &'a Checked,
+    action: &Action,
+    state: &mut SourceState<'a>,
+    sheet: &mut Sheet,
+) -> Result<bool, AllocError> {
+    let abandoned = finds_abandoned(state, &action.kind);
+    if !state.advance(alloc, checked.program(), action)? {
+        return Ok(false);
+    }
+    sheet.advance()?;
+    sheet.follow_all(state, action)?;
+    sheet.draw_action(state, action, abandoned)?;
+    Ok(true)
+}
+
+// Draws the actions from a state on, up to the first that isn't possible.
+fn draw_steps<'a>(
+    alloc: Global,
+    checked: &'a Checked,
+    actions: &[Action],
+    state: &mut SourceState<'a>,
+    sheet: &mut Sheet,
+) -> Result<(), AllocError> {
+    sheet.begin_first(state)?;
+    for action in actions {
+        if !draw_step(alloc, checked, action, state, sheet)? {
+            return sheet.end_strip();
+        }
+    }
+    sheet.end_strip()?;
+    sheet.draw_last(state)
+}
+
 // Draws the actions, up to the first that isn't possible.
 fn draw_run(
     alloc: Global,
@@ -77,20 +137,7 @@ fn draw_run(
     sheet: &mut Sheet,
 ) -> Result<(), AllocError> {
     let mut state = SourceState::opening(alloc, checked)?;
-    sheet.add_row()?;
-    sheet.follow(&state, 1, sheet.moment(0))?;
-    for action in actions {
-        let abandoned = finds_abandoned(&state, &action.kind);
-        match state.step(alloc, checked, action)? {
-            None => return sheet.end_strip(),
-            Some(next) => state = next,
-        }
-        sheet.advance()?;
-        sheet.follow_all(&state, action)?;
-        sheet.draw_action(&state, action, abandoned)?;
-    }
-    sheet.end_strip()?;
-    sheet.draw_last(&state)
+    draw_steps(alloc, checked, actions, &mut state, sheet)
 }
 
 // Appends what a picture begins with.
@@ -118,19 +165,35 @@ fn append_layers(out: &mut Vec<u8>, sheet: &Sheet) -> Result<(), AllocError> {
     out.extend_from_slice(sheet.marks.as_slice())
 }
 
-// The whole picture.
-fn assemble(alloc: Global, sheet: &Sheet) -> Result<Vec<u8>, AllocError> {
+// Appends the whole picture, with this legend, which ends at a height.
+fn append_picture(
+    out: &mut Vec<u8>,
+    sheet: &Sheet,
+    legend: &[u8],
+    wide: u64,
+    tall: u64,
+) -> Result<(), AllocError> {
+    append_head(out, sheet, wide, tall)?;
+    append_layers(out, sheet)?;
+    out.extend_from_slice(legend)?;
+    out.extend_from_slice(b"</svg>\n")
+}
+
+// Appends the whole picture. The legend is made beside it.
+fn assemble(out: &mut Vec<u8>, legend: &mut Vec<u8>, sheet: &Sheet) -> Result<(), AllocError> {
     let columns = sheet.drawn.min(COLUMNS);
     let wide = (columns * COLUMN)
         .saturating_add(LEFT + RIGHT)
         .max(LEAST_WIDTH);
-    let mut legend = Vec::new(alloc);
-    let bottom = append_legend(&mut legend, sheet.names, wide, sheet.bottom)?;
+    let tall = append_legend(legend, sheet.names, wide, sheet.bottom)?;
+    append_picture(out, sheet, legend.as_slice(), wide, tall)
+}
+
+// The whole picture.
+fn picture(alloc: Global, sheet: &Sheet) -> Result<Vec<u8>, AllocError> {
     let mut out = Vec::new(alloc);
-    append_head(&mut out, sheet, wide, bottom)?;
-    append_layers(&mut out, sheet)?;
-    out.extend_from_slice(legend.as_slice())?;
-    out.extend_from_slice(b"</svg>\n")?;
+    let mut legend = Vec::new(alloc);
+    assemble(&mut out, &mut legend, sheet)?;
     Ok(out)
 }
 
@@ -139,5 +202,5 @@ pub fn chart(alloc: Global, checked: &Checked, actions: &[Action]) -> Result<Vec
     let joined = joined(alloc, actions)?;
     let mut sheet = Sheet::new(alloc, checked.names(), joined, no_bars(alloc)?);
     draw_run(alloc, checked, actions, &mut sheet)?;
-    assemble(alloc, &sheet)
+    picture(alloc, &sheet)
 }

@@ -63,26 +63,48 @@ fn given_up(process: &Process) -> Option<u32> {
     }
 }
 
-/// What a process is doing, from the outermost monitor that it holds.
-pub(crate) fn layers_of(
-    alloc: Global,
-    state: &SourceState,
-    number: u64,
-) -> Result<Vec<Layer>, AllocError> {
-    let mut layers = Vec::new(alloc);
-    let Some(process) = state.process(number) else {
-        return Ok(layers);
-    };
-    let monitors = monitors_of(alloc, process)?;
-    for monitor in monitors.as_slice().iter().rev() {
-        if given_up(process) != Some(*monitor) {
+// Appends the monitors that a process holds, of these, from the last on.
+fn append_held(
+    layers: &mut Vec<Layer>,
+    process: &Process,
+    monitors: &[u32],
+) -> Result<(), AllocError> {
+    let without = given_up(process);
+    for monitor in monitors.iter().rev() {
+        if without != Some(*monitor) {
             layers.push(Layer::Holds(*monitor))?;
         }
     }
-    match uppermost(state, number, process) {
-        Some(layer) => layers.push(layer)?,
-        None if layers.is_empty() => layers.push(Layer::Runs)?,
-        None => {}
+    Ok(())
+}
+
+// Appends what a process is doing, from the outermost monitor that it holds.
+fn append_layers(
+    layers: &mut Vec<Layer>,
+    state: &SourceState,
+    number: u64,
+    process: &Process,
+) -> Result<(), AllocError> {
+    let monitors = monitors_of(*layers.allocator(), process)?;
+    append_held(layers, process, monitors.as_slice())?;
+    let last = match uppermost(state, number, process) {
+        None if layers.is_empty() => Some(Layer::Runs),
+        last => last,
+    };
+    if let Some(layer) = last {
+        layers.push(layer)?;
     }
-    Ok(layers)
+    Ok(())
+}
+
+/// Appends what a process of this number is doing, if there is one, from the outermost monitor that it holds.
+pub(crate) fn append_layers_of(
+    layers: &mut Vec<Layer>,
+    state: &SourceState,
+    number: u64,
+) -> Result<(), AllocError> {
+    match state.process(number) {
+        Some(process) => append_layers(layers, state, number, process),
+        None => Ok(()),
+    }
 }

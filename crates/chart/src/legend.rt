@@ -1,11 +1,11 @@
 use crate::labels::{append_description, monitor_name};
-use crate::layer::{Layer, layers_of};
+use crate::layer::{Layer, append_layers_of};
 use crate::palette::colour;
 use crate::shapes::{append_shape, append_text};
 use crate::sheet::Sheet;
 use program::Names;
 use sourcestates::SourceState;
-use std::alloc::AllocError;
+use std::alloc::{AllocError, Global};
 
 // What the lines and marks are.
 const SAMPLES: &str =
@@ -87,27 +87,61 @@ pub(crate) fn append_legend(
     Ok(last.saturating_add(66))
 }
 
+// What is uppermost of what a process does.
+fn last_layer(
+    alloc: Global,
+    state: &SourceState,
+    process: u64,
+) -> Result<Option<Layer>, AllocError> {
+    let mut layers = Vec::new(alloc);
+    append_layers_of(&mut layers, state, process)?;
+    Ok(layers.last().copied())
+}
+
 impl<'c, 'n> Sheet<'c, 'n> {
+    // Writes what a process waits for behind its row.
+    fn describe(&mut self, index: usize, layer: Layer) -> Result<(), AllocError> {
+        let left = self.moment(2).left.saturating_add(8);
+        let below = self.below(index);
+        append_shape(
+            &mut self.marks,
+            "<text class='note' x='$' y='$'>",
+            &[left, below],
+        )?;
+        append_description(&mut self.marks, self.names, layer)?;
+        append_shape(&mut self.marks, "</text>\n", &[])
+    }
+
+    // Where the words behind a row stand.
+    fn below(&self, index: usize) -> u64 {
+        match self.rows.get(index) {
+            None => 0,
+            Some(row) => row.middle.saturating_add(3),
+        }
+    }
+
+    // Whether a process was joined, or was never made.
+    fn is_gone(&self, index: usize) -> bool {
+        match self.rows.get(index) {
+            None => true,
+            Some(row) => row.gone,
+        }
+    }
+
+    // Writes behind a process that isn't over what it waits for at the end.
+    fn draw_last_of(&mut self, state: &SourceState, index: usize) -> Result<(), AllocError> {
+        let process = (index as u64).saturating_add(1);
+        match last_layer(self.alloc, state, process)? {
+            None | Some(Layer::IsOver) => Ok(()),
+            Some(_) if self.is_gone(index) => Ok(()),
+            Some(layer) => self.describe(index, layer),
+        }
+    }
+
     /// Writes behind each process that isn't over what it waits for at the end.
     pub fn draw_last(&mut self, state: &SourceState) -> Result<(), AllocError> {
-        let left = self.moment(2).left.saturating_add(8);
-        for (index, row) in self.rows.iter().enumerate() {
-            let process = (index as u64).saturating_add(1);
-            let layers = layers_of(self.alloc, state, process)?;
-            let Some(layer) = layers.as_slice().last() else {
-                continue;
-            };
-            if row.gone || matches!(layer, Layer::IsOver) {
-                continue;
-            }
-            let below = row.middle.saturating_add(3);
-            append_shape(
-                &mut self.marks,
-                "<text class='note' x='$' y='$'>",
-                &[left, below],
-            )?;
-            append_description(&mut self.marks, self.names, *layer)?;
-            append_shape(&mut self.marks, "</text>\n", &[])?;
+        for index in 0..self.rows.len() {
+            self.draw_last_of(state, index)?;
         }
         Ok(())
     }

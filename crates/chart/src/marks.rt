@@ -20,17 +20,22 @@ pub(crate) fn finds_abandoned(state: &SourceState, kind: &ActionKind) -> bool {
 }
 
 impl<'c, 'n> Sheet<'c, 'n> {
+    // Where a note of this width stands below the bars of a process, behind the notes before it.
+    fn note_place(&mut self, process: u64, wide: u64) -> Option<[u64; 2]> {
+        let middle = self.moment(1).left;
+        match self.rows.get_mut(index_of(process)) {
+            None => None,
+            Some(row) => Some(row.note_place(middle, wide)),
+        }
+    }
+
     // Writes a note below the bars of a process, behind the notes before it.
     fn note(&mut self, process: u64, form: &str, text: &[u8]) -> Result<(), AllocError> {
-        let middle = self.moment(1).left;
         let wide = (text.len() as u64).saturating_mul(6);
-        let Some(row) = self.rows.get_mut(index_of(process)) else {
-            return Ok(());
-        };
-        let left = middle.saturating_sub(wide / 2).max(row.notes_end);
-        row.notes_end = left.saturating_add(wide).saturating_add(3);
-        let below = row.middle.saturating_add(17);
-        append_text(&mut self.marks, form, &[left, below], text)
+        match self.note_place(process, wide) {
+            None => Ok(()),
+            Some(place) => append_text(&mut self.marks, form, &place, text),
+        }
     }
 
     // Writes that a monitor is abandoned.
@@ -47,31 +52,34 @@ impl<'c, 'n> Sheet<'c, 'n> {
         append_shape(&mut self.marks, form, &[left, middle])
     }
 
-    // Draws the end of a process, and why it aborted.
-    fn draw_end(&mut self, process: u64, end: Option<End>) -> Result<(), AllocError> {
+    // Writes why a process aborted.
+    fn draw_cause(&mut self, process: u64, cause: Cause) -> Result<(), AllocError> {
         let left = self.moment(1).left.saturating_add(9);
         let middle = self.middle(process).saturating_add(3);
-        match end {
-            Some(End::Aborted(cause)) => {
-                self.dot(
-                    process,
-                    "<path class='cross' d='M$,$m-5,-5l10,10m0,-10l-10,10'/>",
-                )?;
-                match cause {
-                    Cause::Faulted(fault) => append_shape(
-                        &mut self.marks,
-                        "<text class='fault' x='$' y='$'>fault $</text>",
-                        &[left, middle, u64::from(fault.number())],
-                    ),
-                    Cause::Killed => append_shape(
-                        &mut self.marks,
-                        "<text class='fault' x='$' y='$'>killed</text>",
-                        &[left, middle],
-                    ),
-                }
-            }
-            _ => self.dot(process, "<path class='end' d='M$,$m-4,-4h8v8h-8z'/>"),
+        match cause {
+            Cause::Faulted(fault) => append_shape(
+                &mut self.marks,
+                "<text class='fault' x='$' y='$'>fault $</text>",
+                &[left, middle, u64::from(fault.number())],
+            ),
+            Cause::Killed => append_shape(
+                &mut self.marks,
+                "<text class='fault' x='$' y='$'>killed</text>",
+                &[left, middle],
+            ),
         }
+    }
+
+    // Draws the end of a process, and why it aborted.
+    fn draw_end(&mut self, process: u64, end: Option<End>) -> Result<(), AllocError> {
+        let Some(End::Aborted(cause)) = end else {
+            return self.dot(process, "<path class='end' d='M$,$m-4,-4h8v8h-8z'/>");
+        };
+        self.dot(
+            process,
+            "<path class='cross' d='M$,$m-5,-5l10,10m0,-10l-10,10'/>",
+        )?;
+        self.draw_cause(process, cause)
     }
 
     // Draws the arrows to resumed processes, or that there are none.

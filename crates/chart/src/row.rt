@@ -1,5 +1,8 @@
 use crate::bar::{Bar, Place};
+use crate::labels::{condition_name, monitor_name};
 use crate::layer::Layer;
+use crate::palette::colour;
+use crate::shapes::append_text;
 use program::Names;
 use std::alloc::{AllocError, Global};
 
@@ -42,6 +45,21 @@ fn place(level: usize, middle: u64, moment: Moment) -> Place {
     }
 }
 
+// The form, the monitor and the name that are written above a bar, if any.
+fn label_of<'n>(names: &Names<'n>, layer: Layer) -> Option<(&'static str, u32, &'n [u8])> {
+    match layer {
+        Layer::Holds(monitor) => {
+            let form = "<text class='m$' x='$' y='$'>";
+            Some((form, monitor, monitor_name(names, monitor)))
+        }
+        Layer::Waits(condition) => {
+            let form = "<text class='condition m$' x='$' y='$'>";
+            Some((form, condition.monitor, condition_name(names, condition)))
+        }
+        _ => None,
+    }
+}
+
 impl Row {
     /// The row of a process.
     pub fn new(alloc: Global) -> Row {
@@ -60,6 +78,59 @@ impl Row {
         matches!(self.bars.as_slice(), [bar] if bar.layer == Layer::IsOver)
     }
 
+    /// Where a note of this width, round a middle, stands below its bars, behind the notes before it.
+    pub fn note_place(&mut self, middle: u64, wide: u64) -> [u64; 2] {
+        let left = middle.saturating_sub(wide / 2).max(self.notes_end);
+        self.notes_end = left.saturating_add(wide).saturating_add(3);
+        [left, self.middle.saturating_add(17)]
+    }
+
+    // Writes the name of what a bar shows above it, where no other name stands.
+    fn label(&mut self, marks: &mut Vec<u8>, names: &Names, bar: Bar) -> Result<(), AllocError> {
+        let Some((form, monitor, name)) = label_of(names, bar.layer) else {
+            return Ok(());
+        };
+        if bar.left < self.names_end {
+            return Ok(());
+        }
+        let wide = (name.len() as u64).saturating_mul(6).saturating_add(4);
+        self.names_end = bar.left.saturating_add(wide);
+        let above = self.middle.saturating_sub(11);
+        append_text(marks, form, &[colour(monitor), bar.left, above], name)
+    }
+
+    /// Writes the names of what its bars show above them, from a level on.
+    pub fn label_from(
+        &mut self,
+        marks: &mut Vec<u8>,
+        names: &Names,
+        first: usize,
+    ) -> Result<(), AllocError> {
+        for level in first..self.bars.len() {
+            if let Some(bar) = self.bars.get(level).copied() {
+                self.label(marks, names, bar)?;
+            }
+        }
+        Ok(())
+    }
+
+    // Draws the bar of a level, up to a moment.
+    fn draw_level(
+        &self,
+        levels: &mut [Vec<u8>],
+        names: &Names,
+        level: usize,
+        moment: Moment,
+    ) -> Result<(), AllocError> {
+        let Some(bar) = self.bars.get(level) else {
+            return Ok(());
+        };
+        match levels.get_mut(level.min(LEVELS - 1)) {
+            Some(out) => bar.draw(out, names, place(level, self.middle, moment)),
+            None => Ok(()),
+        }
+    }
+
     // Draws its bars from a level on, up to a moment, each over those that it stands on.
     fn draw_from(
         &self,
@@ -68,10 +139,8 @@ impl Row {
         first: usize,
         moment: Moment,
     ) -> Result<(), AllocError> {
-        for (level, bar) in self.bars.iter().enumerate().skip(first) {
-            if let Some(out) = levels.get_mut(level.min(LEVELS - 1)) {
-                bar.draw(out, names, place(level, self.middle, moment))?;
-            }
+        for level in first..self.bars.len() {
+            self.draw_level(levels, names, level, moment)?;
         }
         Ok(())
     }
@@ -99,7 +168,7 @@ impl Row {
         let kept = self.kept(layers);
         self.draw_from(levels, names, kept, moment)?;
         self.bars.truncate(kept);
-        for layer in layers.iter().skip(kept) {
+        for layer in layers.get(kept..).unwrap_or(&[]) {
             self.bars.push(Bar {
                 layer: *layer,
                 left: moment.left,

@@ -1,9 +1,6 @@
-use crate::bar::Bar;
-use crate::labels::{condition_name, monitor_name};
-use crate::layer::{Layer, layers_of};
-use crate::palette::colour;
+use crate::layer::{Layer, append_layers_of};
 use crate::row::{Moment, Row};
-use crate::shapes::{append_shape, append_text};
+use crate::shapes::append_shape;
 use program::Names;
 use sourcestates::SourceState;
 use std::alloc::{AllocError, Global};
@@ -48,36 +45,6 @@ pub(crate) struct Sheet<'c, 'n> {
 // The place of a process's row.
 pub(crate) fn index_of(process: u64) -> usize {
     process.saturating_sub(1) as usize
-}
-
-// Writes the name of what a bar shows above it, where no other name stands.
-fn label(
-    marks: &mut Vec<u8>,
-    names: &Names,
-    middle: u64,
-    names_end: &mut u64,
-    bar: Bar,
-) -> Result<(), AllocError> {
-    let (form, monitor, name) = match bar.layer {
-        Layer::Holds(monitor) => (
-            "<text class='m$' x='$' y='$'>",
-            monitor,
-            monitor_name(names, monitor),
-        ),
-        Layer::Waits(condition) => (
-            "<text class='condition m$' x='$' y='$'>",
-            condition.monitor,
-            condition_name(names, condition),
-        ),
-        _ => return Ok(()),
-    };
-    if bar.left < *names_end {
-        return Ok(());
-    }
-    let wide = (name.len() as u64).saturating_mul(6).saturating_add(4);
-    *names_end = bar.left.saturating_add(wide);
-    let above = middle.saturating_sub(11);
-    append_text(marks, form, &[colour(monitor), bar.left, above], name)
 }
 
 impl<'c, 'n> Sheet<'c, 'n> {
@@ -128,16 +95,7 @@ impl<'c, 'n> Sheet<'c, 'n> {
             "<text class='process' x='12' y='$'>process $</text>\n",
             &[below, number],
         )?;
-        for bar in row.bars.iter() {
-            label(
-                &mut self.marks,
-                self.names,
-                row.middle,
-                &mut row.names_end,
-                *bar,
-            )?;
-        }
-        Ok(())
+        row.label_from(&mut self.marks, self.names, 0)
     }
 
     // Whether a process is to have a row of a strip from its beginning.
@@ -148,12 +106,18 @@ impl<'c, 'n> Sheet<'c, 'n> {
         }
     }
 
+    // Gives a process that goes on a row of this strip.
+    fn place_again(&mut self, index: usize) -> Result<(), AllocError> {
+        if self.goes_on(index) {
+            return self.place_row(index);
+        }
+        Ok(())
+    }
+
     // Gives each process that goes on a row of this strip.
     fn place_rows(&mut self) -> Result<(), AllocError> {
         for index in 0..self.rows.len() {
-            if self.goes_on(index) {
-                self.place_row(index)?;
-            }
+            self.place_again(index)?;
         }
         Ok(())
     }
@@ -165,6 +129,20 @@ impl<'c, 'n> Sheet<'c, 'n> {
         self.place_row(first)
     }
 
+    // Draws the line of the grid in a column, with the number of its action.
+    fn draw_line(&mut self, column: u64, number: u64) -> Result<(), AllocError> {
+        let left = column
+            .saturating_mul(COLUMN)
+            .saturating_add(LEFT - COLUMN / 2);
+        let tick = self.top.saturating_add(10);
+        let below = tick.saturating_add(4);
+        append_shape(
+            &mut self.lines,
+            "<text class='tick' x='$' y='$'>$</text><path class='grid' d='M$,$V$'/>\n",
+            &[left, tick, number, left, below, self.bottom],
+        )
+    }
+
     // Draws the grid of this strip, with the numbers of each tenth action.
     fn draw_grid(&mut self) -> Result<(), AllocError> {
         let columns = self.drawn.saturating_sub(1) % COLUMNS + 1;
@@ -172,30 +150,25 @@ impl<'c, 'n> Sheet<'c, 'n> {
         for column in 1..=columns {
             let number = before.saturating_add(column);
             if number % 10 == 0 || number == 1 {
-                let left = (column * COLUMN).saturating_add(LEFT - COLUMN / 2);
-                let tick = self.top.saturating_add(10);
-                append_shape(
-                    &mut self.lines,
-                    "<text class='tick' x='$' y='$'>$</text><path class='grid' d='M$,$V$'/>\n",
-                    &[
-                        left,
-                        tick,
-                        number,
-                        left,
-                        tick.saturating_add(4),
-                        self.bottom,
-                    ],
-                )?;
+                self.draw_line(column, number)?;
             }
         }
         Ok(())
     }
 
+    // Ends a process's row in this strip.
+    fn cut(&mut self, index: usize, moment: Moment) -> Result<(), AllocError> {
+        match self.rows.get_mut(index) {
+            Some(row) => row.cut(self.bars.as_mut_slice(), self.names, moment, LEFT),
+            None => Ok(()),
+        }
+    }
+
     /// Ends this strip: its bars are drawn up to its right edge.
     pub fn end_strip(&mut self) -> Result<(), AllocError> {
         let moment = self.moment(2);
-        for row in self.rows.iter_mut() {
-            row.cut(self.bars.as_mut_slice(), self.names, moment, LEFT)?;
+        for index in 0..self.rows.len() {
+            self.cut(index, moment)?;
         }
         self.draw_grid()
     }
@@ -217,6 +190,15 @@ impl<'c, 'n> Sheet<'c, 'n> {
         Ok(())
     }
 
+    // From a moment on a process does this.
+    fn change(&mut self, process: u64, layers: &[Layer], moment: Moment) -> Result<(), AllocError> {
+        let Some(row) = self.rows.get_mut(index_of(process)) else {
+            return Ok(());
+        };
+        let kept = row.change(self.bars.as_mut_slice(), self.names, layers, moment)?;
+        row.label_from(&mut self.marks, self.names, kept)
+    }
+
     /// From a moment on a process does what the state says.
     pub fn follow(
         &mut self,
@@ -224,44 +206,39 @@ impl<'c, 'n> Sheet<'c, 'n> {
         process: u64,
         moment: Moment,
     ) -> Result<(), AllocError> {
-        let layers = layers_of(self.alloc, state, process)?;
-        let Some(row) = self.rows.get_mut(index_of(process)) else {
-            return Ok(());
-        };
-        let kept = row.change(
-            self.bars.as_mut_slice(),
-            self.names,
-            layers.as_slice(),
-            moment,
-        )?;
-        for bar in row.bars.iter().skip(kept) {
-            label(
-                &mut self.marks,
-                self.names,
-                row.middle,
-                &mut row.names_end,
-                *bar,
-            )?;
+        let mut layers = Vec::new(self.alloc);
+        append_layers_of(&mut layers, state, process)?;
+        self.change(process, layers.as_slice(), moment)
+    }
+
+    // Whether a process has no row of this strip yet.
+    fn is_unplaced(&self, index: usize) -> bool {
+        match self.rows.get(index) {
+            None => false,
+            Some(row) => !row.placed,
         }
-        Ok(())
     }
 
     // Sees that a process has a row of this strip.
     fn see(&mut self, index: usize) -> Result<(), AllocError> {
-        match self.rows.get(index) {
-            Some(row) if !row.placed => self.place_row(index),
-            _ => Ok(()),
+        if self.is_unplaced(index) {
+            return self.place_row(index);
+        }
+        Ok(())
+    }
+
+    // The process has gone.
+    fn mark_gone(&mut self, process: u64) {
+        if let Some(row) = self.rows.get_mut(index_of(process)) {
+            row.gone = true;
         }
     }
 
     /// A process is joined, or is over and never joined: its row ends.
     pub fn leave(&mut self, process: u64, moment: Moment) -> Result<(), AllocError> {
         self.see(index_of(process))?;
-        let Some(row) = self.rows.get_mut(index_of(process)) else {
-            return Ok(());
-        };
-        let _kept = row.change(self.bars.as_mut_slice(), self.names, &[], moment)?;
-        row.gone = true;
+        self.change(process, &[], moment)?;
+        self.mark_gone(process);
         Ok(())
     }
 }
