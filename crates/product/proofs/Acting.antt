@@ -58,9 +58,11 @@ use Rattle.code.specs.declared.mark.Mark.{Mark}
 -- a thread is where it goes, takes a local step towards it, or loads a variable in view
 pub data FirstStep (image : MarkedImage) (t : ℕ) (s : View) (n : ℕ) (x z : Thread) : Type 0 where
   at_end : x ≡ z → FirstStep image t s n x z
-  goes_on : (y : Thread) (m : ℕ) → look image.image t x ≡ Goes y → later_mark (mark_of image.marks x) ≡ None → suc m ≤ n → WalksWithin image t s m y z
+  goes_on : (y : Thread) (m : ℕ) → look image.image t x ≡ Goes y → later_mark (mark_of image.marks x) ≡ None
+      → suc m ≤ n → WalksWithin image t s m y z
       → FirstStep image t s n x z
-  loads_on : (a word : ℕ) (go : ℕ → Thread) (m : ℕ) → look image.image t x ≡ Asks (AskLoad a) go → Reads s a word → suc m ≤ n
+  loads_on : (a word : ℕ) (go : ℕ → Thread) (m : ℕ) → look image.image t x ≡ Asks (AskLoad a) go → Reads s a word
+      → suc m ≤ n
       → WalksWithin image t s m (go word) z → FirstStep image t s n x z
 
 pub first_step : (image : MarkedImage) (t : ℕ) (s : View) (n : ℕ) (x z : Thread) → WalksWithin image t s n x z
@@ -128,8 +130,10 @@ module _ (p : Program) (w : WellFormed p) (steps : ℕ) (s : State) (c : SourceS
   abbrev b : Build
   b = build_of p w k.world.made
 
-  pub next_at : (mid : State) → s' ≡ mid → Next p w steps mid t done late pauses n c (stages k.world) → Next p w steps s' t done late pauses n c (stages k.world)
-  next_at mid same next = subst (λ (x : State). Next p w steps x t done late pauses n c (stages k.world)) (sym same) next
+  pub next_at : (mid : State) → s' ≡ mid → Next p w steps mid t done late pauses n c (stages k.world)
+      → Next p w steps s' t done late pauses n c (stages k.world)
+  next_at mid same next =
+      subst (λ (x : State). Next p w steps x t done late pauses n c (stages k.world)) (sym same) next
 
   -- a local step, and no move: a thread stands where it stood, with fewer steps left
   pub remains : done ≡ false → late ≡ None → (y : Thread) (q : Process) (pt : Point) (l : List ℕ) → c.process t ≡ Some q
@@ -179,11 +183,13 @@ module _ (p : Program) (w : WellFormed p) (steps : ℕ) (s : State) (c : SourceS
     -- a thread on its way to what its process does next
     pub works_step : (x : Thread) (left : ℕ) → left ≤ most_steps b + template_steps
         → (h : Proceeds b t c.variable left x q) → IsAtWork p q c.variable → left + before_template ≤ n
-        → StepsSo p done late (mark_of (marks_of p) x) s t woken (look (code_of p) t x) s' → (x ≡ h.last) ⊎ Next p w steps s' t done late pauses n c (stages k.world)
+        → StepsSo p done late (mark_of (marks_of p) x) s t woken (look (code_of p) t x) s'
+        → (x ≡ h.last) ⊎ Next p w steps s' t done late pauses n c (stages k.world)
     works_step x left few h work enough moves =
         by_step (first_step (marked_image p) t (view_of b q c.variable) left x h.last h.walk)
       where
-        on : done ≡ false → late ≡ None → (y : Thread) (m : ℕ) → suc m ≤ left → WalksWithin (marked_image p) t (view_of b q c.variable) m y h.last
+        on : done ≡ false → late ≡ None → (y : Thread) (m : ℕ) → suc m ≤ left
+            → WalksWithin (marked_image p) t (view_of b q c.variable) m y h.last
             → s' ≡ with_thread s t y → Next p w steps s' t done late pauses n c (stages k.world)
         on none plain y m less walk same = remains none plain y q Runs (holds q) proc point list same
             (works m (omega (arith, less, few)) (record { last = h.last; walk = walk; completes = h.completes }) work)
@@ -193,13 +199,16 @@ module _ (p : Program) (w : WellFormed p) (steps : ℕ) (s : State) (c : SourceS
             → (x ≡ h.last) ⊎ Next p w steps s' t done late pauses n c (stages k.world)
         by_step (at_end e) = inl e
         by_step (goes_on y m e plain less walk) =
-            let g : StepsSo p done late (mark_of (marks_of p) x) s t woken (Goes y) s' = subst (λ (l : Look). StepsSo p done late (mark_of (marks_of p) x) s t woken l s') e moves in
+            let g : StepsSo p done late (mark_of (marks_of p) x) s t woken (Goes y) s' =
+            subst (λ (l : Look). StepsSo p done late (mark_of (marks_of p) x) s t woken l s') e moves in
             inr (on g.2 (g.3 ∙ plain) y m less walk g.1)
         by_step (loads_on a word go m e shown less walk) =
-            let g : StepsSo p done late (mark_of (marks_of p) x) s t woken (Asks (AskLoad a) go) s' = subst (λ (l : Look). StepsSo p done late (mark_of (marks_of p) x) s t woken l s') e moves in
+            let g : StepsSo p done late (mark_of (marks_of p) x) s t woken (Asks (AskLoad a) go) s' =
+            subst (λ (l : Look). StepsSo p done late (mark_of (marks_of p) x) s t woken l s') e moves in
             let value : g.0 ≡ word =
             g.2.1.1.0 ∙ ap s.word shown.there ∙ k.variables shown.member shown.index shown.variable ∙ sym shown.shown in
-            inr (on (g.4 ∙ variable_loaded p shown.member shown.index a g.0 shown.variable shown.there) g.5 (go word) m less
+            inr (on (g.4 ∙ variable_loaded p shown.member shown.index a g.0 shown.variable shown.there) g.5
+            (go word) m less
             walk (g.3 ∙ ap (λ (i : State). with_thread i t (go g.0)) g.2.1.1.1
             ∙ ap (λ i. with_thread s t (go i)) value))
 
@@ -217,9 +226,11 @@ module _ (p : Program) (w : WellFormed p) (steps : ℕ) (s : State) (c : SourceS
         → ((m : ℕ) → VariablesFit k.world.made p m (variables_after effect c.variable))
         → ((u m : ℕ) → u ≢ t → HasNow k.world u m → (i j : ℕ)
         → c.variable m i j ≡ variables_after effect c.variable m i j)
-        → Places p (with_thread mid t y) t c (acted c t effect r c.table) done late (stages k.world t) Works (kind_of label ∷ [])
+        → Places p (with_thread mid t y) t c (acted c t effect r c.table) done late (stages k.world t) Works
+        (kind_of label ∷ [])
         → s' ≡ with_thread mid t y → Next p w steps s' t done late pauses n c (stages k.world)
-    does mid label effect y r takes alone mine others kept stands size made thread output shares variables fit same places
+    does mid label effect y r takes alone mine others kept stands size made thread output shares variables fit same
+        places
         e =
         let c' = acted c t effect r c.table in
         let stand = works_on p w k.world.made c'.variable t y y r fit
@@ -269,21 +280,25 @@ module _ (p : Program) (w : WellFormed p) (steps : ℕ) (s : State) (c : SourceS
           paced = λ z. inl tt;
         })
 
-    module _ (x : Thread) (work : IsAtWork p q c.variable) (moves : StepsSo p done late (mark_of (marks_of p) x) s t woken (look (code_of p) t x) s') where
+    module _ (x : Thread) (work : IsAtWork p q c.variable) (moves : StepsSo p done late (mark_of
+        (marks_of p) x) s t woken (look (code_of p) t x) s') where
       takes_up : (l : Label) (effect : Effect) (r : Process) → offer p c.variable q ≡ Does l effect r
           → TakesUp (offer p c.variable q) l effect r
       takes_up l effect r o = subst (λ (i : Offer). TakesUp i l effect r) (sym o) (refl, refl, refl)
 
       pub acts_step : (kind : Kind) (y : Thread) (r : Process) → IsQuiet kind → look (code_of p) t x ≡ Goes y
           → later_mark (mark_of (marks_of p) x) ≡ Some kind
-          → offer p c.variable q ≡ Does (Alone kind) Nothing r → Stands b t y r → Next p w steps s' t done late pauses n c (stages k.world)
+          → offer p c.variable q ≡ Does (Alone kind) Nothing r → Stands b t y r
+          → Next p w steps s' t done late pauses n c (stages k.world)
       acts_step kind y r mine h mark o stands =
-          let g : StepsSo p done late (mark_of (marks_of p) x) s t woken (Goes y) s' = subst (λ (l : Look). StepsSo p done late (mark_of (marks_of p) x) s t woken l s') h moves in
+          let g : StepsSo p done late (mark_of (marks_of p) x) s t woken (Goes y) s' =
+          subst (λ (l : Look). StepsSo p done late (mark_of (marks_of p) x) s t woken l s') h moves in
           let takes = takes_up (Alone kind) Nothing r o in
           does s (Alone kind) Nothing y r takes tt (own_kind kind mine) refl
           (held_of (holds q) r (work.keeps (Alone kind) Nothing r tt takes)) stands refl refl refl k.output k.shares
           k.variables k.fit (λ u m d i j e. refl)
-          (waits _ _ (Alone kind) g.2 (g.3 ∙ mark) (ap stage_of point) (no_fault (mark_of (marks_of p) x) kind mark) proc
+          (waits _ _ (Alone kind) g.2 (g.3 ∙ mark) (ap stage_of point) (no_fault (mark_of
+          (marks_of p) x) kind mark) proc
           (may_wait p w steps s c k t number awake point q r (Alone kind) list work.steady
           (quiet_kind kind mine) takes refl (stands_open b t y r stands)) refl) g.1
 
@@ -291,7 +306,8 @@ module _ (p : Program) (w : WellFormed p) (steps : ℕ) (s : State) (c : SourceS
           → offer p c.variable q ≡ Does (Alone (L.Print (signed_of v))) (Writes (signed_of v)) r
           → ((answer : ℕ) → Stands b t (go answer) r) → Next p w steps s' t done late pauses n c (stages k.world)
       prints_step v go r h o stands =
-          let g : StepsSo p done late (mark_of (marks_of p) x) s t woken (Asks (AskPrint v) go) s' = subst (λ (l : Look). StepsSo p done late (mark_of (marks_of p) x) s t woken l s') h moves in
+          let g : StepsSo p done late (mark_of (marks_of p) x) s t woken (Asks (AskPrint v) go) s' =
+          subst (λ (l : Look). StepsSo p done late (mark_of (marks_of p) x) s t woken l s') h moves in
           let z = signed_of v in
           let takes = takes_up (Alone (L.Print z)) (Writes z) r o in
           does (record s { output = s.output ++ z ∷ [] }) (Alone (L.Print z)) (Writes z) (go g.0) r takes tt tt refl
@@ -369,7 +385,8 @@ module _ (p : Program) (w : WellFormed p) (steps : ℕ) (s : State) (c : SourceS
             does (with_word s a (word_of z)) (Stores m.monitor) effect (go g.0) r takes listed tt refl
             (held_of (holds q) r (work.keeps (Stores m.monitor) effect r tt takes)) (stands g.0) refl refl refl k.output
             stored_shares stored_words stored_fit stored_same
-            (acts _ _ (Stores m.monitor) effect c.table (g.4 ∙ variable_stored p m i (word_of z) g.0 is) refl refl proc takes refl
+            (acts _ _ (Stores m.monitor) effect c.table (g.4 ∙ variable_stored p m i
+            (word_of z) g.0 is) refl refl proc takes refl
             mine (λ d j a other. variable_at (λ (v : ℤ). v ≡ c.variable d j a) c.variable m.monitor m.number i z d j a
             (λ e f h. absurd (other (ap c.table.hold e ∙ mine))) (λ no. refl)) tt refl)
             (g.3 ∙ ap (λ (e : State). with_thread e t (go g.0)) g.2.1.1.1)

@@ -49,7 +49,8 @@ use Rattle.std.specs.Prelude.{if◌then◌else◌}
 use Rattle.meaning.specs.Labels as L
 
 module _ (p : Program) (w : WellFormed p) (steps : ℕ) (s : State) (c : SourceState) (k : Corresponds p w steps s c)
-    (t : ℕ) (woken : List ℕ) (done : Bool) (late : Option Kind) (pauses : Bool) (s' : State) (n : ℕ) (number : (0 < t) × (t ≤ k.world.made))
+    (t : ℕ) (woken : List ℕ) (done : Bool) (late : Option Kind) (pauses : Bool) (s' : State) (n : ℕ) (number :
+    (0 < t) × (t ≤ k.world.made))
     (few : k.world.made ≤ 64) (awake : k.world.asleep t ≡ None) (q : Process) (proc : c.process t ≡ Some q)
     (point : (k.world.at t).point ≡ Runs) (list : (k.world.at t).list ≡ holds q) where
   abbrev b : Build
@@ -65,7 +66,8 @@ module _ (p : Program) (w : WellFormed p) (steps : ℕ) (s : State) (c : SourceS
       → IsOwn (kind_of label) → l ≡ holds q → StandsAt b c.variable t (Some y) (Some r) pt l
       → Shares (place p) (valid p) (shared_of mid) w2 → Keeps p s mid → w2.made ≡ k.world.made
       → w2.at ≡ k.world.at → w2.result ≡ k.world.result → w2.sequence ≡ k.world.sequence
-      → Places p (with_thread mid t y) t c (acted c t Nothing r (table_after k.world c.table t move)) done late (stages k.world t) (stage_of pt) (kind_of label ∷ [])
+      → Places p (with_thread mid t y) t c (acted c t Nothing r (table_after k.world c.table t move)) done late
+      (stages k.world t) (stage_of pt) (kind_of label ∷ [])
       → s' ≡ with_thread mid t y → Next p w steps s' t done late pauses n c (stages k.world)
   starts move label mid w2 y r pt l can comes carries takes own has stands shares keeps made at result sequence places
       same =
@@ -112,7 +114,8 @@ module _ (p : Program) (w : WellFormed p) (steps : ℕ) (s : State) (c : SourceS
         paced = λ z. inl tt;
       })
 
-  module _ (x : Thread) (work : IsAtWork p q c.variable) (moves : StepsSo p done late (mark_of (marks_of p) x) s t woken (look (code_of p) t x) s') where
+  module _ (x : Thread) (work : IsAtWork p q c.variable) (moves : StepsSo p done late (mark_of
+      (marks_of p) x) s t woken (look (code_of p) t x) s') where
     abbrev refusal : Bool → Option Kind
     refusal free = if free then None else Some (L.Fails HandleNotJoinable)
 
@@ -200,5 +203,6 @@ module _ (p : Program) (w : WellFormed p) (steps : ℕ) (s : State) (c : SourceS
                 (g.5 ∙ ap (λ (i : ℕ). refusal (i == 0)) (answer ∙ e) ∙ ap refusal (ne_eqb (suc v) 0 (λ i. absurd cc)))
                 (ap stage_of point) refl proc
                 (may_wait p w steps s c k t number awake point q _ (FindsClaimed child) list work.steady refl
-                (found_claimed) ((permitted k.world c.table t (ClaimTaken child) inv (not_free z)).0) (λ end h. cc)) refl)
+                (found_claimed) ((permitted k.world c.table t (ClaimTaken child) inv (not_free z)).0)
+                (λ end h. cc)) refl)
                 (same (suc v) e)

@@ -12,7 +12,8 @@ use Rattle.program.specs.Trees.{Program}
 use Rattle.meaning.specs.Labels.{Kind, End, Faulted, Killed}
 use Rattle.meaning.specs.Table.{Table}
 use Rattle.protocol.specs.Word.{waiters, owner}
-use Rattle.protocol.specs.Points.{LeaveSwaps, ToWait, Point, ToExit, EnterPends, EnterTries, ReenterPends, ReenterTries, TakeReads}
+use Rattle.protocol.specs.Points.{LeaveSwaps, ToWait, Point, ToExit, EnterPends, EnterTries, ReenterPends, ReenterTries}
+use Rattle.protocol.specs.Points.{TakeReads}
 use Rattle.protocol.specs.Points.{TakeMarks, TakeTries, GotReads, GotLinks, GotHeads, GotUnpends, WaitReads}
 use Rattle.protocol.specs.Points.{NotifyWakes, BroadcastReads}
 use Rattle.protocol.specs.Points.{JoinReads, JoinLearns, JoinTakes, LeavePends, LeaveReads}
@@ -31,7 +32,8 @@ use Rattle.templates.specs.Layout.{place, valid}
 use Rattle.templates.specs.Asking.{asked, told}
 use Rattle.templates.proofs.Addresses.{variable_apart}
 use Rattle.templates.proofs.Layouts.{apart, number_is, is_number, monitor_valid, monitor_below}
-use Rattle.product.specs.Placing.{StepsSo, any_below, is_process_word, is_link_word, is_lock_word, completes, completes_exit}
+use Rattle.product.specs.Placing.{StepsSo, any_below, is_process_word, is_link_word, is_lock_word, completes}
+use Rattle.product.specs.Placing.{completes_exit}
 use Rattle.product.specs.Placing.{MovesSo}
 use Rattle.product.specs.Serving.{IsAskable}
 use Rattle.product.specs.Waiting.{Stage, stage_of, Agrees, Stays, Works}
@@ -97,7 +99,8 @@ point_late p mark t pt r asks h same =
     sym (ap (λ (o : Option Request). LateOf mark o r) same) ∙ none_late p mark t pt r h
 
 -- a step from a point leads to no fault
-either_works : (b : Bool) (x y : Point) → stage_of x ≡ Works → stage_of y ≡ Works → stage_of (if b then x else y) ≡ Works
+either_works : (b : Bool) (x y : Point) → stage_of x ≡ Works → stage_of y ≡ Works
+    → stage_of (if b then x else y) ≡ Works
 either_works true x y h g = h
 either_works false x y h g = g
 

@@ -1,5 +1,6 @@
 -- From a fault or the return of a thread's first procedure into its exit.
-use Rattle.std.proofs.Common.{◌≡◌, ◌≢◌, ℕ, zero, suc, ◌+◌, ◌<◌, ◌≤◌, Bool, true, List, [], ◌∷◌, length, Option, Some, false}
+use Rattle.std.proofs.Common.{◌≡◌, ◌≢◌, ℕ, zero, suc, ◌+◌, ◌<◌, ◌≤◌, Bool, true, List, [], ◌∷◌, length, Option, Some}
+use Rattle.std.proofs.Common.{false}
 use Rattle.std.proofs.Common.{None, refl, ap, sym, ◌∙◌, subst, arith, inl, inr, ◌⊎◌}
 use Rattle.std.specs.Prelude.{◌^◌, map}
 use Rattle.words.specs.Updates.{put}
@@ -65,7 +66,8 @@ walks_left b v t w zero end ms phase is short ends = omega arith
 walks_left b v t w (suc m) end ms phase is short ends = omega arith
 
 module _ (p : Program) (w : WellFormed p) (steps : ℕ) (s : State) (c : SourceState) (k : Corresponds p w steps s c)
-    (t : ℕ) (woken : List ℕ) (done : Bool) (late : Option Kind) (pauses : Bool) (s' : State) (n : ℕ) (number : (0 < t) × (t ≤ k.world.made))
+    (t : ℕ) (woken : List ℕ) (done : Bool) (late : Option Kind) (pauses : Bool) (s' : State) (n : ℕ) (number :
+    (0 < t) × (t ≤ k.world.made))
     (few : k.world.made ≤ 64) (awake : k.world.asleep t ≡ None) where
   abbrev b : Build
   b = build_of p w k.world.made
@@ -104,7 +106,8 @@ module _ (p : Program) (w : WellFormed p) (steps : ℕ) (s : State) (c : SourceS
       → mid.word (variable_address p m i) ≡ s.word (variable_address p m i))
       → w2.at ≡ k.world.at → ((u : ℕ) → w2.result u < 2 ^ 32) → ((u : ℕ) → u ≢ t → w2.result u ≡ k.world.result u)
       → w2.sequence ≡ k.world.sequence → Puts c.process f t (Some (ending end l)) → AreOwn kinds
-      → Leads p c (map (act t) kinds) (record c { process = f }) → Places p s' t c (record c { process = f }) done late (stages k.world t) W.Leaves kinds
+      → Leads p c (map (act t) kinds) (record c { process = f })
+      → Places p s' t c (record c { process = f }) done late (stages k.world t) W.Leaves kinds
       → IsSome kinds ⊎ (3 < n)
       → s' ≡ with_thread mid t (Exits phase) → Next p w steps s' t done late pauses n c (stages k.world)
   begins_exit end mid w2 f kinds ends chain reached shares size made same_made output thread words at results others
@@ -146,7 +149,10 @@ module _ (p : Program) (w : WellFormed p) (steps : ℕ) (s : State) (c : SourceS
         leads = leads;
         stage = W.Leaves;
         staged = m.staged;
-        places = subst (λ (x : State). Places p x t c (record c { process = f }) done late (stages k.world t) W.Leaves kinds) same places;
+        places = subst (λ (x : State). Places p x t c (record c {
+          process =
+              f;
+        }) done late (stages k.world t) W.Leaves kinds) same places;
         paced = λ z. elim paced [
           | inl h ↦ inl h
           | inr h ↦ inr (omega (arith, less, m.is, h))
@@ -172,9 +178,11 @@ module _ (p : Program) (w : WellFormed p) (steps : ℕ) (s : State) (c : SourceS
       → Reached (record k.world { at = at }) c.table → (at t).point ≡ Dies (Faulted fault) NoEntry → (at t).list ≡ l
       → ((y : Place) → put at t y ≡ put k.world.at t y) → Chain k.world.link first l
       → Puts c.process f t (Some (Dying (Faulted fault) l)) → AreOwn kinds
-      → Leads p c (map (act t) kinds) (record c { process = f }) → Places p s' t c (record c { process = f }) done late (stages k.world t) W.Leaves kinds
+      → Leads p c (map (act t) kinds) (record c { process = f })
+      → Places p s' t c (record c { process = f }) done late (stages k.world t) W.Leaves kinds
       → IsSome kinds ⊎ (3 < n)
-      → StepsSo p done late (mark_of (marks_of p) (Dies' fault)) s t woken (look (code_of p) t (Dies' fault)) s' → Next p w steps s' t done late pauses n c (stages k.world)
+      → StepsSo p done late (mark_of (marks_of p) (Dies' fault)) s t woken (look (code_of p) t (Dies' fault)) s'
+      → Next p w steps s' t done late pauses n c (stages k.world)
   by_fault fault at f kinds reached stands list same chain ps own leads places paced g =
       let end = Aborted (Faulted fault) in
       let pt = Walks first NoEntry end in
@@ -189,14 +197,16 @@ module _ (p : Program) (w : WellFormed p) (steps : ℕ) (s : State) (c : SourceS
       begins_exit end (with_outcome s t v) w2 f kinds tt chain
       (subst (λ (x : World). Reached x c.table) is (reached_on w1 c.table t m reached can))
       (shares_stored (place p) (valid p) (apart p) (shared_of s) k.world (OutcomeOf t) v valid_t k.shares)
-      refl k.made refl refl refl (λ d i h. other_word s.word v d i h) refl k.words (λ u o. refl) refl ps own leads places paced
+      refl k.made refl refl refl (λ d i h. other_word s.word v d i h) refl k.words
+      (λ u o. refl) refl ps own leads places paced
       (g.3 ∙ ap (λ (x : State). with_thread x t (first_exit g.0)) g.2.1.1
       ∙ ap (λ a. with_thread (with_outcome s t v) t (first_exit a)) (g.2.1.0 ∙ head_word))
 
   -- a thread that comes to a fault which it met in the source already
   pub dies_step : (fault : Fault) → (k.world.at t).point ≡ Dies (Faulted fault) NoEntry
       → c.process t ≡ Some (Dying (Faulted fault) l) → 3 < n
-      → StepsSo p done late (mark_of (marks_of p) (Dies' fault)) s t woken (look (code_of p) t (Dies' fault)) s' → Next p w steps s' t done late pauses n c (stages k.world)
+      → StepsSo p done late (mark_of (marks_of p) (Dies' fault)) s t woken (look (code_of p) t (Dies' fault)) s'
+      → Next p w steps s' t done late pauses n c (stages k.world)
   dies_step fault point proc enough moves = by_fault fault k.world.at c.process [] k.reached point refl (λ y. refl)
       (dying_chain k.world c.table t (Faulted fault) NoEntry inv point) (same_puts c.process t _ proc) tt refl
       (again fault moves.4 moves.5 (ap stage_of point) refl refl)
@@ -252,7 +262,8 @@ module _ (p : Program) (w : WellFormed p) (steps : ℕ) (s : State) (c : SourceS
   result_fits (Some v) fits u = at_put k.world.result t v u (λ x. x < 2 ^ 32) (λ e. fits) (λ o. k.words u)
 
   -- the machine's answer is the head, whatever is returned
-  return_moves : (mark : Option Mark) (r : Option ℕ) → StepsSo p done late mark s t woken (Asks (return_request r) first_exit) s'
+  return_moves : (mark : Option Mark) (r : Option ℕ)
+      → StepsSo p done late mark s t woken (Asks (return_request r) first_exit) s'
       → s' ≡ with_thread (returned_state r) t (Exits phase)
   return_moves mark None g = g.3 ∙ ap (λ (x : State). with_thread x t (first_exit g.0)) g.2.1.1
       ∙ ap (λ a. with_thread (returned_state None) t (first_exit a)) (g.2.1.0 ∙ head_word)
@@ -264,13 +275,16 @@ module _ (p : Program) (w : WellFormed p) (steps : ℕ) (s : State) (c : SourceS
   result_end (Some v) e = refl
 
   -- the first procedure returns, and the exit begins; threads stand as `at` says before that
-  by_return : (mark : Option Mark) (r : Option ℕ) (at : ℕ → Place) (f : ℕ → Option Process) (kinds : List Kind) → IsResult r → l ≡ []
+  by_return : (mark : Option Mark) (r : Option ℕ) (at : ℕ → Place) (f : ℕ → Option Process) (kinds : List Kind)
+      → IsResult r → l ≡ []
       → Reached (record k.world { at = at }) c.table → (at t).point ≡ Runs → (at t).list ≡ l
       → ((y : Place) → put at t y ≡ put k.world.at t y) → (k.world.at t).point ≡ Runs
       → Puts c.process f t (Some (Leaving (left_value r))) → AreOwn kinds
-      → Leads p c (map (act t) kinds) (record c { process = f }) → Places p s' t c (record c { process = f }) done late (stages k.world t) W.Leaves kinds
+      → Leads p c (map (act t) kinds) (record c { process = f })
+      → Places p s' t c (record c { process = f }) done late (stages k.world t) W.Leaves kinds
       → IsSome kinds ⊎ (3 < n)
-      → StepsSo p done late mark s t woken (Asks (return_request r) first_exit) s' → Next p w steps s' t done late pauses n c (stages k.world)
+      → StepsSo p done late mark s t woken (Asks (return_request r) first_exit) s'
+      → Next p w steps s' t done late pauses n c (stages k.world)
   by_return mark r at f kinds fits none reached stands list same point ps own leads places paced g =
       let end = Ended (left_value r) in
       let pt = Walks first NoEntry end in
@@ -305,11 +319,16 @@ module _ (p : Program) (w : WellFormed p) (steps : ℕ) (s : State) (c : SourceS
   -- a thread whose process leaves already
   pub returns_step : (r : Option ℕ) (x : Thread) → IsResult r → (k.world.at t).point ≡ Runs → l ≡ []
       → c.process t ≡ Some (Leaving (left_value r)) → look (code_of p) t x ≡ Asks (return_request r) first_exit
-      → last_mark (mark_of (marks_of p) x) ≡ None → 3 < n → StepsSo p done late (mark_of (marks_of p) x) s t woken (look (code_of p) t x) s' → Next p w steps s' t done late pauses n c (stages k.world)
-  returns_step r x fits point none proc h mark enough moves = by_return (mark_of (marks_of p) x) r k.world.at c.process [] fits none k.reached point
+      → last_mark (mark_of (marks_of p) x) ≡ None → 3 < n
+      → StepsSo p done late (mark_of (marks_of p) x) s t woken (look (code_of p) t x) s'
+      → Next p w steps s' t done late pauses n c (stages k.world)
+  returns_step r x fits point none proc h mark enough moves =
+      by_return (mark_of (marks_of p) x) r k.world.at c.process [] fits none k.reached point
       refl (λ y. refl) point (same_puts c.process t _ proc) tt refl
-      (nothing (returns_done (mark_of (marks_of p) x) r (subst (λ (i : Look). StepsSo p done late (mark_of (marks_of p) x) s t woken i s') h moves))
-      (returns_late (mark_of (marks_of p) x) r (subst (λ (i : Look). StepsSo p done late (mark_of (marks_of p) x) s t woken i s') h moves) ∙ mark)
+      (nothing (returns_done (mark_of (marks_of p) x) r (subst (λ (i : Look). StepsSo p done late (mark_of
+      (marks_of p) x) s t woken i s') h moves))
+      (returns_late (mark_of (marks_of p) x) r (subst (λ (i : Look). StepsSo p done late (mark_of
+      (marks_of p) x) s t woken i s') h moves) ∙ mark)
       (inr refl) refl) (inr enough)
       (subst (λ (i : Look). StepsSo p done late (mark_of (marks_of p) x) s t woken i s') h moves)
 
@@ -321,7 +340,8 @@ module _ (p : Program) (w : WellFormed p) (steps : ℕ) (s : State) (c : SourceS
     -- a thread that meets a fault
     pub faults_step : (fault : Fault) (x : Thread) → IsAtWork p q c.variable → x ≡ Dies' fault
         → offer p c.variable q ≡ Does (Alone (L.Fails fault)) Nothing (Dying (Faulted fault) (holds q))
-        → StepsSo p done late (mark_of (marks_of p) x) s t woken (look (code_of p) t x) s' → Next p w steps s' t done late pauses n c (stages k.world)
+        → StepsSo p done late (mark_of (marks_of p) x) s t woken (look (code_of p) t x) s'
+        → Next p w steps s' t done late pauses n c (stages k.world)
     faults_step fault x work e o moves =
         let move = Raise fault in
         let can : Can k.world t move = record { number = number; awake = awake; stands = point; finds = tt } in
@@ -329,8 +349,10 @@ module _ (p : Program) (w : WellFormed p) (steps : ℕ) (s : State) (c : SourceS
         let o' : offer p c.variable q ≡ Does (Alone (L.Fails fault)) Nothing r =
         o ∙ ap (λ (i : List ℕ). Does (Alone (L.Fails fault)) Nothing (Dying (Faulted fault) i)) (sym list) in
         let z = thread_at (Dies (Faulted fault) NoEntry) l in
-        let g : StepsSo p done late (mark_of (marks_of p) (Dies' fault)) s t woken (look (code_of p) t (Dies' fault)) s' =
-        subst (λ (i : Thread). StepsSo p done late (mark_of (marks_of p) i) s t woken (look (code_of p) t i) s') e moves in
+        let g : StepsSo p done late (mark_of (marks_of p) (Dies' fault)) s t woken (look (code_of p) t
+        (Dies' fault)) s' =
+        subst (λ (i : Thread). StepsSo p done late (mark_of (marks_of p) i) s t woken (look
+        (code_of p) t i) s') e moves in
         by_fault fault (put k.world.at t z) (put c.process t (Some r)) (L.Fails fault ∷ [])
         (reached_on k.world c.table t move k.reached can)
         (ap (λ (i : Place). i.point) (put_same k.world.at t z))
@@ -341,7 +363,8 @@ module _ (p : Program) (w : WellFormed p) (steps : ℕ) (s : State) (c : SourceS
               (takes_up (Alone (L.Fails fault)) r o') (permitted k.world c.table t move inv can).0,
           refl,
         )
-        (waits _ _ (Alone (L.Fails fault)) g.4 g.5 (ap stage_of point) tt proc (may_wait p w steps s c k t number awake point q r
+        (waits _ _ (Alone (L.Fails fault)) g.4 g.5 (ap stage_of point) tt proc
+        (may_wait p w steps s c k t number awake point q r
         (Alone (L.Fails fault)) list work.steady refl (takes_up (Alone (L.Fails fault)) r o') refl (λ end h. cc)) refl)
         (inl tt) g
 
@@ -350,7 +373,8 @@ module _ (p : Program) (w : WellFormed p) (steps : ℕ) (s : State) (c : SourceS
         → look (code_of p) t x ≡ Asks (return_request r) first_exit
         → last_mark (mark_of (marks_of p) x) ≡ Some L.Return
         → offer p c.variable q ≡ Does (Alone L.Return) Nothing (Leaving (left_value r))
-        → StepsSo p done late (mark_of (marks_of p) x) s t woken (look (code_of p) t x) s' → Next p w steps s' t done late pauses n c (stages k.world)
+        → StepsSo p done late (mark_of (marks_of p) x) s t woken (look (code_of p) t x) s'
+        → Next p w steps s' t done late pauses n c (stages k.world)
     leaves_step r x work fits h mark o moves =
         let move = Own (Alone L.Return) in
         let can : Can k.world t move = record { number = number; awake = awake; stands = point; finds = tt } in
@@ -358,7 +382,8 @@ module _ (p : Program) (w : WellFormed p) (steps : ℕ) (s : State) (c : SourceS
         let takes = takes_up (Alone L.Return) after' o in
         let none : l ≡ [] = list ∙ sym (work.keeps (Alone L.Return) Nothing after' tt takes) in
         let z = thread_at Runs l in
-        by_return (mark_of (marks_of p) x) r (put k.world.at t z) (put c.process t (Some after')) (L.Return ∷ []) fits none
+        by_return (mark_of (marks_of p) x) r (put k.world.at t z) (put c.process t (Some after'))
+        (L.Return ∷ []) fits none
         (reached_on k.world c.table t move k.reached can)
         (ap (λ (i : Place). i.point) (put_same k.world.at t z))
         (ap (λ (i : Place). i.list) (put_same k.world.at t z)) (λ y. put_put k.world.at t z y) point
@@ -369,8 +394,10 @@ module _ (p : Program) (w : WellFormed p) (steps : ℕ) (s : State) (c : SourceS
           refl,
         )
         (waits _ _ (Alone L.Return)
-        (returns_done (mark_of (marks_of p) x) r (subst (λ (i : Look). StepsSo p done late (mark_of (marks_of p) x) s t woken i s') h moves))
-        (returns_late (mark_of (marks_of p) x) r (subst (λ (i : Look). StepsSo p done late (mark_of (marks_of p) x) s t woken i s') h moves) ∙ mark)
+        (returns_done (mark_of (marks_of p) x) r (subst (λ (i : Look). StepsSo p done late (mark_of
+        (marks_of p) x) s t woken i s') h moves))
+        (returns_late (mark_of (marks_of p) x) r (subst (λ (i : Look). StepsSo p done late (mark_of
+        (marks_of p) x) s t woken i s') h moves) ∙ mark)
         (ap stage_of point) tt proc
         (may_wait p w steps s c k t number awake point q after' (Alone L.Return) list work.steady refl takes refl
         (λ end h. cc)) refl)

@@ -90,7 +90,8 @@ no : {A : Type 0} (a b : ℕ) (x y : A) → a ≢ b → (if a == b then x else y
 no a b x y h = cond-false (a == b) x y (ne_eqb a b h)
 
 module _ (p : Program) (w : WellFormed p) (steps : ℕ) (s : State) (c : SourceState) (k : Corresponds p w steps s c)
-    (t : ℕ) (woken : List ℕ) (done : Bool) (late : Option Kind) (pauses : Bool) (s' : State) (n : ℕ) (number : (0 < t) × (t ≤ k.world.made))
+    (t : ℕ) (woken : List ℕ) (done : Bool) (late : Option Kind) (pauses : Bool) (s' : State) (n : ℕ) (number :
+    (0 < t) × (t ≤ k.world.made))
     (few : k.world.made ≤ 64) (awake : k.world.asleep t ≡ None) (paused : pauses ≡ is_paused s' t) (child : ℕ)
     (into : Option ℕ) (part : Part) (f : Frame) (cs : List Caller)
     (is : IsChild (build_of p w k.world.made) child f cs)
@@ -112,7 +113,8 @@ module _ (p : Program) (w : WellFormed p) (steps : ℕ) (s : State) (c : SourceS
   module _ (pt : Point) (q : Process) (x : Thread) (asks : Request) (go : ℕ → Thread)
       (proc : c.process t ≡ Some q) (point : (k.world.at t).point ≡ pt) (looks : look (code_of p) t x ≡ Asks asks go)
       (askable : IsAskable p (request t pt)) (same : asked p (request t pt) ≡ Some asks)
-      (before : IsBefore pt) (working : stage_of pt ≡ Works) (stays' : (o : ℕ) → told p (request t pt) o ≡ o) (on : next_list pt l ≡ l) where
+      (before : IsBefore pt) (working : stage_of pt ≡ Works) (stays' : (o : ℕ)
+      → told p (request t pt) o ≡ o) (on : next_list pt l ≡ l) where
     module _ (answer : ℕ) (mid : State) (sv : IsServed p s mid k.world t pt answer)
         (e' : s' ≡ with_thread mid t (go answer)) where
       abbrev y : Thread
@@ -169,11 +171,13 @@ module _ (p : Program) (w : WellFormed p) (steps : ℕ) (s : State) (c : SourceS
           → done ≡ is_some (carried k.world c.table t pt sv.reply sv.after e)
       shown seen e may = seen ∙ ap (λ a. completes p asks a) sv.told
           ∙ point_completes p k.world c.table t pt sv.reply sv.after e (k.world.at t).list asks
-          (number_is t number.0 (omega (arith, number.1, few))) (listed_at k.world c.table t pt inv point) may askable same
+          (number_is t number.0 (omega (arith, number.1, few)))
+          (listed_at k.world c.table t pt inv point) may askable same
 
       went : done ≡ completes p asks answer → late ≡ later_request (mark_of (marks_of p) x) asks answer
           → ((e : End) → Goes e) → Next p w steps s' t done late pauses n c (stages k.world)
-      went seen told_of goes = stepped p w steps s c k t done late pauses s' mid n answer y q pt number awake proc point sv came
+      went seen told_of goes =
+          stepped p w steps s c k t done late pauses s' mid n answer y q pt number awake proc point sv came
           (told_of ∙ point_late p (mark_of (marks_of p) x) t pt answer asks working same)
           (subst (λ (i : Stage). Agrees i false) (sym working) refl)
           (shown seen)
@@ -183,10 +187,12 @@ module _ (p : Program) (w : WellFormed p) (steps : ℕ) (s : State) (c : SourceS
 
     join_step : ((answer : ℕ) (mid : State) (sv : IsServed p s mid k.world t pt answer)
         (e' : s' ≡ with_thread mid t (go answer)) (e : End) → Goes answer mid sv e' e)
-        → IsLow k.world.sequence (look (code_of p) t x) → StepsSo p done late (mark_of (marks_of p) x) s t woken (look (code_of p) t x) s'
+        → IsLow k.world.sequence (look (code_of p) t x)
+        → StepsSo p done late (mark_of (marks_of p) x) s t woken (look (code_of p) t x) s'
         → Next p w steps s' t done late pauses n c (stages k.world)
     join_step goes low moves =
-        let g : StepsSo p done late (mark_of (marks_of p) x) s t woken (Asks asks go) s' = subst (λ (i : Look). StepsSo p done late (mark_of (marks_of p) x) s t woken i s') looks moves in
+        let g : StepsSo p done late (mark_of (marks_of p) x) s t woken (Asks asks go) s' =
+        subst (λ (i : Look). StepsSo p done late (mark_of (marks_of p) x) s t woken i s') looks moves in
         let sv = served p s k.world c.table t pt asks woken g.0 g.1 k.shares inv number.0
         (omega (arith, number.1, few)) (low asks go looks) askable same g.2 in
         went g.0 g.1 sv g.3 g.4 g.5 (goes g.0 g.1 sv g.3)
@@ -194,7 +200,8 @@ module _ (p : Program) (w : WellFormed p) (steps : ℕ) (s : State) (c : SourceS
   -- the id word is read: the child is over, or the thread is to sleep
   pub read_step : (x : Thread) → x ≡ j.reads → c.process t ≡ Some (Joining child into part f cs)
       → (k.world.at t).point ≡ JoinReads child → rank (more_steps b) k.world (JoinReads child) ≤ n
-      → IsLow k.world.sequence (look (code_of p) t x) → StepsSo p done late (mark_of (marks_of p) x) s t woken (look (code_of p) t x) s'
+      → IsLow k.world.sequence (look (code_of p) t x)
+      → StepsSo p done late (mark_of (marks_of p) x) s t woken (look (code_of p) t x) s'
       → Next p w steps s' t done late pauses n c (stages k.world)
   read_step x there proc point enough low moves =
       join_step (JoinReads child) (Joining child into part f cs) x (AskLoad (process_word child 2)) j.after_read proc
@@ -236,7 +243,8 @@ module _ (p : Program) (w : WellFormed p) (steps : ℕ) (s : State) (c : SourceS
   -- the thread sleeps, or the child is over by now
   pub sleep_step : (x : Thread) → x ≡ j.sleeps → c.process t ≡ Some (Joining child into part f cs)
       → (k.world.at t).point ≡ JoinSleeps child → 18 ≤ n
-      → IsLow k.world.sequence (look (code_of p) t x) → StepsSo p done late (mark_of (marks_of p) x) s t woken (look (code_of p) t x) s'
+      → IsLow k.world.sequence (look (code_of p) t x)
+      → StepsSo p done late (mark_of (marks_of p) x) s t woken (look (code_of p) t x) s'
       → Next p w steps s' t done late pauses n c (stages k.world)
   sleep_step x there proc point enough low moves =
       join_step (JoinSleeps child) (Joining child into part f cs) x (AskWait (process_word child 2) child) j.after_sleep
@@ -308,7 +316,8 @@ module _ (p : Program) (w : WellFormed p) (steps : ℕ) (s : State) (c : SourceS
   -- the outcome is read: the child's result is taken, or the process goes on after its abort
   pub learn_step : (x : Thread) (end : End) → x ≡ j.learns → c.process t ≡ Some (joined into part f cs end)
       → (k.world.at t).point ≡ JoinLearns child end → more_steps b + 34 ≤ n
-      → IsLow k.world.sequence (look (code_of p) t x) → StepsSo p done late (mark_of (marks_of p) x) s t woken (look (code_of p) t x) s'
+      → IsLow k.world.sequence (look (code_of p) t x)
+      → StepsSo p done late (mark_of (marks_of p) x) s t woken (look (code_of p) t x) s'
       → Next p w steps s' t done late pauses n c (stages k.world)
   learn_step x (Ended z) there proc point enough low moves =
       let tell = tells (JoinLearns child (Ended z)) (Ended z) point (refl, refl) in
@@ -355,7 +364,8 @@ module _ (p : Program) (w : WellFormed p) (steps : ℕ) (s : State) (c : SourceS
   -- the result is read, and taken
   pub take_step : (x : Thread) (z : ℤ) → x ≡ j.takes → c.process t ≡ Some (goes_on None (with_result into z f) cs)
       → (k.world.at t).point ≡ JoinTakes child (Ended z) → more_steps b + 17 ≤ n
-      → IsLow k.world.sequence (look (code_of p) t x) → StepsSo p done late (mark_of (marks_of p) x) s t woken (look (code_of p) t x) s'
+      → IsLow k.world.sequence (look (code_of p) t x)
+      → StepsSo p done late (mark_of (marks_of p) x) s t woken (look (code_of p) t x) s'
       → Next p w steps s' t done late pauses n c (stages k.world)
   take_step x z there proc point enough low moves =
       let tell = tells (JoinTakes child (Ended z)) (Ended z) point (refl, refl) in

@@ -1,5 +1,6 @@
 -- The steps of an exit: over the entries of the robust list, each an abandoned monitor, and to the end.
-use Rattle.std.proofs.Common.{Option, ◌≡◌, ℕ, zero, suc, ◌+◌, ◌<◌, ◌≤◌, Bool, List, [], ◌∷◌, length, Some, None, refl, ap, sym}
+use Rattle.std.proofs.Common.{Option, ◌≡◌, ℕ, zero, suc, ◌+◌, ◌<◌, ◌≤◌, Bool, List, [], ◌∷◌, length, Some, None, refl}
+use Rattle.std.proofs.Common.{ap, sym}
 use Rattle.std.proofs.Common.{◌∙◌, subst, arith}
 use Rattle.robustexit.specs.declared.phase.ExitPhase.{ExitPhase}
 use Rattle.robustexit.specs.declared.phase.ExitPhase.TheVariants.{ClearId, LastWake, Ended as Ended'}
@@ -46,7 +47,8 @@ ending_offer p v (Ended z) = refl
 ending_offer p v (Aborted cause) = refl
 
 module _ (p : Program) (w : WellFormed p) (steps : ℕ) (s : State) (c : SourceState) (k : Corresponds p w steps s c)
-    (t : ℕ) (woken : List ℕ) (done : Bool) (late : Option Kind) (pauses : Bool) (s' : State) (n : ℕ) (number : (0 < t) × (t ≤ k.world.made))
+    (t : ℕ) (woken : List ℕ) (done : Bool) (late : Option Kind) (pauses : Bool) (s' : State) (n : ℕ) (number :
+    (0 < t) × (t ≤ k.world.made))
     (few : k.world.made ≤ 64) (awake : k.world.asleep t ≡ None) where
   inv : Good k.world c.table
   inv = reached_good k.world c.table k.reached
@@ -80,7 +82,8 @@ module _ (p : Program) (w : WellFormed p) (steps : ℕ) (s : State) (c : SourceS
   pub walk_step : (e : ℕ) (end : End) (phase : ExitPhase) → PhaseIs (place p) (valid p) (Walks e NoEntry end) phase
       → entries_seen phase + length l ≤ 64 → IsEnding end l → c.process t ≡ Some (ending end l)
       → (k.world.at t).point ≡ Walks e NoEntry end → (e ≡ 0 → 3 ≤ n)
-      → StepsSo p done late None s t woken (look (code_of p) t (Exits phase)) s' → Next p w steps s' t done late pauses n c (stages k.world)
+      → StepsSo p done late None s t woken (look (code_of p) t (Exits phase)) s'
+      → Next p w steps s' t done late pauses n c (stages k.world)
   walk_step zero end phase is short ends proc point enough moves =
       let g : StepsSo p done late None s t woken (Leaves phase) s' =
       subst (λ (g : Look). StepsSo p done late None s t woken g s') (walking_look p t zero end phase is) moves in
@@ -88,7 +91,8 @@ module _ (p : Program) (w : WellFormed p) (steps : ℕ) (s : State) (c : SourceS
       (Walks zero NoEntry end) phase woken s' tt point (k.lists t) is short
       (plainly p done late None s t woken (Leaves phase) s' g) in
       let none = none_listed k.world c.table t end inv point in
-      stepped p w steps s c k t done late pauses s' on.mid n 0 (Exits on.later) (ending end l) (Walks zero NoEntry end) number
+      stepped p w steps s c k t done late pauses s' on.mid n 0 (Exits on.later) (ending end l)
+      (Walks zero NoEntry end) number
       awake
       proc point on.served on.same g.5 tt (λ e may. g.4 ∙ ap completes_exit is)
       (λ e u label h. absurd cc)
@@ -112,7 +116,8 @@ module _ (p : Program) (w : WellFormed p) (steps : ℕ) (s : State) (c : SourceS
       (plainly p done late None s t woken (Leaves phase) s' g) in
       let first = first_listed k.world c.table t m end inv point in
       let does = abandons end m ends first in
-      stepped p w steps s c k t done late pauses s' on.mid n 0 (Exits on.later) (ending end l) (Walks (suc m) NoEntry end) number
+      stepped p w steps s c k t done late pauses s' on.mid n 0 (Exits on.later) (ending end l) (Walks
+      (suc m) NoEntry end) number
       awake proc point on.served on.same g.5 tt (λ e may. g.4 ∙ ap completes_exit is.1.1)
       (λ e u label h. let same : Abandons m ≡ label = cc in subst (λ (i : Label). Resumes p s' c.table i) same tt)
       (λ e may. record {
@@ -126,11 +131,14 @@ module _ (p : Program) (w : WellFormed p) (steps : ℕ) (s : State) (c : SourceS
 
   -- the id word is cleared: the process is over
   pub clear_step : (end : End) → c.process t ≡ Some (ending end []) → (k.world.at t).point ≡ ClearsId end
-      → StepsSo p done late None s t woken (look (code_of p) t (Exits ClearId)) s' → Next p w steps s' t done late pauses n c (stages k.world)
+      → StepsSo p done late None s t woken (look (code_of p) t (Exits ClearId)) s'
+      → Next p w steps s' t done late pauses n c (stages k.world)
   clear_step end proc point moves =
       let on = leaves_on p w s k.world c.table t k.shares inv number.0 (omega (arith, number.1, few)) k.size
-      (ClearsId end) ClearId woken s' tt point (k.lists t) refl tt (plainly p done late None s t woken (Leaves ClearId) s' moves) in
-      stepped p w steps s c k t done late pauses s' on.mid n 0 (Exits on.later) (ending end []) (ClearsId end) number awake
+      (ClearsId end) ClearId woken s' tt point (k.lists t) refl tt (plainly p done late None s t woken
+      (Leaves ClearId) s' moves) in
+      stepped p w steps s c k t done late pauses s' on.mid n 0 (Exits on.later) (ending end [])
+      (ClearsId end) number awake
       proc point on.served on.same moves.5 tt (λ e may. moves.4)
       (λ e u label h. let same : Ends end ≡ label = cc in subst (λ (i : Label). Resumes p s' c.table i) same tt)
       (λ e may.
@@ -151,10 +159,12 @@ module _ (p : Program) (w : WellFormed p) (steps : ℕ) (s : State) (c : SourceS
 
   -- the last wake
   pub wake_step : (end : End) → c.process t ≡ Some (Over end) → (k.world.at t).point ≡ LastWakes end → 1 ≤ n
-      → StepsSo p done late None s t woken (look (code_of p) t (Exits LastWake)) s' → Next p w steps s' t done late pauses n c (stages k.world)
+      → StepsSo p done late None s t woken (look (code_of p) t (Exits LastWake)) s'
+      → Next p w steps s' t done late pauses n c (stages k.world)
   wake_step end proc point enough moves =
       let on = leaves_on p w s k.world c.table t k.shares inv number.0 (omega (arith, number.1, few)) k.size
-      (LastWakes end) LastWake woken s' tt point (k.lists t) refl tt (plainly p done late None s t woken (Leaves LastWake) s' moves)
+      (LastWakes end) LastWake woken s' tt point (k.lists t) refl tt (plainly p done late None s t woken
+      (Leaves LastWake) s' moves)
       in
       stepped p w steps s c k t done late pauses s' on.mid n 0 (Exits on.later) (Over end) (LastWakes end) number awake
       proc point on.served on.same moves.5 tt (λ e may. moves.4)

@@ -31,3 +31,4 @@ pub mod Stepping
 pub mod Whole
 pub mod Tracking
 pub mod Finishing
+pub mod Explaining

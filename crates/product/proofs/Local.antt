@@ -1,5 +1,6 @@
 -- A local step of a thread: it goes on towards where it stands, and nothing else changes.
-use Rattle.std.proofs.Common.{Option, ◌≡◌, ℕ, suc, ◌<◌, ◌≤◌, Bool, true, List, [], Some, None, refl, ap, sym, ◌∙◌, subst, arith, inl}
+use Rattle.std.proofs.Common.{Option, ◌≡◌, ℕ, suc, ◌<◌, ◌≤◌, Bool, true, List, [], Some, None, refl, ap, sym, ◌∙◌}
+use Rattle.std.proofs.Common.{subst, arith, inl}
 use Rattle.std.proofs.Common.{inr, ◌⊎◌}
 use Rattle.words.specs.Updates.{put}
 use Rattle.execution.specs.Later.{MarkedImage, mark_of, later_mark}
@@ -34,11 +35,13 @@ put_again f t v h = λ i u. same u i
 -- a thread is where it goes, or takes a local step towards it
 pub first_step : (source : Program) (image : MarkedImage) (t n : ℕ) (x z : Thread)
     → WalksWithin image t (empty_view source) n x z → (x ≡ z)
-    ⊎ ((y : Thread) × (m : ℕ) × (look image.image t x ≡ Goes y) × (later_mark (mark_of image.marks x) ≡ None) × (suc m ≤ n) × WalksWithin image t (empty_view source) m y z)
+    ⊎ ((y : Thread) × (m : ℕ) × (look image.image t x ≡ Goes y) × (later_mark (mark_of image.marks x) ≡ None) ×
+    (suc m ≤ n) × WalksWithin image t (empty_view source) m y z)
 first_step source image t n x z walk = by_walk walk.few walk.walk
   where
     by_walk : {k : ℕ} {x z : Thread} → k ≤ n → Walks image t (empty_view source) k x z → (x ≡ z)
-        ⊎ ((y : Thread) × (m : ℕ) × (look image.image t x ≡ Goes y) × (later_mark (mark_of image.marks x) ≡ None) × (suc m ≤ n)
+        ⊎ ((y : Thread) × (m : ℕ) × (look image.image t x ≡ Goes y) × (later_mark (mark_of image.marks x) ≡ None) ×
+        (suc m ≤ n)
         × WalksWithin image t (empty_view source) m y z)
     by_walk few stays = inl refl
     by_walk few (goes {n = m} {y = y} h plain more) =
@@ -52,9 +55,12 @@ module _ (p : Program) (w : WellFormed p) (steps : ℕ) (s : State) (c : SourceS
       → (k.world.at t).point ≡ pt → (k.world.at t).list ≡ l
       → (stand : StandsAt (build_of p w k.world.made) c.variable t (Some y) (Some q) pt l)
       → steps_left (build_of p w k.world.made) c.variable t k.world stand < n
-      → look (code_of p) t x ≡ Goes y → later_mark (mark_of (marks_of p) x) ≡ None → StepsSo p done late (mark_of (marks_of p) x) s t woken (look (code_of p) t x) s' → Next p w steps s' t done late pauses n c (stages k.world)
+      → look (code_of p) t x ≡ Goes y → later_mark (mark_of (marks_of p) x) ≡ None
+      → StepsSo p done late (mark_of (marks_of p) x) s t woken (look (code_of p) t x) s'
+      → Next p w steps s' t done late pauses n c (stages k.world)
   goes_local x y q pt l proc point list stand less h plain moves =
-      let g : StepsSo p done late (mark_of (marks_of p) x) s t woken (Goes y) s' = subst (λ (i : Look). StepsSo p done late (mark_of (marks_of p) x) s t woken i s') h moves in
+      let g : StepsSo p done late (mark_of (marks_of p) x) s t woken (Goes y) s' =
+      subst (λ (i : Look). StepsSo p done late (mark_of (marks_of p) x) s t woken i s') h moves in
       let at : k.world.at ≡ put k.world.at t (thread_at pt l) =
       put_again k.world.at t (thread_at pt l) (ap (λ (i : Point). thread_at i (k.world.at t).list) point
       ∙ ap (thread_at pt) list) in

@@ -1,5 +1,6 @@
 -- A FORK: a thread more, or a fault where no more can be made.
-use Rattle.std.proofs.Common.{◌≡◌, ◌≢◌, ℕ, suc, ◌<◌, ◌≤◌, Bool, true, List, [], ◌∷◌, length, Option, Some, None, refl, false}
+use Rattle.std.proofs.Common.{◌≡◌, ◌≢◌, ℕ, suc, ◌<◌, ◌≤◌, Bool, true, List, [], ◌∷◌, length, Option, Some, None, refl}
+use Rattle.std.proofs.Common.{false}
 use Rattle.std.proofs.Common.{ap, sym, ◌∙◌, subst, arith, inl, inr}
 use Rattle.std.proofs.lemmas.Bool.{cases_eq, false≢true, ne_eqb}
 use Rattle.std.specs.Prelude.{not, ◌==◌}
@@ -53,19 +54,23 @@ use Rattle.execution.specs.Later.{mark_of}
 use Rattle.std.specs.Prelude.{if◌then◌else◌}
 
 module _ (p : Program) (w : WellFormed p) (steps : ℕ) (s : State) (c : SourceState) (k : Corresponds p w steps s c)
-    (t : ℕ) (woken : List ℕ) (done : Bool) (late : Option Kind) (pauses : Bool) (s' : State) (n : ℕ) (number : (0 < t) × (t ≤ k.world.made))
+    (t : ℕ) (woken : List ℕ) (done : Bool) (late : Option Kind) (pauses : Bool) (s' : State) (n : ℕ) (number :
+    (0 < t) × (t ≤ k.world.made))
     (few : k.world.made ≤ 64) (awake : k.world.asleep t ≡ None) (q : Process) (proc : c.process t ≡ Some q)
     (point : (k.world.at t).point ≡ Runs) (list : (k.world.at t).list ≡ holds q) where
   -- no more can be made
   pub full_step : (go' : ℕ → Thread) (child : Process) (later : ℕ → Process) → go' 0 ≡ Dies' ProcessTableFull
       → offer p c.variable q ≡ MakesOne child later (Dying (Faulted ProcessTableFull) (holds q))
-      → most_processes ≤ k.world.made → done ≡ false → late ≡ Some (L.Fails ProcessTableFull) → IsSteady p q c.variable → s' ≡ with_thread s t (go' 0) → Next p w steps s' t done late pauses n c (stages k.world)
+      → most_processes ≤ k.world.made → done ≡ false → late ≡ Some (L.Fails ProcessTableFull)
+      → IsSteady p q c.variable → s' ≡ with_thread s t (go' 0)
+      → Next p w steps s' t done late pauses n c (stages k.world)
   full_step go' child later full o many none fails steady same =
       let can : Can k.world t ForkFull = record { number = number; awake = awake; stands = point; finds = many } in
       let takes : TakesUp (offer p c.variable q) FindsFull Nothing (Dying (Faulted ProcessTableFull) (holds q)) =
       subst (λ (i : Offer). TakesUp i FindsFull Nothing (Dying (Faulted ProcessTableFull) (holds q))) (sym o)
       (inr (refl, refl, refl)) in
-      starts p w steps s c k t woken done late pauses s' n number few awake q proc point list ForkFull FindsFull s k.world (go' 0)
+      starts p w steps s c k t woken done late pauses s' n number few awake q proc point list ForkFull FindsFull s
+      k.world (go' 0)
       (Dying (Faulted ProcessTableFull) (holds q)) (Dies (Faulted ProcessTableFull) NoEntry) (holds q)
       can refl refl takes tt refl
       (faults ProcessTableFull 0 (omega arith) (subst (λ (y : Thread).
@@ -73,7 +78,8 @@ module _ (p : Program) (w : WellFormed p) (steps : ℕ) (s : State) (c : SourceS
       (record { count = 0; few = omega arith; walk = stays })))
       k.shares (record { size = refl; made = refl; output = refl; thread = refl; variables = λ m i is. refl })
       refl refl refl refl
-      (waits _ _ FindsFull none fails (ap stage_of point) refl proc (may_wait p w steps s c k t number awake point q _ FindsFull list steady refl takes
+      (waits _ _ FindsFull none fails (ap stage_of point) refl proc
+      (may_wait p w steps s c k t number awake point q _ FindsFull list steady refl takes
       ((permitted k.world c.table t ForkFull (reached_good k.world c.table k.reached) can).0) (λ end h. cc)) refl) same
 
   module _ (child : Process) (later : ℕ → Process) (go' : ℕ → Thread) (entry : ℕ) (arguments : List ℕ)
@@ -168,50 +174,52 @@ module _ (p : Program) (w : WellFormed p) (steps : ℕ) (s : State) (c : SourceS
     ]
 
     pub forked : done ≡ true → s' ≡ grown → Next p w steps s' t done late pauses n c (stages k.world)
-    forked is same = subst (λ (x : State). Next p w steps x t done late pauses n c (stages k.world)) (sym same) (record {
-      after = c1;
-      ties = record {
-        world = w1;
-        reached = reached_on k.world c.table made (Fork t) k.reached can_fork;
-        shares = shares_at (place p) (valid p) _ (write k.world (IdOf made) made) _ made
-            (shares_stored (place p) (valid p) (apart p) (shared_of s) k.world (IdOf made) made valid_made k.shares);
-        size = k.size;
-        made = refl;
-        output = k.output;
-        variables = λ m i h. put_other s.word (process_word made 2) made (variable_address p m i)
-            (λ e. variable_apart p m i (IdOf made) h valid_made e) ∙ k.variables m i h;
-        fit = fits;
-        threads = at_all;
-        lists = λ u m. at_put k.world.at made (thread_at Runs []) u
-            (λ (z : Place). mem m z.list ≡ true → m < length p.monitors) (λ e h. absurd (false≢true h))
-            (λ e. k.lists u m);
-        words = k.words;
-        blank = λ u. at_put k.world.at made (thread_at Runs []) u (λ (z : Place). IsBefore z.point
-            → k.world.result u ≡ 0)
-            (λ e h. ap k.world.result e
-            ∙ k.blank made (subst (λ (y : Point). IsBefore y) (sym can_fork.stands) tt)) (λ e. k.blank u);
-        numbers = λ d. omega (arith, k.numbers d);
-      };
-      kinds = L.Fork made ∷ [];
-      own = (tt, tt);
-      leads = (
-        c1,
-        action p c t q (later made) (Forks made) (Makes made child) (table_after k.world c.table made (Fork t))
-            proc takes (permitted k.world c.table made (Fork t) (reached_good k.world c.table k.reached) can_fork).0,
-        refl,
-      );
-      stage = Works;
-      staged = λ u. at_put k.world.at made (thread_at Runs []) u (λ (z : Place). stage_of z.point
-          ≡ put (stages k.world) t Works u)
-          (λ e. at_put (stages k.world) t Works u (λ (x : Stage). Works ≡ x) (λ i. refl)
-          (λ i. sym (ap stage_of (ap (λ v. (k.world.at v).point) e ∙ can_fork.stands))))
-          (λ e. at_put (stages k.world) t Works u (λ (x : Stage). stages k.world u ≡ x)
-          (λ i. ap (stages k.world) i ∙ ap stage_of point) (λ i. refl));
-      places = acts _ _ (Forks made) (Makes made child) (table_after k.world c.table made (Fork t)) is refl refl proc takes
-          ((permitted k.world c.table made (Fork t) (reached_good k.world c.table k.reached) can_fork).0) tt
-          (λ m j i other. refl) tt refl;
-      paced = λ z. inl tt;
-    })
+    forked is same = subst (λ (x : State). Next p w steps x t done late pauses n c (stages k.world)) (sym same)
+        (record {
+          after = c1;
+          ties = record {
+            world = w1;
+            reached = reached_on k.world c.table made (Fork t) k.reached can_fork;
+            shares = shares_at (place p) (valid p) _ (write k.world (IdOf made) made) _ made
+                (shares_stored (place p) (valid p) (apart p) (shared_of s) k.world (IdOf made) made valid_made k.shares);
+            size = k.size;
+            made = refl;
+            output = k.output;
+            variables = λ m i h. put_other s.word (process_word made 2) made (variable_address p m i)
+                (λ e. variable_apart p m i (IdOf made) h valid_made e) ∙ k.variables m i h;
+            fit = fits;
+            threads = at_all;
+            lists = λ u m. at_put k.world.at made (thread_at Runs []) u
+                (λ (z : Place). mem m z.list ≡ true → m < length p.monitors) (λ e h. absurd (false≢true h))
+                (λ e. k.lists u m);
+            words = k.words;
+            blank = λ u. at_put k.world.at made (thread_at Runs []) u (λ (z : Place). IsBefore z.point
+                → k.world.result u ≡ 0)
+                (λ e h. ap k.world.result e
+                ∙ k.blank made (subst (λ (y : Point). IsBefore y) (sym can_fork.stands) tt)) (λ e. k.blank u);
+            numbers = λ d. omega (arith, k.numbers d);
+          };
+          kinds = L.Fork made ∷ [];
+          own = (tt, tt);
+          leads = (
+            c1,
+            action p c t q (later made) (Forks made) (Makes made child) (table_after k.world c.table made (Fork t))
+                proc takes (permitted k.world c.table made (Fork t) (reached_good k.world c.table k.reached) can_fork).0,
+            refl,
+          );
+          stage = Works;
+          staged = λ u. at_put k.world.at made (thread_at Runs []) u (λ (z : Place). stage_of z.point
+              ≡ put (stages k.world) t Works u)
+              (λ e. at_put (stages k.world) t Works u (λ (x : Stage). Works ≡ x) (λ i. refl)
+              (λ i. sym (ap stage_of (ap (λ v. (k.world.at v).point) e ∙ can_fork.stands))))
+              (λ e. at_put (stages k.world) t Works u (λ (x : Stage). stages k.world u ≡ x)
+              (λ i. ap (stages k.world) i ∙ ap stage_of point) (λ i. refl));
+          places = acts _ _ (Forks made) (Makes made child) (table_after k.world c.table made
+              (Fork t)) is refl refl proc takes
+              ((permitted k.world c.table made (Fork t) (reached_good k.world c.table k.reached) can_fork).0) tt
+              (λ m j i other. refl) tt refl;
+          paced = λ z. inl tt;
+        })
 
   -- the machine's step, whether a process was made or not
   pub forks_step : (child : Process) (later : ℕ → Process) (go' : ℕ → Thread) (entry : ℕ) (arguments : List ℕ)
@@ -221,11 +229,13 @@ module _ (p : Program) (w : WellFormed p) (steps : ℕ) (s : State) (c : SourceS
       → ((m : ℕ) → k.world.made ≤ suc m → suc m ≤ most_processes
       → Stands (build_of p w (suc m)) t (go' (suc m)) (later (suc m)))
       → ((m u : ℕ) → k.world.made ≤ m → Stands (build_of p w m) u (opening_thread entry arguments) child)
-      → StepsSo p done late (mark_of (marks_of p) x) s t woken (look (code_of p) t x) s' → Next p w steps s' t done late pauses n c (stages k.world)
+      → StepsSo p done late (mark_of (marks_of p) x) s t woken (look (code_of p) t x) s'
+      → Next p w steps s' t done late pauses n c (stages k.world)
   forks_step child later go' entry arguments x work h full o empty mine its moves =
       by_answer (subst (λ (l : Look). StepsSo p done late (mark_of (marks_of p) x) s t woken l s') h moves)
     where
-      by_answer : StepsSo p done late (mark_of (marks_of p) x) s t woken (Asks (AskFork entry arguments true) go') s' → Next p w steps s' t done late pauses n c (stages k.world)
+      by_answer : StepsSo p done late (mark_of (marks_of p) x) s t woken (Asks
+          (AskFork entry arguments true) go') s' → Next p w steps s' t done late pauses n c (stages k.world)
       by_answer (answer, mid, (nobody, inl (many, is, same)), e, d, f) =
           full_step go' child later full o (omega (arith, many, k.made)) (d ∙ ap (λ (a : ℕ). not (a == 0)) is)
           (f ∙ ap (λ (a : ℕ). if a == 0 then Some (L.Fails ProcessTableFull) else None) is) work.steady

@@ -43,7 +43,8 @@ use Rattle.meaning.specs.Labels.{Kind}
 use Rattle.product.specs.Waiting as W
 
 module _ (p : Program) (w : WellFormed p) (steps : ℕ) (s : State) (c : SourceState) (k : Corresponds p w steps s c)
-    (t : ℕ) (woken : List ℕ) (done : Bool) (late : Option Kind) (pauses : Bool) (s' : State) (n : ℕ) (number : (0 < t) × (t ≤ k.world.made))
+    (t : ℕ) (woken : List ℕ) (done : Bool) (late : Option Kind) (pauses : Bool) (s' : State) (n : ℕ) (number :
+    (0 < t) × (t ≤ k.world.made))
     (few : k.world.made ≤ 64) (awake : k.world.asleep t ≡ None) (paused : pauses ≡ is_paused s' t) where
   -- a thread on the way to the request of its point
   pub inside_any : (kind : Template) (u : Variables) (pt : Point) (left : ℕ) (x y : Thread) → left ≤ template_steps
@@ -51,7 +52,8 @@ module _ (p : Program) (w : WellFormed p) (steps : ℕ) (s : State) (c : SourceS
       → SameBefore kind pt u c.variable → pt ≢ Runs → StandsIn p t kind pt y
       → c.process t ≡ Some (process_at p kind pt) → (k.world.at t).point ≡ pt
       → (k.world.at t).list ≡ list_at kind pt → left + rank (more_steps (build_of p w k.world.made)) k.world pt ≤ n
-      → IsLow k.world.sequence (look (code_of p) t x) → StepsSo p done late (mark_of (marks_of p) x) s t woken (look (code_of p) t x) s'
+      → IsLow k.world.sequence (look (code_of p) t x)
+      → StepsSo p done late (mark_of (marks_of p) x) s t woken (look (code_of p) t x) s'
       → Next p w steps s' t done late pauses n c (stages k.world)
   inside_any kind u pt left x y small walk fits same ne stands proc point list enough low moves =
       by_step (first_step p (marked_image p) t left x y walk)
@@ -60,13 +62,17 @@ module _ (p : Program) (w : WellFormed p) (steps : ℕ) (s : State) (c : SourceS
           × (later_mark (mark_of (marks_of p) x) ≡ None) × (suc m ≤ left)
           × StepsWithin (build_of p w k.world.made) t m z y) → Next p w steps s' t done late pauses n c (stages k.world)
       by_step (inl e) =
-          inside_step p w steps s c k t woken done late pauses s' n number few awake paused kind u pt y fits same ne stands
+          inside_step p w steps s c k t woken done late pauses s' n number few awake paused kind u pt y fits same ne
+          stands
           proc point list (omega (arith, enough))
           (subst (λ (z : Thread). IsLow k.world.sequence (look (code_of p) t z)) e low)
-          (subst (λ (z : Thread). StepsSo p done late (mark_of (marks_of p) z) s t woken (look (code_of p) t z) s') e moves)
+          (subst (λ (z : Thread). StepsSo p done late (mark_of (marks_of p) z) s t woken (look
+          (code_of p) t z) s') e moves)
       by_step (inr (z, m, h, plain, le, more)) =
-          goes_local p w steps s c k t woken done late pauses s' n x z (process_at p kind pt) pt (list_at kind pt) proc point list
-          (inside m kind u (omega (arith, le, small)) more fits same ne stands) (omega (arith, le, enough)) h plain moves
+          goes_local p w steps s c k t woken done late pauses s' n x z (process_at p kind pt) pt
+          (list_at kind pt) proc point list
+          (inside m kind u (omega (arith, le, small)) more fits same ne stands) (omega
+          (arith, le, enough)) h plain moves
 
 -- a thread at the first point of one works
 first_works : (held : Bool) (kind : Template) → stage_of (first_point held kind) ≡ W.Works
@@ -267,8 +273,10 @@ module _ (p : Program) (w : WellFormed p) (steps : ℕ) (s : State) (c : SourceS
             ∙ at_put (stages k.world) t (stage_of pt) u (λ (y : Stage). y ≡ stages k.world u)
             (λ e. first_works held kind ∙ ap stage_of (sym point) ∙ ap (stages k.world) (sym e)) (λ o. refl)
 
-    start_step : (low : IsLow k.world.sequence (look (code_of p) t x)) (woken : List ℕ) (done : Bool) (late : Option Kind) (pauses : Bool) (s' : State)
-        (n : ℕ) → pauses ≡ is_paused s' t → before_template ≤ n → StepsSo p done late (mark_of (marks_of p) x) s t woken (look (code_of p) t x) s'
+    start_step : (low : IsLow k.world.sequence (look (code_of p) t x)) (woken : List ℕ) (done : Bool)
+        (late : Option Kind) (pauses : Bool) (s' : State)
+        (n : ℕ) → pauses ≡ is_paused s' t → before_template ≤ n
+        → StepsSo p done late (mark_of (marks_of p) x) s t woken (look (code_of p) t x) s'
         → Next p w steps s' t done late pauses n c (stages k.world)
     unfolding started
     start_step low woken done late pauses s' n paused enough moves =
@@ -285,11 +293,14 @@ module _ (p : Program) (w : WellFormed p) (steps : ℕ) (s : State) (c : SourceS
   -- a thread before a template that does what its process offers
   pub template_step : (kind : Template) (x : Thread) → Fits b c.variable t kind → s.thread t ≡ Some x
       → c.process t ≡ Some (before_of kind) → (k.world.at t).list ≡ holds (before_of kind) → x ≡ first_thread kind
-      → (low : IsLow k.world.sequence (look (code_of p) t x)) (woken : List ℕ) (done : Bool) (late : Option Kind) (pauses : Bool) (s' : State) (n : ℕ)
-      → pauses ≡ is_paused s' t → before_template ≤ n → StepsSo p done late (mark_of (marks_of p) x) s t woken (look (code_of p) t x) s'
+      → (low : IsLow k.world.sequence (look (code_of p) t x)) (woken : List ℕ) (done : Bool) (late : Option Kind)
+      (pauses : Bool) (s' : State) (n : ℕ)
+      → pauses ≡ is_paused s' t → before_template ≤ n
+      → StepsSo p done late (mark_of (marks_of p) x) s t woken (look (code_of p) t x) s'
       → Next p w steps s' t done late pauses n c (stages k.world)
   template_step kind x fits thread proc list is low woken done late pauses s' n paused enough moves =
       let st = starts kind fits list in
       start_step kind x fits thread proc st.0 st.1
-      (begins b c.variable t st.0 kind number.0 (omega (arith, number.1, few)) fits) is low woken done late pauses s' n paused
+      (begins b c.variable t st.0 kind number.0 (omega
+      (arith, number.1, few)) fits) is low woken done late pauses s' n paused
       enough moves

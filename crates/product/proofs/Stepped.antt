@@ -22,7 +22,8 @@ use Rattle.protocol.specs.Points.{Point, EnterTries, TakeTries, LeaveSwaps, Noti
 use Rattle.protocol.specs.Points.{Walks, ClearsId, Thread as Place, thread_at}
 use Rattle.protocol.specs.World.{World, mem}
 use Rattle.protocol.specs.Steps.{go_list}
-use Rattle.protocol.specs.Carries.{Event, Acts, Strays, Kills, has_died, taking_label, table_after, PermitsMove, IsByHolder}
+use Rattle.protocol.specs.Carries.{Event, Acts, Strays, Kills, has_died, taking_label, table_after, PermitsMove}
+use Rattle.protocol.specs.Carries.{IsByHolder}
 use Rattle.protocol.specs.Exits.{Shares}
 use Rattle.protocol.specs.Answers.{next, next_list}
 use Rattle.protocol.specs.Served.{IsMove, MayAnswer, carried, is_pending, pending_event}
@@ -102,7 +103,8 @@ carried_loud : (w : World) (T : Table) (t : ℕ) (pt : Point) (r : ℕ) (w' : Wo
 carried_loud w T t pt r w' e u label h = (carried_heard w T t pt r w' e u label h).1
 
 module _ (p : Program) (w : WellFormed p) (steps : ℕ) (s : State) (c : SourceState) (k : Corresponds p w steps s c)
-    (t : ℕ) (done : Bool) (late : Option Kind) (pauses : Bool) (s' mid : State) (n answer : ℕ) (y : Thread) (q : Process) (pt : Point)
+    (t : ℕ) (done : Bool) (late : Option Kind) (pauses : Bool) (s' mid : State) (n answer : ℕ) (y : Thread)
+    (q : Process) (pt : Point)
     (number : (0 < t) × (t ≤ k.world.made)) (awake : k.world.asleep t ≡ None) (proc : c.process t ≡ Some q)
     (point : (k.world.at t).point ≡ pt) (served : IsServed p s mid k.world t pt answer)
     (same : s' ≡ with_thread mid t y) where
@@ -185,7 +187,8 @@ module _ (p : Program) (w : WellFormed p) (steps : ℕ) (s : State) (c : SourceS
   }
 
   -- whether it carries an action is what is seen of it
-  pub stepped : late ≡ None → Agrees (stage_of pt) false → ((e : End) → MayAnswer pt served.reply → done ≡ is_some (event e))
+  pub stepped : late ≡ None → Agrees (stage_of pt) false → ((e : End) → MayAnswer pt served.reply
+      → done ≡ is_some (event e))
       → ((e : End) (u : ℕ) (label : Label) → event e ≡ Some (Acts u label) → Resumes p s' c.table label)
       → ((e : End) → MayAnswer pt served.reply → Arrives e) → Next p w steps s' t done late pauses n c (stages k.world)
   stepped plain calm shown resumes arrives =
@@ -198,7 +201,8 @@ module _ (p : Program) (w : WellFormed p) (steps : ℕ) (s : State) (c : SourceS
       seen : done ≡ is_some (event end)
       seen = shown end is_move.possible
 
-      quiet : event end ≡ None → table ≡ c.table → a.process ≡ q → Next p w steps s' t done late pauses n c (stages k.world)
+      quiet : event end ≡ None → table ≡ c.table → a.process ≡ q
+          → Next p w steps s' t done late pauses n c (stages k.world)
       quiet none is stays =
           let m = moved p w steps s c k t s' c y a.process (to end) list (on end)
           (follow c a.process (sym is) refl refl (same_puts c.process t _ (proc ∙ ap Some (sym stays))) a.stands
@@ -220,7 +224,8 @@ module _ (p : Program) (w : WellFormed p) (steps : ℕ) (s : State) (c : SourceS
 
       acting : (u : ℕ) (label : Label) → event end ≡ Some (Acts u label) → Allows t label c.table table
           → IsByHolder t label c.table
-          → TakesUp (offer p c.variable q) label Nothing a.process → Next p w steps s' t done late pauses n c (stages k.world)
+          → TakesUp (offer p c.variable q) label Nothing a.process
+          → Next p w steps s' t done late pauses n c (stages k.world)
       acting u label e allows held takes =
           let c1 = acted c t Nothing a.process table in
           let m = moved p w steps s c k t s' c1 y a.process (to end) list (on end)

@@ -42,7 +42,8 @@ same_thread : {x y : Thread} → Some y ≡ Some x → x ≡ y
 same_thread e = cc
 
 module _ (p : Program) (w : WellFormed p) (steps : ℕ) (s : State) (c : SourceState) (k : Corresponds p w steps s c)
-    (t : ℕ) (woken : List ℕ) (done : Bool) (late : Option Kind) (pauses : Bool) (s' : State) (n : ℕ) (number : (0 < t) × (t ≤ k.world.made))
+    (t : ℕ) (woken : List ℕ) (done : Bool) (late : Option Kind) (pauses : Bool) (s' : State) (n : ℕ) (number :
+    (0 < t) × (t ≤ k.world.made))
     (few : k.world.made ≤ 64) (awake : k.world.asleep t ≡ None) (paused : pauses ≡ is_paused s' t) where
   abbrev b : Build
   b = build_of p w k.world.made
@@ -58,28 +59,35 @@ module _ (p : Program) (w : WellFormed p) (steps : ℕ) (s : State) (c : SourceS
       → (k.world.at t).list ≡ holds q → IsAtWork p q c.variable → before_template ≤ n → Completes b t c.variable x q
       → IsLow' x → Goes' x → Next p w steps s' t done late pauses n c (stages k.world)
   completed x q thread proc point list work enough (F.acts {y = y} {r = r} kind own h mark o stands) low moves =
-      acts_step p w steps s c k t woken done late pauses s' n number awake q proc point list x work moves kind y r own h mark o
+      acts_step p w steps s c k t woken done late pauses s' n number awake q proc point list x work moves kind y r
+      own h mark o
       stands
   completed x q thread proc point list work enough (F.prints {r = r} v go h o stands) low moves =
-      prints_step p w steps s c k t woken done late pauses s' n number awake q proc point list x work moves v go r h o stands
+      prints_step p w steps s c k t woken done late pauses s' n number awake q proc point list x work moves v go r h
+      o stands
   completed x q thread proc point list work enough (F.stores {r = r} m i z go own first is fits h o stands) low moves =
-      stores_step p w steps s c k t woken done late pauses s' n number awake q proc point list x work moves m i z first is fits go
+      stores_step p w steps s c k t woken done late pauses s' n number awake q proc point list x work moves m i z
+      first is fits go
       r h o stands
   completed x q thread proc point list work enough (F.returns h mark e) low moves =
       returns_step p w steps s c k t woken done late pauses s' n number few awake None x tt point (list ∙ ap holds e)
       (proc ∙ ap Some e) h mark (omega (arith, enough)) moves
   completed x q thread proc point list work enough (F.leaves r fits h mark o) low moves =
-      leaves_step p w steps s c k t woken done late pauses s' n number few awake q proc point list r x work fits h mark o moves
+      leaves_step p w steps s c k t woken done late pauses s' n number few awake q proc point list r x work fits h
+      mark o moves
   completed x q thread proc point list work enough (F.forks {child = child} {after = later} entry arguments go h full o
       mine its empty) low moves =
-      forks_step p w steps s c k t woken done late pauses s' n number few awake q proc point list child later go entry arguments x
+      forks_step p w steps s c k t woken done late pauses s' n number few awake q proc point list child later go
+      entry arguments x
       work h full o empty mine its moves
   completed x q thread proc point list work enough (F.claims {into = i} {part = y} {f = f} {callers = cs} child go some
       made most h o j to bad) low moves =
-      claims_step p w steps s c k t woken done late pauses s' n number few awake q proc point list x work moves child go some made
+      claims_step p w steps s c k t woken done late pauses s' n number few awake q proc point list x work moves child
+      go some made
       h o j to bad
   completed x q thread proc point list work enough (F.faults fault e o) low moves =
-      faults_step p w steps s c k t woken done late pauses s' n number few awake q proc point list fault x work e o moves
+      faults_step p w steps s c k t woken done late pauses s' n number few awake q proc point list fault x work e o
+      moves
   completed x q thread proc point list work enough (F.enters {m = m} {f = f} {cs = cs} {l = l} {fs = fs} base e is below
       held code after) low moves =
       template_step p w steps s c k t number few awake point (Enters m base l fs f cs) x (record {
@@ -137,8 +145,10 @@ module _ (p : Program) (w : WellFormed p) (steps : ℕ) (s : State) (c : SourceS
   -- a thread on its way to another takes a local step, or is there
   walking : (x y z : Thread) (left : ℕ) → x ≡ y → StepsWithin b t left y z
       → (x ≡ z → Next p w steps s' t done late pauses n c (stages k.world))
-      → ((y' : Thread) (m : ℕ) → look (code_of p) t x ≡ Goes y' → later_mark (mark_of (marks_of p) x) ≡ None → suc m ≤ left
-      → StepsWithin b t m y' z → Next p w steps s' t done late pauses n c (stages k.world)) → Next p w steps s' t done late pauses n c (stages k.world)
+      → ((y' : Thread) (m : ℕ) → look (code_of p) t x ≡ Goes y' → later_mark (mark_of (marks_of p) x) ≡ None
+      → suc m ≤ left
+      → StepsWithin b t m y' z → Next p w steps s' t done late pauses n c (stages k.world))
+      → Next p w steps s' t done late pauses n c (stages k.world)
   walking x y z left same walk there on = by_step (first_step p (marked_image p) t left x z
       (subst (λ (v : Thread). StepsWithin b t left v z) (sym same) walk))
     where
@@ -160,7 +170,8 @@ module _ (p : Program) (w : WellFormed p) (steps : ℕ) (s : State) (c : SourceS
       h' : F.Proceeds b t c.variable left x r
       h' = subst (λ (z : Thread). F.Proceeds b t c.variable left z r) (sym (same_thread e)) h
 
-      by_step : (x ≡ h'.last) ⊎ Next p w steps s' t done late pauses n c (stages k.world) → Next p w steps s' t done late pauses n c (stages k.world)
+      by_step : (x ≡ h'.last) ⊎ Next p w steps s' t done late pauses n c (stages k.world)
+          → Next p w steps s' t done late pauses n c (stages k.world)
       by_step (inl there) =
           completed x r thread proc point list work (omega (arith, enough))
           (subst (λ (z : Thread). Completes b t c.variable z r) (sym there) h'.completes) low moves
@@ -179,20 +190,23 @@ module _ (p : Program) (w : WellFormed p) (steps : ℕ) (s : State) (c : SourceS
       walking x y (Dies' fault) left (same_thread e) h
       (λ there. dies_step p w steps s c k t woken done late pauses s' n number few awake fault point
       (proc ∙ ap (λ (i : List ℕ). Some (Dying (Faulted fault) i)) (sym list)) (omega (arith, enough))
-      (subst (λ (v : Thread). StepsSo p done late (mark_of (marks_of p) v) s t woken (look (code_of p) t v) s') there moves))
+      (subst (λ (v : Thread). StepsSo p done late (mark_of (marks_of p) v) s t woken (look
+      (code_of p) t v) s') there moves))
       (λ z m g plain le more. goes_local p w steps s c k t woken done late pauses s' n x z _ _ ms proc point list
       (faults fault m (omega (arith, le, few')) more) (omega (arith, le, enough)) g plain moves)
   from_stand o q pt l (reads {child = child} {x = y} {into = i} {part = part} {f = f} {cs = cs} left few' is j h) proc
       point list enough x thread e low moves =
       walking x y j.reads left (same_thread e) h
-      (λ there. read_step p w steps s c k t woken done late pauses s' n number few awake paused child i part f cs is j list x
+      (λ there. read_step p w steps s c k t woken done late pauses s' n number few awake paused child i part f cs is
+      j list x
       there proc point (omega (arith, enough)) low moves)
       (λ z m g plain le more. goes_local p w steps s c k t woken done late pauses s' n x z _ _ _ proc point list
       (reads m (omega (arith, le, few')) is j more) (omega (arith, le, enough)) g plain moves)
   from_stand o q pt l (sleeps {child = child} {x = y} {into = i} {part = part} {f = f} {cs = cs} left few' is j h) proc
       point list enough x thread e low moves =
       walking x y j.sleeps left (same_thread e) h
-      (λ there. sleep_step p w steps s c k t woken done late pauses s' n number few awake paused child i part f cs is j list x
+      (λ there. sleep_step p w steps s c k t woken done late pauses s' n number few awake paused child i part f cs is
+      j list x
       there proc point (omega (arith, enough)) low moves)
       (λ z m g plain le more. goes_local p w steps s c k t woken done late pauses s' n x z _ _ _ proc point list
       (sleeps m (omega (arith, le, few')) is j more) (omega (arith, le, enough)) g plain moves)
@@ -200,7 +214,8 @@ module _ (p : Program) (w : WellFormed p) (steps : ℕ) (s : State) (c : SourceS
       is
       j h) proc point list enough x thread e low moves =
       walking x y j.learns left (same_thread e) h
-      (λ there. learn_step p w steps s c k t woken done late pauses s' n number few awake paused child i part f cs is j list x
+      (λ there. learn_step p w steps s c k t woken done late pauses s' n number few awake paused child i part f cs is
+      j list x
       end there proc point (omega (arith, enough)) low moves)
       (λ z m g plain le more. goes_local p w steps s c k t woken done late pauses s' n x z _ _ _ proc point list
       (learns m (omega (arith, le, few')) is j more) (omega (arith, le, enough)) g plain moves)
@@ -208,7 +223,8 @@ module _ (p : Program) (w : WellFormed p) (steps : ℕ) (s : State) (c : SourceS
       h)
       proc point list enough x thread e low moves =
       walking x y j.takes left (same_thread e) h
-      (λ there. take_step p w steps s c k t woken done late pauses s' n number few awake paused child i part f cs is j list x
+      (λ there. take_step p w steps s c k t woken done late pauses s' n number few awake paused child i part f cs is
+      j list x
       z there proc point (omega (arith, enough)) low moves)
       (λ v m g plain le more. goes_local p w steps s c k t woken done late pauses s' n x v _ _ _ proc point list
       (takes m (omega (arith, le, few')) is j more) (omega (arith, le, enough)) g plain moves)
@@ -218,22 +234,27 @@ module _ (p : Program) (w : WellFormed p) (steps : ℕ) (s : State) (c : SourceS
       (subst (λ (i : List ℕ). entries_seen phase + length i ≤ 64) (sym list) short)
       (subst (λ (i : List ℕ). IsEnding end i) (sym list) ends)
       (proc ∙ ap (λ (i : List ℕ). Some (ending end i)) (sym list)) point (λ z. enough)
-      (subst (λ (v : Thread). StepsSo p done late (mark_of (marks_of p) v) s t woken (look (code_of p) t v) s') (same_thread e) moves)
+      (subst (λ (v : Thread). StepsSo p done late (mark_of (marks_of p) v) s t woken (look (code_of p) t v) s')
+      (same_thread e) moves)
   from_stand o q pt l (walks {e = suc m} {end = end} {ms = ms} phase is short ends) proc point list enough x thread e
       low moves =
       walk_step p w steps s c k t woken done late pauses s' n number few awake (suc m) end phase is
       (subst (λ (i : List ℕ). entries_seen phase + length i ≤ 64) (sym list) short)
       (subst (λ (i : List ℕ). IsEnding end i) (sym list) ends)
       (proc ∙ ap (λ (i : List ℕ). Some (ending end i)) (sym list)) point (λ z. absurd (omega (arith, z)))
-      (subst (λ (v : Thread). StepsSo p done late (mark_of (marks_of p) v) s t woken (look (code_of p) t v) s') (same_thread e) moves)
+      (subst (λ (v : Thread). StepsSo p done late (mark_of (marks_of p) v) s t woken (look (code_of p) t v) s')
+      (same_thread e) moves)
   from_stand o q pt l (clears {end = end}) proc point list enough x thread e low moves =
       clear_step p w steps s c k t woken done late pauses s' n number few awake end proc point
-      (subst (λ (v : Thread). StepsSo p done late (mark_of (marks_of p) v) s t woken (look (code_of p) t v) s') (same_thread e) moves)
+      (subst (λ (v : Thread). StepsSo p done late (mark_of (marks_of p) v) s t woken (look (code_of p) t v) s')
+      (same_thread e) moves)
   from_stand o q pt l (wakes {end = end}) proc point list enough x thread e low moves =
       wake_step p w steps s c k t woken done late pauses s' n number few awake end proc point enough
-      (subst (λ (v : Thread). StepsSo p done late (mark_of (marks_of p) v) s t woken (look (code_of p) t v) s') (same_thread e) moves)
+      (subst (λ (v : Thread). StepsSo p done late (mark_of (marks_of p) v) s t woken (look (code_of p) t v) s')
+      (same_thread e) moves)
   from_stand o q pt l rests proc point list enough x thread e low moves =
-      absurd (subst (λ (v : Thread). StepsSo p done late (mark_of (marks_of p) v) s t woken (look (code_of p) t v) s') (same_thread e) moves)
+      absurd (subst (λ (v : Thread). StepsSo p done late (mark_of (marks_of p) v) s t woken (look
+      (code_of p) t v) s') (same_thread e) moves)
 
 pub next : (p : Program) (w : WellFormed p) (steps : ℕ) (s : State) (c : SourceState) (k : Corresponds p w steps s c)
     (l : Step) (s' : State) (st : IsStep (code_of p) s l s') (done : Bool) (late : Option Kind)

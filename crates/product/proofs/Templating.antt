@@ -125,7 +125,8 @@ awake_at at a None e h = refl
 awake_at at a (Some x) e h = absurd (cc (e, h))
 
 module _ (p : Program) (w : WellFormed p) (steps : ℕ) (s : State) (c : SourceState) (k : Corresponds p w steps s c)
-    (t : ℕ) (woken : List ℕ) (done : Bool) (late : Option Kind) (pauses : Bool) (s' : State) (n : ℕ) (number : (0 < t) × (t ≤ k.world.made))
+    (t : ℕ) (woken : List ℕ) (done : Bool) (late : Option Kind) (pauses : Bool) (s' : State) (n : ℕ) (number :
+    (0 < t) × (t ≤ k.world.made))
     (few : k.world.made ≤ 64) (awake : k.world.asleep t ≡ None) (paused : pauses ≡ is_paused s' t) where
   abbrev b : Build
   b = build_of p w k.world.made
@@ -153,7 +154,8 @@ module _ (p : Program) (w : WellFormed p) (steps : ℕ) (s : State) (c : SourceS
       came = e' ∙ ap (λ a. with_thread mid t (goes.go a)) sv.told
 
       abbrev Arrives' : End → Type 0
-      Arrives' e = Arrives p w steps s c k t done late pauses s' mid n answer y (process_at p kind pt) pt number awake proc
+      Arrives' e = Arrives p w steps s c k t done late pauses s' mid n answer y
+          (process_at p kind pt) pt number awake proc
           point sv
           came e
 
@@ -236,18 +238,22 @@ module _ (p : Program) (w : WellFormed p) (steps : ℕ) (s : State) (c : SourceS
           within.askable goes.same
 
       answered : Next p w steps s' t done late pauses n c (stages k.world)
-      answered = stepped p w steps s c k t done late pauses s' mid n answer y (process_at p kind pt) pt number awake proc point sv
+      answered = stepped p w steps s c k t done late pauses s' mid n answer y
+          (process_at p kind pt) pt number awake proc point sv
           came
-          (told_of ∙ point_late p (mark_of (marks_of p) x) t pt answer goes.asks (template_works pt within.template) goes.same)
+          (told_of ∙ point_late p (mark_of (marks_of p) x) t pt answer goes.asks
+          (template_works pt within.template) goes.same)
           (subst (λ (i : Stage). Agrees i false) (sym (template_works pt within.template)) refl)
           shown (λ e u label h. who_resumes p s' k.world c.table t pt sv.reply sv.after e u label
           (ap (λ (x : State). x.made) came ∙ sv.keeps.made ∙ k.made)
           (λ v. ap (λ (x : State). x.asleep v) came ∙ sv.shares.sleeps v) sv.shares.spots within.askable h) arrives
 
-    pub inside_step : IsLow k.world.sequence (look (code_of p) t x) → StepsSo p done late (mark_of (marks_of p) x) s t woken (look (code_of p) t x) s'
+    pub inside_step : IsLow k.world.sequence (look (code_of p) t x)
+        → StepsSo p done late (mark_of (marks_of p) x) s t woken (look (code_of p) t x) s'
         → Next p w steps s' t done late pauses n c (stages k.world)
     inside_step low moves =
-        let g : StepsSo p done late (mark_of (marks_of p) x) s t woken (Asks goes.asks goes.go) s' = subst (λ (l : Look). StepsSo p done late (mark_of (marks_of p) x) s t woken l s') goes.look
+        let g : StepsSo p done late (mark_of (marks_of p) x) s t woken (Asks goes.asks goes.go) s' =
+        subst (λ (l : Look). StepsSo p done late (mark_of (marks_of p) x) s t woken l s') goes.look
         moves in
         answered g.0 g.1 (served p s k.world c.table t pt goes.asks woken g.0 g.1 k.shares inv number.0
         (omega (arith, number.1, few)) (low goes.asks goes.go goes.look) within.askable goes.same g.2) g.3 g.4 g.5

@@ -4,4 +4,5 @@ pub mod Standing
 pub mod Ranks
 pub mod Corresponding
 pub mod Tracking
+pub mod Explaining
 pub mod Serving

@@ -1,19 +1,19 @@
-ghost use Rattle.std.specs.Prelude.{◌≡◌, ◌+◌, ◌<◌, ◌^◌, ◌∷◌, [], ℕ, suc, Bool, true, false, List, Option};
+ghost use Rattle.std.specs.Prelude.{◌≡◌, ◌+◌, ◌<◌, ◌^◌, ◌∷◌, [], ℕ, suc, Bool, true, false, List, Option, length};
 ghost use Rattle.code.specs.Pieces.{code_of, marks_of};
 ghost use Rattle.deferral.specs.Deferring.{is_quiet};
 ghost use Rattle.execution.specs.Variables.{IsVariable, variable_address};
 ghost use Rattle.locals.specs.Looks.{look};
-ghost use Rattle.machine.specs.Runs.{IsStep, Step};
+ghost use Rattle.machine.specs.Runs.{IsStep, MachineRun, Step};
 ghost use Rattle.machine.specs.States.{State, opening_state};
 ghost use Rattle.meaning.specs.Labels.{Kind, Label, kind_of};
-ghost use Rattle.meaning.specs.Runs.{IsStep as IsSourceStep};
+ghost use Rattle.meaning.specs.Runs.{IsRun, IsStep as IsSourceStep, Leads};
 ghost use Rattle.meaning.specs.States.{SourceState, opening};
 ghost use Rattle.product.specs.Placing.{MovesSo, Resumes, StepsSo, act};
 ghost use Rattle.product.specs.Waiting.{waits_then};
 ghost use Rattle.product.specs.Corresponding.{Corresponds};
 ghost use Rattle.deferral.specs.Placed.{actions_up_to};
 ghost use Rattle.execution.specs.Later.{mark_of};
-ghost use Rattle.meaning.specs.Runs.{Leads};
+ghost use Rattle.product.specs.Explaining.{Shows, explanation};
 ghost use Rattle.words.specs.Updates.{put};
 ghost use Rattle.product.specs.Tracking.{CanTake, Owes, Tracks};
 ghost use Rattle.program.specs.Trees.{Program};
@@ -31,12 +31,12 @@ pub fn code_refines()
     ensures { (p : Program) → WellFormed p → Refines p (code_of p) }
 {}
 
-/// The source follows the machine, step by step. It tracks the machine's opening state; a step of the machine that is no
-/// action which other processes learn of (`MovesSo` says which steps are, by the request and its answer) leaves it where
-/// it is; at one that is, the actions that still wait of the process are possible one by one, and then that action is,
-/// whose label the offer of the process tells; a notify or a broadcast resumes those who wait and don't sleep on the
-/// word of the condition. Where it tracks the machine, the same is printed, variables have the same values, and
-/// processes the same ends.
+/// The source follows the machine, step by step. It tracks the machine's opening state; a step of the machine that is
+/// no action which other processes learn of (`MovesSo` says which steps are, by the request and its answer) leaves it
+/// where it is; at one that is, the actions that still wait of the process are possible one by one, and then that
+/// action is, whose label the offer of the process tells; a notify or a broadcast resumes those who wait and don't
+/// sleep on the word of the condition. Where it tracks the machine, the same is printed, variables have the same
+/// values, and processes the same ends.
 pub fn source_follows()
     ensures opens { (p : Program) (w : WellFormed p) → Tracks p w 0 (opening_state (code_of p)) (opening p) }
     ensures tracks { (p : Program) (w : WellFormed p) (steps : ℕ) (s : State) (a : SourceState)
@@ -61,18 +61,19 @@ pub fn source_follows()
         → Tracks p w steps s a → (q : ℕ) → machine_end s q ≡ source_end a q }
 {}
 
-/// What waits behind the machine is told by the code's marks. At a step that no other process learns of, the process has
-/// one more action that waits just where the step has one (`StepsSo` says which steps have, and which action, by the mark
-/// at which the thread stands, the request and its answer): an assignment of a local, a test, a call, a return, a fault,
-/// which waits once. Behind one that others learn of, all that waits of the process is taken first, in order, and then
-/// nothing waits of it. At any time all that waits may be taken, by rising number of process, and then the source is
-/// where the machine is.
+/// What waits behind the machine is told by the code's marks. At a step that no other process learns of, the process
+/// has one more action that waits just where the step has one (`StepsSo` says which steps have, and which action, by
+/// the mark at which the thread stands, the request and its answer): an assignment of a local, a test, a call, a
+/// return, a fault, which waits once. Behind one that others learn of, all that waits of the process is taken first,
+/// in order, and then nothing waits of it. At any time all that waits may be taken, by rising number of process, and
+/// then the source is where the machine is.
 pub fn source_waits()
     ensures opens { (p : Program) (w : WellFormed p)
         → (o : Tracks p w 0 (opening_state (code_of p)) (opening p)) × (o.waiting ≡ (λ t. [])) }
     ensures waits { (p : Program) (w : WellFormed p) (steps : ℕ) (s : State) (a : SourceState) (r : Tracks p w steps s a)
         (l : Step) (s' : State) (st : IsStep (code_of p) s l s') (done : Bool) (late : Option Kind)
-        → StepsSo p done late (mark_of (marks_of p) st.thread) s l.thread l.woken (look (code_of p) l.thread st.thread) s'
+        → StepsSo p done late (mark_of (marks_of p) st.thread) s l.thread l.woken
+        (look (code_of p) l.thread st.thread) s'
         → steps + 1 < 2 ^ 32
         → (done ≡ false → (n : Tracks p w (suc steps) s' a)
         × (n.waiting ≡ put r.waiting l.thread (waits_then late (r.waiting l.thread))))
@@ -90,4 +91,16 @@ pub fn source_waits()
     ensures finishes { (p : Program) (w : WellFormed p) (steps : ℕ) (s : State) (a : SourceState)
         (r : Tracks p w steps s a)
         → (source : SourceState) × Leads p a (actions_up_to s.made r.waiting) source × Corresponds p w steps s source }
+{}
+
+/// The run of the source that explains a run of the machine is a function of the machine's steps and of the actions
+/// which others learn of, in order (`explanation`): each comes at its step, behind what waits of its process by the
+/// code's marks, and what waits at the end comes last, by rising number of process. For some such actions it is a run
+/// of the program, to a state that shows what the machine's shows (`Shows`): the same numbers printed, the same
+/// values of variables, the same ends of processes, and who can't go on.
+pub fn run_explains()
+    ensures { (p : Program) (w : WellFormed p) (steps : List Step) (s : State) (run : MachineRun (code_of p) steps s)
+        → length steps < 2 ^ 32
+        → (heard : List Kind) × (source : SourceState) × IsRun p (explanation p heard steps s run) source
+        × Shows p s source }
 {}
