@@ -11,6 +11,10 @@
 //! words WORD ..       the words of the command line
 //! output LINE         a line that standard output has to have
 //! errors LINE         a line that standard error has to have
+//! room COUNT COUNT    how many bytes standard output and standard error take, before each write fails
+//! output-part TEXT    the part of a line that standard output has to have taken
+//! errors-part TEXT    the part of a line that standard error has to have taken
+//! failures NUMBER     how many writes have to fail, where it isn't 0
 //! image DIGITS        the bytes that program.image has to have afterwards, in hexadecimal digits
 //! status NUMBER       the exit status that is wanted, where it isn't 0
 //! ```
@@ -19,6 +23,7 @@
 //! program.mesa, with no `schedule` no program.schedule, and with no `image` there may be no program.image afterwards.
 #![tactic(auto)]
 
+mod device;
 mod fault;
 mod outcome;
 mod row;

@@ -1,3 +1,4 @@
+use crate::device::Device;
 use crate::fault::RowFault;
 use crate::row::Row;
 use mesamon::perform;
@@ -25,6 +26,8 @@ pub struct Outcome {
     pub output: Vec<u8>,
     /// What was written to standard error.
     pub errors: Vec<u8>,
+    /// How many writes failed.
+    pub failures: u32,
     /// The bytes of program.image, where there is that file.
     pub image: Option<Vec<u8>>,
 }
@@ -36,6 +39,7 @@ impl Outcome {
             status: 0,
             output: Vec::new(alloc),
             errors: Vec::new(alloc),
+            failures: 0,
             image: None,
         }
     }
@@ -47,7 +51,7 @@ impl Outcome {
     ) -> Result<Outcome, RowFault> {
         put_file(rt, SOURCE, &row.source)?;
         put_file(rt, SCHEDULE, &row.schedule)?;
-        let mut outcome = Outcome::of_words(rt, row.words.as_slice())?;
+        let mut outcome = Outcome::of_words(rt, row)?;
         outcome.image = take_file(rt, IMAGE)?;
         take_file(rt, SOURCE)?;
         take_file(rt, SCHEDULE)?;
@@ -56,17 +60,23 @@ impl Outcome {
 
     fn of_words<R: Files + AllocGlobal + Threads + Wait + Sync>(
         rt: &R,
-        words: &[String],
+        row: &Row,
     ) -> Result<Outcome, RowFault> {
-        let words: Vec<&str> = words.iter().map(|word| word.as_str()).collect(rt.alloc())?;
-        let mut outcome = Outcome::new(rt.alloc());
-        outcome.status = perform(
-            rt,
-            words.as_slice(),
-            &mut outcome.output,
-            &mut outcome.errors,
-        );
-        Ok(outcome)
+        let words: Vec<&str> = row
+            .words
+            .iter()
+            .map(|word| word.as_str())
+            .collect(rt.alloc())?;
+        let mut output = Device::new(rt.alloc(), row.output_room);
+        let mut errors = Device::new(rt.alloc(), row.errors_room);
+        let status = perform(rt, words.as_slice(), &mut output, &mut errors);
+        Ok(Outcome {
+            status,
+            failures: output.failures.saturating_add(errors.failures),
+            output: output.taken,
+            errors: errors.taken,
+            image: None,
+        })
     }
 }
 

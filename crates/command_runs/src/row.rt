@@ -13,6 +13,10 @@ pub struct Row {
     pub schedule: Option<Vec<u8>>,
     /// The words of the command line.
     pub words: Vec<String>,
+    /// How many bytes standard output takes.
+    pub output_room: u32,
+    /// How many bytes standard error takes.
+    pub errors_room: u32,
     /// What has to come of it.
     pub wanted: Outcome,
     alloc: Global,
@@ -28,6 +32,8 @@ impl Row {
             source: None,
             schedule: None,
             words: Vec::new(alloc),
+            output_room: u32::MAX,
+            errors_room: u32::MAX,
             wanted: Outcome::new(alloc),
             alloc,
             before,
@@ -45,6 +51,10 @@ impl Row {
             "words" => self.add_words(said),
             "output" => add_line(&mut self.wanted.output, said),
             "errors" => add_line(&mut self.wanted.errors, said),
+            "room" => self.set_rooms(said),
+            "output-part" => add_part(&mut self.wanted.output, said),
+            "errors-part" => add_part(&mut self.wanted.errors, said),
+            "failures" => self.set_failures(said),
             "image" => self.set_image(said),
             "status" => self.set_status(said),
             _ => Err(RowFault::Key),
@@ -82,6 +92,18 @@ impl Row {
         Ok(())
     }
 
+    fn set_rooms(&mut self, said: &str) -> Result<(), RowFault> {
+        let (output, errors) = said.split_once(' ').ok_or(RowFault::Number)?;
+        self.output_room = output.parse().map_err(|_| RowFault::Number)?;
+        self.errors_room = errors.parse().map_err(|_| RowFault::Number)?;
+        Ok(())
+    }
+
+    fn set_failures(&mut self, said: &str) -> Result<(), RowFault> {
+        self.wanted.failures = said.parse().map_err(|_| RowFault::Number)?;
+        Ok(())
+    }
+
     fn set_image(&mut self, digits: &str) -> Result<(), RowFault> {
         let image = hex::decode(self.alloc, digits).map_err(|_| RowFault::Number)?;
         self.wanted.image = Some(image);
@@ -98,6 +120,11 @@ fn add_text(alloc: Global, file: &mut Option<Vec<u8>>, line: &str) -> Result<(),
     let mut text = file.take().unwrap_or(Vec::new(alloc));
     add_line(&mut text, line)?;
     *file = Some(text);
+    Ok(())
+}
+
+fn add_part(text: &mut Vec<u8>, part: &str) -> Result<(), RowFault> {
+    text.extend_from_slice(part.as_bytes())?;
     Ok(())
 }
 

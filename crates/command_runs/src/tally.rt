@@ -93,11 +93,13 @@ fn compare<R: Print + AllocGlobal>(rt: &R, row: &Row, outcome: &Outcome) -> io::
     let is_well = outcome.status == wanted.status
         && outcome.output == wanted.output
         && outcome.errors == wanted.errors
+        && outcome.failures == wanted.failures
         && outcome.image == wanted.image;
     if !is_well {
         let name = row.name.as_str();
         let status = outcome.status;
-        println!(rt; "{name}: status {status}")?;
+        let failures = outcome.failures;
+        println!(rt; "{name}: status {status}, {failures} writes failed")?;
         show(rt, "output", outcome.output.as_slice())?;
         show(rt, "errors", outcome.errors.as_slice())?;
         if let Some(image) = &outcome.image {

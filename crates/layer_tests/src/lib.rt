@@ -1,5 +1,5 @@
-//! Tests of single crates below the compiler: the parts of words and images beside the rows of `layer_runs`, and the
-//! checker's tables of names and calls.
+//! Tests of single crates below the compiler: the parts of words and images beside the rows of `layer_runs`, the tokens
+//! of texts, and the checker's tables of names and calls.
 #![tactic(auto)]
 
 #[cfg(test)]
@@ -8,3 +8,5 @@ mod calls;
 mod names;
 #[cfg(test)]
 mod parts;
+#[cfg(test)]
+mod tokens;
