@@ -3,6 +3,7 @@
 #![tactic(auto)]
 
 mod callees;
+mod declared;
 mod laws;
 mod lookup;
 mod monitor_names;

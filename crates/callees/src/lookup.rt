@@ -12,14 +12,15 @@ ghost use Rattle.callees.specs.Names.{IsCallees, declarations};
 ghost use Rattle.callees.specs.Pieces.{piece_of};
 
 use crate::callees::Callees;
-use crate::monitor_names::{MonitorNames, external_names};
-use crate::piece::{Piece, push_externals, push_main, push_monitor};
+use crate::declared::Declared;
+use crate::monitor_names::external_names;
+use crate::piece::{Piece, push_externals, push_main};
 use crate::roles::own_monitor;
 use program::Role;
 use scanner::Place;
 use std::alloc::{AllocError, Global};
 use syntax::{Callee, Name, Unit};
-use types::{Own, Standing, Table};
+use types::{Own, Standing};
 
 impl<'u, 'a> Callees<'u, 'a> {
     /// What a unit declares. The only error is that memory runs out.
@@ -27,20 +28,17 @@ impl<'u, 'a> Callees<'u, 'a> {
         requires { declarations (unit_of unit.now) < u32.MAX }
         ensures { IfOk result (λ c. IsCallees (unit_of unit.now) c) }
     {
-        let mut monitors = Table::new(alloc);
-        let mut inner = Vec::new(alloc);
-        let mut pieces = Vec::new(alloc);
-        for (number, monitor) in unit.monitors.iter().enumerate() {
-            monitors.declare(monitor.name)?;
-            inner.push(MonitorNames::new(alloc, monitor, pieces.len() as u32)?)?;
-            push_monitor(&mut pieces, number as u32, monitor)?;
-        }
+        let Declared {
+            names,
+            inner,
+            mut pieces,
+        } = Declared::new(alloc, unit)?;
         let first_external = pieces.len() as u32;
         push_externals(&mut pieces, &unit.procedures)?;
         push_main(&mut pieces, &unit.main)?;
         let externals = external_names(alloc, &unit.procedures)?;
         Ok(Callees {
-            monitors,
+            monitors: names,
             inner,
             externals,
             first_external,
