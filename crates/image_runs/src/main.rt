@@ -45,9 +45,10 @@ use crate::opening::show_opening;
 use crate::schedules::run_schedules;
 use crate::show::{show, show_end};
 use isa::{Image, decode};
-use runner::run;
+use runner::{Report, run};
 use std::alloc::Global;
 use std::io;
+use std::str::SplitWhitespace;
 use std::sync::Wait;
 use std::thread::Threads;
 use words::OpenGate;
@@ -82,16 +83,32 @@ fn run_row<R: Threads + Wait + Sync + Print>(
     let limit = words.next().ok_or(Failure::Row)?;
     let digits = words.next().ok_or(Failure::Row)?;
     let limit: u32 = limit.parse().map_err(|_| Failure::Row)?;
-    let bytes = hex::decode(alloc, digits).map_err(|_| Failure::Row)?;
-    let image = decode(alloc, bytes.as_slice())?;
+    let image = image_of(alloc, digits)?;
     println!(rt; "{name}")?;
+    run_image(rt, alloc, &image, limit, words)
+}
+
+// The image that digits spell.
+fn image_of(alloc: Global, digits: &str) -> Result<Image, Failure> {
+    let bytes = hex::decode(alloc, digits).map_err(|_| Failure::Row)?;
+    Ok(decode(alloc, bytes.as_slice())?)
+}
+
+// Runs an image as these words say.
+fn run_image<R: Threads + Wait + Sync + Print>(
+    rt: &R,
+    alloc: Global,
+    image: &Image,
+    limit: u32,
+    mut words: SplitWhitespace,
+) -> Result<(), Failure> {
     match words.next() {
-        None => run_alone(rt, alloc, &image, limit),
-        Some("workers") => run_workers(rt, alloc, &image, limit),
-        Some("workers_meet") => meet_workers(rt, alloc, &image, limit),
-        Some("alone_meet") => meet_alone(rt, alloc, &image, limit),
-        Some("by_hand") => hand_in(rt, alloc, &image, limit),
-        Some("schedules") => run_schedules(rt, alloc, &image, limit, words),
+        None => run_alone(rt, alloc, image, limit),
+        Some("workers") => run_workers(rt, alloc, image, limit),
+        Some("workers_meet") => meet_workers(rt, alloc, image, limit, &Meeting::new(TURNS)),
+        Some("alone_meet") => meet_alone(rt, alloc, image, limit, &Meeting::new(FEW_TURNS)),
+        Some("by_hand") => hand_in(rt, alloc, image, limit),
+        Some("schedules") => run_schedules(rt, alloc, image, limit, words),
         Some(_) => Err(Failure::Row),
     }
 }
@@ -119,20 +136,27 @@ fn meet_workers<R: Threads + Wait + Sync + Print>(
     alloc: Global,
     image: &Image,
     limit: u32,
+    gate: &Meeting,
 ) -> Result<(), Failure> {
-    let gate = Meeting::new(TURNS);
-    let report = workers::run(rt, alloc, image, limit, &gate)?;
-    let held = gate.was_held();
-    println!(rt; "  met {held}")?;
-    show_end(rt, &report)?;
+    let report = workers::run(rt, alloc, image, limit, gate)?;
+    show_met(rt, gate.was_held(), &report)?;
     Ok(())
 }
 
-fn meet_alone<R: Print>(rt: &R, alloc: Global, image: &Image, limit: u32) -> Result<(), Failure> {
-    let gate = Meeting::new(FEW_TURNS);
-    let report = run(alloc, image, limit, &gate)?;
-    let held = gate.was_held();
-    println!(rt; "  met {held}")?;
-    show_end(rt, &report)?;
+fn meet_alone<R: Print>(
+    rt: &R,
+    alloc: Global,
+    image: &Image,
+    limit: u32,
+    gate: &Meeting,
+) -> Result<(), Failure> {
+    let report = run(alloc, image, limit, gate)?;
+    show_met(rt, gate.was_held(), &report)?;
     Ok(())
+}
+
+// Prints whether the gate held both workers, and what came of the run.
+fn show_met<R: Print>(rt: &R, held: bool, report: &Report) -> io::Result<()> {
+    println!(rt; "  met {held}")?;
+    show_end(rt, report)
 }

@@ -34,28 +34,34 @@ pub fn run_schedules<R: Print>(
 ) -> Result<(), Failure> {
     let count = words.next().ok_or(Failure::Row)?;
     let count: u32 = count.parse().map_err(|_| Failure::Row)?;
-    let mut ends = ends_of(alloc, words)?;
-    run_seeds(rt, alloc, image, limit, count, &mut ends)?;
-    show_allowed(rt, count, ends.allowed.as_slice())?;
+    let mut ends = Ends {
+        addresses: Vec::new(alloc),
+        allowed: Vec::new(alloc),
+    };
+    take_words(alloc, &mut ends, words)?;
+    run_seeds(rt, alloc, image, limit, count, &mut ends)
+}
+
+// Takes a word that tells of the ends: a number is an address, any other word an outcome.
+fn take_word(alloc: Global, ends: &mut Ends, word: &str) -> Result<(), AllocError> {
+    if let Ok(address) = word.parse() {
+        ends.addresses.push(Addr(address))?;
+        return Ok(());
+    }
+    let outcome = String::from_str(alloc, word)?;
+    ends.allowed.push(Allowed { outcome, runs: 0 })?;
     Ok(())
 }
 
-// Takes the words that tell of the ends: a number is an address, any other word an outcome.
-fn ends_of(alloc: Global, words: SplitWhitespace) -> Result<Ends, AllocError> {
-    let mut addresses = Vec::new(alloc);
-    let mut allowed = Vec::new(alloc);
+// Takes the words that tell of the ends.
+fn take_words(alloc: Global, ends: &mut Ends, words: SplitWhitespace) -> Result<(), AllocError> {
     for word in words {
-        if let Ok(address) = word.parse() {
-            addresses.push(Addr(address))?;
-        } else {
-            let outcome = String::from_str(alloc, word)?;
-            allowed.push(Allowed { outcome, runs: 0 })?;
-        }
+        take_word(alloc, ends, word)?;
     }
-    Ok(Ends { addresses, allowed })
+    Ok(())
 }
 
-// Runs an image by the schedules of the seeds from 1 to a number.
+// Runs an image by the schedules of the seeds from 1 to a number, and prints what came of them.
 fn run_seeds<R: Print>(
     rt: &R,
     alloc: Global,
@@ -66,13 +72,31 @@ fn run_seeds<R: Print>(
 ) -> Result<(), Failure> {
     for before in 0..count {
         let seed = before + 1;
-        let machine = run_schedule(alloc, image, limit, seed)?;
-        let outcome = outcome_of(alloc, &machine, ends.addresses.as_slice())?;
-        if !is_noted(ends.allowed.as_mut_slice(), outcome.as_str()) {
-            println!(rt; "  seed {seed}: {outcome}, which is not allowed")?;
-        }
+        let outcome = outcome_by(alloc, image, limit, seed, ends.addresses.as_slice())?;
+        note(rt, seed, outcome.as_str(), ends.allowed.as_mut_slice())?;
     }
+    show_allowed(rt, count, ends.allowed.as_slice())?;
     Ok(())
+}
+
+// How a run by the schedule of a seed ends.
+fn outcome_by(
+    alloc: Global,
+    image: &Image,
+    limit: u32,
+    seed: u32,
+    addresses: &[Addr],
+) -> Result<String, Failure> {
+    let machine = run_schedule(alloc, image, limit, seed)?;
+    outcome_of(alloc, &machine, addresses)
+}
+
+// Counts an outcome that is allowed, and prints any other.
+fn note<R: Print>(rt: &R, seed: u32, outcome: &str, allowed: &mut [Allowed]) -> io::Result<()> {
+    if is_noted(allowed, outcome) {
+        return Ok(());
+    }
+    println!(rt; "  seed {seed}: {outcome}, which is not allowed")
 }
 
 // Runs an image by the schedule of a seed, within a limit of steps.
