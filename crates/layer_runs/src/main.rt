@@ -33,12 +33,24 @@ fn main(rt: HostRuntime) -> io::Result<()> {
 fn run_rows(rt: &HostRuntime, layers: &mut Layers) -> io::Result<()> {
     for line in rt.lines(rt.alloc()) {
         let line = line?;
-        println!(rt; "{line}")?;
-        if let Err(failure) = run_row(rt, layers, line.as_str()) {
-            println!(rt; "  {failure}")?;
-        }
+        show_row(rt, layers, line.as_str())?;
     }
     Ok(())
+}
+
+// Prints a row, and what comes of it.
+fn show_row(rt: &HostRuntime, layers: &mut Layers, row: &str) -> io::Result<()> {
+    println!(rt; "{row}")?;
+    match run_row(rt, layers, row) {
+        Ok(()) => Ok(()),
+        Err(failure) => println!(rt; "  {failure}"),
+    }
+}
+
+// Makes a call, and prints its answer.
+fn call(rt: &HostRuntime, layers: &mut Layers, name: &str, rest: &str) -> Result<(), Failure> {
+    let answer = layers.call(rt.alloc(), name, rest)?;
+    show(rt, &answer)
 }
 
 // What a row asks for: nothing, an image's bytes, or a call.
@@ -50,6 +62,6 @@ fn run_row(rt: &HostRuntime, layers: &mut Layers, row: &str) -> Result<(), Failu
         "beginnings" => show_beginnings(rt, rest),
         "code" => show_code(rt, rest),
         "answer" => show_answered(rt, rest),
-        _ => show(rt, &layers.call(rt.alloc(), name, rest)?),
+        _ => call(rt, layers, name, rest),
     }
 }
