@@ -2,16 +2,22 @@ use crate::failure::Failure;
 use program::Member;
 use sourcestates::{Action, ActionKind};
 use std::alloc::{AllocError, Global};
+use std::str::SplitWhitespace;
 use words::Outcome;
 
-/// The actions of a list.
-pub fn actions_of(alloc: Global, list: &str) -> Result<Vec<Action>, Failure> {
-    let mut actions = Vec::new(alloc);
+/// Appends the actions of a list.
+pub fn append_actions(actions: &mut Vec<Action>, list: &str) -> Result<(), Failure> {
     for text in list.split(',') {
-        let action = action_of(alloc, text)?;
-        actions.push(action)?;
+        append_action(actions, text)?;
     }
-    Ok(actions)
+    Ok(())
+}
+
+// Appends the action that stands here.
+fn append_action(actions: &mut Vec<Action>, text: &str) -> Result<(), Failure> {
+    let action = action_of(*actions.allocator(), text)?;
+    actions.push(action)?;
+    Ok(())
 }
 
 // The action that stands here.
@@ -20,12 +26,19 @@ fn action_of(alloc: Global, text: &str) -> Result<Action, Failure> {
     let process = words.next().and_then(number_of).ok_or(Failure::Row)?;
     let name = words.next().ok_or(Failure::Row)?;
     let mut numbers = Vec::new(alloc);
-    for word in words {
-        numbers.push(number_of(word).ok_or(Failure::Row)?)?;
-    }
+    append_numbers(&mut numbers, words)?;
     let process = u64::from(process.unsigned_abs());
     let kind = kind_of(alloc, name, numbers.as_slice())?;
     Ok(Action { process, kind })
+}
+
+// Appends the numbers that words are.
+fn append_numbers(numbers: &mut Vec<i32>, words: SplitWhitespace) -> Result<(), Failure> {
+    for word in words {
+        let number = number_of(word).ok_or(Failure::Row)?;
+        numbers.push(number)?;
+    }
+    Ok(())
 }
 
 fn number_of(word: &str) -> Option<i32> {

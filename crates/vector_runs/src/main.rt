@@ -22,12 +22,12 @@ mod action;
 mod failure;
 mod reading;
 
-use crate::action::actions_of;
+use crate::action::append_actions;
 use crate::failure::Failure;
 use crate::reading::program_of;
 use program::Checked;
 use sourcemoves::{movers, run_length};
-use sourcestates::{SourceState, accepts};
+use sourcestates::{Action, SourceState, accepts};
 use std::io;
 
 fn main(rt: HostRuntime) -> io::Result<()> {
@@ -49,26 +49,40 @@ fn take_row(rt: &HostRuntime, row: &str) -> Result<(), Failure> {
 
 // Prints what comes of a list of actions.
 fn answer(rt: &HostRuntime, checked: &Checked, list: &str) -> Result<(), Failure> {
-    let actions = actions_of(rt.alloc(), list)?;
-    match accepts(rt.alloc(), checked, actions.as_slice())? {
+    let mut actions = Vec::new(rt.alloc());
+    append_actions(&mut actions, list)?;
+    show_run(rt, checked, actions.as_slice())
+}
+
+// Prints what comes of actions.
+fn show_run(rt: &HostRuntime, checked: &Checked, actions: &[Action]) -> Result<(), Failure> {
+    match accepts(rt.alloc(), checked, actions)? {
         Some(state) => show_end(rt, checked, &state),
-        None => {
-            let number = run_length(rt.alloc(), checked, actions.as_slice())?.saturating_add(1);
-            println!(rt; "no run, action {number}")?;
-            Ok(())
-        }
+        None => show_length(rt, checked, actions),
     }
+}
+
+// Prints which action isn't possible, of a list that isn't a run.
+fn show_length(rt: &HostRuntime, checked: &Checked, actions: &[Action]) -> Result<(), Failure> {
+    let number = run_length(rt.alloc(), checked, actions)?.saturating_add(1);
+    println!(rt; "no run, action {number}")?;
+    Ok(())
 }
 
 // Prints the processes that can move in a state, and the numbers printed.
 fn show_end(rt: &HostRuntime, checked: &Checked, state: &SourceState) -> Result<(), Failure> {
     let movers = movers(rt.alloc(), checked, state)?;
-    print!(rt; "run, movers")?;
-    show_movers(rt, movers.as_slice())?;
-    print!(rt; ", printed")?;
-    show_printed(rt, state.printed())?;
-    println!(rt; "")?;
+    show_both(rt, movers.as_slice(), state.printed())?;
     Ok(())
+}
+
+// Prints the line of a run.
+fn show_both(rt: &HostRuntime, movers: &[u64], printed: &[i64]) -> io::Result<()> {
+    print!(rt; "run, movers")?;
+    show_movers(rt, movers)?;
+    print!(rt; ", printed")?;
+    show_printed(rt, printed)?;
+    println!(rt; "")
 }
 
 // Prints the numbers of processes, each behind a blank.
