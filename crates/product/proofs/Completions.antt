@@ -39,6 +39,8 @@ use Rattle.product.specs.Serving.{IsAskable}
 use Rattle.product.specs.Waiting.{Stage, stage_of, Agrees, Stays, Works}
 use Rattle.code.specs.declared.mark.Mark.{Mark}
 use Rattle.execution.specs.Later.{later_mark, later_request}
+use Rattle.product.specs.Explaining.{answer_in, heard_step}
+use Rattle.execution.specs.Later.{later_step}
 
 none_below : (k : ℕ) (test : ℕ → Bool) → ((n : ℕ) → n < k → test n ≡ false) → any_below k test ≡ false
 none_below zero test h = refl
@@ -78,6 +80,17 @@ told_late p done mark s t woken (Asks request go) s' g =
 told_late p done mark s t woken (Leaves phase) s' g = (None, (g.0, g.1, g.2, g.3, g.4, refl))
 told_late p done mark s t woken Breaks s' g = absurd g
 told_late p done mark s t woken Rests s' g = absurd g
+
+-- what a step does, with whether others learn of it and the action that waits
+pub steps_so : (p : Program) (mark : Option Mark) (s s' : State) (t : ℕ) (woken : List ℕ) (l : Look)
+    (g : Moves s t woken l s')
+    → StepsSo p (heard_step p l (answer_in s s' t woken l g)) (later_step mark l
+    (answer_in s s' t woken l g)) mark s t woken l s'
+steps_so p mark s s' t woken (Goes x) g = (g.0, g.1, refl, refl)
+steps_so p mark s s' t woken (Asks request go) g = (g.0, g.1, g.2, g.3, refl, refl)
+steps_so p mark s s' t woken (Leaves phase) g = (g.0, g.1, g.2, g.3, refl, refl)
+steps_so p mark s s' t woken Breaks g = absurd g
+steps_so p mark s s' t woken Rests g = absurd g
 
 -- what a point asks is no action that waits, but where a fault is written
 abbrev LateOf : Option Mark → Option Request → ℕ → Option Kind

@@ -26,6 +26,13 @@ use Rattle.product.proofs.Local.{put_again}
 use Rattle.product.proofs.Observing.{number_of}
 use Rattle.product.proofs.Whole.{leads_on}
 use Rattle.product.proofs.Worlds.{put_put}
+use Rattle.std.proofs.Common.{length, ◌+◌}
+use Rattle.refinement.specs.Pace.{is_action_of}
+use Rattle.product.specs.Waiting.{AreOwn}
+use Rattle.product.proofs.Whole.{AllOwn}
+use Rattle.product.proofs.Paces.{count_by-append}
+use Rattle.product.proofs.Counting.{count, count_map, of_one, length_taken}
+use Rattle.std.proofs.Common.{ap, ◌++◌}
 
 -- the actions of one process
 abbrev Caught : Program → SourceState → List Action → (ℕ → List Kind) → SourceState → Type 0
@@ -66,6 +73,32 @@ catch_up_all p (suc n) w a c b =
       leads_on p a before.0 last.0 (actions_up_to n w) (actions_of (suc n) (w (suc n))) before.1 last.1,
       last.2,
     )
+
+-- as many as wait
+up_counted : (n : ℕ) (w : ℕ → List Kind) (t : ℕ)
+    → count t (actions_up_to n w) + length (emptied n w t) ≡ length (w t)
+up_counted zero w t = omega arith
+up_counted (suc n) w t =
+    let both = count_by-append (is_action_of t) (actions_up_to n w) (actions_of (suc n) (w (suc n))) in
+    let last = count_map (suc n) t (w (suc n)) in
+    let taken = length_taken (emptied n w) (suc n) t in
+    let same = ap (λ (i : List Kind). of_one (suc n) t (length i)) (emptied_above n w (suc n) (omega arith)) in
+    let before = up_counted n w t in
+    omega (arith, both, last, taken, same, before)
+
+-- and a process's own, as they are
+pub own_both : (xs ys : List Action) → AllOwn xs → AllOwn ys → AllOwn (xs ++ ys)
+own_both [] ys h g = g
+own_both (x ∷ xs) ys h g = (h.0, own_both xs ys h.1 g)
+
+pub own_of : (t : ℕ) (ks : List Kind) → AreOwn ks → AllOwn (actions_of t ks)
+own_of t [] h = tt
+own_of t (k ∷ ks) h = (h.0, own_of t ks h.1)
+
+own_up : (n : ℕ) (w : ℕ → List Kind) → ((t : ℕ) → AreOwn (w t)) → AllOwn (actions_up_to n w)
+own_up zero w h = tt
+own_up (suc n) w h = own_both (actions_up_to n w) (actions_of (suc n) (w (suc n))) (own_up n w h)
+    (own_of (suc n) (w (suc n)) (h (suc n)))
 
 -- where nothing waits the states are one
 same_behind : (p : Program) (w : ℕ → List Kind) (a c : SourceState) → IsBehind p w a c → ((u : ℕ) → w u ≡ [])
@@ -128,3 +161,12 @@ module _ (p : Program) (w : WellFormed p) (steps : ℕ) (s : State) (a : SourceS
         (same_behind p (emptied s.made r.waiting) caught.0 c caught.2 empty) caught.1,
     r.ties,
   )
+
+  pub finishes_counted : (t : ℕ) → count t (actions_up_to s.made r.waiting) ≡ length (r.waiting t)
+  finishes_counted t =
+      let all = up_counted s.made r.waiting t in
+      let none = ap (λ (i : List Kind). length i) (empty t) in
+      omega (arith, all, none)
+
+  pub finishes_own : AllOwn (actions_up_to s.made r.waiting)
+  finishes_own = own_up s.made r.waiting r.own

@@ -30,5 +30,6 @@ pub mod Making
 pub mod Stepping
 pub mod Whole
 pub mod Tracking
+pub mod Counting
 pub mod Finishing
 pub mod Explaining

@@ -181,7 +181,8 @@ module _ (p : Program) (w : WellFormed p) (steps : ℕ) (s : State) (c : SourceS
             world = w1;
             reached = reached_on k.world c.table made (Fork t) k.reached can_fork;
             shares = shares_at (place p) (valid p) _ (write k.world (IdOf made) made) _ made
-                (shares_stored (place p) (valid p) (apart p) (shared_of s) k.world (IdOf made) made valid_made k.shares);
+                (shares_stored (place p) (valid p) (apart p) (shared_of s) k.world
+                (IdOf made) made valid_made k.shares);
             size = k.size;
             made = refl;
             output = k.output;
@@ -204,7 +205,8 @@ module _ (p : Program) (w : WellFormed p) (steps : ℕ) (s : State) (c : SourceS
           leads = (
             c1,
             action p c t q (later made) (Forks made) (Makes made child) (table_after k.world c.table made (Fork t))
-                proc takes (permitted k.world c.table made (Fork t) (reached_good k.world c.table k.reached) can_fork).0,
+                proc takes (permitted k.world c.table made (Fork t)
+                (reached_good k.world c.table k.reached) can_fork).0,
             refl,
           );
           stage = Works;

@@ -20,7 +20,7 @@ use Rattle.protocol.specs.Points.{Point, Owned, Thread as Place, thread_at, entr
 use Rattle.protocol.specs.World.{World, mem}
 use Rattle.protocol.specs.Exits.{Shares}
 use Rattle.protocol.proofs.Sleeps.{put_same, put_other, at_put}
-use Rattle.execution.specs.Completing.{IsOwn}
+pub use Rattle.product.specs.Waiting.{AreOwn}
 use Rattle.execution.specs.Variables.{IsVariable, variable_address, VariablesFit}
 use Rattle.refinement.specs.Built.{build_of}
 use Rattle.templates.specs.Layout.{place, valid}
@@ -48,10 +48,6 @@ same_puts f t v h = record { here = h; other = λ u o. refl }
 abbrev pub IsLow : (Member → ℕ) → Look → Type 0
 IsLow numbers l = (request : Request) (go : ℕ → Thread) → l ≡ Asks request go
     → (d : Member) → numbers d + 1 < 4294967296
-
-abbrev pub AreOwn : List Kind → Type 0
-AreOwn [] = Unit {0}
-AreOwn (k ∷ ks) = IsOwn k × AreOwn ks
 
 abbrev pub IsSome : List Kind → Type 0
 IsSome [] = ⊥

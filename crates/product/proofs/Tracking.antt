@@ -49,6 +49,8 @@ use Rattle.product.specs.Waiting.{Stage, stages, Agrees, Stays, is_failing, has_
 use Rattle.execution.specs.Later.{mark_of}
 use Rattle.meaning.specs.Labels as L
 use Rattle.std.specs.Prelude.{if◌then◌else◌, ◌||◌, ◌&&◌}
+use Rattle.execution.specs.Completing.{IsOwn}
+use Rattle.product.specs.Waiting.{AreOwn}
 
 -- who holds a monitor keeps it by another's action
 hold_other : (hold : ℕ → Hold) (n m : ℕ) (x : Hold) (u : ℕ) → (m ≡ n → hold m ≡ HeldBy u → ⊥) → hold m ≡ HeldBy u
@@ -86,7 +88,7 @@ keeps_holders t u m (Abandons n) T T' other allows mine h = ap (λ (x : Table). 
 keeps_holders t u m (Ends end) T T' other allows mine h = ap (λ (x : Table). x.hold m) allows ∙ h
 
 -- a fault waits just where the stage of a thread says so, behind a step of one thread
-agrees_next : (was : ℕ → Stage) (now : Stage) (t : ℕ) (failed : ℕ → Bool) (after : ℕ → Stage)
+pub agrees_next : (was : ℕ → Stage) (now : Stage) (t : ℕ) (failed : ℕ → Bool) (after : ℕ → Stage)
     → ((u : ℕ) → after u ≡ put was t now u) → ((u : ℕ) → u ≢ t → Agrees (was u) (failed u)) → Agrees now (failed t)
     → (u : ℕ) → Agrees (after u) (failed u)
 agrees_next was now t failed after staged others here u =
@@ -94,7 +96,7 @@ agrees_next was now t failed after staged others here u =
     (at_put was t now u (λ (x : Stage). Agrees x (failed u))
     (λ e. subst (λ v. Agrees now (failed v)) (sym e) here) (λ o. others u o))
 
-stays_agreed : (was now : Stage) (failed : Bool) → Stays was now → Agrees was failed → Agrees now failed
+pub stays_agreed : (was now : Stage) (failed : Bool) → Stays was now → Agrees was failed → Agrees now failed
 stays_agreed was now failed (inl e) h = subst (λ (x : Stage). Agrees x failed) (sym e) h
 stays_agreed was now failed (inr e) h = subst (λ (x : Stage). Agrees x failed) (sym e) tt
 
@@ -106,9 +108,13 @@ or_on : (a b d : Bool) → ((a || b) || d) ≡ (a || (b || d))
 or_on true b d = refl
 or_on false b d = refl
 
-and_false : (b : Bool) → (b && false) ≡ false
+pub and_false : (b : Bool) → (b && false) ≡ false
 and_false true = refl
 and_false false = refl
+
+own_more : (ks : List Kind) (k : Kind) → AreOwn ks → IsOwn k → AreOwn (ks ++ k ∷ [])
+own_more [] k h g = (g, tt)
+own_more (x ∷ ks) k h g = (h.0, own_more ks k h.1 g)
 
 -- one more that waits
 failed_more : (ks : List Kind) (k : Kind) → has_failed (ks ++ k ∷ []) ≡ (has_failed ks || is_failing k)
@@ -116,10 +122,10 @@ failed_more [] k = or_false (is_failing k)
 failed_more (x ∷ ks) k = ap (λ b. is_failing x || b) (failed_more ks k)
     ∙ sym (or_on (is_failing x) (has_failed ks) (is_failing k))
 
-failed_first : (ks : List Kind) (k : Kind) → has_failed ks ≡ false → has_failed (ks ++ k ∷ []) ≡ is_failing k
+pub failed_first : (ks : List Kind) (k : Kind) → has_failed ks ≡ false → has_failed (ks ++ k ∷ []) ≡ is_failing k
 failed_first ks k h = failed_more ks k ∙ ap (λ b. b || is_failing k) h
 
-waits_more : (ks : List Kind) (k : Kind) → has_failed ks ≡ false → waits_then (Some k) ks ≡ ks ++ k ∷ []
+pub waits_more : (ks : List Kind) (k : Kind) → has_failed ks ≡ false → waits_then (Some k) ks ≡ ks ++ k ∷ []
 waits_more ks k h = ap (λ b. if is_failing k && b then ks else ks ++ k ∷ []) h
     ∙ ap (λ b. if b then ks else ks ++ k ∷ []) (and_false (is_failing k))
 
@@ -135,6 +141,7 @@ module _ (p : Program) (w : WellFormed p) where
     behind = D.begins p (opening p);
     few = λ t. omega arith;
     agrees = λ t. subst (λ (x : Stage). Agrees x false) (sym (opens_calm p w t)) refl;
+    own = λ t. tt;
   }
 
   pub opens_waiting : (o : Tracks p w 0 (opening_state (code_of p)) (opening p)) × (o.waiting ≡ (λ t. []))
@@ -169,7 +176,7 @@ module _ (p : Program) (w : WellFormed p) where
       → (done ≡ false → (n : Tracks p w (suc steps) s' a)
       × (n.waiting ≡ put r.waiting l.thread (waits_then late (r.waiting l.thread))))
       × (done ≡ true → (o : Owes p w (suc steps) s' l.thread a (r.waiting l.thread)) × (o.waiting ≡ r.waiting))
-  tracks_waiting steps s a r l s' st done late moves short = by_places n.kinds n.places
+  tracks_waiting steps s a r l s' st done late moves short = by_places n.kinds n.places n.own
     where
       c : SourceState
       c = r.ahead
@@ -196,6 +203,7 @@ module _ (p : Program) (w : WellFormed p) where
           few = λ u. let less = r.few u in omega (arith, less);
           agrees = agrees_next (stages r.ties.world) n.stage t (λ u. has_failed (r.waiting u)) (stages n.ties.world)
               n.staged (λ u o. r.agrees u) here;
+          own = r.own;
         },
         put_again r.waiting t ks refl ∙ ap (λ (i : List Kind). put r.waiting t i) (sym none),
       )
@@ -207,21 +215,22 @@ module _ (p : Program) (w : WellFormed p) where
       unmet x failed e h = subst (λ (i : Stage). Agrees i failed) e h
 
       by_places : (kinds : List Kind) → Places p s' t c n.after done late (stages r.ties.world t) n.stage kinds
+          → AreOwn kinds
           → (done ≡ false → (x : Tracks p w (suc steps) s' a) × (x.waiting ≡ put r.waiting t (waits_then late ks)))
           × (done ≡ true → (o : Owes p w (suc steps) s' t a ks) × (o.waiting ≡ r.waiting))
-      by_places kinds (P.nothing none plain stays same) = (
+      by_places kinds (P.nothing none plain stays same) own = (
         λ e. still same (ap (λ (i : Option Kind). waits_then i ks) plain)
             (stays_agreed (stages r.ties.world t) n.stage (has_failed ks) stays (r.agrees t)),
         λ e. absurd (false≢true (sym none ∙ e)),
       )
-      by_places kinds (P.again fault none fails was now same) = (
+      by_places kinds (P.again fault none fails was now same) own = (
         λ e. still same
             (ap (λ (i : Option Kind). waits_then i ks) fails
             ∙ waits_again ks fault (met (stages r.ties.world t) (has_failed ks) was (r.agrees t)))
             (subst (λ (x : Stage). Agrees x (has_failed ks)) (sym now) tt),
         λ e. absurd (false≢true (sym none ∙ e)),
       )
-      by_places kinds (P.waits q after label none told was here stands may same) =
+      by_places kinds (P.waits q after label none told was here stands may same) own =
           let k = kind_of label in
           let first = unmet (stages r.ties.world t) (has_failed ks) was (r.agrees t) in (
             λ e. (
@@ -242,45 +251,50 @@ module _ (p : Program) (w : WellFormed p) where
                     (subst (λ (i : List Kind). Agrees n.stage (has_failed i))
                     (sym (put_same r.waiting t (ks ++ k ∷ [])))
                     (subst (λ (i : Bool). Agrees n.stage i) (sym (failed_first ks k first)) here));
+                own = λ u. at_put r.waiting t (ks ++ k ∷ []) u (λ (i : List Kind). AreOwn i)
+                    (λ e. own_more ks k (r.own t) own.0) (λ o. r.own u);
               },
               ap (λ (i : List Kind). put r.waiting t i)
                   (sym (ap (λ (i : Option Kind). waits_then i ks) told ∙ waits_more ks k first)),
             ),
             λ e. absurd (false≢true (sym none ∙ e)),
           )
-      by_places kinds (P.acts q after label effect T is calm heard stands takes allows holder keeps resumes same) = (
-        λ e. absurd (false≢true (sym e ∙ is)),
-        λ e.
-            let tied = subst (λ (x : SourceState). (k : Corresponds p w (suc steps) s' x)
-            × ((u : ℕ) → stages k.world u ≡ put (stages r.ties.world) t n.stage u)) same (n.ties, n.staged) in (
-              record {
-                waiting = r.waiting;
-                now = c;
-                behind = r.behind;
-                mine = refl;
-                few = λ u. let less = r.few u in omega (arith, less);
-                before = q;
-                after = after;
-                label = label;
-                effect = effect;
-                table = T;
-                heard = heard;
-                stands = stands;
-                takes = takes;
-                allows = allows;
-                holder = holder;
-                keeps = keeps;
-                resumes = resumes;
-                fresh = fresh steps s c r.ties;
-                ties = tied.0;
-                agrees = λ u o. subst (λ (x : Stage). Agrees x (has_failed (r.waiting u)))
-                    (sym (tied.1 u ∙ put_other (stages r.ties.world) t n.stage u o)) (r.agrees u);
-                calm = subst (λ (x : Stage). Agrees x false)
-                    (sym (tied.1 t ∙ put_same (stages r.ties.world) t n.stage)) calm;
-              },
-              refl,
-            ),
-      )
+      by_places kinds (P.acts q after label effect T is calm heard stands takes allows holder keeps resumes same) own
+          = (
+            λ e. absurd (false≢true (sym e ∙ is)),
+            λ e.
+                let tied = subst (λ (x : SourceState). (k : Corresponds p w (suc steps) s' x)
+                × ((u : ℕ) → stages k.world u ≡ put (stages r.ties.world) t n.stage u)) same (n.ties, n.staged) in (
+                  record {
+                    waiting = r.waiting;
+                    now = c;
+                    behind = r.behind;
+                    mine = refl;
+                    few = λ u. let less = r.few u in omega (arith, less);
+                    before = q;
+                    after = after;
+                    label = label;
+                    effect = effect;
+                    table = T;
+                    heard = heard;
+                    stands = stands;
+                    takes = takes;
+                    allows = allows;
+                    holder = holder;
+                    keeps = keeps;
+                    resumes = resumes;
+                    fresh = fresh steps s c r.ties;
+                    ties = tied.0;
+                    agrees = λ u o. subst (λ (x : Stage). Agrees x (has_failed (r.waiting u)))
+                        (sym (tied.1 u ∙ put_other (stages r.ties.world) t n.stage u o)) (r.agrees u);
+                    calm = subst (λ (x : Stage). Agrees x false)
+                        (sym (tied.1 t ∙ put_same (stages r.ties.world) t n.stage)) calm;
+                    own = r.own;
+                    mine_own = own.0;
+                  },
+                  refl,
+                ),
+          )
 
   pub tracks : (steps : ℕ) (s : State) (a : SourceState) → Tracks p w steps s a → (l : Step) (s' : State)
       (st : IsStep (code_of p) s l s') (done : Bool)
@@ -340,6 +354,9 @@ module _ (p : Program) (w : WellFormed p) where
               agrees = λ u other. subst (λ (i : List Kind). Agrees (stages o.ties.world u) (has_failed i))
                   (sym (put_other o.waiting t ks u other)) (o.agrees u other);
               calm = o.calm;
+              own = λ u. at_put o.waiting t ks u (λ (i : List Kind). AreOwn i)
+                  (λ e. (subst (λ (i : List Kind). AreOwn i) o.mine (o.own t)).1) (λ v. o.own u);
+              mine_own = o.mine_own;
             },
             refl,
           ),
@@ -402,10 +419,15 @@ module _ (p : Program) (w : WellFormed p) where
                     (subst (λ (i : List Kind). Agrees (stages o.ties.world t) (has_failed i)) (sym o.mine) o.calm)
                 | inr other ↦ o.agrees u other
               ];
+              own = o.own;
             },
             refl,
           ),
     )
+
+    pub settles_own : (o : Owes p w steps s t a []) → IsOwn (kind_of (settles_waiting o).0)
+    unfolding settles_waiting
+    settles_own o = o.mine_own
 
     pub pays : (k : Kind) (ks : List Kind) → Owes p w steps s t a (k ∷ ks)
         → (label : Label) × (k ≡ kind_of label) × (is_quiet label ≡ true) × CanTake p a t label

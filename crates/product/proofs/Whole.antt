@@ -33,12 +33,24 @@ use Rattle.product.proofs.Opening.{opens}
 use Rattle.product.proofs.Observing.{sound, ends}
 use Rattle.product.proofs.Resting.{at_rest, sleepers}
 use Rattle.execution.specs.Later.{mark_of}
+use Rattle.product.specs.Waiting.{Stage, stages, Agrees, has_failed}
+use Rattle.product.specs.Explaining.{answer_in, heard_step}
+use Rattle.execution.specs.Later.{later_step}
+use Rattle.product.proofs.Completions.{steps_so}
+use Rattle.product.proofs.Tracking.{agrees_next}
+use Rattle.product.proofs.Paces.{count_by-append}
+use Rattle.product.proofs.Counting.{count, counts, count_map, of_one, step_count, behind, placed_count}
+use Rattle.refinement.specs.Pace.{is_action_of}
+use Rattle.meaning.specs.Labels.{Kind}
+use Rattle.protocol.proofs.Sleeps.{put_other}
+use Rattle.words.specs.Updates.{put}
+use Rattle.std.proofs.Common.{ap}
 
-abbrev AllOwn : List Action → Type 0
+abbrev pub AllOwn : List Action → Type 0
 AllOwn [] = Unit {0}
 AllOwn (a ∷ as') = IsOwn a.kind × AllOwn as'
 
-all_own : (t : ℕ) (ks : List Kind) (as' : List Action) → AreOwn ks → AllOwn as' → AllOwn (map (act t) ks ++ as')
+pub all_own : (t : ℕ) (ks : List Kind) (as' : List Action) → AreOwn ks → AllOwn as' → AllOwn (map (act t) ks ++ as')
 all_own t [] as' h g = g
 all_own t (k ∷ ks) as' h g = (h.0, all_own t ks as' h.1 g)
 
@@ -48,12 +60,13 @@ leads_on p s mid s' [] bs h g = subst (λ (x : SourceState). Leads p x bs s') (s
 leads_on p s mid s' (a ∷ as') bs h g = (h.0, h.1, leads_on p h.0 mid s' as' bs h.2 g)
 
 -- a process's own action is neither a stray nor a kill
-own_kinds : (k : Kind) → IsOwn k → (is_stray_kind k ≡ false) × (is_kill_kind k ≡ false)
+pub own_kinds : (k : Kind) → IsOwn k → (is_stray_kind k ≡ false) × (is_kill_kind k ≡ false)
 own_kinds (L.Stray c) h = absurd h
 own_kinds (L.Kill r last) h = absurd h
 own_kinds k h = (refl, refl)
 
-none_from_outside : (test : Kind → Bool) → ((k : Kind) → IsOwn k → test k ≡ false) → (as' : List Action) → AllOwn as'
+pub none_from_outside : (test : Kind → Bool) → ((k : Kind) → IsOwn k → test k ≡ false) → (as' : List Action)
+    → AllOwn as'
     → processes_of test as' ≡ []
 none_from_outside test own_none [] h = refl
 none_from_outside test own_none (a ∷ as') h = rw (own_none a.kind h.0) (none_from_outside test own_none as' h.1)
@@ -67,31 +80,46 @@ goes_by Breaks y e = absurd cc
 goes_by Rests y e = absurd cc
 
 module _ (p : Program) (w : WellFormed p) where
-  abbrev most : ℕ
+  abbrev pub most : ℕ
   most = most_left (build_of p w 0)
 
-  few : (steps : ℕ) (s : State) (c : SourceState) (k : Corresponds p w steps s c) (u : ℕ) → left_of p w k u ≤ most
+  pub few : (steps : ℕ) (s : State) (c : SourceState) (k : Corresponds p w steps s c) (u : ℕ) → left_of p w k u ≤ most
   few steps s c k u = left_few (build_of p w k.world.made) c.variable u k.world (k.threads u)
 
   -- what belongs to the state that a run of the machine comes to
-  record Come (s : State) (c : SourceState) (left : ℕ → ℕ) (steps : List Step) (s' : State) : Type 0 where
-    taken : ℕ
-    source : SourceState
-    ties : Corresponds p w taken s' source
-    actions : List Action
-    own : AllOwn actions
-    leads : Leads p c actions source
-    trail : Trail most left steps actions (left_of p w ties)
+  pub record Come (s : State) (c : SourceState) (left : ℕ → ℕ) (was : ℕ → Stage) (steps : List Step) (s' : State)
+      (number : (ℕ → List Kind) → ℕ → ℕ) : Type 0 where
+    pub taken : ℕ
+    pub source : SourceState
+    pub ties : Corresponds p w taken s' source
+    pub actions : List Action
+    pub own : AllOwn actions
+    pub leads : Leads p c actions source
+    pub trail : Trail most left steps actions (left_of p w ties)
+    -- as many as the code's marks tell
+    pub counted : (waiting : ℕ → List Kind) → ((u : ℕ) → Agrees (was u) (has_failed (waiting u))) → (t : ℕ)
+        → count t actions ≡ number waiting t
 
-  come : (taken : ℕ) (s : State) (c : SourceState) (k : Corresponds p w taken s c) (steps : List Step) (s' : State)
-      → taken + length steps < 2 ^ 32 → GoesBy (code_of p) s steps s' → Come s c (left_of p w k) steps s'
-  come taken s c k [] s' short run = subst (λ (x : State). Come s c (left_of p w k) [] x) run
-      (record { taken = taken; source = c; ties = k; actions = []; own = tt; leads = refl; trail = rests })
+  pub come : (taken : ℕ) (s : State) (c : SourceState) (k : Corresponds p w taken s c) (steps : List Step) (s' : State)
+      → taken + length steps < 2 ^ 32 → (run : GoesBy (code_of p) s steps s')
+      → Come s c (left_of p w k) (stages k.world) steps s' (λ waiting t. counts p waiting steps s s' run t)
+  come taken s c k [] s' short run =
+      subst (λ (x : State). Come s c (left_of p w k) (stages k.world) [] x (λ waiting t. 0)) run (record {
+        taken = taken;
+        source = c;
+        ties = k;
+        actions = [];
+        own = tt;
+        leads = refl;
+        trail = rests;
+        counted = λ waiting agrees t. refl;
+      })
   come taken s c k (l ∷ ls) s' short run =
-      let so = told_apart p s l.thread l.woken (look (code_of p) l.thread run.1.thread) run.0 run.1.moves in
-      let late = told_late p so.0 (mark_of (marks_of p) run.1.thread) s l.thread l.woken
-      (look (code_of p) l.thread run.1.thread) run.0 so.1 in
-      let n = next p w taken s c k l run.0 run.1 so.0 late.0 late.1
+      let looks = look (code_of p) l.thread run.1.thread in
+      let mark = mark_of (marks_of p) run.1.thread in
+      let answer = answer_in s run.0 l.thread l.woken looks run.1.moves in
+      let n = next p w taken s c k l run.0 run.1 (heard_step p looks answer) (later_step mark looks answer)
+      (steps_so p mark s run.0 l.thread l.woken looks run.1.moves)
       (λ request go e d. let few = k.numbers d in omega (arith, few, short)) in
       let r = come (suc taken) run.0 n.after n.ties ls s' (omega (arith, short)) run.2 in
       record {
@@ -102,6 +130,25 @@ module _ (p : Program) (w : WellFormed p) where
         own = all_own l.thread n.kinds r.actions n.own r.own;
         leads = leads_on p c n.after r.source (map (act l.thread) n.kinds) r.actions n.leads r.leads;
         trail = goes (left_of p w n.ties) l n.kinds n.paced (few (suc taken) run.0 n.after n.ties) r.trail;
+        counted = λ waiting agrees t.
+            let ks = waiting l.thread in
+            let d = heard_step p looks answer in
+            let late = later_step mark looks answer in
+            let one = placed_count p run.0 l.thread c n.after d late
+            (stages k.world l.thread) n.stage n.kinds ks n.places
+            (agrees l.thread) in
+            let later = agrees_next (stages k.world) n.stage l.thread
+            (λ u. has_failed (put waiting l.thread (behind d late ks) u)) (stages n.ties.world) n.staged
+            (λ u o. subst (λ (i : List Kind). Agrees (stages k.world u) (has_failed i))
+            (sym (put_other waiting l.thread (behind d late ks) u o)) (agrees u))
+            (subst (λ (i : List Kind). Agrees n.stage (has_failed i)) (sym (put_same waiting l.thread
+            (behind d late ks)))
+            one.1) in
+            count_by-append (is_action_of t) (map (act l.thread) n.kinds) r.actions
+            ∙ ap (λ i. i + count t r.actions)
+            (count_map l.thread t n.kinds ∙ ap (λ i. of_one l.thread t i) one.0)
+            ∙ ap (λ i. of_one l.thread t (step_count d late ks) + i)
+            (r.counted (put waiting l.thread (behind d late ks)) later t);
       }
 
   -- what belongs to the state in which a thread stands elsewhere, to where it came by local steps

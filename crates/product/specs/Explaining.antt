@@ -1,11 +1,11 @@
 -- The run of the source that explains a run of the machine, by the machine's steps and the actions which others learn
 -- of: each of these comes at its step, behind what waits of its process by the code's marks; what waits at the end comes
 -- last.
-use Rattle.std.specs.Prelude.{ℕ, ◌≡◌, ◌⊎◌, Bool, true, false, List, [], ◌∷◌, ◌++◌, Some}
+use Rattle.std.specs.Prelude.{ℕ, Bool, true, false, List, [], ◌∷◌, ◌++◌}
 use Rattle.words.specs.Updates.{put}
 use Rattle.locals.specs.Looks.{Look, Goes, Asks, Leaves, Breaks, Rests, look}
 use Rattle.machine.specs.States.{State, opening_state}
-use Rattle.machine.specs.Runs.{Step, Moves, GoesBy, MachineRun, CanStep, NextIsBroken}
+use Rattle.machine.specs.Runs.{Step, Moves, GoesBy, MachineRun}
 use Rattle.program.specs.Trees.{Program}
 use Rattle.code.specs.Pieces.{code_of, marks_of}
 use Rattle.meaning.specs.Labels.{Kind, Action}
@@ -13,14 +13,6 @@ use Rattle.deferral.specs.Placed.{actions_of, actions_up_to}
 use Rattle.execution.specs.Later.{mark_of, later_step}
 use Rattle.product.specs.Placing.{completes, completes_exit, act}
 use Rattle.product.specs.Waiting.{waits_then}
-use Rattle.words.specs.Signed.{word_of}
-use Rattle.locals.specs.Threads.{Thread}
-use Rattle.program.specs.declared.kinds.Member.{Member}
-use Rattle.meaning.specs.Runs.{CanMove}
-use Rattle.meaning.specs.States.{SourceState}
-use Rattle.execution.specs.Variables.{IsVariable, variable_address}
-use Rattle.refinement.specs.Refines.{Sleeps, HasEnded, RunsFreely}
-use Rattle.refinement.specs.Seen.{machine_end, source_end}
 
 -- the answer to what a step asks
 abbrev pub answer_in : (s s' : State) (t : ℕ) (woken : List ℕ) (l : Look) → Moves s t woken l s' → ℕ
@@ -61,14 +53,3 @@ explanation_from p waiting heard (l ∷ ls) s s' run =
 abbrev pub explanation : (p : Program) → (heard : List Kind) → (steps : List Step) → (s : State)
     → MachineRun (code_of p) steps s → List Action
 explanation p heard steps s run = explanation_from p (λ t. []) heard steps (opening_state (code_of p)) s run
-
--- a state of the source shows what a state of the machine shows: every line of `Explained` that speaks of the two
-pub record Shows (p : Program) (s : State) (source : SourceState) : Type 0 where
-  pub sound : (t : ℕ) → NextIsBroken (code_of p) s t → ⊥
-  pub output : s.output ≡ source.printed
-  pub variables : (m : Member) (i : ℕ) → IsVariable p m i
-      → s.word (variable_address p m i) ≡ word_of (source.variable m.monitor m.number i)
-  pub ends : (q : ℕ) → machine_end s q ≡ source_end source q
-  pub at_rest : ((t : ℕ) → CanStep s t → ⊥) → (q : ℕ) → CanMove p source q → ⊥
-  pub sleepers : ((t : ℕ) (x : Thread) → s.thread t ≡ Some x → Sleeps s t ⊎ (HasEnded s t ⊎ RunsFreely s t))
-      → (t : ℕ) → Sleeps s t → CanMove p source t → ⊥

@@ -13,7 +13,9 @@ use Rattle.deferral.specs.Deferring.{is_quiet, IsBehind}
 use Rattle.protocol.specs.Carries.{IsByHolder}
 use Rattle.product.specs.Corresponding.{Corresponds}
 use Rattle.product.specs.Placing.{KeepsOthers, Resumes, acted}
-use Rattle.product.specs.Waiting.{Agrees, has_failed, stages}
+use Rattle.execution.specs.Completing.{IsOwn}
+use Rattle.product.specs.Waiting.{Agrees, AreOwn, has_failed, stages}
+use Rattle.meaning.specs.Labels.{kind_of}
 
 -- a process can take an action of this label
 pub record CanTake (p : Program) (a : SourceState) (t : ℕ) (label : Label) : Type 0 where
@@ -34,6 +36,7 @@ pub record Tracks (p : Program) (w : WellFormed p) (steps : ℕ) (s : State) (a 
   pub behind : IsBehind p waiting a ahead
   pub few : (t : ℕ) → length (waiting t) ≤ steps
   pub agrees : (t : ℕ) → Agrees (stages ties.world t) (has_failed (waiting t))
+  pub own : (t : ℕ) → AreOwn (waiting t)
 
 -- a step of thread t led to a state of the machine, and was an action of its process which others learn of. First come
 -- the actions that still wait of the process, and then that
@@ -60,3 +63,5 @@ pub record Owes (p : Program) (w : WellFormed p) (steps : ℕ) (s : State) (t : 
   pub ties : Corresponds p w steps s (acted now t effect after table)
   pub agrees : (u : ℕ) → (u ≡ t → ⊥) → Agrees (stages ties.world u) (has_failed (waiting u))
   pub calm : Agrees (stages ties.world t) false
+  pub own : (u : ℕ) → AreOwn (waiting u)
+  pub mine_own : IsOwn (kind_of label)

@@ -4,6 +4,7 @@ use Rattle.std.specs.Prelude.{if◌then◌else◌}
 use Rattle.meaning.specs.Labels.{Kind, Fails}
 use Rattle.protocol.specs.Points.{Point, Dies, Walks, ClearsId, LastWakes, HasEnded}
 use Rattle.protocol.specs.World.{World}
+use Rattle.execution.specs.Completing.{IsOwn}
 
 abbrev pub is_failing : Kind → Bool
 is_failing (Fails fault) = true
@@ -19,6 +20,11 @@ has_failed (k ∷ ks) = is_failing k || has_failed ks
 abbrev pub waits_then : Option Kind → List Kind → List Kind
 waits_then None ks = ks
 waits_then (Some k) ks = if is_failing k && has_failed ks then ks else ks ++ k ∷ []
+
+-- actions of a process's own
+abbrev pub AreOwn : List Kind → Type 0
+AreOwn [] = Unit {0}
+AreOwn (k ∷ ks) = IsOwn k × AreOwn ks
 
 -- a thread works, has met a fault in the source that is still to be written, or leaves
 pub data Stage : Type 0 where

@@ -6,20 +6,20 @@ ghost use Rattle.locals.specs.Looks.{look};
 ghost use Rattle.machine.specs.Runs.{IsStep, MachineRun, Step};
 ghost use Rattle.machine.specs.States.{State, opening_state};
 ghost use Rattle.meaning.specs.Labels.{Kind, Label, kind_of};
-ghost use Rattle.meaning.specs.Runs.{IsRun, IsStep as IsSourceStep, Leads};
+ghost use Rattle.meaning.specs.Runs.{IsStep as IsSourceStep, Leads};
 ghost use Rattle.meaning.specs.States.{SourceState, opening};
 ghost use Rattle.product.specs.Placing.{MovesSo, Resumes, StepsSo, act};
 ghost use Rattle.product.specs.Waiting.{waits_then};
 ghost use Rattle.product.specs.Corresponding.{Corresponds};
 ghost use Rattle.deferral.specs.Placed.{actions_up_to};
 ghost use Rattle.execution.specs.Later.{mark_of};
-ghost use Rattle.product.specs.Explaining.{Shows, explanation};
+ghost use Rattle.product.specs.Explaining.{explanation};
 ghost use Rattle.words.specs.Updates.{put};
 ghost use Rattle.product.specs.Tracking.{CanTake, Owes, Tracks};
 ghost use Rattle.program.specs.Trees.{Program};
 ghost use Rattle.program.specs.WellFormed.{WellFormed};
 ghost use Rattle.program.specs.declared.kinds.Member.{Member};
-ghost use Rattle.refinement.specs.Refines.{Refines};
+ghost use Rattle.refinement.specs.Refines.{Explained, Refines};
 ghost use Rattle.refinement.specs.Seen.{machine_end, source_end};
 ghost use Rattle.words.specs.Signed.{word_of};
 
@@ -95,12 +95,12 @@ pub fn source_waits()
 
 /// The run of the source that explains a run of the machine is a function of the machine's steps and of the actions
 /// which others learn of, in order (`explanation`): each comes at its step, behind what waits of its process by the
-/// code's marks, and what waits at the end comes last, by rising number of process. For some such actions it is a run
-/// of the program, to a state that shows what the machine's shows (`Shows`): the same numbers printed, the same
-/// values of variables, the same ends of processes, and who can't go on.
+/// code's marks, and what waits at the end comes last, by rising number of process. For each run of the machine there
+/// are such actions with which it explains the run in all that `Refines` says: it is a run of the program, the same is
+/// seen of both, and it keeps pace.
 pub fn run_explains()
     ensures { (p : Program) (w : WellFormed p) (steps : List Step) (s : State) (run : MachineRun (code_of p) steps s)
         → length steps < 2 ^ 32
-        → (heard : List Kind) × (source : SourceState) × IsRun p (explanation p heard steps s run) source
-        × Shows p s source }
+        → (heard : List Kind) × (e : Explained p (code_of p) steps s)
+        × (e.actions ≡ explanation p heard steps s run) }
 {}
