@@ -85,8 +85,8 @@ pub contains_at : {X : Type 0} (xs : List X) (i : ℕ) (x : X) → slice_get xs 
 contains_at xs i x e = (i, slice_get_within xs i x e, get_or_from_slice_get xs i x x e)
 
 -- the pieces of monitors, then those of external procedures, then MAIN
-pub all_pushed : (u : UnitTree) (ps qs rs : List PieceOf) → map piece_of ps ≡ pieces_from 0 u.monitors
-    → map piece_of qs ≡ map piece_of ps ++ map (p.piece_of External) u.procedures
-    → map piece_of rs ≡ map piece_of qs ++ part_of Main u.place u.body ∷ [] → map piece_of rs ≡ pieces u
-all_pushed u ps qs rs e f g = g ∙ ap (λ xs. xs ++ part_of Main u.place u.body ∷ [])
-    (f ∙ ap (λ xs. xs ++ map (p.piece_of External) u.procedures) e)
+pub all_pushed : (u : UnitTree) (ps qs : List PieceOf) → map piece_of ps ≡ pieces_from 0 u.monitors
+    → map piece_of qs ≡ map piece_of ps ++ map (p.piece_of External) u.procedures ++ part_of Main u.place u.body ∷ []
+    → map piece_of qs ≡ pieces u
+all_pushed u ps qs e f = f ∙ ap (λ xs. xs ++ map (p.piece_of External) u.procedures
+    ++ part_of Main u.place u.body ∷ []) e

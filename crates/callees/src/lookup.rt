@@ -14,7 +14,7 @@ ghost use Rattle.callees.specs.Pieces.{piece_of};
 use crate::callees::Callees;
 use crate::declared::Declared;
 use crate::monitor_names::external_names;
-use crate::piece::{Piece, push_externals, push_main};
+use crate::piece::{Piece, push_rest};
 use crate::roles::own_monitor;
 use program::Role;
 use scanner::Place;
@@ -28,15 +28,14 @@ impl<'u, 'a> Callees<'u, 'a> {
         requires { declarations (unit_of unit.now) < u32.MAX }
         ensures { IfOk result (λ c. IsCallees (unit_of unit.now) c) }
     {
+        let externals = external_names(alloc, &unit.procedures)?;
         let Declared {
             names,
             inner,
             mut pieces,
         } = Declared::new(alloc, unit)?;
         let first_external = pieces.len() as u32;
-        push_externals(&mut pieces, &unit.procedures)?;
-        push_main(&mut pieces, &unit.main)?;
-        let externals = external_names(alloc, &unit.procedures)?;
+        push_rest(&mut pieces, unit)?;
         Ok(Callees {
             monitors: names,
             inner,

@@ -3,6 +3,7 @@
 ghost use Rattle.std.specs.Prelude.{◌≡◌, ◌++◌, ◌∷◌, [], map, OnOk};
 ghost use Rattle.program.specs.declared.kinds.Role.TheVariants.{Main as MainRole, External as ExternalRole};
 ghost use Rattle.syntax.specs.View as v;
+ghost use Rattle.syntax.specs.Whole.{unit_of};
 ghost use Rattle.types.specs.Pieces as p;
 ghost use Rattle.callees.specs.Pieces.{piece_of};
 
@@ -10,7 +11,7 @@ use crate::roles::role_of;
 use program::Role;
 use scanner::Place;
 use std::alloc::AllocError;
-use syntax::{Body, Main, Monitor, Parameter, Procedure, ResultType};
+use syntax::{Body, Main, Monitor, MonitorProcedure, Parameter, Procedure, ResultType, Unit};
 
 /// A procedure, a RECOVER part or MAIN: what calls must know of it, and its body.
 #[derive(Clone, Copy)]
@@ -53,6 +54,22 @@ fn part_piece<'u, 'a>(role: Role, place: Place, body: &'u Body<'a>) -> Piece<'u,
     }
 }
 
+// Adds the pieces of the procedures of the monitor of this number.
+fn push_procedures<'u, 'a>(
+    pieces: &mut Vec<Piece<'u, 'a>>,
+    number: u32,
+    procedures: &'u [MonitorProcedure<'a>],
+) -> Result<(), AllocError>
+    ensures { OnOk result (map piece_of pieces.new.items ≡ map piece_of pieces.old.items
+        ++ map (λ q. p.piece_of (p.role_of q.access number) q.procedure) (map v.monitor_procedure_of procedures.now)) }
+{
+    for procedure in procedures {
+        let role = role_of(procedure.access, number);
+        pieces.push(procedure_piece(role, &procedure.procedure))?;
+    }
+    Ok(())
+}
+
 // Adds the pieces of the monitor of this number.
 pub fn push_monitor<'u, 'a>(
     pieces: &mut Vec<Piece<'u, 'a>>,
@@ -62,10 +79,7 @@ pub fn push_monitor<'u, 'a>(
     ensures { OnOk result (map piece_of pieces.new.items
         ≡ map piece_of pieces.old.items ++ p.monitor_pieces number (v.monitor_of monitor.now)) }
 {
-    for procedure in &monitor.procedures {
-        let role = role_of(procedure.access, number);
-        pieces.push(procedure_piece(role, &procedure.procedure))?;
-    }
+    push_procedures(pieces, number, &monitor.procedures)?;
     if let Some(recover) = &monitor.recover {
         pieces.push(part_piece(Role::Recover(number), recover.place, &recover.body))?;
     }
@@ -73,7 +87,7 @@ pub fn push_monitor<'u, 'a>(
 }
 
 // Adds the pieces of external procedures.
-pub fn push_externals<'u, 'a>(
+fn push_externals<'u, 'a>(
     pieces: &mut Vec<Piece<'u, 'a>>,
     procedures: &'u [Procedure<'a>],
 ) -> Result<(), AllocError>
@@ -87,13 +101,23 @@ pub fn push_externals<'u, 'a>(
 }
 
 // Adds MAIN.
-pub fn push_main<'u, 'a>(
-    pieces: &mut Vec<Piece<'u, 'a>>,
-    main: &'u Main<'a>,
-) -> Result<(), AllocError>
+fn push_main<'u, 'a>(pieces: &mut Vec<Piece<'u, 'a>>, main: &'u Main<'a>) -> Result<(), AllocError>
     ensures { OnOk result (map piece_of pieces.new.items
         ≡ map piece_of pieces.old.items ++ p.part_of MainRole main.now.place (v.body_of main.now.body) ∷ []) }
 {
     pieces.push(part_piece(Role::Main, main.place, &main.body))?;
     Ok(())
+}
+
+// Adds the pieces that stand behind those of monitors: the external procedures, then MAIN.
+pub fn push_rest<'u, 'a>(
+    pieces: &mut Vec<Piece<'u, 'a>>,
+    unit: &'u Unit<'a>,
+) -> Result<(), AllocError>
+    ensures { OnOk result (map piece_of pieces.new.items ≡ map piece_of pieces.old.items
+        ++ map (p.piece_of ExternalRole) (unit_of unit.now).procedures
+        ++ p.part_of MainRole (unit_of unit.now).place (unit_of unit.now).body ∷ []) }
+{
+    push_externals(pieces, &unit.procedures)?;
+    push_main(pieces, &unit.main)
 }
