@@ -52,10 +52,16 @@ impl Outcome {
         put_file(rt, SOURCE, &row.source)?;
         put_file(rt, SCHEDULE, &row.schedule)?;
         let mut outcome = Outcome::of_words(rt, row)?;
-        outcome.image = take_file(rt, IMAGE)?;
+        outcome.take_files(rt)?;
+        Ok(outcome)
+    }
+
+    // Takes the files that the command left, and those that it was given.
+    fn take_files<R: Files + AllocGlobal>(&mut self, rt: &R) -> io::Result<()> {
+        self.image = take_file(rt, IMAGE)?;
         take_file(rt, SOURCE)?;
         take_file(rt, SCHEDULE)?;
-        Ok(outcome)
+        Ok(())
     }
 
     fn of_words<R: Files + AllocGlobal + Threads + Wait + Sync>(

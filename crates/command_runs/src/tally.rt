@@ -72,18 +72,25 @@ impl Tally {
             return Ok(None);
         };
         self.rows = self.rows.saturating_add(1);
-        let is_well = match Outcome::of_row(rt, &row) {
-            Ok(outcome) => compare(rt, &row, &outcome)?,
-            Err(fault) => {
-                let name = row.name.as_str();
-                println!(rt; "{name}: {fault}")?;
-                false
-            }
-        };
-        if !is_well {
+        if !is_met(rt, &row)? {
             self.failures = self.failures.saturating_add(1);
         }
         Ok(row.source)
+    }
+}
+
+// Whether a row's command leaves what is wanted; prints what it leaves otherwise.
+fn is_met<R: Files + AllocGlobal + Print + Threads + Wait + Sync>(
+    rt: &R,
+    row: &Row,
+) -> io::Result<bool> {
+    match Outcome::of_row(rt, row) {
+        Ok(outcome) => compare(rt, row, &outcome),
+        Err(fault) => {
+            let name = row.name.as_str();
+            println!(rt; "{name}: {fault}")?;
+            Ok(false)
+        }
     }
 }
 
@@ -96,18 +103,28 @@ fn compare<R: Print + AllocGlobal>(rt: &R, row: &Row, outcome: &Outcome) -> io::
         && outcome.failures == wanted.failures
         && outcome.image == wanted.image;
     if !is_well {
-        let name = row.name.as_str();
-        let status = outcome.status;
-        let failures = outcome.failures;
-        println!(rt; "{name}: status {status}, {failures} writes failed")?;
-        show(rt, "output", outcome.output.as_slice())?;
-        show(rt, "errors", outcome.errors.as_slice())?;
-        if let Some(image) = &outcome.image {
-            let digits = hex::encode(rt.alloc(), image.as_slice())?;
-            println!(rt; "image {digits}")?;
-        }
+        show_outcome(rt, row.name.as_str(), outcome)?;
     }
     Ok(is_well)
+}
+
+// Prints what the command of a row of this name left.
+fn show_outcome<R: Print + AllocGlobal>(rt: &R, name: &str, outcome: &Outcome) -> io::Result<()> {
+    let status = outcome.status;
+    let failures = outcome.failures;
+    println!(rt; "{name}: status {status}, {failures} writes failed")?;
+    show(rt, "output", outcome.output.as_slice())?;
+    show(rt, "errors", outcome.errors.as_slice())?;
+    match &outcome.image {
+        Some(image) => show_image(rt, image.as_slice()),
+        None => Ok(()),
+    }
+}
+
+// Prints the bytes of an image.
+fn show_image<R: Print + AllocGlobal>(rt: &R, image: &[u8]) -> io::Result<()> {
+    let digits = hex::encode(rt.alloc(), image)?;
+    println!(rt; "image {digits}")
 }
 
 // Prints what was written to a device, each line after the device's key.
