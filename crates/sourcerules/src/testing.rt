@@ -6,7 +6,8 @@ use words::Fault;
 /// What the test of a condition with this value comes to: whether it is true, or the fault that comes in place of the
 /// test.
 pub fn tested(condition: Result<i64, Fault>) -> Result<bool, Fault>
-    ensures { MatchResult result (λ b. (z : ℤ) × (condition ≡ Ok z) × (b ≡ is_true z)) (λ fault. condition ≡ Err fault) }
+    ensures { MatchResult result (λ b. (z : ℤ) × (condition ≡ Ok z) × (b ≡ is_true z))
+        (λ fault. condition ≡ Err fault) }
 {
     match condition {
         Ok(value) => Ok(value != 0),
