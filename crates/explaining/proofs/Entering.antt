@@ -1,8 +1,9 @@
 -- Entries that the machine takes, and those that it can't.
 use Rattle.std.proofs.Common.{◌≡◌, ◌↔◌, ◌<◌, ◌-◌, ◌+◌, ℕ, zero, suc, List, ◌∷◌, length, get_or, drop, true, Option}
-use Rattle.std.proofs.Common.{Some, None, ap, sym, ◌∙◌, arith, subst, add-one, drop-cons}
+use Rattle.std.proofs.Common.{refl, Some, None, ap, sym, ◌∙◌, arith, subst, add-one, drop-cons}
 use Rattle.std.proofs.Common.{Bool, false, ◌≤◌, [], length-set}
 use Rattle.std.specs.Prelude.{MatchBool, slice_get, slice_set}
+use Rattle.std.proofs.lemmas.List.Sums.{sum_by-cons}
 use Rattle.isa.specs.Programs.{Program}
 use Rattle.locals.specs.Threads.{Thread}
 use Rattle.locals.specs.Steps.{local_step, local_after, and_step}
@@ -12,7 +13,7 @@ use Rattle.machine.specs.States.{ConcreteState, thread_at, thread_of}
 use Rattle.machine.specs.ConcreteSteps.{put_thread, can_move}
 use Rattle.machine.proofs.Landing.{inside}
 use Rattle.machine.proofs.Placing.{thread_at-put}
-use Rattle.runner.specs.Logs.{Ends, Enters, Runs}
+use Rattle.runner.specs.Logs.{Ends, Enters, Runs, cost, event_cost}
 use Rattle.runner.proofs.Going.{after_sum}
 
 -- behind the last local step comes none
@@ -22,6 +23,21 @@ past_last p t (suc n) h none = ap (and_step p t) (past_last p t n h none)
 
 nothing_there : {A : Type 0} → (x : A) (o : Option A) → o ≡ Some x → o ≡ None → ⊥
 nothing_there x o is none = absurd cc
+
+pub none_after : (p : Program) (t m n : ℕ) (o h : Thread) → local_after p t m o ≡ Some h → local_step p t h ≡ None
+    → m < n → local_after p t n o ≡ None
+none_after p t m n o h goes none less =
+    let k : ℕ = n - suc m in
+    let e : suc k + m ≡ n = omega (arith, less) in
+    ap (λ (j : ℕ). local_after p t j o) (sym e) ∙ after_sum p t m (suc k) o h goes ∙ past_last p t k h none
+
+pub never_there : (p : Program) (k : ConcreteState) (e : Entry) (o : Thread) → thread_of k e.thread ≡ Some o
+    → local_after p e.thread e.local o ≡ None → (new : ConcreteState) → Enters p k e new → ⊥
+never_there p k e o stands none new enters =
+    let f : Some enters.origin ≡ Some o = sym enters.stands ∙ stands in
+    let same : enters.origin ≡ o = cc in
+    nothing_there enters.here (local_after p e.thread e.local enters.origin) enters.goes
+    (ap (λ (x : Thread). local_after p e.thread e.local x) same ∙ none)
 
 pub no_more : (p : Program) (t m n : ℕ) (o h x : Thread) → local_after p t m o ≡ Some h → local_step p t h ≡ None
     → m < n → local_after p t n o ≡ Some x → ⊥
@@ -55,6 +71,34 @@ enters_once p k a b e x y =
 -- the entries from a place on are the one there and those after it
 from_here : (xs : List Entry) (i : ℕ) (d : Entry) → i < length xs → drop i xs ≡ get_or xs i d ∷ drop (i + 1) xs
 from_here xs i d h = drop-cons xs i d h ∙ (λ j. get_or xs i d ∷ drop (sym (add-one i) j) xs)
+
+-- what entries cost, one by one
+pub cost_begins : (log : List Entry) → 0 + cost (drop 0 log) ≡ cost log
+cost_begins log = let same : cost (drop 0 log) ≡ cost log = refl in omega (arith, same)
+
+pub cost_on : (log : List Entry) (i : ℕ) (d : Entry) (n : ℕ) → i < length log → n + cost (drop i log) ≡ cost log
+    → n + ((get_or log i d).local + event_cost (get_or log i d).event) + cost (drop (i + 1) log) ≡ cost log
+cost_on log i d n less sum =
+    let split : cost (drop i log) ≡ cost (get_or log i d ∷ drop (i + 1) log) = ap cost (from_here log i d less) in
+    let first = sum_by-cons (λ (e : Entry). e.local + event_cost e.event) (get_or log i d) (drop (i + 1) log) in
+    omega (arith, sum, split, first)
+
+pub cost_ends : (log : List Entry) (i n : ℕ) → length log ≤ i → n + cost (drop i log) ≡ cost log → n ≡ cost log
+cost_ends log i n past sum = let none = at_end log i past in omega (arith, sum, none)
+  where
+    at_end : (log : List Entry) (i : ℕ) → length log ≤ i → cost (drop i log) ≡ 0
+    at_end [] zero past = refl
+    at_end [] (suc i) past = refl
+    at_end (e ∷ log) zero past = absurd (omega (arith, past))
+    at_end (e ∷ log) (suc i) past = at_end log i (omega (arith, past))
+
+-- behind the last entry there are none
+pub nothing_left : (p : Program) (k : ConcreteState) (log : List Entry) (i : ℕ) → length log ≤ i
+    → Runs p k (drop i log) k
+nothing_left p k [] zero past = refl
+nothing_left p k [] (suc i) past = refl
+nothing_left p k (e ∷ log) zero past = absurd (omega (arith, past))
+nothing_left p k (e ∷ log) (suc i) past = nothing_left p k log i (omega (arith, past))
 
 -- where the first can't be taken, they lead nowhere
 pub runs_nowhere : (p : Program) (k : ConcreteState) (entries later : List Entry) (e : Entry) → entries ≡ e ∷ later

@@ -1,3 +1,4 @@
+pub mod Telling
 pub mod Entering
 pub mod Images
 pub mod Ends

@@ -1,16 +1,16 @@
 -- What comes of a log that is to be explained.
-use Rattle.std.specs.Prelude.{◌≡◌, List}
+use Rattle.std.specs.Prelude.{◌≡◌, ◌≤◌, ◌^◌, List}
 use Rattle.isa.specs.Programs.{Program as Image}
 use Rattle.machine.specs.declared.event.Entry.{Entry}
 use Rattle.machine.specs.States.{ConcreteState, opening_concrete, state_of}
-use Rattle.runner.specs.Logs.{Runs}
+use Rattle.runner.specs.Logs.{Runs, cost}
 use Rattle.program.specs.Trees.{Program}
 use Rattle.code.specs.Pieces.{code_of}
 use Rattle.meaning.specs.Labels.{Action}
 use Rattle.meaning.specs.States.{SourceState}
 use Rattle.meaning.specs.Runs.{IsRun}
 use Rattle.explaining.specs.declared.fault.ExplainFault.{ExplainFault}
-use Rattle.explaining.specs.declared.fault.ExplainFault.TheVariants.{NotARun, OtherImage, Memory, Unexplained}
+use Rattle.explaining.specs.declared.fault.ExplainFault.TheVariants.{NotARun, OtherImage, Memory, TooLong}
 use Rattle.explaining.specs.Alike.{IsSeenAlike}
 
 -- the log is legal for the image, and leads there
@@ -35,5 +35,5 @@ pub record IsExplained (p : Program) (image : Image) (log : List Entry) (actions
 abbrev pub Refuses : Program → Image → List Entry → ExplainFault → Type 0
 Refuses p image log OtherImage = image ≡ code_of p → ⊥
 Refuses p image log NotARun = (image ≡ code_of p) × IsIllegal image log
-Refuses p image log Unexplained = (image ≡ code_of p) × (k : ConcreteState) × LeadsTo image log k
+Refuses p image log TooLong = (image ≡ code_of p) × (2 ^ 32 ≤ cost log) × (k : ConcreteState) × LeadsTo image log k
 Refuses p image log Memory = Unit {0}

@@ -1,3 +1,3 @@
-pub mod Places
+pub mod Telling
 pub mod Alike
 pub mod Explains

@@ -1,7 +1,7 @@
 use std::alloc::AllocError;
 use thiserror::Error;
 
-/// Why a log is not explained. `OtherImage` is tested before `NotARun`.
+/// Why a log is not explained. `OtherImage` is tested before `NotARun`, and that before `TooLong`.
 #[derive(Clone, Copy, PartialEq, Eq, Debug, Error)]
 pub enum ExplainFault {
     /// The log isn't legal for the image.
@@ -13,10 +13,9 @@ pub enum ExplainFault {
     /// There is no memory for the walk.
     #[error("memory")]
     Memory = 3,
-    /// The actions that were found are no run of the program, or one at whose end another thing is seen than on the
-    /// machine. No log is known that is answered so; that there is none is not proved.
+    /// The log has 2^32 steps or more: the machine's words count no further, so that a sequence word may come round.
     #[error("fault 4")]
-    Unexplained = 4,
+    TooLong = 4,
 }
 
 impl From<AllocError> for ExplainFault {

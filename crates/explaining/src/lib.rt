@@ -3,9 +3,8 @@
 
 mod explaining;
 mod fault;
-mod marks;
+mod later;
 mod matching;
-mod placing;
 mod recorder;
 mod walking;
 

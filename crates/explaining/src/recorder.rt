@@ -1,218 +1,200 @@
-use crate::marks::Marks;
-use crate::placing::{Later, local_action, monitor_at, request_action};
-use code::Mark;
-use isa::Image;
-use locals::{Local, NextStep, Request};
-use machine::{Entry, Event, Machine};
-use program::Member;
-use robustexit::ExitPhase;
-use sourcestates::{Action, ActionKind};
-use std::alloc::{AllocError, Global};
-use std::collections::BTreeMap;
-use words::Addr;
+ghost use Rattle.std.specs.Prelude.{◌≡◌, ◌+◌, true, IfOk, MatchBool, None, OnOk, Some, map, ℕ};
+ghost use Rattle.code.specs.Pieces.{code_of};
+ghost use Rattle.locals.specs.Steps.{local_after, local_step};
+ghost use Rattle.machine.specs.States.{opening_concrete, state_of as machine_state};
+ghost use Rattle.machine.specs.Views.{concrete};
+ghost use Rattle.meaning.specs.Runs.{IsRun};
+ghost use Rattle.meaning.specs.States.{SourceState as SourceStateOf};
+ghost use Rattle.program.specs.Names.{said_by};
+ghost use Rattle.program.specs.Trees.{Program};
+ghost use Rattle.program.specs.WellFormed.{WellFormed};
+ghost use Rattle.code.specs.Layout.{layout_of};
+ghost use Rattle.sourcestates.specs.Actions.{action_of};
+ghost use Rattle.sourcestates.specs.States.{state_of};
+ghost use Rattle.following.specs.Going.{Extends, GoesOn};
+ghost use Rattle.explaining.specs.Alike.{IsSeenAlike};
+ghost use Rattle.explaining.specs.Telling.{Counts, IsAlong, IsNext};
 
-/// The source actions of a log, as far as it was walked.
+use crate::later::{mark_at, request_waits, waits};
+use crate::matching::is_seen_alike;
+use code::Mark;
+use following::Follower;
+use isa::Image;
+use layout::Layout;
+use locals::Local;
+use machine::{Entry, Event, Machine};
+use program::Checked;
+use sourcestates::Action;
+use std::alloc::{AllocError, Global};
+use words::MOST_PROCESSES;
+
+/// The source behind a log, as far as it was walked. It is told as long as the log has fewer than 2^32 steps.
 #[derive(Drop)]
 pub struct Recorder<'a> {
     alloc: Global,
-    image: &'a Image,
-    marks: Marks,
-    // Those that were placed.
-    actions: Vec<Action>,
-    // Those of each process that wait for its next one that is placed at once, by its number from 1.
-    waiting: BTreeMap<u32, Vec<Later>>,
-    // The condition that each process waits on.
-    conditions: BTreeMap<u32, Member>,
+    marks: Vec<Mark>,
+    follower: Follower<'a>,
+    // How many actions of each process wait for its next one that others learn of, by its number.
+    waiting: Vec<u32>,
+    // How many steps the log has so far, while it is told.
+    steps: u32,
+    is_whole: bool,
+}
+
+// A number for each process, and 0 at first.
+fn zeros(alloc: Global) -> Result<Vec<u32>, AllocError> {
+    let mut zeros = Vec::new(alloc);
+    for _ in 0..=MOST_PROCESSES {
+        zeros.push(0)?;
+    }
+    Ok(zeros)
 }
 
 impl<'a> Recorder<'a> {
-    /// At the beginning of a log of an image with these marks.
-    pub fn new(alloc: Global, image: &'a Image, marks: Marks) -> Recorder<'a> {
-        Recorder {
+    /// At the beginning of a log, with the program's layout and the marks of its code.
+    pub fn new(
+        alloc: Global,
+        checked: &'a Checked<'a>,
+        layout: Layout,
+        marks: Vec<Mark>,
+    ) -> Result<Recorder<'a>, AllocError>
+        requires { layout ≡ layout_of (said_by checked.now) }
+        ensures { let p = said_by checked.now in
+            IfOk result (λ r. (w : WellFormed p) → IsAlong p w 0 (opening_concrete (code_of p)) r) }
+    {
+        Ok(Recorder {
             alloc,
-            image,
             marks,
-            actions: Vec::new(alloc),
-            waiting: BTreeMap::new(alloc),
-            conditions: BTreeMap::new(alloc),
+            follower: Follower::new(alloc, checked, layout)?,
+            waiting: zeros(alloc)?,
+            steps: 0,
+            is_whole: true,
+        })
+    }
+
+    /// Whether the log has had fewer than 2^32 steps.
+    pub fn is_whole(&self) -> bool
+        ensures { result ≡ self.now.is_whole }
+    {
+        self.is_whole
+    }
+
+    // So many more steps.
+    fn count(&mut self, steps: u32)
+        ensures counts { Counts steps self.old self.new }
+    {
+        if steps > u32::MAX - self.steps {
+            self.is_whole = false;
+        } else {
+            self.steps += steps;
         }
     }
 
-    // An action that waits for the next one of its process that is placed at once.
-    fn delay(&mut self, t: u32, later: Later) -> Result<(), AllocError> {
-        if let Some(waiting) = self.waiting.get_mut(&t) {
-            waiting.push(later)?;
-            return Ok(());
+    // One more action of a process waits.
+    fn delay(&mut self, t: u32)
+        ensures { self.new ≡ record self.old { waiting = self.new.waiting } }
+    {
+        if let Some(count) = self.waiting.get_mut(t as usize) {
+            *count = count.saturating_add(1);
         }
-        let mut waiting = Vec::new(self.alloc);
-        waiting.push(later)?;
-        let _none = self.waiting.insert(t, waiting)?;
-        Ok(())
     }
 
-    // The actions of a process that wait are placed.
-    fn place_waiting(&mut self, t: u32) -> Result<(), AllocError> {
-        let Some(waiting) = self.waiting.get_mut(&t) else {
-            return Ok(());
-        };
-        for later in waiting.as_slice() {
-            self.actions.push(Action {
-                process: u64::from(t),
-                kind: later.kind(),
-            })?;
+    // No action of a process waits any more; how many did.
+    fn take_waiting(&mut self, t: u32) -> u32
+        ensures { self.new ≡ record self.old { waiting = self.new.waiting } }
+    {
+        match self.waiting.get_mut(t as usize) {
+            Some(count) => std::mem::replace(count, 0),
+            None => 0,
         }
-        waiting.clear();
-        Ok(())
     }
 
-    // An action that is placed at once, behind those of its process that wait.
-    fn place(&mut self, t: u32, kind: ActionKind) -> Result<(), AllocError> {
-        self.place_waiting(t)?;
-        if let ActionKind::Wait(condition) = &kind {
-            let _none = self.conditions.insert(t, *condition)?;
+    // Takes a local step of a thread.
+    fn take_step(&mut self, image: &Image, here: &mut Local, t: u32) -> bool
+        ensures step { MatchBool result (local_step image.now t here.old ≡ Some here.new)
+            (local_step image.now t here.old ≡ None) }
+        ensures kept { self.new ≡ record self.old { waiting = self.new.waiting } }
+    {
+        if waits(mark_at(self.marks.as_slice(), here)) {
+            self.delay(t);
         }
-        self.actions.push(Action {
-            process: u64::from(t),
-            kind,
-        })?;
-        Ok(())
+        here.take_step(image, t)
     }
 
-    // Who waits on a condition, and doesn't sleep on its word: they wait no longer.
-    fn resumed(
-        &mut self,
-        machine: &Machine,
-        condition: Member,
-        word: Addr,
-    ) -> Result<Vec<u64>, AllocError> {
-        let mut resumed = Vec::new(self.alloc);
-        for t in 1..=machine.threads() {
-            if self.conditions.get(&t) == Some(&condition) && machine.asleep(t) != Some(word) {
-                resumed.push(u64::from(t))?;
-                let _condition = self.conditions.remove(&t);
+    /// Takes the local steps of an entry, from its thread's state on; false where the thread takes fewer.
+    pub fn take_steps(&mut self, image: &Image, here: &mut Local, entry: &Entry) -> bool
+        ensures goes { MatchBool result
+            (local_after image.now entry.now.thread entry.now.local here.old ≡ Some here.new)
+            (local_after image.now entry.now.thread entry.now.local here.old ≡ None) }
+        ensures counts { Counts entry.now.local self.old self.new }
+    {
+        self.count(entry.local);
+        for _ in 0..entry.local {
+            if !self.take_step(image, here, entry.thread) {
+                return false;
             }
         }
-        Ok(resumed)
+        true
     }
 
-    // The futex call of a notify or a broadcast on the word of its condition.
-    fn record_wake(
-        &mut self,
-        machine: &Machine,
-        t: u32,
-        mark: Mark,
-        word: Addr,
-    ) -> Result<(), AllocError> {
-        match mark {
-            Mark::Notify(condition) => {
-                let resumed = self.resumed(machine, condition, word)?;
-                self.place(t, ActionKind::Notify(condition, resumed))
-            }
-            Mark::Broadcast(condition) => {
-                let resumed = self.resumed(machine, condition, word)?;
-                self.place(t, ActionKind::Broadcast(condition, resumed))
-            }
-            _ => Ok(()),
-        }
-    }
-
-    // The return of a last frame.
-    fn record_return(&mut self, t: u32, mark: Mark) -> Result<(), AllocError> {
-        match mark {
-            Mark::Return | Mark::LastReturn => self.delay(t, Later::Return),
-            _ => Ok(()),
-        }
-    }
-
-    // A request that was answered by this value.
-    fn record_request(
-        &mut self,
-        machine: &Machine,
-        t: u32,
-        mark: Mark,
-        request: Request,
-        value: u32,
-    ) -> Result<(), AllocError> {
-        match request {
-            Request::Fault(fault) => self.delay(t, Later::Fails(fault)),
-            Request::Return | Request::ReturnValue(_) => self.record_return(t, mark),
-            Request::Wake { address, .. } => self.record_wake(machine, t, mark, address),
-            Request::Requeue { from, .. } => self.record_wake(machine, t, mark, from),
-            _ => match request_action(mark, request, value) {
-                Some(kind) => self.place(t, kind),
-                None => Ok(()),
-            },
-        }
-    }
-
-    // A step of an exit. Each entry of a robust list is a monitor that the process holds, and gives up abandoned.
-    fn record_exit(&mut self, t: u32, phase: ExitPhase) -> Result<(), AllocError> {
-        match phase {
-            ExitPhase::Entry { entry, .. } => match monitor_at(self.image, entry) {
-                Some(monitor) => self.place(t, ActionKind::Abandon(monitor)),
-                None => Ok(()),
-            },
-            ExitPhase::ClearId => self.place(t, ActionKind::Finish),
-            _ => Ok(()),
-        }
-    }
-
-    // A shared step of a thread that stood here before it.
-    fn record_shared(
+    /// Takes in the shared step of thread `t`, which stood here before it, and which led to this machine.
+    pub fn hear(
         &mut self,
         machine: &Machine,
         t: u32,
         here: &Local,
+        image: &Image,
         event: Event,
-    ) -> Result<(), AllocError> {
-        let mark = self.marks.at(t, here);
-        match here.next_step(self.image, t) {
-            NextStep::Shared(request) => self.record_request(
-                machine,
-                t,
-                mark,
-                request,
-                event.value,
-            ),
-            NextStep::Fork { .. } if event.value > 0 => {
-                self.place(t, ActionKind::Fork(u64::from(event.value)))
-            }
-            NextStep::Exit(phase) => self.record_exit(t, phase),
-            _ => Ok(()),
+    ) -> Result<(), AllocError>
+        ensures { OnOk result ((p : Program) (w : WellFormed p) (n : ℕ) → image.now ≡ code_of p
+            → IsNext p w n t here.now event (concrete machine.now) self.old
+            → IsAlong p w (n + 1) (concrete machine.now) self.new) }
+    {
+        self.count(1);
+        if !self.is_whole {
+            return Ok(());
         }
-    }
-
-    // The local steps of an entry.
-    fn record_locals(&mut self, entry: &Entry, here: &mut Local) -> Result<(), AllocError> {
-        for _ in 0..entry.local {
-            if let Some(later) = local_action(self.marks.at(entry.thread, here)) {
-                self.delay(entry.thread, later)?;
-            }
-            here.take_step(self.image, entry.thread);
+        let step = here.next_step(image, t);
+        if self.follower.hears(step, event.value) {
+            let _waited = self.take_waiting(t);
+            self.is_whole = self.follower.follow(machine, t, self.steps)?;
+        } else if request_waits(mark_at(self.marks.as_slice(), here), step) {
+            self.delay(t);
         }
         Ok(())
     }
 
-    /// Takes in an entry of the log, whose thread stood here before it, and which led to this machine.
-    pub fn record(
-        &mut self,
-        machine: &Machine,
-        entry: &Entry,
-        here: &mut Local,
-    ) -> Result<(), AllocError> {
-        self.record_locals(entry, here)?;
-        match entry.event {
-            Some(event) => self.record_shared(machine, entry.thread, here, event),
-            None => Ok(()),
+    // The actions that wait are taken, by rising process; false where one wasn't possible.
+    fn take_rest(&mut self, made: u32) -> Result<bool, AllocError>
+        ensures extends { OnOk result (Extends self.old.follower self.new.follower) }
+        ensures run { IfOk result (λ b. b ≡ true → GoesOn self.old.follower self.new.follower) }
+    {
+        for before in 0..made {
+            let t = before + 1;
+            let count = self.take_waiting(t);
+            if !self.follower.settle(t, count)? {
+                return Ok(false);
+            }
         }
+        Ok(true)
     }
 
-    /// All actions; those that still wait come last, by rising process.
-    pub fn finish(self, made: u32) -> Result<Vec<Action>, AllocError> {
+    /// All actions of the log; those that wait come last, by rising process.
+    pub fn finish(self, machine: &Machine) -> Result<Vec<Action>, AllocError>
+        ensures { IfOk result (λ actions. (p : Program) (w : WellFormed p) (n : ℕ)
+            → IsAlong p w n (concrete machine.now) self.entry → self.entry.is_whole ≡ true
+            → (source : SourceStateOf) × IsRun p (map action_of actions.items) source
+            × IsSeenAlike (machine_state (concrete machine.now)) source) }
+    {
         let mut recorder = self;
-        for t in 1..=made {
-            recorder.place_waiting(t)?;
-        }
-        Ok(recorder.actions)
+        let placed = recorder.follower.actions().len();
+        let count = if recorder.take_rest(machine.threads())?
+            && is_seen_alike(recorder.alloc, machine, recorder.follower.state())?
+        {
+            recorder.follower.actions().len()
+        } else {
+            placed
+        };
+        Ok(recorder.follower.into_actions(count))
     }
 }

@@ -1,10 +1,15 @@
-ghost use Rattle.std.specs.Prelude.{◌≡◌, ◌<◌, ◌≤◌, false, IfNone, IfOk, MatchBool, MatchOption, Some, length};
+ghost use Rattle.std.specs.Prelude.{◌≡◌, ◌<◌, ◌≤◌, false, true, IfOk, MatchBool, MatchOption, OnOk, Some, length, ⊤};
+ghost use Rattle.code.specs.Pieces.{code_of};
 ghost use Rattle.locals.specs.Threads.{Thread};
-ghost use Rattle.machine.specs.States.{ConcreteState, thread_of};
+ghost use Rattle.machine.specs.States.{ConcreteState, opening_concrete, thread_of};
 ghost use Rattle.machine.specs.ConcreteSteps.{can_move};
 ghost use Rattle.machine.specs.Views.{concrete};
-ghost use Rattle.runner.specs.Logs.{Ends, Enters};
+ghost use Rattle.program.specs.Names.{said_by};
+ghost use Rattle.program.specs.Trees.{Program};
+ghost use Rattle.program.specs.WellFormed.{WellFormed};
+ghost use Rattle.runner.specs.Logs.{Ends, Enters, cost};
 ghost use Rattle.explaining.specs.Explains.{IsIllegal, LeadsTo};
+ghost use Rattle.explaining.specs.Telling.{IsAlong, KeepsUp};
 
 use crate::recorder::Recorder;
 use isa::Image;
@@ -34,29 +39,10 @@ fn take_shared(machine: &mut Machine, t: u32, event: Event) -> bool
     }
 }
 
-// Takes an entry; false where the machine can't take it.
-fn take_entry(machine: &mut Machine, entry: &Entry) -> bool
-    requires room { 1 ≤ machine.old.room }
-    ensures enters { MatchBool result
-        (Enters machine.old.program (concrete machine.old) entry.now (concrete machine.new))
-        ((k : ConcreteState) → Enters machine.old.program (concrete machine.old) entry.now k → ⊥) }
-    ensures program { machine.new.program ≡ machine.old.program }
-{
-    if !machine.can_move(entry.thread) {
-        return false;
-    }
-    if machine.run_local(entry.thread, entry.local) < entry.local {
-        return false;
-    }
-    match entry.event {
-        None => true,
-        Some(event) => take_shared(machine, entry.thread, event),
-    }
-}
-
 // The state of a thread that can move.
 fn state_of_mover(machine: &Machine, t: u32) -> Option<Local>
-    ensures { IfNone result (can_move (concrete machine.now) t ≡ false) }
+    ensures { MatchOption result (can_move (concrete machine.now) t ≡ false)
+        (λ here. (can_move (concrete machine.now) t ≡ true) × (thread_of (concrete machine.now) t ≡ Some here)) }
 {
     if !machine.can_move(t) {
         return None;
@@ -66,23 +52,35 @@ fn state_of_mover(machine: &Machine, t: u32) -> Option<Local>
 
 // Takes an entry, and records it; false where the machine can't take it.
 fn go_through(
+    image: &Image,
     machine: &mut Machine,
     recorder: &mut Recorder,
     entry: &Entry,
 ) -> Result<bool, AllocError>
+    requires program { machine.old.program ≡ image.now }
     ensures enters { IfOk result (λ b. MatchBool b
-        (Enters machine.old.program (concrete machine.old) entry.now (concrete machine.new))
-        ((k : ConcreteState) → Enters machine.old.program (concrete machine.old) entry.now k → ⊥)) }
-    ensures program { machine.new.program ≡ machine.old.program }
+        (Enters image.now (concrete machine.old) entry.now (concrete machine.new))
+        ((k : ConcreteState) → Enters image.now (concrete machine.old) entry.now k → ⊥)) }
+    ensures told { IfOk result (λ b. b ≡ true → (p : Program) → image.now ≡ code_of p
+        → KeepsUp p (concrete machine.old) recorder.old entry.now (concrete machine.new) recorder.new) }
+    ensures program { OnOk result (machine.new.program ≡ image.now) }
 {
-    let Some(mut here) = state_of_mover(machine, entry.thread) else {
+    let t = entry.thread;
+    let Some(mut here) = state_of_mover(machine, t) else {
         return Ok(false);
     };
-    machine.make_room(1)?;
-    if !take_entry(machine, entry) {
+    if !recorder.take_steps(image, &mut here, entry) {
         return Ok(false);
     }
-    recorder.record(machine, entry, &mut here)?;
+    machine.make_room(1)?;
+    machine.copy_local(t, &here);
+    let Some(event) = entry.event else {
+        return Ok(true);
+    };
+    if !take_shared(machine, t, event) {
+        return Ok(false);
+    }
+    recorder.hear(machine, t, &here, image, event)?;
     Ok(true)
 }
 
@@ -93,12 +91,15 @@ pub fn walk(
     log: &[Entry],
     recorder: &mut Recorder,
 ) -> Result<Option<Machine>, AllocError>
-    ensures { IfOk result (λ o. MatchOption o (IsIllegal image.now log.now)
+    ensures legal { IfOk result (λ o. MatchOption o (IsIllegal image.now log.now)
         (λ m. LeadsTo image.now log.now (concrete m))) }
+    ensures told { IfOk result (λ o. MatchOption o ⊤ (λ m. (p : Program) (w : WellFormed p) → image.now ≡ code_of p
+        → IsAlong p w 0 (opening_concrete image.now) recorder.old
+        → IsAlong p w (cost log.now) (concrete m) recorder.new)) }
 {
     let mut machine = Machine::new(alloc, image, BUCKETS)?;
     for entry in log {
-        if !go_through(&mut machine, recorder, entry)? {
+        if !go_through(image, &mut machine, recorder, entry)? {
             return Ok(None);
         }
     }

@@ -7,6 +7,11 @@ use Rattle.sourcestates.specs.Actions.{action_of}
 use Rattle.sourcestates.specs.States.{state_of}
 use Rattle.following.specs.declared.follower.Follower.{Follower}
 
+-- more actions stand behind those that stood there
+pub record Extends (old new : Follower) : Type 0 where
+  pub behind : List Action
+  pub items : new.actions.items ≡ old.actions.items ++ behind
+
 -- by more actions, which lead there
 pub record GoesOn (old new : Follower) : Type 0 where
   pub more : List Action

@@ -1,4 +1,4 @@
-ghost use Rattle.std.specs.Prelude.{◌≡◌, ◌≤◌, [], IfOk, List, None, Some, false, length, option_map, true, ℕ};
+ghost use Rattle.std.specs.Prelude.{◌≡◌, ◌≤◌, [], IfOk, List, None, OnOk, Some, false, length, option_map, take, true, ℕ};
 ghost use Rattle.machine.specs.States.{State, state_of as machine_state};
 ghost use Rattle.machine.specs.Views.{concrete};
 ghost use Rattle.program.specs.Names.{said_by};
@@ -15,7 +15,7 @@ ghost use Rattle.sourcestates.specs.Taken.{IsAnswer};
 ghost use Rattle.product.specs.Placing.{Resumes, act, awake_waiters};
 ghost use Rattle.product.specs.Tracking.{CanTake, Owes, Tracks};
 ghost use Rattle.following.specs.Choosing.{resumed_only};
-ghost use Rattle.following.specs.Going.{GoesOn};
+ghost use Rattle.following.specs.Going.{Extends, GoesOn};
 ghost use Rattle.following.specs.Requests.{heard_step};
 ghost use Rattle.following.specs.Waiting.{is_awake};
 
@@ -67,6 +67,22 @@ impl<'a> Follower<'a> {
         self.actions.as_slice()
     }
 
+    /// Where the run leads.
+    pub fn state(&self) -> &SourceState<'a>
+        ensures { result.now ≡ self.now.state }
+    {
+        &self.state
+    }
+
+    /// The first so many actions; all, where there are no more.
+    pub fn into_actions(self, count: usize) -> Vec<Action>
+        ensures { result.items ≡ take count self.entry.actions.items }
+    {
+        let mut actions = self.actions;
+        actions.truncate(count);
+        actions
+    }
+
     /// Whether the step of a thread that comes to this, with this value in its event, is an action of its process which
     /// other processes learn of.
     pub fn hears(&self, step: NextStep, value: u32) -> bool
@@ -84,6 +100,7 @@ impl<'a> Follower<'a> {
             (state_of self.new.state)) }
         ensures kept { IfOk result (λ _. (self.new.checked ≡ self.old.checked)
             × (self.new.layout ≡ self.old.layout)) }
+        ensures extends { OnOk result (Extends self.old self.new) }
         ensures run { IfOk result (λ b. b ≡ true → GoesOn self.old self.new) }
     {
         let action = Action {
@@ -114,14 +131,16 @@ impl<'a> Follower<'a> {
         }
     }
 
-    // Takes the quiet actions that a process can take next, so many at most; false where one wasn't possible.
-    fn settle(&mut self, t: u32, most: u32) -> Result<bool, AllocError>
+    /// Takes the quiet actions that a process can take next, those that no other process learns of, so many at most. False
+    /// where one wasn't possible.
+    pub fn settle(&mut self, t: u32, most: u32) -> Result<bool, AllocError>
         ensures pays { IfOk result (λ b. (w : WellFormed (said_by self.old.checked.now)) (steps : ℕ)
             (s : State) (ks : List Kind)
             → Owes (said_by self.old.checked.now) w steps s t (state_of self.old.state) ks → length ks ≤ most
             → (b ≡ true) × Owes (said_by self.old.checked.now) w steps s t (state_of self.new.state) []) }
         ensures kept { IfOk result (λ _. (self.new.checked ≡ self.old.checked)
             × (self.new.layout ≡ self.old.layout)) }
+        ensures extends { OnOk result (Extends self.old self.new) }
         ensures run { IfOk result (λ b. b ≡ true → GoesOn self.old self.new) }
     {
         for _ in 0..most {

@@ -5,7 +5,7 @@ use Rattle.sourcestates.specs.Actions.{kind_of}
 use Rattle.sourcestates.specs.States.{state_of}
 use Rattle.sourcestates.specs.Taken.{IsAnswer}
 use Rattle.product.specs.Placing.{act}
-use Rattle.following.proofs.Going.{stays, more_after}
+use Rattle.following.proofs.Going.{stays, more_after, extends_none, extends_more}
 use Rattle.following.proofs.Settling.{Finds, begins_paying, goes_on_paying, never_refused, none_waits, all_paid}
 use Rattle.following.proofs.follower.Follower.settle.Goals as goal
 
@@ -13,6 +13,7 @@ pub loop-init : goal.loop-init
 loop-init c = record {
   checked = refl;
   layout = refl;
+  extends = extends_none c.args.self.now;
   run = stays c.args.self.now;
   pays = begins_paying (said_by c.args.self.now.checked.now) c.args.t (state_of c.args.self.now.state) c.args.most;
 }
@@ -66,6 +67,8 @@ loop-preserved c =
     record {
       checked = c.in_ok-take.ensures.kept.0 ∙ c.loop.invariant.checked;
       layout = c.in_ok-take.ensures.kept.1 ∙ c.loop.invariant.layout;
+      extends = extends_more c.args.self.now c.loop.self c.take.new.self c.loop.invariant.extends
+          c.in_ok-take.ensures.extends;
       run = more_after c.args.self.now c.loop.self c.take.new.self c.loop.invariant.checked c.loop.invariant.run
           (c.in_ok-take.ensures.run c.if-not-branch.false);
       pays = goes_on_paying p c.args.t (state_of c.args.self.now.state) b c.args.most c.loop.counter
