@@ -43,8 +43,8 @@ no_run rows other missing h = h
 
 pub no_explain : (rows : List Row) (job : Job) → (first_of (codes "FILE") rows ≡ None) ⊎ NoSteps rows
     → IsExplainOf rows job → ⊥
-no_explain rows (Explain file steps) (inl none) h = no_value _ _ none h.0
-no_explain rows (Explain file steps) (inr none) h =
+no_explain rows (Explain file steps chart) (inl none) h = no_value _ _ none h.0
+no_explain rows (Explain file steps chart) (inr none) h =
     let s = h.1 in
     none s.0 steps s.1 s.2 s.3 s.4
 no_explain rows other missing h = h

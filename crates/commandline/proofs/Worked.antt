@@ -1,5 +1,5 @@
 -- The definitions on words that are known.
-use Rattle.std.proofs.Common.{◌≡◌, refl, true, List, [], ◌∷◌, Option, Some, option_map, codes}
+use Rattle.std.proofs.Common.{◌≡◌, refl, true, List, [], ◌∷◌, Option, Some, None, option_map, codes}
 use Rattle.clap.specs.Words.{Text, one_of, subcommand_of, takes}
 use Rattle.clap.proofs.OnLiterals.{clap_on_literals}
 use Rattle.commandline.specs.CommandLine.{command_line}
@@ -18,6 +18,9 @@ plain_list = codes "list" ∷ codes "a.image" ∷ []
 
 abbrev plain_explain : List Text
 plain_explain = codes "explain" ∷ codes "a.mesa" ∷ []
+
+abbrev charted : List Text
+charted = codes "explain" ∷ codes "--chart" ∷ codes "a.svg" ∷ codes "a.mesa" ∷ []
 
 -- the command's name, and the text of an argument
 abbrev told : Text → List Text → Option (Text × Option Text)
@@ -54,6 +57,14 @@ image_told = refl
 explained_file_told : told (codes "FILE") plain_explain ≡ Some (codes "explain", Some (codes "a.mesa"))
 unfolding clap_on_literals
 explained_file_told = refl
+
+chart_told : told (codes "chart") charted ≡ Some (codes "explain", Some (codes "a.svg"))
+unfolding clap_on_literals
+chart_told = refl
+
+chart_left_out : told (codes "chart") plain_explain ≡ Some (codes "explain", None)
+unfolding clap_on_literals
+chart_left_out = refl
 
 taken : takes command_line five_steps ≡ true
 unfolding clap_on_literals

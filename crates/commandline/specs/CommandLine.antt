@@ -1,6 +1,6 @@
 -- The commands of the program, and which job the words of a command line ask for. How words are read as a command's
 -- arguments is the definition of the crate clap (`App`, `subcommand_of`).
-use Rattle.std.specs.Prelude.{◌≡◌, ◌<◌, ◌^◌, ℕ, Bool, true, false, List, [], ◌∷◌, Option, Some, None, ◌⊎◌, codes}
+use Rattle.std.specs.Prelude.{◌≡◌, ◌<◌, ◌^◌, ℕ, Bool, true, false, List, [], ◌∷◌, Option, Some, None, ◌⊎◌, codes, option_map}
 use Rattle.std.specs.Str.Parse.{IsNumeral, digits_value, without_leading_plus}
 use Rattle.clap.specs.Words.{App, Row, Rule, Text, first_of, new_app, new_rule, one_of, with_rule, with_subcommand}
 use Rattle.clap.specs.Words.{subcommand_of}
@@ -26,6 +26,10 @@ steps_option = record (new_rule (codes "steps")) {
 abbrev pub trace_option : Rule
 trace_option = record (new_rule (codes "trace")) { long = Some (codes "trace"); action = Some SetTrue }
 
+-- `--chart OUT`
+abbrev pub chart_option : Rule
+chart_option = record (new_rule (codes "chart")) { long = Some (codes "chart"); value_names = 1 }
+
 -- `compile FILE OUT`
 abbrev pub compile_command : App
 compile_command = with_rule (with_rule (new_app (codes "compile")) (positional (codes "FILE")))
@@ -50,9 +54,10 @@ replay_command =
     with_rule (with_rule (with_rule (new_app (codes "replay")) (positional (codes "FILE")))
     (positional (codes "SCHEDULE"))) trace_option
 
--- `explain FILE [--steps N]`
+-- `explain FILE [--steps N] [--chart OUT]`
 abbrev pub explain_command : App
-explain_command = with_rule (with_rule (new_app (codes "explain")) (positional (codes "FILE"))) steps_option
+explain_command =
+    with_rule (with_rule (with_rule (new_app (codes "explain")) (positional (codes "FILE"))) steps_option) chart_option
 
 -- the text that stands for `--steps` is this number
 abbrev pub ReadsSteps : List Row → ℕ → Type 0
@@ -105,7 +110,9 @@ IsReplayOf rows other = ⊥
 
 -- a job of explaining
 abbrev pub IsExplainOf : List Row → Job → Type 0
-IsExplainOf rows (Explain file steps) = (first_of (codes "FILE") rows ≡ Some file.now) × ReadsSteps rows steps
+IsExplainOf rows (Explain file steps chart) =
+    (first_of (codes "FILE") rows ≡ Some file.now) × ReadsSteps rows steps
+    × (first_of (codes "chart") rows ≡ option_map (λ out. out.now) chart)
 IsExplainOf rows other = ⊥
 
 -- the job that the command of a name asks for, with these values of its arguments

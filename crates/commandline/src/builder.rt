@@ -84,7 +84,8 @@ fn explain_command<'a>(alloc: Global) -> Result<Command<'a>, AllocError>
     Command::new(alloc, "explain")
         .about("Runs a source text in order and prints what its processes do")
         .arg(positional(alloc, "FILE", "The source text"))?
-        .arg(steps_option(alloc))
+        .arg(steps_option(alloc))?
+        .arg(chart_option(alloc))
 }
 
 fn positional<'a>(alloc: Global, name: &'a str, help: &'a str) -> Arg<'a>
@@ -114,4 +115,14 @@ fn trace_option<'a>(alloc: Global) -> Arg<'a>
         .long("trace")
         .action(ArgAction::SetTrue)
         .help("Shows each entry of the log on standard error")
+}
+
+fn chart_option<'a>(alloc: Global) -> Arg<'a>
+    ensures rule { rule_of result ≡ line.chart_option }
+    ensures local { result.global ≡ false }
+{
+    Arg::new(alloc, "chart")
+        .long("chart")
+        .value_name("OUT")
+        .help("Where the picture of the run is written")
 }

@@ -49,12 +49,15 @@ pub enum Job<'a> {
         /// Whether the log is shown.
         trace: bool,
     },
-    /// Run the source text of a file, within a limit of steps, and print the source actions that its run is.
+    /// Run the source text of a file, within a limit of steps, print the source actions that its run is, and draw them
+    /// where that is wanted.
     Explain {
         /// The name of the source text's file.
         file: &'a str,
         /// The most steps of the machine.
         steps: u32,
+        /// The name of the picture's file, where one is wanted.
+        chart: Option<&'a str>,
     },
 }
 
@@ -154,5 +157,6 @@ fn explain_of<'a>(matches: &ArgMatches<'a>) -> Option<Job<'a>>
 {
     let file = matches.get_str("FILE")?;
     let steps = matches.get_one::<u32>("steps")?;
-    Some(Job::Explain { file, steps })
+    let chart = matches.get_str("chart");
+    Some(Job::Explain { file, steps, chart })
 }

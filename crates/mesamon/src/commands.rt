@@ -5,15 +5,16 @@ ghost use Rattle.mesamon.specs.Commands.{HasChecked, HasCompiled, HasDone, HasEn
 ghost use Rattle.mesamon.specs.Commands.{status_of_verdict};
 ghost use Rattle.mesamon.specs.Running.{IsRunOf};
 
-use crate::explained_run::explain_source;
+use crate::explained_run::{ExplainedRun, explain_source};
 use crate::failure::Failure;
-use crate::files::{read_file, write_image};
+use crate::files::{read_file, write_file};
 use crate::replaying::replay;
 use crate::report::{write_account, write_bytes, write_image_line, write_output, write_text};
 use crate::schedule::threads_of;
 use crate::source_run::{RunSourceFault, run_in_order, run_source};
 use crate::status::Status;
 use actionlines::action_lines;
+use chart::chart;
 use commandline::{Job, read_job};
 use compiler::{check_text, compile};
 use isa::{decode, encode};
@@ -91,7 +92,7 @@ fn do_job<'a, R: Files + AllocGlobal + Threads + Wait + Sync, O: Write, E: Write
             schedule,
             trace,
         } => { replay_file(rt, file, schedule, trace, output, errors) }
-        Job::Explain { file, steps } => explain_file(rt, file, steps, output),
+        Job::Explain { file, steps, chart } => explain_file(rt, file, steps, chart, output),
     }
 }
 
@@ -128,7 +129,7 @@ fn compile_file<'a, R: Files + AllocGlobal, O: Write>(
     let text = bytes_of(rt, file)?;
     let image = compile(rt.alloc(), text.as_slice())?;
     let bytes = encode(rt.alloc(), &image)?;
-    write_image(rt, out, bytes.as_slice()).map_err(|error| Failure::of_write(out, &error))?;
+    write_file(rt, out, bytes.as_slice()).map_err(|error| Failure::of_write(out, &error))?;
     let count = image.code().len();
     write_image_line(output, count)?;
     Ok(Status::Done)
@@ -201,11 +202,12 @@ fn replay_file<'a, R: Files + AllocGlobal, O: Write, E: Write>(
     show(rt, &report, trace, output, errors)
 }
 
-// Prints what a run of a file is in its source.
+// Prints what a run of a file is in its source, and draws it to another file where one is named.
 fn explain_file<'a, R: Files + AllocGlobal, O: Write>(
     rt: &R,
     file: &'a str,
     steps: u32,
+    out: Option<&'a str>,
     output: &mut O,
 ) -> Result<Status, Failure<'a>>
     ensures { IfOk result (λ s. HasExplained (Appends (O.contents output.old) (O.contents output.new)) s) }
@@ -213,8 +215,21 @@ fn explain_file<'a, R: Files + AllocGlobal, O: Write>(
     let text = bytes_of(rt, file)?;
     let run = explain_source(rt.alloc(), text.as_slice(), steps)?;
     let lines = action_lines(rt.alloc(), run.checked.names(), run.actions.as_slice())?;
+    if let Some(out) = out {
+        write_chart(rt, out, &run)?;
+    }
     write_bytes(output, lines.as_slice())?;
     Ok(status_of(run.report.verdict))
+}
+
+// Draws a run to a file.
+fn write_chart<'a, R: Files + AllocGlobal>(
+    rt: &R,
+    out: &'a str,
+    run: &ExplainedRun<'_>,
+) -> Result<(), Failure<'a>> {
+    let picture = chart(rt.alloc(), &run.checked, run.actions.as_slice())?;
+    write_file(rt, out, picture.as_slice()).map_err(|error| Failure::of_write(out, &error))
 }
 
 // The threads that a schedule's file names.

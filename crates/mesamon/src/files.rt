@@ -27,7 +27,7 @@ fn read_front<R: Read + Drop>(alloc: Global, reader: R) -> io::Result<Vec<u8>>
 ///
 /// A regular file holds either all of them or what it held before: they are written to a file beside it, named by a
 /// further `.part`, which then takes its name. What is no regular file, as a device, is written as it stands.
-pub fn write_image<R: Files + AllocGlobal>(rt: &R, name: &str, bytes: &[u8]) -> io::Result<()> {
+pub fn write_file<R: Files + AllocGlobal>(rt: &R, name: &str, bytes: &[u8]) -> io::Result<()> {
     if is_special(rt, name) {
         return fs::write(rt, name, bytes);
     }

@@ -31,4 +31,5 @@ returns-clause-job c =
     × HasUnsignedDigitsIfOk t r) 32
     (λ u x g. g.0) _ c.get_one.result c.in_ok-steps.steps (search rules) c.get_one.ensures.none
     c.get_one.ensures.value in
-    (search rules, (t, sym steps ∙ is, numeral, value, small))
+    let chart = first_value-rows found (codes "chart") in
+    (search rules, (t, sym steps ∙ is, numeral, value, small), sym chart ∙ sym c.get_str-chart.ensures)
