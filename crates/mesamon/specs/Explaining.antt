@@ -11,7 +11,7 @@ use Rattle.compiler.specs.Compiles.{IsCompiled}
 use Rattle.mesamon.specs.Running.{IsRunOf}
 use Rattle.mesamon.specs.declared.explained_run.ExplainedRun.{ExplainedRun}
 use Rattle.mesamon.specs.declared.explained_run.ExplainSourceFault.{ExplainSourceFault}
-use Rattle.mesamon.specs.declared.explained_run.ExplainSourceFault.TheVariants.{Refused, Memory, Unexplained}
+use Rattle.mesamon.specs.declared.explained_run.ExplainSourceFault.TheVariants.{Refused, Memory}
 
 -- a run of the text's program within the limit, and the actions that the log of its code is
 pub record IsExplainedRun (text : List ℕ) (limit : ℕ) (r : ExplainedRun) : Type 0 where
@@ -20,17 +20,12 @@ pub record IsExplainedRun (text : List ℕ) (limit : ℕ) (r : ExplainedRun) : T
   pub explained : IsExplained (said_by r.checked) (code_of (said_by r.checked)) r.report.log.items
       (map action_of r.actions.items)
 
--- the text's refusal, or a fault of explaining
+-- the text's refusal, or want of memory
 abbrev pub IsRefusedExplanation : List ℕ → ExplainSourceFault → Type 0
 IsRefusedExplanation text (Refused e) = (e ≡ out_of_memory) ⊎ Refuses text e
-IsRefusedExplanation text other = Unit {0}
+IsRefusedExplanation text Memory = Unit {0}
 
--- no refusal of the text but for want of memory
-abbrev pub IsNoTextRefusal : ExplainSourceFault → Type 0
-IsNoTextRefusal (Refused e) = e ≡ out_of_memory
-IsNoTextRefusal other = Unit {0}
-
--- a fault of explaining
-abbrev pub IsOfExplaining : ExplainSourceFault → Type 0
-IsOfExplaining (Refused e) = ⊥
-IsOfExplaining other = Unit {0}
+-- want of memory
+abbrev pub IsWantOfMemory : ExplainSourceFault → Type 0
+IsWantOfMemory (Refused e) = e ≡ out_of_memory
+IsWantOfMemory Memory = Unit {0}

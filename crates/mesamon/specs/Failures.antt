@@ -17,7 +17,7 @@ use Rattle.mesamon.specs.declared.explained_run.ExplainSourceFault.{ExplainSourc
 use Rattle.mesamon.specs.declared.explained_run.ExplainSourceFault.TheVariants as explain
 use Rattle.mesamon.specs.declared.failure.Failure.{Failure}
 use Rattle.mesamon.specs.declared.failure.Failure.TheVariants.{Usage, Read, Write, Refused, Image, Run, Schedule}
-use Rattle.mesamon.specs.declared.failure.Failure.TheVariants.{Unexplained, Output, Memory}
+use Rattle.mesamon.specs.declared.failure.Failure.TheVariants.{Output, Memory}
 use Rattle.mesamon.specs.declared.status.Status.{Status}
 use Rattle.mesamon.specs.declared.status.Status.TheVariants as status
 
@@ -29,7 +29,6 @@ status_of (Refused e) = status.Refused
 status_of (Image e) = status.Failed
 status_of (Run e) = status.Failed
 status_of (Schedule number) = status.Failed
-status_of Unexplained = status.Failed
 status_of Output = status.Failed
 status_of Memory = status.Memory
 
@@ -64,4 +63,3 @@ OfReplay replay.Memory f = f ≡ Memory
 abbrev pub OfExplain : ExplainSourceFault → Failure → Type 0
 OfExplain (explain.Refused e) f = OfRefusal e f
 OfExplain explain.Memory f = f ≡ Memory
-OfExplain explain.Unexplained f = f ≡ Unexplained

@@ -1,15 +1,16 @@
-ghost use Rattle.std.specs.Prelude.{◌≡◌, IfOk, IfErr, List, MatchResult, map, ℕ};
+ghost use Rattle.std.specs.Prelude.{◌≡◌, ◌<◌, ◌^◌, IfOk, IfErr, List, MatchResult, map, ℕ};
 ghost use Rattle.machine.specs.States.{ConcreteState};
 ghost use Rattle.program.specs.Names.{said_by};
 ghost use Rattle.program.specs.Trees.{Program};
 ghost use Rattle.code.specs.Pieces.{code_of};
 ghost use Rattle.sourcestates.specs.Actions.{action_of};
+ghost use Rattle.runner.specs.Logs.{cost};
 ghost use Rattle.runner.specs.Reports.{IsReport};
 ghost use Rattle.explaining.specs.Explains.{IsExplained, LeadsTo};
 ghost use Rattle.backend.specs.Refusals.{Fits};
 ghost use Rattle.compiler.specs.Accepts.{Accepts};
 ghost use Rattle.compiler.specs.Compiles.{IsCompiled};
-ghost use Rattle.mesamon.specs.Explaining.{IsExplainedRun, IsRefusedExplanation, IsNoTextRefusal, IsOfExplaining};
+ghost use Rattle.mesamon.specs.Explaining.{IsExplainedRun, IsRefusedExplanation, IsWantOfMemory};
 ghost use Rattle.mesamon.specs.declared.explained_run.ExplainSourceFault.TheVariants.{Refused, Memory};
 
 use compiler::compile_checked;
@@ -44,9 +45,6 @@ pub enum ExplainSourceFault {
     /// There is no memory for the run, or for what explains it.
     #[error("memory")]
     Memory,
-    /// What was found to explain the log is no run of the program.
-    #[error("unexplained")]
-    Unexplained,
 }
 
 impl From<Refusal> for ExplainSourceFault {
@@ -71,7 +69,7 @@ fn run_image(alloc: Global, image: &Image, limit: u32) -> Result<Report, Explain
     }
 }
 
-// Explains a legal log of a program's image.
+// Explains a legal log of a program's image. There is no fault but want of memory.
 fn explain_log(
     alloc: Global,
     checked: &Checked,
@@ -80,14 +78,15 @@ fn explain_log(
 ) -> Result<Vec<Action>, ExplainSourceFault>
     requires own { image.now ≡ code_of (said_by checked.now) }
     requires legal { (k : ConcreteState) × LeadsTo image.now log.now k }
+    requires few { cost log.now < 2 ^ 32 }
     ensures { MatchResult result
         (λ actions. IsExplained (said_by checked.now) image.now log.now (map action_of actions.items))
-        (λ fault. IsOfExplaining fault) }
+        (λ fault. fault ≡ Memory) }
 {
     match explain(alloc, checked, image, log) {
         Ok(actions) => Ok(actions),
         Err(ExplainFault::Memory) => Err(ExplainSourceFault::Memory),
-        Err(ExplainFault::Unexplained) => Err(ExplainSourceFault::Unexplained),
+        Err(ExplainFault::TooLong) => unreachable!(),
         Err(ExplainFault::OtherImage | ExplainFault::NotARun) => unreachable!(),
     }
 }
@@ -97,8 +96,7 @@ fn explain_log(
 ///
 /// # Errors
 ///
-/// A text that `compile` refuses has the same refusal. Else there is no fault but want of memory, and `Unexplained`,
-/// as `explaining::explain` says.
+/// A text that `compile` refuses has the same refusal. Else there is no fault but want of memory.
 pub fn explain_source<'a>(
     alloc: Global,
     text: &'a [u8],
@@ -106,7 +104,7 @@ pub fn explain_source<'a>(
 ) -> Result<ExplainedRun<'a>, ExplainSourceFault>
     ensures explained { IfOk result (λ run. IsExplainedRun text.now limit run) }
     ensures fault { IfErr result (λ fault. IsRefusedExplanation text.now fault) }
-    ensures only { (p : Program) → Accepts text.now p → Fits p → IfErr result (λ fault. IsNoTextRefusal fault) }
+    ensures only { (p : Program) → Accepts text.now p → Fits p → IfErr result (λ fault. IsWantOfMemory fault) }
 {
     logs_are_machine_runs();
     let (checked, image) = compile_checked(alloc, text)?;

@@ -41,9 +41,6 @@ pub enum Failure<'a> {
     /// of too many bytes.
     #[error("schedule entry {0}")]
     Schedule(u64),
-    /// What was found to explain the run is no run of the program.
-    #[error("unexplained")]
-    Unexplained,
     /// Output could not be written.
     #[error("cannot write output")]
     Output,
@@ -88,7 +85,6 @@ impl<'a> Failure<'a> {
             | Failure::Image(_)
             | Failure::Run(_)
             | Failure::Schedule(_)
-            | Failure::Unexplained
             | Failure::Output => Status::Failed,
         }
     }
@@ -159,7 +155,6 @@ impl From<ExplainSourceFault> for Failure<'_> {
         match fault {
             ExplainSourceFault::Refused(refusal) => Failure::from(refusal),
             ExplainSourceFault::Memory => Failure::Memory,
-            ExplainSourceFault::Unexplained => Failure::Unexplained,
         }
     }
 }
