@@ -1,4 +1,1 @@
-pub mod Telling
-pub mod Entering
 pub mod Images
-pub mod Ends

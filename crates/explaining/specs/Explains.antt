@@ -2,8 +2,8 @@
 use Rattle.std.specs.Prelude.{◌≡◌, ◌≤◌, ◌^◌, List}
 use Rattle.isa.specs.Programs.{Program as Image}
 use Rattle.machine.specs.declared.event.Entry.{Entry}
-use Rattle.machine.specs.States.{ConcreteState, opening_concrete, state_of}
-use Rattle.runner.specs.Logs.{Runs, cost}
+use Rattle.machine.specs.States.{ConcreteState, state_of}
+use Rattle.runner.specs.Logs.{cost}
 use Rattle.program.specs.Trees.{Program}
 use Rattle.code.specs.Pieces.{code_of}
 use Rattle.meaning.specs.Labels.{Action}
@@ -11,15 +11,8 @@ use Rattle.meaning.specs.States.{SourceState}
 use Rattle.meaning.specs.Runs.{IsRun}
 use Rattle.explaining.specs.declared.fault.ExplainFault.{ExplainFault}
 use Rattle.explaining.specs.declared.fault.ExplainFault.TheVariants.{NotARun, OtherImage, Memory, TooLong}
-use Rattle.explaining.specs.Alike.{IsSeenAlike}
-
--- the log is legal for the image, and leads there
-abbrev pub LeadsTo : Image → List Entry → ConcreteState → Type 0
-LeadsTo image log k = Runs image (opening_concrete image) log k
-
--- the log isn't legal
-abbrev pub IsIllegal : Image → List Entry → Type 0
-IsIllegal image log = (k : ConcreteState) → LeadsTo image log k → ⊥
+use Rattle.recording.specs.Alike.{IsSeenAlike}
+pub use Rattle.recording.specs.Logs.{LeadsTo, IsIllegal}
 
 -- the image is the program's, the log is legal for it, and the actions are a run of the program, at whose end the same
 -- is seen as of the machine where the log leads

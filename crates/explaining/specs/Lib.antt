@@ -1,3 +1,1 @@
-pub mod Telling
-pub mod Alike
 pub mod Explains

@@ -1,22 +1,18 @@
 ghost use Rattle.std.specs.Prelude.{◌≡◌, ◌≢◌, IfOk, MatchBool, MatchResult, map};
 ghost use Rattle.isa.specs.Programs.{IsProgram};
 ghost use Rattle.scanner.specs.declared.refusal.RefusalKind.TheVariants.{Memory};
-ghost use Rattle.machine.specs.States.{opening_concrete};
 ghost use Rattle.program.specs.Names.{said_by};
-ghost use Rattle.program.specs.WellFormed.{WellFormed};
 ghost use Rattle.code.specs.Pieces.{code_of};
 ghost use Rattle.sourcestates.specs.Actions.{action_of};
 ghost use Rattle.explaining.specs.Explains.{IsExplained, Refuses};
-ghost use Rattle.explaining.specs.Telling.{IsAlong};
 
 use crate::fault::ExplainFault;
-use crate::recorder::Recorder;
-use crate::walking::walk;
 use backend::{image_of, marks_of};
 use isa::{Image, encode, one_spelling};
 use layout::place;
 use machine::Entry;
 use program::Checked;
+use recording::{Told, tell};
 use scanner::{Refusal, RefusalKind};
 use sourcestates::Action;
 use std::alloc::{AllocError, Global};
@@ -70,29 +66,7 @@ fn is_image_of(alloc: Global, checked: &Checked, image: &Image) -> Result<bool, 
     }
 }
 
-// A checked program is well formed. Nothing is done when it runs.
-fn checked_is_well_formed(checked: &Checked)
-    ensures { WellFormed (said_by checked.now) }
-{
-    checked.program();
-}
-
-// At the beginning of a log of the program's image. That the program has one is known, so nothing is refused but for
-// want of memory.
-fn new_recorder<'a>(alloc: Global, checked: &'a Checked<'a>) -> Result<Recorder<'a>, AllocError>
-    ensures { let p = said_by checked.now in
-        IfOk result (λ r. (w : WellFormed p) → IsAlong p w 0 (opening_concrete (code_of p)) r) }
-{
-    let Ok(layout) = place(alloc, checked) else {
-        return Err(AllocError);
-    };
-    let Ok(marks) = marks_of(alloc, checked) else {
-        return Err(AllocError);
-    };
-    Recorder::new(alloc, checked, layout, marks)
-}
-
-// The actions of a log of the program's image.
+// Explains a log of the program's image. That the program has one is known, so nothing is refused but for want of memory.
 fn explain_log(
     alloc: Global,
     checked: &Checked,
@@ -104,15 +78,17 @@ fn explain_log(
         (λ actions. IsExplained p image.now log.now (map action_of actions.items))
         (λ fault. Refuses p image.now log.now fault) }
 {
-    checked_is_well_formed(checked);
-    let mut recorder = new_recorder(alloc, checked)?;
-    let Some(machine) = walk(alloc, image, log, &mut recorder)? else {
-        return Err(ExplainFault::NotARun);
+    let Ok(layout) = place(alloc, checked) else {
+        return Err(ExplainFault::Memory);
     };
-    if !recorder.is_whole() {
-        return Err(ExplainFault::TooLong);
+    let Ok(marks) = marks_of(alloc, checked) else {
+        return Err(ExplainFault::Memory);
+    };
+    match tell(alloc, checked, image, log, layout, marks)? {
+        Told::NotARun => Err(ExplainFault::NotARun),
+        Told::TooLong => Err(ExplainFault::TooLong),
+        Told::Actions(actions) => Ok(actions),
     }
-    Ok(recorder.finish(&machine)?)
 }
 
 /// The source run that a log of a program's image is: the actions of the source, in order.

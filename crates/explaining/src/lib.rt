@@ -3,10 +3,6 @@
 
 mod explaining;
 mod fault;
-mod later;
-mod matching;
-mod recorder;
-mod walking;
 
 pub use explaining::explain;
 pub use fault::ExplainFault;

@@ -1,0 +1,3 @@
+pub mod Telling
+pub mod Entering
+pub mod Ends
