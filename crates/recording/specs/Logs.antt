@@ -1,5 +1,5 @@
 -- What is told of a log.
-use Rattle.std.specs.Prelude.{◌≡◌, ◌≤◌, ◌^◌, List, map}
+use Rattle.std.specs.Prelude.{◌≤◌, ◌^◌, List, map}
 use Rattle.isa.specs.Programs.{Program as Image}
 use Rattle.machine.specs.declared.event.Entry.{Entry}
 use Rattle.machine.specs.States.{ConcreteState, opening_concrete, state_of}
