@@ -2,6 +2,8 @@ pub mod Values
 pub mod Labels
 pub mod Table
 pub mod Processes
+pub mod Offering
+pub mod Statements
 pub mod Offers
 pub mod States
 pub mod Runs

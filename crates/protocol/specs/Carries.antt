@@ -1,5 +1,5 @@
 -- The labels of the source that moves carry, and what they make of the source's table.
-use Rattle.std.specs.Prelude.{◌≡◌, ℕ, zero, suc, ◌+◌, ◌==◌, ◌&&◌, not, Bool, true, false, Option, Some, None, List}
+use Rattle.std.specs.Prelude.{◌≡◌, ℕ, ◌+◌, ◌==◌, not, Bool, true, false, Option, Some, None, List}
 use Rattle.std.specs.Prelude.{[], ◌∷◌}
 use Rattle.words.specs.Updates.{put}
 use Rattle.program.specs.declared.kinds.Member.{Member}
@@ -8,46 +8,20 @@ use Rattle.meaning.specs.Labels.{Enters, Resumes, Exits, Waits, Notifies, Broadc
 use Rattle.meaning.specs.Labels as L
 use Rattle.meaning.specs.Table.{Table, Free, Abandoned, HeldBy, without_waiters, Allows, AllowsStray, AllowsKill}
 use Rattle.protocol.specs.Word.{died}
-use Rattle.protocol.specs.Points.{Purpose, ToEnter, ToReenter, ToResume, Release, ToExit, ToWait, Spot, OnLock}
-use Rattle.protocol.specs.Points.{OnSequence, OnId, Point, NotifyWakes, BroadcastMarks, BroadcastReads}
+use Rattle.protocol.specs.Points.{Purpose, ToEnter, ToReenter, ToResume, Release, ToExit, ToWait}
+use Rattle.protocol.specs.Points.{Point, NotifyWakes, BroadcastMarks, BroadcastReads}
 use Rattle.protocol.specs.Points.{BroadcastMoves}
-use Rattle.protocol.specs.World.{World, same_member, awake_after, requeued_sleep}
+use Rattle.protocol.specs.World.{World, awake_after, requeued_sleep}
 use Rattle.protocol.specs.Moves.{Move, Own, Raise, CompareSwapGot, FreeGot, SwapWake, SwapAlone, WakeSeq, MoveAll}
 use Rattle.protocol.specs.Moves.{EntryAlone, EntryWake, PendAlone, PendWake, ClearId, Fork, ForkFull, Claim}
 use Rattle.protocol.specs.Moves.{ClaimTaken, IdGone, StraySeq, Kill}
+pub use Rattle.protocol.specs.Waiters.{on_sequence, waits_on, is_resumed, with_number, chosen_from, resumed_by}
 
 -- what a move is in the source: an action of a process, or one from outside
 pub data Event : Type 0 where
   Acts : (process : ℕ) → Label → Event
   Strays : (process : ℕ) (condition : Member) → Event
   Kills : (process : ℕ) (notified : Option Member) (resumed : List ℕ) → Event
-
-abbrev pub on_sequence : Member → Option Spot → Bool
-on_sequence c None = false
-on_sequence c (Some (OnLock m)) = false
-on_sequence c (Some (OnSequence d)) = same_member d c
-on_sequence c (Some (OnId q)) = false
-
-abbrev pub waits_on : Member → Option Member → Bool
-waits_on c None = false
-waits_on c (Some d) = same_member d c
-
--- who waits on the condition and isn't asleep on its word
-abbrev pub is_resumed : Member → (ℕ → Option Spot) → (ℕ → Option Member) → ℕ → Bool
-is_resumed c asleep waits u = waits_on c (waits u) && not (on_sequence c (asleep u))
-
-abbrev pub with_number : Bool → ℕ → List ℕ → List ℕ
-with_number true u us = u ∷ us
-with_number false u us = us
-
--- the numbers from k on, n of them, of which a test holds
-abbrev pub chosen_from : (ℕ → Bool) → (n k : ℕ) → List ℕ
-chosen_from test zero k = []
-chosen_from test (suc n) k = with_number (test k) k (chosen_from test n (suc k))
-
--- the processes that a notify, a broadcast or the death of a notifier resumes: those who wait and no longer sleep
-abbrev pub resumed_by : World → Table → Member → (ℕ → Option Spot) → List ℕ
-resumed_by w T c asleep = chosen_from (is_resumed c asleep T.waits) w.made 1
 
 abbrev pub has_died : ℕ → Bool
 has_died v = not (died v == 0)
