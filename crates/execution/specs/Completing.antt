@@ -1,16 +1,16 @@
 -- What a thread that stands for a process does: the steps that complete what the process offers, or the templates that
 -- do.
-use Rattle.std.specs.Prelude.{ℕ, suc, ◌+◌, ◌≡◌, ◌≢◌, ◌<◌, ◌≤◌, ◌^◌, pos, ℤ, List, [], ◌∷◌, length, Option, Some, None}
-use Rattle.std.specs.Prelude.{true, ⊤}
+use Rattle.std.specs.Prelude.{ℕ, suc, ◌+◌, ◌≡◌, ◌<◌, ◌≤◌, pos, ℤ, List, [], ◌∷◌, length, Option, Some, None}
+use Rattle.std.specs.Prelude.{true}
 use Rattle.words.specs.Limits.{most_processes}
 use Rattle.words.specs.Process.{process_word}
 use Rattle.words.specs.Signed.{signed_of, word_of}
 use Rattle.words.specs.declared.outcome.Fault.{Fault}
-use Rattle.words.specs.declared.outcome.Fault.TheVariants.{HandleNotJoinable, ProcessTableFull, JoinedAborted}
+use Rattle.words.specs.declared.outcome.Fault.TheVariants.{HandleNotJoinable, ProcessTableFull}
 use Rattle.program.specs.declared.kinds.Member.{Member}
 use Rattle.program.specs.declared.kinds.MemberType.TheVariants.{Condition}
 use Rattle.program.specs.Scope.{member_type, own_monitor}
-use Rattle.program.specs.Trees.{Part, NoPart, SomePart, followed_by}
+use Rattle.program.specs.Trees.{Part}
 use Rattle.code.specs.Layout.{link_word, member_address}
 use Rattle.code.specs.Locks.{enter_code, exit_code}
 use Rattle.code.specs.Conditions.{wait_code, notify_code, broadcast_code}
@@ -18,80 +18,20 @@ use Rattle.code.specs.Marks.{placed}
 use Rattle.locals.specs.declared.frame.Locals.{Locals}
 use Rattle.locals.specs.declared.frame.Frame.{Frame as MachineFrame}
 use Rattle.locals.specs.Threads.{Thread, Runs, Dies, opening_thread}
-use Rattle.locals.specs.Looks.{Request, Goes, Asks, AskLoad, AskStore, AskSwap, AskWait, AskFork, AskPrint, AskReturn}
-use Rattle.locals.specs.Looks.{AskReturnValue, look, first_exit}
+use Rattle.locals.specs.Looks.{Goes, Asks, AskStore, AskSwap, AskFork, AskPrint, AskReturn}
+use Rattle.locals.specs.Looks.{look, first_exit}
 use Rattle.meaning.specs.Values.{Variables}
 use Rattle.meaning.specs.Labels.{Faulted, Alone, Kind, Exits, Waits, Stores}
 use Rattle.meaning.specs.Labels as L
 use Rattle.meaning.specs.Processes.{Frame, Caller, Process, Entering, Suspended, Joining, Returning, Dying, Leaving}
-use Rattle.meaning.specs.Processes.{goes_on, recovers, with_result, holds, all_monitors, callers_monitors}
+use Rattle.meaning.specs.Processes.{goes_on, recovers, holds, all_monitors, callers_monitors}
 use Rattle.meaning.specs.Offers.{Does, MakesOne, ClaimsOne, NotifiesSome, NotifiesAll, Nothing, Puts, Writes, offer}
 use Rattle.execution.specs.Variables.{IsVariable, variable_address, ValueFits}
 use Rattle.execution.specs.Later.{mark_of, later_mark, last_mark}
 use Rattle.execution.specs.Walks.{View, StandAt, WalksWithin}
 use Rattle.execution.specs.Following.{Build, with_made, recovery_in, result_operands, own_of, StepsWithin, Stands}
-
--- an action of a process's own, none from outside
-abbrev pub IsOwn : Kind → Type 0
-IsOwn (L.Stray c) = ⊥
-IsOwn (L.Kill resumed last) = ⊥
-IsOwn kind = ⊤
-
--- an action of a process's own that no other process learns of
-abbrev pub IsQuiet : Kind → Type 0
-IsQuiet L.Assign = ⊤
-IsQuiet L.Test = ⊤
-IsQuiet L.Call = ⊤
-IsQuiet L.Return = ⊤
-IsQuiet (L.Fails fault) = ⊤
-IsQuiet kind = ⊥
-
--- the return of a process's first procedure, without a value and with one; and what it leaves with
-abbrev pub return_request : Option ℕ → Request
-return_request None = AskReturn
-return_request (Some w) = AskReturnValue w
-
-abbrev pub left_value : Option ℕ → ℤ
-left_value None = pos 0
-left_value (Some w) = signed_of w
-
-abbrev pub IsResult : Option ℕ → Type 0
-IsResult None = ⊤
-IsResult (Some w) = w < 2 ^ 32
-
--- the most local steps from one request of a JOIN to the next
-abbrev pub join_steps : ℕ
-join_steps = 8
-
--- a thread that learned of an abort stands for the ABORTED part, or comes to a fault where there is none
-abbrev pub GoesAborted : Build → ℕ → Thread → Part → Frame → List Caller → Type 0
-GoesAborted b t x NoPart f callers = StepsWithin b t join_steps x (Dies JoinedAborted)
-GoesAborted b t x (SomePart body) f callers =
-    Stands b t x (goes_on None (record f { rest = followed_by body f.rest }) callers)
-
--- the requests of a JOIN: the child's id word is read, and while it isn't 0 the thread sleeps on it; then the outcome
--- is read, and the result
-pub record Awaits (b : Build) (t child : ℕ) (into : Option ℕ) (part : Part) (f : Frame)
-    (callers : List Caller) : Type 0 where
-  pub reads : Thread
-  pub sleeps : Thread
-  pub learns : Thread
-  pub takes : Thread
-  pub after_read : ℕ → Thread
-  pub after_sleep : ℕ → Thread
-  pub after_outcome : ℕ → Thread
-  pub after_result : ℕ → Thread
-  pub read : look b.code.image t reads ≡ Asks (AskLoad (process_word child 2)) after_read
-  pub sleep : look b.code.image t sleeps ≡ Asks (AskWait (process_word child 2) child) after_sleep
-  pub outcome : look b.code.image t learns ≡ Asks (AskLoad (process_word child 5)) after_outcome
-  pub result : look b.code.image t takes ≡ Asks (AskLoad (process_word child 4)) after_result
-  pub there : (n : ℕ) → StepsWithin b t join_steps (after_read (suc n)) sleeps
-  pub gone : StepsWithin b t join_steps (after_read 0) learns
-  pub again : (n : ℕ) → StepsWithin b t join_steps (after_sleep n) reads
-  pub ended : StepsWithin b t join_steps (after_outcome 16) takes
-  pub aborted : (n : ℕ) → n ≢ 16 → GoesAborted b t (after_outcome n) part f callers
-  pub taken : (w : ℕ) → w < 2 ^ 32 → Stands b t (after_result w)
-      (goes_on None (with_result into (signed_of w) f) callers)
+pub use Rattle.execution.specs.Awaiting.{IsOwn, IsQuiet, return_request, left_value, IsResult, join_steps, GoesAborted}
+pub use Rattle.execution.specs.Awaiting.{Awaits}
 
 -- locals with a word in the templates' own
 abbrev pub kept : Locals → ℕ → Locals

@@ -4,6 +4,8 @@ pub mod Later
 pub mod Walks
 pub mod Evaluation
 pub mod Shapes
+pub mod Bodies
 pub mod Following
+pub mod Awaiting
 pub mod Completing
 pub mod Builds
