@@ -44,10 +44,10 @@ set_twice [] i x y = refl
 set_twice (z ∷ zs) zero x y = refl
 set_twice (z ∷ zs) (suc i) x y = ap (λ ws. z ∷ ws) (set_twice zs i x y)
 
-put_twice : (k : ConcreteState) (t : ℕ) (x y : Thread) → put_thread (put_thread k t x) t y ≡ put_thread k t y
+pub put_twice : (k : ConcreteState) (t : ℕ) (x y : Thread) → put_thread (put_thread k t x) t y ≡ put_thread k t y
 put_twice k t x y = λ i. record { common = k.common; threads = set_twice k.threads (t - 1) x y i }
 
-goes_local : (made t : ℕ) (c : Common) (l : Look) (x : Thread) → local_next l ≡ Some x
+pub goes_local : (made t : ℕ) (c : Common) (l : Look) (x : Thread) → local_next l ≡ Some x
     → (let R : Type 0 = Result Stepped StepFault in
     (let a : R = thread_step made t c l in a)
     ≡ (let b : R = Ok (record { common = c; thread = x; child = None; event = plain name.Local 0 }) in b))
@@ -67,11 +67,11 @@ module _ (p : Program) (k k' : ConcreteState) (t : ℕ) (event : Event) (done : 
   abbrev s : State
   s = state_of k
 
-  abbrev Gives : Look → Type 0
+  abbrev pub Gives : Look → Type 0
   Gives l = on_machine k t (thread_step (length k.threads) t k.common l) ≡ Ok (k', event)
 
   -- what a word is answered with is the value of the event
-  by_word : (go : ℕ → Thread) (a answer : ℕ) (after : Common) (n : EventName) (b : Bool) → b ≡ true
+  pub by_word : (go : ℕ → Thread) (a answer : ℕ) (after : Common) (n : EventName) (b : Bool) → b ≡ true
       → on_machine k t (go_on_with go (if b then gives answer after (plain n answer) else Err Broken)) ≡ Ok (k', event)
       → event.value ≡ answer
   by_word go a answer after n true is h = sym (ap value_of h)
@@ -92,7 +92,7 @@ module _ (p : Program) (k k' : ConcreteState) (t : ℕ) (event : Event) (done : 
   by_room go entry arguments false true h = (λ e. absurd cc, λ e. sym (ap value_of h))
   by_room go entry arguments false false h = absurd cc
 
-  by_fork : (go : ℕ → Thread) (entry : ℕ) (arguments : List ℕ) (room : Bool) (answer : ℕ) (mid : State)
+  pub by_fork : (go : ℕ → Thread) (entry : ℕ) (arguments : List ℕ) (room : Bool) (answer : ℕ) (mid : State)
       → Serves t (AskFork entry arguments room) s woken answer mid → Gives (Asks (AskFork entry arguments room) go)
       → event.value ≡ answer
   by_fork go entry arguments room answer mid (none, inl (full, is, same)) h =
@@ -126,14 +126,14 @@ module _ (p : Program) (k k' : ConcreteState) (t : ℕ) (event : Event) (done : 
   heard Breaks s' h g = absurd g
   heard Rests s' h g = absurd g
 
-goes_by : (l : Look) (y : Thread) → local_next l ≡ Some y → l ≡ Goes y
+pub goes_by : (l : Look) (y : Thread) → local_next l ≡ Some y → l ≡ Goes y
 goes_by (Goes z) y e = cc
 goes_by (Asks request go) y e = absurd cc
 goes_by (Leaves phase) y e = absurd cc
 goes_by Breaks y e = absurd cc
 goes_by Rests y e = absurd cc
 
-same_thread : {x y : Thread} → Some x ≡ Some y → x ≡ y
+pub same_thread : {x y : Thread} → Some x ≡ Some y → x ≡ y
 same_thread e = cc
 
 module _ (p : Program) (w : WellFormed p) where

@@ -3,4 +3,4 @@
 
 mod law;
 
-pub use law::source_follows_logs;
+pub use law::{source_follows_logs, waiting_follows_logs};
