@@ -1,8 +1,8 @@
 -- The source behind the entries of a log: their local steps, and their shared steps.
-use Rattle.std.proofs.Common.{◌≡◌, ℕ, zero, suc, ◌+◌, ◌<◌, ◌==◌, ltb, Bool, true, false, not, List, [], ◌∷◌, length}
+use Rattle.std.proofs.Common.{◌≡◌, ℕ, zero, suc, ◌+◌, ◌<◌, ◌==◌, Bool, true, false, List, [], ◌∷◌, length}
 use Rattle.std.proofs.Common.{Option, Some, None, Result, Ok, Err, refl, ap, sym, ◌∙◌, subst, arith, inl, inr, slice_set}
 use Rattle.std.proofs.Common.{length-set, lt-ltb}
-use Rattle.std.specs.Prelude.{◌^◌, ◌-◌, nat_lt, slice_index, if◌then◌else◌}
+use Rattle.std.specs.Prelude.{◌^◌, ◌-◌, nat_lt, if◌then◌else◌}
 use Rattle.std.proofs.lemmas.Bool.{eq-eqb, ne_eqb}
 use Rattle.words.specs.Limits.{most_processes}
 use Rattle.words.specs.Process.{process_word}
@@ -17,11 +17,9 @@ use Rattle.machine.specs.declared.event.EventName.TheVariants as name
 use Rattle.machine.specs.declared.event.StepFault.{StepFault}
 use Rattle.machine.specs.declared.event.StepFault.TheVariants.{Broken}
 use Rattle.machine.specs.States.{Common, State, ConcreteState, thread_of, state_of, opening_concrete}
-use Rattle.machine.specs.Runs.{Step, IsStep}
-use Rattle.machine.specs.Views.{IsWellFormed}
 use Rattle.machine.specs.AbstractServing.{Serves}
 use Rattle.machine.specs.ConcreteServing.{plain, gives, load, set_word}
-use Rattle.machine.specs.ConcreteSteps.{Stepped, thread_step, on_machine, go_on_with, step_of, step_awake, step_thread}
+use Rattle.machine.specs.ConcreteSteps.{Stepped, thread_step, on_machine, go_on_with, step_of}
 use Rattle.machine.specs.ConcreteSteps.{put_thread}
 use Rattle.machine.proofs.Stepping.{opens_so, steps_so}
 use Rattle.runner.specs.Logs.{Enters, Ends, event_cost}
@@ -33,10 +31,10 @@ use Rattle.program.specs.WellFormed.{WellFormed}
 use Rattle.code.specs.Pieces.{code_of}
 use Rattle.meaning.specs.States.{SourceState, opening}
 use Rattle.product.specs.Placing.{MovesSo, completes}
-use Rattle.product.specs.Tracking.{Tracks, Owes}
+use Rattle.product.specs.Tracking.{Tracks}
 use Rattle.product.proofs.Completions.{told_apart}
 use Rattle.product.proofs.Tracking.{opens_tracking, tracks}
-use Rattle.tracking.specs.Entries.{is_heard, Attends, IsDue, Follows, EntriesSo}
+use Rattle.tracking.specs.Entries.{is_heard, Attends, IsDue, Follows}
 
 -- a thread that is put twice
 set_twice : {A : Type 0} → (xs : List A) (i : ℕ) (x y : A) → slice_set (slice_set xs i x) i y ≡ slice_set xs i y

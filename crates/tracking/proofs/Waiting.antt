@@ -84,8 +84,7 @@ module _ (p : Program) (w : WellFormed p) where
       (subst (λ (x : Thread). StepsSo p so.0 waits.0 (mark_of (marks_of p) x) (state_of k) t d.0 (look (code_of p) t x)
       (state_of k')) is waits.1) in (
         λ e.
-            let n = on.0 (shown ∙ e) in
-            (
+            let n = on.0 (shown ∙ e) in (
               record { kept = d.3; tracks = n.0 },
               n.1 ∙ ap (λ (l : Option Kind). put h.tracks.waiting t (waits_then l (h.tracks.waiting t))) told,
             ),
@@ -183,9 +182,11 @@ module _ (p : Program) (w : WellFormed p) where
             λ x.
                 let next = on.0 x in
                 subst (λ i. AttendsWith p w i k' a
-                (put ws e.thread (waits_shared p e.thread enters.here event.value (ws e.thread)))) n
-                (next.0, next.1 ∙ ap (λ (f : ℕ → List Kind). put f e.thread
-                (waits_shared p e.thread enters.here event.value (f e.thread))) was.1),
+                (put ws e.thread (waits_shared p e.thread enters.here event.value (ws e.thread)))) n (
+                  next.0,
+                  next.1 ∙ ap (λ (f : ℕ → List Kind). put f e.thread
+                      (waits_shared p e.thread enters.here event.value (f e.thread))) was.1,
+                ),
             λ x.
                 let due = on.1 x in
                 subst (λ i. IsDueWith p w i k' e.thread a ws) n

@@ -6,7 +6,7 @@ use Rattle.locals.specs.Steps.{local_after}
 use Rattle.locals.specs.Looks.{Look, Goes, Asks, Leaves, Breaks, Rests, look}
 use Rattle.machine.specs.declared.event.Entry.{Entry}
 use Rattle.machine.specs.declared.event.Event.{Event}
-use Rattle.machine.specs.States.{ConcreteState, opening_concrete, state_of}
+use Rattle.machine.specs.States.{ConcreteState, state_of}
 use Rattle.machine.specs.Views.{IsWellFormed}
 use Rattle.runner.specs.Logs.{Enters, event_cost}
 use Rattle.program.specs.Trees.{Program}
@@ -15,7 +15,7 @@ use Rattle.code.specs.declared.mark.Mark.{Mark}
 use Rattle.code.specs.Pieces.{code_of, marks_of}
 use Rattle.execution.specs.Later.{mark_of, later_mark, later_step}
 use Rattle.meaning.specs.Labels.{Kind}
-use Rattle.meaning.specs.States.{SourceState, opening}
+use Rattle.meaning.specs.States.{SourceState}
 use Rattle.product.specs.Placing.{completes, completes_exit}
 use Rattle.product.specs.Waiting.{waits_then}
 use Rattle.product.specs.Tracking.{Tracks, Owes}
