@@ -66,7 +66,8 @@ fn is_image_of(alloc: Global, checked: &Checked, image: &Image) -> Result<bool, 
     }
 }
 
-// Explains a log of the program's image. That the program has one is known, so nothing is refused but for want of memory.
+// Explains a log of the program's image. That the program has one is known, so nothing is refused but for want of
+// memory.
 fn explain_log(
     alloc: Global,
     checked: &Checked,

@@ -1,4 +1,5 @@
-ghost use Rattle.std.specs.Prelude.{◌≡◌, ◌≤◌, [], IfOk, List, None, OnOk, Some, false, length, option_map, take, true, ℕ};
+ghost use Rattle.std.specs.Prelude.{◌≡◌, ◌≤◌, [], IfOk, List, None, OnOk, Some, false, length, option_map, take, true};
+ghost use Rattle.std.specs.Prelude.{ℕ};
 ghost use Rattle.machine.specs.States.{State, state_of as machine_state};
 ghost use Rattle.machine.specs.Views.{concrete};
 ghost use Rattle.program.specs.Names.{said_by};
@@ -131,8 +132,8 @@ impl<'a> Follower<'a> {
         }
     }
 
-    /// Takes the quiet actions that a process can take next, those that no other process learns of, so many at most. False
-    /// where one wasn't possible.
+    /// Takes the quiet actions that a process can take next, those that no other process learns of, so many at most.
+    /// False where one wasn't possible.
     pub fn settle(&mut self, t: u32, most: u32) -> Result<bool, AllocError>
         ensures pays { IfOk result (λ b. (w : WellFormed (said_by self.old.checked.now)) (steps : ℕ)
             (s : State) (ks : List Kind)

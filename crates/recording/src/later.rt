@@ -20,8 +20,8 @@ pub fn waits(mark: Mark) -> bool {
     )
 }
 
-/// The same of a step at this mark with which a thread asks for this: a fault waits, and the return of a process's first
-/// procedure.
+/// The same of a step at this mark with which a thread asks for this: a fault waits, and the return of a process's
+/// first procedure.
 pub fn request_waits(mark: Mark, step: NextStep) -> bool {
     match step {
         NextStep::Shared(Request::Fault(_)) => true,

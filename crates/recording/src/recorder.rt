@@ -179,7 +179,8 @@ impl<'a> Recorder<'a> {
         Ok(true)
     }
 
-    /// All actions of the log; those that wait come last, by rising process.
+    /// All actions of the log; those that wait come last, by rising process. Behind them the same has to be seen as of the
+    /// machine, which is tried; were it not, they would be left out.
     pub fn finish(self, machine: &Machine) -> Result<Vec<Action>, AllocError>
         ensures { IfOk result (λ actions. (p : Program) (w : WellFormed p) (n : ℕ)
             → IsAlong p w n (concrete machine.now) self.entry → self.entry.is_whole ≡ true
