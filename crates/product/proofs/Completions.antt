@@ -39,7 +39,7 @@ use Rattle.product.specs.Serving.{IsAskable}
 use Rattle.product.specs.Waiting.{Stage, stage_of, Agrees, Stays, Works}
 use Rattle.code.specs.declared.mark.Mark.{Mark}
 use Rattle.execution.specs.Later.{later_mark, later_request}
-use Rattle.product.specs.Explaining.{answer_in, heard_step}
+use Rattle.product.specs.Progress.{answer_in, heard_step}
 use Rattle.execution.specs.Later.{later_step}
 
 none_below : (k : ℕ) (test : ℕ → Bool) → ((n : ℕ) → n < k → test n ≡ false) → any_below k test ≡ false

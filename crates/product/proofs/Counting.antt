@@ -15,7 +15,7 @@ use Rattle.meaning.specs.States.{SourceState}
 use Rattle.execution.specs.Later.{mark_of, later_step}
 use Rattle.protocol.proofs.Sleeps.{put_same, put_other}
 use Rattle.refinement.specs.Pace.{is_action_of}
-use Rattle.product.specs.Explaining.{answer_in, heard_step}
+use Rattle.product.specs.Progress.{answer_in, heard_step}
 use Rattle.product.specs.Placing.{Places, act}
 use Rattle.product.specs.Placing as P
 use Rattle.product.specs.Waiting.{Stage, Agrees, is_failing, has_failed, waits_then}

@@ -16,7 +16,8 @@ use Rattle.meaning.specs.States.{SourceState, opening}
 use Rattle.deferral.specs.Placed.{actions_of, actions_up_to}
 use Rattle.execution.specs.Later.{mark_of, later_step}
 use Rattle.product.specs.Corresponding.{Corresponds}
-use Rattle.product.specs.Explaining.{answer_in, heard_step, at_step, explanation_from, explanation}
+use Rattle.product.specs.Explaining.{at_step, explanation_from, explanation}
+use Rattle.product.specs.Progress.{answer_in, heard_step}
 use Rattle.product.specs.Placing.{act, acted}
 use Rattle.product.specs.Tracking.{CanTake, Tracks, Owes}
 use Rattle.product.specs.Waiting.{waits_then}

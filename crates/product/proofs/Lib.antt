@@ -1,6 +1,7 @@
 pub mod Standings
 pub mod Worlds
 pub mod Sourcing
+pub mod Nexts
 pub mod Moving
 pub mod Completions
 pub mod Resumed

@@ -34,7 +34,7 @@ use Rattle.product.proofs.Observing.{sound, ends}
 use Rattle.product.proofs.Resting.{at_rest, sleepers}
 use Rattle.execution.specs.Later.{mark_of}
 use Rattle.product.specs.Waiting.{Stage, stages, Agrees, has_failed}
-use Rattle.product.specs.Explaining.{answer_in, heard_step}
+use Rattle.product.specs.Progress.{answer_in, heard_step}
 use Rattle.execution.specs.Later.{later_step}
 use Rattle.product.proofs.Completions.{steps_so}
 use Rattle.product.proofs.Tracking.{agrees_next}

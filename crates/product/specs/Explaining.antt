@@ -3,32 +3,17 @@
 -- last.
 use Rattle.std.specs.Prelude.{ℕ, Bool, true, false, List, [], ◌∷◌, ◌++◌}
 use Rattle.words.specs.Updates.{put}
-use Rattle.locals.specs.Looks.{Look, Goes, Asks, Leaves, Breaks, Rests, look}
+use Rattle.locals.specs.Looks.{look}
 use Rattle.machine.specs.States.{State, opening_state}
-use Rattle.machine.specs.Runs.{Step, Moves, GoesBy, MachineRun}
+use Rattle.machine.specs.Runs.{Step, GoesBy, MachineRun}
 use Rattle.program.specs.Trees.{Program}
 use Rattle.code.specs.Pieces.{code_of, marks_of}
 use Rattle.meaning.specs.Labels.{Kind, Action}
 use Rattle.deferral.specs.Placed.{actions_of, actions_up_to}
 use Rattle.execution.specs.Later.{mark_of, later_step}
-use Rattle.product.specs.Placing.{completes, completes_exit, act}
+use Rattle.product.specs.Placing.{act}
+use Rattle.product.specs.Progress.{answer_in, heard_step}
 use Rattle.product.specs.Waiting.{waits_then}
-
--- the answer to what a step asks
-abbrev pub answer_in : (s s' : State) (t : ℕ) (woken : List ℕ) (l : Look) → Moves s t woken l s' → ℕ
-answer_in s s' t woken (Goes x) g = 0
-answer_in s s' t woken (Asks request go) g = g.0
-answer_in s s' t woken (Leaves phase) g = 0
-answer_in s s' t woken Breaks g = 0
-answer_in s s' t woken Rests g = 0
-
--- whether others learn of a step that looks so
-abbrev pub heard_step : Program → Look → (answer : ℕ) → Bool
-heard_step p (Goes x) r = false
-heard_step p (Asks request go) r = completes p request r
-heard_step p (Leaves phase) r = completes_exit phase
-heard_step p Breaks r = false
-heard_step p Rests r = false
 
 -- at a step of process t which others learn of come the actions that wait, and the next which others learn of
 abbrev pub at_step : Bool → (t : ℕ) → (waiting heard : List Kind) → (quietly : List Action)

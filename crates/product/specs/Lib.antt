@@ -4,5 +4,7 @@ pub mod Standing
 pub mod Ranks
 pub mod Corresponding
 pub mod Tracking
+pub mod Next
+pub mod Progress
 pub mod Explaining
 pub mod Serving

@@ -1,0 +1,95 @@
+-- What a process does next, and where that leads: a function of the state, where it is known whether others learn of it.
+use Rattle.std.specs.Prelude.{ℕ, ◌+◌, Bool, true, false, List, [], ◌∷◌, Option, Some, None, if◌then◌else◌}
+use Rattle.words.specs.Updates.{put}
+use Rattle.machine.specs.States.{State}
+use Rattle.program.specs.Trees.{Program}
+use Rattle.meaning.specs.Values.{Variables}
+use Rattle.meaning.specs.Labels.{End, Kind, Label, Forks, FindsFull, Claims, FindsClaimed, Joins, Enters}
+use Rattle.meaning.specs.Labels.{Resumes, Exits, Waits, Notifies, Broadcasts, Abandons, Ends, kind_of}
+use Rattle.meaning.specs.Table.{Table, Hold, Free, Abandoned, HeldBy, without_waiters}
+use Rattle.meaning.specs.Processes.{Process}
+use Rattle.meaning.specs.Offers.{Effect, Nothing, Makes, Offer, Rests, Does, Takes, MakesOne, ClaimsOne, JoinsOne}
+use Rattle.meaning.specs.Offers.{NotifiesSome, NotifiesAll, offer}
+use Rattle.meaning.specs.States.{SourceState}
+use Rattle.product.specs.Placing.{acted, awake_waiters}
+
+-- an action of a process's own, what it does beside the process, and where the process stands after it
+pub record NextAction : Type 0 where
+  pub label : Label
+  pub effect : Effect
+  pub after : Process
+
+-- the quiet action of an offer, where it has one: a process finds the table full, or another one claimed
+abbrev pub quiet_next : Offer → Option NextAction
+quiet_next (Does l e q) = Some (record { label = l; effect = e; after = q })
+quiet_next (MakesOne child q full) = Some (record { label = FindsFull; effect = Nothing; after = full })
+quiet_next (ClaimsOne child q refused) = Some (record { label = FindsClaimed child; effect = Nothing; after = refused })
+quiet_next other = None
+
+abbrev pub is_abandoned : Hold → Bool
+is_abandoned Abandoned = true
+is_abandoned other = false
+
+-- the monitor that is entered
+abbrev pub entered : Label → ℕ
+entered (Enters m was_abandoned) = m
+entered (Resumes m was_abandoned) = m
+entered label = 0
+
+abbrev pub joins_next : ℕ → (End → Process) → Option End → Option NextAction
+joins_next child q None = None
+joins_next child q (Some end) = Some (record { label = Joins child end; effect = Nothing; after = q end })
+
+-- the action of an offer which others learn of, in this table; a notify or a broadcast resumes those who wait on the
+-- condition and don't sleep on its word in this state of the machine
+abbrev pub heard_next : Program → State → Table → Offer → Option NextAction
+heard_next p s T Rests = None
+heard_next p s T (Does l e q) = Some (record { label = l; effect = e; after = q })
+heard_next p s T (Takes l free abandoned) =
+    let b = is_abandoned (T.hold (entered (l false))) in
+    Some (record { label = l b; effect = Nothing; after = if b then abandoned else free })
+heard_next p s T (MakesOne child q full) =
+    let n = T.made + 1 in Some (record { label = Forks n; effect = Makes n child; after = q n })
+heard_next p s T (ClaimsOne child q refused) = Some (record { label = Claims child; effect = Nothing; after = q })
+heard_next p s T (JoinsOne child q) = joins_next child q (T.over child)
+heard_next p s T (NotifiesSome c q) =
+    Some (record { label = Notifies c (awake_waiters p s T c); effect = Nothing; after = q })
+heard_next p s T (NotifiesAll c q) =
+    Some (record { label = Broadcasts c (awake_waiters p s T c); effect = Nothing; after = q })
+
+-- the table behind an action of process t
+abbrev pub table_after : (t : ℕ) → Label → Table → Table
+table_after t (Forks child) T = record T { made = T.made + 1 }
+table_after t (Claims child) T = record T { claimed = put T.claimed child true }
+table_after t (Enters m was_abandoned) T = record T { hold = put T.hold m (HeldBy t) }
+table_after t (Resumes m was_abandoned) T = record T { hold = put T.hold m (HeldBy t) }
+table_after t (Exits m) T = record T { hold = put T.hold m Free }
+table_after t (Waits c) T = record T { hold = put T.hold c.monitor Free; waits = put T.waits t (Some c) }
+table_after t (Notifies c resumed) T = record T { waits = without_waiters resumed T.waits }
+table_after t (Broadcasts c resumed) T = record T { waits = without_waiters resumed T.waits }
+table_after t (Abandons m) T = record T { hold = put T.hold m Abandoned }
+table_after t (Ends end) T = record T { over = put T.over t (Some end) }
+table_after t label T = T
+
+-- the state behind it
+abbrev pub after_next : (t : ℕ) → Option NextAction → SourceState → SourceState
+after_next t None a = a
+after_next t (Some x) a = acted a t x.effect x.after (table_after t x.label a.table)
+
+abbrev pub offered : Program → Variables → Option Process → Offer
+offered p v None = Rests
+offered p v (Some q) = offer p v q
+
+-- its name
+abbrev pub named : Option NextAction → List Kind
+named None = []
+named (Some x) = kind_of x.label ∷ []
+
+-- the quiet actions of process t, as many as these, are taken
+abbrev pub paid : Program → (t : ℕ) → List Kind → SourceState → SourceState
+paid p t [] a = a
+paid p t (k ∷ ks) a = paid p t ks (after_next t (quiet_next (offered p a.variable (a.process t))) a)
+
+-- what others learn of next from process t
+abbrev pub next_heard : Program → State → (t : ℕ) → SourceState → Option NextAction
+next_heard p s t a = heard_next p s a.table (offered p a.variable (a.process t))

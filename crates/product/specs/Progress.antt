@@ -1,0 +1,76 @@
+-- How far the source has come behind some steps of the machine, as a function of the steps.
+use Rattle.std.specs.Prelude.{ℕ, Bool, true, false, List, [], ◌∷◌, ◌++◌, Option}
+use Rattle.words.specs.Updates.{put}
+use Rattle.locals.specs.Looks.{Look, Goes, Asks, Leaves, Breaks, Rests, look}
+use Rattle.machine.specs.States.{State, opening_state}
+use Rattle.machine.specs.Runs.{Step, Moves, GoesBy, MachineRun}
+use Rattle.program.specs.Trees.{Program}
+use Rattle.code.specs.Pieces.{code_of, marks_of}
+use Rattle.meaning.specs.Labels.{Kind, Action}
+use Rattle.meaning.specs.States.{SourceState, opening}
+use Rattle.deferral.specs.Placed.{actions_of}
+use Rattle.execution.specs.Later.{mark_of, later_step}
+use Rattle.product.specs.Next.{after_next, named, next_heard, paid}
+use Rattle.product.specs.Placing.{completes, completes_exit}
+use Rattle.product.specs.Waiting.{waits_then}
+
+-- the answer to what a step asks
+abbrev pub answer_in : (s s' : State) (t : ℕ) (woken : List ℕ) (l : Look) → Moves s t woken l s' → ℕ
+answer_in s s' t woken (Goes x) g = 0
+answer_in s s' t woken (Asks request go) g = g.0
+answer_in s s' t woken (Leaves phase) g = 0
+answer_in s s' t woken Breaks g = 0
+answer_in s s' t woken Rests g = 0
+
+-- whether others learn of a step that looks so
+abbrev pub heard_step : Program → Look → (answer : ℕ) → Bool
+heard_step p (Goes x) r = false
+heard_step p (Asks request go) r = completes p request r
+heard_step p (Leaves phase) r = completes_exit phase
+heard_step p Breaks r = false
+heard_step p Rests r = false
+
+-- a run of the source behind some steps of the machine: its actions, where they lead, and what still waits of each
+-- process
+pub record Progress : Type 0 where
+  pub actions : List Action
+  pub source : SourceState
+  pub waiting : ℕ → List Kind
+
+-- what waits of process t is taken
+abbrev pub progress_paid : Program → (t : ℕ) → Progress → Progress
+progress_paid p t g = record {
+  actions = g.actions ++ actions_of t (g.waiting t);
+  source = paid p t (g.waiting t) g.source;
+  waiting = put g.waiting t [];
+}
+
+-- and the next action of it which others learn of, by a step to this state of the machine
+abbrev pub progress_next : Program → State → (t : ℕ) → Progress → Progress
+progress_next p s t g =
+    let next = next_heard p s t g.source in
+    record g {
+      actions = g.actions ++ actions_of t (named next);
+      source = after_next t next g.source;
+    }
+
+-- behind a step of process t that others learn of; behind another, one more may wait
+abbrev pub progress_step : Program → (heard : Bool) → (late : Option Kind) → State → (t : ℕ) → Progress → Progress
+progress_step p true late s t g = progress_next p s t (progress_paid p t g)
+progress_step p false late s t g = record g { waiting = put g.waiting t (waits_then late (g.waiting t)) }
+
+abbrev pub progress_by : (p : Program) → Progress → (steps : List Step) → (s s' : State)
+    → GoesBy (code_of p) s steps s' → Progress
+progress_by p g [] s s' run = g
+progress_by p g (l ∷ ls) s s' run =
+    let looks = look (code_of p) l.thread run.1.thread in
+    let answer = answer_in s run.0 l.thread l.woken looks run.1.moves in
+    let late = later_step (mark_of (marks_of p) run.1.thread) looks answer in
+    progress_by p (progress_step p (heard_step p looks answer) late run.0 l.thread g) ls run.0 s' run.2
+
+abbrev pub opening_progress : Program → Progress
+opening_progress p = record { actions = []; source = opening p; waiting = λ t. [] }
+
+-- of a run from the opening state
+abbrev pub progress : (p : Program) (steps : List Step) (s : State) → MachineRun (code_of p) steps s → Progress
+progress p steps s run = progress_by p (opening_progress p) steps (opening_state (code_of p)) s run
