@@ -1,242 +1,247 @@
 -- The run that explains, by the machine's steps, is one.
-use Rattle.std.proofs.Common.{◌≡◌, ℕ, suc, ◌+◌, ◌<◌, Bool, true, false, List, [], ◌∷◌, length, refl, ap}
-use Rattle.std.proofs.Common.{sym}
-use Rattle.std.proofs.Common.{◌∙◌, subst, arith}
-use Rattle.std.specs.Prelude.{◌^◌}
+use Rattle.std.proofs.Common.{◌≡◌, ℕ, suc, ◌+◌, ◌<◌, Bool, true, false, List, [], ◌∷◌, length, refl, ap, Option}
+use Rattle.std.proofs.Common.{sym, ◌∙◌, subst, arith}
+use Rattle.std.specs.Prelude.{◌^◌, ◌++◌}
 use Rattle.words.specs.Updates.{put}
-use Rattle.locals.specs.Looks.{look}
+use Rattle.locals.specs.Looks.{look, Look}
 use Rattle.machine.specs.States.{State, opening_state}
-use Rattle.machine.specs.Runs.{Step, GoesBy, MachineRun}
+use Rattle.machine.specs.Runs.{Step, GoesBy, MachineRun, IsStep}
 use Rattle.program.specs.Trees.{Program}
 use Rattle.program.specs.WellFormed.{WellFormed}
 use Rattle.code.specs.Pieces.{code_of, marks_of}
-use Rattle.meaning.specs.Labels.{Kind, kind_of}
-use Rattle.meaning.specs.Runs.{Leads, IsStep as IsSourceStep}
+use Rattle.meaning.specs.Labels.{Kind, kind_of, Action}
+use Rattle.meaning.specs.Runs.{IsRun, Leads, IsStep as IsSourceStep}
 use Rattle.meaning.specs.States.{SourceState, opening}
 use Rattle.deferral.specs.Placed.{actions_of, actions_up_to}
 use Rattle.execution.specs.Later.{mark_of, later_step}
 use Rattle.product.specs.Corresponding.{Corresponds}
-use Rattle.product.specs.Explaining.{at_step, explanation_from, explanation}
-use Rattle.product.specs.Progress.{answer_in, heard_step}
-use Rattle.product.specs.Placing.{act, acted}
+use Rattle.product.specs.Explaining.{explanation, IsReached}
+use Rattle.product.specs.Next.{after_next, named, next_heard, offered, paid, quiet_next}
+use Rattle.product.specs.Placing.{act}
+use Rattle.product.specs.Progress.{answer_in, heard_step, Progress, progress, progress_by, progress_step}
+use Rattle.product.specs.Progress.{opening_progress}
 use Rattle.product.specs.Tracking.{CanTake, Tracks, Owes}
-use Rattle.product.specs.Waiting.{waits_then}
+use Rattle.product.specs.Waiting.{waits_then, Stage, Agrees, AreOwn}
 use Rattle.product.proofs.Completions.{steps_so}
-use Rattle.product.proofs.Finishing.{finishes}
+use Rattle.product.proofs.Nexts.{pays_behind, heard_is, heard_so}
+use Rattle.product.proofs.Finishing.{finishes, finishes_counted, finishes_own, own_of, own_both}
 use Rattle.product.proofs.Local.{put_again}
 use Rattle.product.proofs.Sourcing.{action}
-use Rattle.product.proofs.Tracking.{opens_waiting, tracks_waiting, pays_waiting, settles_waiting}
-use Rattle.product.proofs.Whole.{leads_on}
+use Rattle.product.proofs.Tracking.{opens_waiting, tracks_waiting, pays_waiting, settles_waiting, settles_own}
+use Rattle.product.proofs.Whole.{AllOwn, leads_on, come, most, few, own_kinds, none_from_outside}
 use Rattle.product.proofs.Worlds.{put_put}
 use Rattle.product.proofs.Observing.{ends, sound}
 use Rattle.product.proofs.Resting.{at_rest, sleepers}
-use Rattle.refinement.specs.Pace.{is_action_of}
-use Rattle.product.proofs.Whole.{AllOwn}
-use Rattle.product.proofs.Finishing.{finishes_counted, finishes_own, own_of, own_both}
-use Rattle.product.proofs.Tracking.{settles_own}
-use Rattle.product.proofs.Paces.{count_by-append}
+use Rattle.product.proofs.Paces.{count_by-append, keeps_pace}
 use Rattle.product.proofs.Counting.{count, counts, count_map, count_one, of_one, step_count, behind, length_waits}
 use Rattle.product.proofs.Counting.{length_taken}
-use Rattle.refinement.specs.Pace.{stretch_length}
-use Rattle.refinement.specs.Refines.{Explained, is_stray_kind, is_kill_kind}
-use Rattle.product.specs.Waiting.{Stage, Agrees}
-use Rattle.product.proofs.Whole.{come, most, few, own_kinds, none_from_outside}
 use Rattle.product.proofs.Opening.{opens, opens_calm}
-use Rattle.product.proofs.Paces.{keeps_pace}
 use Rattle.product.proofs.Bounds.{left_short}
 use Rattle.product.proofs.Moving.{left_of}
+use Rattle.refinement.specs.Pace.{is_action_of, stretch_length}
+use Rattle.refinement.specs.Refines.{Explained, is_stray_kind, is_kill_kind}
 
 module _ (p : Program) (w : WellFormed p) where
   -- all that waits of a process is taken
   pay_all : (steps : ℕ) (s : State) (t : ℕ) (ks : List Kind) (a : SourceState) (o : Owes p w steps s t a ks)
-      → (a' : SourceState) × Leads p a (actions_of t ks) a'
-      × ((n : Owes p w steps s t a' []) × (n.waiting ≡ put o.waiting t []))
-  pay_all steps s t [] a o = (a, refl, (o, put_again o.waiting t [] o.mine))
+      → Leads p a (actions_of t ks) (paid p t ks a)
+      × ((n : Owes p w steps s t (paid p t ks a) []) × (n.waiting ≡ put o.waiting t []))
+  pay_all steps s t [] a o = (refl, (o, put_again o.waiting t [] o.mine))
   pay_all steps s t (k ∷ ks) a o =
       let pays = pays_waiting p w steps s t a k ks o in
-      let can : CanTake p a t pays.0 = pays.3 in
-      let a1 = acted a t can.effect can.after can.table in
-      let step : IsSourceStep p a (act t k) a1 = subst (λ (i : Kind). IsSourceStep p a (act t i) a1) (sym pays.1)
-      (action p a t can.before can.after pays.0 can.effect can.table can.stands can.takes can.allows) in
-      let next = pays.4 a1 step in
-      let more = pay_all steps s t ks a1 next.0 in (
-        more.0,
-        (a1, step, more.1),
-        (more.2.0, more.2.1 ∙ ap (λ (f : ℕ → List Kind). put f t []) next.1 ∙ put_put o.waiting t ks []),
+      let step = (pays_behind p t o.waiting a o.now k ks o.behind o.mine).4 in
+      let there = after_next t (quiet_next (offered p a.variable (a.process t))) a in
+      let next = pays.4 there step in
+      let more = pay_all steps s t ks there next.0 in (
+        (there, step, more.0),
+        (more.1.0, more.1.1 ∙ ap (λ (f : ℕ → List Kind). put f t []) next.1 ∙ put_put o.waiting t ks []),
       )
 
-  -- where a run leads from states that belong together
-  abbrev Leads' : (taken : ℕ) (a : SourceState) → (ℕ → List Kind) → (steps : List Step) → (s s' : State)
-      → GoesBy (code_of p) s steps s' → Type 0
-  Leads' taken a waiting steps s s' run = (heard : List Kind) × (source : SourceState)
-      × Leads p a (explanation_from p waiting heard steps s s' run) source
-      × Corresponds p w (taken + length steps) s' source
-      × ((t : ℕ) → count t (explanation_from p waiting heard steps s s' run)
-      ≡ length (waiting t) + counts p waiting steps s s' run t)
-      × AllOwn (explanation_from p waiting heard steps s s' run)
+  -- the source behind some steps: also, all its actions are of processes' own
+  pub record Reaches (taken : ℕ) (s : State) (g : Progress) : Type 0 where
+    pub is : IsReached p w taken s g
+    pub own : AllOwn g.actions
 
-  leads_so : (steps : List Step) (taken : ℕ) (s s' : State) (a : SourceState) (r : Tracks p w taken s a)
-      (run : GoesBy (code_of p) s steps s') → taken + length steps < 2 ^ 32 → Leads' taken a r.waiting steps s s' run
-  leads_so [] taken s s' a r run short =
-      let done = finishes p w taken s a r in
-      let same : taken ≡ taken + 0 = omega arith in
-      subst (λ (x : State). (heard : List Kind) × (source : SourceState)
-      × Leads p a (actions_up_to x.made r.waiting) source × Corresponds p w (taken + 0) x source
-      × ((t : ℕ) → count t (actions_up_to x.made r.waiting) ≡ length (r.waiting t) + 0)
-      × AllOwn (actions_up_to x.made r.waiting)) run (
-        [],
-        done.0,
-        done.1,
-        subst (λ n. Corresponds p w n s done.0) same done.2,
-        λ t. let all = finishes_counted p w taken s a r t in omega (arith, all),
-        finishes_own p w taken s a r,
+  -- as many actions of each process more, taken or waiting
+  abbrev pub Adds : Progress → Progress → (ℕ → ℕ) → Type 0
+  Adds g g' more = (t : ℕ) → count t g'.actions + length (g'.waiting t)
+      ≡ count t g.actions + length (g.waiting t) + more t
+
+  module _ (taken : ℕ) (s : State) (g : Progress) (r : Reaches taken s g) (l : Step) (s' : State)
+      (st : IsStep (code_of p) s l s') (short : taken + 1 < 2 ^ 32) where
+    abbrev t : ℕ
+    t = l.thread
+
+    abbrev looks : Look
+    looks = look (code_of p) l.thread st.thread
+
+    abbrev answer : ℕ
+    answer = answer_in s s' l.thread l.woken looks st.moves
+
+    abbrev late : Option Kind
+    late = later_step (mark_of (marks_of p) st.thread) looks answer
+
+    on : (heard_step p looks answer ≡ false → (n : Tracks p w (suc taken) s' g.source)
+        × (n.waiting ≡ put r.is.tracks.waiting t (waits_then late (r.is.tracks.waiting t))))
+        × (heard_step p looks answer ≡ true → (o : Owes p w (suc taken) s' t g.source (r.is.tracks.waiting t))
+        × (o.waiting ≡ r.is.tracks.waiting))
+    on = tracks_waiting p w taken s g.source r.is.tracks l s' st (heard_step p looks answer) late
+        (steps_so p (mark_of (marks_of p) st.thread) s s' l.thread l.woken looks st.moves) short
+
+    by_heard : (b : Bool) → heard_step p looks answer ≡ b
+        → Reaches (suc taken) s' (progress_step p b late s' t g)
+        × Adds g (progress_step p b late s' t g) (λ u. of_one t u (step_count b late (g.waiting t)))
+    by_heard false e =
+        let n = on.0 e in (
+          record {
+            is = record {
+              run = r.is.run;
+              tracks = n.0;
+              waits = n.1 ∙ ap (λ (f : ℕ → List Kind). put f t (waits_then late (f t))) r.is.waits;
+            };
+            own = r.own;
+          },
+          λ u. let long = length_waits g.waiting t u late in omega (arith, long),
+        )
+    by_heard true e =
+        let ks = g.waiting t in
+        let o = on.1 e in
+        let owes = subst (λ (f : ℕ → List Kind). (i : Owes p w (suc taken) s' t g.source (f t))
+        × (i.waiting ≡ r.is.tracks.waiting)) r.is.waits o in
+        let paying = pay_all (suc taken) s' t ks g.source owes.0 in
+        let a = paid p t ks g.source in
+        let last = settles_waiting p w (suc taken) s' t a paying.1.0 in
+        let can : CanTake p a t last.0 = last.2 in
+        let kind = kind_of last.0 in
+        let there = after_next t (next_heard p s' t a) a in
+        let step : IsSourceStep p a (act t kind) there =
+        subst (λ (x : SourceState). IsSourceStep p a (act t kind) x)
+        (sym (heard_so p a t last.0 can s' last.1 last.3))
+        (action p a t can.before can.after last.0 can.effect can.table can.stands can.takes can.allows) in
+        let next = last.4 there step in
+        let name : actions_of t (named (next_heard p s' t a)) ≡ act t kind ∷ [] =
+        ap (λ n. actions_of t (named n)) (heard_is p a t last.0 can s' last.1 last.3) in
+        let led : Leads p a (actions_of t (named (next_heard p s' t a))) there =
+        subst (λ (l : List Action). Leads p a l there) (sym name) (there, step, refl) in
+        let paid_run : IsRun p (g.actions ++ actions_of t ks) a =
+        leads_on p (opening p) g.source a g.actions (actions_of t ks) r.is.run paying.0 in (
+          record {
+            is = record {
+              run = leads_on p (opening p) a there (g.actions ++ actions_of t ks)
+                  (actions_of t (named (next_heard p s' t a))) paid_run led;
+              tracks = next.0;
+              waits = next.1 ∙ paying.1.1 ∙ ap (λ (f : ℕ → List Kind). put f t []) (owes.1 ∙ r.is.waits);
+            };
+            own = own_both (g.actions ++ actions_of t ks) (actions_of t (named (next_heard p s' t a)))
+                (own_both g.actions (actions_of t ks) r.own (own_of t ks
+                (subst (λ (f : ℕ → List Kind). AreOwn (f t)) r.is.waits (r.is.tracks.own t))))
+                (subst (λ (l : List Action). AllOwn l) (sym name)
+                (settles_own p w (suc taken) s' t a paying.1.0, tt));
+          },
+          λ u.
+              let all = count_by-append (is_action_of u) (g.actions ++ actions_of t ks)
+              (actions_of t (named (next_heard p s' t a))) in
+              let both = count_by-append (is_action_of u) g.actions (actions_of t ks) in
+              let first = count_map t u ks in
+              let one = ap (count u) name ∙ count_one t u kind [] in
+              let none = length_taken g.waiting t u in
+              omega (arith, all, both, first, one, none),
+        )
+
+    step_so : Reaches (suc taken) s' (progress_step p (heard_step p looks answer) late s' t g)
+        × Adds g (progress_step p (heard_step p looks answer) late s' t g)
+        (λ u. of_one t u (step_count (heard_step p looks answer) late (g.waiting t)))
+    step_so = by_heard (heard_step p looks answer) refl
+
+  waits_behind : (b : Bool) (k : Option Kind) (s : State) (u : ℕ) (g : Progress)
+      → (progress_step p b k s u g).waiting ≡ put g.waiting u (behind b k (g.waiting u))
+  waits_behind true k s u g = refl
+  waits_behind false k s u g = refl
+
+  pub reaches_by : (steps : List Step) (taken : ℕ) (s s' : State) (g : Progress) → Reaches taken s g
+      → (run : GoesBy (code_of p) s steps s') → taken + length steps < 2 ^ 32
+      → Reaches (taken + length steps) s' (progress_by p g steps s s' run)
+      × Adds g (progress_by p g steps s s' run) (λ t. counts p g.waiting steps s s' run t)
+  reaches_by [] taken s s' g r run short =
+      let same : taken ≡ taken + 0 = omega arith in (
+        subst (λ n. Reaches n s' g) same (subst (λ (x : State). Reaches taken x g) run r),
+        λ t. omega arith,
       )
-  leads_so (l ∷ ls) taken s s' a r run short =
-      by_heard (heard_step p (look (code_of p) l.thread run.1.thread) (answer_in s run.0 l.thread l.woken (look
-      (code_of p) l.thread run.1.thread) run.1.moves)) refl
-      (λ a2 n. leads_so ls (suc taken) run.0 s' a2 n run.2 (omega (arith, short)))
-    where
-      total : suc taken + length ls ≡ taken + suc (length ls)
-      total = omega arith
-
-      by_heard : (b : Bool) → heard_step p (look (code_of p) l.thread run.1.thread)
-          (answer_in s run.0 l.thread l.woken (look (code_of p) l.thread run.1.thread) run.1.moves) ≡ b
-          → ((a2 : SourceState) (n : Tracks p w (suc taken) run.0 a2)
-          → Leads' (suc taken) a2 n.waiting ls run.0 s' run.2)
-          → (heard : List Kind) × (source : SourceState)
-          × Leads p a (at_step b l.thread (r.waiting l.thread) heard
-          (explanation_from p (put r.waiting l.thread (waits_then (later_step (mark_of (marks_of p) run.1.thread)
-          (look (code_of p) l.thread run.1.thread) (answer_in s run.0 l.thread l.woken (look
-          (code_of p) l.thread run.1.thread) run.1.moves)) (r.waiting l.thread))) heard ls run.0 s' run.2)
-          (λ more. explanation_from p (put r.waiting l.thread []) more ls run.0 s' run.2)) source
-          × Corresponds p w (taken + suc (length ls)) s' source
-          × ((t : ℕ) → count t (at_step b l.thread (r.waiting l.thread) heard
-          (explanation_from p (put r.waiting l.thread (waits_then (later_step (mark_of (marks_of p) run.1.thread)
-          (look (code_of p) l.thread run.1.thread) (answer_in s run.0 l.thread l.woken (look
-          (code_of p) l.thread run.1.thread) run.1.moves)) (r.waiting l.thread))) heard ls run.0 s' run.2)
-          (λ more. explanation_from p (put r.waiting l.thread []) more ls run.0 s' run.2))
-          ≡ length (r.waiting t) + (of_one l.thread t (step_count b (later_step (mark_of (marks_of p) run.1.thread)
-          (look (code_of p) l.thread run.1.thread) (answer_in s run.0 l.thread l.woken (look
-          (code_of p) l.thread run.1.thread) run.1.moves))
-          (r.waiting l.thread)) + counts p (put r.waiting l.thread (behind b (later_step (mark_of
-          (marks_of p) run.1.thread) (look (code_of p) l.thread run.1.thread)
-          (answer_in s run.0 l.thread l.woken (look (code_of p) l.thread run.1.thread) run.1.moves))
-          (r.waiting l.thread))) ls run.0 s' run.2 t))
-          × AllOwn (at_step b l.thread (r.waiting l.thread) heard
-          (explanation_from p (put r.waiting l.thread (waits_then (later_step (mark_of (marks_of p) run.1.thread)
-          (look (code_of p) l.thread run.1.thread) (answer_in s run.0 l.thread l.woken (look
-          (code_of p) l.thread run.1.thread) run.1.moves)) (r.waiting l.thread))) heard ls run.0 s' run.2)
-          (λ more. explanation_from p (put r.waiting l.thread []) more ls run.0 s' run.2))
-      by_heard false e on_with =
-          let on = tracks_waiting p w taken s a r l run.0 run.1 (heard_step p (look
-          (code_of p) l.thread run.1.thread) (answer_in s run.0 l.thread l.woken (look
-          (code_of p) l.thread run.1.thread) run.1.moves)) (later_step (mark_of (marks_of p) run.1.thread) (look
-          (code_of p) l.thread run.1.thread) (answer_in s run.0 l.thread l.woken (look
-          (code_of p) l.thread run.1.thread) run.1.moves))
-          (steps_so p (mark_of (marks_of p) run.1.thread) s run.0 l.thread l.woken (look
-          (code_of p) l.thread run.1.thread) run.1.moves)
-          (omega (arith, short)) in
-          let next = on.0 e in
-          let more = on_with a next.0 in (
-            more.0,
-            more.1,
-            subst (λ (f : ℕ → List Kind). Leads p a
-                (explanation_from p f more.0 ls run.0 s' run.2) more.1) next.1 more.2,
-            subst (λ n. Corresponds p w n s' more.1) total more.3,
-            λ t.
-                let all = subst (λ (f : ℕ → List Kind). count t (explanation_from p f more.0 ls run.0 s' run.2)
-                ≡ length (f t) + counts p f ls run.0 s' run.2 t) next.1 (more.4 t) in
-                let long = length_waits r.waiting l.thread t (later_step (mark_of (marks_of p) run.1.thread) (look
-                (code_of p) l.thread run.1.thread) (answer_in s run.0 l.thread l.woken (look
-                (code_of p) l.thread run.1.thread) run.1.moves)) in
-                omega (arith, all, long),
-            subst (λ (f : ℕ → List Kind). AllOwn (explanation_from p f more.0 ls run.0 s' run.2)) next.1 more.5,
-          )
-      by_heard true e on_with =
-          let on = tracks_waiting p w taken s a r l run.0 run.1 (heard_step p (look
-          (code_of p) l.thread run.1.thread) (answer_in s run.0 l.thread l.woken (look
-          (code_of p) l.thread run.1.thread) run.1.moves)) (later_step (mark_of (marks_of p) run.1.thread) (look
-          (code_of p) l.thread run.1.thread) (answer_in s run.0 l.thread l.woken (look
-          (code_of p) l.thread run.1.thread) run.1.moves))
-          (steps_so p (mark_of (marks_of p) run.1.thread) s run.0 l.thread l.woken (look
-          (code_of p) l.thread run.1.thread) run.1.moves)
-          (omega (arith, short)) in
-          let owes = on.1 e in
-          let paid = pay_all (suc taken) run.0 l.thread (r.waiting l.thread) a owes.0 in
-          let last = settles_waiting p w (suc taken) run.0 l.thread paid.0 paid.2.0 in
-          let can : CanTake p paid.0 l.thread last.0 = last.2 in
-          let k = kind_of last.0 in
-          let a2 = acted paid.0 l.thread can.effect can.after can.table in
-          let step = action p paid.0 l.thread can.before can.after last.0 can.effect can.table can.stands can.takes
-          can.allows in
-          let next = last.4 a2 step in
-          let more = on_with a2 next.0 in
-          let same = next.1 ∙ paid.2.1 ∙ ap (λ (f : ℕ → List Kind). put f l.thread []) owes.1 in
-          let led = subst (λ (f : ℕ → List Kind). Leads p a2 (explanation_from p f more.0 ls run.0 s' run.2) more.1)
-          same more.2 in (
-            k ∷ more.0,
-            more.1,
-            leads_on p a paid.0 more.1 (actions_of l.thread (r.waiting l.thread))
-                (act l.thread k ∷ explanation_from p (put r.waiting l.thread []) more.0 ls run.0 s' run.2) paid.1
-                (a2, step, led),
-            subst (λ n. Corresponds p w n s' more.1) total more.3,
-            λ t.
-                let all = subst (λ (f : ℕ → List Kind). count t (explanation_from p f more.0 ls run.0 s' run.2)
-                ≡ length (f t) + counts p f ls run.0 s' run.2 t) same (more.4 t) in
-                let long = length_taken r.waiting l.thread t in
-                let first = count_map l.thread t (r.waiting l.thread) in
-                let more' = explanation_from p (put r.waiting l.thread []) more.0 ls run.0 s' run.2 in
-                let both = count_by-append (is_action_of t) (actions_of l.thread (r.waiting l.thread))
-                (act l.thread k ∷ more') in
-                let one = count_one l.thread t k more' in
-                omega (arith, all, long, first, both, one),
-            own_both (actions_of l.thread (r.waiting l.thread))
-                (act l.thread k ∷ explanation_from p (put r.waiting l.thread []) more.0 ls run.0 s' run.2)
-                (own_of l.thread (r.waiting l.thread) (r.own l.thread)) (
-                  settles_own p w (suc taken) run.0 l.thread paid.0 paid.2.0,
-                  subst (λ (f : ℕ → List Kind). AllOwn (explanation_from p f more.0 ls run.0 s' run.2)) same more.5,
-                ),
-          )
-
-  -- of each run from the opening state
-  explains : (steps : List Step) (s : State) (run : MachineRun (code_of p) steps s) → length steps < 2 ^ 32
-      → Leads' 0 (opening p) (λ t. []) steps (opening_state (code_of p)) s run
-  explains steps s run short =
-      let o = opens_waiting p w in
-      subst (λ (f : ℕ → List Kind). Leads' 0 (opening p) f steps (opening_state (code_of p)) s run) o.1
-      (leads_so steps 0 (opening_state (code_of p)) s (opening p) o.0 run (omega (arith, short)))
-
-  pub explained_by_marks : (steps : List Step) (s : State) (run : MachineRun (code_of p) steps s)
-      → length steps < 2 ^ 32
-      → (heard : List Kind) × (e : Explained p (code_of p) steps s) × (e.actions ≡ explanation p heard steps s run)
-  explained_by_marks steps s run short =
-      let r = explains steps s run short in
-      let n = 0 + length steps in
-      let k : Corresponds p w n s r.1 = r.3 in
-      let start = opens p w in
-      let c = come p w 0 (opening_state (code_of p)) (opening p) start steps s (omega (arith, short)) run in
-      let pace = keeps_pace (most p w) (stretch_length p) (left_of p w start) (left_of p w c.ties) steps c.actions
-      (left_short p w 0) (few p w 0 (opening_state (code_of p)) (opening p) start) c.trail in
-      let actions = explanation p r.0 steps s run in (
-        r.0,
-        record {
-          sound = sound p w n s r.1 k;
-          actions = actions;
-          source = r.1;
-          run = r.2;
-          output = k.output;
-          variables = k.variables;
-          ends = ends p w n s r.1 k;
-          at_rest = at_rest p w n s r.1 k;
-          sleepers = sleepers p w n s r.1 k;
-          pace = λ t parts e.
-              let less = pace t parts e in
-              let first = c.counted (λ t. []) (λ u. subst (λ (x : Stage). Agrees x false) (sym (opens_calm p w u)) refl)
-              t in
-              let second = r.4 t in
-              omega (arith, less, first, second);
-          strays = none_from_outside is_stray_kind (λ i h. (own_kinds i h).0) actions r.5;
-          kills = none_from_outside is_kill_kind (λ i h. (own_kinds i h).1) actions r.5;
-        },
-        refl,
+  reaches_by (l ∷ ls) taken s s' g r run short =
+      let looks = look (code_of p) l.thread run.1.thread in
+      let answer = answer_in s run.0 l.thread l.woken looks run.1.moves in
+      let late = later_step (mark_of (marks_of p) run.1.thread) looks answer in
+      let heard = heard_step p looks answer in
+      let first = step_so taken s g r l run.0 run.1 (omega (arith, short)) in
+      let there = progress_step p heard late run.0 l.thread g in
+      let more = reaches_by ls (suc taken) run.0 s' there first.0 run.2 (omega (arith, short)) in
+      let total : suc taken + length ls ≡ taken + suc (length ls) = omega arith in (
+        subst (λ n. Reaches n s' (progress_by p there ls run.0 s' run.2)) total more.0,
+        λ t.
+            let one = first.1 t in
+            let rest = subst (λ (f : ℕ → List Kind). count t (progress_by p there ls run.0 s' run.2).actions
+            + length ((progress_by p there ls run.0 s' run.2).waiting t)
+            ≡ count t there.actions + length (there.waiting t) + counts p f ls run.0 s' run.2 t)
+            (waits_behind heard late run.0 l.thread g) (more.1 t) in
+            omega (arith, one, rest),
       )
+
+  pub opens_reached : Reaches 0 (opening_state (code_of p)) (opening_progress p)
+  opens_reached = let o = opens_waiting p w in
+      record { is = record { run = refl; tracks = o.0; waits = o.1 }; own = tt }
+
+  module _ (steps : List Step) (s : State) (run : MachineRun (code_of p) steps s) (short : length steps < 2 ^ 32) where
+    abbrev g : Progress
+    g = progress p steps s run
+
+    whole : Reaches (0 + length steps) s g × Adds (opening_progress p) g
+        (λ t. counts p (λ u. []) steps (opening_state (code_of p)) s run t)
+    whole = reaches_by steps 0 (opening_state (code_of p)) s (opening_progress p) opens_reached run (omega (arith, short))
+
+    pub reached : IsReached p w (length steps) s (progress p steps s run)
+    reached =
+        let same : 0 + length steps ≡ length steps = omega arith in
+        subst (λ n. IsReached p w n s g) same whole.0.is
+
+    pub explained_so : (e : Explained p (code_of p) steps s) × (e.actions ≡ explanation p steps s run)
+    explained_so =
+        let r = whole.0.is.tracks in
+        let done = finishes p w (0 + length steps) s g.source r in
+        let n = 0 + length steps in
+        let source = done.0 in
+        let k : Corresponds p w n s source = done.2 in
+        let up : actions_up_to s.made r.waiting ≡ actions_up_to s.made g.waiting =
+        ap (λ (f : ℕ → List Kind). actions_up_to s.made f) whole.0.is.waits in
+        let rest : Leads p g.source (actions_up_to s.made g.waiting) source =
+        subst (λ (l : List Action). Leads p g.source l source) up done.1 in
+        let start = opens p w in
+        let c = come p w 0 (opening_state (code_of p)) (opening p) start steps s (omega (arith, short)) run in
+        let pace = keeps_pace (most p w) (stretch_length p) (left_of p w start) (left_of p w c.ties) steps c.actions
+        (left_short p w 0) (few p w 0 (opening_state (code_of p)) (opening p) start) c.trail in
+        let actions = explanation p steps s run in
+        let all_own : AllOwn actions = own_both g.actions (actions_up_to s.made g.waiting) whole.0.own
+        (subst (λ (l : List Action). AllOwn l) up (finishes_own p w n s g.source r)) in (
+          record {
+            sound = sound p w n s source k;
+            actions = actions;
+            source = source;
+            run = leads_on p (opening p) g.source source g.actions (actions_up_to s.made g.waiting) whole.0.is.run rest;
+            output = k.output;
+            variables = k.variables;
+            ends = ends p w n s source k;
+            at_rest = at_rest p w n s source k;
+            sleepers = sleepers p w n s source k;
+            pace = λ t parts e.
+                let less = pace t parts e in
+                let first = c.counted (λ t. [])
+                (λ u. subst (λ (x : Stage). Agrees x false) (sym (opens_calm p w u)) refl) t in
+                let second = whole.1 t in
+                let both = count_by-append (is_action_of t) g.actions (actions_up_to s.made g.waiting) in
+                let last = subst (λ (f : ℕ → List Kind). count t (actions_up_to s.made f) ≡ length (f t))
+                whole.0.is.waits (finishes_counted p w n s g.source r t) in
+                omega (arith, less, first, second, both, last);
+            strays = none_from_outside is_stray_kind (λ i h. (own_kinds i h).0) actions all_own;
+            kills = none_from_outside is_kill_kind (λ i h. (own_kinds i h).1) actions all_own;
+          },
+          refl,
+        )

@@ -13,7 +13,8 @@ ghost use Rattle.product.specs.Waiting.{waits_then};
 ghost use Rattle.product.specs.Corresponding.{Corresponds};
 ghost use Rattle.deferral.specs.Placed.{actions_up_to};
 ghost use Rattle.execution.specs.Later.{mark_of};
-ghost use Rattle.product.specs.Explaining.{explanation};
+ghost use Rattle.product.specs.Explaining.{IsReached, explanation};
+ghost use Rattle.product.specs.Progress.{progress};
 ghost use Rattle.words.specs.Updates.{put};
 ghost use Rattle.product.specs.Tracking.{CanTake, Owes, Tracks};
 ghost use Rattle.program.specs.Trees.{Program};
@@ -93,14 +94,17 @@ pub fn source_waits()
         → (source : SourceState) × Leads p a (actions_up_to s.made r.waiting) source × Corresponds p w steps s source }
 {}
 
-/// The run of the source that explains a run of the machine is a function of the machine's steps and of the actions
-/// which others learn of, in order (`explanation`): each comes at its step, behind what waits of its process by the
-/// code's marks, and what waits at the end comes last, by rising number of process. For each run of the machine there
-/// are such actions with which it explains the run in all that `Refines` says: it is a run of the program, the same is
-/// seen of both, and it keeps pace.
+/// The run of the source that explains a run of the machine is a function of the machine's run (`explanation`): at a
+/// step that others learn of comes what waits of its process by the code's marks, and then the action that the process
+/// offers; what waits at the end comes last, by rising number of process. What the source has come to behind each step
+/// (`progress`) is a run of the program, which goes with the machine. With its explanation a run of the machine is
+/// explained in all that `Refines` says: it is a run of the program, the same is seen of both, and it keeps pace.
 pub fn run_explains()
-    ensures { (p : Program) (w : WellFormed p) (steps : List Step) (s : State) (run : MachineRun (code_of p) steps s)
+    ensures reached { (p : Program) (w : WellFormed p) (steps : List Step) (s : State)
+        (run : MachineRun (code_of p) steps s)
+        → length steps < 2 ^ 32 → IsReached p w (length steps) s (progress p steps s run) }
+    ensures explained { (p : Program) → WellFormed p → (steps : List Step) (s : State)
+        (run : MachineRun (code_of p) steps s)
         → length steps < 2 ^ 32
-        → (heard : List Kind) × (e : Explained p (code_of p) steps s)
-        × (e.actions ≡ explanation p heard steps s run) }
+        → (e : Explained p (code_of p) steps s) × (e.actions ≡ explanation p steps s run) }
 {}
