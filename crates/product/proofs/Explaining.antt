@@ -15,10 +15,12 @@ use Rattle.meaning.specs.States.{SourceState, opening}
 use Rattle.deferral.specs.Placed.{actions_of, actions_up_to}
 use Rattle.execution.specs.Later.{mark_of, later_step}
 use Rattle.product.specs.Corresponding.{Corresponds}
-use Rattle.product.specs.Explaining.{explanation, IsReached}
+use Rattle.product.specs.Explaining.{explanation, IsDue, IsReached}
+use Rattle.deferral.specs.Deferring.{IsBehind}
 use Rattle.product.specs.Next.{after_next, named, next_heard, offered, paid, quiet_next}
 use Rattle.product.specs.Placing.{act}
 use Rattle.product.specs.Progress.{answer_in, heard_step, Progress, progress, progress_by, progress_step}
+use Rattle.product.specs.Progress.{progress_taken}
 use Rattle.product.specs.Progress.{opening_progress}
 use Rattle.product.specs.Tracking.{CanTake, Tracks, Owes}
 use Rattle.product.specs.Waiting.{waits_then, Stage, Agrees, AreOwn}
@@ -40,6 +42,17 @@ use Rattle.product.proofs.Bounds.{left_short}
 use Rattle.product.proofs.Moving.{left_of}
 use Rattle.refinement.specs.Pace.{is_action_of, stretch_length}
 use Rattle.refinement.specs.Refines.{Explained, is_stray_kind, is_kill_kind}
+
+-- a run of the machine goes on by a step
+pub goes_on_by : (p : Program) (g : Progress) (ls : List Step) (s mid : State) (run : GoesBy (code_of p) s ls mid)
+    (l : Step) (s' : State) (st : IsStep (code_of p) mid l s') → (r : GoesBy (code_of p) s (ls ++ l ∷ []) s')
+    × (progress_by p g (ls ++ l ∷ []) s s' r ≡ progress_taken p mid s' l st (progress_by p g ls s mid run))
+goes_on_by p g [] s mid run l s' st =
+    subst (λ (x : State). (i : IsStep (code_of p) x l s') → (r : GoesBy (code_of p) s (l ∷ []) s')
+    × (progress_by p g (l ∷ []) s s' r ≡ progress_taken p x s' l i g)) run (λ i. ((s', i, refl), refl)) st
+goes_on_by p g (x ∷ ls) s mid run l s' st =
+    let more = goes_on_by p (progress_taken p s run.0 x run.1 g) ls run.0 mid run.2 l s' st in
+    ((run.0, run.1, more.0), more.1)
 
 module _ (p : Program) (w : WellFormed p) where
   -- all that waits of a process is taken
@@ -67,7 +80,7 @@ module _ (p : Program) (w : WellFormed p) where
   Adds g g' more = (t : ℕ) → count t g'.actions + length (g'.waiting t)
       ≡ count t g.actions + length (g.waiting t) + more t
 
-  module _ (taken : ℕ) (s : State) (g : Progress) (r : Reaches taken s g) (l : Step) (s' : State)
+  module _ (taken : ℕ) (s : State) (g : Progress) (r : IsReached p w taken s g) (l : Step) (s' : State)
       (st : IsStep (code_of p) s l s') (short : taken + 1 < 2 ^ 32) where
     abbrev t : ℕ
     t = l.thread
@@ -82,33 +95,52 @@ module _ (p : Program) (w : WellFormed p) where
     late = later_step (mark_of (marks_of p) st.thread) looks answer
 
     on : (heard_step p looks answer ≡ false → (n : Tracks p w (suc taken) s' g.source)
-        × (n.waiting ≡ put r.is.tracks.waiting t (waits_then late (r.is.tracks.waiting t))))
-        × (heard_step p looks answer ≡ true → (o : Owes p w (suc taken) s' t g.source (r.is.tracks.waiting t))
-        × (o.waiting ≡ r.is.tracks.waiting))
-    on = tracks_waiting p w taken s g.source r.is.tracks l s' st (heard_step p looks answer) late
+        × (n.waiting ≡ put r.tracks.waiting t (waits_then late (r.tracks.waiting t))))
+        × (heard_step p looks answer ≡ true → (o : Owes p w (suc taken) s' t g.source (r.tracks.waiting t))
+        × (o.waiting ≡ r.tracks.waiting))
+    on = tracks_waiting p w taken s g.source r.tracks l s' st (heard_step p looks answer) late
         (steps_so p (mark_of (marks_of p) st.thread) s s' l.thread l.woken looks st.moves) short
 
+    owes : heard_step p looks answer ≡ true
+        → (o : Owes p w (suc taken) s' t g.source (g.waiting t)) × (o.waiting ≡ g.waiting)
+    owes e =
+        let o = on.1 e in
+        let same = subst (λ (f : ℕ → List Kind). (i : Owes p w (suc taken) s' t g.source (f t))
+        × (i.waiting ≡ r.tracks.waiting)) r.waits o in
+        (same.0, same.1 ∙ r.waits)
+
+    pub due : heard_step p looks answer ≡ true → IsDue p s' t g
+    due e =
+        let o = owes e in
+        let paying = pay_all (suc taken) s' t (g.waiting t) g.source o.0 in
+        let last = settles_waiting p w (suc taken) s' t (paid p t (g.waiting t) g.source) paying.1.0 in
+        record {
+          ahead = o.0.now;
+          behind = subst (λ (f : ℕ → List Kind). IsBehind p f g.source o.0.now) o.1 o.0.behind;
+          label = last.0;
+          heard = last.1;
+          can = last.2;
+          resumes = last.3;
+        }
+
     by_heard : (b : Bool) → heard_step p looks answer ≡ b
-        → Reaches (suc taken) s' (progress_step p b late s' t g)
+        → IsReached p w (suc taken) s' (progress_step p b late s' t g)
+        × (AllOwn g.actions → AllOwn (progress_step p b late s' t g).actions)
         × Adds g (progress_step p b late s' t g) (λ u. of_one t u (step_count b late (g.waiting t)))
     by_heard false e =
         let n = on.0 e in (
           record {
-            is = record {
-              run = r.is.run;
-              tracks = n.0;
-              waits = n.1 ∙ ap (λ (f : ℕ → List Kind). put f t (waits_then late (f t))) r.is.waits;
-            };
-            own = r.own;
+            run = r.run;
+            tracks = n.0;
+            waits = n.1 ∙ ap (λ (f : ℕ → List Kind). put f t (waits_then late (f t))) r.waits;
           },
+          λ h. h,
           λ u. let long = length_waits g.waiting t u late in omega (arith, long),
         )
     by_heard true e =
         let ks = g.waiting t in
-        let o = on.1 e in
-        let owes = subst (λ (f : ℕ → List Kind). (i : Owes p w (suc taken) s' t g.source (f t))
-        × (i.waiting ≡ r.is.tracks.waiting)) r.is.waits o in
-        let paying = pay_all (suc taken) s' t ks g.source owes.0 in
+        let o = owes e in
+        let paying = pay_all (suc taken) s' t ks g.source o.0 in
         let a = paid p t ks g.source in
         let last = settles_waiting p w (suc taken) s' t a paying.1.0 in
         let can : CanTake p a t last.0 = last.2 in
@@ -124,20 +156,18 @@ module _ (p : Program) (w : WellFormed p) where
         let led : Leads p a (actions_of t (named (next_heard p s' t a))) there =
         subst (λ (l : List Action). Leads p a l there) (sym name) (there, step, refl) in
         let paid_run : IsRun p (g.actions ++ actions_of t ks) a =
-        leads_on p (opening p) g.source a g.actions (actions_of t ks) r.is.run paying.0 in (
+        leads_on p (opening p) g.source a g.actions (actions_of t ks) r.run paying.0 in (
           record {
-            is = record {
-              run = leads_on p (opening p) a there (g.actions ++ actions_of t ks)
-                  (actions_of t (named (next_heard p s' t a))) paid_run led;
-              tracks = next.0;
-              waits = next.1 ∙ paying.1.1 ∙ ap (λ (f : ℕ → List Kind). put f t []) (owes.1 ∙ r.is.waits);
-            };
-            own = own_both (g.actions ++ actions_of t ks) (actions_of t (named (next_heard p s' t a)))
-                (own_both g.actions (actions_of t ks) r.own (own_of t ks
-                (subst (λ (f : ℕ → List Kind). AreOwn (f t)) r.is.waits (r.is.tracks.own t))))
-                (subst (λ (l : List Action). AllOwn l) (sym name)
-                (settles_own p w (suc taken) s' t a paying.1.0, tt));
+            run = leads_on p (opening p) a there (g.actions ++ actions_of t ks)
+                (actions_of t (named (next_heard p s' t a))) paid_run led;
+            tracks = next.0;
+            waits = next.1 ∙ paying.1.1 ∙ ap (λ (f : ℕ → List Kind). put f t []) o.1;
           },
+          λ h. own_both (g.actions ++ actions_of t ks) (actions_of t (named (next_heard p s' t a)))
+              (own_both g.actions (actions_of t ks) h (own_of t ks
+              (subst (λ (f : ℕ → List Kind). AreOwn (f t)) r.waits (r.tracks.own t))))
+              (subst (λ (l : List Action). AllOwn l) (sym name)
+              (settles_own p w (suc taken) s' t a paying.1.0, tt)),
           λ u.
               let all = count_by-append (is_action_of u) (g.actions ++ actions_of t ks)
               (actions_of t (named (next_heard p s' t a))) in
@@ -148,8 +178,9 @@ module _ (p : Program) (w : WellFormed p) where
               omega (arith, all, both, first, one, none),
         )
 
-    step_so : Reaches (suc taken) s' (progress_step p (heard_step p looks answer) late s' t g)
-        × Adds g (progress_step p (heard_step p looks answer) late s' t g)
+    step_so : IsReached p w (suc taken) s' (progress_taken p s s' l st g)
+        × (AllOwn g.actions → AllOwn (progress_taken p s s' l st g).actions)
+        × Adds g (progress_taken p s s' l st g)
         (λ u. of_one t u (step_count (heard_step p looks answer) late (g.waiting t)))
     step_so = by_heard (heard_step p looks answer) refl
 
@@ -172,13 +203,14 @@ module _ (p : Program) (w : WellFormed p) where
       let answer = answer_in s run.0 l.thread l.woken looks run.1.moves in
       let late = later_step (mark_of (marks_of p) run.1.thread) looks answer in
       let heard = heard_step p looks answer in
-      let first = step_so taken s g r l run.0 run.1 (omega (arith, short)) in
-      let there = progress_step p heard late run.0 l.thread g in
-      let more = reaches_by ls (suc taken) run.0 s' there first.0 run.2 (omega (arith, short)) in
+      let first = step_so taken s g r.is l run.0 run.1 (omega (arith, short)) in
+      let there = progress_taken p s run.0 l run.1 g in
+      let more = reaches_by ls (suc taken) run.0 s' there
+      (record { is = first.0; own = first.1 r.own }) run.2 (omega (arith, short)) in
       let total : suc taken + length ls ≡ taken + suc (length ls) = omega arith in (
         subst (λ n. Reaches n s' (progress_by p there ls run.0 s' run.2)) total more.0,
         λ t.
-            let one = first.1 t in
+            let one = first.2 t in
             let rest = subst (λ (f : ℕ → List Kind). count t (progress_by p there ls run.0 s' run.2).actions
             + length ((progress_by p there ls run.0 s' run.2).waiting t)
             ≡ count t there.actions + length (there.waiting t) + counts p f ls run.0 s' run.2 t)

@@ -1,16 +1,19 @@
 -- The run of the source that explains a run of the machine: what the source has come to by the machine's steps, and what
 -- waits at the end, by rising number of process.
-use Rattle.std.specs.Prelude.{ℕ, ◌≡◌, List, ◌++◌}
+use Rattle.std.specs.Prelude.{ℕ, ◌≡◌, false, List, ◌++◌}
 use Rattle.machine.specs.States.{State}
 use Rattle.machine.specs.Runs.{Step, MachineRun}
 use Rattle.program.specs.Trees.{Program}
 use Rattle.program.specs.WellFormed.{WellFormed}
 use Rattle.code.specs.Pieces.{code_of}
-use Rattle.meaning.specs.Labels.{Action}
+use Rattle.meaning.specs.Labels.{Action, Label}
 use Rattle.meaning.specs.Runs.{IsRun}
+use Rattle.meaning.specs.States.{SourceState}
+use Rattle.deferral.specs.Deferring.{IsBehind, is_quiet}
 use Rattle.deferral.specs.Placed.{actions_up_to}
-use Rattle.product.specs.Progress.{Progress, progress}
-use Rattle.product.specs.Tracking.{Tracks}
+use Rattle.product.specs.Placing.{Resumes}
+use Rattle.product.specs.Progress.{Progress, progress, progress_paid}
+use Rattle.product.specs.Tracking.{CanTake, Tracks}
 
 abbrev pub explanation : (p : Program) (steps : List Step) (s : State) → MachineRun (code_of p) steps s → List Action
 explanation p steps s run = let g = progress p steps s run in g.actions ++ actions_up_to s.made g.waiting
@@ -20,3 +23,13 @@ pub record IsReached (p : Program) (w : WellFormed p) (steps : ℕ) (s : State) 
   pub run : IsRun p g.actions g.source
   pub tracks : Tracks p w steps s g.source
   pub waits : tracks.waiting ≡ g.waiting
+
+-- a step of process t led to this state of the machine, and others learn of it: what waits of the process may be taken,
+-- and then an action of it which others learn of
+pub record IsDue (p : Program) (s : State) (t : ℕ) (g : Progress) : Type 0 where
+  pub ahead : SourceState
+  pub behind : IsBehind p g.waiting g.source ahead
+  pub label : Label
+  pub heard : is_quiet label ≡ false
+  pub can : CanTake p (progress_paid p t g).source t label
+  pub resumes : Resumes p s (progress_paid p t g).source.table label

@@ -3,7 +3,7 @@ use Rattle.std.specs.Prelude.{ℕ, Bool, true, false, List, [], ◌∷◌, ◌++
 use Rattle.words.specs.Updates.{put}
 use Rattle.locals.specs.Looks.{Look, Goes, Asks, Leaves, Breaks, Rests, look}
 use Rattle.machine.specs.States.{State, opening_state}
-use Rattle.machine.specs.Runs.{Step, Moves, GoesBy, MachineRun}
+use Rattle.machine.specs.Runs.{Step, Moves, IsStep, GoesBy, MachineRun}
 use Rattle.program.specs.Trees.{Program}
 use Rattle.code.specs.Pieces.{code_of, marks_of}
 use Rattle.meaning.specs.Labels.{Kind, Action}
@@ -59,14 +59,18 @@ abbrev pub progress_step : Program → (heard : Bool) → (late : Option Kind) �
 progress_step p true late s t g = progress_next p s t (progress_paid p t g)
 progress_step p false late s t g = record g { waiting = put g.waiting t (waits_then late (g.waiting t)) }
 
+-- behind a step of the machine
+abbrev pub progress_taken : (p : Program) → (s s' : State) → (l : Step) → IsStep (code_of p) s l s' → Progress → Progress
+progress_taken p s s' l st g =
+    let looks = look (code_of p) l.thread st.thread in
+    let answer = answer_in s s' l.thread l.woken looks st.moves in
+    let late = later_step (mark_of (marks_of p) st.thread) looks answer in
+    progress_step p (heard_step p looks answer) late s' l.thread g
+
 abbrev pub progress_by : (p : Program) → Progress → (steps : List Step) → (s s' : State)
     → GoesBy (code_of p) s steps s' → Progress
 progress_by p g [] s s' run = g
-progress_by p g (l ∷ ls) s s' run =
-    let looks = look (code_of p) l.thread run.1.thread in
-    let answer = answer_in s run.0 l.thread l.woken looks run.1.moves in
-    let late = later_step (mark_of (marks_of p) run.1.thread) looks answer in
-    progress_by p (progress_step p (heard_step p looks answer) late run.0 l.thread g) ls run.0 s' run.2
+progress_by p g (l ∷ ls) s s' run = progress_by p (progress_taken p s run.0 l run.1 g) ls run.0 s' run.2
 
 abbrev pub opening_progress : Program → Progress
 opening_progress p = record { actions = []; source = opening p; waiting = λ t. [] }

@@ -13,8 +13,8 @@ ghost use Rattle.product.specs.Waiting.{waits_then};
 ghost use Rattle.product.specs.Corresponding.{Corresponds};
 ghost use Rattle.deferral.specs.Placed.{actions_up_to};
 ghost use Rattle.execution.specs.Later.{mark_of};
-ghost use Rattle.product.specs.Explaining.{IsReached, explanation};
-ghost use Rattle.product.specs.Progress.{progress};
+ghost use Rattle.product.specs.Explaining.{IsDue, IsReached, explanation};
+ghost use Rattle.product.specs.Progress.{Progress, answer_in, heard_step, progress};
 ghost use Rattle.words.specs.Updates.{put};
 ghost use Rattle.product.specs.Tracking.{CanTake, Owes, Tracks};
 ghost use Rattle.program.specs.Trees.{Program};
@@ -97,12 +97,17 @@ pub fn source_waits()
 /// The run of the source that explains a run of the machine is a function of the machine's run (`explanation`): at a
 /// step that others learn of comes what waits of its process by the code's marks, and then the action that the process
 /// offers; what waits at the end comes last, by rising number of process. What the source has come to behind each step
-/// (`progress`) is a run of the program, which goes with the machine. With its explanation a run of the machine is
+/// (`progress`) is a run of the program, which goes with the machine; at a step that others learn of, what waits of its
+/// process is possible, and then an action of it which they learn of. With its explanation a run of the machine is
 /// explained in all that `Refines` says: it is a run of the program, the same is seen of both, and it keeps pace.
 pub fn run_explains()
     ensures reached { (p : Program) (w : WellFormed p) (steps : List Step) (s : State)
         (run : MachineRun (code_of p) steps s)
         → length steps < 2 ^ 32 → IsReached p w (length steps) s (progress p steps s run) }
+    ensures due { (p : Program) (w : WellFormed p) (steps : ℕ) (s : State) (g : Progress) → IsReached p w steps s g
+        → (l : Step) (s' : State) (st : IsStep (code_of p) s l s') → steps + 1 < 2 ^ 32
+        → heard_step p (look (code_of p) l.thread st.thread) (answer_in s s' l.thread l.woken
+        (look (code_of p) l.thread st.thread) st.moves) ≡ true → IsDue p s' l.thread g }
     ensures explained { (p : Program) → WellFormed p → (steps : List Step) (s : State)
         (run : MachineRun (code_of p) steps s)
         → length steps < 2 ^ 32

@@ -1,8 +1,11 @@
-use Rattle.product.proofs.Explaining.{reached, explained_so}
+use Rattle.product.proofs.Explaining.{due, reached, explained_so}
 use Rattle.product.proofs.law.run_explains.Goals as goal
 
 pub returns-clause-reached : goal.returns-clause-reached
 returns-clause-reached c = reached
+
+pub returns-clause-due : goal.returns-clause-due
+returns-clause-due c = λ p w steps s g r l s' st short e. due p w steps s g r l s' st short e
 
 pub returns-clause-explained : goal.returns-clause-explained
 returns-clause-explained c = explained_so
