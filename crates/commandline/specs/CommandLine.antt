@@ -71,12 +71,16 @@ ReadsTrace rows trace =
     (one_of (codes "trace") rows ≡ Some (codes "true") → trace ≡ true)
     × (one_of (codes "trace") rows ≡ Some (codes "false") → trace ≡ false)
 
--- `mesamon`, and behind it one of the six; the words hold no name of the program
+-- `mesamon`, behind which one of its commands has to stand; the words hold no name of the program
+abbrev pub top_command : App
+top_command =
+    let named = new_app (codes "mesamon") in
+    record named { top = record named.top { no_binary_name = true; subcommand_required = true } }
+
+-- `mesamon` with its six commands
 abbrev pub command_line : App
 command_line =
-    let named = new_app (codes "mesamon") in
-    let settled = record named { top = record named.top { no_binary_name = true; subcommand_required = true } } in
-    with_subcommand (with_subcommand (with_subcommand (with_subcommand (with_subcommand (with_subcommand settled
+    with_subcommand (with_subcommand (with_subcommand (with_subcommand (with_subcommand (with_subcommand top_command
     check_command.top) compile_command.top) list_command.top) run_command.top) replay_command.top) explain_command.top
 
 -- a job of checking, from the values of its command's arguments

@@ -1,5 +1,5 @@
 ghost use Rattle.std.specs.Prelude.{◌≡◌, false, IfOk};
-ghost use Rattle.clap.specs.Words.{app_of, rule_of};
+ghost use Rattle.clap.specs.Words.{App, app_of, rule_of, with_subcommand};
 ghost use Rattle.clap.specs.declared.builder.command.Command.TheViews.{out-Command as fields_of};
 ghost use Rattle.commandline.specs.CommandLine as line;
 
@@ -14,17 +14,34 @@ const STEPS: &str = "1000000";
 pub fn command<'a>(alloc: Global) -> Result<Command<'a>, AllocError>
     ensures { IfOk result (λ c. app_of c ≡ line.command_line) }
 {
-    Command::new(alloc, "mesamon")
+    let command = with(top_command(alloc), check_command(alloc));
+    let command = with(command, compile_command(alloc));
+    let command = with(command, list_command(alloc));
+    let command = with(command, run_command(alloc));
+    let command = with(command, replay_command(alloc));
+    with(command, explain_command(alloc))
+}
+
+// A command with one more subcommand, where both could be made.
+fn with<'a>(
+    command: Result<Command<'a>, AllocError>,
+    subcommand: Result<Command<'a>, AllocError>,
+) -> Result<Command<'a>, AllocError>
+    requires { IfOk subcommand (λ s. (fields_of s).has_globals ≡ false) }
+    ensures { (app sub : App) → IfOk command.entry (λ c. app_of c ≡ app) → IfOk subcommand.entry (λ s. app_of s ≡ sub)
+        → IfOk result (λ r. app_of r ≡ with_subcommand app sub.top) }
+{
+    let subcommand = subcommand?;
+    command?.subcommand(subcommand)
+}
+
+fn top_command<'a>(alloc: Global) -> Result<Command<'a>, AllocError>
+    ensures { IfOk result (λ c. app_of c ≡ line.top_command) }
+{
+    let command = Command::new(alloc, "mesamon")
         .about("Compiles programs of processes and monitors, and runs them")
-        .bin_name("mesamon")?
-        .no_binary_name(true)
-        .subcommand_required(true)
-        .subcommand(check_command(alloc)?)?
-        .subcommand(compile_command(alloc)?)?
-        .subcommand(list_command(alloc)?)?
-        .subcommand(run_command(alloc)?)?
-        .subcommand(replay_command(alloc)?)?
-        .subcommand(explain_command(alloc)?)
+        .bin_name("mesamon")?;
+    Ok(command.no_binary_name(true).subcommand_required(true))
 }
 
 fn check_command<'a>(alloc: Global) -> Result<Command<'a>, AllocError>

@@ -1,5 +1,5 @@
 ghost use Rattle.std.specs.Prelude.{IfOk, IfErr, IfSome, None, true, map, ◌≡◌};
-ghost use Rattle.clap.specs.Words.{found_of, kind_of, subcommand_rows_of, takes};
+ghost use Rattle.clap.specs.Words.{app_of, found_of, kind_of, subcommand_rows_of, takes};
 ghost use Rattle.clap.specs.Walk.{rows_of};
 ghost use Rattle.commandline.specs.CommandLine.{AsksFor, IsAskedBy, IsCheckOf, IsCompileOf, IsExplainOf, IsListOf};
 ghost use Rattle.commandline.specs.CommandLine.{IsReplayOf, IsRunOf, command_line};
@@ -8,7 +8,7 @@ ghost use Rattle.commandline.specs.declared.job.Job.{Job as JobOf};
 use crate::builder::command;
 use crate::fault::WordsFault;
 use clap::error::ErrorKind;
-use clap::{ArgMatches, Error};
+use clap::{ArgMatches, Command, Error};
 use std::alloc::Global;
 
 /// What a command line asks for.
@@ -78,10 +78,28 @@ fn parse<'a>(alloc: Global, words: &'a [&'a str]) -> Result<Job<'a>, Error>
         → AsksFor (map (λ w. w.now) words.now) job → IfErr result (λ e. kind_of e ≡ ErrorKind.OutOfMemory) }
 {
     let mut command = command(alloc)?;
+    parse_by(&mut command, words)
+}
+
+// The job that the words of this command ask for.
+fn parse_by<'a>(command: &mut Command<'a>, words: &'a [&'a str]) -> Result<Job<'a>, Error>
+    requires { app_of command.old ≡ command_line }
+    ensures job { IfOk result (AsksFor (map (λ w. w.now) words.now)) }
+    ensures only { (job : JobOf) → takes command_line (map (λ w. w.now) words.now) ≡ true
+        → AsksFor (map (λ w. w.now) words.now) job → IfErr result (λ e. kind_of e ≡ ErrorKind.OutOfMemory) }
+{
     let matches = command.try_get_matches_from_mut(words)?;
     match job_of(&matches) {
         Some(job) => Ok(job),
-        None => Err(command.error(ErrorKind::MissingSubcommand, "a command is missing")?),
+        None => Err(missing(command)),
+    }
+}
+
+// The refusal of words that ask for no job, or for want of memory.
+fn missing(command: &mut Command<'_>) -> Error {
+    match command.error(ErrorKind::MissingSubcommand, "a command is missing") {
+        Ok(error) => error,
+        Err(error) => Error::from(error),
     }
 }
 
