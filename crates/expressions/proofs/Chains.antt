@@ -8,17 +8,18 @@ use Rattle.syntax.specs.declared.expression.Summand.{Summand}
 use Rattle.syntax.specs.declared.expression.SumOperator.{SumOperator}
 use Rattle.syntax.specs.declared.expression.ProductOperator.{ProductOperator}
 use Rattle.syntax.specs.declared.expression.Multiplier.{Multiplier}
+use Rattle.scanner.specs.declared.refusal.Refusal.{Refusal}
 use Rattle.syntax.specs.Lexeme.{Word}
 use Rattle.syntax.specs.Tree.{ExpressionTree, SumTree, AnyOf, ConjunctionTree, AllOf, Total, TermTree, Product}
 use Rattle.syntax.specs.Tree.{RelationTree, ConjunctionTrees, OrElse, RelationTrees, AndAlso, SummandTrees, Adds}
 use Rattle.syntax.specs.Tree.{FactorTree, MultiplierTrees, Scales}
 use Rattle.syntax.specs.View.{factor_of, term_of, relation_of, conjunction_of, multipliers_before, summands_before}
 use Rattle.syntax.specs.View.{relations_before, conjunctions_before}
-use Rattle.grammar.specs.Machine.{AFactor, Multipliers, Summands, Relations, Conjunctions, Item, term, relation}
+use Rattle.grammar.specs.Machine.{Trees, AFactor, Multipliers, Summands, Relations, Conjunctions, Item, term, relation}
 use Rattle.grammar.specs.Machine.{conjunction, scales, adds, reply_multipliers, reply_summands, reply_relations}
 use Rattle.grammar.specs.Machine.{reply_conjunctions, relation_tree, conjunction_tree}
-use Rattle.grammar.specs.Reading.{lexeme_at, rest_after, Passes, Leads}
-use Rattle.grammar.proofs.Joins.{done, leads_as, onto, then1, then2, then4, then5}
+use Rattle.grammar.specs.Reading.{lexeme_at, rest_after, Passes, Fails, Leads}
+use Rattle.grammar.proofs.Joins.{done, leads_as, onto, then1, fail1, then2, fail2, then4, fail4, then5, fail5}
 use Rattle.steps.specs.Taking.{Found}
 use Rattle.expressions.specs.Levels.{term_trees, relation_trees, conjunction_trees, further_factors, further_terms}
 use Rattle.expressions.specs.Levels.{further_relations, further_conjunctions}
@@ -56,6 +57,23 @@ pub multipliers_pass : {d : ℕ} {n p m b : List Item} {op : ProductOperator} {f
     → Passes d (Multipliers ∷ []) (fs, tt) m b → Passes d (Multipliers ∷ []) (Scales op f fs, tt) n b
 multipliers_pass le r q x y = done (then1 y (then1 x (factor_next le r q) (omega arith)) (omega arith))
 
+-- a refusal of the first further factor, of those behind it, and of one that a loop comes to
+pub multipliers_fail : {d : ℕ} {n p : List Item} {op : ProductOperator} {e : Refusal} → d ≤ 64
+    → reply_multipliers (lexeme_at n) ≡ scales op → p ≡ rest_after n → Fails d (AFactor ∷ []) p e
+    → Fails d (Multipliers ∷ []) n e
+multipliers_fail le r q f = fail1 f (factor_next le r q) (omega arith)
+
+pub multipliers_fail_behind : {d : ℕ} {n p m : List Item} {op : ProductOperator} {f : FactorTree} {e : Refusal}
+    → d ≤ 64 → reply_multipliers (lexeme_at n) ≡ scales op → p ≡ rest_after n → Passes d (AFactor ∷ []) (f, tt) p m
+    → Fails d (Multipliers ∷ []) m e → Fails d (Multipliers ∷ []) n e
+multipliers_fail_behind le r q x y = fail1 y (then1 x (factor_next le r q) (omega arith)) (omega arith)
+
+pub multipliers_fail_later : {d : ℕ} {a n p : List Item} {op : ProductOperator} {e : Refusal}
+    {g : Trees (Multipliers ∷ []) → Trees (Multipliers ∷ [])} → d ≤ 64
+    → Leads d (Multipliers ∷ []) (Multipliers ∷ []) g a n → reply_multipliers (lexeme_at n) ≡ scales op
+    → p ≡ rest_after n → Fails d (AFactor ∷ []) p e → Fails d (Multipliers ∷ []) a e
+multipliers_fail_later le l r q f = fail1 f (onto (factor_next le r q) l) (omega arith)
+
 pub multipliers_go_on : {d : ℕ} {a n p b : List Item} (ms all : List Multiplier) (m : Multiplier) → all ≡ ms ++ m ∷ []
     → d ≤ 64 → Leads d (Multipliers ∷ []) (Multipliers ∷ []) (λ y. (multipliers_before ms y.0, tt)) a n
     → reply_multipliers (lexeme_at n) ≡ scales m.operator → p ≡ rest_after n
@@ -84,6 +102,23 @@ pub summands_pass : {d : ℕ} {n p m b : List Item} {op : SumOperator} {place : 
 summands_pass {d} {op = op} {place = place} {ts = ts} t le r q x y =
     done (leads_as (λ _. ap (λ z. (Adds op place z ts, tt)) (term_back t))
     (then1 {d = d} {d' = d} y (then2 {d = d} {d' = d} x (term_next le r q) (omega arith)) (omega arith)))
+
+pub summands_fail : {d : ℕ} {n p : List Item} {op : SumOperator} {place : Place} {e : Refusal} → d ≤ 64
+    → reply_summands (lexeme_at n) ≡ adds op place → p ≡ rest_after n → Fails d (term []) p e
+    → Fails d (Summands ∷ []) n e
+summands_fail le r q f = fail2 f (term_next le r q) (omega arith)
+
+pub summands_fail_behind : {d : ℕ} {n p m : List Item} {op : SumOperator} {place : Place} {e : Refusal} (t : TermTree)
+    → d ≤ 64 → reply_summands (lexeme_at n) ≡ adds op place → p ≡ rest_after n → Passes d (term []) (term_trees t) p m
+    → Fails d (Summands ∷ []) m e → Fails d (Summands ∷ []) n e
+summands_fail_behind {d} t le r q x y =
+    fail1 {d = d} {d' = d} y (then2 {d = d} {d' = d} x (term_next le r q) (omega arith)) (omega arith)
+
+pub summands_fail_later : {d : ℕ} {a n p : List Item} {op : SumOperator} {place : Place} {e : Refusal}
+    {g : Trees (Summands ∷ []) → Trees (Summands ∷ [])} → d ≤ 64 → Leads d (Summands ∷ []) (Summands ∷ []) g a n
+    → reply_summands (lexeme_at n) ≡ adds op place → p ≡ rest_after n → Fails d (term []) p e
+    → Fails d (Summands ∷ []) a e
+summands_fail_later le l r q f = fail2 f (onto (term_next le r q) l) (omega arith)
 
 pub summands_go_on : {d : ℕ} {a n p b : List Item} (ms all : List Summand) (m : Summand) → all ≡ ms ++ m ∷ [] → d ≤ 64
     → Leads d (Summands ∷ []) (Summands ∷ []) (λ y. (summands_before ms y.0, tt)) a n
@@ -115,6 +150,21 @@ relations_pass {d} {rs = rs} r le w x y =
     done (leads_as (λ _. ap (λ z. (AndAlso z rs, tt)) (relation_back r))
     (then1 {d = d} {d' = d} y (then4 {d = d} {d' = d} x (relation_next le w) (omega arith)) (omega arith)))
 
+pub relations_fail : {d : ℕ} {n p : List Item} {e : Refusal} → d ≤ 64 → Found (Word K.And) n p
+    → Fails d (relation []) p e → Fails d (Relations ∷ []) n e
+relations_fail le w f = fail4 f (relation_next le w) (omega arith)
+
+pub relations_fail_behind : {d : ℕ} {n p m : List Item} {e : Refusal} (r : RelationTree) → d ≤ 64
+    → Found (Word K.And) n p → Passes d (relation []) (relation_trees r) p m → Fails d (Relations ∷ []) m e
+    → Fails d (Relations ∷ []) n e
+relations_fail_behind {d} r le w x y =
+    fail1 {d = d} {d' = d} y (then4 {d = d} {d' = d} x (relation_next le w) (omega arith)) (omega arith)
+
+pub relations_fail_later : {d : ℕ} {a n p : List Item} {e : Refusal}
+    {g : Trees (Relations ∷ []) → Trees (Relations ∷ [])} → d ≤ 64 → Leads d (Relations ∷ []) (Relations ∷ []) g a n
+    → Found (Word K.And) n p → Fails d (relation []) p e → Fails d (Relations ∷ []) a e
+relations_fail_later le l w f = fail4 f (onto (relation_next le w) l) (omega arith)
+
 pub relations_go_on : {d : ℕ} {a n p b : List Item} (rs all : List Relation) (r : Relation) → all ≡ rs ++ r ∷ []
     → d ≤ 64 → Leads d (Relations ∷ []) (Relations ∷ []) (λ y. (relations_before rs y.0, tt)) a n
     → Found (Word K.And) n p → Passes d (relation []) (relation_trees (relation_of r)) p b
@@ -143,6 +193,21 @@ pub conjunctions_pass : {d : ℕ} {n p m b : List Item} {cs : ConjunctionTrees} 
 conjunctions_pass {d} {cs = cs} c le w x y =
     done (leads_as (λ _. ap (λ z. (OrElse z cs, tt)) (conjunction_back c))
     (then1 {d = d} {d' = d} y (then5 {d = d} {d' = d} x (conjunction_next le w) (omega arith)) (omega arith)))
+
+pub conjunctions_fail : {d : ℕ} {n p : List Item} {e : Refusal} → d ≤ 64 → Found (Word K.Or) n p
+    → Fails d (conjunction []) p e → Fails d (Conjunctions ∷ []) n e
+conjunctions_fail le w f = fail5 f (conjunction_next le w) (omega arith)
+
+pub conjunctions_fail_behind : {d : ℕ} {n p m : List Item} {e : Refusal} (c : ConjunctionTree) → d ≤ 64
+    → Found (Word K.Or) n p → Passes d (conjunction []) (conjunction_trees c) p m → Fails d (Conjunctions ∷ []) m e
+    → Fails d (Conjunctions ∷ []) n e
+conjunctions_fail_behind {d} c le w x y =
+    fail1 {d = d} {d' = d} y (then5 {d = d} {d' = d} x (conjunction_next le w) (omega arith)) (omega arith)
+
+pub conjunctions_fail_later : {d : ℕ} {a n p : List Item} {e : Refusal}
+    {g : Trees (Conjunctions ∷ []) → Trees (Conjunctions ∷ [])} → d ≤ 64 → Leads d (Conjunctions ∷ []) (Conjunctions ∷ []) g a n
+    → Found (Word K.Or) n p → Fails d (conjunction []) p e → Fails d (Conjunctions ∷ []) a e
+conjunctions_fail_later le l w f = fail5 f (onto (conjunction_next le w) l) (omega arith)
 
 pub conjunctions_go_on : {d : ℕ} {a n p b : List Item} (cs all : List Conjunction) (c : Conjunction)
     → all ≡ cs ++ c ∷ [] → d ≤ 64 → Leads d (Conjunctions ∷ []) (Conjunctions ∷ [])

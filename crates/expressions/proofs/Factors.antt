@@ -5,11 +5,11 @@ use Rattle.scanner.specs.declared.token.Sign.{Sign}
 use Rattle.scanner.specs.declared.token.Sign.TheVariants as S
 use Rattle.scanner.specs.declared.token.Keyword.TheVariants as K
 use Rattle.scanner.specs.declared.refusal.Refusal.{Refusal}
-use Rattle.syntax.specs.Lexeme.{Mark, MarkAt, WordAt}
+use Rattle.syntax.specs.Lexeme.{NameTree, Mark, MarkAt, Named, WordAt}
 use Rattle.syntax.specs.Tree.{ExpressionTree, FactorTree, Group, Minus, Not, At}
 use Rattle.grammar.specs.Machine.{AFactor, AnIndex, AMark, Item, expression, reply_factor, reply_index}
 use Rattle.grammar.specs.Reading.{lexeme_at, rest_after, Passes, Fails}
-use Rattle.grammar.proofs.Joins.{here, done, close, leads_as, then1, then6, then7, fail1}
+use Rattle.grammar.proofs.Joins.{here, done, close, leads_as, then1, then6, then7, fail1, fail7}
 use Rattle.steps.specs.Taking.{Takes, Rejects}
 use Rattle.expressions.specs.Levels.{expression_trees, enclosed_trees}
 use Rattle.steps.proofs.Small.{pushes, takes, rejects}
@@ -55,3 +55,31 @@ pub index_passes : {d i : ℕ} {a p b : List Item} (e : ExpressionTree) → i �
 index_passes {d} {i} e eq le h q x =
     done (leads_as (λ y. ap (λ z. (At z, tt)) (enclosed_back S.CloseBracket e))
     (close (then7 {d = d} {d' = i} x (pushes {s = AnIndex} (ap reply_index h) q (omega arith)) (omega arith))))
+
+-- refusals behind the first sign of a factor, and of an index
+pub paren_fails : {d i : ℕ} {a p : List Item} {e : Refusal} (place : Place) → i ≡ d + 1 → i ≤ 64
+    → lexeme_at a ≡ MarkAt S.OpenParen place → p ≡ rest_after a
+    → Fails i (expression (AMark S.CloseParen ∷ [])) p e → Fails d (AFactor ∷ []) a e
+paren_fails {d} {i} place eq le h q f =
+    fail7 {d = d} {d' = i} f (pushes {s = AFactor} (ap reply_factor h) q (omega arith)) (omega arith)
+
+pub minus_fails : {d i : ℕ} {a p : List Item} {e : Refusal} (place : Place) → i ≡ d + 1 → i ≤ 64
+    → lexeme_at a ≡ MarkAt S.Minus place → p ≡ rest_after a → Fails i (AFactor ∷ []) p e → Fails d (AFactor ∷ []) a e
+minus_fails {d} {i} place eq le h q f =
+    fail1 {d = d} {d' = i} f (pushes {s = AFactor} (ap reply_factor h) q (omega arith)) (omega arith)
+
+pub not_fails : {d i : ℕ} {a p : List Item} {e : Refusal} (place : Place) → i ≡ d + 1 → i ≤ 64
+    → lexeme_at a ≡ WordAt K.Not place → p ≡ rest_after a → Fails i (AFactor ∷ []) p e → Fails d (AFactor ∷ []) a e
+not_fails {d} {i} place eq le h q f =
+    fail1 {d = d} {d' = i} f (pushes {s = AFactor} (ap reply_factor h) q (omega arith)) (omega arith)
+
+pub name_fails : {d : ℕ} {a p : List Item} {e : Refusal} (name : NameTree) → d ≤ 64 → lexeme_at a ≡ Named name
+    → p ≡ rest_after a → Fails d (AnIndex ∷ []) p e → Fails d (AFactor ∷ []) a e
+name_fails {d} name le h q f =
+    fail1 {d = d} {d' = d} f (pushes {s = AFactor} (ap reply_factor h) q (omega arith)) (omega arith)
+
+pub index_fails : {d i : ℕ} {a p : List Item} {e : Refusal} → i ≡ d + 1 → i ≤ 64
+    → lexeme_at a ≡ Mark S.OpenBracket → p ≡ rest_after a → Fails i (expression (AMark S.CloseBracket ∷ [])) p e
+    → Fails d (AnIndex ∷ []) a e
+index_fails {d} {i} eq le h q f =
+    fail7 {d = d} {d' = i} f (pushes {s = AnIndex} (ap reply_index h) q (omega arith)) (omega arith)
