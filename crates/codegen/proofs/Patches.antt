@@ -102,6 +102,81 @@ patch_join base tc jc fb c1 c2 c3 y n1 n2 s es ej e1 m1 e2 e3 m2 =
     ∙ end
     ∙ ap (λ n. base ++ (tc ++ (jc ++ plain (Jump n) ∷ cb))) z2
 
+-- the length of code with a test, one instruction, and a part behind it
+part_length : (base tc : List Marked) (fa : Code) (c1 c2 : List Marked) (x : Marked) → c1 ≡ base ++ tc
+    → c2 ≡ c1 ++ x ∷ []
+    → length c2 + length (fa (length c2)) ≡ length base + (length tc + 1 + length (fa (length base + length tc + 1)))
+part_length base tc fa c1 c2 x e1 e2 =
+    let l1 : length c1 ≡ length base + length tc = ap length e1 ∙ length-append base tc in
+    let l2 : length c2 ≡ length base + length tc + 1 = omega (arith, ap length e2 ∙ length-append c1 (x ∷ [])) in
+    let same = ap (λ n. length (fa n)) l2 in
+    omega (arith, l2, same)
+
+if_length : (tc : List Marked) (fa : Code) (s : ℕ)
+    → length (if_code tc fa s) ≡ length tc + 1 + length (fa (s + length tc + 1))
+if_length tc fa s =
+    let ca = fa (s + length tc + 1) in
+    omega (arith, length-append tc (marked Test (JumpIfZero (s + length tc + 1 + length ca)) ∷ ca))
+
+while_length : (tc : List Marked) (fb : Code) (s : ℕ)
+    → length (while_code tc fb s) ≡ length tc + 1 + length (fb (s + length tc + 1)) + 1
+while_length tc fb s =
+    let cb = fb (s + length tc + 1) in
+    omega (
+      arith,
+      length-append tc (marked Test (JumpIfZero (s + length tc + 1 + length cb + 1)) ∷ (cb ++ plain (Jump s) ∷ [])),
+      length-append cb (plain (Jump s) ∷ []),
+    )
+
+-- code that is made so far isn't longer than all of it: of an IF, up to its part and with it
+pub if_block_fits : (base tc : List Marked) (fa : Code) (c1 c2 : List Marked) (x : Marked) → c1 ≡ base ++ tc
+    → c2 ≡ c1 ++ x ∷ [] → length c2 + length (fa (length c2)) ≤ length base + length (if_code tc fa (length base))
+if_block_fits base tc fa c1 c2 x e1 e2 =
+    omega (arith, part_length base tc fa c1 c2 x e1 e2, if_length tc fa (length base))
+
+pub if_end_fits : (base tc : List Marked) (fa : Code) (c1 c2 c3 : List Marked) (x : Marked) (n : ℕ) → c1 ≡ base ++ tc
+    → c2 ≡ c1 ++ x ∷ [] → c3 ≡ c2 ++ fa (length c2) → n ≡ length c3
+    → n ≤ length base + length (if_code tc fa (length base))
+if_end_fits base tc fa c1 c2 c3 x n e1 e2 e3 m =
+    let h = if_block_fits base tc fa c1 c2 x e1 e2 in
+    omega (arith, h, m, ap length e3 ∙ length-append c2 (fa (length c2)))
+
+-- of a loop
+pub while_block_fits : (base tc : List Marked) (fb : Code) (c1 c2 : List Marked) (x : Marked) → c1 ≡ base ++ tc
+    → c2 ≡ c1 ++ x ∷ [] → length c2 + length (fb (length c2)) ≤ length base + length (while_code tc fb (length base))
+while_block_fits base tc fb c1 c2 x e1 e2 =
+    omega (arith, part_length base tc fb c1 c2 x e1 e2, while_length tc fb (length base))
+
+pub while_end_fits : (base tc : List Marked) (fb : Code) (c1 c2 c3 c4 : List Marked) (x y : Marked) (n : ℕ)
+    → c1 ≡ base ++ tc → c2 ≡ c1 ++ x ∷ [] → c3 ≡ c2 ++ fb (length c2) → c4 ≡ c3 ++ y ∷ [] → n ≡ length c4
+    → n ≤ length base + length (while_code tc fb (length base))
+while_end_fits base tc fb c1 c2 c3 c4 x y n e1 e2 e3 e4 m =
+    let h = part_length base tc fb c1 c2 x e1 e2 in
+    let l3 = ap length e3 ∙ length-append c2 (fb (length c2)) in
+    omega (arith, h, while_length tc fb (length base), m, l3, ap length e4 ∙ length-append c3 (y ∷ []))
+
+-- of a JOIN with an ABORTED part
+pub join_first_fits : (base tc jc : List Marked) (rest : List Marked)
+    → length base + length (tc ++ jc) ≤ length base + length (tc ++ (jc ++ rest))
+join_first_fits base tc jc rest =
+    omega (arith, length-append tc jc, length-append tc (jc ++ rest), length-append jc rest)
+
+pub join_block_fits : (base tc jc : List Marked) (fb : Code) (c1 c2 : List Marked) (x y : Marked) (s : ℕ)
+    → s ≡ length base + length tc + 30 → length jc ≡ 29 → c1 ≡ base ++ (tc ++ jc) → c2 ≡ c1 ++ x ∷ []
+    → length c2 + length (fb (length c2)) ≤ length base + length (tc ++ (jc ++ (y ∷ fb s)))
+join_block_fits base tc jc fb c1 c2 x y s es ej e1 e2 =
+    let l1 = ap length e1 ∙ length-append base (tc ++ jc) in
+    let l2 : length c2 ≡ s = omega (arith, l1, length-append tc jc, ap length e2 ∙ length-append c1 (x ∷ [])) in
+    let same = ap (λ n. length (fb n)) l2 in
+    omega (arith, same, length-append tc (jc ++ (y ∷ fb s)), length-append jc (y ∷ fb s))
+
+pub join_end_fits : (base tc jc : List Marked) (fb : Code) (c1 c2 c3 : List Marked) (x y : Marked) (s n : ℕ)
+    → s ≡ length base + length tc + 30 → length jc ≡ 29 → c1 ≡ base ++ (tc ++ jc) → c2 ≡ c1 ++ x ∷ []
+    → c3 ≡ c2 ++ fb (length c2) → n ≡ length c3 → n ≤ length base + length (tc ++ (jc ++ (y ∷ fb s)))
+join_end_fits base tc jc fb c1 c2 c3 x y s n es ej e1 e2 e3 m =
+    let h = join_block_fits base tc jc fb c1 c2 x y s es ej e1 e2 in
+    omega (arith, h, m, ap length e3 ∙ length-append c2 (fb (length c2)))
+
 -- the length of the first half
 then_length : (tc : List Marked) (fa : Code) (s : ℕ)
     → length (then_code tc fa s) ≡ length tc + 1 + length (fa (s + length tc + 1)) + 1
@@ -114,6 +189,20 @@ then_length tc fa s =
       length-append ca (plain
           (Jump 0) ∷ []),
     )
+
+-- of the first half of an IF with an ELSE
+pub then_block_fits : (base tc : List Marked) (fa : Code) (c1 c2 : List Marked) (x : Marked) → c1 ≡ base ++ tc
+    → c2 ≡ c1 ++ x ∷ [] → length c2 + length (fa (length c2)) ≤ length base + length (then_code tc fa (length base))
+then_block_fits base tc fa c1 c2 x e1 e2 =
+    omega (arith, part_length base tc fa c1 c2 x e1 e2, then_length tc fa (length base))
+
+pub then_end_fits : (base tc : List Marked) (fa : Code) (c1 c2 c3 c4 : List Marked) (x y : Marked) (n : ℕ)
+    → c1 ≡ base ++ tc → c2 ≡ c1 ++ x ∷ [] → c3 ≡ c2 ++ fa (length c2) → c4 ≡ c3 ++ y ∷ [] → n ≡ length c4
+    → n ≤ length base + length (then_code tc fa (length base))
+then_end_fits base tc fa c1 c2 c3 c4 x y n e1 e2 e3 e4 m =
+    let h = part_length base tc fa c1 c2 x e1 e2 in
+    let l3 = ap length e3 ∙ length-append c2 (fa (length c2)) in
+    omega (arith, h, then_length tc fa (length base), m, l3, ap length e4 ∙ length-append c3 (y ∷ []))
 
 -- the place of the jump that isn't written yet
 pub then_place : (base tc : List Marked) (fa : Code) (c1 c2 c3 : List Marked) (x : Marked) (n2 : ℕ) → c1 ≡ base ++ tc

@@ -1,4 +1,4 @@
-use Rattle.std.proofs.Common.{arith, ◌≡◌, length, refl, sym, ap, subst, ◌∙◌}
+use Rattle.std.proofs.Common.{arith, length-append, ◌≡◌, length, refl, sym, ap, subst, ◌∙◌}
 use Rattle.program.specs.declared.statement.Statement.{If as IfOf, Join as JoinOf}
 use Rattle.program.specs.declared.statement.Statement.TheBlock.{hidden-the_row-Statement-0}
 use Rattle.program.specs.Trees.{If, While, Join, NoPart, SomePart}
@@ -7,9 +7,10 @@ use Rattle.code.specs.Expressions.{expression_code}
 use Rattle.code.specs.Statements.{block_code}
 use Rattle.codegen.specs.Sites.{setting_at}
 use Rattle.codegen.proofs.Patches.{patch_if, patch_then, then_place, patch_else, patch_while, patch_join, then_less}
-use Rattle.codegen.proofs.Patches.{else_made}
+use Rattle.codegen.proofs.Patches.{else_made, if_block_fits, if_end_fits, while_block_fits, while_end_fits}
+use Rattle.codegen.proofs.Patches.{then_block_fits, then_end_fits, join_first_fits, join_block_fits, join_end_fits}
 use Rattle.codegen.proofs.Rows.{inner_block, first_fits, Makes}
-use Rattle.codegen.proofs.Failing.{failed}
+use Rattle.codegen.proofs.Failing.{failed, no_memory}
 use Rattle.codegen.proofs.statement.+statements.Goals as goal
 
 pub if_then-returns : goal.if_then-returns
@@ -142,3 +143,110 @@ statement-returns-in_ok-passed-in-Some t c =
     (block_code set (block_in c.deref.result.now)) (block_code set (block_in c.deref-in-Some.result.now))
     c.then_passed.new.code.items c.else_passed.new.code.items c.in_ok-passed-in-Some.passed
     c.in_ok-passed-in-Some.ensures.0 c.in_ok-passed-in-Some.ensures.1 c.else_passed.ensures)
+
+pub if_then-returns-in_err-expression : goal.if_then-returns-in_err-expression
+if_then-returns-in_err-expression t c =
+    no_memory c.from_residual.result _ _ c.from_residual.ensures
+
+pub if_then-returns-in_err-append : goal.if_then-returns-in_err-append
+if_then-returns-in_err-append t c =
+    no_memory c.from_residual-in_err-append.result _ _ c.from_residual-in_err-append.ensures
+
+pub if_then-returns-in_err-block : goal.if_then-returns-in_err-block
+if_then-returns-in_err-block t c =
+    failed c.from_residual-in_err-block.result c.in_err-block.field-0.0 _ _ _ c.from_residual-in_err-block.ensures c.in_err-block.ensures
+    (if_block_fits _ _ (block_code (setting_at c.args.site.now) (block_in c.args.then_part.now)) _ _ _
+    c.in_ok-expression.ensures c.in_ok-append.ensures)
+
+pub if_then-returns-in_err-end : goal.if_then-returns-in_err-end
+if_then-returns-in_err-end t c =
+    failed c.from_residual-in_err-end.result c.in_err-end.field-0.0 _ _ _ c.from_residual-in_err-end.ensures c.in_err-end.ensures
+    (if_end_fits _ _ (block_code (setting_at c.args.site.now) (block_in c.args.then_part.now)) _ _ _ _ _
+    c.in_ok-expression.ensures c.in_ok-append.ensures c.in_ok-block.ensures (ap length c.deref.ensures.value))
+
+pub then_passed-returns-in_err-expression : goal.then_passed-returns-in_err-expression
+then_passed-returns-in_err-expression t c =
+    no_memory c.from_residual.result _ _ c.from_residual.ensures
+
+pub then_passed-returns-in_err-append : goal.then_passed-returns-in_err-append
+then_passed-returns-in_err-append t c =
+    no_memory c.from_residual-in_err-append.result _ _ c.from_residual-in_err-append.ensures
+
+pub then_passed-returns-in_err-append-2 : goal.then_passed-returns-in_err-append-2
+then_passed-returns-in_err-append-2 t c =
+    no_memory c.from_residual-in_err-append-2.result _ _ c.from_residual-in_err-append-2.ensures
+
+pub then_passed-returns-in_err-block : goal.then_passed-returns-in_err-block
+then_passed-returns-in_err-block t c =
+    failed c.from_residual-in_err-block.result c.in_err-block.field-0.0 _ _ _ c.from_residual-in_err-block.ensures c.in_err-block.ensures
+    (then_block_fits _ _ (block_code (setting_at c.args.site.now) (block_in c.args.then_part.now)) _ _ _
+    c.in_ok-expression.ensures c.in_ok-append.ensures)
+
+pub then_passed-returns-in_err-other : goal.then_passed-returns-in_err-other
+then_passed-returns-in_err-other t c =
+    failed c.from_residual-in_err-other.result c.in_err-other.field-0.0 _ _ _ c.from_residual-in_err-other.ensures c.in_err-other.ensures
+    (then_end_fits _ _ (block_code (setting_at c.args.site.now) (block_in c.args.then_part.now)) _ _ _ _ _ _ _
+    c.in_ok-expression.ensures c.in_ok-append.ensures c.in_ok-block.ensures c.in_ok-append-2.ensures (ap length c.deref.ensures.value))
+
+pub else_passed-returns-in_err-block : goal.else_passed-returns-in_err-block
+else_passed-returns-in_err-block t c =
+    failed c.from_residual.result c.in_err-block.field-0.0 _ _ _ c.from_residual.ensures c.in_err-block.ensures
+    (omega arith)
+
+pub else_passed-returns-in_err-behind : goal.else_passed-returns-in_err-behind
+else_passed-returns-in_err-behind t c =
+    failed c.from_residual-in_err-behind.result c.in_err-behind.field-0.0 _ _ _ c.from_residual-in_err-behind.ensures c.in_err-behind.ensures
+    (omega (arith, ap length c.deref.ensures.value, ap length c.in_ok-block.ensures ∙ length-append c.args.code.now.items _))
+
+pub while_do-returns-in_err-start : goal.while_do-returns-in_err-start
+while_do-returns-in_err-start t c =
+    failed c.from_residual.result c.in_err-start.field-0.0 _ _ _ c.from_residual.ensures c.in_err-start.ensures
+    (omega (arith, ap length c.deref.ensures.value))
+
+pub while_do-returns-in_err-expression : goal.while_do-returns-in_err-expression
+while_do-returns-in_err-expression t c =
+    no_memory c.from_residual-in_err-expression.result _ _ c.from_residual-in_err-expression.ensures
+
+pub while_do-returns-in_err-append : goal.while_do-returns-in_err-append
+while_do-returns-in_err-append t c =
+    no_memory c.from_residual-in_err-append.result _ _ c.from_residual-in_err-append.ensures
+
+pub while_do-returns-in_err-append-2 : goal.while_do-returns-in_err-append-2
+while_do-returns-in_err-append-2 t c =
+    no_memory c.from_residual-in_err-append-2.result _ _ c.from_residual-in_err-append-2.ensures
+
+pub while_do-returns-in_err-block : goal.while_do-returns-in_err-block
+while_do-returns-in_err-block t c =
+    failed c.from_residual-in_err-block.result c.in_err-block.field-0.0 _ _ _ c.from_residual-in_err-block.ensures c.in_err-block.ensures
+    (while_block_fits _ _ (block_code (setting_at c.args.site.now) (block_in c.args.body.now)) _ _ _
+    c.in_ok-expression.ensures c.in_ok-append.ensures)
+
+pub while_do-returns-in_err-end : goal.while_do-returns-in_err-end
+while_do-returns-in_err-end t c =
+    failed c.from_residual-in_err-end.result c.in_err-end.field-0.0 _ _ _ c.from_residual-in_err-end.ensures c.in_err-end.ensures
+    (while_end_fits _ _ (block_code (setting_at c.args.site.now) (block_in c.args.body.now)) _ _ _ _ _ _ _
+    c.in_ok-expression.ensures c.in_ok-append.ensures c.in_ok-block.ensures c.in_ok-append-2.ensures (ap length c.deref-2.ensures.value))
+
+pub join_aborted-returns-in_err-join_first : goal.join_aborted-returns-in_err-join_first
+join_aborted-returns-in_err-join_first t c =
+    failed c.from_residual.result c.in_err-join_first.field-0.0 _ _ _ c.from_residual.ensures c.in_err-join_first.ensures
+    (join_first_fits c.args.code.now.items
+    (expression_code (program_of c.args.site.now.program.now) (expression_of c.args.handle.now)) _ _)
+
+pub join_aborted-returns-in_err-append : goal.join_aborted-returns-in_err-append
+join_aborted-returns-in_err-append t c =
+    no_memory c.from_residual-in_err-append.result _ _ c.from_residual-in_err-append.ensures
+
+pub join_aborted-returns-in_err-block : goal.join_aborted-returns-in_err-block
+join_aborted-returns-in_err-block t c =
+    failed c.from_residual-in_err-block.result c.in_err-block.field-0.0 _ _ _ c.from_residual-in_err-block.ensures c.in_err-block.ensures
+    (join_block_fits _ (expression_code (program_of c.args.site.now.program.now) (expression_of c.args.handle.now)) _
+    (block_code (setting_at c.args.site.now) (block_in c.args.aborted.now)) _ _ _ _ _ refl refl
+    c.in_ok-join_first.ensures c.in_ok-append.ensures)
+
+pub join_aborted-returns-in_err-end : goal.join_aborted-returns-in_err-end
+join_aborted-returns-in_err-end t c =
+    failed c.from_residual-in_err-end.result c.in_err-end.field-0.0 _ _ _ c.from_residual-in_err-end.ensures c.in_err-end.ensures
+    (join_end_fits _ (expression_code (program_of c.args.site.now.program.now) (expression_of c.args.handle.now)) _
+    (block_code (setting_at c.args.site.now) (block_in c.args.aborted.now)) _ _ _ _ _ _ _ refl refl
+    c.in_ok-join_first.ensures c.in_ok-append.ensures c.in_ok-block.ensures (ap length c.deref.ensures.value))
