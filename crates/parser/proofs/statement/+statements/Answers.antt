@@ -1,4 +1,4 @@
-use Rattle.std.proofs.Common.{◌≡◌, [], ◌∷◌, arith, rules, ap, sym}
+use Rattle.std.proofs.Common.{◌≡◌, ◌∙◌, [], ◌∷◌, arith, rules, ap, sym}
 use Rattle.std.proofs.lemmas.Result.{err_from_is_err_and}
 use Rattle.scanner.specs.declared.token.Keyword.TheVariants as K
 use Rattle.scanner.specs.declared.token.Sign.TheVariants as S
@@ -10,6 +10,7 @@ use Rattle.syntax.proofs.Built.{if_made, while_made, join_made}
 use Rattle.grammar.specs.Reading.{lexeme_at}
 use Rattle.grammar.proofs.Joins.{here, then1, fail1, then3, fail3, then5, fail5, leads_as, close, done}
 use Rattle.steps.specs.Ahead.{ahead}
+use Rattle.parser.specs.Starts.{start_lexeme}
 use Rattle.parser.specs.Steps.{add_statement}
 use Rattle.parser.proofs.Loops.{goes_on, ends, chain_statements}
 use Rattle.parser.proofs.Steps.{then_takes, fail_rejects, then_expression, fail_expression, then_condition}
@@ -185,3 +186,184 @@ statements-returns-clause-ok t c =
     rw (← (chain_statements c.statements.statements.items NoStatements))
     (ends (λ x. (x, tt)) add_statement c.statements.statements.items NoStatements _ _ _
     c.statements.invariant.read (rw c.in_default.is at c.in_ok-next.ensures.ok))
+
+pub statement_from-returns-in-Assign-clause-ok : goal.statement_from-returns-in-Assign-clause-ok
+statement_from-returns-in-Assign-clause-ok t c = c.assignment.ensures.ok
+
+pub statement_from-returns-in-Assign-clause-err : goal.statement_from-returns-in-Assign-clause-err
+statement_from-returns-in-Assign-clause-err t c = c.assignment.ensures.err
+
+pub statement_from-returns-in-Assign-clause-shorter : goal.statement_from-returns-in-Assign-clause-shorter
+statement_from-returns-in-Assign-clause-shorter t c = c.assignment.ensures.shorter
+
+pub statement_from-assignment-requires-clause-depth : goal.statement_from-assignment-requires-clause-depth
+statement_from-assignment-requires-clause-depth t c = c.requires.depth
+
+pub statement_from-assignment-requires-clause-first : goal.statement_from-assignment-requires-clause-first
+statement_from-assignment-requires-clause-first t c = c.requires.first ∙ ap start_lexeme c.in-Assign.is
+
+pub statement_from-returns-in-If-clause-ok : goal.statement_from-returns-in-If-clause-ok
+statement_from-returns-in-If-clause-ok t c = c.if_statement.ensures.ok
+
+pub statement_from-returns-in-If-clause-err : goal.statement_from-returns-in-If-clause-err
+statement_from-returns-in-If-clause-err t c = c.if_statement.ensures.err
+
+pub statement_from-returns-in-If-clause-shorter : goal.statement_from-returns-in-If-clause-shorter
+statement_from-returns-in-If-clause-shorter t c = c.if_statement.ensures.shorter
+
+pub statement_from-returns-in-While-clause-ok : goal.statement_from-returns-in-While-clause-ok
+statement_from-returns-in-While-clause-ok t c = c.while_statement.ensures.ok
+
+pub statement_from-returns-in-While-clause-err : goal.statement_from-returns-in-While-clause-err
+statement_from-returns-in-While-clause-err t c = c.while_statement.ensures.err
+
+pub statement_from-returns-in-While-clause-shorter : goal.statement_from-returns-in-While-clause-shorter
+statement_from-returns-in-While-clause-shorter t c = c.while_statement.ensures.shorter
+
+pub statement_from-returns-in-Call-clause-ok : goal.statement_from-returns-in-Call-clause-ok
+statement_from-returns-in-Call-clause-ok t c = c.call.ensures.ok
+
+pub statement_from-returns-in-Call-clause-err : goal.statement_from-returns-in-Call-clause-err
+statement_from-returns-in-Call-clause-err t c = c.call.ensures.err
+
+pub statement_from-returns-in-Call-clause-shorter : goal.statement_from-returns-in-Call-clause-shorter
+statement_from-returns-in-Call-clause-shorter t c = c.call.ensures.shorter
+
+pub statement_from-call-requires-clause-depth : goal.statement_from-call-requires-clause-depth
+statement_from-call-requires-clause-depth t c = c.requires.depth
+
+pub statement_from-call-requires-clause-first : goal.statement_from-call-requires-clause-first
+statement_from-call-requires-clause-first t c = c.requires.first ∙ ap start_lexeme c.in-Call.is
+
+pub statement_from-returns-in-Fork-clause-ok : goal.statement_from-returns-in-Fork-clause-ok
+statement_from-returns-in-Fork-clause-ok t c = c.fork.ensures.ok
+
+pub statement_from-returns-in-Fork-clause-err : goal.statement_from-returns-in-Fork-clause-err
+statement_from-returns-in-Fork-clause-err t c = c.fork.ensures.err
+
+pub statement_from-returns-in-Fork-clause-shorter : goal.statement_from-returns-in-Fork-clause-shorter
+statement_from-returns-in-Fork-clause-shorter t c = c.fork.ensures.shorter
+
+pub statement_from-fork-requires-clause-depth : goal.statement_from-fork-requires-clause-depth
+statement_from-fork-requires-clause-depth t c = c.requires.depth
+
+pub statement_from-fork-requires-clause-first : goal.statement_from-fork-requires-clause-first
+statement_from-fork-requires-clause-first t c = c.requires.first ∙ ap start_lexeme c.in-Fork.is
+
+pub statement_from-returns-in-Join-clause-ok : goal.statement_from-returns-in-Join-clause-ok
+statement_from-returns-in-Join-clause-ok t c = c.join.ensures.ok
+
+pub statement_from-returns-in-Join-clause-err : goal.statement_from-returns-in-Join-clause-err
+statement_from-returns-in-Join-clause-err t c = c.join.ensures.err
+
+pub statement_from-returns-in-Join-clause-shorter : goal.statement_from-returns-in-Join-clause-shorter
+statement_from-returns-in-Join-clause-shorter t c = c.join.ensures.shorter
+
+pub statement_from-returns-in-Return-clause-ok : goal.statement_from-returns-in-Return-clause-ok
+statement_from-returns-in-Return-clause-ok t c = c.return_statement.ensures.ok
+
+pub statement_from-returns-in-Return-clause-err : goal.statement_from-returns-in-Return-clause-err
+statement_from-returns-in-Return-clause-err t c = c.return_statement.ensures.err
+
+pub statement_from-returns-in-Return-clause-shorter : goal.statement_from-returns-in-Return-clause-shorter
+statement_from-returns-in-Return-clause-shorter t c = c.return_statement.ensures.shorter
+
+pub statement_from-return_statement-requires-clause-depth : goal.statement_from-return_statement-requires-clause-depth
+statement_from-return_statement-requires-clause-depth t c = c.requires.depth
+
+pub statement_from-return_statement-requires-clause-first : goal.statement_from-return_statement-requires-clause-first
+statement_from-return_statement-requires-clause-first t c =
+    c.requires.first ∙ ap start_lexeme c.in-Return.is
+
+pub statement_from-returns-in-Wait-clause-ok : goal.statement_from-returns-in-Wait-clause-ok
+statement_from-returns-in-Wait-clause-ok t c = c.wait.ensures.ok
+
+pub statement_from-returns-in-Wait-clause-err : goal.statement_from-returns-in-Wait-clause-err
+statement_from-returns-in-Wait-clause-err t c = c.wait.ensures.err
+
+pub statement_from-returns-in-Wait-clause-shorter : goal.statement_from-returns-in-Wait-clause-shorter
+statement_from-returns-in-Wait-clause-shorter t c = c.wait.ensures.shorter
+
+pub statement_from-wait-requires-clause-depth : goal.statement_from-wait-requires-clause-depth
+statement_from-wait-requires-clause-depth t c = c.requires.depth
+
+pub statement_from-wait-requires-clause-first : goal.statement_from-wait-requires-clause-first
+statement_from-wait-requires-clause-first t c = c.requires.first ∙ ap start_lexeme c.in-Wait.is
+
+pub statement_from-returns-in-Notify-clause-ok : goal.statement_from-returns-in-Notify-clause-ok
+statement_from-returns-in-Notify-clause-ok t c = c.notify.ensures.ok
+
+pub statement_from-returns-in-Notify-clause-err : goal.statement_from-returns-in-Notify-clause-err
+statement_from-returns-in-Notify-clause-err t c = c.notify.ensures.err
+
+pub statement_from-returns-in-Notify-clause-shorter : goal.statement_from-returns-in-Notify-clause-shorter
+statement_from-returns-in-Notify-clause-shorter t c = c.notify.ensures.shorter
+
+pub statement_from-notify-requires-clause-depth : goal.statement_from-notify-requires-clause-depth
+statement_from-notify-requires-clause-depth t c = c.requires.depth
+
+pub statement_from-notify-requires-clause-first : goal.statement_from-notify-requires-clause-first
+statement_from-notify-requires-clause-first t c = c.requires.first ∙ ap start_lexeme c.in-Notify.is
+
+pub statement_from-returns-in-Broadcast-clause-ok : goal.statement_from-returns-in-Broadcast-clause-ok
+statement_from-returns-in-Broadcast-clause-ok t c = c.broadcast.ensures.ok
+
+pub statement_from-returns-in-Broadcast-clause-err : goal.statement_from-returns-in-Broadcast-clause-err
+statement_from-returns-in-Broadcast-clause-err t c = c.broadcast.ensures.err
+
+pub statement_from-returns-in-Broadcast-clause-shorter : goal.statement_from-returns-in-Broadcast-clause-shorter
+statement_from-returns-in-Broadcast-clause-shorter t c = c.broadcast.ensures.shorter
+
+pub statement_from-broadcast-requires-clause-depth : goal.statement_from-broadcast-requires-clause-depth
+statement_from-broadcast-requires-clause-depth t c = c.requires.depth
+
+pub statement_from-broadcast-requires-clause-first : goal.statement_from-broadcast-requires-clause-first
+statement_from-broadcast-requires-clause-first t c = c.requires.first ∙ ap start_lexeme c.in-Broadcast.is
+
+pub statement_from-returns-in-Print-clause-ok : goal.statement_from-returns-in-Print-clause-ok
+statement_from-returns-in-Print-clause-ok t c = c.print.ensures.ok
+
+pub statement_from-returns-in-Print-clause-err : goal.statement_from-returns-in-Print-clause-err
+statement_from-returns-in-Print-clause-err t c = c.print.ensures.err
+
+pub statement_from-returns-in-Print-clause-shorter : goal.statement_from-returns-in-Print-clause-shorter
+statement_from-returns-in-Print-clause-shorter t c = c.print.ensures.shorter
+
+pub statement_from-print-requires-clause-depth : goal.statement_from-print-requires-clause-depth
+statement_from-print-requires-clause-depth t c = c.requires.depth
+
+pub statement_from-print-requires-clause-first : goal.statement_from-print-requires-clause-first
+statement_from-print-requires-clause-first t c = c.requires.first ∙ ap start_lexeme c.in-Print.is
+
+pub statement_from-returns-in-Abort-clause-ok : goal.statement_from-returns-in-Abort-clause-ok
+statement_from-returns-in-Abort-clause-ok t c = c.abort.ensures.ok
+
+pub statement_from-returns-in-Abort-clause-err : goal.statement_from-returns-in-Abort-clause-err
+statement_from-returns-in-Abort-clause-err t c = c.abort.ensures.err
+
+pub statement_from-returns-in-Abort-clause-shorter : goal.statement_from-returns-in-Abort-clause-shorter
+statement_from-returns-in-Abort-clause-shorter t c = c.abort.ensures.shorter
+
+pub statement_from-abort-requires-clause-depth : goal.statement_from-abort-requires-clause-depth
+statement_from-abort-requires-clause-depth t c = c.requires.depth
+
+pub statement_from-abort-requires-clause-first : goal.statement_from-abort-requires-clause-first
+statement_from-abort-requires-clause-first t c = c.requires.first ∙ ap start_lexeme c.in-Abort.is
+
+pub aborted_statements-returns-in_err-part-clause-err : goal.aborted_statements-returns-in_err-part-clause-err
+aborted_statements-returns-in_err-part-clause-err t c =
+    let e : lexeme_at (ahead c.args.parser.now) ≡ Word K.Aborted = search rules in
+    let p = err_from_is_err_and c.from_residual-in_err-part.result c.from_residual-in_err-part.ensures.1 in
+    rw (p.1, p.2) (fail1 c.in_err-part.ensures.err
+    (aborts e c.in_ok-inner.ensures.rest
+    (omega (arith, c.in_ok-inner.ensures.ok.0, c.in_ok-inner.ensures.ok.1)))
+    (omega (arith, c.in_ok-inner.ensures.ok.0, c.in_ok-inner.ensures.ok.1)))
+
+pub aborted_statements-returns-in_err-expect_keyword-clause-err : goal.aborted_statements-returns-in_err-expect_keyword-clause-err
+aborted_statements-returns-in_err-expect_keyword-clause-err t c =
+    let e : lexeme_at (ahead c.args.parser.now) ≡ Word K.Aborted = search rules in
+    let p = err_from_is_err_and c.from_residual-in_err-expect_keyword.result c.from_residual-in_err-expect_keyword.ensures.1 in
+    rw (p.1, p.2) (fail_rejects c.in_err-expect_keyword.ensures.err
+    (then1 c.in_ok-part.ensures.ok (aborts e c.in_ok-inner.ensures.rest
+    (omega (arith, c.in_ok-inner.ensures.ok.0, c.in_ok-inner.ensures.ok.1)))
+    (omega (arith, c.in_ok-inner.ensures.ok.0, c.in_ok-inner.ensures.ok.1))))
