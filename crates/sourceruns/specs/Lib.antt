@@ -5,3 +5,4 @@ pub mod Frames
 pub mod Stages
 pub mod Offered
 pub mod NextAction
+pub mod Ahead

@@ -1,6 +1,7 @@
 //! What the source means, decided by code: values of expressions over the variables and locals as they stand.
 #![tactic(auto)]
 
+mod ahead;
 mod copies;
 mod evaluation;
 mod frame;
@@ -14,6 +15,7 @@ mod rest;
 mod statements;
 mod variables;
 
+pub use ahead::{Ahead, look_ahead};
 pub use evaluation::{array_size, element, evaluate, evaluate_all};
 pub use frame::Frame;
 pub use monitors::{add_monitor, add_monitors, recover_part};

@@ -8,3 +8,4 @@ pub mod Outside
 pub mod Kills
 pub mod Leading
 pub mod Numbers
+pub mod Settled

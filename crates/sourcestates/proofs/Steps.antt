@@ -27,7 +27,7 @@ overwritten (Puts m k l z) f n w v = λ i j. put_over (j == n) v w (f j) i
 overwritten (Writes z) f n w v = λ i j. put_over (j == n) v w (f j) i
 overwritten (Makes child q) f n w v = λ i j. put_over_two (j == n) (j == child) v (Some q) w (f j) i
 
-done_without : (n : ℕ) (l : Label) (e : Effect) (q : Process) (w : Option Process) (s u : SourceState)
+pub done_without : (n : ℕ) (l : Label) (e : Effect) (q : Process) (w : Option Process) (s u : SourceState)
     → IsDone n l e q (record s { process = put s.process n w }) u → IsDone n l e q s u
 done_without n l e q w s u d = record {
   allows = d.allows;

@@ -3,3 +3,4 @@ pub mod States
 pub mod Done
 pub mod Taken
 pub mod Killed
+pub mod Quiet

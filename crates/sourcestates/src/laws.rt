@@ -1,11 +1,13 @@
 ghost use Rattle.std.specs.Prelude.{◌≡◌, Some, ℕ};
 ghost use Rattle.meaning.specs.Labels.{Action, Label, kind_of};
-ghost use Rattle.meaning.specs.Offers.{Does, Effect, offer};
+ghost use Rattle.meaning.specs.Offers.{Does, Effect, TakesUp, offer};
 ghost use Rattle.meaning.specs.Processes.{Process};
 ghost use Rattle.meaning.specs.Runs.{IsAction};
 ghost use Rattle.meaning.specs.States.{SourceState};
 ghost use Rattle.program.specs.Trees.{Program};
+ghost use Rattle.meaning.specs.Table.{Allows, Table};
 ghost use Rattle.sourcestates.specs.Done.{IsDone};
+ghost use Rattle.sourcestates.specs.Quiet.{if_quiet, next_quiet};
 
 /// A process that offers one action can do this action and no other, and it leads where its label and effect say.
 pub fn offer_laws()
@@ -19,4 +21,13 @@ pub fn offer_laws()
         → s.process a.process ≡ Some before → offer p s.variable before ≡ Does label effect after
         → IsAction p s a s'
         → (a.kind ≡ kind_of label) × IsDone a.process label effect after s s' }
+{}
+
+/// Of a process that can take an action of its own, the quiet action is that one where it is quiet, and else there is
+/// none.
+pub fn quiet_laws()
+    ensures { (p : Program) (s : SourceState) (n : ℕ) (before after : Process) (label : Label) (effect : Effect)
+        (t : Table)
+        → s.process n ≡ Some before → TakesUp (offer p s.variable before) label effect after
+        → Allows n label s.table t → next_quiet p s n ≡ if_quiet label }
 {}

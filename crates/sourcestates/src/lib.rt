@@ -12,12 +12,13 @@ mod naming;
 mod notifying;
 mod offering;
 mod placing;
+mod quiet;
 mod state;
 mod step;
 
 pub use action::{Action, ActionKind};
 pub use done::permit;
-pub use laws::offer_laws;
-pub use naming::is_named;
+pub use laws::{offer_laws, quiet_laws};
+pub use naming::{is_named, named};
 pub use state::SourceState;
 pub use step::accepts;

@@ -39,3 +39,21 @@ pub fn is_named(kind: &ActionKind, label: Label) -> bool
         Label::Ends(_) => matches!(kind, ActionKind::Finish),
     }
 }
+
+/// How an action of this label is named.
+pub fn named(label: Label) -> ActionKind
+    ensures { kind_of result ≡ name_of (label_of label) }
+{
+    match label {
+        Label::Assigns | Label::Stores(_) => ActionKind::Assign,
+        Label::Tests => ActionKind::Test,
+        Label::Calls => ActionKind::Call,
+        Label::Returns => ActionKind::Return,
+        Label::Prints(number) => ActionKind::Print(number),
+        Label::Fails(fault) => ActionKind::Fails(fault),
+        Label::Exits(monitor) => ActionKind::Exit(monitor),
+        Label::Waits(condition) => ActionKind::Wait(condition),
+        Label::Abandons(monitor) => ActionKind::Abandon(monitor),
+        Label::Ends(_) => ActionKind::Finish,
+    }
+}

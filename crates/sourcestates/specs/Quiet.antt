@@ -1,0 +1,35 @@
+-- The quiet action that a process can take next: one that no other process learns of.
+use Rattle.std.specs.Prelude.{ℕ, ◌≡◌, Option, Some, None, nat_le, if◌then◌else◌}
+use Rattle.words.specs.Limits.{most_processes}
+use Rattle.program.specs.Trees.{Program}
+use Rattle.meaning.specs.Labels.{Kind, Label, FindsFull, FindsClaimed, kind_of}
+use Rattle.meaning.specs.Offers.{Offer, Does, MakesOne, ClaimsOne, offer}
+use Rattle.meaning.specs.Processes.{Process}
+use Rattle.meaning.specs.Runs.{IsStep}
+use Rattle.meaning.specs.States.{SourceState}
+use Rattle.meaning.specs.Table.{Table}
+use Rattle.deferral.specs.Deferring.{is_quiet}
+
+abbrev pub if_quiet : Label → Option Kind
+if_quiet label = if is_quiet label then Some (kind_of label) else None
+
+-- of a process with this offer. Where no process can be made any more, or the child was claimed before, that is the
+-- fault
+abbrev pub quiet_kind : Offer → Table → Option Kind
+quiet_kind (Does label effect after) T = if_quiet label
+quiet_kind (MakesOne child after full) T = if nat_le most_processes T.made then Some (kind_of FindsFull) else None
+quiet_kind (ClaimsOne child after refused) T = if T.claimed child then Some (kind_of (FindsClaimed child)) else None
+quiet_kind other T = None
+
+abbrev pub quiet_from : Program → SourceState → Option Process → Option Kind
+quiet_from p s None = None
+quiet_from p s (Some q) = quiet_kind (offer p s.variable q) s.table
+
+abbrev pub next_quiet : Program → SourceState → ℕ → Option Kind
+next_quiet p s n = quiet_from p s (s.process n)
+
+-- it was taken; or there is none, and the second state is the first
+abbrev pub IsQuietTaken : Program → ℕ → Option Kind → SourceState → SourceState → Type 0
+IsQuietTaken p n None s s' = (next_quiet p s n ≡ None) × (s' ≡ s)
+IsQuietTaken p n (Some kind) s s' =
+    (next_quiet p s n ≡ Some kind) × IsStep p s (record { process = n; kind = kind }) s'
