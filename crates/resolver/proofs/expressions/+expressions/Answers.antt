@@ -112,3 +112,115 @@ expression-returns-in-AnyOf t c = λ s h.
     (subst (λ y. IfOk c.any_of.result (λ e. expression_of e ≡ x.any_of s (x.conjunction s (v.conjunction_of y.first))
     (OrElse (v.conjunction_of y.second) (v.conjunctions_in y.rest.items))))
     c.deref-in-AnyOf.ensures (c.any_of.ensures s h)))
+
+pub term-returns-in-Factor : goal.term-returns-in-Factor
+term-returns-in-Factor t c = λ s h.
+    subst (λ y. IfOk c.factor.result (λ e. expression_of e ≡ x.term s (v.term_of y)))
+    (sym c.in-Factor.is) (c.factor.ensures s h)
+
+pub term-returns-in-Product : goal.term-returns-in-Product
+term-returns-in-Product t c = λ s h.
+    subst (λ y. IfOk c.product.result (λ e. expression_of e ≡ x.term s (v.term_of y)))
+    (sym c.in-Product.is)
+    (subst (λ y. IfOk c.product.result (λ e. expression_of e ≡ x.term s (v.product_of y)))
+    c.deref.ensures (c.product.ensures s h))
+
+pub sum-returns-in-Factor : goal.sum-returns-in-Factor
+sum-returns-in-Factor t c = λ s h.
+    subst (λ y. IfOk c.factor.result (λ e. expression_of e ≡ x.sum s (v.sum_of y)))
+    (sym c.in-Factor.is) (c.factor.ensures s h)
+
+pub sum-returns-in-Product : goal.sum-returns-in-Product
+sum-returns-in-Product t c = λ s h.
+    subst (λ y. IfOk c.product.result (λ e. expression_of e ≡ x.sum s (v.sum_of y)))
+    (sym c.in-Product.is)
+    (subst (λ y. IfOk c.product.result (λ e. expression_of e ≡ x.term s (v.product_of y)))
+    c.deref.ensures (c.product.ensures s h))
+
+pub sum-returns-in-Total : goal.sum-returns-in-Total
+sum-returns-in-Total t c = λ s h.
+    subst (λ y. IfOk c.total.result (λ e. expression_of e ≡ x.sum s (v.sum_of y)))
+    (sym c.in-Total.is)
+    (subst (λ y. IfOk c.total.result (λ e. expression_of e ≡ x.sum s (v.total_of y)))
+    c.deref-in-Total.ensures (c.total.ensures s h))
+
+pub relation-returns-in-Factor : goal.relation-returns-in-Factor
+relation-returns-in-Factor t c = λ s h.
+    subst (λ y. IfOk c.factor.result (λ e. expression_of e ≡ x.relation s (v.relation_of y)))
+    (sym c.in-Factor.is) (c.factor.ensures s h)
+
+pub relation-returns-in-Product : goal.relation-returns-in-Product
+relation-returns-in-Product t c = λ s h.
+    subst (λ y. IfOk c.product.result (λ e. expression_of e ≡ x.relation s (v.relation_of y)))
+    (sym c.in-Product.is)
+    (subst (λ y. IfOk c.product.result (λ e. expression_of e ≡ x.term s (v.product_of y)))
+    c.deref.ensures (c.product.ensures s h))
+
+pub relation-returns-in-Total : goal.relation-returns-in-Total
+relation-returns-in-Total t c = λ s h.
+    subst (λ y. IfOk c.total.result (λ e. expression_of e ≡ x.relation s (v.relation_of y)))
+    (sym c.in-Total.is)
+    (subst (λ y. IfOk c.total.result (λ e. expression_of e ≡ x.sum s (v.total_of y)))
+    c.deref-in-Total.ensures (c.total.ensures s h))
+
+pub relation-returns-in-Comparison : goal.relation-returns-in-Comparison
+relation-returns-in-Comparison t c = λ s h.
+    subst (λ y. IfOk c.comparison.result (λ e. expression_of e ≡ x.relation s (v.relation_of y)))
+    (sym c.in-Comparison.is)
+    (subst (λ y. IfOk c.comparison.result (λ e. expression_of e ≡ Both (x.comparison_operator y.comparator) (x.sum s (v.sum_of y.left))
+    (x.sum s (v.sum_of y.right))))
+    c.deref-in-Comparison.ensures (c.comparison.ensures s h))
+
+pub conjunction-returns-in-Factor : goal.conjunction-returns-in-Factor
+conjunction-returns-in-Factor t c = λ s h.
+    subst (λ y. IfOk c.factor.result (λ e. expression_of e ≡ x.conjunction s (v.conjunction_of y)))
+    (sym c.in-Factor.is) (c.factor.ensures s h)
+
+pub conjunction-returns-in-Product : goal.conjunction-returns-in-Product
+conjunction-returns-in-Product t c = λ s h.
+    subst (λ y. IfOk c.product.result (λ e. expression_of e ≡ x.conjunction s (v.conjunction_of y)))
+    (sym c.in-Product.is)
+    (subst (λ y. IfOk c.product.result (λ e. expression_of e ≡ x.term s (v.product_of y)))
+    c.deref.ensures (c.product.ensures s h))
+
+pub conjunction-returns-in-Total : goal.conjunction-returns-in-Total
+conjunction-returns-in-Total t c = λ s h.
+    subst (λ y. IfOk c.total.result (λ e. expression_of e ≡ x.conjunction s (v.conjunction_of y)))
+    (sym c.in-Total.is)
+    (subst (λ y. IfOk c.total.result (λ e. expression_of e ≡ x.sum s (v.total_of y)))
+    c.deref-in-Total.ensures (c.total.ensures s h))
+
+pub conjunction-returns-in-Comparison : goal.conjunction-returns-in-Comparison
+conjunction-returns-in-Comparison t c = λ s h.
+    subst (λ y. IfOk c.comparison.result (λ e. expression_of e ≡ x.conjunction s (v.conjunction_of y)))
+    (sym c.in-Comparison.is)
+    (subst (λ y. IfOk c.comparison.result (λ e. expression_of e ≡ Both (x.comparison_operator y.comparator) (x.sum s (v.sum_of y.left))
+    (x.sum s (v.sum_of y.right))))
+    c.deref-in-Comparison.ensures (c.comparison.ensures s h))
+
+pub expression-returns-in-Factor : goal.expression-returns-in-Factor
+expression-returns-in-Factor t c = λ s h.
+    subst (λ y. IfOk c.factor.result (λ e. expression_of e ≡ x.expression s (v.expression_of y)))
+    (sym c.in-Factor.is) (c.factor.ensures s h)
+
+pub expression-returns-in-Product : goal.expression-returns-in-Product
+expression-returns-in-Product t c = λ s h.
+    subst (λ y. IfOk c.product.result (λ e. expression_of e ≡ x.expression s (v.expression_of y)))
+    (sym c.in-Product.is)
+    (subst (λ y. IfOk c.product.result (λ e. expression_of e ≡ x.term s (v.product_of y)))
+    c.deref.ensures (c.product.ensures s h))
+
+pub expression-returns-in-Total : goal.expression-returns-in-Total
+expression-returns-in-Total t c = λ s h.
+    subst (λ y. IfOk c.total.result (λ e. expression_of e ≡ x.expression s (v.expression_of y)))
+    (sym c.in-Total.is)
+    (subst (λ y. IfOk c.total.result (λ e. expression_of e ≡ x.sum s (v.total_of y)))
+    c.deref-in-Total.ensures (c.total.ensures s h))
+
+pub expression-returns-in-Comparison : goal.expression-returns-in-Comparison
+expression-returns-in-Comparison t c = λ s h.
+    subst (λ y. IfOk c.comparison.result (λ e. expression_of e ≡ x.expression s (v.expression_of y)))
+    (sym c.in-Comparison.is)
+    (subst (λ y. IfOk c.comparison.result (λ e. expression_of e ≡ Both (x.comparison_operator y.comparator) (x.sum s (v.sum_of y.left))
+    (x.sum s (v.sum_of y.right))))
+    c.deref-in-Comparison.ensures (c.comparison.ensures s h))
