@@ -423,3 +423,24 @@ conjunction-returns-in-Factor t c = λ s h.
     subst (λ y. Gathers (o.conjunction_operand s (conjunction_of y)) c.args.least c.factor_operand.result)
     (sym c.in-Factor.is) (behind4 (x.factor_faults s (factor_of c.in-Factor.tree)) (x.wants Boolean (factor_type s (factor_of c.in-Factor.tree))
     (factor_place (factor_of c.in-Factor.tree))) c.args.least c.factor_operand.result (c.factor_operand.ensures s h))
+
+pub judge_expression-returns-in-Factor-clause-kind : goal.judge_expression-returns-in-Factor-clause-kind
+judge_expression-returns-in-Factor-clause-kind t c = λ s h.
+    c.judge_factor.ensures.kind s h ∙ ap (λ y. expression_type s (expression_of y)) (sym c.in-Factor.is)
+
+pub judge_sum-returns-in-Factor-clause-kind : goal.judge_sum-returns-in-Factor-clause-kind
+judge_sum-returns-in-Factor-clause-kind t c = λ s h.
+    c.judge_factor.ensures.kind s h ∙ ap (λ y. sum_type s (sum_of y)) (sym c.in-Factor.is)
+
+pub judge_factor-returns-in-Name-clause-kind : goal.judge_factor-returns-in-Name-clause-kind
+judge_factor-returns-in-Name-clause-kind t c = λ s h.
+    c.judge_name.ensures.kind s h ∙ ap (λ y. factor_type s (factor_of y)) (sym c.in-Name.is)
+
+pub judge_factor-returns-in-Element-clause-kind : goal.judge_factor-returns-in-Element-clause-kind
+judge_factor-returns-in-Element-clause-kind t c = λ s h.
+    c.element.ensures.kind s h
+    ∙ ap (λ y. factor_type s (Reads (name_of y.name) (At (expression_of y.index)))) c.deref.ensures
+    ∙ ap (λ y. factor_type s (factor_of y)) (sym c.in-Element.is)
+
+pub judge_factor-returns-in-Number-clause-kind : goal.judge_factor-returns-in-Number-clause-kind
+judge_factor-returns-in-Number-clause-kind t c = λ s h. ap (λ y. factor_type s (factor_of y)) (sym c.in-Number.is)
