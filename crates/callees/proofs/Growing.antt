@@ -1,10 +1,10 @@
 -- The names and pieces of monitors, where one more is read.
-use Rattle.std.proofs.Common.{◌≡◌, ℕ, ◌<◌, ◌+◌, zero, suc, List, [], ◌∷◌, ◌++◌, length, map, take, get_or}
+use Rattle.std.proofs.Common.{◌≡◌, ℕ, ◌<◌, ◌≤◌, ◌+◌, zero, suc, List, [], ◌∷◌, ◌++◌, length, map, take, get_or}
 use Rattle.std.proofs.Common.{Some, None, refl, ap, ◌∙◌, sym, subst, arith, append_assoc, append-nil, add-zero}
 use Rattle.std.proofs.Common.{slice_get}
 use Rattle.std.specs.Prelude.{option_map}
 use Rattle.std.specs.List.{take-map}
-use Rattle.std.proofs.lemmas.List.{take_more, map-append, length-map}
+use Rattle.std.proofs.lemmas.List.{take_all, take_more, map-append, length-map}
 use Rattle.std.proofs.Common.{Result, Ok, Err, IfOk, OnOk}
 use Rattle.std.specs.List.{Contains}
 use Rattle.std.proofs.lemmas.Option.{slice_get-map, slice_get_read, slice_get-get_or, slice_get_within}
@@ -90,3 +90,21 @@ pub all_pushed : (u : UnitTree) (ps qs : List PieceOf) → map piece_of ps ≡ p
     → map piece_of qs ≡ pieces u
 all_pushed u ps qs e f = f ∙ ap (λ xs. xs ++ map (p.piece_of External) u.procedures
     ++ part_of Main u.place u.body ∷ []) e
+
+-- one more element is pushed, where each is what one of another list is seen as
+pub pushed : {X V Y Z : Type 0} (f : Y → Z) (g : V → Z) (v : X → V) (xs : List X) (i : ℕ) (x : X) (ys new : List Y)
+    (y : Y) (old : List Z) → i < length xs → x ≡ get_or xs i x → new ≡ ys ++ y ∷ [] → f y ≡ g (v x)
+    → map f ys ≡ old ++ map g (map v (take i xs)) → map f new ≡ old ++ map g (map v (take (i + 1) xs))
+pushed f g v xs i x ys new y old lt is made seen so_far =
+    let next : take (i + 1) xs ≡ take i xs ++ x ∷ [] = take_more xs i x lt ∙ ap (λ z. take i xs ++ z ∷ []) (sym is) in
+    let all : map g (map v (take (i + 1) xs)) ≡ map g (map v (take i xs)) ++ g (v x) ∷ [] =
+    ap (λ l. map g (map v l)) next ∙ ap (map g) (map-append v (take i xs) (x ∷ []))
+    ∙ map-append g (map v (take i xs)) (v x ∷ []) in
+    ap (map f) made ∙ map-append f ys (y ∷ []) ∙ ap (λ l. l ++ f y ∷ []) so_far
+    ∙ append_assoc old (map g (map v (take i xs))) (f y ∷ [])
+    ∙ ap (λ z. old ++ (map g (map v (take i xs)) ++ z ∷ [])) seen ∙ sym (ap (λ l. old ++ l) all)
+
+-- all are pushed
+pub each_pushed : {X V Y Z : Type 0} (f : Y → Z) (g : V → Z) (v : X → V) (xs : List X) (i : ℕ) (ys : List Y)
+    (old : List Z) → length xs ≤ i → map f ys ≡ old ++ map g (map v (take i xs)) → map f ys ≡ old ++ map g (map v xs)
+each_pushed f g v xs i ys old h so_far = so_far ∙ ap (λ l. old ++ map g (map v l)) (take_all i xs h)
