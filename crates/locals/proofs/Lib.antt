@@ -1,1 +1,2 @@
 pub mod Reverses
+pub mod Uppermost
