@@ -47,8 +47,10 @@ conjunctions_more [] c later = refl
 conjunctions_more (b ∷ cs) c later = ap (OrElse (conjunction_of b)) (conjunctions_more cs c later)
 
 -- the operator of a link that comes first, and what is expected behind it
-factor_next : {d : ℕ} {n p : List Item} {op : ProductOperator} → d ≤ 64 → reply_multipliers (lexeme_at n) ≡ scales op
-    → p ≡ rest_after n → Leads d (Multipliers ∷ []) (AFactor ∷ Multipliers ∷ []) (λ t. (Scales op t.0 t.1.0, tt)) n p
+factor_next : {d : ℕ} {n p : List Item} {op : ProductOperator} → d ≤ 64 → reply_multipliers (lexeme_at n) ≡ scales
+    op
+    → p ≡ rest_after n → Leads d (Multipliers ∷ []) (AFactor ∷ Multipliers ∷ []) (λ t. (Scales op t.0 t.1.0, tt))
+    n p
 factor_next le r q = pushes {s = Multipliers} r q (omega arith)
 
 -- a further factor, and those behind it
@@ -74,7 +76,8 @@ pub multipliers_fail_later : {d : ℕ} {a n p : List Item} {op : ProductOperator
     → p ≡ rest_after n → Fails d (AFactor ∷ []) p e → Fails d (Multipliers ∷ []) a e
 multipliers_fail_later le l r q f = fail1 f (onto (factor_next le r q) l) (omega arith)
 
-pub multipliers_go_on : {d : ℕ} {a n p b : List Item} (ms all : List Multiplier) (m : Multiplier) → all ≡ ms ++ m ∷ []
+pub multipliers_go_on : {d : ℕ} {a n p b : List Item} (ms all : List Multiplier) (m : Multiplier) → all ≡ ms ++ m
+    ∷ []
     → d ≤ 64 → Leads d (Multipliers ∷ []) (Multipliers ∷ []) (λ y. (multipliers_before ms y.0, tt)) a n
     → reply_multipliers (lexeme_at n) ≡ scales m.operator → p ≡ rest_after n
     → Passes d (AFactor ∷ []) (factor_of m.factor, tt) p b → Leads d (Multipliers ∷ []) (Multipliers ∷ [])
@@ -84,7 +87,8 @@ multipliers_go_on ms all m e le l r q f =
     (then1 f (onto (factor_next le r q) l) (omega arith))
 
 pub multipliers_as : {d : ℕ} {a b : List Item} {z : TermTree} {f : FactorTree} {fs : MultiplierTrees}
-    → z ≡ Product f fs → Passes d (Multipliers ∷ []) (fs, tt) a b → Passes d (Multipliers ∷ []) (further_factors z, tt)
+    → z ≡ Product f fs → Passes d (Multipliers ∷ []) (fs, tt) a b → Passes d (Multipliers ∷ [])
+    (further_factors z, tt)
     a b
 multipliers_as {d} {a} {b} e p =
     let P : TermTree → Type 0 = λ z. Passes d (Multipliers ∷ []) (further_factors z, tt) a b in
@@ -92,12 +96,15 @@ multipliers_as {d} {a} {b} e p =
 
 -- the same of terms
 term_next : {d : ℕ} {n p : List Item} {op : SumOperator} {place : Place} → d ≤ 64
-    → reply_summands (lexeme_at n) ≡ adds op place → p ≡ rest_after n → Leads d (Summands ∷ []) (term (Summands ∷ []))
+    → reply_summands (lexeme_at n) ≡ adds op place → p ≡ rest_after n → Leads d (Summands ∷ [])
+    (term (Summands ∷ []))
     (λ t. (Adds op place (Product t.0 t.1.0) t.1.1.0, tt)) n p
 term_next le r q = pushes {s = Summands} r q (omega arith)
 
-pub summands_pass : {d : ℕ} {n p m b : List Item} {op : SumOperator} {place : Place} {ts : SummandTrees} (t : TermTree)
-    → d ≤ 64 → reply_summands (lexeme_at n) ≡ adds op place → p ≡ rest_after n → Passes d (term []) (term_trees t) p m
+pub summands_pass : {d : ℕ} {n p m b : List Item} {op : SumOperator} {place : Place} {ts : SummandTrees}
+    (t : TermTree)
+    → d ≤ 64 → reply_summands (lexeme_at n) ≡ adds op place → p ≡ rest_after n → Passes d (term []) (term_trees t)
+    p m
     → Passes d (Summands ∷ []) (ts, tt) m b → Passes d (Summands ∷ []) (Adds op place t ts, tt) n b
 summands_pass {d} {op = op} {place = place} {ts = ts} t le r q x y =
     done (leads_as (λ _. ap (λ z. (Adds op place z ts, tt)) (term_back t))
@@ -108,8 +115,10 @@ pub summands_fail : {d : ℕ} {n p : List Item} {op : SumOperator} {place : Plac
     → Fails d (Summands ∷ []) n e
 summands_fail le r q f = fail2 f (term_next le r q) (omega arith)
 
-pub summands_fail_behind : {d : ℕ} {n p m : List Item} {op : SumOperator} {place : Place} {e : Refusal} (t : TermTree)
-    → d ≤ 64 → reply_summands (lexeme_at n) ≡ adds op place → p ≡ rest_after n → Passes d (term []) (term_trees t) p m
+pub summands_fail_behind : {d : ℕ} {n p m : List Item} {op : SumOperator} {place : Place} {e : Refusal}
+    (t : TermTree)
+    → d ≤ 64 → reply_summands (lexeme_at n) ≡ adds op place → p ≡ rest_after n → Passes d (term []) (term_trees t)
+    p m
     → Fails d (Summands ∷ []) m e → Fails d (Summands ∷ []) n e
 summands_fail_behind {d} t le r q x y =
     fail1 {d = d} {d' = d} y (then2 {d = d} {d' = d} x (term_next le r q) (omega arith)) (omega arith)
@@ -120,7 +129,8 @@ pub summands_fail_later : {d : ℕ} {a n p : List Item} {op : SumOperator} {plac
     → Fails d (Summands ∷ []) a e
 summands_fail_later le l r q f = fail2 f (onto (term_next le r q) l) (omega arith)
 
-pub summands_go_on : {d : ℕ} {a n p b : List Item} (ms all : List Summand) (m : Summand) → all ≡ ms ++ m ∷ [] → d ≤ 64
+pub summands_go_on : {d : ℕ} {a n p b : List Item} (ms all : List Summand) (m : Summand) → all ≡ ms ++ m ∷ [] → d
+    ≤ 64
     → Leads d (Summands ∷ []) (Summands ∷ []) (λ y. (summands_before ms y.0, tt)) a n
     → reply_summands (lexeme_at n) ≡ adds m.operator m.place → p ≡ rest_after n
     → Passes d (term []) (term_trees (term_of m.term)) p b → Leads d (Summands ∷ []) (Summands ∷ [])
@@ -144,7 +154,8 @@ relation_next : {d : ℕ} {n p : List Item} → d ≤ 64 → Found (Word K.And) 
 relation_next le w = pushes {s = Relations} (ap reply_relations w.first) w.rest (omega arith)
 
 pub relations_pass : {d : ℕ} {n p m b : List Item} {rs : RelationTrees} (r : RelationTree) → d ≤ 64
-    → Found (Word K.And) n p → Passes d (relation []) (relation_trees r) p m → Passes d (Relations ∷ []) (rs, tt) m b
+    → Found (Word K.And) n p → Passes d (relation []) (relation_trees r) p m → Passes d (Relations ∷ []) (rs, tt)
+    m b
     → Passes d (Relations ∷ []) (AndAlso r rs, tt) n b
 relations_pass {d} {rs = rs} r le w x y =
     done (leads_as (λ _. ap (λ z. (AndAlso z rs, tt)) (relation_back r))
@@ -176,7 +187,8 @@ relations_go_on rs all r e le l w f =
     (then4 f (onto (relation_next le w) l) (omega arith))
 
 pub relations_as : {d : ℕ} {a b : List Item} {z : ConjunctionTree} {r : RelationTree} {rs : RelationTrees}
-    → z ≡ AllOf r rs → Passes d (Relations ∷ []) (rs, tt) a b → Passes d (Relations ∷ []) (further_relations z, tt) a b
+    → z ≡ AllOf r rs → Passes d (Relations ∷ []) (rs, tt) a b → Passes d (Relations ∷ [])
+    (further_relations z, tt) a b
 relations_as {d} {a} {b} e p =
     let P : ConjunctionTree → Type 0 = λ z. Passes d (Relations ∷ []) (further_relations z, tt) a b in
     subst P (sym e) p
@@ -205,7 +217,8 @@ conjunctions_fail_behind {d} c le w x y =
     fail1 {d = d} {d' = d} y (then5 {d = d} {d' = d} x (conjunction_next le w) (omega arith)) (omega arith)
 
 pub conjunctions_fail_later : {d : ℕ} {a n p : List Item} {e : Refusal}
-    {g : Trees (Conjunctions ∷ []) → Trees (Conjunctions ∷ [])} → d ≤ 64 → Leads d (Conjunctions ∷ []) (Conjunctions ∷ []) g a n
+    {g : Trees (Conjunctions ∷ []) → Trees (Conjunctions ∷ [])} → d ≤ 64 → Leads d (Conjunctions ∷ [])
+    (Conjunctions ∷ []) g a n
     → Found (Word K.Or) n p → Fails d (conjunction []) p e → Fails d (Conjunctions ∷ []) a e
 conjunctions_fail_later le l w f = fail5 f (onto (conjunction_next le w) l) (omega arith)
 

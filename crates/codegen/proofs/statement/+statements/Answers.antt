@@ -36,7 +36,8 @@ statement-returns-in-None t c =
     ap (λ b. If e b NoPart) first
     ∙ ap (λ p. statement_of (IfOf c.in-If.condition c.in-If.then_part p)) (sym c.in-None.is)
     ∙ ap statement_of (sym c.in-If.is) in
-    subst (λ s. Makes (setting_at c.args.site.now) c.args.code.now.items c.if_then.new.code.items c.if_then.result s)
+    subst (λ s. Makes (setting_at c.args.site.now) c.args.code.now.items c.if_then.new.code.items c.if_then.result
+    s)
     same c.if_then.ensures
 
 pub statement-returns-in-While : goal.statement-returns-in-While
@@ -45,7 +46,8 @@ statement-returns-in-While t c =
     let same : While e (block_in c.deref-in-While.result.now) ≡ statement_of c.args.s.now =
     ap (λ b. While e b) (inner_block c.deref-in-While.result.now c.in-While.body c.deref-in-While.ensures.value)
     ∙ ap statement_of (sym c.in-While.is) in
-    subst (λ s. Makes (setting_at c.args.site.now) c.args.code.now.items c.while_do.new.code.items c.while_do.result s)
+    subst (λ s. Makes (setting_at c.args.site.now) c.args.code.now.items c.while_do.new.code.items
+    c.while_do.result s)
     same c.while_do.ensures
 
 pub statement-returns-in-Wait : goal.statement-returns-in-Wait
@@ -105,7 +107,8 @@ statement-returns-in-None-aborted t c =
 
 pub block-returns-in_err-statement : goal.block-returns-in_err-statement
 block-returns-in_err-statement t c =
-    failed c.from_residual.result c.in_err-statement.field-0.0 _ _ _ c.from_residual.ensures c.in_err-statement.ensures
+    failed c.from_residual.result c.in_err-statement.field-0.0 _ _ _ c.from_residual.ensures
+    c.in_err-statement.ensures
     (first_fits (setting_at c.args.site.now) c.loop-s.code.items c.args.code.now.items _ c.args.statements.now
     c.loop-s.s-index c.s-item.result c.loop-s-test.true c.s-item.is c.loop-s.invariant)
 
@@ -154,13 +157,15 @@ if_then-returns-in_err-append t c =
 
 pub if_then-returns-in_err-block : goal.if_then-returns-in_err-block
 if_then-returns-in_err-block t c =
-    failed c.from_residual-in_err-block.result c.in_err-block.field-0.0 _ _ _ c.from_residual-in_err-block.ensures c.in_err-block.ensures
+    failed c.from_residual-in_err-block.result c.in_err-block.field-0.0 _ _ _ c.from_residual-in_err-block.ensures
+    c.in_err-block.ensures
     (if_block_fits _ _ (block_code (setting_at c.args.site.now) (block_in c.args.then_part.now)) _ _ _
     c.in_ok-expression.ensures c.in_ok-append.ensures)
 
 pub if_then-returns-in_err-end : goal.if_then-returns-in_err-end
 if_then-returns-in_err-end t c =
-    failed c.from_residual-in_err-end.result c.in_err-end.field-0.0 _ _ _ c.from_residual-in_err-end.ensures c.in_err-end.ensures
+    failed c.from_residual-in_err-end.result c.in_err-end.field-0.0 _ _ _ c.from_residual-in_err-end.ensures
+    c.in_err-end.ensures
     (if_end_fits _ _ (block_code (setting_at c.args.site.now) (block_in c.args.then_part.now)) _ _ _ _ _
     c.in_ok-expression.ensures c.in_ok-append.ensures c.in_ok-block.ensures (ap length c.deref.ensures.value))
 
@@ -178,15 +183,18 @@ then_passed-returns-in_err-append-2 t c =
 
 pub then_passed-returns-in_err-block : goal.then_passed-returns-in_err-block
 then_passed-returns-in_err-block t c =
-    failed c.from_residual-in_err-block.result c.in_err-block.field-0.0 _ _ _ c.from_residual-in_err-block.ensures c.in_err-block.ensures
+    failed c.from_residual-in_err-block.result c.in_err-block.field-0.0 _ _ _ c.from_residual-in_err-block.ensures
+    c.in_err-block.ensures
     (then_block_fits _ _ (block_code (setting_at c.args.site.now) (block_in c.args.then_part.now)) _ _ _
     c.in_ok-expression.ensures c.in_ok-append.ensures)
 
 pub then_passed-returns-in_err-other : goal.then_passed-returns-in_err-other
 then_passed-returns-in_err-other t c =
-    failed c.from_residual-in_err-other.result c.in_err-other.field-0.0 _ _ _ c.from_residual-in_err-other.ensures c.in_err-other.ensures
+    failed c.from_residual-in_err-other.result c.in_err-other.field-0.0 _ _ _ c.from_residual-in_err-other.ensures
+    c.in_err-other.ensures
     (then_end_fits _ _ (block_code (setting_at c.args.site.now) (block_in c.args.then_part.now)) _ _ _ _ _ _ _
-    c.in_ok-expression.ensures c.in_ok-append.ensures c.in_ok-block.ensures c.in_ok-append-2.ensures (ap length c.deref.ensures.value))
+    c.in_ok-expression.ensures c.in_ok-append.ensures c.in_ok-block.ensures c.in_ok-append-2.ensures
+    (ap length c.deref.ensures.value))
 
 pub else_passed-returns-in_err-block : goal.else_passed-returns-in_err-block
 else_passed-returns-in_err-block t c =
@@ -195,8 +203,14 @@ else_passed-returns-in_err-block t c =
 
 pub else_passed-returns-in_err-behind : goal.else_passed-returns-in_err-behind
 else_passed-returns-in_err-behind t c =
-    failed c.from_residual-in_err-behind.result c.in_err-behind.field-0.0 _ _ _ c.from_residual-in_err-behind.ensures c.in_err-behind.ensures
-    (omega (arith, ap length c.deref.ensures.value, ap length c.in_ok-block.ensures ∙ length-append c.args.code.now.items _))
+    failed c.from_residual-in_err-behind.result c.in_err-behind.field-0.0 _ _ _
+    c.from_residual-in_err-behind.ensures c.in_err-behind.ensures
+    (omega (
+      arith,
+      ap length c.deref.ensures.value,
+      ap length c.in_ok-block.ensures ∙ length-append
+          c.args.code.now.items _,
+    ))
 
 pub while_do-returns-in_err-start : goal.while_do-returns-in_err-start
 while_do-returns-in_err-start t c =
@@ -217,19 +231,23 @@ while_do-returns-in_err-append-2 t c =
 
 pub while_do-returns-in_err-block : goal.while_do-returns-in_err-block
 while_do-returns-in_err-block t c =
-    failed c.from_residual-in_err-block.result c.in_err-block.field-0.0 _ _ _ c.from_residual-in_err-block.ensures c.in_err-block.ensures
+    failed c.from_residual-in_err-block.result c.in_err-block.field-0.0 _ _ _ c.from_residual-in_err-block.ensures
+    c.in_err-block.ensures
     (while_block_fits _ _ (block_code (setting_at c.args.site.now) (block_in c.args.body.now)) _ _ _
     c.in_ok-expression.ensures c.in_ok-append.ensures)
 
 pub while_do-returns-in_err-end : goal.while_do-returns-in_err-end
 while_do-returns-in_err-end t c =
-    failed c.from_residual-in_err-end.result c.in_err-end.field-0.0 _ _ _ c.from_residual-in_err-end.ensures c.in_err-end.ensures
+    failed c.from_residual-in_err-end.result c.in_err-end.field-0.0 _ _ _ c.from_residual-in_err-end.ensures
+    c.in_err-end.ensures
     (while_end_fits _ _ (block_code (setting_at c.args.site.now) (block_in c.args.body.now)) _ _ _ _ _ _ _
-    c.in_ok-expression.ensures c.in_ok-append.ensures c.in_ok-block.ensures c.in_ok-append-2.ensures (ap length c.deref-2.ensures.value))
+    c.in_ok-expression.ensures c.in_ok-append.ensures c.in_ok-block.ensures c.in_ok-append-2.ensures
+    (ap length c.deref-2.ensures.value))
 
 pub join_aborted-returns-in_err-join_first : goal.join_aborted-returns-in_err-join_first
 join_aborted-returns-in_err-join_first t c =
-    failed c.from_residual.result c.in_err-join_first.field-0.0 _ _ _ c.from_residual.ensures c.in_err-join_first.ensures
+    failed c.from_residual.result c.in_err-join_first.field-0.0 _ _ _ c.from_residual.ensures
+    c.in_err-join_first.ensures
     (join_first_fits c.args.code.now.items
     (expression_code (program_of c.args.site.now.program.now) (expression_of c.args.handle.now)) _ _)
 
@@ -239,14 +257,17 @@ join_aborted-returns-in_err-append t c =
 
 pub join_aborted-returns-in_err-block : goal.join_aborted-returns-in_err-block
 join_aborted-returns-in_err-block t c =
-    failed c.from_residual-in_err-block.result c.in_err-block.field-0.0 _ _ _ c.from_residual-in_err-block.ensures c.in_err-block.ensures
-    (join_block_fits _ (expression_code (program_of c.args.site.now.program.now) (expression_of c.args.handle.now)) _
+    failed c.from_residual-in_err-block.result c.in_err-block.field-0.0 _ _ _ c.from_residual-in_err-block.ensures
+    c.in_err-block.ensures
+    (join_block_fits _ (expression_code (program_of c.args.site.now.program.now)
+    (expression_of c.args.handle.now)) _
     (block_code (setting_at c.args.site.now) (block_in c.args.aborted.now)) _ _ _ _ _ refl refl
     c.in_ok-join_first.ensures c.in_ok-append.ensures)
 
 pub join_aborted-returns-in_err-end : goal.join_aborted-returns-in_err-end
 join_aborted-returns-in_err-end t c =
-    failed c.from_residual-in_err-end.result c.in_err-end.field-0.0 _ _ _ c.from_residual-in_err-end.ensures c.in_err-end.ensures
+    failed c.from_residual-in_err-end.result c.in_err-end.field-0.0 _ _ _ c.from_residual-in_err-end.ensures
+    c.in_err-end.ensures
     (join_end_fits _ (expression_code (program_of c.args.site.now.program.now) (expression_of c.args.handle.now)) _
     (block_code (setting_at c.args.site.now) (block_in c.args.aborted.now)) _ _ _ _ _ _ _ refl refl
     c.in_ok-join_first.ensures c.in_ok-append.ensures c.in_ok-block.ensures (ap length c.deref.ensures.value))

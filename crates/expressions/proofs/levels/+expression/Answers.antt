@@ -47,7 +47,8 @@ conjunction_from-returns-clause-ok t c =
 
 pub relations-relations-preserved : goal.relations-relations-preserved
 relations-relations-preserved t c = record {
-  read = relations_go_on _ _ c.in_ok-relation.relation c.in_ok-push.ensures.items c.requires c.relations.invariant.read
+  read = relations_go_on _ _ c.in_ok-relation.relation c.in_ok-push.ensures.items c.requires
+      c.relations.invariant.read
       c.relations-test.ensures c.in_ok-relation.ensures.ok;
   within = omega (
     arith,
@@ -128,7 +129,8 @@ expression-returns-in_err-sum-clause-err t c =
 pub expression-returns-in_err-relation-clause-err : goal.expression-returns-in_err-relation-clause-err
 expression-returns-in_err-relation-clause-err t c =
     exit_fails c.from_residual-in_err-relation.result c.from_residual-in_err-relation.ensures.1
-    (fail1 c.in_err-relation.ensures.err (then3 c.in_ok-sum.ensures.ok (here {σ = expression []}) (omega arith)) (omega arith))
+    (fail1 c.in_err-relation.ensures.err (then3 c.in_ok-sum.ensures.ok (here {σ = expression []}) (omega arith))
+    (omega arith))
 
 pub expression-returns-in_err-conjunction-clause-err : goal.expression-returns-in_err-conjunction-clause-err
 expression-returns-in_err-conjunction-clause-err t c =
@@ -138,7 +140,8 @@ expression-returns-in_err-conjunction-clause-err t c =
 
 pub expression-returns-clause-err : goal.expression-returns-clause-err
 expression-returns-clause-err t c =
-    IfErr-weaker c.expression_from.result _ _ (λ e f. fail1 f (then1 c.in_ok-conjunction.ensures.ok (then1 c.in_ok-relation.ensures.ok
+    IfErr-weaker c.expression_from.result _ _ (λ e f. fail1 f
+    (then1 c.in_ok-conjunction.ensures.ok (then1 c.in_ok-relation.ensures.ok
     (then3 c.in_ok-sum.ensures.ok (here {σ = expression []}) (omega arith)) (omega arith)) (omega arith))
     (omega arith))
     c.expression_from.ensures.err
@@ -148,7 +151,8 @@ expression_before-returns-in_err-expression-clause-err t c =
     exit_fails c.from_residual.result c.from_residual.ensures.1
     (fail6 c.in_err-expression.ensures.err (here {σ = expression (AMark c.args.close ∷ [])}) (omega arith))
 
-pub expression_before-returns-in_err-expect_sign-clause-err : goal.expression_before-returns-in_err-expect_sign-clause-err
+pub expression_before-returns-in_err-expect_sign-clause-err :
+    goal.expression_before-returns-in_err-expect_sign-clause-err
 expression_before-returns-in_err-expect_sign-clause-err t c =
     exit_fails c.from_residual-in_err-expect_sign.result c.from_residual-in_err-expect_sign.ensures.1
     (enclosed_fails (expression_of c.in_ok-expression.expression) c.in_ok-expression.ensures.ok
@@ -314,9 +318,11 @@ operand-returns-in_err-new-clause-err t c =
 
 pub factor-returns-in_err-expression-in-Paren-clause-err : goal.factor-returns-in_err-expression-in-Paren-clause-err
 factor-returns-in_err-expression-in-Paren-clause-err t c =
-    exit_fails c.from_residual-in_err-expression-in-Paren.result c.from_residual-in_err-expression-in-Paren.ensures.1
+    exit_fails c.from_residual-in_err-expression-in-Paren.result
+    c.from_residual-in_err-expression-in-Paren.ensures.1
     (paren_fails c.peek-token.result.place c.in_ok-inner-in-Paren.ensures.ok.0
-    c.in_ok-inner-in-Paren.ensures.ok.1 (sym c.peek-token.ensures.lexeme ∙ c.in-Some.ensures c.peek-token.result.text.now
+    c.in_ok-inner-in-Paren.ensures.ok.1 (sym c.peek-token.ensures.lexeme ∙ c.in-Some.ensures
+    c.peek-token.result.text.now
     c.peek-token.result.place ∙ ap (λ s. start_lexeme s c.peek-token.result.text.now c.peek-token.result.place)
     c.in-Paren.is) c.in_ok-inner-in-Paren.ensures.rest c.in_err-expression-in-Paren.ensures.err)
 
@@ -324,7 +330,8 @@ pub factor-returns-in_err-operand-in-Minus-clause-err : goal.factor-returns-in_e
 factor-returns-in_err-operand-in-Minus-clause-err t c =
     exit_fails c.from_residual-in_err-operand-in-Minus.result c.from_residual-in_err-operand-in-Minus.ensures.1
     (minus_fails c.peek-token.result.place c.in_ok-inner-in-Minus.ensures.ok.0
-    c.in_ok-inner-in-Minus.ensures.ok.1 (sym c.peek-token.ensures.lexeme ∙ c.in-Some.ensures c.peek-token.result.text.now
+    c.in_ok-inner-in-Minus.ensures.ok.1 (sym c.peek-token.ensures.lexeme ∙ c.in-Some.ensures
+    c.peek-token.result.text.now
     c.peek-token.result.place ∙ ap (λ s. start_lexeme s c.peek-token.result.text.now c.peek-token.result.place)
     c.in-Minus.is) c.in_ok-inner-in-Minus.ensures.rest c.in_err-operand-in-Minus.ensures.err)
 
@@ -332,7 +339,8 @@ pub factor-returns-in_err-operand-in-Not-clause-err : goal.factor-returns-in_err
 factor-returns-in_err-operand-in-Not-clause-err t c =
     exit_fails c.from_residual-in_err-operand-in-Not.result c.from_residual-in_err-operand-in-Not.ensures.1
     (not_fails c.peek-token.result.place c.in_ok-inner-in-Not.ensures.ok.0
-    c.in_ok-inner-in-Not.ensures.ok.1 (sym c.peek-token.ensures.lexeme ∙ c.in-Some.ensures c.peek-token.result.text.now
+    c.in_ok-inner-in-Not.ensures.ok.1 (sym c.peek-token.ensures.lexeme ∙ c.in-Some.ensures
+    c.peek-token.result.text.now
     c.peek-token.result.place ∙ ap (λ s. start_lexeme s c.peek-token.result.text.now c.peek-token.result.place)
     c.in-Not.is) c.in_ok-inner-in-Not.ensures.rest c.in_err-operand-in-Not.ensures.err)
 

@@ -55,7 +55,8 @@ relation-returns t c = λ s h.
           (lone2 _ c.args.least w.product-inside.result (subst
           (λ y. Gathers (x.term_faults s (product_of y)) c.args.least w.product-inside.result) w.deref.ensures
           (w.product-inside.ensures s h))))
-      | relation-in-Total w ↦ subst (λ r. Gathers (x.relation_faults s (relation_of c.args.tree.now)) c.args.least r)
+      | relation-in-Total w ↦ subst (λ r. Gathers (x.relation_faults s (relation_of c.args.tree.now)) c.args.least
+          r)
           (sym w.inside-is)
           (subst (λ y. Gathers (x.relation_faults s (relation_of y)) c.args.least w.total-inside.result)
           (sym w.in-Total.is)
@@ -137,7 +138,8 @@ expression-returns-in-Factor t c = λ s h.
 
 pub expression-returns-in-Product : goal.expression-returns-in-Product
 expression-returns-in-Product t c = λ s h.
-    subst (λ y. Gathers (x.expression_faults s (expression_of y)) c.args.least c.product.result) (sym c.in-Product.is)
+    subst (λ y. Gathers (x.expression_faults s (expression_of y)) c.args.least c.product.result)
+    (sym c.in-Product.is)
     (lone4 _ c.args.least c.product.result (subst (λ y. Gathers
     (x.term_faults s (product_of y)) c.args.least c.product.result) c.deref.ensures (c.product.ensures s h)))
 
@@ -181,7 +183,8 @@ comparison-returns t c = λ s h.
     (sum_place (sum_of c.args.tree.now.right))
     c.comparison_faults-sides.result.left c.comparison_faults-sides.result.right
     c.args.least left.least right.least c.note-first.result c.note.result
-    (c.judge_sum-left.ensures.kind s h) (c.judge_sum-right.ensures.kind s h) c.sum_place.ensures c.sum_place-2.ensures
+    (c.judge_sum-left.ensures.kind s h) (c.judge_sum-right.ensures.kind s h) c.sum_place.ensures
+    c.sum_place-2.ensures
     (c.comparison_faults-sides.ensures c.sum_place.result c.sum_place-2.result)
     (c.judge_sum-left.ensures.least s h) (c.judge_sum-right.ensures.least s h) c.note-first.ensures c.note.ensures
 
@@ -202,11 +205,14 @@ factor_operand-returns-in-Element t c = λ s h.
     subst (λ y. Gathers (o.factor_operand s c.args.wanted (factor_of y)) c.args.least c.operand-in-Element.result)
     (sym c.in-Element.is)
     (subst (λ y. Gathers (o.element s (name_of y.name) (expression_of y.index)
-    ++ x.wants c.args.wanted (factor_type s (Reads (name_of y.name) (At (expression_of y.index)))) place) c.args.least
+    ++ x.wants c.args.wanted (factor_type s (Reads (name_of y.name) (At (expression_of y.index)))) place)
+    c.args.least
     c.operand-in-Element.result) c.deref.ensures
-    (gathers_operand _ c.args.wanted judged.kind _ c.deref-in-Element.result.now.name.place place c.args.least judged.least c.operand-in-Element.result
+    (gathers_operand _ c.args.wanted judged.kind _ c.deref-in-Element.result.now.name.place place c.args.least
+    judged.least c.operand-in-Element.result
     (c.element-judged.ensures.kind s h)
-    (ap (λ y. y.name.place) c.deref-in-Element.ensures) (c.element-judged.ensures.least s h) c.operand-in-Element.ensures))
+    (ap (λ y. y.name.place) c.deref-in-Element.ensures) (c.element-judged.ensures.least s h)
+    c.operand-in-Element.ensures))
 
 pub factor_operand-returns-in-Group : goal.factor_operand-returns-in-Group
 factor_operand-returns-in-Group t c = λ s h.
@@ -240,7 +246,8 @@ element-returns-clause-least t c = λ s h.
     c.args.least c.note-before.result c.operand.result
     (gathers_use (At (expression_of c.args.tree.now.index)) (meaning_of c.meaning-meaning.result)
     (meaning s (name_of c.args.tree.now.name))
-    c.index_fault.result c.args.tree.now.name.place c.args.least c.note-before.result (c.meaning-meaning.ensures s h)
+    c.index_fault.result c.args.tree.now.name.place c.args.least c.note-before.result
+    (c.meaning-meaning.ensures s h)
     (c.index_fault.ensures
     (expression_of c.args.tree.now.index) c.args.tree.now.name.place) c.note-before.ensures)
     (gathers_operand (x.expression_faults s (expression_of c.args.tree.now.index)) Integer index.kind
@@ -289,7 +296,8 @@ factor-returns-in-Minus t c = λ s h.
 
 pub factor-returns-in-Not : goal.factor-returns-in-Not
 factor-returns-in-Not t c = λ s h.
-    subst (λ y. Gathers (x.factor_faults s (factor_of y)) c.args.least c.factor_operand-in-Not.result) (sym c.in-Not.is)
+    subst (λ y. Gathers (x.factor_faults s (factor_of y)) c.args.least c.factor_operand-in-Not.result)
+    (sym c.in-Not.is)
     (subst (λ y. Gathers (o.factor_operand s Boolean (factor_of y)) c.args.least c.factor_operand-in-Not.result)
     c.deref-in-Not.ensures (c.factor_operand-in-Not.ensures s h))
 
@@ -315,7 +323,8 @@ product-returns t c = λ s h.
 
 pub total-loop-summand-preserved : goal.total-loop-summand-preserved
 total-loop-summand-preserved t c = λ s h least k. c.loop-summand.invariant s h least
-    (gathers_next (λ ms. x.summands_faults s (summands_in ms)) (λ m. o.term_operand s (term_of m.term)) (λ m ms. refl)
+    (gathers_next (λ ms. x.summands_faults s (summands_in ms)) (λ m. o.term_operand s (term_of m.term))
+    (λ m ms. refl)
     c.deref-summand-items.result.now c.loop-summand.summand-index c.summand-item.result c.loop-summand.all
     c.term-all-in-loop-summand.result least
     c.loop-summand-test.true c.summand-item.is (c.term-all-in-loop-summand.ensures s h) k)
@@ -377,7 +386,8 @@ any_of-returns t c = λ s h.
     (x.conjunctions_faults s
     (conjunctions_in c.args.tree.now.rest.items)) c.args.least c.conjunction-first.result c.conjunction-all.result
     c.loop-further.all (c.conjunction-first.ensures s h) (c.conjunction-all.ensures s h)
-    (subst (λ ms. Gathers (x.conjunctions_faults s (conjunctions_in ms)) c.conjunction-all.result c.loop-further.all)
+    (subst (λ ms. Gathers (x.conjunctions_faults s (conjunctions_in ms)) c.conjunction-all.result
+    c.loop-further.all)
     c.deref-further-items.ensures.value
     (c.loop-further.invariant s h c.loop-further.all
     (gathers_past
@@ -415,14 +425,18 @@ judge_factor-returns-in-Number-clause-least t c = λ s h.
 pub relation-returns-in-Factor : goal.relation-returns-in-Factor
 relation-returns-in-Factor t c = λ s h.
     subst (λ y. Gathers (o.relation_operand s (relation_of y)) c.args.least c.factor_operand.result)
-    (sym c.in-Factor.is) (behind3 (x.factor_faults s (factor_of c.in-Factor.tree)) (x.wants Boolean (factor_type s (factor_of c.in-Factor.tree))
-    (factor_place (factor_of c.in-Factor.tree))) c.args.least c.factor_operand.result (c.factor_operand.ensures s h))
+    (sym c.in-Factor.is) (behind3 (x.factor_faults s (factor_of c.in-Factor.tree))
+    (x.wants Boolean (factor_type s (factor_of c.in-Factor.tree))
+    (factor_place (factor_of c.in-Factor.tree))) c.args.least c.factor_operand.result
+    (c.factor_operand.ensures s h))
 
 pub conjunction-returns-in-Factor : goal.conjunction-returns-in-Factor
 conjunction-returns-in-Factor t c = λ s h.
     subst (λ y. Gathers (o.conjunction_operand s (conjunction_of y)) c.args.least c.factor_operand.result)
-    (sym c.in-Factor.is) (behind4 (x.factor_faults s (factor_of c.in-Factor.tree)) (x.wants Boolean (factor_type s (factor_of c.in-Factor.tree))
-    (factor_place (factor_of c.in-Factor.tree))) c.args.least c.factor_operand.result (c.factor_operand.ensures s h))
+    (sym c.in-Factor.is) (behind4 (x.factor_faults s (factor_of c.in-Factor.tree))
+    (x.wants Boolean (factor_type s (factor_of c.in-Factor.tree))
+    (factor_place (factor_of c.in-Factor.tree))) c.args.least c.factor_operand.result
+    (c.factor_operand.ensures s h))
 
 pub judge_expression-returns-in-Factor-clause-kind : goal.judge_expression-returns-in-Factor-clause-kind
 judge_expression-returns-in-Factor-clause-kind t c = λ s h.

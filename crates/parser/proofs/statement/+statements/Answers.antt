@@ -29,7 +29,8 @@ aborted_statements-returns-clause-ok t c =
 
 pub if_statement-returns-in_err-condition-clause-err : goal.if_statement-returns-in_err-condition-clause-err
 if_statement-returns-in_err-condition-clause-err t c =
-    let p = err_from_is_err_and c.from_residual-in_err-condition.result c.from_residual-in_err-condition.ensures.1 in
+    let p = err_from_is_err_and c.from_residual-in_err-condition.result c.from_residual-in_err-condition.ensures.1
+    in
     rw (p.1, p.2) (fail_condition c.in_err-condition.ensures.err
     (ifs c.requires.first c.in_ok-inner.ensures.rest
     (omega (arith, c.in_ok-inner.ensures.ok.0, c.in_ok-inner.ensures.ok.1)))
@@ -63,7 +64,8 @@ branches-returns-in_err-then_part-clause-err t c =
 
 pub branches-returns-in_err-else_part-clause-err : goal.branches-returns-in_err-else_part-clause-err
 branches-returns-in_err-else_part-clause-err t c =
-    let p = err_from_is_err_and c.from_residual-in_err-else_part.result c.from_residual-in_err-else_part.ensures.1 in
+    let p = err_from_is_err_and c.from_residual-in_err-else_part.result c.from_residual-in_err-else_part.ensures.1
+    in
     rw (p.1, p.2) (fail1 c.in_err-else_part.ensures.err
     (then1 c.in_ok-then_part.ensures.ok (here
     {σ = Statements ∷ AnElse ∷ AWord K.Endif ∷ Closed ∷ AMark S.Semicolon ∷ []}) (omega arith)) (omega arith))
@@ -85,7 +87,8 @@ branches-returns-clause-ok t c =
 
 pub while_statement-returns-in_err-condition-clause-err : goal.while_statement-returns-in_err-condition-clause-err
 while_statement-returns-in_err-condition-clause-err t c =
-    let p = err_from_is_err_and c.from_residual-in_err-condition.result c.from_residual-in_err-condition.ensures.1 in
+    let p = err_from_is_err_and c.from_residual-in_err-condition.result c.from_residual-in_err-condition.ensures.1
+    in
     rw (p.1, p.2) (fail_condition c.in_err-condition.ensures.err
     (whiles c.requires.first c.in_ok-inner.ensures.rest
     (omega (arith, c.in_ok-inner.ensures.ok.0, c.in_ok-inner.ensures.ok.1)))
@@ -359,10 +362,12 @@ aborted_statements-returns-in_err-part-clause-err t c =
     (omega (arith, c.in_ok-inner.ensures.ok.0, c.in_ok-inner.ensures.ok.1)))
     (omega (arith, c.in_ok-inner.ensures.ok.0, c.in_ok-inner.ensures.ok.1)))
 
-pub aborted_statements-returns-in_err-expect_keyword-clause-err : goal.aborted_statements-returns-in_err-expect_keyword-clause-err
+pub aborted_statements-returns-in_err-expect_keyword-clause-err :
+    goal.aborted_statements-returns-in_err-expect_keyword-clause-err
 aborted_statements-returns-in_err-expect_keyword-clause-err t c =
     let e : lexeme_at (ahead c.args.parser.now) ≡ Word K.Aborted = search rules in
-    let p = err_from_is_err_and c.from_residual-in_err-expect_keyword.result c.from_residual-in_err-expect_keyword.ensures.1 in
+    let p = err_from_is_err_and c.from_residual-in_err-expect_keyword.result
+    c.from_residual-in_err-expect_keyword.ensures.1 in
     rw (p.1, p.2) (fail_rejects c.in_err-expect_keyword.ensures.err
     (then1 c.in_ok-part.ensures.ok (aborts e c.in_ok-inner.ensures.rest
     (omega (arith, c.in_ok-inner.ensures.ok.0, c.in_ok-inner.ensures.ok.1)))

@@ -34,7 +34,8 @@ total-loop-summand-preserved t c = λ s h.
     next_link (λ y ms. x.total s y (v.summands_in ms))
     (λ y m. Both (x.sum_operator m.operator) y (x.term s (v.term_of m.term)))
     (λ y m ms. refl) c.deref-summand-items.result.now c.loop-summand.summand-index c.summand-item.result
-    (expression_of c.loop-summand.left) (expression_of c.in_ok-left-2.left) c.loop-summand-test.true c.summand-item.is
+    (expression_of c.loop-summand.left) (expression_of c.in_ok-left-2.left) c.loop-summand-test.true
+    c.summand-item.is
     (both_made _ _ _ _ _ _ _ c.in_ok-left-2.ensures c.sum_operator.ensures refl (c.in_ok-right.ensures s h))
     ∙ c.loop-summand.invariant s h
 
@@ -52,7 +53,8 @@ pub all_of-loop-further-preserved : goal.all_of-loop-further-preserved
 all_of-loop-further-preserved t c = λ s h.
     next_link (λ y ms. x.all_of s y (v.relations_in ms)) (λ y m. Both And y (x.relation s (v.relation_of m)))
     (λ y m ms. refl) c.deref-further-items.result.now c.loop-further.further-index c.further-item.result
-    (expression_of c.loop-further.left) (expression_of c.in_ok-left-2.left) c.loop-further-test.true c.further-item.is
+    (expression_of c.loop-further.left) (expression_of c.in_ok-left-2.left) c.loop-further-test.true
+    c.further-item.is
     (both_made _ _ _ _ _ _ _ c.in_ok-left-2.ensures refl refl (c.in_ok-right.ensures s h))
     ∙ c.loop-further.invariant s h
 
@@ -69,9 +71,11 @@ all_of-returns t c = λ s h.
 
 pub any_of-loop-further-preserved : goal.any_of-loop-further-preserved
 any_of-loop-further-preserved t c = λ s h.
-    next_link (λ y ms. x.any_of s y (v.conjunctions_in ms)) (λ y m. Both Or y (x.conjunction s (v.conjunction_of m)))
+    next_link (λ y ms. x.any_of s y (v.conjunctions_in ms)) (λ y m. Both Or y
+    (x.conjunction s (v.conjunction_of m)))
     (λ y m ms. refl) c.deref-further-items.result.now c.loop-further.further-index c.further-item.result
-    (expression_of c.loop-further.left) (expression_of c.in_ok-left-2.left) c.loop-further-test.true c.further-item.is
+    (expression_of c.loop-further.left) (expression_of c.in_ok-left-2.left) c.loop-further-test.true
+    c.further-item.is
     (both_made _ _ _ _ _ _ _ c.in_ok-left-2.ensures refl refl (c.in_ok-right.ensures s h))
     ∙ c.loop-further.invariant s h
 
@@ -109,7 +113,8 @@ expression-returns-in-AnyOf t c = λ s h.
     subst (λ y. IfOk c.any_of.result (λ e. expression_of e ≡ x.expression s (v.expression_of y)))
     (sym c.in-AnyOf.is)
     (subst (λ z. IfOk c.any_of.result (λ e. expression_of e ≡ z)) (any_of_seen s c.in-AnyOf.tree)
-    (subst (λ y. IfOk c.any_of.result (λ e. expression_of e ≡ x.any_of s (x.conjunction s (v.conjunction_of y.first))
+    (subst (λ y. IfOk c.any_of.result (λ e. expression_of e ≡ x.any_of s
+    (x.conjunction s (v.conjunction_of y.first))
     (OrElse (v.conjunction_of y.second) (v.conjunctions_in y.rest.items))))
     c.deref-in-AnyOf.ensures (c.any_of.ensures s h)))
 
@@ -167,7 +172,8 @@ pub relation-returns-in-Comparison : goal.relation-returns-in-Comparison
 relation-returns-in-Comparison t c = λ s h.
     subst (λ y. IfOk c.comparison.result (λ e. expression_of e ≡ x.relation s (v.relation_of y)))
     (sym c.in-Comparison.is)
-    (subst (λ y. IfOk c.comparison.result (λ e. expression_of e ≡ Both (x.comparison_operator y.comparator) (x.sum s (v.sum_of y.left))
+    (subst (λ y. IfOk c.comparison.result (λ e. expression_of e ≡ Both (x.comparison_operator y.comparator)
+    (x.sum s (v.sum_of y.left))
     (x.sum s (v.sum_of y.right))))
     c.deref-in-Comparison.ensures (c.comparison.ensures s h))
 
@@ -194,7 +200,8 @@ pub conjunction-returns-in-Comparison : goal.conjunction-returns-in-Comparison
 conjunction-returns-in-Comparison t c = λ s h.
     subst (λ y. IfOk c.comparison.result (λ e. expression_of e ≡ x.conjunction s (v.conjunction_of y)))
     (sym c.in-Comparison.is)
-    (subst (λ y. IfOk c.comparison.result (λ e. expression_of e ≡ Both (x.comparison_operator y.comparator) (x.sum s (v.sum_of y.left))
+    (subst (λ y. IfOk c.comparison.result (λ e. expression_of e ≡ Both (x.comparison_operator y.comparator)
+    (x.sum s (v.sum_of y.left))
     (x.sum s (v.sum_of y.right))))
     c.deref-in-Comparison.ensures (c.comparison.ensures s h))
 
@@ -221,6 +228,7 @@ pub expression-returns-in-Comparison : goal.expression-returns-in-Comparison
 expression-returns-in-Comparison t c = λ s h.
     subst (λ y. IfOk c.comparison.result (λ e. expression_of e ≡ x.expression s (v.expression_of y)))
     (sym c.in-Comparison.is)
-    (subst (λ y. IfOk c.comparison.result (λ e. expression_of e ≡ Both (x.comparison_operator y.comparator) (x.sum s (v.sum_of y.left))
+    (subst (λ y. IfOk c.comparison.result (λ e. expression_of e ≡ Both (x.comparison_operator y.comparator)
+    (x.sum s (v.sum_of y.left))
     (x.sum s (v.sum_of y.right))))
     c.deref-in-Comparison.ensures (c.comparison.ensures s h))

@@ -19,19 +19,23 @@ returns-in_err-below_top-clause-none g c =
 pub returns-in_err-below_top-2-clause-none : goal.returns-in_err-below_top-2-clause-none
 returns-in_err-below_top-2-clause-none g c =
     let short = none_at c.args.self.now 3 c.in_err-below_top-2.ensures in
-    subst (λ r. IfNone r (length c.args.self.now < 5)) (sym c.from_residual-in_err-below_top-2.ensures) (omega (arith, short))
+    subst (λ r. IfNone r (length c.args.self.now < 5)) (sym c.from_residual-in_err-below_top-2.ensures)
+    (omega (arith, short))
 
 pub returns-in_err-below_top-3-clause-none : goal.returns-in_err-below_top-3-clause-none
 returns-in_err-below_top-3-clause-none g c =
     let short = none_at c.args.self.now 2 c.in_err-below_top-3.ensures in
-    subst (λ r. IfNone r (length c.args.self.now < 5)) (sym c.from_residual-in_err-below_top-3.ensures) (omega (arith, short))
+    subst (λ r. IfNone r (length c.args.self.now < 5)) (sym c.from_residual-in_err-below_top-3.ensures)
+    (omega (arith, short))
 
 pub returns-in_err-below_top-4-clause-none : goal.returns-in_err-below_top-4-clause-none
 returns-in_err-below_top-4-clause-none g c =
     let short = none_at c.args.self.now 1 c.in_err-below_top-4.ensures in
-    subst (λ r. IfNone r (length c.args.self.now < 5)) (sym c.from_residual-in_err-below_top-4.ensures) (omega (arith, short))
+    subst (λ r. IfNone r (length c.args.self.now < 5)) (sym c.from_residual-in_err-below_top-4.ensures)
+    (omega (arith, short))
 
 pub returns-in_err-below_top-5-clause-none : goal.returns-in_err-below_top-5-clause-none
 returns-in_err-below_top-5-clause-none g c =
     let short = none_at c.args.self.now 0 c.in_err-below_top-5.ensures in
-    subst (λ r. IfNone r (length c.args.self.now < 5)) (sym c.from_residual-in_err-below_top-5.ensures) (omega (arith, short))
+    subst (λ r. IfNone r (length c.args.self.now < 5)) (sym c.from_residual-in_err-below_top-5.ensures)
+    (omega (arith, short))

@@ -17,9 +17,11 @@ returns-in_err-below_top-clause-none g c =
 pub returns-in_err-below_top-2-clause-none : goal.returns-in_err-below_top-2-clause-none
 returns-in_err-below_top-2-clause-none g c =
     let short = none_at c.args.self.now 1 c.in_err-below_top-2.ensures in
-    subst (λ r. IfNone r (length c.args.self.now < 3)) (sym c.from_residual-in_err-below_top-2.ensures) (omega (arith, short))
+    subst (λ r. IfNone r (length c.args.self.now < 3)) (sym c.from_residual-in_err-below_top-2.ensures)
+    (omega (arith, short))
 
 pub returns-in_err-below_top-3-clause-none : goal.returns-in_err-below_top-3-clause-none
 returns-in_err-below_top-3-clause-none g c =
     let short = none_at c.args.self.now 0 c.in_err-below_top-3.ensures in
-    subst (λ r. IfNone r (length c.args.self.now < 3)) (sym c.from_residual-in_err-below_top-3.ensures) (omega (arith, short))
+    subst (λ r. IfNone r (length c.args.self.now < 3)) (sym c.from_residual-in_err-below_top-3.ensures)
+    (omega (arith, short))

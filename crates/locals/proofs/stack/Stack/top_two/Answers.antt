@@ -16,4 +16,5 @@ returns-in_err-below_top-clause-none g c =
 pub returns-in_err-below_top-2-clause-none : goal.returns-in_err-below_top-2-clause-none
 returns-in_err-below_top-2-clause-none g c =
     let short = none_at c.args.self.now 0 c.in_err-below_top-2.ensures in
-    subst (λ r. IfNone r (length c.args.self.now < 2)) (sym c.from_residual-in_err-below_top-2.ensures) (omega (arith, short))
+    subst (λ r. IfNone r (length c.args.self.now < 2)) (sym c.from_residual-in_err-below_top-2.ensures)
+    (omega (arith, short))
