@@ -1,5 +1,6 @@
 pub mod FirstPlaces
 pub mod Numbers
+pub mod Compared
 pub mod Leasts
 pub mod Operators
 pub mod Gathered

@@ -41,7 +41,7 @@ again c (Some n) k f = refl
 again true None k f = let w : false ≡ true = f refl in cc
 again false None k f = refl
 
-alike : (names : List NameTree) (a b : List ℕ) → bytes_eq a b ≡ true → text_number names a ≡ text_number names b
+pub alike : (names : List NameTree) (a b : List ℕ) → bytes_eq a b ≡ true → text_number names a ≡ text_number names b
 alike names a b e = ap (text_number names) ((bytes_eq-Decides a b).0 e)
 
 turned : (a b : List ℕ) → bytes_eq a b ≡ true → bytes_eq b a ≡ true
