@@ -1,16 +1,19 @@
 -- The least fault, part by part.
 use Rattle.std.proofs.Common.{◌≡◌, ◌<◌, ◌+◌, ℕ, suc, List, [], ◌∷◌, ◌++◌, Option, length, drop, drop-cons, get_or}
-use Rattle.std.proofs.Common.{◌≤◌, arith, append_assoc, append-nil, ap, ◌∙◌, sym, subst}
+use Rattle.std.proofs.Common.{◌≤◌, arith, append_assoc, append-nil, ap, ◌∙◌, sym, subst, refl}
 use Rattle.std.proofs.lemmas.List.{at_drop_all}
 use Rattle.scanner.specs.declared.token.Place.{Place}
 use Rattle.scanner.specs.declared.refusal.Refusal.{Refusal}
 use Rattle.scanner.specs.declared.refusal.RefusalKind.{RefusalKind}
 use Rattle.program.specs.declared.kinds.ValueType.{ValueType}
 use Rattle.syntax.specs.declared.expression.Comparator.{Comparator}
-use Rattle.syntax.specs.Tree.{IndexTree}
-use Rattle.types.specs.Scope.{Meaning}
+use Rattle.syntax.specs.Lexeme.{NameTree}
+use Rattle.syntax.specs.Tree.{IndexTree, NoIndex, Reads}
+use Rattle.types.specs.Scope.{Scope, Meaning, meaning}
+use Rattle.types.specs.Typing.{factor_type, type_of_use}
+use Rattle.faults.specs.Operands.{factor_operand}
 use Rattle.types.specs.Faults.{Gathers, faults_of}
-use Rattle.types.specs.ExpressionFaults.{wants, use_faults, comparison_faults}
+use Rattle.types.specs.ExpressionFaults.{wants, use_faults, comparison_faults, factor_faults}
 use Rattle.types.proofs.Gathered.{gathers_none, gathers_both}
 
 -- a level at which no operator stands has no fault of its own
@@ -53,6 +56,18 @@ pub gathers_use : (index : IndexTree) (m n : Meaning) (k : Option RefusalKind) (
     → m ≡ n → use_faults m index p ≡ faults_of k p → Gathers (faults_of k p) a b → Gathers (use_faults n index p) a b
 gathers_use index m n k p a b e h g = subst (λ x. Gathers (use_faults x index p) a b) e
     (subst (λ xs. Gathers xs a b) (sym h) g)
+
+-- a name's own fault, and that of its type
+pub gathers_name : (s : Scope) (w : ValueType) (name : NameTree) (m : Meaning) (t : Option ValueType)
+    (j k : Option RefusalKind) (a b c : Option Refusal) → m ≡ meaning s name → t ≡ type_of_use m NoIndex
+    → ((p : Place) → use_faults m NoIndex p ≡ faults_of j p) → ((p : Place) → wants w t p ≡ faults_of k p)
+    → Gathers (faults_of j name.place) a b → Gathers (faults_of k name.place) b c
+    → Gathers (factor_operand s w (Reads name NoIndex)) a c
+gathers_name s w name m t j k a b c e f g h x y =
+    gathers_operand (factor_faults s (Reads name NoIndex)) w t (factor_type s (Reads name NoIndex)) name.place
+    name.place a b c (f ∙ ap (λ n. type_of_use n NoIndex) e) refl
+    (lone _ a b (gathers_use NoIndex m (meaning s name) j name.place a b e (g name.place) x))
+    (subst (λ xs. Gathers xs b c) (sym (h name.place)) y)
 
 pub gathers_comparison : (fs gs : List Refusal) (sign : Comparator) (l m r n : Option ValueType) (o p q t : Place)
     (j k : Option RefusalKind) (a b c d e : Option Refusal) → l ≡ m → r ≡ n → o ≡ p → q ≡ t

@@ -51,7 +51,7 @@ pub fn judge_name(standing: &Standing<'_, '_>, name: Name<'_>, least: Option<Ref
     }
 }
 
-// A name that is read, of which a type is wanted.
+// A name that is read, of which a type is wanted. It is looked up once, for its own fault and for that of its type.
 pub fn name_operand(
     standing: &Standing<'_, '_>,
     wanted: ValueType,
@@ -61,6 +61,12 @@ pub fn name_operand(
     ensures { (s : Scope) → IsStanding s standing.now
         → Gathers (factor_operand s wanted (Reads (name_of name.entry) NoIndex)) least result }
 {
-    let judged = judge_name(standing, name, least);
-    operand(wanted, judged.kind, name.place, judged.least)
+    let meaning = standing.meaning(name);
+    match (
+        read_fault(meaning),
+        operand_fault(wanted, variable_type(meaning)),
+    ) {
+        (None, None) => least,
+        (own, other) => note(other, name.place, note(own, name.place, least)),
+    }
 }

@@ -1,15 +1,19 @@
-use Rattle.std.proofs.Common.{refl}
-use Rattle.syntax.specs.Tree.{Reads, NoIndex}
+use Rattle.std.proofs.Common.{None}
 use Rattle.syntax.specs.View.{name_of}
-use Rattle.types.specs.Typing.{factor_type}
-use Rattle.types.specs.ExpressionFaults.{factor_faults}
-use Rattle.faults.proofs.Gathering.{gathers_operand}
+use Rattle.types.specs.Standings.{meaning_of}
+use Rattle.types.proofs.Gathered.{gathers_none}
+use Rattle.faults.proofs.Gathering.{gathers_name}
 use Rattle.faults.proofs.operands.name_operand.Goals as goal
 
-pub returns : goal.returns
-returns c = λ s h.
-    let f = Reads (name_of c.args.name) NoIndex in
-    let judged = c.judge_name-judged.result in
-    gathers_operand (factor_faults s f) c.args.wanted judged.kind (factor_type s f) c.args.name.place
-    c.args.name.place c.args.least judged.least c.operand.result (c.judge_name-judged.ensures.kind s h) refl
-    (c.judge_name-judged.ensures.least s h) c.operand.ensures
+pub returns-in-None-None : goal.returns-in-None-None
+returns-in-None-None c = λ s h.
+    gathers_name s c.args.wanted (name_of c.args.name) (meaning_of c.meaning-meaning.result) c.variable_type.result
+    None None c.args.least c.args.least c.args.least (c.meaning-meaning.ensures s h) c.variable_type.ensures
+    c.in-None-None.ensures c.in-None-None.ensures' (gathers_none c.args.least) (gathers_none c.args.least)
+
+pub returns-in_default : goal.returns-in_default
+returns-in_default c = λ s h.
+    gathers_name s c.args.wanted (name_of c.args.name) (meaning_of c.meaning-meaning.result) c.variable_type.result
+    c.read_fault.result c.operand_fault.result c.args.least c.note.result c.note-in_default.result
+    (c.meaning-meaning.ensures s h) c.variable_type.ensures c.read_fault.ensures c.operand_fault.ensures
+    c.note.ensures c.note-in_default.ensures
