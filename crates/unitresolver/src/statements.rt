@@ -114,7 +114,7 @@ pub fn block(
     ensures { (s : Scope) → IsSite s site.now
         → IfOk result (λ x. p.block_in x.items ≡ st.block s (v.statements_in trees.now)) }
 {
-    let mut statements = Vec::new(alloc);
+    let mut statements = Vec::with_capacity(alloc, trees.len())?;
     for tree in trees {
         statements.push(statement(tree, alloc, site)?)?;
     }
