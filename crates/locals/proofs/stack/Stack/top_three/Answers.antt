@@ -1,4 +1,4 @@
-use Rattle.std.proofs.Common.{◌≡◌, ◌<◌, ◌∙◌, ◌∷◌, IfNone, IfSome, ap, arith, drop, length, subst, sym}
+use Rattle.std.proofs.Common.{◌<◌, ◌∙◌, ◌∷◌, IfNone, ap, arith, length, subst, sym}
 use Rattle.locals.proofs.Uppermost.{cut_at, none_at}
 use Rattle.locals.proofs.stack.Stack.top_three.Goals as goal
 
