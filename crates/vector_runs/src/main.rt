@@ -16,14 +16,20 @@
 //!
 //! Of a list that is a run of its program the line printed has the processes that can move at its end and the numbers
 //! printed; of any other it has the first action that isn't possible, from 1.
+//!
+//! In place of a list there may be `logs COUNT MOST`. Then so many logs of the program's image, each of so many entries
+//! at most, are explained, and forged ones too (`logtrials`): the line printed tells how many logs were explained by
+//! runs of the program, and how many were refused as another image's, or forged in each way.
 #![tactic(auto)]
 
 mod action;
 mod failure;
+mod logs;
 mod reading;
 
 use crate::action::append_actions;
 use crate::failure::Failure;
+use crate::logs::show_logs;
 use crate::reading::program_of;
 use program::Checked;
 use sourcemoves::{movers, run_length};
@@ -47,8 +53,11 @@ fn take_row(rt: &HostRuntime, row: &str) -> Result<(), Failure> {
     answer(rt, &checked, list)
 }
 
-// Prints what comes of a list of actions.
+// Prints what comes of a list of actions, or of logs.
 fn answer(rt: &HostRuntime, checked: &Checked, list: &str) -> Result<(), Failure> {
+    if let Some(said) = list.trim().strip_prefix("logs ") {
+        return show_logs(rt, checked, said);
+    }
     let mut actions = Vec::new(rt.alloc());
     append_actions(&mut actions, list)?;
     show_run(rt, checked, actions.as_slice())
