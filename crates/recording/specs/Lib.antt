@@ -1,3 +1,3 @@
+pub mod Waiting
 pub mod Telling
-pub mod Alike
 pub mod Logs

@@ -1,34 +1,60 @@
+ghost use Rattle.std.specs.Prelude.{◌≡◌};
+ghost use Rattle.execution.specs.Later.{last_mark, later_mark, mark_of};
+ghost use Rattle.recording.specs.Waiting.{IsLate, later_told};
+
 use code::Mark;
 use locals::{Local, NextStep, Request};
 
-/// The mark of the instruction that a thread stands at; `Plain` where it stands at none.
-pub fn mark_at(marks: &[Mark], here: &Local) -> Mark {
-    let Some(place) = here.place() else {
-        return Mark::Plain;
-    };
-    match marks.get(place as usize) {
-        Some(mark) => *mark,
-        None => Mark::Plain,
+/// What a step adds to the actions of its process that wait for its next one that others learn of.
+#[derive(Clone, Copy, PartialEq, Eq, Debug)]
+pub enum Late {
+    /// Nothing.
+    Nothing,
+    /// A fault.
+    Fault,
+    /// Another action.
+    Action,
+}
+
+/// The mark of the instruction that a thread stands at.
+pub fn mark_at(marks: &[Mark], here: &Local) -> Option<Mark>
+    ensures { result ≡ mark_of marks.now here.now }
+{
+    let place = here.place()?;
+    marks.get(place as usize).copied()
+}
+
+/// What a local step at this mark adds.
+pub fn at_mark(mark: Option<Mark>) -> Late
+    ensures { IsLate result (later_mark mark) }
+{
+    match mark {
+        Some(Mark::AssignLocal | Mark::Test | Mark::Call | Mark::Return) => Late::Action,
+        _ => Late::Nothing,
     }
 }
 
-/// Whether a local step at this mark is an action that waits for its process's next one that others learn of.
-pub fn waits(mark: Mark) -> bool {
-    matches!(
-        mark,
-        Mark::AssignLocal | Mark::Test | Mark::Call | Mark::Return
-    )
+// What the return of a last frame adds.
+fn at_last(mark: Option<Mark>) -> Late
+    ensures { IsLate result (last_mark mark) }
+{
+    match mark {
+        Some(Mark::Return | Mark::LastReturn) => Late::Action,
+        _ => Late::Nothing,
+    }
 }
 
-/// The same of a step at this mark with which a thread asks for this: a fault waits, and the return of a process's
-/// first procedure.
-pub fn request_waits(mark: Mark, step: NextStep) -> bool {
+/// What a step at this mark adds that comes to this, with this value in its event: a fault waits, where it is written,
+/// where no process can be made, and where a process was claimed before; and so does a last return.
+pub fn at_step(mark: Option<Mark>, step: NextStep, value: u32) -> Late
+    ensures { IsLate result (later_told mark step value) }
+{
     match step {
-        NextStep::Shared(Request::Fault(_)) => true,
-        NextStep::Shared(Request::Return | Request::ReturnValue(_)) => matches!(
-            mark,
-            Mark::Return | Mark::LastReturn
-        ),
-        _ => false,
+        NextStep::Local => at_mark(mark),
+        NextStep::Shared(Request::Return | Request::ReturnValue(_)) => at_last(mark),
+        NextStep::Shared(Request::Fault(_)) => Late::Fault,
+        NextStep::Shared(Request::Swap(_, new)) if new != 0 && value != 0 => Late::Fault,
+        NextStep::Fork { .. } if value == 0 => Late::Fault,
+        _ => Late::Nothing,
     }
 }

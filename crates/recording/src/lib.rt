@@ -2,9 +2,9 @@
 #![tactic(auto)]
 
 mod later;
-mod matching;
 mod recorder;
 mod told;
+mod waiting;
 mod walking;
 
 pub use told::{Told, tell};

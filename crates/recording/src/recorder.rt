@@ -1,22 +1,33 @@
-ghost use Rattle.std.specs.Prelude.{◌≡◌, ◌+◌, true, IfOk, MatchBool, None, OnOk, Some, map, ℕ};
-ghost use Rattle.code.specs.Pieces.{code_of};
+ghost use Rattle.std.specs.Prelude.{[], ◌≡◌, ◌+◌, ◌<◌, ◌≤◌, ◌^◌, true, IfOk, List, MatchBool, None, OnOk, Option, Some};
+ghost use Rattle.std.specs.Prelude.{length, map, ℕ};
+ghost use Rattle.words.specs.Limits.{most_processes};
+ghost use Rattle.words.specs.Updates.{put};
+ghost use Rattle.code.specs.Layout.{layout_of};
+ghost use Rattle.code.specs.Pieces.{code_of, marks_of};
+ghost use Rattle.deferral.specs.Deferring.{IsBehind};
+ghost use Rattle.execution.specs.Later.{later_mark, mark_of};
+ghost use Rattle.locals.specs.Looks.{look};
 ghost use Rattle.locals.specs.Steps.{local_after, local_step};
+ghost use Rattle.machine.specs.FrontRuns.{EventStep};
 ghost use Rattle.machine.specs.States.{opening_concrete, state_of as machine_state};
 ghost use Rattle.machine.specs.Views.{concrete};
-ghost use Rattle.meaning.specs.Runs.{IsRun};
-ghost use Rattle.meaning.specs.States.{SourceState as SourceStateOf};
+ghost use Rattle.meaning.specs.Labels.{Kind};
+ghost use Rattle.meaning.specs.States.{SourceState};
+ghost use Rattle.product.specs.Explaining.{IsDue};
+ghost use Rattle.product.specs.Progress.{Progress};
+ghost use Rattle.product.specs.Waiting.{waits_then};
 ghost use Rattle.program.specs.Names.{said_by};
 ghost use Rattle.program.specs.Trees.{Program};
 ghost use Rattle.program.specs.WellFormed.{WellFormed};
-ghost use Rattle.code.specs.Layout.{layout_of};
 ghost use Rattle.sourcestates.specs.Actions.{action_of};
-ghost use Rattle.sourcestates.specs.States.{state_of};
-ghost use Rattle.following.specs.Going.{Extends, GoesOn};
-ghost use Rattle.recording.specs.Alike.{IsSeenAlike};
-ghost use Rattle.recording.specs.Telling.{Counts, IsAlong, IsNext};
+ghost use Rattle.tracking.specs.Entries.{is_heard, progress_locally, progress_shared};
+ghost use Rattle.following.specs.Going.{Matches};
+ghost use Rattle.recording.specs.Logs.{IsExplainedBy};
+ghost use Rattle.recording.specs.Telling.{IsAlong, IsOf, Tells, progress_rest};
+ghost use Rattle.recording.specs.Waiting.{IsLate, Waits};
 
-use crate::later::{mark_at, request_waits, waits};
-use crate::matching::is_seen_alike;
+use crate::later::{Late, at_mark, at_step, mark_at};
+use crate::waiting::Waiting;
 use code::Mark;
 use following::Follower;
 use isa::Image;
@@ -31,23 +42,24 @@ use words::MOST_PROCESSES;
 /// The source behind a log, as far as it was walked. It is told as long as the log has fewer than 2^32 steps.
 #[derive(Drop)]
 pub struct Recorder<'a> {
-    alloc: Global,
     marks: Vec<Mark>,
     follower: Follower<'a>,
-    // How many actions of each process wait for its next one that others learn of, by its number.
-    waiting: Vec<u32>,
+    // What waits of each process for its next action that others learn of, by its number.
+    waiting: Vec<Waiting>,
     // How many steps the log has so far, while it is told.
     steps: u32,
     is_whole: bool,
 }
 
-// A number for each process, and 0 at first.
-fn zeros(alloc: Global) -> Result<Vec<u32>, AllocError> {
-    let mut zeros = Vec::new(alloc);
+// Nothing waits of any process.
+fn nothing(alloc: Global) -> Result<Vec<Waiting>, AllocError>
+    ensures { IfOk result (λ v. (length v.items ≡ most_processes + 1) × Waits v.items (λ t. [])) }
+{
+    let mut waiting = Vec::new(alloc);
     for _ in 0..=MOST_PROCESSES {
-        zeros.push(0)?;
+        waiting.push(Waiting::none())?;
     }
-    Ok(zeros)
+    Ok(waiting)
 }
 
 impl<'a> Recorder<'a> {
@@ -58,15 +70,15 @@ impl<'a> Recorder<'a> {
         layout: Layout,
         marks: Vec<Mark>,
     ) -> Result<Recorder<'a>, AllocError>
-        requires { layout ≡ layout_of (said_by checked.now) }
+        requires layout { layout ≡ layout_of (said_by checked.now) }
+        requires marks { marks.items ≡ marks_of (said_by checked.now) }
         ensures { let p = said_by checked.now in
-            IfOk result (λ r. (w : WellFormed p) → IsAlong p w 0 (opening_concrete (code_of p)) r) }
+            IfOk result (λ r. IsAlong p [] (opening_concrete (code_of p)) r) }
     {
         Ok(Recorder {
-            alloc,
             marks,
             follower: Follower::new(alloc, checked, layout)?,
-            waiting: zeros(alloc)?,
+            waiting: nothing(alloc)?,
             steps: 0,
             is_whole: true,
         })
@@ -81,7 +93,10 @@ impl<'a> Recorder<'a> {
 
     // So many more steps.
     fn count(&mut self, steps: u32)
-        ensures counts { Counts steps self.old self.new }
+        ensures kept { self.new ≡ record self.old { steps = self.new.steps; is_whole = self.new.is_whole } }
+        ensures counts { MatchBool self.new.is_whole ((self.old.is_whole ≡ true)
+            × (self.old.steps + steps < 2 ^ 32) × (self.new.steps ≡ self.old.steps + steps))
+            (self.old.is_whole ≡ true → 2 ^ 32 ≤ self.old.steps + steps) }
     {
         if steps > u32::MAX - self.steps {
             self.is_whole = false;
@@ -90,21 +105,30 @@ impl<'a> Recorder<'a> {
         }
     }
 
-    // One more action of a process waits.
-    fn delay(&mut self, t: u32)
-        ensures { self.new ≡ record self.old { waiting = self.new.waiting } }
+    // What a step of a process adds waits.
+    fn delay(&mut self, t: u32, late: Late)
+        ensures kept { self.new ≡ record self.old { waiting = self.new.waiting } }
+        ensures places { length self.new.waiting.items ≡ length self.old.waiting.items }
+        ensures waits { (f : ℕ → List Kind) (o : Option Kind) → Waits self.old.waiting.items f → IsLate late o
+            → length (f t) + 1 < 2 ^ 32 → Waits self.new.waiting.items (put f t (waits_then o (f t))) }
     {
-        if let Some(count) = self.waiting.get_mut(t as usize) {
-            *count = count.saturating_add(1);
+        if late == Late::Nothing {
+            return;
+        }
+        if let Some(waiting) = self.waiting.get_mut(t as usize) {
+            *waiting = waiting.behind(late);
         }
     }
 
     // No action of a process waits any more; how many did.
     fn take_waiting(&mut self, t: u32) -> u32
-        ensures { self.new ≡ record self.old { waiting = self.new.waiting } }
+        ensures kept { self.new ≡ record self.old { waiting = self.new.waiting } }
+        ensures places { length self.new.waiting.items ≡ length self.old.waiting.items }
+        ensures waits { (f : ℕ → List Kind) → Waits self.old.waiting.items f → t < length self.old.waiting.items
+            → (result ≡ length (f t)) × Waits self.new.waiting.items (put f t []) }
     {
         match self.waiting.get_mut(t as usize) {
-            Some(count) => std::mem::replace(count, 0),
+            Some(waiting) => std::mem::replace(waiting, Waiting::none()).count,
             None => 0,
         }
     }
@@ -114,10 +138,12 @@ impl<'a> Recorder<'a> {
         ensures step { MatchBool result (local_step image.now t here.old ≡ Some here.new)
             (local_step image.now t here.old ≡ None) }
         ensures kept { self.new ≡ record self.old { waiting = self.new.waiting } }
+        ensures places { length self.new.waiting.items ≡ length self.old.waiting.items }
+        ensures waits { (f : ℕ → List Kind) → Waits self.old.waiting.items f → length (f t) + 1 < 2 ^ 32
+            → Waits self.new.waiting.items
+            (put f t (waits_then (later_mark (mark_of self.old.marks.items here.old)) (f t))) }
     {
-        if waits(mark_at(self.marks.as_slice(), here)) {
-            self.delay(t);
-        }
+        self.delay(t, at_mark(mark_at(self.marks.as_slice(), here)));
         here.take_step(image, t)
     }
 
@@ -126,7 +152,10 @@ impl<'a> Recorder<'a> {
         ensures goes { MatchBool result
             (local_after image.now entry.now.thread entry.now.local here.old ≡ Some here.new)
             (local_after image.now entry.now.thread entry.now.local here.old ≡ None) }
-        ensures counts { Counts entry.now.local self.old self.new }
+        ensures told { result ≡ true → (p : Program) (n : ℕ) (g : Progress) → image.now ≡ code_of p → IsOf p self.old
+            → Tells n g self.old
+            → IsOf p self.new × Tells (n + entry.now.local)
+            (progress_locally p entry.now.thread entry.now.local here.old g) self.new }
     {
         self.count(entry.local);
         for _ in 0..entry.local {
@@ -146,9 +175,12 @@ impl<'a> Recorder<'a> {
         image: &Image,
         event: Event,
     ) -> Result<(), AllocError>
-        ensures { OnOk result ((p : Program) (w : WellFormed p) (n : ℕ) → image.now ≡ code_of p
-            → IsNext p w n t here.now event (concrete machine.now) self.old
-            → IsAlong p w (n + 1) (concrete machine.now) self.new) }
+        ensures { OnOk result ((p : Program) (n : ℕ) (g : Progress) → image.now ≡ code_of p → IsOf p self.old
+            → t ≤ most_processes → Tells n g self.old
+            → (is_heard p (look (code_of p) t here.now) event.value ≡ true → n + 1 < 2 ^ 32
+            → IsDue p (machine_state (concrete machine.now)) t g)
+            → IsOf p self.new
+            × Tells (n + 1) (progress_shared p t here.now event.value (concrete machine.now) g) self.new) }
     {
         self.count(1);
         if !self.is_whole {
@@ -156,46 +188,38 @@ impl<'a> Recorder<'a> {
         }
         let step = here.next_step(image, t);
         if self.follower.hears(step, event.value) {
-            let _waited = self.take_waiting(t);
-            self.is_whole = self.follower.follow(machine, t, self.steps)?;
-        } else if request_waits(mark_at(self.marks.as_slice(), here), step) {
-            self.delay(t);
+            let count = self.take_waiting(t);
+            self.is_whole = self.follower.follow(machine, t, count)?;
+        } else {
+            self.delay(t, at_step(mark_at(self.marks.as_slice(), here), step, event.value));
         }
         Ok(())
     }
 
-    // The actions that wait are taken, by rising process; false where one wasn't possible.
-    fn take_rest(&mut self, made: u32) -> Result<bool, AllocError>
-        ensures extends { OnOk result (Extends self.old.follower self.new.follower) }
-        ensures run { IfOk result (λ b. b ≡ true → GoesOn self.old.follower self.new.follower) }
+    // The actions that wait are taken, by rising process. Each is possible, in a log that is told.
+    fn take_rest(&mut self, made: u32) -> Result<(), AllocError>
+        ensures { OnOk result ((p : Program) (g : Progress) (ahead : SourceState) → IsOf p self.old
+            → made ≤ most_processes → Matches self.old.follower g → Waits self.old.waiting.items g.waiting
+            → IsBehind p g.waiting g.source ahead → Matches self.new.follower (progress_rest p made g)) }
     {
         for before in 0..made {
             let t = before + 1;
             let count = self.take_waiting(t);
             if !self.follower.settle(t, count)? {
-                return Ok(false);
+                return Ok(());
             }
         }
-        Ok(true)
+        Ok(())
     }
 
-    /// All actions of the log; those that wait come last, by rising process. Behind them the same has to be seen as of the
-    /// machine, which is tried; were it not, they would be left out.
+    /// All actions of the log, where it led to this machine; those that wait come last, by rising process.
     pub fn finish(self, machine: &Machine) -> Result<Vec<Action>, AllocError>
-        ensures { IfOk result (λ actions. (p : Program) (w : WellFormed p) (n : ℕ)
-            → IsAlong p w n (concrete machine.now) self.entry → self.entry.is_whole ≡ true
-            → (source : SourceStateOf) × IsRun p (map action_of actions.items) source
-            × IsSeenAlike (machine_state (concrete machine.now)) source) }
+        ensures { IfOk result (λ actions. (p : Program) (events : List EventStep) → WellFormed p
+            → IsAlong p events (concrete machine.now) self.entry → self.entry.is_whole ≡ true
+            → IsExplainedBy p events (concrete machine.now) (map action_of actions.items)) }
     {
         let mut recorder = self;
-        let placed = recorder.follower.actions().len();
-        let count = if recorder.take_rest(machine.threads())?
-            && is_seen_alike(recorder.alloc, machine, recorder.follower.state())?
-        {
-            recorder.follower.actions().len()
-        } else {
-            placed
-        };
-        Ok(recorder.follower.into_actions(count))
+        recorder.take_rest(machine.threads())?;
+        Ok(recorder.follower.into_actions())
     }
 }

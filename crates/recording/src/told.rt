@@ -1,6 +1,6 @@
 ghost use Rattle.std.specs.Prelude.{◌≡◌, IfOk};
 ghost use Rattle.code.specs.Layout.{layout_of};
-ghost use Rattle.code.specs.Pieces.{code_of};
+ghost use Rattle.code.specs.Pieces.{code_of, marks_of};
 ghost use Rattle.program.specs.Names.{said_by};
 ghost use Rattle.program.specs.WellFormed.{WellFormed};
 ghost use Rattle.recording.specs.Logs.{Tells};
@@ -34,8 +34,8 @@ fn checked_is_well_formed(checked: &Checked)
 }
 
 /// The source behind a log of a program's image: the log is walked once, by the machine's own steps, with the layout of
-/// the program and the marks of its code. Which actions come last, behind those that others learn of, is told by the
-/// marks.
+/// the program and the marks of its code. Which actions wait for the next of their process that others learn of is told
+/// by the marks.
 pub fn tell(
     alloc: Global,
     checked: &Checked,
@@ -46,7 +46,8 @@ pub fn tell(
 ) -> Result<Told, AllocError>
     requires own { image.now ≡ code_of (said_by checked.now) }
     requires layout { layout ≡ layout_of (said_by checked.now) }
-    ensures { IfOk result (λ told. Tells (said_by checked.now) image.now log.now told) }
+    requires marks { marks.items ≡ marks_of (said_by checked.now) }
+    ensures { IfOk result (λ told. Tells (said_by checked.now) log.now told) }
 {
     checked_is_well_formed(checked);
     let mut recorder = Recorder::new(alloc, checked, layout, marks)?;

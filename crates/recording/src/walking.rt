@@ -1,4 +1,4 @@
-ghost use Rattle.std.specs.Prelude.{◌≡◌, ◌<◌, ◌≤◌, false, true, IfOk, MatchBool, MatchOption, OnOk, Some, length, ⊤};
+ghost use Rattle.std.specs.Prelude.{[], ◌≡◌, ◌<◌, ◌≤◌, false, true, IfOk, MatchBool, MatchOption, OnOk, Some, length, ⊤};
 ghost use Rattle.code.specs.Pieces.{code_of};
 ghost use Rattle.locals.specs.Threads.{Thread};
 ghost use Rattle.machine.specs.States.{ConcreteState, opening_concrete, thread_of};
@@ -7,7 +7,8 @@ ghost use Rattle.machine.specs.Views.{concrete};
 ghost use Rattle.program.specs.Names.{said_by};
 ghost use Rattle.program.specs.Trees.{Program};
 ghost use Rattle.program.specs.WellFormed.{WellFormed};
-ghost use Rattle.runner.specs.Logs.{Ends, Enters, cost};
+ghost use Rattle.runner.specs.LogRuns.{steps_of};
+ghost use Rattle.runner.specs.Logs.{Ends, Enters};
 ghost use Rattle.recording.specs.Logs.{IsIllegal, LeadsTo};
 ghost use Rattle.recording.specs.Telling.{IsAlong, KeepsUp};
 
@@ -15,6 +16,7 @@ use crate::recorder::Recorder;
 use isa::Image;
 use locals::Local;
 use machine::{Entry, Event, Machine};
+use robustexit::ExitPhase;
 use std::alloc::{AllocError, Global};
 use words::MOST_PROCESSES;
 
@@ -39,22 +41,25 @@ fn take_shared(machine: &mut Machine, t: u32, event: Event) -> bool
     }
 }
 
-// The state of a thread that can move.
-fn state_of_mover(machine: &Machine, t: u32) -> Option<Local>
-    ensures { MatchOption result (can_move (concrete machine.now) t ≡ false)
-        (λ here. (can_move (concrete machine.now) t ≡ true) × (thread_of (concrete machine.now) t ≡ Some here)) }
+// Copies the state of a thread, where it can move.
+fn copy_mover(machine: &Machine, t: u32, here: &mut Local) -> bool
+    ensures { MatchBool result
+        ((can_move (concrete machine.now) t ≡ true) × (thread_of (concrete machine.now) t ≡ Some here.new))
+        (can_move (concrete machine.now) t ≡ false) }
 {
     if !machine.can_move(t) {
-        return None;
+        return false;
     }
-    Some(machine.local(t).copy())
+    here.copy_from(machine.local(t));
+    true
 }
 
-// Takes an entry, and records it; false where the machine can't take it.
+// Takes an entry, and records it; false where the machine can't take it. What `here` holds is lost.
 fn go_through(
     image: &Image,
     machine: &mut Machine,
     recorder: &mut Recorder,
+    here: &mut Local,
     entry: &Entry,
 ) -> Result<bool, AllocError>
     requires program { machine.old.program ≡ image.now }
@@ -66,21 +71,18 @@ fn go_through(
     ensures program { OnOk result (machine.new.program ≡ image.now) }
 {
     let t = entry.thread;
-    let Some(mut here) = state_of_mover(machine, t) else {
-        return Ok(false);
-    };
-    if !recorder.take_steps(image, &mut here, entry) {
+    if !copy_mover(machine, t, here) || !recorder.take_steps(image, here, entry) {
         return Ok(false);
     }
     machine.make_room(1)?;
-    machine.copy_local(t, &here);
+    machine.copy_local(t, here);
     let Some(event) = entry.event else {
         return Ok(true);
     };
     if !take_shared(machine, t, event) {
         return Ok(false);
     }
-    recorder.hear(machine, t, &here, image, event)?;
+    recorder.hear(machine, t, here, image, event)?;
     Ok(true)
 }
 
@@ -93,13 +95,14 @@ pub fn walk(
 ) -> Result<Option<Machine>, AllocError>
     ensures legal { IfOk result (λ o. MatchOption o (IsIllegal image.now log.now)
         (λ m. LeadsTo image.now log.now (concrete m))) }
-    ensures told { IfOk result (λ o. MatchOption o ⊤ (λ m. (p : Program) (w : WellFormed p) → image.now ≡ code_of p
-        → IsAlong p w 0 (opening_concrete image.now) recorder.old
-        → IsAlong p w (cost log.now) (concrete m) recorder.new)) }
+    ensures told { IfOk result (λ o. MatchOption o ⊤ (λ m. (p : Program) → WellFormed p → image.now ≡ code_of p
+        → IsAlong p [] (opening_concrete image.now) recorder.old
+        → IsAlong p (steps_of log.now) (concrete m) recorder.new)) }
 {
     let mut machine = Machine::new(alloc, image, BUCKETS)?;
+    let mut here = Local::exiting(ExitPhase::Ended);
     for entry in log {
-        if !go_through(image, &mut machine, recorder, entry)? {
+        if !go_through(image, &mut machine, recorder, &mut here, entry)? {
             return Ok(None);
         }
     }

@@ -1,6 +1,6 @@
-//! The source behind a log of the machine: entry by entry, which steps are actions of the source that others learn of.
+//! What the source has come to behind a log of the machine, entry by entry.
 #![tactic(auto)]
 
 mod law;
 
-pub use law::{source_follows_logs, waiting_follows_logs};
+pub use law::progress_follows_logs;

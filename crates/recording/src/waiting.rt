@@ -1,0 +1,42 @@
+ghost use Rattle.std.specs.Prelude.{[], ◌<◌, ◌+◌, ◌^◌, List, Option, length};
+ghost use Rattle.meaning.specs.Labels.{Kind};
+ghost use Rattle.product.specs.Waiting.{waits_then};
+ghost use Rattle.recording.specs.Waiting.{IsLate, Says};
+
+use crate::later::Late;
+
+/// What waits of a process: how many actions, and whether a fault is among them.
+#[derive(Clone, Copy, PartialEq, Eq, Debug)]
+pub struct Waiting {
+    /// How many.
+    pub count: u32,
+    /// Whether a fault is among them.
+    pub has_failed: bool,
+}
+
+impl Waiting {
+    /// Nothing.
+    pub fn none() -> Waiting
+        ensures { Says result [] }
+    {
+        Waiting {
+            count: 0,
+            has_failed: false,
+        }
+    }
+
+    /// With what a step adds. A fault waits once, though where it is written it is told of again.
+    pub fn behind(self, late: Late) -> Waiting
+        ensures { (ks : List Kind) (o : Option Kind) → Says self.entry ks → IsLate late o → length ks + 1 < 2 ^ 32
+            → Says result (waits_then o ks) }
+    {
+        let is_fault = late == Late::Fault;
+        if late == Late::Nothing || is_fault && self.has_failed {
+            return self;
+        }
+        Waiting {
+            count: self.count.saturating_add(1),
+            has_failed: self.has_failed || is_fault,
+        }
+    }
+}
