@@ -1,7 +1,7 @@
 -- What a process can take next is what its offer tells.
-use Rattle.std.proofs.Common.{◌≡◌, ℕ, Bool, true, false, List, Some, None, refl, ap}
+use Rattle.std.proofs.Common.{◌≡◌, ℕ, Bool, true, false, List, Some, refl, ap}
 use Rattle.std.proofs.Common.{sym, ◌∙◌, subst, inl, inr}
-use Rattle.std.proofs.lemmas.Bool.{false≢true, le-leb, lt-leb, lt-ltb}
+use Rattle.std.proofs.lemmas.Bool.{false≢true, le-leb, lt-ltb}
 use Rattle.std.specs.Prelude.{if◌then◌else◌, nat_le, nat_lt}
 use Rattle.words.specs.Limits.{most_processes}
 use Rattle.machine.specs.States.{State}
@@ -33,14 +33,6 @@ quiet_by_label Returns h = refl
 quiet_by_label (Fails fault) h = refl
 quiet_by_label l h = absurd cc
 
-none_by_label : (l : Label) → is_quiet (label_of l) ≡ false → quiet_label l ≡ None
-none_by_label Assigns h = absurd cc
-none_by_label Tests h = absurd cc
-none_by_label Calls h = absurd cc
-none_by_label Returns h = absurd cc
-none_by_label (Fails fault) h = absurd cc
-none_by_label l h = refl
-
 -- a label that is quiet is none that isn't
 not_both : {A : Type 0} (label other : L.Label) → label ≡ other → is_quiet label ≡ true → is_quiet other ≡ false → A
 not_both label other same quiet heard = absurd (false≢true (sym heard ∙ ap is_quiet (sym same) ∙ quiet))
@@ -48,10 +40,6 @@ not_both label other same quiet heard = absurd (false≢true (sym heard ∙ ap i
 chosen : {A : Type 0} (b : Bool) (x y : A) → b ≡ true → (if b then x else y) ≡ x
 chosen true x y h = refl
 chosen false x y h = absurd cc
-
-other : {A : Type 0} (b : Bool) (x y : A) → b ≡ false → (if b then x else y) ≡ y
-other true x y h = absurd cc
-other false x y h = refl
 
 module _ (p : Program) (q : ProcessOf) (t : ℕ) (T T' : Table) (label : L.Label) (effect : Effect)
     (after : Process) where
@@ -74,25 +62,6 @@ module _ (p : Program) (q : ProcessOf) (t : ℕ) (T T' : Table) (label : L.Label
   quiet_found (Enters m) takes allows quiet = not_both label _ takes.1 quiet refl
   quiet_found (Resumes m) takes allows quiet = not_both label _ takes.1 quiet refl
   quiet_found (Joins child into aborted) takes allows quiet = not_both label _ takes.1 quiet refl
-
-  pub quiet_none : (o : Offer) → TakesUp (offer_of p o q) label effect after → Allows t label T T'
-      → is_quiet label ≡ false → quiet_kind o T ≡ None
-  quiet_none (Own Rests) takes allows heard = refl
-  quiet_none (Own (Does l e)) takes allows heard = none_by_label l (ap is_quiet (sym takes.0) ∙ heard)
-  quiet_none (Own (Makes child into)) (inl made) allows heard =
-      let here = subst (λ i. Allows t i T T') made.1 allows in
-      other (nat_le most_processes T.made) _ _ (lt-leb most_processes T.made here.0)
-  quiet_none (Own (Makes child into)) (inr full) allows heard =
-      absurd (false≢true (sym heard ∙ ap is_quiet full.0))
-  quiet_none (Own (Claims child into aborted)) (inl free) allows heard =
-      let here = subst (λ i. Allows t i T T') free.0 allows in other (T.claimed child) _ _ here.0
-  quiet_none (Own (Claims child into aborted)) (inr claimed) allows heard =
-      absurd (false≢true (sym heard ∙ ap is_quiet claimed.0))
-  quiet_none (Own (NotifiesSome c)) takes allows heard = refl
-  quiet_none (Own (NotifiesAll c)) takes allows heard = refl
-  quiet_none (Enters m) takes allows heard = refl
-  quiet_none (Resumes m) takes allows heard = refl
-  quiet_none (Joins child into aborted) takes allows heard = refl
 
   pub heard_found : (s : State) (o : Offer) (resumed : List ℕ) → TakesUp (offer_of p o q) label effect after
       → Allows t label T T' → is_quiet label ≡ false → Resumes' p s T label

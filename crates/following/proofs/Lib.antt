@@ -3,4 +3,4 @@ pub mod Settling
 pub mod Waiting
 pub mod Below
 pub mod Heard
-pub mod Going
+pub mod Taking

@@ -1,35 +1,35 @@
--- The quiet actions that wait of a process are taken, and then the action that others learn of.
-use Rattle.std.proofs.Common.{◌≡◌, ℕ, ◌+◌, ◌≤◌, true, false, List, [], ◌∷◌, length, Option, Some, None, refl, ap, sym}
-use Rattle.std.proofs.Common.{◌∙◌, subst, arith, option_map}
-use Rattle.std.specs.Prelude.{Bool, Result, Ok, Err, IfOk}
+-- The quiet actions that wait of a process are taken, one by one, and then the action that others learn of.
+use Rattle.std.proofs.Common.{◌≡◌, ℕ, ◌+◌, ◌<◌, ◌≤◌, Bool, true, false, List, [], ◌∷◌, ◌++◌, length, Option, Some, None}
+use Rattle.std.proofs.Common.{refl, ap, sym, ◌∙◌, subst, arith, option_map, append_assoc}
+use Rattle.std.specs.Prelude.{Result, Ok, Err, IfOk}
+use Rattle.words.specs.Updates.{put}
 use Rattle.machine.specs.States.{State}
+use Rattle.program.specs.Names.{said_by}
 use Rattle.program.specs.Trees.{Program}
-use Rattle.program.specs.WellFormed.{WellFormed}
 use Rattle.program.specs.declared.kinds.Member.{Member}
-use Rattle.meaning.specs.Labels.{Kind, Label, kind_of}
+use Rattle.meaning.specs.Labels.{Action, Kind, Label, kind_of}
 use Rattle.meaning.specs.Offers.{Offer as OfferOf, TakesUp, offer}
 use Rattle.meaning.specs.Runs.{IsStep}
 use Rattle.meaning.specs.States.{SourceState}
-use Rattle.deferral.specs.Deferring.{is_quiet}
+use Rattle.deferral.specs.Deferring.{is_quiet, IsBehind}
+use Rattle.deferral.specs.Placed.{actions_of}
 use Rattle.sourceruns.specs.declared.next_action.Offer.{Offer}
 use Rattle.sourceruns.specs.declared.process.Process.{Process}
 use Rattle.sourceruns.specs.NextAction.{offer_of}
-use Rattle.sourcestates.specs.Taken.{IsAnswer}
+use Rattle.sourcestates.specs.States.{state_of}
+use Rattle.protocol.proofs.Sleeps.{put_same}
+use Rattle.product.specs.Next.{after_next, named, next_heard, offered, paid, quiet_next}
 use Rattle.product.specs.Placing.{Resumes, act, awake_waiters}
-use Rattle.product.specs.Tracking.{CanTake, Owes, Tracks}
+use Rattle.product.specs.Progress.{Progress, progress_next, progress_paid}
+use Rattle.product.specs.Tracking.{CanTake}
+use Rattle.product.proofs.Nexts.{heard_is, heard_so, pays_behind}
 use Rattle.product.proofs.Sourcing.{action}
-use Rattle.product.proofs.Tracking.{pays, settles}
+use Rattle.product.proofs.Worlds.{put_put}
+use Rattle.following.specs.declared.follower.Follower.{Follower}
 use Rattle.following.specs.Choosing.{quiet_kind, heard_kind, resumed_only}
-use Rattle.following.proofs.Choices.{quiet_found, quiet_none, heard_found}
-
--- what a process can take is possible
-pub possible : (p : Program) (a : SourceState) (t : ℕ) (label : Label) → CanTake p a t label
-    → (b : SourceState) × IsStep p a (act t (kind_of label)) b
-possible p a t label can = (
-  _,
-  action p a t can.before can.after label can.effect can.table can.stands can.takes
-      can.allows,
-)
+use Rattle.following.specs.Going.{Matches, Takes}
+use Rattle.following.proofs.Choices.{quiet_found, heard_found}
+use Rattle.following.proofs.Taking.{further}
 
 module _ (p : Program) (a : SourceState) (t : ℕ) (o : Offer) (q : Process) (label : Label)
     (can : CanTake p a t label) (is : Some (offer_of p o q) ≡ option_map (offer p a.variable) (a.process t)) where
@@ -43,132 +43,175 @@ module _ (p : Program) (a : SourceState) (t : ℕ) (o : Offer) (q : Process) (la
   pub quiet_here : is_quiet label ≡ true → quiet_kind o a.table ≡ Some (kind_of label)
   quiet_here quiet = quiet_found p q t a.table can.table label can.effect can.after o takes can.allows quiet
 
-  pub none_here : is_quiet label ≡ false → quiet_kind o a.table ≡ None
-  none_here heard = quiet_none p q t a.table can.table label can.effect can.after o takes can.allows heard
-
   pub heard_here : (s : State) (resumed : List ℕ) → is_quiet label ≡ false → Resumes p s a.table label
       → ((c : Member) → resumed_only o ≡ Some c → resumed ≡ awake_waiters p s a.table c)
       → heard_kind o a.table.made resumed ≡ Some (kind_of label)
   heard_here s resumed heard who waiters = heard_found p q t a.table can.table label can.effect can.after s o resumed
       takes can.allows heard who waiters
 
--- from a state to another, by so many of the actions that wait
-pub record Pays (p : Program) (t : ℕ) (old now : SourceState) (most taken : ℕ) : Type 0 where
-  pub left : (w : WellFormed p) (steps : ℕ) (s : State) (ks : List Kind) → Owes p w steps s t old ks
-      → length ks ≤ most → (rest : List Kind) × Owes p w steps s t now rest × (length rest + taken ≤ most)
-
--- what is found of the next quiet action
-pub record Finds (p : Program) (a : SourceState) (t : ℕ) (found : Option Kind) : Type 0 where
-  pub quiet : (label : Label) → CanTake p a t label → is_quiet label ≡ true → found ≡ Some (kind_of label)
-  pub heard : (label : Label) → CanTake p a t label → is_quiet label ≡ false → found ≡ None
-
-none_some : {A : Type 0} (k : Kind) → Some k ≡ None → A
+pub none_some : {A : Type 0} (k : Kind) → Some k ≡ None → A
 none_some k e = absurd cc
-
-some_none : {A : Type 0} (k : Kind) → None ≡ Some k → A
-some_none k e = absurd cc
 
 same_kind : (k l : Kind) → Some k ≡ Some l → k ≡ l
 same_kind k l e = cc
 
-module _ (p : Program) (t : ℕ) where
-  pub begins_paying : (a : SourceState) (most : ℕ) → Pays p t a a most 0
-  begins_paying a most = record { left = λ w steps s ks o few. (ks, o, omega (arith, few)) }
+abbrev so_far : List Action → SourceState → (ℕ → List Kind) → Progress
+so_far actions source waiting = record { actions = actions; source = source; waiting = waiting }
 
-  module _ (a b : SourceState) (most taken : ℕ) (before : Pays p t a b most taken) where
-    pub goes_on_paying : (k : Kind) (c : SourceState) → Finds p b t (Some k) → IsStep p b (act t k) c
-        → Pays p t a c most (taken + 1)
-    goes_on_paying k c finds step = record { left = λ w steps s ks o few. by_rest w steps s (before.left w steps s ks o few) }
-      where
-        by_rest : (w : WellFormed p) (steps : ℕ) (s : State)
-            → (rest : List Kind) × Owes p w steps s t b rest × (length rest + taken ≤ most)
-            → (rest : List Kind) × Owes p w steps s t c rest × (length rest + (taken + 1) ≤ most)
-        by_rest w steps s ([], o, few) =
-            let d = settles p w steps s t b o in none_some k (finds.heard d.0 d.2 d.1)
-        by_rest w steps s (l ∷ ls, o, few) =
-            let d = pays p w steps s t b l ls o in
-            let same : k ≡ l = same_kind k (kind_of d.0) (finds.quiet d.0 d.3 d.2) ∙ sym d.1 in
-            (ls, d.4 c (subst (λ i. IsStep p b (act t i) c) same step), omega (arith, few))
+same_progress : (a b : List Action) (s u : SourceState) (w v : ℕ → List Kind) → a ≡ b → s ≡ u → w ≡ v
+    → so_far a s w ≡ so_far b u v
+same_progress a b s u w v actions source waiting =
+    ap (λ i. so_far i s w) actions ∙ ap (λ i. so_far b i w) source
+    ∙ ap (λ (i : ℕ → List Kind). so_far b u i) waiting
 
-    -- an action that is found is possible
-    pub never_refused : (k : Kind) → Finds p b t (Some k) → ((c : SourceState) → IsStep p b (act t k) c → ⊥)
-        → (w : WellFormed p) (steps : ℕ) (s : State) (ks : List Kind) → Owes p w steps s t a ks → length ks ≤ most
-        → ⊥
-    never_refused k finds never w steps s ks o few = by_rest (before.left w steps s ks o few)
-      where
-        by_rest : (rest : List Kind) × Owes p w steps s t b rest × (length rest + taken ≤ most) → ⊥
-        by_rest ([], o, few) = let d = settles p w steps s t b o in none_some k (finds.heard d.0 d.2 d.1)
-        by_rest (l ∷ ls, o, few) =
-            let d = pays p w steps s t b l ls o in
-            let same : k ≡ kind_of d.0 = same_kind k (kind_of d.0) (finds.quiet d.0 d.3 d.2) in
-            let on = possible p b t d.0 d.3 in
-            never on.0 (subst (λ i. IsStep p b (act t i) on.0) (sym same) on.1)
+nothing_more : {A : Type 0} (l : List A) → l ≡ l ++ []
+nothing_more [] = refl
+nothing_more (x ∷ xs) = ap (λ l. x ∷ l) (nothing_more xs)
 
-    -- where none is found, none waits
-    pub none_waits : Finds p b t None → (w : WellFormed p) (steps : ℕ) (s : State) (ks : List Kind)
-        → Owes p w steps s t a ks → length ks ≤ most → Owes p w steps s t b []
-    none_waits finds w steps s ks o few = by_rest (before.left w steps s ks o few)
-      where
-        by_rest : (rest : List Kind) × Owes p w steps s t b rest × (length rest + taken ≤ most)
-            → Owes p w steps s t b []
-        by_rest ([], o, few) = o
-        by_rest (l ∷ ls, o, few) =
-            let d = pays p w steps s t b l ls o in some_none (kind_of d.0) (finds.quiet d.0 d.3 d.2)
+-- of the actions that wait of process t, so many were taken, and the rest leads where all lead
+pub record IsPaying (p : Program) (t : ℕ) (g : Progress) (ahead : SourceState) (count taken : ℕ)
+    (now : Follower) : Type 0 where
+  pub so_far : Progress
+  pub matches : Matches now so_far
+  pub behind : IsBehind p so_far.waiting so_far.source ahead
+  pub left : length (so_far.waiting t) + taken ≡ count
+  pub rest : progress_paid p t so_far ≡ progress_paid p t g
 
-    -- nor where as many were taken as there can be
-    pub all_paid : most ≤ taken → (w : WellFormed p) (steps : ℕ) (s : State) (ks : List Kind)
-        → Owes p w steps s t a ks → length ks ≤ most → Owes p w steps s t b []
-    all_paid over w steps s ks o few = by_rest (before.left w steps s ks o few)
-      where
-        by_rest : (rest : List Kind) × Owes p w steps s t b rest × (length rest + taken ≤ most)
-            → Owes p w steps s t b []
-        by_rest ([], o, few) = o
-        by_rest (l ∷ ls, o, few) = absurd (omega (arith, few, over))
+-- the same, whatever waited
+pub record HasPaid (p : Program) (t count taken : ℕ) (old now : Follower) : Type 0 where
+  pub paying : (g : Progress) (ahead : SourceState) → Matches old g → IsBehind p g.waiting g.source ahead
+      → length (g.waiting t) ≡ count → IsPaying p t g ahead count taken now
 
-  -- the action that others learn of is possible, and the source tracks the machine behind it
-  module _ (w : WellFormed p) (steps : ℕ) (s : State) (a : SourceState) (o : Owes p w steps s t a []) where
-    pub settled_kind : (found : Option Kind) → ((label : Label) → CanTake p a t label → is_quiet label ≡ false
-        → Resumes p s a.table label → found ≡ Some (kind_of label)) → (k : Kind) × (found ≡ Some k)
-    settled_kind found finds = let d = settles p w steps s t a o in (kind_of d.0, finds d.0 d.2 d.1 d.3)
+pub begins_paying : (p : Program) (t count : ℕ) (f : Follower) → HasPaid p t count 0 f f
+begins_paying p t count f = record {
+  paying = λ g ahead matches behind all. record {
+    so_far = g;
+    matches = matches;
+    behind = behind;
+    left = omega (arith, all);
+    rest = refl;
+  };
+}
 
-    pub settled : (k : Kind) → ((label : Label) → CanTake p a t label → is_quiet label ≡ false
-        → Resumes p s a.table label → Some k ≡ Some (kind_of label))
-        → ((c : SourceState) → IsStep p a (act t k) c → Tracks p w steps s c)
-        × (((c : SourceState) → IsStep p a (act t k) c → ⊥) → ⊥)
-    settled k finds =
-        let d = settles p w steps s t a o in
-        let same : k ≡ kind_of d.0 = same_kind k (kind_of d.0) (finds d.0 d.2 d.1 d.3) in (
-          λ c step. d.4 c (subst (λ i. IsStep p a (act t i) c) same step),
-          λ never.
-              let on = possible p a t d.0 d.2 in
-              never on.0 (subst (λ i. IsStep p a (act t i) on.0) (sym same) on.1),
+-- what is found of the next quiet action
+abbrev pub FindsQuiet : Program → SourceState → (t : ℕ) → Option Kind → Type 0
+FindsQuiet p a t found = (label : Label) → CanTake p a t label → is_quiet label ≡ true → found ≡ Some (kind_of label)
+
+module _ (p : Program) (t : ℕ) (g : Progress) (ahead : SourceState) (count taken : ℕ) (now : Follower)
+    (paying : IsPaying p t g ahead count taken now) where
+  -- one more waits: it is found, it is possible, and then one more is paid
+  pub record PaysNext (found : Option Kind) : Type 0 where
+    pub kind : Kind
+    pub after : SourceState
+    pub found_so : found ≡ Some kind
+    pub step : IsStep p paying.so_far.source (act t kind) after
+    pub goes_on : (new : Follower) → Matches new (further paying.so_far (act t kind) after)
+        → IsPaying p t g ahead count (taken + 1) new
+
+  pub pays_next : (found : Option Kind) → FindsQuiet p (state_of now.state) t found → taken < count → PaysNext found
+  pays_next found finds more = by_rest (paying.so_far.waiting t) refl
+    where
+      by_rest : (ks : List Kind) → paying.so_far.waiting t ≡ ks → PaysNext found
+      by_rest [] mine =
+          let none : length (paying.so_far.waiting t) ≡ 0 = ap length mine in
+          absurd (omega (arith, none, paying.left, more))
+      by_rest (k ∷ ks) mine =
+          let w = paying.so_far.waiting in
+          let actions = paying.so_far.actions in
+          let a = paying.so_far.source in
+          let after = after_next t (quiet_next (offered p a.variable (a.process t))) a in
+          let pays = pays_behind p t w a ahead k ks paying.behind mine in
+          let can : CanTake p (state_of now.state) t pays.0 =
+          subst (λ (i : SourceState). CanTake p i t pays.0) (sym paying.matches.source) pays.3 in
+          record {
+            kind = k;
+            after = after;
+            found_so = finds pays.0 can pays.2 ∙ ap (λ i. Some i) (sym pays.1);
+            step = pays.4;
+            goes_on = λ new matches. record {
+              so_far = record (further paying.so_far (act t k) after) { waiting = put w t ks };
+              matches = record { actions = matches.actions; source = matches.source };
+              behind = pays.5;
+              left =
+                  let before : length (w t) ≡ length ks + 1 = ap length mine ∙ omega arith in
+                  let one : length (put w t ks t) ≡ length ks = ap length (put_same w t ks) in
+                  omega (arith, before, one, paying.left);
+              rest = same_progress _ _ _ _ _ _
+                  (ap (λ l. (actions ++ act t k ∷ []) ++ actions_of t l) (put_same w t ks)
+                  ∙ append_assoc actions (act t k ∷ []) (actions_of t ks)
+                  ∙ sym (ap (λ l. actions ++ actions_of t l) mine))
+                  (ap (λ l. paid p t l after) (put_same w t ks) ∙ sym (ap (λ l. paid p t l a) mine))
+                  (put_put w t ks []) ∙ paying.rest;
+            };
+          }
+
+  module _ (found : Option Kind) (finds : FindsQuiet p (state_of now.state) t found) (more : taken < count) where
+    pub one_found : {A : Type 0} → found ≡ None → A
+    one_found none = let next = pays_next found finds more in none_some next.kind (sym next.found_so ∙ none)
+
+    pub pays_one : (k : Kind) → found ≡ Some k → said_by now.checked.now ≡ p → (b : Bool) (new : Follower)
+        → Takes now (act t k) b new → (b ≡ true) × IsPaying p t g ahead count (taken + 1) new
+    pays_one k is same b new act_taken =
+        let next = pays_next found finds more in
+        let kind : k ≡ next.kind = same_kind k next.kind (sym is ∙ next.found_so) in
+        let step : IsStep (said_by now.checked.now) paying.so_far.source (act t k) next.after =
+        subst (λ i. IsStep i paying.so_far.source (act t k) next.after) (sym same)
+        (subst (λ i. IsStep p paying.so_far.source (act t i) next.after) (sym kind) next.step) in
+        let took = act_taken paying.so_far next.after paying.matches step in (
+          took.0,
+          next.goes_on new (subst (λ i. Matches new (further paying.so_far (act t i) next.after)) kind took.1),
         )
 
--- what comes of the action that was found, whether it was possible or not
-pub follows_on : (p p' : Program) → p' ≡ p → (t : ℕ) (w : WellFormed p) (steps : ℕ) (s : State) (a : SourceState)
-    → Owes p w steps s t a [] → (k : Kind) → ((label : Label) → CanTake p' a t label → is_quiet label ≡ false
-    → Resumes p' s a.table label → Some k ≡ Some (kind_of label)) → (b : Bool) (c : SourceState)
-    → IsAnswer b (IsStep p' a (act t k)) c → (b ≡ true) × Tracks p w steps s c
-follows_on p p' same t w steps s a o k finds b c answer =
-    by_answer b (subst (λ i. IsAnswer b (IsStep i a (act t k)) c) same answer)
-  where
-    here : ((c : SourceState) → IsStep p a (act t k) c → Tracks p w steps s c)
-        × (((c : SourceState) → IsStep p a (act t k) c → ⊥) → ⊥)
-    here = settled p t w steps s a o k (subst (λ i. (label : Label) → CanTake i a t label → is_quiet label ≡ false
-        → Resumes i s a.table label → Some k ≡ Some (kind_of label)) same finds)
+  -- no more wait
+  pub all_paid : count ≤ taken → Matches now (progress_paid p t g)
+  all_paid over = by_rest (paying.so_far.waiting t) refl
+    where
+      by_rest : (ks : List Kind) → paying.so_far.waiting t ≡ ks → Matches now (progress_paid p t g)
+      by_rest [] mine = subst (λ (i : Progress). Matches now i) paying.rest (record {
+        actions = paying.matches.actions ∙ nothing_more paying.so_far.actions
+            ∙ sym (ap (λ l. paying.so_far.actions ++ actions_of t l) mine);
+        source = paying.matches.source ∙ sym (ap (λ l. paid p t l paying.so_far.source) mine);
+      })
+      by_rest (k ∷ ks) mine =
+          let some : length (paying.so_far.waiting t) ≡ length ks + 1 = ap length mine ∙ omega arith in
+          absurd (omega (arith, some, paying.left, over))
 
-    by_answer : (b : Bool) → IsAnswer b (IsStep p a (act t k)) c → (b ≡ true) × Tracks p w steps s c
-    by_answer true step = (refl, here.0 c step)
-    by_answer false never = absurd (here.1 never)
+-- behind that comes the action that others learn of
+module _ (p : Program) (s : State) (t : ℕ) (g : Progress) (label : Label) (can : CanTake p g.source t label)
+    (heard : is_quiet label ≡ false) (who : Resumes p s g.source.table label) where
+  abbrev after : SourceState
+  after = after_next t (next_heard p s t g.source) g.source
 
--- an action is found
-pub finds_one : (p p' : Program) → p' ≡ p → (t : ℕ) (w : WellFormed p) (steps : ℕ) (s : State) (a : SourceState)
-    → Owes p w steps s t a [] → (found : Option Kind) → ((label : Label) → CanTake p' a t label
-    → is_quiet label ≡ false → Resumes p' s a.table label → found ≡ Some (kind_of label)) → found ≡ None → ⊥
-finds_one p p' same t w steps s a o found finds none =
-    let k = settled_kind p t w steps s a o found (subst (λ i. (label : Label) → CanTake i a t label
-    → is_quiet label ≡ false → Resumes i s a.table label → found ≡ Some (kind_of label)) same finds) in
-    none_some k.0 (sym k.1 ∙ none)
+  step : IsStep p g.source (act t (kind_of label)) after
+  step = subst (λ (i : SourceState). IsStep p g.source (act t (kind_of label)) i)
+      (sym (heard_so p g.source t label can s heard who))
+      (action p g.source t can.before can.after label can.effect can.table can.stands can.takes can.allows)
+
+  module _ (f : Follower) (same : said_by f.checked.now ≡ p) (matches : Matches f g) where
+    pub found_so : (found : Option Kind) → ((label : Label) → CanTake (said_by f.checked.now) (state_of f.state) t label
+        → is_quiet label ≡ false → Resumes (said_by f.checked.now) s (state_of f.state).table label
+        → found ≡ Some (kind_of label)) → found ≡ Some (kind_of label)
+    found_so found finds = finds label
+        (subst (λ i. CanTake i (state_of f.state) t label) (sym same)
+        (subst (λ (i : SourceState). CanTake p i t label) (sym matches.source) can)) heard
+        (subst (λ i. Resumes i s (state_of f.state).table label) (sym same)
+        (subst (λ (i : SourceState). Resumes p s i.table label) (sym matches.source) who))
+
+    pub follows_so : (k : Kind) → Some k ≡ Some (kind_of label) → (b : Bool) (new : Follower)
+        → Takes f (act t k) b new → (b ≡ true) × Matches new (progress_next p s t g)
+    follows_so k is b new act_taken =
+        let kind : k ≡ kind_of label = same_kind k (kind_of label) is in
+        let possible : IsStep (said_by f.checked.now) g.source (act t k) after =
+        subst (λ i. IsStep i g.source (act t k) after) (sym same)
+        (subst (λ i. IsStep p g.source (act t i) after) (sym kind) step) in
+        let took = act_taken g after matches possible in (
+          took.0,
+          record {
+            actions = took.1.actions ∙ ap (λ i. g.actions ++ act t i ∷ []) kind
+                ∙ sym (ap (λ n. g.actions ++ actions_of t (named n)) (heard_is p g.source t label can s heard who));
+            source = took.1.source;
+          },
+        )
 
 pub if_ok : {A E : Type 0} (P Q : A → Type 0) (r : Result A E) → ((x : A) → P x → Q x) → IfOk r P → IfOk r Q
 if_ok P Q (Ok x) on h = on x h

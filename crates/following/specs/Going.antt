@@ -1,19 +1,44 @@
--- A run of the source goes on.
-use Rattle.std.specs.Prelude.{◌≡◌, ◌++◌, List, map}
+-- How far a follower has come, and where it comes to.
+use Rattle.std.specs.Prelude.{ℕ, ◌≡◌, Bool, true, false, [], ◌∷◌, ◌++◌, length, map}
+use Rattle.machine.specs.States.{State}
 use Rattle.program.specs.Names.{said_by}
-use Rattle.meaning.specs.Runs.{Leads}
-use Rattle.sourcestates.specs.declared.action.Action.{Action}
+use Rattle.code.specs.Layout.{layout_of}
+use Rattle.meaning.specs.Labels.{Action, Label}
+use Rattle.meaning.specs.Runs.{IsStep}
+use Rattle.meaning.specs.States.{SourceState}
+use Rattle.deferral.specs.Deferring.{is_quiet, IsBehind}
+use Rattle.product.specs.Placing.{Resumes}
+use Rattle.product.specs.Progress.{Progress, progress_paid, progress_next}
+use Rattle.product.specs.Tracking.{CanTake}
 use Rattle.sourcestates.specs.Actions.{action_of}
 use Rattle.sourcestates.specs.States.{state_of}
 use Rattle.following.specs.declared.follower.Follower.{Follower}
 
--- more actions stand behind those that stood there
-pub record Extends (old new : Follower) : Type 0 where
-  pub behind : List Action
-  pub items : new.actions.items ≡ old.actions.items ++ behind
+-- a follower has come as far as this
+pub record Matches (f : Follower) (g : Progress) : Type 0 where
+  pub actions : map action_of f.actions.items ≡ g.actions
+  pub source : state_of f.state ≡ g.source
 
--- by more actions, which lead there
-pub record GoesOn (old new : Follower) : Type 0 where
-  pub more : List Action
-  pub items : new.actions.items ≡ old.actions.items ++ more
-  pub leads : Leads (said_by old.checked.now) (state_of old.state) (map action_of more) (state_of new.state)
+-- where the source can take the action, the follower takes it
+abbrev pub Takes : Follower → Action → (is_possible : Bool) → Follower → Type 0
+Takes old action is_possible new =
+    (g : Progress) (after : SourceState) → Matches old g
+    → IsStep (said_by old.checked.now) g.source action after
+    → (is_possible ≡ true) × Matches new (record g { actions = g.actions ++ action ∷ []; source = after })
+
+-- where so many actions of process t wait, it takes them
+abbrev pub Pays : Follower → (t count : ℕ) → (is_possible : Bool) → Follower → Type 0
+Pays old t count is_possible new =
+    let p = said_by old.checked.now in
+    (g : Progress) (ahead : SourceState) → Matches old g → IsBehind p g.waiting g.source ahead
+    → length (g.waiting t) ≡ count → (is_possible ≡ true) × Matches new (progress_paid p t g)
+
+-- and then the next action of process t that others learn of, by a step of the machine to this state
+abbrev pub Follows : Follower → State → (t count : ℕ) → (is_possible : Bool) → Follower → Type 0
+Follows old s t count is_possible new =
+    let p = said_by old.checked.now in
+    (g : Progress) (ahead : SourceState) (label : Label) → old.layout ≡ layout_of p
+    → Matches old g → IsBehind p g.waiting g.source ahead → length (g.waiting t) ≡ count
+    → let paid = progress_paid p t g in
+    CanTake p paid.source t label → is_quiet label ≡ false → Resumes p s paid.source.table label
+    → (is_possible ≡ true) × Matches new (progress_next p s t paid)

@@ -1,22 +1,18 @@
-ghost use Rattle.std.specs.Prelude.{◌≡◌, ◌≤◌, [], IfOk, List, None, OnOk, Some, false, length, option_map, take, true};
-ghost use Rattle.std.specs.Prelude.{ℕ};
-ghost use Rattle.machine.specs.States.{State, state_of as machine_state};
+ghost use Rattle.std.specs.Prelude.{◌≡◌, IfOk, Some, option_map, true, false};
+ghost use Rattle.machine.specs.States.{state_of as machine_state};
 ghost use Rattle.machine.specs.Views.{concrete};
 ghost use Rattle.program.specs.Names.{said_by};
-ghost use Rattle.program.specs.WellFormed.{WellFormed};
 ghost use Rattle.program.specs.declared.kinds.Member.{Member as MemberOf};
 ghost use Rattle.code.specs.Layout.{layout_of};
 ghost use Rattle.deferral.specs.Deferring.{is_quiet};
-ghost use Rattle.meaning.specs.Labels.{Kind, Label, kind_of as name_of};
-ghost use Rattle.meaning.specs.Runs.{IsStep};
-ghost use Rattle.meaning.specs.States.{opening};
+ghost use Rattle.meaning.specs.Labels.{Label, kind_of as name_of};
 ghost use Rattle.sourcestates.specs.Actions.{kind_of};
 ghost use Rattle.sourcestates.specs.States.{state_of};
-ghost use Rattle.sourcestates.specs.Taken.{IsAnswer};
 ghost use Rattle.product.specs.Placing.{Resumes, act, awake_waiters};
-ghost use Rattle.product.specs.Tracking.{CanTake, Owes, Tracks};
+ghost use Rattle.product.specs.Progress.{opening_progress};
+ghost use Rattle.product.specs.Tracking.{CanTake};
 ghost use Rattle.following.specs.Choosing.{resumed_only};
-ghost use Rattle.following.specs.Going.{Extends, GoesOn};
+ghost use Rattle.following.specs.Going.{Follows, Matches, Pays, Takes};
 ghost use Rattle.following.specs.Requests.{heard_step};
 ghost use Rattle.following.specs.Waiting.{is_awake};
 
@@ -49,8 +45,8 @@ impl<'a> Follower<'a> {
         layout: Layout,
     ) -> Result<Follower<'a>, AllocError>
         requires { layout ≡ layout_of (said_by checked.now) }
-        ensures { IfOk result (λ f. (state_of f.state ≡ opening (said_by checked.now)) × (f.actions.items ≡ [])
-            × (f.checked.now ≡ checked.now) × (f.layout ≡ layout_of (said_by checked.now))) }
+        ensures opens { IfOk result (λ f. Matches f (opening_progress (said_by checked.now))) }
+        ensures kept { IfOk result (λ f. (f.checked.now ≡ checked.now) × (f.layout ≡ layout_of (said_by checked.now))) }
     {
         Ok(Follower {
             alloc,
@@ -75,13 +71,11 @@ impl<'a> Follower<'a> {
         &self.state
     }
 
-    /// The first so many actions; all, where there are no more.
-    pub fn into_actions(self, count: usize) -> Vec<Action>
-        ensures { result.items ≡ take count self.entry.actions.items }
+    /// The actions, in order.
+    pub fn into_actions(self) -> Vec<Action>
+        ensures { result.items ≡ self.entry.actions.items }
     {
-        let mut actions = self.actions;
-        actions.truncate(count);
-        actions
+        self.actions
     }
 
     /// Whether the step of a thread that comes to this, with this value in its event, is an action of its process which
@@ -96,13 +90,9 @@ impl<'a> Follower<'a> {
 
     // Takes an action, if it is possible; else nothing is known of the state.
     fn take(&mut self, t: u32, kind: ActionKind) -> Result<bool, AllocError>
-        ensures step { IfOk result (λ b. IsAnswer b
-            (IsStep (said_by self.old.checked.now) (state_of self.old.state) (act t (kind_of kind)))
-            (state_of self.new.state)) }
+        ensures takes { IfOk result (λ b. Takes self.old (act t (kind_of kind)) b self.new) }
         ensures kept { IfOk result (λ _. (self.new.checked ≡ self.old.checked)
             × (self.new.layout ≡ self.old.layout)) }
-        ensures extends { OnOk result (Extends self.old self.new) }
-        ensures run { IfOk result (λ b. b ≡ true → GoesOn self.old self.new) }
     {
         let action = Action {
             process: u64::from(t),
@@ -117,14 +107,11 @@ impl<'a> Follower<'a> {
         Ok(is_possible)
     }
 
-    // The quiet action that a process can take next: where it can take one that others learn of, it can take none.
+    // The quiet action that a process can take next, where it can take one.
     fn next_quiet(&self, t: u32) -> Result<Option<ActionKind>, AllocError>
-        ensures quiet { IfOk result (λ o. (label : Label)
+        ensures { IfOk result (λ o. (label : Label)
             → CanTake (said_by self.now.checked.now) (state_of self.now.state) t label → is_quiet label ≡ true
             → option_map kind_of o ≡ Some (name_of label)) }
-        ensures heard { IfOk result (λ o. (label : Label)
-            → CanTake (said_by self.now.checked.now) (state_of self.now.state) t label → is_quiet label ≡ false
-            → option_map kind_of o ≡ None) }
     {
         match self.state.offered(self.alloc, self.checked, u64::from(t))? {
             Some((offer, _)) => Ok(quiet_action(&offer, &self.state)),
@@ -132,21 +119,16 @@ impl<'a> Follower<'a> {
         }
     }
 
-    /// Takes the quiet actions that a process can take next, those that no other process learns of, so many at most.
-    /// False where one wasn't possible.
-    pub fn settle(&mut self, t: u32, most: u32) -> Result<bool, AllocError>
-        ensures pays { IfOk result (λ b. (w : WellFormed (said_by self.old.checked.now)) (steps : ℕ)
-            (s : State) (ks : List Kind)
-            → Owes (said_by self.old.checked.now) w steps s t (state_of self.old.state) ks → length ks ≤ most
-            → (b ≡ true) × Owes (said_by self.old.checked.now) w steps s t (state_of self.new.state) []) }
+    /// Takes so many quiet actions of a process, which no other process learns of. False where one isn't there, or isn't
+    /// possible.
+    pub fn settle(&mut self, t: u32, count: u32) -> Result<bool, AllocError>
+        ensures pays { IfOk result (λ b. Pays self.old t count b self.new) }
         ensures kept { IfOk result (λ _. (self.new.checked ≡ self.old.checked)
             × (self.new.layout ≡ self.old.layout)) }
-        ensures extends { OnOk result (Extends self.old self.new) }
-        ensures run { IfOk result (λ b. b ≡ true → GoesOn self.old self.new) }
     {
-        for _ in 0..most {
+        for _ in 0..count {
             let Some(kind) = self.next_quiet(t)? else {
-                return Ok(true);
+                return Ok(false);
             };
             if !self.take(t, kind)? {
                 return Ok(false);
@@ -207,21 +189,14 @@ impl<'a> Follower<'a> {
         Ok(heard_action(&offer, &self.state, resumed))
     }
 
-    /// Follows a step of thread `t` to this machine, which is an action that other processes learn of: first come the
-    /// quiet actions of its process, at most so many, and then that. False where one wasn't possible.
-    pub fn follow(&mut self, machine: &Machine, t: u32, most: u32) -> Result<bool, AllocError>
-        ensures settles { IfOk result (λ b. (w : WellFormed (said_by self.old.checked.now)) (steps : ℕ)
-            (ks : List Kind) → self.old.layout ≡ layout_of (said_by self.old.checked.now)
-            → Owes (said_by self.old.checked.now) w steps (machine_state (concrete machine.now)) t
-            (state_of self.old.state) ks → length ks ≤ most
-            → (b ≡ true)
-            × Tracks (said_by self.old.checked.now) w steps (machine_state (concrete machine.now))
-            (state_of self.new.state)) }
+    /// Follows a step of thread `t` to this machine, which is an action that other processes learn of: first come so many
+    /// quiet actions of its process, and then that. False where one isn't there, or isn't possible.
+    pub fn follow(&mut self, machine: &Machine, t: u32, count: u32) -> Result<bool, AllocError>
+        ensures follows { IfOk result (λ b. Follows self.old (machine_state (concrete machine.now)) t count b self.new) }
         ensures kept { IfOk result (λ _. (self.new.checked ≡ self.old.checked)
             × (self.new.layout ≡ self.old.layout)) }
-        ensures run { IfOk result (λ b. b ≡ true → GoesOn self.old self.new) }
     {
-        if !self.settle(t, most)? {
+        if !self.settle(t, count)? {
             return Ok(false);
         }
         match self.next_heard(machine, t)? {
