@@ -2,8 +2,8 @@
 use Rattle.std.proofs.Common.{◌≡◌, ◌↔◌, ◌<◌, ◌-◌, ◌+◌, ℕ, zero, suc, List, ◌∷◌, length, get_or, drop, true, Option}
 use Rattle.std.proofs.Common.{refl, Some, None, ap, sym, ◌∙◌, arith, subst, add-one, drop-cons}
 use Rattle.std.proofs.Common.{Bool, false, ◌≤◌, [], length-set}
-use Rattle.std.specs.Prelude.{MatchBool, slice_get, slice_set}
-use Rattle.std.proofs.lemmas.List.Sums.{sum_by-cons}
+use Rattle.std.specs.Prelude.{MatchBool, slice_get, slice_set, ◌++◌}
+use Rattle.std.proofs.lemmas.List.{append-nil, append_assoc}
 use Rattle.isa.specs.Programs.{Program}
 use Rattle.locals.specs.Threads.{Thread}
 use Rattle.locals.specs.Steps.{local_step, local_after, and_step}
@@ -13,7 +13,10 @@ use Rattle.machine.specs.States.{ConcreteState, thread_at, thread_of}
 use Rattle.machine.specs.ConcreteSteps.{put_thread, can_move}
 use Rattle.machine.proofs.Landing.{inside}
 use Rattle.machine.proofs.Placing.{thread_at-put}
-use Rattle.runner.specs.Logs.{Ends, Enters, Runs, cost, event_cost}
+use Rattle.machine.specs.FrontRuns.{EventStep}
+use Rattle.runner.specs.LogRuns.{steps_of}
+use Rattle.runner.specs.Logs.{Ends, Enters, Runs}
+use Rattle.tracking.specs.Entries.{entry_steps}
 use Rattle.runner.proofs.Going.{after_sum}
 
 -- behind the last local step comes none
@@ -72,21 +75,20 @@ enters_once p k a b e x y =
 from_here : (xs : List Entry) (i : ℕ) (d : Entry) → i < length xs → drop i xs ≡ get_or xs i d ∷ drop (i + 1) xs
 from_here xs i d h = drop-cons xs i d h ∙ (λ j. get_or xs i d ∷ drop (sym (add-one i) j) xs)
 
--- what entries cost, one by one
-pub cost_begins : (log : List Entry) → 0 + cost (drop 0 log) ≡ cost log
-cost_begins log = let same : cost (drop 0 log) ≡ cost log = refl in omega (arith, same)
+-- the steps of entries, one by one
+pub steps_on : (log : List Entry) (i : ℕ) (d : Entry) (events : List EventStep) → i < length log
+    → events ++ steps_of (drop i log) ≡ steps_of log
+    → (events ++ entry_steps (get_or log i d)) ++ steps_of (drop (i + 1) log) ≡ steps_of log
+steps_on log i d events less sum =
+    append_assoc events (entry_steps (get_or log i d)) (steps_of (drop (i + 1) log))
+    ∙ ap (λ es. events ++ es) (sym (ap steps_of (from_here log i d less))) ∙ sum
 
-pub cost_on : (log : List Entry) (i : ℕ) (d : Entry) (n : ℕ) → i < length log → n + cost (drop i log) ≡ cost log
-    → n + ((get_or log i d).local + event_cost (get_or log i d).event) + cost (drop (i + 1) log) ≡ cost log
-cost_on log i d n less sum =
-    let split : cost (drop i log) ≡ cost (get_or log i d ∷ drop (i + 1) log) = ap cost (from_here log i d less) in
-    let first = sum_by-cons (λ (e : Entry). e.local + event_cost e.event) (get_or log i d) (drop (i + 1) log) in
-    omega (arith, sum, split, first)
-
-pub cost_ends : (log : List Entry) (i n : ℕ) → length log ≤ i → n + cost (drop i log) ≡ cost log → n ≡ cost log
-cost_ends log i n past sum = let none = at_end log i past in omega (arith, sum, none)
+pub steps_end : (log : List Entry) (i : ℕ) (events : List EventStep) → length log ≤ i
+    → events ++ steps_of (drop i log) ≡ steps_of log → events ≡ steps_of log
+steps_end log i events past sum =
+    sym (append-nil events) ∙ ap (λ es. events ++ es) (sym (at_end log i past)) ∙ sum
   where
-    at_end : (log : List Entry) (i : ℕ) → length log ≤ i → cost (drop i log) ≡ 0
+    at_end : (log : List Entry) (i : ℕ) → length log ≤ i → steps_of (drop i log) ≡ []
     at_end [] zero past = refl
     at_end [] (suc i) past = refl
     at_end (e ∷ log) zero past = absurd (omega (arith, past))
@@ -176,6 +178,10 @@ made_by : (threads : List Thread) (t : ℕ) (x : Thread) → slice_get threads t
 made_by [] t x h = absurd cc
 made_by (y ∷ ys) zero x h = omega arith
 made_by (y ∷ ys) (suc t) x h = let less = made_by ys t x h in omega (arith, less)
+
+pub within_made : (threads : List Thread) (t : ℕ) (x : Thread) → thread_at threads t ≡ Some x → t ≤ length threads
+within_made threads zero x stands = absurd cc
+within_made threads (suc t) x stands = let less = made_by threads t x stands in omega (arith, less)
 
 pub still_made : (threads after : List Thread) (t : ℕ) (x h : Thread) → thread_at threads t ≡ Some x
     → after ≡ slice_set threads (t - 1) h → (0 < t) × (t ≤ length after)

@@ -1,3 +1,4 @@
-pub mod Telling
 pub mod Entering
-pub mod Ends
+pub mod Telling
+pub mod Recording
+pub mod Keeping

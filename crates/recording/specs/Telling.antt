@@ -34,6 +34,12 @@ pub record Records (steps : ℕ) (g : Progress) (r : Recorder) : Type 0 where
 abbrev pub Tells : ℕ → Progress → Recorder → Type 0
 Tells steps g r = MatchBool r.is_whole (Records steps g r) (2 ^ 32 ≤ steps)
 
+-- so many more steps were counted, as long as there are fewer than 2^32
+abbrev pub Counts : ℕ → Recorder → Recorder → Type 0
+Counts more r r' =
+    MatchBool r'.is_whole ((r.is_whole ≡ true) × (r.steps + more < 2 ^ 32) × (r'.steps ≡ r.steps + more))
+    (r.is_whole ≡ true → 2 ^ 32 ≤ r.steps + more)
+
 -- the steps so far lead to this state of the machine, and what the source has come to is told
 pub record IsAlong (p : Program) (events : List EventStep) (k : ConcreteState) (r : Recorder) : Type 0 where
   pub of_program : IsOf p r

@@ -14,10 +14,9 @@ use Rattle.recording.specs.declared.later.Late.TheVariants as late
 use Rattle.recording.specs.declared.waiting.Waiting.{Waiting}
 
 -- no action, or one that waits: a fault, or another one
-abbrev pub IsLate : Late → Option Kind → Type 0
-IsLate late.Nothing o = o ≡ None
-IsLate late.Action o = (k : Kind) × (o ≡ Some k) × (is_failing k ≡ false)
-IsLate late.Fault o = (k : Kind) × (o ≡ Some k) × (is_failing k ≡ true)
+abbrev pub late_of : Option Kind → Late
+late_of None = late.Nothing
+late_of (Some k) = if is_failing k then late.Fault else late.Action
 
 -- the action that waits behind a step of a thread that stands at this mark and comes to this, with this value in its
 -- event

@@ -1,6 +1,6 @@
 ghost use Rattle.std.specs.Prelude.{◌≡◌};
 ghost use Rattle.execution.specs.Later.{last_mark, later_mark, mark_of};
-ghost use Rattle.recording.specs.Waiting.{IsLate, later_told};
+ghost use Rattle.recording.specs.Waiting.{late_of, later_told};
 
 use code::Mark;
 use locals::{Local, NextStep, Request};
@@ -26,7 +26,7 @@ pub fn mark_at(marks: &[Mark], here: &Local) -> Option<Mark>
 
 /// What a local step at this mark adds.
 pub fn at_mark(mark: Option<Mark>) -> Late
-    ensures { IsLate result (later_mark mark) }
+    ensures { result ≡ late_of (later_mark mark) }
 {
     match mark {
         Some(Mark::AssignLocal | Mark::Test | Mark::Call | Mark::Return) => Late::Action,
@@ -36,7 +36,7 @@ pub fn at_mark(mark: Option<Mark>) -> Late
 
 // What the return of a last frame adds.
 fn at_last(mark: Option<Mark>) -> Late
-    ensures { IsLate result (last_mark mark) }
+    ensures { result ≡ late_of (last_mark mark) }
 {
     match mark {
         Some(Mark::Return | Mark::LastReturn) => Late::Action,
@@ -47,7 +47,7 @@ fn at_last(mark: Option<Mark>) -> Late
 /// What a step at this mark adds that comes to this, with this value in its event: a fault waits, where it is written,
 /// where no process can be made, and where a process was claimed before; and so does a last return.
 pub fn at_step(mark: Option<Mark>, step: NextStep, value: u32) -> Late
-    ensures { IsLate result (later_told mark step value) }
+    ensures { result ≡ late_of (later_told mark step value) }
 {
     match step {
         NextStep::Local => at_mark(mark),

@@ -23,8 +23,8 @@ ghost use Rattle.sourcestates.specs.Actions.{action_of};
 ghost use Rattle.tracking.specs.Entries.{is_heard, progress_locally, progress_shared};
 ghost use Rattle.following.specs.Going.{Matches};
 ghost use Rattle.recording.specs.Logs.{IsExplainedBy};
-ghost use Rattle.recording.specs.Telling.{IsAlong, IsOf, Tells, progress_rest};
-ghost use Rattle.recording.specs.Waiting.{IsLate, Waits};
+ghost use Rattle.recording.specs.Telling.{Counts, IsAlong, IsOf, Tells, progress_rest};
+ghost use Rattle.recording.specs.Waiting.{Waits, late_of};
 
 use crate::later::{Late, at_mark, at_step, mark_at};
 use crate::waiting::Waiting;
@@ -94,9 +94,7 @@ impl<'a> Recorder<'a> {
     // So many more steps.
     fn count(&mut self, steps: u32)
         ensures kept { self.new ≡ record self.old { steps = self.new.steps; is_whole = self.new.is_whole } }
-        ensures counts { MatchBool self.new.is_whole ((self.old.is_whole ≡ true)
-            × (self.old.steps + steps < 2 ^ 32) × (self.new.steps ≡ self.old.steps + steps))
-            (self.old.is_whole ≡ true → 2 ^ 32 ≤ self.old.steps + steps) }
+        ensures counts { Counts steps self.old self.new }
     {
         if steps > u32::MAX - self.steps {
             self.is_whole = false;
@@ -109,7 +107,7 @@ impl<'a> Recorder<'a> {
     fn delay(&mut self, t: u32, late: Late)
         ensures kept { self.new ≡ record self.old { waiting = self.new.waiting } }
         ensures places { length self.new.waiting.items ≡ length self.old.waiting.items }
-        ensures waits { (f : ℕ → List Kind) (o : Option Kind) → Waits self.old.waiting.items f → IsLate late o
+        ensures waits { (f : ℕ → List Kind) (o : Option Kind) → Waits self.old.waiting.items f → late ≡ late_of o
             → length (f t) + 1 < 2 ^ 32 → Waits self.new.waiting.items (put f t (waits_then o (f t))) }
     {
         if late == Late::Nothing {
@@ -143,7 +141,8 @@ impl<'a> Recorder<'a> {
             → Waits self.new.waiting.items
             (put f t (waits_then (later_mark (mark_of self.old.marks.items here.old)) (f t))) }
     {
-        self.delay(t, at_mark(mark_at(self.marks.as_slice(), here)));
+        let late = at_mark(mark_at(self.marks.as_slice(), here));
+        self.delay(t, late);
         here.take_step(image, t)
     }
 
@@ -191,7 +190,8 @@ impl<'a> Recorder<'a> {
             let count = self.take_waiting(t);
             self.is_whole = self.follower.follow(machine, t, count)?;
         } else {
-            self.delay(t, at_step(mark_at(self.marks.as_slice(), here), step, event.value));
+            let mark = mark_at(self.marks.as_slice(), here);
+            self.delay(t, at_step(mark, step, event.value));
         }
         Ok(())
     }

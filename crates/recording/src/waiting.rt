@@ -1,7 +1,7 @@
-ghost use Rattle.std.specs.Prelude.{[], ◌<◌, ◌+◌, ◌^◌, List, Option, length};
+ghost use Rattle.std.specs.Prelude.{[], ◌≡◌, ◌<◌, ◌+◌, ◌^◌, List, Option, length};
 ghost use Rattle.meaning.specs.Labels.{Kind};
 ghost use Rattle.product.specs.Waiting.{waits_then};
-ghost use Rattle.recording.specs.Waiting.{IsLate, Says};
+ghost use Rattle.recording.specs.Waiting.{Says, late_of};
 
 use crate::later::Late;
 
@@ -27,16 +27,21 @@ impl Waiting {
 
     /// With what a step adds. A fault waits once, though where it is written it is told of again.
     pub fn behind(self, late: Late) -> Waiting
-        ensures { (ks : List Kind) (o : Option Kind) → Says self.entry ks → IsLate late o → length ks + 1 < 2 ^ 32
+        ensures { (ks : List Kind) (o : Option Kind) → Says self ks → late ≡ late_of o → length ks + 1 < 2 ^ 32
             → Says result (waits_then o ks) }
     {
-        let is_fault = late == Late::Fault;
-        if late == Late::Nothing || is_fault && self.has_failed {
-            return self;
-        }
-        Waiting {
-            count: self.count.saturating_add(1),
-            has_failed: self.has_failed || is_fault,
+        let count = self.count.saturating_add(1);
+        match late {
+            Late::Nothing => self,
+            Late::Fault if self.has_failed => self,
+            Late::Fault => Waiting {
+                count,
+                has_failed: true,
+            },
+            Late::Action => Waiting {
+                count,
+                has_failed: self.has_failed,
+            },
         }
     }
 }

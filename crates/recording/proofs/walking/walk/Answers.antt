@@ -1,9 +1,9 @@
 -- The log leads on from each entry that is taken, and nowhere past one that can't be; the source is told with it.
-use Rattle.std.proofs.Common.{rules, None, refl, subst}
+use Rattle.std.proofs.Common.{rules, None, refl, subst, []}
 use Rattle.machine.specs.declared.event.Entry.{Entry}
 use Rattle.machine.specs.Views.{concrete}
 use Rattle.recording.specs.Telling.{IsAlong}
-use Rattle.recording.proofs.Entering.{goes_here, stops_here, nothing_left, cost_on, cost_begins, cost_ends}
+use Rattle.recording.proofs.Entering.{goes_here, stops_here, nothing_left, steps_on, steps_end}
 use Rattle.recording.proofs.walking.walk.Goals as goal
 
 abbrev no_entry : Entry
@@ -13,7 +13,7 @@ pub loop-entry-init : goal.loop-entry-init
 loop-entry-init c = record {
   program = c.in_ok-machine.ensures.program;
   leads = λ end. search rules;
-  told = λ p w own begins. (0, cost_begins c.args.log.now, search rules);
+  told = λ p w own begins. ([], refl, search rules);
 }
 
 pub returns-then-not-branch-clause-legal : goal.returns-then-not-branch-clause-legal
@@ -36,7 +36,7 @@ loop-entry-preserved c =
       told = λ p w own begins.
           let before = l.invariant.told p w own begins in (
             _,
-            cost_on c.args.log.now l.entry-index no_entry before.0 c.loop-entry-test.true before.1,
+            steps_on c.args.log.now l.entry-index no_entry before.0 c.loop-entry-test.true before.1,
             c.in_ok-go_through.ensures.told c.if-not-branch.false p own w before.0 before.2,
           );
     }
@@ -45,8 +45,8 @@ pub returns-clause-told : goal.returns-clause-told
 returns-clause-told c = λ p w own begins.
     let l = c.loop-entry in
     let before = l.invariant.told p w own begins in
-    subst (λ n. IsAlong p w n (concrete l.machine) l.recorder)
-    (cost_ends c.args.log.now l.entry-index before.0 c.loop-entry-test.false before.1) before.2
+    subst (λ n. IsAlong p n (concrete l.machine) l.recorder)
+    (steps_end c.args.log.now l.entry-index before.0 c.loop-entry-test.false before.1) before.2
 
 pub returns-clause-legal : goal.returns-clause-legal
 returns-clause-legal c =

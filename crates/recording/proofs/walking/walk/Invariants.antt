@@ -1,10 +1,13 @@
-use Rattle.std.proofs.Common.{◌≡◌, ◌↔◌, ◌+◌, ℕ, drop}
+use Rattle.std.proofs.Common.{◌≡◌, ◌↔◌, [], List, drop}
+use Rattle.std.specs.Prelude.{◌++◌}
 use Rattle.code.specs.Pieces.{code_of}
+use Rattle.machine.specs.FrontRuns.{EventStep}
 use Rattle.machine.specs.States.{ConcreteState, opening_concrete}
 use Rattle.machine.specs.Views.{concrete}
 use Rattle.program.specs.Trees.{Program}
 use Rattle.program.specs.WellFormed.{WellFormed}
-use Rattle.runner.specs.Logs.{Runs, cost}
+use Rattle.runner.specs.LogRuns.{steps_of}
+use Rattle.runner.specs.Logs.{Runs}
 use Rattle.recording.specs.Telling.{IsAlong}
 use Rattle.recording.proofs.walking.walk.Given as goal
 
@@ -13,7 +16,8 @@ invariant-loop-entry l = record {
   program : l.machine.program ≡ l.image;
   leads : (end : ConcreteState) → Runs l.image (concrete l.machine) (drop l.entry-index l.log) end
       ↔ Runs l.image (opening_concrete l.image) l.log end;
-  told : (p : Program) (w : WellFormed p) → l.image ≡ code_of p
-      → IsAlong p w 0 (opening_concrete l.image) l.fn.recorder
-      → (n : ℕ) × (n + cost (drop l.entry-index l.log) ≡ cost l.log) × IsAlong p w n (concrete l.machine) l.recorder;
+  told : (p : Program) → WellFormed p → l.image ≡ code_of p
+      → IsAlong p [] (opening_concrete l.image) l.fn.recorder
+      → (events : List EventStep) × (events ++ steps_of (drop l.entry-index l.log) ≡ steps_of l.log)
+      × IsAlong p events (concrete l.machine) l.recorder;
 }

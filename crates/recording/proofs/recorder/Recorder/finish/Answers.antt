@@ -1,19 +1,18 @@
--- All actions are the run, or those that were placed.
-use Rattle.std.proofs.Common.{rules}
+use Rattle.std.proofs.Common.{◌≡◌, ◌∙◌, ap, arith, length, map, subst, ℕ}
 use Rattle.machine.specs.Views.{concrete}
-use Rattle.recording.proofs.Telling.{placed_run, whole_run}
-use Rattle.recording.proofs.recorder.Recorder.finish.Goals.{then-branch+in_ok-is_seen_alike+then-branch-2, else-branch}
+use Rattle.sourcestates.specs.Actions.{action_of}
+use Rattle.following.specs.Going.{Matches}
+use Rattle.recording.specs.Telling.{progress_rest}
+use Rattle.recording.proofs.Recording.{finishes}
 use Rattle.recording.proofs.recorder.Recorder.finish.Goals as goal
 
 pub returns : goal.returns
-returns c = λ p w n along whole.
-    elim c.if-branch.branch [
-      | then-branch+in_ok-is_seen_alike+then-branch-2 v ↦
-          whole_run p w n (concrete c.args.machine.now) c.args.self c.take_rest.new.self.follower
-          c.into_actions.result.items c.if-branch.count along whole
-          (c.in_ok-take_rest.ensures.run v.if-branch.true) (search rules) c.into_actions.ensures (search rules)
-      | else-branch v ↦
-          placed_run p w n (concrete c.args.machine.now) c.args.self c.take_rest.new.self.follower
-          c.into_actions.result.items c.if-branch.count along whole c.in_ok-take_rest.ensures.extends
-          c.into_actions.ensures (search rules)
-    ]
+returns c = λ p events w along whole.
+    let k = concrete c.args.machine.now in
+    let few = along.comes.kept.few in
+    finishes p w events k c.args.self c.take_rest.new.self.follower (map action_of c.into_actions.result.items) along whole
+    (λ g ahead matches waits behind.
+    subst (λ (n : ℕ). Matches c.take_rest.new.self.follower (progress_rest p n g)) c.threads.ensures.value
+    (c.in_ok-take_rest.ensures p g ahead along.of_program
+    (let made = c.threads.ensures.value in omega (arith, few, made)) matches waits behind))
+    (ap (λ i. map action_of i) c.into_actions.ensures)

@@ -1,77 +1,99 @@
--- The step was an action that is due, or none.
-use Rattle.std.proofs.Common.{refl, ap, ◌∙◌, ◌≡◌, ◌≤◌, ℕ, List, length, subst, true}
+-- The step was an action that is due, or none that others learn of.
+use Rattle.std.proofs.Common.{◌≡◌, ◌<◌, ◌≤◌, ◌^◌, ◌+◌, ◌∙◌, ap, arith, refl, subst, sym, true, false, Bool, List, length}
+use Rattle.std.specs.Prelude.{MatchBool}
+use Rattle.words.specs.Updates.{put}
+use Rattle.execution.specs.Later.{later_step, mark_of}
+use Rattle.code.specs.Pieces.{code_of, marks_of}
 use Rattle.locals.specs.Looks.{look}
-use Rattle.locals.specs.Requests.{next_step_of}
-use Rattle.machine.specs.Views.{concrete}
 use Rattle.machine.specs.States.{state_of as machine_state}
-use Rattle.meaning.specs.Labels.{Kind}
+use Rattle.machine.specs.Views.{concrete}
 use Rattle.program.specs.Names.{said_by}
-use Rattle.program.specs.WellFormed.{WellFormed}
-use Rattle.code.specs.Layout.{layout_of}
-use Rattle.sourcestates.specs.States.{state_of}
-use Rattle.product.specs.Tracking.{Owes, Tracks}
-use Rattle.following.specs.Going.{GoesOn}
+use Rattle.tracking.specs.Entries.{progress_shared}
+use Rattle.following.specs.Going.{Follows, Matches}
+use Rattle.following.specs.declared.follower.Follower.{Follower}
 use Rattle.recording.specs.declared.recorder.Recorder.{Recorder}
-use Rattle.recording.proofs.Telling.{is_past, still_of, heard, stays, moves}
+use Rattle.recording.specs.declared.waiting.Waiting.{Waiting}
+use Rattle.recording.specs.Telling.{Records}
+use Rattle.recording.specs.Waiting.{Waits}
+use Rattle.recording.proofs.Recording.{follows_due, hears_so, late_told, loudly, quietly, still_of, tells_on}
+use Rattle.recording.proofs.Telling.{when_true}
 use Rattle.recording.proofs.recorder.Recorder.hear.Goals as goal
 
 pub returns-in_ok-self : goal.returns-in_ok-self
-returns-in_ok-self c = λ p w n own before.
+returns-in_ok-self c = λ p n g own of less tells due.
     let t = c.args.t in
     let here = c.args.here.now in
-    let event = c.args.event in
-    let k' = concrete c.args.machine.now in
+    let v = c.args.event.value in
+    let k = concrete c.args.machine.now in
+    let old = c.args.self.now in
     let counted = c.count.new.self in
-    let counts = c.count.ensures.counts in
-    let whole = c.if-not-self.false in
-    let same = ap (λ r. r.follower) c.take_waiting-waited.ensures in
-    let of = still_of p w n t here event k' c.args.self.now counted before counts in
-    let is = heard p w n t here event k' c.args.self.now counted before counts whole c.next_step-step.result
-    c.hears.result (c.next_step-step.ensures ∙ ap (λ i. next_step_of (look i t here)) own) c.hears.ensures in
-    moves p w n t here event k' c.args.self.now counted before counts whole _ c.in_ok-self.field-0
-    (is ∙ c.if-hears.true) refl (ap (λ r. r.steps) c.take_waiting-waited.ensures)
-    (record {
-      program = ap (λ x. said_by x.now) (c.in_ok-self.ensures.kept.0 ∙ ap (λ f. f.checked) same)
-          ∙ of.program;
-      layout = c.in_ok-self.ensures.kept.1 ∙ ap (λ f. f.layout) same ∙ of.layout;
-    })
-    (subst (λ (r : Recorder). (v : WellFormed (said_by r.follower.checked.now)) (m : ℕ) (ks : List Kind)
-    → r.follower.layout ≡ layout_of (said_by r.follower.checked.now)
-    → Owes (said_by r.follower.checked.now) v m (machine_state k') t (state_of r.follower.state) ks → length ks ≤ r.steps
-    → (c.in_ok-self.field-0 ≡ true)
-    × Tracks (said_by r.follower.checked.now) v m (machine_state k') (state_of c.follow.new.self.state))
-    c.take_waiting-waited.ensures c.in_ok-self.ensures.settles)
-    (subst (λ (r : Recorder). c.in_ok-self.field-0 ≡ true → GoesOn r.follower c.follow.new.self)
-    c.take_waiting-waited.ensures c.in_ok-self.ensures.run)
+    let taken = c.take_waiting-count.new.self in
+    let b = c.in_ok-self.field-0 in
+    let first = ap (λ r. r.follower) c.count.ensures.kept in
+    let second = ap (λ r. r.follower) c.take_waiting-count.ensures.kept ∙ first in
+    let d = when_true _ _ counted.is_whole c.count.ensures.counts c.if-not-self.false in
+    let h = when_true _ _ old.is_whole tells d.0 in
+    let was = h.counted in
+    let few : n + 1 < 2 ^ 32 = omega (arith, d.1, was) in
+    let steps : taken.steps ≡ n + 1 =
+    ap (λ r. r.steps) c.take_waiting-count.ensures.kept ∙ (omega (arith, d.2, was)) in
+    let is = hears_so p counted.follower c.args.image.now t here c.next_step-step.result v c.hears.result
+    (ap (λ (x : Follower). said_by x.checked.now) first ∙ of.program) (ap (λ (x : Follower). x.layout) first ∙ of.layout)
+    own c.next_step-step.ensures c.hears.ensures ∙ c.if-hears.true in
+    let waits = subst (λ (w : List Waiting). Waits w g.waiting)
+    (sym (ap (λ r. r.waiting.items) c.count.ensures.kept)) h.waits in
+    let places = of.places in
+    let more = ap (λ r. length r.waiting.items) c.count.ensures.kept in
+    let w = c.take_waiting-count.ensures.waits g.waiting waits (omega (arith, less, places, more)) in
+    let program = ap (λ (x : Follower). said_by x.checked.now) second ∙ of.program in
+    let r = follows_due p taken.follower c.follow.new.self k t c.take_waiting-count.result b g program
+    (ap (λ (x : Follower). x.layout) second ∙ of.layout)
+    (subst (λ (x : Follower). Matches x g) (sym second) h.matches) (due is few) w.0 c.in_ok-self.ensures.follows in
+    let last : Recorder = record {
+      marks = taken.marks;
+      follower = c.follow.new.self;
+      waiting = taken.waiting;
+      steps = taken.steps;
+      is_whole = b;
+    } in (
+      still_of p old last of
+          (c.in_ok-self.ensures.kept.0 ∙ ap (λ (x : Follower). x.checked) second)
+          (c.in_ok-self.ensures.kept.1 ∙ ap (λ (x : Follower). x.layout) second)
+          (ap (λ r. r.marks) c.take_waiting-count.ensures.kept ∙ ap (λ r. r.marks) c.count.ensures.kept)
+          (c.take_waiting-count.ensures.places ∙ more),
+      subst (λ (x : Bool). MatchBool x (Records (n + 1) (progress_shared p t here v k g) last) (2 ^ 32 ≤ n + 1)) (sym r.0)
+          (loudly p n t v here k g last is h.bounded steps few r.1 w.1),
+    )
 
-pub returns-then-request_waits : goal.returns-then-request_waits
-returns-then-request_waits c = λ p w n own before.
+pub returns-else-hears : goal.returns-else-hears
+returns-else-hears c = λ p n g own of less tells due.
     let t = c.args.t in
     let here = c.args.here.now in
-    let event = c.args.event in
-    let counts = c.count.ensures.counts in
-    let whole = c.if-not-self.false in
-    let is = heard p w n t here event (concrete c.args.machine.now) c.args.self.now c.count.new.self before counts whole
-    c.next_step-step.result c.hears.result (c.next_step-step.ensures ∙ ap (λ i. next_step_of (look i t here)) own)
-    c.hears.ensures in
-    stays p w n t here event (concrete c.args.machine.now) c.args.self.now c.count.new.self before counts whole
-    c.delay.new.self (is ∙ c.if-hears.false) (ap (λ r. r.follower) c.delay.ensures) (ap (λ r. r.is_whole) c.delay.ensures)
-    (ap (λ r. r.steps) c.delay.ensures)
-
-pub returns-else-request_waits : goal.returns-else-request_waits
-returns-else-request_waits c = λ p w n own before.
-    let t = c.args.t in
-    let here = c.args.here.now in
-    let event = c.args.event in
-    let counts = c.count.ensures.counts in
-    let whole = c.if-not-self.false in
-    let is = heard p w n t here event (concrete c.args.machine.now) c.args.self.now c.count.new.self before counts whole
-    c.next_step-step.result c.hears.result (c.next_step-step.ensures ∙ ap (λ i. next_step_of (look i t here)) own)
-    c.hears.ensures in
-    stays p w n t here event (concrete c.args.machine.now) c.args.self.now c.count.new.self before counts whole
-    c.count.new.self (is ∙ c.if-hears.false) refl refl refl
-
-pub returns-then-not-self : goal.returns-then-not-self
-returns-then-not-self c = λ p w n own before.
-    is_past p w n c.args.t c.args.here.now c.args.event (concrete c.args.machine.now) c.args.self.now c.count.new.self
-    before c.count.ensures.counts c.if-not-self.true
+    let v = c.args.event.value in
+    let k = concrete c.args.machine.now in
+    let old = c.args.self.now in
+    let counted = c.count.new.self in
+    let last = c.delay.new.self in
+    let first = ap (λ r. r.follower) c.count.ensures.kept in
+    let follower = ap (λ r. r.follower) c.delay.ensures.kept ∙ first in
+    let marks = ap (λ r. r.marks) c.count.ensures.kept in
+    let is = hears_so p counted.follower c.args.image.now t here c.next_step-step.result v c.hears.result
+    (ap (λ (x : Follower). said_by x.checked.now) first ∙ of.program) (ap (λ (x : Follower). x.layout) first ∙ of.layout)
+    own c.next_step-step.ensures c.hears.ensures ∙ c.if-hears.false in
+    let late = late_told p c.args.image.now t v here counted.marks.items c.mark_at-mark.result c.next_step-step.result
+    c.at_step.result own (ap (λ m. m.items) marks ∙ of.marks)
+    (c.mark_at-mark.ensures ∙ ap (λ m. mark_of m here) c.as_slice.ensures.value) c.next_step-step.ensures
+    c.at_step.ensures in (
+      still_of p old last of (ap (λ (x : Follower). x.checked) follower) (ap (λ (x : Follower). x.layout) follower)
+          (ap (λ r. r.marks) c.delay.ensures.kept ∙ marks)
+          (c.delay.ensures.places ∙ ap (λ r. length r.waiting.items) c.count.ensures.kept),
+      tells_on 1 n g (progress_shared p t here v k g) old counted last c.count.ensures.counts tells
+          (ap (λ r. r.is_whole) c.delay.ensures.kept)
+          (λ h steps few.
+          quietly p n t v here k g old last h is (ap (λ r. r.steps) c.delay.ensures.kept ∙ steps) few follower
+          (c.delay.ensures.waits g.waiting
+          (later_step (mark_of (marks_of p) here) (look (code_of p) t here) v)
+          (subst (λ (w : List Waiting). Waits w g.waiting)
+          (sym (ap (λ r. r.waiting.items) c.count.ensures.kept)) h.waits) late
+          (let bounded = h.bounded t in omega (arith, bounded, few)))),
+    )
