@@ -46,7 +46,8 @@ impl<'a> Follower<'a> {
     ) -> Result<Follower<'a>, AllocError>
         requires { layout ≡ layout_of (said_by checked.now) }
         ensures opens { IfOk result (λ f. Matches f (opening_progress (said_by checked.now))) }
-        ensures kept { IfOk result (λ f. (f.checked.now ≡ checked.now) × (f.layout ≡ layout_of (said_by checked.now))) }
+        ensures kept { IfOk result (λ f. (f.checked.now ≡ checked.now)
+            × (f.layout ≡ layout_of (said_by checked.now))) }
     {
         Ok(Follower {
             alloc,
@@ -78,8 +79,8 @@ impl<'a> Follower<'a> {
         self.actions
     }
 
-    /// Whether the step of a thread that comes to this, with this value in its event, is an action of its process which
-    /// other processes learn of.
+    /// Whether the step of a thread that comes to this, with this value in its event, is an action of its process
+    /// which other processes learn of.
     pub fn hears(&self, step: NextStep, value: u32) -> bool
         ensures { self.now.layout ≡ layout_of (said_by self.now.checked.now)
             → result ≡ heard_step (said_by self.now.checked.now) step value }
@@ -119,8 +120,8 @@ impl<'a> Follower<'a> {
         }
     }
 
-    /// Takes so many quiet actions of a process, which no other process learns of. False where one isn't there, or isn't
-    /// possible.
+    /// Takes so many quiet actions of a process, which no other process learns of. False where one isn't there, or
+    /// isn't possible.
     pub fn settle(&mut self, t: u32, count: u32) -> Result<bool, AllocError>
         ensures pays { IfOk result (λ b. Pays self.old t count b self.new) }
         ensures kept { IfOk result (λ _. (self.new.checked ≡ self.old.checked)
@@ -189,10 +190,11 @@ impl<'a> Follower<'a> {
         Ok(heard_action(&offer, &self.state, resumed))
     }
 
-    /// Follows a step of thread `t` to this machine, which is an action that other processes learn of: first come so many
-    /// quiet actions of its process, and then that. False where one isn't there, or isn't possible.
+    /// Follows a step of thread `t` to this machine, which is an action that other processes learn of: first come so
+    /// many quiet actions of its process, and then that. False where one isn't there, or isn't possible.
     pub fn follow(&mut self, machine: &Machine, t: u32, count: u32) -> Result<bool, AllocError>
-        ensures follows { IfOk result (λ b. Follows self.old (machine_state (concrete machine.now)) t count b self.new) }
+        ensures follows { let s = machine_state (concrete machine.now) in
+            IfOk result (λ b. Follows self.old s t count b self.new) }
         ensures kept { IfOk result (λ _. (self.new.checked ≡ self.old.checked)
             × (self.new.layout ≡ self.old.layout)) }
     {
