@@ -1,8 +1,8 @@
 -- What a process can take next is what its offer tells.
 use Rattle.std.proofs.Common.{◌≡◌, ℕ, Bool, true, false, List, Some, refl, ap}
 use Rattle.std.proofs.Common.{sym, ◌∙◌, subst, inl, inr}
-use Rattle.std.proofs.lemmas.Bool.{false≢true, le-leb, lt-ltb}
-use Rattle.std.specs.Prelude.{if◌then◌else◌, nat_le, nat_lt}
+use Rattle.std.proofs.lemmas.Bool.{false≢true, lt-ltb}
+use Rattle.std.specs.Prelude.{if◌then◌else◌, nat_lt}
 use Rattle.words.specs.Limits.{most_processes}
 use Rattle.machine.specs.States.{State}
 use Rattle.program.specs.declared.kinds.Member.{Member}
@@ -13,29 +13,14 @@ use Rattle.meaning.specs.Table.{Table, Allows}
 use Rattle.meaning.specs.Processes.{Process}
 use Rattle.meaning.specs.Offers.{Effect, TakesUp}
 use Rattle.deferral.specs.Deferring.{is_quiet}
-use Rattle.sourceruns.specs.declared.offers.Label.{Label}
-use Rattle.sourceruns.specs.declared.offers.Label.TheVariants.{Assigns, Tests, Calls, Returns, Fails}
 use Rattle.sourceruns.specs.declared.offers.Offered.TheVariants.{Rests, Does, Makes, Claims, NotifiesSome, NotifiesAll}
 use Rattle.sourceruns.specs.declared.next_action.Offer.{Offer}
 use Rattle.sourceruns.specs.declared.next_action.Offer.TheVariants.{Own, Enters, Resumes, Joins}
 use Rattle.sourceruns.specs.declared.process.Process.{Process as ProcessOf}
-use Rattle.sourceruns.specs.Offered.{label_of}
 use Rattle.sourceruns.specs.NextAction.{offer_of}
 use Rattle.product.specs.Placing.{awake_waiters, Resumes as Resumes'}
-use Rattle.following.specs.Choosing.{quiet_label, quiet_kind, heard_kind}
+use Rattle.following.specs.Choosing.{heard_kind}
 use Rattle.following.specs.Choosing.{resumed_only}
-
-quiet_by_label : (l : Label) → is_quiet (label_of l) ≡ true → quiet_label l ≡ Some (kind_of (label_of l))
-quiet_by_label Assigns h = refl
-quiet_by_label Tests h = refl
-quiet_by_label Calls h = refl
-quiet_by_label Returns h = refl
-quiet_by_label (Fails fault) h = refl
-quiet_by_label l h = absurd cc
-
--- a label that is quiet is none that isn't
-not_both : {A : Type 0} (label other : L.Label) → label ≡ other → is_quiet label ≡ true → is_quiet other ≡ false → A
-not_both label other same quiet heard = absurd (false≢true (sym heard ∙ ap is_quiet (sym same) ∙ quiet))
 
 chosen : {A : Type 0} (b : Bool) (x y : A) → b ≡ true → (if b then x else y) ≡ x
 chosen true x y h = refl
@@ -43,26 +28,6 @@ chosen false x y h = absurd cc
 
 module _ (p : Program) (q : ProcessOf) (t : ℕ) (T T' : Table) (label : L.Label) (effect : Effect)
     (after : Process) where
-  pub quiet_found : (o : Offer) → TakesUp (offer_of p o q) label effect after → Allows t label T T'
-      → is_quiet label ≡ true → quiet_kind o T ≡ Some (kind_of label)
-  quiet_found (Own Rests) takes allows quiet = absurd takes
-  quiet_found (Own (Does l e)) takes allows quiet =
-      quiet_by_label l (ap is_quiet (sym takes.0) ∙ quiet) ∙ ap (λ i. Some (kind_of i)) (sym takes.0)
-  quiet_found (Own (Makes child into)) (inl made) allows quiet = not_both label _ made.1 quiet refl
-  quiet_found (Own (Makes child into)) (inr full) allows quiet =
-      let here = subst (λ i. Allows t i T T') full.0 allows in
-      chosen (nat_le most_processes T.made) _ _ (le-leb most_processes T.made here.0)
-      ∙ ap (λ i. Some (kind_of i)) (sym full.0)
-  quiet_found (Own (Claims child into aborted)) (inl free) allows quiet = not_both label _ free.0 quiet refl
-  quiet_found (Own (Claims child into aborted)) (inr claimed) allows quiet =
-      let here = subst (λ i. Allows t i T T') claimed.0 allows in
-      chosen (T.claimed child) _ _ here.0 ∙ ap (λ i. Some (kind_of i)) (sym claimed.0)
-  quiet_found (Own (NotifiesSome c)) takes allows quiet = not_both label _ takes.1 quiet refl
-  quiet_found (Own (NotifiesAll c)) takes allows quiet = not_both label _ takes.1 quiet refl
-  quiet_found (Enters m) takes allows quiet = not_both label _ takes.1 quiet refl
-  quiet_found (Resumes m) takes allows quiet = not_both label _ takes.1 quiet refl
-  quiet_found (Joins child into aborted) takes allows quiet = not_both label _ takes.1 quiet refl
-
   pub heard_found : (s : State) (o : Offer) (resumed : List ℕ) → TakesUp (offer_of p o q) label effect after
       → Allows t label T T' → is_quiet label ≡ false → Resumes' p s T label
       → ((c : Member) → resumed_only o ≡ Some c → resumed ≡ awake_waiters p s T c)

@@ -26,9 +26,9 @@ use Rattle.product.proofs.Nexts.{heard_is, heard_so, pays_behind}
 use Rattle.product.proofs.Sourcing.{action}
 use Rattle.product.proofs.Worlds.{put_put}
 use Rattle.following.specs.declared.follower.Follower.{Follower}
-use Rattle.following.specs.Choosing.{quiet_kind, heard_kind, resumed_only}
-use Rattle.following.specs.Going.{Matches, Takes}
-use Rattle.following.proofs.Choices.{quiet_found, heard_found}
+use Rattle.following.specs.Choosing.{heard_kind, resumed_only}
+use Rattle.following.specs.Going.{Matches, Takes, TakesQuiet}
+use Rattle.following.proofs.Choices.{heard_found}
 use Rattle.following.proofs.Taking.{further}
 
 module _ (p : Program) (a : SourceState) (t : ℕ) (o : Offer) (q : Process) (label : Label)
@@ -40,9 +40,6 @@ module _ (p : Program) (a : SourceState) (t : ℕ) (o : Offer) (q : Process) (la
       let same : offer_of p o q ≡ offer p a.variable can.before = cc in
       subst (λ (i : OfferOf). TakesUp i label can.effect can.after) (sym same) can.takes
 
-  pub quiet_here : is_quiet label ≡ true → quiet_kind o a.table ≡ Some (kind_of label)
-  quiet_here quiet = quiet_found p q t a.table can.table label can.effect can.after o takes can.allows quiet
-
   pub heard_here : (s : State) (resumed : List ℕ) → is_quiet label ≡ false → Resumes p s a.table label
       → ((c : Member) → resumed_only o ≡ Some c → resumed ≡ awake_waiters p s a.table c)
       → heard_kind o a.table.made resumed ≡ Some (kind_of label)
@@ -52,7 +49,7 @@ module _ (p : Program) (a : SourceState) (t : ℕ) (o : Offer) (q : Process) (la
 pub none_some : {A : Type 0} (k : Kind) → Some k ≡ None → A
 none_some k e = absurd cc
 
-same_kind : (k l : Kind) → Some k ≡ Some l → k ≡ l
+pub same_kind : (k l : Kind) → Some k ≡ Some l → k ≡ l
 same_kind k l e = cc
 
 abbrev so_far : List Action → SourceState → (ℕ → List Kind) → Progress
@@ -93,25 +90,15 @@ begins_paying p t count f = record {
   };
 }
 
--- what is found of the next quiet action
-abbrev pub FindsQuiet : Program → SourceState → (t : ℕ) → Option Kind → Type 0
-FindsQuiet p a t found = (label : Label) → CanTake p a t label → is_quiet label ≡ true → found ≡ Some (kind_of label)
-
 module _ (p : Program) (t : ℕ) (g : Progress) (ahead : SourceState) (count taken : ℕ) (now : Follower)
     (paying : IsPaying p t g ahead count taken now) where
-  -- one more waits: it is found, it is possible, and then one more is paid
-  pub record PaysNext (found : Option Kind) : Type 0 where
-    pub kind : Kind
-    pub after : SourceState
-    pub found_so : found ≡ Some kind
-    pub step : IsStep p paying.so_far.source (act t kind) after
-    pub goes_on : (new : Follower) → Matches new (further paying.so_far (act t kind) after)
-        → IsPaying p t g ahead count (taken + 1) new
-
-  pub pays_next : (found : Option Kind) → FindsQuiet p (state_of now.state) t found → taken < count → PaysNext found
-  pays_next found finds more = by_rest (paying.so_far.waiting t) refl
+  -- one more waits, and is paid
+  pub pays_one : taken < count → said_by now.checked.now ≡ p → (b : Bool) (new : Follower) → TakesQuiet now t b new
+      → (b ≡ true) × IsPaying p t g ahead count (taken + 1) new
+  pays_one more same b new act_taken = by_rest (paying.so_far.waiting t) refl
     where
-      by_rest : (ks : List Kind) → paying.so_far.waiting t ≡ ks → PaysNext found
+      by_rest : (ks : List Kind) → paying.so_far.waiting t ≡ ks
+          → (b ≡ true) × IsPaying p t g ahead count (taken + 1) new
       by_rest [] mine =
           let none : length (paying.so_far.waiting t) ≡ 0 = ap length mine in
           absurd (omega (arith, none, paying.left, more))
@@ -121,16 +108,17 @@ module _ (p : Program) (t : ℕ) (g : Progress) (ahead : SourceState) (count tak
           let a = paying.so_far.source in
           let after = after_next t (quiet_next (offered p a.variable (a.process t))) a in
           let pays = pays_behind p t w a ahead k ks paying.behind mine in
-          let can : CanTake p (state_of now.state) t pays.0 =
-          subst (λ (i : SourceState). CanTake p i t pays.0) (sym paying.matches.source) pays.3 in
-          record {
-            kind = k;
-            after = after;
-            found_so = finds pays.0 can pays.2 ∙ ap (λ i. Some i) (sym pays.1);
-            step = pays.4;
-            goes_on = λ new matches. record {
+          let step : IsStep p a (act t (kind_of pays.0)) after = subst (λ i. IsStep p a (act t i) after) pays.1 pays.4 in
+          let took = act_taken paying.so_far pays.0 after paying.matches
+          (subst (λ i. CanTake i a t pays.0) (sym same) pays.3) pays.2
+          (subst (λ i. IsStep i a (act t (kind_of pays.0)) after) (sym same) step) in (
+            took.0,
+            record {
               so_far = record (further paying.so_far (act t k) after) { waiting = put w t ks };
-              matches = record { actions = matches.actions; source = matches.source };
+              matches = record {
+                actions = took.1.actions ∙ ap (λ i. actions ++ act t i ∷ []) (sym pays.1);
+                source = took.1.source;
+              };
               behind = pays.5;
               left =
                   let before : length (w t) ≡ length ks + 1 = ap length mine ∙ omega arith in
@@ -142,25 +130,8 @@ module _ (p : Program) (t : ℕ) (g : Progress) (ahead : SourceState) (count tak
                   ∙ sym (ap (λ l. actions ++ actions_of t l) mine))
                   (ap (λ l. paid p t l after) (put_same w t ks) ∙ sym (ap (λ l. paid p t l a) mine))
                   (put_put w t ks []) ∙ paying.rest;
-            };
-          }
-
-  module _ (found : Option Kind) (finds : FindsQuiet p (state_of now.state) t found) (more : taken < count) where
-    pub one_found : {A : Type 0} → found ≡ None → A
-    one_found none = let next = pays_next found finds more in none_some next.kind (sym next.found_so ∙ none)
-
-    pub pays_one : (k : Kind) → found ≡ Some k → said_by now.checked.now ≡ p → (b : Bool) (new : Follower)
-        → Takes now (act t k) b new → (b ≡ true) × IsPaying p t g ahead count (taken + 1) new
-    pays_one k is same b new act_taken =
-        let next = pays_next found finds more in
-        let kind : k ≡ next.kind = same_kind k next.kind (sym is ∙ next.found_so) in
-        let step : IsStep (said_by now.checked.now) paying.so_far.source (act t k) next.after =
-        subst (λ i. IsStep i paying.so_far.source (act t k) next.after) (sym same)
-        (subst (λ i. IsStep p paying.so_far.source (act t i) next.after) (sym kind) next.step) in
-        let took = act_taken paying.so_far next.after paying.matches step in (
-          took.0,
-          next.goes_on new (subst (λ i. Matches new (further paying.so_far (act t i) next.after)) kind took.1),
-        )
+            },
+          )
 
   -- no more wait
   pub all_paid : count ≤ taken → Matches now (progress_paid p t g)

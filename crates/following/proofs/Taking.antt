@@ -1,16 +1,19 @@
 -- An action is taken: it leads where the source knows that it leads.
-use Rattle.std.proofs.Common.{◌≡◌, Bool, true, false, List, [], ◌∷◌, ◌++◌, refl, ap, sym, ◌∙◌, subst}
-use Rattle.std.specs.Prelude.{map}
+use Rattle.std.proofs.Common.{◌≡◌, ℕ, Bool, true, List, [], ◌∷◌, ◌++◌, Some, None, refl, ap, sym, ◌∙◌, subst}
+use Rattle.std.specs.Prelude.{if◌then◌else◌, map}
 use Rattle.program.specs.Trees.{Program}
-use Rattle.meaning.specs.Labels.{Action}
+use Rattle.meaning.specs.Labels.{Action, Label, kind_of}
 use Rattle.meaning.specs.Runs.{IsStep}
 use Rattle.meaning.specs.States.{SourceState}
 use Rattle.meaning.proofs.Unique.{step_once}
+use Rattle.deferral.specs.Deferring.{is_quiet}
 use Rattle.product.specs.Progress.{Progress}
+use Rattle.product.specs.Tracking.{CanTake}
 use Rattle.sourcestates.specs.declared.action.Action.{Action as ActionOf}
 use Rattle.sourcestates.specs.Actions.{action_of}
 use Rattle.sourcestates.specs.States.{state_of}
-use Rattle.sourcestates.specs.Taken.{IsAnswer}
+use Rattle.sourcestates.specs.Quiet.{next_quiet}
+use Rattle.sourcestates.proofs.Settled.{law}
 use Rattle.following.specs.declared.follower.Follower.{Follower}
 use Rattle.following.specs.Going.{Matches}
 
@@ -22,25 +25,23 @@ mapped (a ∷ as') bs = ap (λ l. action_of a ∷ l) (mapped as' bs)
 abbrev pub further : Progress → Action → SourceState → Progress
 further g x a = record g { actions = g.actions ++ x ∷ []; source = a }
 
-module _ (p : Program) (f f' : Follower) (a : ActionOf) (x : Action) (is : action_of a ≡ x) (g : Progress)
-    (after : SourceState) (matches : Matches f g) (step : IsStep p g.source x after) (b : Bool)
-    (answer : IsAnswer b (IsStep p (state_of f.state) (action_of a)) (state_of f'.state)) where
-  possible : IsStep p (state_of f.state) (action_of a) after
+module _ (p : Program) (f : Follower) (a : ActionOf) (x : Action) (is : action_of a ≡ x) (g : Progress)
+    (after : SourceState) (matches : Matches f g) (step : IsStep p g.source x after) where
+  pub possible : IsStep p (state_of f.state) (action_of a) after
   possible = subst (λ i. IsStep p (state_of f.state) i after) (sym is)
       (subst (λ (i : SourceState). IsStep p i x after) (sym matches.source) step)
 
-  pub took : b ≡ true → f'.actions.items ≡ f.actions.items ++ a ∷ [] → Matches f' (further g x after)
-  took taken-so items =
-      let taken : IsStep p (state_of f.state) (action_of a) (state_of f'.state) =
-      subst (λ i. IsAnswer i (IsStep p (state_of f.state) (action_of a)) (state_of f'.state)) taken-so answer in
-      record {
-        actions = ap (map action_of) items ∙ mapped f.actions.items (a ∷ [])
-            ∙ ap (λ l. l ++ action_of a ∷ []) matches.actions ∙ ap (λ i. g.actions ++ i ∷ []) is;
-        source = step_once p (action_of a) (state_of f.state) (state_of f'.state) after taken possible;
-      }
+  pub took : (f' : Follower) → IsStep p (state_of f.state) (action_of a) (state_of f'.state)
+      → f'.actions.items ≡ f.actions.items ++ a ∷ [] → Matches f' (further g x after)
+  took f' taken items = record {
+    actions = ap (map action_of) items ∙ mapped f.actions.items (a ∷ [])
+        ∙ ap (λ l. l ++ action_of a ∷ []) matches.actions ∙ ap (λ i. g.actions ++ i ∷ []) is;
+    source = step_once p (action_of a) (state_of f.state) (state_of f'.state) after taken possible;
+  }
 
-  pub refused : {A : Type 0} → b ≡ false → A
-  refused not-so =
-      let never : (u : SourceState) → IsStep p (state_of f.state) (action_of a) u → ⊥ =
-      subst (λ i. IsAnswer i (IsStep p (state_of f.state) (action_of a)) (state_of f'.state)) not-so answer in
-      absurd (never after possible)
+-- the quiet action that can be taken is the next quiet one
+pub next_is : (p : Program) (a : SourceState) (t : ℕ) (label : Label) → CanTake p a t label → is_quiet label ≡ true
+    → next_quiet p a t ≡ Some (kind_of label)
+next_is p a t label can quiet =
+    law p a t can.before can.after label can.effect can.table can.stands can.takes can.allows
+    ∙ ap (λ (b : Bool). if b then Some (kind_of label) else None) quiet

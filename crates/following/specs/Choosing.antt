@@ -1,38 +1,15 @@
--- Which action a process takes next, by its offer: a quiet one where it can take one, else one that others learn of.
-use Rattle.std.specs.Prelude.{ℕ, ◌+◌, List, Option, Some, None, nat_le, nat_lt, if◌then◌else◌}
+-- Which action of a process others learn of next, by its offer.
+use Rattle.std.specs.Prelude.{ℕ, ◌+◌, List, Option, Some, None, nat_lt, if◌then◌else◌}
 use Rattle.words.specs.Limits.{most_processes}
-use Rattle.words.specs.declared.outcome.Fault.TheVariants.{HandleNotJoinable, ProcessTableFull}
 use Rattle.program.specs.declared.kinds.Member.{Member}
 use Rattle.meaning.specs.Labels.{Kind, kind_of}
 use Rattle.meaning.specs.Labels as L
-use Rattle.meaning.specs.Table.{Table}
 use Rattle.sourceruns.specs.declared.offers.Label.{Label}
-use Rattle.sourceruns.specs.declared.offers.Label.TheVariants.{Assigns, Tests, Calls, Returns, Fails}
 use Rattle.sourceruns.specs.declared.offers.Offered.{Offered}
 use Rattle.sourceruns.specs.declared.offers.Offered.TheVariants.{Rests, Does, Makes, Claims, NotifiesSome, NotifiesAll}
 use Rattle.sourceruns.specs.declared.next_action.Offer.{Offer}
 use Rattle.sourceruns.specs.declared.next_action.Offer.TheVariants.{Own, Enters, Resumes, Joins}
 use Rattle.sourceruns.specs.Offered.{label_of}
-
--- the quiet action of a label, if it is one
-abbrev pub quiet_label : Label → Option Kind
-quiet_label Assigns = Some L.Assign
-quiet_label Tests = Some L.Test
-quiet_label Calls = Some L.Call
-quiet_label Returns = Some L.Return
-quiet_label (Fails fault) = Some (L.Fails fault)
-quiet_label label = None
-
--- the quiet action that a process with this offer can take
-abbrev pub quiet_own : Offered → Table → Option Kind
-quiet_own (Does label effect) T = quiet_label label
-quiet_own (Makes child into) T = if nat_le most_processes T.made then Some (L.Fails ProcessTableFull) else None
-quiet_own (Claims child into aborted) T = if T.claimed child then Some (L.Fails HandleNotJoinable) else None
-quiet_own other T = None
-
-abbrev pub quiet_kind : Offer → Table → Option Kind
-quiet_kind (Own o) T = quiet_own o T
-quiet_kind other T = None
 
 abbrev pub heard_label : Label → Kind
 heard_label label = kind_of (label_of label)

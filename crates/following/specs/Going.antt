@@ -3,11 +3,11 @@ use Rattle.std.specs.Prelude.{ℕ, ◌≡◌, Bool, true, false, [], ◌∷◌, 
 use Rattle.machine.specs.States.{State}
 use Rattle.program.specs.Names.{said_by}
 use Rattle.code.specs.Layout.{layout_of}
-use Rattle.meaning.specs.Labels.{Action, Label}
+use Rattle.meaning.specs.Labels.{Action, Label, kind_of}
 use Rattle.meaning.specs.Runs.{IsStep}
 use Rattle.meaning.specs.States.{SourceState}
 use Rattle.deferral.specs.Deferring.{is_quiet, IsBehind}
-use Rattle.product.specs.Placing.{Resumes}
+use Rattle.product.specs.Placing.{Resumes, act}
 use Rattle.product.specs.Progress.{Progress, progress_paid, progress_next}
 use Rattle.product.specs.Tracking.{CanTake}
 use Rattle.sourcestates.specs.Actions.{action_of}
@@ -25,6 +25,15 @@ Takes old action is_possible new =
     (g : Progress) (after : SourceState) → Matches old g
     → IsStep (said_by old.checked.now) g.source action after
     → (is_possible ≡ true) × Matches new (record g { actions = g.actions ++ action ∷ []; source = after })
+
+-- where process t can take a quiet action, it takes that
+abbrev pub TakesQuiet : Follower → (t : ℕ) → (is_possible : Bool) → Follower → Type 0
+TakesQuiet old t is_possible new =
+    let p = said_by old.checked.now in
+    (g : Progress) (label : Label) (after : SourceState) → Matches old g
+    → CanTake p g.source t label → is_quiet label ≡ true → IsStep p g.source (act t (kind_of label)) after
+    → (is_possible ≡ true)
+    × Matches new (record g { actions = g.actions ++ act t (kind_of label) ∷ []; source = after })
 
 -- where so many actions of process t wait, it takes them
 abbrev pub Pays : Follower → (t count : ℕ) → (is_possible : Bool) → Follower → Type 0

@@ -1,61 +1,12 @@
 ghost use Rattle.std.specs.Prelude.{◌≡◌, option_map};
 ghost use Rattle.sourcestates.specs.Actions.{kind_of};
 ghost use Rattle.sourcestates.specs.States.{state_of};
-ghost use Rattle.following.specs.Choosing.{heard_kind, heard_label, heard_own, quiet_kind, quiet_label, resumed_only};
+ghost use Rattle.following.specs.Choosing.{heard_kind, heard_own, resumed_only};
 
 use program::Member;
-use sourceruns::{Label, Offer, Offered};
-use sourcestates::{ActionKind, SourceState};
-use words::{Fault, MOST_PROCESSES};
-
-// The quiet action of this label, if it is one.
-fn quiet_named(label: Label) -> Option<ActionKind>
-    ensures { option_map kind_of result ≡ quiet_label label }
-{
-    match label {
-        Label::Assigns => Some(ActionKind::Assign),
-        Label::Tests => Some(ActionKind::Test),
-        Label::Calls => Some(ActionKind::Call),
-        Label::Returns => Some(ActionKind::Return),
-        Label::Fails(fault) => Some(ActionKind::Fails(fault)),
-        _ => None,
-    }
-}
-
-/// The quiet action that a process with this offer can take: one that no other process learns of. Where no process can
-/// be made any more, or the child was claimed before, that is the fault.
-pub fn quiet_action(offer: &Offer, state: &SourceState) -> Option<ActionKind>
-    ensures { option_map kind_of result ≡ quiet_kind offer.now (state_of state.now).table }
-{
-    match offer {
-        Offer::Own(Offered::Does(label, _)) => quiet_named(*label),
-        Offer::Own(Offered::Makes(_, _)) if state.made() >= u64::from(MOST_PROCESSES) => {
-            Some(ActionKind::Fails(Fault::ProcessTableFull))
-        }
-        Offer::Own(Offered::Claims { child, .. }) if state.claimed(*child) => {
-            Some(ActionKind::Fails(Fault::HandleNotJoinable))
-        }
-        _ => None,
-    }
-}
-
-// The action of this label.
-fn named(label: Label) -> ActionKind
-    ensures { kind_of result ≡ heard_label label }
-{
-    match label {
-        Label::Assigns | Label::Stores(_) => ActionKind::Assign,
-        Label::Tests => ActionKind::Test,
-        Label::Calls => ActionKind::Call,
-        Label::Returns => ActionKind::Return,
-        Label::Prints(number) => ActionKind::Print(number),
-        Label::Fails(fault) => ActionKind::Fails(fault),
-        Label::Exits(monitor) => ActionKind::Exit(monitor),
-        Label::Waits(condition) => ActionKind::Wait(condition),
-        Label::Abandons(monitor) => ActionKind::Abandon(monitor),
-        Label::Ends(_) => ActionKind::Finish,
-    }
-}
+use sourceruns::{Offer, Offered};
+use sourcestates::{ActionKind, SourceState, named};
+use words::MOST_PROCESSES;
 
 /// The condition that a process with this offer notifies or broadcasts.
 pub fn notified(offer: &Offer) -> Option<Member>

@@ -12,11 +12,11 @@ ghost use Rattle.product.specs.Placing.{Resumes, act, awake_waiters};
 ghost use Rattle.product.specs.Progress.{opening_progress};
 ghost use Rattle.product.specs.Tracking.{CanTake};
 ghost use Rattle.following.specs.Choosing.{resumed_only};
-ghost use Rattle.following.specs.Going.{Follows, Matches, Pays, Takes};
+ghost use Rattle.following.specs.Going.{Follows, Matches, Pays, Takes, TakesQuiet};
 ghost use Rattle.following.specs.Requests.{heard_step};
 ghost use Rattle.following.specs.Waiting.{is_awake};
 
-use crate::choosing::{heard_action, notified, quiet_action};
+use crate::choosing::{heard_action, notified};
 use crate::requests::is_heard;
 use layout::Layout;
 use locals::NextStep;
@@ -108,30 +108,29 @@ impl<'a> Follower<'a> {
         Ok(is_possible)
     }
 
-    // The quiet action that a process can take next, where it can take one.
-    fn next_quiet(&self, t: u32) -> Result<Option<ActionKind>, AllocError>
-        ensures { IfOk result (λ o. (label : Label)
-            → CanTake (said_by self.now.checked.now) (state_of self.now.state) t label → is_quiet label ≡ true
-            → option_map kind_of o ≡ Some (name_of label)) }
+    // Takes the quiet action that a process can take next; false where it can take none.
+    fn take_quiet(&mut self, t: u32) -> Result<bool, AllocError>
+        ensures takes { IfOk result (λ b. TakesQuiet self.old t b self.new) }
+        ensures kept { IfOk result (λ _. (self.new.checked ≡ self.old.checked)
+            × (self.new.layout ≡ self.old.layout)) }
     {
-        match self.state.offered(self.alloc, self.checked, u64::from(t))? {
-            Some((offer, _)) => Ok(quiet_action(&offer, &self.state)),
-            None => Ok(None),
-        }
+        let process = u64::from(t);
+        let program = self.checked.program();
+        let Some(kind) = self.state.take_quiet(self.alloc, program, process)? else {
+            return Ok(false);
+        };
+        self.actions.push(Action { process, kind })?;
+        Ok(true)
     }
 
-    /// Takes so many quiet actions of a process, which no other process learns of. False where one isn't there, or
-    /// isn't possible.
+    /// Takes so many quiet actions of a process, which no other process learns of. False where one isn't there.
     pub fn settle(&mut self, t: u32, count: u32) -> Result<bool, AllocError>
         ensures pays { IfOk result (λ b. Pays self.old t count b self.new) }
         ensures kept { IfOk result (λ _. (self.new.checked ≡ self.old.checked)
             × (self.new.layout ≡ self.old.layout)) }
     {
         for _ in 0..count {
-            let Some(kind) = self.next_quiet(t)? else {
-                return Ok(false);
-            };
-            if !self.take(t, kind)? {
+            if !self.take_quiet(t)? {
                 return Ok(false);
             }
         }
