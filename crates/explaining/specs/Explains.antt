@@ -2,27 +2,20 @@
 use Rattle.std.specs.Prelude.{◌≡◌, ◌≤◌, ◌^◌, List}
 use Rattle.isa.specs.Programs.{Program as Image}
 use Rattle.machine.specs.declared.event.Entry.{Entry}
-use Rattle.machine.specs.States.{ConcreteState, state_of}
+use Rattle.machine.specs.States.{ConcreteState}
 use Rattle.runner.specs.Logs.{cost}
 use Rattle.program.specs.Trees.{Program}
 use Rattle.code.specs.Pieces.{code_of}
 use Rattle.meaning.specs.Labels.{Action}
-use Rattle.meaning.specs.States.{SourceState}
-use Rattle.meaning.specs.Runs.{IsRun}
 use Rattle.explaining.specs.declared.fault.ExplainFault.{ExplainFault}
 use Rattle.explaining.specs.declared.fault.ExplainFault.TheVariants.{NotARun, OtherImage, Memory, TooLong}
-use Rattle.recording.specs.Alike.{IsSeenAlike}
-pub use Rattle.recording.specs.Logs.{LeadsTo, IsIllegal}
+pub use Rattle.recording.specs.Logs.{LeadsTo, IsIllegal, IsRecorded}
 
--- the image is the program's, the log is legal for it, and the actions are a run of the program, at whose end the same
--- is seen as of the machine where the log leads
+-- the image is the program's, the log is legal for it, and the actions are the explanation of the run of the machine that
+-- the log is, which explains it in all that a refinement promises
 pub record IsExplained (p : Program) (image : Image) (log : List Entry) (actions : List Action) : Type 0 where
   pub code : image ≡ code_of p
-  pub machine : ConcreteState
-  pub legal : LeadsTo image log machine
-  pub source : SourceState
-  pub run : IsRun p actions source
-  pub alike : IsSeenAlike (state_of machine) source
+  pub recorded : IsRecorded p log actions
 
 -- why a log isn't explained
 abbrev pub Refuses : Program → Image → List Entry → ExplainFault → Type 0
