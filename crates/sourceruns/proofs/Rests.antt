@@ -1,7 +1,7 @@
 -- Positions in a body, one over the other.
-use Rattle.std.proofs.Common.{◌≡◌, Bor, ◌+◌, ◌-◌, ◌<◌, ◌≤◌, List, [], ◌∷◌, ◌++◌, length, take, drop, get_or, Some}
-use Rattle.std.proofs.Common.{refl, ap, sym, ◌∙◌, arith}
-use Rattle.std.proofs.lemmas.List.{take_all, take_more}
+use Rattle.std.proofs.Common.{◌≡◌, Bor, ◌+◌, ◌-◌, ◌<◌, ◌≤◌, List, [], ◌∷◌, ◌++◌, length, take, drop, get_or, set, Some}
+use Rattle.std.proofs.Common.{refl, ap, sym, ◌∙◌, arith, ℕ, subst}
+use Rattle.std.proofs.lemmas.List.{take_all, take_more, take-set, take_more_set, length-set}
 use Rattle.program.specs.declared.statement.Statement.{Statement as StatementOf}
 use Rattle.program.specs.Trees.{Block, Done, Then, followed_by}
 use Rattle.program.specs.Views.{block_before, block_in, statement_of}
@@ -34,6 +34,27 @@ pub rest_last : (xs : List (Bor (List StatementOf))) (x : Bor (List StatementOf)
     → x ≡ get_or xs (length xs - 1) x
     → rest_in xs ≡ block_before x.now (rest_in (take (length xs - 1) xs))
 rest_last xs x l e = ap rest_in (last_split xs x l e) ∙ stacked-more (take (length xs - 1) xs) x Done
+
+-- the last position was taken off
+pub rest_popped : (xs ys : List (Bor (List StatementOf))) (x : Bor (List StatementOf)) (n : ℕ) → n ≡ length xs
+    → 1 ≤ n → x ≡ get_or xs (n - 1) x → ys ≡ take (n - 1) (set xs (n - 1) x)
+    → rest_in xs ≡ block_before x.now (rest_in ys)
+rest_popped xs ys x n all l e off =
+    let kept : take (length xs - 1) xs ≡ ys =
+    sym (off ∙ take-set xs (n - 1) x ∙ ap (λ k. take (k - 1) xs) all) in
+    rest_last xs x (omega (arith, all, l)) (subst (λ k. x ≡ get_or xs (k - 1) x) all e)
+    ∙ ap (λ zs. block_before x.now (rest_in zs)) kept
+
+-- another position in place of the last one
+pub rest_set : (xs : List (Bor (List StatementOf))) (x : Bor (List StatementOf)) (n : ℕ) → n ≡ length xs → 1 ≤ n
+    → rest_in (set xs (n - 1) x) ≡ block_before x.now (rest_in (take (n - 1) xs))
+rest_set xs x n all l =
+    let next : n - 1 + 1 ≡ length xs = omega (arith, all, l) in
+    let split : set xs (n - 1) x ≡ take (n - 1) xs ++ x ∷ [] =
+    sym (take_all (length xs) (set xs (n - 1) x) (grind (arith, length-set)))
+    ∙ ap (λ k. take k (set xs (n - 1) x)) (sym next)
+    ∙ take_more_set xs (n - 1) x (omega (arith, all, l)) in
+    ap rest_in split ∙ stacked-more (take (n - 1) xs) x Done
 
 pub rest_pushed : (before after : List (Bor (List StatementOf))) (x : Bor (List StatementOf))
     → after ≡ before ++ x ∷ []

@@ -44,7 +44,7 @@ abbrev pub offered : Offered → ProcessOf → Offer
 offered Rests' q = Rests
 offered (Does' label effect) q = Does (label_of label) (effect_of effect) (process_of q)
 offered (Makes' child into) q =
-    MakesOne (process_of child)
+    MakesOne (process_of child.value)
     (λ n. goes_on None (with_local (frame_of q.frame) into (pos n)) (callers_of q.callers.items))
     (dies ProcessTableFull (frame_of q.frame) (callers_of q.callers.items))
 offered (Claims' child into aborted) q =

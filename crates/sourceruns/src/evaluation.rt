@@ -39,7 +39,27 @@ pub fn element(program: &Program, array: Member, index: i64) -> Result<Place, Fa
     }
 }
 
+// The value of an operand: mostly a number or a local, which takes no call.
+#[inline(always)]
+#[cycle(values)]
+fn operand(
+    program: &Program,
+    variables: &Variables,
+    locals: &[i64],
+    expression: &Expression,
+) -> Result<i64, Fault>
+    ensures { evaluated result
+        ≡ evaluate_of (program_of program.now) (variables_of variables.now) locals.now (expression_of expression.now) }
+{
+    match expression {
+        Expression::Number(n) => Ok(i64::from(*n)),
+        Expression::Local(slot) => Ok(locals.get(*slot as usize).copied().unwrap_or(0)),
+        _ => evaluate(program, variables, locals, expression),
+    }
+}
+
 /// The value of an expression over the variables and the locals as they stand, or the first fault.
+#[cycle(values)]
 pub fn evaluate(
     program: &Program,
     variables: &Variables,
@@ -59,15 +79,15 @@ pub fn evaluate(
             index: 0,
         })),
         Expression::Element(e) => {
-            let index = evaluate(program, variables, locals, &e.index)?;
+            let index = operand(program, variables, locals, &e.index)?;
             Ok(variables.get(element(program, e.array, index)?))
         }
         Expression::Unary(operator, e) => {
-            unary(*operator, evaluate(program, variables, locals, e)?)
+            unary(*operator, operand(program, variables, locals, e)?)
         }
         Expression::Both(e) => {
-            let left = evaluate(program, variables, locals, &e.left)?;
-            let right = evaluate(program, variables, locals, &e.right)?;
+            let left = operand(program, variables, locals, &e.left)?;
+            let right = operand(program, variables, locals, &e.right)?;
             both(e.operator, left, right)
         }
     }

@@ -108,7 +108,7 @@ pub fn before<'a>(
         ≡ rest_offer (program_of program.now) (variables_of variables.now) (frame_of process.old.frame)
         (callers_of process.old.callers.items) (rest_in process.old.frame.rest.items)) }
 {
-    let Some(position) = take_first(&mut process.frame.rest)? else {
+    let Some(position) = take_first(&mut process.frame.rest) else {
         return Ok(answer(process, 0));
     };
     match position {

@@ -62,8 +62,8 @@ pub enum Offered<'a> {
     Rests,
     /// One action.
     Does(Label, Effect),
-    /// Makes this process, unless no more can be made; the local takes its handle.
-    Makes(Process<'a>, u32),
+    /// Makes this process, unless no more can be made; the local takes its handle. The box keeps all offers short.
+    Makes(Box<Process<'a>>, u32),
     /// Claims the child, unless it is claimed.
     Claims {
         /// The child.

@@ -175,7 +175,7 @@ pub fn fork<'a>(
                 stage: Stage::Before(None),
             };
             child.begin();
-            Ok(Offered::Makes(child, into))
+            Ok(Offered::Makes(Box::new(alloc, child)?, into))
         }
     }
 }

@@ -24,7 +24,7 @@ impl<'a> SourceState<'a> {
         alloc: Global,
         number: u64,
         kind: &ActionKind,
-        child: Process<'a>,
+        child: Box<Process<'a>>,
         into: u32,
         process: Process<'a>,
     ) -> Result<bool, AllocError>
@@ -44,7 +44,7 @@ impl<'a> SourceState<'a> {
         let mut process = process;
         process.frame.put(Some(into), made as i64);
         process.go_on(None);
-        self.place(made, child)?;
+        self.place(made, Box::into_inner(child))?;
         self.place(number, process)?;
         Ok(true)
     }

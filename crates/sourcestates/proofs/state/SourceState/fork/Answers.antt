@@ -1,6 +1,7 @@
-use Rattle.std.proofs.Common.{refl, ap, sym, ◌∙◌, arith, w64, pos, ℕ, None, ◌≡◌}
+use Rattle.std.proofs.Common.{refl, ap, sym, ◌∙◌, arith, w64, pos, ℕ, None, Some, ◌≡◌}
 use Rattle.std.proofs.lemmas.Int.{ints, to_z_pos}
 use Rattle.std.proofs.lemmas.Result.{IfOk-weaker}
+use Rattle.words.specs.Updates.{put}
 use Rattle.words.specs.declared.outcome.Fault.TheVariants.{ProcessTableFull}
 use Rattle.meaning.specs.Labels.{Fork}
 use Rattle.meaning.specs.Offers.{dies}
@@ -43,7 +44,7 @@ overflow_cast-made c =
 
 pub returns : goal.returns
 returns c =
-    made_one c.args.number c.in-Some.made (kind_of c.args.kind.now) (process_of c.args.child)
+    made_one c.args.number c.in-Some.made (kind_of c.args.kind.now) (process_of c.args.child.value)
     (λ n. goes_on None (with_local (frame_of c.args.process.frame) c.args.into (pos n))
     (callers_of c.args.process.callers.items))
     (dies ProcessTableFull (frame_of c.args.process.frame) (callers_of c.args.process.callers.items))
@@ -51,8 +52,13 @@ returns c =
     (c.in-Some.ensures c.args.number)
     (ap kind_of c.in-Fork.is ∙ ap Fork c.if-named-made.false)
     (placed_both c.args.number c.in-Some.made (state_of c.args.self.now) (state_of c.place.new.self)
-    (state_of c.place-2.new.self) (table_of c.fork.new.self) (process_of c.args.child) (process_of c.go_on.new.self) _
-    c.in_ok-place-2.ensures c.in_ok-place.ensures
+    (state_of c.place-2.new.self) (table_of c.fork.new.self) (process_of c.args.child.value)
+    (process_of c.go_on.new.self) _ c.in_ok-place-2.ensures
+    (c.in_ok-place.ensures
+    ∙ ap (λ q. record (state_of c.args.self.now) {
+      table = table_of c.fork.new.self;
+      process = put (state_of c.args.self.now).process c.in-Some.made (Some (process_of q));
+    }) c.into_inner.ensures)
     (c.go_on.ensures ∙ ap (λ f. goes_on None f (callers_of c.args.process.callers.items)) (c.put.ensures.frame
     ∙ ap (λ z. with_local (frame_of c.args.process.frame) c.args.into z)
     (let h = c.in-Some.ensures 0 in let below = h.0 in let is = h.1 in to_z_pos w64 c.in-Some.made (omega arith)))))
