@@ -79,13 +79,18 @@ impl<'a> Process<'a> {
         ensures { process_of self.new ≡ goes_on entered (frame_of self.old.frame) (callers_of self.old.callers.items) }
     {
         self.stage = Stage::Before(entered);
-        match (self.frame.role, upcoming(self.frame.rest.as_slice())) {
-            (Role::Recover(_), None) => match self.callers.pop() {
-                None => self.stage = Stage::Leaving(0),
-                Some(caller) => self.frame = caller,
+        match self.frame.role {
+            Role::Recover(_) => match upcoming(self.frame.rest.as_slice()) {
+                None => match self.callers.pop() {
+                    None => self.stage = Stage::Leaving(0),
+                    Some(caller) => self.frame = caller,
+                },
+                Some(_) => {}
             },
-            (Role::Main, None) => self.stage = Stage::Leaving(0),
-            (Role::Main, Some(Statement::Return(_))) => self.stage = Stage::Leaving(0),
+            Role::Main => match upcoming(self.frame.rest.as_slice()) {
+                None | Some(Statement::Return(_)) => self.stage = Stage::Leaving(0),
+                Some(_) => {}
+            },
             _ => {}
         }
     }

@@ -4,9 +4,8 @@ use Rattle.sourceruns.specs.Rests.{rest_in}
 use Rattle.sourceruns.proofs.Frames.{goes_back}
 use Rattle.sourceruns.proofs.process.Process.go_on.Goals as goal
 
-pub returns-in-Some : goal.returns-in-Some
-returns-in-Some c =
-    goes_back c.args.entered (frame_of c.args.self.now.frame) c.in-Recover-None.field-0-0
-    c.args.self.now.callers.items
-    c.pop.new.self.items c.in-Some.caller c.in-Recover-None.is-0
-    (ap rest_in (sym c.as_slice.ensures.value) ∙ c.in-Recover-None.ensures) c.in-Some.ensures.items
+pub returns-in-Some-pop : goal.returns-in-Some-pop
+returns-in-Some-pop c =
+    goes_back c.args.entered (frame_of c.args.self.now.frame) c.in-Recover.field-0 c.args.self.now.callers.items
+    c.pop.new.self.items c.in-Some-pop.caller c.in-Recover.is
+    (ap rest_in (sym c.as_slice.ensures.value) ∙ c.in-None.ensures) c.in-Some-pop.ensures.items
