@@ -53,6 +53,17 @@ pub fn expression_alone(conjunction: Conjunction<'_>) -> Expression<'_>
     }
 }
 
+// A sum that is an expression.
+pub fn expression_of_sum(sum: Sum<'_>) -> Expression<'_>
+    ensures { expression_of result ≡ lone_expression (lone_conjunction (lone_relation (sum_of sum.entry))) }
+{
+    match sum {
+        Sum::Factor(factor) => Expression::Factor(factor),
+        Sum::Product(product) => Expression::Product(product),
+        Sum::Total(total) => Expression::Total(total),
+    }
+}
+
 // A variable that is read.
 pub fn reading(variable: Variable<'_>) -> Factor<'_>
     ensures { factor_of result ≡ Reads (variable_of variable.entry).name (variable_of variable.entry).index }

@@ -23,9 +23,11 @@ ghost use Rattle.expressions.specs.Levels.{first_factor, first_term, left_sum, f
 ghost use Rattle.expressions.specs.Levels.{further_factors, further_terms, comparison_part};
 ghost use Rattle.expressions.specs.Levels.{further_relations, further_conjunctions};
 
-use crate::alone::{conjunction_alone, expression_alone, reading, relation_alone, sum_alone};
+use crate::alone::{
+    conjunction_alone, expression_alone, expression_of_sum, reading, relation_alone, sum_alone,
+};
 use scanner::{Keyword, Kind, Place, Refusal, RefusalKind, Sign};
-use steps::{FactorStart, Parser, start_of};
+use steps::{FactorStart, Parser, refused, start_of};
 use syntax::{
     AllOf, AnyOf, Comparison, Conjunction, Element, Expression, Factor, Multiplier, Name, Number,
     Product, ProductOperator, Relation, Sum, SumOperator, Summand, Term, Total, Truth, Variable,
@@ -47,7 +49,7 @@ pub fn expression<'a>(parser: &mut Parser<'_, 'a>, depth: u8) -> Result<Expressi
     let sum = sum(parser, depth)?;
     // Most expressions end here, and needn't go through each level.
     if !parser.relates() {
-        return Ok(expression_alone(conjunction_alone(relation_alone(sum))));
+        return Ok(expression_of_sum(sum));
     }
     let relation = relation_from(parser, sum, depth)?;
     let conjunction = conjunction_from(parser, relation, depth)?;
@@ -71,8 +73,14 @@ fn expression_from<'a>(
     if !parser.eat_keyword(Keyword::Or) {
         return Ok(expression_alone(first));
     }
-    let second = conjunction(parser, depth)?;
-    let rest = conjunctions(parser, depth)?;
+    let second = match conjunction(parser, depth) {
+        Ok(second) => second,
+        Err(refusal) => return refused(first, refusal),
+    };
+    let rest = match conjunctions(parser, depth) {
+        Ok(rest) => rest,
+        Err(refusal) => return refused((first, second), refusal),
+    };
     let any_of = AnyOf {
         first,
         second,
@@ -128,8 +136,14 @@ fn conjunction_from<'a>(
     if !parser.eat_keyword(Keyword::And) {
         return Ok(conjunction_alone(first));
     }
-    let second = relation(parser, depth)?;
-    let rest = relations(parser, depth)?;
+    let second = match relation(parser, depth) {
+        Ok(second) => second,
+        Err(refusal) => return refused(first, refusal),
+    };
+    let rest = match relations(parser, depth) {
+        Ok(rest) => rest,
+        Err(refusal) => return refused((first, second), refusal),
+    };
     let all_of = AllOf {
         first,
         second,
@@ -186,7 +200,10 @@ fn relation_from<'a>(
         return Ok(relation_alone(left));
     };
     parser.pass();
-    let right = sum(parser, depth)?;
+    let right = match sum(parser, depth) {
+        Ok(right) => right,
+        Err(refusal) => return refused(left, refusal),
+    };
     let comparison = Comparison {
         left,
         comparator,
@@ -234,8 +251,14 @@ fn total<'a>(
     ensures shorter { IfOk result (λ _. length (ahead parser.new) < length (ahead parser.old)) }
 {
     parser.pass();
-    let term = term(parser, depth)?;
-    let rest = summands(parser, depth)?;
+    let term = match term(parser, depth) {
+        Ok(term) => term,
+        Err(refusal) => return refused(first, refusal),
+    };
+    let rest = match summands(parser, depth) {
+        Ok(rest) => rest,
+        Err(refusal) => return refused((first, term), refusal),
+    };
     let second = Summand {
         operator,
         place,
@@ -305,8 +328,14 @@ fn product<'a>(
     ensures shorter { IfOk result (λ _. length (ahead parser.new) < length (ahead parser.old)) }
 {
     parser.pass();
-    let factor = factor(parser, depth)?;
-    let rest = multipliers(parser, depth)?;
+    let factor = match factor(parser, depth) {
+        Ok(factor) => factor,
+        Err(refusal) => return refused(first, refusal),
+    };
+    let rest = match multipliers(parser, depth) {
+        Ok(rest) => rest,
+        Err(refusal) => return refused((first, factor), refusal),
+    };
     let second = Multiplier { operator, factor };
     let product = Product {
         first,
@@ -410,8 +439,10 @@ pub fn expression_before<'a>(
     ensures shorter { IfOk result (λ _. length (ahead parser.new) < length (ahead parser.old)) }
 {
     let expression = expression(parser, depth)?;
-    parser.expect_sign(close)?;
-    Ok(expression)
+    match parser.expect_sign(close) {
+        Ok(()) => Ok(expression),
+        Err(refusal) => refused(expression, refusal),
+    }
 }
 
 /// Reads what stands behind a name that was passed: an index in brackets, or nothing where no bracket

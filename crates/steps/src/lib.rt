@@ -2,9 +2,11 @@
 #![tactic(auto)]
 
 mod eat;
+mod exit;
 mod expect;
 mod operators;
 mod parser;
 
+pub use exit::refused;
 pub use operators::{FactorStart, start_of};
 pub use parser::Parser;

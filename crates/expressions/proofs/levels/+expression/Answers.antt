@@ -24,8 +24,8 @@ use Rattle.expressions.proofs.levels.+expression.Goals as goal
 pub expression_from-returns-clause-ok : goal.expression_from-returns-clause-ok
 expression_from-returns-clause-ok t c =
     conjunctions_as (any_of_made c.in_ok-new.field-0 _ _ _ c.in_ok-new.ensures.ok)
-    (conjunctions_pass (conjunction_of c.in_ok-second.second) c.requires c.if-not-eat_keyword.ensures
-    c.in_ok-second.ensures.ok c.in_ok-rest.ensures.ok)
+    (conjunctions_pass (conjunction_of c.in-Ok.second) c.requires c.if-not-eat_keyword.ensures
+    c.in-Ok.ensures.ok c.in-Ok-conjunctions.ensures.ok)
 
 pub conjunctions-conjunctions-preserved : goal.conjunctions-conjunctions-preserved
 conjunctions-conjunctions-preserved t c = record {
@@ -42,8 +42,8 @@ conjunctions-conjunctions-preserved t c = record {
 pub conjunction_from-returns-clause-ok : goal.conjunction_from-returns-clause-ok
 conjunction_from-returns-clause-ok t c =
     relations_as (all_of_made c.in_ok-new.field-0 _ _ _ c.in_ok-new.ensures.ok)
-    (relations_pass (relation_of c.in_ok-second.second) c.requires c.if-not-eat_keyword.ensures
-    c.in_ok-second.ensures.ok c.in_ok-rest.ensures.ok)
+    (relations_pass (relation_of c.in-Ok.second) c.requires c.if-not-eat_keyword.ensures
+    c.in-Ok.ensures.ok c.in-Ok-relations.ensures.ok)
 
 pub relations-relations-preserved : goal.relations-relations-preserved
 relations-relations-preserved t c = record {
@@ -61,8 +61,8 @@ relations-relations-preserved t c = record {
 pub total-returns-clause-ok : goal.total-returns-clause-ok
 total-returns-clause-ok t c =
     summands_as (total_made c.in_ok-new.field-0 _ _ _ c.in_ok-new.ensures.ok)
-    (summands_pass (term_of c.in_ok-term.term) c.requires.depth c.requires.sign c.pass.ensures.rest
-    c.in_ok-term.ensures.ok c.in_ok-rest.ensures.ok)
+    (summands_pass (term_of c.in-Ok.term) c.requires.depth c.requires.sign c.pass.ensures.rest
+    c.in-Ok.ensures.ok c.in-Ok-summands.ensures.ok)
 
 pub summands-summands-preserved : goal.summands-summands-preserved
 summands-summands-preserved t c = record {
@@ -79,8 +79,8 @@ summands-summands-preserved t c = record {
 pub product-returns-clause-ok : goal.product-returns-clause-ok
 product-returns-clause-ok t c =
     multipliers_as (product_made c.in_ok-new.field-0 _ _ _ c.in_ok-new.ensures.ok)
-    (multipliers_pass c.requires.depth c.requires.operator c.pass.ensures.rest c.in_ok-factor.ensures.ok
-    c.in_ok-rest.ensures.ok)
+    (multipliers_pass c.requires.depth c.requires.operator c.pass.ensures.rest c.in-Ok.ensures.ok
+    c.in-Ok-multipliers.ensures.ok)
 
 pub multipliers-multipliers-preserved : goal.multipliers-multipliers-preserved
 multipliers-multipliers-preserved t c = record {
@@ -151,27 +151,27 @@ expression_before-returns-in_err-expression-clause-err t c =
     exit_fails c.from_residual.result c.from_residual.ensures.1
     (fail6 c.in_err-expression.ensures.err (here {σ = expression (AMark c.args.close ∷ [])}) (omega arith))
 
-pub expression_before-returns-in_err-expect_sign-clause-err :
-    goal.expression_before-returns-in_err-expect_sign-clause-err
-expression_before-returns-in_err-expect_sign-clause-err t c =
-    exit_fails c.from_residual-in_err-expect_sign.result c.from_residual-in_err-expect_sign.ensures.1
+pub expression_before-returns-in-Err-clause-err :
+    goal.expression_before-returns-in-Err-clause-err
+expression_before-returns-in-Err-clause-err t c =
+    exit_fails c.refused.result c.refused.ensures
     (enclosed_fails (expression_of c.in_ok-expression.expression) c.in_ok-expression.ensures.ok
-    c.in_err-expect_sign.ensures.err)
+    c.in-Err.ensures.err)
 
-pub expression_from-returns-in_err-second-clause-err : goal.expression_from-returns-in_err-second-clause-err
-expression_from-returns-in_err-second-clause-err t c =
-    exit_fails c.from_residual.result c.from_residual.ensures.1
-    (conjunctions_fail c.requires c.if-not-eat_keyword.ensures c.in_err-second.ensures.err)
+pub expression_from-returns-in-Err-clause-err : goal.expression_from-returns-in-Err-clause-err
+expression_from-returns-in-Err-clause-err t c =
+    exit_fails c.refused.result c.refused.ensures
+    (conjunctions_fail c.requires c.if-not-eat_keyword.ensures c.in-Err.ensures.err)
 
-pub expression_from-returns-in_err-rest-clause-err : goal.expression_from-returns-in_err-rest-clause-err
-expression_from-returns-in_err-rest-clause-err t c =
-    exit_fails c.from_residual-in_err-rest.result c.from_residual-in_err-rest.ensures.1
-    (conjunctions_fail_behind (conjunction_of c.in_ok-second.second) c.requires c.if-not-eat_keyword.ensures
-    c.in_ok-second.ensures.ok c.in_err-rest.ensures.err)
+pub expression_from-returns-in-Err-conjunctions-clause-err : goal.expression_from-returns-in-Err-conjunctions-clause-err
+expression_from-returns-in-Err-conjunctions-clause-err t c =
+    exit_fails c.refused-in-Err-conjunctions.result c.refused-in-Err-conjunctions.ensures
+    (conjunctions_fail_behind (conjunction_of c.in-Ok.second) c.requires c.if-not-eat_keyword.ensures
+    c.in-Ok.ensures.ok c.in-Err-conjunctions.ensures.err)
 
 pub expression_from-returns-in_err-new-clause-err : goal.expression_from-returns-in_err-new-clause-err
 expression_from-returns-in_err-new-clause-err t c =
-    exit_memory _ _ _ c.from_residual-in_err-new.result c.from_residual-in_err-new.ensures.1
+    exit_memory _ _ _ c.from_residual.result c.from_residual.ensures.1
 
 pub conjunctions-returns-in_err-conjunction-clause-err : goal.conjunctions-returns-in_err-conjunction-clause-err
 conjunctions-returns-in_err-conjunction-clause-err t c =
@@ -183,20 +183,20 @@ pub conjunctions-returns-in_err-push-clause-err : goal.conjunctions-returns-in_e
 conjunctions-returns-in_err-push-clause-err t c =
     exit_memory _ _ _ c.from_residual-in_err-push.result c.from_residual-in_err-push.ensures.1
 
-pub conjunction_from-returns-in_err-second-clause-err : goal.conjunction_from-returns-in_err-second-clause-err
-conjunction_from-returns-in_err-second-clause-err t c =
-    exit_fails c.from_residual.result c.from_residual.ensures.1
-    (relations_fail c.requires c.if-not-eat_keyword.ensures c.in_err-second.ensures.err)
+pub conjunction_from-returns-in-Err-clause-err : goal.conjunction_from-returns-in-Err-clause-err
+conjunction_from-returns-in-Err-clause-err t c =
+    exit_fails c.refused.result c.refused.ensures
+    (relations_fail c.requires c.if-not-eat_keyword.ensures c.in-Err.ensures.err)
 
-pub conjunction_from-returns-in_err-rest-clause-err : goal.conjunction_from-returns-in_err-rest-clause-err
-conjunction_from-returns-in_err-rest-clause-err t c =
-    exit_fails c.from_residual-in_err-rest.result c.from_residual-in_err-rest.ensures.1
-    (relations_fail_behind (relation_of c.in_ok-second.second) c.requires c.if-not-eat_keyword.ensures
-    c.in_ok-second.ensures.ok c.in_err-rest.ensures.err)
+pub conjunction_from-returns-in-Err-relations-clause-err : goal.conjunction_from-returns-in-Err-relations-clause-err
+conjunction_from-returns-in-Err-relations-clause-err t c =
+    exit_fails c.refused-in-Err-relations.result c.refused-in-Err-relations.ensures
+    (relations_fail_behind (relation_of c.in-Ok.second) c.requires c.if-not-eat_keyword.ensures
+    c.in-Ok.ensures.ok c.in-Err-relations.ensures.err)
 
 pub conjunction_from-returns-in_err-new-clause-err : goal.conjunction_from-returns-in_err-new-clause-err
 conjunction_from-returns-in_err-new-clause-err t c =
-    exit_memory _ _ _ c.from_residual-in_err-new.result c.from_residual-in_err-new.ensures.1
+    exit_memory _ _ _ c.from_residual.result c.from_residual.ensures.1
 
 pub relations-returns-in_err-relation-clause-err : goal.relations-returns-in_err-relation-clause-err
 relations-returns-in_err-relation-clause-err t c =
@@ -232,7 +232,7 @@ relation-returns-clause-err t c =
 
 pub relation_from-returns-in_err-new-clause-err : goal.relation_from-returns-in_err-new-clause-err
 relation_from-returns-in_err-new-clause-err t c =
-    exit_memory _ _ _ c.from_residual-in_err-new.result c.from_residual-in_err-new.ensures.1
+    exit_memory _ _ _ c.from_residual.result c.from_residual.ensures.1
 
 pub sum-returns-in_err-factor-clause-err : goal.sum-returns-in_err-factor-clause-err
 sum-returns-in_err-factor-clause-err t c =
@@ -256,20 +256,20 @@ term-returns-in-Some-clause-err t c =
     (then1 c.in_ok-first.ensures.ok (here {σ = term []}) (omega arith)) (omega arith))
     c.product.ensures.err
 
-pub total-returns-in_err-term-clause-err : goal.total-returns-in_err-term-clause-err
-total-returns-in_err-term-clause-err t c =
-    exit_fails c.from_residual.result c.from_residual.ensures.1
-    (summands_fail c.requires.depth c.requires.sign c.pass.ensures.rest c.in_err-term.ensures.err)
+pub total-returns-in-Err-clause-err : goal.total-returns-in-Err-clause-err
+total-returns-in-Err-clause-err t c =
+    exit_fails c.refused.result c.refused.ensures
+    (summands_fail c.requires.depth c.requires.sign c.pass.ensures.rest c.in-Err.ensures.err)
 
-pub total-returns-in_err-rest-clause-err : goal.total-returns-in_err-rest-clause-err
-total-returns-in_err-rest-clause-err t c =
-    exit_fails c.from_residual-in_err-rest.result c.from_residual-in_err-rest.ensures.1
-    (summands_fail_behind (term_of c.in_ok-term.term) c.requires.depth c.requires.sign c.pass.ensures.rest
-    c.in_ok-term.ensures.ok c.in_err-rest.ensures.err)
+pub total-returns-in-Err-summands-clause-err : goal.total-returns-in-Err-summands-clause-err
+total-returns-in-Err-summands-clause-err t c =
+    exit_fails c.refused-in-Err-summands.result c.refused-in-Err-summands.ensures
+    (summands_fail_behind (term_of c.in-Ok.term) c.requires.depth c.requires.sign c.pass.ensures.rest
+    c.in-Ok.ensures.ok c.in-Err-summands.ensures.err)
 
 pub total-returns-in_err-new-clause-err : goal.total-returns-in_err-new-clause-err
 total-returns-in_err-new-clause-err t c =
-    exit_memory _ _ _ c.from_residual-in_err-new.result c.from_residual-in_err-new.ensures.1
+    exit_memory _ _ _ c.from_residual.result c.from_residual.ensures.1
 
 pub summands-returns-in_err-term-clause-err : goal.summands-returns-in_err-term-clause-err
 summands-returns-in_err-term-clause-err t c =
@@ -281,21 +281,21 @@ pub summands-returns-in_err-push-clause-err : goal.summands-returns-in_err-push-
 summands-returns-in_err-push-clause-err t c =
     exit_memory _ _ _ c.from_residual-in_err-push.result c.from_residual-in_err-push.ensures.1
 
-pub product-returns-in_err-factor-clause-err : goal.product-returns-in_err-factor-clause-err
-product-returns-in_err-factor-clause-err t c =
-    exit_fails c.from_residual.result c.from_residual.ensures.1
+pub product-returns-in-Err-clause-err : goal.product-returns-in-Err-clause-err
+product-returns-in-Err-clause-err t c =
+    exit_fails c.refused.result c.refused.ensures
     (multipliers_fail c.requires.depth c.requires.operator c.pass.ensures.rest
-    c.in_err-factor.ensures.err)
+    c.in-Err.ensures.err)
 
-pub product-returns-in_err-rest-clause-err : goal.product-returns-in_err-rest-clause-err
-product-returns-in_err-rest-clause-err t c =
-    exit_fails c.from_residual-in_err-rest.result c.from_residual-in_err-rest.ensures.1
+pub product-returns-in-Err-multipliers-clause-err : goal.product-returns-in-Err-multipliers-clause-err
+product-returns-in-Err-multipliers-clause-err t c =
+    exit_fails c.refused-in-Err-multipliers.result c.refused-in-Err-multipliers.ensures
     (multipliers_fail_behind c.requires.depth c.requires.operator c.pass.ensures.rest
-    c.in_ok-factor.ensures.ok c.in_err-rest.ensures.err)
+    c.in-Ok.ensures.ok c.in-Err-multipliers.ensures.err)
 
 pub product-returns-in_err-new-clause-err : goal.product-returns-in_err-new-clause-err
 product-returns-in_err-new-clause-err t c =
-    exit_memory _ _ _ c.from_residual-in_err-new.result c.from_residual-in_err-new.ensures.1
+    exit_memory _ _ _ c.from_residual.result c.from_residual.ensures.1
 
 pub multipliers-returns-in_err-factor-clause-err : goal.multipliers-returns-in_err-factor-clause-err
 multipliers-returns-in_err-factor-clause-err t c =
