@@ -10,7 +10,7 @@ ghost use Rattle.parser.specs.Steps.{ReadsNext, add_monitor};
 use crate::declaration::members;
 use crate::procedure::{body, monitor_procedures};
 use scanner::{Keyword, Refusal, Sign};
-use steps::Parser;
+use steps::{Parser, refused};
 use syntax::{Monitor, Recover};
 
 // The recover part, if there is one.
@@ -23,8 +23,10 @@ fn recover<'a>(parser: &mut Parser<'_, 'a>) -> Result<Option<Recover<'a>>, Refus
         return Ok(None);
     };
     let body = body(parser)?;
-    parser.expect_sign(Sign::Semicolon)?;
-    Ok(Some(Recover { place, body }))
+    match parser.expect_sign(Sign::Semicolon) {
+        Ok(()) => Ok(Some(Recover { place, body })),
+        Err(refusal) => refused(body, refusal),
+    }
 }
 
 // A monitor, if one begins.
@@ -40,17 +42,29 @@ fn monitor<'a>(parser: &mut Parser<'_, 'a>) -> Result<Option<Monitor<'a>>, Refus
     let name = parser.expect_name()?;
     parser.expect_sign(Sign::Semicolon)?;
     let members = members(parser)?;
-    let procedures = monitor_procedures(parser)?;
-    let recover = recover(parser)?;
-    parser.expect_keyword(Keyword::End)?;
-    parser.expect_sign(Sign::Semicolon)?;
-    Ok(Some(Monitor {
+    let procedures = match monitor_procedures(parser) {
+        Ok(procedures) => procedures,
+        Err(refusal) => return refused(members, refusal),
+    };
+    let recover = match recover(parser) {
+        Ok(recover) => recover,
+        Err(refusal) => return refused((members, procedures), refusal),
+    };
+    let monitor = Monitor {
         place,
         name,
         members,
         procedures,
         recover,
-    }))
+    };
+    match parser.expect_keyword(Keyword::End) {
+        Ok(()) => {}
+        Err(refusal) => return refused(monitor, refusal),
+    }
+    match parser.expect_sign(Sign::Semicolon) {
+        Ok(()) => Ok(Some(monitor)),
+        Err(refusal) => refused(monitor, refusal),
+    }
 }
 
 // Monitors, as many as there are.

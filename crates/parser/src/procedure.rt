@@ -11,7 +11,7 @@ use crate::declaration::{locals, parameters, returns};
 use crate::kinds::access_of;
 use crate::statement::statements;
 use scanner::{Keyword, Place, Refusal, Sign};
-use steps::Parser;
+use steps::{Parser, refused};
 use syntax::{Body, MonitorProcedure, Procedure};
 
 // Local variables, statements, and END.
@@ -38,19 +38,34 @@ fn procedure<'a>(parser: &mut Parser<'_, 'a>, place: Place) -> Result<Procedure<
     let name = parser.expect_name()?;
     let open_place = parser.expect_opening()?;
     let parameters = parameters(parser)?;
-    parser.expect_sign(Sign::CloseParen)?;
-    let returns = returns(parser)?;
-    parser.expect_sign(Sign::Semicolon)?;
-    let body = body(parser)?;
-    parser.expect_sign(Sign::Semicolon)?;
-    Ok(Procedure {
+    match parser.expect_sign(Sign::CloseParen) {
+        Ok(()) => {}
+        Err(refusal) => return refused(parameters, refusal),
+    }
+    let returns = match returns(parser) {
+        Ok(returns) => returns,
+        Err(refusal) => return refused(parameters, refusal),
+    };
+    match parser.expect_sign(Sign::Semicolon) {
+        Ok(()) => {}
+        Err(refusal) => return refused(parameters, refusal),
+    }
+    let body = match body(parser) {
+        Ok(body) => body,
+        Err(refusal) => return refused(parameters, refusal),
+    };
+    let procedure = Procedure {
         place,
         name,
         open_place,
         parameters,
         returns,
         body,
-    })
+    };
+    match parser.expect_sign(Sign::Semicolon) {
+        Ok(()) => Ok(procedure),
+        Err(refusal) => refused(procedure, refusal),
+    }
 }
 
 // An external procedure, if one begins.

@@ -14,7 +14,7 @@ ghost use Rattle.parser.specs.Steps.{ReadsStatement};
 
 use expressions::{callee, expression_before, value, variable};
 use scanner::{Keyword, Place, Refusal, Sign};
-use steps::Parser;
+use steps::{Parser, refused};
 use syntax::{Name, Statement};
 
 // The name behind INTO, if there is one.
@@ -61,9 +61,14 @@ pub fn assignment<'a>(
 {
     parser.pass();
     let variable = variable(parser, depth, name)?;
-    parser.expect_sign(Sign::Assign)?;
-    let value = expression_before(parser, depth, Sign::Semicolon)?;
-    Ok(Statement::Assign(variable, value))
+    match parser.expect_sign(Sign::Assign) {
+        Ok(()) => {}
+        Err(refusal) => return refused(variable, refusal),
+    }
+    match expression_before(parser, depth, Sign::Semicolon) {
+        Ok(value) => Ok(Statement::Assign(variable, value)),
+        Err(refusal) => refused(variable, refusal),
+    }
 }
 
 // A call.
@@ -80,13 +85,19 @@ pub fn call<'a>(
 {
     parser.pass();
     let callee = callee(parser, depth)?;
-    let into = into_name(parser, depth)?;
-    parser.expect_sign(Sign::Semicolon)?;
-    Ok(Statement::Call {
+    let into = match into_name(parser, depth) {
+        Ok(into) => into,
+        Err(refusal) => return refused(callee, refusal),
+    };
+    let call = Statement::Call {
         place,
         callee,
         into,
-    })
+    };
+    match parser.expect_sign(Sign::Semicolon) {
+        Ok(()) => Ok(call),
+        Err(refusal) => refused(call, refusal),
+    }
 }
 
 // A fork.
@@ -103,14 +114,23 @@ pub fn fork<'a>(
 {
     parser.pass();
     let callee = callee(parser, depth)?;
-    parser.expect_keyword(Keyword::Into)?;
-    let into = parser.expect_name()?;
-    parser.expect_sign(Sign::Semicolon)?;
-    Ok(Statement::Fork {
+    match parser.expect_keyword(Keyword::Into) {
+        Ok(()) => {}
+        Err(refusal) => return refused(callee, refusal),
+    }
+    let into = match parser.expect_name() {
+        Ok(into) => into,
+        Err(refusal) => return refused(callee, refusal),
+    };
+    let fork = Statement::Fork {
         place,
         callee,
         into,
-    })
+    };
+    match parser.expect_sign(Sign::Semicolon) {
+        Ok(()) => Ok(fork),
+        Err(refusal) => refused(fork, refusal),
+    }
 }
 
 // A return.

@@ -24,7 +24,7 @@ use crate::monitor::monitors;
 use crate::procedure::{body, procedures};
 use scanner::{Keyword, Refusal, RefusalKind, Sign, Token};
 use std::alloc::Global;
-use steps::Parser;
+use steps::{Parser, refused};
 use syntax::{Main, Name, Unit};
 
 // PROGRAM, and the program's name.
@@ -69,15 +69,23 @@ fn unit<'a>(parser: &mut Parser<'_, 'a>) -> Result<Unit<'a>, Refusal>
 {
     let name = heading(parser)?;
     let monitors = monitors(parser)?;
-    let procedures = procedures(parser)?;
-    let main = main_part(parser)?;
-    finish(parser)?;
-    Ok(Unit {
-        name,
-        monitors,
-        procedures,
-        main,
-    })
+    let procedures = match procedures(parser) {
+        Ok(procedures) => procedures,
+        Err(refusal) => return refused(monitors, refusal),
+    };
+    let main = match main_part(parser) {
+        Ok(main) => main,
+        Err(refusal) => return refused((monitors, procedures), refusal),
+    };
+    match finish(parser) {
+        Ok(()) => Ok(Unit {
+            name,
+            monitors,
+            procedures,
+            main,
+        }),
+        Err(refusal) => refused((monitors, (procedures, main)), refusal),
+    }
 }
 
 /// The tree of a whole program, from its tokens as `scan` gives them. It borrows their names.

@@ -32,49 +32,49 @@ returns-in_err-members-clause-err c =
     (then_takes c.in_ok-name.ensures.ok (monitor_begins c.in-Some.ensures.first c.in-Some.ensures.rest)
     (omega arith)) (omega arith)) (omega arith))
 
-pub returns-in_err-procedures-clause-err : goal.returns-in_err-procedures-clause-err
-returns-in_err-procedures-clause-err c =
-    let p = err_from_is_err_and c.from_residual-in_err-procedures.result c.from_residual-in_err-procedures.ensures.1 in
-    rw (p.1, p.2) (fail1 c.in_err-procedures.ensures.err
+pub returns-in-Err-clause-err : goal.returns-in-Err-clause-err
+returns-in-Err-clause-err c =
+    let p = err_from_is_err_and c.refused.result c.refused.ensures in
+    rw (p.1, p.2) (fail1 c.in-Err.ensures.err
     (then1 c.in_ok-members.ensures.ok (then_takes c.in_ok-expect_sign.ensures.ok
     (then_takes c.in_ok-name.ensures.ok (monitor_begins c.in-Some.ensures.first c.in-Some.ensures.rest)
     (omega arith)) (omega arith)) (omega arith)) (omega arith))
 
-pub returns-in_err-recover-clause-err : goal.returns-in_err-recover-clause-err
-returns-in_err-recover-clause-err c =
-    let p = err_from_is_err_and c.from_residual-in_err-recover.result c.from_residual-in_err-recover.ensures.1 in
-    rw (p.1, p.2) (fail1 c.in_err-recover.ensures.err
-    (then1 c.in_ok-procedures.ensures.ok (then1 c.in_ok-members.ensures.ok
+pub returns-in-Err-recover-clause-err : goal.returns-in-Err-recover-clause-err
+returns-in-Err-recover-clause-err c =
+    let p = err_from_is_err_and c.refused-in-Err-recover.result c.refused-in-Err-recover.ensures in
+    rw (p.1, p.2) (fail1 c.in-Err-recover.ensures.err
+    (then1 c.in-Ok.ensures.ok (then1 c.in_ok-members.ensures.ok
     (then_takes c.in_ok-expect_sign.ensures.ok
     (then_takes c.in_ok-name.ensures.ok (monitor_begins c.in-Some.ensures.first c.in-Some.ensures.rest)
     (omega arith)) (omega arith)) (omega arith)) (omega arith)) (omega arith))
 
-pub returns-in_err-expect_keyword-clause-err : goal.returns-in_err-expect_keyword-clause-err
-returns-in_err-expect_keyword-clause-err c =
-    let p = err_from_is_err_and c.from_residual-in_err-expect_keyword.result
-    c.from_residual-in_err-expect_keyword.ensures.1 in
-    rw (p.1, p.2) (fail_rejects c.in_err-expect_keyword.ensures.err
-    (then1 c.in_ok-recover.ensures.ok (then1 c.in_ok-procedures.ensures.ok
+pub returns-in-Err-expect_keyword-clause-err : goal.returns-in-Err-expect_keyword-clause-err
+returns-in-Err-expect_keyword-clause-err c =
+    let p = err_from_is_err_and c.refused-in-Err-expect_keyword.result
+    c.refused-in-Err-expect_keyword.ensures in
+    rw (p.1, p.2) (fail_rejects c.in-Err-expect_keyword.ensures.err
+    (then1 c.in-Ok-recover.ensures.ok (then1 c.in-Ok.ensures.ok
     (then1 c.in_ok-members.ensures.ok (then_takes c.in_ok-expect_sign.ensures.ok
     (then_takes c.in_ok-name.ensures.ok (monitor_begins c.in-Some.ensures.first c.in-Some.ensures.rest)
     (omega arith)) (omega arith)) (omega arith)) (omega arith)) (omega arith)))
 
-pub returns-in_err-expect_sign-2-clause-err : goal.returns-in_err-expect_sign-2-clause-err
-returns-in_err-expect_sign-2-clause-err c =
-    let p = err_from_is_err_and c.from_residual-in_err-expect_sign-2.result
-    c.from_residual-in_err-expect_sign-2.ensures.1 in
-    rw (p.1, p.2) (fail_rejects c.in_err-expect_sign-2.ensures.err
-    (then_takes c.in_ok-expect_keyword.ensures.ok
-    (then1 c.in_ok-recover.ensures.ok (then1 c.in_ok-procedures.ensures.ok
+pub returns-in-Err-expect_sign-clause-err : goal.returns-in-Err-expect_sign-clause-err
+returns-in-Err-expect_sign-clause-err c =
+    let p = err_from_is_err_and c.refused-in-Err-expect_sign.result
+    c.refused-in-Err-expect_sign.ensures in
+    rw (p.1, p.2) (fail_rejects c.in-Err-expect_sign.ensures.err
+    (then_takes c.in-Ok-expect_keyword.ensures.ok
+    (then1 c.in-Ok-recover.ensures.ok (then1 c.in-Ok.ensures.ok
     (then1 c.in_ok-members.ensures.ok (then_takes c.in_ok-expect_sign.ensures.ok
     (then_takes c.in_ok-name.ensures.ok (monitor_begins c.in-Some.ensures.first c.in-Some.ensures.rest)
     (omega arith)) (omega arith)) (omega arith)) (omega arith)) (omega arith)) (omega arith)))
 
-pub returns-clause-ok : goal.returns-clause-ok
-returns-clause-ok c =
-    then_takes c.in_ok-expect_sign-2.ensures.ok
-    (then_takes c.in_ok-expect_keyword.ensures.ok
-    (then1 c.in_ok-recover.ensures.ok (then1 c.in_ok-procedures.ensures.ok
+pub returns-in-Ok-expect_sign-clause-ok : goal.returns-in-Ok-expect_sign-clause-ok
+returns-in-Ok-expect_sign-clause-ok c =
+    then_takes c.in-Ok-expect_sign.ensures.ok
+    (then_takes c.in-Ok-expect_keyword.ensures.ok
+    (then1 c.in-Ok-recover.ensures.ok (then1 c.in-Ok.ensures.ok
     (then1 c.in_ok-members.ensures.ok (then_takes c.in_ok-expect_sign.ensures.ok
     (then_takes c.in_ok-name.ensures.ok (monitor_begins c.in-Some.ensures.first c.in-Some.ensures.rest)
     (omega arith)) (omega arith)) (omega arith)) (omega arith)) (omega arith)) (omega arith)) (omega arith)

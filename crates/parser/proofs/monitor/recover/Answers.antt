@@ -16,15 +16,15 @@ returns-in_err-body-clause-err c =
     rw (p.1, p.2) (fail3 c.in_err-body.ensures.err (recover_begins c.in-Some.ensures.first c.in-Some.ensures.rest)
     (omega arith))
 
-pub returns-in_err-expect_sign-clause-err : goal.returns-in_err-expect_sign-clause-err
-returns-in_err-expect_sign-clause-err c =
-    let p = err_from_is_err_and c.from_residual-in_err-expect_sign.result
-    c.from_residual-in_err-expect_sign.ensures.1 in
-    rw (p.1, p.2) (fail_rejects c.in_err-expect_sign.ensures.err
+pub returns-in-Err-clause-err : goal.returns-in-Err-clause-err
+returns-in-Err-clause-err c =
+    let p = err_from_is_err_and c.refused.result
+    c.refused.ensures in
+    rw (p.1, p.2) (fail_rejects c.in-Err.ensures.err
     (then3 c.in_ok-body.ensures.ok (recover_begins c.in-Some.ensures.first c.in-Some.ensures.rest) (omega arith)))
 
-pub returns-clause-ok : goal.returns-clause-ok
-returns-clause-ok c =
-    done (then_takes c.in_ok-expect_sign.ensures.ok
+pub returns-in-Ok-clause-ok : goal.returns-in-Ok-clause-ok
+returns-in-Ok-clause-ok c =
+    done (then_takes c.in-Ok.ensures.ok
     (then3 c.in_ok-body.ensures.ok (recover_begins c.in-Some.ensures.first c.in-Some.ensures.rest) (omega arith))
     (omega arith))

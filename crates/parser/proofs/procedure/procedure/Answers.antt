@@ -22,59 +22,59 @@ returns-in_err-parameters-clause-err c =
     (then_takes c.in_ok-open_place.ensures.ok (then_takes c.in_ok-name.ensures.ok (here) (omega arith))
     (omega arith)) (omega arith))
 
-pub returns-in_err-expect_sign-clause-err : goal.returns-in_err-expect_sign-clause-err
-returns-in_err-expect_sign-clause-err c =
-    let p = err_from_is_err_and c.from_residual-in_err-expect_sign.result
-    c.from_residual-in_err-expect_sign.ensures.1 in
-    rw (p.1, p.2) (fail_rejects c.in_err-expect_sign.ensures.err
+pub returns-in-Err-clause-err : goal.returns-in-Err-clause-err
+returns-in-Err-clause-err c =
+    let p = err_from_is_err_and c.refused.result
+    c.refused.ensures in
+    rw (p.1, p.2) (fail_rejects c.in-Err.ensures.err
     (then1 c.in_ok-parameters.ensures.ok (then_takes c.in_ok-open_place.ensures.ok
     (then_takes c.in_ok-name.ensures.ok (here) (omega arith)) (omega arith)) (omega arith)))
 
-pub returns-in_err-returns-clause-err : goal.returns-in_err-returns-clause-err
-returns-in_err-returns-clause-err c =
-    let p = err_from_is_err_and c.from_residual-in_err-returns.result c.from_residual-in_err-returns.ensures.1 in
-    rw (p.1, p.2) (fail1 c.in_err-returns.ensures.err
-    (then_takes c.in_ok-expect_sign.ensures.ok
+pub returns-in-Err-returns-clause-err : goal.returns-in-Err-returns-clause-err
+returns-in-Err-returns-clause-err c =
+    let p = err_from_is_err_and c.refused-in-Err-returns.result c.refused-in-Err-returns.ensures in
+    rw (p.1, p.2) (fail1 c.in-Err-returns.ensures.err
+    (then_takes c.in-Ok.ensures.ok
     (then1 c.in_ok-parameters.ensures.ok (then_takes c.in_ok-open_place.ensures.ok
     (then_takes c.in_ok-name.ensures.ok (here) (omega arith)) (omega arith)) (omega arith)) (omega arith))
     (omega arith))
 
-pub returns-in_err-expect_sign-2-clause-err : goal.returns-in_err-expect_sign-2-clause-err
-returns-in_err-expect_sign-2-clause-err c =
-    let p = err_from_is_err_and c.from_residual-in_err-expect_sign-2.result
-    c.from_residual-in_err-expect_sign-2.ensures.1 in
-    rw (p.1, p.2) (fail_rejects c.in_err-expect_sign-2.ensures.err
-    (then1 c.in_ok-returns.ensures.ok (then_takes c.in_ok-expect_sign.ensures.ok
+pub returns-in-Err-expect_sign-clause-err : goal.returns-in-Err-expect_sign-clause-err
+returns-in-Err-expect_sign-clause-err c =
+    let p = err_from_is_err_and c.refused-in-Err-expect_sign.result
+    c.refused-in-Err-expect_sign.ensures in
+    rw (p.1, p.2) (fail_rejects c.in-Err-expect_sign.ensures.err
+    (then1 c.in-Ok-returns.ensures.ok (then_takes c.in-Ok.ensures.ok
     (then1 c.in_ok-parameters.ensures.ok (then_takes c.in_ok-open_place.ensures.ok
     (then_takes c.in_ok-name.ensures.ok (here) (omega arith)) (omega arith)) (omega arith)) (omega arith))
     (omega arith)))
 
-pub returns-in_err-body-clause-err : goal.returns-in_err-body-clause-err
-returns-in_err-body-clause-err c =
-    let p = err_from_is_err_and c.from_residual-in_err-body.result c.from_residual-in_err-body.ensures.1 in
-    rw (p.1, p.2) (fail3 c.in_err-body.ensures.err
-    (then_takes c.in_ok-expect_sign-2.ensures.ok
-    (then1 c.in_ok-returns.ensures.ok (then_takes c.in_ok-expect_sign.ensures.ok
+pub returns-in-Err-body-clause-err : goal.returns-in-Err-body-clause-err
+returns-in-Err-body-clause-err c =
+    let p = err_from_is_err_and c.refused-in-Err-body.result c.refused-in-Err-body.ensures in
+    rw (p.1, p.2) (fail3 c.in-Err-body.ensures.err
+    (then_takes c.in-Ok-expect_sign.ensures.ok
+    (then1 c.in-Ok-returns.ensures.ok (then_takes c.in-Ok.ensures.ok
     (then1 c.in_ok-parameters.ensures.ok (then_takes c.in_ok-open_place.ensures.ok
     (then_takes c.in_ok-name.ensures.ok (here) (omega arith)) (omega arith)) (omega arith)) (omega arith))
     (omega arith)) (omega arith)) (omega arith))
 
-pub returns-in_err-expect_sign-3-clause-err : goal.returns-in_err-expect_sign-3-clause-err
-returns-in_err-expect_sign-3-clause-err c =
-    let p = err_from_is_err_and c.from_residual-in_err-expect_sign-3.result
-    c.from_residual-in_err-expect_sign-3.ensures.1 in
-    rw (p.1, p.2) (fail_rejects c.in_err-expect_sign-3.ensures.err
-    (then3 c.in_ok-body.ensures.ok (then_takes c.in_ok-expect_sign-2.ensures.ok
-    (then1 c.in_ok-returns.ensures.ok (then_takes c.in_ok-expect_sign.ensures.ok
+pub returns-in-Err-expect_sign-2-clause-err : goal.returns-in-Err-expect_sign-2-clause-err
+returns-in-Err-expect_sign-2-clause-err c =
+    let p = err_from_is_err_and c.refused-in-Err-expect_sign-2.result
+    c.refused-in-Err-expect_sign-2.ensures in
+    rw (p.1, p.2) (fail_rejects c.in-Err-expect_sign-2.ensures.err
+    (then3 c.in-Ok-body.ensures.ok (then_takes c.in-Ok-expect_sign.ensures.ok
+    (then1 c.in-Ok-returns.ensures.ok (then_takes c.in-Ok.ensures.ok
     (then1 c.in_ok-parameters.ensures.ok (then_takes c.in_ok-open_place.ensures.ok
     (then_takes c.in_ok-name.ensures.ok (here) (omega arith)) (omega arith)) (omega arith)) (omega arith))
     (omega arith)) (omega arith)) (omega arith)))
 
-pub returns-clause-ok : goal.returns-clause-ok
-returns-clause-ok c =
-    done (then_takes c.in_ok-expect_sign-3.ensures.ok
-    (then3 c.in_ok-body.ensures.ok (then_takes c.in_ok-expect_sign-2.ensures.ok
-    (then1 c.in_ok-returns.ensures.ok (then_takes c.in_ok-expect_sign.ensures.ok
+pub returns-in-Ok-expect_sign-2-clause-ok : goal.returns-in-Ok-expect_sign-2-clause-ok
+returns-in-Ok-expect_sign-2-clause-ok c =
+    done (then_takes c.in-Ok-expect_sign-2.ensures.ok
+    (then3 c.in-Ok-body.ensures.ok (then_takes c.in-Ok-expect_sign.ensures.ok
+    (then1 c.in-Ok-returns.ensures.ok (then_takes c.in-Ok.ensures.ok
     (then1 c.in_ok-parameters.ensures.ok (then_takes c.in_ok-open_place.ensures.ok
     (then_takes c.in_ok-name.ensures.ok (here) (omega arith)) (omega arith)) (omega arith)) (omega arith))
     (omega arith)) (omega arith)) (omega arith)) (omega arith))

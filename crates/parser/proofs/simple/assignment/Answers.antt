@@ -13,27 +13,27 @@ returns-in_err-variable-clause-err c =
     rw (p.1, p.2) (fail1 c.in_err-variable.ensures.err (assigns c.requires.first c.pass.ensures.rest c.requires.depth)
     (omega arith))
 
-pub returns-in_err-expect_sign-clause-err : goal.returns-in_err-expect_sign-clause-err
-returns-in_err-expect_sign-clause-err c =
-    let p = err_from_is_err_and c.from_residual-in_err-expect_sign.result
-    c.from_residual-in_err-expect_sign.ensures.1 in
-    rw (p.1, p.2) (fail_rejects c.in_err-expect_sign.ensures.err
+pub returns-in-Err-clause-err : goal.returns-in-Err-clause-err
+returns-in-Err-clause-err c =
+    let p = err_from_is_err_and c.refused.result
+    c.refused.ensures in
+    rw (p.1, p.2) (fail_rejects c.in-Err.ensures.err
     (then1 c.in_ok-variable.ensures.ok (assigns c.requires.first c.pass.ensures.rest c.requires.depth)
     (omega arith)))
 
-pub returns-in_err-value-clause-err : goal.returns-in_err-value-clause-err
-returns-in_err-value-clause-err c =
-    let p = err_from_is_err_and c.from_residual-in_err-value.result c.from_residual-in_err-value.ensures.1 in
-    rw (p.1, p.2) (fail_enclosed c.in_err-value.ensures.err (then_takes c.in_ok-expect_sign.ensures.ok
+pub returns-in-Err-expression_before-clause-err : goal.returns-in-Err-expression_before-clause-err
+returns-in-Err-expression_before-clause-err c =
+    let p = err_from_is_err_and c.refused-in-Err-expression_before.result c.refused-in-Err-expression_before.ensures in
+    rw (p.1, p.2) (fail_enclosed c.in-Err-expression_before.ensures.err (then_takes c.in-Ok.ensures.ok
     (then1 c.in_ok-variable.ensures.ok (assigns c.requires.first c.pass.ensures.rest c.requires.depth) (omega arith))
     (omega arith)) (omega arith))
 
-pub returns-clause-ok : goal.returns-clause-ok
-returns-clause-ok c =
+pub returns-in-Ok-expression_before-clause-ok : goal.returns-in-Ok-expression_before-clause-ok
+returns-in-Ok-expression_before-clause-ok c =
     let index = (variable_of c.in_ok-variable.variable).index in
-    leads_as (λ y. ap (λ v. (Then (Assign v (expression_of c.in_ok-value.value)) y.0, tt))
+    leads_as (λ y. ap (λ v. (Then (Assign v (expression_of c.in-Ok-expression_before.value)) y.0, tt))
     (ap (λ n. record { name = n; index = index }) (sym c.in_ok-variable.ensures.name)))
     (then_enclosed (λ x y. (Then (Assign (record { name = name_of c.args.name; index = index }) x) y.0, tt))
-    (expression_of c.in_ok-value.value) c.in_ok-value.ensures.ok (then_takes c.in_ok-expect_sign.ensures.ok
+    (expression_of c.in-Ok-expression_before.value) c.in-Ok-expression_before.ensures.ok (then_takes c.in-Ok.ensures.ok
     (then1 c.in_ok-variable.ensures.ok (assigns c.requires.first c.pass.ensures.rest c.requires.depth) (omega arith))
     (omega arith)) (omega arith))

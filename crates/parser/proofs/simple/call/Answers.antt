@@ -13,26 +13,26 @@ returns-in_err-callee-clause-err c =
     rw (p.1, p.2) (fail_callee c.in_err-callee.ensures.err
     (calls c.requires.first c.pass.ensures.rest c.requires.depth) (omega arith))
 
-pub returns-in_err-into-clause-err : goal.returns-in_err-into-clause-err
-returns-in_err-into-clause-err c =
-    let p = err_from_is_err_and c.from_residual-in_err-into.result c.from_residual-in_err-into.ensures.1 in
-    rw (p.1, p.2) (fail1 c.in_err-into.ensures.err
+pub returns-in-Err-clause-err : goal.returns-in-Err-clause-err
+returns-in-Err-clause-err c =
+    let p = err_from_is_err_and c.refused.result c.refused.ensures in
+    rw (p.1, p.2) (fail1 c.in-Err.ensures.err
     (then_callee (λ x y. (Then (Call c.args.place x y.0) y.1.1.0, tt)) (callee_of c.in_ok-callee.callee)
     c.in_ok-callee.ensures.ok (calls c.requires.first c.pass.ensures.rest c.requires.depth) (omega arith))
     (omega arith))
 
-pub returns-in_err-expect_sign-clause-err : goal.returns-in_err-expect_sign-clause-err
-returns-in_err-expect_sign-clause-err c =
-    let p = err_from_is_err_and c.from_residual-in_err-expect_sign.result
-    c.from_residual-in_err-expect_sign.ensures.1 in
-    rw (p.1, p.2) (fail_rejects c.in_err-expect_sign.ensures.err
-    (then1 c.in_ok-into.ensures.ok (then_callee (λ x y. (Then (Call c.args.place x y.0) y.1.1.0, tt))
+pub returns-in-Err-expect_sign-clause-err : goal.returns-in-Err-expect_sign-clause-err
+returns-in-Err-expect_sign-clause-err c =
+    let p = err_from_is_err_and c.refused-in-Err-expect_sign.result
+    c.refused-in-Err-expect_sign.ensures in
+    rw (p.1, p.2) (fail_rejects c.in-Err-expect_sign.ensures.err
+    (then1 c.in-Ok.ensures.ok (then_callee (λ x y. (Then (Call c.args.place x y.0) y.1.1.0, tt))
     (callee_of c.in_ok-callee.callee) c.in_ok-callee.ensures.ok
     (calls c.requires.first c.pass.ensures.rest c.requires.depth) (omega arith)) (omega arith)))
 
-pub returns-clause-ok : goal.returns-clause-ok
-returns-clause-ok c =
-    then_takes c.in_ok-expect_sign.ensures.ok
-    (then1 c.in_ok-into.ensures.ok (then_callee (λ x y. (Then (Call c.args.place x y.0) y.1.1.0, tt))
+pub returns-in-Ok-expect_sign-clause-ok : goal.returns-in-Ok-expect_sign-clause-ok
+returns-in-Ok-expect_sign-clause-ok c =
+    then_takes c.in-Ok-expect_sign.ensures.ok
+    (then1 c.in-Ok.ensures.ok (then_callee (λ x y. (Then (Call c.args.place x y.0) y.1.1.0, tt))
     (callee_of c.in_ok-callee.callee) c.in_ok-callee.ensures.ok
     (calls c.requires.first c.pass.ensures.rest c.requires.depth) (omega arith)) (omega arith)) (omega arith)

@@ -17,47 +17,47 @@ returns-in_err-monitors-clause-err c =
     (unit_fails (fail1 c.in_err-monitors.ensures.err (then3 c.in_ok-name.ensures.ok (here) (omega arith))
     (omega arith)))
 
-pub returns-in_err-procedures-clause-err : goal.returns-in_err-procedures-clause-err
-returns-in_err-procedures-clause-err c =
-    let p = err_from_is_err_and c.from_residual-in_err-procedures.result c.from_residual-in_err-procedures.ensures.1 in
+pub returns-in-Err-clause-err : goal.returns-in-Err-clause-err
+returns-in-Err-clause-err c =
+    let p = err_from_is_err_and c.refused.result c.refused.ensures in
     rw (p.1, p.2)
-    (unit_fails (fail1 c.in_err-procedures.ensures.err
+    (unit_fails (fail1 c.in-Err.ensures.err
     (then1 c.in_ok-monitors.ensures.ok (then3 c.in_ok-name.ensures.ok (here) (omega arith)) (omega arith))
     (omega arith)))
 
-pub returns-in_err-main-clause-err : goal.returns-in_err-main-clause-err
-returns-in_err-main-clause-err c =
-    let p = err_from_is_err_and c.from_residual-in_err-main.result c.from_residual-in_err-main.ensures.1 in
+pub returns-in-Err-main_part-clause-err : goal.returns-in-Err-main_part-clause-err
+returns-in-Err-main_part-clause-err c =
+    let p = err_from_is_err_and c.refused-in-Err-main_part.result c.refused-in-Err-main_part.ensures in
     rw (p.1, p.2)
-    (unit_fails (fail4 c.in_err-main.ensures.err
-    (then1 c.in_ok-procedures.ensures.ok (then1 c.in_ok-monitors.ensures.ok
+    (unit_fails (fail4 c.in-Err-main_part.ensures.err
+    (then1 c.in-Ok.ensures.ok (then1 c.in_ok-monitors.ensures.ok
     (then3 c.in_ok-name.ensures.ok (here) (omega arith)) (omega arith)) (omega arith)) (omega arith)))
 
-pub returns-in_err-finish-clause-err : goal.returns-in_err-finish-clause-err
-returns-in_err-finish-clause-err c =
-    let p = err_from_is_err_and c.from_residual-in_err-finish.result c.from_residual-in_err-finish.ensures.1 in
+pub returns-in-Err-finish-clause-err : goal.returns-in-Err-finish-clause-err
+returns-in-Err-finish-clause-err c =
+    let p = err_from_is_err_and c.refused-in-Err-finish.result c.refused-in-Err-finish.ensures in
     rw (p.1, p.2)
     (inr
-    (unit_refused (then4 c.in_ok-main.ensures.ok
-    (then1 c.in_ok-procedures.ensures.ok (then1 c.in_ok-monitors.ensures.ok
+    (unit_refused (then4 c.in-Ok-main_part.ensures.ok
+    (then1 c.in-Ok.ensures.ok (then1 c.in_ok-monitors.ensures.ok
     (then3 c.in_ok-name.ensures.ok (here) (omega arith)) (omega arith)) (omega arith)) (omega arith))
-    c.in_err-finish.ensures.err))
+    c.in-Err-finish.ensures.err))
 
-pub returns-clause-ok : goal.returns-clause-ok
-returns-clause-ok c =
-    unit_reads (then4 c.in_ok-main.ensures.ok
-    (then1 c.in_ok-procedures.ensures.ok (then1 c.in_ok-monitors.ensures.ok
+pub returns-in-Ok-finish-clause-ok : goal.returns-in-Ok-finish-clause-ok
+returns-in-Ok-finish-clause-ok c =
+    unit_reads (then4 c.in-Ok-main_part.ensures.ok
+    (then1 c.in-Ok.ensures.ok (then1 c.in_ok-monitors.ensures.ok
     (then3 c.in_ok-name.ensures.ok (here) (omega arith)) (omega arith)) (omega arith)) (omega arith))
-    c.in_ok-finish.ensures.ok
+    c.in-Ok-finish.ensures.ok
 
 pub invariant_of-result : goal.invariant_of-result
 invariant_of-result c =
     record {
       within = within_read c.args.parser.now.rest.now
-          (whole c.in_ok-name.name c.in_ok-monitors.monitors.items c.in_ok-procedures.procedures.items
-          c.in_ok-main.main)
-          (unit_reads (then4 c.in_ok-main.ensures.ok
-          (then1 c.in_ok-procedures.ensures.ok (then1 c.in_ok-monitors.ensures.ok
+          (whole c.in_ok-name.name c.in_ok-monitors.monitors.items c.in-Ok.procedures.items
+          c.in-Ok-main_part.main)
+          (unit_reads (then4 c.in-Ok-main_part.ensures.ok
+          (then1 c.in-Ok.ensures.ok (then1 c.in_ok-monitors.ensures.ok
           (then3 c.in_ok-name.ensures.ok (here) (omega arith)) (omega arith)) (omega arith)) (omega arith))
-          c.in_ok-finish.ensures.ok);
+          c.in-Ok-finish.ensures.ok);
     }
