@@ -75,6 +75,7 @@ impl<'a> Process<'a> {
     ghost use Rattle.sourceruns.specs.Stages.{cause_of, end_of, part_at, process_of};
 
     /// Goes on before the next statement.
+    #[inline(always)]
     pub fn go_on(&mut self, entered: Option<u32>)
         ensures { process_of self.new ≡ goes_on entered (frame_of self.old.frame) (callers_of self.old.callers.items) }
     {

@@ -44,6 +44,7 @@ impl<'a> SourceState<'a> {
     }
 
     /// Does an action of a process that stands after it already.
+    #[inline(always)]
     pub fn perform(&mut self, process: u64, label: Label, effect: Effect) -> Result<(), AllocError>
         ensures { OnOk result ((after : ProcessOf) → (state_of self.old).process process ≡ Some after
             → IsDone process (label_of label) (effect_of effect) after (state_of self.old) (state_of self.new)) }

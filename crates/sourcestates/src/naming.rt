@@ -41,6 +41,7 @@ pub fn is_named(kind: &ActionKind, label: Label) -> bool
 }
 
 /// How an action of this label is named.
+#[inline(always)]
 pub fn named(label: Label) -> ActionKind
     ensures { kind_of result ≡ name_of (label_of label) }
 {
