@@ -21,7 +21,7 @@ use crate::simple::{
 use crate::start::{StatementStart, start_of};
 use expressions::expression;
 use scanner::{Keyword, Kind, Place, Refusal, Sign};
-use steps::Parser;
+use steps::{Parser, refused};
 use syntax::{Name, Statement};
 
 // Statements, as many as there are.
@@ -101,7 +101,10 @@ fn if_statement<'a>(
 {
     let inner = parser.open(depth)?;
     let condition = condition(parser, inner, Keyword::Then)?;
-    let parts = branches(parser, depth)?;
+    let parts = match branches(parser, depth) {
+        Ok(parts) => parts,
+        Err(refusal) => return refused(condition, refusal),
+    };
     let (then_part, else_part) = parts;
     Ok(Statement::If {
         place,
@@ -126,9 +129,15 @@ fn branches<'a>(
 {
     let inner = depth + 1;
     let then_part = statements(parser, inner)?;
-    let else_part = else_statements(parser, inner)?;
-    ending(parser, depth, Keyword::Endif)?;
-    Ok((then_part, else_part))
+    let else_part = match else_statements(parser, inner) {
+        Ok(else_part) => else_part,
+        Err(refusal) => return refused(then_part, refusal),
+    };
+    let parts = (then_part, else_part);
+    match ending(parser, depth, Keyword::Endif) {
+        Ok(()) => Ok(parts),
+        Err(refusal) => refused(parts, refusal),
+    }
 }
 
 // A WHILE.
@@ -146,13 +155,18 @@ fn while_statement<'a>(
 {
     let inner = parser.open(depth)?;
     let condition = condition(parser, inner, Keyword::Do)?;
-    let body = statements(parser, inner)?;
-    ending(parser, depth, Keyword::Endloop)?;
-    Ok(Statement::While {
-        place,
-        condition,
-        body,
-    })
+    let body = match statements(parser, inner) {
+        Ok(body) => body,
+        Err(refusal) => return refused(condition, refusal),
+    };
+    match ending(parser, depth, Keyword::Endloop) {
+        Ok(()) => Ok(Statement::While {
+            place,
+            condition,
+            body,
+        }),
+        Err(refusal) => refused((condition, body), refusal),
+    }
 }
 
 // A JOIN.
@@ -166,7 +180,10 @@ fn join<'a>(parser: &mut Parser<'_, 'a>, depth: u8, place: Place) -> Result<Stat
 {
     parser.pass();
     let process = expression(parser, depth)?;
-    let parts = join_parts(parser, depth)?;
+    let parts = match join_parts(parser, depth) {
+        Ok(parts) => parts,
+        Err(refusal) => return refused(process, refusal),
+    };
     let (into, aborted) = parts;
     Ok(Statement::Join {
         place,
@@ -230,6 +247,8 @@ fn aborted_statements<'a>(
     }
     let inner = parser.open(depth)?;
     let part = statements(parser, inner)?;
-    parser.expect_keyword(Keyword::End)?;
-    Ok(Some(part))
+    match parser.expect_keyword(Keyword::End) {
+        Ok(()) => Ok(Some(part)),
+        Err(refusal) => refused(part, refusal),
+    }
 }

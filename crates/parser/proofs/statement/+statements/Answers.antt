@@ -18,10 +18,10 @@ use Rattle.parser.proofs.Steps.{fail_condition}
 use Rattle.parser.proofs.Begun.{ifs, whiles, joins, aborts}
 use Rattle.parser.proofs.statement.+statements.Goals as goal
 
-pub aborted_statements-returns-clause-ok : goal.aborted_statements-returns-clause-ok
-aborted_statements-returns-clause-ok t c =
+pub aborted_statements-returns-in-Ok-clause-ok : goal.aborted_statements-returns-in-Ok-clause-ok
+aborted_statements-returns-in-Ok-clause-ok t c =
     let e : lexeme_at (ahead c.args.parser.now) ≡ Word K.Aborted = search rules in
-    done (close (then_takes c.in_ok-expect_keyword.ensures.ok
+    done (close (then_takes c.in-Ok.ensures.ok
     (then1 c.in_ok-part.ensures.ok (aborts e c.in_ok-inner.ensures.rest
     (omega (arith, c.in_ok-inner.ensures.ok.0, c.in_ok-inner.ensures.ok.1)))
     (omega (arith, c.in_ok-inner.ensures.ok.0, c.in_ok-inner.ensures.ok.1)))
@@ -36,10 +36,10 @@ if_statement-returns-in_err-condition-clause-err t c =
     (omega (arith, c.in_ok-inner.ensures.ok.0, c.in_ok-inner.ensures.ok.1)))
     (omega (arith, c.in_ok-inner.ensures.ok.0, c.in_ok-inner.ensures.ok.1)))
 
-pub if_statement-returns-in_err-parts-clause-err : goal.if_statement-returns-in_err-parts-clause-err
-if_statement-returns-in_err-parts-clause-err t c =
-    let p = err_from_is_err_and c.from_residual-in_err-parts.result c.from_residual-in_err-parts.ensures.1 in
-    rw (p.1, p.2) (fail5 c.in_err-parts.ensures.err
+pub if_statement-returns-in-Err-clause-err : goal.if_statement-returns-in-Err-clause-err
+if_statement-returns-in-Err-clause-err t c =
+    let p = err_from_is_err_and c.refused.result c.refused.ensures in
+    rw (p.1, p.2) (fail5 c.in-Err.ensures.err
     (then_condition (λ x u. (Then (If c.args.place x u.0 u.1.0) u.1.1.1.1.1.0, tt))
     (expression_of c.in_ok-condition.condition) c.in_ok-condition.ensures.ok
     (ifs c.requires.first c.in_ok-inner.ensures.rest
@@ -49,8 +49,8 @@ if_statement-returns-in_err-parts-clause-err t c =
 pub if_statement-returns-clause-ok : goal.if_statement-returns-clause-ok
 if_statement-returns-clause-ok t c =
     leads_as (λ y. ap (λ s. (Then s y.0, tt))
-    (sym (if_made c.args.place c.in_ok-condition.condition c.in_ok-parts.parts.0 c.in_ok-parts.parts.1)))
-    (then5 c.in_ok-parts.ensures.ok (then_condition
+    (sym (if_made c.args.place c.in_ok-condition.condition c.in-Ok.parts.0 c.in-Ok.parts.1)))
+    (then5 c.in-Ok.ensures.ok (then_condition
     (λ x u. (Then (If c.args.place x u.0 u.1.0) u.1.1.1.1.1.0, tt)) (expression_of c.in_ok-condition.condition)
     c.in_ok-condition.ensures.ok (ifs c.requires.first c.in_ok-inner.ensures.rest
     (omega (arith, c.in_ok-inner.ensures.ok.0, c.in_ok-inner.ensures.ok.1)))
@@ -62,25 +62,25 @@ branches-returns-in_err-then_part-clause-err t c =
     rw (p.1, p.2) (fail1 c.in_err-then_part.ensures.err
     (here {σ = Statements ∷ AnElse ∷ AWord K.Endif ∷ Closed ∷ AMark S.Semicolon ∷ []}) (omega arith))
 
-pub branches-returns-in_err-else_part-clause-err : goal.branches-returns-in_err-else_part-clause-err
-branches-returns-in_err-else_part-clause-err t c =
-    let p = err_from_is_err_and c.from_residual-in_err-else_part.result c.from_residual-in_err-else_part.ensures.1
+pub branches-returns-in-Err-clause-err : goal.branches-returns-in-Err-clause-err
+branches-returns-in-Err-clause-err t c =
+    let p = err_from_is_err_and c.refused.result c.refused.ensures
     in
-    rw (p.1, p.2) (fail1 c.in_err-else_part.ensures.err
+    rw (p.1, p.2) (fail1 c.in-Err.ensures.err
     (then1 c.in_ok-then_part.ensures.ok (here
     {σ = Statements ∷ AnElse ∷ AWord K.Endif ∷ Closed ∷ AMark S.Semicolon ∷ []}) (omega arith)) (omega arith))
 
-pub branches-returns-in_err-ending-clause-err : goal.branches-returns-in_err-ending-clause-err
-branches-returns-in_err-ending-clause-err t c =
-    let p = err_from_is_err_and c.from_residual-in_err-ending.result c.from_residual-in_err-ending.ensures.1 in
-    rw (p.1, p.2) (fail3 c.in_err-ending.ensures.err
-    (then1 c.in_ok-else_part.ensures.ok (then1 c.in_ok-then_part.ensures.ok
+pub branches-returns-in-Err-ending-clause-err : goal.branches-returns-in-Err-ending-clause-err
+branches-returns-in-Err-ending-clause-err t c =
+    let p = err_from_is_err_and c.refused-in-Err-ending.result c.refused-in-Err-ending.ensures in
+    rw (p.1, p.2) (fail3 c.in-Err-ending.ensures.err
+    (then1 c.in-Ok.ensures.ok (then1 c.in_ok-then_part.ensures.ok
     (here {σ = Statements ∷ AnElse ∷ AWord K.Endif ∷ Closed ∷ AMark S.Semicolon ∷ []}) (omega arith))
     (omega arith)) (omega arith))
 
-pub branches-returns-clause-ok : goal.branches-returns-clause-ok
-branches-returns-clause-ok t c =
-    done (then3 c.in_ok-ending.ensures.ok (then1 c.in_ok-else_part.ensures.ok
+pub branches-returns-in-Ok-ending-clause-ok : goal.branches-returns-in-Ok-ending-clause-ok
+branches-returns-in-Ok-ending-clause-ok t c =
+    done (then3 c.in-Ok-ending.ensures.ok (then1 c.in-Ok.ensures.ok
     (then1 c.in_ok-then_part.ensures.ok (here
     {σ = Statements ∷ AnElse ∷ AWord K.Endif ∷ Closed ∷ AMark S.Semicolon ∷ []}) (omega arith)) (omega arith))
     (omega arith))
@@ -94,10 +94,10 @@ while_statement-returns-in_err-condition-clause-err t c =
     (omega (arith, c.in_ok-inner.ensures.ok.0, c.in_ok-inner.ensures.ok.1)))
     (omega (arith, c.in_ok-inner.ensures.ok.0, c.in_ok-inner.ensures.ok.1)))
 
-pub while_statement-returns-in_err-body-clause-err : goal.while_statement-returns-in_err-body-clause-err
-while_statement-returns-in_err-body-clause-err t c =
-    let p = err_from_is_err_and c.from_residual-in_err-body.result c.from_residual-in_err-body.ensures.1 in
-    rw (p.1, p.2) (fail1 c.in_err-body.ensures.err
+pub while_statement-returns-in-Err-clause-err : goal.while_statement-returns-in-Err-clause-err
+while_statement-returns-in-Err-clause-err t c =
+    let p = err_from_is_err_and c.refused.result c.refused.ensures in
+    rw (p.1, p.2) (fail1 c.in-Err.ensures.err
     (then_condition (λ x u. (Then (While c.args.place x u.0) u.1.1.1.1.0, tt))
     (expression_of c.in_ok-condition.condition) c.in_ok-condition.ensures.ok
     (whiles c.requires.first c.in_ok-inner.ensures.rest
@@ -105,22 +105,22 @@ while_statement-returns-in_err-body-clause-err t c =
     (omega (arith, c.in_ok-inner.ensures.ok.0, c.in_ok-inner.ensures.ok.1)))
     (omega (arith, c.in_ok-inner.ensures.ok.0, c.in_ok-inner.ensures.ok.1)))
 
-pub while_statement-returns-in_err-ending-clause-err : goal.while_statement-returns-in_err-ending-clause-err
-while_statement-returns-in_err-ending-clause-err t c =
-    let p = err_from_is_err_and c.from_residual-in_err-ending.result c.from_residual-in_err-ending.ensures.1 in
-    rw (p.1, p.2) (fail3 c.in_err-ending.ensures.err
-    (then1 c.in_ok-body.ensures.ok (then_condition (λ x u. (Then (While c.args.place x u.0) u.1.1.1.1.0, tt))
+pub while_statement-returns-in-Err-ending-clause-err : goal.while_statement-returns-in-Err-ending-clause-err
+while_statement-returns-in-Err-ending-clause-err t c =
+    let p = err_from_is_err_and c.refused-in-Err-ending.result c.refused-in-Err-ending.ensures in
+    rw (p.1, p.2) (fail3 c.in-Err-ending.ensures.err
+    (then1 c.in-Ok.ensures.ok (then_condition (λ x u. (Then (While c.args.place x u.0) u.1.1.1.1.0, tt))
     (expression_of c.in_ok-condition.condition) c.in_ok-condition.ensures.ok
     (whiles c.requires.first c.in_ok-inner.ensures.rest
     (omega (arith, c.in_ok-inner.ensures.ok.0, c.in_ok-inner.ensures.ok.1)))
     (omega (arith, c.in_ok-inner.ensures.ok.0, c.in_ok-inner.ensures.ok.1)))
     (omega (arith, c.in_ok-inner.ensures.ok.0, c.in_ok-inner.ensures.ok.1))) (omega arith))
 
-pub while_statement-returns-clause-ok : goal.while_statement-returns-clause-ok
-while_statement-returns-clause-ok t c =
+pub while_statement-returns-in-Ok-ending-clause-ok : goal.while_statement-returns-in-Ok-ending-clause-ok
+while_statement-returns-in-Ok-ending-clause-ok t c =
     leads_as (λ y. ap (λ s. (Then s y.0, tt))
-    (sym (while_made c.args.place c.in_ok-condition.condition c.in_ok-body.body)))
-    (then3 c.in_ok-ending.ensures.ok (then1 c.in_ok-body.ensures.ok
+    (sym (while_made c.args.place c.in_ok-condition.condition c.in-Ok.body)))
+    (then3 c.in-Ok-ending.ensures.ok (then1 c.in-Ok.ensures.ok
     (then_condition (λ x u. (Then (While c.args.place x u.0) u.1.1.1.1.0, tt))
     (expression_of c.in_ok-condition.condition) c.in_ok-condition.ensures.ok
     (whiles c.requires.first c.in_ok-inner.ensures.rest
@@ -134,10 +134,10 @@ join-returns-in_err-process-clause-err t c =
     rw (p.1, p.2) (fail_expression c.in_err-process.ensures.err
     (joins c.requires.first c.pass.ensures.rest c.requires.depth) (omega arith))
 
-pub join-returns-in_err-parts-clause-err : goal.join-returns-in_err-parts-clause-err
-join-returns-in_err-parts-clause-err t c =
-    let p = err_from_is_err_and c.from_residual-in_err-parts.result c.from_residual-in_err-parts.ensures.1 in
-    rw (p.1, p.2) (fail3 c.in_err-parts.ensures.err
+pub join-returns-in-Err-clause-err : goal.join-returns-in-Err-clause-err
+join-returns-in-Err-clause-err t c =
+    let p = err_from_is_err_and c.refused.result c.refused.ensures in
+    rw (p.1, p.2) (fail3 c.in-Err.ensures.err
     (then_expression (λ x u. (Then (Join c.args.place x u.0 u.1.0) u.1.1.1.0, tt))
     (expression_of c.in_ok-process.process) c.in_ok-process.ensures.ok
     (joins c.requires.first c.pass.ensures.rest c.requires.depth) (omega arith)) (omega arith))
@@ -145,8 +145,8 @@ join-returns-in_err-parts-clause-err t c =
 pub join-returns-clause-ok : goal.join-returns-clause-ok
 join-returns-clause-ok t c =
     leads_as (λ y. ap (λ s. (Then s y.0, tt))
-    (sym (join_made c.args.place c.in_ok-process.process c.in_ok-parts.parts.0 c.in_ok-parts.parts.1)))
-    (then3 c.in_ok-parts.ensures.ok (then_expression (λ x u. (Then (Join c.args.place x u.0 u.1.0) u.1.1.1.0, tt))
+    (sym (join_made c.args.place c.in_ok-process.process c.in-Ok.parts.0 c.in-Ok.parts.1)))
+    (then3 c.in-Ok.ensures.ok (then_expression (λ x u. (Then (Join c.args.place x u.0 u.1.0) u.1.1.1.0, tt))
     (expression_of c.in_ok-process.process) c.in_ok-process.ensures.ok
     (joins c.requires.first c.pass.ensures.rest c.requires.depth) (omega arith)) (omega arith))
 
@@ -362,13 +362,13 @@ aborted_statements-returns-in_err-part-clause-err t c =
     (omega (arith, c.in_ok-inner.ensures.ok.0, c.in_ok-inner.ensures.ok.1)))
     (omega (arith, c.in_ok-inner.ensures.ok.0, c.in_ok-inner.ensures.ok.1)))
 
-pub aborted_statements-returns-in_err-expect_keyword-clause-err :
-    goal.aborted_statements-returns-in_err-expect_keyword-clause-err
-aborted_statements-returns-in_err-expect_keyword-clause-err t c =
+pub aborted_statements-returns-in-Err-clause-err :
+    goal.aborted_statements-returns-in-Err-clause-err
+aborted_statements-returns-in-Err-clause-err t c =
     let e : lexeme_at (ahead c.args.parser.now) ≡ Word K.Aborted = search rules in
-    let p = err_from_is_err_and c.from_residual-in_err-expect_keyword.result
-    c.from_residual-in_err-expect_keyword.ensures.1 in
-    rw (p.1, p.2) (fail_rejects c.in_err-expect_keyword.ensures.err
+    let p = err_from_is_err_and c.refused.result
+    c.refused.ensures in
+    rw (p.1, p.2) (fail_rejects c.in-Err.ensures.err
     (then1 c.in_ok-part.ensures.ok (aborts e c.in_ok-inner.ensures.rest
     (omega (arith, c.in_ok-inner.ensures.ok.0, c.in_ok-inner.ensures.ok.1)))
     (omega (arith, c.in_ok-inner.ensures.ok.0, c.in_ok-inner.ensures.ok.1))))
