@@ -21,10 +21,38 @@
 //!
 //! Empty lines and lines that begin with `#` say nothing. With no `text`, `times`, `bytes` and `again` there is no
 //! program.mesa, with no `schedule` no program.schedule, and with no `image` there may be no program.image afterwards.
+//!
+//! Beside these there are rows of one line, of which what comes is printed:
+//!
+//! ```text
+//! actions LIST | TEXT         a list of actions of the program of this text
+//! logs COUNT MOST | TEXT      so many logs of the program's image, each of so many entries at most
+//! ```
+//!
+//! A list has actions, with commas between them; an action is the process, the action's name, and its numbers:
+//!
+//! ```text
+//! assign  test  call  return  end             none
+//! print NUMBER                                the number printed
+//! fork PROCESS  claim PROCESS  join PROCESS   the process made, claimed or joined
+//! fault NUMBER                                the fault, from 1 to 8
+//! enter MONITOR  exit MONITOR                 the monitor, from 0 in the order of the text
+//! resume MONITOR  abandon MONITOR
+//! wait MONITOR MEMBER                         the monitor and the condition, from 0 among its members
+//! notify MONITOR MEMBER PROCESS ..            the same, and the processes resumed
+//! broadcast MONITOR MEMBER PROCESS ..
+//! ```
+//!
+//! Of a list that is a run of its program the line printed has the processes that can move at its end and the numbers
+//! printed; of any other it has the first action that isn't possible, from 1.
+//!
+//! Logs are explained, and forged ones too (`logtrials`): the line printed tells how many logs were explained by runs of
+//! the program, and how many were refused as another image's, or forged in each way.
 #![tactic(auto)]
 
 mod device;
 mod fault;
+mod lists;
 mod outcome;
 mod row;
 mod tally;
@@ -37,7 +65,10 @@ fn main(rt: HostRuntime) -> io::Result<ExitCode> {
     let mut tally = Tally::new();
     for line in rt.lines(rt.alloc()) {
         let line = line?;
-        tally.take_line(&rt, line.as_str())?;
+        let line = line.as_str();
+        if !lists::take_line(&rt, line)? {
+            tally.take_line(&rt, line)?;
+        }
     }
     tally.finish(&rt)
 }

@@ -1,4 +1,5 @@
 use isa::DecodeFault;
+use scanner::Refusal;
 use std::alloc::{AllocError, AllocFailed};
 use std::io;
 use thiserror::Error;
@@ -15,6 +16,9 @@ pub enum Failure {
     /// Its bytes are no image.
     #[error("{0}")]
     Image(DecodeFault),
+    /// It is no source text.
+    #[error("{0}")]
+    Text(Refusal),
     /// There is no memory for it.
     #[error("memory")]
     Memory,
@@ -26,6 +30,12 @@ pub enum Failure {
 impl From<DecodeFault> for Failure {
     fn from(fault: DecodeFault) -> Failure {
         Failure::Image(fault)
+    }
+}
+
+impl From<Refusal> for Failure {
+    fn from(refusal: Refusal) -> Failure {
+        Failure::Text(refusal)
     }
 }
 

@@ -1,11 +1,12 @@
 use crate::failure::Failure;
-use isa::{DecodeFault, Image, decode, encode};
+use isa::{DecodeFault, Image, decode, encode, read_back};
 
-/// Prints the parts of the image that the digits spell, and whether it is spelled so.
+/// Prints the parts of the image that the digits spell, as they are read back, and whether it is spelled so.
 pub fn show_image(rt: &HostRuntime, digits: &str) -> Result<(), Failure> {
     let bytes = hex::decode(rt.alloc(), digits).map_err(|_| Failure::Row)?;
     let image = decode(rt.alloc(), bytes.as_slice())?;
     let same = encode(rt.alloc(), &image)?.as_slice() == bytes.as_slice();
+    let image = read_back(rt.alloc(), &image)?.copy(rt.alloc())?;
     let monitors = image.monitors();
     println!(rt;
         "  monitors {monitors:?}, start {}, spelled so: {same}",

@@ -3,7 +3,8 @@
 //! A row is `image` or `beginnings` and the bytes of an image in hexadecimal digits, or a call and its numbers, over
 //! 512 words and 64 threads: `buckets N` makes them anew, and `load 385` or `wait 5 385 6` is a call on them. A row
 //! that begins with a number sign is printed as it is. `code` and `answer` take the steps of one thread: how many
-//! instructions there are, their bytes in hexadecimal digits, and its operands.
+//! instructions there are, their bytes in hexadecimal digits, and its operands. `tokens` is followed by a source text,
+//! `spelled` by one in hexadecimal digits, and `blanks` by the length of one that is nothing but blanks.
 #![tactic(auto)]
 
 mod answer;
@@ -11,6 +12,7 @@ mod failure;
 mod images;
 mod layers;
 mod threads;
+mod tokens;
 mod walk;
 
 use crate::answer::show;
@@ -18,6 +20,7 @@ use crate::failure::Failure;
 use crate::images::{show_beginnings, show_image};
 use crate::layers::Layers;
 use crate::threads::{show_answered, show_code};
+use crate::tokens::{show_blanks, show_spelled, show_tokens};
 use std::io;
 
 // How many buckets there are at the start.
@@ -62,6 +65,9 @@ fn run_row(rt: &HostRuntime, layers: &mut Layers, row: &str) -> Result<(), Failu
         "beginnings" => show_beginnings(rt, rest),
         "code" => show_code(rt, rest),
         "answer" => show_answered(rt, rest),
+        "tokens" => show_tokens(rt, rest.as_bytes()),
+        "spelled" => show_spelled(rt, rest),
+        "blanks" => show_blanks(rt, rest),
         _ => call(rt, layers, name, rest),
     }
 }

@@ -1,6 +1,6 @@
-use crate::failure::Failure;
-use crate::reading::program_of;
-use backend::image_of;
+use crate::lists::failure::Failure;
+use compiler::{compile, compile_checked};
+use isa::Image;
 use logtrials::{Subject, Trial, try_logs};
 use program::Checked;
 use std::alloc::Global;
@@ -9,24 +9,31 @@ use std::io;
 // A program whose image is none of a row's.
 const OTHER: &[u8] = b"PROGRAM P; MAIN END.";
 
-/// Prints what comes of logs of a program's image: how many there are is said, and of how many entries each at most.
-pub fn show_logs(rt: &HostRuntime, checked: &Checked, said: &str) -> Result<(), Failure> {
-    let (count, most) = said.split_once(' ').ok_or(Failure::Row)?;
+/// Prints what comes of logs of the image of the program whose text stands in the row, behind how many logs there are,
+/// and of how many entries each at most.
+pub fn show_logs(rt: &HostRuntime, row: &str) -> Result<(), Failure> {
+    let (said, text) = row.split_once('|').ok_or(Failure::Row)?;
+    let (count, most) = said.trim().split_once(' ').ok_or(Failure::Row)?;
     let count: u32 = count.parse().map_err(|_| Failure::Row)?;
     let most: u32 = most.parse().map_err(|_| Failure::Row)?;
-    let trial = trial_of(rt.alloc(), checked, count, most)?;
+    let (checked, image) = compile_checked(rt.alloc(), text.as_bytes())?;
+    let trial = trial_of(rt.alloc(), &checked, &image, count, most)?;
     show_trial(rt, &trial)?;
     Ok(())
 }
 
-fn trial_of(alloc: Global, checked: &Checked, count: u32, most: u32) -> Result<Trial, Failure> {
-    let image = image_of(alloc, checked)?;
-    let program = program_of(alloc, OTHER)?;
-    let other = image_of(alloc, &program)?;
+fn trial_of(
+    alloc: Global,
+    checked: &Checked,
+    image: &Image,
+    count: u32,
+    most: u32,
+) -> Result<Trial, Failure> {
+    let other = compile(alloc, OTHER)?;
     let subject = Subject {
         alloc,
         checked,
-        image: &image,
+        image,
         other: &other,
     };
     Ok(try_logs(&subject, count, most)?)

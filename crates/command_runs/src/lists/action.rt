@@ -1,4 +1,4 @@
-use crate::failure::Failure;
+use crate::lists::failure::Failure;
 use program::Member;
 use sourcestates::{Action, ActionKind};
 use std::alloc::{AllocError, Global};

@@ -1,0 +1,30 @@
+//! Lists of source actions, and logs of images, which stand in rows of one line.
+
+mod action;
+mod failure;
+mod logs;
+mod runs;
+
+use crate::lists::failure::Failure;
+use crate::lists::logs::show_logs;
+use crate::lists::runs::show_actions;
+use std::io;
+
+/// Prints what comes of a row of one line, or why nothing does; false where this line is none.
+pub fn take_line(rt: &HostRuntime, line: &str) -> io::Result<bool> {
+    let (key, row) = line.split_once(' ').unwrap_or((line, ""));
+    let shown = match key {
+        "actions" => show_actions(rt, row),
+        "logs" => show_logs(rt, row),
+        _ => return Ok(false),
+    };
+    show_failure(rt, shown)?;
+    Ok(true)
+}
+
+fn show_failure(rt: &HostRuntime, shown: Result<(), Failure>) -> io::Result<()> {
+    match shown {
+        Ok(()) => Ok(()),
+        Err(failure) => println!(rt; "{failure}"),
+    }
+}
