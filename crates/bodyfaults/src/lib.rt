@@ -7,6 +7,6 @@ mod simple;
 mod values;
 
 pub use callee::{callee_place, is_empty, is_hidden, is_internal, is_miscounted, is_reentry};
-pub use names::{condition, into, note_where, outside, recover, taker};
+pub use names::{condition, has_monitor, into, is_recover, note_where, outside, recover, taker};
 pub use simple::{join, notify, print, returned, wait};
 pub use values::{assignment, typed};

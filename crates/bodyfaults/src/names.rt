@@ -28,8 +28,8 @@ pub fn note_where(
     least
 }
 
-// Whether a piece is a RECOVER part.
-fn is_recover(role: Role) -> bool
+/// Whether a piece is a RECOVER part.
+pub fn is_recover(role: Role) -> bool
     ensures { result ≡ f.is_recover role }
 {
     match role {
@@ -38,8 +38,8 @@ fn is_recover(role: Role) -> bool
     }
 }
 
-// Whether a piece belongs to a monitor.
-fn has_monitor(role: Role) -> bool
+/// Whether a piece belongs to a monitor.
+pub fn has_monitor(role: Role) -> bool
     ensures { result ≡ f.has_monitor role }
 {
     match role {

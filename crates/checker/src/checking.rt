@@ -15,7 +15,7 @@ use soundness::faultless_units_are_well_formed;
 use std::alloc::Global;
 use syntax::Unit;
 use unitfaults::first_fault;
-use unitresolver::resolve;
+use unitresolver::{Resolved, resolve};
 
 /// The program of a unit, resolved and well formed.
 ///
@@ -32,9 +32,13 @@ pub fn check<'a>(alloc: Global, unit: &Unit<'a>) -> Result<Checked<'a>, Refusal>
 {
     faultless_units_are_well_formed();
     let callees = Callees::new(alloc, unit)?;
-    if let Some(fault) = first_fault(alloc, unit, &callees)? {
+    let Resolved {
+        program,
+        names,
+        are_bodies_clean,
+    } = resolve(alloc, unit, &callees)?;
+    if let Some(fault) = first_fault(alloc, unit, &callees, are_bodies_clean)? {
         return Err(fault);
     }
-    let (program, names) = resolve(alloc, unit, &callees)?;
     Ok(Checked::new(program, names))
 }

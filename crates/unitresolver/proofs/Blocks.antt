@@ -1,8 +1,9 @@
 -- Statements in code, as blocks of the tree.
-use Rattle.std.proofs.Common.{◌≡◌, ◌<◌, ◌+◌, ℕ, suc, List, [], ◌∷◌, ◌++◌, Option, Some, None, Vec, Global}
+use Rattle.std.proofs.Common.{◌≡◌, ◌<◌, ◌+◌, ℕ, suc, List, [], ◌∷◌, ◌++◌, Option, Some, None, Vec, Global, Bool}
 use Rattle.std.proofs.Common.{length, drop, get_or, drop-cons, refl, ap, ◌∙◌, sym, arith}
 use Rattle.syntax.specs.declared.statement.Statement.{Statement as Tree}
 use Rattle.syntax.specs.View as v
+use Rattle.types.specs.CallFaults.{block_faults, part_faults}
 use Rattle.types.specs.Scope.{Scope}
 use Rattle.types.specs.Statements as st
 use Rattle.program.specs.declared.statement.Statement.{Statement}
@@ -13,6 +14,8 @@ use Rattle.program.specs.declared.expression.Expression.{Expression}
 use Rattle.program.specs.declared.statement.Statement.TheViews.{If as IfOf, While as WhileOf, Join as JoinOf}
 use Rattle.program.specs.Trees.{Block, Then, If, While, Join, NoPart, SomePart}
 use Rattle.program.specs.Views.{expression_of, statement_of, block_of, block_before, block_in, part_in}
+use Rattle.resolver.specs.Clean.{is_clean}
+use Rattle.unitresolver.specs.Sites.{part_made, is_part_clean}
 
 row_block : {n : _} (row : Row_of-Statement n) → block_of row ≡ block_in (items-the_row-Statement _ row)
 row_block end_of-Statement = refl
@@ -37,17 +40,28 @@ pub join_made : (e : Expression) (into : Option ℕ) (o : Option (Vec Statement 
 join_made e into None = refl
 join_made e into (Some w) = ap (λ x. Join (expression_of e) into (SomePart x)) (vec_block w)
 
--- the statements of a part, where there is one
-pub some_part : (s : Scope) (made : Option (Vec Statement Global)) (trees : Option (Vec Tree Global))
-    (b : Vec Statement Global) (w : Vec Tree Global) (ts : List Tree) → made ≡ Some b → trees ≡ Some w → ts ≡ w.items
-    → block_in b.items ≡ st.block s (v.statements_in ts) → part_in made ≡ st.part s (v.part_in trees)
-some_part s made trees b w ts is there same e =
-    ap part_in is ∙ ap SomePart (e ∙ ap (λ l. st.block s (v.statements_in l)) same)
-    ∙ ap (λ o. st.part s (v.part_in o)) (sym there)
+-- the statements of a part, where there is one, and whether they are clean
+abbrev pub IsPart : Scope → Option (Vec Tree Global) → Option (Vec Statement Global × Bool) → Type 0
+IsPart s trees made = (part_made made ≡ st.part s (v.part_in trees))
+    × (is_part_clean made ≡ is_clean (part_faults s (v.part_in trees)))
 
-pub no_part : (s : Scope) (made : Option (Vec Statement Global)) (trees : Option (Vec Tree Global)) → made ≡ None
-    → trees ≡ None → part_in made ≡ st.part s (v.part_in trees)
-no_part s made trees is there = ap part_in is ∙ ap (λ o. st.part s (v.part_in o)) (sym there)
+pub some_part : (s : Scope) (made : Option (Vec Statement Global × Bool)) (trees : Option (Vec Tree Global))
+    (b : Vec Statement Global × Bool) (w : Vec Tree Global) (ts : List Tree) → made ≡ Some b → trees ≡ Some w
+    → ts ≡ w.items → block_in b.0.items ≡ st.block s (v.statements_in ts)
+    → b.1 ≡ is_clean (block_faults s (v.statements_in ts)) → IsPart s trees made
+some_part s made trees b w ts is there same e f = (
+  ap part_made is ∙ ap SomePart (e ∙ ap (λ l. st.block s (v.statements_in l)) same)
+      ∙ ap (λ o. st.part s (v.part_in o)) (sym there),
+  ap is_part_clean is ∙ f ∙ ap (λ l. is_clean (block_faults s (v.statements_in l))) same
+      ∙ ap (λ o. is_clean (part_faults s (v.part_in o))) (sym there),
+)
+
+pub no_part : (s : Scope) (made : Option (Vec Statement Global × Bool)) (trees : Option (Vec Tree Global))
+    → made ≡ None → trees ≡ None → IsPart s trees made
+no_part s made trees is there = (
+  ap part_made is ∙ ap (λ o. st.part s (v.part_in o)) (sym there),
+  ap is_part_clean is ∙ ap (λ o. is_clean (part_faults s (v.part_in o))) (sym there),
+)
 
 -- one more statement in front of others
 block_more : (ss : List Statement) (m : Statement) (later : Block)

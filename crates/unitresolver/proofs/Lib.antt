@@ -1,4 +1,5 @@
 pub mod Blocks
+pub mod Clean
 pub mod Pieces
 pub mod Resolving
 pub mod Rows

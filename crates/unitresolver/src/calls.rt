@@ -1,28 +1,24 @@
-// CALL, FORK and JOIN.
+// CALL, FORK, JOIN and WAIT, and what NOTIFY and BROADCAST name.
 
-ghost use Rattle.std.specs.Prelude.{◌≡◌, IfOk};
+ghost use Rattle.std.specs.Prelude.{◌≡◌, ◌++◌, IfOk};
 ghost use Rattle.scanner.specs.declared.token.Place.{Place as PlaceOf};
-ghost use Rattle.program.specs.Trees as t;
-ghost use Rattle.program.specs.Views.{statement_of, part_in};
-ghost use Rattle.syntax.specs.Tree.{Call, Fork};
+ghost use Rattle.program.specs.Views.{part_in};
+ghost use Rattle.syntax.specs.Tree.{PartTree, Call, Fork, Join, Return, Wait as WaitOf};
 ghost use Rattle.syntax.specs.View as v;
-ghost use Rattle.types.specs.Expressions as e;
-ghost use Rattle.types.specs.Scope.{Scope};
+ghost use Rattle.types.specs.CallFaults as c;
+ghost use Rattle.types.specs.Scope.{Scope, meaning};
 ghost use Rattle.types.specs.Statements as st;
+ghost use Rattle.resolver.specs.Clean.{is_clean, IsJudged};
 ghost use Rattle.unitresolver.specs.Sites.{IsSite};
 
+use crate::called::{called, forked};
+use crate::flags::both;
 use crate::site::Site;
-use program::Statement;
-use resolver::{arguments, expression, into, local};
+use bodyfaults::{has_monitor, is_recover};
+use program::{Member, Statement, ValueType};
+use resolver::{Judged, arguments, condition_of, into, local, returned, typed};
 use std::alloc::{AllocError, Global};
 use syntax::{Callee, Expression, Name};
-
-// The piece that is called, piece 0 where there is none.
-fn procedure(site: &Site<'_, '_, '_, '_>, callee: &Callee<'_>) -> u32
-    ensures { (s : Scope) → IsSite s site.now → result ≡ st.procedure s (v.callee_of callee.now) }
-{
-    site.callees.find(site.role, callee).unwrap_or(0)
-}
 
 // A CALL.
 pub fn call(
@@ -30,15 +26,20 @@ pub fn call(
     site: &Site<'_, '_, '_, '_>,
     callee: &Callee<'_>,
     name: Option<Name<'_>>,
-) -> Result<Statement, AllocError>
-    ensures { (s : Scope) (place : PlaceOf) → IsSite s site.now → IfOk result (λ x. statement_of x
-        ≡ st.statement s (Call place (v.callee_of callee.now) (v.option_name name.entry))) }
+) -> Result<Judged, AllocError>
+    ensures { (s : Scope) (place : PlaceOf) → IsSite s site.now
+        → IfOk result (IsJudged s (Call place (v.callee_of callee.now) (v.option_name name.entry))) }
 {
-    let arguments = arguments(alloc, site.standing, &callee.arguments)?;
-    Ok(Statement::Call {
-        procedure: procedure(site, callee),
-        arguments,
-        into: into(site.standing, name),
+    let called = called(site, callee, name.is_some());
+    let (arguments, fit) = arguments(alloc, site.standing, &callee.arguments, called.parameters)?;
+    let (into, takes) = into(site.standing, called.returns, name);
+    Ok(Judged {
+        statement: Statement::Call {
+            procedure: called.number,
+            arguments,
+            into,
+        },
+        is_clean: both(both(called.is_clean, fit), takes),
     })
 }
 
@@ -48,33 +49,85 @@ pub fn fork(
     site: &Site<'_, '_, '_, '_>,
     callee: &Callee<'_>,
     name: Name<'_>,
-) -> Result<Statement, AllocError>
-    ensures { (s : Scope) (place : PlaceOf) → IsSite s site.now → IfOk result (λ x. statement_of x
-        ≡ st.statement s (Fork place (v.callee_of callee.now) (v.name_of name.entry))) }
+) -> Result<Judged, AllocError>
+    ensures { (s : Scope) (place : PlaceOf) → IsSite s site.now
+        → IfOk result (IsJudged s (Fork place (v.callee_of callee.now) (v.name_of name.entry))) }
 {
-    let arguments = arguments(alloc, site.standing, &callee.arguments)?;
-    Ok(Statement::Fork {
-        procedure: procedure(site, callee),
-        arguments,
-        into: local(site.standing, name),
+    let forked = forked(site, callee);
+    let (arguments, fit) = arguments(alloc, site.standing, &callee.arguments, forked.parameters)?;
+    let (into, takes) = local(site.standing, Some(ValueType::Process), name);
+    Ok(Judged {
+        statement: Statement::Fork {
+            procedure: forked.number,
+            arguments,
+            into,
+        },
+        is_clean: both(both(forked.is_clean, fit), takes),
     })
 }
 
-// A JOIN, with what stands behind ABORTED.
+// A JOIN, with what stands behind ABORTED, and whether that is clean.
 pub fn join(
     alloc: Global,
     site: &Site<'_, '_, '_, '_>,
     tree: &Expression<'_>,
     name: Option<Name<'_>>,
     aborted: Option<Vec<Statement>>,
-) -> Result<Statement, AllocError>
-    ensures { (s : Scope) → IsSite s site.now → IfOk result (λ x. statement_of x
-        ≡ t.Join (e.expression s (v.expression_of tree.now)) (st.into s (v.option_name name.entry))
-        (part_in aborted)) }
+    is_rest_clean: bool,
+) -> Result<Judged, AllocError>
+    ensures { (s : Scope) (place : PlaceOf) (rest : PartTree) → IsSite s site.now → part_in aborted ≡ st.part s rest
+        → is_rest_clean ≡ is_clean (c.part_faults s rest)
+        → IfOk result (IsJudged s (Join place (v.expression_of tree.now) (v.option_name name.entry) rest)) }
 {
-    Ok(Statement::Join {
-        handle: expression(alloc, site.standing, tree)?,
-        into: into(site.standing, name),
-        aborted,
+    let (handle, fits) = typed(alloc, site.standing, ValueType::Process, tree)?;
+    let (into, takes) = into(site.standing, Some(ValueType::Integer), name);
+    let is_placed = !is_recover(site.role);
+    Ok(Judged {
+        statement: Statement::Join {
+            handle,
+            into,
+            aborted,
+        },
+        is_clean: both(both(both(is_placed, fits), takes), is_rest_clean),
     })
+}
+
+// A RETURN.
+pub fn return_from(
+    alloc: Global,
+    site: &Site<'_, '_, '_, '_>,
+    tree: &Option<Expression<'_>>,
+) -> Result<Judged, AllocError>
+    ensures { (s : Scope) (place : PlaceOf) → IsSite s site.now
+        → IfOk result (IsJudged s (Return place (v.option_expression tree.now))) }
+{
+    let made = returned(alloc, site.standing, site.returns, tree)?;
+    let is_placed = !is_recover(site.role);
+    Ok(Judged {
+        is_clean: both(is_placed, made.is_clean),
+        statement: made.statement,
+    })
+}
+
+// What NOTIFY or BROADCAST names, and whether one may stand here and name it.
+pub fn notified(site: &Site<'_, '_, '_, '_>, name: Name<'_>) -> (Member, bool)
+    ensures condition { (s : Scope) → IsSite s site.now → result.0 ≡ st.condition s (v.name_of name.entry) }
+    ensures clean { (s : Scope) (place : PlaceOf) → IsSite s site.now → result.1
+        ≡ is_clean (c.outside_faults s place
+        ++ c.condition_faults (meaning s (v.name_of name.entry)) name.entry.place) }
+{
+    let (condition, is_one) = condition_of(site.standing, name);
+    (condition, has_monitor(site.role) && is_one)
+}
+
+// A WAIT.
+pub fn wait(site: &Site<'_, '_, '_, '_>, name: Name<'_>) -> Judged
+    ensures { (s : Scope) (place : PlaceOf) → IsSite s site.now
+        → IsJudged s (WaitOf place (v.name_of name.entry)) result }
+{
+    let (condition, is_clean) = notified(site, name);
+    Judged {
+        statement: Statement::Wait(condition),
+        is_clean: !is_recover(site.role) && is_clean,
+    }
 }

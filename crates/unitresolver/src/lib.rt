@@ -1,7 +1,9 @@
-//! From a unit's tree to the program: what `types` says that it is resolved to.
+//! From a unit's tree to the program: what `types` says that it is resolved to, and whether its statements are clean.
 #![tactic(auto)]
 
+mod called;
 mod calls;
+mod flags;
 mod monitors;
 mod names;
 mod procedures;
@@ -9,4 +11,4 @@ mod site;
 mod statements;
 mod unit;
 
-pub use unit::resolve;
+pub use unit::{Resolved, resolve};

@@ -1,5 +1,5 @@
 use callees::Callees;
-use program::Role;
+use program::{Role, ValueType};
 use types::Standing;
 
 /// Where statements stand: what is needed to resolve them.
@@ -11,4 +11,6 @@ pub struct Site<'s, 'm, 'u, 'a> {
     pub standing: &'s Standing<'m, 'a>,
     /// Which part of the unit they are in.
     pub role: Role,
+    /// The type of the result that is due there, if any.
+    pub returns: Option<ValueType>,
 }

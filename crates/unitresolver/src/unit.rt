@@ -6,6 +6,8 @@ ghost use Rattle.program.specs.Views.{program_of};
 ghost use Rattle.syntax.specs.Whole.{unit_of};
 ghost use Rattle.types.specs.Resolved.{naming, resolved};
 ghost use Rattle.callees.specs.Names.{IsCallees};
+ghost use Rattle.resolver.specs.Clean.{is_clean};
+ghost use Rattle.unitresolver.specs.Sites.{body_faults};
 
 use crate::monitors::monitors;
 use crate::names::names;
@@ -15,7 +17,19 @@ use program::{Names, Program};
 use std::alloc::{AllocError, Global};
 use syntax::Unit;
 
-/// The program that a unit is resolved to, from what the unit declares, and what its things are called.
+/// What a unit is resolved to.
+#[derive(Drop)]
+pub struct Resolved<'a> {
+    /// Its program.
+    pub program: Program,
+    /// What its things are called.
+    pub names: Names<'a>,
+    /// Whether none of its statements has a fault.
+    pub are_bodies_clean: bool,
+}
+
+/// The program that a unit is resolved to, from what the unit declares, what its things are called, and whether its
+/// statements are without faults.
 ///
 /// Only memory can run out. A name that means nothing is read as some thing of number 0, so only the program of a unit
 /// without faults says what its text means. Each name is looked up in tables, and the time is linear in the text.
@@ -24,17 +38,22 @@ pub fn resolve<'a>(
     alloc: Global,
     unit: &Unit<'a>,
     callees: &Callees<'_, 'a>,
-) -> Result<(Program, Names<'a>), AllocError>
+) -> Result<Resolved<'a>, AllocError>
     requires { IsCallees (unit_of unit.now) callees.now }
-    ensures program { IfOk result (λ x. program_of x.0 ≡ resolved (unit_of unit.now)) }
-    ensures naming { IfOk result (λ x. naming_of x.1 ≡ naming (unit_of unit.now)) }
+    ensures program { IfOk result (λ x. program_of x.program ≡ resolved (unit_of unit.now)) }
+    ensures naming { IfOk result (λ x. naming_of x.names ≡ naming (unit_of unit.now)) }
+    ensures clean { IfOk result (λ x. x.are_bodies_clean ≡ is_clean (body_faults (unit_of unit.now))) }
 {
     let names = names(alloc, unit)?;
     let monitors = monitors(alloc, unit, callees)?;
-    let procedures = procedures(alloc, callees)?;
+    let (procedures, are_bodies_clean) = procedures(alloc, callees)?;
     let program = Program {
         monitors,
         procedures,
     };
-    Ok((program, names))
+    Ok(Resolved {
+        program,
+        names,
+        are_bodies_clean,
+    })
 }

@@ -9,7 +9,7 @@ use Rattle.types.specs.Pieces.{pieces}
 use Rattle.unitfaults.specs.Collected.{Collects, InOne}
 use Rattle.unitfaults.specs.Parts.{InOuter, InPiece, InCalls}
 use Rattle.unitfaults.proofs.Callable.{calls_within}
-use Rattle.unitfaults.proofs.Collecting.{collects_sum}
+use Rattle.unitfaults.proofs.Collecting.{collects_none, collects_sum}
 use Rattle.unitfaults.proofs.Few.{few_outer, few_inner, few_names, few_pieces, piece_count}
 use Rattle.unitfaults.proofs.Verdicts.{verdict}
 use Rattle.unitfaults.proofs.unit.least_fault.Goals as goal
@@ -39,6 +39,20 @@ circular-requires-clause-within c =
 
 pub bodies-requires : goal.bodies-requires
 bodies-requires c = few_names (unit_of c.args.unit.now) c.args.callees.now c.requires.callees
+
+pub returns-then-are_bodies_clean : goal.returns-then-are_bodies_clean
+returns-then-are_bodies_clean c =
+    let u = unit_of c.args.unit.now in
+    let r = c.in_ok-called.called in
+    let h = c.requires.callees in
+    let declared = subst (λ qs. Collects (InOne InPiece qs) c.in_ok-outside.outside c.in_ok-declared.declared)
+    (ap (map piece_of) c.deref.ensures.value ∙ h.pieces) c.in_ok-declared.ensures in
+    let called = c.in_ok-called.ensures u (ap (map piece_of) c.deref-2.ensures.value ∙ h.pieces) c.requires.calls in
+    verdict u r (collects_sum _ (IsInBody u) None r r
+    (collects_sum _ (InCalls u) None c.in_ok-declared.declared r
+    (collects_sum (InOuter u) (InOne InPiece (pieces u)) None c.in_ok-outside.outside c.in_ok-declared.declared
+    c.in_ok-outside.ensures declared) called)
+    (collects_none (IsInBody u) r (c.requires.clean c.if-are_bodies_clean.true)))
 
 pub returns : goal.returns
 returns c =

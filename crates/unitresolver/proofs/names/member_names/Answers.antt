@@ -1,7 +1,6 @@
 use Rattle.std.proofs.Common.{map, refl}
 use Rattle.syntax.specs.View.{member_of}
-use Rattle.resolver.proofs.Mapped.{mapped_all}
-use Rattle.unitresolver.proofs.Rows.{view_step}
+use Rattle.unitresolver.proofs.Rows.{row_all, view_step}
 use Rattle.unitresolver.proofs.names.member_names.Goals as goal
 
 pub loop-member-preserved : goal.loop-member-preserved
@@ -11,5 +10,5 @@ loop-member-preserved c =
 
 pub returns : goal.returns
 returns c =
-    mapped_all (λ ms. map (λ m. m.name.text) (map member_of ms)) _ c.args.members.now c.loop-member.member-index
+    row_all (λ ms. map (λ m. m.name.text) (map member_of ms)) _ c.args.members.now c.loop-member.member-index
     c.loop-member-test.false c.loop-member.invariant

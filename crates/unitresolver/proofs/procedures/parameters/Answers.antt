@@ -1,8 +1,7 @@
 use Rattle.std.proofs.Common.{map}
 use Rattle.syntax.specs.View.{parameter_of}
 use Rattle.types.specs.Kinds.{local_kind, parameter_kinds}
-use Rattle.resolver.proofs.Mapped.{mapped_all}
-use Rattle.unitresolver.proofs.Rows.{row_step}
+use Rattle.unitresolver.proofs.Rows.{row_step, row_all}
 use Rattle.unitresolver.proofs.procedures.parameters.Goals as goal
 
 pub loop-tree-preserved : goal.loop-tree-preserved
@@ -12,5 +11,5 @@ loop-tree-preserved c =
 
 pub returns : goal.returns
 returns c =
-    mapped_all (λ ts. parameter_kinds (map parameter_of ts)) _ c.args.trees.now c.loop-tree.tree-index
+    row_all (λ ts. parameter_kinds (map parameter_of ts)) _ c.args.trees.now c.loop-tree.tree-index
     c.loop-tree-test.false c.loop-tree.invariant
