@@ -12,8 +12,21 @@ pub clean_both : (a b : List Refusal) → is_clean (a ++ b) ≡ (is_clean a && i
 clean_both [] b = refl
 clean_both (x ∷ a) b = refl
 
-pub clean_lone : (a : List Refusal) → is_clean (a ++ []) ≡ is_clean a
-clean_lone a = ap is_clean (append-nil a)
+-- a level of the grammar without an operator adds no fault
+pub lone : (fs : List Refusal) → fs ++ [] ≡ fs
+lone fs = append-nil fs
+
+pub lone2 : (fs : List Refusal) → (fs ++ []) ++ [] ≡ fs
+lone2 fs = append-nil (fs ++ []) ∙ append-nil fs
+
+pub lone3 : (fs : List Refusal) → ((fs ++ []) ++ []) ++ [] ≡ fs
+lone3 fs = append-nil ((fs ++ []) ++ []) ∙ lone2 fs
+
+pub lone4 : (fs : List Refusal) → (((fs ++ []) ++ []) ++ []) ++ [] ≡ fs
+lone4 fs = append-nil (((fs ++ []) ++ []) ++ []) ∙ lone3 fs
+
+pub lone5 : (fs : List Refusal) → ((((fs ++ []) ++ []) ++ []) ++ []) ++ [] ≡ fs
+lone5 fs = append-nil ((((fs ++ []) ++ []) ++ []) ++ []) ∙ lone4 fs
 
 pub clean_where : (b : Bool) (kind : RefusalKind) (place : Place) → is_clean (where_true b kind place) ≡ not b
 clean_where true kind place = refl

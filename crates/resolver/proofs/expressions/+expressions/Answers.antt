@@ -3,7 +3,7 @@ use Rattle.program.specs.Trees.{Both}
 use Rattle.program.specs.Views.{expression_of}
 use Rattle.program.specs.declared.kinds.Operator.TheVariants.{And, Or}
 use Rattle.program.specs.declared.kinds.ValueType.TheVariants.{Integer, Boolean}
-use Rattle.syntax.specs.Tree.{AnyOf, OrElse, AllOf, AndAlso, NoIndex}
+use Rattle.syntax.specs.Tree.{AnyOf, OrElse, AllOf, AndAlso, NoIndex, Relates, Compares}
 use Rattle.syntax.specs.View as v
 use Rattle.syntax.specs.declared.expression.Conjunction.TheViews.{Conjunction::AllOf as AllOfMade}
 use Rattle.syntax.specs.declared.expression.Product.{out-Product}
@@ -12,9 +12,9 @@ use Rattle.types.specs.ExpressionFaults as f
 use Rattle.types.specs.Expressions as x
 use Rattle.types.specs.Scope.{meaning}
 use Rattle.types.specs.Typing as t
-use Rattle.resolver.specs.Clean.{is_clean, Says, IsFactor, IsConjunction, IsTyped}
+use Rattle.resolver.specs.Clean.{is_clean, Says, IsFactor, IsTerm, IsSum, IsRelation, IsConjunction, IsTyped}
 use Rattle.resolver.proofs.Chains.{next_link, last_link, both_made}
-use Rattle.resolver.proofs.Cleanness.{clean_next, clean_past, clean_chain}
+use Rattle.resolver.proofs.Cleanness.{clean_next, clean_past, clean_chain, lone, lone2, lone3, lone4, lone5}
 use Rattle.resolver.proofs.Wanted.{factor_operand, term_operand, relation_operand, conjunction_operand}
 use Rattle.resolver.proofs.Rows.{all_of_seen, any_of_seen, product_seen, total_seen}
 use Rattle.resolver.proofs.expressions.+expressions.Goals as goal
@@ -253,3 +253,133 @@ factor-returns-in-Name n c = λ s h.
     (sym (append-nil (f.use_faults (meaning s name) NoIndex name.place)))
     (subst (λ m. Says (x.variable_of m) (t.type_of_use m NoIndex) (f.use_faults m NoIndex name.place)
     c.variable.result) (c.meaning.ensures s h) (c.variable.ensures name.place)))
+
+pub term-returns-in-Factor : goal.term-returns-in-Factor
+term-returns-in-Factor n c = λ s h.
+    let tree = v.factor_of c.in-Factor.tree in
+    subst (λ y. IfOk c.factor.result (IsTerm s (v.term_of y))) (sym c.in-Factor.is)
+    (subst (λ fs. IfOk c.factor.result (Says (x.factor s tree) (t.factor_type s tree) fs))
+    (sym (lone (f.factor_faults s tree))) (c.factor.ensures s h))
+
+pub term-returns-in-Product : goal.term-returns-in-Product
+term-returns-in-Product n c = λ s h.
+    subst (λ y. IfOk c.product.result (IsTerm s (v.term_of y))) (sym c.in-Product.is)
+    (subst (λ y. IfOk c.product.result (IsTerm s (v.product_of y))) c.deref.ensures (c.product.ensures s h))
+
+pub sum-returns-in-Factor : goal.sum-returns-in-Factor
+sum-returns-in-Factor n c = λ s h.
+    let tree = v.factor_of c.in-Factor.tree in
+    subst (λ y. IfOk c.factor.result (IsSum s (v.sum_of y))) (sym c.in-Factor.is)
+    (subst (λ fs. IfOk c.factor.result (Says (x.factor s tree) (t.factor_type s tree) fs))
+    (sym (lone2 (f.factor_faults s tree))) (c.factor.ensures s h))
+
+pub sum-returns-in-Product : goal.sum-returns-in-Product
+sum-returns-in-Product n c = λ s h.
+    let tree = v.product_of c.in-Product.tree.value in
+    subst (λ y. IfOk c.product.result (IsSum s (v.sum_of y))) (sym c.in-Product.is)
+    (subst (λ fs. IfOk c.product.result (Says (x.term s tree) (t.term_type s tree) fs))
+    (sym (lone (f.term_faults s tree)))
+    (subst (λ y. IfOk c.product.result (IsTerm s (v.product_of y))) c.deref.ensures (c.product.ensures s h)))
+
+pub sum-returns-in-Total : goal.sum-returns-in-Total
+sum-returns-in-Total n c = λ s h.
+    subst (λ y. IfOk c.total.result (IsSum s (v.sum_of y))) (sym c.in-Total.is)
+    (subst (λ y. IfOk c.total.result (IsSum s (v.total_of y))) c.deref-in-Total.ensures (c.total.ensures s h))
+
+pub relation-returns-in-Factor : goal.relation-returns-in-Factor
+relation-returns-in-Factor n c = λ s h.
+    let tree = v.factor_of c.in-Factor.tree in
+    subst (λ y. IfOk c.factor.result (IsRelation s (v.relation_of y))) (sym c.in-Factor.is)
+    (subst (λ fs. IfOk c.factor.result (Says (x.factor s tree) (t.factor_type s tree) fs))
+    (sym (lone3 (f.factor_faults s tree))) (c.factor.ensures s h))
+
+pub relation-returns-in-Product : goal.relation-returns-in-Product
+relation-returns-in-Product n c = λ s h.
+    let tree = v.product_of c.in-Product.tree.value in
+    subst (λ y. IfOk c.product.result (IsRelation s (v.relation_of y))) (sym c.in-Product.is)
+    (subst (λ fs. IfOk c.product.result (Says (x.term s tree) (t.term_type s tree) fs))
+    (sym (lone2 (f.term_faults s tree)))
+    (subst (λ y. IfOk c.product.result (IsTerm s (v.product_of y))) c.deref.ensures (c.product.ensures s h)))
+
+pub relation-returns-in-Total : goal.relation-returns-in-Total
+relation-returns-in-Total n c = λ s h.
+    let tree = v.total_of c.in-Total.tree.value in
+    subst (λ y. IfOk c.total.result (IsRelation s (v.relation_of y))) (sym c.in-Total.is)
+    (subst (λ fs. IfOk c.total.result (Says (x.sum s tree) (t.sum_type s tree) fs))
+    (sym (lone (f.sum_faults s tree)))
+    (subst (λ y. IfOk c.total.result (IsSum s (v.total_of y))) c.deref-in-Total.ensures (c.total.ensures s h)))
+
+pub relation-returns-in-Comparison : goal.relation-returns-in-Comparison
+relation-returns-in-Comparison n c = λ s h.
+    subst (λ y. IfOk c.comparison.result (IsRelation s (v.relation_of y))) (sym c.in-Comparison.is)
+    (subst (λ y. IfOk c.comparison.result (IsRelation s (Relates (v.sum_of y.left) (Compares y.comparator
+    (v.sum_of y.right)))))
+    c.deref-in-Comparison.ensures (c.comparison.ensures s h))
+
+pub conjunction-returns-in-Factor : goal.conjunction-returns-in-Factor
+conjunction-returns-in-Factor n c = λ s h.
+    let tree = v.factor_of c.in-Factor.tree in
+    subst (λ y. IfOk c.factor.result (IsConjunction s (v.conjunction_of y))) (sym c.in-Factor.is)
+    (subst (λ fs. IfOk c.factor.result (Says (x.factor s tree) (t.factor_type s tree) fs))
+    (sym (lone4 (f.factor_faults s tree))) (c.factor.ensures s h))
+
+pub conjunction-returns-in-Product : goal.conjunction-returns-in-Product
+conjunction-returns-in-Product n c = λ s h.
+    let tree = v.product_of c.in-Product.tree.value in
+    subst (λ y. IfOk c.product.result (IsConjunction s (v.conjunction_of y))) (sym c.in-Product.is)
+    (subst (λ fs. IfOk c.product.result (Says (x.term s tree) (t.term_type s tree) fs))
+    (sym (lone3 (f.term_faults s tree)))
+    (subst (λ y. IfOk c.product.result (IsTerm s (v.product_of y))) c.deref.ensures (c.product.ensures s h)))
+
+pub conjunction-returns-in-Total : goal.conjunction-returns-in-Total
+conjunction-returns-in-Total n c = λ s h.
+    let tree = v.total_of c.in-Total.tree.value in
+    subst (λ y. IfOk c.total.result (IsConjunction s (v.conjunction_of y))) (sym c.in-Total.is)
+    (subst (λ fs. IfOk c.total.result (Says (x.sum s tree) (t.sum_type s tree) fs))
+    (sym (lone2 (f.sum_faults s tree)))
+    (subst (λ y. IfOk c.total.result (IsSum s (v.total_of y))) c.deref-in-Total.ensures (c.total.ensures s h)))
+
+pub conjunction-returns-in-Comparison : goal.conjunction-returns-in-Comparison
+conjunction-returns-in-Comparison n c = λ s h.
+    let tree = Relates (v.sum_of c.in-Comparison.tree.value.left) (Compares
+    c.in-Comparison.tree.value.comparator (v.sum_of c.in-Comparison.tree.value.right)) in
+    subst (λ y. IfOk c.comparison.result (IsConjunction s (v.conjunction_of y))) (sym c.in-Comparison.is)
+    (subst (λ fs. IfOk c.comparison.result (Says (x.relation s tree) (t.relation_type s tree) fs))
+    (sym (lone (f.relation_faults s tree)))
+    (subst (λ y. IfOk c.comparison.result (IsRelation s (Relates (v.sum_of y.left) (Compares y.comparator
+    (v.sum_of y.right)))))
+    c.deref-in-Comparison.ensures (c.comparison.ensures s h)))
+
+pub expression-returns-in-Factor : goal.expression-returns-in-Factor
+expression-returns-in-Factor n c = λ s h.
+    let tree = v.factor_of c.in-Factor.tree in
+    subst (λ y. IfOk c.factor.result (IsTyped s (v.expression_of y))) (sym c.in-Factor.is)
+    (subst (λ fs. IfOk c.factor.result (Says (x.factor s tree) (t.factor_type s tree) fs))
+    (sym (lone5 (f.factor_faults s tree))) (c.factor.ensures s h))
+
+pub expression-returns-in-Product : goal.expression-returns-in-Product
+expression-returns-in-Product n c = λ s h.
+    let tree = v.product_of c.in-Product.tree.value in
+    subst (λ y. IfOk c.product.result (IsTyped s (v.expression_of y))) (sym c.in-Product.is)
+    (subst (λ fs. IfOk c.product.result (Says (x.term s tree) (t.term_type s tree) fs))
+    (sym (lone4 (f.term_faults s tree)))
+    (subst (λ y. IfOk c.product.result (IsTerm s (v.product_of y))) c.deref.ensures (c.product.ensures s h)))
+
+pub expression-returns-in-Total : goal.expression-returns-in-Total
+expression-returns-in-Total n c = λ s h.
+    let tree = v.total_of c.in-Total.tree.value in
+    subst (λ y. IfOk c.total.result (IsTyped s (v.expression_of y))) (sym c.in-Total.is)
+    (subst (λ fs. IfOk c.total.result (Says (x.sum s tree) (t.sum_type s tree) fs))
+    (sym (lone3 (f.sum_faults s tree)))
+    (subst (λ y. IfOk c.total.result (IsSum s (v.total_of y))) c.deref-in-Total.ensures (c.total.ensures s h)))
+
+pub expression-returns-in-Comparison : goal.expression-returns-in-Comparison
+expression-returns-in-Comparison n c = λ s h.
+    let tree = Relates (v.sum_of c.in-Comparison.tree.value.left) (Compares
+    c.in-Comparison.tree.value.comparator (v.sum_of c.in-Comparison.tree.value.right)) in
+    subst (λ y. IfOk c.comparison.result (IsTyped s (v.expression_of y))) (sym c.in-Comparison.is)
+    (subst (λ fs. IfOk c.comparison.result (Says (x.relation s tree) (t.relation_type s tree) fs))
+    (sym (lone2 (f.relation_faults s tree)))
+    (subst (λ y. IfOk c.comparison.result (IsRelation s (Relates (v.sum_of y.left) (Compares y.comparator
+    (v.sum_of y.right)))))
+    c.deref-in-Comparison.ensures (c.comparison.ensures s h)))
