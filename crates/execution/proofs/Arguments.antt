@@ -143,7 +143,8 @@ parameters_walk image t view zero g place operands l fs code = let e : place ≡
 parameters_walk image t view (suc n) g place operands l fs code =
     let step = one_step image t view (Runs place (word_of (g n) ∷ stacked_by n g operands) l fs)
     (Runs (place + 1) (stacked_by n g operands) (with_local l (Slot' n) (word_of (g n))) fs)
-    (look_here image t view place (SetLocal (Slot' n)) (word_of (g n) ∷ stacked_by n g operands) l fs code.0) (ap later_mark code.0.1) in
+    (look_here image t view place (SetLocal (Slot' n)) (word_of (g n) ∷ stacked_by n g operands) l fs code.0)
+    (ap later_mark code.0.1) in
     let more = parameters_walk image t view n g (place + 1) operands
     (with_local l (Slot' n) (word_of (g n))) fs code.1 in
     let e : place + 1 + length (parameters_code n) ≡ place + suc (length (parameters_code n)) = omega arith in

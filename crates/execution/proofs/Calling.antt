@@ -36,7 +36,8 @@ use Rattle.execution.proofs.Beginning.{begins_at}
 use Rattle.execution.proofs.Recovering.{chain}
 
 -- a call, and what stands behind it
-call_stands : (image : MarkedImage) (place start : ℕ) (into : Option ℕ) (result : Option ValueType) → StandAt image place
+call_stands : (image : MarkedImage) (place start : ℕ) (into : Option ℕ) (result : Option ValueType)
+    → StandAt image place
     (call_code start into result) → IsAt image place (marked M.Call (Call' start)) × StandAt image (place + 1)
     (taking_code into result)
 call_stands image place start (Some slot) result h = h
@@ -160,7 +161,8 @@ module _ (b : Build) (is : IsBuild b) (t : ℕ) (v : Variables) (place : ℕ) (l
           ap (λ (k : Option Procedure). begins (frame_of k zs) (caller ∷ cs)) c.sound.fits.2 in
           proceeds_on b t v (2 * arguments_tokens es) 0 x _ pending walk
           (at_once b t v place l fs values rest procedure cs entered (Runs end (stacked zs []) l fs) pending
-          (F.acts L.Call tt step (ap later_mark takes.0.1) (o ∙ ap (λ (k : Process). Does (Alone L.Call) Nothing k) opened)
+          (F.acts L.Call tt step (ap later_mark takes.0.1)
+          (o ∙ ap (λ (k : Process). Does (Alone L.Call) Nothing k) opened)
           (begins_at b is t qn callee zs (back ∷ fs) (caller ∷ cs) c.sound.fits.2 have callers)))
       by_values (FailsAll fault) same g typed =
           let walk : WalksWithin b.code t (view_at b procedure v) (2 * arguments_tokens es) x (Dies fault) = subst

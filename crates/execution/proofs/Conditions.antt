@@ -58,7 +58,8 @@ module _ (b : Build) (is : IsBuild b) (t : ℕ) (v : Variables) (place : ℕ) (l
 
       here : IsAt b.code (place + 73) (plain (recovery_in b m.monitor))
       here = subst (λ i. IsAt b.code (place + 73) (plain i))
-          (moved_recovery place (start_in b.starts (recover_of b.program m.monitor))) (stand_index b.code place (placed place (wait_code m (link_word b.program m.monitor)
+          (moved_recovery place (start_in b.starts (recover_of b.program m.monitor)))
+          (stand_index b.code place (placed place (wait_code m (link_word b.program m.monitor)
           (member_address b.program m) (recovery_in b m.monitor))) 73 (place + 73) _ c.head.here refl refl)
 
       at : place + 74 ≡ place + 73 + 1

@@ -196,7 +196,8 @@ module _ (image : MarkedImage) (made t : ℕ) (s : Scope) (vars : Variables) (va
   -- a word that holds a value is pushed
   pushes : (place : ℕ) (operands : List ℕ) (l : Locals) (fs : List Frame) (w : ℕ) (z : ℤ) → w ≡ word_of z
       → look image.image t (Runs place operands l fs) ≡ Goes (Runs (place + 1) (w ∷ operands) l fs)
-      → later_mark (slice_get image.marks place) ≡ None → WalksWithin image t view 2 (Runs place operands l fs) (Runs (place + 1) (word_of z ∷ operands) l fs)
+      → later_mark (slice_get image.marks place) ≡ None
+      → WalksWithin image t view 2 (Runs place operands l fs) (Runs (place + 1) (word_of z ∷ operands) l fs)
   pushes place operands l fs w z e h none =
       wider image t view 1 2 _ _ (omega arith)
       (subst (λ (k : ℕ). WalksWithin image t view 1 (Runs place operands l fs)

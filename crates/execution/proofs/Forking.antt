@@ -125,7 +125,8 @@ module _ (b : Build) (is : IsBuild b) (t : ℕ) (v : Variables) (place : ℕ) (l
           c.head.more)
           (wider b.code t (empty_view b.program) 1 16 _ _ (omega arith)
           (one_step b.code t (empty_view b.program) (go made) _
-          (look_here b.code t (empty_view b.program) (end + 1) (SetLocal (Slot' into)) (made ∷ []) l fs behind.1.0) (ap later_mark behind.1.0.1)))
+          (look_here b.code t (empty_view b.program) (end + 1) (SetLocal (Slot' into)) (made ∷ []) l fs behind.1.0)
+          (ap later_mark behind.1.0.1)))
 
       by_values : (zs : EvaluatedAll) → evaluate_all b.program v values es ≡ zs → GivesAll b.code t
           (view_at b procedure v)

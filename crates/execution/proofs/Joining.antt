@@ -145,7 +145,8 @@ module _ (b : Build) (t : ℕ) (v : Variables) (place : ℕ) (l : Locals)
   after_abort NoPart child x code later fits lower room tokens deep walk =
       wider b.code t (empty_view b.program) (3 + 1) join_steps x _ (omega arith)
       (within_on b.code t (empty_view b.program) 3 1 x _ _ walk (one_step b.code t (empty_view b.program) _ _
-      (look_here b.code t (empty_view b.program) aborts (Raise JoinedAborted) [] (kept child) fs code.0) (ap later_mark code.0.1)))
+      (look_here b.code t (empty_view b.program) aborts (Raise JoinedAborted) [] (kept child) fs code.0)
+      (ap later_mark code.0.1)))
   after_abort (SomePart body) child x code later fits lower room tokens deep walk =
       let setting = setting_of b.program b.starts procedure in
       let inner = block_implements b.code setting b.most body c.head.depth c.head.jumps aborts rest code c.head.few

@@ -82,7 +82,8 @@ module _ (b : Build) (is : IsBuild b) (t : ℕ) (m place : ℕ) (l : Locals) (fs
       subst (λ (r : Option ℕ). IsAt b.code place (plain (recovery (start_in b.starts r)))) e here in
       fails m f cs (wider b.code t (empty_view b.program) 1 16 _ _ (omega arith)
       (one_step b.code t (empty_view b.program) _ _
-      (look_here b.code t (empty_view b.program) place (Raise AbandonedMonitor) [] (kept l word) fs at) (ap later_mark at.1))) refl
+      (look_here b.code t (empty_view b.program) place (Raise AbandonedMonitor) [] (kept l word) fs at)
+      (ap later_mark at.1))) refl
   recovers_here word (Some r) e =
       let part = is.recovers m r e in
       let q = part.0 in

@@ -111,7 +111,8 @@ module _ (b : Build) (t : ℕ) (v : Variables) where
       (subst (λ k. Implements b.code (setting_of b.program b.starts caller) b.most behind.jumps k f.rest) here
       behind.more) behind.few below in
       proceeds_wider b t v 0 1 _ r (omega arith) (done _ r
-      (F.acts L.Return tt (look_here b.code t (view_of b r v) place Ret [] l (m ∷ fs) code) (ap later_mark code.1) o go))
+      (F.acts L.Return tt (look_here b.code t (view_of b r v) place Ret [] l (m ∷ fs) code)
+      (ap later_mark code.1) o go))
 
   -- a result is taken by the caller
   returns_value : (u : ValueType) (m : MachineFrame) (fs : List MachineFrame) (n : ℕ) (caller : Procedure)
@@ -148,7 +149,8 @@ module _ (b : Build) (t : ℕ) (v : Variables) where
   -- a procedure that is no RECOVER part returns with its result
   pub called_returns : (result : Option ValueType) (shown : Option ℕ) (place : ℕ) (l : Locals)
       (fs : List MachineFrame) (number : ℕ) (q : Procedure) (cs : List Caller) (z : ℤ) (r : Process)
-      → IsNoRecover q.role → HandsOver q.role → q.result ≡ result → CallersStand b number q fs cs → ShowsResult b.made result shown z
+      → IsNoRecover q.role → HandsOver q.role → q.result ≡ result → CallersStand b number q fs cs
+      → ShowsResult b.made result shown z
       → IsAt b.code place (return_code q.role result)
       → offer b.program v r ≡ Does (Alone L.Return) Nothing (hands_over z cs)
       → Proceeds b t v 1 (Runs place (result_operands shown) l fs) r

@@ -1,6 +1,6 @@
 -- From a test to what it chooses: IF and WHILE.
-use Rattle.std.proofs.Common.{inl, inr, ◌≡◌, ℕ, suc, ◌+◌, ◌*◌, ◌≤◌, List, [], ◌∷◌, ◌++◌, length, Option, Some, None, refl, ap}
-use Rattle.std.proofs.Common.{◌∙◌, subst, arith, length-append, ℤ, Bool, true, false, slice_get}
+use Rattle.std.proofs.Common.{inl, inr, ◌≡◌, ℕ, suc, ◌+◌, ◌*◌, ◌≤◌, List, [], ◌∷◌, ◌++◌, length, Option, Some, None}
+use Rattle.std.proofs.Common.{refl, ap, ◌∙◌, subst, arith, length-append, ℤ, Bool, true, false, slice_get}
 use Rattle.std.proofs.lemmas.List.Elements.{Contains-append_left, Contains-append_right}
 use Rattle.words.specs.Signed.{word_of}
 use Rattle.isa.specs.declared.instr.Instr.TheVariants.{JumpIfZero, Jump}
@@ -76,7 +76,8 @@ module _ (b : Build) (t : ℕ) (v : Variables) (place : ℕ) (l : Locals) (fs : 
       (λ z same o'.
       let typed : OfType b.made Boolean (Value z) = subst (OfType b.made Boolean) same (ev.type e Boolean fits) in
       at_once b t v place l fs values rest procedure cs entered (Runs end (word_of z ∷ []) l fs) (pending s)
-      (by_value z (look_here b.code t (view_at b procedure v) end (JumpIfZero target) (word_of z ∷ []) l fs last.0) (ap later_mark last.0.1) o'
+      (by_value z (look_here b.code t (view_at b procedure v) end (JumpIfZero target) (word_of z ∷ []) l fs last.0)
+      (ap later_mark last.0.1) o'
       typed)))
     where
       by_value : (z : ℤ) → look b.code.image t (Runs (place + length (expression_code b.program e))

@@ -52,7 +52,8 @@ module _ (p : MarkedImage) (t : ℕ) (s : View) where
   pub wider : (n m : ℕ) (x y : Thread) → n ≤ m → WalksWithin p t s n x y → WalksWithin p t s m x y
   wider n m x y le w = record { count = w.count; few = omega (arith, le, w.few); walk = w.walk }
 
-  pub one_step : (x y : Thread) → look p.image t x ≡ Goes y → later_mark (mark_of p.marks x) ≡ None → WalksWithin p t s 1 x y
+  pub one_step : (x y : Thread) → look p.image t x ≡ Goes y → later_mark (mark_of p.marks x) ≡ None
+      → WalksWithin p t s 1 x y
   one_step x y h none = record { count = 1; few = omega arith; walk = goes h none stays }
 
   pub one_load : (x : Thread) (a word : ℕ) (k : ℕ → Thread) → look p.image t x ≡ Asks (AskLoad a) k → Reads s a word

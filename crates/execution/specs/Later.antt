@@ -41,8 +41,8 @@ last_mark (Some Return) = Some L.Return
 last_mark (Some LastReturn) = Some L.Return
 last_mark other = None
 
--- at a request and its answer: a return, a fault, a fork that finds no room, and a claim (all that is swapped is a 0 into
--- a lock word, and a 1 into a claim word) of a process that was claimed already
+-- at a request and its answer: a return, a fault, a fork that finds no room, and a claim (all that is swapped is a 0
+-- into a lock word, and a 1 into a claim word) of a process that was claimed already
 abbrev pub later_request : Option Mark → Request → (answer : ℕ) → Option Kind
 later_request mark AskReturn r = last_mark mark
 later_request mark (AskReturnValue v) r = last_mark mark

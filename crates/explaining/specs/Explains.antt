@@ -11,8 +11,8 @@ use Rattle.explaining.specs.declared.fault.ExplainFault.{ExplainFault}
 use Rattle.explaining.specs.declared.fault.ExplainFault.TheVariants.{NotARun, OtherImage, Memory, TooLong}
 pub use Rattle.recording.specs.Logs.{LeadsTo, IsIllegal, IsRecorded}
 
--- the image is the program's, the log is legal for it, and the actions are the explanation of the run of the machine that
--- the log is, which explains it in all that a refinement promises
+-- the image is the program's, the log is legal for it, and the actions are the explanation of the run of the machine
+-- that the log is, which explains it in all that a refinement promises
 pub record IsExplained (p : Program) (image : Image) (log : List Entry) (actions : List Action) : Type 0 where
   pub code : image ≡ code_of p
   pub recorded : IsRecorded p log actions

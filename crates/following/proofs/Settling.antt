@@ -108,7 +108,8 @@ module _ (p : Program) (t : ℕ) (g : Progress) (ahead : SourceState) (count tak
           let a = paying.so_far.source in
           let after = after_next t (quiet_next (offered p a.variable (a.process t))) a in
           let pays = pays_behind p t w a ahead k ks paying.behind mine in
-          let step : IsStep p a (act t (kind_of pays.0)) after = subst (λ i. IsStep p a (act t i) after) pays.1 pays.4 in
+          let step : IsStep p a (act t (kind_of pays.0)) after = subst
+          (λ i. IsStep p a (act t i) after) pays.1 pays.4 in
           let took = act_taken paying.so_far pays.0 after paying.matches
           (subst (λ i. CanTake i a t pays.0) (sym same) pays.3) pays.2
           (subst (λ i. IsStep i a (act t (kind_of pays.0)) after) (sym same) step) in (

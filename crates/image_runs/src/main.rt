@@ -15,12 +15,12 @@
 //! Empty lines and lines that begin with `#` say nothing.
 //!
 //! The schedule of a seed follows from a sequence of 32-bit numbers, which begins with the seed: the next one is the
-//! last one times 1,664,525, plus 1,013,904,223, modulo 2^32. A draw is the next number of the sequence divided by 2^16,
-//! rounded down. For each turn there are two draws. The first, modulo the number of threads that can move, is the place,
-//! from 0, of the turn's thread among these, by rising number. The second, modulo 2^(seed MOD 8), is one less than the
-//! most steps that the turn has; it ends earlier where its thread can't move. The steps are those of the machine, local
-//! or shared. So there are schedules in which the threads change at each step, and such in which one goes on for up to
-//! 128.
+//! last one times 1,664,525, plus 1,013,904,223, modulo 2^32. A draw is the next number of the sequence divided by
+//! 2^16, rounded down. For each turn there are two draws. The first, modulo the number of threads that can move, is the
+//! place, from 0, of the turn's thread among these, by rising number. The second, modulo 2^(seed MOD 8), is one less
+//! than the most steps that the turn has; it ends earlier where its thread can't move. The steps are those of the
+//! machine, local or shared. So there are schedules in which the threads change at each step, and such in which one
+//! goes on for up to 128.
 //!
 //! An outcome is a word: Done, Stuck or Limit, then the numbers that were printed, then `T=FAULT` for each thread that
 //! aborted and `T@ADDRESS` for each that sleeps, by rising number, then `ADDRESS:WORD` for each address that the row

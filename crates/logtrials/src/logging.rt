@@ -88,8 +88,8 @@ fn take_turn(machine: &mut Machine, thread: u32, most: u32) -> Result<Entry, Ste
 
 /// The log of an image's run by the schedule of a seed, as far as so many entries.
 ///
-/// In each turn a thread is drawn among those that can move. It takes its local steps, as far as a number that is drawn,
-/// and where its shared step comes before that, also that.
+/// In each turn a thread is drawn among those that can move. It takes its local steps, as far as a number that is
+/// drawn, and where its shared step comes before that, also that.
 pub fn log_of(
     alloc: Global,
     image: &Image,

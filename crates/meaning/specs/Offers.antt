@@ -7,10 +7,10 @@ use Rattle.meaning.specs.Labels.{Enters, Resumes, Notifies, Broadcasts, Abandons
 use Rattle.meaning.specs.Labels as L
 use Rattle.meaning.specs.Processes.{Process, Entering, Before, Suspended, Joining, Returning, Failing, Dying, Leaving}
 use Rattle.meaning.specs.Processes.{Over, goes_on, recovers, hands_over}
-pub use Rattle.meaning.specs.Offering.{Effect, Nothing, Puts, Writes, Makes, Offer, Rests, Does, Takes, MakesOne, ClaimsOne}
-pub use Rattle.meaning.specs.Offering.{JoinsOne, NotifiesSome, NotifiesAll}
-pub use Rattle.meaning.specs.Statements.{dies, faults, with_value, with_values, with_index, answers, chosen, joined_part}
-pub use Rattle.meaning.specs.Statements.{joined, claims, assigns, returned, statement_offer, rest_offer}
+pub use Rattle.meaning.specs.Offering.{Effect, Nothing, Puts, Writes, Makes, Offer, Rests, Does, Takes, MakesOne}
+pub use Rattle.meaning.specs.Offering.{ClaimsOne, JoinsOne, NotifiesSome, NotifiesAll}
+pub use Rattle.meaning.specs.Statements.{dies, faults, with_value, with_values, with_index, answers, chosen}
+pub use Rattle.meaning.specs.Statements.{joined_part, joined, claims, assigns, returned, statement_offer, rest_offer}
 
 -- what a process offers to do next
 abbrev pub offer : Program → Variables → Process → Offer

@@ -17,7 +17,8 @@ use Rattle.meaning.specs.Labels as L
 use Rattle.meaning.specs.Processes.{Frame, Caller, Process, Suspended, Joining, Returning, Failing}
 use Rattle.meaning.specs.Processes.{Dying, goes_on, begins, opening_frame, with_local}
 use Rattle.meaning.specs.Processes.{with_result, hands_over, all_monitors}
-use Rattle.meaning.specs.Offering.{Offer, Rests, Does, MakesOne, ClaimsOne, NotifiesSome, NotifiesAll, Nothing, Puts, Writes}
+use Rattle.meaning.specs.Offering.{Offer, Rests, Does, MakesOne, ClaimsOne, NotifiesSome, NotifiesAll, Nothing, Puts}
+use Rattle.meaning.specs.Offering.{Writes}
 
 -- a process that faults, dying with the monitors that it holds
 abbrev pub dies : Fault → Frame → List Caller → Process

@@ -13,8 +13,8 @@ use Rattle.words.specs.declared.outcome.Outcome.TheVariants.{Aborted}
 use Rattle.machine.specs.declared.event.Entry.{Entry}
 use Rattle.machine.specs.declared.event.Event.{Event}
 use Rattle.machine.specs.declared.event.EventName.{EventName}
-use Rattle.machine.specs.declared.event.EventName.TheVariants.{Local, Load, Store, Swap, CompareSwap, FetchOr, FetchAdd, Fork, Print}
-use Rattle.machine.specs.declared.event.EventName.TheVariants.{Wait, Wake, Requeue, Ret, RetValue, Die}
+use Rattle.machine.specs.declared.event.EventName.TheVariants.{Local, Load, Store, Swap, CompareSwap, FetchOr, FetchAdd}
+use Rattle.machine.specs.declared.event.EventName.TheVariants.{Fork, Print, Wait, Wake, Requeue, Ret, RetValue, Die}
 use Rattle.machine.specs.declared.event.EventName.TheVariants.{Entry as Entry', Pending, Clear, Last}
 use Rattle.machine.specs.ThreadSets.{has}
 use Rattle.machine.specs.declared.thread_set.ThreadSet.{ThreadSet}

@@ -31,7 +31,8 @@ use words::OpenGate;
 /// Does the command that these words ask for, those after the program's name, and answers the exit status. `output`
 /// and `errors` stand for standard output and standard error.
 ///
-/// The first fault decides: of the words, of reading the files, of the source text or the image, of its run, of writing.
+/// The first fault decides: of the words, of reading the files, of the source text or the image, of its run, of
+/// writing.
 ///
 /// A text is run with a worker for each thread, but where its log is shown or explained: then on the calling thread, so
 /// that the log is the same each time.

@@ -37,8 +37,8 @@ pub enum Failure<'a> {
     /// The run failed.
     #[error("{0}")]
     Run(RunFault),
-    /// The entry of the schedule that has this number is no number or names a thread that can't move; 0 is for a schedule
-    /// of too many bytes.
+    /// The entry of the schedule that has this number is no number or names a thread that can't move; 0 is for a
+    /// schedule of too many bytes.
     #[error("schedule entry {0}")]
     Schedule(u64),
     /// Output could not be written.

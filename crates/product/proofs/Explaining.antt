@@ -228,7 +228,8 @@ module _ (p : Program) (w : WellFormed p) where
 
     whole : Reaches (0 + length steps) s g × Adds (opening_progress p) g
         (λ t. counts p (λ u. []) steps (opening_state (code_of p)) s run t)
-    whole = reaches_by steps 0 (opening_state (code_of p)) s (opening_progress p) opens_reached run (omega (arith, short))
+    whole = reaches_by steps 0 (opening_state (code_of p)) s (opening_progress p) opens_reached run
+        (omega (arith, short))
 
     pub reached : IsReached p w (length steps) s (progress p steps s run)
     reached =

@@ -1,5 +1,5 @@
--- The run of the source that explains a run of the machine: what the source has come to by the machine's steps, and what
--- waits at the end, by rising number of process.
+-- The run of the source that explains a run of the machine: what the source has come to by the machine's steps, and
+-- what waits at the end, by rising number of process.
 use Rattle.std.specs.Prelude.{ℕ, ◌≡◌, false, List, ◌++◌}
 use Rattle.machine.specs.States.{State}
 use Rattle.machine.specs.Runs.{Step, MachineRun}

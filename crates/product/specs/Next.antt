@@ -1,4 +1,5 @@
--- What a process does next, and where that leads: a function of the state, where it is known whether others learn of it.
+-- What a process does next, and where that leads: a function of the state, where it is known whether others learn of
+-- it.
 use Rattle.std.specs.Prelude.{ℕ, ◌+◌, Bool, true, false, List, [], ◌∷◌, Option, Some, None, if◌then◌else◌}
 use Rattle.words.specs.Updates.{put}
 use Rattle.machine.specs.States.{State}

@@ -1,6 +1,6 @@
 -- Where the actions of the source stand among the steps of the machine.
-use Rattle.std.specs.Prelude.{ℕ, zero, suc, ◌≡◌, ◌==◌, ◌&&◌, ◌||◌, not, Bool, true, false, List, [], ◌∷◌, length, Option}
-use Rattle.std.specs.Prelude.{Some, None}
+use Rattle.std.specs.Prelude.{ℕ, zero, suc, ◌≡◌, ◌==◌, ◌&&◌, ◌||◌, not, Bool, true, false, List, [], ◌∷◌, length}
+use Rattle.std.specs.Prelude.{Option, Some, None}
 use Rattle.words.specs.Updates.{put}
 use Rattle.words.specs.Process.{process_word}
 use Rattle.words.specs.Limits.{most_processes}
@@ -47,10 +47,10 @@ is_link_word p a = any_below (length p.monitors) (λ m. link_word p m == a)
 abbrev pub is_lock_word : Program → ℕ → Bool
 is_lock_word p a = any_below (length p.monitors) (λ m. lock_word_address p m == a)
 
--- whether the answer to a request is that of an action which others learn of: a free lock is taken (all that is compared
--- and swapped is a lock word); a lock is given up (all that a 0 is swapped into is one), or a process claimed; an id word
--- is read as 0; a variable is stored, which is all that is stored but list heads, pending words and links; a condition's
--- word is woken, or all that sleep on it are moved; a number is printed; a process is made
+-- whether the answer to a request is that of an action which others learn of: a free lock is taken (all that is
+-- compared and swapped is a lock word); a lock is given up (all that a 0 is swapped into is one), or a process claimed;
+-- an id word is read as 0; a variable is stored, which is all that is stored but list heads, pending words and links; a
+-- condition's word is woken, or all that sleep on it are moved; a number is printed; a process is made
 abbrev pub completes : Program → Request → (answer : ℕ) → Bool
 completes p (AskCompareSwap a expected new) r = (r == expected) && (owner expected == 0)
 completes p (AskSwap a v) r = (v == 0) || (r == 0)

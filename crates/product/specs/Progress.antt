@@ -60,7 +60,8 @@ progress_step p true late s t g = progress_next p s t (progress_paid p t g)
 progress_step p false late s t g = record g { waiting = put g.waiting t (waits_then late (g.waiting t)) }
 
 -- behind a step of the machine
-abbrev pub progress_taken : (p : Program) → (s s' : State) → (l : Step) → IsStep (code_of p) s l s' → Progress → Progress
+abbrev pub progress_taken : (p : Program) → (s s' : State) → (l : Step) → IsStep (code_of p) s l s'
+    → Progress → Progress
 progress_taken p s s' l st g =
     let looks = look (code_of p) l.thread st.thread in
     let answer = answer_in s s' l.thread l.woken looks st.moves in

@@ -15,8 +15,8 @@ abbrev pub has_failed : List Kind → Bool
 has_failed [] = false
 has_failed (k ∷ ks) = is_failing k || has_failed ks
 
--- what waits of a process behind a step with this action, if it has one; a fault waits once, though a fork that finds no
--- room and a claim that is refused are told of again where the fault is written
+-- what waits of a process behind a step with this action, if it has one; a fault waits once, though a fork that finds
+-- no room and a claim that is refused are told of again where the fault is written
 abbrev pub waits_then : Option Kind → List Kind → List Kind
 waits_then None ks = ks
 waits_then (Some k) ks = if is_failing k && has_failed ks then ks else ks ++ k ∷ []

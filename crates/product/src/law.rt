@@ -71,7 +71,8 @@ pub fn source_follows()
 pub fn source_waits()
     ensures opens { (p : Program) (w : WellFormed p)
         → (o : Tracks p w 0 (opening_state (code_of p)) (opening p)) × (o.waiting ≡ (λ t. [])) }
-    ensures waits { (p : Program) (w : WellFormed p) (steps : ℕ) (s : State) (a : SourceState) (r : Tracks p w steps s a)
+    ensures waits { (p : Program) (w : WellFormed p) (steps : ℕ) (s : State) (a : SourceState)
+        (r : Tracks p w steps s a)
         (l : Step) (s' : State) (st : IsStep (code_of p) s l s') (done : Bool) (late : Option Kind)
         → StepsSo p done late (mark_of (marks_of p) st.thread) s l.thread l.woken
         (look (code_of p) l.thread st.thread) s'

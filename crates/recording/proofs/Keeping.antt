@@ -46,7 +46,8 @@ module _ (p : Program) (events : List EventStep) (k k' : ConcreteState) (e : Ent
       → ComesTo p (events ++ entry_steps e) k' (progress_entry p e o here k' g)
   comes_at g comes =
       subst (λ (x : Thread). ComesTo p (events ++ entry_steps e) k' (progress_entry p e x here k' g)) same_origin
-      (subst (λ (x : Thread). ComesTo p (events ++ entry_steps e) k' (progress_entry p e enters.origin x k' g)) same_here
+      (subst (λ (x : Thread). ComesTo p (events ++ entry_steps e) k'
+      (progress_entry p e enters.origin x k' g)) same_here
       (enters_so p events k k' e g comes enters))
 
   -- what is due of a shared step

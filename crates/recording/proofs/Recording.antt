@@ -1,6 +1,6 @@
 -- A recorder records what the source comes to, step by step.
-use Rattle.std.proofs.Common.{◌≡◌, ◌+◌, ◌<◌, ◌≤◌, ℕ, zero, suc, Bool, true, false, List, [], ◌∷◌, length, Option, Some, None}
-use Rattle.std.proofs.Common.{refl, ap, sym, ◌∙◌, arith, subst, length-append, inl, inr}
+use Rattle.std.proofs.Common.{◌≡◌, ◌+◌, ◌<◌, ◌≤◌, ℕ, zero, suc, Bool, true, false, List, [], ◌∷◌, length, Option, Some}
+use Rattle.std.proofs.Common.{None, refl, ap, sym, ◌∙◌, arith, subst, length-append, inl, inr}
 use Rattle.std.specs.Prelude.{◌^◌, ◌++◌, MatchBool, map, get_or, slice_get}
 use Rattle.std.proofs.lemmas.List.{append-nil, append_assoc, length-map}
 use Rattle.std.proofs.lemmas.Bool.{cases_eq}
@@ -126,7 +126,8 @@ module _ (p : Program) (n t v : ℕ) (here : Thread) (k : ConcreteState) (g : Pr
       subst (λ b. Records (n + 1) (progress_step p b action (machine_state k) t g) last) (sym none) (record {
         few = few;
         counted = steps;
-        matches = subst (λ (f : Follower). Matches f (progress_step p false action (machine_state k) t g)) (sym follower)
+        matches = subst (λ (f : Follower). Matches f (progress_step p false action (machine_state k) t g))
+            (sym follower)
             (record { actions = h.matches.actions; source = h.matches.source });
         waits = waits;
         bounded = bounded_put g.waiting t n 1 _ h.bounded

@@ -1,6 +1,6 @@
 -- What a recorder records.
-use Rattle.std.proofs.Common.{◌≡◌, ◌+◌, ◌<◌, ◌≤◌, ℕ, zero, suc, Bool, true, false, List, [], ◌∷◌, length, Option, Some, None}
-use Rattle.std.proofs.Common.{refl, ap, sym, ◌∙◌, arith, subst, length-append, inl, inr, ◌⊎◌}
+use Rattle.std.proofs.Common.{◌≡◌, ◌+◌, ◌<◌, ◌≤◌, ℕ, zero, suc, Bool, true, false, List, [], ◌∷◌, length, Option, Some}
+use Rattle.std.proofs.Common.{None, refl, ap, sym, ◌∙◌, arith, subst, length-append, inl, inr, ◌⊎◌}
 use Rattle.std.specs.Prelude.{◌^◌, ◌++◌, ◌&&◌, ◌||◌, MatchBool, if◌then◌else◌, map, slice_get, slice_set, get_or}
 use Rattle.std.proofs.lemmas.List.{append-nil, append_assoc}
 use Rattle.words.specs.Updates.{put}
@@ -41,7 +41,8 @@ at_few : (marks : List Mark) (o : Option Thread) (ks : List Kind) → length (wa
 at_few marks None ks = omega arith
 at_few marks (Some x) ks = then_few _ ks
 
-pub waits_few : (p : Program) (t n : ℕ) (x : Thread) (ks : List Kind) → length (waits_locally p t n x ks) ≤ length ks + n
+pub waits_few : (p : Program) (t n : ℕ) (x : Thread) (ks : List Kind)
+    → length (waits_locally p t n x ks) ≤ length ks + n
 waits_few p t zero x ks = omega arith
 waits_few p t (suc n) x ks =
     let before = waits_few p t n x ks in

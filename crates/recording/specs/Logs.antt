@@ -26,7 +26,8 @@ IsIllegal image log = (k : ConcreteState) → LeadsTo image log k → ⊥
 
 -- a run of the machine of these steps leads there, and the actions are its explanation, which explains it in all that a
 -- refinement promises
-pub record IsExplainedBy (p : Program) (events : List EventStep) (k : ConcreteState) (actions : List Action) : Type 0 where
+pub record IsExplainedBy (p : Program) (events : List EventStep) (k : ConcreteState)
+    (actions : List Action) : Type 0 where
   pub steps : List Step
   pub run : MachineRun (code_of p) steps (state_of k)
   pub labels : map label_of steps ≡ map event_label events

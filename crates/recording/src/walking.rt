@@ -1,4 +1,5 @@
-ghost use Rattle.std.specs.Prelude.{[], ◌≡◌, ◌<◌, ◌≤◌, false, true, IfOk, MatchBool, MatchOption, OnOk, Some, length, ⊤};
+ghost use Rattle.std.specs.Prelude.{[], ◌≡◌, ◌<◌, ◌≤◌, false, true, IfOk, MatchBool, MatchOption, OnOk, Some, length};
+ghost use Rattle.std.specs.Prelude.{⊤};
 ghost use Rattle.code.specs.Pieces.{code_of};
 ghost use Rattle.locals.specs.Threads.{Thread};
 ghost use Rattle.machine.specs.States.{ConcreteState, opening_concrete, thread_of};

@@ -50,4 +50,5 @@ all_laid p n q there =
     s.is (behind_stands (marked_image p) [] [] (marked_code p) refl refl refl) in
     let tail = back_stands (marked_image p) 0 s.front (piece ++ s.back) whole in
     let at : 0 + length s.front ≡ start_of p n = omega (arith, s.at) in
-    subst (λ k. StandAt (marked_image p) k piece) at (front_stands (marked_image p) (0 + length s.front) piece s.back tail)
+    subst (λ k. StandAt (marked_image p) k piece) at
+    (front_stands (marked_image p) (0 + length s.front) piece s.back tail)

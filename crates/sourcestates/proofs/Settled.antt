@@ -7,8 +7,8 @@ use Rattle.words.specs.Updates.{put}
 use Rattle.words.specs.declared.outcome.Fault.TheVariants.{HandleNotJoinable, ProcessTableFull}
 use Rattle.program.specs.Trees.{Program}
 use Rattle.meaning.specs.Labels.{Label, Enters, Resumes, FindsFull, FindsClaimed, Fails, kind_of}
-use Rattle.meaning.specs.Offers.{Effect, Nothing, Offer, Rests, Does, Takes, MakesOne, ClaimsOne, JoinsOne, NotifiesSome}
-use Rattle.meaning.specs.Offers.{NotifiesAll, TakesUp, offer}
+use Rattle.meaning.specs.Offers.{Effect, Nothing, Offer, Rests, Does, Takes, MakesOne, ClaimsOne, JoinsOne}
+use Rattle.meaning.specs.Offers.{NotifiesSome, NotifiesAll, TakesUp, offer}
 use Rattle.meaning.specs.Processes.{Process}
 use Rattle.meaning.specs.States.{SourceState}
 use Rattle.meaning.specs.Table.{Table, Allows}
@@ -64,7 +64,8 @@ law p s n before after label effect t stands takes allows =
 is_one : (label : Label) (b : Bool) → is_quiet label ≡ b → is_some (if_quiet label) ≡ true
     → if_quiet label ≡ Some (kind_of label)
 is_one label true e some = chosen (is_quiet label) _ _ e
-is_one label false e some = absurd (false≢true (sym (ap is_some (other (is_quiet label) (Some (kind_of label)) None e)) ∙ some))
+is_one label false e some = absurd
+    (false≢true (sym (ap is_some (other (is_quiet label) (Some (kind_of label)) None e)) ∙ some))
 
 if_some : {A : Type 0} (b : Bool) (x : A) → is_some (if b then Some x else None) ≡ true → b ≡ true
 if_some true x h = refl

@@ -48,8 +48,8 @@ impl<'a> SourceState<'a> {
     ghost use Rattle.sourcestates.specs.Quiet.{IsQuietTaken};
     ghost use Rattle.sourcestates.specs.States.{state_of};
 
-    /// Takes the quiet action that a process can take next, one that no other process learns of, and tells which it was;
-    /// None, and nothing is done, where the process can't take one. It takes time in proportion to what the action
+    /// Takes the quiet action that a process can take next, one that no other process learns of, and tells which it
+    /// was; None, and nothing is done, where the process can't take one. It takes time in proportion to what the action
     /// touches.
     pub fn take_quiet(
         &mut self,

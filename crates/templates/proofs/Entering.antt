@@ -52,7 +52,8 @@ module _ (p : Program) (image : MarkedImage) (t m base : ℕ) (recover : Instr) 
   abbrev at : ℕ → List ℕ → Locals → Thread
   at i operands k = Runs' (base + i) operands k fs
 
-  step : (i j place : ℕ) (x : Instr) (operands operands' : List ℕ) (k k' : Locals) → slice_get first_part i ≡ Some (plain x)
+  step : (i j place : ℕ) (x : Instr) (operands operands' : List ℕ) (k k' : Locals)
+      → slice_get first_part i ≡ Some (plain x)
       → at_place (base + i) k fs (effect t x operands k) ≡ Goes (Runs' place operands' k' fs)
       → place ≡ base + j → Go 1 (at i operands k) (at j operands' k')
   step i j place x operands operands' k k' e h same =

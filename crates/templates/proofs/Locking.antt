@@ -71,7 +71,8 @@ module _ (p : Program) (image : MarkedImage) (t m : ℕ) (k : Purpose) (mark : M
       → Go 1 (at i operands s) (at j operands' s')
   step i j x operands operands' s s' place e h same =
       let here = stand_index image first segment i (first + i) (plain x) code e refl in
-      one_step image t (empty_view p) _ _ (look_here image t (empty_view p) (first + i) x operands (kept values s) fs here
+      one_step image t (empty_view p) _ _
+      (look_here image t (empty_view p) (first + i) x operands (kept values s) fs here
       ∙ h ∙ ap (λ n. Goes (Runs' n operands' (kept values s') fs)) same) (ap later_mark here.1)
 
   address : (i j : ℕ) (x : Instr) (word : ProcessWord) (rest : List ℕ) (s : ℕ) → slice_get segment i ≡ Some (plain x)
@@ -239,7 +240,8 @@ module _ (p : Program) (image : MarkedImage) (t m : ℕ) (k : Purpose) (mark : M
       let other : died v ≢ 0 = λ z. omega (arith, e, z) in (at 49 [] v, to_recover v other, recovers v other)
 
   pub unpends_look : (v : ℕ)
-      → look image.image t (at 44 (0 ∷ process_word t 1 ∷ []) v) ≡ Asks (AskStore (process_word t 1) 0) (λ r. at 45 [] v)
+      → look image.image t (at 44 (0 ∷ process_word t 1 ∷ []) v) ≡ Asks (AskStore (process_word t 1) 0)
+      (λ r. at 45 [] v)
   unpends_look v = asks 44 45 _ (0 ∷ process_word t 1 ∷ []) v (λ r. []) _ refl refl (omega arith)
 
   stay : (x : Thread) → Go template_steps x x

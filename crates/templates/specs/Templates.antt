@@ -60,9 +60,11 @@ pub record Begins (b : Build) (t : ℕ) (held : Bool) (k : Template) : Type 0 wh
   pub stands : StandsIn b.program t k (first_point held k) thread
 
 abbrev pub TemplatesFollow : Type 0
-TemplatesFollow = (b : Build) (v : Variables) (t : ℕ) (k : Template) → IsBuild b → 0 < t → t ≤ most_processes → Fits b v t k
+TemplatesFollow = (b : Build) (v : Variables) (t : ℕ) (k : Template) → IsBuild b → 0 < t → t ≤ most_processes
+    → Fits b v t k
     → (pt : Point) (x : Thread) → pt ≢ Runs → StandsIn b.program t k pt x → Follows b v t k pt x
 
 abbrev pub TemplatesBegin : Type 0
-TemplatesBegin = (b : Build) (v : Variables) (t : ℕ) (held : Bool) (k : Template) → 0 < t → t ≤ most_processes → Fits b v t k
+TemplatesBegin = (b : Build) (v : Variables) (t : ℕ) (held : Bool) (k : Template) → 0 < t → t ≤ most_processes
+    → Fits b v t k
     → Begins b t held k

@@ -101,7 +101,8 @@ module _ (p : Program) (k k' : ConcreteState) (t : ℕ) (event : Event) (done : 
       is ∙ ap (completes p (AskSwap a v)) (serves.1.1.0 ∙ sym (by_word go a (load k.common a) _ name.Swap
       (nat_lt a (length k.common.words)) (lt-ltb a (length k.common.words) serves.0) h))
   by_request (AskCompareSwap a x v) go answer mid serves h is =
-      is ∙ ap (completes p (AskCompareSwap a x v)) (serves.1.1.0 ∙ sym (by_word go a (load k.common a) _ name.CompareSwap
+      is ∙ ap (completes p (AskCompareSwap a x v))
+      (serves.1.1.0 ∙ sym (by_word go a (load k.common a) _ name.CompareSwap
       (nat_lt a (length k.common.words)) (lt-ltb a (length k.common.words) serves.0) h))
   by_request (AskFork entry arguments room) go answer mid serves h is =
       is ∙ ap (completes p (AskFork entry arguments room))

@@ -101,7 +101,8 @@ module _ (p : Program) where
       }
 
   -- and what is due of it, where others learn of it
-  one_due : (w : WellFormed p) (n : List EventStep) (k k' : ConcreteState) (t : ℕ) (here : Thread) (event : Event) (g : Progress)
+  one_due : (w : WellFormed p) (n : List EventStep) (k k' : ConcreteState) (t : ℕ) (here : Thread) (event : Event)
+      (g : Progress)
       → ComesTo p n k g → thread_of k t ≡ Some here → step_of (code_of p) k t ≡ Ok (k', event)
       → on_machine k t (thread_step (length k.threads) t k.common (look (code_of p) t here)) ≡ Ok (k', event)
       → is_heard p (look (code_of p) t here) event.value ≡ true → length n + 1 < 2 ^ 32 → IsDue p (state_of k') t g
@@ -117,7 +118,8 @@ module _ (p : Program) where
       let so = subst (λ (x : Thread). StepsSo p done action (mark_of (marks_of p) x) (state_of k) t d.0
       (look (code_of p) t x) (state_of k')) is (tells_so p mark (state_of k) (state_of k') t d.0 looks st.moves) in
       let shown : done ≡ is_heard p (look (code_of p) t here) event.value =
-      heard p k k' t event done d.0 action (mark_of (marks_of p) here) (look (code_of p) t here) (state_of k') gives so in
+      heard p k k' t event done d.0 action (mark_of (marks_of p) here) (look (code_of p) t here)
+      (state_of k') gives so in
       let l : Step = record { thread = t; woken = d.0; pauses = is_paused (state_of k') t } in
       let many = as_many h.steps n h.labels in
       let r = subst (λ (i : Progress). IsReached p w (length h.steps) (state_of k) i) h.comes
@@ -125,7 +127,8 @@ module _ (p : Program) where
       due p w (length h.steps) (state_of k) g r l (state_of k') st (omega (arith, many, short)) (shown ∙ is_so)
 
   -- the local steps of an entry
-  locals : (n : List EventStep) (more : ℕ) (k : ConcreteState) (t : ℕ) (o here : Thread) (g : Progress) → ComesTo p n k g
+  locals : (n : List EventStep) (more : ℕ) (k : ConcreteState) (t : ℕ) (o here : Thread) (g : Progress)
+      → ComesTo p n k g
       → k.common.asleep t ≡ None → thread_of k t ≡ Some o → local_after (code_of p) t more o ≡ Some here
       → ComesTo p (n ++ replicate more (local_step_of t)) (put_thread k t here) (progress_locally p t more o g)
   locals n zero k t o here g h awake stands after =
@@ -144,8 +147,10 @@ module _ (p : Program) where
 
       by_mid : (mid : Option Thread)
           → ((m : Thread) → mid ≡ Some m
-          → ComesTo p (n ++ replicate more (local_step_of t)) (put_thread k t m) (record g { waiting = put g.waiting t ks }))
-          → and_step (code_of p) t mid ≡ Some here → ComesTo p (n ++ replicate (suc more) (local_step_of t)) (put_thread k t here)
+          → ComesTo p (n ++ replicate more (local_step_of t)) (put_thread k t m)
+          (record g { waiting = put g.waiting t ks }))
+          → and_step (code_of p) t mid ≡ Some here
+          → ComesTo p (n ++ replicate (suc more) (local_step_of t)) (put_thread k t here)
           (record g { waiting = put g.waiting t (waits_at (marks_of p) mid ks) })
       by_mid None before e = absurd cc
       by_mid (Some m) before e =
@@ -157,8 +162,10 @@ module _ (p : Program) where
           let takes : step_of (code_of p) there t ≡ Ok (put_thread there t here, plain name.Local 0) =
           step_there (code_of p) k t o m awake stands
           ∙ ap (on_machine there t) (goes_local (length k.threads) t k.common (look (code_of p) t m) here e) in
-          let on = one_step (n ++ replicate more (local_step_of t)) there (put_thread there t here) t m (plain name.Local 0)
-          (record g { waiting = put g.waiting t ks }) (before m refl) (thread_at-put k.threads t o m stands) takes gives in
+          let on = one_step (n ++ replicate more (local_step_of t)) there (put_thread there t here) t m
+          (plain name.Local 0)
+          (record g { waiting = put g.waiting t ks }) (before m refl)
+          (thread_at-put k.threads t o m stands) takes gives in
           let all = n ++ replicate (suc more) (local_step_of t) in
           let one : more + 1 ≡ suc more = omega arith in
           let last = (n ++ replicate more (local_step_of t)) ++ local_step_of t ∷ [] in

@@ -14,8 +14,8 @@ ghost use Rattle.tracking.specs.Entries.{ComesTo, entry_steps, is_heard, progres
 
 /// What the source has come to behind a legal log of a program's code is told entry by entry: each local step, and each
 /// shared one that no other process learns of, adds the action that it completes by the marks of the code, if it
-/// completes one, to what waits; behind a shared step that others learn of, by the request that the thread makes and the
-/// value of its event, all that waited of its process and the action itself are taken, which are possible.
+/// completes one, to what waits; behind a shared step that others learn of, by the request that the thread makes and
+/// the value of its event, all that waited of its process and the action itself are taken, which are possible.
 pub fn progress_follows_logs()
     ensures opens { (p : Program) → ComesTo p [] (opening_concrete (code_of p)) (opening_progress p) }
     ensures entries { (p : Program) (events : List EventStep) (k k' : ConcreteState) (e : Entry) (g : Progress)

@@ -40,8 +40,8 @@ fn least_fault(
 }
 
 /// The least fault of a unit, which is its refusal: the one of the earliest place, and of these the one of the lowest
-/// number. `None` where nothing of it is faulty. `callees` is what the unit declares (`Callees::new`). Where it is known
-/// that no statement is faulty, bodies are left out. The only error is that memory runs out.
+/// number. `None` where nothing of it is faulty. `callees` is what the unit declares (`Callees::new`). Where it is
+/// known that no statement is faulty, bodies are left out. The only error is that memory runs out.
 pub fn first_fault(
     alloc: Global,
     unit: &Unit<'_>,

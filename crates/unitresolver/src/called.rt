@@ -1,7 +1,7 @@
 // What CALL and FORK name.
 
-ghost use Rattle.std.specs.Prelude.{◌≡◌, ◌&&◌, ◌++◌, Option, false, is_none, is_some, length, map, nat_eq, not, option_map};
-ghost use Rattle.std.specs.Prelude.{Some as SomeOf};
+ghost use Rattle.std.specs.Prelude.{◌≡◌, ◌&&◌, ◌++◌, Option, false, is_none, is_some, length, map, nat_eq, not};
+ghost use Rattle.std.specs.Prelude.{option_map, Some as SomeOf};
 ghost use Rattle.scanner.specs.declared.token.Place.{Place as PlaceOf};
 ghost use Rattle.syntax.specs.Lexeme.{NameTree};
 ghost use Rattle.syntax.specs.Tree.{CalleeTree, Call as CallOf, Fork as ForkOf};

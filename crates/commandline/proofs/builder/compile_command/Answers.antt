@@ -6,7 +6,8 @@ use Rattle.commandline.proofs.builder.compile_command.Goals as goal
 
 pub returns-clause-app : goal.returns-clause-app
 returns-clause-app c =
-    let new : app_of c.about.result ≡ new_app (codes "compile") = ap app_of_fields c.about.ensures ∙ c.new.ensures.app in
+    let new : app_of c.about.result ≡ new_app (codes "compile") = ap app_of_fields c.about.ensures
+    ∙ c.new.ensures.app in
     let first = c.in_ok-arg.ensures.shape c.positional.ensures.local
     ∙ ap₂ with_rule new c.positional.ensures.rule in
     IfOk-weaker c.arg-2.result _ _ (λ r h. h.shape c.positional-2.ensures.local

@@ -6,7 +6,8 @@ use Rattle.commandline.proofs.builder.explain_command.Goals as goal
 
 pub returns-clause-app : goal.returns-clause-app
 returns-clause-app c =
-    let new : app_of c.about.result ≡ new_app (codes "explain") = ap app_of_fields c.about.ensures ∙ c.new.ensures.app in
+    let new : app_of c.about.result ≡ new_app (codes "explain") = ap app_of_fields c.about.ensures
+    ∙ c.new.ensures.app in
     let first = c.in_ok-arg.ensures.shape c.positional.ensures.local
     ∙ ap₂ with_rule new c.positional.ensures.rule in
     let second = c.in_ok-arg-2.ensures.shape c.steps_option.ensures.local

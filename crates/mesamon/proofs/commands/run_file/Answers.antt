@@ -5,4 +5,5 @@ use Rattle.mesamon.proofs.commands.run_file.Goals as goal
 pub returns : goal.returns
 returns g c =
     let told = c.show.ensures in
-    has_run _ _ _ _ c.args.trace c.in_ok-report.report c.show.result (inl (c.args.steps, c.in_ok-report.ensures)) told.ended told.output told.errors
+    has_run _ _ _ _ c.args.trace c.in_ok-report.report c.show.result
+    (inl (c.args.steps, c.in_ok-report.ensures)) told.ended told.output told.errors

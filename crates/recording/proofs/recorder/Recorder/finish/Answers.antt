@@ -10,7 +10,8 @@ pub returns : goal.returns
 returns c = λ p events w along whole.
     let k = concrete c.args.machine.now in
     let few = along.comes.kept.few in
-    finishes p w events k c.args.self c.take_rest.new.self.follower (map action_of c.into_actions.result.items) along whole
+    finishes p w events k c.args.self c.take_rest.new.self.follower
+    (map action_of c.into_actions.result.items) along whole
     (λ g ahead matches waits behind.
     subst (λ (n : ℕ). Matches c.take_rest.new.self.follower (progress_rest p n g)) c.threads.ensures.value
     (c.in_ok-take_rest.ensures p g ahead along.of_program

@@ -1,5 +1,6 @@
 -- The step was an action that is due, or none that others learn of.
-use Rattle.std.proofs.Common.{◌≡◌, ◌<◌, ◌≤◌, ◌^◌, ◌+◌, ◌∙◌, ap, arith, refl, subst, sym, true, false, Bool, List, length}
+use Rattle.std.proofs.Common.{◌≡◌, ◌<◌, ◌≤◌, ◌^◌, ◌+◌, ◌∙◌, ap, arith, refl, subst, sym, true, false, Bool, List}
+use Rattle.std.proofs.Common.{length}
 use Rattle.std.specs.Prelude.{MatchBool}
 use Rattle.words.specs.Updates.{put}
 use Rattle.execution.specs.Later.{later_step, mark_of}
@@ -38,7 +39,8 @@ returns-in_ok-self c = λ p n g own of less tells due.
     let steps : taken.steps ≡ n + 1 =
     ap (λ r. r.steps) c.take_waiting-count.ensures.kept ∙ (omega (arith, d.2, was)) in
     let is = hears_so p counted.follower c.args.image.now t here c.next_step-step.result v c.hears.result
-    (ap (λ (x : Follower). said_by x.checked.now) first ∙ of.program) (ap (λ (x : Follower). x.layout) first ∙ of.layout)
+    (ap (λ (x : Follower). said_by x.checked.now) first ∙ of.program)
+    (ap (λ (x : Follower). x.layout) first ∙ of.layout)
     own c.next_step-step.ensures c.hears.ensures ∙ c.if-hears.true in
     let waits = subst (λ (w : List Waiting). Waits w g.waiting)
     (sym (ap (λ r. r.waiting.items) c.count.ensures.kept)) h.waits in
@@ -61,7 +63,8 @@ returns-in_ok-self c = λ p n g own of less tells due.
           (c.in_ok-self.ensures.kept.1 ∙ ap (λ (x : Follower). x.layout) second)
           (ap (λ r. r.marks) c.take_waiting-count.ensures.kept ∙ ap (λ r. r.marks) c.count.ensures.kept)
           (c.take_waiting-count.ensures.places ∙ more),
-      subst (λ (x : Bool). MatchBool x (Records (n + 1) (progress_shared p t here v k g) last) (2 ^ 32 ≤ n + 1)) (sym r.0)
+      subst (λ (x : Bool). MatchBool x (Records (n + 1) (progress_shared p t here v k g) last)
+          (2 ^ 32 ≤ n + 1)) (sym r.0)
           (loudly p n t v here k g last is h.bounded steps few r.1 w.1),
     )
 
@@ -78,7 +81,8 @@ returns-else-hears c = λ p n g own of less tells due.
     let follower = ap (λ r. r.follower) c.delay.ensures.kept ∙ first in
     let marks = ap (λ r. r.marks) c.count.ensures.kept in
     let is = hears_so p counted.follower c.args.image.now t here c.next_step-step.result v c.hears.result
-    (ap (λ (x : Follower). said_by x.checked.now) first ∙ of.program) (ap (λ (x : Follower). x.layout) first ∙ of.layout)
+    (ap (λ (x : Follower). said_by x.checked.now) first ∙ of.program)
+    (ap (λ (x : Follower). x.layout) first ∙ of.layout)
     own c.next_step-step.ensures c.hears.ensures ∙ c.if-hears.false in
     let late = late_told p c.args.image.now t v here counted.marks.items c.mark_at-mark.result c.next_step-step.result
     c.at_step.result own (ap (λ m. m.items) marks ∙ of.marks)

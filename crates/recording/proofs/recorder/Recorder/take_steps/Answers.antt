@@ -14,7 +14,8 @@ use Rattle.recording.proofs.recorder.Recorder.take_steps.Goals as goal
 
 pub returns-then-not-take_step-clause-goes : goal.returns-then-not-take_step-clause-goes
 returns-then-not-take_step-clause-goes c =
-    none_after c.args.image.now c.args.entry.now.thread c.loop.counter c.args.entry.now.local c.args.here.now c.loop.here
+    none_after c.args.image.now c.args.entry.now.thread c.loop.counter c.args.entry.now.local
+    c.args.here.now c.loop.here
     c.loop.invariant.goes c.if-not-take_step.ensures.step c.loop-test.true
 
 pub loop-preserved : goal.loop-preserved
@@ -52,7 +53,8 @@ returns-clause-told c = λ _ p n g own of tells.
     let past = c.loop-test.false in
     let all : c.loop.counter ≡ c.args.entry.now.local = omega (arith, within, past) in (
       still_of p r last of (ap (λ x. x.checked) i.follower) (ap (λ x. x.layout) i.follower) i.marks i.places,
-      tells_on c.args.entry.now.local n g (progress_locally p t c.args.entry.now.local o g) r last last i.counts tells refl
+      tells_on c.args.entry.now.local n g
+          (progress_locally p t c.args.entry.now.local o g) r last last i.counts tells refl
           (λ h steps few. locally p n c.args.entry.now.local t o g r last h steps few i.follower
           (subst (λ j. Waits last.waiting.items (put g.waiting t (waits_locally p t j o (g.waiting t)))) all
           (i.waits p g.waiting own of.marks h.waits (let less = h.bounded t in omega (arith, few, less))))),

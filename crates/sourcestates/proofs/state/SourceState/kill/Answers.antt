@@ -24,7 +24,8 @@ returns-in_default-2 c =
 
 pub returns-then-not-kill : goal.returns-then-not-kill
 returns-then-not-kill c =
-    not_allowed (program_of c.args.program.now) (state_of c.args.self.now) c.args.number (process_of c.in-Some.process.now)
+    not_allowed (program_of c.args.program.now) (state_of c.args.self.now) c.args.number
+    (process_of c.in-Some.process.now)
     (offer_of (program_of c.args.program.now) c.in_ok-offer.offer c.next_offer.new.process) c.args.last
     c.notified.result c.args.resumed.now
     (ap (option_map process_of) (sym c.in-Some.ensures.value)) c.in_ok-offer.ensures

@@ -27,7 +27,8 @@ returns-in-Own-Does c =
     let some : is_some (quiet_kind (offer p s.variable before) s.table) ≡ true =
     sym (c.is_quiet.ensures (offer p s.variable before) c.look_ahead.ensures) ∙ search rules in
     subst (λ k. IsQuietTaken p c.args.number (Some k) s (state_of c.perform.new.self)) (sym c.named.ensures)
-    (does p s (state_of c.perform.new.self) c.args.number before (ap (option_map process_of) (sym c.in-Some.ensures.value))
+    (does p s (state_of c.perform.new.self) c.args.number before
+    (ap (option_map process_of) (sym c.in-Some.ensures.value))
     some (label_of c.in-Own-Does.label) (effect_of c.in-Own-Does.effect) (process_of q) (processes_in after)
     (sym (ap (λ o. offer_of p o q) is) ∙ c.in_ok-label.ensures)
     (put_at (option_map process_of) c.args.self.now.processes after c.args.number (Some q) at.0)
