@@ -18,11 +18,14 @@ use std::alloc::{AllocError, Global};
 use syntax::{Monitor, Unit};
 use types::Table;
 
-// The names of monitors, what each declares, and their pieces.
+/// The names of monitors, what each declares, and their pieces.
 #[derive(Drop)]
 pub struct Declared<'u, 'a> {
+    /// The names of the monitors, which are numbered as they stand.
     pub names: Table<'a>,
+    /// What each monitor declares, by the monitor's number.
     pub inner: Vec<MonitorNames<'a>>,
+    /// The procedures of all monitors, and their RECOVER parts, each monitor's together.
     pub pieces: Vec<Piece<'u, 'a>>,
 }
 
@@ -51,7 +54,7 @@ impl<'u, 'a> Declared<'u, 'a> {
         push_monitor(&mut self.pieces, number, monitor)
     }
 
-    // What the monitors of a unit declare. The only error is that memory runs out.
+    /// What the monitors of a unit declare. The only error is that memory runs out.
     pub fn new(alloc: Global, unit: &'u Unit<'a>) -> Result<Declared<'u, 'a>, AllocError>
         requires { declarations (unit_of unit.now) < u32.MAX }
         ensures names { IfOk result (λ d. IsTable (monitor_names (unit_of unit.now)) d.names) }

@@ -37,7 +37,7 @@ fn inner_names<'a>(
     Ok(names)
 }
 
-// The names of external procedures.
+/// The names of external procedures.
 pub fn external_names<'a>(
     alloc: Global,
     procedures: &[Procedure<'a>],
@@ -53,7 +53,7 @@ pub fn external_names<'a>(
 }
 
 impl<'a> MonitorNames<'a> {
-    // The names of a monitor of which the first piece has this number.
+    /// The names of a monitor of which the first piece has this number.
     pub fn new(
         alloc: Global,
         monitor: &Monitor<'a>,
@@ -73,7 +73,7 @@ impl<'a> MonitorNames<'a> {
         })
     }
 
-    // The number of a procedure of the monitor among its procedures.
+    /// The number of a procedure of the monitor among its procedures.
     pub fn find(&self, name: Name<'_>) -> Option<u32>
         ensures { (t : MonitorTree) → HasNames t self.now
             → result ≡ procedure_number (SomeOf t) (name_of name.entry) }

@@ -70,7 +70,7 @@ fn push_procedures<'u, 'a>(
     Ok(())
 }
 
-// Adds the pieces of the monitor of this number.
+/// Adds the pieces of the monitor of this number.
 pub fn push_monitor<'u, 'a>(
     pieces: &mut Vec<Piece<'u, 'a>>,
     number: u32,
@@ -109,7 +109,7 @@ fn push_main<'u, 'a>(pieces: &mut Vec<Piece<'u, 'a>>, main: &'u Main<'a>) -> Res
     Ok(())
 }
 
-// Adds the pieces that stand behind those of monitors: the external procedures, then MAIN.
+/// Adds the pieces that stand behind those of monitors: the external procedures, then MAIN.
 pub fn push_rest<'u, 'a>(
     pieces: &mut Vec<Piece<'u, 'a>>,
     unit: &'u Unit<'a>,

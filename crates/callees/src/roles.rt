@@ -17,7 +17,7 @@ pub fn own_monitor(role: Role) -> Option<u32>
     }
 }
 
-// The role of a procedure of the monitor of this number.
+/// The role of a procedure of the monitor of this number.
 pub fn role_of(access: Access, monitor: u32) -> Role
     ensures { result ≡ p.role_of access monitor }
 {

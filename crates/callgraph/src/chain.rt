@@ -7,7 +7,7 @@ ghost use Rattle.callgraph.specs.Calls.{Within, has_chain};
 use crate::Call;
 use std::alloc::{AllocError, Global};
 
-// Which procedures call a marked one.
+/// Which procedures call a marked one.
 pub fn callers(alloc: Global, calls: &[Call], marks: &[bool]) -> Result<Vec<bool>, AllocError>
     requires { Within calls.now (length marks.now) }
     ensures len { IfOk result (λ v. vec_len v ≡ length marks.now) }

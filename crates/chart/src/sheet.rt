@@ -22,7 +22,9 @@ const TICKS: u64 = 18;
 /// A picture while it is drawn, in strips of columns.
 #[derive(Drop)]
 pub(crate) struct Sheet<'c, 'n> {
+    /// What memory comes from.
     pub alloc: Global,
+    /// The names that the text gave.
     pub names: &'c Names<'n>,
     /// What lies behind the bars.
     pub lines: Vec<u8>,

@@ -7,7 +7,7 @@ ghost use Rattle.syntax.specs.View.{lone_sum, lone_relation, lone_conjunction, l
 
 use syntax::{Conjunction, Expression, Factor, Relation, Sum, Term, Variable};
 
-// A term that is a sum.
+/// A term that is a sum.
 pub fn sum_alone(term: Term<'_>) -> Sum<'_>
     ensures { sum_of result ≡ lone_sum (term_of term.entry) }
 {
@@ -17,7 +17,7 @@ pub fn sum_alone(term: Term<'_>) -> Sum<'_>
     }
 }
 
-// A sum that is a relation.
+/// A sum that is a relation.
 pub fn relation_alone(sum: Sum<'_>) -> Relation<'_>
     ensures { relation_of result ≡ lone_relation (sum_of sum.entry) }
 {
@@ -28,7 +28,7 @@ pub fn relation_alone(sum: Sum<'_>) -> Relation<'_>
     }
 }
 
-// A relation that is a conjunction.
+/// A relation that is a conjunction.
 pub fn conjunction_alone(relation: Relation<'_>) -> Conjunction<'_>
     ensures { conjunction_of result ≡ lone_conjunction (relation_of relation.entry) }
 {
@@ -40,7 +40,7 @@ pub fn conjunction_alone(relation: Relation<'_>) -> Conjunction<'_>
     }
 }
 
-// A conjunction that is an expression.
+/// A conjunction that is an expression.
 pub fn expression_alone(conjunction: Conjunction<'_>) -> Expression<'_>
     ensures { expression_of result ≡ lone_expression (conjunction_of conjunction.entry) }
 {
@@ -53,7 +53,7 @@ pub fn expression_alone(conjunction: Conjunction<'_>) -> Expression<'_>
     }
 }
 
-// A sum that is an expression.
+/// A sum that is an expression.
 pub fn expression_of_sum(sum: Sum<'_>) -> Expression<'_>
     ensures { expression_of result ≡ lone_expression (lone_conjunction (lone_relation (sum_of sum.entry))) }
 {
@@ -64,7 +64,7 @@ pub fn expression_of_sum(sum: Sum<'_>) -> Expression<'_>
     }
 }
 
-// A variable that is read.
+/// A variable that is read.
 pub fn reading(variable: Variable<'_>) -> Factor<'_>
     ensures { factor_of result ≡ Reads (variable_of variable.entry).name (variable_of variable.entry).index }
 {

@@ -1,6 +1,6 @@
 // Expressions that may be left out, and what is called.
 
-ghost use Rattle.std.specs.Prelude.{◌≡◌, ◌≤◌, ◌<◌, [], ◌∷◌, IfOk, IfErr, length, map};
+ghost use Rattle.std.specs.Prelude.{◌≡◌, ◌≤◌, ◌<◌, [], ◌∷◌, IfOk, IfErr, length, map, OnOk};
 ghost use Rattle.syntax.specs.Limits.{most_nestings};
 ghost use Rattle.syntax.specs.View.{expression_of, option_expression, option_name, name_of};
 ghost use Rattle.syntax.specs.View.{callee_of, first_name, dotted_name};
@@ -33,7 +33,7 @@ pub fn value<'a>(parser: &mut Parser<'_, 'a>, depth: u8) -> Result<Option<Expres
     ensures ok { IfOk result (λ x. Passes depth (AValue ∷ []) (option_expression x, tt)
         (ahead parser.old) (ahead parser.new)) }
     ensures err { IfErr result (λ e. Fails depth (AValue ∷ []) (ahead parser.old) e) }
-    ensures within { IfOk result (λ _. length (ahead parser.new) ≤ length (ahead parser.old)) }
+    ensures within { OnOk result (length (ahead parser.new) ≤ length (ahead parser.old)) }
 {
     if !parser.starts_factor() {
         return Ok(None);
@@ -47,7 +47,7 @@ fn arguments<'a>(parser: &mut Parser<'_, 'a>, depth: u8) -> Result<Vec<Expressio
     ensures ok { IfOk result (λ x. Passes depth (Arguments ∷ []) (map expression_of x.items, tt)
         (ahead parser.old) (ahead parser.new)) }
     ensures err { IfErr result (λ e. Fails depth (Arguments ∷ []) (ahead parser.old) e) }
-    ensures within { IfOk result (λ _. length (ahead parser.new) ≤ length (ahead parser.old)) }
+    ensures within { OnOk result (length (ahead parser.new) ≤ length (ahead parser.old)) }
 {
     let mut arguments = Vec::new(parser.alloc);
     if !parser.starts_factor() {
@@ -68,7 +68,7 @@ fn dotted_name<'a>(parser: &mut Parser<'_, 'a>, depth: u8) -> Result<Option<Name
     ensures ok { IfOk result (λ x. Passes depth (ADottedName ∷ []) (option_name x, tt)
         (ahead parser.old) (ahead parser.new)) }
     ensures err { IfErr result (λ e. Fails depth (ADottedName ∷ []) (ahead parser.old) e) }
-    ensures within { IfOk result (λ _. length (ahead parser.new) ≤ length (ahead parser.old)) }
+    ensures within { OnOk result (length (ahead parser.new) ≤ length (ahead parser.old)) }
 {
     if !parser.eat_sign(Sign::Dot) {
         return Ok(None);
@@ -85,7 +85,7 @@ pub fn callee<'a>(parser: &mut Parser<'_, 'a>, depth: u8) -> Result<Callee<'a>, 
     ensures ok { IfOk result (λ x. Passes depth (a_callee []) (callee_trees (callee_of x))
         (ahead parser.old) (ahead parser.new)) }
     ensures err { IfErr result (λ e. Fails depth (a_callee []) (ahead parser.old) e) }
-    ensures shorter { IfOk result (λ _. length (ahead parser.new) < length (ahead parser.old)) }
+    ensures shorter { OnOk result (length (ahead parser.new) < length (ahead parser.old)) }
 {
     let name = parser.expect_name()?;
     let dotted = dotted_name(parser, depth)?;

@@ -3,7 +3,7 @@
 // Each function reads its tree from the front of the tokens and passes it. Where it refuses, the tokens before the
 // refused one may be passed already.
 
-ghost use Rattle.std.specs.Prelude.{◌≡◌, ◌≤◌, ◌<◌, [], ◌∷◌, IfOk, IfErr, length};
+ghost use Rattle.std.specs.Prelude.{◌≡◌, ◌≤◌, ◌<◌, [], ◌∷◌, IfOk, IfErr, length, OnOk};
 ghost use Rattle.scanner.specs.declared.token.Place.{Place as PlaceOf};
 ghost use Rattle.syntax.specs.Lexeme.{sign_lexeme, Mark};
 ghost use Rattle.syntax.specs.Limits.{most_nestings};
@@ -44,7 +44,7 @@ pub fn expression<'a>(parser: &mut Parser<'_, 'a>, depth: u8) -> Result<Expressi
     ensures ok { IfOk result (λ x. Passes depth (an_expression []) (expression_trees (expression_of x))
         (ahead parser.old) (ahead parser.new)) }
     ensures err { IfErr result (λ e. Fails depth (an_expression []) (ahead parser.old) e) }
-    ensures shorter { IfOk result (λ _. length (ahead parser.new) < length (ahead parser.old)) }
+    ensures shorter { OnOk result (length (ahead parser.new) < length (ahead parser.old)) }
 {
     let sum = sum(parser, depth)?;
     // Most expressions end here, and needn't go through each level.
@@ -68,7 +68,7 @@ fn expression_from<'a>(
     ensures ok { IfOk result (λ x. Passes depth (Conjunctions ∷ []) (further_conjunctions (expression_of x), tt)
         (ahead parser.old) (ahead parser.new)) }
     ensures err { IfErr result (λ e. Fails depth (Conjunctions ∷ []) (ahead parser.old) e) }
-    ensures within { IfOk result (λ _. length (ahead parser.new) ≤ length (ahead parser.old)) }
+    ensures within { OnOk result (length (ahead parser.new) ≤ length (ahead parser.old)) }
 {
     if !parser.eat_keyword(Keyword::Or) {
         return Ok(expression_alone(first));
@@ -96,7 +96,7 @@ fn conjunctions<'a>(parser: &mut Parser<'_, 'a>, depth: u8) -> Result<Vec<Conjun
     ensures ok { IfOk result (λ v. Passes depth (Conjunctions ∷ []) (conjunctions_in v.items, tt)
         (ahead parser.old) (ahead parser.new)) }
     ensures err { IfErr result (λ e. Fails depth (Conjunctions ∷ []) (ahead parser.old) e) }
-    ensures within { IfOk result (λ _. length (ahead parser.new) ≤ length (ahead parser.old)) }
+    ensures within { OnOk result (length (ahead parser.new) ≤ length (ahead parser.old)) }
 {
     let mut rest = Vec::new(parser.alloc);
     'conjunctions: while parser.eat_keyword(Keyword::Or) {
@@ -113,7 +113,7 @@ fn conjunction<'a>(parser: &mut Parser<'_, 'a>, depth: u8) -> Result<Conjunction
     ensures ok { IfOk result (λ x. Passes depth (a_conjunction []) (conjunction_trees (conjunction_of x))
         (ahead parser.old) (ahead parser.new)) }
     ensures err { IfErr result (λ e. Fails depth (a_conjunction []) (ahead parser.old) e) }
-    ensures shorter { IfOk result (λ _. length (ahead parser.new) < length (ahead parser.old)) }
+    ensures shorter { OnOk result (length (ahead parser.new) < length (ahead parser.old)) }
 {
     let first = relation(parser, depth)?;
     conjunction_from(parser, first, depth)
@@ -131,7 +131,7 @@ fn conjunction_from<'a>(
     ensures ok { IfOk result (λ x. Passes depth (Relations ∷ []) (further_relations (conjunction_of x), tt)
         (ahead parser.old) (ahead parser.new)) }
     ensures err { IfErr result (λ e. Fails depth (Relations ∷ []) (ahead parser.old) e) }
-    ensures within { IfOk result (λ _. length (ahead parser.new) ≤ length (ahead parser.old)) }
+    ensures within { OnOk result (length (ahead parser.new) ≤ length (ahead parser.old)) }
 {
     if !parser.eat_keyword(Keyword::And) {
         return Ok(conjunction_alone(first));
@@ -159,7 +159,7 @@ fn relations<'a>(parser: &mut Parser<'_, 'a>, depth: u8) -> Result<Vec<Relation<
     ensures ok { IfOk result (λ v. Passes depth (Relations ∷ []) (relations_in v.items, tt)
         (ahead parser.old) (ahead parser.new)) }
     ensures err { IfErr result (λ e. Fails depth (Relations ∷ []) (ahead parser.old) e) }
-    ensures within { IfOk result (λ _. length (ahead parser.new) ≤ length (ahead parser.old)) }
+    ensures within { OnOk result (length (ahead parser.new) ≤ length (ahead parser.old)) }
 {
     let mut rest = Vec::new(parser.alloc);
     'relations: while parser.eat_keyword(Keyword::And) {
@@ -176,7 +176,7 @@ fn relation<'a>(parser: &mut Parser<'_, 'a>, depth: u8) -> Result<Relation<'a>, 
     ensures ok { IfOk result (λ x. Passes depth (a_relation []) (relation_trees (relation_of x))
         (ahead parser.old) (ahead parser.new)) }
     ensures err { IfErr result (λ e. Fails depth (a_relation []) (ahead parser.old) e) }
-    ensures shorter { IfOk result (λ _. length (ahead parser.new) < length (ahead parser.old)) }
+    ensures shorter { OnOk result (length (ahead parser.new) < length (ahead parser.old)) }
 {
     let left = sum(parser, depth)?;
     relation_from(parser, left, depth)
@@ -194,7 +194,7 @@ fn relation_from<'a>(
     ensures ok { IfOk result (λ x. Passes depth (AComparison ∷ []) (comparison_part (relation_of x), tt)
         (ahead parser.old) (ahead parser.new)) }
     ensures err { IfErr result (λ e. Fails depth (AComparison ∷ []) (ahead parser.old) e) }
-    ensures within { IfOk result (λ _. length (ahead parser.new) ≤ length (ahead parser.old)) }
+    ensures within { OnOk result (length (ahead parser.new) ≤ length (ahead parser.old)) }
 {
     let Some(comparator) = parser.comparator() else {
         return Ok(relation_alone(left));
@@ -219,7 +219,7 @@ fn sum<'a>(parser: &mut Parser<'_, 'a>, depth: u8) -> Result<Sum<'a>, Refusal>
     ensures ok { IfOk result (λ x. Passes depth (a_sum []) (sum_trees (sum_of x))
         (ahead parser.old) (ahead parser.new)) }
     ensures err { IfErr result (λ e. Fails depth (a_sum []) (ahead parser.old) e) }
-    ensures shorter { IfOk result (λ _. length (ahead parser.new) < length (ahead parser.old)) }
+    ensures shorter { OnOk result (length (ahead parser.new) < length (ahead parser.old)) }
 {
     let factor = factor(parser, depth)?;
     let first = match parser.product_sign() {
@@ -248,7 +248,7 @@ fn total<'a>(
     ensures ok { IfOk result (λ x. Passes depth (Summands ∷ []) (further_terms (sum_of x), tt)
         (ahead parser.old) (ahead parser.new)) }
     ensures err { IfErr result (λ e. Fails depth (Summands ∷ []) (ahead parser.old) e) }
-    ensures shorter { IfOk result (λ _. length (ahead parser.new) < length (ahead parser.old)) }
+    ensures shorter { OnOk result (length (ahead parser.new) < length (ahead parser.old)) }
 {
     parser.pass();
     let term = match term(parser, depth) {
@@ -279,7 +279,7 @@ fn summands<'a>(parser: &mut Parser<'_, 'a>, depth: u8) -> Result<Vec<Summand<'a
     ensures ok { IfOk result (λ v. Passes depth (Summands ∷ []) (summands_in v.items, tt)
         (ahead parser.old) (ahead parser.new)) }
     ensures err { IfErr result (λ e. Fails depth (Summands ∷ []) (ahead parser.old) e) }
-    ensures within { IfOk result (λ _. length (ahead parser.new) ≤ length (ahead parser.old)) }
+    ensures within { OnOk result (length (ahead parser.new) ≤ length (ahead parser.old)) }
 {
     let mut rest = Vec::new(parser.alloc);
     'summands: while let Some((operator, place)) = parser.sum_sign() {
@@ -301,7 +301,7 @@ fn term<'a>(parser: &mut Parser<'_, 'a>, depth: u8) -> Result<Term<'a>, Refusal>
     ensures ok { IfOk result (λ x. Passes depth (a_term []) (term_trees (term_of x))
         (ahead parser.old) (ahead parser.new)) }
     ensures err { IfErr result (λ e. Fails depth (a_term []) (ahead parser.old) e) }
-    ensures shorter { IfOk result (λ _. length (ahead parser.new) < length (ahead parser.old)) }
+    ensures shorter { OnOk result (length (ahead parser.new) < length (ahead parser.old)) }
 {
     let first = factor(parser, depth)?;
     match parser.product_sign() {
@@ -325,7 +325,7 @@ fn product<'a>(
     ensures ok { IfOk result (λ x. Passes depth (Multipliers ∷ []) (further_factors (term_of x), tt)
         (ahead parser.old) (ahead parser.new)) }
     ensures err { IfErr result (λ e. Fails depth (Multipliers ∷ []) (ahead parser.old) e) }
-    ensures shorter { IfOk result (λ _. length (ahead parser.new) < length (ahead parser.old)) }
+    ensures shorter { OnOk result (length (ahead parser.new) < length (ahead parser.old)) }
 {
     parser.pass();
     let factor = match factor(parser, depth) {
@@ -352,7 +352,7 @@ fn multipliers<'a>(parser: &mut Parser<'_, 'a>, depth: u8) -> Result<Vec<Multipl
     ensures ok { IfOk result (λ v. Passes depth (Multipliers ∷ []) (multipliers_in v.items, tt)
         (ahead parser.old) (ahead parser.new)) }
     ensures err { IfErr result (λ e. Fails depth (Multipliers ∷ []) (ahead parser.old) e) }
-    ensures within { IfOk result (λ _. length (ahead parser.new) ≤ length (ahead parser.old)) }
+    ensures within { OnOk result (length (ahead parser.new) ≤ length (ahead parser.old)) }
 {
     let mut rest = Vec::new(parser.alloc);
     'multipliers: while let Some(operator) = parser.product_sign() {
@@ -369,7 +369,7 @@ fn factor<'a>(parser: &mut Parser<'_, 'a>, depth: u8) -> Result<Factor<'a>, Refu
     ensures ok { IfOk result (λ x. Passes depth (AFactor ∷ []) (factor_of x, tt)
         (ahead parser.old) (ahead parser.new)) }
     ensures err { IfErr result (λ e. Fails depth (AFactor ∷ []) (ahead parser.old) e) }
-    ensures shorter { IfOk result (λ _. length (ahead parser.new) < length (ahead parser.old)) }
+    ensures shorter { OnOk result (length (ahead parser.new) < length (ahead parser.old)) }
 {
     let token = parser.peek();
     let Some(start) = start_of(token.kind) else {
@@ -416,7 +416,7 @@ fn operand<'a>(parser: &mut Parser<'_, 'a>, depth: u8) -> Result<Box<Factor<'a>>
     ensures ok { IfOk result (λ x. Passes depth (AFactor ∷ []) (factor_of x.value, tt)
         (ahead parser.old) (ahead parser.new)) }
     ensures err { IfErr result (λ e. Fails depth (AFactor ∷ []) (ahead parser.old) e) }
-    ensures shorter { IfOk result (λ _. length (ahead parser.new) < length (ahead parser.old)) }
+    ensures shorter { OnOk result (length (ahead parser.new) < length (ahead parser.old)) }
 {
     let factor = factor(parser, depth)?;
     Ok(Box::new(parser.alloc, factor)?)
@@ -436,7 +436,7 @@ pub fn expression_before<'a>(
     ensures ok { IfOk result (λ x. Passes depth (an_expression (AMark close ∷ []))
         (enclosed_trees close (expression_of x)) (ahead parser.old) (ahead parser.new)) }
     ensures err { IfErr result (λ e. Fails depth (an_expression (AMark close ∷ [])) (ahead parser.old) e) }
-    ensures shorter { IfOk result (λ _. length (ahead parser.new) < length (ahead parser.old)) }
+    ensures shorter { OnOk result (length (ahead parser.new) < length (ahead parser.old)) }
 {
     let expression = expression(parser, depth)?;
     match parser.expect_sign(close) {
@@ -460,7 +460,7 @@ pub fn variable<'a>(
     ensures ok { IfOk result (λ v. Passes depth (AnIndex ∷ []) ((variable_of v).index, tt)
         (ahead parser.old) (ahead parser.new)) }
     ensures err { IfErr result (λ e. Fails depth (AnIndex ∷ []) (ahead parser.old) e) }
-    ensures within { IfOk result (λ _. length (ahead parser.new) ≤ length (ahead parser.old)) }
+    ensures within { OnOk result (length (ahead parser.new) ≤ length (ahead parser.old)) }
 {
     if parser.peek().kind != Kind::Sign(Sign::OpenBracket) {
         return Ok(Variable::Name(name));

@@ -36,7 +36,7 @@ pub fn operand(
     note(operand_fault(wanted, kind), place, least)
 }
 
-// A name that is read. It is looked up once, for its own fault and for its type.
+/// A name that is read. It is looked up once, for its own fault and for its type.
 #[inline(always)]
 pub fn judge_name(standing: &Standing<'_, '_>, name: Name<'_>, least: Option<Refusal>) -> Judged
     ensures least { (s : Scope) → IsStanding s standing.now
@@ -51,7 +51,7 @@ pub fn judge_name(standing: &Standing<'_, '_>, name: Name<'_>, least: Option<Ref
     }
 }
 
-// A name that is read, of which a type is wanted. It is looked up once, for its own fault and for that of its type.
+/// A name that is read, of which a type is wanted. It is looked up once, for its own fault and for that of its type.
 pub fn name_operand(
     standing: &Standing<'_, '_>,
     wanted: ValueType,

@@ -1,4 +1,4 @@
-ghost use Rattle.std.specs.Prelude.{◌≡◌, IfOk, Some, option_map, true, false};
+ghost use Rattle.std.specs.Prelude.{◌≡◌, IfOk, Some, option_map, true, false, OnOk};
 ghost use Rattle.machine.specs.States.{state_of as machine_state};
 ghost use Rattle.machine.specs.Views.{concrete};
 ghost use Rattle.program.specs.Names.{said_by};
@@ -92,7 +92,7 @@ impl<'a> Follower<'a> {
     // Takes an action, if it is possible; else nothing is known of the state.
     fn take(&mut self, t: u32, kind: ActionKind) -> Result<bool, AllocError>
         ensures takes { IfOk result (λ b. Takes self.old (act t (kind_of kind)) b self.new) }
-        ensures kept { IfOk result (λ _. (self.new.checked ≡ self.old.checked)
+        ensures kept { OnOk result ((self.new.checked ≡ self.old.checked)
             × (self.new.layout ≡ self.old.layout)) }
     {
         let action = Action {
@@ -111,7 +111,7 @@ impl<'a> Follower<'a> {
     // Takes the quiet action that a process can take next; false where it can take none.
     fn take_quiet(&mut self, t: u32) -> Result<bool, AllocError>
         ensures takes { IfOk result (λ b. TakesQuiet self.old t b self.new) }
-        ensures kept { IfOk result (λ _. (self.new.checked ≡ self.old.checked)
+        ensures kept { OnOk result ((self.new.checked ≡ self.old.checked)
             × (self.new.layout ≡ self.old.layout)) }
     {
         let process = u64::from(t);
@@ -126,7 +126,7 @@ impl<'a> Follower<'a> {
     /// Takes so many quiet actions of a process, which no other process learns of. False where one isn't there.
     pub fn settle(&mut self, t: u32, count: u32) -> Result<bool, AllocError>
         ensures pays { IfOk result (λ b. Pays self.old t count b self.new) }
-        ensures kept { IfOk result (λ _. (self.new.checked ≡ self.old.checked)
+        ensures kept { OnOk result ((self.new.checked ≡ self.old.checked)
             × (self.new.layout ≡ self.old.layout)) }
     {
         for _ in 0..count {
@@ -194,7 +194,7 @@ impl<'a> Follower<'a> {
     pub fn follow(&mut self, machine: &Machine, t: u32, count: u32) -> Result<bool, AllocError>
         ensures follows { let s = machine_state (concrete machine.now) in
             IfOk result (λ b. Follows self.old s t count b self.new) }
-        ensures kept { IfOk result (λ _. (self.new.checked ≡ self.old.checked)
+        ensures kept { OnOk result ((self.new.checked ≡ self.old.checked)
             × (self.new.layout ≡ self.old.layout)) }
     {
         if !self.settle(t, count)? {

@@ -13,6 +13,7 @@ pub struct Meeting {
 }
 
 impl Meeting {
+    /// A meeting of two workers, in so many turns.
     pub fn new(turns: u32) -> Meeting {
         Meeting {
             turns,

@@ -1,4 +1,4 @@
-ghost use Rattle.std.specs.Prelude.{◌≡◌, ◌<◌, slice_get, IfSome, IfOk, length, vec_len, List, ℕ};
+ghost use Rattle.std.specs.Prelude.{◌≡◌, ◌<◌, slice_get, IfSome, IfOk, length, vec_len, List, ℕ, OnSome};
 ghost use Rattle.std.specs.List.{AllByRecursion};
 ghost use Rattle.isa.specs.Instructions.{operands, IsInstruction, LeadsBelow};
 ghost use Rattle.isa.specs.Spelling.{AreWords, IsSpelled};
@@ -90,7 +90,7 @@ impl Image {
     /// that it names, if any, lies in the code too.
     pub fn at(&self, place: u32) -> Option<Instr>
         ensures value { result ≡ slice_get self.now.code place }
-        ensures within { IfSome result (λ _. place < most_instructions) }
+        ensures within { OnSome result (place < most_instructions) }
         ensures limits { IfSome result IsInstruction }
         ensures leads { IfSome result (LeadsBelow (length self.now.code)) }
     {

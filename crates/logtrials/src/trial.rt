@@ -27,9 +27,13 @@ pub struct Trial {
 /// What a log is tried with: the program, its image, and another image.
 #[derive(Clone, Copy)]
 pub struct Subject<'a> {
+    /// What memory comes from.
     pub alloc: Global,
+    /// The program.
     pub checked: &'a Checked<'a>,
+    /// The program's image.
     pub image: &'a Image,
+    /// An image of another program.
     pub other: &'a Image,
 }
 

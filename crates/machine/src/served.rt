@@ -1,4 +1,4 @@
-ghost use Rattle.std.specs.Prelude.{◌≡◌, ◌≤◌, ◌<◌, length, IfOk, IfErr};
+ghost use Rattle.std.specs.Prelude.{◌≡◌, ◌≤◌, ◌<◌, length, IfErr, OnOk};
 ghost use Rattle.machine.specs.ConcreteServing.{plain};
 
 use crate::event::{Event, EventName, StepFault};
@@ -27,7 +27,7 @@ impl Served {
 
 /// A step may not be where its address lies outside the memory.
 pub fn check_address(words: &Mem, a: Addr) -> Result<(), StepFault>
-    ensures inside { IfOk result (λ _. a.0 < length words.now) }
+    ensures inside { OnOk result (a.0 < length words.now) }
     ensures outside { IfErr result (λ f. (f ≡ StepFault.Broken) × (length words.now ≤ a.0)) }
 {
     if (a.0 as usize) < words.len() {

@@ -1,6 +1,6 @@
 // An expression and the keyword behind it.
 
-ghost use Rattle.std.specs.Prelude.{◌≡◌, ◌≤◌, ◌<◌, [], ◌∷◌, IfOk, IfErr, length};
+ghost use Rattle.std.specs.Prelude.{◌≡◌, ◌≤◌, ◌<◌, [], ◌∷◌, IfOk, IfErr, length, OnOk};
 ghost use Rattle.scanner.specs.declared.token.Place.{Place as PlaceOf};
 ghost use Rattle.syntax.specs.Lexeme.{keyword_lexeme, Word};
 ghost use Rattle.syntax.specs.Limits.{most_nestings};
@@ -15,7 +15,7 @@ use scanner::{Keyword, Refusal};
 use steps::Parser;
 use syntax::Expression;
 
-// A condition, and the keyword that ends it.
+/// A condition, and the keyword that ends it.
 pub fn condition<'a>(
     parser: &mut Parser<'_, 'a>,
     depth: u8,
@@ -26,7 +26,7 @@ pub fn condition<'a>(
     ensures ok { IfOk result (λ x. Passes depth (an_expression (AWord word ∷ []))
         (condition_trees word (expression_of x)) (ahead parser.old) (ahead parser.new)) }
     ensures err { IfErr result (λ e. Fails depth (an_expression (AWord word ∷ [])) (ahead parser.old) e) }
-    ensures shorter { IfOk result (λ _. length (ahead parser.new) < length (ahead parser.old)) }
+    ensures shorter { OnOk result (length (ahead parser.new) < length (ahead parser.old)) }
 {
     let condition = expression(parser, depth)?;
     parser.expect_keyword(word)?;

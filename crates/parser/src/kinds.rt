@@ -6,7 +6,7 @@ ghost use Rattle.parser.specs.Kinds.{local_type_at, plain_type_at, result_type_a
 use scanner::{Keyword, Kind};
 use syntax::{Access, LocalType, MemberType, ResultType};
 
-// The type of a local variable that a token names.
+/// The type of a local variable that a token names.
 pub fn local_type_of(kind: Kind) -> Option<LocalType>
     ensures { result ≡ local_type_at kind }
 {
@@ -18,7 +18,7 @@ pub fn local_type_of(kind: Kind) -> Option<LocalType>
     }
 }
 
-// The type of a member that one token names.
+/// The type of a member that one token names.
 pub fn plain_type_of(kind: Kind) -> Option<MemberType>
     ensures { result ≡ plain_type_at kind }
 {
@@ -31,7 +31,7 @@ pub fn plain_type_of(kind: Kind) -> Option<MemberType>
     }
 }
 
-// The type of a result that a token names.
+/// The type of a result that a token names.
 pub fn result_type_of(kind: Kind) -> Option<ResultType>
     ensures { result ≡ result_type_at kind }
 {
@@ -42,7 +42,7 @@ pub fn result_type_of(kind: Kind) -> Option<ResultType>
     }
 }
 
-// What the first word of a monitor's procedure says.
+/// What the first word of a monitor's procedure says.
 pub fn access_of(kind: Kind) -> Option<Access>
     ensures { result ≡ access_at kind }
 {

@@ -1,6 +1,6 @@
 // Monitors.
 
-ghost use Rattle.std.specs.Prelude.{◌≤◌, ◌<◌, length, map, [], ◌∷◌, IfOk, IfErr, IfSome};
+ghost use Rattle.std.specs.Prelude.{◌≤◌, ◌<◌, length, map, [], ◌∷◌, IfOk, IfErr, OnOk, OnSome};
 ghost use Rattle.syntax.specs.View.{recover_of, monitor_of};
 ghost use Rattle.grammar.specs.Machine.{ARecover, Monitors};
 ghost use Rattle.grammar.specs.Reading.{Passes, Fails};
@@ -17,7 +17,7 @@ use syntax::{Monitor, Recover};
 fn recover<'a>(parser: &mut Parser<'_, 'a>) -> Result<Option<Recover<'a>>, Refusal>
     ensures ok { IfOk result (λ r. Passes 0 (ARecover ∷ []) (recover_of r, tt) (ahead parser.old) (ahead parser.new)) }
     ensures err { IfErr result (λ e. Fails 0 (ARecover ∷ []) (ahead parser.old) e) }
-    ensures within { IfOk result (λ _. length (ahead parser.new) ≤ length (ahead parser.old)) }
+    ensures within { OnOk result (length (ahead parser.new) ≤ length (ahead parser.old)) }
 {
     let Some(place) = parser.eat_placed(Keyword::Recover) else {
         return Ok(None);
@@ -33,8 +33,8 @@ fn recover<'a>(parser: &mut Parser<'_, 'a>) -> Result<Option<Recover<'a>>, Refus
 fn monitor<'a>(parser: &mut Parser<'_, 'a>) -> Result<Option<Monitor<'a>>, Refusal>
     ensures ok { IfOk result (λ m. ReadsNext 0 Monitors add_monitor [] m (ahead parser.old) (ahead parser.new)) }
     ensures err { IfErr result (λ e. Fails 0 (Monitors ∷ []) (ahead parser.old) e) }
-    ensures within { IfOk result (λ _. length (ahead parser.new) ≤ length (ahead parser.old)) }
-    ensures shorter { IfOk result (λ m. IfSome m (λ _. length (ahead parser.new) < length (ahead parser.old))) }
+    ensures within { OnOk result (length (ahead parser.new) ≤ length (ahead parser.old)) }
+    ensures shorter { IfOk result (λ m. OnSome m (length (ahead parser.new) < length (ahead parser.old))) }
 {
     let Some(place) = parser.eat_placed(Keyword::Monitor) else {
         return Ok(None);
@@ -67,12 +67,12 @@ fn monitor<'a>(parser: &mut Parser<'_, 'a>) -> Result<Option<Monitor<'a>>, Refus
     }
 }
 
-// Monitors, as many as there are.
+/// Monitors, as many as there are.
 pub fn monitors<'a>(parser: &mut Parser<'_, 'a>) -> Result<Vec<Monitor<'a>>, Refusal>
     ensures ok { IfOk result (λ v.
         Passes 0 (Monitors ∷ []) (map monitor_of v.items, tt) (ahead parser.old) (ahead parser.new)) }
     ensures err { IfErr result (λ e. Fails 0 (Monitors ∷ []) (ahead parser.old) e) }
-    ensures within { IfOk result (λ _. length (ahead parser.new) ≤ length (ahead parser.old)) }
+    ensures within { OnOk result (length (ahead parser.new) ≤ length (ahead parser.old)) }
 {
     let mut monitors = Vec::new(parser.alloc);
     'monitors: while let Some(monitor) = monitor(parser)? {

@@ -1,6 +1,6 @@
 // Bodies, procedures, and the procedures of monitors.
 
-ghost use Rattle.std.specs.Prelude.{◌≡◌, ◌≤◌, ◌<◌, length, map, [], ◌∷◌, IfOk, IfErr, IfSome};
+ghost use Rattle.std.specs.Prelude.{◌≡◌, ◌≤◌, ◌<◌, length, map, [], ◌∷◌, IfOk, IfErr, OnOk, OnSome};
 ghost use Rattle.syntax.specs.View.{body_of, procedure_of, monitor_procedure_of};
 ghost use Rattle.grammar.specs.Machine.{body as a_body, procedure as a_procedure, Procedures, MonitorProcedures};
 ghost use Rattle.grammar.specs.Reading.{Passes, Fails};
@@ -14,12 +14,12 @@ use scanner::{Keyword, Place, Refusal, Sign};
 use steps::{Parser, refused};
 use syntax::{Body, MonitorProcedure, Procedure};
 
-// Local variables, statements, and END.
+/// Local variables, statements, and END.
 pub fn body<'a>(parser: &mut Parser<'_, 'a>) -> Result<Body<'a>, Refusal>
     ensures ok { IfOk result (λ b.
         Passes 0 (a_body []) (body_trees (body_of b)) (ahead parser.old) (ahead parser.new)) }
     ensures err { IfErr result (λ e. Fails 0 (a_body []) (ahead parser.old) e) }
-    ensures shorter { IfOk result (λ _. length (ahead parser.new) < length (ahead parser.old)) }
+    ensures shorter { OnOk result (length (ahead parser.new) < length (ahead parser.old)) }
 {
     let locals = locals(parser)?;
     let statements = statements(parser, 0)?;
@@ -33,7 +33,7 @@ fn procedure<'a>(parser: &mut Parser<'_, 'a>, place: Place) -> Result<Procedure<
         Passes 0 (a_procedure []) (procedure_trees (procedure_of p)) (ahead parser.old) (ahead parser.new)) }
     ensures place { IfOk result (λ p. p.place ≡ place) }
     ensures err { IfErr result (λ e. Fails 0 (a_procedure []) (ahead parser.old) e) }
-    ensures shorter { IfOk result (λ _. length (ahead parser.new) < length (ahead parser.old)) }
+    ensures shorter { OnOk result (length (ahead parser.new) < length (ahead parser.old)) }
 {
     let name = parser.expect_name()?;
     let open_place = parser.expect_opening()?;
@@ -72,8 +72,8 @@ fn procedure<'a>(parser: &mut Parser<'_, 'a>, place: Place) -> Result<Procedure<
 fn external_procedure<'a>(parser: &mut Parser<'_, 'a>) -> Result<Option<Procedure<'a>>, Refusal>
     ensures ok { IfOk result (λ p. ReadsNext 0 Procedures add_procedure [] p (ahead parser.old) (ahead parser.new)) }
     ensures err { IfErr result (λ e. Fails 0 (Procedures ∷ []) (ahead parser.old) e) }
-    ensures within { IfOk result (λ _. length (ahead parser.new) ≤ length (ahead parser.old)) }
-    ensures shorter { IfOk result (λ p. IfSome p (λ _. length (ahead parser.new) < length (ahead parser.old))) }
+    ensures within { OnOk result (length (ahead parser.new) ≤ length (ahead parser.old)) }
+    ensures shorter { IfOk result (λ p. OnSome p (length (ahead parser.new) < length (ahead parser.old))) }
 {
     let Some(place) = parser.eat_placed(Keyword::Procedure) else {
         return Ok(None);
@@ -82,12 +82,12 @@ fn external_procedure<'a>(parser: &mut Parser<'_, 'a>) -> Result<Option<Procedur
     Ok(Some(procedure))
 }
 
-// External procedures, as many as there are.
+/// External procedures, as many as there are.
 pub fn procedures<'a>(parser: &mut Parser<'_, 'a>) -> Result<Vec<Procedure<'a>>, Refusal>
     ensures ok { IfOk result (λ v.
         Passes 0 (Procedures ∷ []) (map procedure_of v.items, tt) (ahead parser.old) (ahead parser.new)) }
     ensures err { IfErr result (λ e. Fails 0 (Procedures ∷ []) (ahead parser.old) e) }
-    ensures within { IfOk result (λ _. length (ahead parser.new) ≤ length (ahead parser.old)) }
+    ensures within { OnOk result (length (ahead parser.new) ≤ length (ahead parser.old)) }
 {
     let mut procedures = Vec::new(parser.alloc);
     'procedures: while let Some(procedure) = external_procedure(parser)? {
@@ -103,8 +103,8 @@ fn monitor_procedure<'a>(
     ensures ok { IfOk result (λ p.
         ReadsNext 0 MonitorProcedures add_monitor_procedure [] p (ahead parser.old) (ahead parser.new)) }
     ensures err { IfErr result (λ e. Fails 0 (MonitorProcedures ∷ []) (ahead parser.old) e) }
-    ensures within { IfOk result (λ _. length (ahead parser.new) ≤ length (ahead parser.old)) }
-    ensures shorter { IfOk result (λ p. IfSome p (λ _. length (ahead parser.new) < length (ahead parser.old))) }
+    ensures within { OnOk result (length (ahead parser.new) ≤ length (ahead parser.old)) }
+    ensures shorter { IfOk result (λ p. OnSome p (length (ahead parser.new) < length (ahead parser.old))) }
 {
     let Some(access) = access_of(parser.peek().kind) else {
         return Ok(None);
@@ -115,7 +115,7 @@ fn monitor_procedure<'a>(
     Ok(Some(MonitorProcedure { access, procedure }))
 }
 
-// Procedures of a monitor, as many as there are.
+/// Procedures of a monitor, as many as there are.
 pub fn monitor_procedures<'a>(
     parser: &mut Parser<'_, 'a>,
 ) -> Result<Vec<MonitorProcedure<'a>>, Refusal>
@@ -123,7 +123,7 @@ pub fn monitor_procedures<'a>(
         Passes 0 (MonitorProcedures ∷ []) (map monitor_procedure_of v.items, tt)
         (ahead parser.old) (ahead parser.new)) }
     ensures err { IfErr result (λ e. Fails 0 (MonitorProcedures ∷ []) (ahead parser.old) e) }
-    ensures within { IfOk result (λ _. length (ahead parser.new) ≤ length (ahead parser.old)) }
+    ensures within { OnOk result (length (ahead parser.new) ≤ length (ahead parser.old)) }
 {
     let mut procedures = Vec::new(parser.alloc);
     'procedures: while let Some(procedure) = monitor_procedure(parser)? {

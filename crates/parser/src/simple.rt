@@ -1,6 +1,6 @@
 // Statements that hold no others.
 
-ghost use Rattle.std.specs.Prelude.{◌≡◌, ◌≤◌, ◌<◌, length, [], ◌∷◌, IfOk, IfErr};
+ghost use Rattle.std.specs.Prelude.{◌≡◌, ◌≤◌, ◌<◌, length, [], ◌∷◌, IfOk, IfErr, OnOk};
 ghost use Rattle.scanner.specs.declared.token.Keyword.TheVariants as K;
 ghost use Rattle.scanner.specs.declared.token.Place.{Place as PlaceOf};
 ghost use Rattle.scanner.specs.declared.token.Sign.TheVariants as S;
@@ -17,13 +17,13 @@ use scanner::{Keyword, Place, Refusal, Sign};
 use steps::{Parser, refused};
 use syntax::{Name, Statement};
 
-// The name behind INTO, if there is one.
+/// The name behind INTO, if there is one.
 pub fn into_name<'a>(parser: &mut Parser<'_, 'a>, depth: u8) -> Result<Option<Name<'a>>, Refusal>
     requires { depth ≤ most_nestings }
     ensures ok { IfOk result (λ n.
         Passes depth (AnInto ∷ []) (option_name n, tt) (ahead parser.old) (ahead parser.new)) }
     ensures err { IfErr result (λ e. Fails depth (AnInto ∷ []) (ahead parser.old) e) }
-    ensures within { IfOk result (λ _. length (ahead parser.new) ≤ length (ahead parser.old)) }
+    ensures within { OnOk result (length (ahead parser.new) ≤ length (ahead parser.old)) }
 {
     if !parser.eat_keyword(Keyword::Into) {
         return Ok(None);
@@ -32,22 +32,22 @@ pub fn into_name<'a>(parser: &mut Parser<'_, 'a>, depth: u8) -> Result<Option<Na
     Ok(Some(name))
 }
 
-// The keyword that ends a nesting, and the semicolon behind it.
+/// The keyword that ends a nesting, and the semicolon behind it.
 pub fn ending(parser: &mut Parser<'_, '_>, depth: u8, word: Keyword) -> Result<(), Refusal>
     requires depth { depth < most_nestings }
     requires word { (place : PlaceOf) → keyword_lexeme word place ≡ Word word }
-    ensures ok { IfOk result (λ _. Passes depth (AWord word ∷ Closed ∷ AMark S.Semicolon ∷ []) (tt, (tt, (tt, tt)))
+    ensures ok { OnOk result (Passes depth (AWord word ∷ Closed ∷ AMark S.Semicolon ∷ []) (tt, (tt, (tt, tt)))
         (ahead parser.old) (ahead parser.new)) }
     ensures err { IfErr result (λ e.
         Fails depth (AWord word ∷ Closed ∷ AMark S.Semicolon ∷ []) (ahead parser.old) e) }
-    ensures within { IfOk result (λ _. length (ahead parser.new) ≤ length (ahead parser.old)) }
+    ensures within { OnOk result (length (ahead parser.new) ≤ length (ahead parser.old)) }
 {
     parser.expect_keyword(word)?;
     parser.expect_sign(Sign::Semicolon)?;
     Ok(())
 }
 
-// An assignment.
+/// An assignment.
 pub fn assignment<'a>(
     parser: &mut Parser<'_, 'a>,
     depth: u8,
@@ -57,7 +57,7 @@ pub fn assignment<'a>(
     requires first { lexeme_at (ahead parser.old) ≡ Named (name_of name) }
     ensures ok { IfOk result (λ s. ReadsStatement depth s (ahead parser.old) (ahead parser.new)) }
     ensures err { IfErr result (λ e. Fails depth (Statements ∷ []) (ahead parser.old) e) }
-    ensures shorter { IfOk result (λ _. length (ahead parser.new) < length (ahead parser.old)) }
+    ensures shorter { OnOk result (length (ahead parser.new) < length (ahead parser.old)) }
 {
     parser.pass();
     let variable = variable(parser, depth, name)?;
@@ -71,7 +71,7 @@ pub fn assignment<'a>(
     }
 }
 
-// A call.
+/// A call.
 pub fn call<'a>(
     parser: &mut Parser<'_, 'a>,
     depth: u8,
@@ -81,7 +81,7 @@ pub fn call<'a>(
     requires first { lexeme_at (ahead parser.old) ≡ WordAt K.Call place }
     ensures ok { IfOk result (λ s. ReadsStatement depth s (ahead parser.old) (ahead parser.new)) }
     ensures err { IfErr result (λ e. Fails depth (Statements ∷ []) (ahead parser.old) e) }
-    ensures shorter { IfOk result (λ _. length (ahead parser.new) < length (ahead parser.old)) }
+    ensures shorter { OnOk result (length (ahead parser.new) < length (ahead parser.old)) }
 {
     parser.pass();
     let callee = callee(parser, depth)?;
@@ -100,7 +100,7 @@ pub fn call<'a>(
     }
 }
 
-// A fork.
+/// A fork.
 pub fn fork<'a>(
     parser: &mut Parser<'_, 'a>,
     depth: u8,
@@ -110,7 +110,7 @@ pub fn fork<'a>(
     requires first { lexeme_at (ahead parser.old) ≡ WordAt K.Fork place }
     ensures ok { IfOk result (λ s. ReadsStatement depth s (ahead parser.old) (ahead parser.new)) }
     ensures err { IfErr result (λ e. Fails depth (Statements ∷ []) (ahead parser.old) e) }
-    ensures shorter { IfOk result (λ _. length (ahead parser.new) < length (ahead parser.old)) }
+    ensures shorter { OnOk result (length (ahead parser.new) < length (ahead parser.old)) }
 {
     parser.pass();
     let callee = callee(parser, depth)?;
@@ -133,7 +133,7 @@ pub fn fork<'a>(
     }
 }
 
-// A return.
+/// A return.
 pub fn return_statement<'a>(
     parser: &mut Parser<'_, 'a>,
     depth: u8,
@@ -143,7 +143,7 @@ pub fn return_statement<'a>(
     requires first { lexeme_at (ahead parser.old) ≡ WordAt K.Return place }
     ensures ok { IfOk result (λ s. ReadsStatement depth s (ahead parser.old) (ahead parser.new)) }
     ensures err { IfErr result (λ e. Fails depth (Statements ∷ []) (ahead parser.old) e) }
-    ensures shorter { IfOk result (λ _. length (ahead parser.new) < length (ahead parser.old)) }
+    ensures shorter { OnOk result (length (ahead parser.new) < length (ahead parser.old)) }
 {
     parser.pass();
     let value = value(parser, depth)?;
@@ -151,7 +151,7 @@ pub fn return_statement<'a>(
     Ok(Statement::Return { place, value })
 }
 
-// A wait.
+/// A wait.
 pub fn wait<'a>(
     parser: &mut Parser<'_, 'a>,
     depth: u8,
@@ -161,7 +161,7 @@ pub fn wait<'a>(
     requires first { lexeme_at (ahead parser.old) ≡ WordAt K.Wait place }
     ensures ok { IfOk result (λ s. ReadsStatement depth s (ahead parser.old) (ahead parser.new)) }
     ensures err { IfErr result (λ e. Fails depth (Statements ∷ []) (ahead parser.old) e) }
-    ensures shorter { IfOk result (λ _. length (ahead parser.new) < length (ahead parser.old)) }
+    ensures shorter { OnOk result (length (ahead parser.new) < length (ahead parser.old)) }
 {
     parser.pass();
     let condition = parser.expect_name()?;
@@ -169,7 +169,7 @@ pub fn wait<'a>(
     Ok(Statement::Wait { place, condition })
 }
 
-// A notify.
+/// A notify.
 pub fn notify<'a>(
     parser: &mut Parser<'_, 'a>,
     depth: u8,
@@ -179,7 +179,7 @@ pub fn notify<'a>(
     requires first { lexeme_at (ahead parser.old) ≡ WordAt K.Notify place }
     ensures ok { IfOk result (λ s. ReadsStatement depth s (ahead parser.old) (ahead parser.new)) }
     ensures err { IfErr result (λ e. Fails depth (Statements ∷ []) (ahead parser.old) e) }
-    ensures shorter { IfOk result (λ _. length (ahead parser.new) < length (ahead parser.old)) }
+    ensures shorter { OnOk result (length (ahead parser.new) < length (ahead parser.old)) }
 {
     parser.pass();
     let condition = parser.expect_name()?;
@@ -187,7 +187,7 @@ pub fn notify<'a>(
     Ok(Statement::Notify { place, condition })
 }
 
-// A broadcast.
+/// A broadcast.
 pub fn broadcast<'a>(
     parser: &mut Parser<'_, 'a>,
     depth: u8,
@@ -197,7 +197,7 @@ pub fn broadcast<'a>(
     requires first { lexeme_at (ahead parser.old) ≡ WordAt K.Broadcast place }
     ensures ok { IfOk result (λ s. ReadsStatement depth s (ahead parser.old) (ahead parser.new)) }
     ensures err { IfErr result (λ e. Fails depth (Statements ∷ []) (ahead parser.old) e) }
-    ensures shorter { IfOk result (λ _. length (ahead parser.new) < length (ahead parser.old)) }
+    ensures shorter { OnOk result (length (ahead parser.new) < length (ahead parser.old)) }
 {
     parser.pass();
     let condition = parser.expect_name()?;
@@ -205,7 +205,7 @@ pub fn broadcast<'a>(
     Ok(Statement::Broadcast { place, condition })
 }
 
-// A print.
+/// A print.
 pub fn print<'a>(
     parser: &mut Parser<'_, 'a>,
     depth: u8,
@@ -215,14 +215,14 @@ pub fn print<'a>(
     requires first { lexeme_at (ahead parser.old) ≡ WordAt K.Print place }
     ensures ok { IfOk result (λ s. ReadsStatement depth s (ahead parser.old) (ahead parser.new)) }
     ensures err { IfErr result (λ e. Fails depth (Statements ∷ []) (ahead parser.old) e) }
-    ensures shorter { IfOk result (λ _. length (ahead parser.new) < length (ahead parser.old)) }
+    ensures shorter { OnOk result (length (ahead parser.new) < length (ahead parser.old)) }
 {
     parser.pass();
     let value = expression_before(parser, depth, Sign::Semicolon)?;
     Ok(Statement::Print { place, value })
 }
 
-// An abort.
+/// An abort.
 pub fn abort<'a>(
     parser: &mut Parser<'_, 'a>,
     depth: u8,
@@ -232,7 +232,7 @@ pub fn abort<'a>(
     requires first { lexeme_at (ahead parser.old) ≡ WordAt K.Abort place }
     ensures ok { IfOk result (λ s. ReadsStatement depth s (ahead parser.old) (ahead parser.new)) }
     ensures err { IfErr result (λ e. Fails depth (Statements ∷ []) (ahead parser.old) e) }
-    ensures shorter { IfOk result (λ _. length (ahead parser.new) < length (ahead parser.old)) }
+    ensures shorter { OnOk result (length (ahead parser.new) < length (ahead parser.old)) }
 {
     parser.pass();
     parser.expect_sign(Sign::Semicolon)?;

@@ -6,7 +6,7 @@ ghost use Rattle.parser.specs.Starts.{Begins};
 use scanner::{Keyword, Kind, Place, Token};
 use syntax::Name;
 
-// The first token of a statement: the name that is assigned to, or a keyword with its place.
+/// The first token of a statement: the name that is assigned to, or a keyword with its place.
 #[derive(Clone, Copy)]
 pub enum StatementStart<'a> {
     Assign(Name<'a>),
@@ -23,7 +23,7 @@ pub enum StatementStart<'a> {
     Abort(Place),
 }
 
-// Which statement a token begins, if it begins one.
+/// Which statement a token begins, if it begins one.
 pub fn start_of(token: Token<'_>) -> Option<StatementStart<'_>>
     ensures { Begins result (lexeme_of token.entry) }
 {

@@ -1,6 +1,6 @@
 // Statements, and those that hold others.
 
-ghost use Rattle.std.specs.Prelude.{◌≡◌, ◌≤◌, ◌<◌, length, [], ◌∷◌, IfOk, IfErr, IfSome};
+ghost use Rattle.std.specs.Prelude.{◌≡◌, ◌≤◌, ◌<◌, length, [], ◌∷◌, IfOk, IfErr, OnOk, OnSome};
 ghost use Rattle.scanner.specs.declared.token.Keyword.TheVariants as K;
 ghost use Rattle.scanner.specs.declared.token.Sign.TheVariants as S;
 ghost use Rattle.syntax.specs.Lexeme.{WordAt};
@@ -24,14 +24,14 @@ use scanner::{Keyword, Kind, Place, Refusal, Sign};
 use steps::{Parser, refused};
 use syntax::{Name, Statement};
 
-// Statements, as many as there are.
+/// Statements, as many as there are.
 #[cycle(statements)]
 pub fn statements<'a>(parser: &mut Parser<'_, 'a>, depth: u8) -> Result<Vec<Statement<'a>>, Refusal>
     requires { depth ≤ most_nestings }
     ensures ok { IfOk result (λ v.
         Passes depth (Statements ∷ []) (statements_in v.items, tt) (ahead parser.old) (ahead parser.new)) }
     ensures err { IfErr result (λ e. Fails depth (Statements ∷ []) (ahead parser.old) e) }
-    ensures within { IfOk result (λ _. length (ahead parser.new) ≤ length (ahead parser.old)) }
+    ensures within { OnOk result (length (ahead parser.new) ≤ length (ahead parser.old)) }
 {
     let mut statements = Vec::new(parser.alloc);
     'statements: while let Some(next) = statement(parser, depth)? {
@@ -47,8 +47,8 @@ fn statement<'a>(parser: &mut Parser<'_, 'a>, depth: u8) -> Result<Option<Statem
     ensures ok { IfOk result (λ s.
         ReadsNext depth Statements add_statement NoStatements s (ahead parser.old) (ahead parser.new)) }
     ensures err { IfErr result (λ e. Fails depth (Statements ∷ []) (ahead parser.old) e) }
-    ensures within { IfOk result (λ _. length (ahead parser.new) ≤ length (ahead parser.old)) }
-    ensures shorter { IfOk result (λ s. IfSome s (λ _. length (ahead parser.new) < length (ahead parser.old))) }
+    ensures within { OnOk result (length (ahead parser.new) ≤ length (ahead parser.old)) }
+    ensures shorter { IfOk result (λ s. OnSome s (length (ahead parser.new) < length (ahead parser.old))) }
 {
     let Some(start) = start_of(parser.peek()) else {
         return Ok(None);
@@ -68,7 +68,7 @@ fn statement_from<'a>(
     requires first { lexeme_at (ahead parser.old) ≡ start_lexeme start }
     ensures ok { IfOk result (λ s. ReadsStatement depth s (ahead parser.old) (ahead parser.new)) }
     ensures err { IfErr result (λ e. Fails depth (Statements ∷ []) (ahead parser.old) e) }
-    ensures shorter { IfOk result (λ _. length (ahead parser.new) < length (ahead parser.old)) }
+    ensures shorter { OnOk result (length (ahead parser.new) < length (ahead parser.old)) }
 {
     match start {
         StatementStart::Assign(name) => assignment(parser, depth, name),
@@ -97,7 +97,7 @@ fn if_statement<'a>(
     requires first { lexeme_at (ahead parser.old) ≡ WordAt K.If place }
     ensures ok { IfOk result (λ s. ReadsStatement depth s (ahead parser.old) (ahead parser.new)) }
     ensures err { IfErr result (λ e. Fails depth (Statements ∷ []) (ahead parser.old) e) }
-    ensures shorter { IfOk result (λ _. length (ahead parser.new) < length (ahead parser.old)) }
+    ensures shorter { OnOk result (length (ahead parser.new) < length (ahead parser.old)) }
 {
     let inner = parser.open(depth)?;
     let condition = condition(parser, inner, Keyword::Then)?;
@@ -125,7 +125,7 @@ fn branches<'a>(
         (statements_in p.0.items, (part_in p.1, (tt, (tt, (tt, tt))))) (ahead parser.old) (ahead parser.new)) }
     ensures err { IfErr result (λ e.
         Fails depth (Statements ∷ AnElse ∷ AWord K.Endif ∷ Closed ∷ AMark S.Semicolon ∷ []) (ahead parser.old) e) }
-    ensures within { IfOk result (λ _. length (ahead parser.new) ≤ length (ahead parser.old)) }
+    ensures within { OnOk result (length (ahead parser.new) ≤ length (ahead parser.old)) }
 {
     let inner = depth + 1;
     let then_part = statements(parser, inner)?;
@@ -151,7 +151,7 @@ fn while_statement<'a>(
     requires first { lexeme_at (ahead parser.old) ≡ WordAt K.While place }
     ensures ok { IfOk result (λ s. ReadsStatement depth s (ahead parser.old) (ahead parser.new)) }
     ensures err { IfErr result (λ e. Fails depth (Statements ∷ []) (ahead parser.old) e) }
-    ensures shorter { IfOk result (λ _. length (ahead parser.new) < length (ahead parser.old)) }
+    ensures shorter { OnOk result (length (ahead parser.new) < length (ahead parser.old)) }
 {
     let inner = parser.open(depth)?;
     let condition = condition(parser, inner, Keyword::Do)?;
@@ -176,7 +176,7 @@ fn join<'a>(parser: &mut Parser<'_, 'a>, depth: u8, place: Place) -> Result<Stat
     requires first { lexeme_at (ahead parser.old) ≡ WordAt K.Join place }
     ensures ok { IfOk result (λ s. ReadsStatement depth s (ahead parser.old) (ahead parser.new)) }
     ensures err { IfErr result (λ e. Fails depth (Statements ∷ []) (ahead parser.old) e) }
-    ensures shorter { IfOk result (λ _. length (ahead parser.new) < length (ahead parser.old)) }
+    ensures shorter { OnOk result (length (ahead parser.new) < length (ahead parser.old)) }
 {
     parser.pass();
     let process = expression(parser, depth)?;
@@ -204,7 +204,7 @@ fn join_parts<'a>(
         (option_name p.0, (part_in p.1, (tt, tt))) (ahead parser.old) (ahead parser.new)) }
     ensures err { IfErr result (λ e.
         Fails depth (AnInto ∷ AnAborted ∷ AMark S.Semicolon ∷ []) (ahead parser.old) e) }
-    ensures within { IfOk result (λ _. length (ahead parser.new) ≤ length (ahead parser.old)) }
+    ensures within { OnOk result (length (ahead parser.new) ≤ length (ahead parser.old)) }
 {
     let into = into_name(parser, depth)?;
     let aborted = aborted_statements(parser, depth)?;
@@ -221,7 +221,7 @@ fn else_statements<'a>(
     requires { depth ≤ most_nestings }
     ensures ok { IfOk result (λ p. Passes depth (AnElse ∷ []) (part_in p, tt) (ahead parser.old) (ahead parser.new)) }
     ensures err { IfErr result (λ e. Fails depth (AnElse ∷ []) (ahead parser.old) e) }
-    ensures within { IfOk result (λ _. length (ahead parser.new) ≤ length (ahead parser.old)) }
+    ensures within { OnOk result (length (ahead parser.new) ≤ length (ahead parser.old)) }
 {
     if !parser.eat_keyword(Keyword::Else) {
         return Ok(None);
@@ -240,7 +240,7 @@ fn aborted_statements<'a>(
     ensures ok { IfOk result (λ p.
         Passes depth (AnAborted ∷ []) (part_in p, tt) (ahead parser.old) (ahead parser.new)) }
     ensures err { IfErr result (λ e. Fails depth (AnAborted ∷ []) (ahead parser.old) e) }
-    ensures within { IfOk result (λ _. length (ahead parser.new) ≤ length (ahead parser.old)) }
+    ensures within { OnOk result (length (ahead parser.new) ≤ length (ahead parser.old)) }
 {
     if parser.peek().kind != Kind::Keyword(Keyword::Aborted) {
         return Ok(None);

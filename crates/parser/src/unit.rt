@@ -1,6 +1,6 @@
 // A whole unit.
 
-ghost use Rattle.std.specs.Prelude.{◌≡◌, ◌≤◌, ◌⊎◌, [], ◌∷◌, List, IfOk, IfErr, MatchResult};
+ghost use Rattle.std.specs.Prelude.{◌≡◌, ◌≤◌, ◌⊎◌, [], ◌∷◌, List, IfOk, IfErr, MatchResult, OnOk};
 ghost use Rattle.scanner.specs.declared.refusal.RefusalKind.TheVariants.{Memory};
 ghost use Rattle.scanner.specs.declared.token.Keyword.TheVariants as K;
 ghost use Rattle.scanner.specs.declared.token.Sign.TheVariants as S;
@@ -54,7 +54,7 @@ fn main_part<'a>(parser: &mut Parser<'_, 'a>) -> Result<Main<'a>, Refusal>
 
 // The last sign, and the end of the text.
 fn finish(parser: &mut Parser<'_, '_>) -> Result<(), Refusal>
-    ensures ok { IfOk result (λ _. reads most_nestings (ahead parser.old) (AMark S.Dot ∷ []) ≡ Read (tt, tt)) }
+    ensures ok { OnOk result (reads most_nestings (ahead parser.old) (AMark S.Dot ∷ []) ≡ Read (tt, tt)) }
     ensures err { IfErr result (λ e. reads most_nestings (ahead parser.old) (AMark S.Dot ∷ []) ≡ Refused e) }
 {
     parser.expect_sign(Sign::Dot)?;

@@ -7,7 +7,7 @@ ghost use Rattle.program.specs.Views.{expression_of};
 use program::{Both, Expression, Operator, UnaryOperator};
 use std::alloc::{AllocError, Global};
 
-// An operator between these operands.
+/// An operator between these operands.
 pub fn both(
     alloc: Global,
     operator: Operator,
@@ -25,7 +25,7 @@ pub fn both(
     Ok(Expression::Both(Box::new(alloc, both)?))
 }
 
-// An operator before this operand.
+/// An operator before this operand.
 pub fn unary(
     alloc: Global,
     operator: UnaryOperator,

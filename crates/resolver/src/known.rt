@@ -57,7 +57,7 @@ pub struct Judged {
     pub is_clean: bool,
 }
 
-// Whether nothing of an expression is faulty where this type is wanted.
+/// Whether nothing of an expression is faulty where this type is wanted.
 pub fn fits(typed: &Typed, wanted: ValueType) -> bool
     ensures { (e : t.Expression) (kind : Option TypeOf) (fs : List Refusal) (place : Place) → Says e kind fs typed.now
         → result ≡ is_clean (fs ++ wants wanted kind place) }
@@ -65,7 +65,7 @@ pub fn fits(typed: &Typed, wanted: ValueType) -> bool
     typed.is_clean && operand_fault(wanted, typed.kind).is_none()
 }
 
-// Whether nothing is faulty before an operand, nor in it where this type is wanted.
+/// Whether nothing is faulty before an operand, nor in it where this type is wanted.
 pub fn fits_behind(before: bool, typed: &Typed, wanted: ValueType) -> bool
     ensures { (e : t.Expression) (kind : Option TypeOf) (fs : List Refusal) (place : Place) → Says e kind fs typed.now
         → result ≡ (before && is_clean (fs ++ wants wanted kind place)) }
@@ -73,7 +73,7 @@ pub fn fits_behind(before: bool, typed: &Typed, wanted: ValueType) -> bool
     before && fits(typed, wanted)
 }
 
-// Whether nothing of two sums is faulty where this sign stands between them.
+/// Whether nothing of two sums is faulty where this sign stands between them.
 pub fn compares(sign: Comparator, left: &Typed, right: &Typed) -> bool
     ensures { (d e : t.Expression) (j k : Option TypeOf) (fs gs : List Refusal) (p q : Place) → Says d j fs left.now
         → Says e k gs right.now → result ≡ is_clean (fs ++ (gs ++ faults_between sign j k p q)) }
@@ -84,7 +84,7 @@ pub fn compares(sign: Comparator, left: &Typed, right: &Typed) -> bool
     is_left && is_right
 }
 
-// Whether nothing is faulty where this value is assigned to this.
+/// Whether nothing is faulty where this value is assigned to this.
 pub fn takes(aim: &Aim, value: &Typed) -> bool
     ensures { (e : t.Expression) (j k : Option TypeOf) (fs gs : List Refusal) (place : Place) → aim.now.kind ≡ j
         → aim.now.is_clean ≡ is_clean fs → Says e k gs value.now

@@ -1,5 +1,5 @@
 ghost use Rattle.words.specs.Limits.{most_local_steps};
-ghost use Rattle.std.specs.Prelude.{◌≡◌, ◌≤◌, ◌+◌, true, IfOk, IfErr};
+ghost use Rattle.std.specs.Prelude.{◌≡◌, ◌≤◌, ◌+◌, true, IfErr, OnOk};
 ghost use Rattle.machine.specs.ConcreteSteps.{can_move};
 ghost use Rattle.machine.specs.Views.{concrete};
 ghost use Rattle.runner.specs.Logs.{Enters, event_cost};
@@ -16,7 +16,7 @@ pub fn take_entry(machine: &mut Machine, t: u32) -> (Entry, Result<(), RunFault>
     requires room { 1 ≤ machine.old.room }
     ensures enters { Enters machine.old.program (concrete machine.old) result.0 (concrete machine.new) }
     ensures turn { result.0.local ≤ most_local_steps }
-    ensures goes { IfOk result.1 (λ _. 1 ≤ result.0.local + event_cost result.0.event) }
+    ensures goes { OnOk result.1 (1 ≤ result.0.local + event_cost result.0.event) }
     ensures breaks { IfErr result.1
         (λ fault. (fault ≡ RunFault.Broken)
         × BreaksAfter machine.old.program (concrete machine.old) t result.0.local) }

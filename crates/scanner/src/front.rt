@@ -4,20 +4,26 @@ ghost use Rattle.std.specs.List.{prefix_len};
 ghost use Rattle.scanner.specs.Bytes.{is_comment_byte};
 ghost use Rattle.scanner.specs.Steps.{front_of, OnOneLine};
 
-// What the first bytes of a text begin.
+/// What the first bytes of a text begin.
 #[derive(Clone, Copy, PartialEq, Eq, Debug)]
 pub enum Front {
-    // The text has no byte.
+    /// The text has no byte.
     Finish,
+    /// A blank, a tab, or a byte that ends a line.
     White,
+    /// Two minus signs.
     Comment,
+    /// A letter.
     Word,
+    /// A digit.
     Digits,
-    // Any other byte of ASCII.
+    /// Any other byte of ASCII.
     Other,
+    /// A byte past 127.
     PastAscii,
 }
 
+/// What a text begins with.
 pub fn front_of(bytes: &[u8]) -> Front
     ensures { result ≡ front_of bytes.now }
 {
@@ -32,7 +38,7 @@ pub fn front_of(bytes: &[u8]) -> Front
     }
 }
 
-// How many letters and digits stand first.
+/// How many letters and digits stand first.
 #[tactic(auto, using(crate::proofs::LineLaws::prefix_on_line))]
 pub fn word_length(bytes: &[u8]) -> usize
     ensures count { result ≡ prefix_len is_ascii_alphanumeric bytes.now }
@@ -44,7 +50,7 @@ pub fn word_length(bytes: &[u8]) -> usize
         .count()
 }
 
-// How many digits stand first.
+/// How many digits stand first.
 #[tactic(auto, using(crate::proofs::LineLaws::prefix_on_line))]
 pub fn digits_length(bytes: &[u8]) -> usize
     ensures count { result ≡ prefix_len is_ascii_digit bytes.now }
@@ -53,7 +59,7 @@ pub fn digits_length(bytes: &[u8]) -> usize
     bytes.iter().take_while(|b| b.is_ascii_digit()).count()
 }
 
-// How many bytes stand first with which a comment goes on.
+/// How many bytes stand first with which a comment goes on.
 #[tactic(auto, using(crate::proofs::LineLaws::prefix_on_line))]
 pub fn comment_length(bytes: &[u8]) -> usize
     ensures count { result ≡ prefix_len is_comment_byte bytes.now }

@@ -27,7 +27,7 @@ impl Source<'_> {
         Ok(())
     }
 
-    // Passes white space and comments, and says what stands behind them.
+    /// Passes white space and comments, and says what stands behind them.
     pub fn pass_gap(&mut self) -> Result<Front, Refusal>
         requires { SourceFits self.old }
         ensures gap { OnOk result (SkipsGap self.old self.new) }

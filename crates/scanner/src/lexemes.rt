@@ -106,7 +106,7 @@ impl<'a> Source<'a> {
         }
     }
 
-    // Passes a gap and the token behind it, or the gap alone where the text ends with it.
+    /// Passes a gap and the token behind it, or the gap alone where the text ends with it.
     pub fn next_token(&mut self) -> Result<Option<Token<'a>>, Refusal>
         requires { SourceFits self.old }
         ensures end { IfOk result (λ next. IfNone next (IsLastGap self.old.rest.now

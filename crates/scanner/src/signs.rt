@@ -43,7 +43,7 @@ fn has_equal_second(bytes: &[u8]) -> bool
     matches!(bytes, [_, b'=', ..])
 }
 
-// The longest sign that stands first.
+/// The longest sign that stands first.
 pub fn sign_at(bytes: &[u8]) -> Option<Sign>
     requires { front_of bytes.now ≡ Front.Other }
     ensures { MatchOption result (BeginsNoToken bytes.now) (λ s. SignFirst (sign_text s) bytes.now) }

@@ -6,14 +6,17 @@ ghost use Rattle.scanner.specs.declared.text.TheConstants.{MOST_BYTES};
 use crate::text::MOST_BYTES;
 use crate::token::Place;
 
-// What is left of a text, and the place of its first byte.
+/// What is left of a text, and the place of its first byte.
 #[derive(Drop)]
 pub struct Source<'a> {
+    /// The bytes that are left.
     pub rest: &'a [u8],
+    /// The place of the first of them.
     pub place: Place,
 }
 
 impl<'a> Source<'a> {
+    /// The whole of a text.
     pub fn new(text: &'a [u8]) -> Source<'a>
         requires { length text.now ≤ MOST_BYTES }
         ensures rest { result.rest.now ≡ text.now }
@@ -26,7 +29,7 @@ impl<'a> Source<'a> {
         }
     }
 
-    // Passes the first byte.
+    /// Passes the first byte.
     pub fn pass(&mut self)
         requires fits { SourceFits self.old }
         requires more { 0 < length self.old.rest.now }
@@ -45,7 +48,7 @@ impl<'a> Source<'a> {
         }
     }
 
-    // Splits off the first `count` bytes, none of which is a line feed.
+    /// Splits off the first `count` bytes, none of which is a line feed.
     pub fn take(&mut self, count: usize) -> &'a [u8]
         requires fits { SourceFits self.old }
         requires line { OnOneLine self.old.rest.now count }

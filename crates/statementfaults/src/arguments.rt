@@ -12,7 +12,7 @@ use scanner::Refusal;
 use syntax::{Expression, Parameter};
 use types::{Standing, expression_place, local_kind};
 
-// The least fault of arguments by themselves.
+/// The least fault of arguments by themselves.
 pub fn arguments(
     standing: &Standing<'_, '_>,
     trees: &[Expression<'_>],
@@ -28,7 +28,7 @@ pub fn arguments(
     all
 }
 
-// The least fault of arguments that have other types than the parameters.
+/// The least fault of arguments that have other types than the parameters.
 pub fn matched(
     standing: &Standing<'_, '_>,
     trees: &[Expression<'_>],

@@ -1,6 +1,6 @@
 // Passing what has to stand first, or refusing what stands there in its place. A refusal passes nothing.
 
-ghost use Rattle.std.specs.Prelude.{◌≡◌, [], IfOk, IfErr};
+ghost use Rattle.std.specs.Prelude.{◌≡◌, [], IfOk, IfErr, OnErr, OnOk};
 ghost use Rattle.scanner.specs.declared.token.Place.{Place as PlaceOf};
 ghost use Rattle.syntax.specs.Limits.{most_nestings};
 ghost use Rattle.syntax.specs.Lexeme.{keyword_lexeme, sign_lexeme, Word, WordAt, Mark};
@@ -17,9 +17,9 @@ impl<'a> Parser<'_, 'a> {
     /// Passes a keyword whose place no tree keeps, or it is Expected there.
     pub fn expect_keyword(&mut self, word: Keyword) -> Result<(), Refusal>
         requires { (place : PlaceOf) → keyword_lexeme word place ≡ Word word }
-        ensures ok { IfOk result (λ _. Takes (AWord word) tt (ahead self.old) (ahead self.new)) }
+        ensures ok { OnOk result (Takes (AWord word) tt (ahead self.old) (ahead self.new)) }
         ensures err { IfErr result (λ e. Rejects (AWord word) (ahead self.old) e) }
-        ensures same { IfErr result (λ _. ahead self.new ≡ ahead self.old) }
+        ensures same { OnErr result (ahead self.new ≡ ahead self.old) }
     {
         if self.eat_keyword(word) {
             Ok(())
@@ -31,9 +31,9 @@ impl<'a> Parser<'_, 'a> {
     /// Passes a sign whose place no tree keeps, or it is Expected there.
     pub fn expect_sign(&mut self, sign: Sign) -> Result<(), Refusal>
         requires { (place : PlaceOf) → sign_lexeme sign place ≡ Mark sign }
-        ensures ok { IfOk result (λ _. Takes (AMark sign) tt (ahead self.old) (ahead self.new)) }
+        ensures ok { OnOk result (Takes (AMark sign) tt (ahead self.old) (ahead self.new)) }
         ensures err { IfErr result (λ e. Rejects (AMark sign) (ahead self.old) e) }
-        ensures same { IfErr result (λ _. ahead self.new ≡ ahead self.old) }
+        ensures same { OnErr result (ahead self.new ≡ ahead self.old) }
     {
         if self.eat_sign(sign) {
             Ok(())
@@ -47,7 +47,7 @@ impl<'a> Parser<'_, 'a> {
         requires { (place : PlaceOf) → keyword_lexeme word place ≡ WordAt word place }
         ensures ok { IfOk result (λ place. Takes (AWordAt word) place (ahead self.old) (ahead self.new)) }
         ensures err { IfErr result (λ e. Rejects (AWordAt word) (ahead self.old) e) }
-        ensures same { IfErr result (λ _. ahead self.new ≡ ahead self.old) }
+        ensures same { OnErr result (ahead self.new ≡ ahead self.old) }
     {
         match self.eat_placed(word) {
             Some(place) => Ok(place),
@@ -59,7 +59,7 @@ impl<'a> Parser<'_, 'a> {
     pub fn expect_opening(&mut self) -> Result<Place, Refusal>
         ensures ok { IfOk result (λ place. Takes AnOpening place (ahead self.old) (ahead self.new)) }
         ensures err { IfErr result (λ e. Rejects AnOpening (ahead self.old) e) }
-        ensures same { IfErr result (λ _. ahead self.new ≡ ahead self.old) }
+        ensures same { OnErr result (ahead self.new ≡ ahead self.old) }
     {
         let token = self.peek();
         if token.kind != Kind::Sign(Sign::OpenParen) {
@@ -73,7 +73,7 @@ impl<'a> Parser<'_, 'a> {
     pub fn expect_name(&mut self) -> Result<Name<'a>, Refusal>
         ensures ok { IfOk result (λ n. Takes AName (name_of n) (ahead self.old) (ahead self.new)) }
         ensures err { IfErr result (λ e. Rejects AName (ahead self.old) e) }
-        ensures same { IfErr result (λ _. ahead self.new ≡ ahead self.old) }
+        ensures same { OnErr result (ahead self.new ≡ ahead self.old) }
     {
         let token = self.peek();
         if token.kind != Kind::Name {
@@ -90,7 +90,7 @@ impl<'a> Parser<'_, 'a> {
     pub fn expect_number(&mut self) -> Result<Number, Refusal>
         ensures ok { IfOk result (λ n. Takes ANumber n (ahead self.old) (ahead self.new)) }
         ensures err { IfErr result (λ e. Rejects ANumber (ahead self.old) e) }
-        ensures same { IfErr result (λ _. ahead self.new ≡ ahead self.old) }
+        ensures same { OnErr result (ahead self.new ≡ ahead self.old) }
     {
         let token = self.peek();
         let Kind::Number(value) = token.kind else {
@@ -105,7 +105,7 @@ impl<'a> Parser<'_, 'a> {
 
     /// Passes nothing where the end of the text stands first, or it is Expected there.
     pub fn expect_end(&self) -> Result<(), Refusal>
-        ensures ok { IfOk result (λ _. reads most_nestings (ahead self.now) [] ≡ Read tt) }
+        ensures ok { OnOk result (reads most_nestings (ahead self.now) [] ≡ Read tt) }
         ensures err { IfErr result (λ e. reads most_nestings (ahead self.now) [] ≡ Refused e) }
     {
         match self.rest {

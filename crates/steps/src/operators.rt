@@ -1,4 +1,4 @@
-ghost use Rattle.std.specs.Prelude.{◌≡◌, ◌<◌, List, ℕ, true, false, IfSome, length};
+ghost use Rattle.std.specs.Prelude.{◌≡◌, ◌<◌, List, ℕ, true, false, length, OnSome};
 ghost use Rattle.scanner.specs.declared.token.Place.{Place as PlaceOf};
 ghost use Rattle.syntax.specs.Lexeme.{lexeme};
 ghost use Rattle.grammar.specs.Machine.{reply_multipliers, reply_summands, reply_comparison, factor_begin, NoFactor};
@@ -106,7 +106,7 @@ impl<'a> Parser<'_, 'a> {
     /// The operator between factors that stands first.
     pub fn product_sign(&self) -> Option<ProductOperator>
         ensures reply { reply_multipliers (lexeme_at (ahead self.now)) ≡ product_reply result }
-        ensures some { IfSome result (λ _. 0 < length (ahead self.now)) }
+        ensures some { OnSome result (0 < length (ahead self.now)) }
     {
         product_operator(self.peek().kind)
     }
@@ -114,7 +114,7 @@ impl<'a> Parser<'_, 'a> {
     /// The operator between terms that stands first, and its place.
     pub fn sum_sign(&self) -> Option<(SumOperator, Place)>
         ensures reply { reply_summands (lexeme_at (ahead self.now)) ≡ sum_reply result }
-        ensures some { IfSome result (λ _. 0 < length (ahead self.now)) }
+        ensures some { OnSome result (0 < length (ahead self.now)) }
     {
         let token = self.peek();
         let operator = sum_operator(token.kind)?;
@@ -131,7 +131,7 @@ impl<'a> Parser<'_, 'a> {
     /// The comparison that stands first.
     pub fn comparator(&self) -> Option<Comparator>
         ensures reply { reply_comparison (lexeme_at (ahead self.now)) ≡ comparison_reply result }
-        ensures some { IfSome result (λ _. 0 < length (ahead self.now)) }
+        ensures some { OnSome result (0 < length (ahead self.now)) }
     {
         comparison(self.peek().kind)
     }

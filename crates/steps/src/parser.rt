@@ -1,6 +1,6 @@
 // The tokens that are still to come.
 
-ghost use Rattle.std.specs.Prelude.{◌≡◌, ◌≤◌, ◌+◌, ◌-◌, length, IfOk, IfErr};
+ghost use Rattle.std.specs.Prelude.{◌≡◌, ◌≤◌, ◌+◌, ◌-◌, length, IfOk, IfErr, OnErr, OnOk};
 ghost use Rattle.scanner.specs.declared.refusal.RefusalKind.TheVariants.{Limit as ALimit};
 ghost use Rattle.syntax.specs.Limits.{most_nestings};
 ghost use Rattle.syntax.specs.Lexeme.{lexeme_of};
@@ -75,10 +75,10 @@ impl<'t, 'a> Parser<'t, 'a> {
     /// is passed then.
     pub fn open(&mut self, depth: u8) -> Result<u8, Refusal>
         ensures ok { IfOk result (λ d. (d ≡ depth + 1) × (d ≤ most_nestings)) }
-        ensures rest { IfOk result (λ _. ahead self.new ≡ rest_after (ahead self.old)) }
-        ensures shorter { IfOk result (λ _. length (ahead self.new) ≡ length (ahead self.old) - 1) }
+        ensures rest { OnOk result (ahead self.new ≡ rest_after (ahead self.old)) }
+        ensures shorter { OnOk result (length (ahead self.new) ≡ length (ahead self.old) - 1) }
         ensures err { IfErr result (λ e. (most_nestings ≤ depth) × (e ≡ refusal_at ALimit (ahead self.old))) }
-        ensures same { IfErr result (λ _. ahead self.new ≡ ahead self.old) }
+        ensures same { OnErr result (ahead self.new ≡ ahead self.old) }
     {
         if depth >= MOST_NESTINGS {
             return Err(self.refusal(RefusalKind::Limit));

@@ -20,7 +20,7 @@ use resolver::{Judged, arguments, condition_of, into, local, returned, typed};
 use std::alloc::{AllocError, Global};
 use syntax::{Callee, Expression, Name};
 
-// A CALL.
+/// A CALL.
 pub fn call(
     alloc: Global,
     site: &Site<'_, '_, '_, '_>,
@@ -43,7 +43,7 @@ pub fn call(
     })
 }
 
-// A FORK.
+/// A FORK.
 pub fn fork(
     alloc: Global,
     site: &Site<'_, '_, '_, '_>,
@@ -66,7 +66,7 @@ pub fn fork(
     })
 }
 
-// A JOIN, with what stands behind ABORTED, and whether that is clean.
+/// A JOIN, with what stands behind ABORTED, and whether that is clean.
 pub fn join(
     alloc: Global,
     site: &Site<'_, '_, '_, '_>,
@@ -92,7 +92,7 @@ pub fn join(
     })
 }
 
-// A RETURN.
+/// A RETURN.
 pub fn return_from(
     alloc: Global,
     site: &Site<'_, '_, '_, '_>,
@@ -109,7 +109,7 @@ pub fn return_from(
     })
 }
 
-// What NOTIFY or BROADCAST names, and whether one may stand here and name it.
+/// What NOTIFY or BROADCAST names, and whether one may stand here and name it.
 pub fn notified(site: &Site<'_, '_, '_, '_>, name: Name<'_>) -> (Member, bool)
     ensures condition { (s : Scope) → IsSite s site.now → result.0 ≡ st.condition s (v.name_of name.entry) }
     ensures clean { (s : Scope) (place : PlaceOf) → IsSite s site.now → result.1
@@ -120,7 +120,7 @@ pub fn notified(site: &Site<'_, '_, '_, '_>, name: Name<'_>) -> (Member, bool)
     (condition, has_monitor(site.role) && is_one)
 }
 
-// A WAIT.
+/// A WAIT.
 pub fn wait(site: &Site<'_, '_, '_, '_>, name: Name<'_>) -> Judged
     ensures { (s : Scope) (place : PlaceOf) → IsSite s site.now
         → IsJudged s (WaitOf place (v.name_of name.entry)) result }

@@ -55,7 +55,7 @@ fn monitor(
     })
 }
 
-// The monitors of a unit.
+/// The monitors of a unit.
 pub fn monitors(
     alloc: Global,
     unit: &Unit<'_>,

@@ -79,7 +79,7 @@ fn procedure<'a>(
     Ok((procedure, is_clean))
 }
 
-// The pieces of a unit, and whether the statements of all are clean.
+/// The pieces of a unit, and whether the statements of all are clean.
 pub fn procedures(
     alloc: Global,
     callees: &Callees<'_, '_>,

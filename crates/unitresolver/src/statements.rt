@@ -134,7 +134,7 @@ fn statement(
     }
 }
 
-// Statements, in their order, and whether all are clean. Calls are nested as deep as the text.
+/// Statements, in their order, and whether all are clean. Calls are nested as deep as the text.
 #[cycle(statements)]
 pub fn block(
     trees: &[Tree<'_>],

@@ -7,7 +7,9 @@ use std::marker::PhantomData;
 /// The image of run `J`, lent to its workers.
 #[derive(Drop)]
 pub struct Lent<'a, J: RunName> {
+    /// The image.
     pub image: &'a Image,
+    /// Names the run.
     pub of: PhantomData<J>,
     ghost is: { image.now ≡ J.program },
 }
