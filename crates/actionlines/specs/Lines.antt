@@ -52,8 +52,8 @@ condition_name names c =
     monitor_name names c.monitor ++ codes "." ++ member_in (slice_get names.monitors c.monitor) c.number
 
 -- numbers, a space before each
-abbrev pub spaced : ℕ → List ℕ
-spaced n = codes " " ++ decimal n
+abbrev pub spaced_number : ℕ → List ℕ
+spaced_number n = codes " " ++ decimal n
 
 -- what stands behind an action's name
 abbrev pub details : Naming → Kind → List ℕ
@@ -62,20 +62,20 @@ details names Test = codes ""
 details names Call = codes ""
 details names Return = codes ""
 details names (Print z) = codes " " ++ signed_decimal z
-details names (Fork child) = spaced child
-details names (Claim child) = spaced child
-details names (Join child) = spaced child
-details names (Fails fault) = spaced (fault_number fault)
+details names (Fork child) = spaced_number child
+details names (Claim child) = spaced_number child
+details names (Join child) = spaced_number child
+details names (Fails fault) = spaced_number (fault_number fault)
 details names (Enter m) = codes " " ++ monitor_name names m
 details names (Exit m) = codes " " ++ monitor_name names m
 details names (Wait c) = codes " " ++ condition_name names c
 details names (Resume m) = codes " " ++ monitor_name names m
-details names (Notify c resumed) = codes " " ++ condition_name names c ++ flat_map spaced resumed
-details names (Broadcast c resumed) = codes " " ++ condition_name names c ++ flat_map spaced resumed
+details names (Notify c resumed) = codes " " ++ condition_name names c ++ flat_map spaced_number resumed
+details names (Broadcast c resumed) = codes " " ++ condition_name names c ++ flat_map spaced_number resumed
 details names (Abandon m) = codes " " ++ monitor_name names m
 details names Finish = codes ""
 details names (Stray c) = codes " " ++ condition_name names c
-details names (Kill resumed last) = flat_map spaced resumed
+details names (Kill resumed last) = flat_map spaced_number resumed
 
 -- the process, the action's name, and what stands behind it
 abbrev pub line : Naming → Action → List ℕ

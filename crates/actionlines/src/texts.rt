@@ -2,7 +2,7 @@ ghost use Rattle.std.specs.Prelude.{◌≡◌, ◌++◌, OnOk, slice_get};
 ghost use Rattle.std.specs.Fmt.{decimal, signed_decimal};
 ghost use Rattle.std.specs.List.{flat_map};
 ghost use Rattle.program.specs.Names.{naming_of};
-ghost use Rattle.actionlines.specs.Lines.{condition_name, member_in, monitor_name, spaced};
+ghost use Rattle.actionlines.specs.Lines.{condition_name, member_in, monitor_name, spaced_number};
 
 use program::{Member, Names};
 use std::alloc::{AllocError, Global};
@@ -47,7 +47,7 @@ pub(crate) fn append_spaced(
     bytes: &mut Vec<u8>,
     number: u64,
 ) -> Result<(), AllocError>
-    ensures { OnOk result (bytes.new.items ≡ bytes.old.items ++ spaced number) }
+    ensures { OnOk result (bytes.new.items ≡ bytes.old.items ++ spaced_number number) }
 {
     append_text(bytes, " ")?;
     append_number(alloc, bytes, number)
@@ -59,7 +59,7 @@ pub(crate) fn append_all(
     bytes: &mut Vec<u8>,
     numbers: &[u64],
 ) -> Result<(), AllocError>
-    ensures { OnOk result (bytes.new.items ≡ bytes.old.items ++ flat_map spaced numbers.now) }
+    ensures { OnOk result (bytes.new.items ≡ bytes.old.items ++ flat_map spaced_number numbers.now) }
 {
     for number in numbers {
         append_spaced(alloc, bytes, *number)?;

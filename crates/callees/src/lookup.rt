@@ -7,7 +7,7 @@ ghost use Rattle.syntax.specs.Whole.{unit_of};
 ghost use Rattle.types.specs.Pieces.{pieces as pieces_in};
 ghost use Rattle.types.specs.Scope.{Scope, callee as callee_in, inner_procedure, external_procedure};
 ghost use Rattle.types.specs.Standings.{IsOwn, IsStanding};
-ghost use Rattle.types.specs.StatementFaults.{called as called_in, missing_place as place_of_missing};
+ghost use Rattle.types.specs.StatementFaults.{called_piece as called_in, missing_place as place_of_missing};
 ghost use Rattle.callees.specs.Names.{IsCallees, declarations};
 ghost use Rattle.callees.specs.Pieces.{piece_of};
 

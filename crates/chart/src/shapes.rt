@@ -1,6 +1,6 @@
 ghost use Rattle.std.specs.Prelude.{◌≡◌, ◌++◌, OnOk};
 ghost use Rattle.std.specs.List.{flat_map};
-ghost use Rattle.chart.specs.Texts.{escaped};
+ghost use Rattle.chart.specs.Texts.{escape};
 
 use itoa::Buffer;
 use std::alloc::AllocError;
@@ -39,7 +39,7 @@ pub(crate) fn append_text(
 
 // Appends a byte, or what XML has for it where it begins or ends a tag or an entity.
 fn append_byte(out: &mut Vec<u8>, byte: u8) -> Result<(), AllocError>
-    ensures { OnOk result (out.new.items ≡ out.old.items ++ escaped byte) }
+    ensures { OnOk result (out.new.items ≡ out.old.items ++ escape byte) }
 {
     match byte {
         b'<' => out.extend_from_slice(b"&lt;"),
@@ -51,7 +51,7 @@ fn append_byte(out: &mut Vec<u8>, byte: u8) -> Result<(), AllocError>
 
 /// Appends a text, with what XML has for the bytes that begin or end a tag or an entity.
 pub(crate) fn append_escaped(out: &mut Vec<u8>, text: &[u8]) -> Result<(), AllocError>
-    ensures { OnOk result (out.new.items ≡ out.old.items ++ flat_map escaped text.now) }
+    ensures { OnOk result (out.new.items ≡ out.old.items ++ flat_map escape text.now) }
 {
     for byte in text {
         append_byte(out, *byte)?;

@@ -9,7 +9,7 @@ use Rattle.program.specs.Trees.{Notify, Broadcast, Print, Abort, Block, Done, Th
 use Rattle.isa.specs.declared.instr.Instr.TheVariants.{JumpIfZero, Jump}
 use Rattle.code.specs.declared.mark.Mark.TheVariants.{Test}
 use Rattle.code.specs.declared.mark.Marked.{Marked}
-use Rattle.code.specs.Marks.{marked, plain, placed, Code, sequence}
+use Rattle.code.specs.Marks.{with_mark, plain, rebase_all, Code, sequence}
 use Rattle.code.specs.Layout.{link_word}
 use Rattle.code.specs.Locks.{exit_code, enter_code}
 use Rattle.code.specs.Processes.{join_code, call_code}
@@ -21,7 +21,7 @@ use Rattle.code.specs.Pieces.{pieces_code, starts_from, start_of, marked_code}
 use Rattle.code.specs.Placing.{StandsFrom}
 use Rattle.std.specs.Prelude.{slice_get, slice_index}
 
-pub length-placed : (a : ℕ) (is : List Marked) → length (placed a is) ≡ length is
+pub length-placed : (a : ℕ) (is : List Marked) → length (rebase_all a is) ≡ length is
 length-placed a [] = refl
 length-placed a (i ∷ is) = let h = length-placed a is in omega arith
 
@@ -39,8 +39,8 @@ sequence_same f f' g g' e h a b =
 if_same : (t : List Marked) (f f' : Code) → SameLength f f' → SameLength (if_code t f) (if_code t f')
 if_same t f f' e a b =
     let s = a + length t + 1 in let s' = b + length t + 1 in
-    let x = length-append t (marked Test (JumpIfZero (s + length (f s))) ∷ f s) in
-    let y = length-append t (marked Test (JumpIfZero (s' + length (f' s'))) ∷ f' s') in
+    let x = length-append t (with_mark Test (JumpIfZero (s + length (f s))) ∷ f s) in
+    let y = length-append t (with_mark Test (JumpIfZero (s' + length (f' s'))) ∷ f' s') in
     let u = e s s' in omega arith
 
 if_else_same : (t : List Marked) (f f' g g' : Code) → SameLength f f' → SameLength g g'
@@ -49,8 +49,8 @@ if_else_same t f f' g g' e h a b =
     let s = a + length t + 1 in let s' = b + length t + 1 in
     let z = s + length (f s) + 1 in let z' = s' + length (f' s') + 1 in
     let j = plain (Jump (z + length (g z))) in let j' = plain (Jump (z' + length (g' z'))) in
-    let x = length-append t (marked Test (JumpIfZero z) ∷ (f s ++ j ∷ g z)) in
-    let y = length-append t (marked Test (JumpIfZero z') ∷ (f' s' ++ j' ∷ g' z')) in
+    let x = length-append t (with_mark Test (JumpIfZero z) ∷ (f s ++ j ∷ g z)) in
+    let y = length-append t (with_mark Test (JumpIfZero z') ∷ (f' s' ++ j' ∷ g' z')) in
     let x2 = length-append (f s) (j ∷ g z) in
     let y2 = length-append (f' s') (j' ∷ g' z') in
     let u = e s s' in let v = h z z' in omega arith
@@ -59,8 +59,8 @@ while_same : (t : List Marked) (f f' : Code) → SameLength f f' → SameLength 
 while_same t f f' e a b =
     let s = a + length t + 1 in let s' = b + length t + 1 in
     let j = plain (Jump a) in let j' = plain (Jump b) in
-    let x = length-append t (marked Test (JumpIfZero (s + length (f s) + 1)) ∷ (f s ++ j ∷ [])) in
-    let y = length-append t (marked Test (JumpIfZero (s' + length (f' s') + 1)) ∷ (f' s' ++ j' ∷ [])) in
+    let x = length-append t (with_mark Test (JumpIfZero (s + length (f s) + 1)) ∷ (f s ++ j ∷ [])) in
+    let y = length-append t (with_mark Test (JumpIfZero (s' + length (f' s') + 1)) ∷ (f' s' ++ j' ∷ [])) in
     let x2 = length-append (f s) (j ∷ []) in
     let y2 = length-append (f' s') (j' ∷ []) in
     let u = e s s' in omega arith
@@ -70,10 +70,10 @@ join_same : (t : List Marked) (into : Option ℕ) (f f' : Code) → SameLength f
 join_same t into f f' e a b =
     let s = a + length t in let s' = b + length t in
     let j = plain (Jump (s + 30 + length (f (s + 30)))) in let j' = plain (Jump (s' + 30 + length (f' (s' + 30)))) in
-    let x = length-append t (placed s (join_code into) ++ (j ∷ f (s + 30))) in
-    let y = length-append t (placed s' (join_code into) ++ (j' ∷ f' (s' + 30))) in
-    let x2 = length-append (placed s (join_code into)) (j ∷ f (s + 30)) in
-    let y2 = length-append (placed s' (join_code into)) (j' ∷ f' (s' + 30)) in
+    let x = length-append t (rebase_all s (join_code into) ++ (j ∷ f (s + 30))) in
+    let y = length-append t (rebase_all s' (join_code into) ++ (j' ∷ f' (s' + 30))) in
+    let x2 = length-append (rebase_all s (join_code into)) (j ∷ f (s + 30)) in
+    let y2 = length-append (rebase_all s' (join_code into)) (j' ∷ f' (s' + 30)) in
     let x3 = length-placed s (join_code into) in
     let y3 = length-placed s' (join_code into) in
     let u = e (s + 30) (s' + 30) in omega arith

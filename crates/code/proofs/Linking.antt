@@ -20,7 +20,7 @@ use Rattle.isa.specs.declared.instr.Instr.TheVariants.{FutexWake, FutexRequeue}
 use Rattle.isa.specs.declared.slot.Slot.TheVariants.{Local as Slot'}
 use Rattle.code.specs.declared.mark.Mark.TheVariants.{Test}
 use Rattle.code.specs.declared.mark.Marked.{Marked}
-use Rattle.code.specs.Marks.{marked, plain, moved, placed, Code, sequence}
+use Rattle.code.specs.Marks.{with_mark, plain, rebase, rebase_all, Code, sequence}
 use Rattle.code.specs.Layout.{link_word, member_address}
 use Rattle.code.specs.Locks.{recovery, enter_code, exit_code}
 use Rattle.code.specs.Conditions.{wait_code}
@@ -30,7 +30,7 @@ use Rattle.code.specs.Statements.{Setting, start_in, recovery_of, result_of, ass
 use Rattle.code.specs.Statements.{block_code, aborted_code, ending_code, leaving_code, if_code, if_else_code}
 use Rattle.code.specs.Statements.{while_code, join_all_code}
 use Rattle.code.specs.Pieces.{setting_of, piece_code, unlinked_code, entering_code, parameters_code, default_code}
-use Rattle.code.specs.Linking.{linked, linked_code}
+use Rattle.code.specs.Linking.{linked_instruction, linked_code}
 
 -- calls and forks by the places where pieces begin, jumps as they are
 abbrev called : (ℕ → ℕ) → Instr → Instr
@@ -45,7 +45,7 @@ called_code starts (i ∷ is) =
 
 module _ (starts : ℕ → ℕ) (base : ℕ) where
   -- a template's instruction, moved and then linked
-  one_linked : (a : ℕ) (i : Instr) → linked starts base (moved a i) ≡ moved (base + a) (called starts i)
+  one_linked : (a : ℕ) (i : Instr) → linked_instruction starts base (rebase a i) ≡ rebase (base + a) (called starts i)
   one_linked a (Push n) = refl
   one_linked a (GetLocal slot) = refl
   one_linked a (SetLocal slot) = refl
@@ -75,16 +75,17 @@ module _ (starts : ℕ → ℕ) (base : ℕ) where
   one_linked a FutexRequeue = refl
 
   placed_linked : (a : ℕ) (is : List Marked)
-      → linked_code starts base (placed a is) ≡ placed (base + a) (called_code starts is)
+      → linked_code starts base (rebase_all a is) ≡ rebase_all (base + a) (called_code starts is)
   placed_linked a [] = refl
   placed_linked a (i ∷ is) =
-      ap (λ (x : Instr). marked i.mark x ∷ linked_code starts base (placed a is)) (one_linked a i.instruction)
-      ∙ ap (λ l. marked i.mark (moved (base + a) (called starts i.instruction)) ∷ l) (placed_linked a is)
+      ap (λ (x : Instr). with_mark i.mark x ∷ linked_code starts base (rebase_all a is)) (one_linked a i.instruction)
+      ∙ ap (λ l. with_mark i.mark (rebase (base + a) (called starts i.instruction)) ∷ l) (placed_linked a is)
 
   append_linked : (xs ys : List Marked) → linked_code starts base (xs ++ ys)
       ≡ linked_code starts base xs ++ linked_code starts base ys
   append_linked [] ys = refl
-  append_linked (x ∷ xs) ys = ap (λ l. marked x.mark (linked starts base x.instruction) ∷ l) (append_linked xs ys)
+  append_linked (x ∷ xs) ys = ap (λ l. with_mark x.mark (linked_instruction starts base x.instruction) ∷ l)
+      (append_linked xs ys)
 
   length_linked : (xs : List Marked) → length (linked_code starts base xs) ≡ length xs
   length_linked [] = refl
@@ -175,8 +176,8 @@ module _ (starts : ℕ → ℕ) (base : ℕ) where
       let n : length (g z) ≡ length (f s) = sym (ap length part) ∙ length_linked (f s) in
       let jump : base + (s + length (f s)) ≡ z + length (g z) = omega (arith, n) in
       after t _ _ u
-      (ap (λ l. marked Test (JumpIfZero (base + (s + length (f s)))) ∷ l) part
-      ∙ ap (λ n. marked Test (JumpIfZero n) ∷ g z) jump)
+      (ap (λ l. with_mark Test (JumpIfZero (base + (s + length (f s)))) ∷ l) part
+      ∙ ap (λ n. with_mark Test (JumpIfZero n) ∷ g z) jump)
 
   if_else_moves : (t : List Marked) (f f' g g' : Code) → Stays t → Moves f f' → Moves g g'
       → Moves (if_else_code t f g) (if_else_code t f' g')
@@ -198,8 +199,8 @@ module _ (starts : ℕ → ℕ) (base : ℕ) where
       ∙ ap (λ l. l ++ plain (Jump (base + (s2 + length (g s2)))) ∷ linked_code starts base (g s2)) part
       ∙ ap (λ l. f' z ++ plain (Jump (base + (s2 + length (g s2)))) ∷ l) part2
       ∙ ap (λ n. f' z ++ plain (Jump n) ∷ g' z2) jump in
-      after t _ _ u (ap (λ l. marked Test (JumpIfZero (base + s2)) ∷ l) tail
-      ∙ ap (λ n. marked Test (JumpIfZero n) ∷ (f' z ++ plain (Jump (z2 + length (g' z2))) ∷ g' z2)) at2)
+      after t _ _ u (ap (λ l. with_mark Test (JumpIfZero (base + s2)) ∷ l) tail
+      ∙ ap (λ n. with_mark Test (JumpIfZero n) ∷ (f' z ++ plain (Jump (z2 + length (g' z2))) ∷ g' z2)) at2)
 
   while_moves : (t : List Marked) (f g : Code) → Stays t → Moves f g → Moves (while_code t f) (while_code t g)
   while_moves t f g u e a =
@@ -212,8 +213,8 @@ module _ (starts : ℕ → ℕ) (base : ℕ) where
       let tail : linked_code starts base (f s ++ plain (Jump a) ∷ []) ≡ g z ++ plain (Jump (base + a)) ∷ [] =
       append_linked (f s) (plain (Jump a) ∷ []) ∙ ap (λ l. l ++ plain (Jump (base + a)) ∷ []) part in
       after t _ _ u
-      (ap (λ l. marked Test (JumpIfZero (base + (s + length (f s) + 1))) ∷ l) tail
-      ∙ ap (λ n. marked Test (JumpIfZero n) ∷ (g z ++ plain (Jump (base + a)) ∷ [])) jump)
+      (ap (λ l. with_mark Test (JumpIfZero (base + (s + length (f s) + 1))) ∷ l) tail
+      ∙ ap (λ n. with_mark Test (JumpIfZero n) ∷ (g z ++ plain (Jump (base + a)) ∷ [])) jump)
 
   join_called : (into : Option ℕ) → called_code starts (join_code into) ≡ join_code into
   join_called None = refl
@@ -229,15 +230,15 @@ module _ (starts : ℕ → ℕ) (base : ℕ) where
       let part : linked_code starts base (f (s + 30)) ≡ g (z + 30) = e (s + 30) ∙ ap g at30 in
       let n : length (g (z + 30)) ≡ length (f (s + 30)) = sym (ap length part) ∙ length_linked (f (s + 30)) in
       let jump : base + (s + 30 + length (f (s + 30))) ≡ z + 30 + length (g (z + 30)) = omega (arith, n) in
-      let template : linked_code starts base (placed s (join_code into)) ≡ placed z (join_code into) =
-      placed_linked s (join_code into) ∙ ap (λ l. placed (base + s) l) (join_called into)
-      ∙ ap (λ n. placed n (join_code into)) at in
+      let template : linked_code starts base (rebase_all s (join_code into)) ≡ rebase_all z (join_code into) =
+      placed_linked s (join_code into) ∙ ap (λ l. rebase_all (base + s) l) (join_called into)
+      ∙ ap (λ n. rebase_all n (join_code into)) at in
       after t _ _ u
-      (append_linked (placed s (join_code into)) (plain (Jump (s + 30 + length (f (s + 30)))) ∷ f (s + 30))
+      (append_linked (rebase_all s (join_code into)) (plain (Jump (s + 30 + length (f (s + 30)))) ∷ f (s + 30))
       ∙ ap (λ l. l ++ plain (Jump (base + (s + 30 + length (f (s + 30))))) ∷ linked_code starts base (f (s + 30)))
       template
-      ∙ ap (λ l. placed z (join_code into) ++ plain (Jump (base + (s + 30 + length (f (s + 30))))) ∷ l) part
-      ∙ ap (λ n. placed z (join_code into) ++ plain (Jump n) ∷ g (z + 30)) jump)
+      ∙ ap (λ l. rebase_all z (join_code into) ++ plain (Jump (base + (s + 30 + length (f (s + 30))))) ∷ l) part
+      ∙ ap (λ n. rebase_all z (join_code into) ++ plain (Jump n) ∷ g (z + 30)) jump)
 
   module _ (p : Program) (role : Role) (result : Option ValueType) where
     abbrev here : Setting
@@ -288,7 +289,7 @@ module _ (starts : ℕ → ℕ) (base : ℕ) where
           after v _ _ (value_stays p value) (ending_moves (a + length v) ∙ ap (ending_code there) at)
       statement_moves (Wait m) a =
           placed_linked a (wait_code m (link_word p m.monitor) (member_address p m) (recovery_of here m.monitor))
-          ∙ ap (λ (i : Instr). placed (base + a) (wait_code m (link_word p m.monitor) (member_address p m) i))
+          ∙ ap (λ (i : Instr). rebase_all (base + a) (wait_code m (link_word p m.monitor) (member_address p m) i))
           (recovery_called (recover_of p m.monitor))
       statement_moves (Notify m) a = refl
       statement_moves (Broadcast m) a = refl
@@ -308,7 +309,7 @@ module _ (starts : ℕ → ℕ) (base : ℕ) where
     entering_moves : (r : Role) → Moves (entering_code here r) (entering_code there r)
     entering_moves (Entry m) a =
         placed_linked a (enter_code m (link_word p m) (recovery_of here m))
-        ∙ ap (λ (i : Instr). placed (base + a) (enter_code m (link_word p m) i)) (recovery_called (recover_of p m))
+        ∙ ap (λ (i : Instr). rebase_all (base + a) (enter_code m (link_word p m) i)) (recovery_called (recover_of p m))
     entering_moves (Internal m) a = refl
     entering_moves (Recover m) a = refl
     entering_moves External a = refl

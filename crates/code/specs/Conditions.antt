@@ -7,7 +7,7 @@ use Rattle.isa.specs.declared.instr.Instr.TheVariants.{Push, Pop, Load, FetchOr,
 use Rattle.isa.specs.declared.instr.Instr.TheVariants.{FutexRequeue}
 use Rattle.code.specs.declared.mark.Mark.TheVariants.{Resume, Wait, Notify, Broadcast}
 use Rattle.code.specs.declared.mark.Marked.{Marked}
-use Rattle.code.specs.Marks.{marked, plain, plainly}
+use Rattle.code.specs.Marks.{with_mark, plain, plainly}
 use Rattle.code.specs.Locks.{waiters, take_at, got_at, leave_at}
 
 -- every sleeper
@@ -26,11 +26,12 @@ wait_code c e s recover = sleep_code c e s ++ (take_at (Resume c.monitor) e 24 +
 -- the sequence word goes on by one, and one sleeper is woken
 abbrev pub notify_code : Member → ℕ → List Marked
 notify_code c s =
-    plainly (Push s ∷ Push 1 ∷ FetchAdd ∷ Pop ∷ Push s ∷ Push 1 ∷ []) ++ (marked (Notify c) FutexWake ∷ plain Pop ∷ [])
+    plainly (Push s ∷ Push 1 ∷ FetchAdd ∷ Pop ∷ Push s ∷ Push 1 ∷ []) ++
+    (with_mark (Notify c) FutexWake ∷ plain Pop ∷ [])
 
 -- the sequence word goes on by one, the lock word tells of waiters, and all sleepers go over to it
 abbrev pub broadcast_code : Member → ℕ → ℕ → List Marked
 broadcast_code c e s =
     plainly (Push s ∷ Push 1 ∷ FetchAdd ∷ Pop ∷ Push (e + 1) ∷ Push waiters ∷ FetchOr ∷ Pop ∷
     Push s ∷ Push (e + 1) ∷ Push 0 ∷ Push everyone ∷ Push s ∷ Load ∷ []) ++
-    (marked (Broadcast c) FutexRequeue ∷ plain Pop ∷ [])
+    (with_mark (Broadcast c) FutexRequeue ∷ plain Pop ∷ [])

@@ -14,7 +14,7 @@ use Rattle.isa.specs.declared.instr.Instr.TheVariants.{CompareSwap, FutexWait, F
 use Rattle.code.specs.declared.mark.Mark.{Mark}
 use Rattle.code.specs.declared.mark.Mark.TheVariants.{Enter, Exit}
 use Rattle.code.specs.declared.mark.Marked.{Marked}
-use Rattle.code.specs.Marks.{marked, plainly}
+use Rattle.code.specs.Marks.{with_mark, plainly}
 
 -- the waiters bit of a lock word, the mark of a death, and the owner's bits
 abbrev pub waiters : ℕ
@@ -51,7 +51,7 @@ take_at mark e a =
     Push (e + 1) ∷ get ∷ get ∷ Push waiters ∷ Operate BitOr ∷ CompareSwap ∷ get ∷ Operate Eq ∷ JumpIfZero a ∷
     Push (e + 1) ∷ get ∷ Push waiters ∷ Operate BitOr ∷ FutexWait ∷ Pop ∷ Jump a ∷
     Push (e + 1) ∷ get ∷ OwnNumber ∷ Push waiters ∷ Operate BitOr ∷ []) ++
-    (marked mark CompareSwap ∷ plainly (get ∷ Operate Eq ∷ JumpIfZero a ∷ []))
+    (with_mark mark CompareSwap ∷ plainly (get ∷ Operate Eq ∷ JumpIfZero a ∷ []))
 
 abbrev pub take_code : Mark → ℕ → List Marked
 take_code mark e = take_at mark e 0
@@ -70,7 +70,7 @@ got_code e recover = got_at e recover 0
 abbrev pub try_code : ℕ → ℕ → List Marked
 try_code m e =
     plainly (own Pending ++ (Push e ∷ Store ∷ Push (e + 1) ∷ Push 0 ∷ OwnNumber ∷ [])) ++
-    (marked (Enter m) CompareSwap ∷ plainly (keep ∷ get ∷ JumpIfZero 43 ∷ []))
+    (with_mark (Enter m) CompareSwap ∷ plainly (keep ∷ get ∷ JumpIfZero 43 ∷ []))
 
 abbrev pub enter_code : ℕ → ℕ → Instr → List Marked
 enter_code m e recover = try_code m e ++ (take_at (Enter m) e 11 ++ got_at e recover 43)
@@ -80,7 +80,7 @@ enter_code m e recover = try_code m e ++ (take_at (Enter m) e 11 ++ got_at e rec
 abbrev pub leave_at : Mark → ℕ → ℕ → List Marked
 leave_at mark e start =
     plainly (own Pending ++ (Push e ∷ Store ∷ (own Head ++ (Push e ∷ Load ∷ Store ∷ Push (e + 1) ∷ Push 0 ∷ [])))) ++
-    (marked mark Swap ∷ plainly (Push waiters ∷ Operate BitAnd ∷ JumpIfZero (start + 19) ∷
+    (with_mark mark Swap ∷ plainly (Push waiters ∷ Operate BitAnd ∷ JumpIfZero (start + 19) ∷
     Push (e + 1) ∷ Push 1 ∷ FutexWake ∷ Pop ∷ []))
 
 abbrev pub leave_code : Mark → ℕ → List Marked

@@ -6,12 +6,12 @@ use Rattle.code.specs.declared.mark.Mark.{Mark}
 use Rattle.code.specs.declared.mark.Mark.TheVariants.{Plain}
 use Rattle.code.specs.declared.mark.Marked.{Marked}
 
-abbrev pub marked : Mark → Instr → Marked
-marked m i = record { instruction = i; mark = m }
+abbrev pub with_mark : Mark → Instr → Marked
+with_mark m i = record { instruction = i; mark = m }
 
 -- no action stands there
 abbrev pub plain : Instr → Marked
-plain i = marked Plain i
+plain i = with_mark Plain i
 
 abbrev pub plainly : List Instr → List Marked
 plainly [] = []
@@ -22,15 +22,15 @@ abbrev pub instructions : List Marked → List Instr
 instructions is = map (λ i. i.instruction) is
 
 -- a jump within a list that begins at this place; calls and forks name places elsewhere
-abbrev pub moved : ℕ → Instr → Instr
-moved base (Jump p) = Jump (base + p)
-moved base (JumpIfZero p) = JumpIfZero (base + p)
-moved base i = i
+abbrev pub rebase : ℕ → Instr → Instr
+rebase base (Jump p) = Jump (base + p)
+rebase base (JumpIfZero p) = JumpIfZero (base + p)
+rebase base i = i
 
 -- a list whose places count from its own beginning, at a place
-abbrev pub placed : ℕ → List Marked → List Marked
-placed base [] = []
-placed base (i ∷ is) = record { instruction = moved base i.instruction; mark = i.mark } ∷ placed base is
+abbrev pub rebase_all : ℕ → List Marked → List Marked
+rebase_all base [] = []
+rebase_all base (i ∷ is) = record { instruction = rebase base i.instruction; mark = i.mark } ∷ rebase_all base is
 
 -- what code stands at each place
 abbrev pub Code : Type 0

@@ -10,7 +10,7 @@ use Rattle.isa.specs.declared.instr.Instr.TheVariants.{Push, SetLocal}
 use Rattle.isa.specs.Programs.{Program as Image}
 use Rattle.code.specs.declared.mark.Mark.{Mark}
 use Rattle.code.specs.declared.mark.Marked.{Marked}
-use Rattle.code.specs.Marks.{plain, instructions, placed, Code, sequence}
+use Rattle.code.specs.Marks.{plain, instructions, rebase_all, Code, sequence}
 use Rattle.code.specs.Layout.{link_word}
 use Rattle.code.specs.Locks.{enter_code}
 use Rattle.code.specs.Statements.{Setting, recovery_of, block_code, ending_code}
@@ -22,7 +22,7 @@ parameters_code (suc n) = plain (SetLocal (Local n)) ∷ parameters_code n
 
 -- the lock is taken at the beginning of an ENTRY procedure
 abbrev pub entering_code : Setting → Role → Code
-entering_code c (Entry m) place = placed place (enter_code m (link_word c.program m) (recovery_of c m))
+entering_code c (Entry m) place = rebase_all place (enter_code m (link_word c.program m) (recovery_of c m))
 entering_code c (Internal m) place = []
 entering_code c (Recover m) place = []
 entering_code c External place = []

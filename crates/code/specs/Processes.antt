@@ -15,7 +15,7 @@ use Rattle.code.specs.declared.mark.Mark.{Mark}
 use Rattle.code.specs.declared.mark.Mark.TheVariants.{Plain, Fork, Claim as Claims, Join as Joins, Call, Return}
 use Rattle.code.specs.declared.mark.Mark.TheVariants.{LastReturn}
 use Rattle.code.specs.declared.mark.Marked.{Marked}
-use Rattle.code.specs.Marks.{marked, plain, plainly}
+use Rattle.code.specs.Marks.{with_mark, plain, plainly}
 use Rattle.code.specs.Locks.{get, keep}
 
 -- a result on the operands goes into a local, or away
@@ -26,8 +26,8 @@ into_code None = Pop
 -- with the handle as its operand: the process is claimed, and its end awaited
 abbrev pub await_code : List Marked
 await_code =
-    plainly (keep ∷ get ∷ JumpIfZero 8 ∷ get ∷ ProcessAddress Claim ∷ Push 1 ∷ []) ++ (marked Claims Swap ∷
-    (plainly (JumpIfZero 9 ∷ Raise HandleNotJoinable ∷ get ∷ ProcessAddress Id ∷ []) ++ (marked Joins Load ∷
+    plainly (keep ∷ get ∷ JumpIfZero 8 ∷ get ∷ ProcessAddress Claim ∷ Push 1 ∷ []) ++ (with_mark Claims Swap ∷
+    (plainly (JumpIfZero 9 ∷ Raise HandleNotJoinable ∷ get ∷ ProcessAddress Id ∷ []) ++ (with_mark Joins Load ∷
     plainly (JumpIfZero 19 ∷ get ∷ ProcessAddress Id ∷ get ∷ FutexWait ∷ Pop ∷ Jump 9 ∷ []))))
 
 -- then, where it has ended by its return, its result is read
@@ -43,14 +43,14 @@ join_code into = await_code ++ (ended_code ++ plain (into_code into) ∷ [])
 
 -- behind its arguments: a process of so many arguments is forked at a place, and its handle goes into a local
 abbrev pub fork_code : ℕ → ℕ → ℕ → List Marked
-fork_code place arguments into = marked Fork (Fork' place arguments) ∷ plain (SetLocal (Local into)) ∷ []
+fork_code place arguments into = with_mark Fork (Fork' place arguments) ∷ plain (SetLocal (Local into)) ∷ []
 
 -- behind its arguments: a procedure at a place is called, and its result, if there is one, is taken; its return is
 -- then placed where that is done
 abbrev pub call_code : ℕ → Option ℕ → Option ValueType → List Marked
-call_code place (Some slot) result = marked Call (Call' place) ∷ marked Return (SetLocal (Local slot)) ∷ []
-call_code place None (Some t) = marked Call (Call' place) ∷ marked Return Pop ∷ []
-call_code place None None = marked Call (Call' place) ∷ []
+call_code place (Some slot) result = with_mark Call (Call' place) ∷ with_mark Return (SetLocal (Local slot)) ∷ []
+call_code place None (Some t) = with_mark Call (Call' place) ∷ with_mark Return Pop ∷ []
+call_code place None None = with_mark Call (Call' place) ∷ []
 
 -- the mark at a return: the main part and a RECOVER part make none, and where there is a result the caller's next
 -- instruction has it
@@ -70,4 +70,4 @@ return_instruction None = Ret
 return_instruction (Some t) = RetValue
 
 abbrev pub return_code : Role → Option ValueType → Marked
-return_code role result = marked (return_mark role result) (return_instruction result)
+return_code role result = with_mark (return_mark role result) (return_instruction result)

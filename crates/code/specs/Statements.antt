@@ -13,7 +13,7 @@ use Rattle.isa.specs.declared.instr.Instr.{Instr}
 use Rattle.isa.specs.declared.instr.Instr.TheVariants.{Push, SetLocal, Jump, JumpIfZero, Raise, Store, Print as Print'}
 use Rattle.code.specs.declared.mark.Mark.TheVariants.{AssignMember, AssignLocal, Test, Print as Prints}
 use Rattle.code.specs.declared.mark.Marked.{Marked}
-use Rattle.code.specs.Marks.{marked, plain, placed, Code}
+use Rattle.code.specs.Marks.{with_mark, plain, rebase_all, Code}
 use Rattle.code.specs.Layout.{link_word, member_address}
 use Rattle.code.specs.Locks.{recovery, exit_code}
 use Rattle.code.specs.Conditions.{wait_code, notify_code, broadcast_code}
@@ -45,31 +45,31 @@ result_of p q = result_in (slice_get p.procedures q)
 
 -- an address comes before the value, or a local behind it
 abbrev pub assignment_code : Program → Target → Expression → List Marked
-assignment_code p (ToLocal slot) e = expression_code p e ++ marked AssignLocal (SetLocal (Local slot)) ∷ []
+assignment_code p (ToLocal slot) e = expression_code p e ++ with_mark AssignLocal (SetLocal (Local slot)) ∷ []
 assignment_code p (ToMember m) e =
-    plain (Push (member_address p m)) ∷ (expression_code p e ++ marked AssignMember Store ∷ [])
+    plain (Push (member_address p m)) ∷ (expression_code p e ++ with_mark AssignMember Store ∷ [])
 assignment_code p (ToElement a i) e =
-    expression_code p i ++ (plain (index_code p a) ∷ (expression_code p e ++ marked AssignMember Store ∷ []))
+    expression_code p i ++ (plain (index_code p a) ∷ (expression_code p e ++ with_mark AssignMember Store ∷ []))
 
 -- a test, with a jump past one part
 abbrev pub if_code : List Marked → Code → Code
 if_code test a start =
     let then_start = start + length test + 1 in
-    test ++ (marked Test (JumpIfZero (then_start + length (a then_start))) ∷ a then_start)
+    test ++ (with_mark Test (JumpIfZero (then_start + length (a then_start))) ∷ a then_start)
 
 -- a test, a part with a jump past the other, and the other
 abbrev pub if_else_code : List Marked → Code → Code → Code
 if_else_code test a b start =
     let then_start = start + length test + 1 in
     let else_start = then_start + length (a then_start) + 1 in
-    test ++ (marked Test (JumpIfZero else_start) ∷
+    test ++ (with_mark Test (JumpIfZero else_start) ∷
     (a then_start ++ (plain (Jump (else_start + length (b else_start))) ∷ b else_start)))
 
 -- a test, a jump past the end, the body, and a jump back to the test
 abbrev pub while_code : List Marked → Code → Code
 while_code test body start =
     let body_start = start + length test + 1 in
-    test ++ (marked Test (JumpIfZero (body_start + length (body body_start) + 1)) ∷
+    test ++ (with_mark Test (JumpIfZero (body_start + length (body body_start) + 1)) ∷
     (body body_start ++ plain (Jump start) ∷ []))
 
 -- a handle, the join, a jump past what is done where the process aborted, and that
@@ -77,11 +77,11 @@ abbrev pub join_all_code : List Marked → Option ℕ → Code → Code
 join_all_code handle into aborted start =
     let joins = start + length handle in
     let aborts = joins + 30 in
-    handle ++ (placed joins (join_code into) ++ (plain (Jump (aborts + length (aborted aborts))) ∷ aborted aborts))
+    handle ++ (rebase_all joins (join_code into) ++ (plain (Jump (aborts + length (aborted aborts))) ∷ aborted aborts))
 
 -- the lock is given up at the end of an ENTRY procedure
 abbrev pub leaving_code : Program → Role → Code
-leaving_code p (Entry m) place = placed place (exit_code m (link_word p m))
+leaving_code p (Entry m) place = rebase_all place (exit_code m (link_word p m))
 leaving_code p (Internal m) place = []
 leaving_code p (Recover m) place = []
 leaving_code p External place = []
@@ -107,11 +107,12 @@ abbrev mutual
   statement_code c (Return value) start =
       let left = value_code c.program value in left ++ ending_code c (start + length left)
   statement_code c (Wait m) start =
-      placed start (wait_code m (link_word c.program m.monitor) (member_address c.program m) (recovery_of c m.monitor))
+      rebase_all start (wait_code m (link_word c.program m.monitor) (member_address c.program m)
+      (recovery_of c m.monitor))
   statement_code c (Notify m) start = notify_code m (member_address c.program m)
   statement_code c (Broadcast m) start =
       broadcast_code m (link_word c.program m.monitor) (member_address c.program m)
-  statement_code c (Print e) start = expression_code c.program e ++ marked Prints Print' ∷ []
+  statement_code c (Print e) start = expression_code c.program e ++ with_mark Prints Print' ∷ []
   statement_code c Abort start = plain (Raise AbortStatement) ∷ []
 
   pub block_code : Setting → Block → Code

@@ -1,5 +1,5 @@
 ghost use Rattle.std.specs.Prelude.{◌≡◌, [], ◌∷◌, ◌++◌, OnOk};
-ghost use Rattle.code.specs.Marks.{marked, plain, plainly};
+ghost use Rattle.code.specs.Marks.{with_mark, plain, plainly};
 
 use crate::mark::{Mark, Marked};
 use isa::Instr;
@@ -7,7 +7,7 @@ use std::alloc::AllocError;
 
 /// One more instruction, with its mark.
 pub fn append(code: &mut Vec<Marked>, mark: Mark, instruction: Instr) -> Result<(), AllocError>
-    ensures { OnOk result (code.new.items ≡ code.old.items ++ marked mark instruction ∷ []) }
+    ensures { OnOk result (code.new.items ≡ code.old.items ++ with_mark mark instruction ∷ []) }
 {
     code.push(Marked { instruction, mark })?;
     Ok(())

@@ -11,7 +11,7 @@ use Rattle.std.proofs.lemmas.List.{set-append_left}
 use Rattle.isa.specs.declared.instr.Instr.TheVariants.{Jump, JumpIfZero}
 use Rattle.code.specs.declared.mark.Marked.{Marked}
 use Rattle.code.specs.declared.mark.Mark.TheVariants.{Test}
-use Rattle.code.specs.Marks.{marked, plain, Code}
+use Rattle.code.specs.Marks.{with_mark, plain, Code}
 use Rattle.code.specs.Statements.{if_code, if_else_code, while_code}
 
 set_at : (a b : List Marked) (x i : Marked) (n : ℕ) → n ≡ length a → slice_set (a ++ x ∷ b) n i ≡ a ++ i ∷ b
@@ -19,11 +19,11 @@ set_at a b x i n e = ap (λ m. slice_set (a ++ x ∷ b) m i) e ∙ set-append_se
 
 pub patch_if : (base tc : List Marked) (fa : Code) (c1 c2 c3 : List Marked) (x : Marked) (n1 n2 : ℕ) → c1 ≡ base ++ tc
     → n1 ≡ length c1 → c2 ≡ c1 ++ x ∷ [] → c3 ≡ c2 ++ fa (length c2) → n2 ≡ length c3
-    → slice_set c3 n1 (marked Test (JumpIfZero n2)) ≡ base ++ if_code tc fa (length base)
+    → slice_set c3 n1 (with_mark Test (JumpIfZero n2)) ≡ base ++ if_code tc fa (length base)
 patch_if base tc fa c1 c2 c3 x n1 n2 e1 m1 e2 e3 m2 =
     let s = length base + length tc + 1 in
     let ca = fa s in
-    let i = marked Test (JumpIfZero n2) in
+    let i = with_mark Test (JumpIfZero n2) in
     let l1 : length c1 ≡ length base + length tc = ap length e1 ∙ length-append base tc in
     let l2 : length c2 ≡ s = omega (arith, ap length e2 ∙ length-append c1 (x ∷ [])) in
     let f3 : c3 ≡ c2 ++ ca = e3 ∙ ap (λ n. c2 ++ fa n) l2 in
@@ -34,12 +34,12 @@ patch_if base tc fa c1 c2 c3 x n1 n2 e1 m1 e2 e3 m2 =
     ∙ set_at c1 ca x i n1 m1
     ∙ ap (λ l. l ++ i ∷ ca) e1
     ∙ append_assoc base tc _
-    ∙ ap (λ n. base ++ (tc ++ marked Test (JumpIfZero n) ∷ ca)) z2
+    ∙ ap (λ n. base ++ (tc ++ with_mark Test (JumpIfZero n) ∷ ca)) z2
 
 pub patch_while : (base tc : List Marked) (fb : Code) (c1 c2 c3 c4 : List Marked) (x : Marked) (n0 n1 n2 : ℕ)
     → n0 ≡ length base → c1 ≡ base ++ tc → n1 ≡ length c1 → c2 ≡ c1 ++ x ∷ [] → c3 ≡ c2 ++ fb (length c2)
     → c4 ≡ c3 ++ plain (Jump n0) ∷ [] → n2 ≡ length c4
-    → slice_set c4 n1 (marked Test (JumpIfZero n2)) ≡ base ++ while_code tc fb (length base)
+    → slice_set c4 n1 (with_mark Test (JumpIfZero n2)) ≡ base ++ while_code tc fb (length base)
 patch_while base tc fb c1 c2 c3 c4 x n0 n1 n2 m0 e1 m1 e2 e3 e4 m2 =
     let s = length base + length tc + 1 in
     let cb = fb s in
@@ -48,7 +48,7 @@ patch_while base tc fb c1 c2 c3 c4 x n0 n1 n2 m0 e1 m1 e2 e3 e4 m2 =
     let l2 : length c2 ≡ s = omega (arith, ap length e2 ∙ length-append c1 (x ∷ [])) in
     let f3 : c3 ≡ c2 ++ cb = e3 ∙ ap (λ n. c2 ++ fb n) l2 in
     let j = plain (Jump n0) in
-    let i = marked Test (JumpIfZero n2) in
+    let i = with_mark Test (JumpIfZero n2) in
     let z2 : n2 ≡ z = omega (arith, ap length e4 ∙ length-append c3 (j ∷ []), ap length f3 ∙ length-append c2 cb) in
     let all : c4 ≡ ((c1 ++ x ∷ []) ++ cb) ++ j ∷ [] = cc in
     let flat : ((c1 ++ x ∷ []) ++ cb) ++ j ∷ [] ≡ c1 ++ x ∷ (cb ++ j ∷ []) = simp append_assoc in
@@ -56,18 +56,18 @@ patch_while base tc fb c1 c2 c3 c4 x n0 n1 n2 m0 e1 m1 e2 e3 e4 m2 =
     ∙ set_at c1 (cb ++ j ∷ []) x i n1 m1
     ∙ ap (λ l. l ++ i ∷ (cb ++ j ∷ [])) e1
     ∙ append_assoc base tc _
-    ∙ ap (λ n. base ++ (tc ++ marked Test (JumpIfZero n) ∷ (cb ++ j ∷ []))) z2
-    ∙ ap (λ n. base ++ (tc ++ marked Test (JumpIfZero z) ∷ (cb ++ plain (Jump n) ∷ []))) m0
+    ∙ ap (λ n. base ++ (tc ++ with_mark Test (JumpIfZero n) ∷ (cb ++ j ∷ []))) z2
+    ∙ ap (λ n. base ++ (tc ++ with_mark Test (JumpIfZero z) ∷ (cb ++ plain (Jump n) ∷ []))) m0
 
 pub patch_then : (base tc : List Marked) (fa : Code) (c1 c2 c3 c4 : List Marked) (x : Marked) (n1 n3 : ℕ)
     → c1 ≡ base ++ tc → n1 ≡ length c1 → c2 ≡ c1 ++ x ∷ [] → c3 ≡ c2 ++ fa (length c2) → c4 ≡ c3 ++ plain (Jump 0) ∷ []
-    → n3 ≡ length c4 → slice_set c4 n1 (marked Test (JumpIfZero n3)) ≡ base ++ then_code tc fa (length base)
+    → n3 ≡ length c4 → slice_set c4 n1 (with_mark Test (JumpIfZero n3)) ≡ base ++ then_code tc fa (length base)
 patch_then base tc fa c1 c2 c3 c4 x n1 n3 e1 m1 e2 e3 e4 m3 =
     let y = plain (Jump 0) in
     let ts = length base + length tc + 1 in
     let ca = fa ts in
     let es = ts + length ca + 1 in
-    let i = marked Test (JumpIfZero n3) in
+    let i = with_mark Test (JumpIfZero n3) in
     let l1 : length c1 ≡ length base + length tc = ap length e1 ∙ length-append base tc in
     let l2 : length c2 ≡ ts = omega (arith, ap length e2 ∙ length-append c1 (x ∷ [])) in
     let f3 : c3 ≡ c2 ++ ca = e3 ∙ ap (λ n. c2 ++ fa n) l2 in
@@ -79,7 +79,7 @@ patch_then base tc fa c1 c2 c3 c4 x n1 n3 e1 m1 e2 e3 e4 m3 =
     ∙ set_at c1 (ca ++ y ∷ []) x i n1 m1
     ∙ ap (λ l. l ++ i ∷ (ca ++ y ∷ [])) e1
     ∙ append_assoc base tc _
-    ∙ ap (λ n. base ++ (tc ++ marked Test (JumpIfZero n) ∷ (ca ++ y ∷ []))) z3
+    ∙ ap (λ n. base ++ (tc ++ with_mark Test (JumpIfZero n) ∷ (ca ++ y ∷ []))) z3
 
 pub patch_join : (base tc jc : List Marked) (fb : Code) (c1 c2 c3 : List Marked) (y : Marked) (n1 n2 s : ℕ)
     → s ≡ length base + length tc + 30 → length jc ≡ 29 → c1 ≡ base ++ (tc ++ jc) → n1 ≡ length c1 → c2 ≡ c1 ++ y ∷ []
@@ -116,7 +116,7 @@ if_length : (tc : List Marked) (fa : Code) (s : ℕ)
     → length (if_code tc fa s) ≡ length tc + 1 + length (fa (s + length tc + 1))
 if_length tc fa s =
     let ca = fa (s + length tc + 1) in
-    omega (arith, length-append tc (marked Test (JumpIfZero (s + length tc + 1 + length ca)) ∷ ca))
+    omega (arith, length-append tc (with_mark Test (JumpIfZero (s + length tc + 1 + length ca)) ∷ ca))
 
 while_length : (tc : List Marked) (fb : Code) (s : ℕ)
     → length (while_code tc fb s) ≡ length tc + 1 + length (fb (s + length tc + 1)) + 1
@@ -124,7 +124,7 @@ while_length tc fb s =
     let cb = fb (s + length tc + 1) in
     omega (
       arith,
-      length-append tc (marked Test (JumpIfZero (s + length tc + 1 + length cb + 1)) ∷ (cb ++ plain (Jump s) ∷ [])),
+      length-append tc (with_mark Test (JumpIfZero (s + length tc + 1 + length cb + 1)) ∷ (cb ++ plain (Jump s) ∷ [])),
       length-append cb (plain (Jump s) ∷ []),
     )
 
@@ -184,7 +184,7 @@ then_length tc fa s =
     let ca = fa (s + length tc + 1) in
     omega (
       arith,
-      length-append tc (marked Test
+      length-append tc (with_mark Test
           (JumpIfZero (s + length tc + 1 + length ca + 1)) ∷ (ca ++ plain (Jump 0) ∷ [])),
       length-append ca (plain
           (Jump 0) ∷ []),
@@ -227,7 +227,13 @@ if_else_length tc fa fb s =
     let j = plain (Jump (es + length cb)) in
     let h = then_length tc fa s in
     let same : length (fb (s + length (then_code tc fa s))) ≡ length cb = ap (λ n. length (fb n)) (omega arith) in
-    omega (arith, length-append tc (marked Test (JumpIfZero es) ∷ (ca ++ j ∷ cb)), length-append ca (j ∷ cb), same, h)
+    omega (
+      arith,
+      length-append tc (with_mark Test (JumpIfZero es) ∷ (ca ++ j ∷ cb)),
+      length-append ca (j ∷ cb),
+      same,
+      h,
+    )
 
 pub then_less : (tc : List Marked) (fa fb : Code) (s : ℕ)
     → length (then_code tc fa s) ≤ length (if_else_code tc fa fb s)
@@ -241,7 +247,7 @@ else_joined base tc fa fb m new passed e1 p e2 =
     let ts = length base + length tc + 1 in
     let ca = fa ts in
     let es = ts + length ca + 1 in
-    let i = marked Test (JumpIfZero es) in
+    let i = with_mark Test (JumpIfZero es) in
     let y = plain (Jump 0) in
     let cb = fb es in
     let j = plain (Jump (es + length cb)) in

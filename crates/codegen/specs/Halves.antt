@@ -3,7 +3,7 @@ use Rattle.std.specs.Prelude.{ℕ, ◌+◌, List, [], ◌∷◌, ◌++◌, lengt
 use Rattle.isa.specs.declared.instr.Instr.TheVariants.{Jump, JumpIfZero}
 use Rattle.code.specs.declared.mark.Mark.TheVariants.{Test}
 use Rattle.code.specs.declared.mark.Marked.{Marked}
-use Rattle.code.specs.Marks.{marked, plain, Code, sequence}
+use Rattle.code.specs.Marks.{with_mark, plain, Code, sequence}
 use Rattle.code.specs.Statements.{Setting, ending_code}
 use Rattle.code.specs.Pieces.{parameters_code, entering_code, default_code}
 
@@ -11,7 +11,8 @@ use Rattle.code.specs.Pieces.{parameters_code, entering_code, default_code}
 abbrev pub then_code : List Marked → Code → Code
 then_code test a start =
     let then_start = start + length test + 1 in
-    test ++ (marked Test (JumpIfZero (then_start + length (a then_start) + 1)) ∷ (a then_start ++ plain (Jump 0) ∷ []))
+    test ++ (with_mark Test (JumpIfZero (then_start + length (a then_start) + 1)) ∷ (a then_start ++ plain
+    (Jump 0) ∷ []))
 
 -- the beginning of a procedure with so many parameters
 abbrev pub beginning_code : Setting → ℕ → Code

@@ -5,7 +5,7 @@ ghost use Rattle.scanner.specs.Refusals.{out_of_memory};
 ghost use Rattle.program.specs.Trees as trees;
 ghost use Rattle.program.specs.Scope.{recover_of as recovering};
 ghost use Rattle.program.specs.Views.{expression_of, option_expression, program_of};
-ghost use Rattle.code.specs.Marks.{marked, placed};
+ghost use Rattle.code.specs.Marks.{with_mark, rebase_all};
 ghost use Rattle.code.specs.Processes.{join_code};
 ghost use Rattle.code.specs.Expressions.{expression_code};
 ghost use Rattle.code.specs.Statements as lowered;
@@ -44,7 +44,7 @@ pub(crate) fn recover_of(program: &Program, monitor: u32) -> Option<u32>
 pub(crate) fn print(e: &Expression, site: &Site, code: &mut Vec<Marked>) -> Result<(), AllocError>
     requires { IsLaidOut site.now }
     ensures { OnOk result (code.new.items ≡ code.old.items
-        ++ (expression_code (said_at site.now) (expression_of e.now) ++ marked Prints PrintOf ∷ [])) }
+        ++ (expression_code (said_at site.now) (expression_of e.now) ++ with_mark Prints PrintOf ∷ [])) }
 {
     expression(e, site, code)?;
     append(code, Mark::Print, Instr::Print)
@@ -116,7 +116,7 @@ pub(crate) fn join_first(
 ) -> Result<(), Refusal>
     requires { IsLaidOut site.now }
     ensures { let test = expression_code (said_at site.now) (expression_of handle.now) in
-        let made = test ++ placed (length code.old.items + length test) (join_code into) in
+        let made = test ++ rebase_all (length code.old.items + length test) (join_code into) in
         MatchResult result (λ _. code.new.items ≡ code.old.items ++ made)
         (λ e. Fails e (length code.old.items + length made)) }
 {

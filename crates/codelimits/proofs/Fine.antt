@@ -13,7 +13,7 @@ use Rattle.isa.specs.declared.instr.Instr.TheVariants.{JumpIfZero, Call, Fork, R
 use Rattle.isa.specs.declared.instr.Instr.TheVariants.{ProcessAddress, Raise, Load, Store, Swap, CompareSwap}
 use Rattle.isa.specs.declared.instr.Instr.TheVariants.{FetchOr, FetchAdd, Print, FutexWait, FutexWake, FutexRequeue}
 use Rattle.code.specs.declared.mark.Marked.{Marked}
-use Rattle.code.specs.Marks.{instructions, moved, placed, Code}
+use Rattle.code.specs.Marks.{instructions, rebase, rebase_all, Code}
 
 abbrev pub IsFine : ℕ → Instr → Type 0
 IsFine total i = IsInstruction i × LeadsBelow total i
@@ -75,7 +75,7 @@ module _ (total end a : ℕ) (room : a + end < total) where
   jump_fine : (n : ℕ) → nat_le n end ≡ true → a + n < total
   jump_fine n e = let h = leb-true n end e in omega (arith, h, room)
 
-  moved_fine : (i : Instr) → fits total end i ≡ true → IsFine total (moved a i)
+  moved_fine : (i : Instr) → fits total end i ≡ true → IsFine total (rebase a i)
   moved_fine (Push n) e = (tt, tt)
   moved_fine (GetLocal slot) e = (slot_fine slot e, tt)
   moved_fine (SetLocal slot) e = (slot_fine slot e, tt)
@@ -105,7 +105,7 @@ module _ (total end a : ℕ) (room : a + end < total) where
   moved_fine FutexRequeue e = (tt, tt)
 
   -- a template that fits, at a place with room behind it
-  pub placed_fine : (is : List Marked) → all_fit total end is ≡ true → AreFine total (placed a is)
+  pub placed_fine : (is : List Marked) → all_fit total end is ≡ true → AreFine total (rebase_all a is)
   placed_fine [] e = tt
   placed_fine (i ∷ is) e =
       let h = both (fits total end i.instruction) (all_fit total end is) e in

@@ -4,7 +4,7 @@ use Rattle.std.specs.Prelude.{IfSome}
 use Rattle.isa.specs.declared.instr.Instr.TheVariants.{Jump, JumpIfZero}
 use Rattle.code.specs.declared.mark.Mark.TheVariants.{Test}
 use Rattle.code.specs.declared.mark.Marked.{Marked}
-use Rattle.code.specs.Marks.{marked, plain, placed, Code}
+use Rattle.code.specs.Marks.{with_mark, plain, rebase_all, Code}
 use Rattle.code.specs.Processes.{join_code}
 use Rattle.code.specs.Statements.{if_code, if_else_code, while_code, join_all_code}
 use Rattle.code.proofs.LengthLaws.{length-placed}
@@ -15,7 +15,7 @@ module _ (total : ℕ) where
   pub if_fine : (t : List Marked) (f : Code) → AreFine total t → HasRoom total f → HasRoom total (if_code t f)
   if_fine t f h k a room =
       let s = a + length t + 1 in
-      let rest = marked Test (JumpIfZero (s + length (f s))) ∷ f s in
+      let rest = with_mark Test (JumpIfZero (s + length (f s))) ∷ f s in
       let n = length-append t rest in
       fine_append total t rest h ((tt, omega (arith, room, n)), k s (omega (arith, room, n)))
 
@@ -25,7 +25,7 @@ module _ (total : ℕ) where
       let s = a + length t + 1 in
       let z = s + length (f s) + 1 in
       let other = plain (Jump (z + length (g z))) ∷ g z in
-      let rest = marked Test (JumpIfZero z) ∷ (f s ++ other) in
+      let rest = with_mark Test (JumpIfZero z) ∷ (f s ++ other) in
       let n = length-append t rest in
       let m = length-append (f s) other in
       fine_append total t rest h (
@@ -38,7 +38,7 @@ module _ (total : ℕ) where
   while_fine t f h k a room =
       let s = a + length t + 1 in
       let back = plain (Jump a) ∷ [] in
-      let rest = marked Test (JumpIfZero (s + length (f s) + 1)) ∷ (f s ++ back) in
+      let rest = with_mark Test (JumpIfZero (s + length (f s) + 1)) ∷ (f s ++ back) in
       let n = length-append t rest in
       let m = length-append (f s) back in
       fine_append total t rest h (
@@ -52,7 +52,7 @@ module _ (total : ℕ) where
   join_fine t into f h below k a room =
       let s = a + length t in
       let z = s + 30 in
-      let join = placed s (join_code into) in
+      let join = rebase_all s (join_code into) in
       let last = plain (Jump (z + length (f z))) ∷ f z in
       let n = length-append t (join ++ last) in
       let m = length-append join last in

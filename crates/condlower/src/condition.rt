@@ -1,5 +1,5 @@
 ghost use Rattle.std.specs.Prelude.{◌≡◌, ◌<◌, ◌≤◌, ◌+◌, ◌^◌, ◌++◌, OnOk, length};
-ghost use Rattle.code.specs.Marks.{placed};
+ghost use Rattle.code.specs.Marks.{rebase_all};
 ghost use Rattle.code.specs.Locks.{recovery};
 ghost use Rattle.code.specs.Conditions as conditions;
 
@@ -20,7 +20,7 @@ fn sleep_from(
 ) -> Result<(), AllocError>
     requires { (link < 2 ^ 16) × (start ≤ 2 ^ 17) }
     ensures { OnOk result (code.new.items ≡ code.old.items
-        ++ placed start (conditions.sleep_code condition link sequence)) }
+        ++ rebase_all start (conditions.sleep_code condition link sequence)) }
 {
     append_plain(
         code,
@@ -41,7 +41,7 @@ fn wait_from(
 ) -> Result<(), AllocError>
     requires { (link < 2 ^ 16) × (start ≤ 2 ^ 17) }
     ensures { OnOk result (code.new.items
-        ≡ code.old.items ++ placed start (conditions.wait_code condition link sequence (recovery recover))) }
+        ≡ code.old.items ++ rebase_all start (conditions.wait_code condition link sequence (recovery recover))) }
 {
     sleep_from(code, condition, link, sequence, start)?;
     take_from(code, Mark::Resume(condition.monitor), link, start, 24)?;
@@ -59,7 +59,7 @@ pub fn wait(
 ) -> Result<(), AllocError>
     requires { (link < 2 ^ 16) × (length code.old.items ≤ 2 ^ 17) }
     ensures { OnOk result (code.new.items ≡ code.old.items
-        ++ placed (length code.old.items) (conditions.wait_code condition link sequence (recovery recover))) }
+        ++ rebase_all (length code.old.items) (conditions.wait_code condition link sequence (recovery recover))) }
 {
     let start = code.len() as u32;
     wait_from(code, condition, link, sequence, recover, start)

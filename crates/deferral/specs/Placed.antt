@@ -33,8 +33,8 @@ placed_behind n waiting (x ∷ xs) =
     if x.waits then placed_behind n (put waiting x.process (waiting x.process ++ x.kind ∷ [])) xs
     else actions_of x.process (waiting x.process) ++ action_of x ∷ placed_behind n (put waiting x.process []) xs
 
-abbrev pub placed : (n : ℕ) → List Marked → List Action
-placed n xs = placed_behind n (λ t. []) xs
+abbrev pub placed_actions : (n : ℕ) → List Marked → List Action
+placed_actions n xs = placed_behind n (λ t. []) xs
 
 -- what a process does among these actions, in order
 abbrev pub kinds_of : ℕ → List Action → List Kind

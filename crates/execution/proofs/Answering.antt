@@ -19,7 +19,7 @@ use Rattle.locals.specs.declared.frame.Frame.{Frame as MachineFrame}
 use Rattle.locals.specs.Threads.{Thread, Runs}
 use Rattle.meaning.specs.Values.{Variables, evaluate}
 use Rattle.meaning.specs.Processes.{Frame, Caller, Process, Before, Leaving, goes_on, goes_on_by}
-use Rattle.meaning.specs.Offers.{offer, with_value, returned, answers}
+use Rattle.meaning.specs.Offers.{offer, with_value, return_value, answers}
 use Rattle.execution.specs.Evaluation.{OfType}
 use Rattle.execution.specs.Walks.{StandAt}
 use Rattle.execution.specs.Following.{Build, ShowsResult}
@@ -59,7 +59,7 @@ module _ (b : Build) (is : IsBuild b) (t : ℕ) (v : Variables) (place : ℕ) (l
       → HandsOver procedure.role → ReturnFits (scope_of b.program procedure) result y
       → StandAt b.code place (value_code b.program y ++ ending_code (setting_of b.program b.starts procedure)
       (place + length (value_code b.program y))) → value_room y ≤ most_room
-      → offer b.program v pending ≡ with_value (returned b.program v after y) after cs
+      → offer b.program v pending ≡ with_value (return_value b.program v after y) after cs
       (λ z. answers procedure.role z cs)
       → Proceeds b t v (steps_of (Return y)) x pending
   value_returns None None e same hands fit code space o =

@@ -11,7 +11,7 @@ use Rattle.isa.specs.declared.instr.Instr.{Instr}
 use Rattle.isa.specs.declared.instr.Instr.TheVariants.{ProcessAddress}
 use Rattle.execution.specs.Later.{MarkedImage, IsAt, later_mark}
 use Rattle.code.specs.declared.mark.Marked.{Marked}
-use Rattle.code.specs.Marks.{plain, placed}
+use Rattle.code.specs.Marks.{plain, rebase_all}
 use Rattle.code.specs.Processes.{join_code}
 use Rattle.locals.specs.declared.frame.Locals.{Locals}
 use Rattle.locals.specs.declared.frame.Frame.{Frame as MachineFrame}
@@ -42,18 +42,18 @@ address_step t place h word rest l fs some few =
     ∙ ap (λ k. if_so k (Goes (Runs (place + 1) (process_word h (number_of word) ∷ rest) l fs))) (le-leb h 64 few)
 
 module _ (p : MarkedImage) (t : ℕ) (view : View) (base : ℕ) (into : Option ℕ)
-    (code : StandAt p base (placed base (join_code into))) (l : Locals) (fs : List MachineFrame) where
+    (code : StandAt p base (rebase_all base (join_code into))) (l : Locals) (fs : List MachineFrame) where
   abbrev pub at : ℕ → List ℕ → Thread
   at n operands = Runs (base + n) operands l fs
 
   -- one step of the template
   pub step : (n m place : ℕ) (i : Instr) (operands operands' : List ℕ)
-      → slice_get (placed base (join_code into)) n ≡ Some (plain i)
+      → slice_get (rebase_all base (join_code into)) n ≡ Some (plain i)
       → at_place (base + n) l fs (effect t i operands l) ≡ Goes (Runs place operands' l fs)
       → place ≡ base + m → WalksWithin p t view 1 (Runs (base + n) operands l fs) (Runs (base + m) operands' l
       fs)
   step n m place i operands operands' e h same =
-      let here = stand_index p base (placed base (join_code into)) n (base + n) (plain i) code e refl in
+      let here = stand_index p base (rebase_all base (join_code into)) n (base + n) (plain i) code e refl in
       one_step p t view _ _ (look_here p t view (base + n) i operands l fs here
       ∙ h ∙ ap (λ k. Goes (Runs k operands' l fs)) same) (ap later_mark here.1)
 
@@ -81,7 +81,7 @@ module _ (p : MarkedImage) (t : ℕ) (view : View) (base : ℕ) (into : Option �
     claims = at 6 (1 ∷ process_word l.scratch 3 ∷ [])
 
     address : (n m : ℕ) (i : Instr) (word : ProcessWord) (rest : List ℕ)
-        → slice_get (placed base (join_code into)) n ≡ Some (plain i) → i ≡ ProcessAddress word
+        → slice_get (rebase_all base (join_code into)) n ≡ Some (plain i) → i ≡ ProcessAddress word
         → base + n + 1 ≡ base + m
         → WalksWithin p t view 1 (at n (l.scratch ∷ rest)) (at m (process_word l.scratch (number_of word) ∷
         rest))
@@ -103,7 +103,7 @@ module _ (p : MarkedImage) (t : ℕ) (view : View) (base : ℕ) (into : Option �
 
     pub refused : (n : ℕ) → WalksWithin p t view 2 (at 7 (suc n ∷ [])) (Dies HandleNotJoinable)
     refused n = next 1 _ _ _ (step 7 8 _ _ (suc n ∷ []) [] refl refl (omega arith))
-        (let here = stand_index p base (placed base (join_code into)) 8 (base + 8) _ code refl refl in
+        (let here = stand_index p base (rebase_all base (join_code into)) 8 (base + 8) _ code refl refl in
         one_step p t view _ _ (look_here p t view (base + 8) _ [] l fs here) (ap later_mark here.1))
 
     pub gone : WalksWithin p t view 3 (at 12 (0 ∷ [])) learns

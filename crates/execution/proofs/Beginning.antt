@@ -8,7 +8,7 @@ use Rattle.program.specs.declared.kinds.Role.TheVariants.{Entry, Internal, Recov
 use Rattle.program.specs.Trees.{Block, Done, Then, Procedure, followed_by}
 use Rattle.code.specs.Layout.{link_word}
 use Rattle.code.specs.Locks.{enter_code}
-use Rattle.code.specs.Marks.{placed}
+use Rattle.code.specs.Marks.{rebase_all}
 use Rattle.code.specs.Statements.{block_code, ending_code}
 use Rattle.code.specs.Pieces.{setting_of, parameters_code, entering_code, default_code}
 use Rattle.code.specs.declared.mark.Marked.{Marked}
@@ -147,7 +147,7 @@ module _ (b : Build) (is : IsBuild b) (t : ℕ) where
       by_role External e = plainly (λ k. rw e refl) (ap (λ (r : Role). begins_by r f cs) e)
       by_role Main e = plainly (λ k. rw e refl) (ap (λ (r : Role). begins_by r f cs) e)
       by_role (Entry m) e =
-          let template : StandAt b.code h.place (placed h.place (enter_code m (link_word b.program m)
+          let template : StandAt b.code h.place (rebase_all h.place (enter_code m (link_word b.program m)
           (recovery_in b m))) = subst (λ (r : Role). StandAt b.code h.place
           (entering_code (setting_of b.program b.starts q) r h.place)) e h.entering in
           let len : h.place + length (entering_code (setting_of b.program b.starts q) q.role h.place) ≡ h.place + 61 =

@@ -11,7 +11,7 @@ use Rattle.code.specs.Expressions.{arguments_code}
 use Rattle.code.specs.Processes.{call_code}
 use Rattle.code.specs.Statements.{result_of, result_in}
 use Rattle.code.specs.Pieces.{setting_of}
-use Rattle.code.specs.Marks.{marked}
+use Rattle.code.specs.Marks.{with_mark}
 use Rattle.code.specs.declared.mark.Mark.TheVariants as M
 use Rattle.locals.specs.declared.frame.Locals.{Locals}
 use Rattle.locals.specs.declared.frame.Frame.{Frame as MachineFrame}
@@ -38,7 +38,7 @@ use Rattle.execution.proofs.Recovering.{chain}
 -- a call, and what stands behind it
 call_stands : (image : MarkedImage) (place start : ℕ) (into : Option ℕ) (result : Option ValueType)
     → StandAt image place
-    (call_code start into result) → IsAt image place (marked M.Call (Call' start)) × StandAt image (place + 1)
+    (call_code start into result) → IsAt image place (with_mark M.Call (Call' start)) × StandAt image (place + 1)
     (taking_code into result)
 call_stands image place start (Some slot) result h = h
 call_stands image place start None (Some u) h = h
@@ -98,7 +98,7 @@ module _ (b : Build) (is : IsBuild b) (t : ℕ) (v : Variables) (place : ℕ) (l
       result_same : result_of b.program qn ≡ callee.result
       result_same = ap result_in c.sound.fits.2
 
-      takes : IsAt b.code end (marked M.Call (Call' (b.starts qn))) × StandAt b.code (end + 1)
+      takes : IsAt b.code end (with_mark M.Call (Call' (b.starts qn))) × StandAt b.code (end + 1)
           (taking_code into callee.result)
       takes = call_stands b.code end (b.starts qn) into callee.result
           (subst (λ (k : Option ValueType). StandAt b.code end (call_code (b.starts qn) into k)) result_same behind)

@@ -5,7 +5,7 @@ use Rattle.program.specs.Trees.{Statement, Wait, Notify, Broadcast, Block, Then,
 use Rattle.program.specs.Scope.{own_monitor, recover_of}
 use Rattle.code.specs.Layout.{link_word, member_address}
 use Rattle.code.specs.Conditions.{wait_code}
-use Rattle.code.specs.Marks.{plain, placed}
+use Rattle.code.specs.Marks.{plain, rebase_all}
 use Rattle.code.specs.Statements.{start_in}
 use Rattle.code.specs.Pieces.{setting_of}
 use Rattle.locals.specs.declared.frame.Locals.{Locals}
@@ -59,7 +59,7 @@ module _ (b : Build) (is : IsBuild b) (t : ℕ) (v : Variables) (place : ℕ) (l
       here : IsAt b.code (place + 73) (plain (recovery_in b m.monitor))
       here = subst (λ i. IsAt b.code (place + 73) (plain i))
           (moved_recovery place (start_in b.starts (recover_of b.program m.monitor)))
-          (stand_index b.code place (placed place (wait_code m (link_word b.program m.monitor)
+          (stand_index b.code place (rebase_all place (wait_code m (link_word b.program m.monitor)
           (member_address b.program m) (recovery_in b m.monitor))) 73 (place + 73) _ c.head.here refl refl)
 
       at : place + 74 ≡ place + 73 + 1

@@ -7,7 +7,7 @@ use Rattle.program.specs.Typing.{IsNoRecover}
 use Rattle.program.specs.WellFormed.{RoleFits}
 use Rattle.code.specs.Layout.{link_word}
 use Rattle.code.specs.Locks.{enter_code}
-use Rattle.code.specs.Marks.{plain, placed}
+use Rattle.code.specs.Marks.{plain, rebase_all}
 use Rattle.code.specs.Statements.{start_in}
 use Rattle.code.specs.Pieces.{setting_of}
 use Rattle.locals.specs.declared.frame.Locals.{Locals}
@@ -35,7 +35,8 @@ entering_proceeds b is t v m place l fs f cs h =
     ap (λ (role : Role). monitor_of_role role (callers_monitors cs)) (h.frame.role ∙ h.role) in
     let here : IsAt b.code (place + 60) (plain (recovery_in b m)) =
     subst (λ i. IsAt b.code (place + 60) (plain i)) (moved_recovery place (start_in b.starts (recover_of b.program m)))
-    (stand_index b.code place (placed place (enter_code m (link_word b.program m) (recovery_in b m))) 60 (place + 60) _
+    (stand_index b.code place (rebase_all place (enter_code m (link_word b.program m) (recovery_in b m))) 60
+    (place + 60) _
     h.template refl refl) in
     let at : place + 61 ≡ place + 60 + 1 = omega arith in
     let code : Implements b.code (setting_of b.program b.starts q) b.most h.jumps (place + 60 + 1) f.rest =

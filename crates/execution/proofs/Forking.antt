@@ -16,7 +16,7 @@ use Rattle.program.specs.Tokens.{arguments_tokens}
 use Rattle.code.specs.Expressions.{arguments_code}
 use Rattle.code.specs.Processes.{fork_code}
 use Rattle.code.specs.Pieces.{setting_of}
-use Rattle.code.specs.Marks.{marked}
+use Rattle.code.specs.Marks.{with_mark}
 use Rattle.code.specs.declared.mark.Mark.TheVariants as M
 use Rattle.locals.specs.declared.frame.Locals.{Locals}
 use Rattle.locals.specs.declared.frame.Frame.{Frame as MachineFrame}
@@ -57,7 +57,7 @@ module _ (b : Build) (is : IsBuild b) (t : ℕ) (v : Variables) (place : ℕ) (l
     (fs : List MachineFrame) (values : List ℤ) (rest : Block) (procedure : Procedure) (cs : List Caller)
     (entered : Option ℕ) where
   -- the look at a FORK that takes all operands
-  fork_look : (at entry : ℕ) (operands : List ℕ) → IsAt b.code at (marked M.Fork (Fork' entry (length operands)))
+  fork_look : (at entry : ℕ) (operands : List ℕ) → IsAt b.code at (with_mark M.Fork (Fork' entry (length operands)))
       → look b.code.image t (Runs at operands l fs) ≡ Asks (AskFork entry operands true)
       (λ n. thread_after_try ProcessTableFull n (Runs (at + 1) (n ∷ []) l fs))
   fork_look at entry operands h =
@@ -153,7 +153,7 @@ module _ (b : Build) (is : IsBuild b) (t : ℕ) (v : Variables) (place : ℕ) (l
           (λ ys. MakesOne (begins (opening_frame b.program qn ys) []) after full)) same
           ∙ ap (λ (k : Process). MakesOne k after full) opened in
           let look = fork_look end (b.starts qn) (stacked zs [])
-          (subst (λ k. IsAt b.code end (marked M.Fork (Fork' (b.starts qn) k))) count behind.0) in
+          (subst (λ k. IsAt b.code end (with_mark M.Fork (Fork' (b.starts qn) k))) count behind.0) in
           proceeds_on b t v (2 * arguments_tokens es) 0 x _ pending walk
           (at_once b t v place l fs values rest procedure cs entered (Runs end (stacked zs []) l fs) pending
           (F.forks (b.starts qn) (stacked zs []) go look refl o mine

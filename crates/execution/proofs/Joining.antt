@@ -13,7 +13,7 @@ use Rattle.program.specs.Scope.{scope_of}
 use Rattle.program.specs.Typing.{ResultFits, PartFits}
 use Rattle.program.specs.Tokens.{expression_tokens, statement_tokens, part_tokens}
 use Rattle.code.specs.Expressions.{expression_code}
-use Rattle.code.specs.Marks.{plain, placed, moved}
+use Rattle.code.specs.Marks.{plain, rebase_all, rebase}
 use Rattle.code.specs.Processes.{join_code, into_code}
 use Rattle.code.specs.Statements.{aborted_code}
 use Rattle.code.specs.Pieces.{setting_of}
@@ -43,7 +43,7 @@ use Rattle.std.specs.Int.{w32}
 use Rattle.program.specs.Measures.{part_calls, part_room, most_room}
 use Rattle.execution.specs.Later.{IsAt, later_mark}
 
-unmoved : (base : ℕ) (into : Option ℕ) → moved base (into_code into) ≡ into_code into
+unmoved : (base : ℕ) (into : Option ℕ) → rebase base (into_code into) ≡ into_code into
 unmoved base (Some slot) = refl
 unmoved base None = refl
 
@@ -67,7 +67,7 @@ module _ (b : Build) (t : ℕ) (v : Variables) (place : ℕ) (l : Locals)
   end = aborts + length after_code
 
   abbrev all : List Marked
-  all = placed base (join_code into) ++ (plain (Jump end) ∷ after_code)
+  all = rebase_all base (join_code into) ++ (plain (Jump end) ∷ after_code)
 
   abbrev kept : ℕ → Locals
   kept child = with_local l Template child
@@ -75,11 +75,11 @@ module _ (b : Build) (t : ℕ) (v : Variables) (place : ℕ) (l : Locals)
   all_there : StandAt b.code base all
   all_there = back_stands b.code place (expression_code b.program e) all c.head.here
 
-  template : StandAt b.code base (placed base (join_code into))
-  template = front_stands b.code base (placed base (join_code into)) (plain (Jump end) ∷ after_code) all_there
+  template : StandAt b.code base (rebase_all base (join_code into))
+  template = front_stands b.code base (rebase_all base (join_code into)) (plain (Jump end) ∷ after_code) all_there
 
   behind : StandAt b.code (base + 29) (plain (Jump end) ∷ after_code)
-  behind = back_stands b.code base (placed base (join_code into)) (plain (Jump end) ∷ after_code) all_there
+  behind = back_stands b.code base (rebase_all base (join_code into)) (plain (Jump end) ∷ after_code) all_there
 
   -- the code of what comes after the join stands at its end
   more : Implements b.code (setting_of b.program b.starts procedure) b.most c.head.jumps end rest
@@ -87,7 +87,7 @@ module _ (b : Build) (t : ℕ) (v : Variables) (place : ℕ) (l : Locals)
       let len : place + length (expression_code b.program e ++ all) ≡ end = omega (
         arith,
         length-append (expression_code b.program e) all,
-        length-append (placed base (join_code into)) (plain (Jump end) ∷ after_code),
+        length-append (rebase_all base (join_code into)) (plain (Jump end) ∷ after_code),
       ) in
       subst (λ n. Implements b.code (setting_of b.program b.starts procedure) b.most c.head.jumps n rest) len
       c.head.more
@@ -101,7 +101,7 @@ module _ (b : Build) (t : ℕ) (v : Variables) (place : ℕ) (l : Locals)
       (goes_on None (with_result into (signed_of w) f) cs)
   taken child w lt = by_into into c.sound.fits.2
       (subst (λ i. IsAt b.code (base + 28) (plain i)) (unmoved base into)
-      (J.stand_index b.code base (placed base (join_code into)) 28 (base + 28) _ template refl refl))
+      (J.stand_index b.code base (rebase_all base (join_code into)) 28 (base + 28) _ template refl refl))
     where
       few : suc c.head.jumps ≤ b.most
       few = omega (arith, c.head.few, c.head.deep)
@@ -160,14 +160,14 @@ module _ (b : Build) (t : ℕ) (v : Variables) (place : ℕ) (l : Locals)
 
   -- a request of the template
   asks : (child n m : ℕ) (i : Marked) (operands : List ℕ) (request : Request)
-      → slice_get (placed base (join_code into)) n ≡ Some i
+      → slice_get (rebase_all base (join_code into)) n ≡ Some i
       → at_place (base + n) (kept child) fs (effect t i.instruction operands (kept child))
       ≡ Asks request (λ k. Runs (base + n + 1) (k ∷ []) (kept child) fs) → base + n + 1 ≡ base + m
       → look b.code.image t (Runs (base + n) operands (kept child) fs)
       ≡ Asks request (λ k. Runs (base + m) (k ∷ []) (kept child) fs)
   asks child n m i operands request is h same =
       look_here b.code t (empty_view b.program) (base + n) i.instruction operands (kept child) fs
-      (J.stand_index b.code base (placed base (join_code into)) n (base + n) i template is refl)
+      (J.stand_index b.code base (rebase_all base (join_code into)) n (base + n) i template is refl)
       ∙ h ∙ ap (λ p. Asks request (λ k. Runs p (k ∷ []) (kept child) fs)) same
 
   -- the handle is kept
@@ -175,7 +175,7 @@ module _ (b : Build) (t : ℕ) (v : Variables) (place : ℕ) (l : Locals)
       (Runs base (word_of z ∷ []) l fs)
       (Runs (base + 1) [] (kept n) fs)
   keeps n z is =
-      let here = J.stand_index b.code base (placed base (join_code into)) 0 base _ template refl (omega arith) in
+      let here = J.stand_index b.code base (rebase_all base (join_code into)) 0 base _ template refl (omega arith) in
       one_step b.code t (view_at b procedure v) _ _
       (look_here b.code t (view_at b procedure v) base (SetLocal Template) (word_of z ∷ []) l fs here
       ∙ ap (λ (k : ℤ). Goes (Runs (base + 1) [] (kept (word_of k)) fs)) is) (ap later_mark here.1)
@@ -225,7 +225,7 @@ module _ (b : Build) (t : ℕ) (v : Variables) (place : ℕ) (l : Locals)
       → Proceeds b t v 6 (Runs base (word_of z ∷ []) l fs) pending
   unfolding awaits
   by_handle zero z is made few o =
-      let last = J.stand_index b.code base (placed base (join_code into)) 8 (base + 8) _ template refl refl in
+      let last = J.stand_index b.code base (rebase_all base (join_code into)) 8 (base + 8) _ template refl refl in
       let walk : WalksWithin b.code t (view_at b procedure v) 4 (Runs base (word_of z ∷ []) l fs)
       (Dies HandleNotJoinable) =
       J.next b.code t (view_at b procedure v) base into template (kept 0) fs 3 _ _ _ (keeps 0 z is)

@@ -10,7 +10,7 @@ use Rattle.program.specs.Typing.{IsNoRecover}
 use Rattle.program.specs.WellFormed.{RoleFits}
 use Rattle.code.specs.Layout.{link_word}
 use Rattle.code.specs.Locks.{exit_code}
-use Rattle.code.specs.Marks.{placed}
+use Rattle.code.specs.Marks.{rebase_all}
 use Rattle.code.specs.Processes.{return_code}
 use Rattle.code.specs.Statements.{ending_code, leaving_code}
 use Rattle.code.specs.Pieces.{setting_of, default_code}
@@ -60,7 +60,7 @@ module _ (b : Build) (t : ℕ) (v : Variables) where
       → offer b.program v r ≡ Does (Exits m) Nothing (Returning z cs) → holds r ≡ m ∷ callers_monitors cs
       → Proceeds b t v 0 (Runs place (result_operands shown) l fs) r
   exits_at m shown place l fs number q cs z r e callers shows code o held =
-      let template = placed place (exit_code m (link_word b.program m)) in
+      let template = rebase_all place (exit_code m (link_word b.program m)) in
       let all : StandAt b.code place (template ++ return_code (Entry m) q.result ∷ []) =
       subst (λ (role : Role). StandAt b.code place
       (leaving_code b.program role place ++ return_code role q.result ∷ []))

@@ -24,7 +24,7 @@ use Rattle.locals.specs.declared.frame.Locals.{Locals}
 use Rattle.locals.specs.declared.frame.Frame.{Frame}
 use Rattle.locals.specs.Threads.{Runs, Dies}
 use Rattle.locals.specs.Looks.{Look, Goes, Then, truth, signed_result, operator_effect, at_place, or_dies, effect}
-use Rattle.meaning.specs.Values.{Evaluated, Value, Fails, is_integer, integer, divided, both, unary, is_true}
+use Rattle.meaning.specs.Values.{Evaluated, Value, Fails, is_integer, integer, quotient_or_fault, both, unary, is_true}
 use Rattle.meaning.specs.Values as v
 use Rattle.execution.specs.Typed.{HasValue}
 use Rattle.execution.specs.Evaluation.{OfType}
@@ -117,7 +117,7 @@ or_shown made a b rest place l fs (inr x) (inr y) = rw (x, y) refl
 
 divides_by : (b : Bool) (e : Look) (a d : ℤ) (quotient : Evaluated) (rest : List ℕ) (place : ℕ) (l : Locals)
     (fs : List Frame) → b ≡ int_eq d (pos 0) → e ≡ shown quotient rest place l fs → or_dies
-    (not b) DivisionByZero e ≡ shown (divided a d quotient) rest place l fs
+    (not b) DivisionByZero e ≡ shown (quotient_or_fault a d quotient) rest place l fs
 divides_by true e a d quotient rest place l fs h k = rw (sym h) refl
 divides_by false e a d quotient rest place l fs h k = rw (sym h) k
 
@@ -236,7 +236,7 @@ positive (negsuc n) h = omega arith
 
 divided_typed : (made : ℕ) → (a d : ℤ) (quotient : Evaluated) → (0 < unsigned_abs d
     → OfType made Integer quotient) → OfType made Integer
-    (divided a d quotient)
+    (quotient_or_fault a d quotient)
 divided_typed made a d quotient h = by_test (int_eq d (pos 0)) refl
   where
     by_test : (b : Bool) → int_eq d (pos 0) ≡ b → OfType made Integer (if not b then quotient else Fails DivisionByZero)

@@ -11,7 +11,7 @@ use Rattle.program.specs.Scope.{own_monitor, recover_of}
 use Rattle.program.specs.Typing.{IsNoRecover}
 use Rattle.program.specs.WellFormed.{RoleFits}
 use Rattle.code.specs.Locks.{recovery}
-use Rattle.code.specs.Marks.{plain, moved}
+use Rattle.code.specs.Marks.{plain, rebase}
 use Rattle.code.specs.Statements.{start_in}
 use Rattle.code.specs.Pieces.{setting_of, entering_code}
 use Rattle.locals.specs.declared.frame.Locals.{Locals}
@@ -23,7 +23,7 @@ use Rattle.execution.specs.Typed.{HaveValues}
 use Rattle.execution.specs.Walks.{empty_view}
 use Rattle.execution.specs.Following.{Build, CallersStand, is_first, is_called, is_recovery, Implements, IsFrame}
 use Rattle.execution.specs.Following.{StandsBehind, Stands, runs, fails, recovery_in}
-use Rattle.execution.specs.Completing.{GoesOn, kept}
+use Rattle.execution.specs.Completing.{GoesOn, with_scratch}
 use Rattle.execution.specs.Builds.{IsBuild}
 use Rattle.execution.proofs.Walking.{wider, within_on, one_step, look_here}
 use Rattle.execution.proofs.Contexts.{frame_at, stay}
@@ -43,7 +43,7 @@ chain b is n q [] (c ∷ cs) role h = elim h [ ]
 chain b is n q (m ∷ fs) [] role h = elim h [ ]
 
 -- a recovery is the same wherever it stands
-pub moved_recovery : (base : ℕ) (piece : Option ℕ) → moved base (recovery piece) ≡ recovery piece
+pub moved_recovery : (base : ℕ) (piece : Option ℕ) → rebase base (recovery piece) ≡ recovery piece
 moved_recovery base None = refl
 moved_recovery base (Some r) = refl
 
@@ -63,7 +63,7 @@ module _ (b : Build) (is : IsBuild b) (t : ℕ) (m place : ℕ) (l : Locals) (fs
     (code : Implements b.code (setting_of b.program b.starts procedure) b.most jumps (place + 1) f.rest)
     (callers : CallersStand b number procedure fs cs) where
   -- the frame with another word in the templates' own local
-  kept_frame : (word : ℕ) → IsFrame b.program b.height b.made b.width number procedure f (kept l word)
+  kept_frame : (word : ℕ) → IsFrame b.program b.height b.made b.width number procedure f (with_scratch l word)
   kept_frame word = record {
     procedure = frame.procedure;
     role = frame.role;
@@ -75,26 +75,28 @@ module _ (b : Build) (is : IsBuild b) (t : ℕ) (m place : ℕ) (l : Locals) (fs
   }
 
   -- what is done in an abandoned monitor
-  recovers_here : (word : ℕ) (o : Option ℕ) → recover_of b.program m ≡ o → Stands b t (Runs place [] (kept l word) fs)
+  recovers_here : (word : ℕ) (o : Option ℕ) → recover_of b.program m ≡ o
+      → Stands b t (Runs place [] (with_scratch l word) fs)
       (recovers_by b.program o m f cs)
   recovers_here word None e =
       let at : IsAt b.code place (plain (Raise AbandonedMonitor)) =
       subst (λ (r : Option ℕ). IsAt b.code place (plain (recovery (start_in b.starts r)))) e here in
       fails m f cs (wider b.code t (empty_view b.program) 1 16 _ _ (omega arith)
       (one_step b.code t (empty_view b.program) _ _
-      (look_here b.code t (empty_view b.program) place (Raise AbandonedMonitor) [] (kept l word) fs at)
+      (look_here b.code t (empty_view b.program) place (Raise AbandonedMonitor) [] (with_scratch l word) fs at)
       (ap later_mark at.1))) refl
   recovers_here word (Some r) e =
       let part = is.recovers m r e in
       let q = part.0 in
-      let back : MachineFrame = record { back = place + 1; locals = kept l word } in
+      let back : MachineFrame = record { back = place + 1; locals = with_scratch l word } in
       let caller : Caller = record { into = None; frame = f } in
       let fits : RoleFits b.program r q (Recover m) = subst (RoleFits b.program r q) part.2 (is.role r q part.1) in
       let at : IsAt b.code place (plain (Call (b.starts r))) =
       subst (λ (k : Option ℕ). IsAt b.code place (plain (recovery (start_in b.starts k)))) e here in
       let deep = chain b is number procedure fs cs role callers in
-      let step : look b.code.image t (Runs place [] (kept l word) fs) ≡ Goes (Runs (b.starts r) [] fresh (back ∷ fs)) =
-      look_here b.code t (empty_view b.program) place (Call (b.starts r)) [] (kept l word) fs at ∙ ap
+      let step : look b.code.image t (Runs place [] (with_scratch l word) fs) ≡ Goes
+      (Runs (b.starts r) [] fresh (back ∷ fs)) =
+      look_here b.code t (empty_view b.program) place (Call (b.starts r)) [] (with_scratch l word) fs at ∙ ap
       (λ k. if_so k (Goes (Runs (b.starts r) [] fresh (back ∷ fs)))) (lt-ltb (length fs) 15 (omega (arith, deep))) in
       let begun = has_begun b is t r q [] (back ∷ fs) part.1 (no_values q.parameters fits.1) in
       let at_end : place + 1 + 0 ≡ place + 1 = omega arith in
@@ -123,8 +125,8 @@ module _ (b : Build) (is : IsBuild b) (t : ℕ) (m place : ℕ) (l : Locals) (fs
 
   pub goes_on_here : GoesOn b t m place l fs f cs
   goes_on_here = record {
-    enters = λ word. runs (Some m) f cs (place + 1) (kept l word) fs
-        (stay b t 16 (Runs (place + 1) [] (kept l word) fs))
+    enters = λ word. runs (Some m) f cs (place + 1) (with_scratch l word) fs
+        (stay b t 16 (Runs (place + 1) [] (with_scratch l word) fs))
         (record {
           number = number;
           procedure = procedure;

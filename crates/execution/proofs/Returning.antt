@@ -33,7 +33,7 @@ use Rattle.execution.proofs.Contexts.{proceeds_on, proceeds_wider, stay}
 use Rattle.execution.proofs.Putting.{slot_below, put_typed, put_holds, put_length}
 use Rattle.execution.proofs.Operators.{back, value_fits}
 use Rattle.execution.proofs.Words.{word_below}
-use Rattle.code.specs.Marks.{plain, marked}
+use Rattle.code.specs.Marks.{plain, with_mark}
 use Rattle.execution.specs.Later.{IsAt, later_mark, last_mark}
 
 -- a RECOVER part is one
@@ -58,7 +58,7 @@ HandsOver Main = ⊥
 
 -- the instruction at its return, and the mark
 bare_return : (b : Build) (place : ℕ) (role : Role) → HandsOver role → IsAt b.code place (return_code role None)
-    → IsAt b.code place (marked M.Return Ret)
+    → IsAt b.code place (with_mark M.Return Ret)
 bare_return b place (Entry m) hands h = h
 bare_return b place (Internal m) hands h = h
 bare_return b place (Recover m) hands h = absurd hands
@@ -66,7 +66,7 @@ bare_return b place External hands h = h
 bare_return b place Main hands h = absurd hands
 
 value_return : (b : Build) (place : ℕ) (role : Role) (u : ValueType) → HandsOver role
-    → IsAt b.code place (return_code role (Some u)) → IsAt b.code place (marked M.LastReturn RetValue)
+    → IsAt b.code place (return_code role (Some u)) → IsAt b.code place (with_mark M.LastReturn RetValue)
 value_return b place (Entry m) u hands h = h
 value_return b place (Internal m) u hands h = h
 value_return b place (Recover m) u hands h = absurd hands
@@ -101,7 +101,7 @@ module _ (b : Build) (t : ℕ) (v : Variables) where
       (into : Option ℕ) (f : Frame) (cs : List Caller) (z : ℤ) (r : Process)
       → ResultFits (scope_of b.program caller) into None
       → StandsBehind b m (record { into = into; frame = f }) n caller (taking_code into None)
-      → CallersStand b n caller fs cs → IsAt b.code place (marked M.Return Ret)
+      → CallersStand b n caller fs cs → IsAt b.code place (with_mark M.Return Ret)
       → offer b.program v r ≡ Does (Alone L.Return) Nothing (hands_over z (record { into = into; frame = f } ∷ cs))
       → Proceeds b t v 1 (Runs place [] l (m ∷ fs)) r
   returns_bare place l m fs n caller (Some slot) f cs z r fit behind below code o = absurd fit

@@ -10,7 +10,7 @@ use Rattle.program.specs.declared.kinds.ValueType.TheVariants.{Integer}
 use Rattle.program.specs.Trees.{Expression, ToLocal, Statement, Assign, Print, Abort, Block, Then, Procedure, slots}
 use Rattle.program.specs.Tokens.{expression_tokens, statement_tokens}
 use Rattle.code.specs.Expressions.{expression_code}
-use Rattle.code.specs.Marks.{marked}
+use Rattle.code.specs.Marks.{with_mark}
 use Rattle.code.specs.declared.mark.Mark.TheVariants as M
 use Rattle.code.specs.Pieces.{setting_of}
 use Rattle.locals.specs.declared.frame.Locals.{Locals}
@@ -71,8 +71,8 @@ module _ (b : Build) (t : ℕ) (v : Variables) (place : ℕ) (l : Locals) (fs : 
       let last = back_stands b.code place code _ c.head.here in
       let end = place + length code in
       let give = ev.gives e Integer place [] fs fits here (omega (arith, c.sound.room)) in
-      let len : place + length (code ++ marked M.Print Print' ∷ []) ≡ end + 1 = omega
-      (arith, length-append code (marked M.Print Print' ∷ [])) in
+      let len : place + length (code ++ with_mark M.Print Print' ∷ []) ≡ end + 1 = omega
+      (arith, length-append code (with_mark M.Print Print' ∷ [])) in
       let after : Stands b t (Runs (end + 1) [] l fs) (goes_on None (frame_at procedure values rest) cs) =
       stands_on b t v place l fs values s rest procedure cs c l values rest
       (end + 1) c.head.jumps c.typed c.holds c.words c.later (omega (arith, c.head.few, c.head.deep))
@@ -118,8 +118,8 @@ module _ (b : Build) (t : ℕ) (v : Variables) (place : ℕ) (l : Locals) (fs : 
       let last = back_stands b.code place code _ c.head.here in
       let end = place + length code in
       let give = ev.gives e u place [] fs fits here (omega (arith, c.sound.room)) in
-      let len : place + length (code ++ marked M.AssignLocal (SetLocal (Slot' slot)) ∷ []) ≡ end + 1 = omega
-      (arith, length-append code (marked M.AssignLocal (SetLocal (Slot' slot)) ∷ [])) in
+      let len : place + length (code ++ with_mark M.AssignLocal (SetLocal (Slot' slot)) ∷ []) ≡ end + 1 = omega
+      (arith, length-append code (with_mark M.AssignLocal (SetLocal (Slot' slot)) ∷ [])) in
       as_it_stands s c tt (2 * expression_tokens e + 0) (omega arith)
       (with_evaluation b t v (2 * expression_tokens e) 0 x (evaluate p v values e) end [] l fs
       (frame_at procedure values rest) cs _ (q s) refl

@@ -16,7 +16,7 @@ use Rattle.program.specs.Measures.{room}
 use Rattle.program.specs.Tokens.{expression_tokens}
 use Rattle.code.specs.Expressions.{expression_code, index_code}
 use Rattle.code.specs.Layout.{member_address}
-use Rattle.code.specs.Marks.{marked, plain}
+use Rattle.code.specs.Marks.{with_mark, plain}
 use Rattle.code.specs.declared.mark.Mark.TheVariants as M
 use Rattle.code.specs.declared.mark.Marked.{Marked}
 use Rattle.code.specs.Pieces.{setting_of}
@@ -44,7 +44,7 @@ use Rattle.execution.proofs.Stepping.{steps_of, as_it_stands, at_once}
 
 -- the store behind the code of the value
 abbrev pub store_code : List Marked
-store_code = marked M.AssignMember Store ∷ []
+store_code = with_mark M.AssignMember Store ∷ []
 
 module _ (b : Build) (t : ℕ) (v : Variables) (place : ℕ) (l : Locals) (fs : List MachineFrame)
     (values : List ℤ) (rest : Block) (procedure : Procedure) (cs : List Caller) (entered : Option ℕ) where

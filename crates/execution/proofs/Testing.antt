@@ -12,7 +12,7 @@ use Rattle.program.specs.Typing.{HasType}
 use Rattle.program.specs.Measures.{room, most_room, block_calls}
 use Rattle.program.specs.Tokens.{expression_tokens}
 use Rattle.code.specs.Expressions.{expression_code}
-use Rattle.code.specs.Marks.{plain, marked}
+use Rattle.code.specs.Marks.{plain, with_mark}
 use Rattle.code.specs.declared.mark.Marked.{Marked}
 use Rattle.code.specs.declared.mark.Mark.TheVariants as M
 use Rattle.code.specs.Statements.{block_code}
@@ -25,7 +25,7 @@ use Rattle.meaning.specs.Values.{Variables, Value, evaluate, is_true}
 use Rattle.meaning.specs.Labels.{Alone}
 use Rattle.meaning.specs.Labels as L
 use Rattle.meaning.specs.Processes.{Caller, Process, Before, goes_on}
-use Rattle.meaning.specs.Offers.{Does, Nothing, offer, with_value, chosen}
+use Rattle.meaning.specs.Offers.{Does, Nothing, offer, with_value, chosen_block}
 use Rattle.execution.specs.Typed.{HasValue}
 use Rattle.execution.specs.Evaluation.{OfType}
 use Rattle.execution.specs.Later.{later_mark}
@@ -54,7 +54,7 @@ module _ (b : Build) (t : ℕ) (v : Variables) (place : ℕ) (l : Locals) (fs : 
       (e : Expression)
       (go : Bool → Block) (target : ℕ) (tail : List Marked)
       → HasType (scope_of b.program procedure) e Boolean → room e ≤ most_room → 2 * expression_tokens e ≤ steps_of s
-      → StandAt b.code place (expression_code b.program e ++ marked M.Test (JumpIfZero target) ∷ tail)
+      → StandAt b.code place (expression_code b.program e ++ with_mark M.Test (JumpIfZero target) ∷ tail)
       → offer b.program v (pending s) ≡ with_value (evaluate b.program v values e) (frame_at procedure values rest) cs
       (λ z. Does (Alone L.Test) Nothing (at_rest (go (is_true z))))
       → Stands b t (Runs (place + length (expression_code b.program e) + 1) [] l fs) (at_rest (go true))
@@ -111,15 +111,15 @@ module _ (b : Build) (t : ℕ) (v : Variables) (place : ℕ) (l : Locals) (fs : 
       let end = then_start + length body in
       let d = c.head.depth in
       let tail = back_stands b.code place test _ c.head.here in
-      let len : place + length (test ++ marked M.Test (JumpIfZero end) ∷ body) ≡ end = omega
-      (arith, length-append test (marked M.Test (JumpIfZero end) ∷ body)) in
+      let len : place + length (test ++ with_mark M.Test (JumpIfZero end) ∷ body) ≡ end = omega
+      (arith, length-append test (with_mark M.Test (JumpIfZero end) ∷ body)) in
       let more = subst (λ n. Implements b.code setting b.most c.head.jumps n rest) len c.head.more in
       let inner = block_implements b.code setting b.most then_part d c.head.jumps then_start rest tail.1 c.head.few
       (omega (arith, c.head.deep)) more in
       let sound = block_sound b.height b.width c.number scope then_part c.sound.fits.1
       (λ n h. c.sound.lower n (Contains-append_left (block_calls then_part) [] n h)) (omega (arith, c.sound.room))
       (omega (arith, c.sound.tokens)) in
-      test_proceeds s tt c e (λ k. followed_by (chosen k then_part Done) rest) end body c.sound.fits.0
+      test_proceeds s tt c e (λ k. followed_by (chosen_block k then_part Done) rest) end body c.sound.fits.0
       (omega (arith, c.sound.room)) (omega arith) c.head.here refl
       (stands_on b t v place l fs values s rest procedure cs c l values
       (followed_by then_part rest) then_start inner.0 c.typed c.holds c.words
@@ -147,10 +147,10 @@ module _ (b : Build) (t : ℕ) (v : Variables) (place : ℕ) (l : Locals) (fs : 
       let behind = plain (Jump end) ∷ other in
       let tail = back_stands b.code place test _ c.head.here in
       let jump = back_stands b.code then_start body behind tail.1 in
-      let len : place + length (test ++ marked M.Test (JumpIfZero else_start) ∷ (body ++ behind)) ≡ end =
+      let len : place + length (test ++ with_mark M.Test (JumpIfZero else_start) ∷ (body ++ behind)) ≡ end =
       omega (
         arith,
-        length-append test (marked M.Test (JumpIfZero else_start) ∷ (body ++ behind)),
+        length-append test (with_mark M.Test (JumpIfZero else_start) ∷ (body ++ behind)),
         length-append body behind,
       ) in
       let more = subst (λ n. Implements b.code setting b.most c.head.jumps n rest) len c.head.more in
@@ -165,7 +165,7 @@ module _ (b : Build) (t : ℕ) (v : Variables) (place : ℕ) (l : Locals) (fs : 
       let second = block_sound b.height b.width c.number scope else_part c.sound.fits.2
       (λ n h. c.sound.lower n (Contains-append_right (block_calls then_part) (block_calls else_part) n h))
       (omega (arith, c.sound.room)) (omega (arith, c.sound.tokens)) in
-      test_proceeds s tt c e (λ k. followed_by (chosen k then_part else_part) rest) else_start
+      test_proceeds s tt c e (λ k. followed_by (chosen_block k then_part else_part) rest) else_start
       (body ++ behind) c.sound.fits.0 (omega (arith, c.sound.room)) (omega arith) c.head.here refl
       (stands_on b t v place l fs values s rest procedure cs c l values
       (followed_by then_part rest) then_start inner.0 c.typed c.holds c.words
@@ -193,10 +193,10 @@ module _ (b : Build) (t : ℕ) (v : Variables) (place : ℕ) (l : Locals) (fs : 
       let behind = plain (Jump place) ∷ [] in
       let tail = back_stands b.code place test _ c.head.here in
       let jump = back_stands b.code body_start inside behind tail.1 in
-      let len : place + length (test ++ marked M.Test (JumpIfZero end) ∷ (inside ++ behind)) ≡ end =
+      let len : place + length (test ++ with_mark M.Test (JumpIfZero end) ∷ (inside ++ behind)) ≡ end =
       omega (
         arith,
-        length-append test (marked M.Test (JumpIfZero end) ∷ (inside ++ behind)),
+        length-append test (with_mark M.Test (JumpIfZero end) ∷ (inside ++ behind)),
         length-append inside behind,
       ) in
       let more = subst (λ n. Implements b.code setting b.most c.head.jumps n rest) len c.head.more in
@@ -206,7 +206,7 @@ module _ (b : Build) (t : ℕ) (v : Variables) (place : ℕ) (l : Locals) (fs : 
       (follows place jump.0 again) in
       let sound = block_sound b.height b.width c.number scope body c.sound.fits.1 c.sound.lower
       (omega (arith, c.sound.room)) (omega (arith, c.sound.tokens)) in
-      test_proceeds s tt c e (λ k. chosen k (followed_by body (Then s rest)) rest) end
+      test_proceeds s tt c e (λ k. chosen_block k (followed_by body (Then s rest)) rest) end
       (inside ++ behind) c.sound.fits.0 (omega (arith, c.sound.room)) (omega arith) c.head.here refl
       (stands_on b t v place l fs values s rest procedure cs c l values
       (followed_by body (Then s rest)) body_start inner.0 c.typed c.holds c.words

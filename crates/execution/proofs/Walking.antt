@@ -6,7 +6,7 @@ use Rattle.isa.specs.declared.instr.Instr.{Instr}
 use Rattle.execution.specs.Later.{MarkedImage, IsAt, mark_of, later_mark}
 use Rattle.code.specs.declared.mark.Mark.{Mark}
 use Rattle.code.specs.declared.mark.Marked.{Marked}
-use Rattle.code.specs.Marks.{marked}
+use Rattle.code.specs.Marks.{with_mark}
 use Rattle.program.specs.declared.kinds.ValueType.{ValueType}
 use Rattle.locals.specs.declared.frame.Locals.{Locals}
 use Rattle.locals.specs.declared.frame.Frame.{Frame}
@@ -92,7 +92,7 @@ module _ (p : MarkedImage) (t : ℕ) (s : View) where
 
   -- what the look at a place is, by its instruction
   pub look_here : {mark : Mark} (place : ℕ) (i : Instr) (operands : List ℕ) (l : Locals) (fs : List Frame)
-      → IsAt p place (marked mark i) → look p.image t (Runs place operands l fs) ≡ at_place place l fs
+      → IsAt p place (with_mark mark i) → look p.image t (Runs place operands l fs) ≡ at_place place l fs
       (effect t i operands l)
   look_here place i operands l fs h = rw (h.0) refl
 

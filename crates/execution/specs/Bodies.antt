@@ -11,7 +11,7 @@ use Rattle.program.specs.Typing.{Fits, MayBeForked}
 use Rattle.program.specs.Tokens.{statement_tokens}
 use Rattle.program.specs.Measures.{statement_room, most_room, calls}
 use Rattle.code.specs.declared.mark.Mark.TheVariants as M
-use Rattle.code.specs.Marks.{marked, plain}
+use Rattle.code.specs.Marks.{with_mark, plain}
 use Rattle.code.specs.Statements.{Setting, statement_code, ending_code}
 use Rattle.code.specs.Processes.{into_code}
 use Rattle.code.specs.declared.mark.Marked.{Marked}
@@ -60,8 +60,8 @@ pub record IsFrame (p : Program) (height : ℕ → ℕ) (made width number : ℕ
 
 -- what stands behind a call: the result is taken
 abbrev pub taking_code : Option ℕ → Option ValueType → List Marked
-taking_code (Some slot) result = marked M.Return (into_code (Some slot)) ∷ []
-taking_code None (Some t) = marked M.Return (into_code None) ∷ []
+taking_code (Some slot) result = with_mark M.Return (into_code (Some slot)) ∷ []
+taking_code None (Some t) = with_mark M.Return (into_code None) ∷ []
 taking_code None None = []
 
 -- a program, its code with the places where its pieces begin, the heights of its procedures, how deep

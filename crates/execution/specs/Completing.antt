@@ -14,7 +14,7 @@ use Rattle.program.specs.Trees.{Part}
 use Rattle.code.specs.Layout.{link_word, member_address}
 use Rattle.code.specs.Locks.{enter_code, exit_code}
 use Rattle.code.specs.Conditions.{wait_code, notify_code, broadcast_code}
-use Rattle.code.specs.Marks.{placed}
+use Rattle.code.specs.Marks.{rebase_all}
 use Rattle.locals.specs.declared.frame.Locals.{Locals}
 use Rattle.locals.specs.declared.frame.Frame.{Frame as MachineFrame}
 use Rattle.locals.specs.Threads.{Thread, Runs, Dies, opening_thread}
@@ -34,15 +34,15 @@ pub use Rattle.execution.specs.Awaiting.{IsOwn, IsQuiet, return_request, left_va
 pub use Rattle.execution.specs.Awaiting.{Awaits}
 
 -- locals with a word in the templates' own
-abbrev pub kept : Locals → ℕ → Locals
-kept l word = record l { scratch = word }
+abbrev pub with_scratch : Locals → ℕ → Locals
+with_scratch l word = record l { scratch = word }
 
 -- where a thread goes on that has taken a monitor's lock, whatever word it has kept: behind the instruction at a place,
 -- or, where the monitor was abandoned, at that instruction
 pub record GoesOn (b : Build) (t m place : ℕ) (l : Locals) (fs : List MachineFrame) (f : Frame)
     (cs : List Caller) : Type 0 where
-  pub enters : (word : ℕ) → Stands b t (Runs (place + 1) [] (kept l word) fs) (goes_on (Some m) f cs)
-  pub recovers : (word : ℕ) → Stands b t (Runs place [] (kept l word) fs) (recovers b.program m f cs)
+  pub enters : (word : ℕ) → Stands b t (Runs (place + 1) [] (with_scratch l word) fs) (goes_on (Some m) f cs)
+  pub recovers : (word : ℕ) → Stands b t (Runs place [] (with_scratch l word) fs) (recovers b.program m f cs)
 
 -- a process has the monitor, innermost
 abbrev pub HasFirst : Process → ℕ → Type 0
@@ -93,18 +93,18 @@ pub data Completes (b : Build) (t : ℕ) (v : Variables) (x : Thread) (q : Proce
   enters : {m : ℕ} {f : Frame} {cs : List Caller} {l : Locals} {fs : List MachineFrame} (base : ℕ)
       → q ≡ Entering m f cs → x ≡ Runs base [] l fs → m < length b.program.monitors
       → all_monitors f cs ≡ m ∷ callers_monitors cs
-      → StandAt b.code base (placed base (enter_code m (link_word b.program m) (recovery_in b m)))
+      → StandAt b.code base (rebase_all base (enter_code m (link_word b.program m) (recovery_in b m)))
       → GoesOn b t m (base + 60) l fs f cs → Completes b t v x q
   exits : {z : ℤ} {cs : List Caller} {l : Locals} {fs : List MachineFrame} (m base : ℕ) (shown : Option ℕ)
       → offer b.program v q ≡ Does (Exits m) Nothing (Returning z cs) → holds q ≡ m ∷ callers_monitors cs
       → x ≡ Runs base (result_operands shown) l fs
-      → StandAt b.code base (placed base (exit_code m (link_word b.program m)))
+      → StandAt b.code base (rebase_all base (exit_code m (link_word b.program m)))
       → Stands b t (Runs (base + 23) (result_operands shown) l fs) (Returning z cs) → Completes b t v x q
   waits : {f : Frame} {cs : List Caller} {l : Locals} {fs : List MachineFrame} {ms : List ℕ} (c : Member) (base : ℕ)
       → member_type b.program c ≡ Some Condition
       → offer b.program v q ≡ Does (Waits c) Nothing (Suspended c f cs) → holds q ≡ c.monitor ∷ ms
       → own_monitor f.role ≡ Some c.monitor → all_monitors f cs ≡ c.monitor ∷ ms → x ≡ Runs base [] l fs
-      → StandAt b.code base (placed base (wait_code c (link_word b.program c.monitor) (member_address b.program c)
+      → StandAt b.code base (rebase_all base (wait_code c (link_word b.program c.monitor) (member_address b.program c)
       (recovery_in b c.monitor)))
       → GoesOn b t c.monitor (base + 73) l fs f cs → Completes b t v x q
   notifies : {r : Process} {l : Locals} {fs : List MachineFrame} (c : Member) (base : ℕ)

@@ -10,7 +10,7 @@ use Rattle.program.specs.Scope.{scope_of, own_monitor, recover_of}
 use Rattle.program.specs.Typing.{ResultFits, MayCall, IsNoRecover}
 use Rattle.code.specs.Layout.{link_word}
 use Rattle.code.specs.Locks.{recovery, enter_code}
-use Rattle.code.specs.Marks.{placed}
+use Rattle.code.specs.Marks.{rebase_all}
 use Rattle.code.specs.Statements.{start_in}
 use Rattle.code.specs.Processes.{return_code}
 use Rattle.code.specs.declared.mark.Marked.{Marked}
@@ -70,7 +70,7 @@ pub record IsEntering (b : Build) (m place : ℕ) (l : Locals) (fs : List Machin
   pub procedure : Procedure
   pub role : procedure.role ≡ Entry m
   pub frame : IsFrame b.program b.height b.made b.width number procedure f l
-  pub template : StandAt b.code place (placed place (enter_code m (link_word b.program m) (recovery_in b m)))
+  pub template : StandAt b.code place (rebase_all place (enter_code m (link_word b.program m) (recovery_in b m)))
   pub jumps : ℕ
   pub few : jumps ≤ b.most
   pub code : Implements b.code (setting_of b.program b.starts procedure) b.most jumps (place + 61) f.rest

@@ -18,7 +18,7 @@ use Rattle.sourceruns.specs.declared.process.Process.{Process}
 use Rattle.sourceruns.specs.NextAction.{offer_of}
 use Rattle.sourcestates.specs.States.{state_of}
 use Rattle.protocol.proofs.Sleeps.{put_same}
-use Rattle.product.specs.Next.{after_next, named, next_heard, offered, paid, quiet_next}
+use Rattle.product.specs.Next.{after_next, next_kinds, next_heard, offer_of_process, take_waiting, quiet_next}
 use Rattle.product.specs.Placing.{Resumes, act, awake_waiters}
 use Rattle.product.specs.Progress.{Progress, progress_next, progress_paid}
 use Rattle.product.specs.Tracking.{CanTake}
@@ -106,7 +106,7 @@ module _ (p : Program) (t : ℕ) (g : Progress) (ahead : SourceState) (count tak
           let w = paying.so_far.waiting in
           let actions = paying.so_far.actions in
           let a = paying.so_far.source in
-          let after = after_next t (quiet_next (offered p a.variable (a.process t))) a in
+          let after = after_next t (quiet_next (offer_of_process p a.variable (a.process t))) a in
           let pays = pays_behind p t w a ahead k ks paying.behind mine in
           let step : IsStep p a (act t (kind_of pays.0)) after = subst
           (λ i. IsStep p a (act t i) after) pays.1 pays.4 in
@@ -129,7 +129,7 @@ module _ (p : Program) (t : ℕ) (g : Progress) (ahead : SourceState) (count tak
                   (ap (λ l. (actions ++ act t k ∷ []) ++ actions_of t l) (put_same w t ks)
                   ∙ append_assoc actions (act t k ∷ []) (actions_of t ks)
                   ∙ sym (ap (λ l. actions ++ actions_of t l) mine))
-                  (ap (λ l. paid p t l after) (put_same w t ks) ∙ sym (ap (λ l. paid p t l a) mine))
+                  (ap (λ l. take_waiting p t l after) (put_same w t ks) ∙ sym (ap (λ l. take_waiting p t l a) mine))
                   (put_put w t ks []) ∙ paying.rest;
             },
           )
@@ -142,7 +142,7 @@ module _ (p : Program) (t : ℕ) (g : Progress) (ahead : SourceState) (count tak
       by_rest [] mine = subst (λ (i : Progress). Matches now i) paying.rest (record {
         actions = paying.matches.actions ∙ nothing_more paying.so_far.actions
             ∙ sym (ap (λ l. paying.so_far.actions ++ actions_of t l) mine);
-        source = paying.matches.source ∙ sym (ap (λ l. paid p t l paying.so_far.source) mine);
+        source = paying.matches.source ∙ sym (ap (λ l. take_waiting p t l paying.so_far.source) mine);
       })
       by_rest (k ∷ ks) mine =
           let some : length (paying.so_far.waiting t) ≡ length ks + 1 = ap length mine ∙ omega arith in
@@ -180,7 +180,8 @@ module _ (p : Program) (s : State) (t : ℕ) (g : Progress) (label : Label) (can
           took.0,
           record {
             actions = took.1.actions ∙ ap (λ i. g.actions ++ act t i ∷ []) kind
-                ∙ sym (ap (λ n. g.actions ++ actions_of t (named n)) (heard_is p g.source t label can s heard who));
+                ∙ sym (ap (λ n. g.actions ++ actions_of t (next_kinds n))
+                (heard_is p g.source t label can s heard who));
             source = took.1.source;
           },
         )

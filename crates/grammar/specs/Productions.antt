@@ -67,8 +67,8 @@ abbrev pub arguments : List ExpressionTree → List Lexeme
 arguments es = arguments_text es []
 
 -- a dot and a name, if there is one
-abbrev pub dotted : Option NameTree → List Lexeme
-dotted name = dotted_text name []
+abbrev pub dot_and_name : Option NameTree → List Lexeme
+dot_and_name name = dotted_text name []
 
 -- what is called
 abbrev pub callee : CalleeTree → List Lexeme

@@ -31,7 +31,7 @@ ghost use Rattle.syntax.specs.Spelling.{bool_lexeme, comparator_text, sum_sign, 
 ghost use Rattle.syntax.specs.Spelling.{result_type_text, access_text, unit_text};
 ghost use Rattle.grammar.specs.Productions.{expression, more_conjunctions, conjunction, more_relations, relation};
 ghost use Rattle.grammar.specs.Productions.{comparison, sum_of_terms, more_terms, term, more_factors, factor, index};
-ghost use Rattle.grammar.specs.Productions.{arguments, dotted, callee, into, statement, statements, else_part};
+ghost use Rattle.grammar.specs.Productions.{arguments, dot_and_name, callee, into, statement, statements, else_part};
 ghost use Rattle.grammar.specs.Productions.{aborted_part, member_type, local, member, parameter, parameters};
 ghost use Rattle.grammar.specs.Productions.{result_part, body, procedure, access_procedure, recover, monitor};
 
@@ -118,10 +118,11 @@ pub fn productions()
         ∷ expression e ++ Mark S.Semicolon ∷ [] }
     ensures abort_statement { (place : Place) → statement (Abort place) ≡ WordAt K.Abort place ∷ Mark S.Semicolon
         ∷ [] }
-    ensures callee { (c : CalleeTree) → callee c ≡ Named c.name ∷ dotted c.dotted ++ MarkAt S.OpenParen c.open_place
+    ensures callee { (c : CalleeTree)
+        → callee c ≡ Named c.name ∷ dot_and_name c.dotted ++ MarkAt S.OpenParen c.open_place
         ∷ arguments c.arguments ++ Mark S.CloseParen ∷ [] }
-    ensures not_dotted { dotted None ≡ [] }
-    ensures some_dotted { (name : NameTree) → dotted (Some name) ≡ Mark S.Dot ∷ Named name ∷ [] }
+    ensures not_dotted { dot_and_name None ≡ [] }
+    ensures some_dotted { (name : NameTree) → dot_and_name (Some name) ≡ Mark S.Dot ∷ Named name ∷ [] }
     ensures no_arguments { arguments [] ≡ [] }
     ensures some_arguments { (e : ExpressionTree) (es : List ExpressionTree)
         → arguments (e ∷ es) ≡ expression e ++ flat_map (λ d. Mark S.Comma ∷ expression d) es }

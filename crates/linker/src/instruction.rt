@@ -1,5 +1,5 @@
 ghost use Rattle.std.specs.Prelude.{◌≡◌, ◌+◌, ◌<◌, ◌≤◌, true, false, slice_index, MatchOption};
-ghost use Rattle.code.specs.Linking.{linked};
+ghost use Rattle.code.specs.Linking.{linked_instruction};
 ghost use Rattle.linker.specs.Linked.{fits};
 
 use isa::{Instr, MOST_ARGUMENTS, MOST_LOCALS, Slot};
@@ -31,7 +31,7 @@ pub(crate) fn link_instruction(
     starts: &[u32],
     total: u32,
 ) -> Option<Instr>
-    ensures { let made = linked (slice_index starts.now) base instruction in
+    ensures { let made = linked_instruction (slice_index starts.now) base instruction in
         MatchOption result (fits total made ≡ false) (λ i. (i ≡ made) × (fits total made ≡ true)) }
 {
     match instruction {

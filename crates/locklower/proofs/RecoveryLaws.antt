@@ -1,10 +1,10 @@
 -- The recovery of a monitor is the same at each place.
 use Rattle.std.proofs.Common.{◌≡◌, ℕ, List, [], ◌∷◌, ◌++◌, Option, Some, None, refl, ap, ◌∙◌, append_assoc}
-use Rattle.code.specs.Marks.{placed}
+use Rattle.code.specs.Marks.{rebase_all}
 use Rattle.code.specs.Locks.{recovery, got_at}
 use Rattle.code.specs.declared.mark.Marked.{Marked}
-use Rattle.code.specs.Marks.{plain, plainly, moved}
+use Rattle.code.specs.Marks.{plain, plainly, rebase}
 
-pub moved_recovery : (start : ℕ) (place : Option ℕ) → moved start (recovery place) ≡ recovery place
+pub moved_recovery : (start : ℕ) (place : Option ℕ) → rebase start (recovery place) ≡ recovery place
 moved_recovery start (Some place) = refl
 moved_recovery start None = refl

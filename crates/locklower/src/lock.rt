@@ -1,6 +1,6 @@
 ghost use Rattle.std.specs.Prelude.{◌≡◌, ◌<◌, ◌≤◌, ◌+◌, ◌^◌, ◌++◌, OnOk, length};
 ghost use Rattle.isa.specs.Limits.{most_instructions};
-ghost use Rattle.code.specs.Marks.{placed};
+ghost use Rattle.code.specs.Marks.{rebase_all};
 ghost use Rattle.code.specs.Locks as locks;
 
 use code::{Mark, Marked, append, append_plain};
@@ -41,7 +41,7 @@ pub fn take_from(
     a: u32,
 ) -> Result<(), AllocError>
     requires { (link < 2 ^ 16) × (start ≤ 2 ^ 17) × (a < 100) }
-    ensures { OnOk result (code.new.items ≡ code.old.items ++ placed start (locks.take_at mark link a)) }
+    ensures { OnOk result (code.new.items ≡ code.old.items ++ rebase_all start (locks.take_at mark link a)) }
 {
     let lock = Instr::Push(link + 1);
     let waiters = Instr::Push(WAITERS);
@@ -94,7 +94,7 @@ pub fn got_from(
 ) -> Result<(), AllocError>
     requires { (start ≤ 2 ^ 17) × (a < 100) }
     ensures { OnOk result (code.new.items
-        ≡ code.old.items ++ placed start (locks.got_at link (locks.recovery recover) a)) }
+        ≡ code.old.items ++ rebase_all start (locks.got_at link (locks.recovery recover) a)) }
 {
     append_plain(
         code,
@@ -132,7 +132,7 @@ pub fn leave_from(
     a: u32,
 ) -> Result<(), AllocError>
     requires { (link < 2 ^ 16) × (start ≤ 2 ^ 17) × (a < 100) }
-    ensures { OnOk result (code.new.items ≡ code.old.items ++ placed start (locks.leave_at mark link a)) }
+    ensures { OnOk result (code.new.items ≡ code.old.items ++ rebase_all start (locks.leave_at mark link a)) }
 {
     append_plain(
         code,
@@ -169,7 +169,7 @@ pub fn leave_from(
 pub fn take(code: &mut Vec<Marked>, mark: Mark, link: u32) -> Result<(), AllocError>
     requires { (link < 2 ^ 16) × (length code.old.items ≤ 2 ^ 17) }
     ensures { OnOk result (code.new.items ≡ code.old.items
-        ++ placed (length code.old.items) (locks.take_code mark link)) }
+        ++ rebase_all (length code.old.items) (locks.take_code mark link)) }
 {
     let start = code.len() as u32;
     take_from(code, mark, link, start, 0)
@@ -179,7 +179,7 @@ pub fn take(code: &mut Vec<Marked>, mark: Mark, link: u32) -> Result<(), AllocEr
 pub fn got(code: &mut Vec<Marked>, link: u32, recover: Option<u32>) -> Result<(), AllocError>
     requires { length code.old.items ≤ 2 ^ 17 }
     ensures { OnOk result (code.new.items
-        ≡ code.old.items ++ placed (length code.old.items) (locks.got_code link (locks.recovery recover))) }
+        ≡ code.old.items ++ rebase_all (length code.old.items) (locks.got_code link (locks.recovery recover))) }
 {
     let start = code.len() as u32;
     got_from(code, link, recover, start, 0)
@@ -189,7 +189,7 @@ pub fn got(code: &mut Vec<Marked>, link: u32, recover: Option<u32>) -> Result<()
 pub fn leave(code: &mut Vec<Marked>, mark: Mark, link: u32) -> Result<(), AllocError>
     requires { (link < 2 ^ 16) × (length code.old.items ≤ 2 ^ 17) }
     ensures { OnOk result (code.new.items ≡ code.old.items
-        ++ placed (length code.old.items) (locks.leave_code mark link)) }
+        ++ rebase_all (length code.old.items) (locks.leave_code mark link)) }
 {
     let start = code.len() as u32;
     leave_from(code, mark, link, start, 0)
@@ -198,7 +198,7 @@ pub fn leave(code: &mut Vec<Marked>, mark: Mark, link: u32) -> Result<(), AllocE
 // The beginning of `enter`, at this place: the entry is pending, and the lock is taken where it is free.
 fn try_lock(code: &mut Vec<Marked>, monitor: u32, link: u32, start: u32) -> Result<(), AllocError>
     requires { (link < 2 ^ 16) × (start ≤ 2 ^ 17) }
-    ensures { OnOk result (code.new.items ≡ code.old.items ++ placed start (locks.try_code monitor link)) }
+    ensures { OnOk result (code.new.items ≡ code.old.items ++ rebase_all start (locks.try_code monitor link)) }
 {
     append_plain(
         code,
@@ -226,7 +226,7 @@ fn enter_from(
 ) -> Result<(), AllocError>
     requires { (link < 2 ^ 16) × (start ≤ 2 ^ 17) }
     ensures { OnOk result (code.new.items
-        ≡ code.old.items ++ placed start (locks.enter_code monitor link (locks.recovery recover))) }
+        ≡ code.old.items ++ rebase_all start (locks.enter_code monitor link (locks.recovery recover))) }
 {
     try_lock(code, monitor, link, start)?;
     take_from(code, Mark::Enter(monitor), link, start, 11)?;
@@ -242,7 +242,8 @@ pub fn enter(
 ) -> Result<(), AllocError>
     requires { (link < 2 ^ 16) × (length code.old.items ≤ 2 ^ 17) }
     ensures { OnOk result (code.new.items
-        ≡ code.old.items ++ placed (length code.old.items) (locks.enter_code monitor link (locks.recovery recover))) }
+        ≡ code.old.items ++ rebase_all (length code.old.items)
+        (locks.enter_code monitor link (locks.recovery recover))) }
 {
     let start = code.len() as u32;
     enter_from(code, monitor, link, recover, start)
@@ -252,7 +253,7 @@ pub fn enter(
 pub fn exit(code: &mut Vec<Marked>, monitor: u32, link: u32) -> Result<(), AllocError>
     requires { (link < 2 ^ 16) × (length code.old.items ≤ 2 ^ 17) }
     ensures { OnOk result (code.new.items
-        ≡ code.old.items ++ placed (length code.old.items) (locks.exit_code monitor link)) }
+        ≡ code.old.items ++ rebase_all (length code.old.items) (locks.exit_code monitor link)) }
 {
     let start = code.len() as u32;
     leave_from(code, Mark::Exit(monitor), link, start, 0)?;

@@ -20,7 +20,7 @@ use Rattle.robustexit.specs.declared.phase.ExitPhase.TheVariants.{Entry, Pending
 use Rattle.robustexit.specs.Phases.{next_entry}
 use Rattle.robustexit.specs.RobustExit.{Shared, IsEntry, IsIdle, Abandons, WakesOne, EntryStep, PendingStep}
 use Rattle.robustexit.specs.RobustExit.{ExitStep, IsPending, IsForeign, IsOwned, NoEntry, put}
-use Rattle.robustexit.specs.Fronts.{shared, wake_word, TakesFront}
+use Rattle.robustexit.specs.Fronts.{shared_view, wake_word, TakesFront}
 use Rattle.robustexit.proofs.Steps.{word_of-set}
 use Rattle.machine.specs.ThreadSets.{IsThread}
 use Rattle.machine.specs.declared.event.EventName.TheVariants as name
@@ -67,7 +67,7 @@ stays_list s s' a woken takes none =
     no_list s s' a (takes.rest ∙ ap (λ xs. drop (length xs) (queue s a)) none) takes.others
 
 idle_is : (ws ws' : List ℕ) (s s' : Sleepers) (o : List ℤ) (a : ℕ) (woken : List ℕ)
-    → IsIdle (shared ws s) woken (shared ws' s') → TakesFront s s' a woken → length ws' ≡ length ws
+    → IsIdle (shared_view ws s) woken (shared_view ws' s') → TakesFront s s' a woken → length ws' ≡ length ws
     → common_of ws' s' o ≡ common_of ws s o
 idle_is ws ws' s s' o a woken idle takes long =
     let words : ws' ≡ ws = same_words ws ws' long (ap (λ (x : Shared). x.word) idle.same) in
@@ -84,7 +84,8 @@ record Marks (ws ws' : List ℕ) (s s' : Sleepers) (o : List ℤ) (l : ℕ) (wok
   pub woke : abandon_wakes (common_of ws s o) l ≡ woken
 
 marks_if : (ws ws' : List ℕ) (s s' : Sleepers) (o : List ℤ) (t l : ℕ) (woken : List ℕ)
-    → Agree (queue s) (place_of s) → Abandons t l (shared ws s) woken (shared ws' s') → TakesFront s s' l woken
+    → Agree (queue s) (place_of s) → Abandons t l (shared_view ws s) woken (shared_view ws' s')
+    → TakesFront s s' l woken
     → length ws' ≡ length ws → l < length ws
     → (w : Bool) → waiters_of (word_of ws l) ≡ w → Marks ws ws' s s' o l woken
 marks_if ws ws' s s' o t l woken ok gone takes long inside true is =
@@ -114,7 +115,8 @@ marks_if ws ws' s s' o t l woken ok gone takes long inside false is =
     }
 
 marks : (ws ws' : List ℕ) (s s' : Sleepers) (o : List ℤ) (t l : ℕ) (woken : List ℕ)
-    → Agree (queue s) (place_of s) → Abandons t l (shared ws s) woken (shared ws' s') → TakesFront s s' l woken
+    → Agree (queue s) (place_of s) → Abandons t l (shared_view ws s) woken (shared_view ws' s')
+    → TakesFront s s' l woken
     → length ws' ≡ length ws → l < length ws
     → Marks ws ws' s s' o l woken
 marks ws ws' s s' o t l woken ok gone takes long inside =
@@ -125,7 +127,7 @@ record WakesFront (ws ws' : List ℕ) (s s' : Sleepers) (o : List ℤ) (a : ℕ)
   pub woke : front (common_of ws s o) a 1 ≡ woken
 
 one_woken : (ws ws' : List ℕ) (s s' : Sleepers) (o : List ℤ) (a : ℕ) (woken : List ℕ)
-    → Agree (queue s) (place_of s) → WakesOne a (shared ws s) woken (shared ws' s') → TakesFront s s' a woken
+    → Agree (queue s) (place_of s) → WakesOne a (shared_view ws s) woken (shared_view ws' s') → TakesFront s s' a woken
     → length ws' ≡ length ws → WakesFront ws ws' s s' o a woken
 one_woken ws ws' s s' o a woken ok wakes takes long =
     let words : ws' ≡ ws = same_words ws ws' long wakes.same in
@@ -145,7 +147,7 @@ left ws' s' o phase next value woken =
     record { common = common_of ws' s' o; next = next; event = event_of (name_at phase) value woken [] }
 
 at_entry : (ws ws' : List ℕ) (s s' : Sleepers) (o : List ℤ) (t e seen : ℕ) (next : ExitPhase) (woken : List ℕ)
-    → Agree (queue s) (place_of s) → EntryStep (length ws) t e (shared ws s) woken (shared ws' s')
+    → Agree (queue s) (place_of s) → EntryStep (length ws) t e (shared_view ws s) woken (shared_view ws' s')
     → TakesFront s s' (e + 1) woken → length ws' ≡ length ws
     → IsEntry (length ws) e → next ≡ next_entry (word_of ws e) (seen + 1)
     → leave_entry t e seen (common_of ws s o) ≡ left ws' s' o (Entry (record { 0 = e }) seen) next e woken
@@ -173,7 +175,7 @@ at_entry ws ws' s s' o t e seen next woken ok (IsOwned apart gone) takes long en
     ∙ (λ i. record { common = m.common i; next = sym goes i; event = event_of name.Entry e (m.woke i) [] })
 
 at_pending : (ws ws' : List ℕ) (s s' : Sleepers) (o : List ℤ) (t e : ℕ) (woken : List ℕ)
-    → Agree (queue s) (place_of s) → PendingStep (length ws) t e (shared ws s) woken (shared ws' s')
+    → Agree (queue s) (place_of s) → PendingStep (length ws) t e (shared_view ws s) woken (shared_view ws' s')
     → TakesFront s s' (e + 1) woken → length ws' ≡ length ws
     → leave_pending t e (common_of ws s o) ≡ left ws' s' o Pending ClearId e woken
 at_pending ws ws' s s' o t e woken ok (NoEntry out idle) takes long =
@@ -200,7 +202,7 @@ value_of t phase ws woken = value_at t phase ws
 
 pub left_is : (ws ws' : List ℕ) (s s' : Sleepers) (o : List ℤ) (t : ℕ) (phase next : ExitPhase) (woken : List ℕ)
     → Agree (queue s) (place_of s) → process_word t 5 < length ws
-    → ExitStep (length ws) t phase (shared ws s) woken (shared ws' s') next
+    → ExitStep (length ws) t phase (shared_view ws s) woken (shared_view ws' s') next
     → TakesFront s s' (wake_word t phase (word_of ws)) woken → length ws' ≡ length ws
     → leave t phase (common_of ws s o) ≡ left ws' s' o phase next (value_of t phase ws woken) woken
 left_is ws ws' s s' o t (Entry e seen) next woken ok block (inl r) takes long =

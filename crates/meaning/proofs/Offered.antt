@@ -15,7 +15,7 @@ use Rattle.meaning.specs.Processes.{Frame, Caller, Process, Entering, Before, Su
 use Rattle.meaning.specs.Processes.{Dying, Leaving, Over}
 use Rattle.meaning.specs.Offers.{Effect, Makes, Offer, Rests, Does, Takes, MakesOne, ClaimsOne, JoinsOne}
 use Rattle.meaning.specs.Offers.{NotifiesSome, NotifiesAll, with_value, with_values, with_index, answers, claims}
-use Rattle.meaning.specs.Offers.{assigns, returned, statement_offer, rest_offer, offer, TakesUp}
+use Rattle.meaning.specs.Offers.{assigns, return_value, statement_offer, rest_offer, offer, TakesUp}
 
 -- an action of a process's own is no stray wake-up and no kill
 abbrev pub IsOwn : Kind → Type 0
@@ -80,7 +80,7 @@ plain_statement p v f callers (Fork q es into) = plain_values (evaluate_all p v 
 plain_statement p v f callers (Join e into part) =
     plain_value (evaluate p v f.locals e) f callers _ (λ z. plain_claims z into part f callers)
 plain_statement p v f callers (Return value) =
-    plain_value (returned p v f value) f callers _ (λ z. plain_answers f.role z callers)
+    plain_value (return_value p v f value) f callers _ (λ z. plain_answers f.role z callers)
 plain_statement p v f callers (Wait c) = (tt, tt)
 plain_statement p v f callers (Notify c) = tt
 plain_statement p v f callers (Broadcast c) = tt

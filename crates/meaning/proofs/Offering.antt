@@ -22,8 +22,8 @@ use Rattle.meaning.specs.Processes.{Dying, Leaving, Over, goes_on, goes_on_by, b
 use Rattle.meaning.specs.Processes.{recovers_by, with_local, with_result, hands_over, callers_monitors, all_monitors}
 use Rattle.meaning.specs.Processes.{monitor_of_role, holds, without_monitor}
 use Rattle.meaning.specs.Offers.{Effect, Nothing, Puts, Writes, Offer, with_value, with_values, with_index, faults}
-use Rattle.meaning.specs.Offers.{dies, answers, chosen, joined, claims, assigns, returned, statement_offer}
-use Rattle.meaning.specs.Offers.{rest_offer, offer}
+use Rattle.meaning.specs.Offers.{dies, answers, chosen_block, after_join, claims, assigns, return_value}
+use Rattle.meaning.specs.Offers.{statement_offer, rest_offer, offer}
 use Rattle.meaning.proofs.Members.{IsIn, IsDistinct, in_without, in_with}
 use Rattle.meaning.proofs.Discipline.{RestFits, StandsOn, CallersFit, StackFits, PartLeads, ProcessFits, Keeps, Given}
 use Rattle.meaning.proofs.Discipline.{Moves, EffectFits, IsSilent, ActFits, TakesFits, OfferFits}
@@ -36,7 +36,7 @@ part_block : (s : Scope) (part : Part) → PartFits s part → BlockFits s (bloc
 part_block s NoPart fits = tt
 part_block s (SomePart b) fits = fits
 
-either : (s : Scope) (t : Bool) (b c : Block) → BlockFits s b → BlockFits s c → BlockFits s (chosen t b c)
+either : (s : Scope) (t : Bool) (b c : Block) → BlockFits s b → BlockFits s c → BlockFits s (chosen_block t b c)
 either s true b c x y = x
 either s false b c x y = y
 
@@ -324,13 +324,13 @@ module _ (p : Program) (wf : WellFormed p) (v : Variables) (s : Scope) (of : s.p
   fitting_statement (If e b part) is =
       valued p (evaluate p v f.locals e) f cs _ distinct (λ z.
       alone p (all_monitors f cs) L.Test tt Nothing _ tt
-      (goes_to (followed_by (chosen (is_true z) b (block_of_part part)) f.rest)
-      (follow s (chosen (is_true z) b (block_of_part part)) f.rest
+      (goes_to (followed_by (chosen_block (is_true z) b (block_of_part part)) f.rest)
+      (follow s (chosen_block (is_true z) b (block_of_part part)) f.rest
       (either s (is_true z) b (block_of_part part) is.1 (part_block s part is.2)) rest)))
   fitting_statement (While e b) is =
       valued p (evaluate p v f.locals e) f cs _ distinct (λ z.
       alone p (all_monitors f cs) L.Test tt Nothing _ tt
-      (goes_to (chosen (is_true z) (followed_by b (Then (While e b) f.rest)) f.rest)
+      (goes_to (chosen_block (is_true z) (followed_by b (Then (While e b) f.rest)) f.rest)
       (either s (is_true z) (followed_by b (Then (While e b) f.rest)) f.rest
       (follow s b (Then (While e b) f.rest) is.1 (is, rest)) rest)))
   fitting_statement (Call q es into) is =
@@ -342,7 +342,7 @@ module _ (p : Program) (wf : WellFormed p) (v : Variables) (s : Scope) (of : s.p
   fitting_statement (Join e into part) is =
       valued p (evaluate p v f.locals e) f cs _ distinct (λ z. claimed z into part is.3)
   fitting_statement (Return value) is =
-      valued p (returned p v f value) f cs _ distinct (λ z. answered p f.role z cs fits distinct)
+      valued p (return_value p v f value) f cs _ distinct (λ z. answered p f.role z cs fits distinct)
   fitting_statement (Wait c) is = suspended c is.1.0
   fitting_statement (Notify c) is = (held c.monitor is.0, goes)
   fitting_statement (Broadcast c) is = (held c.monitor is.0, goes)
@@ -410,7 +410,7 @@ module _ (p : Program) (wf : WellFormed p) (v : Variables) where
       same b keeps = (keeps.0, keeps.1 ∙ list)
 
   joining : (into : Option ℕ) (part : Part) (f : Frame) (cs : List Caller) → PartLeads p f part → StackFits p f cs
-      → IsDistinct (all_monitors f cs) → (end : End) → Keeps p (all_monitors f cs) (joined into part f cs end)
+      → IsDistinct (all_monitors f cs) → (end : End) → Keeps p (all_monitors f cs) (after_join into part f cs end)
   joining into part f cs leads fit distinct (Ended z) = with_result_on p into z f cs fit distinct
   joining into NoPart f cs leads fit distinct (Aborted cause) = (distinct, refl)
   joining into (SomePart b) f cs leads fit distinct (Aborted cause) =

@@ -9,8 +9,9 @@ use Rattle.meaning.specs.Processes.{Process, Entering, Before, Suspended, Joinin
 use Rattle.meaning.specs.Processes.{Over, goes_on, recovers, hands_over}
 pub use Rattle.meaning.specs.Offering.{Effect, Nothing, Puts, Writes, Makes, Offer, Rests, Does, Takes, MakesOne}
 pub use Rattle.meaning.specs.Offering.{ClaimsOne, JoinsOne, NotifiesSome, NotifiesAll}
-pub use Rattle.meaning.specs.Statements.{dies, faults, with_value, with_values, with_index, answers, chosen}
-pub use Rattle.meaning.specs.Statements.{joined_part, joined, claims, assigns, returned, statement_offer, rest_offer}
+pub use Rattle.meaning.specs.Statements.{dies, faults, with_value, with_values, with_index, answers, chosen_block}
+pub use Rattle.meaning.specs.Statements.{joined_part, after_join, claims, assigns, return_value, statement_offer}
+pub use Rattle.meaning.specs.Statements.{rest_offer}
 
 -- what a process offers to do next
 abbrev pub offer : Program → Variables → Process → Offer
@@ -18,7 +19,7 @@ offer p v (Entering m f callers) = Takes (Enters m) (goes_on (Some m) f callers)
 offer p v (Before entered f callers) = rest_offer p v f callers f.rest
 offer p v (Suspended c f callers) = Takes (Resumes c.monitor) (goes_on (Some c.monitor) f callers)
     (recovers p c.monitor f callers)
-offer p v (Joining child into part f callers) = JoinsOne child (joined into part f callers)
+offer p v (Joining child into part f callers) = JoinsOne child (after_join into part f callers)
 offer p v (Returning z callers) = Does (Alone L.Return) Nothing (hands_over z callers)
 offer p v (Failing fault entered f callers) = faults fault f callers
 offer p v (Dying cause []) = Does (Ends (Aborted cause)) Nothing (Over (Aborted cause))

@@ -50,18 +50,18 @@ answers External z callers = Does (Alone L.Return) Nothing (hands_over z callers
 answers (Recover m) z callers = Rests
 answers Main z callers = Rests
 
-abbrev pub chosen : Bool → Block → Block → Block
-chosen true b c = b
-chosen false b c = c
+abbrev pub chosen_block : Bool → Block → Block → Block
+chosen_block true b c = b
+chosen_block false b c = c
 
 -- what comes of a JOIN: the result, or the ABORTED part, or a fault where there is none
 abbrev pub joined_part : Part → Frame → List Caller → Process
 joined_part NoPart f callers = Failing JoinedAborted None f callers
 joined_part (SomePart b) f callers = goes_on None (record f { rest = followed_by b f.rest }) callers
 
-abbrev pub joined : Option ℕ → Part → Frame → List Caller → End → Process
-joined into part f callers (Ended z) = goes_on None (with_result into z f) callers
-joined into part f callers (Aborted cause) = joined_part part f callers
+abbrev pub after_join : Option ℕ → Part → Frame → List Caller → End → Process
+after_join into part f callers (Ended z) = goes_on None (with_result into z f) callers
+after_join into part f callers (Aborted cause) = joined_part part f callers
 
 -- a handle that is empty can't be claimed
 abbrev pub claims : ℤ → Option ℕ → Part → Frame → List Caller → Offer
@@ -83,9 +83,9 @@ assigns p v f callers (ToElement a i) e =
     (goes_on None f callers))))
 
 -- the value of a RETURN: a RETURN without an expression, and a body that ends without one, answer 0 or FALSE
-abbrev pub returned : Program → Variables → Frame → Option Expression → Evaluated
-returned p v f None = Value (pos 0)
-returned p v f (Some e) = evaluate p v f.locals e
+abbrev pub return_value : Program → Variables → Frame → Option Expression → Evaluated
+return_value p v f None = Value (pos 0)
+return_value p v f (Some e) = evaluate p v f.locals e
 
 -- the next statement, in a frame that has what comes after it as its rest
 abbrev pub statement_offer : Program → Variables → Frame → List Caller → Statement → Offer
@@ -94,12 +94,12 @@ statement_offer p v f callers (If e b part) =
     with_value (evaluate p v f.locals e) f callers (λ z.
     Does (Alone L.Test) Nothing (goes_on None (record f {
       rest = followed_by
-          (chosen (is_true z) b (block_of_part part)) f.rest;
+          (chosen_block (is_true z) b (block_of_part part)) f.rest;
     }) callers))
 statement_offer p v f callers (While e b) =
     with_value (evaluate p v f.locals e) f callers (λ z.
     Does (Alone L.Test) Nothing (goes_on None (record f {
-      rest = chosen (is_true z)
+      rest = chosen_block (is_true z)
           (followed_by b (Then (While e b) f.rest)) f.rest;
     }) callers))
 statement_offer p v f callers (Call q es into) =
@@ -111,7 +111,7 @@ statement_offer p v f callers (Fork q es into) =
     (dies ProcessTableFull f callers))
 statement_offer p v f callers (Join e into part) = with_value (evaluate p v f.locals e) f callers
     (λ z. claims z into part f callers)
-statement_offer p v f callers (Return value) = with_value (returned p v f value) f callers
+statement_offer p v f callers (Return value) = with_value (return_value p v f value) f callers
     (λ z. answers f.role z callers)
 statement_offer p v f callers (Wait c) = Does (Waits c) Nothing (Suspended c f callers)
 statement_offer p v f callers (Notify c) = NotifiesSome c (goes_on None f callers)

@@ -44,8 +44,8 @@ is_integer (negsuc n) = nat_lt n 2147483648
 abbrev pub integer : ℤ → Evaluated
 integer z = if is_integer z then Value z else Fails ResultOutOfRange
 
-abbrev pub divided : ℤ → ℤ → Evaluated → Evaluated
-divided a b quotient = if is_true b then quotient else Fails DivisionByZero
+abbrev pub quotient_or_fault : ℤ → ℤ → Evaluated → Evaluated
+quotient_or_fault a b quotient = if is_true b then quotient else Fails DivisionByZero
 
 abbrev pub unary : UnaryOperator → ℤ → Evaluated
 unary Negate a = integer (neg_ℤ a)
@@ -56,8 +56,8 @@ abbrev pub both : Operator → ℤ → ℤ → Evaluated
 both Add a b = integer (a +ℤ b)
 both Subtract a b = integer (a -ℤ b)
 both Multiply a b = integer (a *ℤ b)
-both Divide a b = divided a b (integer (int_div a b))
-both Modulo a b = divided a b (Value (int_rem a b))
+both Divide a b = quotient_or_fault a b (integer (int_div a b))
+both Modulo a b = quotient_or_fault a b (Value (int_rem a b))
 both Equal a b = Value (truth (int_eq a b))
 both NotEqual a b = Value (truth (not (int_eq a b)))
 both Less a b = Value (truth (int_lt a b))

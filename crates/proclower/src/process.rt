@@ -1,6 +1,6 @@
 ghost use Rattle.std.specs.Prelude.{◌≡◌, ◌<◌, ◌≤◌, ◌+◌, ◌^◌, [], ◌∷◌, ◌++◌, OnOk, length};
 ghost use Rattle.isa.specs.declared.instr.Instr.TheVariants.{Raise as RaiseOf};
-ghost use Rattle.code.specs.Marks.{plain, placed};
+ghost use Rattle.code.specs.Marks.{plain, rebase_all};
 ghost use Rattle.code.specs.Processes as processes;
 
 use code::{Mark, Marked, append, append_plain};
@@ -62,7 +62,7 @@ pub fn call(
 // The first part of `join`, at this place: the claim, and the sleep up to the end.
 fn await_end(code: &mut Vec<Marked>, start: u32) -> Result<(), AllocError>
     requires { start ≤ 2 ^ 17 }
-    ensures { OnOk result (code.new.items ≡ code.old.items ++ placed start processes.await_code) }
+    ensures { OnOk result (code.new.items ≡ code.old.items ++ rebase_all start processes.await_code) }
 {
     let id = Instr::ProcessAddress(ProcessWord::Id);
     let claim = Instr::ProcessAddress(ProcessWord::Claim);
@@ -106,7 +106,7 @@ fn await_end(code: &mut Vec<Marked>, start: u32) -> Result<(), AllocError>
 fn take_result(code: &mut Vec<Marked>, into: Option<u32>, start: u32) -> Result<(), AllocError>
     requires { start ≤ 2 ^ 17 }
     ensures { OnOk result (code.new.items ≡ code.old.items
-        ++ (placed start processes.ended_code ++ plain (processes.into_code into) ∷ [])) }
+        ++ (rebase_all start processes.ended_code ++ plain (processes.into_code into) ∷ [])) }
 {
     append_plain(
         code,
@@ -128,7 +128,7 @@ fn take_result(code: &mut Vec<Marked>, into: Option<u32>, start: u32) -> Result<
 // The same as `join`, at this place.
 fn join_from(code: &mut Vec<Marked>, into: Option<u32>, start: u32) -> Result<(), AllocError>
     requires { start ≤ 2 ^ 17 }
-    ensures { OnOk result (code.new.items ≡ code.old.items ++ placed start (processes.join_code into)) }
+    ensures { OnOk result (code.new.items ≡ code.old.items ++ rebase_all start (processes.join_code into)) }
 {
     await_end(code, start)?;
     take_result(code, into, start)
@@ -139,7 +139,7 @@ fn join_from(code: &mut Vec<Marked>, into: Option<u32>, start: u32) -> Result<()
 pub fn join(code: &mut Vec<Marked>, into: Option<u32>) -> Result<(), AllocError>
     requires { length code.old.items ≤ 2 ^ 17 }
     ensures { OnOk result (code.new.items ≡ code.old.items
-        ++ placed (length code.old.items) (processes.join_code into)) }
+        ++ rebase_all (length code.old.items) (processes.join_code into)) }
 {
     let start = code.len() as u32;
     join_from(code, into, start)

@@ -44,7 +44,7 @@ use Rattle.product.specs.Placing.{StepsSo, Places, nothing, waits, acts}
 use Rattle.product.specs.Standing.{StandsAt, works, IsAtWork, Holds}
 use Rattle.product.specs.Ranks.{steps_left, before_template}
 use Rattle.product.specs.Corresponding.{Corresponds, IsBefore, Reached}
-use Rattle.product.proofs.Sourcing.{action, acted}
+use Rattle.product.proofs.Sourcing.{action, state_after}
 use Rattle.product.proofs.Standings.{first_in}
 use Rattle.product.proofs.Worlds.{reached_on, reached_good, shares_at}
 use Rattle.product.proofs.Moving.{Puts, put_puts, same_puts, HasNow, Next, moved}
@@ -226,13 +226,13 @@ module _ (p : Program) (w : WellFormed p) (steps : ℕ) (s : State) (c : SourceS
         → ((m : ℕ) → VariablesFit k.world.made p m (variables_after effect c.variable))
         → ((u m : ℕ) → u ≢ t → HasNow k.world u m → (i j : ℕ)
         → c.variable m i j ≡ variables_after effect c.variable m i j)
-        → Places p (with_thread mid t y) t c (acted c t effect r c.table) done late (stages k.world t) Works
+        → Places p (with_thread mid t y) t c (state_after c t effect r c.table) done late (stages k.world t) Works
         (kind_of label ∷ [])
         → s' ≡ with_thread mid t y → Next p w steps s' t done late pauses n c (stages k.world)
     does mid label effect y r takes alone mine others kept stands size made thread output shares variables fit same
         places
         e =
-        let c' = acted c t effect r c.table in
+        let c' = state_after c t effect r c.table in
         let stand = works_on p w k.world.made c'.variable t y y r fit
         (record { count = 0; few = omega arith; walk = stays }) stands in
         let l = holds r in

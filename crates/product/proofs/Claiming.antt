@@ -40,7 +40,7 @@ use Rattle.product.specs.Standing.{StandsAt, IsAtWork, reads, faults}
 use Rattle.product.specs.Serving.{Keeps}
 use Rattle.product.specs.Corresponding.{Reached, IsBefore, Corresponds}
 use Rattle.product.proofs.Moving.{Puts, put_puts, Next, moved}
-use Rattle.product.proofs.Sourcing.{action, acted}
+use Rattle.product.proofs.Sourcing.{action, state_after}
 use Rattle.product.proofs.Deferred.{may_wait}
 use Rattle.product.proofs.Worlds.{reached_on, reached_good, shares_at, shares_stored}
 use Rattle.product.specs.Waiting.{stages, stage_of}
@@ -66,13 +66,13 @@ module _ (p : Program) (w : WellFormed p) (steps : ℕ) (s : State) (c : SourceS
       → IsOwn (kind_of label) → l ≡ holds q → StandsAt b c.variable t (Some y) (Some r) pt l
       → Shares (place p) (valid p) (shared_of mid) w2 → Keeps p s mid → w2.made ≡ k.world.made
       → w2.at ≡ k.world.at → w2.result ≡ k.world.result → w2.sequence ≡ k.world.sequence
-      → Places p (with_thread mid t y) t c (acted c t Nothing r (table_after k.world c.table t move)) done late
+      → Places p (with_thread mid t y) t c (state_after c t Nothing r (table_after k.world c.table t move)) done late
       (stages k.world t) (stage_of pt) (kind_of label ∷ [])
       → s' ≡ with_thread mid t y → Next p w steps s' t done late pauses n c (stages k.world)
   starts move label mid w2 y r pt l can comes carries takes own has stands shares keeps made at result sequence places
       same =
       let T = table_after k.world c.table t move in
-      let c' = acted c t Nothing r T in
+      let c' = state_after c t Nothing r T in
       let w' = go_list w2 t pt l in
       let listed : (k.world.at t).list ≡ l = list ∙ sym has in
       let is : after k.world t move ≡ w' =

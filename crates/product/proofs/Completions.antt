@@ -24,12 +24,12 @@ use Rattle.protocol.specs.Cells.{Cell, LockOf, LinkOf, HeadOf, PendingOf, IdOf, 
 use Rattle.protocol.specs.Cells.{SequenceOf}
 use Rattle.protocol.specs.Requests.{request}
 use Rattle.protocol.specs.Answers.{next}
-use Rattle.protocol.specs.Served.{MayAnswer, carried}
+use Rattle.protocol.specs.Served.{MayAnswer, source_event}
 use Rattle.protocol.proofs.Roles.{Listed, Knows}
 use Rattle.protocol.proofs.Good.{Good}
 use Rattle.execution.specs.Variables.{IsVariable, variable_address}
 use Rattle.templates.specs.Layout.{place, valid}
-use Rattle.templates.specs.Asking.{asked, told}
+use Rattle.templates.specs.Asking.{machine_request, machine_answer}
 use Rattle.templates.proofs.Addresses.{variable_apart}
 use Rattle.templates.proofs.Layouts.{apart, number_is, is_number, monitor_valid, monitor_below}
 use Rattle.product.specs.Placing.{StepsSo, any_below, is_process_word, is_link_word, is_lock_word, completes}
@@ -98,7 +98,7 @@ LateOf mark None r = None
 LateOf mark (Some q) r = later_request mark q r
 
 none_late : (p : Program) (mark : Option Mark) (t : ℕ) (pt : Point) (r : ℕ) → stage_of pt ≡ Works
-    → LateOf mark (asked p (request t pt)) r ≡ None
+    → LateOf mark (machine_request p (request t pt)) r ≡ None
 none_late p mark t (Dies cause x) r h = absurd cc
 none_late p mark t (LeaveSwaps m ToExit) r h = refl
 none_late p mark t (LeaveSwaps m (ToWait c s)) r h = refl
@@ -107,7 +107,7 @@ none_late p mark t (HasLeft m (ToWait c s)) r h = refl
 none_late p mark t pt r h = refl
 
 pub point_late : (p : Program) (mark : Option Mark) (t : ℕ) (pt : Point) (r : ℕ) (asks : Request)
-    → stage_of pt ≡ Works → asked p (request t pt) ≡ Some asks → later_request mark asks r ≡ None
+    → stage_of pt ≡ Works → machine_request p (request t pt) ≡ Some asks → later_request mark asks r ≡ None
 point_late p mark t pt r asks h same =
     sym (ap (λ (o : Option Request). LateOf mark o r) same) ∙ none_late p mark t pt r h
 
@@ -207,10 +207,10 @@ module _ (p : Program) where
 
   abbrev Shown : ℕ → Point → ℕ → Option Request → Bool
   Shown t pt r None = false
-  Shown t pt r (Some q) = completes p q (told p (request t pt) r)
+  Shown t pt r (Some q) = completes p q (machine_answer p (request t pt) r)
 
   abbrev Fine : World → Table → ℕ → Point → ℕ → World → End → Type 0
-  Fine w T t pt r w' e = Shown t pt r (asked p (request t pt)) ≡ is_some (carried w T t pt r w' e)
+  Fine w T t pt r w' e = Shown t pt r (machine_request p (request t pt)) ≡ is_some (source_event w T t pt r w' e)
 
   either : {A : Type 0} (b : Bool) (x : A) → b ≡ is_some (if b then Some x else None)
   either true x = refl
@@ -243,7 +243,7 @@ module _ (p : Program) where
 
   pub points : (w : World) (T : Table) (t : ℕ) (pt : Point) (r : ℕ) (w' : World) (e : End) (l : List ℕ)
       → valid p (IdOf t) ≡ true → Listed pt l → MayAnswer pt r → IsAskable p (request t pt) → (asks : Request)
-      → asked p (request t pt) ≡ Some asks → Fine w T t pt r w' e
+      → machine_request p (request t pt) ≡ Some asks → Fine w T t pt r w' e
   points w T t (EnterPends m) r w' e l mine listed may ok asks same = rw (is_word 1 t mine) (second_no _ _)
   points w T t (EnterTries m) r w' e l mine listed may ok asks same =
       both_yes (r == 0) (owner 0 == 0) (eq-eqb (owner 0) 0 nobody) ∙ either (r == 0) _
@@ -283,7 +283,7 @@ module _ (p : Program) where
   -- the answer of the machine to what a point asks
   pub point_completes : (w : World) (T : Table) (t : ℕ) (pt : Point) (r : ℕ) (w' : World) (e : End) (l : List ℕ)
       (asks : Request) → valid p (IdOf t) ≡ true → Listed pt l → MayAnswer pt r → IsAskable p (request t pt)
-      → asked p (request t pt) ≡ Some asks
-      → completes p asks (told p (request t pt) r) ≡ is_some (carried w T t pt r w' e)
+      → machine_request p (request t pt) ≡ Some asks
+      → completes p asks (machine_answer p (request t pt) r) ≡ is_some (source_event w T t pt r w' e)
   point_completes w T t pt r w' e l asks mine listed may ok same =
       sym (ap (λ (o : Option Request). Shown t pt r o) same) ∙ points w T t pt r w' e l mine listed may ok asks same

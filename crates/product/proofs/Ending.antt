@@ -49,7 +49,7 @@ use Rattle.product.specs.Ranks.{steps_left}
 use Rattle.product.specs.Corresponding.{Reached, IsBefore, Corresponds}
 use Rattle.product.proofs.ExitServing.{running_chain, dying_chain, first_phase, first_short}
 use Rattle.product.proofs.Moving.{Puts, put_puts, same_puts, AreOwn, IsSome, Next, moved}
-use Rattle.product.proofs.Sourcing.{act, action, acted}
+use Rattle.product.proofs.Sourcing.{act, action, state_after}
 use Rattle.product.proofs.Deferred.{may_wait}
 use Rattle.product.proofs.Worlds.{reached_on, reached_good, shares_at, shares_stored, shares_result, put_put}
 use Rattle.product.specs.Waiting.{stages, stage_of}
@@ -358,7 +358,7 @@ module _ (p : Program) (w : WellFormed p) (steps : ℕ) (s : State) (c : SourceS
         (ap (λ (i : Place). i.point) (put_same k.world.at t z))
         (ap (λ (i : Place). i.list) (put_same k.world.at t z)) (λ y. put_put k.world.at t z y)
         (running_chain k.world c.table t inv point) (put_puts c.process t (Some r)) (tt, tt) (
-          acted c t Nothing r c.table,
+          state_after c t Nothing r c.table,
           action p c t q r (Alone (L.Fails fault)) Nothing c.table proc
               (takes_up (Alone (L.Fails fault)) r o') (permitted k.world c.table t move inv can).0,
           refl,
@@ -388,7 +388,7 @@ module _ (p : Program) (w : WellFormed p) (steps : ℕ) (s : State) (c : SourceS
         (ap (λ (i : Place). i.point) (put_same k.world.at t z))
         (ap (λ (i : Place). i.list) (put_same k.world.at t z)) (λ y. put_put k.world.at t z y) point
         (put_puts c.process t (Some after')) (tt, tt) (
-          acted c t Nothing after' c.table,
+          state_after c t Nothing after' c.table,
           action p c t q after' (Alone L.Return) Nothing c.table proc takes
               (permitted k.world c.table t move inv can).0,
           refl,

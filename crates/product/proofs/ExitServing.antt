@@ -40,7 +40,7 @@ use Rattle.protocol.proofs.Roles.{Knows}
 use Rattle.protocol.proofs.Sleeps.{put_other}
 use Rattle.execution.specs.Variables.{IsVariable, variable_address}
 use Rattle.templates.specs.Layout.{place, valid}
-use Rattle.templates.specs.Asking.{told}
+use Rattle.templates.specs.Asking.{machine_answer}
 use Rattle.templates.proofs.Layouts.{is_layout, number_is, monitor_valid}
 use Rattle.templates.proofs.Addresses.{variable_apart}
 use Rattle.product.specs.Standing.{entries_seen}
@@ -117,7 +117,7 @@ serves_exit w t (ClearsId end) w' is h = (refl, h)
 serves_exit w t (LastWakes end) w' is h = (refl, h)
 serves_exit w t pt w' is h = absurd is
 
-told_exit : (p : Program) (t : ℕ) (pt : Point) → IsExit pt → 0 ≡ told p (request t pt) 0
+told_exit : (p : Program) (t : ℕ) (pt : Point) → IsExit pt → 0 ≡ machine_answer p (request t pt) 0
 told_exit p t (Walks e NoEntry end) is = refl
 told_exit p t (ClearsId end) is = refl
 told_exit p t (LastWakes end) is = refl

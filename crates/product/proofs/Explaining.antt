@@ -17,7 +17,7 @@ use Rattle.execution.specs.Later.{mark_of, later_step}
 use Rattle.product.specs.Corresponding.{Corresponds}
 use Rattle.product.specs.Explaining.{explanation, IsDue, IsReached}
 use Rattle.deferral.specs.Deferring.{IsBehind}
-use Rattle.product.specs.Next.{after_next, named, next_heard, offered, paid, quiet_next}
+use Rattle.product.specs.Next.{after_next, next_kinds, next_heard, offer_of_process, take_waiting, quiet_next}
 use Rattle.product.specs.Placing.{act}
 use Rattle.product.specs.Progress.{answer_in, heard_step, Progress, progress, progress_by, progress_step}
 use Rattle.product.specs.Progress.{progress_taken}
@@ -57,13 +57,13 @@ goes_on_by p g (x ∷ ls) s mid run l s' st =
 module _ (p : Program) (w : WellFormed p) where
   -- all that waits of a process is taken
   pay_all : (steps : ℕ) (s : State) (t : ℕ) (ks : List Kind) (a : SourceState) (o : Owes p w steps s t a ks)
-      → Leads p a (actions_of t ks) (paid p t ks a)
-      × ((n : Owes p w steps s t (paid p t ks a) []) × (n.waiting ≡ put o.waiting t []))
+      → Leads p a (actions_of t ks) (take_waiting p t ks a)
+      × ((n : Owes p w steps s t (take_waiting p t ks a) []) × (n.waiting ≡ put o.waiting t []))
   pay_all steps s t [] a o = (refl, (o, put_again o.waiting t [] o.mine))
   pay_all steps s t (k ∷ ks) a o =
       let pays = pays_waiting p w steps s t a k ks o in
       let step = (pays_behind p t o.waiting a o.now k ks o.behind o.mine).4 in
-      let there = after_next t (quiet_next (offered p a.variable (a.process t))) a in
+      let there = after_next t (quiet_next (offer_of_process p a.variable (a.process t))) a in
       let next = pays.4 there step in
       let more = pay_all steps s t ks there next.0 in (
         (there, step, more.0),
@@ -113,7 +113,7 @@ module _ (p : Program) (w : WellFormed p) where
     due e =
         let o = owes e in
         let paying = pay_all (suc taken) s' t (g.waiting t) g.source o.0 in
-        let last = settles_waiting p w (suc taken) s' t (paid p t (g.waiting t) g.source) paying.1.0 in
+        let last = settles_waiting p w (suc taken) s' t (take_waiting p t (g.waiting t) g.source) paying.1.0 in
         record {
           ahead = o.0.now;
           behind = subst (λ (f : ℕ → List Kind). IsBehind p f g.source o.0.now) o.1 o.0.behind;
@@ -141,7 +141,7 @@ module _ (p : Program) (w : WellFormed p) where
         let ks = g.waiting t in
         let o = owes e in
         let paying = pay_all (suc taken) s' t ks g.source o.0 in
-        let a = paid p t ks g.source in
+        let a = take_waiting p t ks g.source in
         let last = settles_waiting p w (suc taken) s' t a paying.1.0 in
         let can : CanTake p a t last.0 = last.2 in
         let kind = kind_of last.0 in
@@ -151,26 +151,26 @@ module _ (p : Program) (w : WellFormed p) where
         (sym (heard_so p a t last.0 can s' last.1 last.3))
         (action p a t can.before can.after last.0 can.effect can.table can.stands can.takes can.allows) in
         let next = last.4 there step in
-        let name : actions_of t (named (next_heard p s' t a)) ≡ act t kind ∷ [] =
-        ap (λ n. actions_of t (named n)) (heard_is p a t last.0 can s' last.1 last.3) in
-        let led : Leads p a (actions_of t (named (next_heard p s' t a))) there =
+        let name : actions_of t (next_kinds (next_heard p s' t a)) ≡ act t kind ∷ [] =
+        ap (λ n. actions_of t (next_kinds n)) (heard_is p a t last.0 can s' last.1 last.3) in
+        let led : Leads p a (actions_of t (next_kinds (next_heard p s' t a))) there =
         subst (λ (l : List Action). Leads p a l there) (sym name) (there, step, refl) in
         let paid_run : IsRun p (g.actions ++ actions_of t ks) a =
         leads_on p (opening p) g.source a g.actions (actions_of t ks) r.run paying.0 in (
           record {
             run = leads_on p (opening p) a there (g.actions ++ actions_of t ks)
-                (actions_of t (named (next_heard p s' t a))) paid_run led;
+                (actions_of t (next_kinds (next_heard p s' t a))) paid_run led;
             tracks = next.0;
             waits = next.1 ∙ paying.1.1 ∙ ap (λ (f : ℕ → List Kind). put f t []) o.1;
           },
-          λ h. own_both (g.actions ++ actions_of t ks) (actions_of t (named (next_heard p s' t a)))
+          λ h. own_both (g.actions ++ actions_of t ks) (actions_of t (next_kinds (next_heard p s' t a)))
               (own_both g.actions (actions_of t ks) h (own_of t ks
               (subst (λ (f : ℕ → List Kind). AreOwn (f t)) r.waits (r.tracks.own t))))
               (subst (λ (l : List Action). AllOwn l) (sym name)
               (settles_own p w (suc taken) s' t a paying.1.0, tt)),
           λ u.
               let all = count_by-append (is_action_of u) (g.actions ++ actions_of t ks)
-              (actions_of t (named (next_heard p s' t a))) in
+              (actions_of t (next_kinds (next_heard p s' t a))) in
               let both = count_by-append (is_action_of u) g.actions (actions_of t ks) in
               let first = count_map t u ks in
               let one = ap (count u) name ∙ count_one t u kind [] in

@@ -16,7 +16,7 @@ use Rattle.program.specs.WellFormed.{WellFormed}
 use Rattle.code.specs.Pieces.{marks_of, code_of}
 use Rattle.meaning.specs.Labels.{Kind, Cause, Faulted, Killed, End, Ended, Aborted, Joins}
 use Rattle.meaning.specs.Processes.{Frame, Caller, Process, Joining, Failing, goes_on, with_result, all_monitors}
-use Rattle.meaning.specs.Offers.{joined, joined_part}
+use Rattle.meaning.specs.Offers.{after_join, joined_part}
 use Rattle.meaning.specs.States.{SourceState}
 use Rattle.protocol.specs.Points.{OnId, Point, Unmade, Runs, JoinReads, JoinSleeps, JoinLearns, JoinTakes, LastWakes}
 use Rattle.protocol.specs.Points.{HasEnded}
@@ -26,7 +26,7 @@ use Rattle.protocol.specs.Steps.{go_list}
 use Rattle.protocol.specs.Requests.{request}
 use Rattle.protocol.specs.Answers.{next, next_list}
 use Rattle.protocol.specs.Runs.{HasJoined}
-use Rattle.protocol.specs.Served.{MayAnswer, carried}
+use Rattle.protocol.specs.Served.{MayAnswer, source_event}
 use Rattle.protocol.proofs.Good.{Good}
 use Rattle.protocol.proofs.Rest.{matches}
 use Rattle.protocol.proofs.Joins.{IdAt}
@@ -39,7 +39,7 @@ use Rattle.execution.specs.Walks.{stays}
 use Rattle.execution.proofs.Walking.{seen}
 use Rattle.refinement.specs.Built.{build_of}
 use Rattle.templates.specs.Layout.{place, is_process}
-use Rattle.templates.specs.Asking.{asked, told, template_steps}
+use Rattle.templates.specs.Asking.{machine_request, machine_answer, template_steps}
 use Rattle.templates.specs.Templates.{ActsSo}
 use Rattle.protocol.specs.Carries.{Event, Acts}
 use Rattle.words.specs.Updates.{put}
@@ -112,9 +112,9 @@ module _ (p : Program) (w : WellFormed p) (steps : ℕ) (s : State) (c : SourceS
   -- a request of a point of the JOIN, as it is served
   module _ (pt : Point) (q : Process) (x : Thread) (asks : Request) (go : ℕ → Thread)
       (proc : c.process t ≡ Some q) (point : (k.world.at t).point ≡ pt) (looks : look (code_of p) t x ≡ Asks asks go)
-      (askable : IsAskable p (request t pt)) (same : asked p (request t pt) ≡ Some asks)
+      (askable : IsAskable p (request t pt)) (same : machine_request p (request t pt) ≡ Some asks)
       (before : IsBefore pt) (working : stage_of pt ≡ Works) (stays' : (o : ℕ)
-      → told p (request t pt) o ≡ o) (on : next_list pt l ≡ l) where
+      → machine_answer p (request t pt) o ≡ o) (on : next_list pt l ≡ l) where
     module _ (answer : ℕ) (mid : State) (sv : IsServed p s mid k.world t pt answer)
         (e' : s' ≡ with_thread mid t (go answer)) where
       abbrev y : Thread
@@ -135,14 +135,14 @@ module _ (p : Program) (w : WellFormed p) (steps : ℕ) (s : State) (c : SourceS
         pub thread : Thread
         pub goes : y ≡ thread
         pub process : Process
-        pub acts : ActsSo p c.variable t (carried k.world c.table t pt sv.reply sv.after e) q process
+        pub acts : ActsSo p c.variable t (source_event k.world c.table t pt sv.reply sv.after e) q process
         pub stands : StandsAt b c.variable t (Some thread) (Some process) to (all_monitors f cs)
-        pub paced : carried k.world c.table t pt sv.reply sv.after e ≡ None → pauses ≡ false
+        pub paced : source_event k.world c.table t pt sv.reply sv.after e ≡ None → pauses ≡ false
             → steps_left b c.variable t (go_list sv.after t to l) stands < n
 
       abbrev Fine : End → ℕ → Thread → Process → Point → List ℕ → Type 0
       Fine e made x r to ms = (stand : StandsAt (build_of p w made) c.variable t (Some x) (Some r) to ms)
-          × (carried k.world c.table t pt sv.reply sv.after e ≡ None → pauses ≡ false
+          × (source_event k.world c.table t pt sv.reply sv.after e ≡ None → pauses ≡ false
           → steps_left (build_of p w made) c.variable t (go_list sv.after t to ms) stand < n)
 
       arrives : ((e : End) → Goes e) → (e : End) → MayAnswer pt sv.reply
@@ -151,7 +151,7 @@ module _ (p : Program) (w : WellFormed p) (steps : ℕ) (s : State) (c : SourceS
           let g = goes e in
           let mine : Fine e k.world.made g.thread g.process g.to l =
           subst (λ (ms : List ℕ). (stand : StandsAt b c.variable t (Some g.thread) (Some g.process) g.to ms)
-          × (carried k.world c.table t pt sv.reply sv.after e ≡ None → pauses ≡ false
+          × (source_event k.world c.table t pt sv.reply sv.after e ≡ None → pauses ≡ false
           → steps_left b c.variable t (go_list sv.after t g.to l) stand < n)) (sym list) (g.stands, g.paced) in
           let now : Fine e sv.after.made y g.process (next k.world e pt sv.reply) (next_list pt l) =
           subst (λ made. Fine e made y g.process (next k.world e pt sv.reply) (next_list pt l)) (sym sv.made)
@@ -168,7 +168,7 @@ module _ (p : Program) (w : WellFormed p) (steps : ℕ) (s : State) (c : SourceS
           }
 
       shown : done ≡ completes p asks answer → (e : End) → MayAnswer pt sv.reply
-          → done ≡ is_some (carried k.world c.table t pt sv.reply sv.after e)
+          → done ≡ is_some (source_event k.world c.table t pt sv.reply sv.after e)
       shown seen e may = seen ∙ ap (λ a. completes p asks a) sv.told
           ∙ point_completes p k.world c.table t pt sv.reply sv.after e (k.world.at t).list asks
           (number_is t number.0 (omega (arith, number.1, few)))
@@ -217,9 +217,9 @@ module _ (p : Program) (w : WellFormed p) (steps : ℕ) (s : State) (c : SourceS
         leads = yes sv.reply 0 _ _ z;
         thread = j.after_read 0;
         goes = ap j.after_read z;
-        process = joined into part f cs e;
+        process = after_join into part f cs e;
         acts = subst (λ (o : Option Event). ActsSo p c.variable t o (Joining child into part f cs)
-            (joined into part f cs e)) (sym (yes sv.reply 0 (Some (Acts t (Joins child e))) None z))
+            (after_join into part f cs e)) (sym (yes sv.reply 0 (Some (Acts t (Joins child e))) None z))
             (refl, (e, refl, refl, refl));
         stands = learns join_steps (omega arith) is j j.gone;
         paced = λ none i. let some = yes sv.reply 0 (Some (Acts t (Joins child e))) None z in absurd (cc (none, some));
@@ -314,14 +314,14 @@ module _ (p : Program) (w : WellFormed p) (steps : ℕ) (s : State) (c : SourceS
       held (stand.0, λ world. let same = stand.1 world in omega (arith, same))
 
   -- the outcome is read: the child's result is taken, or the process goes on after its abort
-  pub learn_step : (x : Thread) (end : End) → x ≡ j.learns → c.process t ≡ Some (joined into part f cs end)
+  pub learn_step : (x : Thread) (end : End) → x ≡ j.learns → c.process t ≡ Some (after_join into part f cs end)
       → (k.world.at t).point ≡ JoinLearns child end → more_steps b + 34 ≤ n
       → IsLow k.world.sequence (look (code_of p) t x)
       → StepsSo p done late (mark_of (marks_of p) x) s t woken (look (code_of p) t x) s'
       → Next p w steps s' t done late pauses n c (stages k.world)
   learn_step x (Ended z) there proc point enough low moves =
       let tell = tells (JoinLearns child (Ended z)) (Ended z) point (refl, refl) in
-      join_step (JoinLearns child (Ended z)) (joined into part f cs (Ended z)) x (AskLoad (process_word child 5))
+      join_step (JoinLearns child (Ended z)) (after_join into part f cs (Ended z)) x (AskLoad (process_word child 5))
       j.after_outcome proc point (ap (look (code_of p) t) there ∙ j.outcome) valid_child refl tt refl (λ o. refl) refl
       (λ answer mid sv e' e. record {
         to = JoinTakes child (Ended z);
@@ -337,7 +337,7 @@ module _ (p : Program) (w : WellFormed p) (steps : ℕ) (s : State) (c : SourceS
       let tell = tells (JoinLearns child (Aborted cause)) (Aborted cause) point (refl, refl) in
       let v = cause_word cause in
       let go = aborted part v (j.aborted v (cause_small cause)) in
-      join_step (JoinLearns child (Aborted cause)) (joined into part f cs (Aborted cause)) x
+      join_step (JoinLearns child (Aborted cause)) (after_join into part f cs (Aborted cause)) x
       (AskLoad (process_word child 5)) j.after_outcome proc point (ap (look (code_of p) t) there ∙ j.outcome)
       valid_child
       refl tt refl (λ o. refl) refl

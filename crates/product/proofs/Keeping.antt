@@ -21,7 +21,7 @@ use Rattle.meaning.specs.Processes.{Frame, Caller, Process, goes_on, goes_on_by,
 use Rattle.meaning.specs.Processes.{frame_of, with_local, with_result, hands_over, holds, all_monitors}
 use Rattle.meaning.specs.Processes.{callers_monitors, monitor_of_role}
 use Rattle.meaning.specs.Offers.{Effect, Offer, Does, faults, with_value, with_values, with_index, answers, assigns}
-use Rattle.meaning.specs.Offers.{claims, returned, statement_offer, rest_offer, offer, TakesUp}
+use Rattle.meaning.specs.Offers.{claims, return_value, statement_offer, rest_offer, offer, TakesUp}
 use Rattle.execution.specs.Following.{Build, AreSound, IsFrame, CallersStand, is_called, is_recovery, Running, Stands}
 use Rattle.execution.specs.Following.{runs, enters, returns, fails}
 use Rattle.execution.proofs.Holding.{main_alone, goes_on_holds}
@@ -164,7 +164,7 @@ module _ (b : Build) (s : Scope) (v : Variables) (f : Frame) (cs : List Caller) 
       ])
   statement_keeps (Join e into part) h = value_keeps (evaluate s.program v f.locals e) f cs _
       (λ z. claims_keep z into part)
-  statement_keeps (Return value) h = value_keeps (returned s.program v f value) f cs _
+  statement_keeps (Return value) h = value_keeps (return_value s.program v f value) f cs _
       (λ z. answers_keep b f.role z cs below)
   statement_keeps (Wait c) h = does_keeps _ _ _ _ (λ k. absurd k)
   statement_keeps (Notify c) h = λ label effect r keeps takes.

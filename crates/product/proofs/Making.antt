@@ -47,7 +47,7 @@ use Rattle.product.proofs.Deferred.{may_wait}
 use Rattle.product.proofs.Acting.{held_of}
 use Rattle.product.proofs.Templating.{works_on}
 use Rattle.product.proofs.Standings.{stand_moves}
-use Rattle.product.proofs.Sourcing.{action, acted}
+use Rattle.product.proofs.Sourcing.{action, state_after}
 use Rattle.product.proofs.Worlds.{reached_on, reached_good, shares_at, shares_stored}
 use Rattle.product.specs.Waiting.{Stage, stages, stage_of, Works}
 use Rattle.execution.specs.Later.{mark_of}
@@ -103,7 +103,7 @@ module _ (p : Program) (w : WellFormed p) (steps : ℕ) (s : State) (c : SourceS
     w1 = go_list (record k.world { id = put k.world.id made made; made = made }) made Runs []
 
     abbrev c1 : SourceState
-    c1 = acted c t (Makes made child) (later made) (table_after k.world c.table made (Fork t))
+    c1 = state_after c t (Makes made child) (later made) (table_after k.world c.table made (Fork t))
 
     abbrev grown : State
     grown = record s {

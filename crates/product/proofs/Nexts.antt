@@ -22,9 +22,9 @@ use Rattle.deferral.specs.Placed.{actions_of}
 use Rattle.deferral.proofs.Waiting.{First, at_first}
 use Rattle.deferral.proofs.Behind as D
 use Rattle.protocol.proofs.Sleeps.{put_same}
-use Rattle.product.specs.Next.{NextAction, quiet_next, heard_next, is_abandoned, entered, joins_next, table_after}
-use Rattle.product.specs.Next.{after_next, offered, next_heard, paid}
-use Rattle.product.specs.Placing.{act, acted, awake_waiters, Resumes as Resumes'}
+use Rattle.product.specs.Next.{NextAction, quiet_next, heard_next, is_abandoned, entered_monitor, joins_next}
+use Rattle.product.specs.Next.{table_after, after_next, offer_of_process, next_heard, take_waiting}
+use Rattle.product.specs.Placing.{act, state_after, awake_waiters, Resumes as Resumes'}
 use Rattle.product.specs.Tracking.{CanTake}
 use Rattle.product.proofs.Local.{put_again}
 use Rattle.product.proofs.Sourcing.{action}
@@ -65,13 +65,15 @@ abandoned_so false = refl
 
 -- the monitor is entered as the table has it
 taken_so : (t : ℕ) (k : Bool → Label) (m : ℕ) (b : Bool) (T T' : Table) → (k ≡ Enters m) ⊎ (k ≡ Resumes m)
-    → Allows t (k b) T T' → is_abandoned (T.hold (entered (k false))) ≡ b
+    → Allows t (k b) T T' → is_abandoned (T.hold (entered_monitor (k false))) ≡ b
 taken_so t k m b T T' (inl e) allows =
     let h = subst (λ (l : Bool → Label). Allows t (l b) T T') e allows in
-    ap (λ (l : Bool → Label). is_abandoned (T.hold (entered (l false)))) e ∙ ap is_abandoned h.0 ∙ abandoned_so b
+    ap (λ (l : Bool → Label). is_abandoned (T.hold (entered_monitor (l false)))) e ∙ ap is_abandoned h.0
+    ∙ abandoned_so b
 taken_so t k m b T T' (inr e) allows =
     let h = subst (λ (l : Bool → Label). Allows t (l b) T T') e allows in
-    ap (λ (l : Bool → Label). is_abandoned (T.hold (entered (l false)))) e ∙ ap is_abandoned h.1 ∙ abandoned_so b
+    ap (λ (l : Bool → Label). is_abandoned (T.hold (entered_monitor (l false)))) e ∙ ap is_abandoned h.1
+    ∙ abandoned_so b
 
 module _ (p : Program) (s : State) (t : ℕ) (T T' : Table) where
   heard_taken : (o : Offer) (l : Label) (e : Effect) (q : Process) → IsPlain o → TakesUp o l e q → Allows t l T T'
@@ -121,18 +123,19 @@ table_so t (Abandons m) T T' h = h
 table_so t (Ends end) T T' h = h
 
 module _ (p : Program) (a : SourceState) (t : ℕ) (label : Label) (can : CanTake p a t label) where
-  offered_so : offered p a.variable (a.process t) ≡ offer p a.variable can.before
-  offered_so = ap (offered p a.variable) can.stands
+  offered_so : offer_of_process p a.variable (a.process t) ≡ offer p a.variable can.before
+  offered_so = ap (offer_of_process p a.variable) can.stands
 
   abbrev next : NextAction
   next = record { label = label; effect = can.effect; after = can.after }
 
-  leads_so : after_next t (Some next) a ≡ acted a t can.effect can.after can.table
-  leads_so = ap (acted a t can.effect can.after) (sym (table_so t label a.table can.table can.allows))
+  leads_so : after_next t (Some next) a ≡ state_after a t can.effect can.after can.table
+  leads_so = ap (state_after a t can.effect can.after) (sym (table_so t label a.table can.table can.allows))
 
   -- a quiet action that is possible is the next quiet one, and leads there
   pub quiet_so : is_quiet label ≡ true
-      → after_next t (quiet_next (offered p a.variable (a.process t))) a ≡ acted a t can.effect can.after can.table
+      → after_next t (quiet_next (offer_of_process p a.variable (a.process t))) a ≡ state_after a t can.effect
+      can.after can.table
   quiet_so quiet = ap (λ o. after_next t o a) (ap quiet_next offered_so
       ∙ quiet_taken (offer p a.variable can.before) label can.effect can.after (plain p a.variable can.before) can.takes
       quiet) ∙ leads_so
@@ -144,7 +147,7 @@ module _ (p : Program) (a : SourceState) (t : ℕ) (label : Label) (can : CanTak
         ∙ heard_taken p s t a.table can.table (offer p a.variable can.before) label can.effect can.after
         (plain p a.variable can.before) can.takes can.allows heard who
 
-    pub heard_so : after_next t (next_heard p s t a) a ≡ acted a t can.effect can.after can.table
+    pub heard_so : after_next t (next_heard p s t a) a ≡ state_after a t can.effect can.after can.table
     heard_so = ap (λ o. after_next t o a) heard_is ∙ leads_so
 
 module _ (p : Program) (t : ℕ) where
@@ -152,8 +155,8 @@ module _ (p : Program) (t : ℕ) where
   pub pays_behind : (waiting : ℕ → List Kind) (a c : SourceState) (k : Kind) (ks : List Kind) → IsBehind p waiting a c
       → waiting t ≡ k ∷ ks
       → (label : Label) × (k ≡ kind_of label) × (is_quiet label ≡ true) × CanTake p a t label
-      × IsStep p a (act t k) (after_next t (quiet_next (offered p a.variable (a.process t))) a)
-      × IsBehind p (put waiting t ks) (after_next t (quiet_next (offered p a.variable (a.process t))) a) c
+      × IsStep p a (act t k) (after_next t (quiet_next (offer_of_process p a.variable (a.process t))) a)
+      × IsBehind p (put waiting t ks) (after_next t (quiet_next (offer_of_process p a.variable (a.process t))) a) c
   pays_behind waiting a c k ks behind mine =
       let f : First p t c.variable c.table k ks (a.process t) (c.process t) =
       at_first p t c.variable c.table k ks (a.process t) (c.process t)
@@ -167,12 +170,12 @@ module _ (p : Program) (t : ℕ) where
         takes = f.may.takes a.variable (λ m h n i. ap (λ (v : Variables). v m n i) (sym behind.variables));
         allows = subst (λ (T : Table). Allows t f.label T T) (sym behind.table) f.may.allows;
       } in
-      let there = acted a t Nothing f.mid a.table in
+      let there = state_after a t Nothing f.mid a.table in
       let step : IsStep p a (act t k) there =
       subst (λ (i : Kind). IsStep p a (act t i) there) (sym f.named)
       (action p a t f.before f.mid f.label Nothing a.table can.stands can.takes can.allows) in
       let taken = D.takes p waiting a c t k ks behind mine in
-      let is : after_next t (quiet_next (offered p a.variable (a.process t))) a ≡ there =
+      let is : after_next t (quiet_next (offer_of_process p a.variable (a.process t))) a ≡ there =
       quiet_so p a t f.label can f.may.quiet in
       let same : there ≡ taken.0 = step_once p (act t k) a there taken.0 step taken.1 in (
         f.label,
@@ -186,13 +189,13 @@ module _ (p : Program) (t : ℕ) where
   -- and so with all that waits
   pub paid_behind : (waiting : ℕ → List Kind) (a c : SourceState) (ks : List Kind) → IsBehind p waiting a c
       → waiting t ≡ ks
-      → Leads p a (actions_of t ks) (paid p t ks a) × IsBehind p (put waiting t []) (paid p t ks a) c
+      → Leads p a (actions_of t ks) (take_waiting p t ks a) × IsBehind p (put waiting t []) (take_waiting p t ks a) c
   paid_behind waiting a c [] behind mine =
       (refl, subst (λ (f : ℕ → List Kind). IsBehind p f a c) (put_again waiting t [] mine) behind)
   paid_behind waiting a c (k ∷ ks) behind mine =
       let first = pays_behind waiting a c k ks behind mine in
-      let there = after_next t (quiet_next (offered p a.variable (a.process t))) a in
+      let there = after_next t (quiet_next (offer_of_process p a.variable (a.process t))) a in
       let more = paid_behind (put waiting t ks) there c ks first.5 (put_same waiting t ks) in (
         (there, first.4, more.0),
-        subst (λ (f : ℕ → List Kind). IsBehind p f (paid p t ks there) c) (put_put waiting t ks []) more.1,
+        subst (λ (f : ℕ → List Kind). IsBehind p f (take_waiting p t ks there) c) (put_put waiting t ks []) more.1,
       )

@@ -27,7 +27,7 @@ use Rattle.meaning.specs.Values.{Variables}
 use Rattle.meaning.specs.Processes.{Frame, Caller, Process, Entering, Before, Suspended, Joining, Returning, Failing}
 use Rattle.meaning.specs.Processes.{Dying, Leaving, Over, goes_on_by, goes_on, with_result, recovers, recovers_by}
 use Rattle.meaning.specs.Processes.{holds, callers_monitors}
-use Rattle.meaning.specs.Offers.{Rests, joined, offer}
+use Rattle.meaning.specs.Offers.{Rests, after_join, offer}
 use Rattle.meaning.specs.States.{SourceState}
 use Rattle.protocol.specs.Carries.{has_died}
 use Rattle.protocol.specs.Points.{NoEntry, Point, Unmade, Runs, Walks, LastWakes, HasEnded, GotReads, GotLinks}
@@ -51,12 +51,12 @@ use Rattle.refinement.specs.Seen.{end_by, machine_end, source_end, process_end, 
 use Rattle.refinement.specs.Built.{build_of, marked_image}
 use Rattle.refinement.proofs.Building.{is_build}
 use Rattle.templates.specs.Layout.{place, valid}
-use Rattle.templates.specs.Asking.{asked}
+use Rattle.templates.specs.Asking.{machine_request}
 use Rattle.templates.specs.Locking.{Takes, EntersAt, ExitsAt, WaitsAt}
 use Rattle.templates.specs.Locking as L
 use Rattle.templates.specs.Notifying.{NotifiesAt, BroadcastsAt}
 use Rattle.templates.specs.Notifying as N
-use Rattle.templates.specs.Inside.{Template, Enters, Exits, Waits, Notifies, Broadcasts, taken, taking_process}
+use Rattle.templates.specs.Inside.{Template, Enters, Exits, Waits, Notifies, Broadcasts, lock_taker, taking_process}
 use Rattle.templates.specs.Inside.{releasing_process, process_at, StandsIn, first_thread, first_point, Fits, IsSteady}
 use Rattle.templates.proofs.Follows.{follows}
 use Rattle.templates.proofs.Begins.{begins}
@@ -128,7 +128,7 @@ going_end Main (Then s rest) entered f cs = refl
 going_end role rest entered f cs = refl
 
 joined_end : (into : Option ℕ) (part : Part) (f : Frame) (cs : List Caller) (end : End)
-    → process_end (Some (joined into part f cs end)) ≡ None
+    → process_end (Some (after_join into part f cs end)) ≡ None
 joined_end into part f cs (Ended z) = going_end (with_result into z f).role (with_result into z f).rest None
     (with_result into z f) cs
 joined_end into NoPart f cs (Aborted cause) = refl
@@ -144,7 +144,7 @@ recovered_end p None m f cs = refl
 recovered_end p (Some r) m f cs = going_end _ _ (Some m) _ _
 
 taken_end : (p : Program) (m : ℕ) (f : Frame) (cs : List Caller) (v : ℕ)
-    → process_end (Some (taken p m f cs v)) ≡ None
+    → process_end (Some (lock_taker p m f cs v)) ≡ None
 taken_end p m f cs v = by_test (has_died v)
   where
     by_test : (b : Bool) → process_end (Some (if b then recovers p m f cs else goes_on (Some m) f cs)) ≡ None
@@ -312,7 +312,7 @@ module _ (p : Program) (w : WellFormed p) (s : State) (size : s.size ≡ memory_
   cell_there : (a : Cell) → valid p a ≡ true → (Lies s (place p a) → ⊥) → ⊥
   cell_there a ok = lies (place p a) (place p a) refl (valid_lies p a ok)
 
-  asked_fine : (r : P.Request) (q : Request) → asked p r ≡ Some q → IsAskable p r → IsUnserved q s → ⊥
+  asked_fine : (r : P.Request) (q : Request) → machine_request p r ≡ Some q → IsAskable p r → IsUnserved q s → ⊥
   asked_fine P.AskNothing q e ok = absurd ok
   asked_fine (P.AskLoad a) q e ok = one_fine _ q e (cell_there a ok)
   asked_fine (P.AskStore a v) q e ok = one_fine _ q e (cell_there a ok)

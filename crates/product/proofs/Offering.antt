@@ -16,7 +16,7 @@ use Rattle.protocol.specs.Points.{HasLeft, WaitReads, LeavePends, LeaveReads, Le
 use Rattle.protocol.specs.World.{World}
 use Rattle.protocol.specs.Carries.{Event, Acts, Strays, Kills}
 use Rattle.protocol.specs.Answers.{next}
-use Rattle.protocol.specs.Served.{carried}
+use Rattle.protocol.specs.Served.{source_event}
 use Rattle.execution.specs.Following.{Build}
 use Rattle.templates.specs.Locking.{Takes, EntersAt, ExitsAt, WaitsAt}
 use Rattle.templates.specs.Locking as L
@@ -36,7 +36,7 @@ acts_by p u v t (Some (Kills i c us)) q r same h = h
 
 module _ (w : World) (T : Table) (t r : ℕ) (w' : World) (e : End) (a : Event) where
   abbrev Carries : Point → Type 0
-  Carries pt = carried w T t pt r w' e ≡ Some a
+  Carries pt = source_event w T t pt r w' e ≡ Some a
 
   -- before the lock is taken the process enters or resumes, whatever the variables are
   take_offers : (p : Program) (u v : Variables) (m : ℕ) (k : Purpose) (first : ℕ) (values : List ℕ)
@@ -102,10 +102,10 @@ module _ (w : World) (T : Table) (t r : ℕ) (w' : World) (e : End) (a : Event) 
 -- and so is what it does
 pub acts_now : (w : World) (T : Table) (t r : ℕ) (w' : World) (e : End) (b : Build) (u v : Variables) (k : Template)
     (pt : Point) (x : Thread) (q : Process) → Fits b u t k → SameBefore k pt u v → StandsIn b.program t k pt x
-    → ActsSo b.program u t (carried w T t pt r w' e) (process_at b.program k pt) q
-    → ActsSo b.program v t (carried w T t pt r w' e) (process_at b.program k pt) q
+    → ActsSo b.program u t (source_event w T t pt r w' e) (process_at b.program k pt) q
+    → ActsSo b.program v t (source_event w T t pt r w' e) (process_at b.program k pt) q
 acts_now w T t r w' e b u v k pt x q fit same stands h =
-    acts_by b.program u v t (carried w T t pt r w' e) (process_at b.program k pt) q
+    acts_by b.program u v t (source_event w T t pt r w' e) (process_at b.program k pt) q
     (λ a is. offers_now w T t r w' e a b u v k pt x fit same stands is) h
 
 -- a point before the release of a monitor is led to only from such a point

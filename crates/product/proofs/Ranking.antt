@@ -17,7 +17,7 @@ use Rattle.protocol.specs.Steps.{go_list}
 use Rattle.protocol.specs.Carries.{Event}
 use Rattle.protocol.specs.Requests.{request}
 use Rattle.protocol.specs.Answers.{Serves, next}
-use Rattle.protocol.specs.Served.{MayAnswer, carried}
+use Rattle.protocol.specs.Served.{MayAnswer, source_event}
 use Rattle.protocol.proofs.Sleeps.{put_same}
 use Rattle.product.specs.Ranks.{rank}
 
@@ -64,7 +64,7 @@ module _ (more : ℕ) (w : World) (T : Table) (t r : ℕ) (w' : World) (e : End)
   Falls n to = rank more after to + 16 < n
 
   pub rank_falls : (pt : Point) → IsTemplate pt → Serves w t pt (request t pt) r w' → MayAnswer pt r
-      → carried w T t pt r w' e ≡ None → next w e pt r ≢ Runs → Falls (rank more w pt) (next w e pt r)
+      → source_event w T t pt r w' e ≡ None → next w e pt r ≢ Runs → Falls (rank more w pt) (next w e pt r)
   rank_falls Unmade is serves may none on = absurd is
   rank_falls Runs is serves may none on = absurd is
   rank_falls (EnterPends m) is serves may none on = omega arith
@@ -143,7 +143,7 @@ module _ (more : ℕ) (w : World) (T : Table) (t r : ℕ) (w' : World) (e : End)
   if_runs true x y h g e = h e
   if_runs false x y h g e = g e
 
-  pub rank_ends : (pt : Point) → IsTemplate pt → carried w T t pt r w' e ≡ None → next w e pt r ≡ Runs
+  pub rank_ends : (pt : Point) → IsTemplate pt → source_event w T t pt r w' e ≡ None → next w e pt r ≡ Runs
       → more + 16 < rank more w pt
   rank_ends Unmade is none on = absurd is
   rank_ends Runs is none on = absurd is

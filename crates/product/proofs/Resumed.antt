@@ -19,7 +19,7 @@ use Rattle.protocol.specs.Carries.{Acts, has_died, taking_label, on_sequence, is
 use Rattle.protocol.specs.Carries.{resumed_by}
 use Rattle.protocol.specs.Exits.{sleep_address}
 use Rattle.protocol.specs.Requests.{request}
-use Rattle.protocol.specs.Served.{carried, is_pending, pending_event}
+use Rattle.protocol.specs.Served.{source_event, is_pending, pending_event}
 use Rattle.protocol.proofs.Sleeps.{same-true, same-same}
 use Rattle.templates.specs.Layout.{place, valid}
 use Rattle.templates.proofs.Layouts.{apart}
@@ -88,7 +88,7 @@ module _ (p : Program) (s : State) (w : World) (T : Table) where
   pub who_resumes : (t : ℕ) (pt : Point) (r : ℕ) (w' : World) (e : End) (u : ℕ) (label : Label) → s.made ≡ w.made
       → ((u : ℕ) → s.asleep u ≡ sleep_address (place p) (w'.asleep u))
       → ((u : ℕ) (x : Spot) → w'.asleep u ≡ Some x → valid p (cell_of x) ≡ true) → IsAskable p (request t pt)
-      → carried w T t pt r w' e ≡ Some (Acts u label) → Resumes p s T label
+      → source_event w T t pt r w' e ≡ Some (Acts u label) → Resumes p s T label
   who_resumes t (EnterTries m) r w' e u label made sleeps spots ok h = if_so (r == 0) u t _ label tt h
   who_resumes t (TakeTries m v k) r w' e u label made sleeps spots ok h =
       if_so (r == v) u t _ label (taking k m (has_died v)) h

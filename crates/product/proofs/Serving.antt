@@ -38,7 +38,7 @@ use Rattle.protocol.proofs.Sleeps.{put_other, cases_member, sequence_same, seque
 use Rattle.protocol.proofs.Stores.{stores_follow}
 use Rattle.execution.specs.Variables.{variable_address}
 use Rattle.templates.specs.Layout.{place, valid}
-use Rattle.templates.specs.Asking.{asked, told}
+use Rattle.templates.specs.Asking.{machine_request, machine_answer}
 use Rattle.templates.proofs.Layouts.{apart, number_is}
 use Rattle.templates.proofs.Addresses.{variable_apart}
 use Rattle.product.specs.Serving.{IsAskable, Keeps, IsServed}
@@ -50,7 +50,7 @@ pub record IsAnswered (p : Program) (s mid : State) (w : World) (t : ℕ) (pt : 
   pub reply : ℕ
   pub after : World
   pub serves : Serves w t pt r reply after
-  pub told : answer ≡ told p r reply
+  pub machine_answer : answer ≡ machine_answer p r reply
   pub shares : Shares (place p) (valid p) (shared_of mid) after
   pub keeps : Keeps p s mid
   pub made : after.made ≡ w.made
@@ -163,7 +163,8 @@ small_sum x h = omega (arith, h)
 module _ (p : Program) (s : State) (w : World) (t : ℕ) (pt : Point)
     (shares : Shares (place p) (valid p) (shared_of s) w) where
   -- no word changes
-  still : (mid : State) (r : Request) (answer reply : ℕ) → mid ≡ s → Serves w t pt r reply w → answer ≡ told p r reply
+  still : (mid : State) (r : Request) (answer reply : ℕ) → mid ≡ s → Serves w t pt r reply w
+      → answer ≡ machine_answer p r reply
       → IsAnswered p s mid w t pt r answer
   still mid r answer reply e h same = subst (λ (m : State). IsAnswered p s m w t pt r answer) (sym e) (record {
     reply = reply;
@@ -181,7 +182,7 @@ module _ (p : Program) (s : State) (w : World) (t : ℕ) (pt : Point)
   -- one word changes
   stored : (mid : State) (r : Request) (answer reply : ℕ) (a : Cell) (v : ℕ) → valid p a ≡ true → IsWritten w a v
       → mid ≡ with_word s (place p a) (stored_value (place p) a v) → Serves w t pt r reply (write w a v)
-      → answer ≡ told p r reply → IsAnswered p s mid w t pt r answer
+      → answer ≡ machine_answer p r reply → IsAnswered p s mid w t pt r answer
   stored mid r answer reply a v ok fits e h same =
       subst (λ (m : State). IsAnswered p s m w t pt r answer) (sym e) (record {
         reply = reply;
@@ -207,7 +208,7 @@ module _ (p : Program) (s : State) (w : World) (t : ℕ) (pt : Point)
   slept : (mid : State) (r : Request) (answer reply : ℕ) (after : ℕ → Option ℕ) (asleep : ℕ → Option Spot)
       → mid ≡ with_sleepers s after
       → Shares (place p) (valid p) (shared_of (with_sleepers s after)) (record w { asleep = asleep })
-      → Serves w t pt r reply (record w { asleep = asleep }) → answer ≡ told p r reply
+      → Serves w t pt r reply (record w { asleep = asleep }) → answer ≡ machine_answer p r reply
       → IsAnswered p s mid w t pt r answer
   slept mid r answer reply after asleep e sh h same =
       subst (λ (m : State). IsAnswered p s m w t pt r answer) (sym e) (record {
@@ -389,14 +390,15 @@ answered : (p : Program) (s : State) (w : World) (t : ℕ) (pt : Point) (r : Req
     (answer : ℕ) (mid : State) → Shares (place p) (valid p) (shared_of s) w → 0 < t → t ≤ 64
     → ((c : Member) → w.sequence c + 1 < 4294967296)
     → ((u : ℕ) (c : Member) → w.asleep u ≡ Some (OnSequence c) → u ≤ 64)
-    → IsUsual r → IsAskable p r → asked p r ≡ Some asks → A.Serves t asks s woken answer mid
+    → IsUsual r → IsAskable p r → machine_request p r ≡ Some asks → A.Serves t asks s woken answer mid
     → IsAnswered p s mid w t pt r answer
 answered p s w t pt r asks woken answer mid shares some few low sleepers = by_request r
   where
     same : (x : M.Request) → Some x ≡ Some asks → A.Serves t asks s woken answer mid → A.Serves t x s woken answer mid
     same x e h = let q : x ≡ asks = cc in subst (λ (y : M.Request). A.Serves t y s woken answer mid) (sym q) h
 
-    by_request : (r : Request) → IsUsual r → IsAskable p r → asked p r ≡ Some asks → A.Serves t asks s woken answer mid
+    by_request : (r : Request) → IsUsual r → IsAskable p r → machine_request p r ≡ Some asks
+        → A.Serves t asks s woken answer mid
         → IsAnswered p s mid w t pt r answer
     by_request AskNothing usual ok e h = absurd ok
     by_request (AskLoad a) usual ok e h =
@@ -436,7 +438,8 @@ sleeper_few w T good u c e =
 -- and so to the request of a thread's point
 pub served : (p : Program) (s : State) (w : World) (T : Table) (t : ℕ) (pt : Point) (asks : M.Request) (woken : List ℕ)
     (answer : ℕ) (mid : State) → Shares (place p) (valid p) (shared_of s) w → Good w T → 0 < t → t ≤ 64
-    → ((c : Member) → w.sequence c + 1 < 4294967296) → IsAskable p (request t pt) → asked p (request t pt) ≡ Some asks
+    → ((c : Member) → w.sequence c + 1 < 4294967296) → IsAskable p (request t pt)
+    → machine_request p (request t pt) ≡ Some asks
     → A.Serves t asks s woken answer mid → IsServed p s mid w t pt answer
 served p s w T t pt asks woken answer mid shares good some few low ok e h =
     let a = answered p s w t pt (request t pt) asks woken answer mid shares some few low

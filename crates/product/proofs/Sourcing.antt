@@ -7,11 +7,11 @@ use Rattle.meaning.specs.Processes.{Process}
 use Rattle.meaning.specs.Offers.{Effect, offer, TakesUp}
 use Rattle.meaning.specs.States.{SourceState}
 use Rattle.meaning.specs.Runs.{IsStep}
-pub use Rattle.product.specs.Placing.{act, acted}
+pub use Rattle.product.specs.Placing.{act, state_after}
 
 pub action : (p : Program) (c : SourceState) (t : ℕ) (q r : Process) (label : Label) (effect : Effect) (T : Table)
     → c.process t ≡ Some q → TakesUp (offer p c.variable q) label effect r → Allows t label c.table T
-    → IsStep p c (act t (kind_of label)) (acted c t effect r T)
+    → IsStep p c (act t (kind_of label)) (state_after c t effect r T)
 action p c t q r label effect T there takes allows = inl (record {
   before = q;
   after = r;

@@ -26,7 +26,7 @@ use Rattle.protocol.specs.Carries.{Event, Acts, Strays, Kills, has_died, taking_
 use Rattle.protocol.specs.Carries.{IsByHolder}
 use Rattle.protocol.specs.Exits.{Shares}
 use Rattle.protocol.specs.Answers.{next, next_list}
-use Rattle.protocol.specs.Served.{IsMove, MayAnswer, carried, is_pending, pending_event}
+use Rattle.protocol.specs.Served.{IsMove, MayAnswer, source_event, is_pending, pending_event}
 use Rattle.protocol.proofs.Good.{Good}
 use Rattle.protocol.proofs.Kept.{permitted}
 use Rattle.protocol.proofs.Covers.{covers}
@@ -43,7 +43,7 @@ use Rattle.product.specs.Standing.{StandsAt}
 use Rattle.product.specs.Ranks.{steps_left}
 use Rattle.product.specs.Corresponding.{Reached, IsBefore, Corresponds}
 use Rattle.product.specs.Serving.{IsServed}
-use Rattle.product.proofs.Sourcing.{action, acted}
+use Rattle.product.proofs.Sourcing.{action, state_after}
 use Rattle.product.proofs.Worlds.{reached_on, reached_good, shares_at}
 use Rattle.product.proofs.Moving.{Puts, put_puts, same_puts, Next, Follow, moved}
 use Rattle.product.proofs.Completions.{next_stays, next_calm}
@@ -81,7 +81,7 @@ walk_heard true u t m label e = absurd cc
 walk_heard false u t m label e = one_heard u t (Abandons m) label (tt, refl) e
 
 carried_heard : (w : World) (T : Table) (t : ℕ) (pt : Point) (r : ℕ) (w' : World) (e : End) (u : ℕ) (label : Label)
-    → carried w T t pt r w' e ≡ Some (Acts u label) → IsHeard label
+    → source_event w T t pt r w' e ≡ Some (Acts u label) → IsHeard label
 carried_heard w T t (EnterTries m) r w' e u label h = if_heard (r == 0) u t _ label (tt, refl) h
 carried_heard w T t (TakeTries m v k) r w' e u label h = if_heard (r == v) u t _ label (taking_heard k m (has_died v)) h
 carried_heard w T t (LeaveSwaps m ToExit) r w' e u label h = one_heard u t _ label (tt, refl) h
@@ -95,11 +95,11 @@ carried_heard w T t (ClearsId end) r w' e u label h = one_heard u t _ label (tt,
 carried_heard w T t pt r w' e u label h = absurd cc
 
 carried_own : (w : World) (T : Table) (t : ℕ) (pt : Point) (r : ℕ) (w' : World) (e : End) (u : ℕ) (label : Label)
-    → carried w T t pt r w' e ≡ Some (Acts u label) → IsOwn (kind_of label)
+    → source_event w T t pt r w' e ≡ Some (Acts u label) → IsOwn (kind_of label)
 carried_own w T t pt r w' e u label h = (carried_heard w T t pt r w' e u label h).0
 
 carried_loud : (w : World) (T : Table) (t : ℕ) (pt : Point) (r : ℕ) (w' : World) (e : End) (u : ℕ) (label : Label)
-    → carried w T t pt r w' e ≡ Some (Acts u label) → is_quiet label ≡ false
+    → source_event w T t pt r w' e ≡ Some (Acts u label) → is_quiet label ≡ false
 carried_loud w T t pt r w' e u label h = (carried_heard w T t pt r w' e u label h).1
 
 module _ (p : Program) (w : WellFormed p) (steps : ℕ) (s : State) (c : SourceState) (k : Corresponds p w steps s c)
@@ -122,7 +122,7 @@ module _ (p : Program) (w : WellFormed p) (steps : ℕ) (s : State) (c : SourceS
   on e = go_list served.after t (to e) list
 
   abbrev event : End → Option Event
-  event e = carried k.world c.table t pt served.reply served.after e
+  event e = source_event k.world c.table t pt served.reply served.after e
 
   -- where the thread comes by its step, and its process by what the step carries
   pub record Arrives (e : End) : Type 0 where
@@ -227,7 +227,7 @@ module _ (p : Program) (w : WellFormed p) (steps : ℕ) (s : State) (c : SourceS
           → TakesUp (offer p c.variable q) label Nothing a.process
           → Next p w steps s' t done late pauses n c (stages k.world)
       acting u label e allows held takes =
-          let c1 = acted c t Nothing a.process table in
+          let c1 = state_after c t Nothing a.process table in
           let m = moved p w steps s c k t s' c1 y a.process (to end) list (on end)
           (follow c1 a.process refl refl refl (put_puts c.process t (Some a.process)) a.stands a.listed a.blank) in
           record {

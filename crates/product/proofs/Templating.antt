@@ -21,7 +21,7 @@ use Rattle.protocol.specs.Exits.{sleep_address}
 use Rattle.protocol.specs.Steps.{go_list}
 use Rattle.protocol.specs.Requests.{request}
 use Rattle.protocol.specs.Answers.{next, next_list}
-use Rattle.protocol.specs.Served.{MayAnswer, carried}
+use Rattle.protocol.specs.Served.{MayAnswer, source_event}
 use Rattle.protocol.proofs.Good.{Good}
 use Rattle.execution.specs.Following.{Build, StepsWithin, Stands}
 use Rattle.execution.specs.Completing.{view_of}
@@ -35,7 +35,7 @@ use Rattle.execution.proofs.Contexts.{proceeds_on}
 use Rattle.refinement.specs.Built.{build_of}
 use Rattle.refinement.proofs.Building.{is_build}
 use Rattle.templates.specs.Layout.{place}
-use Rattle.templates.specs.Asking.{told, template_steps}
+use Rattle.templates.specs.Asking.{machine_answer, template_steps}
 use Rattle.templates.specs.Inside.{Template, process_at, list_at, StandsIn, Fits, SameBefore, IsSteady}
 use Rattle.templates.specs.Templates.{Follows, StandsOn}
 use Rattle.templates.proofs.Follows.{follows}
@@ -148,7 +148,7 @@ module _ (p : Program) (w : WellFormed p) (steps : ℕ) (s : State) (c : SourceS
         (e' : s' ≡ with_thread mid t (goes.go answer)) (seen : done ≡ completes p goes.asks answer)
         (told_of : late ≡ later_request (mark_of (marks_of p) x) goes.asks answer) where
       abbrev y : Thread
-      y = goes.go (told p (request t pt) sv.reply)
+      y = goes.go (machine_answer p (request t pt) sv.reply)
 
       came : s' ≡ with_thread mid t y
       came = e' ∙ ap (λ a. with_thread mid t (goes.go a)) sv.told
@@ -168,7 +168,7 @@ module _ (p : Program) (w : WellFormed p) (steps : ℕ) (s : State) (c : SourceS
       abbrev Fine : End → ℕ → Process → List ℕ → Type 0
       Fine e made q l =
           (stand : StandsAt (build_of p w made) c.variable t (Some y) (Some q) (next k.world e pt sv.reply) l)
-          × (carried k.world c.table t pt sv.reply sv.after e ≡ None → pauses ≡ false
+          × (source_event k.world c.table t pt sv.reply sv.after e ≡ None → pauses ≡ false
           → steps_left (build_of p w made) c.variable t
           (go_list sv.after t (next k.world e pt sv.reply) (next_list pt (k.world.at t).list)) stand < n)
 
@@ -196,14 +196,14 @@ module _ (p : Program) (w : WellFormed p) (steps : ℕ) (s : State) (c : SourceS
               → (stand : StandsAt b c.variable t (Some y) (Some q) Runs (holds q))
               → ((world : World) → steps_left b c.variable t world stand
               ≡ template_steps + most_steps b + before_template)
-              → (carried k.world c.table t pt sv.reply sv.after e ≡ None → pauses ≡ false
+              → (source_event k.world c.table t pt sv.reply sv.after e ≡ None → pauses ≡ false
               → more_steps b + 16 < rank (more_steps b) k.world pt)
               → (stand : StandsAt b c.variable t (Some y) (Some q) to (holds q))
-              × (carried k.world c.table t pt sv.reply sv.after e ≡ None → pauses ≡ false
+              × (source_event k.world c.table t pt sv.reply sv.after e ≡ None → pauses ≡ false
               → steps_left b c.variable t (go_list sv.after t to (next_list pt (k.world.at t).list)) stand < n)
           behind to is stand left ends =
               subst (λ (i : Point). (stand : StandsAt b c.variable t (Some y) (Some q) i (holds q))
-              × (carried k.world c.table t pt sv.reply sv.after e ≡ None → pauses ≡ false
+              × (source_event k.world c.table t pt sv.reply sv.after e ≡ None → pauses ≡ false
               → steps_left b c.variable t (go_list sv.after t i (next_list pt (k.world.at t).list)) stand < n))
               (sym is) (
                 stand,
@@ -231,7 +231,7 @@ module _ (p : Program) (w : WellFormed p) (steps : ℕ) (s : State) (c : SourceS
           }
 
       shown : (e : End) → MayAnswer pt sv.reply
-          → done ≡ is_some (carried k.world c.table t pt sv.reply sv.after e)
+          → done ≡ is_some (source_event k.world c.table t pt sv.reply sv.after e)
       shown e may = seen ∙ ap (λ a. completes p goes.asks a) sv.told
           ∙ point_completes p k.world c.table t pt sv.reply sv.after e (k.world.at t).list goes.asks
           (number_is t number.0 (omega (arith, number.1, few))) (listed_at k.world c.table t pt inv point) may

@@ -34,7 +34,7 @@ use Rattle.refinement.specs.Seen.{machine_end, source_end, process_end}
 use Rattle.product.specs.Standing.{StandsAt}
 use Rattle.product.specs.Standing as S
 use Rattle.product.specs.Corresponding.{Corresponds}
-use Rattle.product.specs.Placing.{StepsSo, MovesSo, Places, act, acted, Resumes as Resumes'}
+use Rattle.product.specs.Placing.{StepsSo, MovesSo, Places, act, state_after, Resumes as Resumes'}
 use Rattle.product.specs.Placing as P
 use Rattle.product.specs.Tracking.{CanTake, Tracks, Owes}
 use Rattle.product.proofs.Moving.{Next, left_of}
@@ -390,7 +390,7 @@ module _ (p : Program) (w : WellFormed p) where
       },
       subst (λ (T : Table). Resumes' p s T o.label) (sym o.behind.table) o.resumes,
       λ a' step.
-          let c' = acted o.now t o.effect o.after o.table in
+          let c' = state_after o.now t o.effect o.after o.table in
           let kind = kind_of o.label in
           let is : IsAction p o.now (act t kind) c' = record {
             before = o.before;

@@ -12,7 +12,7 @@ use Rattle.meaning.specs.Processes.{Process}
 use Rattle.meaning.specs.Offers.{Effect, Nothing, Makes, Offer, Rests, Does, Takes, MakesOne, ClaimsOne, JoinsOne}
 use Rattle.meaning.specs.Offers.{NotifiesSome, NotifiesAll, offer}
 use Rattle.meaning.specs.States.{SourceState}
-use Rattle.product.specs.Placing.{acted, awake_waiters}
+use Rattle.product.specs.Placing.{state_after, awake_waiters}
 
 -- an action of a process's own, what it does beside the process, and where the process stands after it
 pub record NextAction : Type 0 where
@@ -32,10 +32,10 @@ is_abandoned Abandoned = true
 is_abandoned other = false
 
 -- the monitor that is entered
-abbrev pub entered : Label → ℕ
-entered (Enters m was_abandoned) = m
-entered (Resumes m was_abandoned) = m
-entered label = 0
+abbrev pub entered_monitor : Label → ℕ
+entered_monitor (Enters m was_abandoned) = m
+entered_monitor (Resumes m was_abandoned) = m
+entered_monitor label = 0
 
 abbrev pub joins_next : ℕ → (End → Process) → Option End → Option NextAction
 joins_next child q None = None
@@ -47,7 +47,7 @@ abbrev pub heard_next : Program → State → Table → Offer → Option NextAct
 heard_next p s T Rests = None
 heard_next p s T (Does l e q) = Some (record { label = l; effect = e; after = q })
 heard_next p s T (Takes l free abandoned) =
-    let b = is_abandoned (T.hold (entered (l false))) in
+    let b = is_abandoned (T.hold (entered_monitor (l false))) in
     Some (record { label = l b; effect = Nothing; after = if b then abandoned else free })
 heard_next p s T (MakesOne child q full) =
     let n = T.made + 1 in Some (record { label = Forks n; effect = Makes n child; after = q n })
@@ -75,22 +75,23 @@ table_after t label T = T
 -- the state behind it
 abbrev pub after_next : (t : ℕ) → Option NextAction → SourceState → SourceState
 after_next t None a = a
-after_next t (Some x) a = acted a t x.effect x.after (table_after t x.label a.table)
+after_next t (Some x) a = state_after a t x.effect x.after (table_after t x.label a.table)
 
-abbrev pub offered : Program → Variables → Option Process → Offer
-offered p v None = Rests
-offered p v (Some q) = offer p v q
+abbrev pub offer_of_process : Program → Variables → Option Process → Offer
+offer_of_process p v None = Rests
+offer_of_process p v (Some q) = offer p v q
 
 -- its name
-abbrev pub named : Option NextAction → List Kind
-named None = []
-named (Some x) = kind_of x.label ∷ []
+abbrev pub next_kinds : Option NextAction → List Kind
+next_kinds None = []
+next_kinds (Some x) = kind_of x.label ∷ []
 
 -- the quiet actions of process t, as many as these, are taken
-abbrev pub paid : Program → (t : ℕ) → List Kind → SourceState → SourceState
-paid p t [] a = a
-paid p t (k ∷ ks) a = paid p t ks (after_next t (quiet_next (offered p a.variable (a.process t))) a)
+abbrev pub take_waiting : Program → (t : ℕ) → List Kind → SourceState → SourceState
+take_waiting p t [] a = a
+take_waiting p t (k ∷ ks) a = take_waiting p t ks
+    (after_next t (quiet_next (offer_of_process p a.variable (a.process t))) a)
 
 -- what others learn of next from process t
 abbrev pub next_heard : Program → State → (t : ℕ) → SourceState → Option NextAction
-next_heard p s t a = heard_next p s a.table (offered p a.variable (a.process t))
+next_heard p s t a = heard_next p s a.table (offer_of_process p a.variable (a.process t))

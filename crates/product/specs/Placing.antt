@@ -99,8 +99,8 @@ abbrev pub act : ℕ → Kind → Action
 act t k = record { process = t; kind = k }
 
 -- the state after an action
-abbrev pub acted : SourceState → ℕ → Effect → Process → Table → SourceState
-acted c t effect r T = record {
+abbrev pub state_after : SourceState → ℕ → Effect → Process → Table → SourceState
+state_after c t effect r T = record {
   table = T;
   variable = variables_after effect c.variable;
   printed = printed_after effect c.printed;
@@ -136,11 +136,11 @@ pub data Places (p : Program) (s : State) (t : ℕ) (c c' : SourceState) (done :
       → Places p s t c c' done late was now []
   waits : (q r : Process) (label : Label) → done ≡ false → late ≡ Some (kind_of label) → was ≡ Works
       → Agrees now (is_failing (kind_of label)) → c.process t ≡ Some q
-      → MayWait p t c.variable c.table q label r → c' ≡ acted c t Nothing r c.table
+      → MayWait p t c.variable c.table q label r → c' ≡ state_after c t Nothing r c.table
       → Places p s t c c' done late was now (kind_of label ∷ [])
   acts : (q r : Process) (label : Label) (effect : Effect) (T : Table) → done ≡ true → Agrees now false
       → is_quiet label ≡ false
       → c.process t ≡ Some q → TakesUp (offer p c.variable q) label effect r → Allows t label c.table T
       → IsByHolder t label c.table → KeepsOthers t c.table c.variable (variables_after effect c.variable)
-      → Resumes p s c.table label → c' ≡ acted c t effect r T
+      → Resumes p s c.table label → c' ≡ state_after c t effect r T
       → Places p s t c c' done late was now (kind_of label ∷ [])

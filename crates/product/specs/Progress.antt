@@ -10,7 +10,7 @@ use Rattle.meaning.specs.Labels.{Kind, Action}
 use Rattle.meaning.specs.States.{SourceState, opening}
 use Rattle.deferral.specs.Placed.{actions_of}
 use Rattle.execution.specs.Later.{mark_of, later_step}
-use Rattle.product.specs.Next.{after_next, named, next_heard, paid}
+use Rattle.product.specs.Next.{after_next, next_kinds, next_heard, take_waiting}
 use Rattle.product.specs.Placing.{completes, completes_exit}
 use Rattle.product.specs.Waiting.{waits_then}
 
@@ -41,7 +41,7 @@ pub record Progress : Type 0 where
 abbrev pub progress_paid : Program → (t : ℕ) → Progress → Progress
 progress_paid p t g = record {
   actions = g.actions ++ actions_of t (g.waiting t);
-  source = paid p t (g.waiting t) g.source;
+  source = take_waiting p t (g.waiting t) g.source;
   waiting = put g.waiting t [];
 }
 
@@ -50,7 +50,7 @@ abbrev pub progress_next : Program → State → (t : ℕ) → Progress → Prog
 progress_next p s t g =
     let next = next_heard p s t g.source in
     record g {
-      actions = g.actions ++ actions_of t (named next);
+      actions = g.actions ++ actions_of t (next_kinds next);
       source = after_next t next g.source;
     }
 

@@ -13,7 +13,7 @@ use Rattle.protocol.specs.Requests.{AskAddOne, AskWait, AskWakeOne, AskRequeue, 
 use Rattle.protocol.specs.Answers.{Serves}
 use Rattle.execution.specs.Variables.{IsVariable, variable_address}
 use Rattle.templates.specs.Layout.{place, valid}
-use Rattle.templates.specs.Asking.{told}
+use Rattle.templates.specs.Asking.{machine_answer}
 
 -- the request names words that the program has
 abbrev pub IsAskable : Program → Request → Type 0
@@ -44,7 +44,7 @@ pub record IsServed (p : Program) (s mid : State) (w : World) (t : ℕ) (pt : Po
   pub reply : ℕ
   pub after : World
   pub serves : Serves w t pt (request t pt) reply after
-  pub told : answer ≡ told p (request t pt) reply
+  pub machine_answer : answer ≡ machine_answer p (request t pt) reply
   pub shares : Shares (place p) (valid p) (shared_of mid) after
   pub keeps : Keeps p s mid
   -- no other word of the world changes

@@ -12,7 +12,7 @@ use Rattle.meaning.specs.Labels.{End, Ended, Aborted, Faulted, Label, Enters, Re
 use Rattle.meaning.specs.Labels.{Ends}
 use Rattle.meaning.specs.Processes.{Frame, Caller, Process, Joining, Dying, Leaving, Over, goes_on, with_result, holds}
 use Rattle.meaning.specs.Processes.{all_monitors}
-use Rattle.meaning.specs.Offers.{Effect, joined, offer, TakesUp}
+use Rattle.meaning.specs.Offers.{Effect, after_join, offer, TakesUp}
 use Rattle.protocol.specs.Points.{NoEntry, Point, Unmade, Runs, JoinReads, JoinSleeps, JoinLearns, JoinTakes, Dies}
 use Rattle.protocol.specs.Points.{Walks, ClearsId, LastWakes, HasEnded}
 use Rattle.protocol.specs.Exits.{PhaseIs}
@@ -99,7 +99,7 @@ pub data StandsAt (b : Build) (v : Variables) (t : ℕ) : Option Thread → Opti
   learns : {child : ℕ} {end : End} {x : Thread} {into : Option ℕ} {part : Part} {f : Frame} {cs : List Caller}
       (left : ℕ) → left ≤ join_steps → IsChild b child f cs → (j : Awaits b t child into part f cs)
       → StepsWithin b t left x j.learns
-      → StandsAt b v t (Some x) (Some (joined into part f cs end)) (JoinLearns child end) (all_monitors f cs)
+      → StandsAt b v t (Some x) (Some (after_join into part f cs end)) (JoinLearns child end) (all_monitors f cs)
   takes : {child : ℕ} {z : ℤ} {x : Thread} {into : Option ℕ} {part : Part} {f : Frame} {cs : List Caller} (left : ℕ)
       → left ≤ join_steps → IsChild b child f cs → (j : Awaits b t child into part f cs)
       → StepsWithin b t left x j.takes

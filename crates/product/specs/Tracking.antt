@@ -12,7 +12,7 @@ use Rattle.meaning.specs.States.{SourceState, variables_after}
 use Rattle.deferral.specs.Deferring.{is_quiet, IsBehind}
 use Rattle.protocol.specs.Carries.{IsByHolder}
 use Rattle.product.specs.Corresponding.{Corresponds}
-use Rattle.product.specs.Placing.{KeepsOthers, Resumes, acted}
+use Rattle.product.specs.Placing.{KeepsOthers, Resumes, state_after}
 use Rattle.execution.specs.Completing.{IsOwn}
 use Rattle.product.specs.Waiting.{Agrees, AreOwn, has_failed, stages}
 use Rattle.meaning.specs.Labels.{kind_of}
@@ -60,7 +60,7 @@ pub record Owes (p : Program) (w : WellFormed p) (steps : ℕ) (s : State) (t : 
   pub keeps : KeepsOthers t now.table now.variable (variables_after effect now.variable)
   pub resumes : Resumes p s now.table label
   pub fresh : now.process (now.table.made + 1) ≡ None
-  pub ties : Corresponds p w steps s (acted now t effect after table)
+  pub ties : Corresponds p w steps s (state_after now t effect after table)
   pub agrees : (u : ℕ) → (u ≡ t → ⊥) → Agrees (stages ties.world u) (has_failed (waiting u))
   pub calm : Agrees (stages ties.world t) false
   pub own : (u : ℕ) → AreOwn (waiting u)

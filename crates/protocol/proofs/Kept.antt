@@ -6,7 +6,7 @@ use Rattle.words.specs.Updates.{put}
 use Rattle.program.specs.declared.kinds.Member.{Member}
 use Rattle.meaning.specs.Labels.{Label, Alone, Stores, Waits}
 use Rattle.meaning.specs.Table.{Hold, Free, Abandoned, HeldBy, Table, first_table, Allows, IsNotified, IsBroadcast}
-use Rattle.protocol.specs.Word.{owner, waiters, died}
+use Rattle.protocol.specs.Word.{owner, waiters, owner_died_bit}
 use Rattle.protocol.specs.Points.{ToEnter, ToReenter, ToResume, ToExit, ToWait, Owned, Spot, OnSequence, Point}
 use Rattle.protocol.specs.Points.{Unmade, Runs, NotifyWakes, BroadcastMarks, BroadcastReads, BroadcastMoves, Thread}
 use Rattle.protocol.specs.Points.{thread_at, entry_at}
@@ -82,14 +82,15 @@ tie_zero : (h : Hold) (v : ℕ) → Tie h v → v ≡ 0 → h ≡ Free
 unfolding Tie
 tie_zero Free v h z = refl
 tie_zero (HeldBy q) v h z = absurd (omega (arith, h.0, h.1, ap owner z, owner-small 0 (omega arith)))
-tie_zero Abandoned v h z = absurd (omega (arith, h.1, ap died z, died-small 0 (omega arith)))
+tie_zero Abandoned v h z = absurd (omega (arith, h.1, ap owner_died_bit z, died-small 0 (omega arith)))
 
 tie_enterable : (h : Hold) (v : ℕ) → Tie h v → owner v ≡ 0 → h ≡ enterable (has_died v)
 unfolding Tie
-tie_enterable Free v h z = let d : died v ≡ 0 = ap died h ∙ died-small 0 (omega arith)
-    in sym (ap (λ b. enterable (not b)) (eq-eqb (died v) 0 d))
+tie_enterable Free v h z = let d : owner_died_bit v ≡ 0 = ap owner_died_bit h ∙ died-small 0 (omega arith)
+    in sym (ap (λ b. enterable (not b)) (eq-eqb (owner_died_bit v) 0 d))
 tie_enterable (HeldBy q) v h z = absurd (omega (arith, h.0, h.1, z))
-tie_enterable Abandoned v h z = sym (ap (λ b. enterable (not b)) (ne_eqb (died v) 0 (λ d. omega (arith, d, h.1))))
+tie_enterable Abandoned v h z = sym
+    (ap (λ b. enterable (not b)) (ne_eqb (owner_died_bit v) 0 (λ d. omega (arith, d, h.1))))
 
 -- a notify resumes somebody, where any waits
 some_resumed : (c : Member) (asleep : ℕ → Option Spot) (waits : ℕ → Option Member) (woken : List ℕ) (u : ℕ)

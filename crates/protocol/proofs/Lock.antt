@@ -5,7 +5,7 @@ use Rattle.std.proofs.lemmas.Bool.{cases_eq}
 use Rattle.words.specs.Updates.{put}
 use Rattle.program.specs.declared.kinds.Member.{Member}
 use Rattle.meaning.specs.Table.{Hold, Free, Abandoned, HeldBy}
-use Rattle.protocol.specs.Word.{owner, waiters, died}
+use Rattle.protocol.specs.Word.{owner, waiters, owner_died_bit}
 use Rattle.protocol.specs.Points.{Spot, OnLock, OnSequence, Thread}
 use Rattle.protocol.specs.World.{awake_after, requeued_sleep, moved_sleep, IsWake}
 use Rattle.protocol.proofs.Sleeps.{at_put, at_put2, put_other, some_woken, requeue_lock}
@@ -45,7 +45,7 @@ tie_owner Free v h own = absurd (own (ap owner h))
 tie_owner (HeldBy q) v h own = ap HeldBy (sym h.0)
 tie_owner Abandoned v h own = absurd (own h.0)
 
-pub tie_of_held : (v p : ℕ) → owner v ≡ p → 0 < p → died v ≡ 0 → Tie (HeldBy p) v
+pub tie_of_held : (v p : ℕ) → owner v ≡ p → 0 < p → owner_died_bit v ≡ 0 → Tie (HeldBy p) v
 unfolding Tie
 tie_of_held v p own pos clear = (own, pos, clear)
 
@@ -53,13 +53,14 @@ pub tie_of_free : Tie Free 0
 unfolding Tie
 tie_of_free = refl
 
-pub tie_again : (m : Hold) (v v' : ℕ) → Tie m v → owner v ≢ 0 → owner v' ≡ owner v → died v' ≡ died v → Tie m v'
+pub tie_again : (m : Hold) (v v' : ℕ) → Tie m v → owner v ≢ 0 → owner v' ≡ owner v
+    → owner_died_bit v' ≡ owner_died_bit v → Tie m v'
 unfolding Tie owner
 tie_again Free v v' h own tid_is dbit_is = absurd (own (ap owner h))
 tie_again (HeldBy q) v v' h own tid_is dbit_is = (tid_is ∙ h.0, h.1, dbit_is ∙ h.2)
 tie_again Abandoned v v' h own tid_is dbit_is = absurd (own h.0)
 
-pub tie_of_abandoned : (v : ℕ) → owner v ≡ 0 → died v ≡ 1073741824 → Tie Abandoned v
+pub tie_of_abandoned : (v : ℕ) → owner v ≡ 0 → owner_died_bit v ≡ 1073741824 → Tie Abandoned v
 unfolding Tie
 tie_of_abandoned v none mark = (none, mark)
 
@@ -87,7 +88,7 @@ quiet lock asleep at hold t p p' inv awake stands same more known = record {
 pub taken : (lock : ℕ → ℕ) (asleep : ℕ → Option Spot) (at : ℕ → Thread) (hold : ℕ → Hold) (t e v : ℕ) (p p' : Thread)
     → Inv lock asleep at hold → asleep t ≡ None → at t ≡ p → ((x : ℕ) → x ≢ e → holds p' x ≡ holds p x)
     → holds p' e ≡ true → ((x : ℕ) → x ≢ e → helps p x ≡ true → helps p' x ≡ true) → Knows p' → 0 < t
-    → owner (lock e) ≡ 0 → owner v ≡ t → died v ≡ 0 → (waiters v ≡ 2147483648) ⊎ (helps p e ≡ false)
+    → owner (lock e) ≡ 0 → owner v ≡ t → owner_died_bit v ≡ 0 → (waiters v ≡ 2147483648) ⊎ (helps p e ≡ false)
     → Inv (put lock e v) asleep (put at t p') (put hold e (HeldBy t))
 taken lock asleep at hold t e v p p' inv awake stands same mine more known pos free own clear mark = record {
   tie = λ x. at_put2 hold lock e (HeldBy t) v x Tie (λ h. tie_of_held v t own pos clear) (λ h. inv.tie x);
@@ -117,7 +118,7 @@ taken lock asleep at hold t e v p p' inv awake stands same mine more known pos f
 pub marked : (lock : ℕ → ℕ) (asleep : ℕ → Option Spot) (at : ℕ → Thread) (hold : ℕ → Hold) (t e v : ℕ) (p p' : Thread)
     → Inv lock asleep at hold → asleep t ≡ None → at t ≡ p → ((x : ℕ) → holds p' x ≡ holds p x)
     → ((x : ℕ) → helps p x ≡ true → helps p' x ≡ true) → Knows p' → owner (lock e) ≢ 0 → owner v ≡ owner (lock e)
-    → died v ≡ died (lock e) → waiters v ≡ 2147483648 → Inv (put lock e v) asleep (put at t p') hold
+    → owner_died_bit v ≡ owner_died_bit (lock e) → waiters v ≡ 2147483648 → Inv (put lock e v) asleep (put at t p') hold
 marked lock asleep at hold t e v p p' inv awake stands same more known own tid_is dbit_is mark = record {
   tie = λ x. at_put lock e v x (Tie (hold x)) (λ h. tie_again (hold x) (lock x) v (inv.tie x) (grind arith)
       (grind arith) (grind arith)) (λ h. inv.tie x);
@@ -240,7 +241,7 @@ killed lock asleep at hold t p p' inv stands same more known = record {
 pub abandoned : (lock : ℕ → ℕ) (asleep : ℕ → Option Spot) (at : ℕ → Thread) (hold : ℕ → Hold) (t e v : ℕ)
     (woken : List ℕ) (p p' : Thread) → Inv lock asleep at hold → asleep t ≡ None → at t ≡ p
     → ((x : ℕ) → x ≢ e → holds p' x ≡ holds p x) → holds p e ≡ true → holds p' e ≡ false
-    → ((x : ℕ) → helps p x ≡ true → helps p' x ≡ true) → Knows p' → owner v ≡ 0 → died v ≡ 1073741824
+    → ((x : ℕ) → helps p x ≡ true → helps p' x ≡ true) → Knows p' → owner v ≡ 0 → owner_died_bit v ≡ 1073741824
     → ((waiters (lock e) ≡ 0) × (woken ≡ [])) ⊎ IsWake asleep (OnLock e) 1 woken
     → Inv (put lock e v) (awake_after asleep woken) (put at t p') (put hold e Abandoned)
 abandoned lock asleep at hold t e v woken p p' inv awake stands same mine gone more known none mark how = record {

@@ -3,7 +3,7 @@ use Rattle.std.proofs.Common.{◌≡◌, ◌≢◌, ℕ, ◌+◌, ◌<◌, Bool,
 use Rattle.std.specs.Int.Bits.{bit_and, or_add_and}
 use Rattle.std.proofs.lemmas.Nat.{and_mask, and_or_self, and_or_apart}
 use Rattle.std.proofs.lemmas.Nat.Bits.{and_pow, bit_at-lt}
-use Rattle.protocol.specs.Word.{lock_word, owner, waiters, died, with_waiters, died_word}
+use Rattle.protocol.specs.Word.{lock_word, owner, waiters, owner_died_bit, with_waiters, died_word}
 
 pub owner-lock_word : (o : ℕ) (w d : Bool) → o < 1073741824 → owner (lock_word o w d) ≡ o
 unfolding owner lock_word
@@ -22,13 +22,13 @@ unfolding waiters lock_word
 waiters_clear o true h = omega (arith, and_pow (o + 1073741824 + 0) 31)
 waiters_clear o false h = omega (arith, and_pow (o + 0 + 0) 31)
 
-pub died_set : (o : ℕ) (w : Bool) → o < 1073741824 → died (lock_word o w true) ≡ 1073741824
-unfolding died lock_word
+pub died_set : (o : ℕ) (w : Bool) → o < 1073741824 → owner_died_bit (lock_word o w true) ≡ 1073741824
+unfolding owner_died_bit lock_word
 died_set o true h = omega (arith, and_pow (o + 1073741824 + 2147483648) 30)
 died_set o false h = omega (arith, and_pow (o + 1073741824 + 0) 30)
 
-pub died_clear : (o : ℕ) (w : Bool) → o < 1073741824 → died (lock_word o w false) ≡ 0
-unfolding died lock_word
+pub died_clear : (o : ℕ) (w : Bool) → o < 1073741824 → owner_died_bit (lock_word o w false) ≡ 0
+unfolding owner_died_bit lock_word
 died_clear o true h = omega (arith, and_pow (o + 0 + 2147483648) 30)
 died_clear o false h = omega (arith, and_pow (o + 0 + 0) 30)
 
@@ -53,8 +53,8 @@ pub waiters-with_waiters : (v : ℕ) → waiters (with_waiters v) ≡ 2147483648
 unfolding waiters with_waiters
 waiters-with_waiters v = and_or_self 2147483648 v
 
-pub died-with_waiters : (v : ℕ) → died (with_waiters v) ≡ died v
-unfolding died with_waiters
+pub died-with_waiters : (v : ℕ) → owner_died_bit (with_waiters v) ≡ owner_died_bit v
+unfolding owner_died_bit with_waiters
 died-with_waiters v = and_or_apart 1073741824 v 2147483648 refl
 
 -- of a thread's number
@@ -62,8 +62,8 @@ pub owner-small : (t : ℕ) → t < 1073741824 → owner t ≡ t
 unfolding owner
 owner-small t h = omega (arith, and_mask t 30)
 
-pub died-small : (t : ℕ) → t < 1073741824 → died t ≡ 0
-unfolding died
+pub died-small : (t : ℕ) → t < 1073741824 → owner_died_bit t ≡ 0
+unfolding owner_died_bit
 died-small t h = omega (arith, and_pow t 30)
 
 pub waiters-small : (t : ℕ) → t < 1073741824 → waiters t ≡ 0
@@ -75,8 +75,8 @@ pub owner-died_word : (v : ℕ) → owner (died_word v) ≡ 0
 unfolding owner died_word
 owner-died_word v = omega (arith, and_mask (1073741824 + bit_and v 2147483648) 30, and_pow v 31)
 
-pub died-died_word : (v : ℕ) → died (died_word v) ≡ 1073741824
-unfolding died died_word
+pub died-died_word : (v : ℕ) → owner_died_bit (died_word v) ≡ 1073741824
+unfolding owner_died_bit died_word
 died-died_word v = omega (arith, and_pow (1073741824 + bit_and v 2147483648) 30, and_pow v 31, bit_at-lt v 31)
 
 pub waiters-died_word : (v : ℕ) → waiters (died_word v) ≡ waiters v

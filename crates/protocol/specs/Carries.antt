@@ -7,7 +7,7 @@ use Rattle.meaning.specs.Labels.{End, Kind, Label, Alone, Stores, Forks, FindsFu
 use Rattle.meaning.specs.Labels.{Enters, Resumes, Exits, Waits, Notifies, Broadcasts, Abandons, Ends}
 use Rattle.meaning.specs.Labels as L
 use Rattle.meaning.specs.Table.{Table, Free, Abandoned, HeldBy, without_waiters, Allows, AllowsStray, AllowsKill}
-use Rattle.protocol.specs.Word.{died}
+use Rattle.protocol.specs.Word.{owner_died_bit}
 use Rattle.protocol.specs.Points.{Purpose, ToEnter, ToReenter, ToResume, Release, ToExit, ToWait}
 use Rattle.protocol.specs.Points.{Point, NotifyWakes, BroadcastMarks, BroadcastReads}
 use Rattle.protocol.specs.Points.{BroadcastMoves}
@@ -24,7 +24,7 @@ pub data Event : Type 0 where
   Kills : (process : ℕ) (notified : Option Member) (resumed : List ℕ) → Event
 
 abbrev pub has_died : ℕ → Bool
-has_died v = not (died v == 0)
+has_died v = not (owner_died_bit v == 0)
 
 abbrev pub taking_label : Purpose → ℕ → Bool → Label
 taking_label ToEnter m was_abandoned = Enters m was_abandoned

@@ -3,7 +3,7 @@ use Rattle.std.specs.Prelude.{◌≡◌, ℕ, ◌<◌, ◌≤◌, Bool, true, fa
 use Rattle.program.specs.declared.kinds.Member.{Member}
 use Rattle.meaning.specs.Labels.{End, Label, Enters, Resumes, Joins}
 use Rattle.meaning.specs.Table.{Hold, Free, Abandoned, HeldBy, Table, first_table, Allows}
-use Rattle.protocol.specs.Word.{owner, died}
+use Rattle.protocol.specs.Word.{owner, owner_died_bit}
 use Rattle.protocol.specs.Points.{ToEnter, ToReenter, ToResume, Owned, Spot, OnSequence, Point, Unmade, TakeReads}
 use Rattle.protocol.specs.Points.{JoinReads, JoinSleeps, JoinLearns, JoinTakes, Walks, ClearsId, LastWakes, HasEnded}
 use Rattle.protocol.specs.Points.{entry_at}
@@ -35,8 +35,8 @@ PermitsAll (e ∷ es) T T' = (mid : Table) × Permits e T mid × PermitsAll es m
 -- a monitor's state, and its lock word
 abbrev pub HoldIs : Hold → ℕ → Type 0
 HoldIs Free v = v ≡ 0
-HoldIs (HeldBy p) v = (owner v ≡ p) × (0 < p) × (died v ≡ 0)
-HoldIs Abandoned v = (owner v ≡ 0) × (died v ≡ 1073741824)
+HoldIs (HeldBy p) v = (owner v ≡ p) × (0 < p) × (owner_died_bit v ≡ 0)
+HoldIs Abandoned v = (owner v ≡ 0) × (owner_died_bit v ≡ 1073741824)
 
 abbrev pub ClaimIs : Bool → ℕ → Type 0
 ClaimIs true v = v ≡ 1

@@ -25,17 +25,17 @@ pending_event t (Owned m) = Some (Acts t (Abandons m))
 pending_event t (Unowned m) = None
 
 -- what a step carries in the source: by its point, its answer and the words after it
-abbrev pub carried : World → Table → ℕ → Point → (answer : ℕ) → World → End → Option Event
-carried w T t (EnterTries m) r w' e = if r == 0 then Some (Acts t (Enters m false)) else None
-carried w T t (TakeTries m v k) r w' e = if r == v then Some (Acts t (taking_label k m (has_died v))) else None
-carried w T t (LeaveSwaps m k) r w' e = Some (Acts t (release_label k m))
-carried w T t (NotifyWakes c) r w' e = Some (Acts t (Notifies c (resumed_by w T c w'.asleep)))
-carried w T t (BroadcastMoves c s) r w' e = Some (Acts t (Broadcasts c (resumed_by w T c w'.asleep)))
-carried w T t (JoinReads q) r w' e = if r == 0 then Some (Acts t (Joins q e)) else None
-carried w T t (Walks zero x end) r w' e = pending_event t x
-carried w T t (Walks (suc m) x end) r w' e = if is_pending x m then None else Some (Acts t (Abandons m))
-carried w T t (ClearsId end) r w' e = Some (Acts t (Ends end))
-carried w T t p r w' e = None
+abbrev pub source_event : World → Table → ℕ → Point → (answer : ℕ) → World → End → Option Event
+source_event w T t (EnterTries m) r w' e = if r == 0 then Some (Acts t (Enters m false)) else None
+source_event w T t (TakeTries m v k) r w' e = if r == v then Some (Acts t (taking_label k m (has_died v))) else None
+source_event w T t (LeaveSwaps m k) r w' e = Some (Acts t (release_label k m))
+source_event w T t (NotifyWakes c) r w' e = Some (Acts t (Notifies c (resumed_by w T c w'.asleep)))
+source_event w T t (BroadcastMoves c s) r w' e = Some (Acts t (Broadcasts c (resumed_by w T c w'.asleep)))
+source_event w T t (JoinReads q) r w' e = if r == 0 then Some (Acts t (Joins q e)) else None
+source_event w T t (Walks zero x end) r w' e = pending_event t x
+source_event w T t (Walks (suc m) x end) r w' e = if is_pending x m then None else Some (Acts t (Abandons m))
+source_event w T t (ClearsId end) r w' e = Some (Acts t (Ends end))
+source_event w T t p r w' e = None
 
 -- the lock word of a monitor that the thread holds isn't 0
 abbrev pub MayAnswer : Point → (answer : ℕ) → Type 0
@@ -49,4 +49,4 @@ pub record IsMove (w : World) (t : ℕ) (p : Point) (r : ℕ) (w' : World) : Typ
   pub can : Can w t move
   pub done : after w t move ≡ go_list w' t (next w end p r) (next_list p (w.at t).list)
   pub possible : MayAnswer p r
-  pub carries : (T : Table) → event_of w T t move ≡ carried w T t p r w' end
+  pub carries : (T : Table) → event_of w T t move ≡ source_event w T t p r w' end

@@ -12,7 +12,7 @@ use Rattle.futexcalls.specs.Answers.{word_of}
 use Rattle.robustexit.specs.declared.phase.ExitPhase.TheVariants.{Entry, Pending}
 use Rattle.robustexit.specs.Phases.{next_entry}
 use Rattle.robustexit.specs.RobustExit.{put, Abandons}
-use Rattle.robustexit.specs.Fronts.{shared, TakesFront}
+use Rattle.robustexit.specs.Fronts.{shared_view, TakesFront}
 
 pub word_of-set : (words : List ℕ) (a v : ℕ) → a < length words → word_of (set words a v) ≡ put (word_of words) a v
 word_of-set words a v l = fun_ext (λ b. elim (cases_eq b a) [
@@ -22,8 +22,8 @@ word_of-set words a v l = fun_ext (λ b. elim (cases_eq b a) [
 
 pub abandons : (t l : ℕ) (words words' : List ℕ) (s s' : Sleepers) (woken : List ℕ) → l < length words → owner_of
     (word_of words l) ≡ t → words' ≡ set words l (lock_word 0 true (waiters_of (word_of words l))) → Wakes
-    (place_of s) l (cond (waiters_of (word_of words l)) 1 0) woken (place_of s') → Abandons t l (shared words s)
-    woken (shared words' s')
+    (place_of s) l (cond (waiters_of (word_of words l)) 1 0) woken (place_of s') → Abandons t l (shared_view words s)
+    woken (shared_view words' s')
 abandons t l words words' s s' woken inside owned marks wakes = record {
   owned = owned;
   marks = ap word_of marks ∙ word_of-set words l _ inside;

@@ -8,8 +8,8 @@ use Rattle.robustexit.specs.declared.phase.ExitPhase.TheVariants.{Entry, Pending
 use Rattle.robustexit.specs.RobustExit.{Shared}
 
 -- the words of a memory, and the places of its sleepers
-abbrev pub shared : List ℕ → Sleepers → Shared
-shared words sleepers = record { word = word_of words; asleep = place_of sleepers }
+abbrev pub shared_view : List ℕ → Sleepers → Shared
+shared_view words sleepers = record { word = word_of words; asleep = place_of sleepers }
 
 -- the word on which a step wakes, if it wakes
 abbrev pub wake_word : ℕ → ExitPhase → (ℕ → ℕ) → ℕ

@@ -4,7 +4,7 @@ ghost use Rattle.buckets.specs.Sleepers.{thread_count, IsSound};
 ghost use Rattle.futexcalls.specs.Answers.{word_of};
 ghost use Rattle.robustexit.specs.Phases.{next_entry};
 ghost use Rattle.robustexit.specs.RobustExit.{IsEntry, IsIdle, EntryStep, PendingStep, ExitStep};
-ghost use Rattle.robustexit.specs.Fronts.{shared, wake_word, TakesFront};
+ghost use Rattle.robustexit.specs.Fronts.{shared_view, wake_word, TakesFront};
 
 use crate::abandon::{abandon, lock_of};
 use crate::phase::{ExitPhase, phase_at};
@@ -32,8 +32,8 @@ pub fn exit_step(
     requires thread { (0 < t) × (t ≤ MOST_BLOCKS) }
     requires block { process_word t 5 < length mem.old }
     requires running { phase ≢ ExitPhase.Ended }
-    ensures step { ExitStep (length mem.old) t phase (shared mem.old buckets.old) result.1.threads
-        (shared mem.new buckets.new) result.0 }
+    ensures step { ExitStep (length mem.old) t phase (shared_view mem.old buckets.old) result.1.threads
+        (shared_view mem.new buckets.new) result.0 }
     ensures front { TakesFront buckets.old buckets.new (wake_word t phase (word_of mem.old)) result.1.threads }
     ensures words { length mem.new ≡ length mem.old }
     ensures threads { thread_count buckets.new ≡ thread_count buckets.old }
@@ -76,10 +76,10 @@ fn entry_step(
     requires block { process_word t 5 < length mem.old }
     ensures step { (IsEntry (length mem.old) entry.0
         × EntryStep (length mem.old) t entry.0
-        (shared mem.old buckets.old) result.1.threads (shared mem.new buckets.new)
+        (shared_view mem.old buckets.old) result.1.threads (shared_view mem.new buckets.new)
         × (result.0 ≡ next_entry (word_of mem.old entry.0) (seen + 1)))
         ⊎ ((IsEntry (length mem.old) entry.0 → ⊥)
-        × IsIdle (shared mem.old buckets.old) result.1.threads (shared mem.new buckets.new)
+        × IsIdle (shared_view mem.old buckets.old) result.1.threads (shared_view mem.new buckets.new)
         × (result.0 ≡ ExitPhase.Pending)) }
     ensures front { TakesFront buckets.old buckets.new (entry.0 + 1) result.1.threads }
     ensures words { length mem.new ≡ length mem.old }
@@ -102,7 +102,7 @@ fn pending_step(mem: &mut Mem, buckets: &mut Buckets, t: u32) -> Woken
     requires thread { (0 < t) × (t ≤ MOST_BLOCKS) }
     requires block { process_word t 5 < length mem.old }
     ensures step { PendingStep (length mem.old) t (word_of mem.old (process_word t 1))
-        (shared mem.old buckets.old) result.threads (shared mem.new buckets.new) }
+        (shared_view mem.old buckets.old) result.threads (shared_view mem.new buckets.new) }
     ensures front { TakesFront buckets.old buckets.new (word_of mem.old (process_word t 1) + 1) result.threads }
     ensures words { length mem.new ≡ length mem.old }
     ensures threads { thread_count buckets.new ≡ thread_count buckets.old }

@@ -6,7 +6,7 @@ use Rattle.scanner.specs.declared.refusal.Refusal.{Refusal}
 use Rattle.scanner.specs.Places.{start, place_after}
 use Rattle.scanner.specs.Lexemes.{Spells}
 use Rattle.scanner.specs.Gaps.{IsGap, IsLastGap}
-use Rattle.scanner.specs.Joined.{joined, AreGaps}
+use Rattle.scanner.specs.Joined.{joined_bytes, AreGaps}
 use Rattle.scanner.specs.Tokens.{TokenView, StandsFirst, StandInOrder, IsTokens, EndsOnce, end_at}
 use Rattle.scanner.specs.Faults.{StandsWrong, IsFault}
 use Rattle.scanner.proofs.LexemeLaws.{spells_lexeme, longest_unique}
@@ -82,7 +82,7 @@ gaps_more gap (next ∷ gaps) some g are = (g, are)
 
 joins : (p : Place) (bytes : List ℕ) (ts : List TokenView) (q : Place) (rest : List ℕ) (at : Place)
     → StandInOrder p bytes ts q rest → IsLastGap rest → (gaps : List (List ℕ)) × AreGaps gaps
-    × (length gaps ≡ length (ts ++ end_at at ∷ [])) × (bytes ≡ joined gaps (ts ++ end_at at ∷ []))
+    × (length gaps ≡ length (ts ++ end_at at ∷ [])) × (bytes ≡ joined_bytes gaps (ts ++ end_at at ∷ []))
 joins p bytes [] q rest at w last = (rest ∷ [], last, refl, w.1 ∙ sym (append-nil rest))
 joins p bytes (t ∷ ts) q rest at w last =
     let more = joins (place_after t.place t.text) w.0 ts q rest at w.2 last in
@@ -95,9 +95,9 @@ joins p bytes (t ∷ ts) q rest at w last =
     )
 
 pub tokens_join : (text : List ℕ) (ts : List TokenView) → IsTokens text ts → (gaps : List (List ℕ)) × AreGaps gaps
-    × (length gaps ≡ length ts) × (text ≡ joined gaps ts)
+    × (length gaps ≡ length ts) × (text ≡ joined_bytes gaps ts)
 tokens_join text ts a = subst (λ l. (gaps : List (List ℕ)) × AreGaps gaps × (length gaps ≡ length l)
-    × (text ≡ joined gaps l)) (sym a.all) (joins start text a.tokens a.place a.rest (place_after a.place a.rest)
+    × (text ≡ joined_bytes gaps l)) (sym a.all) (joins start text a.tokens a.place a.rest (place_after a.place a.rest)
     a.in_order a.last_gap)
 
 -- the end is the last token and no other

@@ -1,6 +1,6 @@
 ghost use Rattle.std.specs.Prelude.{◌≡◌, ℕ, List, ◌∷◌, ◌++◌, length};
 ghost use Rattle.scanner.specs.Faults.{IsFault};
-ghost use Rattle.scanner.specs.Joined.{joined, AreGaps};
+ghost use Rattle.scanner.specs.Joined.{joined_bytes, AreGaps};
 ghost use Rattle.scanner.specs.Places.{start, place_after};
 ghost use Rattle.scanner.specs.Tokens.{EndsOnce, IsTokens, TokenView};
 ghost use Rattle.scanner.specs.declared.refusal.Refusal.{Refusal as RefusalOf};
@@ -12,7 +12,7 @@ ghost use Rattle.scanner.specs.declared.refusal.Refusal.{Refusal as RefusalOf};
 pub fn token_laws()
     ensures one { (text : List ℕ) (ts us : List TokenView) → IsTokens text ts → IsTokens text us → ts ≡ us }
     ensures joined { (text : List ℕ) (ts : List TokenView) → IsTokens text ts
-        → (gaps : List (List ℕ)) × AreGaps gaps × (length gaps ≡ length ts) × (text ≡ joined gaps ts) }
+        → (gaps : List (List ℕ)) × AreGaps gaps × (length gaps ≡ length ts) × (text ≡ joined_bytes gaps ts) }
     ensures places { (text : List ℕ) (before after : List TokenView) (t : TokenView)
         → IsTokens text (before ++ t ∷ after)
         → (front behind : List ℕ) × (text ≡ front ++ (t.text ++ behind)) × (t.place ≡ place_after start front) }

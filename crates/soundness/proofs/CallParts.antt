@@ -9,7 +9,7 @@ use Rattle.types.specs.Kinds.{result_kind}
 use Rattle.types.specs.Pieces.{Piece, pieces}
 use Rattle.types.specs.Scope.{Scope, callee}
 use Rattle.types.specs.Faults.{where_true, unknown}
-use Rattle.types.specs.StatementFaults.{taker_faults, into_faults, called, callee_place, missing_place, own_role}
+use Rattle.types.specs.StatementFaults.{taker_faults, into_faults, called_piece, callee_place, missing_place, own_role}
 use Rattle.types.specs.StatementFaults.{is_internal, matched_faults, arguments_faults, count_faults}
 use Rattle.types.specs.CallFaults.{call_faults, fork_faults}
 use Rattle.soundness.proofs.Free.{Free, parts}
@@ -22,7 +22,7 @@ pub record IsCalled (s : Scope) (c : CalleeTree) (q : Piece) : Type 0 where
 
 pub record FreeCall (s : Scope) (c : CalleeTree) (name : Option NameTree) : Type 0 where
   pub piece : Piece
-  pub called : IsCalled s c piece
+  pub called_piece : IsCalled s c piece
   pub inner : Free (where_true (is_some c.dotted && is_internal piece.role) K.WrongPlace (callee_place c))
   pub entry : Free (where_true (own_role s.piece.role piece.role) K.DirectReentry (callee_place c))
   pub count : Free (count_faults c piece)
@@ -33,7 +33,7 @@ pub record FreeCall (s : Scope) (c : CalleeTree) (name : Option NameTree) : Type
 
 pub record FreeFork (s : Scope) (c : CalleeTree) (name : NameTree) : Type 0 where
   pub piece : Piece
-  pub called : IsCalled s c piece
+  pub called_piece : IsCalled s c piece
   pub inner : Free (where_true (is_internal piece.role) K.WrongPlace (callee_place c))
   pub count : Free (count_faults c piece)
   pub arguments : Free (arguments_faults s c.arguments)
@@ -45,7 +45,7 @@ called_at : (s : Scope) (c : CalleeTree) (q : Piece) (o : Option ℕ) → callee
 called_at s c q None e h = cc
 called_at s c q (Some n) e h = record { number = n; found = e; at = h }
 
-call_with : (s : Scope) (c : CalleeTree) (name : Option NameTree) (o : Option Piece) → called s c ≡ o
+call_with : (s : Scope) (c : CalleeTree) (name : Option NameTree) (o : Option Piece) → called_piece s c ≡ o
     → Free (call_faults s c name o) → FreeCall s c name
 call_with s c name None e f =
     let x = parts (unknown (missing_place s c.name c.dotted) ++ arguments_faults s c.arguments)
@@ -75,11 +75,11 @@ call_with s c name (Some q) e f =
       taker = x6.1;
     }
 
-pub free_call : (s : Scope) (c : CalleeTree) (name : Option NameTree) → Free (call_faults s c name (called s c))
+pub free_call : (s : Scope) (c : CalleeTree) (name : Option NameTree) → Free (call_faults s c name (called_piece s c))
     → FreeCall s c name
-free_call s c name f = call_with s c name (called s c) refl f
+free_call s c name f = call_with s c name (called_piece s c) refl f
 
-fork_with : (s : Scope) (c : CalleeTree) (name : NameTree) (o : Option Piece) → called s c ≡ o
+fork_with : (s : Scope) (c : CalleeTree) (name : NameTree) (o : Option Piece) → called_piece s c ≡ o
     → Free (fork_faults s c name o) → FreeFork s c name
 fork_with s c name None e f =
     let x = parts (unknown (missing_place s c.name c.dotted) ++ arguments_faults s c.arguments)
@@ -103,6 +103,6 @@ fork_with s c name (Some q) e f =
       taker = x4.1;
     }
 
-pub free_fork : (s : Scope) (c : CalleeTree) (name : NameTree) → Free (fork_faults s c name (called s c))
+pub free_fork : (s : Scope) (c : CalleeTree) (name : NameTree) → Free (fork_faults s c name (called_piece s c))
     → FreeFork s c name
-free_fork s c name f = fork_with s c name (called s c) refl f
+free_fork s c name f = fork_with s c name (called_piece s c) refl f

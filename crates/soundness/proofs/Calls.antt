@@ -15,7 +15,7 @@ use Rattle.syntax.specs.Tree.{UnitTree}
 use Rattle.types.specs.Judgement.{calls_from}
 use Rattle.types.specs.Pieces.{Piece}
 use Rattle.types.specs.Scope.{Scope, callee}
-use Rattle.types.specs.StatementFaults.{typed_faults, into_faults, called, is_recover}
+use Rattle.types.specs.StatementFaults.{typed_faults, into_faults, called_piece, is_recover}
 use Rattle.types.specs.CallFaults.{recover_faults, call_faults, statement_faults, block_faults, part_faults}
 use Rattle.types.specs.CallFaults.{calls, block_calls, part_calls}
 use Rattle.types.specs.Statements.{procedure, statement, block, part}
@@ -23,7 +23,7 @@ use Rattle.soundness.proofs.Free.{Free, parts, three, untrue, true_false}
 use Rattle.soundness.proofs.Lists.{place_of, mapped, contains_at, some_same}
 use Rattle.soundness.proofs.CallParts.{free_call}
 
-call_same : (s : Scope) (c : CalleeTree) (name : Option NameTree) → Free (call_faults s c name (called s c))
+call_same : (s : Scope) (c : CalleeTree) (name : Option NameTree) → Free (call_faults s c name (called_piece s c))
     → procedure s c ∷ [] ≡ option_to_list (callee s c)
 call_same s c name f = let k = free_call s c name f in
     ap (λ z. unwrap_or z 0 ∷ []) k.called.found ∙ sym (ap option_to_list k.called.found)
@@ -43,7 +43,7 @@ module _ (s : Scope) where
     calls_same (While place e ss) f =
         let p = parts (typed_faults s Boolean e) (block_faults s ss) f in block_calls_same ss p.1
     calls_same (Call place c into) f =
-        let p = parts (recover_faults s place) (call_faults s c into (called s c)) f in
+        let p = parts (recover_faults s place) (call_faults s c into (called_piece s c)) f in
         call_same s c into p.1
     calls_same (Fork place c into) f = refl
     calls_same (Join place e into rest) f =
@@ -79,7 +79,7 @@ module _ (s : Scope) (r : is_recover s.piece.role ≡ true) where
     calls_nothing (While place e ss) f =
         let p = parts (typed_faults s Boolean e) (block_faults s ss) f in block_calls_nothing ss p.1
     calls_nothing (Call place c into) f =
-        let p = parts (recover_faults s place) (call_faults s c into (called s c)) f in
+        let p = parts (recover_faults s place) (call_faults s c into (called_piece s c)) f in
         absurd (true_false (sym r ∙ untrue (is_recover s.piece.role) K.WrongPlace place tt p.0))
     calls_nothing (Fork place c into) f = refl
     calls_nothing (Join place e into rest) f =

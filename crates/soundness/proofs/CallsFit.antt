@@ -20,7 +20,7 @@ use Rattle.types.specs.Pieces.{Piece}
 use Rattle.types.specs.Scope.{Scope, local_number, slot_kind}
 use Rattle.types.specs.Typing.{differ, expression_type, expression_place}
 use Rattle.types.specs.ExpressionFaults.{wants, expression_faults}
-use Rattle.types.specs.StatementFaults.{slot_faults, taker_faults, into_faults, called, callee_place}
+use Rattle.types.specs.StatementFaults.{slot_faults, taker_faults, into_faults, called_piece, callee_place}
 use Rattle.types.specs.StatementFaults.{own_role, is_internal, is_recover, matched_faults, arguments_faults}
 use Rattle.types.specs.StatementFaults.{count_faults}
 use Rattle.types.specs.CallFaults.{call_faults, fork_faults, recover_faults}
@@ -123,10 +123,10 @@ none_of None = refl
 none_of (Some k) = refl
 
 pub call_fits : (s : Scope) (t : P.Scope) → Agrees s t → (c : CalleeTree) (name : Option NameTree) (place : Place)
-    → Free (recover_faults s place ++ call_faults s c name (called s c)) → SmallArguments c.arguments
+    → Free (recover_faults s place ++ call_faults s c name (called_piece s c)) → SmallArguments c.arguments
     → Fits t (T.Call (procedure s c) (arguments s c.arguments) (into s name))
 call_fits s t a c name place f n =
-    let x = parts (recover_faults s place) (call_faults s c name (called s c)) f in
+    let x = parts (recover_faults s place) (call_faults s c name (called_piece s c)) f in
     let k = free_call s c name x.1 in
     let q : Piece = k.piece in
     let p = a.piece k.called.number q k.called.at in (
@@ -143,10 +143,10 @@ call_fits s t a c name place f n =
     )
 
 pub fork_fits : (s : Scope) (t : P.Scope) → Agrees s t → (c : CalleeTree) (name : NameTree) (place : Place)
-    → Free (recover_faults s place ++ fork_faults s c name (called s c)) → SmallArguments c.arguments
+    → Free (recover_faults s place ++ fork_faults s c name (called_piece s c)) → SmallArguments c.arguments
     → Fits t (T.Fork (procedure s c) (arguments s c.arguments) (local s name))
 fork_fits s t a c name place f n =
-    let x = parts (recover_faults s place) (fork_faults s c name (called s c)) f in
+    let x = parts (recover_faults s place) (fork_faults s c name (called_piece s c)) f in
     let k = free_fork s c name x.1 in
     let q : Piece = k.piece in
     let p = a.piece k.called.number q k.called.at in (

@@ -12,7 +12,7 @@ use Rattle.syntax.specs.Tree.{NoStatements, Then, PartTree, NoPart, Part}
 use Rattle.types.specs.Pieces.{Piece}
 use Rattle.types.specs.Scope.{Scope, Meaning, Nothing, ALocal, AMember, meaning}
 use Rattle.types.specs.StatementFaults.{typed_faults, into_faults}
-use Rattle.types.specs.StatementFaults.{called}
+use Rattle.types.specs.StatementFaults.{called_piece}
 use Rattle.types.specs.StatementFaults.{count_faults}
 use Rattle.types.specs.CallFaults.{recover_faults, call_faults, fork_faults, statement_faults, block_faults}
 use Rattle.types.specs.CallFaults.{part_faults}
@@ -86,10 +86,10 @@ module _ (s : Scope) (t : P.Scope) (a : Agrees s t) where
         let h : block_room (block s ss) ≤ most_room = block_room_of ss p.1 (omega (arith, n)) in
         omega (arith, g, h, n)
     statement_room_of (Call place c into) f n =
-        let p = parts (recover_faults s place) (call_faults s c into (called s c)) f in
+        let p = parts (recover_faults s place) (call_faults s c into (called_piece s c)) f in
         let k = free_call s c into p.1 in passed s c.arguments (few s t a c k.piece k.called k.count) n
     statement_room_of (Fork place c into) f n =
-        let p = parts (recover_faults s place) (fork_faults s c into (called s c)) f in
+        let p = parts (recover_faults s place) (fork_faults s c into (called_piece s c)) f in
         let k = free_fork s c into p.1 in passed s c.arguments (few s t a c k.piece k.called k.count) n
     statement_room_of (Join place e into rest) f n =
         let p = parts (recover_faults s place ++ typed_faults s Process e ++ into_faults s (Some Integer) into)

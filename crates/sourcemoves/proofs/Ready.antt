@@ -11,7 +11,7 @@ use Rattle.meaning.specs.Values.{Evaluated, Value, Fails, Variables}
 use Rattle.sourceruns.specs.declared.process.Process.{Process as ProcessOf}
 use Rattle.sourceruns.specs.declared.process.Stage.{Stage as StageOf}
 use Rattle.sourceruns.specs.Frames.{callers_of, frame_of}
-use Rattle.sourceruns.specs.Outcomes.{evaluated}
+use Rattle.sourceruns.specs.Outcomes.{evaluation_of}
 use Rattle.sourceruns.specs.Stages.{process_of, standing}
 use Rattle.sourcemoves.specs.Free.{IsFree}
 use Rattle.sourcemoves.specs.Moving.{CanBeTakenUp}
@@ -35,7 +35,7 @@ before_ready true n t o has h = rests_never n t o h
 before_ready false n t o has h = free_moves n t o has h
 
 -- a value is there, or a fault
-pub has_value : (r : Result ℤ Fault) (e : Evaluated) → evaluated r ≡ e
+pub has_value : (r : Result ℤ Fault) (e : Evaluated) → evaluation_of r ≡ e
     → MatchBool (is_ok r) ((z : ℤ) × (e ≡ Value z)) ((fault : Fault) × (e ≡ Fails fault))
 has_value (Ok z) e is = (z, sym is)
 has_value (Err fault) e is = (fault, sym is)

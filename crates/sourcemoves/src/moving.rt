@@ -2,7 +2,7 @@ ghost use Rattle.std.specs.Prelude.{◌≡◌, ◌↔◌, Contains, IfOk, MatchB
 ghost use Rattle.std.specs.List.Sorted.{IsStrictlyIncreasing};
 ghost use Rattle.program.specs.Views.{option_expression, program_of};
 ghost use Rattle.meaning.specs.Labels.{End};
-ghost use Rattle.meaning.specs.Offers.{Rests, offer as offer_by, rest_offer, returned};
+ghost use Rattle.meaning.specs.Offers.{Rests, offer as offer_by, rest_offer, return_value};
 ghost use Rattle.meaning.specs.Runs.{CanMove};
 ghost use Rattle.meaning.specs.Values.{Fails, Value};
 ghost use Rattle.words.specs.declared.outcome.Fault.{Fault as FaultOf};
@@ -52,9 +52,9 @@ fn has_value(
     value: &Option<Expression>,
 ) -> bool
     ensures { MatchBool result
-        ((z : ℤ) × (returned (program_of program.now) (state_of state.now).variable (frame_of frame.now)
+        ((z : ℤ) × (return_value (program_of program.now) (state_of state.now).variable (frame_of frame.now)
         (option_expression value.now) ≡ Value z))
-        ((fault : FaultOf) × (returned (program_of program.now) (state_of state.now).variable (frame_of frame.now)
+        ((fault : FaultOf) × (return_value (program_of program.now) (state_of state.now).variable (frame_of frame.now)
         (option_expression value.now) ≡ Fails fault)) }
 {
     match value {

@@ -5,11 +5,11 @@ use Rattle.std.proofs.lemmas.List.{take_all, take_more, take-set, take_more_set,
 use Rattle.program.specs.declared.statement.Statement.{Statement as StatementOf}
 use Rattle.program.specs.Trees.{Block, Done, Then, followed_by}
 use Rattle.program.specs.Views.{block_before, block_in, statement_of}
-use Rattle.sourceruns.specs.Rests.{stacked, rest_in, IsTaken}
+use Rattle.sourceruns.specs.Rests.{stacked_blocks, rest_in, IsTaken}
 
 -- a position more
 pub stacked-more : (xs : List (Bor (List StatementOf))) (x : Bor (List StatementOf)) (later : Block)
-    → stacked (xs ++ x ∷ []) later ≡ block_before x.now (stacked xs later)
+    → stacked_blocks (xs ++ x ∷ []) later ≡ block_before x.now (stacked_blocks xs later)
 stacked-more [] x later = refl
 stacked-more (y ∷ ys) x later = stacked-more ys x (block_before y.now later)
 

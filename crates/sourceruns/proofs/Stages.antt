@@ -4,7 +4,7 @@ use Rattle.program.specs.declared.statement.Statement.{Statement as StatementOf}
 use Rattle.program.specs.Trees.{Block}
 use Rattle.program.specs.Views.{block_before}
 use Rattle.meaning.specs.Processes.{Caller, Process, goes_on}
-use Rattle.meaning.specs.Offers.{joined}
+use Rattle.meaning.specs.Offers.{after_join}
 use Rattle.sourceruns.specs.declared.process.Cause.{Cause as CauseOf}
 use Rattle.sourceruns.specs.declared.process.End.{End as EndOf}
 use Rattle.sourceruns.specs.declared.process.End.TheVariants.{Aborted as Aborted'}
@@ -20,9 +20,9 @@ pub joining : (x : Process) (into : Option ℕ) (end : EndOf) (cause : CauseOf)
     (block : Bor (List StatementOf)) (f : FrameOf) (rest : Block) (callers : List Caller)
     → end ≡ Aborted' cause → aborted ≡ Some block → x ≡ goes_on None (record (frame_of f) { rest = rest }) callers
     → rest ≡ block_before block.now (rest_in f.rest.items)
-    → x ≡ joined into (part_at aborted) (frame_of f) callers (end_of end)
+    → x ≡ after_join into (part_at aborted) (frame_of f) callers (end_of end)
 joining x into end cause aborted block f rest callers over part is pushed =
     is
     ∙ ap (λ b. goes_on None (record (frame_of f) { rest = b }) callers)
     (pushed ∙ sym (followed_by-block block.now (rest_in f.rest.items)))
-    ∙ sym (λ i. joined into (part_at (part i)) (frame_of f) callers (end_of (over i)))
+    ∙ sym (λ i. after_join into (part_at (part i)) (frame_of f) callers (end_of (over i)))

@@ -4,18 +4,18 @@ use Rattle.program.specs.Trees.{Program}
 use Rattle.meaning.specs.Labels.{Enters, Resumes}
 use Rattle.meaning.specs.Processes.{goes_on, recovers}
 use Rattle.meaning.specs.Offers as O
-use Rattle.meaning.specs.Offers.{Takes, JoinsOne, joined}
+use Rattle.meaning.specs.Offers.{Takes, JoinsOne, after_join}
 use Rattle.sourceruns.specs.declared.next_action.Offer.{Offer as OfferOf}
 use Rattle.sourceruns.specs.declared.next_action.Offer.TheVariants.{Own as Own', Enters as Enters'}
 use Rattle.sourceruns.specs.declared.next_action.Offer.TheVariants.{Resumes as Resumes', Joins as Joins'}
 use Rattle.sourceruns.specs.declared.process.Process.{Process as ProcessOf}
 use Rattle.sourceruns.specs.Frames.{frame_of, callers_of}
 use Rattle.sourceruns.specs.Stages.{part_at}
-use Rattle.sourceruns.specs.Offered.{offered}
+use Rattle.sourceruns.specs.Offered.{offer_with}
 
 -- an offer, with the process that made it
 abbrev pub offer_of : Program → OfferOf → ProcessOf → O.Offer
-offer_of p (Own' o) q = offered o q
+offer_of p (Own' o) q = offer_with o q
 offer_of p (Enters' m) q =
     Takes (Enters m) (goes_on (Some m) (frame_of q.frame) (callers_of q.callers.items))
     (recovers p m (frame_of q.frame) (callers_of q.callers.items))
@@ -23,4 +23,4 @@ offer_of p (Resumes' m) q =
     Takes (Resumes m) (goes_on (Some m) (frame_of q.frame) (callers_of q.callers.items))
     (recovers p m (frame_of q.frame) (callers_of q.callers.items))
 offer_of p (Joins' child into aborted) q =
-    JoinsOne child (joined into (part_at aborted) (frame_of q.frame) (callers_of q.callers.items))
+    JoinsOne child (after_join into (part_at aborted) (frame_of q.frame) (callers_of q.callers.items))

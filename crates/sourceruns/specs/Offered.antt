@@ -40,15 +40,15 @@ effect_of (Puts' place z) = O.Puts place.monitor place.member place.index z
 effect_of (Writes' z) = O.Writes z
 
 -- an offer, with the process that made it
-abbrev pub offered : Offered → ProcessOf → Offer
-offered Rests' q = Rests
-offered (Does' label effect) q = Does (label_of label) (effect_of effect) (process_of q)
-offered (Makes' child into) q =
+abbrev pub offer_with : Offered → ProcessOf → Offer
+offer_with Rests' q = Rests
+offer_with (Does' label effect) q = Does (label_of label) (effect_of effect) (process_of q)
+offer_with (Makes' child into) q =
     MakesOne (process_of child.value)
     (λ n. goes_on None (with_local (frame_of q.frame) into (pos n)) (callers_of q.callers.items))
     (dies ProcessTableFull (frame_of q.frame) (callers_of q.callers.items))
-offered (Claims' child into aborted) q =
+offer_with (Claims' child into aborted) q =
     ClaimsOne child (Joining child into (part_at aborted) (frame_of q.frame) (callers_of q.callers.items))
     (dies HandleNotJoinable (frame_of q.frame) (callers_of q.callers.items))
-offered (NotifiesSome' c) q = NotifiesSome c (process_of q)
-offered (NotifiesAll' c) q = NotifiesAll c (process_of q)
+offer_with (NotifiesSome' c) q = NotifiesSome c (process_of q)
+offer_with (NotifiesAll' c) q = NotifiesAll c (process_of q)

@@ -7,9 +7,9 @@ use Rattle.program.specs.declared.kinds.Member.{Member}
 use Rattle.meaning.specs.Values.{Evaluated, Value, Fails, EvaluatedAll, Values, FailsAll, index_in}
 use Rattle.sourceruns.specs.declared.variables.Place.{Place}
 
-abbrev pub evaluated : Result ℤ Fault → Evaluated
-evaluated (Ok z) = Value z
-evaluated (Err fault) = Fails fault
+abbrev pub evaluation_of : Result ℤ Fault → Evaluated
+evaluation_of (Ok z) = Value z
+evaluation_of (Err fault) = Fails fault
 
 abbrev pub evaluated_all : Result (Vec ℤ Global) Fault → EvaluatedAll
 evaluated_all (Ok v) = Values v.items

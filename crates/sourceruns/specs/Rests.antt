@@ -6,12 +6,12 @@ use Rattle.program.specs.Trees.{Block, Done, Then}
 use Rattle.program.specs.Views.{block_before, statement_of}
 
 -- the statements of several positions, those of the last one first, before others
-abbrev pub stacked : List (Bor (List StatementOf)) → Block → Block
-stacked [] later = later
-stacked (position ∷ more) later = stacked more (block_before position.now later)
+abbrev pub stacked_blocks : List (Bor (List StatementOf)) → Block → Block
+stacked_blocks [] later = later
+stacked_blocks (position ∷ more) later = stacked_blocks more (block_before position.now later)
 
 abbrev pub rest_in : List (Bor (List StatementOf)) → Block
-rest_in positions = stacked positions Done
+rest_in positions = stacked_blocks positions Done
 
 -- the statement that was taken is the first of these
 abbrev pub IsTaken : Option (List StatementOf) → Block → Block → Type 0

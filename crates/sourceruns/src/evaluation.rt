@@ -3,7 +3,7 @@ ghost use Rattle.program.specs.Scope.{array_size as array_size_of};
 ghost use Rattle.program.specs.Views.{expression_of, program_of};
 ghost use Rattle.meaning.specs.Values.{evaluate as evaluate_of, evaluate_all as evaluate_all_of};
 ghost use Rattle.sourceruns.specs.Stores.{variables_of};
-ghost use Rattle.sourceruns.specs.Outcomes.{evaluated, evaluated_all, element_of};
+ghost use Rattle.sourceruns.specs.Outcomes.{evaluation_of, evaluated_all, element_of};
 
 use crate::operators::{both, unary};
 use crate::variables::{Place, Variables};
@@ -48,7 +48,7 @@ fn operand(
     locals: &[i64],
     expression: &Expression,
 ) -> Result<i64, Fault>
-    ensures { evaluated result
+    ensures { evaluation_of result
         ≡ evaluate_of (program_of program.now) (variables_of variables.now) locals.now (expression_of expression.now) }
 {
     match expression {
@@ -66,7 +66,7 @@ pub fn evaluate(
     locals: &[i64],
     expression: &Expression,
 ) -> Result<i64, Fault>
-    ensures { evaluated result
+    ensures { evaluation_of result
         ≡ evaluate_of (program_of program.now) (variables_of variables.now) locals.now (expression_of expression.now) }
 {
     match expression {

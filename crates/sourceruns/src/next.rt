@@ -6,7 +6,7 @@ ghost use Rattle.sourceruns.specs.Rests.{rest_in};
 ghost use Rattle.sourceruns.specs.Frames.{callers_of, frame_of};
 ghost use Rattle.sourceruns.specs.Stages.{part_at};
 ghost use Rattle.sourceruns.specs.Stores.{variables_of};
-ghost use Rattle.sourceruns.specs.Offered.{offered};
+ghost use Rattle.sourceruns.specs.Offered.{offer_with};
 
 use crate::offers::{Offered, answer, assign, broadcast, fault, notify, print, return_value, wait};
 use crate::process::Process;
@@ -37,7 +37,7 @@ pub fn statement<'a>(
     this: &'a [Statement],
 ) -> Result<Offered<'a>, AllocError>
     requires { block_in this.now ≡ Then (statement_of next.now) Done }
-    ensures { IfOk result (λ o. offered o process.new
+    ensures { IfOk result (λ o. offer_with o process.new
         ≡ statement_offer (program_of program.now) (variables_of variables.now) (frame_of process.old.frame)
         (callers_of process.old.callers.items) (statement_of next.now)) }
 {
@@ -104,7 +104,7 @@ pub fn before<'a>(
     variables: &Variables,
     process: &mut Process<'a>,
 ) -> Result<Offered<'a>, AllocError>
-    ensures { IfOk result (λ o. offered o process.new
+    ensures { IfOk result (λ o. offer_with o process.new
         ≡ rest_offer (program_of program.now) (variables_of variables.now) (frame_of process.old.frame)
         (callers_of process.old.callers.items) (rest_in process.old.frame.rest.items)) }
 {

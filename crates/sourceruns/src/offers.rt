@@ -8,7 +8,7 @@ ghost use Rattle.meaning.specs.Offers.{Does, Nothing, Puts, answers, assigns, cl
 ghost use Rattle.sourceruns.specs.Frames.{callers_of, frame_of};
 ghost use Rattle.sourceruns.specs.Stages.{part_at};
 ghost use Rattle.sourceruns.specs.Stores.{variables_of};
-ghost use Rattle.sourceruns.specs.Offered.{offered};
+ghost use Rattle.sourceruns.specs.Offered.{offer_with};
 
 use crate::evaluation::{element, evaluate};
 use crate::process::{Cause, End, Process, Stage};
@@ -85,7 +85,7 @@ pub fn fault<'a>(
     process: &mut Process<'a>,
     fault: Fault,
 ) -> Result<Offered<'a>, AllocError>
-    ensures { IfOk result (λ o. offered o process.new
+    ensures { IfOk result (λ o. offer_with o process.new
         ≡ faults fault (frame_of process.old.frame) (callers_of process.old.callers.items)) }
 {
     process.die(alloc, Cause::Faulted(fault))?;
@@ -94,7 +94,7 @@ pub fn fault<'a>(
 
 /// At the end of a body, or at a RETURN.
 pub fn answer<'a>(process: &mut Process<'a>, value: i64) -> Offered<'a>
-    ensures { offered result process.new
+    ensures { offer_with result process.new
         ≡ answers process.old.frame.role value (callers_of process.old.callers.items) }
 {
     match process.frame.role {
@@ -112,7 +112,7 @@ pub fn answer<'a>(process: &mut Process<'a>, value: i64) -> Offered<'a>
 
 // Puts a value into a local.
 fn assign_local<'a>(process: &mut Process<'a>, slot: u32, value: i64) -> Offered<'a>
-    ensures { offered result process.new ≡ Does (Alone Assign) Nothing
+    ensures { offer_with result process.new ≡ Does (Alone Assign) Nothing
         (goes_on None (with_local (frame_of process.old.frame) slot value) (callers_of process.old.callers.items)) }
 {
     process.frame.put(Some(slot), value);
@@ -122,7 +122,7 @@ fn assign_local<'a>(process: &mut Process<'a>, slot: u32, value: i64) -> Offered
 
 // Puts a value into a variable.
 fn assign_variable<'a>(process: &mut Process<'a>, place: Place, value: i64) -> Offered<'a>
-    ensures { offered result process.new ≡ Does (Stores place.monitor)
+    ensures { offer_with result process.new ≡ Does (Stores place.monitor)
         (Puts place.monitor place.member place.index value)
         (goes_on None (frame_of process.old.frame) (callers_of process.old.callers.items)) }
 {
@@ -139,7 +139,7 @@ pub fn assign<'a>(
     target: &Target,
     value: &Expression,
 ) -> Result<Offered<'a>, AllocError>
-    ensures { IfOk result (λ o. offered o process.new
+    ensures { IfOk result (λ o. offer_with o process.new
         ≡ assigns (program_of program.now) (variables_of variables.now) (frame_of process.old.frame)
         (callers_of process.old.callers.items) (target_of target.now) (expression_of value.now)) }
 {
@@ -181,7 +181,7 @@ pub fn print<'a>(
     process: &mut Process<'a>,
     value: &Expression,
 ) -> Result<Offered<'a>, AllocError>
-    ensures { IfOk result (λ o. offered o process.new
+    ensures { IfOk result (λ o. offer_with o process.new
         ≡ statement_offer (program_of program.now) (variables_of variables.now) (frame_of process.old.frame)
         (callers_of process.old.callers.items) (Print (expression_of value.now))) }
 {
@@ -202,7 +202,7 @@ pub fn return_value<'a>(
     process: &mut Process<'a>,
     value: &Option<Expression>,
 ) -> Result<Offered<'a>, AllocError>
-    ensures { IfOk result (λ o. offered o process.new
+    ensures { IfOk result (λ o. offer_with o process.new
         ≡ statement_offer (program_of program.now) (variables_of variables.now) (frame_of process.old.frame)
         (callers_of process.old.callers.items) (Return (option_expression value.now))) }
 {
@@ -223,7 +223,7 @@ pub fn claim<'a>(
     into: Option<u32>,
     aborted: Option<&'a [Statement]>,
 ) -> Result<Offered<'a>, AllocError>
-    ensures { IfOk result (λ o. offered o process.new
+    ensures { IfOk result (λ o. offer_with o process.new
         ≡ claims handle into (part_at aborted.entry) (frame_of process.old.frame)
         (callers_of process.old.callers.items)) }
 {
@@ -239,7 +239,7 @@ pub fn claim<'a>(
 
 /// A WAIT.
 pub fn wait<'a>(process: &mut Process<'a>, condition: Member) -> Offered<'a>
-    ensures { (p : ProgramOf) (v : VariablesOf) → offered result process.new
+    ensures { (p : ProgramOf) (v : VariablesOf) → offer_with result process.new
         ≡ statement_offer p v (frame_of process.old.frame) (callers_of process.old.callers.items) (Wait condition) }
 {
     process.stage = Stage::Suspended(condition);
@@ -248,7 +248,7 @@ pub fn wait<'a>(process: &mut Process<'a>, condition: Member) -> Offered<'a>
 
 /// A NOTIFY.
 pub fn notify<'a>(process: &mut Process<'a>, condition: Member) -> Offered<'a>
-    ensures { (p : ProgramOf) (v : VariablesOf) → offered result process.new
+    ensures { (p : ProgramOf) (v : VariablesOf) → offer_with result process.new
         ≡ statement_offer p v (frame_of process.old.frame) (callers_of process.old.callers.items) (Notify condition) }
 {
     process.go_on(None);
@@ -257,7 +257,7 @@ pub fn notify<'a>(process: &mut Process<'a>, condition: Member) -> Offered<'a>
 
 /// A BROADCAST.
 pub fn broadcast<'a>(process: &mut Process<'a>, condition: Member) -> Offered<'a>
-    ensures { (p : ProgramOf) (v : VariablesOf) → offered result process.new
+    ensures { (p : ProgramOf) (v : VariablesOf) → offer_with result process.new
         ≡ statement_offer p v (frame_of process.old.frame)
         (callers_of process.old.callers.items) (Broadcast condition) }
 {

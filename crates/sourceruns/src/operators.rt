@@ -3,14 +3,14 @@ ghost use Rattle.std.specs.Option.{SomeIff};
 ghost use Rattle.std.specs.Int.{w64};
 ghost use Rattle.program.specs.declared.kinds.Operator.TheVariants.{Divide, Modulo};
 ghost use Rattle.meaning.specs.Values.{both as both_of, integer as integer_of, unary as unary_of};
-ghost use Rattle.sourceruns.specs.Outcomes.{evaluated};
+ghost use Rattle.sourceruns.specs.Outcomes.{evaluation_of};
 
 use program::{Operator, UnaryOperator};
 use words::Fault;
 
 // An INTEGER lies from -2147483648 to 2147483647.
 fn integer(number: Option<i64>) -> Result<i64, Fault>
-    ensures { (z : ℤ) → SomeIff number (FitsSigned w64 z) z → evaluated result ≡ integer_of z }
+    ensures { (z : ℤ) → SomeIff number (FitsSigned w64 z) z → evaluation_of result ≡ integer_of z }
 {
     match number {
         Some(z) if -2147483648 <= z && z <= 2147483647 => Ok(z),
@@ -20,7 +20,7 @@ fn integer(number: Option<i64>) -> Result<i64, Fault>
 
 /// The value of an operator before its operand.
 pub fn unary(operator: UnaryOperator, a: i64) -> Result<i64, Fault>
-    ensures { evaluated result ≡ unary_of operator a }
+    ensures { evaluation_of result ≡ unary_of operator a }
 {
     match operator {
         UnaryOperator::Negate => integer(a.checked_neg()),
@@ -29,7 +29,7 @@ pub fn unary(operator: UnaryOperator, a: i64) -> Result<i64, Fault>
 }
 
 fn quotient(a: i64, b: i64) -> Result<i64, Fault>
-    ensures { evaluated result ≡ both_of Divide a b }
+    ensures { evaluation_of result ≡ both_of Divide a b }
 {
     if b == 0 {
         return Err(Fault::DivisionByZero);
@@ -38,7 +38,7 @@ fn quotient(a: i64, b: i64) -> Result<i64, Fault>
 }
 
 fn remainder(a: i64, b: i64) -> Result<i64, Fault>
-    ensures { evaluated result ≡ both_of Modulo a b }
+    ensures { evaluation_of result ≡ both_of Modulo a b }
 {
     if b == 0 {
         return Err(Fault::DivisionByZero);
@@ -48,7 +48,7 @@ fn remainder(a: i64, b: i64) -> Result<i64, Fault>
 
 /// The value of an operator between its operands.
 pub fn both(operator: Operator, a: i64, b: i64) -> Result<i64, Fault>
-    ensures { evaluated result ≡ both_of operator a b }
+    ensures { evaluation_of result ≡ both_of operator a b }
 {
     match operator {
         Operator::Add => integer(a.checked_add(b)),

@@ -1,6 +1,6 @@
 ghost use Rattle.std.specs.Prelude.{◌≡◌, None, OnOk, Some};
 ghost use Rattle.program.specs.Views.{program_of};
-ghost use Rattle.meaning.specs.Offers.{joined};
+ghost use Rattle.meaning.specs.Offers.{after_join};
 ghost use Rattle.meaning.specs.Processes.{Dying, all_monitors, begins, goes_on, hands_over, recovers};
 
 use crate::frame::Frame;
@@ -150,7 +150,7 @@ impl<'a> Process<'a> {
         aborted: Option<&'a [Statement]>,
         end: End,
     ) -> Result<(), AllocError>
-        ensures { OnOk result (process_of self.new ≡ joined into (part_at aborted.entry)
+        ensures { OnOk result (process_of self.new ≡ after_join into (part_at aborted.entry)
             (frame_of self.old.frame) (callers_of self.old.callers.items) (end_of end)) }
     {
         match (end, aborted) {

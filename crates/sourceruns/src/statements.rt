@@ -8,7 +8,7 @@ ghost use Rattle.sourceruns.specs.Frames.{callers_of, frame_of};
 ghost use Rattle.sourceruns.specs.Rests.{rest_in};
 ghost use Rattle.sourceruns.specs.Stages.{part_at};
 ghost use Rattle.sourceruns.specs.Stores.{variables_of};
-ghost use Rattle.sourceruns.specs.Offered.{offered};
+ghost use Rattle.sourceruns.specs.Offered.{offer_with};
 
 use crate::evaluation::{evaluate, evaluate_all};
 use crate::frame::Frame;
@@ -22,7 +22,7 @@ use std::mem;
 
 // A test after which these statements come first.
 fn precede<'a>(process: &mut Process<'a>, block: &'a [Statement]) -> Result<Offered<'a>, AllocError>
-    ensures { IfOk result (λ o. offered o process.new ≡ Does (Alone Test) Nothing (goes_on None
+    ensures { IfOk result (λ o. offer_with o process.new ≡ Does (Alone Test) Nothing (goes_on None
         (record (frame_of process.old.frame) {
           rest = followed_by (block_in block.now)
               (rest_in process.old.frame.rest.items);
@@ -36,7 +36,7 @@ fn precede<'a>(process: &mut Process<'a>, block: &'a [Statement]) -> Result<Offe
 
 // A test after which what is left goes on.
 fn pass<'a>(process: &mut Process<'a>) -> Offered<'a>
-    ensures { offered result process.new ≡ Does (Alone Test) Nothing
+    ensures { offer_with result process.new ≡ Does (Alone Test) Nothing
         (goes_on None (frame_of process.old.frame) (callers_of process.old.callers.items)) }
 {
     process.go_on(None);
@@ -53,7 +53,7 @@ pub fn branch<'a>(
     then_part: &'a [Statement],
     else_part: Option<&'a [Statement]>,
 ) -> Result<Offered<'a>, AllocError>
-    ensures { IfOk result (λ o. offered o process.new
+    ensures { IfOk result (λ o. offer_with o process.new
         ≡ statement_offer (program_of program.now) (variables_of variables.now) (frame_of process.old.frame)
         (callers_of process.old.callers.items)
         (If (expression_of condition.now) (block_in then_part.now) (part_at else_part.entry))) }
@@ -75,7 +75,7 @@ fn repeat<'a>(
     body: &'a [Statement],
     this: &'a [Statement],
 ) -> Result<Offered<'a>, AllocError>
-    ensures { IfOk result (λ o. offered o process.new ≡ Does (Alone Test) Nothing (goes_on None
+    ensures { IfOk result (λ o. offer_with o process.new ≡ Does (Alone Test) Nothing (goes_on None
         (record (frame_of process.old.frame) {
           rest = followed_by (block_in body.now) (followed_by (block_in this.now)
               (rest_in process.old.frame.rest.items));
@@ -99,7 +99,7 @@ pub fn repeat_while<'a>(
     this: &'a [Statement],
 ) -> Result<Offered<'a>, AllocError>
     requires { block_in this.now ≡ Then (While (expression_of condition.now) (block_in body.now)) Done }
-    ensures { IfOk result (λ o. offered o process.new
+    ensures { IfOk result (λ o. offer_with o process.new
         ≡ statement_offer (program_of program.now) (variables_of variables.now) (frame_of process.old.frame)
         (callers_of process.old.callers.items) (While (expression_of condition.now) (block_in body.now))) }
 {
@@ -117,7 +117,7 @@ fn begin_call<'a>(
     frame: Frame<'a>,
     into: Option<u32>,
 ) -> Result<Offered<'a>, AllocError>
-    ensures { IfOk result (λ o. offered o process.new ≡ Does (Alone CallKind) Nothing (begins (frame_of frame.entry)
+    ensures { IfOk result (λ o. offer_with o process.new ≡ Does (Alone CallKind) Nothing (begins (frame_of frame.entry)
         (record { into = into; frame = frame_of process.old.frame } ∷ callers_of process.old.callers.items))) }
 {
     let mut caller = mem::replace(&mut process.frame, frame);
@@ -137,7 +137,7 @@ pub fn call<'a>(
     arguments: &[Expression],
     into: Option<u32>,
 ) -> Result<Offered<'a>, AllocError>
-    ensures { IfOk result (λ o. offered o process.new
+    ensures { IfOk result (λ o. offer_with o process.new
         ≡ statement_offer (program_of program.now) (variables_of variables.now) (frame_of process.old.frame)
         (callers_of process.old.callers.items) (Call procedure (map expression_of arguments.now) into)) }
 {
@@ -161,7 +161,7 @@ pub fn fork<'a>(
     arguments: &[Expression],
     into: u32,
 ) -> Result<Offered<'a>, AllocError>
-    ensures { IfOk result (λ o. offered o process.new
+    ensures { IfOk result (λ o. offer_with o process.new
         ≡ statement_offer (program_of program.now) (variables_of variables.now) (frame_of process.old.frame)
         (callers_of process.old.callers.items) (Fork procedure (map expression_of arguments.now) into)) }
 {
@@ -190,7 +190,7 @@ pub fn join<'a>(
     into: Option<u32>,
     aborted: Option<&'a [Statement]>,
 ) -> Result<Offered<'a>, AllocError>
-    ensures { IfOk result (λ o. offered o process.new
+    ensures { IfOk result (λ o. offer_with o process.new
         ≡ statement_offer (program_of program.now) (variables_of variables.now) (frame_of process.old.frame)
         (callers_of process.old.callers.items) (Join (expression_of handle.now) into (part_at aborted.entry))) }
 {

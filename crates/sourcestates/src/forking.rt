@@ -2,7 +2,7 @@ ghost use Rattle.std.specs.Prelude.{IfOk, Some};
 ghost use Rattle.words.specs.Updates.{put};
 ghost use Rattle.program.specs.Views.{program_of};
 ghost use Rattle.sourceruns.specs.NextAction.{offer_of};
-ghost use Rattle.sourceruns.specs.Offered.{offered};
+ghost use Rattle.sourceruns.specs.Offered.{offer_with};
 ghost use Rattle.sourceruns.specs.declared.offers.Offered.TheVariants.{Claims, Makes};
 ghost use Rattle.sourceruns.specs.declared.next_action.Offer.TheVariants.{Joins};
 
@@ -29,7 +29,8 @@ impl<'a> SourceState<'a> {
         process: Process<'a>,
     ) -> Result<bool, AllocError>
         ensures { IfOk result (λ b. IsAnswer b
-            (IsTakenUp number (kind_of kind.now) (offered (Makes child.entry into) process.entry) (state_of self.old))
+            (IsTakenUp number (kind_of kind.now) (offer_with (Makes child.entry into) process.entry)
+            (state_of self.old))
             (state_of self.new)) }
     {
         let Some(made) = self.table.fork() else {
@@ -61,7 +62,7 @@ impl<'a> SourceState<'a> {
         process: Process<'a>,
     ) -> Result<bool, AllocError>
         ensures { IfOk result (λ b. IsAnswer b
-            (IsTakenUp number (kind_of kind.now) (offered (Claims child into aborted.entry) process.entry)
+            (IsTakenUp number (kind_of kind.now) (offer_with (Claims child into aborted.entry) process.entry)
             (state_of self.old)) (state_of self.new)) }
     {
         if !self.table.claim(child)? {

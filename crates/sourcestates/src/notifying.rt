@@ -1,5 +1,5 @@
 ghost use Rattle.std.specs.Prelude.{IfOk};
-ghost use Rattle.sourceruns.specs.Offered.{offered};
+ghost use Rattle.sourceruns.specs.Offered.{offer_with};
 ghost use Rattle.sourceruns.specs.declared.offers.Offered.TheVariants.{NotifiesAll, NotifiesSome};
 
 use crate::action::ActionKind;
@@ -22,7 +22,7 @@ impl<'a> SourceState<'a> {
         process: Process<'a>,
     ) -> Result<bool, AllocError>
         ensures { IfOk result (λ b. IsAnswer b
-            (IsTakenUp number (kind_of kind.now) (offered (NotifiesSome condition) process.entry)
+            (IsTakenUp number (kind_of kind.now) (offer_with (NotifiesSome condition) process.entry)
             (state_of self.old)) (state_of self.new)) }
     {
         let ActionKind::Notify(named, resumed) = kind else {
@@ -47,7 +47,7 @@ impl<'a> SourceState<'a> {
         process: Process<'a>,
     ) -> Result<bool, AllocError>
         ensures { IfOk result (λ b. IsAnswer b
-            (IsTakenUp number (kind_of kind.now) (offered (NotifiesAll condition) process.entry)
+            (IsTakenUp number (kind_of kind.now) (offer_with (NotifiesAll condition) process.entry)
             (state_of self.old)) (state_of self.new)) }
     {
         let ActionKind::Broadcast(named, resumed) = kind else {

@@ -7,7 +7,7 @@ ghost use Rattle.meaning.specs.Processes.{Process as ProcessOf};
 ghost use Rattle.meaning.specs.Runs.{IsAction, IsRun, IsStep};
 ghost use Rattle.meaning.specs.States.{SourceState as SourceStateOf};
 ghost use Rattle.sourceruns.specs.NextAction.{offer_of};
-ghost use Rattle.sourceruns.specs.Offered.{effect_of, label_of, offered};
+ghost use Rattle.sourceruns.specs.Offered.{effect_of, label_of, offer_with};
 ghost use Rattle.sourceruns.specs.declared.process.Process.{Process as ProcessIn};
 ghost use Rattle.sourcestates.specs.Actions.{action_of as action_named};
 ghost use Rattle.sourcestates.specs.States.{state_of as state_in};
@@ -54,7 +54,7 @@ impl<'a> SourceState<'a> {
         process: Process<'a>,
     ) -> Result<bool, AllocError>
         ensures { IfOk result (λ b. IsAnswer b
-            (IsTakenUp number (kind_of kind.now) (offered own.entry process.entry) (state_of self.old))
+            (IsTakenUp number (kind_of kind.now) (offer_with own.entry process.entry) (state_of self.old))
             (state_of self.new)) }
     {
         match own {

@@ -104,7 +104,7 @@ fn called(
     least: Option<Refusal>,
 ) -> Option<Refusal>
     ensures { (s : Scope) → IsContext s context.now → let e = v.callee_of callee.now in
-        Gathers (c.call_faults s e (v.option_name name.entry) (f.called s e)) least result }
+        Gathers (c.call_faults s e (v.option_name name.entry) (f.called_piece s e)) least result }
 {
     match context.callees.called(context.role, callee) {
         Some(piece) => {
@@ -143,7 +143,7 @@ fn begun(
     least: Option<Refusal>,
 ) -> Option<Refusal>
     ensures { (s : Scope) → IsContext s context.now → let e = v.callee_of callee.now in
-        Gathers (c.fork_faults s e (v.name_of name.entry) (f.called s e)) least result }
+        Gathers (c.fork_faults s e (v.name_of name.entry) (f.called_piece s e)) least result }
 {
     match context.callees.called(context.role, callee) {
         Some(piece) => {

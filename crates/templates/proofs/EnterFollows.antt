@@ -14,7 +14,7 @@ use Rattle.meaning.specs.Labels as L
 use Rattle.meaning.specs.Table.{Table}
 use Rattle.meaning.specs.Values.{Variables}
 use Rattle.meaning.specs.Processes.{Frame, Caller, Process, Entering, goes_on, recovers as recovers', callers_monitors}
-use Rattle.protocol.specs.Word.{owner, died, with_waiters}
+use Rattle.protocol.specs.Word.{owner, owner_died_bit, with_waiters}
 use Rattle.protocol.specs.Carries.{Event, Acts, has_died, taking_label}
 use Rattle.protocol.specs.Points.{Purpose, ToEnter, ToReenter, Point, Runs, GotReads, GotUnpends, TakeReads, TakeMarks}
 use Rattle.protocol.specs.Points.{TakeSleeps, TakeTries}
@@ -23,9 +23,9 @@ use Rattle.execution.specs.Following.{Build, recovery_in, Stands}
 use Rattle.execution.specs.Builds.{IsBuild}
 use Rattle.templates.specs.Asking.{AsksSo}
 use Rattle.templates.specs.Locking.{Takes, reads, marks, sleeps, tries, heads, links, lists, unpends, enters, recovers}
-use Rattle.templates.specs.Locking.{EntersAt, kept}
+use Rattle.templates.specs.Locking.{EntersAt, template_locals}
 use Rattle.templates.specs.Locking as T
-use Rattle.templates.specs.Inside.{Template, Enters, taken, EnterFits}
+use Rattle.templates.specs.Inside.{Template, Enters, lock_taker, EnterFits}
 use Rattle.templates.specs.Templates.{ActsSo, StandsOn, Comes, Follows}
 use Rattle.templates.proofs.Locking.{to_enter, to_recover, unpends_look}
 use Rattle.templates.proofs.Entering.{enters_follow, taking}
@@ -40,7 +40,7 @@ module _ (b : Build) (vs : Variables) (t m base : ℕ) (l : Locals) (fs : List M
   In = EntersAt b.program t m base l fs
 
   abbrev at : ℕ → ℕ → Thread
-  at i word = Runs' (base + 11 + i) [] (kept l.values word) fs
+  at i word = Runs' (base + 11 + i) [] (template_locals l.values word) fs
 
   -- the process does what a step carries, and the thread stands at the next point
   abbrev On : Option Event → Process → Point → List ℕ → Thread → Type 0
@@ -49,15 +49,15 @@ module _ (b : Build) (vs : Variables) (t m base : ℕ) (l : Locals) (fs : List M
   asks : (pt : Point) (x : Thread) → (pt ≡ Runs → ⊥) → In pt x → AsksSo b.program b.code t In pt x
   asks = enters_follow b.program b.code t m base (recovery_in b m) l fs fits.code some few
 
-  nobody : died 0 ≡ 0
-  unfolding died
+  nobody : owner_died_bit 0 ≡ 0
+  unfolding owner_died_bit
   nobody = refl
 
   tried : (x : Bool) (K : Purpose) (y : Thread) → In (if x then GotReads m 0 else TakeReads m K) y
       → On (if x then Some (Acts t (L.Enters m false)) else None) (Entering m f cs)
       (if x then GotReads m 0 else TakeReads m K) (callers_monitors cs) y
   tried true K y s = (
-    taken b.program m f cs 0,
+    lock_taker b.program m f cs 0,
     (refl, (false, refl, refl, taken_free b m f cs 0 nobody)),
     inl ((λ n. absurd cc), s, refl, refl),
   )
@@ -86,7 +86,7 @@ module _ (b : Build) (vs : Variables) (t m base : ℕ) (l : Locals) (fs : List M
         → On (if x then Some (Acts t (taking_label K m (has_died v))) else None) (Entering m f cs)
         (if x then GotReads m v else TakeReads m K) (callers_monitors cs) y
     after_try true v y s = (
-      taken b.program m f cs v,
+      lock_taker b.program m f cs v,
       (refl, (has_died v, label (has_died v), refl, refl)),
       inl ((λ n. absurd cc), s, refl, refl),
     )
@@ -94,34 +94,36 @@ module _ (b : Build) (vs : Variables) (t m base : ℕ) (l : Locals) (fs : List M
 
     -- with nothing pending any more
     module _ (w : World) (table : Table) (e : End) (r : ℕ) (w' : World) where
-      got : (v n : ℕ) → died v ≡ n → Comes b vs t k (GotUnpends m v) w table e r w' (at 45 v)
+      got : (v n : ℕ) → owner_died_bit v ≡ n → Comes b vs t k (GotUnpends m v) w table e r w' (at 45 v)
       got v zero free = record {
         thread = at 50 v;
         walk = to_enter b.program b.code t m K (Enter m) (recovery_in b m) base 11 l.values fs
             (taking b.program b.code t m base (recovery_in b m) l fs fits.code some few) some few v free;
-        process = taken b.program m f cs v;
+        process = lock_taker b.program m f cs v;
         acts = refl;
         stands = inr (
           refl,
           subst (λ (q : Process). Stands b t (at 50 v) q) (sym (taken_free b m f cs v free))
-              (subst (λ n. Stands b t (Runs' n [] (kept l.values v) fs) (goes_on (Some m) f cs)) (omega arith)
+              (subst (λ n. Stands b t (Runs' n [] (template_locals l.values v) fs) (goes_on (Some m) f cs))
+              (omega arith)
               (fits.after.enters v)),
           sym (taken_holds b is m f cs v (entry_alone m f cs fits.held) ∙ fits.held),
         );
       }
       got v (suc n) dead = got_abandoned v (λ z. omega (arith, dead, z))
         where
-          got_abandoned : (v : ℕ) → died v ≢ 0 → Comes b vs t k (GotUnpends m v) w table e r w' (at 45 v)
+          got_abandoned : (v : ℕ) → owner_died_bit v ≢ 0 → Comes b vs t k (GotUnpends m v) w table e r w' (at 45 v)
           got_abandoned v ne = record {
             thread = at 49 v;
             walk = to_recover b.program b.code t m K (Enter m) (recovery_in b m) base 11 l.values fs
                 (taking b.program b.code t m base (recovery_in b m) l fs fits.code some few) some few v ne;
-            process = taken b.program m f cs v;
+            process = lock_taker b.program m f cs v;
             acts = refl;
             stands = inr (
               refl,
               subst (λ (q : Process). Stands b t (at 49 v) q) (sym (taken_abandoned b m f cs v ne))
-                  (subst (λ n. Stands b t (Runs' n [] (kept l.values v) fs) (recovers' b.program m f cs)) (omega arith)
+                  (subst (λ n. Stands b t (Runs' n [] (template_locals l.values v) fs) (recovers' b.program m f cs))
+                  (omega arith)
                   (fits.after.recovers v)),
               sym (taken_holds b is m f cs v (entry_alone m f cs fits.held) ∙ fits.held),
             );
@@ -138,18 +140,18 @@ module _ (b : Build) (vs : Variables) (t m base : ℕ) (l : Locals) (fs : List M
     takes_go pt x inside s (tries v) = follows_by b vs t k pt x (asks pt x inside s)
         (λ w tb e r w' y may z. after_try (r == v) v y z)
     takes_go pt x inside s (heads v) = follows_by b vs t k pt x (asks pt x inside s)
-        (λ w tb e r w' y may z. (taken b.program m f cs v, refl, inl ((λ n. absurd cc), z, refl, refl)))
+        (λ w tb e r w' y may z. (lock_taker b.program m f cs v, refl, inl ((λ n. absurd cc), z, refl, refl)))
     takes_go pt x inside s (links v h) = follows_by b vs t k pt x (asks pt x inside s)
-        (λ w tb e r w' y may z. (taken b.program m f cs v, refl, inl ((λ n. absurd cc), z, refl, refl)))
+        (λ w tb e r w' y may z. (lock_taker b.program m f cs v, refl, inl ((λ n. absurd cc), z, refl, refl)))
     takes_go pt x inside s (lists v) = follows_by b vs t k pt x (asks pt x inside s)
-        (λ w tb e r w' y may z. (taken b.program m f cs v, refl, inl ((λ n. absurd cc), z, refl, refl)))
+        (λ w tb e r w' y may z. (lock_taker b.program m f cs v, refl, inl ((λ n. absurd cc), z, refl, refl)))
     takes_go pt x inside s (unpends v) = record {
       asks = AskStore (process_word t 1) 0;
       go = λ r. at 45 v;
       same = refl;
       look = unpends_look b.program b.code t m K (Enter m) (recovery_in b m) base 11 l.values fs
           (taking b.program b.code t m base (recovery_in b m) l fs fits.code some few) some few v;
-      goes = λ w tb e r w' may. got w tb e r w' v (died v) refl;
+      goes = λ w tb e r w' may. got w tb e r w' v (owner_died_bit v) refl;
     }
     takes_go pt x inside s (enters v e) = absurd (inside refl)
     takes_go pt x inside s (recovers v e) = absurd (inside refl)

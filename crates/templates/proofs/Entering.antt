@@ -14,7 +14,7 @@ use Rattle.locals.specs.Looks.{Request, Goes, Asks, AskStore, AskCompareSwap, lo
 use Rattle.program.specs.Trees.{Program}
 use Rattle.code.specs.declared.mark.Mark.TheVariants.{Enter}
 use Rattle.code.specs.declared.mark.Marked.{Marked}
-use Rattle.code.specs.Marks.{plain, placed}
+use Rattle.code.specs.Marks.{plain, rebase_all}
 use Rattle.code.specs.Layout.{link_word, lock_word_address}
 use Rattle.code.specs.Locks.{try_code, take_at, got_at, enter_code}
 use Rattle.protocol.specs.Points.{ToEnter, ToReenter, Point, Runs, GotReads, TakeReads}
@@ -23,11 +23,12 @@ use Rattle.execution.proofs.Walking.{front_stands, back_stands, within_on, wider
 use Rattle.execution.proofs.Awaiting.{stand_index}
 use Rattle.templates.specs.Asking.{AsksSo, template_steps}
 use Rattle.templates.specs.Locking.{reads, heads, EntersAt, pends, tries, takes, pends_again, tries_again, takes_again}
-use Rattle.templates.specs.Locking.{kept}
+use Rattle.templates.specs.Locking.{template_locals}
 use Rattle.templates.proofs.Locking.{takes_follow, to_list, again, address_step}
 
 module _ (p : Program) (image : MarkedImage) (t m base : ℕ) (recover : Instr) (l : Locals) (fs : List Frame)
-    (code : StandAt image base (placed base (enter_code m (link_word p m) recover))) (some : 0 < t) (few : t ≤ 64) where
+    (code : StandAt image base (rebase_all base (enter_code m (link_word p m) recover))) (some : 0 < t)
+    (few : t ≤ 64) where
   abbrev link : ℕ
   link = link_word p m
 
@@ -35,10 +36,10 @@ module _ (p : Program) (image : MarkedImage) (t m base : ℕ) (recover : Instr) 
   lock = lock_word_address p m
 
   abbrev first_part : List Marked
-  first_part = placed base (try_code m (link_word p m))
+  first_part = rebase_all base (try_code m (link_word p m))
 
   abbrev later_part : List Marked
-  later_part = placed base (take_at (Enter m) (link_word p m) 11 ++ got_at (link_word p m) recover (11 + 32))
+  later_part = rebase_all base (take_at (Enter m) (link_word p m) 11 ++ got_at (link_word p m) recover (11 + 32))
 
   trying : StandAt image base first_part
   trying = front_stands image base first_part later_part code
@@ -81,15 +82,18 @@ module _ (p : Program) (image : MarkedImage) (t m base : ℕ) (recover : Instr) 
 
   -- after a failed first compare-and-swap: to the taking of the lock
   to_take : (n : ℕ) → Go template_steps (at 8 (suc n ∷ []) l)
-      (Runs' (base + 11 + 1) (lock ∷ []) (kept l.values (suc n)) fs)
+      (Runs' (base + 11 + 1) (lock ∷ []) (template_locals l.values (suc n)) fs)
   to_take n =
       wider image t (empty_view p) 4 template_steps _ _ (omega arith)
-      (then_go 3 _ _ _ (step 8 9 _ _ (suc n ∷ []) [] l (kept l.values (suc n)) refl refl (omega arith))
-      (then_go 2 _ _ _ (step 9 10 _ _ [] (suc n ∷ []) (kept l.values (suc n)) (kept l.values (suc n)) refl refl
+      (then_go 3 _ _ _ (step 8 9 _ _ (suc n ∷ []) [] l (template_locals l.values (suc n)) refl refl (omega arith))
+      (then_go 2 _ _ _ (step 9 10 _ _ [] (suc n ∷ []) (template_locals l.values (suc n))
+      (template_locals l.values (suc n)) refl refl
       (omega arith))
-      (then_go 1 _ _ _ (step 10 11 _ _ (suc n ∷ []) [] (kept l.values (suc n)) (kept l.values (suc n)) refl refl
+      (then_go 1 _ _ _ (step 10 11 _ _ (suc n ∷ []) [] (template_locals l.values (suc n))
+      (template_locals l.values (suc n)) refl refl
       (omega arith))
-      (subst (λ k. Go 1 (Runs' k [] (kept l.values (suc n)) fs) (Runs' (base + 11 + 1) (lock ∷ []) (kept l.values
+      (subst (λ k. Go 1 (Runs' k [] (template_locals l.values (suc n)) fs)
+      (Runs' (base + 11 + 1) (lock ∷ []) (template_locals l.values
       (suc n)) fs))
       (omega arith) (again p image t m ToEnter (Enter m) recover base 11 l.values fs taking some few (suc n))))))
 
@@ -97,21 +101,24 @@ module _ (p : Program) (image : MarkedImage) (t m base : ℕ) (recover : Instr) 
   after_try : (r : ℕ) → (y : Thread) × Go template_steps (at 8 (r ∷ []) l) y
       × In (if r == 0 then GotReads m 0 else TakeReads m ToEnter) y
   after_try zero = (
-    Runs' (base + 11 + 35) (process_word t 0 ∷ link ∷ []) (kept l.values 0) fs,
+    Runs' (base + 11 + 35) (process_word t 0 ∷ link ∷ []) (template_locals l.values 0) fs,
     wider image t (empty_view p) 6 template_steps _ _ (omega arith)
-        (then_go 5 _ _ _ (step 8 9 _ _ (0 ∷ []) [] l (kept l.values 0) refl refl (omega arith))
-        (then_go 4 _ _ _ (step 9 10 _ _ [] (0 ∷ []) (kept l.values 0) (kept l.values 0) refl refl (omega arith))
-        (then_go 3 _ _ _ (step 10 43 _ _ (0 ∷ []) [] (kept l.values 0) (kept l.values 0) refl refl refl)
-        (subst (λ n. Go 3 (Runs' n [] (kept l.values 0) fs) (Runs' (base + 11 + 35) (process_word t 0 ∷ link ∷ [])
-        (kept l.values 0) fs)) (omega arith)
+        (then_go 5 _ _ _ (step 8 9 _ _ (0 ∷ []) [] l (template_locals l.values 0) refl refl (omega arith))
+        (then_go 4 _ _ _ (step 9 10 _ _ [] (0 ∷ []) (template_locals l.values 0) (template_locals l.values 0) refl refl
+        (omega arith))
+        (then_go 3 _ _ _ (step 10 43 _ _ (0 ∷ []) [] (template_locals l.values 0)
+        (template_locals l.values 0) refl refl refl)
+        (subst (λ n. Go 3 (Runs' n [] (template_locals l.values 0) fs)
+        (Runs' (base + 11 + 35) (process_word t 0 ∷ link ∷ [])
+        (template_locals l.values 0) fs)) (omega arith)
         (to_list p image t m ToEnter (Enter m) recover base 11 l.values fs taking some few 0))))),
     takes (heads 0),
   )
   after_try (suc n) = (
-    Runs' (base + 11 + 1) (lock ∷ []) (kept l.values (suc n)) fs,
+    Runs' (base + 11 + 1) (lock ∷ []) (template_locals l.values (suc n)) fs,
     to_take n,
     subst (λ (b : Bool). In (if b then GotReads m 0 else TakeReads m ToEnter)
-        (Runs' (base + 11 + 1) (lock ∷ []) (kept l.values (suc n)) fs))
+        (Runs' (base + 11 + 1) (lock ∷ []) (template_locals l.values (suc n)) fs))
         (sym (ne_eqb (suc n) 0 (λ z. omega (arith, z)))) (takes (reads (suc n))),
   )
 
@@ -120,10 +127,10 @@ module _ (p : Program) (image : MarkedImage) (t m base : ℕ) (recover : Instr) 
       × In (if r == 0 then GotReads m 0 else TakeReads m ToReenter) y
   after_try_again zero ne = absurd (ne refl)
   after_try_again (suc n) ne = (
-    Runs' (base + 11 + 1) (lock ∷ []) (kept l.values (suc n)) fs,
+    Runs' (base + 11 + 1) (lock ∷ []) (template_locals l.values (suc n)) fs,
     to_take n,
     subst (λ (b : Bool). In (if b then GotReads m 0 else TakeReads m ToReenter)
-        (Runs' (base + 11 + 1) (lock ∷ []) (kept l.values (suc n)) fs))
+        (Runs' (base + 11 + 1) (lock ∷ []) (template_locals l.values (suc n)) fs))
         (sym (ne_eqb (suc n) 0 (λ z. omega (arith, z)))) (takes_again (reads (suc n))),
   )
 

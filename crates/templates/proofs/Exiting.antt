@@ -16,7 +16,7 @@ use Rattle.locals.specs.Threads.{Thread, Runs as Runs'}
 use Rattle.locals.specs.Looks.{Request, Goes, Asks, look, at_place, effect, push_effect, if_so, place_after_test}
 use Rattle.program.specs.Trees.{Program}
 use Rattle.code.specs.declared.mark.Marked.{Marked}
-use Rattle.code.specs.Marks.{plain, placed}
+use Rattle.code.specs.Marks.{plain, rebase_all}
 use Rattle.code.specs.Layout.{link_word, lock_word_address}
 use Rattle.code.specs.Locks.{exit_code}
 use Rattle.protocol.specs.Word.{waiters}
@@ -36,7 +36,7 @@ room_beneath None = omega arith
 room_beneath (Some w) = omega arith
 
 module _ (p : Program) (image : MarkedImage) (t m base : ℕ) (shown : Option ℕ) (l : Locals) (fs : List Frame)
-    (code : StandAt image base (placed base (exit_code m (link_word p m)))) (some : 0 < t) (few : t ≤ 64) where
+    (code : StandAt image base (rebase_all base (exit_code m (link_word p m)))) (some : 0 < t) (few : t ≤ 64) where
   abbrev link : ℕ
   link = link_word p m
 
@@ -47,7 +47,7 @@ module _ (p : Program) (image : MarkedImage) (t m base : ℕ) (shown : Option �
   rest = result_operands shown
 
   abbrev segment : List Marked
-  segment = placed base (exit_code m (link_word p m))
+  segment = rebase_all base (exit_code m (link_word p m))
 
   abbrev Go : ℕ → Thread → Thread → Type 0
   Go n x y = WalksWithin image t (empty_view p) n x y

@@ -16,10 +16,10 @@ use Rattle.locals.specs.Looks.{Request, Goes, Asks, AskStore, look, at_place, ef
 use Rattle.program.specs.Trees.{Program}
 use Rattle.code.specs.declared.mark.Mark.{Mark}
 use Rattle.code.specs.declared.mark.Marked.{Marked}
-use Rattle.code.specs.Marks.{plain, placed}
+use Rattle.code.specs.Marks.{plain, rebase_all}
 use Rattle.code.specs.Layout.{link_word, lock_word_address}
 use Rattle.code.specs.Locks.{take_at, got_at}
-use Rattle.protocol.specs.Word.{owner, died, with_waiters}
+use Rattle.protocol.specs.Word.{owner, owner_died_bit, with_waiters}
 use Rattle.protocol.specs.Points.{Purpose, Point, Runs, TakeReads, TakeMarks, TakeSleeps, TakeTries, GotReads}
 use Rattle.protocol.specs.Answers.{next}
 use Rattle.execution.specs.Walks.{empty_view, StandAt, WalksWithin, stays}
@@ -28,23 +28,26 @@ use Rattle.execution.proofs.Awaiting.{stand_index}
 use Rattle.templates.specs.Layout.{place}
 use Rattle.templates.specs.Asking.{AsksSo, template_steps}
 use Rattle.templates.specs.Locking.{Takes, reads, marks, sleeps, tries, heads, links, lists, unpends, enters, recovers}
-use Rattle.templates.specs.Locking.{kept}
+use Rattle.templates.specs.Locking.{template_locals}
 use Rattle.protocol.specs.Memory.{entry_address}
 
 pub address_step : (t place h : ℕ) (word : ProcessWord) (rest : List ℕ) (values : List ℕ) (s : ℕ) (fs : List Frame)
     → 0 < h
-    → h ≤ 64 → at_place place (kept values s) fs (effect t (ProcessAddress word) (h ∷ rest) (kept values s))
-    ≡ Goes (Runs' (place + 1) (process_word h (number_of word) ∷ rest) (kept values s) fs)
+    → h ≤ 64 → at_place place (template_locals values s) fs
+    (effect t (ProcessAddress word) (h ∷ rest) (template_locals values s))
+    ≡ Goes (Runs' (place + 1) (process_word h (number_of word) ∷ rest) (template_locals values s) fs)
 address_step t place h word rest values s fs some few =
-    ap (λ k. if_so (k && nat_le h 64) (Goes (Runs' (place + 1) (process_word h (number_of word) ∷ rest) (kept values
+    ap (λ k. if_so (k && nat_le h 64)
+    (Goes (Runs' (place + 1) (process_word h (number_of word) ∷ rest) (template_locals values
     s) fs)))
     (le-leb 1 h (omega (arith, some)))
-    ∙ ap (λ k. if_so k (Goes (Runs' (place + 1) (process_word h (number_of word) ∷ rest) (kept values s) fs)))
+    ∙ ap (λ k. if_so k (Goes (Runs' (place + 1) (process_word h (number_of word) ∷ rest)
+    (template_locals values s) fs)))
     (le-leb h 64 few)
 
 module _ (p : Program) (image : MarkedImage) (t m : ℕ) (k : Purpose) (mark : Mark) (recover : Instr) (base a : ℕ)
     (values : List ℕ) (fs : List Frame)
-    (code : StandAt image (base + a) (placed base (take_at mark (link_word p m) a ++ got_at (link_word p m) recover
+    (code : StandAt image (base + a) (rebase_all base (take_at mark (link_word p m) a ++ got_at (link_word p m) recover
     (a + 32))))
     (some : 0 < t) (few : t ≤ 64) where
   abbrev first : ℕ
@@ -57,29 +60,30 @@ module _ (p : Program) (image : MarkedImage) (t m : ℕ) (k : Purpose) (mark : M
   link = link_word p m
 
   abbrev segment : List Marked
-  segment = placed base (take_at mark (link_word p m) a ++ got_at (link_word p m) recover (a + 32))
+  segment = rebase_all base (take_at mark (link_word p m) a ++ got_at (link_word p m) recover (a + 32))
 
   abbrev at : ℕ → List ℕ → ℕ → Thread
-  at i operands word = Runs' (first + i) operands (kept values word) fs
+  at i operands word = Runs' (first + i) operands (template_locals values word) fs
 
   abbrev Go : ℕ → Thread → Thread → Type 0
   Go n x y = WalksWithin image t (empty_view p) n x y
 
   step : (i j : ℕ) (x : Instr) (operands operands' : List ℕ) (s s' place : ℕ) → slice_get segment i ≡ Some (plain x)
-      → at_place (first + i) (kept values s) fs (effect t x operands (kept values s))
-      ≡ Goes (Runs' place operands' (kept values s') fs) → place ≡ first + j
+      → at_place (first + i) (template_locals values s) fs (effect t x operands (template_locals values s))
+      ≡ Goes (Runs' place operands' (template_locals values s') fs) → place ≡ first + j
       → Go 1 (at i operands s) (at j operands' s')
   step i j x operands operands' s s' place e h same =
       let here = stand_index image first segment i (first + i) (plain x) code e refl in
       one_step image t (empty_view p) _ _
-      (look_here image t (empty_view p) (first + i) x operands (kept values s) fs here
-      ∙ h ∙ ap (λ n. Goes (Runs' n operands' (kept values s') fs)) same) (ap later_mark here.1)
+      (look_here image t (empty_view p) (first + i) x operands (template_locals values s) fs here
+      ∙ h ∙ ap (λ n. Goes (Runs' n operands' (template_locals values s') fs)) same) (ap later_mark here.1)
 
   address : (i j : ℕ) (x : Instr) (word : ProcessWord) (rest : List ℕ) (s : ℕ) → slice_get segment i ≡ Some (plain x)
       → x ≡ ProcessAddress word → first + i + 1 ≡ first + j
       → Go 1 (at i (t ∷ rest) s) (at j (process_word t (number_of word) ∷ rest) s)
   address i j x word rest s e is same = step i j x (t ∷ rest) _ s s (first + i + 1) e
-      (ap (λ (n : Instr). at_place (first + i) (kept values s) fs (effect t n (t ∷ rest) (kept values s))) is
+      (ap (λ (n : Instr). at_place (first + i) (template_locals values s) fs
+      (effect t n (t ∷ rest) (template_locals values s))) is
       ∙ address_step t (first + i) t word rest values s fs some few) same
 
   then_go : (n : ℕ) (x y z : Thread) → Go 1 x y → Go n y z → Go (suc n) x z
@@ -92,13 +96,13 @@ module _ (p : Program) (image : MarkedImage) (t m : ℕ) (k : Purpose) (mark : M
 
   asks : (i j : ℕ) (x : Marked) (operands : List ℕ) (s : ℕ) (after : ℕ → List ℕ) (request : Request)
       → slice_get segment i ≡ Some x
-      → at_place (first + i) (kept values s) fs (effect t x.instruction operands (kept values s))
-      ≡ Asks request (λ r. Runs' (first + i + 1) (after r) (kept values s) fs) → first + i + 1 ≡ first + j
+      → at_place (first + i) (template_locals values s) fs (effect t x.instruction operands (template_locals values s))
+      ≡ Asks request (λ r. Runs' (first + i + 1) (after r) (template_locals values s) fs) → first + i + 1 ≡ first + j
       → look image.image t (at i operands s) ≡ Asks request (λ r. at j (after r) s)
   asks i j x operands s after request e h same =
-      look_here image t (empty_view p) (first + i) x.instruction operands (kept values s) fs
+      look_here image t (empty_view p) (first + i) x.instruction operands (template_locals values s) fs
       (stand_index image first segment i (first + i) x code e refl)
-      ∙ h ∙ ap (λ n. Asks request (λ r. Runs' n (after r) (kept values s) fs)) same
+      ∙ h ∙ ap (λ n. Asks request (λ r. Runs' n (after r) (template_locals values s) fs)) same
 
   tested : (n place next : ℕ) → n ≢ 0 → place_after_test n place next ≡ next
   tested zero place next ne = absurd (ne refl)
@@ -140,7 +144,8 @@ module _ (p : Program) (image : MarkedImage) (t m : ℕ) (k : Purpose) (mark : M
     at 28 (with_waiters t ∷ r ∷ lock ∷ []) r,
     enough 10 _ _ (omega arith) (within_on image t (empty_view p) 4 6 _ _ _ (seen r word) (then_go 5 _ _ _
         (step 6 23 _ (bit_and r 1073741823 ∷ []) [] r r _ refl
-        (ap (λ v. Goes (Runs' (place_after_test v (base + (a + 23)) (first + 6 + 1)) [] (kept values r) fs)) e)
+        (ap (λ v. Goes (Runs' (place_after_test v (base + (a + 23)) (first + 6 + 1)) []
+        (template_locals values r) fs)) e)
         (omega arith))
         (to_try r))),
     tries r,
@@ -151,7 +156,8 @@ module _ (p : Program) (image : MarkedImage) (t m : ℕ) (k : Purpose) (mark : M
         at 12 (with_waiters r ∷ r ∷ lock ∷ []) r,
         enough 10 _ _ (omega arith) (within_on image t (empty_view p) 4 6 _ _ _ (seen r word) (then_go 5 _ _ _
             (step 6 7 _ (bit_and r 1073741823 ∷ []) [] r r _ refl
-            (ap (λ v. Goes (Runs' v [] (kept values r) fs)) (tested (bit_and r 1073741823) (base + (a + 23)) (first +
+            (ap (λ v. Goes (Runs' v [] (template_locals values r) fs))
+            (tested (bit_and r 1073741823) (base + (a + 23)) (first +
             6 + 1) other))
             (omega arith)) (to_mark r))),
         subst (λ (b : Bool). In (if b then TakeTries m r k else TakeMarks m r k) (at 12 (with_waiters r ∷ r ∷ lock ∷
@@ -177,7 +183,7 @@ module _ (p : Program) (image : MarkedImage) (t m : ℕ) (k : Purpose) (mark : M
     at 20 (with_waiters v ∷ lock ∷ []) v,
     enough 7 _ _ (omega arith) (then_go 6 _ _ _ (step 13 14 _ (r ∷ []) (v ∷ r ∷ []) v v _ refl refl (omega arith))
         (then_go 5 _ _ _ (step 14 15 _ (v ∷ r ∷ []) (1 ∷ []) v v _ refl
-        (ap (λ c. Goes (Runs' (first + 14 + 1) (truth c ∷ []) (kept values v) fs)) e) (omega arith))
+        (ap (λ c. Goes (Runs' (first + 14 + 1) (truth c ∷ []) (template_locals values v) fs)) e) (omega arith))
         (then_go 4 _ _ _ (step 15 16 _ (1 ∷ []) [] v v _ refl refl (omega arith))
         (then_go 3 _ _ _ (step 16 17 _ [] (lock ∷ []) v v _ refl refl (omega arith))
         (then_go 2 _ _ _ (step 17 18 _ (lock ∷ []) (v ∷ lock ∷ []) v v _ refl refl (omega arith))
@@ -189,7 +195,7 @@ module _ (p : Program) (image : MarkedImage) (t m : ℕ) (k : Purpose) (mark : M
     at 1 (lock ∷ []) v,
     enough 4 _ _ (omega arith) (then_go 3 _ _ _ (step 13 14 _ (r ∷ []) (v ∷ r ∷ []) v v _ refl refl (omega arith))
         (then_go 2 _ _ _ (step 14 15 _ (v ∷ r ∷ []) (0 ∷ []) v v _ refl
-        (ap (λ c. Goes (Runs' (first + 14 + 1) (truth c ∷ []) (kept values v) fs)) e) (omega arith))
+        (ap (λ c. Goes (Runs' (first + 14 + 1) (truth c ∷ []) (template_locals values v) fs)) e) (omega arith))
         (then_go 1 _ _ _ (step 15 0 _ (0 ∷ []) [] v v _ refl refl (omega arith)) (again v)))),
     reads v,
   )
@@ -200,7 +206,7 @@ module _ (p : Program) (image : MarkedImage) (t m : ℕ) (k : Purpose) (mark : M
     at 35 (process_word t 0 ∷ link ∷ []) v,
     enough 6 _ _ (omega arith) (then_go 5 _ _ _ (step 29 30 _ (r ∷ []) (v ∷ r ∷ []) v v _ refl refl (omega arith))
         (then_go 4 _ _ _ (step 30 31 _ (v ∷ r ∷ []) (1 ∷ []) v v _ refl
-        (ap (λ c. Goes (Runs' (first + 30 + 1) (truth c ∷ []) (kept values v) fs)) e) (omega arith))
+        (ap (λ c. Goes (Runs' (first + 30 + 1) (truth c ∷ []) (template_locals values v) fs)) e) (omega arith))
         (then_go 3 _ _ _ (step 31 32 _ (1 ∷ []) [] v v _ refl refl (omega arith)) (to_list v)))),
     heads v,
   )
@@ -208,36 +214,37 @@ module _ (p : Program) (image : MarkedImage) (t m : ℕ) (k : Purpose) (mark : M
     at 1 (lock ∷ []) v,
     enough 4 _ _ (omega arith) (then_go 3 _ _ _ (step 29 30 _ (r ∷ []) (v ∷ r ∷ []) v v _ refl refl (omega arith))
         (then_go 2 _ _ _ (step 30 31 _ (v ∷ r ∷ []) (0 ∷ []) v v _ refl
-        (ap (λ c. Goes (Runs' (first + 30 + 1) (truth c ∷ []) (kept values v) fs)) e) (omega arith))
+        (ap (λ c. Goes (Runs' (first + 30 + 1) (truth c ∷ []) (template_locals values v) fs)) e) (omega arith))
         (then_go 1 _ _ _ (step 31 0 _ (0 ∷ []) [] v v _ refl refl (omega arith)) (again v)))),
     reads v,
   )
 
   -- after the clearing of the pending word: on in the monitor, or to its recovery
-  pub to_enter : (v : ℕ) → died v ≡ 0 → Go template_steps (at 45 [] v) (at 50 [] v)
-  unfolding died
+  pub to_enter : (v : ℕ) → owner_died_bit v ≡ 0 → Go template_steps (at 45 [] v) (at 50 [] v)
+  unfolding owner_died_bit
   to_enter v e =
       enough 4 _ _ (omega arith) (then_go 3 _ _ _ (step 45 46 _ [] (v ∷ []) v v _ refl refl (omega arith))
       (then_go 2 _ _ _ (step 46 47 _ (v ∷ []) (1073741824 ∷ v ∷ []) v v _ refl refl (omega arith))
       (then_go 1 _ _ _ (step 47 48 _ (1073741824 ∷ v ∷ []) (bit_and v 1073741824 ∷ []) v v _ refl refl (omega arith))
       (step 48 50 _ (bit_and v 1073741824 ∷ []) [] v v _ refl
-      (ap (λ z. Goes (Runs' (place_after_test z (base + (a + 32 + 18)) (first + 48 + 1)) [] (kept values v) fs)) e)
+      (ap (λ z. Goes (Runs' (place_after_test z (base + (a + 32 + 18)) (first + 48 + 1)) []
+      (template_locals values v) fs)) e)
       (omega arith)))))
 
-  pub to_recover : (v : ℕ) → died v ≢ 0 → Go template_steps (at 45 [] v) (at 49 [] v)
-  unfolding died
+  pub to_recover : (v : ℕ) → owner_died_bit v ≢ 0 → Go template_steps (at 45 [] v) (at 49 [] v)
+  unfolding owner_died_bit
   to_recover v other =
       enough 4 _ _ (omega arith) (then_go 3 _ _ _ (step 45 46 _ [] (v ∷ []) v v _ refl refl (omega arith))
       (then_go 2 _ _ _ (step 46 47 _ (v ∷ []) (1073741824 ∷ v ∷ []) v v _ refl refl (omega arith))
       (then_go 1 _ _ _ (step 47 48 _ (1073741824 ∷ v ∷ []) (bit_and v 1073741824 ∷ []) v v _ refl refl (omega arith))
       (step 48 49 _ (bit_and v 1073741824 ∷ []) [] v v _ refl
-      (ap (λ z. Goes (Runs' z [] (kept values v) fs))
+      (ap (λ z. Goes (Runs' z [] (template_locals values v) fs))
       (tested (bit_and v 1073741824) (base + (a + 32 + 18)) (first + 48 + 1) other)) (omega arith)))))
 
-  after_unpend : (v n : ℕ) → died v ≡ n → Comes (at 45 [] v) Runs
+  after_unpend : (v n : ℕ) → owner_died_bit v ≡ n → Comes (at 45 [] v) Runs
   after_unpend v zero e = (at 50 [] v, to_enter v e, enters v e)
   after_unpend v (suc n) e =
-      let other : died v ≢ 0 = λ z. omega (arith, e, z) in (at 49 [] v, to_recover v other, recovers v other)
+      let other : owner_died_bit v ≢ 0 = λ z. omega (arith, e, z) in (at 49 [] v, to_recover v other, recovers v other)
 
   pub unpends_look : (v : ℕ)
       → look image.image t (at 44 (0 ∷ process_word t 1 ∷ []) v) ≡ Asks (AskStore (process_word t 1) 0)
@@ -320,7 +327,7 @@ module _ (p : Program) (image : MarkedImage) (t m : ℕ) (k : Purpose) (mark : M
     go = λ r. at 45 [] v;
     same = refl;
     look = unpends_look v;
-    goes = λ w e r may. after_unpend v (died v) refl;
+    goes = λ w e r may. after_unpend v (owner_died_bit v) refl;
   }
   takes_follow pt x inside (enters v e) = absurd (inside refl)
   takes_follow pt x inside (recovers v e) = absurd (inside refl)

@@ -13,16 +13,16 @@ use Rattle.meaning.specs.Table.{Table}
 use Rattle.meaning.specs.Values.{Variables}
 use Rattle.meaning.specs.Processes.{Frame, Caller, Process, goes_on, recovers, recovers_by, frame_of, opening_frame}
 use Rattle.meaning.specs.Processes.{all_monitors, callers_monitors, monitor_of_role, holds}
-use Rattle.protocol.specs.Word.{died}
+use Rattle.protocol.specs.Word.{owner_died_bit}
 use Rattle.protocol.specs.Points.{Point}
 use Rattle.protocol.specs.World.{World}
 use Rattle.protocol.specs.Answers.{next, next_list}
-use Rattle.protocol.specs.Served.{MayAnswer, carried}
+use Rattle.protocol.specs.Served.{MayAnswer, source_event}
 use Rattle.execution.specs.Following.{Build}
 use Rattle.execution.specs.Builds.{IsBuild}
 use Rattle.execution.proofs.Holding.{goes_on_holds}
 use Rattle.templates.specs.Asking.{AsksSo}
-use Rattle.templates.specs.Inside.{Template, taken, process_at, list_at, StandsIn}
+use Rattle.templates.specs.Inside.{Template, lock_taker, process_at, list_at, StandsIn}
 use Rattle.templates.specs.Templates.{ActsSo, StandsOn, Follows}
 
 -- a procedure that belongs to a monitor isn't the main part
@@ -39,15 +39,15 @@ entry_alone m f cs held main =
     absurd (omega (arith, long))
 
 -- a monitor that was not abandoned, and one that was
-pub taken_free : (b : Build) (m : ℕ) (f : Frame) (cs : List Caller) (seen : ℕ) → died seen ≡ 0
-    → taken b.program m f cs seen ≡ goes_on (Some m) f cs
+pub taken_free : (b : Build) (m : ℕ) (f : Frame) (cs : List Caller) (seen : ℕ) → owner_died_bit seen ≡ 0
+    → lock_taker b.program m f cs seen ≡ goes_on (Some m) f cs
 taken_free b m f cs seen e =
     ap (λ n. if not (n == 0) then recovers b.program m f cs else goes_on (Some m) f cs) e
 
-pub taken_abandoned : (b : Build) (m : ℕ) (f : Frame) (cs : List Caller) (seen : ℕ) → died seen ≢ 0
-    → taken b.program m f cs seen ≡ recovers b.program m f cs
+pub taken_abandoned : (b : Build) (m : ℕ) (f : Frame) (cs : List Caller) (seen : ℕ) → owner_died_bit seen ≢ 0
+    → lock_taker b.program m f cs seen ≡ recovers b.program m f cs
 taken_abandoned b m f cs seen ne =
-    ap (λ x. if not x then recovers b.program m f cs else goes_on (Some m) f cs) (ne_eqb (died seen) 0 ne)
+    ap (λ x. if not x then recovers b.program m f cs else goes_on (Some m) f cs) (ne_eqb (owner_died_bit seen) 0 ne)
 
 module _ (b : Build) (is : IsBuild b) (m : ℕ) (f : Frame) (cs : List Caller) where
   abbrev behind : List Caller
@@ -67,8 +67,9 @@ module _ (b : Build) (is : IsBuild b) (m : ℕ) (f : Frame) (cs : List Caller) w
           (λ main. let clash = sym role ∙ main in absurd cc)
           ∙ ap (λ (x : Role). monitor_of_role x (callers_monitors behind)) role
 
-  pub taken_holds : (seen : ℕ) → (f.role ≡ Main → cs ≡ []) → holds (taken b.program m f cs seen) ≡ all_monitors f cs
-  taken_holds seen alone = by_test (not (died seen == 0))
+  pub taken_holds : (seen : ℕ) → (f.role ≡ Main → cs ≡ [])
+      → holds (lock_taker b.program m f cs seen) ≡ all_monitors f cs
+  taken_holds seen alone = by_test (not (owner_died_bit seen == 0))
     where
       by_test : (x : Bool)
           → holds (if x then recovers b.program m f cs else goes_on (Some m) f cs) ≡ all_monitors f cs
@@ -78,7 +79,7 @@ module _ (b : Build) (is : IsBuild b) (m : ℕ) (f : Frame) (cs : List Caller) w
 -- what the process does with a step, and where thread and process stand after it
 abbrev pub Moves : Build → Variables → ℕ → Template → Point → World → Table → End → ℕ → World → Thread → Type 0
 Moves b vs t k pt w T e r w' y = (q : Process)
-    × ActsSo b.program vs t (carried w T t pt r w' e) (process_at b.program k pt) q
+    × ActsSo b.program vs t (source_event w T t pt r w' e) (process_at b.program k pt) q
     × StandsOn b t k (next w e pt r) (next_list pt (list_at k pt)) y q
 
 pub follows_by : (b : Build) (vs : Variables) (t : ℕ) (k : Template) (pt : Point) (x : Thread)

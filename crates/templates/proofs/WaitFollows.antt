@@ -15,7 +15,7 @@ use Rattle.meaning.specs.Table.{Table}
 use Rattle.meaning.specs.Values.{Variables}
 use Rattle.meaning.specs.Processes.{Frame, Caller, Process, Suspended, goes_on, recovers as recovers'}
 use Rattle.meaning.specs.Offers.{Offer, TakesUp, Nothing}
-use Rattle.protocol.specs.Word.{owner, died, waiters, with_waiters}
+use Rattle.protocol.specs.Word.{owner, owner_died_bit, waiters, with_waiters}
 use Rattle.protocol.specs.Carries.{Event, Acts, has_died}
 use Rattle.protocol.specs.Points.{Purpose, ToResume, ToWait, Point, Runs, GotReads, GotUnpends, TakeReads, TakeMarks}
 use Rattle.protocol.specs.Points.{TakeSleeps, TakeTries, HasLeft, LeaveWakes}
@@ -23,9 +23,9 @@ use Rattle.protocol.specs.World.{World}
 use Rattle.execution.specs.Following.{Build, recovery_in, Stands}
 use Rattle.execution.specs.Builds.{IsBuild}
 use Rattle.templates.specs.Asking.{AsksSo}
-use Rattle.templates.specs.Locking.{Takes, WaitsAt, kept}
+use Rattle.templates.specs.Locking.{Takes, WaitsAt, template_locals}
 use Rattle.templates.specs.Locking as T
-use Rattle.templates.specs.Inside.{Template, Waits, taken, WaitFits}
+use Rattle.templates.specs.Inside.{Template, Waits, lock_taker, WaitFits}
 use Rattle.templates.specs.Templates.{ActsSo, StandsOn, Comes, Follows}
 use Rattle.templates.proofs.Locking.{to_enter, to_recover, unpends_look}
 use Rattle.templates.proofs.Waiting.{waits_follow, taking}
@@ -47,7 +47,7 @@ module _ (b : Build) (vs : Variables) (t : ℕ) (c : Member) (base : ℕ) (l : L
   In = WaitsAt b.program t c base l fs
 
   abbrev at : ℕ → ℕ → Thread
-  at i word = Runs' (base + 24 + i) [] (kept l.values word) fs
+  at i word = Runs' (base + 24 + i) [] (template_locals l.values word) fs
 
   -- the process does what a step carries, and the thread stands at the next point
   abbrev On : Option Event → Point → Thread → Type 0
@@ -74,7 +74,7 @@ module _ (b : Build) (vs : Variables) (t : ℕ) (c : Member) (base : ℕ) (l : L
   after_try : (x : Bool) (v : ℕ) (y : Thread) → In (if x then GotReads m v else TakeReads m K) y
       → On (if x then Some (Acts t (L.Resumes m (has_died v))) else None) (if x then GotReads m v else TakeReads m K) y
   after_try true v y s = (
-    taken b.program m f cs v,
+    lock_taker b.program m f cs v,
     (refl, (has_died v, refl, refl, refl)),
     inl ((λ n. absurd cc), s, refl, refl),
   )
@@ -82,34 +82,35 @@ module _ (b : Build) (vs : Variables) (t : ℕ) (c : Member) (base : ℕ) (l : L
 
   -- with nothing pending any more
   module _ (w : World) (table : Table) (e : End) (r : ℕ) (w' : World) where
-    got : (v n : ℕ) → died v ≡ n → Comes b vs t k (GotUnpends m v) w table e r w' (at 45 v)
+    got : (v n : ℕ) → owner_died_bit v ≡ n → Comes b vs t k (GotUnpends m v) w table e r w' (at 45 v)
     got v zero free = record {
       thread = at 50 v;
       walk = to_enter b.program b.code t m K (Resume m) (recovery_in b m) base 24 l.values fs
           (taking b.program b.code t base c (recovery_in b m) l fs fits.code some few) some few v free;
-      process = taken b.program m f cs v;
+      process = lock_taker b.program m f cs v;
       acts = refl;
       stands = inr (
         refl,
         subst (λ (q : Process). Stands b t (at 50 v) q) (sym (taken_free b m f cs v free))
-            (subst (λ n. Stands b t (Runs' n [] (kept l.values v) fs) (goes_on (Some m) f cs)) (omega arith)
+            (subst (λ n. Stands b t (Runs' n [] (template_locals l.values v) fs) (goes_on (Some m) f cs)) (omega arith)
             (fits.after.enters v)),
         sym (taken_holds b is m f cs v (owned_alone m f cs fits.own) ∙ fits.held),
       );
     }
     got v (suc n) dead = got_abandoned v (λ z. omega (arith, dead, z))
       where
-        got_abandoned : (v : ℕ) → died v ≢ 0 → Comes b vs t k (GotUnpends m v) w table e r w' (at 45 v)
+        got_abandoned : (v : ℕ) → owner_died_bit v ≢ 0 → Comes b vs t k (GotUnpends m v) w table e r w' (at 45 v)
         got_abandoned v ne = record {
           thread = at 49 v;
           walk = to_recover b.program b.code t m K (Resume m) (recovery_in b m) base 24 l.values fs
               (taking b.program b.code t base c (recovery_in b m) l fs fits.code some few) some few v ne;
-          process = taken b.program m f cs v;
+          process = lock_taker b.program m f cs v;
           acts = refl;
           stands = inr (
             refl,
             subst (λ (q : Process). Stands b t (at 49 v) q) (sym (taken_abandoned b m f cs v ne))
-                (subst (λ n. Stands b t (Runs' n [] (kept l.values v) fs) (recovers' b.program m f cs)) (omega arith)
+                (subst (λ n. Stands b t (Runs' n [] (template_locals l.values v) fs) (recovers' b.program m f cs))
+                (omega arith)
                 (fits.after.recovers v)),
             sym (taken_holds b is m f cs v (owned_alone m f cs fits.own) ∙ fits.held),
           );
@@ -126,18 +127,18 @@ module _ (b : Build) (vs : Variables) (t : ℕ) (c : Member) (base : ℕ) (l : L
   takes_go pt x inside s (T.Takes.tries v) = follows_by b vs t k pt x (asks pt x inside s)
       (λ w tb e r w' y may z. after_try (r == v) v y z)
   takes_go pt x inside s (T.Takes.heads v) = follows_by b vs t k pt x (asks pt x inside s)
-      (λ w tb e r w' y may z. (taken b.program m f cs v, refl, inl ((λ n. absurd cc), z, refl, refl)))
+      (λ w tb e r w' y may z. (lock_taker b.program m f cs v, refl, inl ((λ n. absurd cc), z, refl, refl)))
   takes_go pt x inside s (T.Takes.links v h) = follows_by b vs t k pt x (asks pt x inside s)
-      (λ w tb e r w' y may z. (taken b.program m f cs v, refl, inl ((λ n. absurd cc), z, refl, refl)))
+      (λ w tb e r w' y may z. (lock_taker b.program m f cs v, refl, inl ((λ n. absurd cc), z, refl, refl)))
   takes_go pt x inside s (T.Takes.lists v) = follows_by b vs t k pt x (asks pt x inside s)
-      (λ w tb e r w' y may z. (taken b.program m f cs v, refl, inl ((λ n. absurd cc), z, refl, refl)))
+      (λ w tb e r w' y may z. (lock_taker b.program m f cs v, refl, inl ((λ n. absurd cc), z, refl, refl)))
   takes_go pt x inside s (T.Takes.unpends v) = record {
     asks = AskStore (process_word t 1) 0;
     go = λ r. at 45 v;
     same = refl;
     look = unpends_look b.program b.code t m K (Resume m) (recovery_in b m) base 24 l.values fs
         (taking b.program b.code t base c (recovery_in b m) l fs fits.code some few) some few v;
-    goes = λ w tb e r w' may. got w tb e r w' v (died v) refl;
+    goes = λ w tb e r w' may. got w tb e r w' v (owner_died_bit v) refl;
   }
   takes_go pt x inside s (T.Takes.enters v e) = absurd (inside refl)
   takes_go pt x inside s (T.Takes.recovers v e) = absurd (inside refl)

@@ -16,7 +16,7 @@ use Rattle.locals.specs.Threads.{Thread, Runs as Runs'}
 use Rattle.locals.specs.Looks.{Request, Goes, Asks, look, at_place, effect, if_so, place_after_test}
 use Rattle.program.specs.Trees.{Program}
 use Rattle.code.specs.declared.mark.Marked.{Marked}
-use Rattle.code.specs.Marks.{plain, placed}
+use Rattle.code.specs.Marks.{plain, rebase_all}
 use Rattle.code.specs.Layout.{link_word, lock_word_address, member_address}
 use Rattle.code.specs.Locks.{take_at, got_at}
 use Rattle.code.specs.Conditions.{sleep_code, wait_code}
@@ -30,13 +30,13 @@ use Rattle.execution.proofs.Walking.{front_stands, back_stands, within_on, wider
 use Rattle.execution.proofs.Awaiting.{stand_index}
 use Rattle.templates.specs.Layout.{place}
 use Rattle.templates.specs.Asking.{AsksSo, template_steps}
-use Rattle.templates.specs.Locking.{WaitsAt, kept}
+use Rattle.templates.specs.Locking.{WaitsAt, template_locals}
 use Rattle.templates.specs.Locking.WaitsAt.{numbers, pends, reads, cuts, swaps, wakes, sleeps, takes}
 use Rattle.templates.specs.Locking as L
 use Rattle.templates.proofs.Locking as T
 
 module _ (p : Program) (image : MarkedImage) (t base : ℕ) (c : Member) (recover : Instr) (l : Locals) (fs : List Frame)
-    (code : StandAt image base (placed base (wait_code c (link_word p c.monitor) (member_address p c) recover)))
+    (code : StandAt image base (rebase_all base (wait_code c (link_word p c.monitor) (member_address p c) recover)))
     (some : 0 < t) (few : t ≤ 64) where
   abbrev link : ℕ
   link = link_word p c.monitor
@@ -48,10 +48,10 @@ module _ (p : Program) (image : MarkedImage) (t base : ℕ) (c : Member) (recove
   number = member_address p c
 
   abbrev segment : List Marked
-  segment = placed base (sleep_code c (link_word p c.monitor) (member_address p c))
+  segment = rebase_all base (sleep_code c (link_word p c.monitor) (member_address p c))
 
   abbrev later : List Marked
-  later = placed base (take_at (Resume c.monitor) (link_word p c.monitor) 24 ++ got_at (link_word p c.monitor)
+  later = rebase_all base (take_at (Resume c.monitor) (link_word p c.monitor) 24 ++ got_at (link_word p c.monitor)
       recover (24 + 32))
 
   sleeping : StandAt image base segment
@@ -224,7 +224,7 @@ module _ (p : Program) (image : MarkedImage) (t base : ℕ) (c : Member) (recove
     same = refl;
     look = asks 22 23 _ (v ∷ number ∷ []) (λ r. r ∷ []) _ refl refl (omega arith);
     goes = λ w e r may. (
-      Runs' (base + 24 + 1) (lock ∷ []) (kept l.values l.scratch) fs,
+      Runs' (base + 24 + 1) (lock ∷ []) (template_locals l.values l.scratch) fs,
       enough 2 _ _ (omega arith) (then_go 1 _ _ _ (step 23 24 _ _ (r ∷ []) [] refl refl (omega arith))
           (subst (λ n. Go 1 (Runs' n [] l fs) (Runs' (base + 24 + 1) (lock ∷ []) l fs)) (omega arith)
           (T.again p image t c.monitor (ToResume c) (Resume c.monitor) recover base 24 l.values fs taking some few

@@ -20,26 +20,27 @@ use Rattle.execution.specs.Walks.{WalksWithin, empty_view}
 use Rattle.templates.specs.Layout.{place}
 
 -- none for a step of an exit, which is no request, and for a thread's own code
-abbrev pub asked : Program → Request → Option M.Request
-asked p AskNothing = None
-asked p (AskLoad a) = Some (M.AskLoad (place p a))
-asked p (AskStore a v) = Some (M.AskStore (place p a) (stored_value (place p) a v))
-asked p (AskSwap a v) = Some (M.AskSwap (place p a) (stored_value (place p) a v))
-asked p (AskCompareSwap a x v) = Some (M.AskCompareSwap (place p a) x v)
-asked p (AskOrWaiters a) = Some (M.AskOr (place p a) waiters)
-asked p (AskAddOne a) = Some (M.AskAdd (place p a) 1)
-asked p (AskWait s x) = Some (M.AskWait (place p (cell_of s)) x)
-asked p (AskWakeOne s) = Some (M.AskWake (place p (cell_of s)) 1)
-asked p (AskRequeue c x) = Some (M.AskRequeue (place p (SequenceOf c)) (place p (LockOf c.monitor)) 0 everyone x)
-asked p (AskFault (Faulted fault)) = Some (M.AskFault fault)
-asked p (AskFault Killed) = None
-asked p AskExitStep = None
+abbrev pub machine_request : Program → Request → Option M.Request
+machine_request p AskNothing = None
+machine_request p (AskLoad a) = Some (M.AskLoad (place p a))
+machine_request p (AskStore a v) = Some (M.AskStore (place p a) (stored_value (place p) a v))
+machine_request p (AskSwap a v) = Some (M.AskSwap (place p a) (stored_value (place p) a v))
+machine_request p (AskCompareSwap a x v) = Some (M.AskCompareSwap (place p a) x v)
+machine_request p (AskOrWaiters a) = Some (M.AskOr (place p a) waiters)
+machine_request p (AskAddOne a) = Some (M.AskAdd (place p a) 1)
+machine_request p (AskWait s x) = Some (M.AskWait (place p (cell_of s)) x)
+machine_request p (AskWakeOne s) = Some (M.AskWake (place p (cell_of s)) 1)
+machine_request p (AskRequeue c x) = Some
+    (M.AskRequeue (place p (SequenceOf c)) (place p (LockOf c.monitor)) 0 everyone x)
+machine_request p (AskFault (Faulted fault)) = Some (M.AskFault fault)
+machine_request p (AskFault Killed) = None
+machine_request p AskExitStep = None
 
 -- the word that the machine answers: an entry that is loaded is an address, and so is the head that a fault answers
-abbrev pub told : Program → Request → ℕ → ℕ
-told p (AskLoad a) r = stored_value (place p) a r
-told p (AskFault cause) r = entry_address (place p) r
-told p other r = r
+abbrev pub machine_answer : Program → Request → ℕ → ℕ
+machine_answer p (AskLoad a) r = stored_value (place p) a r
+machine_answer p (AskFault cause) r = entry_address (place p) r
+machine_answer p other r = r
 
 -- the most local steps of a template from one request to the next
 abbrev pub template_steps : ℕ
@@ -51,7 +52,8 @@ pub record AsksSo (p : Program) (image : MarkedImage) (t : ℕ) (stands : Point 
     (x : Thread) : Type 0 where
   pub asks : M.Request
   pub go : ℕ → Thread
-  pub same : asked p (request t pt) ≡ Some asks
+  pub same : machine_request p (request t pt) ≡ Some asks
   pub look : look image.image t x ≡ Asks asks go
   pub goes : (w : World) (e : End) (r : ℕ) → MayAnswer pt r → (y : Thread)
-      × WalksWithin image t (empty_view p) template_steps (go (told p (request t pt) r)) y × stands (next w e pt r) y
+      × WalksWithin image t (empty_view p) template_steps (go (machine_answer p (request t pt) r)) y × stands
+      (next w e pt r) y

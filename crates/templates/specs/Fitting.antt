@@ -9,7 +9,7 @@ use Rattle.program.specs.Trees.{Program}
 use Rattle.code.specs.Layout.{link_word, member_address}
 use Rattle.code.specs.Locks.{enter_code, exit_code}
 use Rattle.code.specs.Conditions.{wait_code, notify_code, broadcast_code}
-use Rattle.code.specs.Marks.{placed}
+use Rattle.code.specs.Marks.{rebase_all}
 use Rattle.locals.specs.declared.frame.Locals.{Locals}
 use Rattle.locals.specs.declared.frame.Frame.{Frame as MachineFrame}
 use Rattle.locals.specs.Threads.{Runs as Runs'}
@@ -33,7 +33,7 @@ pub record EnterFits (b : Build) (t m base : ℕ) (l : Locals) (fs : List Machin
     (cs : List Caller) : Type 0 where
   pub monitor : m < length b.program.monitors
   pub held : all_monitors f cs ≡ m ∷ callers_monitors cs
-  pub code : StandAt b.code base (placed base (enter_code m (link_word b.program m) (recovery_in b m)))
+  pub code : StandAt b.code base (rebase_all base (enter_code m (link_word b.program m) (recovery_in b m)))
   pub after : GoesOn b t m (base + 60) l fs f cs
 
 pub record ExitFits (b : Build) (v : Variables) (t m base : ℕ) (shown : Option ℕ) (l : Locals)
@@ -42,7 +42,7 @@ pub record ExitFits (b : Build) (v : Variables) (t m base : ℕ) (shown : Option
   pub offers : offer b.program v before ≡ Does (L.Exits m) Nothing (Returning z cs)
   pub steady : IsSteady b.program before v
   pub held : holds before ≡ m ∷ callers_monitors cs
-  pub code : StandAt b.code base (placed base (exit_code m (link_word b.program m)))
+  pub code : StandAt b.code base (rebase_all base (exit_code m (link_word b.program m)))
   pub after : Stands b t (Runs' (base + 23) (result_operands shown) l fs) (Returning z cs)
 
 pub record WaitFits (b : Build) (v : Variables) (t : ℕ) (c : Member) (base : ℕ) (l : Locals)
@@ -53,7 +53,7 @@ pub record WaitFits (b : Build) (v : Variables) (t : ℕ) (c : Member) (base : �
   pub had : holds before ≡ c.monitor ∷ ms
   pub own : own_monitor f.role ≡ Some c.monitor
   pub held : all_monitors f cs ≡ c.monitor ∷ ms
-  pub code : StandAt b.code base (placed base (wait_code c (link_word b.program c.monitor)
+  pub code : StandAt b.code base (rebase_all base (wait_code c (link_word b.program c.monitor)
       (member_address b.program c) (recovery_in b c.monitor)))
   pub after : GoesOn b t c.monitor (base + 73) l fs f cs
 

@@ -34,15 +34,15 @@ pub data Template : Type 0 where
       (others : List ℕ) → Template
 
 -- a process that has taken a monitor's lock, whose word was this
-abbrev pub taken : Program → ℕ → Frame → List Caller → ℕ → Process
-taken p m f cs v = if has_died v then recovers p m f cs else goes_on (Some m) f cs
+abbrev pub lock_taker : Program → ℕ → Frame → List Caller → ℕ → Process
+lock_taker p m f cs v = if has_died v then recovers p m f cs else goes_on (Some m) f cs
 
 -- where a process stands in the taking of a lock, which is done from the points on that mend the robust list
 abbrev pub taking_process : Program → ℕ → Frame → List Caller → Process → Point → Process
-taking_process p m f cs before (GotReads n v) = taken p m f cs v
-taking_process p m f cs before (GotLinks n v h) = taken p m f cs v
-taking_process p m f cs before (GotHeads n v) = taken p m f cs v
-taking_process p m f cs before (GotUnpends n v) = taken p m f cs v
+taking_process p m f cs before (GotReads n v) = lock_taker p m f cs v
+taking_process p m f cs before (GotLinks n v h) = lock_taker p m f cs v
+taking_process p m f cs before (GotHeads n v) = lock_taker p m f cs v
+taking_process p m f cs before (GotUnpends n v) = lock_taker p m f cs v
 taking_process p m f cs before pt = before
 
 -- and in the giving up of one, which is done by the swap of the lock word

@@ -7,7 +7,7 @@ use Rattle.locals.specs.Threads.{Thread, Runs as Runs'}
 use Rattle.program.specs.Trees.{Program}
 use Rattle.program.specs.declared.kinds.Member.{Member}
 use Rattle.code.specs.Layout.{link_word, lock_word_address, member_address}
-use Rattle.protocol.specs.Word.{with_waiters, died}
+use Rattle.protocol.specs.Word.{with_waiters, owner_died_bit}
 use Rattle.protocol.specs.Points.{Purpose, ToEnter, ToReenter, Point, Runs, EnterPends, EnterTries, ReenterPends}
 use Rattle.protocol.specs.Points.{ReenterTries, TakeReads, TakeMarks, TakeSleeps, TakeTries, GotReads, GotLinks}
 use Rattle.protocol.specs.Points.{GotHeads, GotUnpends, ToExit, LeavePends, LeaveReads, LeaveHeads, LeaveSwaps}
@@ -17,31 +17,33 @@ use Rattle.execution.specs.Following.{result_operands}
 use Rattle.templates.specs.Layout.{place}
 
 -- locals of these values, with a word in the templates' own
-abbrev pub kept : List ℕ → ℕ → Locals
-kept values word = record { values = values; scratch = word }
+abbrev pub template_locals : List ℕ → ℕ → Locals
+template_locals values word = record { values = values; scratch = word }
 
 -- in the taking of a monitor's lock, from a place on, and in what follows it, till the thread goes on in the monitor,
 -- or with the recovery of an abandoned one
 pub data Takes (p : Program) (t m : ℕ) (k : Purpose) (first : ℕ) (values : List ℕ)
     (fs : List Frame) : Point → Thread → Type 0 where
   reads : (word : ℕ) → Takes p t m k first values fs (TakeReads m k)
-      (Runs' (first + 1) (lock_word_address p m ∷ []) (kept values word) fs)
+      (Runs' (first + 1) (lock_word_address p m ∷ []) (template_locals values word) fs)
   marks : (v : ℕ) → Takes p t m k first values fs (TakeMarks m v k)
-      (Runs' (first + 12) (with_waiters v ∷ v ∷ lock_word_address p m ∷ []) (kept values v) fs)
+      (Runs' (first + 12) (with_waiters v ∷ v ∷ lock_word_address p m ∷ []) (template_locals values v) fs)
   sleeps : (v : ℕ) → Takes p t m k first values fs (TakeSleeps m (with_waiters v) k)
-      (Runs' (first + 20) (with_waiters v ∷ lock_word_address p m ∷ []) (kept values v) fs)
+      (Runs' (first + 20) (with_waiters v ∷ lock_word_address p m ∷ []) (template_locals values v) fs)
   tries : (v : ℕ) → Takes p t m k first values fs (TakeTries m v k)
-      (Runs' (first + 28) (with_waiters t ∷ v ∷ lock_word_address p m ∷ []) (kept values v) fs)
+      (Runs' (first + 28) (with_waiters t ∷ v ∷ lock_word_address p m ∷ []) (template_locals values v) fs)
   heads : (v : ℕ) → Takes p t m k first values fs (GotReads m v)
-      (Runs' (first + 35) (process_word t 0 ∷ link_word p m ∷ []) (kept values v) fs)
+      (Runs' (first + 35) (process_word t 0 ∷ link_word p m ∷ []) (template_locals values v) fs)
   links : (v h : ℕ) → Takes p t m k first values fs (GotLinks m v h)
-      (Runs' (first + 36) (entry_address (place p) h ∷ link_word p m ∷ []) (kept values v) fs)
+      (Runs' (first + 36) (entry_address (place p) h ∷ link_word p m ∷ []) (template_locals values v) fs)
   lists : (v : ℕ) → Takes p t m k first values fs (GotHeads m v)
-      (Runs' (first + 40) (link_word p m ∷ process_word t 0 ∷ []) (kept values v) fs)
+      (Runs' (first + 40) (link_word p m ∷ process_word t 0 ∷ []) (template_locals values v) fs)
   unpends : (v : ℕ) → Takes p t m k first values fs (GotUnpends m v)
-      (Runs' (first + 44) (0 ∷ process_word t 1 ∷ []) (kept values v) fs)
-  enters : (v : ℕ) → died v ≡ 0 → Takes p t m k first values fs Runs (Runs' (first + 50) [] (kept values v) fs)
-  recovers : (v : ℕ) → died v ≢ 0 → Takes p t m k first values fs Runs (Runs' (first + 49) [] (kept values v) fs)
+      (Runs' (first + 44) (0 ∷ process_word t 1 ∷ []) (template_locals values v) fs)
+  enters : (v : ℕ) → owner_died_bit v ≡ 0
+      → Takes p t m k first values fs Runs (Runs' (first + 50) [] (template_locals values v) fs)
+  recovers : (v : ℕ) → owner_died_bit v ≢ 0
+      → Takes p t m k first values fs Runs (Runs' (first + 49) [] (template_locals values v) fs)
 
 -- in the entering of a monitor: at first the pending word is set, and the lock tried
 pub data EntersAt (p : Program) (t m base : ℕ) (l : Locals) (fs : List Frame) : Point → Thread → Type 0 where

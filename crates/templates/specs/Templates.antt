@@ -15,10 +15,10 @@ use Rattle.protocol.specs.Points.{Point, Runs}
 use Rattle.protocol.specs.World.{World}
 use Rattle.protocol.specs.Requests.{request}
 use Rattle.protocol.specs.Answers.{next, next_list}
-use Rattle.protocol.specs.Served.{MayAnswer, carried}
+use Rattle.protocol.specs.Served.{MayAnswer, source_event}
 use Rattle.execution.specs.Following.{Build, StepsWithin, Stands}
 use Rattle.execution.specs.Builds.{IsBuild}
-use Rattle.templates.specs.Asking.{asked, told, template_steps}
+use Rattle.templates.specs.Asking.{machine_request, machine_answer, template_steps}
 use Rattle.templates.specs.Inside.{Template, process_at, list_at, StandsIn, first_thread, first_point, Fits}
 
 -- the process does what a step of its thread carries, or nothing
@@ -40,7 +40,7 @@ pub record Comes (b : Build) (v : Variables) (t : ℕ) (k : Template) (pt : Poin
   pub thread : Thread
   pub walk : StepsWithin b t template_steps x thread
   pub process : Process
-  pub acts : ActsSo b.program v t (carried w T t pt r w' e) (process_at b.program k pt) process
+  pub acts : ActsSo b.program v t (source_event w T t pt r w' e) (process_at b.program k pt) process
   pub stands : StandsOn b t k (next w e pt r) (next_list pt (list_at k pt)) thread process
 
 -- a thread inside a template asks what its point asks, and goes on as it goes on, while its process does what the
@@ -48,10 +48,10 @@ pub record Comes (b : Build) (v : Variables) (t : ℕ) (k : Template) (pt : Poin
 pub record Follows (b : Build) (v : Variables) (t : ℕ) (k : Template) (pt : Point) (x : Thread) : Type 0 where
   pub asks : M.Request
   pub go : ℕ → Thread
-  pub same : asked b.program (request t pt) ≡ Some asks
+  pub same : machine_request b.program (request t pt) ≡ Some asks
   pub look : look b.code.image t x ≡ Asks asks go
   pub goes : (w : World) (T : Table) (e : End) (r : ℕ) (w' : World) → MayAnswer pt r
-      → Comes b v t k pt w T e r w' (go (told b.program (request t pt) r))
+      → Comes b v t k pt w T e r w' (go (machine_answer b.program (request t pt) r))
 
 -- a thread comes from before a template to its first point
 pub record Begins (b : Build) (t : ℕ) (held : Bool) (k : Template) : Type 0 where

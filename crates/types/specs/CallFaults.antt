@@ -20,7 +20,7 @@ use Rattle.types.specs.Faults.{where_true, unknown, mismatch}
 use Rattle.types.specs.ExpressionFaults.{expression_faults}
 use Rattle.types.specs.StatementFaults.{typed_faults, value_faults, target_faults, target_type, taker_faults}
 use Rattle.types.specs.StatementFaults.{into_faults}
-use Rattle.types.specs.StatementFaults.{callee_place, called, missing_place, own_role, is_internal, is_recover}
+use Rattle.types.specs.StatementFaults.{callee_place, called_piece, missing_place, own_role, is_internal, is_recover}
 use Rattle.types.specs.StatementFaults.{has_monitor, matched_faults, arguments_faults, count_faults}
 
 -- a CALL of a procedure: an INTERNAL one behind a dot, an ENTRY one of the own monitor, INTO without a result
@@ -71,8 +71,8 @@ abbrev mutual
   statement_faults s (Assign v e) = target_faults s v ++ value_faults s (target_type s v) e
   statement_faults s (If place e ss rest) = typed_faults s Boolean e ++ block_faults s ss ++ part_faults s rest
   statement_faults s (While place e ss) = typed_faults s Boolean e ++ block_faults s ss
-  statement_faults s (Call place c into) = recover_faults s place ++ call_faults s c into (called s c)
-  statement_faults s (Fork place c into) = recover_faults s place ++ fork_faults s c into (called s c)
+  statement_faults s (Call place c into) = recover_faults s place ++ call_faults s c into (called_piece s c)
+  statement_faults s (Fork place c into) = recover_faults s place ++ fork_faults s c into (called_piece s c)
   statement_faults s (Join place e into rest) = recover_faults s place ++ typed_faults s Process e
       ++ into_faults s (Some Integer) into ++ part_faults s rest
   statement_faults s (Return place e) = recover_faults s place

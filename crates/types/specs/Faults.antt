@@ -19,8 +19,8 @@ unknown place = fault K.Unknown place ∷ []
 abbrev pub mismatch : Place → List Refusal
 mismatch place = fault K.TypeMismatch place ∷ []
 
-abbrev pub misplaced : Place → List Refusal
-misplaced place = fault K.WrongPlace place ∷ []
+abbrev pub misplacement : Place → List Refusal
+misplacement place = fault K.WrongPlace place ∷ []
 
 -- a fault comes no later than another: it stands on an earlier line, or further to the left on the same one, or its
 -- number is no greater at the same place

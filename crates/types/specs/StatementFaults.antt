@@ -54,8 +54,8 @@ abbrev pub callee_place : CalleeTree → Place
 callee_place c = (name_behind c.name c.dotted).place
 
 -- the procedure that is called, where there is one
-abbrev pub called : Scope → CalleeTree → Option Piece
-called s c = option_and_then (λ n. slice_get (pieces s.unit) n) (callee s c)
+abbrev pub called_piece : Scope → CalleeTree → Option Piece
+called_piece s c = option_and_then (λ n. slice_get (pieces s.unit) n) (callee s c)
 
 -- a monitor without the name before the dot is a fault at it, else a procedure without the name at that
 abbrev pub missing_place : Scope → NameTree → Option NameTree → Place

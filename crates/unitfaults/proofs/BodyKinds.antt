@@ -234,8 +234,8 @@ mutual
   statement s (Assign v e) = join (target s v) (value s (f.target_type s v) e)
   statement s (If place e ss rest) = join (join (typed s Boolean e) (block s ss)) (part s rest)
   statement s (While place e ss) = join (typed s Boolean e) (block s ss)
-  statement s (Call place c name) = join (recover s place) (call s c name (f.called s c))
-  statement s (Fork place c name) = join (recover s place) (fork s c name (f.called s c))
+  statement s (Call place c name) = join (recover s place) (call s c name (f.called_piece s c))
+  statement s (Fork place c name) = join (recover s place) (fork s c name (f.called_piece s c))
   statement s (Join place e name rest) =
       join (join (join (recover s place) (typed s Process e)) (into s (Some Integer) name)) (part s rest)
   statement s (Return place e) = join (recover s place) (returned s place _ e)

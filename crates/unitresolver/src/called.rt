@@ -62,7 +62,7 @@ fn unknown<'u, 'a>(number: u32) -> Callable<'u, 'a>
 // The piece of this number, where there is one.
 fn numbered<'u, 'a>(site: &Site<'_, '_, 'u, 'a>, number: Option<u32>) -> Option<Piece<'u, 'a>>
     ensures { (s : Scope) (e : CalleeTree) → IsSite s site.now → number ≡ callee_in s e
-        → option_map piece_of result ≡ f.called s e }
+        → option_map piece_of result ≡ f.called_piece s e }
 {
     site.callees.piece(number?)
 }

@@ -1,6 +1,6 @@
 use Rattle.std.proofs.Common.{ap, pos, sym, ◌∙◌}
 use Rattle.program.specs.Views.{expression_of, option_expression, program_of}
-use Rattle.meaning.specs.Offers.{returned}
+use Rattle.meaning.specs.Offers.{return_value}
 use Rattle.meaning.specs.Values.{evaluate}
 use Rattle.sourceruns.specs.Frames.{frame_of}
 use Rattle.sourcestates.specs.States.{state_of}
@@ -10,7 +10,7 @@ use Rattle.sourcemoves.proofs.moving.has_value.Goals as goal
 pub returns-in-None : goal.returns-in-None
 returns-in-None c = (
   pos 0,
-  ap (λ o. returned (program_of c.args.program.now) (state_of c.args.state.now).variable (frame_of c.args.frame.now)
+  ap (λ o. return_value (program_of c.args.program.now) (state_of c.args.state.now).variable (frame_of c.args.frame.now)
       (option_expression o)) c.in-None.is,
 )
 
@@ -18,10 +18,10 @@ pub returns-in-Some : goal.returns-in-Some
 returns-in-Some c =
     rw c.is_ok.ensures.value
     (has_value c.evaluate.result
-    (returned (program_of c.args.program.now) (state_of c.args.state.now).variable (frame_of c.args.frame.now)
+    (return_value (program_of c.args.program.now) (state_of c.args.state.now).variable (frame_of c.args.frame.now)
     (option_expression c.args.value.now))
     (c.evaluate.ensures
     ∙ (λ i. evaluate (program_of c.args.program.now) (c.variables.ensures i) (c.as_slice-locals.ensures.value i)
     (expression_of c.in-Some.value))
-    ∙ ap (λ o. returned (program_of c.args.program.now) (state_of c.args.state.now).variable
+    ∙ ap (λ o. return_value (program_of c.args.program.now) (state_of c.args.state.now).variable
     (frame_of c.args.frame.now) (option_expression o)) (sym c.in-Some.is)))

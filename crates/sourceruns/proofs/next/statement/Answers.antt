@@ -4,7 +4,7 @@ use Rattle.program.specs.Trees.{Statement, If, While, Join, Then, Done}
 use Rattle.program.specs.Views.{block_in, expression_of, program_of, statement_of}
 use Rattle.meaning.specs.Offers.{statement_offer}
 use Rattle.sourceruns.specs.Frames.{callers_of, frame_of}
-use Rattle.sourceruns.specs.Offered.{offered}
+use Rattle.sourceruns.specs.Offered.{offer_with}
 use Rattle.sourceruns.specs.Stores.{variables_of}
 use Rattle.sourceruns.proofs.Said.{if_said, while_said, join_said}
 use Rattle.sourceruns.proofs.next.statement.Goals as goal
@@ -18,7 +18,7 @@ repeat_while-requires c =
 
 pub returns-in-If : goal.returns-in-If
 returns-in-If c =
-    subst (λ (s : Statement). IfOk c.branch-alloc.result (λ o. offered o c.branch-alloc.new.process
+    subst (λ (s : Statement). IfOk c.branch-alloc.result (λ o. offer_with o c.branch-alloc.new.process
     ≡ statement_offer (program_of c.args.program.now) (variables_of c.args.variables.now)
     (frame_of c.args.process.now.frame) (callers_of c.args.process.now.callers.items) s))
     ((λ i. If (expression_of c.in-If.condition) (block_in (c.as_slice-then_part.ensures.value i))
@@ -28,7 +28,7 @@ returns-in-If c =
 
 pub returns-in-While : goal.returns-in-While
 returns-in-While c =
-    subst (λ (s : Statement). IfOk c.repeat_while.result (λ o. offered o c.repeat_while.new.process
+    subst (λ (s : Statement). IfOk c.repeat_while.result (λ o. offer_with o c.repeat_while.new.process
     ≡ statement_offer (program_of c.args.program.now) (variables_of c.args.variables.now)
     (frame_of c.args.process.now.frame) (callers_of c.args.process.now.callers.items) s))
     (ap (λ ss. While (expression_of c.in-While.condition) (block_in ss)) c.as_slice-body.ensures.value
@@ -37,7 +37,7 @@ returns-in-While c =
 
 pub returns-in-Join : goal.returns-in-Join
 returns-in-Join c =
-    subst (λ (s : Statement). IfOk c.join.result (λ o. offered o c.join.new.process
+    subst (λ (s : Statement). IfOk c.join.result (λ o. offer_with o c.join.new.process
     ≡ statement_offer (program_of c.args.program.now) (variables_of c.args.variables.now)
     (frame_of c.args.process.now.frame) (callers_of c.args.process.now.callers.items) s))
     (ap (Join (expression_of c.in-Join.handle) c.in-Join.into) c.part_slice-aborted.ensures

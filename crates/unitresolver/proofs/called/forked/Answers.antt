@@ -15,7 +15,7 @@ returns-in-Some-clause-clean c = λ s place into h.
     let e = v.callee_of c.args.callee.now in
     let q = piece_of c.in-Some.piece in
     let fit = is_clean (f.arguments_faults s e.arguments ++ f.matched_faults s e.arguments q.parameters) in
-    let found : f.called s e ≡ Some q =
+    let found : f.called_piece s e ≡ Some q =
     sym (c.numbered.ensures s e h (c.find-found.ensures s h.callees h.role)) ∙ ap (option_map piece_of) c.in-Some.is in
     ap (λ o. is_clean (recover_faults s place ++ fork_faults s e into o)) found
     ∙ fork_clean (f.is_recover s.piece.role) (f.is_internal q.role)
@@ -29,7 +29,7 @@ pub returns-clause-clean : goal.returns-clause-clean
 returns-clause-clean c = λ s place into h.
     let e = v.callee_of c.args.callee.now in
     let r = c.unknown.result in
-    let missing : f.called s e ≡ None =
+    let missing : f.called_piece s e ≡ None =
     sym (c.numbered.ensures s e h (c.find-found.ensures s h.callees h.role)) ∙ ap (option_map piece_of) c.in_default.is
     in
     ap (λ o. is_clean (recover_faults s place ++ fork_faults s e into o)) missing

@@ -3,7 +3,7 @@ use Rattle.std.proofs.lemmas.Result.{IfOk-weaker}
 use Rattle.std.specs.Prelude.{option_map}
 use Rattle.program.specs.Views.{program_of}
 use Rattle.sourceruns.specs.NextAction.{offer_of}
-use Rattle.sourceruns.specs.Offered.{offered}
+use Rattle.sourceruns.specs.Offered.{offer_with}
 use Rattle.sourceruns.specs.Stages.{process_of}
 use Rattle.sourcetable.proofs.Tables.{put_at}
 use Rattle.sourcestates.specs.Actions.{action_of, kind_of}
@@ -28,7 +28,7 @@ returns-in-Own-Does c =
     (offer_of (program_of c.args.program.now) o q) (record (state_of c.args.self.now) { process = processes_in after }))
     (state_of c.act_alone.new.self)) (sym c.in-Own-Does.is)
     (subst (λ o. IsAnswer b (IsTakenUp c.args.action.now.process (kind_of c.args.action.now.kind)
-    (offered o q) (record (state_of c.args.self.now) { process = processes_in after }))
+    (offer_with o q) (record (state_of c.args.self.now) { process = processes_in after }))
     (state_of c.act_alone.new.self)) (sym (rw c.in-Own-Does.is at c.in-Own-Does.field-0-is))
     (h (process_of q) (ap (option_map process_of) at.1))))) c.act_alone.ensures
 
