@@ -8,7 +8,7 @@ use crate::texts::{
 };
 use program::Names;
 use sourcestates::ActionKind;
-use std::alloc::{AllocError, Global};
+use std::alloc::AllocError;
 
 /// The name of an action.
 pub(crate) fn word_of(kind: &ActionKind) -> &'static str
@@ -39,7 +39,6 @@ pub(crate) fn word_of(kind: &ActionKind) -> &'static str
 
 /// Appends what stands behind an action's name.
 pub(crate) fn append_details(
-    alloc: Global,
     bytes: &mut Vec<u8>,
     names: &Names,
     kind: &ActionKind,
@@ -54,12 +53,12 @@ pub(crate) fn append_details(
         | ActionKind::Finish => {}
         ActionKind::Print(number) => {
             append_text(bytes, " ")?;
-            append_signed(alloc, bytes, *number)?;
+            append_signed(bytes, *number)?;
         }
         ActionKind::Fork(child) | ActionKind::Claim(child) | ActionKind::Join(child) => {
-            append_spaced(alloc, bytes, *child)?;
+            append_spaced(bytes, *child)?;
         }
-        ActionKind::Fails(fault) => append_spaced(alloc, bytes, u64::from(fault.number()))?,
+        ActionKind::Fails(fault) => append_spaced(bytes, u64::from(fault.number()))?,
         ActionKind::Enter(monitor)
         | ActionKind::Exit(monitor)
         | ActionKind::Resume(monitor)
@@ -74,9 +73,9 @@ pub(crate) fn append_details(
         ActionKind::Notify(condition, resumed) | ActionKind::Broadcast(condition, resumed) => {
             append_text(bytes, " ")?;
             append_condition(bytes, names, *condition)?;
-            append_all(alloc, bytes, resumed.as_slice())?;
+            append_all(bytes, resumed.as_slice())?;
         }
-        ActionKind::Kill(resumed, _) => append_all(alloc, bytes, resumed.as_slice())?,
+        ActionKind::Kill(resumed, _) => append_all(bytes, resumed.as_slice())?,
     }
     Ok(())
 }

@@ -12,18 +12,13 @@ use std::alloc::{AllocError, Global};
 
 /// Appends the line of an action: the process, the action's name, and what belongs to it (the number printed, a
 /// monitor, a condition, processes, a fault's number), with a line feed.
-pub fn append_line(
-    alloc: Global,
-    bytes: &mut Vec<u8>,
-    names: &Names,
-    action: &Action,
-) -> Result<(), AllocError>
+pub fn append_line(bytes: &mut Vec<u8>, names: &Names, action: &Action) -> Result<(), AllocError>
     ensures { OnOk result (bytes.new.items ≡ bytes.old.items ++ line (naming_of names.now) (action_of action.now)) }
 {
-    append_number(alloc, bytes, action.process)?;
+    append_number(bytes, action.process)?;
     append_text(bytes, " ")?;
     append_text(bytes, word_of(&action.kind))?;
-    append_details(alloc, bytes, names, &action.kind)?;
+    append_details(bytes, names, &action.kind)?;
     append_text(bytes, "\n")
 }
 
@@ -33,7 +28,7 @@ pub fn action_lines(alloc: Global, names: &Names, actions: &[Action]) -> Result<
 {
     let mut bytes = Vec::new(alloc);
     for action in actions {
-        append_line(alloc, &mut bytes, names, action)?;
+        append_line(&mut bytes, names, action)?;
     }
     Ok(bytes)
 }

@@ -4,9 +4,9 @@ ghost use Rattle.std.specs.List.{flat_map};
 ghost use Rattle.program.specs.Names.{naming_of};
 ghost use Rattle.actionlines.specs.Lines.{condition_name, member_in, monitor_name, spaced_number};
 
+use itoa::Buffer;
 use program::{Member, Names};
-use std::alloc::{AllocError, Global};
-use std::fmt::Write;
+use std::alloc::AllocError;
 
 /// Appends a text.
 pub(crate) fn append_text(bytes: &mut Vec<u8>, text: &str) -> Result<(), AllocError>
@@ -16,53 +16,33 @@ pub(crate) fn append_text(bytes: &mut Vec<u8>, text: &str) -> Result<(), AllocEr
 }
 
 /// Appends a number in decimal digits.
-pub(crate) fn append_number(
-    alloc: Global,
-    bytes: &mut Vec<u8>,
-    number: u64,
-) -> Result<(), AllocError>
+pub(crate) fn append_number(bytes: &mut Vec<u8>, number: u64) -> Result<(), AllocError>
     ensures { OnOk result (bytes.new.items ≡ bytes.old.items ++ decimal number) }
 {
-    let mut text = String::new(alloc);
-    write!(text, "{number}")?;
-    bytes.extend_from_slice(text.as_bytes())
+    bytes.extend_from_slice(Buffer::new().format(number).as_bytes())
 }
 
 /// Appends a signed number in decimal digits.
-pub(crate) fn append_signed(
-    alloc: Global,
-    bytes: &mut Vec<u8>,
-    number: i64,
-) -> Result<(), AllocError>
+pub(crate) fn append_signed(bytes: &mut Vec<u8>, number: i64) -> Result<(), AllocError>
     ensures { OnOk result (bytes.new.items ≡ bytes.old.items ++ signed_decimal number) }
 {
-    let mut text = String::new(alloc);
-    write!(text, "{number}")?;
-    bytes.extend_from_slice(text.as_bytes())
+    bytes.extend_from_slice(Buffer::new().format(number).as_bytes())
 }
 
 /// Appends a space and a number.
-pub(crate) fn append_spaced(
-    alloc: Global,
-    bytes: &mut Vec<u8>,
-    number: u64,
-) -> Result<(), AllocError>
+pub(crate) fn append_spaced(bytes: &mut Vec<u8>, number: u64) -> Result<(), AllocError>
     ensures { OnOk result (bytes.new.items ≡ bytes.old.items ++ spaced_number number) }
 {
     append_text(bytes, " ")?;
-    append_number(alloc, bytes, number)
+    append_number(bytes, number)
 }
 
 /// Appends numbers, a space before each.
-pub(crate) fn append_all(
-    alloc: Global,
-    bytes: &mut Vec<u8>,
-    numbers: &[u64],
-) -> Result<(), AllocError>
+pub(crate) fn append_all(bytes: &mut Vec<u8>, numbers: &[u64]) -> Result<(), AllocError>
     ensures { OnOk result (bytes.new.items ≡ bytes.old.items ++ flat_map spaced_number numbers.now) }
 {
     for number in numbers {
-        append_spaced(alloc, bytes, *number)?;
+        append_spaced(bytes, *number)?;
     }
     Ok(())
 }

@@ -132,7 +132,7 @@ impl<'c, 'n> Sheet<'c, 'n> {
         finds_abandoned: bool,
     ) -> Result<(), AllocError> {
         let mut line = Vec::new(self.alloc);
-        append_line(self.alloc, &mut line, self.names, action)?;
+        append_line(&mut line, self.names, action)?;
         append_shape(&mut self.marks, "<g><title>$: ", &[self.drawn])?;
         append_escaped(&mut self.marks, line.as_slice())?;
         append_shape(&mut self.marks, "</title>", &[])?;

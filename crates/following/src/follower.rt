@@ -59,20 +59,6 @@ impl<'a> Follower<'a> {
     }
 
     /// The actions, in order.
-    pub fn actions(&self) -> &[Action]
-        ensures { result.now ≡ self.now.actions.items }
-    {
-        self.actions.as_slice()
-    }
-
-    /// Where the run leads.
-    pub fn state(&self) -> &SourceState<'a>
-        ensures { result.now ≡ self.now.state }
-    {
-        &self.state
-    }
-
-    /// The actions, in order.
     pub fn into_actions(self) -> Vec<Action>
         ensures { result.items ≡ self.entry.actions.items }
     {

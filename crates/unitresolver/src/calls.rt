@@ -3,7 +3,8 @@
 ghost use Rattle.std.specs.Prelude.{◌≡◌, ◌++◌, IfOk};
 ghost use Rattle.scanner.specs.declared.token.Place.{Place as PlaceOf};
 ghost use Rattle.program.specs.Views.{part_in};
-ghost use Rattle.syntax.specs.Tree.{PartTree, Call, Fork, Join, Return, Wait as WaitOf};
+ghost use Rattle.syntax.specs.Tree.{PartTree, Broadcast as BroadcastOf, Call, Fork, Join, Notify as NotifyOf, Return};
+ghost use Rattle.syntax.specs.Tree.{Wait as WaitOf};
 ghost use Rattle.syntax.specs.View as v;
 ghost use Rattle.types.specs.CallFaults as c;
 ghost use Rattle.types.specs.Scope.{Scope, meaning};
@@ -109,8 +110,8 @@ pub fn return_from(
     })
 }
 
-/// What NOTIFY or BROADCAST names, and whether one may stand here and name it.
-pub fn notified(site: &Site<'_, '_, '_, '_>, name: Name<'_>) -> (Member, bool)
+// What NOTIFY or BROADCAST names, and whether one may stand here and name it.
+fn notified(site: &Site<'_, '_, '_, '_>, name: Name<'_>) -> (Member, bool)
     ensures condition { (s : Scope) → IsSite s site.now → result.0 ≡ st.condition s (v.name_of name.entry) }
     ensures clean { (s : Scope) (place : PlaceOf) → IsSite s site.now → result.1
         ≡ is_clean (c.outside_faults s place
@@ -129,5 +130,29 @@ pub fn wait(site: &Site<'_, '_, '_, '_>, name: Name<'_>) -> Judged
     Judged {
         statement: Statement::Wait(condition),
         is_clean: !is_recover(site.role) && is_clean,
+    }
+}
+
+/// A NOTIFY.
+pub fn notify(site: &Site<'_, '_, '_, '_>, name: Name<'_>) -> Judged
+    ensures { (s : Scope) (place : PlaceOf) → IsSite s site.now
+        → IsJudged s (NotifyOf place (v.name_of name.entry)) result }
+{
+    let (condition, is_clean) = notified(site, name);
+    Judged {
+        statement: Statement::Notify(condition),
+        is_clean,
+    }
+}
+
+/// A BROADCAST.
+pub fn broadcast(site: &Site<'_, '_, '_, '_>, name: Name<'_>) -> Judged
+    ensures { (s : Scope) (place : PlaceOf) → IsSite s site.now
+        → IsJudged s (BroadcastOf place (v.name_of name.entry)) result }
+{
+    let (condition, is_clean) = notified(site, name);
+    Judged {
+        statement: Statement::Broadcast(condition),
+        is_clean,
     }
 }

@@ -1,6 +1,7 @@
 // Statements, and those that hold others.
 
-ghost use Rattle.std.specs.Prelude.{◌≡◌, ◌++◌, IfOk};
+ghost use Rattle.std.specs.Prelude.{◌≡◌, ◌++◌, ◌&&◌, IfOk};
+ghost use Rattle.program.specs.Trees.{If};
 ghost use Rattle.program.specs.Views as p;
 ghost use Rattle.program.specs.declared.kinds.ValueType.TheVariants.{Boolean as BooleanOf};
 ghost use Rattle.syntax.specs.View as v;
@@ -12,7 +13,7 @@ ghost use Rattle.types.specs.Statements as st;
 ghost use Rattle.resolver.specs.Clean.{is_clean, IsJudged};
 ghost use Rattle.unitresolver.specs.Sites.{IsSite, is_part_clean, part_made};
 
-use crate::calls::{call, fork, join, notified, return_from, wait};
+use crate::calls::{broadcast, call, fork, join, notify, return_from, wait};
 use crate::flags::both;
 use crate::site::Site;
 use program::{Expression, Statement, ValueType};
@@ -52,6 +53,27 @@ fn part_of(made: Option<(Vec<Statement>, bool)>) -> (Option<Vec<Statement>>, boo
     }
 }
 
+// An IF, of what `tested` gave and its ELSE part.
+fn branch(
+    made: (Expression, Vec<Statement>, bool),
+    else_part: Option<(Vec<Statement>, bool)>,
+) -> Judged
+    ensures statement { p.statement_of result.statement
+        ≡ If (p.expression_of made.0) (p.block_in made.1.items) (part_made else_part) }
+    ensures clean { result.is_clean ≡ made.2 && is_part_clean else_part }
+{
+    let (condition, then_part, is_clean) = made;
+    let (else_part, is_rest_clean) = part_of(else_part);
+    Judged {
+        statement: Statement::If {
+            condition,
+            then_part,
+            else_part,
+        },
+        is_clean: both(is_clean, is_rest_clean),
+    }
+}
+
 // A statement.
 #[cycle(statements)]
 fn statement(
@@ -69,20 +91,11 @@ fn statement(
             else_part,
             ..
         } => {
-            let else_part = match else_part {
+            let rest = match else_part {
                 Some(trees) => Some(block(trees, alloc, site)?),
                 None => None,
             };
-            let (condition, then_part, is_clean) = tested(then_part, condition, alloc, site)?;
-            let (part, is_rest_clean) = part_of(else_part);
-            Ok(Judged {
-                statement: Statement::If {
-                    condition,
-                    then_part,
-                    else_part: part,
-                },
-                is_clean: both(is_clean, is_rest_clean),
-            })
+            Ok(branch(tested(then_part, condition, alloc, site)?, rest))
         }
         Tree::While {
             condition,
@@ -112,20 +125,8 @@ fn statement(
         }
         Tree::Return { value, .. } => return_from(alloc, site, value),
         Tree::Wait { condition, .. } => Ok(wait(site, *condition)),
-        Tree::Notify { condition, .. } => {
-            let (condition, is_clean) = notified(site, *condition);
-            Ok(Judged {
-                statement: Statement::Notify(condition),
-                is_clean,
-            })
-        }
-        Tree::Broadcast { condition, .. } => {
-            let (condition, is_clean) = notified(site, *condition);
-            Ok(Judged {
-                statement: Statement::Broadcast(condition),
-                is_clean,
-            })
-        }
+        Tree::Notify { condition, .. } => Ok(notify(site, *condition)),
+        Tree::Broadcast { condition, .. } => Ok(broadcast(site, *condition)),
         Tree::Print { value, .. } => print(alloc, site.standing, value),
         Tree::Abort { .. } => Ok(Judged {
             statement: Statement::Abort,
