@@ -1,4 +1,4 @@
-// CALL, FORK, JOIN and WAIT, and what NOTIFY and BROADCAST name.
+// CALL, FORK, JOIN, WAIT, NOTIFY and BROADCAST.
 
 ghost use Rattle.std.specs.Prelude.{◌≡◌, ◌++◌, IfOk};
 ghost use Rattle.scanner.specs.declared.token.Place.{Place as PlaceOf};
