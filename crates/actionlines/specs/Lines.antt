@@ -30,6 +30,7 @@ word Finish = codes "end"
 word (Stray c) = codes "stray"
 word (Kill resumed last) = codes "kill"
 
+-- the name of a monitor, if there is one
 abbrev pub name_in : Option MonitorNaming → List ℕ
 name_in None = codes ""
 name_in (Some m) = m.name
@@ -38,10 +39,12 @@ name_in (Some m) = m.name
 abbrev pub monitor_name : Naming → ℕ → List ℕ
 monitor_name names m = name_in (slice_get names.monitors m)
 
+-- a name, or no text
 abbrev pub or_nothing : Option (List ℕ) → List ℕ
 or_nothing None = codes ""
 or_nothing (Some name) = name
 
+-- the name of a monitor's member of this number, if there is one
 abbrev pub member_in : Option MonitorNaming → ℕ → List ℕ
 member_in None number = codes ""
 member_in (Some m) number = or_nothing (slice_get m.members number)

@@ -5,6 +5,7 @@ use Rattle.syntax.specs.View.{parameter_of, body_of}
 use Rattle.types.specs.Pieces.{Piece}
 use Rattle.callees.specs.declared.piece.Piece.{Piece as PieceOf}
 
+-- a piece
 abbrev pub piece_of : PieceOf → Piece
 piece_of p = record {
   role = p.role;

@@ -9,6 +9,7 @@ use Rattle.callgraph.specs.Calls.{Within}
 abbrev pub callees_of : List Call → ℕ → List ℕ
 callees_of calls a = map (λ c. c.callee) (filter (λ c. nat_eq c.caller a) calls)
 
+-- the callees of each caller
 abbrev pub rows_of : List Row → List (List ℕ)
 rows_of rows = map (λ r. r.callees.items) rows
 

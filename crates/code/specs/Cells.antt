@@ -16,12 +16,14 @@ pub data Cell : Type 0 where
   Lock : (monitor : ℕ) → Cell
   OfMember : (member : Member) (offset : ℕ) → Cell
 
+-- the address of the word of this name
 abbrev pub address : Program → Cell → ℕ
 address p (OfProcess t word) = process_word t (number_of word)
 address p (Link m) = link_word p m
 address p (Lock m) = lock_word_address p m
 address p (OfMember m k) = member_address p m + k
 
+-- the program has a monitor of this number
 abbrev pub IsMonitor : Program → ℕ → Type 0
 IsMonitor p m = (x : Monitor) × (slice_get p.monitors m ≡ Some x)
 

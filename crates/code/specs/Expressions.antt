@@ -18,14 +18,17 @@ use Rattle.code.specs.declared.mark.Marked.{Marked}
 use Rattle.code.specs.Marks.{plain}
 use Rattle.code.specs.Layout.{member_address}
 
+-- the word for a truth value
 abbrev pub truth_word : Bool → ℕ
 truth_word true = 1
 truth_word false = 0
 
+-- the instruction of an operator before one operand
 abbrev pub unary_code : UnaryOperator → Instr
 unary_code Negated = Negate
 unary_code Not' = Not
 
+-- the machine's operator for one of the language
 abbrev pub operation : Operator → Operation
 operation Add = Add'
 operation Subtract = Sub
@@ -45,6 +48,7 @@ operation Or = BitOr
 abbrev pub index_code : Program → MemberOf → Instr
 index_code p array = Index (member_address p array) (array_size p array)
 
+-- the code of an expression
 abbrev pub expression_code : Program → Expression → List Marked
 expression_code p (Constant n) = plain (Push n) ∷ []
 expression_code p (Truth b) = plain (Push (truth_word b)) ∷ []

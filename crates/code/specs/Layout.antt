@@ -28,17 +28,21 @@ abbrev pub monitor_layout : ℕ → Monitor → MonitorLayout
 monitor_layout base m =
     record { link = base; members = addresses_from (base + 2) m.members; words = words_of m.members }
 
+-- the layout of monitors, the first of which begins at this address
 abbrev pub monitors_from : ℕ → List Monitor → List MonitorLayout
 monitors_from base [] = []
 monitors_from base (m ∷ ms) = monitor_layout base m ∷ monitors_from (base + 2 + words_of m.members) ms
 
+-- the layout of a program
 abbrev pub layout_of : Program → Layout
 layout_of p = record { monitors = monitors_from monitors_base p.monitors; pieces = length p.procedures }
 
+-- the link word's address, 0 where there is no such monitor
 abbrev pub link_in : Option MonitorLayout → ℕ
 link_in None = 0
 link_in (Some m) = m.link
 
+-- the address of member n, 0 where there is none
 abbrev pub address_in : Option MonitorLayout → ℕ → ℕ
 address_in None n = 0
 address_in (Some m) n = slice_index m.members n
@@ -47,6 +51,7 @@ address_in (Some m) n = slice_index m.members n
 abbrev pub link_at : Layout → ℕ → ℕ
 link_at l m = link_in (slice_get l.monitors m)
 
+-- the address of a member by the layout
 abbrev pub address_at : Layout → Member → ℕ
 address_at l m = address_in (slice_get l.monitors m.monitor) m.number
 
@@ -54,9 +59,11 @@ address_at l m = address_in (slice_get l.monitors m.monitor) m.number
 abbrev pub link_word : Program → ℕ → ℕ
 link_word p m = link_at (layout_of p) m
 
+-- the address of monitor m's lock word
 abbrev pub lock_word_address : Program → ℕ → ℕ
 lock_word_address p m = link_word p m + 1
 
+-- the address of a member
 abbrev pub member_address : Program → Member → ℕ
 member_address p m = address_at (layout_of p) m
 

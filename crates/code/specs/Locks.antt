@@ -20,9 +20,11 @@ use Rattle.code.specs.Marks.{with_mark, plainly}
 abbrev pub waiters : ℕ
 waiters = 2147483648
 
+-- OWNER_DIED, the bit that an owner's exit sets
 abbrev pub owner_died : ℕ
 owner_died = 1073741824
 
+-- the bits of the owner's number
 abbrev pub owner_bits : ℕ
 owner_bits = 1073741823
 
@@ -39,6 +41,7 @@ recovery None = Raise AbandonedMonitor
 abbrev pub get : Instr
 get = GetLocal Template
 
+-- keeps the uppermost operand in the template's own local
 abbrev pub keep : Instr
 keep = SetLocal Template
 
@@ -53,6 +56,7 @@ take_at mark e a =
     Push (e + 1) ∷ get ∷ OwnNumber ∷ Push waiters ∷ Operate BitOr ∷ []) ++
     (with_mark mark CompareSwap ∷ plainly (get ∷ Operate Eq ∷ JumpIfZero a ∷ []))
 
+-- the taking of a lock, from place 0 on
 abbrev pub take_code : Mark → ℕ → List Marked
 take_code mark e = take_at mark e 0
 
@@ -63,6 +67,7 @@ got_at e recover start =
     plainly (Push e ∷ (own Head ++ (Load ∷ Store ∷ (own Head ++ (Push e ∷ Store ∷ (own Pending ++ (Push 0 ∷ Store ∷
     get ∷ Push owner_died ∷ Operate BitAnd ∷ JumpIfZero (start + 18) ∷ recover ∷ [])))))))
 
+-- what follows once it is taken, from place 0 on
 abbrev pub got_code : ℕ → Instr → List Marked
 got_code e recover = got_at e recover 0
 
@@ -72,6 +77,7 @@ try_code m e =
     plainly (own Pending ++ (Push e ∷ Store ∷ Push (e + 1) ∷ Push 0 ∷ OwnNumber ∷ [])) ++
     (with_mark (Enter m) CompareSwap ∷ plainly (keep ∷ get ∷ JumpIfZero 43 ∷ []))
 
+-- the code that enters monitor m
 abbrev pub enter_code : ℕ → ℕ → Instr → List Marked
 enter_code m e recover = try_code m e ++ (take_at (Enter m) e 11 ++ got_at e recover 43)
 
@@ -83,6 +89,7 @@ leave_at mark e start =
     (with_mark mark Swap ∷ plainly (Push waiters ∷ Operate BitAnd ∷ JumpIfZero (start + 19) ∷
     Push (e + 1) ∷ Push 1 ∷ FutexWake ∷ Pop ∷ []))
 
+-- the giving up of a lock, from place 0 on
 abbrev pub leave_code : Mark → ℕ → List Marked
 leave_code mark e = leave_at mark e 0
 

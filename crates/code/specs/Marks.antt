@@ -6,6 +6,7 @@ use Rattle.code.specs.declared.mark.Mark.{Mark}
 use Rattle.code.specs.declared.mark.Mark.TheVariants.{Plain}
 use Rattle.code.specs.declared.mark.Marked.{Marked}
 
+-- an instruction at which an action of this kind is completed
 abbrev pub with_mark : Mark → Instr → Marked
 with_mark m i = record { instruction = i; mark = m }
 
@@ -13,6 +14,7 @@ with_mark m i = record { instruction = i; mark = m }
 abbrev pub plain : Instr → Marked
 plain i = with_mark Plain i
 
+-- instructions at which no action is completed
 abbrev pub plainly : List Instr → List Marked
 plainly [] = []
 plainly (i ∷ is) = plain i ∷ plainly is

@@ -33,6 +33,7 @@ abbrev pub default_code : Option ValueType → List Marked
 default_code None = []
 default_code (Some t) = plain (Push 0) ∷ []
 
+-- where the statements of a procedure stand
 abbrev pub setting_of : Program → (ℕ → ℕ) → Procedure → Setting
 setting_of p starts q = record { program = p; starts = starts; role = q.role; result = q.result }
 
@@ -52,9 +53,11 @@ abbrev pub starts_from : Program → ℕ → List Procedure → List ℕ
 starts_from p base [] = []
 starts_from p base (q ∷ qs) = base ∷ starts_from p (base + length (unlinked_code p q)) qs
 
+-- the place at which the code of a piece begins
 abbrev pub start_of : Program → ℕ → ℕ
 start_of p piece = slice_index (starts_from p 0 p.procedures) piece
 
+-- the code of procedures, one after another
 abbrev pub pieces_code : Program → (ℕ → ℕ) → List Procedure → Code
 pieces_code p starts [] start = []
 pieces_code p starts (q ∷ qs) start = sequence (piece_code p starts q) (pieces_code p starts qs) start

@@ -69,5 +69,6 @@ abbrev pub return_instruction : Option ValueType → Instr
 return_instruction None = Ret
 return_instruction (Some t) = RetValue
 
+-- the return from a procedure of this role
 abbrev pub return_code : Role → Option ValueType → Marked
 return_code role result = with_mark (return_mark role result) (return_instruction result)

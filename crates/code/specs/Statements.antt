@@ -27,6 +27,7 @@ pub record Setting : Type 0 where
   pub role : Role
   pub result : Option ValueType
 
+-- where the code of a piece begins, where there is one
 abbrev pub start_in : (ℕ → ℕ) → Option ℕ → Option ℕ
 start_in starts None = None
 start_in starts (Some piece) = Some (starts piece)
@@ -35,6 +36,7 @@ start_in starts (Some piece) = Some (starts piece)
 abbrev pub recovery_of : Setting → ℕ → Instr
 recovery_of c m = recovery (start_in c.starts (recover_of c.program m))
 
+-- the type of a procedure's result, where it has one
 abbrev pub result_in : Option Procedure → Option ValueType
 result_in None = None
 result_in (Some q) = q.result

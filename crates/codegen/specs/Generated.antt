@@ -14,6 +14,7 @@ pub record Piece : Type 0 where
   pub number : ℕ
   pub code : List Marked
 
+-- a piece
 abbrev pub piece_of : CodePiece → Piece
 piece_of p = record { number = p.number; code = p.code.items }
 
@@ -22,6 +23,7 @@ abbrev pub unlinked_from : Program → ℕ → List Procedure → List Piece
 unlinked_from p n [] = []
 unlinked_from p n (q ∷ qs) = record { number = n; code = unlinked_code p q } ∷ unlinked_from p (n + 1) qs
 
+-- the pieces of a program
 abbrev pub unlinked_pieces : Program → List Piece
 unlinked_pieces p = unlinked_from p 0 p.procedures
 

@@ -37,6 +37,7 @@ Wait p t v T [] q r = q ≡ r
 Wait p t v T (k ∷ ks) q r =
     (label : Label) × (mid : Process) × (k ≡ kind_of label) × MayWait p t v T q label mid × Wait p t v T ks mid r
 
+-- the same of process t, in a state and in the one behind these actions
 abbrev pub WaitAt : Program → ℕ → Variables → Table → List Kind → Option Process → Option Process → Type 0
 WaitAt p t v T ks None None = ks ≡ []
 WaitAt p t v T ks (Some q) (Some r) = Wait p t v T ks q r

@@ -14,9 +14,11 @@ pub record Marked : Type 0 where
   pub kind : Kind
   pub waits : Bool
 
+-- the action alone
 abbrev pub action_of : Marked → Action
 action_of x = record { process = x.process; kind = x.kind }
 
+-- what waits of process t, as actions
 abbrev pub actions_of : ℕ → List Kind → List Action
 actions_of t ks = map (λ k. record { process = t; kind = k }) ks
 
@@ -33,6 +35,7 @@ placed_behind n waiting (x ∷ xs) =
     if x.waits then placed_behind n (put waiting x.process (waiting x.process ++ x.kind ∷ [])) xs
     else actions_of x.process (waiting x.process) ++ action_of x ∷ placed_behind n (put waiting x.process []) xs
 
+-- the run reordered, where there are n processes and nothing waits at first
 abbrev pub placed_actions : (n : ℕ) → List Marked → List Action
 placed_actions n xs = placed_behind n (λ t. []) xs
 

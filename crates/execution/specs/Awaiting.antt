@@ -34,10 +34,12 @@ abbrev pub return_request : Option ℕ → Request
 return_request None = AskReturn
 return_request (Some w) = AskReturnValue w
 
+-- the value that a process leaves with, by its word
 abbrev pub left_value : Option ℕ → ℤ
 left_value None = pos 0
 left_value (Some w) = signed_of w
 
+-- a result, where there is one, is a word
 abbrev pub IsResult : Option ℕ → Type 0
 IsResult None = ⊤
 IsResult (Some w) = w < 2 ^ 32

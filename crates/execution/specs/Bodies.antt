@@ -42,6 +42,7 @@ pub record IsSound (height : ℕ → ℕ) (width number : ℕ) (scope : Scope) (
   pub room : statement_room s ≤ most_room
   pub tokens : statement_tokens s ≤ width
 
+-- statements that are sound, each of them
 abbrev pub AreSound : (ℕ → ℕ) → ℕ → ℕ → Scope → Block → Type 0
 AreSound height width number scope Done = ⊤
 AreSound height width number scope (Then first rest) = IsSound height width number scope first
@@ -75,6 +76,7 @@ pub record Build : Type 0 where
   pub width : ℕ
   pub made : ℕ
 
+-- the same code, where so many processes were made
 abbrev pub with_made : Build → ℕ → Build
 with_made b made = record b { made = made }
 

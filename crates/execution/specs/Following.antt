@@ -81,6 +81,7 @@ abbrev pub result_operands : Option ℕ → List ℕ
 result_operands None = []
 result_operands (Some w) = w ∷ []
 
+-- the word that is left, if any, is that of the result z
 abbrev pub ShowsResult : ℕ → Option ValueType → Option ℕ → ℤ → Type 0
 ShowsResult made None None z = z ≡ pos 0
 ShowsResult made None (Some w) z = ⊥

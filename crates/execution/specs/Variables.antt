@@ -17,9 +17,11 @@ HasIndex (Some (Variable t)) i = i ≡ 0
 HasIndex (Some Condition) i = ⊥
 HasIndex (Some (Array n)) i = i < n
 
+-- a variable, or an element of an array
 abbrev pub IsVariable : Program → Member → ℕ → Type 0
 IsVariable p m i = HasIndex (member_type p m) i
 
+-- the address of a variable, or of an array's element i
 abbrev pub variable_address : Program → Member → ℕ → ℕ
 variable_address p m i = member_address p m + i
 

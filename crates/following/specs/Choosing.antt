@@ -11,6 +11,7 @@ use Rattle.sourceruns.specs.declared.next_action.Offer.{Offer}
 use Rattle.sourceruns.specs.declared.next_action.Offer.TheVariants.{Own, Enters, Resumes, Joins}
 use Rattle.sourceruns.specs.Offered.{label_of}
 
+-- the action that the code's label is
 abbrev pub heard_label : Label → Kind
 heard_label label = kind_of (label_of label)
 
@@ -24,6 +25,7 @@ heard_own (Claims child into aborted) made resumed = Some (L.Claim child)
 heard_own (NotifiesSome c) made resumed = Some (L.Notify c resumed)
 heard_own (NotifiesAll c) made resumed = Some (L.Broadcast c resumed)
 
+-- the action that others learn of, if it is one; a fork makes a process of the number that comes next
 abbrev pub heard_kind : Offer → ℕ → List ℕ → Option Kind
 heard_kind (Own o) made resumed = heard_own o made resumed
 heard_kind (Enters m) made resumed = Some (L.Enter m)
@@ -36,6 +38,7 @@ resumed_own (NotifiesSome c) = Some c
 resumed_own (NotifiesAll c) = Some c
 resumed_own other = None
 
+-- the condition whose waiters an offer resumes, if it resumes any
 abbrev pub resumed_only : Offer → Option Member
 resumed_only (Own o) = resumed_own o
 resumed_only other = None

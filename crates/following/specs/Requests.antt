@@ -12,6 +12,7 @@ use Rattle.protocol.specs.Word.{owner}
 unfoldable pub is_word_of : ℕ → ℕ → Bool
 is_word_of k a = is_process_word k a
 
+-- whether a request with this value in its event is one
 abbrev pub heard_request : Program → Request → ℕ → Bool
 heard_request p (told.CompareSwap a expected new) v = (v == expected) && (owner expected == 0)
 heard_request p (told.Swap a new) v = (new == 0) || (v == 0)
@@ -23,6 +24,7 @@ heard_request p (told.Requeue from to wake moves expected) v = true
 heard_request p (told.Print number) v = true
 heard_request p request v = false
 
+-- whether what a thread comes to is one, with this value in its event
 abbrev pub heard_step : Program → NextStep → ℕ → Bool
 heard_step p (next.Shared request) v = heard_request p request v
 heard_step p (next.Fork entry count has_room) v = not (v == 0)

@@ -4,6 +4,7 @@ use Rattle.isa.specs.declared.fault.DecodeFault.{DecodeFault}
 use Rattle.isa.specs.declared.fault.DecodeFault.TheVariants.{BadMagic, Version, Short, BadInstr, BadTarget, Trailing}
 use Rattle.isa.specs.declared.fault.DecodeFault.TheVariants.{Limit, Memory}
 
+-- the number of a fault
 abbrev pub fault_number : DecodeFault → ℕ
 fault_number BadMagic = 1
 fault_number Version = 2

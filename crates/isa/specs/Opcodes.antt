@@ -111,6 +111,7 @@ operator_opcode Ge = 0x10
 operator_opcode BitAnd = 0x11
 operator_opcode BitOr = 0x12
 
+-- the opcode of an instruction
 abbrev pub opcode : Instr → ℕ
 opcode (Push n) = 0x01
 opcode (GetLocal slot) = 0x02

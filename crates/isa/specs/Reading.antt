@@ -12,6 +12,7 @@ use Rattle.isa.specs.Programs.{Program}
 use Rattle.isa.specs.Spelling.{magic, version}
 
 infixl 10 ◌>>=◌
+-- reads on, unless a fault was met
 abbrev pub ◌>>=◌ : {A B : Type 0} → Result A DecodeFault → (A → Result B DecodeFault) → Result B DecodeFault
 (Ok x) >>= f = f x
 (Err e) >>= f = Err e
@@ -36,6 +37,7 @@ groups_at (suc more) (b ∷ rest) = if nat_lt b 128 then Ok (b, rest) else do
   high ← groups_at more rest
   if high.0 == 0 then Err BadInstr else Ok (b - 128 + 128 * high.0, high.1)
 
+-- a number, in at most five bytes
 abbrev pub number_at : List ℕ → Result (ℕ × List ℕ) DecodeFault
 number_at bytes = groups_at 4 bytes
 
@@ -64,6 +66,7 @@ abbrev pub made_at : Option Instr → List ℕ → Result (Instr × List ℕ) De
 made_at None bytes = Err Limit
 made_at (Some i) bytes = Ok (i, bytes)
 
+-- an instruction by its form, behind its opcode
 unfoldable pub operands_at : Option Form → List ℕ → Result (Instr × List ℕ) DecodeFault
 operands_at None bytes = Err BadInstr
 operands_at (Some (with_one make)) bytes = do
@@ -79,10 +82,12 @@ unfoldable pub behind_opcode : Option Instr → Option Form → List ℕ → Res
 behind_opcode (Some i) form bytes = Ok (i, bytes)
 behind_opcode None form bytes = operands_at form bytes
 
+-- one instruction
 unfoldable pub instruction_at : List ℕ → Result (Instr × List ℕ) DecodeFault
 instruction_at [] = Err Short
 instruction_at (b ∷ rest) = behind_opcode (row_of plain_opcodes b) (row_of operand_opcodes b) rest
 
+-- so many instructions
 unfoldable pub instructions_at : ℕ → List ℕ → Result (List Instr × List ℕ) DecodeFault
 instructions_at zero bytes = Ok ([], bytes)
 instructions_at (suc count) bytes = do
@@ -111,6 +116,7 @@ abbrev pub leads_below : ℕ → Option ℕ → Bool
 leads_below count None = true
 leads_below count (Some place) = nat_lt place count
 
+-- whether the targets of all instructions are below the number of instructions
 abbrev pub lead_below : ℕ → List Instr → Bool
 lead_below count [] = true
 lead_below count (i ∷ is) = if leads_below count (target i) then lead_below count is else false

@@ -7,12 +7,15 @@ use Rattle.isa.specs.Instructions.{operands}
 use Rattle.isa.specs.Opcodes.{opcode}
 use Rattle.isa.specs.Programs.{Program, IsProgram}
 
+-- the four bytes that each image begins with
 abbrev pub magic : List ℕ
 magic = 0x4d ∷ 0x46 ∷ 0x55 ∷ 0x54 ∷ []
 
+-- the byte of the version
 abbrev pub version : List ℕ
 version = 0x01 ∷ []
 
+-- numbers, one after another
 abbrev pub numbers : List ℕ → List ℕ
 numbers ns = flat_map number ns
 
@@ -20,6 +23,7 @@ numbers ns = flat_map number ns
 abbrev pub instruction : Instr → List ℕ
 instruction i = opcode i ∷ numbers (operands i)
 
+-- instructions, one after another
 abbrev pub instructions : List Instr → List ℕ
 instructions is = flat_map instruction is
 
@@ -31,6 +35,7 @@ monitor_table monitors = number (length monitors) ++ numbers monitors
 abbrev pub code_table : List Instr → List ℕ
 code_table code = number (length code) ++ instructions code
 
+-- the bytes of an image
 abbrev pub spelling : Program → List ℕ
 spelling p = magic ++ version ++ monitor_table p.monitors ++ number p.start ++ code_table p.code
 

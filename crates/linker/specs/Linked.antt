@@ -34,6 +34,7 @@ abbrev pub places_from : ℕ → List Piece → List ℕ
 places_from place [] = []
 places_from place (x ∷ xs) = place ∷ places_from (place + length x.code) xs
 
+-- the place at which piece n begins
 abbrev pub begins : List Piece → ℕ → ℕ
 begins pieces n = slice_index (places_from 0 pieces) n
 
@@ -56,6 +57,7 @@ pub record Links (l : Layout) (pieces : List CodePiece) (image : Image) : Type 0
   pub order : IsOrder l.pieces pieces sorted
   pub is : image ≡ image_of l (map piece_of sorted)
 
+-- whether there is such a local
 abbrev pub slot_fits : Slot → Bool
 slot_fits (Local n) = nat_lt n most_locals
 slot_fits Template = true
@@ -70,6 +72,7 @@ fits total (Call place) = nat_lt place total
 fits total (Fork place arguments) = nat_lt place total && nat_le arguments most_arguments
 fits total i = true
 
+-- whether all of them fit
 abbrev pub all_fit : ℕ → List Instr → Bool
 all_fit total [] = true
 all_fit total (i ∷ is) = cond (fits total i) (all_fit total is) false

@@ -9,6 +9,7 @@ abbrev pub place_text : ℕ → List ℕ
 place_text n = decimal (n / 10000) ++ decimal (n / 1000 % 10) ++ decimal (n / 100 % 10) ++ decimal
     (n / 10 % 10) ++ decimal (n % 10)
 
+-- the line of the instruction at a place
 abbrev pub line : ℕ → Instr → List ℕ
 line place i = place_text place ++ codes " " ++ instruction_text i ++ codes "\n"
 

@@ -90,5 +90,6 @@ IsUnserved (AskFault fault) s = ⊥
 abbrev pub shared_of : State → Shared
 shared_of s = record { word = s.word; asleep = s.asleep }
 
+-- the state with these words and these sleepers
 abbrev pub with_shared : State → Shared → State
 with_shared s after = record s { word = after.word; asleep = after.asleep }

@@ -27,9 +27,11 @@ abandon c l =
     let marked = set_word c l (lock_word 0 true (waiters_of w)) in
     if waiters_of w then wake_front marked l 1 else marked
 
+-- whom the abandoning of a lock word wakes: one sleeper, where its waiters bit is set
 abbrev pub abandon_wakes : Common → ℕ → List ℕ
 abandon_wakes c l = if waiters_of (load c l) then front c l 1 else []
 
+-- the step of an exit at an entry of the robust list, of which so many were seen before
 abbrev pub leave_entry : ℕ → ℕ → ℕ → Common → Left
 leave_entry t e seen c =
     if not (is_entry c e) then record { common = c; next = Pending; event = plain name.Entry e }
@@ -41,6 +43,7 @@ leave_entry t e seen c =
       event = event_of name.Entry e (abandon_wakes c (e + 1)) [];
     }
 
+-- the step of an exit at the pending entry
 abbrev pub leave_pending : ℕ → ℕ → Common → Left
 leave_pending t e c =
     if not (is_entry c e) then record { common = c; next = ClearId; event = plain name.Pending e }
@@ -55,6 +58,7 @@ leave_pending t e c =
       event = event_of name.Pending e (front c (e + 1) 1) [];
     }
 
+-- the step of thread t's exit in this phase
 abbrev pub leave : ℕ → ExitPhase → Common → Left
 leave t (Entry e seen) c = leave_entry t e.0 seen c
 leave t Pending c = leave_pending t (load c (process_word t 1)) c

@@ -27,6 +27,7 @@ pub record Served : Type 0 where
   pub child : Option Thread
   pub event : Event
 
+-- an event with its value, whom it woke and whom it moved
 abbrev pub event_of : EventName → ℕ → List ℕ → List ℕ → Event
 event_of n v woken moved = record { name = n; value = v; woken = set_of woken; moved = set_of moved }
 
@@ -34,9 +35,11 @@ event_of n v woken moved = record { name = n; value = v; woken = set_of woken; m
 abbrev pub plain : EventName → ℕ → Event
 plain n v = event_of n v [] []
 
+-- the word at an address
 abbrev pub load : Common → ℕ → ℕ
 load c a = slice_index c.words a
 
+-- the word at an address, changed
 abbrev pub set_word : Common → ℕ → ℕ → Common
 set_word c a v = record c { words = slice_set c.words a v }
 
@@ -44,6 +47,7 @@ set_word c a v = record c { words = slice_set c.words a v }
 abbrev pub front : Common → ℕ → ℕ → List ℕ
 front c a n = take n (c.queue a)
 
+-- the first n sleepers of an address are awake
 abbrev pub wake_front : Common → ℕ → ℕ → Common
 wake_front c a n = record c {
   queue = put c.queue a (drop n (c.queue a));
@@ -64,6 +68,7 @@ move_front c a b n = if a == b then c else record c {
   asleep = with_place c.asleep (front c a n) (Some b);
 }
 
+-- whom a requeue moves: nobody, where both addresses are equal
 abbrev pub moves_of : Common → ℕ → ℕ → ℕ → List ℕ
 moves_of c a b n = if a == b then [] else front c a n
 
@@ -75,6 +80,7 @@ gives answer c event = Ok (record { answer = answer; common = c; child = None; e
 abbrev pub within : Common → ℕ → Result Served StepFault → Result Served StepFault
 within c a served = if nat_lt a (length c.words) then served else Err Broken
 
+-- a FORK, where so many threads were made
 abbrev pub fork_at : ℕ → Common → ℕ → List ℕ → Bool → Result Served StepFault
 fork_at made c entry arguments has_room =
     if made == most_processes then gives 0 c (plain name.Fork 0)
@@ -86,14 +92,17 @@ fork_at made c entry arguments has_room =
     })
     else Err Broken
 
+-- a futex wait: it sleeps where the word is as expected, and else answers 1
 abbrev pub wait_on : Common → ℕ → ℕ → ℕ → Result Served StepFault
 wait_on c t a expected =
     if load c a == expected then gives 0 (sleep_on c t a) (plain name.Wait 0) else gives 1 c (plain name.Wait 1)
 
+-- a futex wake of at most n sleepers
 abbrev pub wake_on : Common → ℕ → ℕ → Result Served StepFault
 wake_on c a n = gives (length (front c a n)) (wake_front c a n)
     (event_of name.Wake (length (front c a n)) (front c a n) [])
 
+-- a compare-requeue: where the word is as expected, it wakes at most n and moves at most m
 abbrev pub requeue_to : Common → ℕ → ℕ → ℕ → ℕ → ℕ → Result Served StepFault
 requeue_to c a b n m expected =
     if load c a == expected then
@@ -107,6 +116,7 @@ requeue_to c a b n m expected =
 abbrev pub end_with_outcome : ℕ → Common → ℕ → Event → Result Served StepFault
 end_with_outcome t c outcome event = gives (load c (process_word t 0)) (set_word c (process_word t 5) outcome) event
 
+-- how a request of thread t is served
 abbrev pub serve : ℕ → ℕ → Request → Common → Result Served StepFault
 serve made t (AskLoad a) c = within c a (gives (load c a) c (plain name.Load (load c a)))
 serve made t (AskStore a v) c = within c a (gives 0 (set_word c a v) (plain name.Store v))

@@ -20,6 +20,7 @@ pub record Stepped : Type 0 where
   pub child : Option Thread
   pub event : Event
 
+-- a thread goes on with the answer to its request
 abbrev pub go_on_with : (ℕ → Thread) → Result Served StepFault → Result Stepped StepFault
 go_on_with go (Ok r) = Ok (record { common = r.common; thread = go r.answer; child = r.child; event = r.event })
 go_on_with go (Err fault) = Err fault
@@ -33,10 +34,12 @@ thread_step made t c (Leaves phase) =
 thread_step made t c Breaks = Err Broken
 thread_step made t c Rests = Err CannotMove
 
+-- the threads, with the one that a step made, if it made one
 abbrev pub with_new : List Thread → Option Thread → List Thread
 with_new threads None = threads
 with_new threads (Some child) = threads ++ child ∷ []
 
+-- the machine behind a step of thread t, with the step's event
 abbrev pub on_machine : ConcreteState → ℕ → Result Stepped StepFault → Result (ConcreteState × Event) StepFault
 on_machine k t (Ok r) =
     Ok (record { common = r.common; threads = with_new (slice_set k.threads (t - 1) r.thread) r.child }, r.event)
@@ -47,6 +50,7 @@ abbrev pub step_awake : Program → ConcreteState → ℕ → Thread → Option 
 step_awake p k t x None = on_machine k t (thread_step (length k.threads) t k.common (look p t x))
 step_awake p k t x (Some a) = Err CannotMove
 
+-- the step of thread t, if there is such a thread
 abbrev pub step_thread : Program → ConcreteState → ℕ → Option Thread → Result (ConcreteState × Event) StepFault
 step_thread p k t None = Err CannotMove
 step_thread p k t (Some x) = step_awake p k t x (k.common.asleep t)
@@ -60,12 +64,15 @@ abbrev pub thread_can_move : Option ℕ → Option Thread → Bool
 thread_can_move place None = false
 thread_can_move place (Some x) = not (is_some place || has_ended (Some x))
 
+-- whether thread t can move
 abbrev pub can_move : ConcreteState → ℕ → Bool
 can_move k t = thread_can_move (k.common.asleep t) (thread_of k t)
 
+-- the machine with thread t changed
 abbrev pub put_thread : ConcreteState → ℕ → Thread → ConcreteState
 put_thread k t x = record { common = k.common; threads = slice_set k.threads (t - 1) x }
 
+-- why a step may not be, if it may not
 abbrev pub fault_of : {A : Type 0} → Result A StepFault → Option StepFault
 fault_of (Ok r) = None
 fault_of (Err fault) = Some fault

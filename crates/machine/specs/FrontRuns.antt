@@ -24,9 +24,11 @@ pub record Label : Type 0 where
   pub thread : ℕ
   pub woken : ThreadSet
 
+-- a step of the machine as its label: who moved, and whom that woke
 abbrev pub label_of : Step → Label
 label_of s = record { thread = s.thread; woken = set_of s.woken }
 
+-- a step with an event as its label
 abbrev pub event_label : EventStep → Label
 event_label s = record { thread = s.thread; woken = s.event.woken }
 

@@ -43,6 +43,7 @@ name_at ClearId = name.Clear
 name_at LastWake = name.Last
 name_at Ended = name.Last
 
+-- the value in its event: that address
 abbrev pub value_at : ℕ → ExitPhase → List ℕ → ℕ
 value_at t (Entry e seen) words = e.0
 value_at t Pending words = slice_index words (process_word t 1)

@@ -15,6 +15,7 @@ pub record Step : Type 0 where
   pub woken : List ℕ
   pub pauses : Bool
 
+-- whether a thread's exit is over
 abbrev pub has_ended : Option Thread → Bool
 has_ended (Some (Exits Ended)) = true
 has_ended (Some (Exits phase)) = false

@@ -29,10 +29,12 @@ pub record State : Type 0 where
   pub asleep : ℕ → Option ℕ
   pub output : List ℤ
 
+-- the thread of this number in a list, in which the first has number 1
 abbrev pub thread_at : List Thread → ℕ → Option Thread
 thread_at threads zero = None
 thread_at threads (suc t) = slice_get threads t
 
+-- the thread of this number
 abbrev pub thread_of : ConcreteState → ℕ → Option Thread
 thread_of k t = thread_at k.threads t
 
@@ -59,6 +61,7 @@ opening_concrete p = record {
   threads = opening_thread p.start [] ∷ [];
 }
 
+-- the state in which a program begins: process 1 is made, and all words but its id are 0
 abbrev pub opening_state : Program → State
 opening_state p = record {
   word = put (λ a. 0) (process_word 1 2) 1;
@@ -69,11 +72,14 @@ opening_state p = record {
   output = [];
 }
 
+-- the state with thread t changed
 abbrev pub with_thread : State → ℕ → Thread → State
 with_thread s t x = record s { thread = put s.thread t (Some x) }
 
+-- the state with one word changed
 abbrev pub with_word : State → ℕ → ℕ → State
 with_word s a v = record s { word = put s.word a v }
 
+-- the state with other sleepers
 abbrev pub with_sleepers : State → (ℕ → Option ℕ) → State
 with_sleepers s asleep = record s { asleep = asleep }

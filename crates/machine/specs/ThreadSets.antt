@@ -6,6 +6,7 @@ use Rattle.words.specs.Limits.{most_processes}
 use Rattle.buckets.specs.Places.{names}
 use Rattle.machine.specs.declared.thread_set.ThreadSet.{ThreadSet}
 
+-- the bits of the threads of a list
 abbrev pub bits_of : List ℕ → ℕ
 bits_of [] = 0
 bits_of (t ∷ ts) = bit_or (2 ^ (t - 1)) (bits_of ts)

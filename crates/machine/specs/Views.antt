@@ -31,10 +31,12 @@ pub record IsWellFormed (p : Program) (k : ConcreteState) : Type 0 where
   pub agree : Agree k.common.queue k.common.asleep
   pub made : (t a : ℕ) → k.common.asleep t ≡ Some a → (1 ≤ t) × (t ≤ length k.threads)
 
+-- what all threads share, of the words, the sleepers and the output
 abbrev pub common_of : List ℕ → Sleepers → List ℤ → Common
 common_of words sleepers output =
     record { words = words; queue = queue sleepers; asleep = place_of sleepers; output = output }
 
+-- a state of the machine, of its parts
 abbrev pub concrete_of : List ℕ → Sleepers → List Thread → List ℤ → ConcreteState
 concrete_of words sleepers threads output = record { common = common_of words sleepers output; threads = threads }
 
@@ -104,5 +106,6 @@ printed_by_name name.Pending = 0
 printed_by_name name.Clear = 0
 printed_by_name name.Last = 0
 
+-- how many numbers an event printed
 abbrev pub printed_by : Event → ℕ
 printed_by e = printed_by_name e.name

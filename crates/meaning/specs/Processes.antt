@@ -23,6 +23,7 @@ pub record Caller : Type 0 where
   pub into : Option ℕ
   pub frame : Frame
 
+-- where a process stands
 pub data Process : Type 0 where
   -- called an ENTRY procedure, and hasn't entered its monitor
   Entering : (monitor : ℕ) (frame : Frame) (callers : List Caller) → Process
@@ -52,6 +53,7 @@ goes_on_by Main Done entered f callers = Leaving (pos 0)
 goes_on_by Main (Then (Return value) rest) entered f callers = Leaving (pos 0)
 goes_on_by role rest entered f callers = Before entered f callers
 
+-- a process goes on with what is left of its uppermost procedure
 abbrev pub goes_on : Option ℕ → Frame → List Caller → Process
 goes_on entered f callers = goes_on_by f.role f.rest entered f callers
 
@@ -59,6 +61,7 @@ goes_on entered f callers = goes_on_by f.role f.rest entered f callers
 abbrev pub zeros : List ValueType → List ℤ
 zeros ts = map (λ t. pos 0) ts
 
+-- the frame in which a procedure begins with these arguments
 abbrev pub frame_of : Option Procedure → List ℤ → Frame
 frame_of None arguments = record { role = External; locals = arguments; rest = Done }
 frame_of (Some q) arguments = record { role = q.role; locals = arguments ++ zeros q.locals; rest = q.body }
@@ -67,6 +70,7 @@ frame_of (Some q) arguments = record { role = q.role; locals = arguments ++ zero
 abbrev pub opening_frame : Program → ℕ → List ℤ → Frame
 opening_frame p number arguments = frame_of (slice_get p.procedures number) arguments
 
+-- a procedure of this role begins: an ENTRY procedure has its monitor to enter first
 abbrev pub begins_by : Role → Frame → List Caller → Process
 begins_by (Entry m) f callers = Entering m f callers
 begins_by role f callers = goes_on None f callers
@@ -75,6 +79,7 @@ begins_by role f callers = goes_on None f callers
 abbrev pub begins : Frame → List Caller → Process
 begins f callers = begins_by f.role f callers
 
+-- a process that found monitor m abandoned: its RECOVER part begins, or it is a fault where there is none
 abbrev pub recovers_by : Program → Option ℕ → ℕ → Frame → List Caller → Process
 recovers_by p None m f callers = Failing AbandonedMonitor (Some m) f callers
 recovers_by p (Some r) m f callers =
@@ -88,6 +93,7 @@ recovers p m f callers = recovers_by p (recover_of p m) m f callers
 abbrev pub with_local : Frame → ℕ → ℤ → Frame
 with_local f slot z = record f { locals = slice_set f.locals slot z }
 
+-- a frame with the result in the local behind INTO, where one stands there
 abbrev pub with_result : Option ℕ → ℤ → Frame → Frame
 with_result None z f = f
 with_result (Some slot) z f = with_local f slot z
@@ -105,13 +111,16 @@ monitor_of_role (Recover m) ms = ms
 monitor_of_role External ms = ms
 monitor_of_role Main ms = ms
 
+-- the monitors that a process's callers are in, the innermost first
 abbrev pub callers_monitors : List Caller → List ℕ
 callers_monitors [] = []
 callers_monitors (c ∷ callers) = monitor_of_role c.frame.role (callers_monitors callers)
 
+-- the monitors that a process is in, the innermost first
 abbrev pub all_monitors : Frame → List Caller → List ℕ
 all_monitors f callers = monitor_of_role f.role (callers_monitors callers)
 
+-- a list without monitor m
 abbrev pub without_monitor : ℕ → List ℕ → List ℕ
 without_monitor m ms = filter (λ n. not (n == m)) ms
 

@@ -28,10 +28,12 @@ dies fault f callers = Dying (Faulted fault) (all_monitors f callers)
 abbrev pub faults : Fault → Frame → List Caller → Offer
 faults fault f callers = Does (Alone (L.Fails fault)) Nothing (dies fault f callers)
 
+-- what comes of a value, or the fault in its place
 abbrev pub with_value : Evaluated → Frame → List Caller → (ℤ → Offer) → Offer
 with_value (Value z) f callers go = go z
 with_value (Fails fault) f callers go = faults fault f callers
 
+-- the same of several values
 abbrev pub with_values : EvaluatedAll → Frame → List Caller → (List ℤ → Offer) → Offer
 with_values (Values zs) f callers go = go zs
 with_values (FailsAll fault) f callers go = faults fault f callers
@@ -50,6 +52,7 @@ answers External z callers = Does (Alone L.Return) Nothing (hands_over z callers
 answers (Recover m) z callers = Rests
 answers Main z callers = Rests
 
+-- the first where the test is TRUE, else the second
 abbrev pub chosen_block : Bool → Block → Block → Block
 chosen_block true b c = b
 chosen_block false b c = c
@@ -59,6 +62,7 @@ abbrev pub joined_part : Part → Frame → List Caller → Process
 joined_part NoPart f callers = Failing JoinedAborted None f callers
 joined_part (SomePart b) f callers = goes_on None (record f { rest = followed_by b f.rest }) callers
 
+-- where a process goes on behind a JOIN, by how the process that it joined ended
 abbrev pub after_join : Option ℕ → Part → Frame → List Caller → End → Process
 after_join into part f callers (Ended z) = goes_on None (with_result into z f) callers
 after_join into part f callers (Aborted cause) = joined_part part f callers
@@ -70,6 +74,7 @@ claims (pos (suc n)) into part f callers = ClaimsOne (suc n) (Joining (suc n) in
     (dies HandleNotJoinable f callers)
 claims (negsuc n) into part f callers = faults HandleNotJoinable f callers
 
+-- an assignment, by where its value goes
 abbrev pub assigns : Program → Variables → Frame → List Caller → Target → Expression → Offer
 assigns p v f callers (ToLocal slot) e =
     with_value (evaluate p v f.locals e) f callers (λ z. Does (Alone L.Assign) Nothing
@@ -120,6 +125,7 @@ statement_offer p v f callers (Print e) =
     with_value (evaluate p v f.locals e) f callers (λ z. Does (Alone (L.Print z)) (Writes z) (goes_on None f callers))
 statement_offer p v f callers Abort = faults AbortStatement f callers
 
+-- what is left of a body: its next statement, or at its end the answer to the caller
 abbrev pub rest_offer : Program → Variables → Frame → List Caller → Block → Offer
 rest_offer p v f callers Done = answers f.role (pos 0) callers
 rest_offer p v f callers (Then s rest) = statement_offer p v (record f { rest = rest }) callers s

@@ -35,12 +35,14 @@ variables_after (Puts m n i z) v = with_variable v m n i z
 variables_after (Writes z) v = v
 variables_after (Makes child q) v = v
 
+-- the output behind an effect
 abbrev pub printed_after : Effect → List ℤ → List ℤ
 printed_after Nothing zs = zs
 printed_after (Puts m n i z) zs = zs
 printed_after (Writes z) zs = zs ++ z ∷ []
 printed_after (Makes child q) zs = zs
 
+-- the processes behind an effect
 abbrev pub processes_after : Effect → (ℕ → Option Process) → ℕ → Option Process
 processes_after Nothing process = process
 processes_after (Puts m n i z) process = process

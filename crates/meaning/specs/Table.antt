@@ -13,6 +13,7 @@ pub data Hold : Type 0 where
   Abandoned : Hold
   HeldBy : (process : ℕ) → Hold
 
+-- what processes share of monitors, conditions and one another
 pub record Table : Type 0 where
   -- of each monitor
   pub hold : ℕ → Hold

@@ -29,10 +29,12 @@ abbrev pub and_then : Evaluated → (ℤ → Evaluated) → Evaluated
 and_then (Value z) go = go z
 and_then (Fails fault) go = Fails fault
 
+-- the number of a truth value
 abbrev pub truth : Bool → ℤ
 truth true = pos 1
 truth false = pos 0
 
+-- whether a number is TRUE
 abbrev pub is_true : ℤ → Bool
 is_true z = not (int_eq z (pos 0))
 
@@ -41,12 +43,15 @@ abbrev pub is_integer : ℤ → Bool
 is_integer (pos n) = nat_lt n 2147483648
 is_integer (negsuc n) = nat_lt n 2147483648
 
+-- a number as a value, or the fault where it is out of range
 abbrev pub integer : ℤ → Evaluated
 integer z = if is_integer z then Value z else Fails ResultOutOfRange
 
+-- the quotient of a by b, or the fault where b is 0
 abbrev pub quotient_or_fault : ℤ → ℤ → Evaluated → Evaluated
 quotient_or_fault a b quotient = if is_true b then quotient else Fails DivisionByZero
 
+-- the value of an operator before one operand
 abbrev pub unary : UnaryOperator → ℤ → Evaluated
 unary Negate a = integer (neg_ℤ a)
 unary Not a = Value (truth (not (is_true a)))
@@ -72,10 +77,12 @@ abbrev pub index_in : ℕ → ℤ → Option ℕ
 index_in size (pos i) = if nat_lt i size then Some i else None
 index_in size (negsuc i) = None
 
+-- what stands at an index, or the fault where it is out of range
 abbrev pub at_index : Option ℕ → (ℕ → Evaluated) → Evaluated
 at_index None go = Fails IndexOutOfRange
 at_index (Some i) go = go i
 
+-- a number, 0 where there is none
 abbrev pub or_zero : Option ℤ → ℤ
 or_zero None = pos 0
 or_zero (Some z) = z
@@ -100,11 +107,13 @@ pub data EvaluatedAll : Type 0 where
   Values : (values : List ℤ) → EvaluatedAll
   FailsAll : (fault : Fault) → EvaluatedAll
 
+-- a value before others; the first fault decides
 abbrev pub put_first : Evaluated → EvaluatedAll → EvaluatedAll
 put_first (Fails fault) later = FailsAll fault
 put_first (Value z) (Values zs) = Values (z ∷ zs)
 put_first (Value z) (FailsAll fault) = FailsAll fault
 
+-- the values of expressions, in their order
 abbrev pub evaluate_all : Program → Variables → List ℤ → List Expression → EvaluatedAll
 evaluate_all p v locals [] = Values []
 evaluate_all p v locals (e ∷ es) = put_first (evaluate p v locals e) (evaluate_all p v locals es)

@@ -24,6 +24,7 @@ use Rattle.runner.specs.declared.report.Verdict.{Verdict}
 use Rattle.runner.specs.declared.report.Verdict.TheVariants.{Done, Stuck, Limit}
 use Rattle.runner.specs.declared.report.Report.{Report}
 
+-- the end of a line
 abbrev pub line_feed : List ℕ
 line_feed = 10 ∷ []
 
@@ -35,6 +36,7 @@ image_line count = codes "ok " ++ decimal count ++ codes " instructions" ++ line
 abbrev pub output_lines : List ℤ → List ℕ
 output_lines output = flat_map (λ z. signed_decimal z ++ line_feed) output
 
+-- how an event is called
 abbrev pub name_text : EventName → List ℕ
 name_text Local = codes "TURN"
 name_text Load = codes "LOAD"
@@ -75,6 +77,7 @@ abbrev pub list_text : List ℕ → List ℕ → List ℕ
 list_text word [] = []
 list_text word (n ∷ ns) = word ++ numbers_text (n ∷ ns)
 
+-- a word and the threads of a set, or nothing where the set is empty
 abbrev pub set_text : List ℕ → ThreadSet → List ℕ
 set_text word set = list_text word (members set most_processes)
 
@@ -84,6 +87,7 @@ event_text e =
     name_text e.name ++ codes " " ++ value_text e.name e.value
     ++ set_text (codes " woke") e.woken ++ set_text (codes " moved") e.moved
 
+-- the step of an entry: its event, or TURN where it has none
 abbrev pub step_text : Option Event → List ℕ
 step_text None = codes "TURN 0"
 step_text (Some e) = event_text e
@@ -92,23 +96,28 @@ step_text (Some e) = event_text e
 abbrev pub entry_line : Entry → List ℕ
 entry_line e = decimal e.thread ++ codes " " ++ decimal e.local ++ codes " " ++ step_text e.event ++ line_feed
 
+-- the lines of a log
 abbrev pub log_lines : List Entry → List ℕ
 log_lines log = flat_map entry_line log
 
+-- the line of a verdict; a run that is done has none
 abbrev pub verdict_line : Verdict → List ℕ
 verdict_line Done = []
 verdict_line Stuck = codes "stuck" ++ line_feed
 verdict_line Limit = codes "limit" ++ line_feed
 
+-- whether the verdict is Stuck
 abbrev pub is_stuck : Verdict → Bool
 is_stuck Stuck = true
 is_stuck _ = false
 
+-- the line of a thread that ended by a fault
 abbrev pub aborted_line : ℕ → Outcome → List ℕ
 aborted_line t (Aborted fault) =
     codes "process " ++ decimal t ++ codes " aborted: fault " ++ decimal (fault_number fault) ++ line_feed
 aborted_line t _ = []
 
+-- the line of a thread that sleeps
 abbrev pub asleep_line : ℕ → Option ℕ → List ℕ
 asleep_line t None = []
 asleep_line t (Some a) = codes "process " ++ decimal t ++ codes " sleeps on word " ++ decimal a ++ line_feed
@@ -124,6 +133,7 @@ abbrev pub threads_lines : ConcreteState → Bool → ℕ → List ℕ
 threads_lines k stuck zero = []
 threads_lines k stuck (suc t) = threads_lines k stuck t ++ thread_lines k stuck (suc t)
 
+-- what is written of a run to standard error
 abbrev pub account : Report → Bool → List ℕ
 account r trace =
     (if trace then log_lines r.log.items else []) ++ verdict_line r.verdict

@@ -42,6 +42,7 @@ pub record HasListed (Wrote : List ℕ → Type 0) : Type 0 where
   pub is : spelling image ≡ bytes
   pub wrote : Wrote (lines 0 image.code)
 
+-- the exit status of a run, by its verdict
 abbrev pub status_of_verdict : Verdict → Status
 status_of_verdict verdict.Done = Done
 status_of_verdict verdict.Stuck = Stuck

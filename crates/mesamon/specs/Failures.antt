@@ -21,6 +21,7 @@ use Rattle.mesamon.specs.declared.failure.Failure.TheVariants.{Output, Memory}
 use Rattle.mesamon.specs.declared.status.Status.{Status}
 use Rattle.mesamon.specs.declared.status.Status.TheVariants as status
 
+-- the exit status of a failure
 abbrev pub status_of : Failure → Status
 status_of (Usage e) = status.Usage
 status_of (Read name) = status.Failed
@@ -50,16 +51,19 @@ abbrev pub OfImage : DecodeFault → Failure → Type 0
 OfImage image.Memory f = f ≡ Memory
 OfImage e f = f ≡ Image e
 
+-- the failure that comes of a fault of `run`
 abbrev pub OfRun : RunSourceFault → Failure → Type 0
 OfRun (source.Refused e) f = OfRefusal e f
 OfRun (source.Run fault.Memory) f = f ≡ Memory
 OfRun (source.Run e) f = f ≡ Run e
 
+-- the failure that comes of a fault of `replay`
 abbrev pub OfReplay : ReplayFault → Failure → Type 0
 OfReplay (replay.Refused e) f = OfRefusal e f
 OfReplay (replay.BadEntry number) f = f ≡ Schedule number
 OfReplay replay.Memory f = f ≡ Memory
 
+-- the failure that comes of a fault of `explain`
 abbrev pub OfExplain : ExplainSourceFault → Failure → Type 0
 OfExplain (explain.Refused e) f = OfRefusal e f
 OfExplain explain.Memory f = f ≡ Memory

@@ -15,6 +15,7 @@ use Rattle.product.specs.Placing.{Resumes}
 use Rattle.product.specs.Progress.{Progress, progress, progress_paid}
 use Rattle.product.specs.Tracking.{CanTake, Tracks}
 
+-- all actions that the source has come to, and then what waits
 abbrev pub explanation : (p : Program) (steps : List Step) (s : State) → MachineRun (code_of p) steps s → List Action
 explanation p steps s run = let g = progress p steps s run in g.actions ++ actions_up_to s.made g.waiting
 

@@ -27,6 +27,7 @@ quiet_next (MakesOne child q full) = Some (record { label = FindsFull; effect = 
 quiet_next (ClaimsOne child q refused) = Some (record { label = FindsClaimed child; effect = Nothing; after = refused })
 quiet_next other = None
 
+-- whether a monitor is abandoned
 abbrev pub is_abandoned : Hold → Bool
 is_abandoned Abandoned = true
 is_abandoned other = false
@@ -37,6 +38,7 @@ entered_monitor (Enters m was_abandoned) = m
 entered_monitor (Resumes m was_abandoned) = m
 entered_monitor label = 0
 
+-- a JOIN of a child, once the child has ended
 abbrev pub joins_next : ℕ → (End → Process) → Option End → Option NextAction
 joins_next child q None = None
 joins_next child q (Some end) = Some (record { label = Joins child end; effect = Nothing; after = q end })
@@ -77,6 +79,7 @@ abbrev pub after_next : (t : ℕ) → Option NextAction → SourceState → Sour
 after_next t None a = a
 after_next t (Some x) a = state_after a t x.effect x.after (table_after t x.label a.table)
 
+-- what a process offers, if there is one
 abbrev pub offer_of_process : Program → Variables → Option Process → Offer
 offer_of_process p v None = Rests
 offer_of_process p v (Some q) = offer p v q

@@ -44,6 +44,7 @@ is_process_word k a = any_below most_processes (λ n. process_word (suc n) k == 
 abbrev pub is_link_word : Program → ℕ → Bool
 is_link_word p a = any_below (length p.monitors) (λ m. link_word p m == a)
 
+-- whether a monitor's lock word lies at this address
 abbrev pub is_lock_word : Program → ℕ → Bool
 is_lock_word p a = any_below (length p.monitors) (λ m. lock_word_address p m == a)
 
@@ -95,6 +96,7 @@ StepsSo p done late mark s t woken (Leaves phase) s' =
 StepsSo p done late mark s t woken Breaks s' = ⊥
 StepsSo p done late mark s t woken Rests s' = ⊥
 
+-- an action of process t
 abbrev pub act : ℕ → Kind → Action
 act t k = record { process = t; kind = k }
 

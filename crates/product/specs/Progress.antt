@@ -68,11 +68,13 @@ progress_taken p s s' l st g =
     let late = later_step (mark_of (marks_of p) st.thread) looks answer in
     progress_step p (heard_step p looks answer) late s' l.thread g
 
+-- behind several steps of the machine
 abbrev pub progress_by : (p : Program) → Progress → (steps : List Step) → (s s' : State)
     → GoesBy (code_of p) s steps s' → Progress
 progress_by p g [] s s' run = g
 progress_by p g (l ∷ ls) s s' run = progress_by p (progress_taken p s run.0 l run.1 g) ls run.0 s' run.2
 
+-- before the first step
 abbrev pub opening_progress : Program → Progress
 opening_progress p = record { actions = []; source = opening p; waiting = λ t. [] }
 

@@ -6,6 +6,7 @@ use Rattle.protocol.specs.Points.{Point, Dies, Walks, ClearsId, LastWakes, HasEn
 use Rattle.protocol.specs.World.{World}
 use Rattle.execution.specs.Completing.{IsOwn}
 
+-- whether an action is a fault
 abbrev pub is_failing : Kind → Bool
 is_failing (Fails fault) = true
 is_failing kind = false
@@ -32,6 +33,7 @@ pub data Stage : Type 0 where
   Meets : Stage
   Leaves : Stage
 
+-- how far a thread is that stands at this point of the protocol
 abbrev pub stage_of : Point → Stage
 stage_of (Dies cause x) = Meets
 stage_of (Walks e x end) = Leaves
@@ -40,6 +42,7 @@ stage_of (LastWakes end) = Leaves
 stage_of (HasEnded end) = Leaves
 stage_of pt = Works
 
+-- the same of each thread of a world
 abbrev pub stages : World → ℕ → Stage
 stages w u = stage_of (w.at u).point
 

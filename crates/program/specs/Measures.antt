@@ -19,11 +19,13 @@ abbrev pub arguments_room : List Expression → ℕ
 arguments_room [] = 0
 arguments_room (e ∷ es) = max (room e) (1 + arguments_room es)
 
+-- the most operands at once in an assignment
 abbrev pub assignment_room : Target → Expression → ℕ
 assignment_room (ToLocal slot) e = room e
 assignment_room (ToMember m) e = 1 + room e
 assignment_room (ToElement a i) e = max (room i) (1 + room e)
 
+-- the most operands at once in the value of a RETURN
 abbrev pub value_room : Option Expression → ℕ
 value_room None = 1
 value_room (Some e) = room e

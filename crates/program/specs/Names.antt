@@ -15,9 +15,11 @@ pub record MonitorNaming : Type 0 where
 pub record Naming : Type 0 where
   pub monitors : List MonitorNaming
 
+-- what a monitor and its members are called
 abbrev pub monitor_naming_of : MonitorNames → MonitorNaming
 monitor_naming_of m = record { name = m.name.now; members = map (λ n. n.now) m.members.items }
 
+-- what a program's monitors and members are called
 abbrev pub naming_of : Names → Naming
 naming_of n = record { monitors = map monitor_naming_of n.monitors.items }
 

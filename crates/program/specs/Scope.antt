@@ -27,6 +27,7 @@ own_monitor (Recover m) = Some m
 own_monitor External = None
 own_monitor Main = None
 
+-- the type of a monitor's member of this number, where there are both
 abbrev pub member_in : Option Monitor → ℕ → Option MemberType
 member_in None number = None
 member_in (Some monitor) number = slice_get monitor.members number
@@ -35,6 +36,7 @@ member_in (Some monitor) number = slice_get monitor.members number
 abbrev pub member_type : Program → MemberOf → Option MemberType
 member_type p m = member_in (slice_get p.monitors m.monitor) m.number
 
+-- the length of an array, 0 for what is none
 abbrev pub size_in : Option MemberType → ℕ
 size_in None = 0
 size_in (Some (Variable t)) = 0
@@ -45,6 +47,7 @@ size_in (Some (Array n)) = n
 abbrev pub array_size : Program → MemberOf → ℕ
 array_size p m = size_in (member_type p m)
 
+-- the piece of a monitor's RECOVER part, where it has one
 abbrev pub recover_in : Option Monitor → Option ℕ
 recover_in None = None
 recover_in (Some monitor) = monitor.recover
@@ -57,14 +60,18 @@ recover_of p m = recover_in (slice_get p.monitors m)
 abbrev pub IsOwn : Scope → MemberOf → Type 0
 IsOwn s m = own_monitor s.role ≡ Some m.monitor
 
+-- a variable of this type, of the monitor around
 abbrev pub IsVariable : Scope → MemberOf → ValueType → Type 0
 IsVariable s m t = IsOwn s m × (member_type s.program m ≡ Some (Variable t))
 
+-- an array of the monitor around
 abbrev pub IsArray : Scope → MemberOf → Type 0
 IsArray s m = IsOwn s m × (n : ℕ) × (member_type s.program m ≡ Some (Array n))
 
+-- a condition of the monitor around
 abbrev pub IsCondition : Scope → MemberOf → Type 0
 IsCondition s m = IsOwn s m × (member_type s.program m ≡ Some Condition)
 
+-- a local of this type
 abbrev pub IsLocal : Scope → ℕ → ValueType → Type 0
 IsLocal s slot t = slice_get s.locals slot ≡ Some t

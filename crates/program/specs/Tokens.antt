@@ -5,6 +5,7 @@ use Rattle.program.specs.Trees.{ToMember, ToElement, Statement, Assign, If, Whil
 use Rattle.program.specs.Trees.{Notify, Broadcast, Print, Abort, Block, Done, Then, Part, NoPart, SomePart, Procedure}
 use Rattle.program.specs.Trees.{Program}
 
+-- the tokens of an expression
 abbrev pub expression_tokens : Expression → ℕ
 expression_tokens (Constant n) = 1
 expression_tokens (Truth b) = 1
@@ -19,15 +20,18 @@ abbrev pub arguments_tokens : List Expression → ℕ
 arguments_tokens [] = 0
 arguments_tokens (e ∷ es) = expression_tokens e + arguments_tokens es
 
+-- the tokens of what is assigned to
 abbrev pub target_tokens : Target → ℕ
 target_tokens (ToLocal slot) = 1
 target_tokens (ToMember m) = 1
 target_tokens (ToElement a e) = 3 + expression_tokens e
 
+-- the tokens of INTO and its name
 abbrev pub into_tokens : Option ℕ → ℕ
 into_tokens None = 0
 into_tokens (Some slot) = 2
 
+-- the tokens of an expression that may be left out
 abbrev pub value_tokens : Option Expression → ℕ
 value_tokens None = 0
 value_tokens (Some e) = expression_tokens e
@@ -60,6 +64,7 @@ abbrev pub most_of : Block → ℕ
 most_of Done = 0
 most_of (Then first rest) = max (statement_tokens first) (most_of rest)
 
+-- the most tokens of a statement in these procedures
 abbrev pub most_of_procedures : List Procedure → ℕ
 most_of_procedures [] = 0
 most_of_procedures (q ∷ qs) = max (most_of q.body) (most_of_procedures qs)

@@ -7,6 +7,7 @@ use Rattle.program.specs.declared.kinds.UnaryOperator.{UnaryOperator}
 use Rattle.program.specs.declared.kinds.Operator.{Operator}
 use Rattle.program.specs.declared.kinds.Role.{Role}
 
+-- an expression
 pub data Expression : Type 0 where
   -- a number from 0 to 2147483647
   Constant : (number : ℕ) → Expression
@@ -28,6 +29,7 @@ pub data Target : Type 0 where
   ToElement : (array : MemberOf) (index : Expression) → Target
 
 mutual
+  -- a statement
   pub data Statement : Type 0 where
     Assign : (target : Target) (value : Expression) → Statement
     If : (condition : Expression) (then_part : Block) (else_part : Part) → Statement

@@ -62,6 +62,7 @@ HasType s (Element a e) t = IsArray s a × HasType s e Integer × (t ≡ Integer
 HasType s (Unary op e) t = HasType s e (unary_type op) × (t ≡ unary_type op)
 HasType s (Both op l r) t = (u : ValueType) × Takes op u × HasType s l u × HasType s r u × (t ≡ result_type op)
 
+-- a value of this type may be assigned to it
 abbrev pub TargetHasType : Scope → Target → ValueType → Type 0
 TargetHasType s (ToLocal slot) t = IsLocal s slot t
 TargetHasType s (ToMember m) t = IsVariable s m t

@@ -22,6 +22,7 @@ use Rattle.program.specs.Trees.{ToMember, ToElement, Statement, Assign, If, Whil
 use Rattle.program.specs.Trees.{Notify, Broadcast, Print, Abort, Block, Done, Then, Part, NoPart, SomePart, Monitor}
 use Rattle.program.specs.Trees.{Procedure, Program}
 
+-- an expression
 abbrev pub expression_of : ExpressionOf → Expression
 expression_of (Number' n) = Constant n
 expression_of (Truth' b) = Truth b
@@ -31,11 +32,13 @@ expression_of (Element' p array e) = Element array (expression_of e)
 expression_of (Unary' op p e) = Unary op (expression_of e)
 expression_of (Both' p op l r) = Both op (expression_of l) (expression_of r)
 
+-- what is assigned to
 abbrev pub target_of : TargetOf → Target
 target_of (LocalTarget i) = ToLocal i
 target_of (MemberTarget m) = ToMember m
 target_of (ElementTarget e) = ToElement e.value.array (expression_of e.value.index)
 
+-- an expression that may be left out
 abbrev pub option_expression : Option ExpressionOf → Option Expression
 option_expression None = None
 option_expression (Some e) = Some (expression_of e)
@@ -68,16 +71,20 @@ abbrev pub block_before : List StatementOf → Block → Block
 block_before [] later = later
 block_before (s ∷ ss) later = Then (statement_of s) (block_before ss later)
 
+-- a list of statements
 abbrev pub block_in : List StatementOf → Block
 block_in ss = block_before ss Done
 
+-- a part that may be left out
 abbrev pub part_in : Option (Vec StatementOf Global) → Part
 part_in None = NoPart
 part_in (Some v) = SomePart (block_in v.items)
 
+-- a monitor
 abbrev pub monitor_of : MonitorOf → Monitor
 monitor_of m = record { members = m.members.items; recover = m.recover }
 
+-- a procedure
 abbrev pub procedure_of : ProcedureOf → Procedure
 procedure_of q = record {
   role = q.role;
@@ -87,5 +94,6 @@ procedure_of q = record {
   body = block_in q.body.items;
 }
 
+-- a program
 abbrev pub program_of : ProgramOf → Program
 program_of p = record { monitors = map monitor_of p.monitors.items; procedures = map procedure_of p.procedures.items }

@@ -59,6 +59,7 @@ pub record IsAcyclic (p : Program) : Type 0 where
       → Contains (block_calls q.body) callee → height callee < height n
   pub bounded : (n : ℕ) → height n < 15
 
+-- the program keeps all limits, and each of its bodies fits where it stands
 pub record WellFormed (p : Program) : Type 0 where
   pub monitors : length p.monitors ≤ 64
   pub words : all_words p.monitors ≤ 1024

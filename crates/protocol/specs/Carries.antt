@@ -23,14 +23,17 @@ pub data Event : Type 0 where
   Strays : (process : ℕ) (condition : Member) → Event
   Kills : (process : ℕ) (notified : Option Member) (resumed : List ℕ) → Event
 
+-- whether a lock word says that its owner died
 abbrev pub has_died : ℕ → Bool
 has_died v = not (owner_died_bit v == 0)
 
+-- the action of a thread that takes the lock of m, for this purpose
 abbrev pub taking_label : Purpose → ℕ → Bool → Label
 taking_label ToEnter m was_abandoned = Enters m was_abandoned
 taking_label ToReenter m was_abandoned = Enters m was_abandoned
 taking_label (ToResume c) m was_abandoned = Resumes m was_abandoned
 
+-- the action of a thread that gives up the lock of m, for this purpose
 abbrev pub release_label : Release → ℕ → Label
 release_label ToExit m = Exits m
 release_label (ToWait c s) m = Waits c
@@ -88,6 +91,7 @@ abbrev pub released_waits : Release → ℕ → (ℕ → Option Member) → ℕ 
 released_waits ToExit t waits = waits
 released_waits (ToWait c s) t waits = put waits t (Some c)
 
+-- who waits on what, behind the kill of a thread that stands at this point
 abbrev pub killed_waits : World → Table → ℕ → Point → ℕ → Option Member
 killed_waits w T t (NotifyWakes c) = put (without_waiters (resumed_by w T c (put w.asleep t None)) T.waits) t None
 killed_waits w T t (BroadcastMarks c) = put (without_waiters (resumed_by w T c (put w.asleep t None)) T.waits) t None
@@ -121,6 +125,7 @@ abbrev pub PermitsMove : Option Event → Table → Table → Type 0
 PermitsMove None T T' = T' ≡ T
 PermitsMove (Some e) T T' = Permits e T T'
 
+-- events, with one more before them where there is one
 abbrev pub with_event : Option Event → List Event → List Event
 with_event None es = es
 with_event (Some e) es = e ∷ es

@@ -34,6 +34,7 @@ IsOwn thread (Alone kind) = Unit {0}
 IsOwn thread (Stores m) = mem m thread.list ≡ true
 IsOwn thread l = ⊥
 
+-- what has to hold in the world for thread t to make this move
 abbrev pub Finds : World → ℕ → Move → Type 0
 Finds w t (Own l) = IsOwn (w.at t) l
 Finds w t (Begin m) = mem m (w.at t).list ≡ false

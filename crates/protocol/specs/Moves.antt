@@ -5,6 +5,7 @@ use Rattle.program.specs.declared.kinds.Member.{Member}
 use Rattle.meaning.specs.Labels.{Cause, End, Label}
 use Rattle.protocol.specs.Points.{Purpose, Release, Entry, Point}
 
+-- what a shared step of a thread does in the protocol
 pub data Move : Type 0 where
   -- steps of its own code, which touch none of the protocol's words
   Own : Label → Move

@@ -27,6 +27,7 @@ pub data Spot : Type 0 where
   OnSequence : (condition : Member) → Spot
   OnId : (process : ℕ) → Spot
 
+-- where a thread stands
 pub data Point : Type 0 where
   -- the thread wasn't made yet
   Unmade : Point
@@ -76,6 +77,7 @@ pub data Point : Type 0 where
   LastWakes : End → Point
   HasEnded : End → Point
 
+-- the robust entry that is pending while the lock of m is taken for this purpose
 abbrev pub taking_entry : ℕ → Purpose → Entry
 taking_entry m ToEnter = Unowned m
 taking_entry m ToReenter = Owned m
@@ -123,5 +125,6 @@ pub record Thread : Type 0 where
   pub point : Point
   pub list : List ℕ
 
+-- a thread at this point, with the monitors of its robust list
 abbrev pub thread_at : Point → List ℕ → Thread
 thread_at p l = record { point = p; list = l }

@@ -11,6 +11,7 @@ use Rattle.protocol.specs.Points.{JoinTakes, LeavePends, LeaveReads, LeaveHeads,
 use Rattle.protocol.specs.Points.{Dies, Walks, ClearsId, LastWakes}
 use Rattle.protocol.specs.Cells.{Cell, LockOf, LinkOf, HeadOf, PendingOf, IdOf, ResultOf, OutcomeOf, SequenceOf}
 
+-- a request for one shared operation, by the names of words
 pub data Request : Type 0 where
   -- none that is determined: it runs its own code, isn't made, or has ended
   AskNothing : Request
@@ -29,6 +30,7 @@ pub data Request : Type 0 where
   AskFault : Cause → Request
   AskExitStep : Request
 
+-- what thread t asks for at this point
 abbrev pub request : ℕ → Point → Request
 request t (EnterPends m) = AskStore (PendingOf t) (suc m)
 request t (EnterTries m) = AskCompareSwap (LockOf m) 0 t

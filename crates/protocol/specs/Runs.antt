@@ -23,6 +23,7 @@ abbrev pub events : World → Table → List (ℕ × Move) → List Event
 events w T [] = []
 events w T (s ∷ ss) = with_event (event_of w T s.0 s.1) (events (after w s.0 s.1) (table_after w T s.0 s.1) ss)
 
+-- the source's table behind these moves
 abbrev pub last_table : World → Table → List (ℕ × Move) → Table
 last_table w T [] = T
 last_table w T (s ∷ ss) = last_table (after w s.0 s.1) (table_after w T s.0 s.1) ss
@@ -38,6 +39,7 @@ HoldIs Free v = v ≡ 0
 HoldIs (HeldBy p) v = (owner v ≡ p) × (0 < p) × (owner_died_bit v ≡ 0)
 HoldIs Abandoned v = (owner v ≡ 0) × (owner_died_bit v ≡ 1073741824)
 
+-- a claim word is 1 where its process was claimed, else 0
 abbrev pub ClaimIs : Bool → ℕ → Type 0
 ClaimIs true v = v ≡ 1
 ClaimIs false v = v ≡ 0
@@ -97,6 +99,7 @@ Goes Unmade = ⊥
 Goes (HasEnded end) = ⊥
 Goes p = Unit {0}
 
+-- a thread is awake and has a step to take
 abbrev pub CanStep : World → ℕ → Type 0
 CanStep w t = (w.asleep t ≡ None) × Goes (w.at t).point
 

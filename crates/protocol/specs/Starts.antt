@@ -38,10 +38,12 @@ ReturnsMove w = (t : ℕ) (r : Option ℕ) → IsRunning w t →
 abbrev pub ForksMove : World → Type 0
 ForksMove w = (t : ℕ) → IsRunning w t → w.made < most_processes → Can w (suc w.made) (Fork t)
 
+-- a fork is a fault where there are as many processes as there can be
 abbrev pub ForksFail : World → Type 0
 ForksFail w = (t : ℕ) → IsRunning w t → most_processes ≤ w.made →
     IsMoveTo w t (Dies (Faulted ProcessTableFull) NoEntry) w
 
+-- each request of a thread's own code that begins or ends something is a move
 pub record StartsMove (w : World) : Type 0 where
   pub claims : ClaimsMove w
   pub returns : ReturnsMove w

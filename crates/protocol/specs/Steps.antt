@@ -24,12 +24,14 @@ use Rattle.protocol.specs.Moves.{IdThere, IdSleep, IdAgain, LearnEnded, LearnAbo
 use Rattle.protocol.specs.Origins.{from, Awake}
 use Rattle.protocol.specs.Finds.{cause_word, Finds, HasNumber}
 
+-- thread t can make this move
 pub record Can (w : World) (t : ℕ) (m : Move) : Type 0 where
   pub number : HasNumber w t m
   pub awake : Awake m (w.asleep t)
   pub stands : (w.at t).point ≡ from m
   pub finds : Finds w t m
 
+-- thread t goes to a point, and its robust list becomes this
 abbrev pub go_list : World → ℕ → Point → List ℕ → World
 go_list w t p l = record w { at = put w.at t (thread_at p l) }
 
@@ -42,9 +44,11 @@ abbrev pub result_after : Option ℕ → ℕ → ℕ
 result_after None old = old
 result_after (Some v) old = v
 
+-- how thread t ends by a return, with a value or without
 abbrev pub returned_end : World → ℕ → Option ℕ → End
 returned_end w t r = Ended (signed_of (result_after r (w.result t)))
 
+-- the world behind a move of thread t
 abbrev pub after : World → ℕ → Move → World
 after w t (Begin m) = go w t (EnterPends m)
 after w t (Rebegin m) = go w t (ReenterPends m)

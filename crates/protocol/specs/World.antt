@@ -4,6 +4,7 @@ use Rattle.std.specs.Prelude.{None, List, [], ◌∷◌, length}
 use Rattle.program.specs.declared.kinds.Member.{Member}
 use Rattle.protocol.specs.Points.{Spot, OnLock, OnSequence, OnId, Thread, thread_at, Unmade, Runs}
 
+-- the words, the threads and the sleepers, as the protocol knows them
 pub record World : Type 0 where
   -- of each monitor: its lock word, and the link word of its entry
   pub lock : ℕ → ℕ
@@ -25,6 +26,7 @@ pub record World : Type 0 where
   pub asleep : ℕ → Option Spot
   pub at : ℕ → Thread
 
+-- whether two conditions are one
 abbrev pub same_member : Member → Member → Bool
 same_member d c = (d.monitor == c.monitor) && (d.number == c.number)
 
@@ -32,6 +34,7 @@ same_member d c = (d.monitor == c.monitor) && (d.number == c.number)
 abbrev pub put_sequence : (Member → ℕ) → Member → ℕ → Member → ℕ
 put_sequence f c v d = if same_member d c then v else f d
 
+-- whether a number is in a list
 abbrev pub mem : ℕ → List ℕ → Bool
 mem u [] = false
 mem u (x ∷ xs) = (u == x) || mem u xs
@@ -46,17 +49,21 @@ moved_spot c (OnSequence d) = if same_member d c then OnLock c.monitor else OnSe
 moved_spot c (OnLock m) = OnLock m
 moved_spot c (OnId q) = OnId q
 
+-- where a thread sleeps behind a broadcast of condition c, which moves it to the lock of c's monitor
 abbrev pub moved_sleep : Member → Option Spot → Option Spot
 moved_sleep c None = None
 moved_sleep c (Some s) = Some (moved_spot c s)
 
+-- the same of thread u, by where each sleeps
 abbrev pub requeued_sleep : (ℕ → Option Spot) → Member → ℕ → Option Spot
 requeued_sleep asleep c u = moved_sleep c (asleep u)
 
+-- no number is in the list twice
 abbrev pub Distinct : List ℕ → Type 0
 Distinct [] = Unit {0}
 Distinct (x ∷ xs) = (mem x xs ≡ false) × Distinct xs
 
+-- a list without its first number
 abbrev pub tail : List ℕ → List ℕ
 tail [] = []
 tail (x ∷ xs) = xs
@@ -72,6 +79,7 @@ pub record IsWake (asleep : ℕ → Option Spot) (spot : Spot) (n : ℕ) (woken 
 abbrev pub opening_thread : ℕ → Thread
 opening_thread t = if t == 1 then thread_at Runs [] else thread_at Unmade []
 
+-- the world in which process 1 is made, and nothing else
 abbrev pub opening_world : World
 opening_world = record {
   lock = λ m. 0;

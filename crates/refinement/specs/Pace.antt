@@ -18,6 +18,7 @@ goes_on t step = (step.thread == t) && not step.pauses
 abbrev pub is_stretch : ℕ → ℕ → List Step → Bool
 is_stretch k t part = (length part == k) && list_all (goes_on t) part
 
+-- whether an action is one of process q
 abbrev pub is_action_of : ℕ → Action → Bool
 is_action_of q action = action.process == q
 

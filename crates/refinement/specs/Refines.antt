@@ -22,6 +22,7 @@ use Rattle.refinement.specs.Pace.{KeepsPace, stretch_length}
 abbrev pub Sleeps : State → ℕ → Type 0
 Sleeps s t = (a : ℕ) × (s.asleep t ≡ Some a)
 
+-- thread t has ended
 abbrev pub HasEnded : State → ℕ → Type 0
 HasEnded s t = has_ended (s.thread t) ≡ true
 
@@ -36,10 +37,12 @@ abbrev pub is_stray_kind : Kind → Bool
 is_stray_kind (Stray c) = true
 is_stray_kind other = false
 
+-- whether an action is a kill
 abbrev pub is_kill_kind : Kind → Bool
 is_kill_kind (Kill resumed last) = true
 is_kill_kind other = false
 
+-- the processes of the actions of some kinds, in their order
 abbrev pub processes_of : (Kind → Bool) → List Action → List ℕ
 processes_of test actions = map (λ a. a.process) (filter (λ a. test a.kind) actions)
 
@@ -47,6 +50,7 @@ processes_of test actions = map (λ a. a.process) (filter (λ a. test a.kind) ac
 abbrev pub stray_threads : List Step → List ℕ
 stray_threads steps = []
 
+-- the threads that were killed in these steps of the machine, which kills none
 abbrev pub killed_threads : List Step → List ℕ
 killed_threads steps = []
 

@@ -23,6 +23,7 @@ end_by word (Some (Exits ClearId)) = None
 end_by word (Some (Exits LastWake)) = Some (outcome_of word)
 end_by word (Some (Exits Ended')) = Some (outcome_of word)
 
+-- how a thread of the machine ended, if it has
 abbrev pub machine_end : State → ℕ → Option Outcome
 machine_end s t = end_by (s.word (process_word t 5)) (s.thread t)
 
@@ -32,9 +33,11 @@ outcome_of_end (Ended z) = outcome.Ended
 outcome_of_end (Aborted (Faulted fault)) = outcome.Aborted fault
 outcome_of_end (Aborted Killed) = outcome_of 9
 
+-- how a process ended, if it has
 abbrev pub process_end : Option Process → Option Outcome
 process_end (Some (Over end)) = Some (outcome_of_end end)
 process_end other = None
 
+-- the same, by the process's number
 abbrev pub source_end : SourceState → ℕ → Option Outcome
 source_end s q = process_end (s.process q)

@@ -38,15 +38,19 @@ Says e kind fs made = (expression_of made.expression ≡ e) × (made.kind ≡ ki
 abbrev pub IsFactor : Scope → FactorTree → Typed → Type 0
 IsFactor s g made = Says (x.factor s g) (t.factor_type s g) (f.factor_faults s g) made
 
+-- a term
 abbrev pub IsTerm : Scope → TermTree → Typed → Type 0
 IsTerm s u made = Says (x.term s u) (t.term_type s u) (f.term_faults s u) made
 
+-- a sum
 abbrev pub IsSum : Scope → SumTree → Typed → Type 0
 IsSum s u made = Says (x.sum s u) (t.sum_type s u) (f.sum_faults s u) made
 
+-- a relation
 abbrev pub IsRelation : Scope → RelationTree → Typed → Type 0
 IsRelation s r made = Says (x.relation s r) (t.relation_type s r) (f.relation_faults s r) made
 
+-- a conjunction
 abbrev pub IsConjunction : Scope → ConjunctionTree → Typed → Type 0
 IsConjunction s c made = Says (x.conjunction s c) (t.conjunction_type s c) (f.conjunction_faults s c) made
 

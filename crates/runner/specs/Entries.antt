@@ -20,6 +20,7 @@ entry_end_by k step (Some x) = Ok (k, None)
 entry_end_by k (Ok r) None = Ok (r.0, Some r.1)
 entry_end_by k (Err fault) None = Err fault
 
+-- where an entry ends, of a thread that has come to this state by its local steps
 abbrev pub entry_end : Program → ConcreteState → ℕ → Thread → Result (ConcreteState × Option Event) StepFault
 entry_end p k t here =
     let there = put_thread k t here in entry_end_by there (step_of p there t) (local_step p t here)

@@ -15,6 +15,7 @@ use Rattle.runner.specs.Reports.{MeetsBroken}
 abbrev pub local_step_of : ℕ → EventStep
 local_step_of t = record { thread = t; event = plain name.Local 0 }
 
+-- the shared step of an entry, if it has one
 abbrev pub shared_step_of : ℕ → Option Event → List EventStep
 shared_step_of t None = []
 shared_step_of t (Some event) = record { thread = t; event = event } ∷ []

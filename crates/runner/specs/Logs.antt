@@ -33,5 +33,6 @@ abbrev pub event_cost : Option Event → ℕ
 event_cost None = 0
 event_cost (Some event) = 1
 
+-- the steps of a log
 abbrev pub cost : List Entry → ℕ
 cost es = sum_by (λ e. e.local + event_cost e.event) es

@@ -46,6 +46,7 @@ Refuses p k number t (Broken n) =
     (n ≡ number) × (number < 2 ^ 32) × (can_move k t ≡ true) × (step_of p k t ≡ Err step.Broken)
 Refuses p k number t Memory = Unit {0}
 
+-- the fault is want of memory
 abbrev pub IsMemory : ScheduleFault → Type 0
 IsMemory (BadEntry n) = ⊥
 IsMemory (Broken n) = ⊥

@@ -28,5 +28,6 @@ pub record ShareView : Type 0 where
   pub parts : ℕ
   pub count : ℕ
 
+-- the log and the machine
 abbrev pub log_state : SharedView → LogState
 log_state s = record { log = s.log; concrete = concrete s.machine }

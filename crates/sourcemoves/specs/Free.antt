@@ -13,6 +13,7 @@ IsFreeLabel (Abandons m) = ⊤
 IsFreeLabel (Ends end) = ⊤
 IsFreeLabel other = ⊥
 
+-- the offer can be taken up, whatever the others do
 abbrev pub IsFree : Offer → Type 0
 IsFree (Does label effect after) = IsFreeLabel label
 IsFree (MakesOne child after full) = ⊤

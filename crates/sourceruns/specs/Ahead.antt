@@ -6,6 +6,7 @@ use Rattle.meaning.specs.Values.{EvaluatedAll, Values, FailsAll}
 use Rattle.sourceruns.specs.declared.ahead.Ahead.{Ahead}
 use Rattle.sourceruns.specs.declared.ahead.Ahead.TheVariants.{Quiet, Heard, Makes, Claims}
 
+-- whether an offer is quiet; of a fork and a claim that depends on the table
 abbrev pub ahead_of : Offer → Ahead
 ahead_of (Does label effect after) = if is_quiet label then Quiet else Heard
 ahead_of (MakesOne child after full) = Makes

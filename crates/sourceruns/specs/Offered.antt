@@ -21,6 +21,7 @@ use Rattle.sourceruns.specs.declared.process.Process.{Process as ProcessOf}
 use Rattle.sourceruns.specs.Frames.{frame_of, callers_of}
 use Rattle.sourceruns.specs.Stages.{end_of, part_at, process_of}
 
+-- what an offer does by itself
 abbrev pub label_of : LabelOf → Label
 label_of Assigns' = Alone L.Assign
 label_of Tests' = Alone L.Test
@@ -34,6 +35,7 @@ label_of (Waits' c) = Waits c
 label_of (Abandons' m) = Abandons m
 label_of (Ends' end) = Ends (end_of end)
 
+-- what an offer changes
 abbrev pub effect_of : EffectOf → Effect
 effect_of Nothing' = O.Nothing
 effect_of (Puts' place z) = O.Puts place.monitor place.member place.index z

@@ -7,10 +7,12 @@ use Rattle.program.specs.declared.kinds.Member.{Member}
 use Rattle.meaning.specs.Values.{Evaluated, Value, Fails, EvaluatedAll, Values, FailsAll, index_in}
 use Rattle.sourceruns.specs.declared.variables.Place.{Place}
 
+-- one value
 abbrev pub evaluation_of : Result ℤ Fault → Evaluated
 evaluation_of (Ok z) = Value z
 evaluation_of (Err fault) = Fails fault
 
+-- several values
 abbrev pub evaluated_all : Result (Vec ℤ Global) Fault → EvaluatedAll
 evaluated_all (Ok v) = Values v.items
 evaluated_all (Err fault) = FailsAll fault

@@ -10,6 +10,7 @@ abbrev pub stacked_blocks : List (Bor (List StatementOf)) → Block → Block
 stacked_blocks [] later = later
 stacked_blocks (position ∷ more) later = stacked_blocks more (block_before position.now later)
 
+-- what is left, by the positions
 abbrev pub rest_in : List (Bor (List StatementOf)) → Block
 rest_in positions = stacked_blocks positions Done
 

@@ -19,14 +19,17 @@ use Rattle.sourceruns.specs.declared.process.Stage.TheVariants.{Dying as Dying',
 use Rattle.sourceruns.specs.declared.process.Process.{Process as ProcessOf}
 use Rattle.sourceruns.specs.Frames.{frame_of, callers_of}
 
+-- why a process was aborted
 abbrev pub cause_of : CauseOf → Cause
 cause_of (Faulted' fault) = Faulted fault
 cause_of Killed' = Killed
 
+-- how a process ended
 abbrev pub end_of : EndOf → End
 end_of (Ended' z) = Ended z
 end_of (Aborted' cause) = Aborted (cause_of cause)
 
+-- a part that may be left out
 abbrev pub part_at : Option (Bor (List StatementOf)) → Part
 part_at None = NoPart
 part_at (Some b) = SomePart (block_in b.now)
@@ -43,5 +46,6 @@ standing (Dying' cause monitors) f callers = Dying (cause_of cause) monitors.ite
 standing (Leaving' z) f callers = Leaving z
 standing (Over' end) f callers = Over (end_of end)
 
+-- a process
 abbrev pub process_of : ProcessOf → Process
 process_of q = standing q.stage (frame_of q.frame) (callers_of q.callers.items)

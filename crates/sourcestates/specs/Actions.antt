@@ -5,6 +5,7 @@ use Rattle.sourcestates.specs.declared.action.Action.{Action as ActionOf}
 use Rattle.sourcestates.specs.declared.action.ActionKind.{ActionKind}
 use Rattle.sourcestates.specs.declared.action.ActionKind.TheVariants as Code
 
+-- what an action does
 abbrev pub kind_of : ActionKind → Kind
 kind_of Code.Assign = Assign
 kind_of Code.Test = Test
@@ -26,5 +27,6 @@ kind_of Code.Finish = Finish
 kind_of (Code.Stray c) = Stray c
 kind_of (Code.Kill resumed last) = Kill resumed.items last
 
+-- an action, with its process
 abbrev pub action_of : ActionOf → Action
 action_of a = record { process = a.process; kind = kind_of a.kind }

@@ -10,6 +10,7 @@ use Rattle.meaning.specs.States.{SourceState}
 use Rattle.meaning.specs.Table.{Table}
 use Rattle.deferral.specs.Deferring.{is_quiet}
 
+-- a label's action, where it is quiet
 abbrev pub if_quiet : Label → Option Kind
 if_quiet label = if is_quiet label then Some (kind_of label) else None
 
@@ -21,10 +22,12 @@ quiet_kind (MakesOne child after full) T = if nat_le most_processes T.made then 
 quiet_kind (ClaimsOne child after refused) T = if T.claimed child then Some (kind_of (FindsClaimed child)) else None
 quiet_kind other T = None
 
+-- the quiet action that a process can take, if there is such a process
 abbrev pub quiet_from : Program → SourceState → Option Process → Option Kind
 quiet_from p s None = None
 quiet_from p s (Some q) = quiet_kind (offer p s.variable q) s.table
 
+-- the same, by the process's number
 abbrev pub next_quiet : Program → SourceState → ℕ → Option Kind
 next_quiet p s n = quiet_from p s (s.process n)
 

@@ -11,9 +11,11 @@ use Rattle.sourceruns.specs.Stores.{variables_of}
 use Rattle.sourcetable.specs.Tables.{table_of}
 use Rattle.sourcestates.specs.declared.state.SourceState.{SourceState as StateOf}
 
+-- the process of each number
 abbrev pub processes_in : BTreeMap ℕ ProcessOf → ℕ → Option Process
 processes_in processes p = option_map process_of (map.get nat_cmp processes p)
 
+-- a state
 abbrev pub state_of : StateOf → SourceState
 state_of s = record {
   table = table_of s.table;

@@ -9,6 +9,7 @@ use Rattle.syntax.specs.Lexeme.{NameTree}
 
 -- an expression, and all that it is made of
 mutual
+  -- conjunctions with OR between them
   pub data ExpressionTree : Type 0 where
     AnyOf : ConjunctionTree → ConjunctionTrees → ExpressionTree
 
@@ -17,6 +18,7 @@ mutual
     NoConjunctions : ConjunctionTrees
     OrElse : ConjunctionTree → ConjunctionTrees → ConjunctionTrees
 
+  -- relations with AND between them
   pub data ConjunctionTree : Type 0 where
     AllOf : RelationTree → RelationTrees → ConjunctionTree
 
@@ -25,13 +27,16 @@ mutual
     NoRelations : RelationTrees
     AndAlso : RelationTree → RelationTrees → RelationTrees
 
+  -- a sum, and what it is compared with
   pub data RelationTree : Type 0 where
     Relates : SumTree → ComparisonTree → RelationTree
 
+  -- the sign of a comparison and its right side, if there is one
   pub data ComparisonTree : Type 0 where
     NoComparison : ComparisonTree
     Compares : Comparator → SumTree → ComparisonTree
 
+  -- terms with `+` or `-` between them
   pub data SumTree : Type 0 where
     Total : TermTree → SummandTrees → SumTree
 
@@ -40,6 +45,7 @@ mutual
     NoSummands : SummandTrees
     Adds : SumOperator → Place → TermTree → SummandTrees → SummandTrees
 
+  -- factors with `*`, `/` or MOD between them
   pub data TermTree : Type 0 where
     Product : FactorTree → MultiplierTrees → TermTree
 
@@ -48,6 +54,7 @@ mutual
     NoMultipliers : MultiplierTrees
     Scales : ProductOperator → FactorTree → MultiplierTrees → MultiplierTrees
 
+  -- what stands between operators
   pub data FactorTree : Type 0 where
     Constant : Number → FactorTree
     Truthful : Truth → FactorTree

@@ -27,6 +27,7 @@ pub record CalleeTree : Type 0 where
 
 -- a statement, and the parts that hold others
 mutual
+  -- a statement, with the place of the keyword that begins it
   pub data StatementTree : Type 0 where
     Assign : VariableTree → ExpressionTree → StatementTree
     If : Place → ExpressionTree → StatementTrees → PartTree → StatementTree
@@ -41,6 +42,7 @@ mutual
     Print : Place → ExpressionTree → StatementTree
     Abort : Place → StatementTree
 
+  -- statements, one after another
   pub data StatementTrees : Type 0 where
     NoStatements : StatementTrees
     Then : StatementTree → StatementTrees → StatementTrees

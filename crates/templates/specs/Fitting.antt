@@ -36,6 +36,7 @@ pub record EnterFits (b : Build) (t m base : ℕ) (l : Locals) (fs : List Machin
   pub code : StandAt b.code base (rebase_all base (enter_code m (link_word b.program m) (recovery_in b m)))
   pub after : GoesOn b t m (base + 60) l fs f cs
 
+-- the exit from monitor m
 pub record ExitFits (b : Build) (v : Variables) (t m base : ℕ) (shown : Option ℕ) (l : Locals)
     (fs : List MachineFrame) (before : Process) (z : ℤ) (cs : List Caller) : Type 0 where
   pub monitor : m < length b.program.monitors
@@ -45,6 +46,7 @@ pub record ExitFits (b : Build) (v : Variables) (t m base : ℕ) (shown : Option
   pub code : StandAt b.code base (rebase_all base (exit_code m (link_word b.program m)))
   pub after : Stands b t (Runs' (base + 23) (result_operands shown) l fs) (Returning z cs)
 
+-- a WAIT on condition c
 pub record WaitFits (b : Build) (v : Variables) (t : ℕ) (c : Member) (base : ℕ) (l : Locals)
     (fs : List MachineFrame) (before : Process) (f : Frame) (cs : List Caller) (ms : List ℕ) : Type 0 where
   pub condition : member_type b.program c ≡ Some Condition
@@ -57,6 +59,7 @@ pub record WaitFits (b : Build) (v : Variables) (t : ℕ) (c : Member) (base : �
       (member_address b.program c) (recovery_in b c.monitor)))
   pub after : GoesOn b t c.monitor (base + 73) l fs f cs
 
+-- a NOTIFY of condition c
 pub record NotifyFits (b : Build) (v : Variables) (t : ℕ) (c : Member) (base : ℕ) (l : Locals)
     (fs : List MachineFrame) (before after : Process) (ms : List ℕ) : Type 0 where
   pub condition : member_type b.program c ≡ Some Condition
@@ -67,6 +70,7 @@ pub record NotifyFits (b : Build) (v : Variables) (t : ℕ) (c : Member) (base :
   pub code : StandAt b.code base (notify_code c (member_address b.program c))
   pub goes : Stands b t (Runs' (base + 8) [] l fs) after
 
+-- a BROADCAST of condition c
 pub record BroadcastFits (b : Build) (v : Variables) (t : ℕ) (c : Member) (base : ℕ) (l : Locals)
     (fs : List MachineFrame) (before after : Process) (ms : List ℕ) : Type 0 where
   pub condition : member_type b.program c ≡ Some Condition

@@ -54,6 +54,7 @@ releasing_process before after (LeaveHeads m h r) = before
 releasing_process before after (LeaveSwaps m r) = before
 releasing_process before after pt = after
 
+-- where the process stands at each point of its template
 abbrev pub process_at : Program → Template → Point → Process
 process_at p (Enters m base l fs f cs) pt = taking_process p m f cs (Entering m f cs) pt
 process_at p (Exits m base shown l fs before z cs) pt = releasing_process before (Returning z cs) pt
@@ -67,6 +68,7 @@ abbrev pub taking_list : ℕ → List ℕ → Point → List ℕ
 taking_list m ms (GotUnpends n v) = m ∷ ms
 taking_list m ms pt = ms
 
+-- the robust list at each point of giving up monitor m, where `ms` are the others
 abbrev pub releasing_list : ℕ → List ℕ → Point → List ℕ
 releasing_list m ms (WaitReads c) = m ∷ ms
 releasing_list m ms (LeavePends n r) = m ∷ ms
@@ -75,6 +77,7 @@ releasing_list m ms (LeaveHeads n h r) = m ∷ ms
 releasing_list m ms (GotUnpends n v) = m ∷ ms
 releasing_list m ms pt = ms
 
+-- the robust list at each point of a template
 abbrev pub list_at : Template → Point → List ℕ
 list_at (Enters m base l fs f cs) pt = taking_list m (callers_monitors cs) pt
 list_at (Exits m base shown l fs before z cs) pt = releasing_list m (callers_monitors cs) pt
@@ -98,6 +101,7 @@ first_thread (Waits c base l fs before f cs ms) = Runs' base [] l fs
 first_thread (Notifies c base l fs before after ms) = Runs' base [] l fs
 first_thread (Broadcasts c base l fs before after ms) = Runs' base [] l fs
 
+-- the point at which a template begins
 abbrev pub first_point : Bool → Template → Point
 first_point held (Enters m base l fs f cs) = if held then ReenterPends m else EnterPends m
 first_point held (Exits m base shown l fs before z cs) = LeavePends m ToExit

@@ -10,6 +10,7 @@ use Rattle.code.specs.Layout.{link_word, lock_word_address, member_address}
 use Rattle.protocol.specs.Cells.{Cell, LockOf, LinkOf, HeadOf, PendingOf, IdOf, ClaimOf, ResultOf, OutcomeOf}
 use Rattle.protocol.specs.Cells.{SequenceOf}
 
+-- the address of a word of the protocol
 abbrev pub place : Program → Cell → ℕ
 place p (LockOf m) = lock_word_address p m
 place p (LinkOf m) = link_word p m
@@ -25,9 +26,11 @@ place p (SequenceOf c) = member_address p c
 abbrev pub is_process : ℕ → Bool
 is_process t = nat_lt 0 t && nat_le t most_processes
 
+-- whether the program has a monitor of this number
 abbrev pub is_monitor : Program → ℕ → Bool
 is_monitor p m = is_some (slice_get p.monitors m)
 
+-- whether a member's type is that of a condition
 abbrev pub is_condition : Option MemberType → Bool
 is_condition None = false
 is_condition (Some (Variable t)) = false

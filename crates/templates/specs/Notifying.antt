@@ -11,11 +11,13 @@ use Rattle.code.specs.Conditions.{everyone}
 use Rattle.protocol.specs.Points.{Point, Runs, NotifyAdds, NotifyWakes, BroadcastAdds, BroadcastMarks, BroadcastReads}
 use Rattle.protocol.specs.Points.{BroadcastMoves}
 
+-- the thread at each point of a NOTIFY
 pub data NotifiesAt (p : Program) (c : Member) (base : ℕ) (l : Locals) (fs : List Frame) : Point → Thread → Type 0 where
   adds : NotifiesAt p c base l fs (NotifyAdds c) (Runs' (base + 2) (1 ∷ member_address p c ∷ []) l fs)
   wakes : NotifiesAt p c base l fs (NotifyWakes c) (Runs' (base + 6) (1 ∷ member_address p c ∷ []) l fs)
   goes : NotifiesAt p c base l fs Runs (Runs' (base + 8) [] l fs)
 
+-- the thread at each point of a BROADCAST
 pub data BroadcastsAt (p : Program) (c : Member) (base : ℕ) (l : Locals) (fs : List Frame) : Point → Thread
     → Type 0 where
   adds : BroadcastsAt p c base l fs (BroadcastAdds c) (Runs' (base + 2) (1 ∷ member_address p c ∷ []) l fs)

@@ -59,12 +59,12 @@ pub record Begins (b : Build) (t : ℕ) (held : Bool) (k : Template) : Type 0 wh
   pub walk : StepsWithin b t template_steps (first_thread k) thread
   pub stands : StandsIn b.program t k (first_point held k) thread
 
+-- inside each template a thread goes through the protocol's points, and its process with it
 abbrev pub TemplatesFollow : Type 0
 TemplatesFollow = (b : Build) (v : Variables) (t : ℕ) (k : Template) → IsBuild b → 0 < t → t ≤ most_processes
-    → Fits b v t k
-    → (pt : Point) (x : Thread) → pt ≢ Runs → StandsIn b.program t k pt x → Follows b v t k pt x
+    → Fits b v t k → (pt : Point) (x : Thread) → pt ≢ Runs → StandsIn b.program t k pt x → Follows b v t k pt x
 
+-- where the code of a template begins, the thread stands at its first point
 abbrev pub TemplatesBegin : Type 0
 TemplatesBegin = (b : Build) (v : Variables) (t : ℕ) (held : Bool) (k : Template) → 0 < t → t ≤ most_processes
-    → Fits b v t k
-    → Begins b t held k
+    → Fits b v t k → Begins b t held k

@@ -33,6 +33,7 @@ abbrev pub waits_at : List Mark → Option Thread → List Kind → List Kind
 waits_at marks None ks = ks
 waits_at marks (Some x) ks = waits_then (later_mark (mark_of marks x)) ks
 
+-- what waits of process t behind so many local steps of its thread
 abbrev pub waits_locally : Program → (t steps : ℕ) → Thread → List Kind → List Kind
 waits_locally p t zero x ks = ks
 waits_locally p t (suc n) x ks = waits_at (marks_of p) (local_after (code_of p) t n x) (waits_locally p t n x ks)
@@ -47,6 +48,7 @@ progress_shared p t here v k g =
     let looks = look (code_of p) t here in
     progress_step p (is_heard p looks v) (later_step (mark_of (marks_of p) here) looks v) (state_of k) t g
 
+-- behind the shared step of an entry, if it has one
 abbrev pub progress_end : Program → (t : ℕ) → Thread → Option Event → ConcreteState → Progress → Progress
 progress_end p t here None k g = g
 progress_end p t here (Some event) k g = progress_shared p t here event.value k g

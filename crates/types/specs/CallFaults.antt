@@ -48,6 +48,7 @@ return_faults s place None (Some e) = mismatch place ++ expression_faults s e
 return_faults s place (Some t) None = mismatch place
 return_faults s place (Some t) (Some e) = typed_faults s t e
 
+-- a member that WAIT, NOTIFY or BROADCAST names has to be a condition
 abbrev pub member_condition : MemberType → Place → List Refusal
 member_condition Condition place = []
 member_condition (Variable t) place = mismatch place
@@ -63,6 +64,7 @@ condition_faults (AMember member kind) place = member_condition kind place
 abbrev pub recover_faults : Scope → Place → List Refusal
 recover_faults s place = where_true (is_recover s.piece.role) WrongPlace place
 
+-- WAIT, NOTIFY and BROADCAST stand in monitors alone
 abbrev pub outside_faults : Scope → Place → List Refusal
 outside_faults s place = where_true (not (has_monitor s.piece.role)) WrongPlace place
 

@@ -48,9 +48,11 @@ abbrev pub equality_faults : Option ValueType → Option ValueType → Place →
 equality_faults (Some Process) right left_place right_place = mismatch left_place
 equality_faults left right left_place right_place = where_true (differ left right) TypeMismatch right_place
 
+-- of `<`, `<=`, `>` and `>=` both sides are integers
 abbrev pub order_faults : Option ValueType → Option ValueType → Place → Place → List Refusal
 order_faults left right left_place right_place = wants Integer left left_place ++ wants Integer right right_place
 
+-- the faults of two sides with a comparison's sign between them, by their types and places
 abbrev pub comparison_faults : Comparator → Option ValueType → Option ValueType → Place → Place → List Refusal
 comparison_faults C.Equal left right p q = equality_faults left right p q
 comparison_faults C.NotEqual left right p q = equality_faults left right p q

@@ -18,6 +18,7 @@ use Rattle.syntax.specs.Tree.{MultiplierTrees, NoMultipliers, Scales, FactorTree
 use Rattle.syntax.specs.Tree.{Minus, Not, IndexTree, NoIndex, At}
 use Rattle.types.specs.Scope.{Scope, Meaning, Nothing, ALocal, AMember, meaning}
 
+-- the operator that a comparison's sign stands for
 abbrev pub comparison_operator : Comparator → Operator
 comparison_operator C.Equal = O.Equal
 comparison_operator C.NotEqual = O.NotEqual
@@ -26,10 +27,12 @@ comparison_operator C.LessEqual = O.LessEqual
 comparison_operator C.Greater = O.Greater
 comparison_operator C.GreaterEqual = O.GreaterEqual
 
+-- the operator that the sign of a sum stands for
 abbrev pub sum_operator : SumOperator → Operator
 sum_operator Plus = O.Add
 sum_operator Minus' = O.Subtract
 
+-- the operator that the sign of a product stands for
 abbrev pub product_operator : ProductOperator → Operator
 product_operator Times = O.Multiply
 product_operator Divide = O.Divide

@@ -6,6 +6,7 @@ use Rattle.scanner.specs.declared.refusal.RefusalKind.{RefusalKind}
 use Rattle.scanner.specs.declared.refusal.RefusalKind.TheVariants as K
 use Rattle.scanner.specs.Refusals.{number_of}
 
+-- a refusal of this kind at this place
 abbrev pub fault : RefusalKind → Place → Refusal
 fault kind place = record { kind = kind; place = place }
 
@@ -13,12 +14,15 @@ fault kind place = record { kind = kind; place = place }
 abbrev pub where_true : Bool → RefusalKind → Place → List Refusal
 where_true b kind place = cond b (fault kind place ∷ []) []
 
+-- a name that means nothing of its kind here
 abbrev pub unknown : Place → List Refusal
 unknown place = fault K.Unknown place ∷ []
 
+-- a type or a kind that doesn't fit
 abbrev pub mismatch : Place → List Refusal
 mismatch place = fault K.TypeMismatch place ∷ []
 
+-- a statement that may not stand here
 abbrev pub misplacement : Place → List Refusal
 misplacement place = fault K.WrongPlace place ∷ []
 

@@ -42,6 +42,7 @@ abbrev pub IsPast : ℕ → List NameTree → Place → Type 0
 IsPast most names place = (i : ℕ) × (name : NameTree) × (slice_get names i ≡ Some name) × (most ≤ i)
     × (name.place ≡ place)
 
+-- whether members of this kind are conditions
 abbrev pub is_condition : MemberKind → Bool
 is_condition M.Condition = true
 is_condition _ = false
@@ -75,6 +76,7 @@ calls_from u n [] = []
 calls_from u n (q ∷ qs) = map (λ callee. record { caller = n; callee = callee })
     (block_calls (record { unit = u; piece = q }) q.body.statements) ++ calls_from u (n + 1) qs
 
+-- each call of a unit, from which piece to which
 abbrev pub all_calls : UnitTree → List CallOf
 all_calls u = calls_from u 0 (pieces u)
 
@@ -111,6 +113,7 @@ abbrev pub IsInBody : UnitTree → Refusal → Type 0
 IsInBody u e = (q : Piece) × Contains (pieces u) q
     × Contains (block_faults (record { unit = u; piece = q }) q.body.statements) e
 
+-- the unit has this fault at this place
 abbrev pub IsFaulty : UnitTree → Place → RefusalKind → Type 0
 IsFaulty u place Redeclared = (names : List NameTree) × IsScope u names × IsRepeated names place
 IsFaulty u place Recursion = IsOnCycle u place

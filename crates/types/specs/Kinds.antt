@@ -12,15 +12,18 @@ use Rattle.syntax.specs.declared.declaration.MemberType.{MemberType as MemberKin
 use Rattle.syntax.specs.declared.declaration.MemberType.TheVariants as M
 use Rattle.syntax.specs.Tree.{ParameterTree, LocalTree, MemberTree}
 
+-- the type of a local variable or a parameter
 abbrev pub local_kind : LocalType → ValueType
 local_kind L.Integer = V.Integer
 local_kind L.Boolean = V.Boolean
 local_kind L.Process = V.Process
 
+-- the type of a result
 abbrev pub result_kind : ResultType → ValueType
 result_kind R.Integer = V.Integer
 result_kind R.Boolean = V.Boolean
 
+-- the type of a monitor's member
 abbrev pub member_kind : MemberKind → MemberType
 member_kind M.Integer = Variable V.Integer
 member_kind M.Boolean = Variable V.Boolean
@@ -28,9 +31,11 @@ member_kind M.Process = Variable V.Process
 member_kind M.Condition = Condition
 member_kind (M.Array n) = Array n.value
 
+-- the types of parameters, in their order
 abbrev pub parameter_kinds : List ParameterTree → List ValueType
 parameter_kinds ps = map (λ p. local_kind p.kind) ps
 
+-- the types of local variables, in their order
 abbrev pub locals_kinds : List LocalTree → List ValueType
 locals_kinds ls = map (λ l. local_kind l.kind) ls
 

@@ -1,6 +1,7 @@
 -- The limits of a program, by their names.
 use Rattle.std.specs.Prelude.{ℕ}
 
+-- monitors in a program
 abbrev pub most_monitors : ℕ
 most_monitors = 64
 
@@ -20,6 +21,7 @@ most_elements = 1024
 abbrev pub most_procedures : ℕ
 most_procedures = 512
 
+-- parameters of a procedure
 abbrev pub most_parameters : ℕ
 most_parameters = 16
 

@@ -14,9 +14,11 @@ text_number (n ∷ ns) text = cond (bytes_eq text n.text) (Some 0) (option_map s
 abbrev pub number_in : List NameTree → NameTree → Option ℕ
 number_in names name = text_number names name.text
 
+-- the names of the monitors
 abbrev pub monitor_names : UnitTree → List NameTree
 monitor_names u = map (λ m. m.name) u.monitors
 
+-- the names of the procedures outside monitors
 abbrev pub external_names : UnitTree → List NameTree
 external_names u = map (λ q. q.name) u.procedures
 
@@ -24,12 +26,15 @@ external_names u = map (λ q. q.name) u.procedures
 abbrev pub outer_names : UnitTree → List NameTree
 outer_names u = monitor_names u ++ external_names u
 
+-- the names that these members have
 abbrev pub names_of_members : List MemberTree → List NameTree
 names_of_members ms = map (λ member. member.name) ms
 
+-- the names of a monitor's members
 abbrev pub member_names : MonitorTree → List NameTree
 member_names m = names_of_members m.members
 
+-- the names of a monitor's procedures
 abbrev pub procedure_names : MonitorTree → List NameTree
 procedure_names m = map (λ q. q.procedure.name) m.procedures
 
@@ -37,6 +42,7 @@ procedure_names m = map (λ q. q.procedure.name) m.procedures
 abbrev pub monitor_scope : MonitorTree → List NameTree
 monitor_scope m = member_names m ++ procedure_names m
 
+-- the names of parameters
 abbrev pub parameter_names : List ParameterTree → List NameTree
 parameter_names ps = map (λ p. p.name) ps
 

@@ -12,6 +12,7 @@ abbrev pub recover_piece : UnitTree → ℕ → MonitorTree → Option RecoverTr
 recover_piece u m t None = None
 recover_piece u m t (Some r) = Some (first_piece u m + length t.procedures)
 
+-- monitor m, as it is resolved
 abbrev pub monitor : UnitTree → ℕ → MonitorTree → Monitor
 monitor u m t = record {
   members = map (λ x. member_kind x.kind) t.members;
@@ -23,6 +24,7 @@ abbrev pub monitors_from : UnitTree → ℕ → List MonitorTree → List Monito
 monitors_from u m [] = []
 monitors_from u m (t ∷ ts) = monitor u m t ∷ monitors_from u (m + 1) ts
 
+-- a piece, as it is resolved
 abbrev pub procedure : UnitTree → Piece → Procedure
 procedure u q = record {
   role = q.role;
@@ -32,6 +34,7 @@ procedure u q = record {
   body = block (record { unit = u; piece = q }) q.body.statements;
 }
 
+-- the program of a unit
 abbrev pub resolved : UnitTree → Program
 resolved u = record { monitors = monitors_from u 0 u.monitors; procedures = map (procedure u) (pieces u) }
 

@@ -24,6 +24,7 @@ pub data Meaning : Type 0 where
   -- a member of the own monitor
   AMember : (member : MemberOf) (kind : MemberType) → Meaning
 
+-- the number of a parameter or a local variable by its name
 abbrev pub local_number : Scope → NameTree → Option ℕ
 local_number s name = number_in (body_scope s.piece.parameters s.piece.body.locals) name
 
@@ -36,22 +37,27 @@ abbrev pub member_meaning : ℕ → ℕ → Option MemberType → Meaning
 member_meaning m i None = Nothing
 member_meaning m i (Some kind) = AMember (record { monitor = m; number = i }) kind
 
+-- the type of member i of a monitor, where there are both
 abbrev pub kind_in : Option MonitorTree → ℕ → Option MemberType
 kind_in None i = None
 kind_in (Some t) i = option_map (λ x. member_kind x.kind) (slice_get t.members i)
 
+-- the number of a monitor's member by its name
 abbrev pub member_number : Option MonitorTree → NameTree → Option ℕ
 member_number None name = None
 member_number (Some t) name = number_in (member_names t) name
 
+-- what a name means that is member i of monitor m, if it is one
 abbrev pub numbered_member : Scope → ℕ → Option ℕ → Meaning
 numbered_member s m None = Nothing
 numbered_member s m (Some i) = member_meaning m i (kind_in (slice_get s.unit.monitors m) i)
 
+-- what a name means as a member of the monitor around it, if there is one
 abbrev pub meaning_in : Scope → Option ℕ → NameTree → Meaning
 meaning_in s None name = Nothing
 meaning_in s (Some m) name = numbered_member s m (member_number (slice_get s.unit.monitors m) name)
 
+-- what a name means that stands for a local of this type
 abbrev pub local_meaning : ℕ → Option ValueType → Meaning
 local_meaning slot None = Nothing
 local_meaning slot (Some kind) = ALocal slot kind
@@ -71,6 +77,7 @@ abbrev pub unless_declared : Option ℕ → Option ℕ → Option ℕ
 unless_declared (Some earlier) number = None
 unless_declared None number = number
 
+-- the number, in its monitor, of the procedure with this name, unless a member has the name
 abbrev pub procedure_number : Option MonitorTree → NameTree → Option ℕ
 procedure_number None name = None
 procedure_number (Some t) name = unless_declared (number_in (member_names t) name) (number_in
@@ -80,14 +87,17 @@ procedure_number (Some t) name = unless_declared (number_in (member_names t) nam
 abbrev pub inner_procedure : UnitTree → ℕ → NameTree → Option ℕ
 inner_procedure u m name = option_map (λ i. first_piece u m + i) (procedure_number (slice_get u.monitors m) name)
 
+-- the number of the external procedure with this name, unless a monitor has the name
 abbrev pub external_procedure : UnitTree → NameTree → Option ℕ
 external_procedure u name = option_map (λ i. first_external u + i)
     (unless_declared (number_in (monitor_names u) name) (number_in (external_names u) name))
 
+-- the procedure with this name of the monitor around, if there is one
 abbrev pub own_procedure : Scope → Option ℕ → NameTree → Option ℕ
 own_procedure s None name = None
 own_procedure s (Some m) name = inner_procedure s.unit m name
 
+-- the first of two numbers, where it is there, else the second
 abbrev pub first_found : Option ℕ → Option ℕ → Option ℕ
 first_found (Some n) other = Some n
 first_found None other = other
@@ -101,6 +111,7 @@ abbrev pub dotted_callee : Scope → NameTree → NameTree → Option ℕ
 dotted_callee s monitor name =
     option_and_then (λ m. inner_procedure s.unit m name) (number_in (monitor_names s.unit) monitor)
 
+-- the number of the piece that a callee means, with a name behind a dot or without
 abbrev pub callee_number : Scope → NameTree → Option NameTree → Option ℕ
 callee_number s name None = plain_callee s name
 callee_number s name (Some dotted) = dotted_callee s name dotted

@@ -32,6 +32,7 @@ abbrev pub member_of_number : ℕ → MonitorTree → Option ℕ → Meaning
 member_of_number m t None = Nothing
 member_of_number m t (Some i) = member_meaning m i (kind_in (Some t) i)
 
+-- what a name means as a member of this monitor, which has the number m
 abbrev pub member_in : ℕ → MonitorTree → NameTree → Meaning
 member_in m t name = member_of_number m t (member_number (Some t) name)
 
@@ -45,5 +46,6 @@ IsOwn s (Some own) = (own_monitor s.piece.role ≡ Some own.monitor) × (t : Mon
 abbrev pub IsLocals : List ParameterTree → List LocalTree → Standing → Type 0
 IsLocals ps ls st = IsTable (body_scope ps ls) st.locals × (st.kinds.items ≡ slot_kinds ps ls)
 
+-- these tables are those of the scope: of its locals, and of the monitor around it
 abbrev pub IsStanding : Scope → Standing → Type 0
 IsStanding s st = IsLocals s.piece.parameters s.piece.body.locals st × IsOwn s st.own

@@ -27,9 +27,11 @@ abbrev pub value_faults : Scope → Option ValueType → ExpressionTree → List
 value_faults s t e = expression_faults s e
     ++ where_true (differ t (expression_type s e)) TypeMismatch (expression_place e)
 
+-- the faults of what is assigned to
 abbrev pub target_faults : Scope → VariableTree → List Refusal
 target_faults s v = use_faults (meaning s v.name) v.index v.name.place ++ index_faults s v.index
 
+-- the type of what is assigned to, where it has one
 abbrev pub target_type : Scope → VariableTree → Option ValueType
 target_type s v = type_of_use (meaning s v.name) v.index
 
@@ -38,9 +40,11 @@ abbrev pub slot_faults : Scope → Option ValueType → NameTree → Option ℕ 
 slot_faults s t name None = unknown name.place
 slot_faults s t name (Some slot) = where_true (differ t (slot_kind s slot)) TypeMismatch name.place
 
+-- the faults of a name behind INTO, which is to take a value of this type
 abbrev pub taker_faults : Scope → Option ValueType → NameTree → List Refusal
 taker_faults s t name = slot_faults s t name (local_number s name)
 
+-- the same, where INTO may be left out
 abbrev pub into_faults : Scope → Option ValueType → Option NameTree → List Refusal
 into_faults s t None = []
 into_faults s t (Some name) = taker_faults s t name
@@ -50,6 +54,7 @@ abbrev pub name_behind : NameTree → Option NameTree → NameTree
 name_behind name None = name
 name_behind name (Some dotted) = dotted
 
+-- the place at which the faults of a callee's name stand
 abbrev pub callee_place : CalleeTree → Place
 callee_place c = (name_behind c.name c.dotted).place
 
@@ -62,20 +67,24 @@ abbrev pub missing_place : Scope → NameTree → Option NameTree → Place
 missing_place s name None = name.place
 missing_place s name (Some dotted) = cond (is_some (number_in (monitor_names s.unit) name)) dotted.place name.place
 
+-- whether a body of the first role calls an ENTRY procedure of its own monitor
 abbrev pub own_role : Role → Role → Bool
 own_role (Entry m) (Entry n) = nat_eq m n
 own_role (Internal m) (Entry n) = nat_eq m n
 own_role (Recover m) (Entry n) = nat_eq m n
 own_role _ _ = false
 
+-- whether a body is an INTERNAL procedure
 abbrev pub is_internal : Role → Bool
 is_internal (Internal m) = true
 is_internal _ = false
 
+-- whether a body is a RECOVER part
 abbrev pub is_recover : Role → Bool
 is_recover (Recover m) = true
 is_recover _ = false
 
+-- whether a body stands in a monitor
 abbrev pub has_monitor : Role → Bool
 has_monitor (Entry m) = true
 has_monitor (Internal m) = true

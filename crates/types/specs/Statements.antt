@@ -19,6 +19,7 @@ target_of s Nothing (At e) = P.ToElement (array_of Nothing) (expression s e)
 target_of s (ALocal slot kind) (At e) = P.ToElement (array_of (ALocal slot kind)) (expression s e)
 target_of s (AMember member kind) (At e) = P.ToElement member (expression s e)
 
+-- what is assigned to, as it is resolved
 abbrev pub target : Scope → VariableTree → P.Target
 target s v = target_of s (meaning s v.name) v.index
 
@@ -26,6 +27,7 @@ target s v = target_of s (meaning s v.name) v.index
 abbrev pub local : Scope → NameTree → ℕ
 local s name = unwrap_or (local_number s name) 0
 
+-- the local behind INTO, where a name stands there
 abbrev pub into : Scope → Option NameTree → Option ℕ
 into s None = None
 into s (Some name) = Some (local s name)
@@ -34,13 +36,16 @@ into s (Some name) = Some (local s name)
 abbrev pub procedure : Scope → CalleeTree → ℕ
 procedure s c = unwrap_or (callee s c) 0
 
+-- an expression that may be left out, as it is resolved
 abbrev pub value : Scope → Option ExpressionTree → Option P.Expression
 value s None = None
 value s (Some e) = Some (expression s e)
 
+-- arguments, as they are resolved
 abbrev pub arguments : Scope → List ExpressionTree → List P.Expression
 arguments s es = map (expression s) es
 
+-- the condition that a name means
 abbrev pub condition : Scope → NameTree → MemberOf
 condition s name = array_of (meaning s name)
 

@@ -14,6 +14,7 @@ use Rattle.syntax.specs.Tree.{NoMultipliers, Scales, FactorTree, Constant, Truth
 use Rattle.syntax.specs.Tree.{Minus, Not, IndexTree, NoIndex, At}
 use Rattle.types.specs.Scope.{Scope, Meaning, Nothing, ALocal, AMember, meaning}
 
+-- whether two types are the same
 abbrev pub same_type : ValueType → ValueType → Bool
 same_type Integer Integer = true
 same_type Boolean Boolean = true
@@ -42,6 +43,7 @@ element_type (Variable t) = None
 element_type Condition = None
 element_type (Array n) = Some Integer
 
+-- the type of a name with an index or without, where it has one
 abbrev pub type_of_use : Meaning → IndexTree → Option ValueType
 type_of_use Nothing index = None
 type_of_use (ALocal slot t) NoIndex = Some t
@@ -87,17 +89,22 @@ factor_place (Group place e) = place
 factor_place (Minus place f) = place
 factor_place (Not place f) = place
 
+-- the place of a term: that of its first factor
 abbrev pub term_place : TermTree → Place
 term_place (Product f fs) = factor_place f
 
+-- the place of a sum: that of its first term
 abbrev pub sum_place : SumTree → Place
 sum_place (Total t ts) = term_place t
 
+-- the place of a relation: that of its left side
 abbrev pub relation_place : RelationTree → Place
 relation_place (Relates l r) = sum_place l
 
+-- the place of a conjunction: that of its first relation
 abbrev pub conjunction_place : ConjunctionTree → Place
 conjunction_place (AllOf r rs) = relation_place r
 
+-- the place of an expression: that of its first conjunction
 abbrev pub expression_place : ExpressionTree → Place
 expression_place (AnyOf c cs) = conjunction_place c

@@ -39,6 +39,7 @@ abbrev pub part_made : Option (Vec Statement Global × Bool) → Part
 part_made None = NoPart
 part_made (Some b) = SomePart (block_in b.0.items)
 
+-- whether a part that may be left out is clean
 abbrev pub is_part_clean : Option (Vec Statement Global × Bool) → Bool
 is_part_clean None = true
 is_part_clean (Some b) = b.1

@@ -11,8 +11,10 @@ lock_word owner died waiters = owner + (if died then 1073741824 else 0) + (if wa
 abbrev pub owner_of : ℕ → ℕ
 owner_of w = bit_and w 1073741823
 
+-- whether the owner died
 abbrev pub died_of : ℕ → Bool
 died_of w = not (bit_and w 1073741824 == 0)
 
+-- whether there may be waiters
 abbrev pub waiters_of : ℕ → Bool
 waiters_of w = not (bit_and w 2147483648 == 0)
