@@ -2,10 +2,12 @@
 use Rattle.std.specs.Prelude.{ℕ, suc, ◌+◌, ◌⊎◌, ◌≡◌, ◌<◌, ◌≤◌, List, [], ◌∷◌, ◌++◌, length, Option, Some, None}
 use Rattle.std.specs.Prelude.{slice_get, Contains, ⊤}
 use Rattle.isa.specs.declared.instr.Instr.TheVariants.{Jump}
+use Rattle.isa.specs.Limits as isa
 use Rattle.execution.specs.Later.{MarkedImage, IsAt}
 use Rattle.program.specs.declared.kinds.ValueType.{ValueType}
 use Rattle.program.specs.declared.kinds.Role.TheVariants.{Main}
 use Rattle.program.specs.Trees.{Statement, Block, Done, Then, Procedure, Program, slots}
+use Rattle.program.specs.Limits.{most_locals}
 use Rattle.program.specs.Scope.{Scope, scope_of}
 use Rattle.program.specs.Typing.{Fits, MayBeForked}
 use Rattle.program.specs.Tokens.{statement_tokens}
@@ -55,8 +57,8 @@ pub record IsFrame (p : Program) (height : ℕ → ℕ) (made width number : ℕ
   pub role : f.role ≡ q.role
   pub typed : HaveValues made (slots q) f.locals
   pub holds : HoldValues l.values f.locals
-  pub words : length l.values ≡ 64
-  pub few : length (slots q) ≤ 64
+  pub words : length l.values ≡ isa.most_locals
+  pub few : length (slots q) ≤ most_locals
   pub body : AreSound height width number (scope_of p q) f.rest
 
 -- what stands behind a call: the result is taken

@@ -3,6 +3,7 @@ use Rattle.std.specs.Prelude.{ℕ, ◌+◌, ◌*◌, ◌≡◌, ◌<◌, ◌≤�
 use Rattle.program.specs.declared.kinds.Role.TheVariants.{Recover}
 use Rattle.program.specs.Trees.{Procedure, slots}
 use Rattle.program.specs.Scope.{scope_of, recover_of}
+use Rattle.program.specs.Limits.{most_parameters, most_locals, most_in_chain}
 use Rattle.program.specs.WellFormed.{RoleFits}
 use Rattle.code.specs.Pieces.{piece_code}
 use Rattle.locals.specs.Threads.{Thread}
@@ -25,9 +26,10 @@ pub record IsBuild (b : Build) : Type 0 where
   pub sound : (n : ℕ) (q : Procedure) → slice_get b.program.procedures n ≡ Some q → AreSound b.height b.width n
       (scope_of b.program q) q.body
   pub deep : (n : ℕ) (q : Procedure) → slice_get b.program.procedures n ≡ Some q → block_nesting q.body ≤ b.most
-  pub parameters : (n : ℕ) (q : Procedure) → slice_get b.program.procedures n ≡ Some q → length q.parameters ≤ 16
-  pub locals : (n : ℕ) (q : Procedure) → slice_get b.program.procedures n ≡ Some q → length (slots q) ≤ 64
-  pub bounded : (n : ℕ) → b.height n < 15
+  pub parameters : (n : ℕ) (q : Procedure) → slice_get b.program.procedures n ≡ Some q
+      → length q.parameters ≤ most_parameters
+  pub locals : (n : ℕ) (q : Procedure) → slice_get b.program.procedures n ≡ Some q → length (slots q) ≤ most_locals
+  pub bounded : (n : ℕ) → b.height n < most_in_chain
 
 -- the most steps to the one that completes the next action: to where the thread stands for its process, over jumps, at
 -- the end of a RECOVER part over its return and more jumps, and twice as many as the widest statement has tokens

@@ -10,6 +10,7 @@ use Rattle.program.specs.Tokens.{expression_tokens}
 use Rattle.code.specs.Expressions.{expression_code}
 use Rattle.locals.specs.declared.frame.Locals.{Locals}
 use Rattle.locals.specs.declared.frame.Frame.{Frame}
+use Rattle.locals.specs.Limits.{most_operands}
 use Rattle.locals.specs.Threads.{Runs}
 use Rattle.meaning.specs.Values.{Variables, Evaluated, Value, Fails, evaluate}
 use Rattle.execution.specs.Typed.{HasValue, HaveValues, HoldValues}
@@ -38,7 +39,7 @@ pub record IsEvaluated (made : ℕ) (s : Scope) (v : Variables) (values : List �
 pub record Evaluates (image : MarkedImage) (made t : ℕ) (s : Scope) (v : Variables) (values : List ℤ)
     (l : Locals) : Type 0 where
   pub gives : (e : Expression) (u : ValueType) (place : ℕ) (operands : List ℕ) (callers : List Frame)
-      → HasType s e u → StandAt image place (expression_code s.program e) → room e + length operands ≤ 512
+      → HasType s e u → StandAt image place (expression_code s.program e) → room e + length operands ≤ most_operands
       → Gives image t (view_in s v) (2 * expression_tokens e) (Runs place operands l callers)
       (evaluate s.program v values e)
       (place + length (expression_code s.program e)) operands l callers

@@ -2,6 +2,7 @@ pub mod Trees
 pub mod Views
 pub mod Scope
 pub mod Typing
+pub mod Limits
 pub mod Measures
 pub mod WellFormed
 pub mod Tokens

@@ -8,6 +8,8 @@ use Rattle.program.specs.declared.kinds.Role.TheVariants.{Entry, Internal, Recov
 use Rattle.program.specs.Trees.{Monitor, Procedure, Program, slots}
 use Rattle.program.specs.Scope.{scope_of, recover_of}
 use Rattle.program.specs.Typing.{BlockFits}
+use Rattle.program.specs.Limits.{most_monitors, most_member_words, most_elements, most_pieces, most_parameters}
+use Rattle.program.specs.Limits.{most_locals, most_in_chain}
 use Rattle.program.specs.Measures.{block_room, most_room, block_calls}
 
 -- the words of a member in memory: one, or one for each element of an array
@@ -30,7 +32,7 @@ all_words (m ∷ ms) = words_of m.members + all_words ms
 abbrev pub HasElements : MemberType → Type 0
 HasElements (Variable t) = ⊤
 HasElements Condition = ⊤
-HasElements (Array n) = (1 ≤ n) × (n ≤ 1024)
+HasElements (Array n) = (1 ≤ n) × (n ≤ most_elements)
 
 -- a role names a monitor that there is; a RECOVER part is its monitor's, and has neither parameters nor a result, nor
 -- has the main part
@@ -44,8 +46,8 @@ RoleFits p number q Main = (number + 1 ≡ length p.procedures) × (q.parameters
 -- a procedure of this number
 pub record IsProper (p : Program) (number : ℕ) (q : Procedure) : Type 0 where
   pub role : RoleFits p number q q.role
-  pub parameters : length q.parameters ≤ 16
-  pub locals : length (slots q) ≤ 64
+  pub parameters : length q.parameters ≤ most_parameters
+  pub locals : length (slots q) ≤ most_locals
   -- no procedure answers a handle
   pub result : q.result ≡ Some Process → ⊥
   pub body : BlockFits (scope_of p q) q.body
@@ -57,16 +59,15 @@ pub record IsAcyclic (p : Program) : Type 0 where
   pub height : ℕ → ℕ
   pub falls : (n callee : ℕ) (q : Procedure) → slice_get p.procedures n ≡ Some q
       → Contains (block_calls q.body) callee → height callee < height n
-  pub bounded : (n : ℕ) → height n < 15
+  pub bounded : (n : ℕ) → height n < most_in_chain
 
 -- the program keeps all limits, and each of its bodies fits where it stands
 pub record WellFormed (p : Program) : Type 0 where
-  pub monitors : length p.monitors ≤ 64
-  pub words : all_words p.monitors ≤ 1024
+  pub monitors : length p.monitors ≤ most_monitors
+  pub words : all_words p.monitors ≤ most_member_words
   pub arrays : (m : ℕ) (monitor : Monitor) (n : ℕ) (t : MemberType) → slice_get p.monitors m ≡ Some monitor
       → slice_get monitor.members n ≡ Some t → HasElements t
-  -- 512 procedures, a RECOVER part of each monitor, and the main part
-  pub pieces : length p.procedures ≤ 577
+  pub pieces : length p.procedures ≤ most_pieces
   -- the main part is the last piece
   pub main : Procedure
   pub is_last : slice_get p.procedures (length p.procedures - 1) ≡ Some main
