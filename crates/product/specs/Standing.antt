@@ -108,7 +108,8 @@ pub data StandsAt (b : Build) (v : Variables) (t : ℕ) : Option Thread → Opti
       (all_monitors f cs)
   -- in its exit: at an entry of its robust list, or behind the last; and then
   walks : {e : ℕ} {end : End} {ms : List ℕ} (phase : ExitPhase)
-      → PhaseIs (place b.program) (valid b.program) (Walks e NoEntry end) phase → entries_seen phase + length ms ≤ most_monitors
+      → PhaseIs (place b.program) (valid b.program) (Walks e NoEntry end) phase
+      → entries_seen phase + length ms ≤ most_monitors
       → IsEnding end ms → StandsAt b v t (Some (Exits phase)) (Some (ending end ms)) (Walks e NoEntry end) ms
   clears : {end : End} {ms : List ℕ} → StandsAt b v t (Some (Exits ClearId)) (Some (ending end [])) (ClearsId end) ms
   wakes : {end : End} {ms : List ℕ} → StandsAt b v t (Some (Exits LastWake)) (Some (Over end)) (LastWakes end) ms
