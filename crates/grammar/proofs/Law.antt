@@ -1,6 +1,7 @@
 -- What the machine refuses has no tree, and the place and the kind are right.
 use Rattle.std.proofs.Common.{◌≡◌, ◌≤◌, ◌⊎◌, inl, inr, ℕ, ◌+◌, List, [], ◌∷◌, ◌++◌, refl, ap, sym, subst, ◌∙◌, arith}
 use Rattle.std.proofs.Common.{append_assoc, max}
+use Rattle.scanner.specs.Tokens.{EndsOnce, views}
 use Rattle.scanner.specs.declared.token.Token.{Token}
 use Rattle.scanner.specs.declared.token.Keyword.{Keyword}
 use Rattle.scanner.specs.declared.token.Keyword.TheVariants as K
@@ -19,7 +20,7 @@ use Rattle.syntax.specs.Spelling.{unit_text}
 use Rattle.syntax.specs.Nesting.{unit_nesting, statements_nesting, procedures_nesting, monitors_nesting}
 use Rattle.grammar.specs.Machine.{Symbol, Item, item_of, items_of, Read, Refused, Trees, reads, refusal_at, unit}
 use Rattle.grammar.specs.Machine.{unit_in, unit_trees}
-use Rattle.grammar.specs.Accepts.{EndsOnce, Begins, BeginsWithin, Why, IsRefusalOf}
+use Rattle.grammar.specs.Accepts.{Begins, BeginsWithin, Why, IsRefusalOf}
 use Rattle.grammar.proofs.Complete.{plains}
 use Rattle.grammar.proofs.Whole.{unit_reads}
 use Rattle.grammar.proofs.Halts.{Halts, stuck, full, goes, Stops, at, stops, never, item_lexemes, Last}
@@ -42,7 +43,7 @@ is_end TheName text place h = absurd (cc)
 is_end (TheNumber n) text place h = absurd (cc)
 is_end End text place h = refl
 
-pub last_of : (ts : List Token) → EndsOnce ts → Last (items_of ts)
+pub last_of : (ts : List Token) → EndsOnce (views ts) → Last (items_of ts)
 last_of [] h = h
 last_of (t ∷ []) h = ap (λ k. lexeme k t.text.now t.place) h
 last_of (t ∷ u ∷ ts) h = (λ e. h.0 (is_end t.kind t.text.now t.place e), last_of (u ∷ ts) h.1)
@@ -159,7 +160,7 @@ of_stops : (ts : List Token) (is : List Item) (e : Refusal) → items_of ts ≡ 
 of_stops ts _ e same (at {kind = kind} front t back p h) = of_halt ts e front t back kind same p h
 
 -- the refusal of the machine is that of the tokens
-pub refused : (ts : List Token) (e : Refusal) → EndsOnce ts → reads 64 (items_of ts) unit ≡ Refused e
+pub refused : (ts : List Token) (e : Refusal) → EndsOnce (views ts) → reads 64 (items_of ts) unit ≡ Refused e
     → IsRefusalOf ts e
 refused ts e once h = of_stops ts (items_of ts) e refl (stops 64 (items_of ts) unit e (last_of ts once) h)
 
@@ -169,7 +170,7 @@ pub accepts : (ts : List Token) (u : UnitTree) → unit_nesting u ≤ 64 → uni
 accepts ts u le e = accepted 64 (items_of ts) u le (lexemes_items ts ∙ sym e)
 
 -- what is read spells the tokens, within the limit
-pub spells : (ts : List Token) (u : UnitTree) → EndsOnce ts → reads 64 (items_of ts) unit ≡ Read (unit_trees u)
+pub spells : (ts : List Token) (u : UnitTree) → EndsOnce (views ts) → reads 64 (items_of ts) unit ≡ Read (unit_trees u)
     → unit_text u ≡ lexemes ts
 spells ts u once h = sym (spelled 64 (items_of ts) unit (unit_trees u) (last_of ts once) h) ∙ lexemes_items ts
 

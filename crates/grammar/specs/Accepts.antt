@@ -1,7 +1,6 @@
 -- Which refusal a list of tokens has.
-use Rattle.std.specs.Prelude.{◌≡◌, ◌≢◌, ◌≤◌, ℕ, List, [], ◌∷◌, ◌++◌}
+use Rattle.std.specs.Prelude.{◌≡◌, ◌≤◌, ℕ, List, [], ◌∷◌, ◌++◌}
 use Rattle.scanner.specs.declared.token.Token.{Token}
-use Rattle.scanner.specs.declared.token.Kind.TheVariants.{End}
 use Rattle.scanner.specs.declared.refusal.Refusal.{Refusal}
 use Rattle.scanner.specs.declared.refusal.RefusalKind.{RefusalKind}
 use Rattle.scanner.specs.declared.refusal.RefusalKind.TheVariants.{Expected, Limit}
@@ -10,12 +9,6 @@ use Rattle.syntax.specs.Lexeme.{Lexeme, lexeme_of, lexemes}
 use Rattle.syntax.specs.Tree.{UnitTree}
 use Rattle.syntax.specs.Spelling.{unit_text}
 use Rattle.syntax.specs.Nesting.{unit_nesting}
-
--- the end stands last and nowhere else
-abbrev pub EndsOnce : List Token → Type 0
-EndsOnce [] = ⊥
-EndsOnce (t ∷ []) = t.kind ≡ End
-EndsOnce (t ∷ u ∷ ts) = (t.kind ≢ End) × EndsOnce (u ∷ ts)
 
 -- some unit begins so
 abbrev pub Begins : List Lexeme → Type 0

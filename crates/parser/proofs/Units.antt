@@ -9,13 +9,13 @@ use Rattle.scanner.specs.declared.token.Place.{Place}
 use Rattle.scanner.specs.declared.token.Token.{Token}
 use Rattle.scanner.specs.declared.refusal.Refusal.{Refusal}
 use Rattle.scanner.specs.declared.refusal.RefusalKind.TheVariants.{Memory}
-use Rattle.scanner.specs.Tokens.{EndsOnce as EndsOnceViewed, views}
+use Rattle.scanner.specs.Tokens.{EndsOnce, views}
 use Rattle.syntax.specs.declared.declaration.Access.{Access}
 use Rattle.syntax.specs.Lexeme.{WordAt, lexeme, lexemes, sign_lexeme}
 use Rattle.syntax.specs.Tree.{ProcedureTree, UnitTree}
 use Rattle.syntax.specs.Spelling.{unit_text}
 use Rattle.syntax.specs.Nesting.{unit_nesting}
-use Rattle.grammar.specs.Accepts.{EndsOnce, IsRefusalOf}
+use Rattle.grammar.specs.Accepts.{IsRefusalOf}
 use Rattle.grammar.specs.Machine.{Trees, Item, AWord, AMark, AWordAt, AName, Members, Procedures, MonitorProcedures}
 use Rattle.grammar.specs.Machine.{ARecover, Monitors, Locals, Statements, Skip, Read, Refused, procedure}
 use Rattle.grammar.specs.Machine.{procedure_in, behind_procedure, of_access, reply_monitor_procedures, items_of}
@@ -100,15 +100,10 @@ unit_refused l h = rw (l.leads [] refl, h) refl
 pub unit_fails : {a : List Item} {e : Refusal} → Fails 0 unit a e → (e.kind ≡ Memory) ⊎ (reads 64 a unit ≡ Refused e)
 unit_fails f = elim f.fails [ inl m ↦ inl m | inr r ↦ inr (r.refuses [] refl) ]
 
-once : (ts : List Token) → EndsOnceViewed (views ts) → EndsOnce ts
-once [] h = h
-once (t ∷ []) h = h
-once (t ∷ u ∷ ts) h = (h.0, once (u ∷ ts) h.1)
-
 -- what a unit that was read says of the tokens
-pub text_read : (ts : List Token) (u : UnitTree) → EndsOnceViewed (views ts)
+pub text_read : (ts : List Token) (u : UnitTree) → EndsOnce (views ts)
     → reads 64 (items_of ts) unit ≡ Read (unit_trees u) → unit_text u ≡ lexemes ts
-text_read ts u h r = spells ts u (once ts h) r
+text_read ts u h r = spells ts u h r
 
 pub within_read : (ts : List Token) (u : UnitTree) → reads 64 (items_of ts) unit ≡ Read (unit_trees u)
     → unit_nesting u ≤ 64
@@ -126,6 +121,6 @@ pub never_refused : (ts : List Token) (t : UnitTree) (x : Refusal) → unit_text
 never_refused ts t x e le r =
     let s : reads 64 (items_of ts) unit ≡ Read (unit_trees t) = accepts ts t le e in cc
 
-pub refusal_read : (ts : List Token) (x : Refusal) → EndsOnceViewed (views ts)
+pub refusal_read : (ts : List Token) (x : Refusal) → EndsOnce (views ts)
     → reads 64 (items_of ts) unit ≡ Refused x → IsRefusalOf ts x
-refusal_read ts x h r = refused ts x (once ts h) r
+refusal_read ts x h r = refused ts x h r

@@ -1,7 +1,6 @@
 // Statements, and those that hold others.
 
-ghost use Rattle.std.specs.Prelude.{◌≡◌, ◌++◌, ◌&&◌, IfOk};
-ghost use Rattle.program.specs.Trees.{If};
+ghost use Rattle.std.specs.Prelude.{◌≡◌, ◌++◌, IfOk};
 ghost use Rattle.program.specs.Views as p;
 ghost use Rattle.program.specs.declared.kinds.ValueType.TheVariants.{Boolean as BooleanOf};
 ghost use Rattle.syntax.specs.View as v;
@@ -53,27 +52,6 @@ fn part_of(made: Option<(Vec<Statement>, bool)>) -> (Option<Vec<Statement>>, boo
     }
 }
 
-// An IF, of what `tested` gave and its ELSE part.
-fn branch(
-    made: (Expression, Vec<Statement>, bool),
-    else_part: Option<(Vec<Statement>, bool)>,
-) -> Judged
-    ensures statement { p.statement_of result.statement
-        ≡ If (p.expression_of made.0) (p.block_in made.1.items) (part_made else_part) }
-    ensures clean { result.is_clean ≡ made.2 && is_part_clean else_part }
-{
-    let (condition, then_part, is_clean) = made;
-    let (else_part, is_rest_clean) = part_of(else_part);
-    Judged {
-        statement: Statement::If {
-            condition,
-            then_part,
-            else_part,
-        },
-        is_clean: both(is_clean, is_rest_clean),
-    }
-}
-
 // A statement.
 #[cycle(statements)]
 fn statement(
@@ -91,11 +69,20 @@ fn statement(
             else_part,
             ..
         } => {
-            let rest = match else_part {
+            let else_part = match else_part {
                 Some(trees) => Some(block(trees, alloc, site)?),
                 None => None,
             };
-            Ok(branch(tested(then_part, condition, alloc, site)?, rest))
+            let (condition, then_part, is_clean) = tested(then_part, condition, alloc, site)?;
+            let (part, is_rest_clean) = part_of(else_part);
+            Ok(Judged {
+                statement: Statement::If {
+                    condition,
+                    then_part,
+                    else_part: part,
+                },
+                is_clean: both(is_clean, is_rest_clean),
+            })
         }
         Tree::While {
             condition,
