@@ -50,7 +50,7 @@ pub record IsAnswered (p : Program) (s mid : State) (w : World) (t : ℕ) (pt : 
   pub reply : ℕ
   pub after : World
   pub serves : Serves w t pt r reply after
-  pub machine_answer : answer ≡ machine_answer p r reply
+  pub told : answer ≡ machine_answer p r reply
   pub shares : Shares (place p) (valid p) (shared_of mid) after
   pub keeps : Keeps p s mid
   pub made : after.made ≡ w.made

@@ -44,7 +44,7 @@ pub record IsServed (p : Program) (s mid : State) (w : World) (t : ℕ) (pt : Po
   pub reply : ℕ
   pub after : World
   pub serves : Serves w t pt (request t pt) reply after
-  pub machine_answer : answer ≡ machine_answer p (request t pt) reply
+  pub told : answer ≡ machine_answer p (request t pt) reply
   pub shares : Shares (place p) (valid p) (shared_of mid) after
   pub keeps : Keeps p s mid
   -- no other word of the world changes

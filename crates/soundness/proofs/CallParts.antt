@@ -22,7 +22,7 @@ pub record IsCalled (s : Scope) (c : CalleeTree) (q : Piece) : Type 0 where
 
 pub record FreeCall (s : Scope) (c : CalleeTree) (name : Option NameTree) : Type 0 where
   pub piece : Piece
-  pub called_piece : IsCalled s c piece
+  pub called : IsCalled s c piece
   pub inner : Free (where_true (is_some c.dotted && is_internal piece.role) K.WrongPlace (callee_place c))
   pub entry : Free (where_true (own_role s.piece.role piece.role) K.DirectReentry (callee_place c))
   pub count : Free (count_faults c piece)
@@ -33,7 +33,7 @@ pub record FreeCall (s : Scope) (c : CalleeTree) (name : Option NameTree) : Type
 
 pub record FreeFork (s : Scope) (c : CalleeTree) (name : NameTree) : Type 0 where
   pub piece : Piece
-  pub called_piece : IsCalled s c piece
+  pub called : IsCalled s c piece
   pub inner : Free (where_true (is_internal piece.role) K.WrongPlace (callee_place c))
   pub count : Free (count_faults c piece)
   pub arguments : Free (arguments_faults s c.arguments)
