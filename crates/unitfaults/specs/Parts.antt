@@ -17,7 +17,7 @@ abbrev pub InBody : List ParameterTree → List LocalTree → Refusal → Type 0
 InBody ps ls e = (OfKind Redeclared (IsRepeated (body_scope ps ls)) e ⊎ OfKind Limit (IsPast most_locals
     (body_scope ps ls)) e) ⊎ OfKind Limit (IsPast most_parameters (parameter_names ps)) e
 
--- in a piece: of its parameters, locals and statements
+-- in a piece: of its parameters and locals
 abbrev pub InPiece : Piece → Refusal → Type 0
 InPiece q e = InBody q.parameters q.body.locals e
 
