@@ -1,13 +1,13 @@
 ghost use Rattle.std.specs.Prelude.{◌≡◌, ◌++◌, OnOk};
 ghost use Rattle.program.specs.Names.{naming_of};
-ghost use Rattle.sourcestates.specs.Actions.{kind_of};
+ghost use Rattle.source_states.specs.Actions.{kind_of};
 ghost use Rattle.actionlines.specs.Lines.{details, word};
 
 use crate::texts::{
     append_all, append_condition, append_monitor, append_signed, append_spaced, append_text,
 };
 use program::Names;
-use sourcestates::ActionKind;
+use source_states::ActionKind;
 use std::alloc::AllocError;
 
 /// The name of an action.

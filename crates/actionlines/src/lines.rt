@@ -1,13 +1,13 @@
 ghost use Rattle.std.specs.Prelude.{◌≡◌, ◌++◌, IfOk, OnOk, map};
 ghost use Rattle.std.specs.List.{flat_map};
 ghost use Rattle.program.specs.Names.{naming_of};
-ghost use Rattle.sourcestates.specs.Actions.{action_of};
+ghost use Rattle.source_states.specs.Actions.{action_of};
 ghost use Rattle.actionlines.specs.Lines.{line};
 
 use crate::details::{append_details, word_of};
 use crate::texts::{append_number, append_text};
 use program::Names;
-use sourcestates::Action;
+use source_states::Action;
 use std::alloc::{AllocError, Global};
 
 /// Appends the line of an action: the process, the action's name, and what belongs to it (the number printed, a

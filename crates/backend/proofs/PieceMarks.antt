@@ -2,11 +2,11 @@
 use Rattle.std.proofs.Common.{◌≡◌, ◌≤◌, ◌+◌, ◌++◌, ℕ, List, [], ◌∷◌, refl, sym, ap, ◌∙◌, length, map, drop}
 use Rattle.std.proofs.lemmas.List.{append-nil, at_drop_all, map-append}
 use Rattle.program.specs.Trees.{Program, Procedure}
-use Rattle.code.specs.declared.mark.Mark.{Mark}
-use Rattle.code.specs.declared.mark.Marked.{Marked}
-use Rattle.code.specs.Linking.{linked_code}
-use Rattle.code.specs.Pieces.{unlinked_code, piece_code, pieces_code, start_of, marks_of}
-use Rattle.code.proofs.Linking.{unlinked_moves}
+use Rattle.lowering.specs.declared.mark.Mark.{Mark}
+use Rattle.lowering.specs.declared.mark.Marked.{Marked}
+use Rattle.lowering.specs.Linking.{linked_code}
+use Rattle.lowering.specs.Pieces.{unlinked_code, piece_code, pieces_code, start_of, marks_of}
+use Rattle.lowering.proofs.Linking.{unlinked_moves}
 use Rattle.codegen.specs.declared.code_piece.CodePiece.{CodePiece}
 use Rattle.codegen.specs.Generated.{Piece, piece_of, unlinked_from, unlinked_pieces}
 

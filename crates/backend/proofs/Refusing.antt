@@ -10,19 +10,19 @@ use Rattle.isa.specs.Programs.{Program as Image, IsProgram}
 use Rattle.scanner.specs.declared.refusal.Refusal.{Refusal}
 use Rattle.program.specs.Trees.{Program, Procedure}
 use Rattle.program.specs.WellFormed.{WellFormed}
-use Rattle.code.specs.declared.mark.Marked.{Marked}
-use Rattle.code.specs.Marks.{instructions}
-use Rattle.code.specs.Layout.{layout_of}
-use Rattle.code.specs.Pieces.{piece_code, pieces_code, start_of, marked_code, code_of}
-use Rattle.code.proofs.LengthLaws.{piece_same}
+use Rattle.lowering.specs.declared.mark.Marked.{Marked}
+use Rattle.lowering.specs.Marks.{instructions}
+use Rattle.lowering.specs.Layout.{layout_of}
+use Rattle.lowering.specs.Pieces.{piece_code, pieces_code, start_of, marked_code, code_of}
+use Rattle.lowering.proofs.LengthLaws.{piece_same}
 use Rattle.codegen.specs.declared.code_piece.CodePiece.{CodePiece}
 use Rattle.codegen.specs.Generated as generated
 use Rattle.linker.specs.Failures as linked
 use Rattle.linker.specs.Linked.{Links, image_of}
 use Rattle.linker.proofs.Orders.{links_program}
 use Rattle.linker.proofs.Rising.{program_known}
-use Rattle.codelimits.proofs.Images.{within}
-use Rattle.backend.specs.Refusals.{Fits, IsTooLong, Refuses}
+use Rattle.lowering_limits.proofs.Images.{within}
+use Rattle.backend.specs.Refusals.{CodeFits, CodeIsTooLong, RefusesCode}
 
 length_made : (p : Program) (f : ℕ → ℕ) (qs : List Procedure) (base : ℕ) → length (pieces_code p f qs base)
     ≡ generated.length_of p qs
@@ -38,7 +38,7 @@ length_instructions [] = refl
 length_instructions (i ∷ is) = ap suc (length_instructions is)
 
 -- a program that isn't generated
-pub of_generate : (p : Program) (e : Refusal) → generated.Refuses p e → Refuses p e
+pub of_generate : (p : Program) (e : Refusal) → generated.Refuses p e → RefusesCode p e
 of_generate p e (inl memory) = inl memory
 of_generate p e (inr long) =
     let over = long.1 in
@@ -46,12 +46,12 @@ of_generate p e (inr long) =
     inr (long.0, omega (arith, over, n))
 
 -- what isn't within the limits of an image is too long
-long : (p : Program) → WellFormed p → (IsProgram (code_of p) → ⊥) → IsTooLong p
+long : (p : Program) → WellFormed p → (IsProgram (code_of p) → ⊥) → CodeIsTooLong p
 long p formed over = decided (leb_tells (length (code_of p).code) most_instructions)
   where
     decided : ((nat_le (length (code_of p).code) most_instructions ≡ true)
         × (length (code_of p).code ≤ most_instructions))
-        ⊎ ((nat_le (length (code_of p).code) most_instructions ≡ false) × IsTooLong p) → IsTooLong p
+        ⊎ ((nat_le (length (code_of p).code) most_instructions ≡ false) × CodeIsTooLong p) → CodeIsTooLong p
     decided (inl short) = absurd (over (within p formed short.1))
     decided (inr long) = long.1
 
@@ -63,7 +63,7 @@ module _ (p : Program) (pieces : List CodePiece) (made : map generated.piece_of 
         (IsPermutation-refl (map generated.piece_of pieces))
 
     -- pieces that aren't linked
-    pub of_link : WellFormed p → (e : Refusal) → linked.Refuses (layout_of p) pieces e → Refuses p e
+    pub of_link : WellFormed p → (e : Refusal) → linked.Refuses (layout_of p) pieces e → RefusesCode p e
     of_link formed e (inl memory) = inl memory
     of_link formed e (inr (inl stray)) = absurd (program_known p pieces same stray.1)
     of_link formed e (inr (inr much)) =
@@ -81,7 +81,7 @@ passed (Err x) e P Q h q = subst Q (sym h.1) q
 -- pieces that are linked
 pub of_linked : (p : Program) (pieces : List CodePiece) (i : Image)
     → map generated.piece_of pieces ≡ generated.unlinked_pieces p → Links (layout_of p) pieces i → IsProgram i
-    → (i ≡ code_of p) × Fits p
+    → (i ≡ code_of p) × CodeFits p
 of_linked p pieces i made h within =
     let is = links_program p pieces i (same p pieces made) h in
     (is, (subst IsProgram is within).short)

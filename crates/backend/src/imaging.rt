@@ -2,8 +2,8 @@ ghost use Rattle.std.specs.Prelude.{◌≡◌, MatchResult};
 ghost use Rattle.isa.specs.Programs.{IsProgram};
 ghost use Rattle.program.specs.Names.{said_by};
 ghost use Rattle.program.specs.WellFormed.{WellFormed};
-ghost use Rattle.code.specs.Pieces.{code_of};
-ghost use Rattle.backend.specs.Refusals.{Fits, Refuses};
+ghost use Rattle.lowering.specs.Pieces.{code_of};
+ghost use Rattle.backend.specs.Refusals.{CodeFits, RefusesCode};
 
 use codegen::generate;
 use isa::Image;
@@ -32,7 +32,7 @@ fn image_is_within_limits(image: &Image)
 /// `Limit` at 1:1 where its code has more than 65,536 instructions, and there alone. `Memory` may come at any point.
 pub fn image_of(alloc: Global, checked: &Checked) -> Result<Image, Refusal>
     ensures { let p = said_by checked.now in
-        MatchResult result (λ image. (image ≡ code_of p) × Fits p) (λ e. Refuses p e) }
+        MatchResult result (λ image. (image ≡ code_of p) × CodeFits p) (λ e. RefusesCode p e) }
 {
     checked_is_well_formed(checked);
     let layout = place(alloc, checked)?;

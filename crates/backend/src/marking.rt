@@ -1,11 +1,11 @@
 ghost use Rattle.std.specs.Prelude.{◌≡◌, ◌++◌, OnOk, MatchResult, map};
 ghost use Rattle.program.specs.Names.{said_by};
-ghost use Rattle.code.specs.Pieces as pieces_of;
-ghost use Rattle.backend.specs.Refusals.{Refuses};
+ghost use Rattle.lowering.specs.Pieces as pieces_of;
+ghost use Rattle.backend.specs.Refusals.{RefusesCode};
 
-use code::{Mark, Marked};
 use codegen::generate;
 use layout::place;
+use lowering::{Mark, Marked};
 use program::Checked;
 use scanner::Refusal;
 use std::alloc::{AllocError, Global};
@@ -25,7 +25,7 @@ fn append_marks(code: &[Marked], marks: &mut Vec<Mark>) -> Result<(), AllocError
 /// `Limit` at 1:1 only where its code has more than 65,536 instructions. `Memory` may come at any point.
 pub fn marks_of(alloc: Global, checked: &Checked) -> Result<Vec<Mark>, Refusal>
     ensures { let p = said_by checked.now in
-        MatchResult result (λ marks. marks.items ≡ pieces_of.marks_of p) (λ e. Refuses p e) }
+        MatchResult result (λ marks. marks.items ≡ pieces_of.marks_of p) (λ e. RefusesCode p e) }
 {
     let layout = place(alloc, checked)?;
     let pieces = generate(alloc, checked, &layout)?;

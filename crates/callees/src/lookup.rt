@@ -6,7 +6,7 @@ ghost use Rattle.syntax.specs.View.{name_of, callee_of};
 ghost use Rattle.syntax.specs.Whole.{unit_of};
 ghost use Rattle.types.specs.Pieces.{pieces as pieces_in};
 ghost use Rattle.types.specs.Scope.{Scope, callee as callee_in, inner_procedure, external_procedure};
-ghost use Rattle.types.specs.Standings.{IsOwn, IsStanding};
+ghost use Rattle.types.specs.Standings.{IsOwn, IsNameScope};
 ghost use Rattle.types.specs.StatementFaults.{called_piece as called_in, missing_place as place_of_missing};
 ghost use Rattle.callees.specs.Names.{IsCallees, declarations};
 ghost use Rattle.callees.specs.Pieces.{piece_of};
@@ -20,7 +20,7 @@ use program::Role;
 use scanner::Place;
 use std::alloc::{AllocError, Global};
 use syntax::{Callee, Name, Unit};
-use types::{Own, Standing};
+use types::{NameScope, Own};
 
 impl<'u, 'a> Callees<'u, 'a> {
     /// What a unit declares. The only error is that memory runs out.
@@ -112,13 +112,13 @@ impl<'u, 'a> Callees<'u, 'a> {
     }
 
     /// The names in sight of the piece of this number. The only error is that memory runs out.
-    pub fn standing(&self, alloc: Global, number: usize) -> Result<Standing<'_, 'a>, AllocError>
+    pub fn standing(&self, alloc: Global, number: usize) -> Result<NameScope<'_, 'a>, AllocError>
         requires { number < length self.now.pieces.items }
         ensures { (s : Scope) → IsCallees s.unit self.now → slice_get (pieces_in s.unit) number ≡ SomeOf s.piece
-            → IfOk result (λ st. IsStanding s st) }
+            → IfOk result (λ st. IsNameScope s st) }
     {
         let piece = self.pieces[number];
-        Standing::new(
+        NameScope::new(
             alloc,
             piece.parameters,
             &piece.body.locals,

@@ -5,7 +5,7 @@ use crate::row::LEVELS;
 use crate::shapes::append_shape;
 use crate::sheet::{COLUMN, COLUMNS, LEFT, Sheet};
 use program::Checked;
-use sourcestates::{Action, ActionKind, SourceState};
+use source_states::{Action, ActionKind, SourceState};
 use std::alloc::{AllocError, Global};
 
 // The least width of a picture, which the legend takes, and the room for words behind the last column.

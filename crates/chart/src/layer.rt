@@ -1,6 +1,6 @@
 use program::Member;
-use sourceruns::{Process, Stage, add_monitor, add_monitors};
-use sourcestates::SourceState;
+use source_offers::{Process, Stage, add_monitor, add_monitors};
+use source_states::SourceState;
 use std::alloc::{AllocError, Global};
 
 /// What a process is doing while others act. Those that it holds lie below what it waits for.

@@ -4,7 +4,7 @@ use crate::palette::colour;
 use crate::shapes::{append_shape, append_text};
 use crate::sheet::Sheet;
 use program::Names;
-use sourcestates::SourceState;
+use source_states::SourceState;
 use std::alloc::{AllocError, Global};
 
 // What the lines and marks are.

@@ -4,9 +4,9 @@ use crate::shapes::{append_escaped, append_shape, append_text};
 use crate::sheet::{Sheet, index_of};
 use actionlines::append_line;
 use itoa::Buffer;
-use sourceruns::{Cause, End};
-use sourcestates::{Action, ActionKind, SourceState};
-use sourcetable::Hold;
+use source_offers::{Cause, End};
+use source_states::{Action, ActionKind, SourceState};
+use source_table::Hold;
 use std::alloc::AllocError;
 
 /// Whether an action takes a monitor that was abandoned.

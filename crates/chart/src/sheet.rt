@@ -2,7 +2,7 @@ use crate::layer::{Layer, append_layers_of};
 use crate::row::{Moment, Row};
 use crate::shapes::append_shape;
 use program::Names;
-use sourcestates::SourceState;
+use source_states::SourceState;
 use std::alloc::{AllocError, Global};
 
 /// Where the first action's column begins.

@@ -4,7 +4,7 @@ use Rattle.syntax.specs.Tree.{UnitTree}
 use Rattle.types.specs.Resolved.{resolved, naming}
 use Rattle.program.specs.Names.{CheckedProgram, said_by}
 use Rattle.program.specs.WellFormed.{WellFormed}
-use Rattle.soundness.specs.Faultless.{IsFaultless}
+use Rattle.proof_well_formed.specs.Faultless.{IsFaultless}
 
 -- the unit has no fault, and this is its program, which is well formed, with its names
 pub record IsChecked (u : UnitTree) (c : CheckedProgram) : Type 0 where

@@ -4,18 +4,18 @@ ghost use Rattle.syntax.specs.Limits.{most_nestings};
 ghost use Rattle.syntax.specs.Nesting.{unit_nesting};
 ghost use Rattle.syntax.specs.Whole.{unit_of};
 ghost use Rattle.types.specs.Judgement.{IsRefusalOf};
-ghost use Rattle.soundness.specs.Faultless.{HasNumbers};
+ghost use Rattle.proof_well_formed.specs.Faultless.{HasNumbers};
 ghost use Rattle.callees.specs.Names.{declarations};
 ghost use Rattle.checker.specs.Checks.{IsChecked};
 
 use callees::Callees;
 use program::Checked;
+use proof_well_formed::faultless_units_are_well_formed;
+use resolver::{Resolved, resolve};
 use scanner::Refusal;
-use soundness::faultless_units_are_well_formed;
 use std::alloc::Global;
 use syntax::Unit;
-use unitfaults::first_fault;
-use unitresolver::{Resolved, resolve};
+use unit_faults::first_fault;
 
 /// The program of a unit, resolved and well formed.
 ///

@@ -1,10 +1,10 @@
 -- Code has at least one instruction for each argument.
 use Rattle.std.proofs.Common.{◌≤◌, ◌<◌, List, [], ◌∷◌, length, map, arith, length-append, ℕ, zero, suc, ◌≡◌}
-use Rattle.code.specs.Pieces.{parameters_code}
+use Rattle.lowering.specs.Pieces.{parameters_code}
 use Rattle.program.specs.declared.expression.Expression.{Expression as ExpressionOf}
 use Rattle.program.specs.Trees.{Program, Expression, Constant, Truth, Local, Member, Element, Unary, Both}
 use Rattle.program.specs.Views.{expression_of}
-use Rattle.code.specs.Expressions.{expression_code, arguments_code}
+use Rattle.lowering.specs.Expressions.{expression_code, arguments_code}
 
 some_code : (p : Program) (e : Expression) → 0 < length (expression_code p e)
 some_code p (Constant n) = omega arith

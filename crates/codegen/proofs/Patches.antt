@@ -9,10 +9,10 @@ use Rattle.codegen.proofs.Failing.{fails_more}
 use Rattle.std.proofs.Math.Seq.{set-append_seam}
 use Rattle.std.proofs.lemmas.List.{set-append_left}
 use Rattle.isa.specs.declared.instr.Instr.TheVariants.{Jump, JumpIfZero}
-use Rattle.code.specs.declared.mark.Marked.{Marked}
-use Rattle.code.specs.declared.mark.Mark.TheVariants.{Test}
-use Rattle.code.specs.Marks.{with_mark, plain, Code}
-use Rattle.code.specs.Statements.{if_code, if_else_code, while_code}
+use Rattle.lowering.specs.declared.mark.Marked.{Marked}
+use Rattle.lowering.specs.declared.mark.Mark.TheVariants.{Test}
+use Rattle.lowering.specs.Marks.{with_mark, plain, Code}
+use Rattle.lowering.specs.Statements.{if_code, if_else_code, while_code}
 
 set_at : (a b : List Marked) (x i : Marked) (n : ℕ) → n ≡ length a → slice_set (a ++ x ∷ b) n i ≡ a ++ i ∷ b
 set_at a b x i n e = ap (λ m. slice_set (a ++ x ∷ b) m i) e ∙ set-append_seam a x b i

@@ -9,8 +9,8 @@ use Rattle.program.specs.declared.statement.Statement.{items_hidden-the_row-Stat
 use Rattle.program.specs.declared.statement.Statement.TheBlock.{hidden-the_row-Statement-0}
 use Rattle.program.specs.Trees.{Statement, Then}
 use Rattle.program.specs.Views.{block_of, block_in, statement_of}
-use Rattle.code.specs.declared.mark.Marked.{Marked}
-use Rattle.code.specs.Statements.{Setting, statement_code, block_code}
+use Rattle.lowering.specs.declared.mark.Marked.{Marked}
+use Rattle.lowering.specs.Statements.{Setting, statement_code, block_code}
 use Rattle.codegen.specs.Failures.{Fails}
 
 row_block : {n : _} (row : Row_of-Statement n) → block_of row ≡ block_in (items-the_row-Statement _ row)

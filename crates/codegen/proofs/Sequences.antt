@@ -1,7 +1,7 @@
 -- Code that is made part by part.
 use Rattle.std.proofs.Common.{◌≡◌, ◌+◌, ℕ, List, [], ◌++◌, length, ap, ◌∙◌, arith, append_assoc, length-append}
-use Rattle.code.specs.declared.mark.Marked.{Marked}
-use Rattle.code.specs.Marks.{Code, sequence}
+use Rattle.lowering.specs.declared.mark.Marked.{Marked}
+use Rattle.lowering.specs.Marks.{Code, sequence}
 
 pub sequenced : (f g : Code) (o m n : List Marked) → m ≡ o ++ f (length o) → n ≡ m ++ g (length m)
     → n ≡ o ++ sequence f g (length o)

@@ -3,7 +3,7 @@ use Rattle.std.proofs.Common.{◌≡◌, ◌<◌, ◌≤◌, ℕ, zero, suc, Lis
 use Rattle.program.specs.declared.unit.Procedure.{Procedure as ProcedureOf}
 use Rattle.program.specs.Trees.{Program}
 use Rattle.program.specs.Views.{procedure_of}
-use Rattle.code.specs.Pieces.{unlinked_code}
+use Rattle.lowering.specs.Pieces.{unlinked_code}
 use Rattle.codegen.specs.Generated.{length_of}
 
 pub one_fits : (p : Program) (qs : List ProcedureOf) (i : ℕ) (q : ProcedureOf) → i < length qs → q ≡ get_or qs i q

@@ -4,8 +4,8 @@ use Rattle.isa.specs.Limits.{most_instructions}
 use Rattle.scanner.specs.declared.refusal.Refusal.{Refusal}
 use Rattle.scanner.specs.Refusals.{out_of_memory}
 use Rattle.program.specs.Trees.{Program, Procedure}
-use Rattle.code.specs.declared.mark.Marked.{Marked}
-use Rattle.code.specs.Pieces.{unlinked_code}
+use Rattle.lowering.specs.declared.mark.Marked.{Marked}
+use Rattle.lowering.specs.Pieces.{unlinked_code}
 use Rattle.codegen.specs.declared.code_piece.CodePiece.{CodePiece}
 use Rattle.codegen.specs.Failures.{too_long}
 
@@ -33,5 +33,5 @@ length_of p [] = 0
 length_of p (q ∷ qs) = length (unlinked_code p q) + length_of p qs
 
 -- memory has run out, or the program has more instructions than an image may have
-abbrev pub Refuses : Program → Refusal → Type 0
-Refuses p e = (e ≡ out_of_memory) ⊎ ((e ≡ too_long) × (most_instructions < length_of p p.procedures))
+abbrev pub RefusesPieces : Program → Refusal → Type 0
+RefusesPieces p e = (e ≡ out_of_memory) ⊎ ((e ≡ too_long) × (most_instructions < length_of p p.procedures))

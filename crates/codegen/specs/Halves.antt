@@ -1,11 +1,11 @@
 -- Parts of the code that are made together.
 use Rattle.std.specs.Prelude.{ℕ, ◌+◌, List, [], ◌∷◌, ◌++◌, length}
 use Rattle.isa.specs.declared.instr.Instr.TheVariants.{Jump, JumpIfZero}
-use Rattle.code.specs.declared.mark.Mark.TheVariants.{Test}
-use Rattle.code.specs.declared.mark.Marked.{Marked}
-use Rattle.code.specs.Marks.{with_mark, plain, Code, sequence}
-use Rattle.code.specs.Statements.{Setting, ending_code}
-use Rattle.code.specs.Pieces.{parameters_code, entering_code, default_code}
+use Rattle.lowering.specs.declared.mark.Mark.TheVariants.{Test}
+use Rattle.lowering.specs.declared.mark.Marked.{Marked}
+use Rattle.lowering.specs.Marks.{with_mark, plain, Code, sequence}
+use Rattle.lowering.specs.Statements.{Setting, ending_code}
+use Rattle.lowering.specs.Pieces.{parameters_code, entering_code, default_code}
 
 -- the first half of an IF with an ELSE: a test, a part, and a jump that isn't written yet
 abbrev pub then_code : List Marked → Code → Code

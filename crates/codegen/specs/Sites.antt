@@ -2,8 +2,8 @@
 use Rattle.std.specs.Prelude.{◌≡◌}
 use Rattle.program.specs.Trees.{Program}
 use Rattle.program.specs.Views.{program_of}
-use Rattle.code.specs.Layout.{layout_of}
-use Rattle.code.specs.Statements.{Setting}
+use Rattle.lowering.specs.Layout.{layout_of}
+use Rattle.lowering.specs.Statements.{Setting}
 use Rattle.codegen.specs.declared.site.Site.{Site}
 
 -- what the program says

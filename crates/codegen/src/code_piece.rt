@@ -1,4 +1,4 @@
-use code::Marked;
+use lowering::Marked;
 
 /// The code of one procedure, RECOVER part or main part, before it is linked.
 #[derive(Drop)]

@@ -1,12 +1,12 @@
 ghost use Rattle.std.specs.Prelude.{◌≡◌, [], ◌∷◌, ◌++◌, OnOk, map};
 ghost use Rattle.program.specs.Scope.{array_size};
 ghost use Rattle.program.specs.Views.{program_of, expression_of};
-ghost use Rattle.code.specs.Expressions as expressions;
+ghost use Rattle.lowering.specs.Expressions as expressions;
 ghost use Rattle.codegen.specs.Sites.{said_at, IsLaidOut};
 
 use crate::site::Site;
-use code::{Mark, Marked, append, append_plain};
 use isa::{Instr, Operator as Operation, Slot};
+use lowering::{Mark, Marked, append, append_plain};
 use program::{Expression, Member, MemberType, Operator, Program, UnaryOperator};
 use std::alloc::AllocError;
 

@@ -1,7 +1,7 @@
 ghost use Rattle.std.specs.Prelude.{◌≡◌, IfOk, IfErr, map};
 ghost use Rattle.program.specs.Names.{said_by};
-ghost use Rattle.code.specs.Layout.{layout_of};
-ghost use Rattle.codegen.specs.Generated.{piece_of, unlinked_pieces, Refuses};
+ghost use Rattle.lowering.specs.Layout.{layout_of};
+ghost use Rattle.codegen.specs.Generated.{piece_of, unlinked_pieces, RefusesPieces};
 
 use crate::code_piece::CodePiece;
 use crate::piece::procedure_code;
@@ -21,7 +21,7 @@ pub fn generate(
 ) -> Result<Vec<CodePiece>, Refusal>
     requires { layout.now ≡ layout_of (said_by checked.now) }
     ensures made { IfOk result (λ pieces. map piece_of pieces.items ≡ unlinked_pieces (said_by checked.now)) }
-    ensures refusal { IfErr result (λ e. Refuses (said_by checked.now) e) }
+    ensures refusal { IfErr result (λ e. RefusesPieces (said_by checked.now) e) }
 {
     let program = checked.program();
     let mut pieces = Vec::new(alloc);

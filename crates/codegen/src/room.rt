@@ -2,8 +2,8 @@ ghost use Rattle.std.specs.Prelude.{◌≡◌, ◌≤◌, length, MatchResult};
 ghost use Rattle.isa.specs.Limits.{most_instructions};
 ghost use Rattle.codegen.specs.Failures.{too_long, Fails};
 
-use code::Marked;
 use isa::MOST_INSTRUCTIONS;
+use lowering::Marked;
 use scanner::{Place, Refusal, RefusalKind};
 
 // The refusal of code that is too long for an image.

@@ -1,16 +1,16 @@
 ghost use Rattle.std.specs.Prelude.{◌≡◌, ◌≤◌, ◌^◌, [], ◌∷◌, ◌++◌, OnOk, map, length, vec_len};
 ghost use Rattle.isa.specs.Limits.{most_instructions};
 ghost use Rattle.program.specs.Views.{expression_of, target_of, option_expression, program_of};
-ghost use Rattle.code.specs.Expressions.{arguments_code, value_code};
-ghost use Rattle.code.specs.Processes as processes;
-ghost use Rattle.code.specs.Statements as statements;
+ghost use Rattle.lowering.specs.Expressions.{arguments_code, value_code};
+ghost use Rattle.lowering.specs.Processes as processes;
+ghost use Rattle.lowering.specs.Statements as statements;
 ghost use Rattle.codegen.specs.Sites.{said_at, setting_at, IsLaidOut};
 
 use crate::expression::{arguments, expression, index};
 use crate::site::Site;
-use code::{Mark, Marked, append};
 use isa::{Instr, Slot};
 use locklower::exit;
+use lowering::{Mark, Marked, append};
 use program::{Expression, Program, Role, Target, ValueType};
 use std::alloc::AllocError;
 

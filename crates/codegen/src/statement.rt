@@ -2,10 +2,10 @@ ghost use Rattle.std.specs.Prelude.{◌≡◌, ◌<◌, ◌+◌, ◌++◌, Match
 ghost use Rattle.isa.specs.Limits.{most_instructions};
 ghost use Rattle.program.specs.Views.{expression_of, statement_of, block_in};
 ghost use Rattle.isa.specs.declared.instr.Instr.TheVariants.{Jump as JumpOf};
-ghost use Rattle.code.specs.Marks.{plain};
+ghost use Rattle.lowering.specs.Marks.{plain};
 ghost use Rattle.codegen.specs.Halves.{then_code};
-ghost use Rattle.code.specs.Expressions.{expression_code};
-ghost use Rattle.code.specs.Statements as lowered;
+ghost use Rattle.lowering.specs.Expressions.{expression_code};
+ghost use Rattle.lowering.specs.Statements as lowered;
 ghost use Rattle.codegen.specs.Failures.{Fails};
 ghost use Rattle.codegen.specs.Sites.{said_at, setting_at, IsLaidOut};
 
@@ -17,9 +17,9 @@ use crate::flat::{
 use crate::room::room;
 use crate::simple::{assignment, call};
 use crate::site::Site;
-use code::{Mark, Marked, append};
 use condlower::notify;
 use isa::Instr;
+use lowering::{Mark, Marked, append};
 use proclower::fault;
 use program::{Expression, Statement};
 use scanner::Refusal;

@@ -2,7 +2,7 @@
 use Rattle.std.proofs.Common.{◌≡◌, ◌<◌, ◌^◌, ◌⊎◌, inl, inr, ℕ, List, None, Some, codes}
 use Rattle.std.specs.Str.Parse.{IsNumeral, digits_value, without_leading_plus}
 use Rattle.clap.specs.Words.{Row, Text, first_of, one_of}
-use Rattle.commandline.specs.CommandLine.{IsCheckOf, IsCompileOf, IsExplainOf, IsListOf, IsReplayOf, IsRunOf}
+use Rattle.commandline.specs.CommandLine.{IsCheckOf, IsCompileOf, IsExplainOf, IsListOf, AsksForReplay, AsksForRun}
 use Rattle.commandline.specs.declared.job.Job.{Job}
 use Rattle.commandline.specs.declared.job.Job.TheVariants.{Check, Compile, List as List', Run, Replay, Explain}
 use Rattle.commandline.proofs.Numbers.{no_value}
@@ -22,7 +22,7 @@ no_list rows (List' image) none h = no_value _ _ none h
 no_list rows other none h = h
 
 pub no_replay : (rows : List Row) (job : Job)
-    → (first_of (codes "FILE") rows ≡ None) ⊎ (first_of (codes "SCHEDULE") rows ≡ None) → IsReplayOf rows job → ⊥
+    → (first_of (codes "FILE") rows ≡ None) ⊎ (first_of (codes "SCHEDULE") rows ≡ None) → AsksForReplay rows job → ⊥
 no_replay rows (Replay file schedule trace) (inl none) h = no_value _ _ none h.0
 no_replay rows (Replay file schedule trace) (inr none) h = no_value _ _ none h.1
 no_replay rows other missing h = h
@@ -33,7 +33,7 @@ NoSteps rows =
     (t : Text) (n : ℕ) → one_of (codes "steps") rows ≡ Some t → IsNumeral 10 (without_leading_plus t)
     → n ≡ digits_value 10 (without_leading_plus t) → n < 2 ^ 32 → ⊥
 
-pub no_run : (rows : List Row) (job : Job) → (first_of (codes "FILE") rows ≡ None) ⊎ NoSteps rows → IsRunOf rows job
+pub no_run : (rows : List Row) (job : Job) → (first_of (codes "FILE") rows ≡ None) ⊎ NoSteps rows → AsksForRun rows job
     → ⊥
 no_run rows (Run file steps trace) (inl none) h = no_value _ _ none h.0
 no_run rows (Run file steps trace) (inr none) h =

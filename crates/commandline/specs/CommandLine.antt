@@ -101,17 +101,17 @@ IsListOf rows (List' image) = first_of (codes "IMAGE") rows ≡ Some image.now
 IsListOf rows other = ⊥
 
 -- a job of running
-abbrev pub IsRunOf : List Row → Job → Type 0
-IsRunOf rows (Run file steps trace) =
+abbrev pub AsksForRun : List Row → Job → Type 0
+AsksForRun rows (Run file steps trace) =
     (first_of (codes "FILE") rows ≡ Some file.now) × ReadsSteps rows steps × ReadsTrace rows trace
-IsRunOf rows other = ⊥
+AsksForRun rows other = ⊥
 
 -- a job of running by a schedule
-abbrev pub IsReplayOf : List Row → Job → Type 0
-IsReplayOf rows (Replay file schedule trace) =
+abbrev pub AsksForReplay : List Row → Job → Type 0
+AsksForReplay rows (Replay file schedule trace) =
     (first_of (codes "FILE") rows ≡ Some file.now) × (first_of (codes "SCHEDULE") rows ≡ Some schedule.now)
     × ReadsTrace rows trace
-IsReplayOf rows other = ⊥
+AsksForReplay rows other = ⊥
 
 -- a job of explaining
 abbrev pub IsExplainOf : List Row → Job → Type 0
@@ -125,8 +125,8 @@ abbrev pub IsAskedBy : Option (Text × List Row) → Job → Type 0
 IsAskedBy None job = ⊥
 IsAskedBy (Some (name, rows)) job =
     ((name ≡ codes "check") × IsCheckOf rows job) ⊎ (((name ≡ codes "compile") × IsCompileOf rows job)
-    ⊎ (((name ≡ codes "list") × IsListOf rows job) ⊎ (((name ≡ codes "run") × IsRunOf rows job)
-    ⊎ (((name ≡ codes "replay") × IsReplayOf rows job) ⊎ ((name ≡ codes "explain") × IsExplainOf rows job)))))
+    ⊎ (((name ≡ codes "list") × IsListOf rows job) ⊎ (((name ≡ codes "run") × AsksForRun rows job)
+    ⊎ (((name ≡ codes "replay") × AsksForReplay rows job) ⊎ ((name ≡ codes "explain") × IsExplainOf rows job)))))
 
 -- the words ask for this job
 abbrev pub AsksFor : List Text → Job → Type 0

@@ -2,7 +2,7 @@ ghost use Rattle.std.specs.Prelude.{IfOk, IfErr, IfSome, None, true, map, ◌≡
 ghost use Rattle.clap.specs.Words.{app_of, found_of, kind_of, subcommand_rows_of, takes};
 ghost use Rattle.clap.specs.Walk.{rows_of};
 ghost use Rattle.commandline.specs.CommandLine.{AsksFor, IsAskedBy, IsCheckOf, IsCompileOf, IsExplainOf, IsListOf};
-ghost use Rattle.commandline.specs.CommandLine.{IsReplayOf, IsRunOf, command_line};
+ghost use Rattle.commandline.specs.CommandLine.{AsksForReplay, AsksForRun, command_line};
 ghost use Rattle.commandline.specs.declared.job.Job.{Job as JobOf};
 
 use crate::builder::command;
@@ -146,8 +146,8 @@ fn list_of<'a>(matches: &ArgMatches<'a>) -> Option<Job<'a>>
 }
 
 fn run_of<'a>(matches: &ArgMatches<'a>) -> Option<Job<'a>>
-    ensures job { IfSome result (IsRunOf (rows_of (found_of matches.now))) }
-    ensures none { result ≡ None → (job : JobOf) → IsRunOf (rows_of (found_of matches.now)) job → ⊥ }
+    ensures job { IfSome result (AsksForRun (rows_of (found_of matches.now))) }
+    ensures none { result ≡ None → (job : JobOf) → AsksForRun (rows_of (found_of matches.now)) job → ⊥ }
 {
     let file = matches.get_str("FILE")?;
     let steps = matches.get_one::<u32>("steps")?;
@@ -156,8 +156,8 @@ fn run_of<'a>(matches: &ArgMatches<'a>) -> Option<Job<'a>>
 }
 
 fn replay_of<'a>(matches: &ArgMatches<'a>) -> Option<Job<'a>>
-    ensures job { IfSome result (IsReplayOf (rows_of (found_of matches.now))) }
-    ensures none { result ≡ None → (job : JobOf) → IsReplayOf (rows_of (found_of matches.now)) job → ⊥ }
+    ensures job { IfSome result (AsksForReplay (rows_of (found_of matches.now))) }
+    ensures none { result ≡ None → (job : JobOf) → AsksForReplay (rows_of (found_of matches.now)) job → ⊥ }
 {
     let file = matches.get_str("FILE")?;
     let schedule = matches.get_str("SCHEDULE")?;

@@ -17,9 +17,9 @@ use Rattle.types.specs.Faults.{ComesNoLater}
 use Rattle.types.specs.Judgement.{IsFaulty}
 use Rattle.types.specs.Resolved.{resolved}
 use Rattle.program.specs.Trees.{Program}
-use Rattle.code.specs.Pieces.{code_of}
-use Rattle.backend.specs.Refusals.{Fits}
-use Rattle.compiler.specs.Accepts.{IsUnit, Accepts, IsNoUnit, IsFaultyUnit, RefusesProgram, Refuses}
+use Rattle.lowering.specs.Pieces.{code_of}
+use Rattle.backend.specs.Refusals.{CodeFits}
+use Rattle.compiler.specs.Accepts.{IsUnit, AcceptsText, IsNoUnit, IsFaultyUnit, RefusesProgram, RefusesText}
 use Rattle.compiler.proofs.Spoken.{said, spoken, same_lexemes}
 use Rattle.compiler.proofs.Refused.{Stops, stops, one_stop, same_refusal, unit_not_refused}
 
@@ -36,7 +36,7 @@ pub one_unit : Reads → (text : List ℕ) (ts us : List Token) (u v : UnitTree)
 one_unit r text ts us u v a b =
     r.tree u v (a.spelled ∙ (same_lexemes ts us (r.one text (views ts) (views us) a.scanned b.scanned) ∙ sym b.spelled))
 
-pub one_program : Reads → (text : List ℕ) (p q : Program) → Accepts text p → Accepts text q → p ≡ q
+pub one_program : Reads → (text : List ℕ) (p q : Program) → AcceptsText text p → AcceptsText text q → p ≡ q
 one_program r text p q a b =
     a.is_program.program ∙ (ap resolved (one_unit r text a.tokens b.tokens a.unit b.unit a.is_unit b.is_unit)
     ∙ sym b.is_program.program)
@@ -50,7 +50,7 @@ unit_or_none r text ts u e a n =
     a.scanned n.scanned))) a.within (stops n.tokens e n.refusal)
 
 -- a program has no fault
-program_or_fault : Reads → (text : List ℕ) (p : Program) (e : Refusal) → Accepts text p → IsFaultyUnit text e → ⊥
+program_or_fault : Reads → (text : List ℕ) (p : Program) (e : Refusal) → AcceptsText text p → IsFaultyUnit text e → ⊥
 program_or_fault r text p e a n =
     a.is_program.faultless e.place e.kind (subst (λ u. IsFaulty u e.place e.kind) (one_unit r text n.tokens a.tokens
     n.unit a.unit n.is_unit a.is_unit) n.refusal.0)
@@ -111,7 +111,7 @@ fault_or_unit : Reads → (text : List ℕ) (ts : List Token) (u : UnitTree) (e 
 fault_or_unit r text ts u e x y = r.either text (views ts) e y.scanned x
 
 -- a text's refusal is one
-pub one_refusal : Reads → (text : List ℕ) (e f : Refusal) → Refuses text e → Refuses text f → e ≡ f
+pub one_refusal : Reads → (text : List ℕ) (e f : Refusal) → RefusesText text e → RefusesText text f → e ≡ f
 one_refusal r text e f (inl (inl x)) (inl (inl y)) = r.fault text e f x y
 one_refusal r text e f (inl (inl x)) (inl (inr (inl y))) = absurd (fault_or_no_unit r text e f x y)
 one_refusal r text e f (inl (inl x)) (inl (inr (inr y))) = absurd (fault_or_unit r text y.tokens y.unit e x y.is_unit)
@@ -138,12 +138,12 @@ one_refusal r text e f (inr x) (inl (inr (inr y))) = absurd (program_or_fault r 
 one_refusal r text e f (inr x) (inr y) = x.refusal ∙ sym y.refusal
 
 -- a program is not refused as none
-program_or_refused : Reads → (text : List ℕ) (p : Program) (e : Refusal) → Accepts text p → RefusesProgram text e → ⊥
+program_or_refused : Reads → (text : List ℕ) (p : Program) (e : Refusal) → AcceptsText text p → RefusesProgram text e → ⊥
 program_or_refused r text p e a (inl x) = fault_or_unit r text a.tokens a.unit e x a.is_unit
 program_or_refused r text p e a (inr (inl x)) = unit_or_none r text a.tokens a.unit e a.is_unit x
 program_or_refused r text p e a (inr (inr x)) = program_or_fault r text p e a x
 
-pub not_both : Reads → (text : List ℕ) (p : Program) (e : Refusal) → Accepts text p → Fits p → Refuses text e → ⊥
+pub not_both : Reads → (text : List ℕ) (p : Program) (e : Refusal) → AcceptsText text p → CodeFits p → RefusesText text e → ⊥
 not_both r text p e a fits (inl x) = program_or_refused r text p e a x
 not_both r text p e a fits (inr x) =
     let same = ap (λ (q : Program). length (code_of q).code) (one_program r text x.program p x.accepts a) in

@@ -5,21 +5,21 @@ use Rattle.scanner.specs.Refusals.{out_of_memory}
 use Rattle.isa.specs.Programs.{Program as Image}
 use Rattle.program.specs.Names.{CheckedProgram, said_by}
 use Rattle.program.specs.Trees.{Program}
-use Rattle.code.specs.Pieces.{code_of}
+use Rattle.lowering.specs.Pieces.{code_of}
 use Rattle.backend.specs.Refusals as backend
 use Rattle.refinement.specs.Refines.{Refines}
-use Rattle.compiler.specs.Accepts.{Accepts, RefusesProgram, Refuses}
+use Rattle.compiler.specs.Accepts.{AcceptsText, RefusesProgram, RefusesText}
 use Rattle.compiler.specs.Compiles.{IsRead, IsReadImage}
 
 -- a text that is no program
 pub unread : (text : List ℕ) (e : Refusal) → (e ≡ out_of_memory) ⊎ RefusesProgram text e
-    → (e ≡ out_of_memory) ⊎ Refuses text e
+    → (e ≡ out_of_memory) ⊎ RefusesText text e
 unread text e (inl memory) = inl memory
 unread text e (inr refused) = inr (inl refused)
 
 -- a program whose code is too long
-pub not_fitting : (text : List ℕ) (p : Program) (e : Refusal) → Accepts text p → backend.Refuses p e
-    → (e ≡ out_of_memory) ⊎ Refuses text e
+pub not_fitting : (text : List ℕ) (p : Program) (e : Refusal) → AcceptsText text p → backend.Refuses p e
+    → (e ≡ out_of_memory) ⊎ RefusesText text e
 not_fitting text p e a (inl memory) = inl memory
 not_fitting text p e a (inr long) =
     inr (inr record { program = p; accepts = a; long = long.1; refusal = long.0 })
@@ -41,9 +41,9 @@ read_whole text c image read refines (same, fits) = record {
 }
 
 -- a text whose program's code fits is refused for want of memory alone
-pub only_memory : ((text : List ℕ) (p : Program) (e : Refusal) → Accepts text p → backend.Fits p → Refuses text e → ⊥)
+pub only_memory : ((text : List ℕ) (p : Program) (e : Refusal) → AcceptsText text p → backend.Fits p → RefusesText text e → ⊥)
     → (text : List ℕ) (A : Type 0) (Good : A → Type 0) (r : Result A Refusal)
-    → MatchResult r Good (λ e. (e ≡ out_of_memory) ⊎ Refuses text e) → (p : Program) → Accepts text p → backend.Fits p
+    → MatchResult r Good (λ e. (e ≡ out_of_memory) ⊎ RefusesText text e) → (p : Program) → AcceptsText text p → backend.Fits p
     → IfErr r (λ e. e ≡ out_of_memory)
 only_memory not_both text A Good (Ok x) h p a fits = tt
 only_memory not_both text A Good (Err e) (inl memory) p a fits = memory

@@ -13,7 +13,7 @@ use Rattle.grammar.specs.Accepts as grammar
 use Rattle.types.specs.Judgement as names
 use Rattle.types.specs.Resolved.{resolved}
 use Rattle.program.specs.Trees.{Program}
-use Rattle.soundness.specs.Faultless.{IsFaultless}
+use Rattle.proof_well_formed.specs.Faultless.{IsFaultless}
 use Rattle.codegen.specs.Failures.{too_long}
 use Rattle.backend.specs.Refusals as backend
 
@@ -29,7 +29,7 @@ pub record IsProgramOf (unit : UnitTree) (p : Program) : Type 0 where
   pub program : p ≡ resolved unit
 
 -- the text is a unit, and p is its program
-pub record Accepts (text : List ℕ) (p : Program) : Type 0 where
+pub record AcceptsText (text : List ℕ) (p : Program) : Type 0 where
   pub tokens : List Token
   pub unit : UnitTree
   pub is_unit : IsUnit text tokens unit
@@ -49,9 +49,9 @@ pub record IsFaultyUnit (text : List ℕ) (e : Refusal) : Type 0 where
   pub refusal : names.IsRefusalOf unit e
 
 -- the text is a program, and its code is too long
-pub record IsTooLong (text : List ℕ) (e : Refusal) : Type 0 where
+pub record TextIsTooLong (text : List ℕ) (e : Refusal) : Type 0 where
   pub program : Program
-  pub accepts : Accepts text program
+  pub accepts : AcceptsText text program
   pub long : backend.IsTooLong program
   pub refusal : e ≡ too_long
 
@@ -60,5 +60,5 @@ abbrev pub RefusesProgram : List ℕ → Refusal → Type 0
 RefusesProgram text e = IsFault text e ⊎ (IsNoUnit text e ⊎ IsFaultyUnit text e)
 
 -- the refusal of a text that has no image, by the earliest phase: it is no program, or its code is too long
-abbrev pub Refuses : List ℕ → Refusal → Type 0
-Refuses text e = RefusesProgram text e ⊎ IsTooLong text e
+abbrev pub RefusesText : List ℕ → Refusal → Type 0
+RefusesText text e = RefusesProgram text e ⊎ TextIsTooLong text e

@@ -4,26 +4,26 @@ use Rattle.isa.specs.Programs.{Program as Image}
 use Rattle.program.specs.Names.{CheckedProgram, said_by}
 use Rattle.program.specs.Trees.{Program}
 use Rattle.program.specs.WellFormed.{WellFormed}
-use Rattle.code.specs.Pieces.{code_of}
+use Rattle.lowering.specs.Pieces.{code_of}
 use Rattle.refinement.specs.Refines.{Refines}
-use Rattle.backend.specs.Refusals.{Fits}
-use Rattle.compiler.specs.Accepts.{Accepts}
+use Rattle.backend.specs.Refusals.{CodeFits}
+use Rattle.compiler.specs.Accepts.{AcceptsText}
 
 -- the text's checked program
 pub record IsRead (text : List ℕ) (c : CheckedProgram) : Type 0 where
-  pub accepts : Accepts text (said_by c)
+  pub accepts : AcceptsText text (said_by c)
   pub well_formed : WellFormed (said_by c)
 
 -- the text is a program; the image is its code, no longer than an image may have, and refines it
 pub record IsCompiled (text : List ℕ) (image : Image) : Type 0 where
   pub program : Program
-  pub accepts : Accepts text program
-  pub fits : Fits program
+  pub accepts : AcceptsText text program
+  pub fits : CodeFits program
   pub code : image ≡ code_of program
   pub refines : Refines program image
 
 -- the text's checked program, and its image
 pub record IsReadImage (text : List ℕ) (c : CheckedProgram) (image : Image) : Type 0 where
-  pub accepts : Accepts text (said_by c)
+  pub accepts : AcceptsText text (said_by c)
   pub code : image ≡ code_of (said_by c)
   pub compiled : IsCompiled text image

@@ -3,9 +3,9 @@
 ghost use Rattle.std.specs.Prelude.{◌≡◌, ◌⊎◌, IfOk, IfErr, MatchResult};
 ghost use Rattle.scanner.specs.Refusals.{out_of_memory};
 ghost use Rattle.program.specs.Trees.{Program};
-ghost use Rattle.code.specs.Pieces.{code_of};
-ghost use Rattle.backend.specs.Refusals.{Fits};
-ghost use Rattle.compiler.specs.Accepts.{Accepts, RefusesProgram, Refuses};
+ghost use Rattle.lowering.specs.Pieces.{code_of};
+ghost use Rattle.backend.specs.Refusals.{CodeFits};
+ghost use Rattle.compiler.specs.Accepts.{AcceptsText, RefusesProgram, RefusesText};
 ghost use Rattle.compiler.specs.Compiles.{IsCompiled, IsRead, IsReadImage};
 
 use crate::laws::text_laws;
@@ -14,10 +14,10 @@ use callees::few_declarations;
 use checker::check;
 use isa::Image;
 use parser::parse;
-use product::code_refines;
 use program::Checked;
+use proof_simulation::code_refines;
+use proof_well_formed::units_of_texts_have_numbers;
 use scanner::{Refusal, scan, token_laws};
-use soundness::units_of_texts_have_numbers;
 use std::alloc::Global;
 
 // The checked program of a text.
@@ -42,7 +42,7 @@ fn read<'a>(alloc: Global, text: &'a [u8]) -> Result<Checked<'a>, Refusal>
 /// at 1:1; then come the faults of the scanner; those of the parser; then the least fault of names, types, places and
 /// limits. `Memory` may come at any point.
 pub fn check_text(alloc: Global, text: &[u8]) -> Result<(), Refusal>
-    ensures { MatchResult result (λ _. (p : Program) × Accepts text.now p)
+    ensures { MatchResult result (λ _. (p : Program) × AcceptsText text.now p)
         (λ e. (e ≡ out_of_memory) ⊎ RefusesProgram text.now e) }
 {
     let _program = read(alloc, text)?;
@@ -52,7 +52,7 @@ pub fn check_text(alloc: Global, text: &[u8]) -> Result<(), Refusal>
 // The image of a source text, or its refusal.
 fn image_or_refusal(alloc: Global, text: &[u8]) -> Result<Image, Refusal>
     ensures { MatchResult result (λ image. IsCompiled text.now image)
-        (λ e. (e ≡ out_of_memory) ⊎ Refuses text.now e) }
+        (λ e. (e ≡ out_of_memory) ⊎ RefusesText text.now e) }
 {
     code_refines();
     let checked = read(alloc, text)?;
@@ -62,7 +62,7 @@ fn image_or_refusal(alloc: Global, text: &[u8]) -> Result<Image, Refusal>
 // The checked program of a text, and its image; or its refusal.
 fn read_image<'a>(alloc: Global, text: &'a [u8]) -> Result<(Checked<'a>, Image), Refusal>
     ensures { MatchResult result (λ r. IsReadImage text.now r.0 r.1)
-        (λ e. (e ≡ out_of_memory) ⊎ Refuses text.now e) }
+        (λ e. (e ≡ out_of_memory) ⊎ RefusesText text.now e) }
 {
     code_refines();
     let checked = read(alloc, text)?;
@@ -73,8 +73,8 @@ fn read_image<'a>(alloc: Global, text: &'a [u8]) -> Result<(Checked<'a>, Image),
 /// The checked program of a source text, and its image. The refusals are those of `compile`.
 pub fn compile_checked<'a>(alloc: Global, text: &'a [u8]) -> Result<(Checked<'a>, Image), Refusal>
     ensures compiled { MatchResult result (λ r. IsReadImage text.now r.0 r.1)
-        (λ e. (e ≡ out_of_memory) ⊎ Refuses text.now e) }
-    ensures only { (p : Program) → Accepts text.now p → Fits p → IfErr result (λ e. e ≡ out_of_memory) }
+        (λ e. (e ≡ out_of_memory) ⊎ RefusesText text.now e) }
+    ensures only { (p : Program) → AcceptsText text.now p → CodeFits p → IfErr result (λ e. e ≡ out_of_memory) }
 {
     text_laws();
     read_image(alloc, text)
@@ -88,9 +88,9 @@ pub fn compile_checked<'a>(alloc: Global, text: &'a [u8]) -> Result<(Checked<'a>
 /// at any point.
 pub fn compile(alloc: Global, text: &[u8]) -> Result<Image, Refusal>
     ensures accepted { IfOk result (λ image. IsCompiled text.now image) }
-    ensures only { (p : Program) → Accepts text.now p → Fits p
+    ensures only { (p : Program) → AcceptsText text.now p → CodeFits p
         → MatchResult result (λ image. image ≡ code_of p) (λ e. e ≡ out_of_memory) }
-    ensures refusal { IfErr result (λ e. (e ≡ out_of_memory) ⊎ Refuses text.now e) }
+    ensures refusal { IfErr result (λ e. (e ≡ out_of_memory) ⊎ RefusesText text.now e) }
 {
     text_laws();
     image_or_refusal(alloc, text)

@@ -3,17 +3,17 @@
 ghost use Rattle.std.specs.Prelude.{◌≡◌, ℕ, List};
 ghost use Rattle.scanner.specs.declared.refusal.Refusal.{Refusal as RefusalOf};
 ghost use Rattle.program.specs.Trees.{Program};
-ghost use Rattle.backend.specs.Refusals.{Fits};
-ghost use Rattle.compiler.specs.Accepts.{Accepts, Refuses};
+ghost use Rattle.backend.specs.Refusals.{CodeFits};
+ghost use Rattle.compiler.specs.Accepts.{AcceptsText, RefusesText};
 
 use grammar::one_tree;
 use scanner::{fault_laws, token_laws};
 
 /// A text is at most one program and has at most one refusal, and a program whose code fits is not refused.
 pub fn text_laws()
-    ensures one_program { (text : List ℕ) (p q : Program) → Accepts text p → Accepts text q → p ≡ q }
-    ensures one_refusal { (text : List ℕ) (e f : RefusalOf) → Refuses text e → Refuses text f → e ≡ f }
-    ensures not_both { (text : List ℕ) (p : Program) (e : RefusalOf) → Accepts text p → Fits p → Refuses text e → ⊥ }
+    ensures one_program { (text : List ℕ) (p q : Program) → AcceptsText text p → AcceptsText text q → p ≡ q }
+    ensures one_refusal { (text : List ℕ) (e f : RefusalOf) → RefusesText text e → RefusesText text f → e ≡ f }
+    ensures not_both { (text : List ℕ) (p : Program) (e : RefusalOf) → AcceptsText text p → CodeFits p → RefusesText text e → ⊥ }
 {
     token_laws();
     fault_laws();

@@ -1,11 +1,11 @@
 ghost use Rattle.std.specs.Prelude.{◌≡◌, ◌<◌, ◌≤◌, ◌+◌, ◌^◌, ◌++◌, OnOk, length};
-ghost use Rattle.code.specs.Marks.{rebase_all};
-ghost use Rattle.code.specs.Locks.{recovery};
-ghost use Rattle.code.specs.Conditions as conditions;
+ghost use Rattle.lowering.specs.Marks.{rebase_all};
+ghost use Rattle.lowering.specs.Locks.{recovery};
+ghost use Rattle.lowering.specs.Conditions as conditions;
 
-use code::{Mark, Marked, append, append_plain};
 use isa::Instr;
 use locklower::{got_from, leave_from, take_from};
+use lowering::{Mark, Marked, append, append_plain};
 use program::Member;
 use std::alloc::AllocError;
 use words::WAITERS;

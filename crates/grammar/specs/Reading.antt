@@ -35,12 +35,12 @@ pub record Passes (depth : ℕ) (σ : List Symbol) (x : Trees σ) (before after 
       (reads most_nestings after κ)
 
 -- this is the refusal, whatever is expected behind these symbols
-pub record Refuses (depth : ℕ) (σ : List Symbol) (before : List Item) (e : Refusal) : Type 0 where
+pub record RefusesReading (depth : ℕ) (σ : List Symbol) (before : List Item) (e : Refusal) : Type 0 where
   pub refuses : (κ : List Symbol) → nestings κ ≡ depth → reads most_nestings before (σ ++ κ) ≡ Refused e
 
 -- memory ran out, or this is the refusal
 pub record Fails (depth : ℕ) (σ : List Symbol) (before : List Item) (e : Refusal) : Type 0 where
-  pub fails : (e.kind ≡ Memory) ⊎ Refuses depth σ before e
+  pub fails : (e.kind ≡ Memory) ⊎ RefusesReading depth σ before e
 
 -- what was read so far leads from these symbols to those, whose trees make theirs
 pub record Leads (depth : ℕ) (σ ρ : List Symbol) (g : Trees ρ → Trees σ) (before after : List Item) : Type 0 where

@@ -8,3 +8,4 @@ pub mod Programs
 pub mod Reading
 pub mod Spelling
 pub mod Texts
+pub mod Lines

@@ -7,6 +7,7 @@ mod image;
 mod instr;
 mod laws;
 mod limits;
+mod lines;
 mod opcode;
 mod operands;
 mod operator;
@@ -21,6 +22,7 @@ pub use laws::{first_fault, one_spelling, read_back};
 pub use limits::{
     MOST_ARGUMENTS, MOST_INSTRUCTIONS, MOST_LOCALS, MOST_MEMBER_WORDS, MOST_MONITORS, limit_laws,
 };
+pub use lines::list_lines;
 pub use operator::Operator;
 pub use reading::decode;
 pub use slot::Slot;

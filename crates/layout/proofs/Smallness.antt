@@ -9,7 +9,7 @@ use Rattle.std.specs.Option.{option_map}
 use Rattle.words.specs.Limits.{monitors_base}
 use Rattle.program.specs.Trees.{Monitor, Program}
 use Rattle.program.specs.WellFormed.{WellFormed, words_of, all_words}
-use Rattle.code.specs.Layout.{MonitorLayout, monitors_from, link_in, link_at}
+use Rattle.lowering.specs.Layout.{MonitorLayout, monitors_from, link_in, link_at}
 use Rattle.layout.specs.declared.monitor_place.MonitorPlace.{MonitorPlace}
 use Rattle.layout.specs.Views.{view_of, IsSmall}
 

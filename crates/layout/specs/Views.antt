@@ -1,7 +1,7 @@
 -- What a layout's fields show.
 use Rattle.std.specs.Prelude.{◌≤◌, length, sum}
 use Rattle.isa.specs.Limits.{most_monitors, most_member_words}
-use Rattle.code.specs.Layout.{MonitorLayout, Layout, words_in}
+use Rattle.lowering.specs.Layout.{MonitorLayout, Layout, words_in}
 use Rattle.layout.specs.declared.monitor_place.MonitorPlace.{MonitorPlace}
 
 -- a monitor's place

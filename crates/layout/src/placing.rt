@@ -4,7 +4,7 @@ ghost use Rattle.isa.specs.Limits.{most_monitors, most_member_words};
 ghost use Rattle.program.specs.Names.{said_by};
 ghost use Rattle.program.specs.Views.{monitor_of};
 ghost use Rattle.program.specs.WellFormed.{words_of, all_words, member_words};
-ghost use Rattle.code.specs.Layout as layouts;
+ghost use Rattle.lowering.specs.Layout as layouts;
 ghost use Rattle.layout.specs.Views.{view_of};
 
 use crate::monitor_place::MonitorPlace;
@@ -24,7 +24,7 @@ pub struct Layout {
 
 impl Model for Layout {
     ghost use Rattle.std.specs.Prelude.{map};
-    ghost use Rattle.code.specs.Layout as layouts;
+    ghost use Rattle.lowering.specs.Layout as layouts;
     ghost use Rattle.layout.specs.Views.{view_of, IsSmall};
 
     ghost Value = { layouts.Layout };

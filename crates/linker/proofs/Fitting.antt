@@ -2,8 +2,8 @@
 use Rattle.std.proofs.Common.{◌≡◌, ◌++◌, ℕ, List, [], ◌∷◌, Bool, true, false, refl, ap, ◌∙◌}
 use Rattle.std.specs.Prelude.{cond}
 use Rattle.isa.specs.declared.instr.Instr.{Instr}
-use Rattle.code.specs.declared.mark.Marked.{Marked}
-use Rattle.code.specs.Marks.{instructions}
+use Rattle.lowering.specs.declared.mark.Marked.{Marked}
+use Rattle.lowering.specs.Marks.{instructions}
 use Rattle.linker.specs.Linked.{fits, all_fit}
 
 -- instructions before others

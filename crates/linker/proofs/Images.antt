@@ -8,8 +8,8 @@ use Rattle.isa.specs.Instructions.{LeadsBelow}
 use Rattle.isa.specs.Limits.{most_monitors, most_member_words, most_instructions}
 use Rattle.isa.specs.Programs.{IsProgram}
 use Rattle.isa.specs.declared.instr.Instr.{Instr}
-use Rattle.code.specs.Marks.{instructions}
-use Rattle.code.specs.Layout.{Layout}
+use Rattle.lowering.specs.Marks.{instructions}
+use Rattle.lowering.specs.Layout.{Layout}
 use Rattle.codegen.specs.Generated.{Piece}
 use Rattle.linker.specs.Linked.{all_fit, code_from, length_of, places_from, begins, image_of}
 use Rattle.linker.proofs.Tests.{ands, all_instructions, all_lead, fit_where, code_length}

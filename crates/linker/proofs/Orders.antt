@@ -13,22 +13,22 @@ use Rattle.isa.specs.declared.instr.Instr.{Instr}
 use Rattle.scanner.specs.declared.refusal.Refusal.{Refusal}
 use Rattle.program.specs.Trees.{Program, Procedure, Monitor}
 use Rattle.program.specs.WellFormed.{words_of}
-use Rattle.code.specs.Marks.{instructions}
-use Rattle.code.specs.Layout.{Layout, layout_of, monitors_from}
-use Rattle.code.specs.Pieces.{unlinked_code, piece_code, pieces_code, starts_from, start_of, marked_code, code_of}
-use Rattle.code.proofs.Linking.{unlinked_moves}
-use Rattle.code.proofs.LengthLaws.{piece_same}
+use Rattle.lowering.specs.Marks.{instructions}
+use Rattle.lowering.specs.Layout.{Layout, layout_of, monitors_from}
+use Rattle.lowering.specs.Pieces.{unlinked_code, piece_code, pieces_code, starts_from, start_of, marked_code, code_of}
+use Rattle.lowering.proofs.Linking.{unlinked_moves}
+use Rattle.lowering.proofs.LengthLaws.{piece_same}
 use Rattle.words.specs.Limits.{monitors_base}
 use Rattle.codegen.specs.declared.code_piece.CodePiece.{CodePiece}
 use Rattle.codegen.specs.Generated.{Piece, piece_of, unlinked_from, unlinked_pieces}
-use Rattle.linker.specs.Failures.{FailsWhere, Refuses}
+use Rattle.linker.specs.Failures.{FailsWhere, RefusesLinking}
 use Rattle.linker.specs.Linked.{are_from, IsOrder, Links, places_from, begins, code_from, image_of}
 
 -- what is said of pieces in their order, of them in any
 pub of_sorted : (l : Layout) (pieces sorted slice : List CodePiece) (r : Result Image Refusal) → slice ≡ sorted
     → IsOrder l.pieces pieces sorted → MatchResult r (λ i. i ≡ image_of l (map piece_of slice))
     (λ e. FailsWhere (IsProgram (image_of l (map piece_of slice)) → ⊥) e)
-    → MatchResult r (λ i. Links l pieces i) (λ e. Refuses l pieces e)
+    → MatchResult r (λ i. Links l pieces i) (λ e. RefusesLinking l pieces e)
 of_sorted l pieces sorted slice (Ok i) same order h =
     record { sorted = sorted; order = order; is = h ∙ ap (λ s. image_of l (map piece_of s)) same }
 of_sorted l pieces sorted slice (Err e) same order (inl h) = inl h

@@ -4,9 +4,9 @@ use Rattle.std.proofs.Common.{length, map, drop, drop-cons, get_or, append_assoc
 use Rattle.std.specs.Prelude.{MatchResult, IsErr, IsErrAnd}
 use Rattle.scanner.specs.declared.refusal.Refusal.{Refusal}
 use Rattle.isa.specs.declared.instr.Instr.{Instr}
-use Rattle.code.specs.declared.mark.Marked.{Marked}
-use Rattle.code.specs.Marks.{instructions}
-use Rattle.code.specs.Linking.{linked_code}
+use Rattle.lowering.specs.declared.mark.Marked.{Marked}
+use Rattle.lowering.specs.Marks.{instructions}
+use Rattle.lowering.specs.Linking.{linked_code}
 use Rattle.codegen.specs.declared.code_piece.CodePiece.{CodePiece}
 use Rattle.codegen.specs.Generated.{piece_of}
 use Rattle.linker.specs.Failures.{FailsWhere}

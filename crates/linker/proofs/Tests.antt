@@ -13,9 +13,9 @@ use Rattle.isa.specs.declared.instr.Instr.TheVariants.{Push, GetLocal, SetLocal,
 use Rattle.isa.specs.declared.instr.Instr.TheVariants.{JumpIfZero, Call, Fork, Ret, RetValue, Index, OwnNumber}
 use Rattle.isa.specs.declared.instr.Instr.TheVariants.{ProcessAddress, Raise, Load, Store, Swap, CompareSwap, FetchOr}
 use Rattle.isa.specs.declared.instr.Instr.TheVariants.{FetchAdd, Print, FutexWait, FutexWake, FutexRequeue}
-use Rattle.code.specs.declared.mark.Marked.{Marked}
-use Rattle.code.specs.Marks.{instructions}
-use Rattle.code.specs.Linking.{linked_code}
+use Rattle.lowering.specs.declared.mark.Marked.{Marked}
+use Rattle.lowering.specs.Marks.{instructions}
+use Rattle.lowering.specs.Linking.{linked_code}
 use Rattle.codegen.specs.Generated.{Piece}
 use Rattle.linker.specs.Linked.{fits, all_fit, slot_fits, code_from, length_of}
 use Rattle.linker.proofs.Fitting.{both, instructions-append}

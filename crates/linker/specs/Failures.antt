@@ -6,7 +6,7 @@ use Rattle.scanner.specs.declared.refusal.Refusal.{Refusal}
 use Rattle.scanner.specs.declared.refusal.RefusalKind.TheVariants.{StrayPiece}
 use Rattle.scanner.specs.Places.{start}
 use Rattle.scanner.specs.Refusals.{out_of_memory}
-use Rattle.code.specs.Layout.{Layout}
+use Rattle.lowering.specs.Layout.{Layout}
 use Rattle.codegen.specs.declared.code_piece.CodePiece.{CodePiece}
 use Rattle.codegen.specs.Generated.{Piece, piece_of}
 use Rattle.codegen.specs.Failures.{too_long}
@@ -34,6 +34,6 @@ pub record IsTooMuch (l : Layout) (pieces : List CodePiece) : Type 0 where
   pub over : IsProgram (image_of l (map piece_of sorted)) → ⊥
 
 -- memory has run out, or the pieces don't have each number once, or their image isn't within the limits
-abbrev pub Refuses : Layout → List CodePiece → Refusal → Type 0
-Refuses l pieces e =
+abbrev pub RefusesLinking : Layout → List CodePiece → Refusal → Type 0
+RefusesLinking l pieces e =
     (e ≡ out_of_memory) ⊎ (((e ≡ stray) × IsStray l.pieces pieces) ⊎ ((e ≡ too_long) × IsTooMuch l pieces))

@@ -7,10 +7,10 @@ use Rattle.isa.specs.declared.slot.Slot.{Slot}
 use Rattle.isa.specs.declared.slot.Slot.TheVariants.{Local, Template}
 use Rattle.isa.specs.declared.instr.Instr.{Instr}
 use Rattle.isa.specs.declared.instr.Instr.TheVariants.{GetLocal, SetLocal, Jump, JumpIfZero, Call, Fork}
-use Rattle.code.specs.declared.mark.Marked.{Marked}
-use Rattle.code.specs.Marks.{instructions}
-use Rattle.code.specs.Layout.{Layout, words_in}
-use Rattle.code.specs.Linking.{linked_code}
+use Rattle.lowering.specs.declared.mark.Marked.{Marked}
+use Rattle.lowering.specs.Marks.{instructions}
+use Rattle.lowering.specs.Layout.{Layout, words_in}
+use Rattle.lowering.specs.Linking.{linked_code}
 use Rattle.codegen.specs.declared.code_piece.CodePiece.{CodePiece}
 use Rattle.codegen.specs.Generated.{Piece, piece_of}
 

@@ -1,5 +1,5 @@
 ghost use Rattle.std.specs.Prelude.{◌≡◌, ◌+◌, ◌<◌, ◌≤◌, true, false, slice_index, MatchOption};
-ghost use Rattle.code.specs.Linking.{linked_instruction};
+ghost use Rattle.lowering.specs.Linking.{linked_instruction};
 ghost use Rattle.linker.specs.Linked.{fits};
 
 use isa::{Instr, MOST_ARGUMENTS, MOST_LOCALS, Slot};

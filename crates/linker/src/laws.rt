@@ -1,8 +1,8 @@
 ghost use Rattle.std.specs.Prelude.{◌≡◌, List, length, map, true, IsPermutation};
 ghost use Rattle.isa.specs.Programs.{Program as Image};
 ghost use Rattle.program.specs.Trees.{Program};
-ghost use Rattle.code.specs.Layout.{layout_of};
-ghost use Rattle.code.specs.Pieces.{code_of};
+ghost use Rattle.lowering.specs.Layout.{layout_of};
+ghost use Rattle.lowering.specs.Pieces.{code_of};
 ghost use Rattle.codegen.specs.declared.code_piece.CodePiece.{CodePiece};
 ghost use Rattle.codegen.specs.Generated.{piece_of, unlinked_pieces};
 ghost use Rattle.linker.specs.Failures.{IsStray};

@@ -1,7 +1,7 @@
 ghost use Rattle.std.specs.Prelude.{◌≡◌, ◌-◌, length, map, slice_index, MatchResult};
 ghost use Rattle.isa.specs.Programs.{IsProgram};
 ghost use Rattle.codegen.specs.Generated.{piece_of};
-ghost use Rattle.linker.specs.Failures.{FailsWhere, Refuses, stray};
+ghost use Rattle.linker.specs.Failures.{FailsWhere, RefusesLinking, stray};
 ghost use Rattle.linker.specs.Linked.{Links, image_of};
 
 use crate::limits::are_few;
@@ -59,7 +59,7 @@ fn link_sorted(alloc: Global, layout: &Layout, pieces: &[CodePiece]) -> Result<I
 /// within the limits.
 pub fn link(alloc: Global, layout: &Layout, pieces: Vec<CodePiece>) -> Result<Image, Refusal>
     ensures { MatchResult result (λ i. Links layout.now pieces.items i)
-        (λ e. Refuses layout.now pieces.items e) }
+        (λ e. RefusesLinking layout.now pieces.items e) }
 {
     let mut sorted = pieces;
     sorted.sort_unstable_by_key(|piece| piece.number);

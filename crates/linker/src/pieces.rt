@@ -1,17 +1,17 @@
 ghost use Rattle.std.specs.Prelude.{◌≡◌, ◌<◌, ◌≤◌, ◌+◌, ◌++◌, ℕ, true, false, map, length, slice_index, MatchResult};
 ghost use Rattle.scanner.specs.Refusals.{out_of_memory};
 ghost use Rattle.isa.specs.Limits.{most_instructions};
-ghost use Rattle.code.specs.Marks.{instructions};
-ghost use Rattle.code.specs.Linking.{linked_code};
+ghost use Rattle.lowering.specs.Marks.{instructions};
+ghost use Rattle.lowering.specs.Linking.{linked_code};
 ghost use Rattle.codegen.specs.Generated.{piece_of};
 ghost use Rattle.codegen.specs.Failures.{too_long};
 ghost use Rattle.linker.specs.Failures.{FailsWhere};
 ghost use Rattle.linker.specs.Linked.{all_fit, code_from, length_of, places_from};
 
 use crate::instruction::link_instruction;
-use code::Marked;
 use codegen::CodePiece;
 use isa::{Instr, MOST_INSTRUCTIONS};
+use lowering::Marked;
 use scanner::{Place, Refusal, RefusalKind};
 use std::alloc::Global;
 

@@ -1,10 +1,10 @@
 ghost use Rattle.std.specs.Prelude.{◌≡◌, ◌<◌, ◌≤◌, ◌+◌, ◌^◌, ◌++◌, OnOk, length};
 ghost use Rattle.isa.specs.Limits.{most_instructions};
-ghost use Rattle.code.specs.Marks.{rebase_all};
-ghost use Rattle.code.specs.Locks as locks;
+ghost use Rattle.lowering.specs.Marks.{rebase_all};
+ghost use Rattle.lowering.specs.Locks as locks;
 
-use code::{Mark, Marked, append, append_plain};
 use isa::{Instr, Operator, Slot};
+use lowering::{Mark, Marked, append, append_plain};
 use std::alloc::AllocError;
 use words::{Fault, OWNER_DIED, ProcessWord, TID_MASK, WAITERS};
 

@@ -7,3 +7,4 @@ pub mod Statements
 pub mod Offers
 pub mod States
 pub mod Runs
+pub mod Dying

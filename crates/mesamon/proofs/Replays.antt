@@ -16,7 +16,7 @@ use Rattle.machine.specs.Runs.{Step}
 use Rattle.machine.specs.States.{state_of}
 use Rattle.machine.specs.Views.{concrete}
 use Rattle.machine.proofs.Refusing.{breaks_so}
-use Rattle.code.specs.Pieces.{code_of}
+use Rattle.lowering.specs.Pieces.{code_of}
 use Rattle.refinement.specs.Refines.{Refines}
 use Rattle.runner.specs.Logs.{cost, event_cost}
 use Rattle.runner.specs.LogRuns.{local_step_of, shared_step_of, steps_of}
@@ -25,7 +25,7 @@ use Rattle.runner.specs.declared.report.Report.{Report}
 use Rattle.runner.specs.declared.schedule.ScheduleFault.TheVariants.{Broken}
 use Rattle.runner.proofs.Unrolling.{holds, runs_so}
 use Rattle.compiler.specs.Compiles.{IsCompiled}
-use Rattle.mesamon.specs.Replaying.{IsReplayOf}
+use Rattle.mesamon.specs.Replaying.{IsReplayOfText}
 
 -- entries of one step cost as many steps as there are
 ones_cost : (log : List Entry) → All IsOneStep log → cost log ≡ length log
@@ -63,7 +63,7 @@ same_threads run steps same =
     ∙ map-map (λ (l : Label). l.thread) event_label steps
 
 pub replay_explained : (text : List ℕ) (image : Program) (schedule : List ℕ) (r : Report) → IsCompiled text image
-    → IsFollowed image schedule r → IsReplayOf text schedule r
+    → IsFollowed image schedule r → IsReplayOfText text schedule r
 replay_explained text image schedule r c f =
     let followed : IsFollowed (code_of c.program) schedule r = subst (λ (p : Program). IsFollowed p schedule r) c.code
     f in

@@ -5,7 +5,7 @@ use Rattle.machine.specs.declared.event.Entry.{Entry}
 use Rattle.machine.specs.States.{state_of}
 use Rattle.machine.specs.Views.{concrete}
 use Rattle.program.specs.Trees.{Program as ProgramOf}
-use Rattle.code.specs.Pieces.{code_of}
+use Rattle.lowering.specs.Pieces.{code_of}
 use Rattle.meaning.specs.Labels.{Action}
 use Rattle.refinement.specs.Refines.{Refines}
 use Rattle.runner.specs.declared.fault.RunFault.{RunFault}
@@ -13,12 +13,12 @@ use Rattle.runner.specs.declared.fault.RunFault.TheVariants.{Broken, Memory, Str
 use Rattle.runner.specs.declared.report.Report.{Report}
 use Rattle.runner.specs.LogRuns.{RunsSo, LocallySo}
 use Rattle.runner.specs.Reports.{IsReport, CanFail, MeetsBroken}
-use Rattle.explaining.specs.Explains.{IsExplained}
+use Rattle.simulation.specs.ExplainedLog.{IsExplainedLog}
 use Rattle.compiler.specs.Compiles.{IsCompiled}
-use Rattle.mesamon.specs.Running.{IsFailedRun, IsRunOf}
+use Rattle.mesamon.specs.Running.{IsFailedRun, IsRunOfText}
 
 pub run_explained : RunsSo → (text : List ℕ) (image : Program) (limit : ℕ) (r : Report) → IsCompiled text image
-    → limit < 2 ^ 32 → IsReport image limit r → IsRunOf text limit r
+    → limit < 2 ^ 32 → IsReport image limit r → IsRunOfText text limit r
 run_explained runs text image limit r c below report =
     let reported : IsReport (code_of c.program) limit r = subst (λ (p : Program). IsReport p limit r) c.code report in
     let refines : Refines c.program (code_of c.program) = subst (λ (p : Program). Refines c.program p) c.code
@@ -63,7 +63,7 @@ run_sound runs locally text image limit Limit c fails below e = absurd cc
 
 -- what is explained by the image of a program is explained by its code
 pub of_code : (p : ProgramOf) (image : Program) (log entries : List Entry) (actions : List Action) → image ≡ code_of p
-    → log ≡ entries → IsExplained p image log actions → IsExplained p (code_of p) entries actions
+    → log ≡ entries → IsExplainedLog p image log actions → IsExplainedLog p (code_of p) entries actions
 of_code p image log entries actions own same h =
-    subst (λ (es : List Entry). IsExplained p (code_of p) es actions) same
-    (subst (λ (i : Program). IsExplained p i log actions) own h)
+    subst (λ (es : List Entry). IsExplainedLog p (code_of p) es actions) same
+    (subst (λ (i : Program). IsExplainedLog p i log actions) own h)

@@ -3,28 +3,28 @@ use Rattle.std.specs.Prelude.{codes, ◌≡◌, ◌⊎◌, ℕ, Bool, List, [], 
 use Rattle.std.specs.List.{flat_map}
 use Rattle.isa.specs.Programs.{Program}
 use Rattle.isa.specs.Spelling.{IsSpelled, spelling}
-use Rattle.listing.specs.Lines.{lines}
+use Rattle.isa.specs.Lines.{lines}
 use Rattle.runner.specs.declared.report.Verdict.{Verdict}
 use Rattle.runner.specs.declared.report.Verdict.TheVariants as verdict
 use Rattle.runner.specs.declared.report.Report.{Report}
 use Rattle.mesamon.specs.declared.status.Status.{Status}
 use Rattle.mesamon.specs.declared.status.Status.TheVariants.{Done, Stuck, Limit}
 use Rattle.program.specs.Trees.{Program as ProgramOf}
-use Rattle.sourcestates.specs.Actions.{action_of}
+use Rattle.source_states.specs.Actions.{action_of}
 use Rattle.actionlines.specs.Lines.{line}
-use Rattle.compiler.specs.Accepts.{Accepts}
+use Rattle.compiler.specs.Accepts.{AcceptsText}
 use Rattle.compiler.specs.Compiles.{IsCompiled}
 use Rattle.mesamon.specs.declared.explained_run.ExplainedRun.{ExplainedRun}
-use Rattle.mesamon.specs.Running.{IsRunOf}
-use Rattle.mesamon.specs.Explaining.{IsExplainedRun}
-use Rattle.mesamon.specs.Replaying.{IsReplayOf}
+use Rattle.mesamon.specs.Running.{IsRunOfText}
+use Rattle.mesamon.specs.Explaining.{IsExplanationOfText}
+use Rattle.mesamon.specs.Replaying.{IsReplayOfText}
 use Rattle.mesamon.specs.Accounts.{account, image_line, output_lines}
 
 -- some text was checked, and it was told that it is a program
 pub record HasChecked (Wrote : List ℕ → Type 0) : Type 0 where
   pub text : List ℕ
   pub program : ProgramOf
-  pub accepts : Accepts text program
+  pub accepts : AcceptsText text program
   pub wrote : Wrote (codes "ok\n")
 
 -- some text was compiled, and the line of its image was written
@@ -51,7 +51,7 @@ status_of_verdict verdict.Limit = Limit
 -- a report of a run of the text within some limit of steps, or by some schedule
 abbrev pub IsReportOf : List ℕ → Report → Type 0
 IsReportOf text report =
-    ((limit : ℕ) × IsRunOf text limit report) ⊎ ((schedule : List ℕ) × IsReplayOf text schedule report)
+    ((limit : ℕ) × IsRunOfText text limit report) ⊎ ((schedule : List ℕ) × IsReplayOfText text schedule report)
 
 -- some text was run, and its output and its account were written
 pub record HasRun (Wrote WroteErrors : List ℕ → Type 0) (status : Status) : Type 0 where
@@ -72,7 +72,7 @@ pub record HasExplained (Wrote : List ℕ → Type 0) (status : Status) : Type 0
   pub text : List ℕ
   pub limit : ℕ
   pub explained_run : ExplainedRun
-  pub explained : IsExplainedRun text limit explained_run
+  pub explained : IsExplanationOfText text limit explained_run
   pub ended : status ≡ status_of_verdict explained_run.report.verdict
   pub wrote : Wrote (explained_lines explained_run)
 

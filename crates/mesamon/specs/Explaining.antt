@@ -3,26 +3,26 @@ use Rattle.std.specs.Prelude.{◌≡◌, ◌⊎◌, ℕ, List, map}
 use Rattle.isa.specs.Programs.{Program as Image}
 use Rattle.scanner.specs.Refusals.{out_of_memory}
 use Rattle.program.specs.Names.{said_by}
-use Rattle.code.specs.Pieces.{code_of}
-use Rattle.sourcestates.specs.Actions.{action_of}
-use Rattle.explaining.specs.Explains.{IsExplained}
-use Rattle.compiler.specs.Accepts.{Accepts, Refuses}
+use Rattle.lowering.specs.Pieces.{code_of}
+use Rattle.source_states.specs.Actions.{action_of}
+use Rattle.simulation.specs.ExplainedLog.{IsExplainedLog}
+use Rattle.compiler.specs.Accepts.{AcceptsText, RefusesText}
 use Rattle.compiler.specs.Compiles.{IsCompiled}
-use Rattle.mesamon.specs.Running.{IsRunOf}
+use Rattle.mesamon.specs.Running.{IsRunOfText}
 use Rattle.mesamon.specs.declared.explained_run.ExplainedRun.{ExplainedRun}
 use Rattle.mesamon.specs.declared.explained_run.ExplainSourceFault.{ExplainSourceFault}
 use Rattle.mesamon.specs.declared.explained_run.ExplainSourceFault.TheVariants.{Refused, Memory}
 
 -- a run of the text's program within the limit, and the actions that the log of its code is
-pub record IsExplainedRun (text : List ℕ) (limit : ℕ) (r : ExplainedRun) : Type 0 where
-  pub accepts : Accepts text (said_by r.checked)
-  pub run : IsRunOf text limit r.report
-  pub explained : IsExplained (said_by r.checked) (code_of (said_by r.checked)) r.report.log.items
+pub record IsExplanationOfText (text : List ℕ) (limit : ℕ) (r : ExplainedRun) : Type 0 where
+  pub accepts : AcceptsText text (said_by r.checked)
+  pub run : IsRunOfText text limit r.report
+  pub explained : IsExplainedLog (said_by r.checked) (code_of (said_by r.checked)) r.report.log.items
       (map action_of r.actions.items)
 
 -- the text's refusal, or want of memory
 abbrev pub IsRefusedExplanation : List ℕ → ExplainSourceFault → Type 0
-IsRefusedExplanation text (Refused e) = (e ≡ out_of_memory) ⊎ Refuses text e
+IsRefusedExplanation text (Refused e) = (e ≡ out_of_memory) ⊎ RefusesText text e
 IsRefusedExplanation text Memory = Unit {0}
 
 -- want of memory

@@ -4,21 +4,21 @@ use Rattle.machine.specs.Runs.{MachineRun, Step}
 use Rattle.machine.specs.States.{state_of}
 use Rattle.machine.specs.Views.{concrete}
 use Rattle.program.specs.Trees.{Program}
-use Rattle.code.specs.Pieces.{code_of}
+use Rattle.lowering.specs.Pieces.{code_of}
 use Rattle.refinement.specs.Refines.{Explained}
 use Rattle.runner.specs.declared.report.Report.{Report}
 use Rattle.runner.specs.declared.schedule.ScheduleFault.TheVariants as follow
 use Rattle.runner.specs.Schedules.{FailsAt, IsFollowed}
 use Rattle.mesamon.specs.declared.replaying.ReplayFault.{ReplayFault}
 use Rattle.mesamon.specs.declared.replaying.ReplayFault.TheVariants.{Refused, BadEntry, Memory}
-use Rattle.compiler.specs.Accepts.{Accepts, Refuses}
+use Rattle.compiler.specs.Accepts.{AcceptsText, RefusesText}
 use Rattle.scanner.specs.Refusals.{out_of_memory}
 
 -- a report of the code of the text's program by a schedule: a run of the machine that has one step of each thread
 -- named, in that order, which a run of the program explains
-pub record IsReplayOf (text schedule : List ℕ) (report : Report) : Type 0 where
+pub record IsReplayOfText (text schedule : List ℕ) (report : Report) : Type 0 where
   pub program : Program
-  pub accepts : Accepts text program
+  pub accepts : AcceptsText text program
   pub followed : IsFollowed (code_of program) schedule report
   pub steps : List Step
   pub threads : map (λ s. s.thread) steps ≡ schedule
@@ -28,12 +28,12 @@ pub record IsReplayOf (text schedule : List ℕ) (report : Report) : Type 0 wher
 -- the entry of this number is the first that the code of the text's program refuses
 pub record IsBadEntry (text schedule : List ℕ) (number : ℕ) : Type 0 where
   pub program : Program
-  pub accepts : Accepts text program
+  pub accepts : AcceptsText text program
   pub fails : FailsAt (code_of program) schedule (follow.BadEntry number)
 
 -- the text's refusal, or the schedule's bad entry, or want of memory
 abbrev pub IsRefusedReplay : List ℕ → List ℕ → ReplayFault → Type 0
-IsRefusedReplay text schedule (Refused e) = (e ≡ out_of_memory) ⊎ Refuses text e
+IsRefusedReplay text schedule (Refused e) = (e ≡ out_of_memory) ⊎ RefusesText text e
 IsRefusedReplay text schedule (BadEntry number) = IsBadEntry text schedule number
 IsRefusedReplay text schedule Memory = Unit {0}
 

@@ -4,20 +4,20 @@ use Rattle.machine.specs.Runs.{MachineRun, Step}
 use Rattle.machine.specs.States.{state_of}
 use Rattle.machine.specs.Views.{concrete}
 use Rattle.program.specs.Trees.{Program}
-use Rattle.code.specs.Pieces.{code_of}
+use Rattle.lowering.specs.Pieces.{code_of}
 use Rattle.refinement.specs.Refines.{Explained}
 use Rattle.runner.specs.declared.fault.RunFault.{RunFault}
 use Rattle.runner.specs.declared.report.Report.{Report}
 use Rattle.runner.specs.Reports.{IsReport, CanFail}
 use Rattle.mesamon.specs.declared.source_run.RunSourceFault.{RunSourceFault}
 use Rattle.mesamon.specs.declared.source_run.RunSourceFault.TheVariants.{Refused, Run}
-use Rattle.compiler.specs.Accepts.{Accepts, Refuses}
+use Rattle.compiler.specs.Accepts.{AcceptsText, RefusesText}
 use Rattle.scanner.specs.Refusals.{out_of_memory}
 
 -- a report of a run of the code of the text's program: a run of the machine, which a run of the program explains
-pub record IsRunOf (text : List ℕ) (limit : ℕ) (report : Report) : Type 0 where
+pub record IsRunOfText (text : List ℕ) (limit : ℕ) (report : Report) : Type 0 where
   pub program : Program
-  pub accepts : Accepts text program
+  pub accepts : AcceptsText text program
   pub is_report : IsReport (code_of program) limit report
   pub steps : List Step
   pub machine_run : MachineRun (code_of program) steps (state_of (concrete report.last))
@@ -26,12 +26,12 @@ pub record IsRunOf (text : List ℕ) (limit : ℕ) (report : Report) : Type 0 wh
 -- the run of that code can fail so
 pub record IsFailedRun (text : List ℕ) (limit : ℕ) (fault : RunFault) : Type 0 where
   pub program : Program
-  pub accepts : Accepts text program
+  pub accepts : AcceptsText text program
   pub fails : CanFail (code_of program) limit fault
 
 -- the text's refusal, or want of memory, or a fault of the run
 abbrev pub IsRefusedRun : List ℕ → ℕ → RunSourceFault → Type 0
-IsRefusedRun text limit (Refused e) = (e ≡ out_of_memory) ⊎ Refuses text e
+IsRefusedRun text limit (Refused e) = (e ≡ out_of_memory) ⊎ RefusesText text e
 IsRefusedRun text limit (Run fault) = IsFailedRun text limit fault
 
 -- no refusal but for want of memory

@@ -3,7 +3,7 @@ ghost use Rattle.std.specs.Io.KnownBytes.{Appends};
 ghost use Rattle.mesamon.specs.Accounts.{output_lines, account};
 ghost use Rattle.mesamon.specs.Commands.{HasChecked, HasCompiled, HasDone, HasEnded, HasExplained, HasListed, HasRun};
 ghost use Rattle.mesamon.specs.Commands.{status_of_verdict};
-ghost use Rattle.mesamon.specs.Running.{IsRunOf};
+ghost use Rattle.mesamon.specs.Running.{IsRunOfText};
 
 use crate::explained_run::{ExplainedRun, explain_source};
 use crate::failure::Failure;
@@ -17,8 +17,7 @@ use actionlines::action_lines;
 use chart::chart;
 use commandline::{Job, read_job};
 use compiler::{check_text, compile};
-use isa::{decode, encode};
-use listing::list_lines;
+use isa::{decode, encode, list_lines};
 use runner::{Report, Verdict};
 use scanner::MOST_BYTES;
 use std::io;
@@ -176,7 +175,7 @@ fn run_text<R: AllocGlobal + Threads + Wait + Sync>(
     steps: u32,
     trace: bool,
 ) -> Result<Report, RunSourceFault>
-    ensures { IfOk result (λ report. IsRunOf text.now steps report) }
+    ensures { IfOk result (λ report. IsRunOfText text.now steps report) }
 {
     if trace {
         run_in_order(rt.alloc(), text, steps, &OpenGate)

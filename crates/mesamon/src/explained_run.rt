@@ -2,25 +2,25 @@ ghost use Rattle.std.specs.Prelude.{◌≡◌, ◌<◌, ◌^◌, IfOk, IfErr, Li
 ghost use Rattle.machine.specs.States.{ConcreteState};
 ghost use Rattle.program.specs.Names.{said_by};
 ghost use Rattle.program.specs.Trees.{Program};
-ghost use Rattle.code.specs.Pieces.{code_of};
-ghost use Rattle.sourcestates.specs.Actions.{action_of};
+ghost use Rattle.lowering.specs.Pieces.{code_of};
+ghost use Rattle.source_states.specs.Actions.{action_of};
 ghost use Rattle.runner.specs.Logs.{cost};
 ghost use Rattle.runner.specs.Reports.{IsReport};
-ghost use Rattle.explaining.specs.Explains.{IsExplained, LeadsTo};
-ghost use Rattle.backend.specs.Refusals.{Fits};
-ghost use Rattle.compiler.specs.Accepts.{Accepts};
+ghost use Rattle.simulation.specs.ExplainedLog.{IsExplainedLog, LeadsTo};
+ghost use Rattle.backend.specs.Refusals.{CodeFits};
+ghost use Rattle.compiler.specs.Accepts.{AcceptsText};
 ghost use Rattle.compiler.specs.Compiles.{IsCompiled};
-ghost use Rattle.mesamon.specs.Explaining.{IsExplainedRun, IsRefusedExplanation, IsWantOfMemory};
+ghost use Rattle.mesamon.specs.Explaining.{IsExplanationOfText, IsRefusedExplanation, IsWantOfMemory};
 ghost use Rattle.mesamon.specs.declared.explained_run.ExplainSourceFault.TheVariants.{Refused, Memory};
 
 use compiler::compile_checked;
-use explaining::{ExplainFault, explain};
 use isa::Image;
 use machine::Entry;
 use program::Checked;
 use runner::{Report, RunFault, logs_are_machine_runs};
 use scanner::Refusal;
-use sourcestates::Action;
+use simulation::{ExplainFault, explain};
+use source_states::Action;
 use std::alloc::Global;
 use thiserror::Error;
 use words::OpenGate;
@@ -80,7 +80,7 @@ fn explain_log(
     requires legal { (k : ConcreteState) × LeadsTo image.now log.now k }
     requires few { cost log.now < 2 ^ 32 }
     ensures { MatchResult result
-        (λ actions. IsExplained (said_by checked.now) image.now log.now (map action_of actions.items))
+        (λ actions. IsExplainedLog (said_by checked.now) image.now log.now (map action_of actions.items))
         (λ fault. fault ≡ Memory) }
 {
     match explain(alloc, checked, image, log) {
@@ -102,9 +102,9 @@ pub fn explain_source<'a>(
     text: &'a [u8],
     limit: u32,
 ) -> Result<ExplainedRun<'a>, ExplainSourceFault>
-    ensures explained { IfOk result (λ run. IsExplainedRun text.now limit run) }
+    ensures explained { IfOk result (λ run. IsExplanationOfText text.now limit run) }
     ensures fault { IfErr result (λ fault. IsRefusedExplanation text.now fault) }
-    ensures only { (p : Program) → Accepts text.now p → Fits p → IfErr result (λ fault. IsWantOfMemory fault) }
+    ensures only { (p : Program) → AcceptsText text.now p → CodeFits p → IfErr result (λ fault. IsWantOfMemory fault) }
 {
     logs_are_machine_runs();
     let (checked, image) = compile_checked(alloc, text)?;

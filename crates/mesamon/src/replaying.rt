@@ -1,8 +1,8 @@
 ghost use Rattle.std.specs.Prelude.{◌≡◌, IfOk, IfErr};
 ghost use Rattle.program.specs.Trees.{Program};
-ghost use Rattle.backend.specs.Refusals.{Fits};
-ghost use Rattle.compiler.specs.Accepts.{Accepts};
-ghost use Rattle.mesamon.specs.Replaying.{IsReplayOf, IsRefusedReplay, IsNoRefusal};
+ghost use Rattle.backend.specs.Refusals.{CodeFits};
+ghost use Rattle.compiler.specs.Accepts.{AcceptsText};
+ghost use Rattle.mesamon.specs.Replaying.{IsReplayOfText, IsRefusedReplay, IsNoRefusal};
 ghost use Rattle.mesamon.specs.declared.replaying.ReplayFault.TheVariants.{Refused};
 
 use compiler::compile;
@@ -41,9 +41,9 @@ impl From<Refusal> for ReplayFault {
 /// still move. A text that `compile` refuses has the same refusal; else the first entry whose thread can't move is
 /// refused. No step of a program's code may not be, so there is no other fault but want of memory.
 pub fn replay(alloc: Global, text: &[u8], schedule: &[u32]) -> Result<Report, ReplayFault>
-    ensures report { IfOk result (λ report. IsReplayOf text.now schedule.now report) }
+    ensures report { IfOk result (λ report. IsReplayOfText text.now schedule.now report) }
     ensures fault { IfErr result (λ fault. IsRefusedReplay text.now schedule.now fault) }
-    ensures only { (p : Program) → Accepts text.now p → Fits p → IfErr result (λ fault. IsNoRefusal fault) }
+    ensures only { (p : Program) → AcceptsText text.now p → CodeFits p → IfErr result (λ fault. IsNoRefusal fault) }
 {
     let image = compile(alloc, text)?;
     match follow(alloc, &image, schedule) {

@@ -1,9 +1,9 @@
 ghost use Rattle.std.specs.Prelude.{◌≡◌, ◌≢◌, IfOk, IfErr};
 ghost use Rattle.runner.specs.declared.fault.RunFault.TheVariants.{Broken};
 ghost use Rattle.program.specs.Trees.{Program};
-ghost use Rattle.backend.specs.Refusals.{Fits};
-ghost use Rattle.compiler.specs.Accepts.{Accepts};
-ghost use Rattle.mesamon.specs.Running.{IsRunOf, IsRefusedRun, IsMemory};
+ghost use Rattle.backend.specs.Refusals.{CodeFits};
+ghost use Rattle.compiler.specs.Accepts.{AcceptsText};
+ghost use Rattle.mesamon.specs.Running.{IsRunOfText, IsRefusedRun, IsMemory};
 ghost use Rattle.mesamon.specs.declared.source_run.RunSourceFault.TheVariants.{Refused, Run};
 
 use compiler::compile;
@@ -57,10 +57,10 @@ pub fn run_source<R: Threads + Wait + Sync, G: Gate>(
     limit: u32,
     gate: &G,
 ) -> Result<Report, RunSourceFault>
-    ensures report { IfOk result (λ report. IsRunOf text.now limit report) }
+    ensures report { IfOk result (λ report. IsRunOfText text.now limit report) }
     ensures fault { IfErr result (λ fault. IsRefusedRun text.now limit fault) }
     ensures sound { IfErr result (λ fault. fault ≢ Run Broken) }
-    ensures only { (p : Program) → Accepts text.now p → Fits p → IfErr result (λ fault. IsMemory fault) }
+    ensures only { (p : Program) → AcceptsText text.now p → CodeFits p → IfErr result (λ fault. IsMemory fault) }
 {
     logs_are_machine_runs();
     let image = compile(alloc, text)?;
@@ -75,10 +75,10 @@ pub fn run_in_order<G: Gate>(
     limit: u32,
     gate: &G,
 ) -> Result<Report, RunSourceFault>
-    ensures report { IfOk result (λ report. IsRunOf text.now limit report) }
+    ensures report { IfOk result (λ report. IsRunOfText text.now limit report) }
     ensures fault { IfErr result (λ fault. IsRefusedRun text.now limit fault) }
     ensures sound { IfErr result (λ fault. fault ≢ Run Broken) }
-    ensures only { (p : Program) → Accepts text.now p → Fits p → IfErr result (λ fault. IsMemory fault) }
+    ensures only { (p : Program) → AcceptsText text.now p → CodeFits p → IfErr result (λ fault. IsMemory fault) }
 {
     logs_are_machine_runs();
     let image = compile(alloc, text)?;

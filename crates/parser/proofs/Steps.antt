@@ -10,8 +10,8 @@ use Rattle.grammar.specs.Machine.{behind_expression, callee_in, behind_callee, n
 use Rattle.grammar.specs.Reading.{Passes, Fails, Leads}
 use Rattle.grammar.proofs.Joins.{here, push, reject, close, done, then1, fail1, then5, fail5, then6, fail6, then7}
 use Rattle.grammar.proofs.Joins.{fail7}
-use Rattle.steps.specs.Taking.{Takes, Rejects}
-use Rattle.expressions.specs.Levels.{expression_trees, enclosed_trees, callee_trees}
+use Rattle.token_cursor.specs.Taking.{Takes, Rejects}
+use Rattle.expression_parser.specs.Levels.{expression_trees, enclosed_trees, callee_trees}
 use Rattle.parser.specs.Steps.{condition_trees}
 
 none : (d : ℕ) → d ≤ 64 → 0 + d ≤ 64

@@ -14,7 +14,7 @@ use Rattle.syntax.specs.View.{local_of, member_of, parameter_of, statement_of, p
 use Rattle.syntax.specs.View.{monitor_of}
 use Rattle.grammar.specs.Machine.{Symbol, Tree, Trees, Item, AWord, Statements, body, expression, procedure}
 use Rattle.grammar.specs.Reading.{Passes, Leads}
-use Rattle.expressions.specs.Levels.{expression_trees}
+use Rattle.expression_parser.specs.Levels.{expression_trees}
 
 -- one more element was read, or none begins and the symbol is over
 abbrev pub ReadsNext : {X : Type 0} → ℕ → (s : Symbol) → (X → Tree s → Tree s) → Tree s → Option X → List Item

@@ -7,13 +7,13 @@ ghost use Rattle.syntax.specs.Limits.{most_nestings};
 ghost use Rattle.syntax.specs.View.{expression_of};
 ghost use Rattle.grammar.specs.Machine.{AWord, expression as an_expression};
 ghost use Rattle.grammar.specs.Reading.{Passes, Fails};
-ghost use Rattle.steps.specs.Ahead.{ahead};
+ghost use Rattle.token_cursor.specs.Ahead.{ahead};
 ghost use Rattle.parser.specs.Steps.{condition_trees};
 
-use expressions::expression;
+use expression_parser::expression;
 use scanner::{Keyword, Refusal};
-use steps::Parser;
 use syntax::Expression;
+use token_cursor::Parser;
 
 /// A condition, and the keyword that ends it.
 pub fn condition<'a>(

@@ -6,13 +6,13 @@ ghost use Rattle.grammar.specs.Machine.{AMark, AName, ALocalType, AMemberType, A
 ghost use Rattle.grammar.specs.Machine.{Locals, Members, Parameters, MoreParameters};
 ghost use Rattle.grammar.specs.Reading.{Passes, Fails};
 ghost use Rattle.scanner.specs.declared.token.Sign.TheVariants.{Colon};
-ghost use Rattle.steps.specs.Ahead.{ahead};
+ghost use Rattle.token_cursor.specs.Ahead.{ahead};
 ghost use Rattle.parser.specs.Steps.{ReadsNext, add_local, add_member, add_parameter};
 
 use crate::kinds::{local_type_of, plain_type_of, result_type_of};
 use scanner::{Keyword, Kind, Refusal, RefusalKind, Sign};
-use steps::Parser;
 use syntax::{Local, LocalType, Member, MemberType, Parameter, ResultType};
+use token_cursor::Parser;
 
 /// The type of a local variable.
 pub fn local_type(parser: &mut Parser<'_, '_>) -> Result<LocalType, Refusal>

@@ -4,14 +4,14 @@ ghost use Rattle.std.specs.Prelude.{◌≤◌, ◌<◌, length, map, [], ◌∷�
 ghost use Rattle.syntax.specs.View.{recover_of, monitor_of};
 ghost use Rattle.grammar.specs.Machine.{ARecover, Monitors};
 ghost use Rattle.grammar.specs.Reading.{Passes, Fails};
-ghost use Rattle.steps.specs.Ahead.{ahead};
+ghost use Rattle.token_cursor.specs.Ahead.{ahead};
 ghost use Rattle.parser.specs.Steps.{ReadsNext, add_monitor};
 
 use crate::declaration::members;
 use crate::procedure::{body, monitor_procedures};
 use scanner::{Keyword, Refusal, Sign};
-use steps::{Parser, refused};
 use syntax::{Monitor, Recover};
+use token_cursor::{Parser, refused};
 
 // The recover part, if there is one.
 fn recover<'a>(parser: &mut Parser<'_, 'a>) -> Result<Option<Recover<'a>>, Refusal>

@@ -4,15 +4,15 @@ ghost use Rattle.std.specs.Prelude.{◌≡◌, ◌≤◌, ◌<◌, length, map, 
 ghost use Rattle.syntax.specs.View.{body_of, procedure_of, monitor_procedure_of};
 ghost use Rattle.grammar.specs.Machine.{body as a_body, procedure as a_procedure, Procedures, MonitorProcedures};
 ghost use Rattle.grammar.specs.Reading.{Passes, Fails};
-ghost use Rattle.steps.specs.Ahead.{ahead};
+ghost use Rattle.token_cursor.specs.Ahead.{ahead};
 ghost use Rattle.parser.specs.Steps.{ReadsNext, add_procedure, add_monitor_procedure, body_trees, procedure_trees};
 
 use crate::declaration::{locals, parameters, returns};
 use crate::kinds::access_of;
 use crate::statement::statements;
 use scanner::{Keyword, Place, Refusal, Sign};
-use steps::{Parser, refused};
 use syntax::{Body, MonitorProcedure, Procedure};
+use token_cursor::{Parser, refused};
 
 /// Local variables, statements, and END.
 pub fn body<'a>(parser: &mut Parser<'_, 'a>) -> Result<Body<'a>, Refusal>

@@ -9,13 +9,13 @@ ghost use Rattle.syntax.specs.Limits.{most_nestings};
 ghost use Rattle.syntax.specs.View.{name_of, option_name};
 ghost use Rattle.grammar.specs.Machine.{AWord, AMark, AnInto, Statements, Closed};
 ghost use Rattle.grammar.specs.Reading.{lexeme_at, Passes, Fails};
-ghost use Rattle.steps.specs.Ahead.{ahead};
+ghost use Rattle.token_cursor.specs.Ahead.{ahead};
 ghost use Rattle.parser.specs.Steps.{ReadsStatement};
 
-use expressions::{callee, expression_before, value, variable};
+use expression_parser::{callee, expression_before, value, variable};
 use scanner::{Keyword, Place, Refusal, Sign};
-use steps::{Parser, refused};
 use syntax::{Name, Statement};
+use token_cursor::{Parser, refused};
 
 /// The name behind INTO, if there is one.
 pub fn into_name<'a>(parser: &mut Parser<'_, 'a>, depth: u8) -> Result<Option<Name<'a>>, Refusal>

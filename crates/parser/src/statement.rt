@@ -9,7 +9,7 @@ ghost use Rattle.syntax.specs.Tree.{NoStatements};
 ghost use Rattle.syntax.specs.View.{option_name, statements_in, part_in};
 ghost use Rattle.grammar.specs.Machine.{AWord, AMark, AnInto, AnElse, AnAborted, Statements, Closed};
 ghost use Rattle.grammar.specs.Reading.{lexeme_at, Passes, Fails};
-ghost use Rattle.steps.specs.Ahead.{ahead};
+ghost use Rattle.token_cursor.specs.Ahead.{ahead};
 ghost use Rattle.parser.specs.Starts.{start_lexeme};
 ghost use Rattle.parser.specs.Steps.{ReadsNext, ReadsStatement, add_statement};
 
@@ -19,10 +19,10 @@ use crate::simple::{
     wait,
 };
 use crate::start::{StatementStart, start_of};
-use expressions::expression;
+use expression_parser::expression;
 use scanner::{Keyword, Kind, Place, Refusal, Sign};
-use steps::{Parser, refused};
 use syntax::{Name, Statement};
+use token_cursor::{Parser, refused};
 
 /// Statements, as many as there are.
 #[cycle(statements)]

@@ -17,15 +17,15 @@ ghost use Rattle.grammar.specs.Accepts.{IsRefusalOf};
 ghost use Rattle.grammar.specs.Machine.{AWord, AMark, AName, AWordAt, body as a_body, unit as a_unit};
 ghost use Rattle.grammar.specs.Machine.{reads, unit_trees, Read, Refused};
 ghost use Rattle.grammar.specs.Reading.{Passes, Fails};
-ghost use Rattle.steps.specs.Ahead.{ahead};
+ghost use Rattle.token_cursor.specs.Ahead.{ahead};
 ghost use Rattle.parser.specs.Steps.{body_trees};
 
 use crate::monitor::monitors;
 use crate::procedure::{body, procedures};
 use scanner::{Keyword, Refusal, RefusalKind, Sign, Token};
 use std::alloc::Global;
-use steps::{Parser, refused};
 use syntax::{Main, Name, Unit};
+use token_cursor::{Parser, refused};
 
 // PROGRAM, and the program's name.
 fn heading<'a>(parser: &mut Parser<'_, 'a>) -> Result<Name<'a>, Refusal>

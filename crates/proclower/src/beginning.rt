@@ -1,8 +1,8 @@
 ghost use Rattle.std.specs.Prelude.{◌≡◌, ◌++◌, OnOk};
-ghost use Rattle.code.specs.Pieces as pieces;
+ghost use Rattle.lowering.specs.Pieces as pieces;
 
-use code::{Mark, Marked, append};
 use isa::{Instr, Slot};
+use lowering::{Mark, Marked, append};
 use std::alloc::AllocError;
 
 /// The parameters of a procedure go from the operands into its first locals.

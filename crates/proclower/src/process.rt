@@ -1,10 +1,10 @@
 ghost use Rattle.std.specs.Prelude.{◌≡◌, ◌<◌, ◌≤◌, ◌+◌, ◌^◌, [], ◌∷◌, ◌++◌, OnOk, length};
 ghost use Rattle.isa.specs.declared.instr.Instr.TheVariants.{Raise as RaiseOf};
-ghost use Rattle.code.specs.Marks.{plain, rebase_all};
-ghost use Rattle.code.specs.Processes as processes;
+ghost use Rattle.lowering.specs.Marks.{plain, rebase_all};
+ghost use Rattle.lowering.specs.Processes as processes;
 
-use code::{Mark, Marked, append, append_plain};
 use isa::{Instr, Operator, Slot};
+use lowering::{Mark, Marked, append, append_plain};
 use program::{Role, ValueType};
 use std::alloc::AllocError;
 use words::{ENDED, Fault, ProcessWord};

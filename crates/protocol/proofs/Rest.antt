@@ -11,7 +11,7 @@ use Rattle.protocol.specs.Points.{JoinReads, JoinSleeps, LeaveWakes, Dies, Walks
 use Rattle.protocol.specs.Points.{taking_entry, entry_word}
 use Rattle.protocol.specs.World.{World, mem, opening_world}
 use Rattle.protocol.specs.Moves.{Move}
-use Rattle.protocol.specs.Finds.{Tells}
+use Rattle.protocol.specs.Finds.{CarriesFinding}
 use Rattle.protocol.specs.Steps.{after}
 use Rattle.protocol.specs.Carries.{Event, PermitsMove, event_of, table_after}
 use Rattle.std.specs.Prelude.{length}
@@ -30,7 +30,7 @@ use Rattle.protocol.proofs.Processes.{EndsAt}
 use Rattle.meaning.specs.Table.{enterable}
 use Rattle.protocol.specs.Carries.{with_event}
 use Rattle.protocol.specs.Runs.{Leads, events, last_table, PermitsAll, Matches, IsNext, CannotAct, Goes, IsOutside}
-use Rattle.protocol.specs.Runs.{LosesNoWake, IsExplained}
+use Rattle.protocol.specs.Runs.{LosesNoWake, IsExplainedByMoves}
 use Rattle.protocol.proofs.Joins.{point_goes}
 use Rattle.protocol.proofs.KeptConds.{waiter_made}
 use Rattle.protocol.proofs.Kept.{kept, permitted, good_start}
@@ -72,7 +72,7 @@ of_has : (x : ℕ) (l : List ℕ) (y : Entry) → (mem x l ≡ true) ⊎ (y ≡ 
 of_has x l y (inl h) = or_left (mem x l) (own y x) h
 of_has x l y (inr h) = or_right (mem x l) (own y x) (ap (λ z. own z x) h ∙ eq-eqb x x refl)
 
-over_tells : (p : Point) (e : End) (o r : ℕ) → IsOver p e → EndsAt p o r → Tells e o r
+over_tells : (p : Point) (e : End) (o r : ℕ) → IsOver p e → EndsAt p o r → CarriesFinding e o r
 over_tells (LastWakes end) e o r h k = rw h k
 over_tells (HasEnded end) e o r h k = rw h k
 over_tells p e o r h k = absurd h
@@ -225,7 +225,7 @@ all_raised : (ss : List (ℕ × Move)) (w w' : World) (d : Member) → Leads w s
 all_raised [] w w' d run = let e : w'.sequence d ≡ w.sequence d = ap (λ x. x.sequence d) run in omega (arith, e)
 all_raised (s ∷ ss) w w' d run = omega (arith, raised w s.0 s.1 d, all_raised ss (after w s.0 s.1) w' d run.1)
 
-pub no_wake_lost : (ss : List (ℕ × Move)) (w : World) → Leads opening_world ss w → IsExplained ss w
+pub no_wake_lost : (ss : List (ℕ × Move)) (w : World) → Leads opening_world ss w → IsExplainedByMoves ss w
 no_wake_lost ss w run =
     let k = run_kept ss opening_world w first_table good_start run in
     record {

@@ -24,9 +24,9 @@ cause_word (Faulted fault) = fault_number fault
 cause_word Killed = 9
 
 -- the words tell how a process is over
-abbrev pub Tells : End → (outcome result : ℕ) → Type 0
-Tells (Ended z) outcome result = (outcome ≡ 16) × (signed_of result ≡ z)
-Tells (Aborted cause) outcome result = outcome ≡ cause_word cause
+abbrev pub CarriesFinding : End → (outcome result : ℕ) → Type 0
+CarriesFinding (Ended z) outcome result = (outcome ≡ 16) × (signed_of result ≡ z)
+CarriesFinding (Aborted cause) outcome result = outcome ≡ cause_word cause
 
 -- the labels of a thread's own code: a store into a variable of a monitor is for a thread that has the monitor
 abbrev pub IsOwn : Thread → Label → Type 0

@@ -10,7 +10,7 @@ use Rattle.protocol.specs.Points.{entry_at}
 use Rattle.protocol.specs.World.{World, opening_world, mem}
 use Rattle.protocol.specs.Moves.{Move}
 use Rattle.protocol.specs.Steps.{Can, after}
-use Rattle.protocol.specs.Finds.{Tells}
+use Rattle.protocol.specs.Finds.{CarriesFinding}
 use Rattle.protocol.specs.Carries.{Event, Permits, event_of, table_after, with_event}
 
 -- moves from a world to another: of any threads, in any order
@@ -73,7 +73,7 @@ pub record Matches (w : World) (T : Table) : Type 0 where
   pub claimed : (q : ℕ) → ClaimIs (T.claimed q) (w.claim q)
   pub made : T.made ≡ w.made
   pub over : (q : ℕ) (end : End) → T.over q ≡ Some end → IsOver (w.at q).point end ×
-      Tells end (w.outcome q) (w.result q)
+      CarriesFinding end (w.outcome q) (w.result q)
   pub ended : (q : ℕ) (end : End) → IsOver (w.at q).point end → T.over q ≡ Some end
   -- who has joined knows the end
   pub joined : (t q : ℕ) (end : End) → HasJoined (w.at t).point q end → T.over q ≡ Some end
@@ -119,7 +119,7 @@ pub record LosesNoWake (w : World) (T : Table) : Type 0 where
   pub at_rest : ((t : ℕ) → CanStep w t → ⊥) → (t : ℕ) → CannotAct w T t
 
 -- a run of moves is explained by the source
-pub record IsExplained (ss : List (ℕ × Move)) (w : World) : Type 0 where
+pub record IsExplainedByMoves (ss : List (ℕ × Move)) (w : World) : Type 0 where
   pub permits : PermitsAll (events opening_world first_table ss) first_table (last_table opening_world first_table ss)
   pub matches : Matches w (last_table opening_world first_table ss)
   pub waking : LosesNoWake w (last_table opening_world first_table ss)

@@ -6,7 +6,7 @@ ghost use Rattle.std.specs.Prelude.{◌≡◌, ℕ, ◌<◌, ◌≤◌, Bool, Li
 ghost use Rattle.protocol.specs.Points.{Point};
 ghost use Rattle.protocol.specs.World.{World, opening_world};
 ghost use Rattle.protocol.specs.Moves.{Move};
-ghost use Rattle.protocol.specs.Runs.{Leads, IsExplained};
+ghost use Rattle.protocol.specs.Runs.{Leads, IsExplainedByMoves};
 ghost use Rattle.protocol.specs.Requests.{request};
 ghost use Rattle.protocol.specs.Answers.{Serves};
 ghost use Rattle.protocol.specs.Served.{IsMove};
@@ -21,7 +21,7 @@ ghost use Rattle.protocol.specs.Calls.{CallsFollow};
 /// Each run of moves is explained by the source: the labels that it carries, in order, are allowed one after another,
 /// to a table that is that of the last world, in which no wake was lost.
 pub fn no_wake_lost()
-    ensures { (ss : List (ℕ × Move)) (w : World) → Leads opening_world ss w → IsExplained ss w }
+    ensures { (ss : List (ℕ × Move)) (w : World) → Leads opening_world ss w → IsExplainedByMoves ss w }
 {}
 
 /// Where a run has come, each step of a thread inside a template is a move: what its point asks for, and the shared

@@ -10,11 +10,11 @@ use Rattle.program.specs.Typing.{BlockFits}
 use Rattle.program.specs.Measures.{block_room, most_room, block_calls, calls}
 use Rattle.program.specs.Tokens.{statement_tokens, block_tokens, part_tokens, most_of, most_of_procedures, most_tokens}
 use Rattle.program.specs.WellFormed.{WellFormed}
-use Rattle.code.specs.Cells.{OfMember}
-use Rattle.codelimits.proofs.Memory.{inside, size}
-use Rattle.execution.specs.Variables.{ArraysAreLow}
-use Rattle.execution.specs.Builds.{IsBuild}
-use Rattle.execution.specs.Following.{AreSound, nesting, block_nesting, part_nesting}
+use Rattle.lowering.specs.Cells.{OfMember}
+use Rattle.lowering_limits.proofs.Memory.{inside, size}
+use Rattle.proof_thread.specs.Variables.{ArraysAreLow}
+use Rattle.proof_thread.specs.Builds.{IsBuild}
+use Rattle.proof_thread.specs.Following.{AreSound, nesting, block_nesting, part_nesting}
 use Rattle.refinement.specs.Built.{build_of}
 use Rattle.refinement.proofs.Laying.{all_laid}
 

@@ -3,14 +3,14 @@ use Rattle.std.proofs.Common.{◌≡◌, ℕ, ◌+◌, List, [], ◌∷◌, ◌+
 use Rattle.std.proofs.Common.{length-append, append_assoc, arith}
 use Rattle.isa.specs.declared.instr.Instr.{Instr}
 use Rattle.program.specs.Trees.{Procedure, Program}
-use Rattle.code.specs.declared.mark.Mark.{Mark}
-use Rattle.code.specs.declared.mark.Marked.{Marked}
-use Rattle.code.specs.Marks.{instructions}
-use Rattle.code.specs.Pieces.{piece_code, start_of, marked_code}
-use Rattle.code.proofs.LengthLaws.{pieces_stand}
-use Rattle.execution.specs.Later.{MarkedImage}
-use Rattle.execution.specs.Walks.{StandAt}
-use Rattle.execution.proofs.Walking.{front_stands, back_stands}
+use Rattle.lowering.specs.declared.mark.Mark.{Mark}
+use Rattle.lowering.specs.declared.mark.Marked.{Marked}
+use Rattle.lowering.specs.Marks.{instructions}
+use Rattle.lowering.specs.Pieces.{piece_code, start_of, marked_code}
+use Rattle.lowering.proofs.LengthLaws.{pieces_stand}
+use Rattle.proof_thread.specs.Deferrals.{MarkedImage}
+use Rattle.proof_thread.specs.Walks.{StandAt}
+use Rattle.proof_thread.proofs.Walking.{front_stands, back_stands}
 use Rattle.refinement.specs.Built.{marked_image}
 
 -- what stands behind others

@@ -3,9 +3,9 @@ use Rattle.std.specs.Prelude.{ℕ}
 use Rattle.program.specs.Trees.{Program}
 use Rattle.program.specs.Tokens.{most_tokens}
 use Rattle.program.specs.WellFormed.{WellFormed}
-use Rattle.code.specs.Pieces.{code_of, marks_of, start_of}
-use Rattle.execution.specs.Later.{MarkedImage}
-use Rattle.execution.specs.Following.{Build}
+use Rattle.lowering.specs.Pieces.{code_of, marks_of, start_of}
+use Rattle.proof_thread.specs.Deferrals.{MarkedImage}
+use Rattle.proof_thread.specs.Following.{Build}
 
 -- the code of a program, with its marks
 abbrev pub marked_image : Program → MarkedImage

@@ -14,7 +14,7 @@ use Rattle.program.specs.Trees.{Program}
 use Rattle.meaning.specs.Labels.{Kind, Stray, Kill, Action}
 use Rattle.meaning.specs.States.{SourceState}
 use Rattle.meaning.specs.Runs.{IsRun, CanMove}
-use Rattle.execution.specs.Variables.{variable_address, IsVariable}
+use Rattle.proof_thread.specs.Variables.{variable_address, IsVariable}
 use Rattle.refinement.specs.Seen.{machine_end, source_end}
 use Rattle.refinement.specs.Pace.{KeepsPace, stretch_length}
 

@@ -1,5 +1,5 @@
 ghost use Rattle.std.specs.Prelude.{ℕ};
-ghost use Rattle.execution.specs.Builds.{IsBuild, IsFollowed, IsHeld, IsSettled};
+ghost use Rattle.proof_thread.specs.Builds.{IsBuild, IsFollowed, IsHeld, IsSettled};
 ghost use Rattle.program.specs.Trees.{Program};
 ghost use Rattle.program.specs.WellFormed.{WellFormed};
 ghost use Rattle.refinement.specs.Built.{build_of};

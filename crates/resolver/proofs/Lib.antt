@@ -4,3 +4,8 @@ pub mod Mapped
 pub mod Passing
 pub mod Rows
 pub mod Wanted
+pub mod Blocks
+pub mod CleanBodies
+pub mod Pieces
+pub mod Resolving
+pub mod BlockRows

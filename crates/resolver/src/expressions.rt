@@ -8,7 +8,7 @@ ghost use Rattle.syntax.specs.View as v;
 ghost use Rattle.types.specs.ExpressionFaults as f;
 ghost use Rattle.types.specs.Expressions as e;
 ghost use Rattle.types.specs.Scope.{Scope};
-ghost use Rattle.types.specs.Standings.{IsStanding};
+ghost use Rattle.types.specs.Standings.{IsNameScope};
 ghost use Rattle.types.specs.Typing as t;
 ghost use Rattle.resolver.specs.Clean.{Says, IsFactor, IsIndexed, IsTerm, IsSum, IsRelation, IsConjunction, IsTyped};
 
@@ -19,17 +19,17 @@ use program::{Element, Expression, Operator, UnaryOperator, ValueType};
 use std::alloc::{AllocError, Global};
 use syntax::{AllOf, AnyOf, Comparison, Conjunction, Factor, Product, Relation, Sum, Term, Total};
 use types::{
-    Standing, comparison_operator, element_type, index_fault, product_operator, sum_operator,
+    NameScope, comparison_operator, element_type, index_fault, product_operator, sum_operator,
 };
 
 // A factor.
 #[cycle(expressions)]
 fn factor(
     alloc: Global,
-    standing: &Standing<'_, '_>,
+    standing: &NameScope<'_, '_>,
     tree: &Factor<'_>,
 ) -> Result<Typed, AllocError>
-    ensures { (s : Scope) → IsStanding s standing.now
+    ensures { (s : Scope) → IsNameScope s standing.now
         → IfOk result (IsFactor s (v.factor_of tree.now)) }
 {
     match tree {
@@ -74,12 +74,12 @@ fn factor(
 #[cycle(expressions)]
 fn operated(
     alloc: Global,
-    standing: &Standing<'_, '_>,
+    standing: &NameScope<'_, '_>,
     operator: UnaryOperator,
     wanted: ValueType,
     tree: &Factor<'_>,
 ) -> Result<Typed, AllocError>
-    ensures { (s : Scope) → IsStanding s standing.now
+    ensures { (s : Scope) → IsNameScope s standing.now
         → IfOk result (Says (x.Unary operator (e.factor s (v.factor_of tree.now))) (SomeOf wanted)
         (f.factor_faults s (v.factor_of tree.now) ++ f.wants wanted (t.factor_type s (v.factor_of tree.now))
         (t.factor_place (v.factor_of tree.now)))) }
@@ -99,10 +99,10 @@ fn operated(
 #[cycle(expressions)]
 pub fn element(
     alloc: Global,
-    standing: &Standing<'_, '_>,
+    standing: &NameScope<'_, '_>,
     tree: &syntax::Element<'_>,
 ) -> Result<Indexed, AllocError>
-    ensures { (s : Scope) → IsStanding s standing.now
+    ensures { (s : Scope) → IsNameScope s standing.now
         → IfOk result (IsIndexed s (v.name_of tree.now.name) (v.expression_of tree.now.index)) }
 {
     let meaning = standing.meaning(tree.name);
@@ -123,10 +123,10 @@ pub fn element(
 #[cycle(expressions)]
 fn product(
     alloc: Global,
-    standing: &Standing<'_, '_>,
+    standing: &NameScope<'_, '_>,
     tree: &Product<'_>,
 ) -> Result<Typed, AllocError>
-    ensures { (s : Scope) → IsStanding s standing.now
+    ensures { (s : Scope) → IsNameScope s standing.now
         → IfOk result (IsTerm s (v.product_of tree.now)) }
 {
     let first = factor(alloc, standing, &tree.first)?;
@@ -154,8 +154,8 @@ fn product(
 
 // A term.
 #[cycle(expressions)]
-fn term(alloc: Global, standing: &Standing<'_, '_>, tree: &Term<'_>) -> Result<Typed, AllocError>
-    ensures { (s : Scope) → IsStanding s standing.now
+fn term(alloc: Global, standing: &NameScope<'_, '_>, tree: &Term<'_>) -> Result<Typed, AllocError>
+    ensures { (s : Scope) → IsNameScope s standing.now
         → IfOk result (IsTerm s (v.term_of tree.now)) }
 {
     match tree {
@@ -166,8 +166,8 @@ fn term(alloc: Global, standing: &Standing<'_, '_>, tree: &Term<'_>) -> Result<T
 
 // Terms with `+` or `-` between them.
 #[cycle(expressions)]
-fn total(alloc: Global, standing: &Standing<'_, '_>, tree: &Total<'_>) -> Result<Typed, AllocError>
-    ensures { (s : Scope) → IsStanding s standing.now
+fn total(alloc: Global, standing: &NameScope<'_, '_>, tree: &Total<'_>) -> Result<Typed, AllocError>
+    ensures { (s : Scope) → IsNameScope s standing.now
         → IfOk result (IsSum s (v.total_of tree.now)) }
 {
     let first = term(alloc, standing, &tree.first)?;
@@ -195,8 +195,8 @@ fn total(alloc: Global, standing: &Standing<'_, '_>, tree: &Total<'_>) -> Result
 
 // A sum.
 #[cycle(expressions)]
-fn sum(alloc: Global, standing: &Standing<'_, '_>, tree: &Sum<'_>) -> Result<Typed, AllocError>
-    ensures { (s : Scope) → IsStanding s standing.now
+fn sum(alloc: Global, standing: &NameScope<'_, '_>, tree: &Sum<'_>) -> Result<Typed, AllocError>
+    ensures { (s : Scope) → IsNameScope s standing.now
         → IfOk result (IsSum s (v.sum_of tree.now)) }
 {
     match tree {
@@ -210,10 +210,10 @@ fn sum(alloc: Global, standing: &Standing<'_, '_>, tree: &Sum<'_>) -> Result<Typ
 #[cycle(expressions)]
 fn comparison(
     alloc: Global,
-    standing: &Standing<'_, '_>,
+    standing: &NameScope<'_, '_>,
     tree: &Comparison<'_>,
 ) -> Result<Typed, AllocError>
-    ensures { (s : Scope) → IsStanding s standing.now
+    ensures { (s : Scope) → IsNameScope s standing.now
         → IfOk result (IsRelation s (Relates (v.sum_of tree.now.left)
         (Compares tree.now.comparator (v.sum_of tree.now.right)))) }
 {
@@ -233,10 +233,10 @@ fn comparison(
 #[cycle(expressions)]
 fn relation(
     alloc: Global,
-    standing: &Standing<'_, '_>,
+    standing: &NameScope<'_, '_>,
     tree: &Relation<'_>,
 ) -> Result<Typed, AllocError>
-    ensures { (s : Scope) → IsStanding s standing.now
+    ensures { (s : Scope) → IsNameScope s standing.now
         → IfOk result (IsRelation s (v.relation_of tree.now)) }
 {
     match tree {
@@ -249,8 +249,12 @@ fn relation(
 
 // Relations with `AND` between them.
 #[cycle(expressions)]
-fn all_of(alloc: Global, standing: &Standing<'_, '_>, tree: &AllOf<'_>) -> Result<Typed, AllocError>
-    ensures { (s : Scope) → IsStanding s standing.now
+fn all_of(
+    alloc: Global,
+    standing: &NameScope<'_, '_>,
+    tree: &AllOf<'_>,
+) -> Result<Typed, AllocError>
+    ensures { (s : Scope) → IsNameScope s standing.now
         → IfOk result (IsConjunction s (AllOfTree (v.relation_of tree.now.first)
         (AndAlso (v.relation_of tree.now.second) (v.relations_in tree.now.rest.items)))) }
 {
@@ -275,10 +279,10 @@ fn all_of(alloc: Global, standing: &Standing<'_, '_>, tree: &AllOf<'_>) -> Resul
 #[cycle(expressions)]
 fn conjunction(
     alloc: Global,
-    standing: &Standing<'_, '_>,
+    standing: &NameScope<'_, '_>,
     tree: &Conjunction<'_>,
 ) -> Result<Typed, AllocError>
-    ensures { (s : Scope) → IsStanding s standing.now
+    ensures { (s : Scope) → IsNameScope s standing.now
         → IfOk result (IsConjunction s (v.conjunction_of tree.now)) }
 {
     match tree {
@@ -292,8 +296,12 @@ fn conjunction(
 
 // Conjunctions with `OR` between them.
 #[cycle(expressions)]
-fn any_of(alloc: Global, standing: &Standing<'_, '_>, tree: &AnyOf<'_>) -> Result<Typed, AllocError>
-    ensures { (s : Scope) → IsStanding s standing.now
+fn any_of(
+    alloc: Global,
+    standing: &NameScope<'_, '_>,
+    tree: &AnyOf<'_>,
+) -> Result<Typed, AllocError>
+    ensures { (s : Scope) → IsNameScope s standing.now
         → IfOk result (IsTyped s (AnyOfTree (v.conjunction_of tree.now.first)
         (OrElse (v.conjunction_of tree.now.second) (v.conjunctions_in tree.now.rest.items)))) }
 {
@@ -320,10 +328,10 @@ fn any_of(alloc: Global, standing: &Standing<'_, '_>, tree: &AnyOf<'_>) -> Resul
 #[cycle(expressions)]
 pub fn expression(
     alloc: Global,
-    standing: &Standing<'_, '_>,
+    standing: &NameScope<'_, '_>,
     tree: &syntax::Expression<'_>,
 ) -> Result<Typed, AllocError>
-    ensures { (s : Scope) → IsStanding s standing.now
+    ensures { (s : Scope) → IsNameScope s standing.now
         → IfOk result (IsTyped s (v.expression_of tree.now)) }
 {
     match tree {

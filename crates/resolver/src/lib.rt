@@ -1,16 +1,21 @@
-//! From a syntax tree to the program's: names by their numbers, chains of operators folded to the left. Here stand
-//! expressions, and the statements that hold no others and call nothing, and beside each whether nothing of it is
-//! faulty.
+//! From a unit's tree to the program: names by their numbers, chains of operators folded to the left, and beside each
+//! expression and statement whether nothing of it is faulty.
 #![tactic(auto)]
 
+mod called;
+mod calls;
 mod expressions;
+mod flags;
 mod folds;
 mod known;
+mod monitors;
+mod name_lists;
 mod names;
 mod operands;
+mod procedures;
 mod simple;
+mod site;
+mod statements;
+mod unit;
 
-pub use expressions::expression;
-pub use known::{Judged, Typed};
-pub use operands::{arguments, condition_of, into, local, typed};
-pub use simple::{assignment, print, returned};
+pub use unit::{Resolved, resolve};

@@ -11,7 +11,7 @@ ghost use Rattle.types.specs.CallFaults.{condition_faults};
 ghost use Rattle.types.specs.Expressions as x;
 ghost use Rattle.types.specs.Kinds as k;
 ghost use Rattle.types.specs.Scope.{Scope, meaning};
-ghost use Rattle.types.specs.Standings.{IsStanding};
+ghost use Rattle.types.specs.Standings.{IsNameScope};
 ghost use Rattle.types.specs.StatementFaults as f;
 ghost use Rattle.types.specs.Statements as st;
 ghost use Rattle.resolver.specs.Clean.{is_clean, wants_of, Says};
@@ -22,12 +22,12 @@ use crate::names::array;
 use program::{Expression, Member, ValueType};
 use std::alloc::{AllocError, Global};
 use syntax::{Name, Parameter};
-use types::{Standing, condition_fault, differ, local_kind};
+use types::{NameScope, condition_fault, differ, local_kind};
 
 /// The local that a name behind INTO means, local 0 where it means none, and whether it may take a value of this type.
-pub fn local(standing: &Standing<'_, '_>, kind: Option<ValueType>, name: Name<'_>) -> (u32, bool)
-    ensures local { (s : Scope) → IsStanding s standing.now → result.0 ≡ st.local s (v.name_of name.entry) }
-    ensures clean { (s : Scope) → IsStanding s standing.now
+pub fn local(standing: &NameScope<'_, '_>, kind: Option<ValueType>, name: Name<'_>) -> (u32, bool)
+    ensures local { (s : Scope) → IsNameScope s standing.now → result.0 ≡ st.local s (v.name_of name.entry) }
+    ensures clean { (s : Scope) → IsNameScope s standing.now
         → result.1 ≡ is_clean (f.taker_faults s kind (v.name_of name.entry)) }
 {
     match standing.locals.find(name) {
@@ -41,12 +41,12 @@ pub fn local(standing: &Standing<'_, '_>, kind: Option<ValueType>, name: Name<'_
 
 /// The local behind INTO, where a name stands there, and whether it may take a value of this type.
 pub fn into(
-    standing: &Standing<'_, '_>,
+    standing: &NameScope<'_, '_>,
     kind: Option<ValueType>,
     name: Option<Name<'_>>,
 ) -> (Option<u32>, bool)
-    ensures into { (s : Scope) → IsStanding s standing.now → result.0 ≡ st.into s (v.option_name name.entry) }
-    ensures clean { (s : Scope) → IsStanding s standing.now
+    ensures into { (s : Scope) → IsNameScope s standing.now → result.0 ≡ st.into s (v.option_name name.entry) }
+    ensures clean { (s : Scope) → IsNameScope s standing.now
         → result.1 ≡ is_clean (f.into_faults s kind (v.option_name name.entry)) }
 {
     match name {
@@ -59,9 +59,9 @@ pub fn into(
 }
 
 /// The condition behind WAIT, NOTIFY or BROADCAST, member 0 of monitor 0 where there is none, and whether it is one.
-pub fn condition_of(standing: &Standing<'_, '_>, name: Name<'_>) -> (Member, bool)
-    ensures condition { (s : Scope) → IsStanding s standing.now → result.0 ≡ st.condition s (v.name_of name.entry) }
-    ensures clean { (s : Scope) → IsStanding s standing.now
+pub fn condition_of(standing: &NameScope<'_, '_>, name: Name<'_>) -> (Member, bool)
+    ensures condition { (s : Scope) → IsNameScope s standing.now → result.0 ≡ st.condition s (v.name_of name.entry) }
+    ensures clean { (s : Scope) → IsNameScope s standing.now
         → result.1 ≡ is_clean (condition_faults (meaning s (v.name_of name.entry)) name.entry.place) }
 {
     let meaning = standing.meaning(name);
@@ -71,13 +71,13 @@ pub fn condition_of(standing: &Standing<'_, '_>, name: Name<'_>) -> (Member, boo
 /// An expression of which this type is wanted, and whether nothing of it is faulty. Only memory can run out.
 pub fn typed(
     alloc: Global,
-    standing: &Standing<'_, '_>,
+    standing: &NameScope<'_, '_>,
     wanted: ValueType,
     tree: &syntax::Expression<'_>,
 ) -> Result<(Expression, bool), AllocError>
-    ensures expression { (s : Scope) → IsStanding s standing.now
+    ensures expression { (s : Scope) → IsNameScope s standing.now
         → IfOk result (λ e. expression_of e.0 ≡ x.expression s (v.expression_of tree.now)) }
-    ensures clean { (s : Scope) → IsStanding s standing.now
+    ensures clean { (s : Scope) → IsNameScope s standing.now
         → IfOk result (λ e. e.1 ≡ is_clean (f.typed_faults s wanted (v.expression_of tree.now))) }
 {
     let made = expression(alloc, standing, tree)?;
@@ -110,13 +110,13 @@ fn passes(before: bool, made: &Typed, wanted: Option<ValueType>) -> bool
 /// can run out.
 pub fn arguments(
     alloc: Global,
-    standing: &Standing<'_, '_>,
+    standing: &NameScope<'_, '_>,
     trees: &[syntax::Expression<'_>],
     parameters: &[Parameter<'_>],
 ) -> Result<(Vec<Expression>, bool), AllocError>
-    ensures arguments { (s : Scope) → IsStanding s standing.now
+    ensures arguments { (s : Scope) → IsNameScope s standing.now
         → IfOk result (λ es. map expression_of es.0.items ≡ st.arguments s (map v.expression_of trees.now)) }
-    ensures clean { (s : Scope) → IsStanding s standing.now
+    ensures clean { (s : Scope) → IsNameScope s standing.now
         → IfOk result (λ es. es.1 ≡ is_clean (f.arguments_faults s (map v.expression_of trees.now)
         ++ f.matched_faults s (map v.expression_of trees.now) (map v.parameter_of parameters.now))) }
 {

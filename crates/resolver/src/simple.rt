@@ -7,7 +7,7 @@ ghost use Rattle.syntax.specs.Tree.{Assign, Print, NoIndex};
 ghost use Rattle.syntax.specs.View as v;
 ghost use Rattle.types.specs.ExpressionFaults.{use_faults};
 ghost use Rattle.types.specs.Scope.{Scope};
-ghost use Rattle.types.specs.Standings.{meaning_of, IsStanding};
+ghost use Rattle.types.specs.Standings.{meaning_of, IsNameScope};
 ghost use Rattle.types.specs.Statements as st;
 ghost use Rattle.types.specs.Typing.{type_of_use};
 ghost use Rattle.resolver.specs.Clean.{is_clean, IsAim, IsJudged, IsReturn};
@@ -18,7 +18,7 @@ use crate::operands::typed;
 use program::{Statement, Target, ValueType};
 use std::alloc::{AllocError, Global};
 use syntax::{Expression, Variable};
-use types::{Meaning, Standing, read_fault, variable_type};
+use types::{Meaning, NameScope, read_fault, variable_type};
 
 // What is assigned to by its name alone; a name that means nothing is local 0.
 fn named(meaning: Meaning) -> Aim
@@ -41,10 +41,10 @@ fn named(meaning: Meaning) -> Aim
 // What is assigned to.
 fn target(
     alloc: Global,
-    standing: &Standing<'_, '_>,
+    standing: &NameScope<'_, '_>,
     tree: &Variable<'_>,
 ) -> Result<Aim, AllocError>
-    ensures { (s : Scope) → IsStanding s standing.now → IfOk result (IsAim s (v.variable_of tree.now)) }
+    ensures { (s : Scope) → IsNameScope s standing.now → IfOk result (IsAim s (v.variable_of tree.now)) }
 {
     match tree {
         Variable::Name(name) => Ok(named(standing.meaning(*name))),
@@ -62,11 +62,11 @@ fn target(
 /// An assignment. Only memory can run out.
 pub fn assignment(
     alloc: Global,
-    standing: &Standing<'_, '_>,
+    standing: &NameScope<'_, '_>,
     variable: &Variable<'_>,
     tree: &Expression<'_>,
 ) -> Result<Judged, AllocError>
-    ensures { (s : Scope) → IsStanding s standing.now
+    ensures { (s : Scope) → IsNameScope s standing.now
         → IfOk result (IsJudged s (Assign (v.variable_of variable.now) (v.expression_of tree.now))) }
 {
     let aim = target(alloc, standing, variable)?;
@@ -81,10 +81,10 @@ pub fn assignment(
 /// A PRINT. Only memory can run out.
 pub fn print(
     alloc: Global,
-    standing: &Standing<'_, '_>,
+    standing: &NameScope<'_, '_>,
     tree: &Expression<'_>,
 ) -> Result<Judged, AllocError>
-    ensures { (s : Scope) (place : PlaceOf) → IsStanding s standing.now
+    ensures { (s : Scope) (place : PlaceOf) → IsNameScope s standing.now
         → IfOk result (IsJudged s (Print place (v.expression_of tree.now))) }
 {
     let (value, is_clean) = typed(alloc, standing, ValueType::Integer, tree)?;
@@ -97,11 +97,11 @@ pub fn print(
 // A RETURN with an expression, where a result of this type is due, if any.
 fn some_value(
     alloc: Global,
-    standing: &Standing<'_, '_>,
+    standing: &NameScope<'_, '_>,
     returns: Option<ValueType>,
     tree: &Expression<'_>,
 ) -> Result<Judged, AllocError>
-    ensures { (s : Scope) (place : PlaceOf) → IsStanding s standing.now
+    ensures { (s : Scope) (place : PlaceOf) → IsNameScope s standing.now
         → IfOk result (IsReturn s place returns (SomeOf (v.expression_of tree.now))) }
 {
     let value = expression(alloc, standing, tree)?;
@@ -118,11 +118,11 @@ fn some_value(
 /// A RETURN, where a result of this type is due, if any. Only memory can run out.
 pub fn returned(
     alloc: Global,
-    standing: &Standing<'_, '_>,
+    standing: &NameScope<'_, '_>,
     returns: Option<ValueType>,
     tree: &Option<Expression<'_>>,
 ) -> Result<Judged, AllocError>
-    ensures { (s : Scope) (place : PlaceOf) → IsStanding s standing.now
+    ensures { (s : Scope) (place : PlaceOf) → IsNameScope s standing.now
         → IfOk result (IsReturn s place returns (v.option_expression tree.now)) }
 {
     match tree {

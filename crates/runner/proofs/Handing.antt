@@ -17,7 +17,7 @@ use Rattle.machine.proofs.Placing.{thread_at-put}
 use Rattle.runner.specs.declared.fault.RunFault.TheVariants.{Limit}
 use Rattle.runner.specs.Views.{PieceView, LogState}
 use Rattle.runner.specs.Logs.{event_cost, cost}
-use Rattle.runner.specs.Entries.{entry_end, entry_end_by, Stands, IsFine, Refuses}
+use Rattle.runner.specs.Entries.{entry_end, entry_end_by, Stands, IsFine, RefusesEntry}
 
 -- a thread that can move was made, is awake, and has not ended
 pub record IsUp (k : ConcreteState) (t : ℕ) : Type 0 where
@@ -91,7 +91,7 @@ comes p q h a t b same stands moves none is_b =
 pub past_limit : (p q : Program) (limit : ℕ) (h : LogState) (a : PieceView) (t steps limited extra : ℕ) (b : Bool)
     → q ≡ p → Stands h t a → can_move h.concrete t ≡ true → None ≡ fault_at q h.concrete t a.here
     → b ≡ is_some (local_step q t a.here) → extra ≡ bool_byte (not b) → steps ≡ cost h.log → limited ≡ limit
-    → steps ≤ limited → limited - steps < a.count + extra → Refuses p limit h t a Limit
+    → steps ≤ limited → limited - steps < a.count + extra → RefusesEntry p limit h t a Limit
 past_limit p q limit h a t steps limited extra b same stands moves none is_b is_extra is_steps is_limit within past =
     let r = comes p q h a t b same stands moves none is_b in
     (stands, moves, r.0, r.1, r.2, omega (arith, r.3, is_extra))

@@ -24,7 +24,7 @@ use Rattle.machine.specs.ConcreteServing.{Served, serve, within, requeue_to, loa
 use Rattle.machine.specs.ConcreteSteps.{go_on_with, thread_step, on_machine, fault_of, fault_at, put_thread, can_move}
 use Rattle.runner.specs.declared.fault.RunFault.TheVariants.{Broken}
 use Rattle.runner.specs.Views.{PieceView, LogState}
-use Rattle.runner.specs.Entries.{entry_end, entry_end_by, Stands, Refuses}
+use Rattle.runner.specs.Entries.{entry_end, entry_end_by, Stands, RefusesEntry}
 use Rattle.runner.proofs.Handing.{up, step_there}
 
 -- there is a next step, and a local one leads to no end
@@ -163,7 +163,7 @@ broken_by there made t c Rests f h is = absurd h
 refuses : (p q : Program) (limit : ℕ) (h : LogState) (a : PieceView) (t : ℕ) (f : StepFault) → q ≡ p → Stands h t a
     → can_move h.concrete t ≡ true → local_after p a.thread a.count a.origin ≡ Some a.here
     → Some f ≡ fault_at q h.concrete t a.here
-    → Refuses p limit h t a Broken
+    → RefusesEntry p limit h t a Broken
 refuses p q limit h a t f same stands moves goes is =
     let u = up h.concrete t moves in
     let there = put_thread h.concrete t a.here in
@@ -185,7 +185,7 @@ fault_there (Some f) h = (f, refl)
 pub refuses_broken : (p q : Program) (limit : ℕ) (h : LogState) (a : PieceView) (t : ℕ) → q ≡ p → Stands h t a
     → can_move h.concrete t ≡ true → local_after p a.thread a.count a.origin ≡ Some a.here
     → is_some (fault_at q h.concrete t a.here) ≡ true
-    → Refuses p limit h t a Broken
+    → RefusesEntry p limit h t a Broken
 refuses_broken p q limit h a t same stands moves goes is =
     let f = fault_there (fault_at q h.concrete t a.here) is in refuses p q limit h a t f.0 same stands moves goes f.1
 

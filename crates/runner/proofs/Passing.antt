@@ -23,7 +23,7 @@ use Rattle.machine.proofs.Placing.{get_set_other, thread_at-other}
 use Rattle.runner.specs.declared.fault.RunFault.TheVariants.{Limit}
 use Rattle.runner.specs.Views.{PieceView, LogState}
 use Rattle.runner.specs.Logs.{Ends, event_cost, cost}
-use Rattle.runner.specs.Entries.{entry_end, entry_end_by, Takes, Refuses}
+use Rattle.runner.specs.Entries.{entry_end, entry_end_by, Takes, RefusesEntry}
 use Rattle.runner.specs.Reports.{IsNextEntry, PassesLimit}
 use Rattle.runner.specs.Rounds.{AllPast}
 use Rattle.machine.proofs.Stepping.{steps_so}
@@ -266,7 +266,7 @@ pub none_past : (p : Program) (limit : ℕ) (h : LogState) → AllPast p limit h
 none_past p limit h t is = absurd (none_true 65 t is)
 
 -- a piece that ran and was refused with Limit was its thread's next entry
-pub passes : (p : Program) (limit : ℕ) (h : LogState) (t : ℕ) (a : PieceView) → Refuses p limit h t a Limit
+pub passes : (p : Program) (limit : ℕ) (h : LogState) (t : ℕ) (a : PieceView) → RefusesEntry p limit h t a Limit
     → local_after p a.thread a.count a.origin ≡ Some a.here → a.count ≤ 256
     → (a.count < 256 → local_step p a.thread a.here ≡ None)
     → PassesLimit p limit h.log h.concrete t

@@ -20,7 +20,7 @@ use Rattle.runner.specs.declared.report.Report.{Report}
 use Rattle.runner.specs.declared.schedule.ScheduleFault.{ScheduleFault}
 use Rattle.runner.specs.Logs.{Enters}
 use Rattle.runner.specs.Reports.{IsVerdict}
-use Rattle.runner.specs.Schedules.{FailsAt, Follows, IsFollowed, IsOneStep, Refuses}
+use Rattle.runner.specs.Schedules.{FailsAt, Follows, IsFollowed, IsOneStep, RefusesSchedule}
 use Rattle.runner.proofs.Going.{runs_more}
 use Rattle.runner.proofs.Unrolling.{put_back}
 
@@ -58,7 +58,7 @@ follows_more p q schedule i t log log' k k' e inside names same f enters is one 
 -- the entry that is refused
 pub fails_at : (p q : Program) (schedule : List ℕ) (i number t : ℕ) (log : List Entry) (k : ConcreteState)
     (fault : ScheduleFault) → i < length schedule → get_or schedule i 0 ≡ t → i < 2 ^ 32 → number ≡ i + 1 → q ≡ p
-    → Follows p (take i schedule) log k → Refuses q k number t fault → FailsAt p schedule fault
+    → Follows p (take i schedule) log k → RefusesSchedule q k number t fault → FailsAt p schedule fault
 fails_at p q schedule i number t log k fault inside names few is same f refuses =
     inr (
       i,
@@ -70,8 +70,8 @@ fails_at p q schedule i number t log k fault inside names few is same f refuses 
         few = few;
         names = slice_get-get_or schedule i 0 inside ∙ ap (λ (n : ℕ). Some n) names;
       },
-      (let P : ℕ → Type 0 = λ n. Refuses p k n t fault in
-          subst P is (let Q : Program → Type 0 = λ z. Refuses z k number t fault in subst Q same refuses)),
+      (let P : ℕ → Type 0 = λ n. RefusesSchedule p k n t fault in
+          subst P is (let Q : Program → Type 0 = λ z. RefusesSchedule z k number t fault in subst Q same refuses)),
     )
 
 -- the report of a schedule that was followed to its end

@@ -56,16 +56,16 @@ pub record Takes (p : Program) (limit : ℕ) (old : LogState) (t : ℕ) (a : Pie
   pub within : cost new.log ≤ limit
 
 -- the causes of the refusals, in the order in which they are tested
-abbrev pub Refuses : Program → ℕ → LogState → ℕ → PieceView → RunFault → Type 0
-Refuses p limit h t a Stray = Stands h t a → ⊥
-Refuses p limit h t a CannotMove = Stands h t a × (can_move h.concrete t ≡ false)
-Refuses p limit h t a Broken =
+abbrev pub RefusesEntry : Program → ℕ → LogState → ℕ → PieceView → RunFault → Type 0
+RefusesEntry p limit h t a Stray = Stands h t a → ⊥
+RefusesEntry p limit h t a CannotMove = Stands h t a × (can_move h.concrete t ≡ false)
+RefusesEntry p limit h t a Broken =
     Stands h t a × (can_move h.concrete t ≡ true) × (entry_end p h.concrete t a.here ≡ Err step.Broken)
-Refuses p limit h t a Limit =
+RefusesEntry p limit h t a Limit =
     Stands h t a × (can_move h.concrete t ≡ true)
     × (concrete : ConcreteState) × (event : Option Event) × (entry_end p h.concrete t a.here ≡ Ok (concrete, event))
     × (limit < cost h.log + (a.count + event_cost event))
-Refuses p limit h t a Memory = IsFine p limit h t a
+RefusesEntry p limit h t a Memory = IsFine p limit h t a
 
 -- the piece that a thread goes on from
 abbrev pub Begins : ConcreteState → ℕ → PieceView → Type 0

@@ -40,11 +40,11 @@ pub record ComesTo (p : Program) (schedule : List ℕ) (before : ℕ) (k : Concr
   pub names : slice_get schedule before ≡ Some t
 
 -- why the entry of a number, which names this thread, is refused
-abbrev pub Refuses : Program → ConcreteState → ℕ → ℕ → ScheduleFault → Type 0
-Refuses p k number t (BadEntry n) = (n ≡ number) × ((can_move k t ≡ false) ⊎ (2 ^ 32 ≤ number))
-Refuses p k number t (Broken n) =
+abbrev pub RefusesSchedule : Program → ConcreteState → ℕ → ℕ → ScheduleFault → Type 0
+RefusesSchedule p k number t (BadEntry n) = (n ≡ number) × ((can_move k t ≡ false) ⊎ (2 ^ 32 ≤ number))
+RefusesSchedule p k number t (Broken n) =
     (n ≡ number) × (number < 2 ^ 32) × (can_move k t ≡ true) × (step_of p k t ≡ Err step.Broken)
-Refuses p k number t Memory = Unit {0}
+RefusesSchedule p k number t Memory = Unit {0}
 
 -- the fault is want of memory
 abbrev pub IsMemory : ScheduleFault → Type 0
@@ -56,4 +56,4 @@ IsMemory Memory = Unit {0}
 abbrev pub FailsAt : Program → List ℕ → ScheduleFault → Type 0
 FailsAt p schedule fault =
     IsMemory fault ⊎ ((before : ℕ) × (k : ConcreteState) × (t : ℕ) × ComesTo p schedule before k t
-    × Refuses p k (before + 1) t fault)
+    × RefusesSchedule p k (before + 1) t fault)

@@ -4,7 +4,7 @@ ghost use Rattle.machine.specs.ConcreteSteps.{step_of, can_move};
 ghost use Rattle.machine.specs.Views.{concrete};
 ghost use Rattle.runner.specs.Logs.{Enters};
 ghost use Rattle.runner.specs.declared.schedule.ScheduleFault.TheVariants.{Memory};
-ghost use Rattle.runner.specs.Schedules.{FailsAt, IsFollowed, IsOneStep, Refuses};
+ghost use Rattle.runner.specs.Schedules.{FailsAt, IsFollowed, IsOneStep, RefusesSchedule};
 
 use crate::report::{Report, report_of};
 use isa::Image;
@@ -63,7 +63,7 @@ pub fn follow(alloc: Global, image: &Image, schedule: &[u32]) -> Result<Report, 
 fn take_turn(machine: &mut Machine, number: u64, t: u32) -> Result<Entry, ScheduleFault>
     ensures ok { IfOk result (λ e. Enters machine.old.program (concrete machine.old) e (concrete machine.new)
         × (e.thread ≡ t) × IsOneStep e × (number < 2 ^ 32)) }
-    ensures err { IfErr result (λ fault. Refuses machine.old.program (concrete machine.old) number t fault) }
+    ensures err { IfErr result (λ fault. RefusesSchedule machine.old.program (concrete machine.old) number t fault) }
     ensures program { machine.new.program ≡ machine.old.program }
 {
     if number > u64::from(u32::MAX) || !machine.can_move(t) {

@@ -4,7 +4,7 @@ ghost use Rattle.std.specs.Prelude.{IfErr, OnOk, IfSome, IfNone, MatchBool, Matc
 ghost use Rattle.machine.specs.States.{thread_of, opening_concrete};
 ghost use Rattle.machine.specs.ConcreteSteps.{can_move};
 ghost use Rattle.runner.specs.Logs.{Runs, cost};
-ghost use Rattle.runner.specs.Entries.{Takes, Refuses, IsFine, Stands};
+ghost use Rattle.runner.specs.Entries.{Takes, RefusesEntry, IsFine, Stands};
 ghost use Rattle.runner.specs.Nexts.{IsNext};
 ghost use Rattle.runner.specs.Afters.{IsAfter};
 ghost use Rattle.runner.specs.Reports.{CanFail, MeetsBroken};
@@ -180,7 +180,7 @@ impl<J: RunName> Shared<J> {
     /// Takes in what thread `t` did, as one entry of the log: the piece's local steps, and the shared step that it
     /// stands before, if any. The share counts it.
     ///
-    /// Refuses in this order: `Stray`, `CannotMove`, `Broken`, `Limit`, `Memory`; then nothing has changed.
+    /// RefusesEntry in this order: `Stray`, `CannotMove`, `Broken`, `Limit`, `Memory`; then nothing has changed.
     pub fn step(
         &mut self,
         t: u32,
@@ -191,7 +191,7 @@ impl<J: RunName> Shared<J> {
             × IsNext (log_state self.new).concrete t next) }
         ensures counted { OnOk result (share.new ≡ record share.old { count = share.old.count + 1 }) }
         ensures err { IfErr result (λ fault. (log_state self.new ≡ log_state self.old)
-            × (share.new ≡ share.old) × Refuses J.program J.limit (log_state self.old) t piece fault) }
+            × (share.new ≡ share.old) × RefusesEntry J.program J.limit (log_state self.old) t piece fault) }
         ensures broken { IfErr result (λ fault. fault ≡ RunFault.Broken → MeetsBroken J.program J.limit) }
         ensures given { self.new.given ≡ self.old.given }
         ensures legal { Runs J.program (opening_concrete J.program) self.new.log (log_state self.new).concrete }
@@ -217,7 +217,7 @@ impl<J: RunName> Shared<J> {
             (log_state self.new) × IsAfter (log_state self.new).concrete t piece.new after) }
         ensures counted { OnOk result (share.new ≡ record share.old { count = share.old.count + 1 }) }
         ensures err { IfErr result (λ fault. (log_state self.new ≡ log_state self.old) × (piece.new ≡ piece.old)
-            × (share.new ≡ share.old) × Refuses J.program J.limit (log_state self.old) t piece.old fault) }
+            × (share.new ≡ share.old) × RefusesEntry J.program J.limit (log_state self.old) t piece.old fault) }
         ensures broken { IfErr result (λ fault. fault ≡ RunFault.Broken → MeetsBroken J.program J.limit) }
         ensures given { self.new.given ≡ self.old.given }
         ensures legal { Runs J.program (opening_concrete J.program) self.new.log (log_state self.new).concrete }
@@ -232,7 +232,7 @@ impl<J: RunName> Shared<J> {
         ensures ok { OnOk result (Takes J.program J.limit (log_state self.old) t piece.now (log_state self.new)) }
         ensures counted { OnOk result (share.new ≡ record share.old { count = share.old.count + 1 }) }
         ensures err { IfErr result (λ fault. (log_state self.new ≡ log_state self.old)
-            × (share.new ≡ share.old) × Refuses J.program J.limit (log_state self.old) t piece.now fault) }
+            × (share.new ≡ share.old) × RefusesEntry J.program J.limit (log_state self.old) t piece.now fault) }
         ensures broken { IfErr result (λ fault. fault ≡ RunFault.Broken → MeetsBroken J.program J.limit) }
         ensures given { self.new.given ≡ self.old.given }
         ensures legal { Runs J.program (opening_concrete J.program) self.new.log (log_state self.new).concrete }
@@ -277,7 +277,7 @@ impl<J: RunName> Shared<J> {
     /// Takes the next entry of thread `t`, which can move, in its place on the machine, so that nothing is copied: its
     /// local steps until another step comes or its turn is over, and the shared step that it stands before, if any.
     ///
-    /// Refuses with `Memory`, and then nothing has changed; and with `Broken`, and then the local steps are an entry.
+    /// RefusesEntry with `Memory`, and then nothing has changed; and with `Broken`, and then the local steps are an entry.
     pub(crate) fn go_on(&mut self, t: u32, share: &mut Share<J>) -> Result<(), RunFault>
         requires thread { can_move (log_state self.old).concrete t ≡ true }
         requires room { cost self.old.log + suc most_local_steps ≤ J.limit }
@@ -298,7 +298,7 @@ impl<J: RunName> Shared<J> {
 
     // Why the piece is refused, if not for memory.
     fn refusal(&self, t: u32, piece: &Piece<J>) -> Option<RunFault>
-        ensures some { IfSome result (λ fault. Refuses J.program J.limit (log_state self.now) t piece.now fault) }
+        ensures some { IfSome result (λ fault. RefusesEntry J.program J.limit (log_state self.now) t piece.now fault) }
         ensures none { IfNone result (IsFine J.program J.limit (log_state self.now) t piece.now) }
     {
         if !self.stands(t, piece) {

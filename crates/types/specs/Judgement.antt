@@ -95,8 +95,8 @@ IsOnCycle u place = (n : ℕ) × Stands u n place × Leads (all_calls u) n n
 
 -- a chain of more than `most_in_chain` procedures begins at it, and none of some length: it isn't on a cycle, nor above
 -- one
-abbrev pub IsTooLong : UnitTree → Place → Type 0
-IsTooLong u place = (n : ℕ) × Stands u n place × IsTrue (has_chain (all_calls u) most_in_chain n)
+abbrev pub UnitIsTooLong : UnitTree → Place → Type 0
+UnitIsTooLong u place = (n : ℕ) × Stands u n place × IsTrue (has_chain (all_calls u) most_in_chain n)
     × (length : ℕ) × IsFalse (has_chain (all_calls u) length n)
 
 -- more of something than is allowed
@@ -106,7 +106,7 @@ IsPastLimit u place = IsPast most_monitors (monitor_names u) place
     ⊎ IsPast most_procedures (all_procedure_names u) place
     ⊎ ((q : Piece) × Contains (pieces u) q × IsPast most_parameters (parameter_names q.parameters) place)
     ⊎ ((q : Piece) × Contains (pieces u) q × IsPast most_locals (body_scope q.parameters q.body.locals) place)
-    ⊎ IsPastWords u place ⊎ IsNoSize u place ⊎ IsTooLong u place
+    ⊎ IsPastWords u place ⊎ IsNoSize u place ⊎ UnitIsTooLong u place
 
 -- a statement of some piece has this fault
 abbrev pub IsInBody : UnitTree → Refusal → Type 0

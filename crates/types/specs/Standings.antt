@@ -5,7 +5,7 @@ use Rattle.syntax.specs.Lexeme.{NameTree}
 use Rattle.syntax.specs.Tree.{MemberTree, MonitorTree, ParameterTree, LocalTree}
 use Rattle.types.specs.declared.standing.Members.{Members}
 use Rattle.types.specs.declared.standing.Own.{Own}
-use Rattle.types.specs.declared.standing.Standing.{Standing}
+use Rattle.types.specs.declared.standing.NameScope.{NameScope}
 use Rattle.types.specs.declared.standing.Meaning.{Meaning as MeaningOf}
 use Rattle.types.specs.declared.standing.Meaning.TheVariants.{Nothing as Nothing', Local, Member}
 use Rattle.types.specs.Names.{names_of_members, body_scope}
@@ -43,9 +43,9 @@ IsOwn s (Some own) = (own_monitor s.piece.role ≡ Some own.monitor) × (t : Mon
     × (slice_get s.unit.monitors own.monitor ≡ Some t) × IsMembers t own.members.now
 
 -- the names and types of a piece's parameters and locals
-abbrev pub IsLocals : List ParameterTree → List LocalTree → Standing → Type 0
+abbrev pub IsLocals : List ParameterTree → List LocalTree → NameScope → Type 0
 IsLocals ps ls st = IsTable (body_scope ps ls) st.locals × (st.kinds.items ≡ slot_kinds ps ls)
 
 -- these tables are those of the scope: of its locals, and of the monitor around it
-abbrev pub IsStanding : Scope → Standing → Type 0
-IsStanding s st = IsLocals s.piece.parameters s.piece.body.locals st × IsOwn s st.own
+abbrev pub IsNameScope : Scope → NameScope → Type 0
+IsNameScope s st = IsLocals s.piece.parameters s.piece.body.locals st × IsOwn s st.own

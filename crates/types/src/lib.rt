@@ -20,6 +20,6 @@ pub use least::{comes_no_later, lesser};
 pub use places::{
     conjunction_place, expression_place, factor_place, relation_place, sum_place, term_place,
 };
-pub use standing::{Meaning, Members, Own, Standing};
+pub use standing::{Meaning, Members, NameScope, Own};
 pub use table::Table;
 pub use typing::{element_type, variable_type};

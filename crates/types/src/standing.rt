@@ -4,7 +4,7 @@ ghost use Rattle.std.specs.Prelude.{◌≡◌, ◌<◌, ◌+◌, Option, IfOk, l
 ghost use Rattle.syntax.specs.Tree.{MonitorTree};
 ghost use Rattle.syntax.specs.View.{name_of, parameter_of, local_of, member_of};
 ghost use Rattle.types.specs.Scope.{Scope, meaning, local_meaning, member_meaning, kind_in, member_number};
-ghost use Rattle.types.specs.Standings.{meaning_of, HasMembers, IsMembers, IsLocals, IsStanding, member_in};
+ghost use Rattle.types.specs.Standings.{meaning_of, HasMembers, IsMembers, IsLocals, IsNameScope, member_in};
 
 use crate::kinds::{local_kind, member_kind};
 use crate::table::Table;
@@ -43,7 +43,7 @@ pub struct Own<'s, 'a> {
 
 /// The names in sight of a procedure, a RECOVER part or MAIN.
 #[derive(Drop)]
-pub struct Standing<'s, 'a> {
+pub struct NameScope<'s, 'a> {
     /// The names of its parameters and locals.
     pub locals: Table<'a>,
     /// Their types.
@@ -68,14 +68,14 @@ impl<'a> Members<'a> {
     }
 }
 
-impl<'s, 'a> Standing<'s, 'a> {
+impl<'s, 'a> NameScope<'s, 'a> {
     /// The names in sight of a piece of these parameters and locals, in this monitor.
     pub fn new(
         alloc: Global,
         parameters: &[Parameter<'a>],
         locals: &[Local<'a>],
         own: Option<Own<'s, 'a>>,
-    ) -> Result<Standing<'s, 'a>, AllocError>
+    ) -> Result<NameScope<'s, 'a>, AllocError>
         requires { length parameters.now + length locals.now < u32.MAX }
         ensures locals { IfOk result (λ st. IsLocals (map parameter_of parameters.now) (map local_of locals.now) st) }
         ensures own { IfOk result (λ st. st.own ≡ own.entry) }
@@ -90,7 +90,7 @@ impl<'s, 'a> Standing<'s, 'a> {
             table.declare(local.name)?;
             kinds.push(local_kind(local.kind))?;
         }
-        Ok(Standing {
+        Ok(NameScope {
             locals: table,
             kinds,
             own,
@@ -120,7 +120,7 @@ impl Own<'_, '_> {
     }
 }
 
-impl Standing<'_, '_> {
+impl NameScope<'_, '_> {
     // What a parameter or local of this number is.
     fn local(&self, slot: u32) -> Meaning
         ensures { meaning_of result ≡ local_meaning slot (slice_get self.now.kinds.items slot) }
@@ -134,7 +134,7 @@ impl Standing<'_, '_> {
     /// What a variable's name means: it is sought among the parameters and locals, then among the members of the own
     /// monitor.
     pub fn meaning(&self, name: Name<'_>) -> Meaning
-        ensures { (s : Scope) → IsStanding s self.now → meaning_of result ≡ meaning s (name_of name.entry) }
+        ensures { (s : Scope) → IsNameScope s self.now → meaning_of result ≡ meaning s (name_of name.entry) }
     {
         if let Some(slot) = self.locals.find(name) {
             return self.local(slot);

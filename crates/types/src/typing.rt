@@ -4,10 +4,10 @@ ghost use Rattle.std.specs.Prelude.{◌≡◌};
 ghost use Rattle.syntax.specs.Tree.{ExpressionTree, NoIndex, At};
 ghost use Rattle.syntax.specs.View as v;
 ghost use Rattle.types.specs.Scope.{Scope};
-ghost use Rattle.types.specs.Standings.{meaning_of, IsStanding};
+ghost use Rattle.types.specs.Standings.{meaning_of, IsNameScope};
 ghost use Rattle.types.specs.Typing as t;
 
-use crate::standing::{Meaning, Standing};
+use crate::standing::{Meaning, NameScope};
 use program::{MemberType, ValueType};
 use syntax::{Conjunction, Expression, Factor, Product, Relation, Sum, Term, Total};
 
@@ -44,11 +44,11 @@ fn total_type(_total: &Total<'_>) -> Option<ValueType>
     Some(ValueType::Integer)
 }
 
-impl Standing<'_, '_> {
+impl NameScope<'_, '_> {
     /// The type of a factor, where it has one of its own.
     #[cycle(types)]
     pub fn factor_type(&self, factor: &Factor<'_>) -> Option<ValueType>
-        ensures { (s : Scope) → IsStanding s self.now → result ≡ t.factor_type s (v.factor_of factor.now) }
+        ensures { (s : Scope) → IsNameScope s self.now → result ≡ t.factor_type s (v.factor_of factor.now) }
     {
         match factor {
             Factor::Number(_) | Factor::Minus(_, _) => Some(ValueType::Integer),
@@ -62,7 +62,7 @@ impl Standing<'_, '_> {
     /// The type of an expression, where it has one of its own.
     #[cycle(types)]
     pub fn expression_type(&self, expression: &Expression<'_>) -> Option<ValueType>
-        ensures { (s : Scope) → IsStanding s self.now → result ≡ t.expression_type s (v.expression_of expression.now) }
+        ensures { (s : Scope) → IsNameScope s self.now → result ≡ t.expression_type s (v.expression_of expression.now) }
     {
         match expression {
             Expression::Factor(factor) => self.factor_type(factor),
@@ -76,7 +76,7 @@ impl Standing<'_, '_> {
 
     /// The type of a term, where it has one of its own.
     pub fn term_type(&self, term: &Term<'_>) -> Option<ValueType>
-        ensures { (s : Scope) → IsStanding s self.now → result ≡ t.term_type s (v.term_of term.now) }
+        ensures { (s : Scope) → IsNameScope s self.now → result ≡ t.term_type s (v.term_of term.now) }
     {
         match term {
             Term::Factor(factor) => self.factor_type(factor),
@@ -86,7 +86,7 @@ impl Standing<'_, '_> {
 
     /// The type of a sum, where it has one of its own.
     pub fn sum_type(&self, sum: &Sum<'_>) -> Option<ValueType>
-        ensures { (s : Scope) → IsStanding s self.now → result ≡ t.sum_type s (v.sum_of sum.now) }
+        ensures { (s : Scope) → IsNameScope s self.now → result ≡ t.sum_type s (v.sum_of sum.now) }
     {
         match sum {
             Sum::Factor(factor) => self.factor_type(factor),
@@ -97,7 +97,7 @@ impl Standing<'_, '_> {
 
     /// The type of a relation, where it has one of its own.
     pub fn relation_type(&self, relation: &Relation<'_>) -> Option<ValueType>
-        ensures { (s : Scope) → IsStanding s self.now → result ≡ t.relation_type s (v.relation_of relation.now) }
+        ensures { (s : Scope) → IsNameScope s self.now → result ≡ t.relation_type s (v.relation_of relation.now) }
     {
         match relation {
             Relation::Factor(factor) => self.factor_type(factor),
@@ -109,7 +109,7 @@ impl Standing<'_, '_> {
 
     /// The type of a conjunction, where it has one of its own.
     pub fn conjunction_type(&self, conjunction: &Conjunction<'_>) -> Option<ValueType>
-        ensures { (s : Scope) → IsStanding s self.now
+        ensures { (s : Scope) → IsNameScope s self.now
             → result ≡ t.conjunction_type s (v.conjunction_of conjunction.now) }
     {
         match conjunction {

@@ -4,7 +4,7 @@ use Rattle.std.proofs.Common.{IfNone, slice_get, refl, ap, subst}
 use Rattle.runner.specs.declared.fault.RunFault.{RunFault}
 use Rattle.isa.specs.Programs.{Program}
 use Rattle.runner.specs.Views.{PieceView, ShareView}
-use Rattle.workers.specs.Desks.{DeskView}
+use Rattle.workers.specs.SharedRuns.{SharedRunView}
 use Rattle.workers.specs.Handed.{ComesIn, ComeIn}
 
 pub no_fault : (fault : Option RunFault) {b : Bool} → b ≡ is_some fault → b ≡ false → fault ≡ None
@@ -21,11 +21,11 @@ take_one [] at piece h = absurd cc
 take_one (x ∷ xs) zero piece h = let e : x ≡ piece = cc in ap (λ (y : PieceView). y ∷ []) e
 take_one (x ∷ xs) (suc at) piece h = ap (λ (ys : List PieceView). x ∷ ys) (take_one xs at piece h)
 
-come_more : (p : Program) (limit : ℕ) (old mid new : DeskView) (t : ℕ) (pieces : List PieceView) (piece : PieceView)
+come_more : (p : Program) (limit : ℕ) (old mid new : SharedRunView) (t : ℕ) (pieces : List PieceView) (piece : PieceView)
     (share counted share' : ShareView) → ComeIn p limit old t pieces mid share counted
     → ComesIn p limit mid t piece new counted share' → ComeIn p limit old t (pieces ++ piece ∷ []) new share share'
 come_more p limit old mid new t [] piece share counted share' come last =
-    let at_start = subst (λ (d : DeskView). ComesIn p limit d t piece new counted share') come.0 last in (
+    let at_start = subst (λ (d : SharedRunView). ComesIn p limit d t piece new counted share') come.0 last in (
       new,
       share',
       subst (λ (s : ShareView). ComesIn p limit old t piece new s share') come.1 at_start,
@@ -35,7 +35,7 @@ come_more p limit old mid new t (x ∷ xs) piece share counted share' come last 
     (come.0, come.1, come.2, come_more p limit come.0 mid new t xs piece come.1 counted share' come.3 last)
 
 -- one more of the pieces came in
-pub one_more : (p : Program) (limit : ℕ) (old mid new : DeskView) (t : ℕ) (pieces : List PieceView) (at : ℕ)
+pub one_more : (p : Program) (limit : ℕ) (old mid new : SharedRunView) (t : ℕ) (pieces : List PieceView) (at : ℕ)
     (piece : PieceView) (share counted share' : ShareView) → slice_get pieces at ≡ Some piece
     → ComeIn p limit old t (take at pieces) mid share counted → ComesIn p limit mid t piece new counted share'
     → ComeIn p limit old t (take (suc at) pieces) new share share'

@@ -7,12 +7,12 @@ use Rattle.runner.specs.declared.fault.RunFault.TheVariants.{Stray, CannotMove, 
 use Rattle.runner.specs.declared.next.After.{After}
 use Rattle.runner.specs.declared.next.After.TheVariants.{Goes, Sleeps, Ends}
 use Rattle.runner.specs.Afters.{IsAfter}
-use Rattle.runner.specs.Entries.{Takes, Refuses}
+use Rattle.runner.specs.Entries.{Takes, RefusesEntry}
 use Rattle.runner.specs.Views.{PieceView, LogState, ShareView, log_state}
-use Rattle.workers.specs.Desks.{DeskView, state_of}
+use Rattle.workers.specs.SharedRuns.{SharedRunView, state_of}
 
 -- the piece came in as an entry, which the share counts
-pub record ComesIn (p : Program) (limit : ℕ) (old : DeskView) (t : ℕ) (piece : PieceView) (new : DeskView)
+pub record ComesIn (p : Program) (limit : ℕ) (old : SharedRunView) (t : ℕ) (piece : PieceView) (new : SharedRunView)
     (share share' : ShareView) : Type 0 where
   pub goes_on : old.fault ≡ None
   pub takes : Takes p limit (log_state old.shared) t piece (log_state new.shared)
@@ -22,46 +22,46 @@ pub record ComesIn (p : Program) (limit : ℕ) (old : DeskView) (t : ℕ) (piece
 -- why the run ends before its time is as it was, or that this piece was refused
 abbrev pub IsFaultAfter : Program → ℕ → LogState → ℕ → PieceView → Option RunFault → Option RunFault → Type 0
 IsFaultAfter p limit h t piece old new =
-    (new ≡ old) ⊎ ((old ≡ None) × (fault : RunFault) × (new ≡ Some fault) × Refuses p limit h t piece fault)
+    (new ≡ old) ⊎ ((old ≡ None) × (fault : RunFault) × (new ≡ Some fault) × RefusesEntry p limit h t piece fault)
 
 -- how a worker goes on whose piece doesn't come in: it goes on from where its thread is, where that has gone on without
 -- it or can't move; it ends where the run ends before its time, or the entry would pass the limit
 abbrev pub IsAway : Program → ℕ → LogState → ℕ → PieceView → Option RunFault → After → Type 0
 IsAway p limit h t piece fault Goes = ⊥
 IsAway p limit h t piece fault Sleeps =
-    (fault ≡ None) × (Refuses p limit h t piece Stray ⊎ Refuses p limit h t piece CannotMove)
-IsAway p limit h t piece fault Ends = (is_some fault ≡ true) ⊎ Refuses p limit h t piece Limit
+    (fault ≡ None) × (RefusesEntry p limit h t piece Stray ⊎ RefusesEntry p limit h t piece CannotMove)
+IsAway p limit h t piece fault Ends = (is_some fault ≡ true) ⊎ RefusesEntry p limit h t piece Limit
 
 -- the piece doesn't come in, and the run is as it was
-pub record StaysAway (p : Program) (limit : ℕ) (old : DeskView) (t : ℕ) (piece : PieceView) (new : DeskView)
+pub record StaysAway (p : Program) (limit : ℕ) (old : SharedRunView) (t : ℕ) (piece : PieceView) (new : SharedRunView)
     (after : After) : Type 0 where
   pub run : log_state new.shared ≡ log_state old.shared
   pub fault : IsFaultAfter p limit (log_state old.shared) t piece old.fault new.fault
   pub away : IsAway p limit (log_state old.shared) t piece new.fault after
 
 -- the pieces came in, one after the other
-abbrev pub ComeIn : Program → ℕ → DeskView → ℕ → List PieceView → DeskView → ShareView → ShareView → Type 0
+abbrev pub ComeIn : Program → ℕ → SharedRunView → ℕ → List PieceView → SharedRunView → ShareView → ShareView → Type 0
 ComeIn p limit old t [] new share share' = (new ≡ old) × (share' ≡ share)
 ComeIn p limit old t (piece ∷ pieces) new share share' =
-    (mid : DeskView) × (counted : ShareView) × ComesIn p limit old t piece mid share counted
+    (mid : SharedRunView) × (counted : ShareView) × ComesIn p limit old t piece mid share counted
     × ComeIn p limit mid t pieces new counted share'
 
 -- the pieces before one came in, and that one stays away
-pub record StopsAt (p : Program) (limit : ℕ) (old : DeskView) (t : ℕ) (pieces : List PieceView) (new : DeskView)
+pub record StopsAt (p : Program) (limit : ℕ) (old : SharedRunView) (t : ℕ) (pieces : List PieceView) (new : SharedRunView)
     (share share' : ShareView) (after : After) : Type 0 where
   pub at : ℕ
   pub piece : PieceView
   pub is : slice_get pieces at ≡ Some piece
-  pub mid : DeskView
+  pub mid : SharedRunView
   pub come : ComeIn p limit old t (take at pieces) mid share share'
   pub away : StaysAway p limit mid t piece new after
 
 -- how the worker goes on from a piece: as its thread does, and it ends where the run ends before its time
-abbrev pub IsNextOf : DeskView → ℕ → PieceView → After → Type 0
+abbrev pub IsNextOf : SharedRunView → ℕ → PieceView → After → Type 0
 IsNextOf d t piece after = MatchOption d.fault (IsAfter (state_of d) t piece after) (λ _. after ≡ Ends)
 
 -- the same from the first of its pieces
-abbrev pub IsNextOfFirst : DeskView → ℕ → List PieceView → After → Type 0
+abbrev pub IsNextOfFirst : SharedRunView → ℕ → List PieceView → After → Type 0
 IsNextOfFirst d t pieces after =
     (piece : PieceView) × (slice_get pieces 0 ≡ Some piece) × IsNextOf d t piece after
 

@@ -1,4 +1,4 @@
-pub mod Desks
+pub mod SharedRuns
 pub mod Handed
-pub mod Told
+pub mod WakeReasons
 pub mod Taken

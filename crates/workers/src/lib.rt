@@ -2,11 +2,11 @@
 //! lock.
 #![tactic(auto)]
 
-mod desk;
-mod hall;
-mod lent;
+mod image_ref;
+mod parker;
+mod pool;
 mod running;
-mod seat;
+mod shared_run;
 mod turns;
 
 pub use running::run;

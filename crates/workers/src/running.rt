@@ -1,9 +1,9 @@
 ghost use Rattle.std.specs.Prelude.{◌≡◌, IfOk, IfErr};
 ghost use Rattle.runner.specs.Reports.{IsReport, CanFail};
 
-use crate::desk::Desk;
-use crate::hall::Hall;
-use crate::lent::Lent;
+use crate::image_ref::ImageRef;
+use crate::pool::Pool;
+use crate::shared_run::SharedRun;
 use isa::Image;
 use runner::{PARTS, Report, RunFault, RunName, Shared, finish};
 use std::alloc::Global;
@@ -56,15 +56,15 @@ fn run_as<J: RunName + Send + Sync, R: Threads + Wait + Sync, G: Gate>(
     let Some(kept) = shared.share() else {
         unreachable!()
     };
-    let Ok(hall) = Hall::new(alloc, Desk::new(shared, kept)) else {
+    let Ok(pool) = Pool::new(alloc, SharedRun::new(shared, kept)) else {
         return Err(RunFault::Memory);
     };
-    let lent = Lent {
+    let image_ref = ImageRef {
         image,
         of: PhantomData,
     };
-    hall.start(rt, alloc, &lent, gate);
-    let (shared, fault, mut kept) = hall.into_desk().into_parts();
+    pool.start(rt, alloc, &image_ref, gate);
+    let (shared, fault, mut kept) = pool.into_shared_run().into_parts();
     if let Some(fault) = fault {
         return Err(fault);
     }

@@ -1,7 +1,7 @@
 ghost use Rattle.std.specs.Prelude.{◌≡◌, ◌<◌, ◌≤◌, [], ◌∷◌, vec_len, take, IfOk, MatchBool};
 ghost use Rattle.workers.specs.Taken.{AreTurns, IsTurn, IsGrown, StartsAt, idle};
 
-use crate::lent::Lent;
+use crate::image_ref::ImageRef;
 use runner::{Piece, RunName};
 use std::alloc::{AllocError, Global};
 use words::{Gate, MOST_LOCAL_STEPS};
@@ -40,39 +40,39 @@ impl<J: RunName> Turns<J> {
 
     /// Takes turns from the first piece on, until another step than a local one comes, or there is no piece left. The
     /// gate is passed after each.
-    pub fn take<G: Gate>(&mut self, lent: &Lent<J>, gate: &G, t: u32)
+    pub fn take<G: Gate>(&mut self, image_ref: &ImageRef<J>, gate: &G, t: u32)
         ensures { AreTurns J.program self.old.pieces.items self.new.pieces.items self.new.taken }
     {
-        self.taken = take_turns(&mut self.pieces, lent, gate, t);
+        self.taken = take_turns(&mut self.pieces, image_ref, gate, t);
     }
 }
 
 // Takes turns on these pieces, and answers how many.
 fn take_turns<J: RunName, G: Gate>(
     pieces: &mut Vec<Piece<J>>,
-    lent: &Lent<J>,
+    image_ref: &ImageRef<J>,
     gate: &G,
     t: u32,
 ) -> usize
     requires { 0 < vec_len pieces.old }
     ensures { AreTurns J.program pieces.old.items pieces.new.items result }
 {
-    take_turn(&mut pieces[0], lent, gate, t);
+    take_turn(&mut pieces[0], image_ref, gate, t);
     let mut taken = 1;
     while pieces[taken - 1].count() == MOST_LOCAL_STEPS && has_piece(pieces, taken, t) {
         follow(pieces, taken);
-        take_turn(&mut pieces[taken], lent, gate, t);
+        take_turn(&mut pieces[taken], image_ref, gate, t);
         taken += 1;
     }
     taken
 }
 
 // Takes a turn, or what is left of one.
-fn take_turn<J: RunName, G: Gate>(piece: &mut Piece<J>, lent: &Lent<J>, gate: &G, t: u32)
+fn take_turn<J: RunName, G: Gate>(piece: &mut Piece<J>, image_ref: &ImageRef<J>, gate: &G, t: u32)
     ensures same { (piece.new.thread ≡ piece.old.thread) × (piece.new.origin ≡ piece.old.origin) }
     ensures turn { IsTurn J.program piece.new }
 {
-    piece.go_on(lent.image);
+    piece.go_on(image_ref.image);
     gate.pass(t);
 }
 

@@ -1,7 +1,7 @@
 use Rattle.std.proofs.Common.{◌≡◌, ◌++◌, drop, map}
 use Rattle.std.specs.List.{flat_map}
 use Rattle.program.specs.Names.{naming_of}
-use Rattle.sourcestates.specs.Actions.{action_of}
+use Rattle.source_states.specs.Actions.{action_of}
 use Rattle.actionlines.specs.Lines.{line}
 use Rattle.actionlines.proofs.lines.action_lines.Given as goal
 

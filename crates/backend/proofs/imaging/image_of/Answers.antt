@@ -1,17 +1,17 @@
 use Rattle.std.proofs.Common.{◌≡◌, subst}
 use Rattle.program.specs.Names.{said_by}
-use Rattle.code.specs.Pieces.{code_of}
+use Rattle.lowering.specs.Pieces.{code_of}
 use Rattle.linker.specs.Failures as linked
 use Rattle.linker.specs.Linked.{Links}
-use Rattle.backend.specs.Refusals.{Fits, Refuses}
+use Rattle.backend.specs.Refusals.{CodeFits, RefusesCode}
 use Rattle.backend.proofs.Refusing.{of_generate, of_link, of_linked, passed}
 use Rattle.backend.proofs.imaging.image_of.Goals as goal
 
 pub returns-in_err-pieces : goal.returns-in_err-pieces
 returns-in_err-pieces c =
     let p = said_by c.args.checked.now in
-    passed c.from_residual-in_err-pieces.result c.in_err-pieces.field-0.0 (λ image. (image ≡ code_of p) × Fits p)
-    (Refuses p) c.from_residual-in_err-pieces.ensures
+    passed c.from_residual-in_err-pieces.result c.in_err-pieces.field-0.0 (λ image. (image ≡ code_of p) × CodeFits p)
+    (RefusesCode p) c.from_residual-in_err-pieces.ensures
     (of_generate p c.in_err-pieces.field-0.0 c.in_err-pieces.ensures.refusal)
 
 pub returns-in_err-image : goal.returns-in_err-image
@@ -19,7 +19,7 @@ returns-in_err-image c =
     let p = said_by c.args.checked.now in
     let pieces = c.in_ok-pieces.pieces.items in
     let e = c.in_err-image.field-0.0 in
-    passed c.from_residual-in_err-image.result e (λ image. (image ≡ code_of p) × Fits p) (Refuses p)
+    passed c.from_residual-in_err-image.result e (λ image. (image ≡ code_of p) × CodeFits p) (RefusesCode p)
     c.from_residual-in_err-image.ensures
     (of_link p pieces c.in_ok-pieces.ensures.made c.checked_is_well_formed.ensures e
     (subst (λ l. linked.Refuses l pieces e) c.in_ok-layout.ensures.layout c.in_err-image.ensures))

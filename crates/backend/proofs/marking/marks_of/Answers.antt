@@ -1,8 +1,8 @@
 use Rattle.std.proofs.Common.{◌≡◌, ap, ◌∙◌, map}
 use Rattle.program.specs.Names.{said_by}
-use Rattle.code.specs.Pieces as pieces_of
+use Rattle.lowering.specs.Pieces as pieces_of
 use Rattle.codegen.specs.Generated.{piece_of}
-use Rattle.backend.specs.Refusals.{Refuses}
+use Rattle.backend.specs.Refusals.{RefusesCode}
 use Rattle.backend.proofs.Refusing.{of_generate, passed}
 use Rattle.backend.proofs.PieceMarks.{all_appended, marks_from, program_marks}
 use Rattle.backend.proofs.marking.marks_of.Goals as goal
@@ -11,7 +11,7 @@ pub returns-in_err-pieces : goal.returns-in_err-pieces
 returns-in_err-pieces c =
     let p = said_by c.args.checked.now in
     passed c.from_residual-in_err-pieces.result c.in_err-pieces.field-0.0 (λ marks. marks.items ≡ pieces_of.marks_of p)
-    (Refuses p) c.from_residual-in_err-pieces.ensures
+    (RefusesCode p) c.from_residual-in_err-pieces.ensures
     (of_generate p c.in_err-pieces.field-0.0 c.in_err-pieces.ensures.refusal)
 
 pub returns : goal.returns

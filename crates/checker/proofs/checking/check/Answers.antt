@@ -2,7 +2,7 @@ use Rattle.std.proofs.Common.{sym, subst, ◌∙◌}
 use Rattle.syntax.specs.Whole.{unit_of}
 use Rattle.program.specs.WellFormed.{WellFormed}
 use Rattle.types.specs.Verdicts.{IsVerdict}
-use Rattle.unitresolver.proofs.Clean.{clean_bodies}
+use Rattle.resolver.proofs.CleanBodies.{clean_bodies}
 use Rattle.checker.proofs.checking.check.Goals as goal
 
 pub first_fault-requires-clause-clean : goal.first_fault-requires-clause-clean

@@ -1,6 +1,6 @@
 use Rattle.std.proofs.Common.{◌≡◌, ◌++◌, drop, map}
 use Rattle.program.specs.Views.{program_of, expression_of}
-use Rattle.code.specs.Expressions.{arguments_code}
+use Rattle.lowering.specs.Expressions.{arguments_code}
 use Rattle.codegen.proofs.expression.arguments.Given as goal
 
 abbrev pub invariant-loop-e : goal.invariant-loop-e

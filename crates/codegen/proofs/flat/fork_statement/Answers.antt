@@ -1,7 +1,7 @@
 use Rattle.std.proofs.Common.{length, map, arith, length-append}
 use Rattle.program.specs.Views.{program_of, expression_of}
-use Rattle.code.specs.Expressions.{arguments_code}
-use Rattle.code.specs.Processes.{fork_code}
+use Rattle.lowering.specs.Expressions.{arguments_code}
+use Rattle.lowering.specs.Processes.{fork_code}
 use Rattle.codegen.proofs.Arguments.{arguments_length}
 use Rattle.codegen.proofs.Failing.{failed}
 use Rattle.codegen.proofs.flat.fork_statement.Goals as goal

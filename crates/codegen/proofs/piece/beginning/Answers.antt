@@ -1,5 +1,5 @@
 use Rattle.std.proofs.Common.{◌≡◌, ◌+◌, length, arith, length-append, ◌∙◌}
-use Rattle.code.specs.Pieces.{parameters_code, entering_code}
+use Rattle.lowering.specs.Pieces.{parameters_code, entering_code}
 use Rattle.codegen.specs.Sites.{setting_at}
 use Rattle.codegen.proofs.Arguments.{parameters_length}
 use Rattle.codegen.proofs.Failing.{failed}

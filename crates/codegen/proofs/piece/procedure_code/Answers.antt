@@ -1,8 +1,8 @@
 use Rattle.std.proofs.Common.{◌++◌, length, ap, ◌∙◌}
 use Rattle.program.specs.Views.{program_of, procedure_of, block_in}
-use Rattle.code.specs.Marks.{sequence}
-use Rattle.code.specs.Statements.{block_code}
-use Rattle.code.specs.Pieces.{setting_of, parameters_code, entering_code}
+use Rattle.lowering.specs.Marks.{sequence}
+use Rattle.lowering.specs.Statements.{block_code}
+use Rattle.lowering.specs.Pieces.{setting_of, parameters_code, entering_code}
 use Rattle.codegen.specs.Halves.{beginning_code, end_code}
 use Rattle.codegen.proofs.Sequences.{whole, sequence-assoc}
 use Rattle.codegen.proofs.piece.procedure_code.Goals as goal

@@ -1,8 +1,8 @@
 use Rattle.std.proofs.Common.{◌≤◌, length, map, subst}
 use Rattle.std.specs.Prelude.{⊤, IfErr}
 use Rattle.program.specs.Views.{program_of, procedure_of}
-use Rattle.code.specs.Pieces.{unlinked_code}
-use Rattle.codegen.specs.Generated.{length_of, Refuses}
+use Rattle.lowering.specs.Pieces.{unlinked_code}
+use Rattle.codegen.specs.Generated.{length_of, RefusesPieces}
 use Rattle.codegen.proofs.Failing.{failed}
 use Rattle.codegen.proofs.Totals.{one_fits}
 use Rattle.codegen.proofs.pieces.generate.Goals as goal
@@ -17,6 +17,6 @@ returns-in_err-code-clause-refusal c =
     c.deref-procedure-items.ensures.value
     (one_fits p c.deref-procedure-items.result.now c.loop-procedure.procedure-index q c.loop-procedure-test.true
     c.procedure-item.is) in
-    subst (λ t. IfErr c.from_residual.result (λ e. Refuses (program_of t) e)) c.program-program.ensures.is
+    subst (λ t. IfErr c.from_residual.result (λ e. RefusesPieces (program_of t) e)) c.program-program.ensures.is
     (failed c.from_residual.result c.in_err-code.field-0.0 (λ _. ⊤) (length (unlinked_code p (procedure_of q)))
     (length_of p (map procedure_of program.procedures.items)) c.from_residual.ensures c.in_err-code.ensures fits)

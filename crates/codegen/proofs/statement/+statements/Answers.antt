@@ -3,8 +3,8 @@ use Rattle.program.specs.declared.statement.Statement.{If as IfOf, Join as JoinO
 use Rattle.program.specs.declared.statement.Statement.TheBlock.{hidden-the_row-Statement-0}
 use Rattle.program.specs.Trees.{If, While, Join, NoPart, SomePart}
 use Rattle.program.specs.Views.{program_of, expression_of, statement_of, block_in, block_of}
-use Rattle.code.specs.Expressions.{expression_code}
-use Rattle.code.specs.Statements.{block_code}
+use Rattle.lowering.specs.Expressions.{expression_code}
+use Rattle.lowering.specs.Statements.{block_code}
 use Rattle.codegen.specs.Sites.{setting_at}
 use Rattle.codegen.proofs.Patches.{patch_if, patch_then, then_place, patch_else, patch_while, patch_join, then_less}
 use Rattle.codegen.proofs.Patches.{else_made, if_block_fits, if_end_fits, while_block_fits, while_end_fits}

@@ -1,6 +1,6 @@
 use Rattle.std.proofs.Common.{◌≡◌, ◌++◌, drop, length}
 use Rattle.program.specs.Views.{block_in}
-use Rattle.code.specs.Statements.{block_code}
+use Rattle.lowering.specs.Statements.{block_code}
 use Rattle.codegen.specs.Sites.{setting_at}
 use Rattle.codegen.proofs.statement.+statements.Given as goal
 

@@ -2,7 +2,7 @@ use Rattle.std.proofs.Common.{◌≡◌, ◌≤◌, length, map, sym}
 use Rattle.words.specs.Limits.{monitors_base}
 use Rattle.program.specs.Views.{program_of, monitor_of}
 use Rattle.program.specs.WellFormed.{WellFormed}
-use Rattle.code.specs.Layout.{monitors_from}
+use Rattle.lowering.specs.Layout.{monitors_from}
 use Rattle.layout.specs.Views.{view_of}
 use Rattle.layout.proofs.Smallness.{small_monitors, all_placed}
 use Rattle.layout.proofs.placing.place.Goals as goal

@@ -2,7 +2,7 @@ use Rattle.std.proofs.Common.{◌≡◌, ◌++◌, ◌+◌, ◌*◌, ◌≤◌, 
 use Rattle.words.specs.Limits.{monitors_base}
 use Rattle.program.specs.Views.{monitor_of}
 use Rattle.program.specs.WellFormed.{all_words}
-use Rattle.code.specs.Layout.{monitors_from}
+use Rattle.lowering.specs.Layout.{monitors_from}
 use Rattle.layout.specs.Views.{view_of}
 use Rattle.layout.proofs.placing.place.Given as goal
 

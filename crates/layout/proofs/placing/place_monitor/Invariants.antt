@@ -1,6 +1,6 @@
 use Rattle.std.proofs.Common.{◌≡◌, ◌++◌, ◌+◌, drop}
 use Rattle.program.specs.WellFormed.{words_of}
-use Rattle.code.specs.Layout.{addresses_from}
+use Rattle.lowering.specs.Layout.{addresses_from}
 use Rattle.layout.proofs.placing.place_monitor.Given as goal
 
 -- what is placed, and what is left, is all; so are their words

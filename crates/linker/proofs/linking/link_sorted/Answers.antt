@@ -3,7 +3,7 @@ use Rattle.std.specs.Prelude.{slice_index, nat_le, sum, ◌&&◌}
 use Rattle.isa.specs.Limits.{most_instructions, most_monitors, most_member_words}
 use Rattle.isa.specs.Programs.{Program, IsProgram}
 use Rattle.isa.specs.declared.instr.Instr.{Instr}
-use Rattle.code.specs.Marks.{instructions}
+use Rattle.lowering.specs.Marks.{instructions}
 use Rattle.codegen.specs.Generated.{piece_of}
 use Rattle.linker.specs.Linked.{all_fit, code_from, length_of, image_of}
 use Rattle.linker.proofs.Steps.{failed}

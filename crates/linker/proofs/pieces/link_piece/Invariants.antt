@@ -1,7 +1,7 @@
 use Rattle.std.proofs.Common.{◌≡◌, ◌++◌, drop}
 use Rattle.std.specs.Prelude.{slice_index}
-use Rattle.code.specs.Marks.{instructions}
-use Rattle.code.specs.Linking.{linked_code}
+use Rattle.lowering.specs.Marks.{instructions}
+use Rattle.lowering.specs.Linking.{linked_code}
 use Rattle.linker.specs.Linked.{all_fit}
 use Rattle.linker.proofs.pieces.link_piece.Given as goal
 

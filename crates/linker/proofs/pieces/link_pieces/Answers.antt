@@ -1,6 +1,6 @@
 use Rattle.std.proofs.Common.{◌≡◌, ◌+◌, ◌++◌, false, map, drop, sym, ap, ◌∙◌}
 use Rattle.std.specs.Prelude.{slice_index}
-use Rattle.code.specs.Marks.{instructions}
+use Rattle.lowering.specs.Marks.{instructions}
 use Rattle.codegen.specs.Generated.{piece_of}
 use Rattle.linker.specs.Linked.{all_fit, code_from, length_of}
 use Rattle.linker.proofs.Steps.{failed, made_step, fit_step, fit_end, sum_step}

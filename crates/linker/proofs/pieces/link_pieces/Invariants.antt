@@ -1,6 +1,6 @@
 use Rattle.std.proofs.Common.{◌≡◌, ◌+◌, ◌++◌, map, drop}
 use Rattle.std.specs.Prelude.{slice_index}
-use Rattle.code.specs.Marks.{instructions}
+use Rattle.lowering.specs.Marks.{instructions}
 use Rattle.codegen.specs.Generated.{piece_of}
 use Rattle.linker.specs.Linked.{all_fit, code_from, length_of}
 use Rattle.linker.proofs.pieces.link_pieces.Given as goal

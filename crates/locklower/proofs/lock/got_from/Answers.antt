@@ -1,6 +1,6 @@
 use Rattle.std.proofs.Common.{◌++◌, [], ◌∷◌, ap, ◌∙◌, append_assoc, sym}
-use Rattle.code.proofs.Joins.{joined}
-use Rattle.code.specs.Marks.{plain}
+use Rattle.lowering.proofs.Joins.{joined}
+use Rattle.lowering.specs.Marks.{plain}
 use Rattle.locklower.proofs.RecoveryLaws.{moved_recovery}
 use Rattle.locklower.proofs.lock.got_from.Goals as goal
 

@@ -1,7 +1,7 @@
 use Rattle.std.proofs.Common.{◌≤◌, [], ◌∷◌, length}
 use Rattle.grammar.specs.Machine.{Locals}
 use Rattle.grammar.specs.Reading.{Leads}
-use Rattle.steps.specs.Ahead.{ahead}
+use Rattle.token_cursor.specs.Ahead.{ahead}
 use Rattle.parser.specs.Chains.{chain}
 use Rattle.parser.specs.Steps.{add_local}
 use Rattle.parser.proofs.declaration.locals.Given as goal

@@ -1,7 +1,7 @@
 use Rattle.std.proofs.Common.{◌≤◌, [], ◌∷◌, length}
 use Rattle.grammar.specs.Machine.{Members}
 use Rattle.grammar.specs.Reading.{Leads}
-use Rattle.steps.specs.Ahead.{ahead}
+use Rattle.token_cursor.specs.Ahead.{ahead}
 use Rattle.parser.specs.Chains.{chain}
 use Rattle.parser.specs.Steps.{add_member}
 use Rattle.parser.proofs.declaration.members.Given as goal

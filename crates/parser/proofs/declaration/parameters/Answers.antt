@@ -3,7 +3,7 @@ use Rattle.std.proofs.lemmas.Result.{err_from_is_err_and}
 use Rattle.syntax.specs.Lexeme.{Named}
 use Rattle.grammar.specs.Reading.{lexeme_at}
 use Rattle.grammar.proofs.Joins.{fail3}
-use Rattle.steps.specs.Ahead.{ahead}
+use Rattle.token_cursor.specs.Ahead.{ahead}
 use Rattle.parser.proofs.Skips.{named_parameters}
 use Rattle.syntax.specs.View.{parameter_of}
 use Rattle.parser.specs.Steps.{add_parameter}

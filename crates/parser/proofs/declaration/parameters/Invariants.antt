@@ -1,7 +1,7 @@
 use Rattle.std.proofs.Common.{◌≤◌, [], ◌∷◌, length}
 use Rattle.grammar.specs.Machine.{Parameters, MoreParameters}
 use Rattle.grammar.specs.Reading.{Leads}
-use Rattle.steps.specs.Ahead.{ahead}
+use Rattle.token_cursor.specs.Ahead.{ahead}
 use Rattle.parser.specs.Chains.{chain}
 use Rattle.parser.specs.Steps.{add_parameter}
 use Rattle.parser.proofs.declaration.parameters.Given as goal

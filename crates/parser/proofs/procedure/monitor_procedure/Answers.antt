@@ -4,7 +4,7 @@ use Rattle.syntax.specs.View.{procedure_of}
 use Rattle.grammar.specs.Machine.{reply_monitor_procedures, of_access}
 use Rattle.grammar.specs.Reading.{lexeme_at}
 use Rattle.grammar.proofs.Joins.{fail10}
-use Rattle.steps.specs.Ahead.{ahead}
+use Rattle.token_cursor.specs.Ahead.{ahead}
 use Rattle.parser.proofs.Skips.{over}
 use Rattle.parser.proofs.Steps.{then_takes, fail_rejects}
 use Rattle.parser.proofs.Units.{access_reply, no_access, access_begins, access_reads}

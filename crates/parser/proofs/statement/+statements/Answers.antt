@@ -9,7 +9,7 @@ use Rattle.syntax.specs.View.{expression_of}
 use Rattle.syntax.proofs.Built.{if_made, while_made, join_made}
 use Rattle.grammar.specs.Reading.{lexeme_at}
 use Rattle.grammar.proofs.Joins.{here, then1, fail1, then3, fail3, then5, fail5, leads_as, close, done}
-use Rattle.steps.specs.Ahead.{ahead}
+use Rattle.token_cursor.specs.Ahead.{ahead}
 use Rattle.parser.specs.Starts.{start_lexeme}
 use Rattle.parser.specs.Steps.{add_statement}
 use Rattle.parser.proofs.Loops.{goes_on, ends, chain_statements}

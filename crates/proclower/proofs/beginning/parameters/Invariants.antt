@@ -1,5 +1,5 @@
 use Rattle.std.proofs.Common.{◌≡◌, ◌++◌}
-use Rattle.code.specs.Pieces.{parameters_code}
+use Rattle.lowering.specs.Pieces.{parameters_code}
 use Rattle.proclower.proofs.beginning.parameters.Given as goal
 
 abbrev pub invariant-loop-left : goal.invariant-loop-left

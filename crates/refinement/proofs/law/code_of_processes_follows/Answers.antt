@@ -1,6 +1,6 @@
-use Rattle.execution.proofs.Followed.{followed}
-use Rattle.execution.proofs.Settling.{settled}
-use Rattle.execution.proofs.Holding.{held}
+use Rattle.proof_thread.proofs.Followed.{followed}
+use Rattle.proof_thread.proofs.Settling.{settled}
+use Rattle.proof_thread.proofs.Holding.{held}
 use Rattle.refinement.specs.Built.{build_of}
 use Rattle.refinement.proofs.Building.{is_build}
 use Rattle.refinement.proofs.law.code_of_processes_follows.Goals as goal

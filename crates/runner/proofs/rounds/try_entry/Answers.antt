@@ -2,7 +2,7 @@ use Rattle.std.proofs.Common.{◌≡◌, ◌∙◌, Some, true, false, slice_set
 use Rattle.std.proofs.lemmas.Option.{slice_get-get_or}
 use Rattle.runner.specs.declared.fault.RunFault.{RunFault}
 use Rattle.runner.specs.Views.{LogState, log_state}
-use Rattle.runner.specs.Entries.{Refuses}
+use Rattle.runner.specs.Entries.{RefusesEntry}
 use Rattle.runner.specs.Rounds.{AllPast}
 use Rattle.runner.proofs.Passing.{all_past, one_past, passes}
 use Rattle.runner.proofs.Unrolling.{holds}
@@ -22,7 +22,7 @@ returns-in-Err-Limit-clause-past g c =
     let limit = g.J.RunName.limit in
     let h = c.in-Err-Limit.ensures.err in
     let r = c.run-piece.ensures in
-    let refused = subst (λ (f : RunFault). Refuses p limit
+    let refused = subst (λ (f : RunFault). RefusesEntry p limit
     (log_state c.args.shared.now) c.args.t c.run-piece.result f) c.in-Err-Limit.field-0-is h.2 in
     let now = passes p limit (log_state c.args.shared.now) c.args.t c.run-piece.result refused r.reached r.within
     r.whole in

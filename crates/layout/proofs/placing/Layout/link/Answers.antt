@@ -1,5 +1,5 @@
 use Rattle.std.proofs.Common.{◌≤◌, length, ap, sym, ◌∙◌}
-use Rattle.code.specs.Layout as layouts
+use Rattle.lowering.specs.Layout as layouts
 use Rattle.layout.proofs.Smallness.{no_link}
 use Rattle.layout.proofs.placing.Layout.link.Goals as goal
 

@@ -1,5 +1,5 @@
 use Rattle.std.proofs.Common.{ap, sym, ◌∙◌}
-use Rattle.code.specs.Layout.{words_in}
+use Rattle.lowering.specs.Layout.{words_in}
 use Rattle.layout.proofs.Smallness.{all_words_seen}
 use Rattle.layout.proofs.placing.Layout.words.Goals as goal
 

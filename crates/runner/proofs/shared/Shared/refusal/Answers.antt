@@ -3,7 +3,7 @@ use Rattle.machine.specs.ConcreteSteps.{can_move, fault_at}
 use Rattle.machine.specs.Views.{concrete}
 use Rattle.runner.specs.declared.fault.RunFault.TheVariants.{Limit, Broken}
 use Rattle.runner.specs.Views.{PieceView, LogState, SharedView, log_state}
-use Rattle.runner.specs.Entries.{Refuses, IsFine, Stands}
+use Rattle.runner.specs.Entries.{RefusesEntry, IsFine, Stands}
 use Rattle.runner.proofs.Handing.{past_limit, in_limit}
 use Rattle.runner.proofs.Lives.{refuses_broken, no_fault}
 use Rattle.runner.proofs.shared.Shared.refusal.Goals as goal
@@ -25,8 +25,8 @@ returns-then-self-piece-clause-some g c =
     let free : is_some (fault_at s.machine.program h.concrete c.args.t a.here) ≡ false =
     sym (ap is_some c.refusal_at.ensures) ∙ sym c.is_some.ensures ∙ c.if-is_some.false in
     let none = no_fault (fault_at s.machine.program h.concrete c.args.t a.here) free in
-    subst (λ (x : SharedView). Refuses p limit (log_state x) c.args.t c.args.piece.now Limit) c.self.view_is
-    (subst (λ (x : PieceView). Refuses p limit h c.args.t x Limit) c.piece.view_is
+    subst (λ (x : SharedView). RefusesEntry p limit (log_state x) c.args.t c.args.piece.now Limit) c.self.view_is
+    (subst (λ (x : PieceView). RefusesEntry p limit h c.args.t x Limit) c.piece.view_is
     (past_limit p s.machine.program limit h a c.args.t s.steps s.limit c.from.result
     c.is_before_local-shared.result v.program stands moves none c.is_before_local-shared.ensures c.from.ensures
     v.counted v.limit_is v.within c.if-self-piece.true))
@@ -70,6 +70,6 @@ returns-then-is_some-clause-some g c =
     let moves : can_move h.concrete c.args.t ≡ true = cc in
     let fault : is_some (fault_at s.machine.program h.concrete c.args.t a.here) ≡ true =
     sym (ap is_some c.refusal_at.ensures) ∙ sym c.is_some.ensures ∙ c.if-is_some.true in
-    subst (λ (x : SharedView). Refuses p limit (log_state x) c.args.t c.args.piece.now Broken) c.self.view_is
-    (subst (λ (x : PieceView). Refuses p limit h c.args.t x Broken) c.piece.view_is
+    subst (λ (x : SharedView). RefusesEntry p limit (log_state x) c.args.t c.args.piece.now Broken) c.self.view_is
+    (subst (λ (x : PieceView). RefusesEntry p limit h c.args.t x Broken) c.piece.view_is
     (refuses_broken p s.machine.program limit h a c.args.t v.program stands moves c.piece.invariant.0 fault))

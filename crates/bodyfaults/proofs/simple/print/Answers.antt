@@ -1,4 +1,0 @@
-use Rattle.bodyfaults.proofs.simple.print.Goals as goal
-
-pub returns : goal.returns
-returns c = λ s place h. c.typed.ensures s h

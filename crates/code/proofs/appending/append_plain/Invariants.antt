@@ -1,8 +1,0 @@
-use Rattle.std.proofs.Common.{◌≡◌, ◌++◌, drop}
-use Rattle.code.specs.Marks.{plainly}
-use Rattle.code.proofs.appending.append_plain.Given as goal
-
--- what is appended, and what is left, is all
-abbrev pub invariant-loop-instruction : goal.invariant-loop-instruction
-invariant-loop-instruction l =
-    l.code.items ++ plainly (drop l.instruction-index l.instructions) ≡ l.fn.code.items ++ plainly l.instructions

@@ -1,9 +1,0 @@
-//! Actions of a process that no other process learns of may wait, so that the actions of others come before them: what
-//! makes one run of the source of all the orders in which a machine takes local steps.
-#![tactic(auto)]
-
-mod law;
-mod placing;
-
-pub use law::deferral_laws;
-pub use placing::placing_laws;

@@ -1,4 +1,0 @@
-pub mod Choosing
-pub mod Waiting
-pub mod Requests
-pub mod Going

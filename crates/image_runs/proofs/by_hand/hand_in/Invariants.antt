@@ -1,7 +1,0 @@
-use Rattle.image_runs.proofs.by_hand.hand_in.Given as goal
-
-abbrev pub ghosts-hand_in_as-J-RunName : goal.ghosts-hand_in_as-J-RunName
-ghosts-hand_in_as-J-RunName g a = record { program = a.image.now; limit = a.limit }
-
-abbrev pub ghosts-hand_in_as-J-Ledger : goal.ghosts-hand_in_as-J-Ledger
-ghosts-hand_in_as-J-Ledger g a = record { name = a.blank.name; parts = a.blank.parts }

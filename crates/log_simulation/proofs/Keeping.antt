@@ -1,0 +1,119 @@
+-- A recorder keeps up with the entries of a log.
+use Rattle.std.proofs.Common.{◌≡◌, ◌+◌, ◌<◌, ◌≤◌, ◌-◌, ℕ, zero, suc, List, [], ◌∷◌, length, Option, Some, None, true}
+use Rattle.std.proofs.Common.{refl, ap, sym, ◌∙◌, arith, subst, length-append}
+use Rattle.std.specs.Prelude.{◌^◌, ◌++◌, replicate}
+use Rattle.std.proofs.lemmas.List.{length-map, length-replicate}
+use Rattle.words.specs.Limits.{most_processes}
+use Rattle.isa.specs.Programs.{Program as Image}
+use Rattle.locals.specs.Threads.{Thread}
+use Rattle.locals.specs.Looks.{look}
+use Rattle.locals.specs.Steps.{local_after}
+use Rattle.machine.specs.FrontRuns.{EventStep}
+use Rattle.machine.specs.States.{ConcreteState, opening_concrete, state_of as machine_state, thread_at, thread_of}
+use Rattle.machine.specs.declared.event.Entry.{Entry}
+use Rattle.machine.specs.declared.event.Event.{Event}
+use Rattle.runner.specs.LogRuns.{local_step_of, shared_step_of, steps_of}
+use Rattle.runner.specs.Logs.{Enters, Runs, cost}
+use Rattle.runner.proofs.Unrolling.{runs_so}
+use Rattle.lowering.specs.Pieces.{code_of}
+use Rattle.program.specs.Trees.{Program}
+use Rattle.program.specs.WellFormed.{WellFormed}
+use Rattle.proof_simulation.specs.Explaining.{IsDue}
+use Rattle.proof_simulation.specs.Progress.{Progress}
+use Rattle.log_simulation.specs.Entries.{ComesTo, entry_steps, is_visible, progress_end, progress_entry, progress_locally}
+use Rattle.log_simulation.specs.Entries.{progress_shared}
+use Rattle.log_simulation.proofs.Progressing.{due_so, enters_so}
+use Rattle.log_simulation.specs.declared.recorder.Recorder.{Recorder}
+use Rattle.log_simulation.specs.Recording.{IsAlong, IsOf, RecordsUnlessLong}
+use Rattle.log_simulation.proofs.Entering.{here_once, within_made}
+use Rattle.log_simulation.proofs.Recording.{as_many}
+
+-- a thread stands at one place
+origin_once : (k : ConcreteState) (t : ℕ) (a b : Thread) → thread_of k t ≡ Some a → thread_of k t ≡ Some b → a ≡ b
+origin_once k t a b x y = let e : Some a ≡ Some b = sym x ∙ y in cc
+
+module _ (p : Program) (events : List EventStep) (k k' : ConcreteState) (e : Entry) (o here : Thread)
+    (enters : Enters (code_of p) k e k') (stands : thread_of k e.thread ≡ Some o)
+    (goes : local_after (code_of p) e.thread e.local o ≡ Some here) where
+  same_origin : enters.origin ≡ o
+  same_origin = origin_once k e.thread enters.origin o enters.stands stands
+
+  same_here : enters.here ≡ here
+  same_here = here_once (code_of p) k e.thread e.local enters.origin enters.here o here enters.stands enters.goes stands
+      goes
+
+  comes_at : (g : Progress) → ComesTo p events k g
+      → ComesTo p (events ++ entry_steps e) k' (progress_entry p e o here k' g)
+  comes_at g comes =
+      subst (λ (x : Thread). ComesTo p (events ++ entry_steps e) k' (progress_entry p e x here k' g)) same_origin
+      (subst (λ (x : Thread). ComesTo p (events ++ entry_steps e) k'
+      (progress_entry p e enters.origin x k' g)) same_here
+      (enters_so p events k k' e g comes enters))
+
+  -- what is due of a shared step
+  pub due_at : (g : Progress) → ComesTo p events k g → WellFormed p → (event : Event) → e.event ≡ Some event
+      → is_visible p (look (code_of p) e.thread here) event.value ≡ true → length events + e.local + 1 < 2 ^ 32
+      → IsDue p (machine_state k') e.thread (progress_locally p e.thread e.local o g)
+  due_at g comes w event is visible short =
+      subst (λ (x : Thread). IsDue p (machine_state k') e.thread (progress_locally p e.thread e.local x g)) same_origin
+      (due_so p events k k' e g comes enters w event is
+      (ap (λ (x : Thread). is_visible p (look (code_of p) e.thread x) event.value) same_here ∙ visible) short)
+
+  shared_many : (event : Option Event) → length (events ++ (replicate e.local (local_step_of e.thread)
+      ++ shared_step_of e.thread event))
+      ≡ length events + e.local + length (shared_step_of e.thread event)
+  shared_many event =
+      let first = length-append events (replicate e.local (local_step_of e.thread) ++ shared_step_of e.thread event) in
+      let second = length-append (replicate e.local (local_step_of e.thread)) (shared_step_of e.thread event) in
+      let locals = length-replicate e.local (local_step_of e.thread) in
+      omega (arith, first, second, locals)
+
+  -- by local steps alone
+  pub keeps_locally : (r r' : Recorder) (along : IsAlong p events k r) → e.event ≡ None → IsOf p r'
+      → RecordsUnlessLong (length events + e.local) (progress_locally p e.thread e.local o along.source) r'
+      → IsAlong p (events ++ entry_steps e) k' r'
+  keeps_locally r r' along alone of tells =
+      let g = progress_locally p e.thread e.local o along.source in
+      let many = shared_many None in
+      let count : length events + e.local ≡ length (events ++ (replicate e.local (local_step_of e.thread) ++ [])) =
+      omega (arith, many) in
+      record {
+        of_program = of;
+        source = progress_entry p e o here k' along.source;
+        comes = comes_at along.source along.comes;
+        told = subst (λ (x : Option Event). RecordsUnlessLong (length (events ++ (replicate e.local (local_step_of e.thread)
+            ++ shared_step_of e.thread x))) (progress_end p e.thread here x k' g) r') (sym alone)
+            (subst (λ n. RecordsUnlessLong n g r') count tells);
+      }
+
+  -- and a shared one behind them
+  pub keeps_shared : (r r' : Recorder) (along : IsAlong p events k r) (event : Event) → e.event ≡ Some event → IsOf p r'
+      → RecordsUnlessLong (length events + e.local + 1)
+      (progress_shared p e.thread here event.value k' (progress_locally p e.thread e.local o along.source)) r'
+      → IsAlong p (events ++ entry_steps e) k' r'
+  keeps_shared r r' along event is of tells =
+      let g = progress_locally p e.thread e.local o along.source in
+      let many = shared_many (Some event) in
+      record {
+        of_program = of;
+        source = progress_entry p e o here k' along.source;
+        comes = comes_at along.source along.comes;
+        told = subst (λ (x : Option Event). RecordsUnlessLong (length (events ++ (replicate e.local (local_step_of e.thread)
+            ++ shared_step_of e.thread x))) (progress_end p e.thread here x k' g) r') (sym is)
+            (subst (λ n. RecordsUnlessLong n (progress_shared p e.thread here event.value k' g) r') (sym many) tells);
+      }
+
+-- a thread that stands somewhere has a number that threads have
+pub within_most : (p : Program) (events : List EventStep) (k : ConcreteState) (g : Progress) (t : ℕ) (o : Thread)
+    → ComesTo p events k g → thread_of k t ≡ Some o → t ≤ most_processes
+within_most p events k g t o comes stands =
+    let made = within_made k.threads t o stands in let few = comes.kept.few in omega (arith, made, few)
+
+-- a log has as many steps as it costs
+pub cost_steps : (p : Program) (log : List Entry) (k : ConcreteState)
+    → Runs (code_of p) (opening_concrete (code_of p)) log k → cost log ≡ length (steps_of log)
+cost_steps p log k runs =
+    let r = runs_so (code_of p) log k runs in
+    let many = as_many p r.0 (steps_of log) r.3 in
+    let count = r.2 in
+    omega (arith, many, count)

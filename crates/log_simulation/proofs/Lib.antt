@@ -1,0 +1,12 @@
+pub mod Choices
+pub mod CatchingUp
+pub mod Waiting
+pub mod Below
+pub mod Visible
+pub mod Taking
+pub mod Entering
+pub mod Records
+pub mod Recording
+pub mod Keeping
+pub mod LogSteps
+pub mod Progressing

@@ -1,0 +1,12 @@
+use Rattle.log_simulation.proofs.Progressing.{due_so, enters_so, opens_so}
+use Rattle.log_simulation.proofs.log_law.progress_follows_logs.Goals as goal
+
+pub returns-clause-opens : goal.returns-clause-opens
+returns-clause-opens c = opens_so
+
+pub returns-clause-entries : goal.returns-clause-entries
+returns-clause-entries c = λ p events k k' e g h enters. enters_so p events k k' e g h enters
+
+pub returns-clause-due : goal.returns-clause-due
+returns-clause-due c = λ p events k k' e g h enters w event is visible short.
+    due_so p events k k' e g h enters w event is visible short

@@ -1,0 +1,19 @@
+use Rattle.std.proofs.Common.{◌≡◌, ◌∙◌, ap, arith, length, map, subst, ℕ}
+use Rattle.machine.specs.Views.{concrete}
+use Rattle.source_states.specs.Actions.{action_of}
+use Rattle.log_simulation.specs.Going.{Matches}
+use Rattle.log_simulation.specs.Recording.{progress_rest}
+use Rattle.log_simulation.proofs.Recording.{finishes}
+use Rattle.log_simulation.proofs.recorder.Recorder.finish.Goals as goal
+
+pub returns : goal.returns
+returns c = λ p events w along whole.
+    let k = concrete c.args.machine.now in
+    let few = along.comes.kept.few in
+    finishes p w events k c.args.self c.take_rest.new.self.follower
+    (map action_of c.into_actions.result.items) along whole
+    (λ g ahead matches waits behind.
+    subst (λ (n : ℕ). Matches c.take_rest.new.self.follower (progress_rest p n g)) c.threads.ensures.value
+    (c.in_ok-take_rest.ensures p g ahead along.of_program
+    (let made = c.threads.ensures.value in omega (arith, few, made)) matches waits behind))
+    (ap (λ i. map action_of i) c.into_actions.ensures)

@@ -1,0 +1,28 @@
+use Rattle.std.proofs.Common.{◌≡◌, ◌∙◌, ap, arith, refl, []}
+use Rattle.lowering.specs.Layout.{layout_of}
+use Rattle.program.specs.Names.{said_by}
+use Rattle.proof_simulation.specs.Progress.{opening_progress}
+use Rattle.log_simulation.proofs.Progressing.{opens_so}
+use Rattle.log_simulation.proofs.recorder.Recorder.new.Goals as goal
+
+pub returns : goal.returns
+returns c =
+    let p = said_by c.args.checked.now in
+    let e = c.in_ok-new.ensures in
+    record {
+      of_program = record {
+        program = ap said_by e.kept.0;
+        layout = e.kept.1;
+        marks = c.requires.marks;
+        places = c.in_ok-nothing.ensures.0;
+      };
+      source = opening_progress p;
+      comes = opens_so p;
+      told = record {
+        few = omega arith;
+        counted = refl;
+        matches = e.opens;
+        waits = c.in_ok-nothing.ensures.1;
+        bounded = λ t. omega arith;
+      };
+    }

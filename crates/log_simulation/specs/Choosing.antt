@@ -1,0 +1,44 @@
+-- Which action of a process others learn of next, by its offer.
+use Rattle.std.specs.Prelude.{ℕ, ◌+◌, List, Option, Some, None, nat_lt, if◌then◌else◌}
+use Rattle.words.specs.Limits.{most_processes}
+use Rattle.program.specs.declared.kinds.Member.{Member}
+use Rattle.meaning.specs.Labels.{Kind, kind_of}
+use Rattle.meaning.specs.Labels as L
+use Rattle.source_offers.specs.declared.offers.Label.{Label}
+use Rattle.source_offers.specs.declared.offers.Offered.{Offered}
+use Rattle.source_offers.specs.declared.offers.Offered.TheVariants.{Rests, Does, Makes, Claims, NotifiesSome, NotifiesAll}
+use Rattle.source_offers.specs.declared.next_action.Offer.{Offer}
+use Rattle.source_offers.specs.declared.next_action.Offer.TheVariants.{Own, Enters, Resumes, Joins}
+use Rattle.source_offers.specs.Offered.{label_of}
+
+-- the action that the code's label is
+abbrev pub visible_label : Label → Kind
+visible_label label = kind_of (label_of label)
+
+-- the action that others learn of, of a process with this offer, where so many processes were made; a notify or a
+-- broadcast resumes these
+abbrev pub visible_own : Offered → ℕ → List ℕ → Option Kind
+visible_own Rests made resumed = None
+visible_own (Does label effect) made resumed = Some (visible_label label)
+visible_own (Makes child into) made resumed = if nat_lt made most_processes then Some (L.Fork (made + 1)) else None
+visible_own (Claims child into aborted) made resumed = Some (L.Claim child)
+visible_own (NotifiesSome c) made resumed = Some (L.Notify c resumed)
+visible_own (NotifiesAll c) made resumed = Some (L.Broadcast c resumed)
+
+-- the action that others learn of, if it is one; a fork makes a process of the number that comes next
+abbrev pub visible_kind : Offer → ℕ → List ℕ → Option Kind
+visible_kind (Own o) made resumed = visible_own o made resumed
+visible_kind (Enters m) made resumed = Some (L.Enter m)
+visible_kind (Resumes m) made resumed = Some (L.Resume m)
+visible_kind (Joins child into aborted) made resumed = Some (L.Join child)
+
+-- the condition that it notifies or broadcasts
+abbrev pub resumed_own : Offered → Option Member
+resumed_own (NotifiesSome c) = Some c
+resumed_own (NotifiesAll c) = Some c
+resumed_own other = None
+
+-- the condition whose waiters an offer resumes, if it resumes any
+abbrev pub resumed_only : Offer → Option Member
+resumed_only (Own o) = resumed_own o
+resumed_only other = None

@@ -1,0 +1,49 @@
+-- What is told of a log.
+use Rattle.std.specs.Prelude.{◌≡◌, ◌<◌, ◌≤◌, ◌^◌, List, map}
+use Rattle.isa.specs.Programs.{Program as Image}
+use Rattle.machine.specs.FrontRuns.{EventStep, label_of, event_label}
+use Rattle.machine.specs.Runs.{Step, MachineRun}
+use Rattle.machine.specs.declared.event.Entry.{Entry}
+use Rattle.machine.specs.States.{ConcreteState, opening_concrete, state_of}
+use Rattle.runner.specs.LogRuns.{steps_of}
+use Rattle.runner.specs.Logs.{Runs, cost}
+use Rattle.program.specs.Trees.{Program}
+use Rattle.lowering.specs.Pieces.{code_of}
+use Rattle.meaning.specs.Labels.{Action}
+use Rattle.proof_simulation.specs.Explaining.{explanation}
+use Rattle.refinement.specs.Refines.{Explained}
+use Rattle.source_states.specs.Actions.{action_of}
+use Rattle.log_simulation.specs.declared.explained_log.LogExplanation.{LogExplanation}
+use Rattle.log_simulation.specs.declared.explained_log.LogExplanation.TheVariants as told
+
+-- the log is legal for the image, and leads there
+abbrev pub LeadsTo : Image → List Entry → ConcreteState → Type 0
+LeadsTo image log k = Runs image (opening_concrete image) log k
+
+-- the log isn't legal
+abbrev pub IsIllegal : Image → List Entry → Type 0
+IsIllegal image log = (k : ConcreteState) → LeadsTo image log k → ⊥
+
+-- a run of the machine of these steps leads there, and the actions are its explanation, which explains it in all that a
+-- refinement promises
+pub record IsExplanationOf (p : Program) (events : List EventStep) (k : ConcreteState)
+    (actions : List Action) : Type 0 where
+  pub steps : List Step
+  pub run : MachineRun (code_of p) steps (state_of k)
+  pub labels : map label_of steps ≡ map event_label events
+  pub explains : actions ≡ explanation p steps (state_of k) run
+  pub explained : Explained p (code_of p) steps (state_of k)
+  pub same : explained.actions ≡ actions
+
+-- the log is legal for the code of the program, and the actions explain the run of the machine that it is
+pub record IsRecorded (p : Program) (log : List Entry) (actions : List Action) : Type 0 where
+  pub machine : ConcreteState
+  pub legal : LeadsTo (code_of p) log machine
+  pub short : cost log < 2 ^ 32
+  pub explained : IsExplanationOf p (steps_of log) machine actions
+
+-- what is told of a log of the program's image
+abbrev pub ExplainsLog : Program → List Entry → LogExplanation → Type 0
+ExplainsLog p log told.NotARun = IsIllegal (code_of p) log
+ExplainsLog p log told.TooLong = (2 ^ 32 ≤ cost log) × (k : ConcreteState) × LeadsTo (code_of p) log k
+ExplainsLog p log (told.Actions actions) = IsRecorded p log (map action_of actions.items)

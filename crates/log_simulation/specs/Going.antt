@@ -1,0 +1,53 @@
+-- How far a follower has come, and where it comes to.
+use Rattle.std.specs.Prelude.{ℕ, ◌≡◌, Bool, true, false, [], ◌∷◌, ◌++◌, length, map}
+use Rattle.machine.specs.States.{State}
+use Rattle.program.specs.Names.{said_by}
+use Rattle.lowering.specs.Layout.{layout_of}
+use Rattle.meaning.specs.Labels.{Action, Label, kind_of}
+use Rattle.meaning.specs.Runs.{IsStep}
+use Rattle.meaning.specs.States.{SourceState}
+use Rattle.proof_commutation.specs.Deferring.{is_internal, IsBehind}
+use Rattle.proof_simulation.specs.Ordering.{Resumes, act}
+use Rattle.proof_simulation.specs.Progress.{Progress, progress_caught_up, progress_next}
+use Rattle.proof_simulation.specs.Tracking.{CanTake}
+use Rattle.source_states.specs.Actions.{action_of}
+use Rattle.source_states.specs.States.{state_of}
+use Rattle.log_simulation.specs.declared.follower.Follower.{Follower}
+
+-- a follower has come as far as this
+pub record Matches (f : Follower) (g : Progress) : Type 0 where
+  pub actions : map action_of f.actions.items ≡ g.actions
+  pub source : state_of f.state ≡ g.source
+
+-- where the source can take the action, the follower takes it
+abbrev pub Takes : Follower → Action → (is_possible : Bool) → Follower → Type 0
+Takes old action is_possible new =
+    (g : Progress) (after : SourceState) → Matches old g
+    → IsStep (said_by old.checked.now) g.source action after
+    → (is_possible ≡ true) × Matches new (record g { actions = g.actions ++ action ∷ []; source = after })
+
+-- where process t can take a quiet action, it takes that
+abbrev pub TakesInternal : Follower → (t : ℕ) → (is_possible : Bool) → Follower → Type 0
+TakesInternal old t is_possible new =
+    let p = said_by old.checked.now in
+    (g : Progress) (label : Label) (after : SourceState) → Matches old g
+    → CanTake p g.source t label → is_internal label ≡ true → IsStep p g.source (act t (kind_of label)) after
+    → (is_possible ≡ true)
+    × Matches new (record g { actions = g.actions ++ act t (kind_of label) ∷ []; source = after })
+
+-- where so many actions of process t wait, it takes them
+abbrev pub CatchesUp : Follower → (t count : ℕ) → (is_possible : Bool) → Follower → Type 0
+CatchesUp old t count is_possible new =
+    let p = said_by old.checked.now in
+    (g : Progress) (ahead : SourceState) → Matches old g → IsBehind p g.deferred g.source ahead
+    → length (g.deferred t) ≡ count → (is_possible ≡ true) × Matches new (progress_caught_up p t g)
+
+-- and then the next action of process t that others learn of, by a step of the machine to this state
+abbrev pub Follows : Follower → State → (t count : ℕ) → (is_possible : Bool) → Follower → Type 0
+Follows old s t count is_possible new =
+    let p = said_by old.checked.now in
+    (g : Progress) (ahead : SourceState) (label : Label) → old.layout ≡ layout_of p
+    → Matches old g → IsBehind p g.deferred g.source ahead → length (g.deferred t) ≡ count
+    → let caught_up = progress_caught_up p t g in
+    CanTake p caught_up.source t label → is_internal label ≡ false → Resumes p s caught_up.source.table label
+    → (is_possible ≡ true) × Matches new (progress_next p s t caught_up)

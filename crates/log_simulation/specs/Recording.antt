@@ -1,0 +1,58 @@
+-- The source behind a log, as far as it was walked.
+use Rattle.std.specs.Prelude.{ℕ, zero, suc, ◌≡◌, ◌+◌, ◌<◌, ◌≤◌, ◌^◌, ◌++◌, true, List, length, MatchBool}
+use Rattle.words.specs.Limits.{most_processes}
+use Rattle.machine.specs.FrontRuns.{EventStep}
+use Rattle.machine.specs.States.{ConcreteState}
+use Rattle.machine.specs.declared.event.Entry.{Entry}
+use Rattle.program.specs.Names.{said_by}
+use Rattle.program.specs.Trees.{Program}
+use Rattle.program.specs.WellFormed.{WellFormed}
+use Rattle.lowering.specs.Layout.{layout_of}
+use Rattle.lowering.specs.Pieces.{marks_of}
+use Rattle.proof_simulation.specs.Progress.{Progress, progress_caught_up}
+use Rattle.log_simulation.specs.Entries.{ComesTo, entry_steps}
+use Rattle.log_simulation.specs.Going.{Matches}
+use Rattle.log_simulation.specs.Deferred.{CountsDeferred}
+use Rattle.log_simulation.specs.declared.recorder.Recorder.{Recorder}
+
+-- a recorder of the program's logs
+pub record IsOf (p : Program) (r : Recorder) : Type 0 where
+  pub program : said_by r.follower.checked.now ≡ p
+  pub layout : r.follower.layout ≡ layout_of p
+  pub marks : r.marks.items ≡ marks_of p
+  pub places : length r.deferred.items ≡ most_processes + 1
+
+-- it has recorded this, behind so many steps
+pub record Records (steps : ℕ) (g : Progress) (r : Recorder) : Type 0 where
+  pub few : steps < 2 ^ 32
+  pub counted : r.steps ≡ steps
+  pub matches : Matches r.follower g
+  pub waits : CountsDeferred r.deferred.items g.deferred
+  pub bounded : (t : ℕ) → length (g.deferred t) ≤ steps
+
+-- or there are more steps than are told
+abbrev pub RecordsUnlessLong : ℕ → Progress → Recorder → Type 0
+RecordsUnlessLong steps g r = MatchBool r.is_whole (Records steps g r) (2 ^ 32 ≤ steps)
+
+-- so many more steps were counted, as long as there are fewer than 2^32
+abbrev pub Counts : ℕ → Recorder → Recorder → Type 0
+Counts more r r' =
+    MatchBool r'.is_whole ((r.is_whole ≡ true) × (r.steps + more < 2 ^ 32) × (r'.steps ≡ r.steps + more))
+    (r.is_whole ≡ true → 2 ^ 32 ≤ r.steps + more)
+
+-- the steps so far lead to this state of the machine, and what the source has come to is told
+pub record IsAlong (p : Program) (events : List EventStep) (k : ConcreteState) (r : Recorder) : Type 0 where
+  pub of_program : IsOf p r
+  pub source : Progress
+  pub comes : ComesTo p events k source
+  pub told : RecordsUnlessLong (length events) source r
+
+-- an entry led from one state of the machine to another
+abbrev pub KeepsUp : Program → ConcreteState → Recorder → Entry → ConcreteState → Recorder → Type 0
+KeepsUp p k r e k' r' =
+    WellFormed p → (events : List EventStep) → IsAlong p events k r → IsAlong p (events ++ entry_steps e) k' r'
+
+-- what waits of processes 1 to n is taken, by number
+abbrev pub progress_rest : Program → ℕ → Progress → Progress
+progress_rest p zero g = g
+progress_rest p (suc n) g = progress_caught_up p (suc n) (progress_rest p n g)

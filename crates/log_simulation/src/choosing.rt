@@ -1,0 +1,50 @@
+ghost use Rattle.std.specs.Prelude.{◌≡◌, option_map};
+ghost use Rattle.source_states.specs.Actions.{kind_of};
+ghost use Rattle.source_states.specs.States.{state_of};
+ghost use Rattle.log_simulation.specs.Choosing.{visible_kind, visible_own, resumed_only};
+
+use program::Member;
+use source_offers::{Offer, Offered};
+use source_states::{ActionKind, SourceState, named};
+use words::MOST_PROCESSES;
+
+/// The condition that a process with this offer notifies or broadcasts.
+pub fn notified(offer: &Offer) -> Option<Member>
+    ensures { result ≡ resumed_only offer.now }
+{
+    match offer {
+        Offer::Own(Offered::NotifiesSome(condition) | Offered::NotifiesAll(condition)) => Some(
+            *condition,
+        ),
+        _ => None,
+    }
+}
+
+// The action that others learn of, of what a process does for itself, where so many processes were made.
+fn visible_alone(offered: &Offered, made: u64, resumed: Vec<u64>) -> Option<ActionKind>
+    ensures { option_map kind_of result ≡ visible_own offered.now made resumed.items }
+{
+    match offered {
+        Offered::Rests => None,
+        Offered::Does(label, _) => Some(named(*label)),
+        Offered::Makes(_, _) if made < u64::from(MOST_PROCESSES) => Some(ActionKind::Fork(
+            made + 1,
+        )),
+        Offered::Makes(_, _) => None,
+        Offered::Claims { child, .. } => Some(ActionKind::Claim(*child)),
+        Offered::NotifiesSome(condition) => Some(ActionKind::Notify(*condition, resumed)),
+        Offered::NotifiesAll(condition) => Some(ActionKind::Broadcast(*condition, resumed)),
+    }
+}
+
+/// The action that others learn of, of a process with this offer; a notify or a broadcast resumes these.
+pub fn visible_action(offer: &Offer, state: &SourceState, resumed: Vec<u64>) -> Option<ActionKind>
+    ensures { option_map kind_of result ≡ visible_kind offer.now (state_of state.now).table.made resumed.items }
+{
+    match offer {
+        Offer::Own(offered) => visible_alone(offered, state.made(), resumed),
+        Offer::Enters(monitor) => Some(ActionKind::Enter(*monitor)),
+        Offer::Resumes(monitor) => Some(ActionKind::Resume(*monitor)),
+        Offer::Joins { child, .. } => Some(ActionKind::Join(*child)),
+    }
+}

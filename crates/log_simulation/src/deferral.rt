@@ -1,0 +1,60 @@
+ghost use Rattle.std.specs.Prelude.{◌≡◌};
+ghost use Rattle.proof_thread.specs.Deferrals.{last_mark, deferred_by_mark, mark_of};
+ghost use Rattle.log_simulation.specs.Deferred.{deferral_of, deferred_by_next_step};
+
+use locals::{Local, NextStep, Request};
+use lowering::Mark;
+
+/// What a step adds to the actions of its process that wait for its next one that others learn of.
+#[derive(Clone, Copy, PartialEq, Eq, Debug)]
+pub enum Deferral {
+    /// Nothing.
+    Nothing,
+    /// A fault.
+    Fault,
+    /// Another action.
+    Action,
+}
+
+/// The mark of the instruction that a thread stands at.
+pub fn mark_at(marks: &[Mark], here: &Local) -> Option<Mark>
+    ensures { result ≡ mark_of marks.now here.now }
+{
+    let place = here.place()?;
+    marks.get(place as usize).copied()
+}
+
+/// What a local step at this mark adds.
+pub fn at_mark(mark: Option<Mark>) -> Deferral
+    ensures { result ≡ deferral_of (deferred_by_mark mark) }
+{
+    match mark {
+        Some(Mark::AssignLocal | Mark::Test | Mark::Call | Mark::Return) => Deferral::Action,
+        _ => Deferral::Nothing,
+    }
+}
+
+// What the return of a last frame adds.
+fn at_last(mark: Option<Mark>) -> Deferral
+    ensures { result ≡ deferral_of (last_mark mark) }
+{
+    match mark {
+        Some(Mark::Return | Mark::LastReturn) => Deferral::Action,
+        _ => Deferral::Nothing,
+    }
+}
+
+/// What a step at this mark adds that comes to this, with this value in its event: a fault waits, where it is written,
+/// where no process can be made, and where a process was claimed before; and so does a last return.
+pub fn at_step(mark: Option<Mark>, step: NextStep, value: u32) -> Deferral
+    ensures { result ≡ deferral_of (deferred_by_next_step mark step value) }
+{
+    match step {
+        NextStep::Local => at_mark(mark),
+        NextStep::Shared(Request::Return | Request::ReturnValue(_)) => at_last(mark),
+        NextStep::Shared(Request::Fault(_)) => Deferral::Fault,
+        NextStep::Shared(Request::Swap(_, new)) if new != 0 && value != 0 => Deferral::Fault,
+        NextStep::Fork { .. } if value == 0 => Deferral::Fault,
+        _ => Deferral::Nothing,
+    }
+}

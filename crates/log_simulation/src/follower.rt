@@ -1,0 +1,194 @@
+ghost use Rattle.std.specs.Prelude.{◌≡◌, IfOk, Some, option_map, true, false, OnOk};
+ghost use Rattle.machine.specs.States.{state_of as machine_state};
+ghost use Rattle.machine.specs.Views.{concrete};
+ghost use Rattle.program.specs.Names.{said_by};
+ghost use Rattle.program.specs.declared.kinds.Member.{Member as MemberOf};
+ghost use Rattle.lowering.specs.Layout.{layout_of};
+ghost use Rattle.proof_commutation.specs.Deferring.{is_internal};
+ghost use Rattle.meaning.specs.Labels.{Label, kind_of as name_of};
+ghost use Rattle.source_states.specs.Actions.{kind_of};
+ghost use Rattle.source_states.specs.States.{state_of};
+ghost use Rattle.proof_simulation.specs.Ordering.{Resumes, act, awake_waiters};
+ghost use Rattle.proof_simulation.specs.Progress.{opening_progress};
+ghost use Rattle.proof_simulation.specs.Tracking.{CanTake};
+ghost use Rattle.log_simulation.specs.Choosing.{resumed_only};
+ghost use Rattle.log_simulation.specs.Going.{Follows, Matches, CatchesUp, Takes, TakesInternal};
+ghost use Rattle.log_simulation.specs.Requests.{visible_step};
+ghost use Rattle.log_simulation.specs.Waiting.{is_awake};
+
+use crate::choosing::{notified, visible_action};
+use crate::requests::is_visible;
+use layout::Layout;
+use locals::NextStep;
+use machine::Machine;
+use program::{Checked, Member};
+use source_offers::Offer;
+use source_states::{Action, ActionKind, SourceState};
+use std::alloc::{AllocError, Global};
+use words::Addr;
+
+/// A run of the source that follows a run of the machine: where it led, and its actions.
+#[derive(Drop)]
+pub struct Follower<'a> {
+    alloc: Global,
+    checked: &'a Checked<'a>,
+    layout: Layout,
+    state: SourceState<'a>,
+    actions: Vec<Action>,
+}
+
+impl<'a> Follower<'a> {
+    /// At the opening states of both, with the layout of the program.
+    pub fn new(
+        alloc: Global,
+        checked: &'a Checked<'a>,
+        layout: Layout,
+    ) -> Result<Follower<'a>, AllocError>
+        requires { layout ≡ layout_of (said_by checked.now) }
+        ensures opens { IfOk result (λ f. Matches f (opening_progress (said_by checked.now))) }
+        ensures kept { IfOk result (λ f. (f.checked.now ≡ checked.now)
+            × (f.layout ≡ layout_of (said_by checked.now))) }
+    {
+        Ok(Follower {
+            alloc,
+            checked,
+            layout,
+            state: SourceState::opening(alloc, checked)?,
+            actions: Vec::new(alloc),
+        })
+    }
+
+    /// The actions, in order.
+    pub fn into_actions(self) -> Vec<Action>
+        ensures { result.items ≡ self.entry.actions.items }
+    {
+        self.actions
+    }
+
+    /// Whether the step of a thread that comes to this, with this value in its event, is an action of its process
+    /// which other processes learn of.
+    pub fn is_visible(&self, step: NextStep, value: u32) -> bool
+        ensures { self.now.layout ≡ layout_of (said_by self.now.checked.now)
+            → result ≡ visible_step (said_by self.now.checked.now) step value }
+    {
+        let monitors = self.checked.program().monitors.len() as u32;
+        is_visible(&self.layout, monitors, step, value)
+    }
+
+    // Takes an action, if it is possible; else nothing is known of the state.
+    fn take(&mut self, t: u32, kind: ActionKind) -> Result<bool, AllocError>
+        ensures takes { IfOk result (λ b. Takes self.old (act t (kind_of kind)) b self.new) }
+        ensures kept { OnOk result ((self.new.checked ≡ self.old.checked)
+            × (self.new.layout ≡ self.old.layout)) }
+    {
+        let action = Action {
+            process: u64::from(t),
+            kind,
+        };
+        let is_possible = self
+            .state
+            .advance(self.alloc, self.checked.program(), &action)?;
+        if is_possible {
+            self.actions.push(action)?;
+        }
+        Ok(is_possible)
+    }
+
+    // Takes the quiet action that a process can take next; false where it can take none.
+    fn take_internal(&mut self, t: u32) -> Result<bool, AllocError>
+        ensures takes { IfOk result (λ b. TakesInternal self.old t b self.new) }
+        ensures kept { OnOk result ((self.new.checked ≡ self.old.checked)
+            × (self.new.layout ≡ self.old.layout)) }
+    {
+        let process = u64::from(t);
+        let program = self.checked.program();
+        let Some(kind) = self.state.take_internal(self.alloc, program, process)? else {
+            return Ok(false);
+        };
+        self.actions.push(Action { process, kind })?;
+        Ok(true)
+    }
+
+    /// Takes so many quiet actions of a process, which no other process learns of. False where one isn't there.
+    pub fn catch_up(&mut self, t: u32, count: u32) -> Result<bool, AllocError>
+        ensures catches_up { IfOk result (λ b. CatchesUp self.old t count b self.new) }
+        ensures kept { OnOk result ((self.new.checked ≡ self.old.checked)
+            × (self.new.layout ≡ self.old.layout)) }
+    {
+        for _ in 0..count {
+            if !self.take_internal(t)? {
+                return Ok(false);
+            }
+        }
+        Ok(true)
+    }
+
+    // Whether a process waits on a condition, and its thread doesn't sleep on this word.
+    fn has_waited(&self, machine: &Machine, condition: Member, word: Addr, t: u32) -> bool
+        ensures { result ≡ is_awake word.0 (machine_state (concrete machine.now))
+            (state_of self.now.state).table condition t }
+    {
+        self.state.waits(u64::from(t)) == Some(condition) && machine.asleep(t) != Some(word)
+    }
+
+    // Who waits on a condition, and doesn't sleep on its word.
+    fn waiters(&self, machine: &Machine, condition: Member) -> Result<Vec<u64>, AllocError>
+        ensures { IfOk result (λ v. self.now.layout ≡ layout_of (said_by self.now.checked.now)
+            → v.items ≡ awake_waiters (said_by self.now.checked.now) (machine_state (concrete machine.now))
+            (state_of self.now.state).table condition) }
+    {
+        let word = Addr(self.layout.address(condition));
+        let mut waiters = Vec::new(self.alloc);
+        for before in 0..machine.threads() {
+            let t = before + 1;
+            if self.has_waited(machine, condition, word, t) {
+                waiters.push(u64::from(t))?;
+            }
+        }
+        Ok(waiters)
+    }
+
+    // Whom a process with this offer resumes, where it notifies or broadcasts a condition.
+    fn resumed(&self, machine: &Machine, offer: &Offer) -> Result<Vec<u64>, AllocError>
+        ensures { IfOk result (λ v. self.now.layout ≡ layout_of (said_by self.now.checked.now)
+            → (c : MemberOf) → resumed_only offer.now ≡ Some c
+            → v.items ≡ awake_waiters (said_by self.now.checked.now) (machine_state (concrete machine.now))
+            (state_of self.now.state).table c) }
+    {
+        match notified(offer) {
+            Some(condition) => self.waiters(machine, condition),
+            None => Ok(Vec::new(self.alloc)),
+        }
+    }
+
+    // The action that others learn of, which a process takes next, where it can take one.
+    fn next_visible(&self, machine: &Machine, t: u32) -> Result<Option<ActionKind>, AllocError>
+        ensures { IfOk result (λ o. (label : Label) → self.now.layout ≡ layout_of (said_by self.now.checked.now)
+            → CanTake (said_by self.now.checked.now) (state_of self.now.state) t label → is_internal label ≡ false
+            → Resumes (said_by self.now.checked.now) (machine_state (concrete machine.now))
+            (state_of self.now.state).table label → option_map kind_of o ≡ Some (name_of label)) }
+    {
+        let Some((offer, _)) = self.state.offered(self.alloc, self.checked, u64::from(t))? else {
+            return Ok(None);
+        };
+        let resumed = self.resumed(machine, &offer)?;
+        Ok(visible_action(&offer, &self.state, resumed))
+    }
+
+    /// Follows a step of thread `t` to this machine, which is an action that other processes learn of: first come so
+    /// many quiet actions of its process, and then that. False where one isn't there, or isn't possible.
+    pub fn follow(&mut self, machine: &Machine, t: u32, count: u32) -> Result<bool, AllocError>
+        ensures follows { let s = machine_state (concrete machine.now) in
+            IfOk result (λ b. Follows self.old s t count b self.new) }
+        ensures kept { OnOk result ((self.new.checked ≡ self.old.checked)
+            × (self.new.layout ≡ self.old.layout)) }
+    {
+        if !self.catch_up(t, count)? {
+            return Ok(false);
+        }
+        match self.next_visible(machine, t)? {
+            Some(kind) => self.take(t, kind),
+            None => Ok(false),
+        }
+    }
+}

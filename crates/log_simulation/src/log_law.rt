@@ -1,0 +1,31 @@
+ghost use Rattle.lowering.specs.Pieces.{code_of};
+ghost use Rattle.locals.specs.Looks.{look};
+ghost use Rattle.machine.specs.States.{ConcreteState, opening_concrete, state_of};
+ghost use Rattle.machine.specs.declared.event.Entry.{Entry};
+ghost use Rattle.machine.specs.declared.event.Event.{Event};
+ghost use Rattle.proof_simulation.specs.Explaining.{IsDue};
+ghost use Rattle.proof_simulation.specs.Progress.{Progress, opening_progress};
+ghost use Rattle.program.specs.Trees.{Program};
+ghost use Rattle.program.specs.WellFormed.{WellFormed};
+ghost use Rattle.machine.specs.FrontRuns.{EventStep};
+ghost use Rattle.runner.specs.Logs.{Enters};
+ghost use Rattle.std.specs.Prelude.{[], ◌≡◌, ◌+◌, ◌++◌, ◌<◌, ◌^◌, List, Some, length, true};
+ghost use Rattle.log_simulation.specs.Entries.{ComesTo, entry_steps, is_visible, progress_entry, progress_locally};
+
+/// What the source has come to behind a legal log of a program's code is told entry by entry: each local step, and each
+/// shared one that no other process learns of, adds the action that it completes by the marks of the code, if it
+/// completes one, to what waits; behind a shared step that others learn of, by the request that the thread makes and
+/// the value of its event, all that waited of its process and the action itself are taken, which are possible.
+pub fn progress_follows_logs()
+    ensures opens { (p : Program) → ComesTo p [] (opening_concrete (code_of p)) (opening_progress p) }
+    ensures entries { (p : Program) (events : List EventStep) (k k' : ConcreteState) (e : Entry) (g : Progress)
+        → ComesTo p events k g
+        → (enters : Enters (code_of p) k e k')
+        → ComesTo p (events ++ entry_steps e) k' (progress_entry p e enters.origin enters.here k' g) }
+    ensures due { (p : Program) (events : List EventStep) (k k' : ConcreteState) (e : Entry) (g : Progress)
+        → ComesTo p events k g
+        → (enters : Enters (code_of p) k e k') → WellFormed p → (event : Event) → e.event ≡ Some event
+        → is_visible p (look (code_of p) e.thread enters.here) event.value ≡ true
+        → length events + e.local + 1 < 2 ^ 32
+        → IsDue p (state_of k') e.thread (progress_locally p e.thread e.local enters.origin g) }
+{}

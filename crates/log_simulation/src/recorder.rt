@@ -1,0 +1,225 @@
+ghost use Rattle.std.specs.Prelude.{[], ◌≡◌, ◌+◌, ◌<◌, ◌≤◌, ◌^◌, true, IfOk, List, MatchBool, None, OnOk, Option, Some};
+ghost use Rattle.std.specs.Prelude.{length, map, ℕ};
+ghost use Rattle.words.specs.Limits.{most_processes};
+ghost use Rattle.words.specs.Updates.{put};
+ghost use Rattle.lowering.specs.Layout.{layout_of};
+ghost use Rattle.lowering.specs.Pieces.{code_of, marks_of};
+ghost use Rattle.proof_commutation.specs.Deferring.{IsBehind};
+ghost use Rattle.proof_thread.specs.Deferrals.{deferred_by_mark, mark_of};
+ghost use Rattle.locals.specs.Looks.{look};
+ghost use Rattle.locals.specs.Steps.{local_after, local_step};
+ghost use Rattle.machine.specs.FrontRuns.{EventStep};
+ghost use Rattle.machine.specs.States.{opening_concrete, state_of as machine_state};
+ghost use Rattle.machine.specs.Views.{concrete};
+ghost use Rattle.meaning.specs.Labels.{Kind};
+ghost use Rattle.meaning.specs.States.{SourceState};
+ghost use Rattle.proof_simulation.specs.Explaining.{IsDue};
+ghost use Rattle.proof_simulation.specs.Progress.{Progress};
+ghost use Rattle.proof_simulation.specs.Deferred.{deferred_then};
+ghost use Rattle.program.specs.Names.{said_by};
+ghost use Rattle.program.specs.Trees.{Program};
+ghost use Rattle.program.specs.WellFormed.{WellFormed};
+ghost use Rattle.source_states.specs.Actions.{action_of};
+ghost use Rattle.log_simulation.specs.Entries.{is_visible, progress_locally, progress_shared};
+ghost use Rattle.log_simulation.specs.Going.{Matches};
+ghost use Rattle.log_simulation.specs.Explanations.{IsExplanationOf};
+ghost use Rattle.log_simulation.specs.Recording.{Counts, IsAlong, IsOf, RecordsUnlessLong, progress_rest};
+ghost use Rattle.log_simulation.specs.Deferred.{CountsDeferred, deferral_of};
+
+use crate::deferral::{Deferral, at_mark, at_step, mark_at};
+use crate::deferred::Deferred;
+use crate::follower::Follower;
+use isa::Image;
+use layout::Layout;
+use locals::Local;
+use lowering::Mark;
+use machine::{Entry, Event, Machine};
+use program::Checked;
+use source_states::Action;
+use std::alloc::{AllocError, Global};
+use words::MOST_PROCESSES;
+
+/// The source behind a log, as far as it was walked. It is told as long as the log has fewer than 2^32 steps.
+#[derive(Drop)]
+pub struct Recorder<'a> {
+    marks: Vec<Mark>,
+    follower: Follower<'a>,
+    // What waits of each process for its next action that others learn of, by its number.
+    deferred: Vec<Deferred>,
+    // How many steps the log has so far, while it is told.
+    steps: u32,
+    is_whole: bool,
+}
+
+// Nothing waits of any process.
+fn nothing(alloc: Global) -> Result<Vec<Deferred>, AllocError>
+    ensures { IfOk result (λ v. (length v.items ≡ most_processes + 1) × CountsDeferred v.items (λ t. [])) }
+{
+    let mut deferred = Vec::new(alloc);
+    for _ in 0..=MOST_PROCESSES {
+        deferred.push(Deferred::none())?;
+    }
+    Ok(deferred)
+}
+
+impl<'a> Recorder<'a> {
+    /// At the beginning of a log, with the program's layout and the marks of its code.
+    pub fn new(
+        alloc: Global,
+        checked: &'a Checked<'a>,
+        layout: Layout,
+        marks: Vec<Mark>,
+    ) -> Result<Recorder<'a>, AllocError>
+        requires layout { layout ≡ layout_of (said_by checked.now) }
+        requires marks { marks.items ≡ marks_of (said_by checked.now) }
+        ensures { let p = said_by checked.now in
+            IfOk result (λ r. IsAlong p [] (opening_concrete (code_of p)) r) }
+    {
+        Ok(Recorder {
+            marks,
+            follower: Follower::new(alloc, checked, layout)?,
+            deferred: nothing(alloc)?,
+            steps: 0,
+            is_whole: true,
+        })
+    }
+
+    /// Whether the log has had fewer than 2^32 steps.
+    pub fn is_whole(&self) -> bool
+        ensures { result ≡ self.now.is_whole }
+    {
+        self.is_whole
+    }
+
+    // So many more steps.
+    fn count(&mut self, steps: u32)
+        ensures kept { self.new ≡ record self.old { steps = self.new.steps; is_whole = self.new.is_whole } }
+        ensures counts { Counts steps self.old self.new }
+    {
+        if steps > u32::MAX - self.steps {
+            self.is_whole = false;
+        } else {
+            self.steps += steps;
+        }
+    }
+
+    // What a step of a process adds waits.
+    fn delay(&mut self, t: u32, deferral: Deferral)
+        ensures kept { self.new ≡ record self.old { deferred = self.new.deferred } }
+        ensures places { length self.new.deferred.items ≡ length self.old.deferred.items }
+        ensures waits { (f : ℕ → List Kind) (o : Option Kind) → CountsDeferred self.old.deferred.items f → deferral ≡ deferral_of o
+            → length (f t) + 1 < 2 ^ 32 → CountsDeferred self.new.deferred.items (put f t (deferred_then o (f t))) }
+    {
+        if deferral == Deferral::Nothing {
+            return;
+        }
+        if let Some(deferred) = self.deferred.get_mut(t as usize) {
+            *deferred = deferred.behind(deferral);
+        }
+    }
+
+    // No action of a process waits any more; how many did.
+    fn take_deferred(&mut self, t: u32) -> u32
+        ensures kept { self.new ≡ record self.old { deferred = self.new.deferred } }
+        ensures places { length self.new.deferred.items ≡ length self.old.deferred.items }
+        ensures waits { (f : ℕ → List Kind) → CountsDeferred self.old.deferred.items f → t < length self.old.deferred.items
+            → (result ≡ length (f t)) × CountsDeferred self.new.deferred.items (put f t []) }
+    {
+        match self.deferred.get_mut(t as usize) {
+            Some(deferred) => std::mem::replace(deferred, Deferred::none()).count,
+            None => 0,
+        }
+    }
+
+    // Takes a local step of a thread.
+    fn take_step(&mut self, image: &Image, here: &mut Local, t: u32) -> bool
+        ensures step { MatchBool result (local_step image.now t here.old ≡ Some here.new)
+            (local_step image.now t here.old ≡ None) }
+        ensures kept { self.new ≡ record self.old { deferred = self.new.deferred } }
+        ensures places { length self.new.deferred.items ≡ length self.old.deferred.items }
+        ensures waits { (f : ℕ → List Kind) → CountsDeferred self.old.deferred.items f → length (f t) + 1 < 2 ^ 32
+            → CountsDeferred self.new.deferred.items
+            (put f t (deferred_then (deferred_by_mark (mark_of self.old.marks.items here.old)) (f t))) }
+    {
+        let deferral = at_mark(mark_at(self.marks.as_slice(), here));
+        self.delay(t, deferral);
+        here.take_step(image, t)
+    }
+
+    /// Takes the local steps of an entry, from its thread's state on; false where the thread takes fewer.
+    pub fn take_steps(&mut self, image: &Image, here: &mut Local, entry: &Entry) -> bool
+        ensures goes { MatchBool result
+            (local_after image.now entry.now.thread entry.now.local here.old ≡ Some here.new)
+            (local_after image.now entry.now.thread entry.now.local here.old ≡ None) }
+        ensures told { result ≡ true → (p : Program) (n : ℕ) (g : Progress) → image.now ≡ code_of p → IsOf p self.old
+            → RecordsUnlessLong n g self.old
+            → IsOf p self.new × RecordsUnlessLong (n + entry.now.local)
+            (progress_locally p entry.now.thread entry.now.local here.old g) self.new }
+    {
+        self.count(entry.local);
+        for _ in 0..entry.local {
+            if !self.take_step(image, here, entry.thread) {
+                return false;
+            }
+        }
+        true
+    }
+
+    /// Takes in the shared step of thread `t`, which stood here before it, and which led to this machine.
+    pub fn take_shared_step(
+        &mut self,
+        machine: &Machine,
+        t: u32,
+        here: &Local,
+        image: &Image,
+        event: Event,
+    ) -> Result<(), AllocError>
+        ensures { OnOk result ((p : Program) (n : ℕ) (g : Progress) → image.now ≡ code_of p → IsOf p self.old
+            → t ≤ most_processes → RecordsUnlessLong n g self.old
+            → (is_visible p (look (code_of p) t here.now) event.value ≡ true → n + 1 < 2 ^ 32
+            → IsDue p (machine_state (concrete machine.now)) t g)
+            → IsOf p self.new
+            × RecordsUnlessLong (n + 1) (progress_shared p t here.now event.value (concrete machine.now) g) self.new) }
+    {
+        self.count(1);
+        if !self.is_whole {
+            return Ok(());
+        }
+        let step = here.next_step(image, t);
+        if self.follower.is_visible(step, event.value) {
+            let count = self.take_deferred(t);
+            self.is_whole = self.follower.follow(machine, t, count)?;
+        } else {
+            let mark = mark_at(self.marks.as_slice(), here);
+            self.delay(t, at_step(mark, step, event.value));
+        }
+        Ok(())
+    }
+
+    // The actions that wait are taken, by rising process. Each is possible, in a log that is told.
+    fn take_rest(&mut self, made: u32) -> Result<(), AllocError>
+        ensures { OnOk result ((p : Program) (g : Progress) (ahead : SourceState) → IsOf p self.old
+            → made ≤ most_processes → Matches self.old.follower g → CountsDeferred self.old.deferred.items g.deferred
+            → IsBehind p g.deferred g.source ahead → Matches self.new.follower (progress_rest p made g)) }
+    {
+        for before in 0..made {
+            let t = before + 1;
+            let count = self.take_deferred(t);
+            if !self.follower.catch_up(t, count)? {
+                return Ok(());
+            }
+        }
+        Ok(())
+    }
+
+    /// All actions of the log, where it led to this machine; those that wait come last, by rising process.
+    pub fn finish(self, machine: &Machine) -> Result<Vec<Action>, AllocError>
+        ensures { IfOk result (λ actions. (p : Program) (events : List EventStep) → WellFormed p
+            → IsAlong p events (concrete machine.now) self.entry → self.entry.is_whole ≡ true
+            → IsExplanationOf p events (concrete machine.now) (map action_of actions.items)) }
+    {
+        let mut recorder = self;
+        recorder.take_rest(machine.threads())?;
+        Ok(recorder.follower.into_actions())
+    }
+}

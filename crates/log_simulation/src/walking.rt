@@ -1,0 +1,111 @@
+ghost use Rattle.std.specs.Prelude.{[], ◌≡◌, ◌<◌, ◌≤◌, false, true, IfOk, MatchBool, MatchOption, OnOk, Some, length};
+ghost use Rattle.std.specs.Prelude.{⊤};
+ghost use Rattle.lowering.specs.Pieces.{code_of};
+ghost use Rattle.locals.specs.Threads.{Thread};
+ghost use Rattle.machine.specs.States.{ConcreteState, opening_concrete, thread_of};
+ghost use Rattle.machine.specs.ConcreteSteps.{can_move};
+ghost use Rattle.machine.specs.Views.{concrete};
+ghost use Rattle.program.specs.Names.{said_by};
+ghost use Rattle.program.specs.Trees.{Program};
+ghost use Rattle.program.specs.WellFormed.{WellFormed};
+ghost use Rattle.runner.specs.LogRuns.{steps_of};
+ghost use Rattle.runner.specs.Logs.{Ends, Enters};
+ghost use Rattle.log_simulation.specs.Explanations.{IsIllegal, LeadsTo};
+ghost use Rattle.log_simulation.specs.Recording.{IsAlong, KeepsUp};
+
+use crate::recorder::Recorder;
+use isa::Image;
+use locals::Local;
+use machine::{Entry, Event, Machine};
+use robustexit::ExitPhase;
+use std::alloc::{AllocError, Global};
+use words::MOST_PROCESSES;
+
+// How many buckets its sleepers are kept in: one for each thread that there can be.
+const BUCKETS: u32 = MOST_PROCESSES;
+
+// Takes the shared step of thread `t`; false where it isn't this event.
+fn take_shared(machine: &mut Machine, t: u32, event: Event) -> bool
+    requires thread { (0 < t) × (t ≤ length machine.old.threads) }
+    requires room { 1 ≤ machine.old.room }
+    ensures ends { (here : Thread) → thread_of (concrete machine.old) t ≡ Some here → MatchBool result
+        (Ends machine.old.program (concrete machine.old) t here (Some event) (concrete machine.new))
+        ((k : ConcreteState) → Ends machine.old.program (concrete machine.old) t here (Some event) k → ⊥) }
+    ensures program { machine.new.program ≡ machine.old.program }
+{
+    if machine.is_before_local(t, machine.local(t)) {
+        return false;
+    }
+    match machine.step(t) {
+        Ok(taken) => taken == event,
+        Err(_) => false,
+    }
+}
+
+// Copies the state of a thread, where it can move.
+fn copy_mover(machine: &Machine, t: u32, here: &mut Local) -> bool
+    ensures { MatchBool result
+        ((can_move (concrete machine.now) t ≡ true) × (thread_of (concrete machine.now) t ≡ Some here.new))
+        (can_move (concrete machine.now) t ≡ false) }
+{
+    if !machine.can_move(t) {
+        return false;
+    }
+    here.copy_from(machine.local(t));
+    true
+}
+
+// Takes an entry, and records it; false where the machine can't take it. What `here` holds is lost.
+fn go_through(
+    image: &Image,
+    machine: &mut Machine,
+    recorder: &mut Recorder,
+    here: &mut Local,
+    entry: &Entry,
+) -> Result<bool, AllocError>
+    requires program { machine.old.program ≡ image.now }
+    ensures enters { IfOk result (λ b. MatchBool b
+        (Enters image.now (concrete machine.old) entry.now (concrete machine.new))
+        ((k : ConcreteState) → Enters image.now (concrete machine.old) entry.now k → ⊥)) }
+    ensures told { IfOk result (λ b. b ≡ true → (p : Program) → image.now ≡ code_of p
+        → KeepsUp p (concrete machine.old) recorder.old entry.now (concrete machine.new) recorder.new) }
+    ensures program { OnOk result (machine.new.program ≡ image.now) }
+{
+    let t = entry.thread;
+    if !copy_mover(machine, t, here) || !recorder.take_steps(image, here, entry) {
+        return Ok(false);
+    }
+    machine.make_room(1)?;
+    machine.copy_local(t, here);
+    let Some(event) = entry.event else {
+        return Ok(true);
+    };
+    if !take_shared(machine, t, event) {
+        return Ok(false);
+    }
+    recorder.take_shared_step(machine, t, here, image, event)?;
+    Ok(true)
+}
+
+/// Walks over a log of an image, and records its actions: the machine after it; None where the log isn't legal.
+pub fn walk(
+    alloc: Global,
+    image: &Image,
+    log: &[Entry],
+    recorder: &mut Recorder,
+) -> Result<Option<Machine>, AllocError>
+    ensures legal { IfOk result (λ o. MatchOption o (IsIllegal image.now log.now)
+        (λ m. LeadsTo image.now log.now (concrete m))) }
+    ensures told { IfOk result (λ o. MatchOption o ⊤ (λ m. (p : Program) → WellFormed p → image.now ≡ code_of p
+        → IsAlong p [] (opening_concrete image.now) recorder.old
+        → IsAlong p (steps_of log.now) (concrete m) recorder.new)) }
+{
+    let mut machine = Machine::new(alloc, image, BUCKETS)?;
+    let mut here = Local::exiting(ExitPhase::Ended);
+    for entry in log {
+        if !go_through(image, &mut machine, recorder, &mut here, entry)? {
+            return Ok(None);
+        }
+    }
+    Ok(Some(machine))
+}

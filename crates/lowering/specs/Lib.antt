@@ -1,0 +1,11 @@
+pub mod Layout
+pub mod Cells
+pub mod Marks
+pub mod Locks
+pub mod Conditions
+pub mod Processes
+pub mod Expressions
+pub mod Statements
+pub mod Pieces
+pub mod Rebasing
+pub mod Linking

@@ -1,0 +1,24 @@
+ghost use Rattle.std.specs.Prelude.{◌≡◌, [], ◌∷◌, ◌++◌, OnOk};
+ghost use Rattle.lowering.specs.Marks.{with_mark, plain, plainly};
+
+use crate::mark::{Mark, Marked};
+use isa::Instr;
+use std::alloc::AllocError;
+
+/// One more instruction, with its mark.
+pub fn append(code: &mut Vec<Marked>, mark: Mark, instruction: Instr) -> Result<(), AllocError>
+    ensures { OnOk result (code.new.items ≡ code.old.items ++ with_mark mark instruction ∷ []) }
+{
+    code.push(Marked { instruction, mark })?;
+    Ok(())
+}
+
+/// Some more instructions, at which no action stands.
+pub fn append_plain(code: &mut Vec<Marked>, instructions: &[Instr]) -> Result<(), AllocError>
+    ensures { OnOk result (code.new.items ≡ code.old.items ++ plainly instructions.now) }
+{
+    for instruction in instructions {
+        append(code, Mark::Plain, *instruction)?;
+    }
+    Ok(())
+}

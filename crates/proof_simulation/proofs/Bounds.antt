@@ -1,0 +1,91 @@
+-- How many steps a thread has left at most.
+use Rattle.std.proofs.Common.{ℕ, zero, suc, ◌+◌, ◌<◌, ◌≤◌, ◌==◌, Bool, true, false, List, Option, arith}
+use Rattle.std.specs.Prelude.{if◌then◌else◌}
+use Rattle.locals.specs.Threads.{Thread}
+use Rattle.program.specs.Trees.{Program}
+use Rattle.program.specs.WellFormed.{WellFormed}
+use Rattle.meaning.specs.Values.{Variables}
+use Rattle.meaning.specs.Processes.{Process}
+use Rattle.protocol.specs.Points.{ToExit, ToWait, Point, Unmade, Runs, EnterPends, EnterTries, ReenterPends}
+use Rattle.protocol.specs.Points.{ReenterTries, TakeReads, TakeMarks, TakeSleeps, TakeTries, GotReads, GotLinks}
+use Rattle.protocol.specs.Points.{GotHeads, GotUnpends, WaitReads, NotifyAdds, NotifyWakes, BroadcastAdds}
+use Rattle.protocol.specs.Points.{BroadcastMarks, BroadcastReads, BroadcastMoves, JoinReads, JoinSleeps, JoinLearns}
+use Rattle.protocol.specs.Points.{JoinTakes, LeavePends, LeaveReads, LeaveHeads, LeaveSwaps, LeaveWakes, HasLeft, Dies}
+use Rattle.protocol.specs.Points.{Walks, ClearsId, LastWakes, HasEnded}
+use Rattle.protocol.specs.World.{World}
+use Rattle.proof_thread.specs.Following.{Build}
+use Rattle.refinement.specs.Built.{build_of}
+use Rattle.refinement.specs.Pace.{stretch_length}
+use Rattle.proof_simulation.specs.Standing.{StandsAt, unmade, works, returns, inside, faults, reads, sleeps, learns, takes}
+use Rattle.proof_simulation.specs.Standing.{walks, clears, wakes, rests}
+use Rattle.proof_simulation.specs.Ranks.{rank, steps_left, more_steps, most_left}
+
+either_few : (b : Bool) (x y n : ℕ) → x ≤ n → y ≤ n → (if b then x else y) ≤ n
+either_few true x y n h g = h
+either_few false x y n h g = g
+
+rank_few : (more : ℕ) (w : World) → 2 ≤ more → (pt : Point) → rank more w pt ≤ more + 68
+rank_few more w big (EnterPends m) = omega (arith, big)
+rank_few more w big (EnterTries m) = omega arith
+rank_few more w big (ReenterPends m) = omega (arith, big)
+rank_few more w big (ReenterTries m) = omega arith
+rank_few more w big (TakeReads m k) = omega arith
+rank_few more w big (TakeMarks m v k) = either_few (w.lock m == v) 18 52 _ (omega arith) (omega arith)
+rank_few more w big (TakeSleeps m v k) = either_few (w.lock m == v) 1 52 _ (omega arith) (omega arith)
+rank_few more w big (TakeTries m v k) = either_few (w.lock m == v) 1 52 _ (omega arith) (omega arith)
+rank_few more w big (GotReads m v) = omega arith
+rank_few more w big (GotLinks m v h) = omega arith
+rank_few more w big (GotHeads m v) = omega arith
+rank_few more w big (GotUnpends m v) = omega arith
+rank_few more w big (WaitReads c) = omega (arith, big)
+rank_few more w big (NotifyAdds c) = omega arith
+rank_few more w big (NotifyWakes c) = omega arith
+rank_few more w big (BroadcastAdds c) = omega arith
+rank_few more w big (BroadcastMarks c) = omega arith
+rank_few more w big (BroadcastReads c) = omega arith
+rank_few more w big (BroadcastMoves c s) = omega arith
+rank_few more w big (JoinReads q) = either_few (w.id q == 0) 1 35 _ (omega arith) (omega arith)
+rank_few more w big (JoinSleeps q) = omega arith
+rank_few more w big (JoinLearns q end) = omega arith
+rank_few more w big (JoinTakes q end) = omega arith
+rank_few more w big (LeavePends m r) = omega arith
+rank_few more w big (LeaveReads m r) = omega arith
+rank_few more w big (LeaveHeads m h r) = omega arith
+rank_few more w big (LeaveSwaps m r) = omega arith
+rank_few more w big (LeaveWakes m ToExit) = omega arith
+rank_few more w big (LeaveWakes m (ToWait c s)) = omega (arith, big)
+rank_few more w big (HasLeft m ToExit) = omega arith
+rank_few more w big (HasLeft m (ToWait c s)) = omega arith
+rank_few more w big (Dies cause x) = omega arith
+rank_few more w big (Walks zero x end) = omega arith
+rank_few more w big (Walks (suc m) x end) = omega arith
+rank_few more w big (ClearsId end) = omega arith
+rank_few more w big (LastWakes end) = omega arith
+rank_few more w big Unmade = omega arith
+rank_few more w big Runs = omega arith
+rank_few more w big (HasEnded end) = omega arith
+
+module _ (b : Build) (v : Variables) (t : ℕ) (w : World) where
+  at_most : (pt : Point) → rank (more_steps b) w pt ≤ more_steps b + 68
+  at_most pt = rank_few (more_steps b) w (omega arith) pt
+
+  pub left_few : {x : Option Thread} {q : Option Process} {pt : Point} {l : List ℕ} (stand : StandsAt b v t x q pt l)
+      → steps_left b v t w stand ≤ most_left b
+  left_few unmade = omega arith
+  left_few (works left few h s) = omega (arith, few)
+  left_few (returns r fits h mark) = omega arith
+  left_few (inside {pt = pt} left k u few walk fits same ne stands) = let r = at_most pt in omega (arith, few, r)
+  left_few (faults fault left few h) = omega (arith, few)
+  left_few (reads {child = child} left few c j h) = let r = at_most (JoinReads child) in omega (arith, few, r)
+  left_few (sleeps left few c j h) = omega (arith, few)
+  left_few (learns left few c j h) = omega (arith, few)
+  left_few (takes left few c j h) = omega (arith, few)
+  left_few (walks {e = zero} phase is short end) = omega arith
+  left_few (walks {e = suc m} phase is short end) = omega arith
+  left_few clears = omega arith
+  left_few wakes = omega arith
+  left_few rests = omega arith
+
+-- a stretch is longer
+pub left_short : (p : Program) (w : WellFormed p) (made : ℕ) → most_left (build_of p w made) < stretch_length p
+left_short p w made = omega arith

@@ -1,0 +1,289 @@
+-- The answer to a request is that of an action which others learn of just where the protocol's step carries one.
+use Rattle.std.proofs.Common.{◌≡◌, ℕ, zero, suc, ◌<◌, ◌==◌, ◌&&◌, Bool, true, false, Option, Some, None}
+use Rattle.std.proofs.Common.{refl, ap, sym, ◌∙◌, subst, arith, inl, inr, List, length, if◌then◌else◌}
+use Rattle.std.specs.Prelude.{not, is_some}
+use Rattle.std.proofs.lemmas.Bool.{cases_eq, eq-eqb, ne_eqb, or_left, or_right}
+use Rattle.words.specs.Process.{process_word}
+use Rattle.locals.specs.Looks.{Request, Look, Goes, Asks, Leaves, Breaks, Rests, AskLoad, AskStore}
+use Rattle.machine.specs.States.{State}
+use Rattle.machine.specs.Runs.{Moves}
+use Rattle.program.specs.declared.kinds.Member.{Member}
+use Rattle.program.specs.Trees.{Program}
+use Rattle.meaning.specs.Labels.{Kind, End, Faulted, Killed}
+use Rattle.meaning.specs.Table.{Table}
+use Rattle.protocol.specs.Word.{waiters, owner}
+use Rattle.protocol.specs.Points.{LeaveSwaps, ToWait, Point, ToExit, EnterPends, EnterTries, ReenterPends, ReenterTries}
+use Rattle.protocol.specs.Points.{TakeReads}
+use Rattle.protocol.specs.Points.{TakeMarks, TakeTries, GotReads, GotLinks, GotHeads, GotUnpends, WaitReads}
+use Rattle.protocol.specs.Points.{NotifyWakes, BroadcastReads}
+use Rattle.protocol.specs.Points.{JoinReads, JoinLearns, JoinTakes, LeavePends, LeaveReads}
+use Rattle.protocol.specs.Points.{LeaveHeads, LeaveWakes, HasLeft, Dies, Walks, ClearsId, LastWakes}
+use Rattle.protocol.specs.Points.{Unmade, Runs, HasEnded}
+use Rattle.protocol.specs.World.{World}
+use Rattle.protocol.specs.Cells.{Cell, LockOf, LinkOf, HeadOf, PendingOf, IdOf, ResultOf, OutcomeOf}
+use Rattle.protocol.specs.Cells.{SequenceOf}
+use Rattle.protocol.specs.Requests.{request}
+use Rattle.protocol.specs.Answers.{next}
+use Rattle.protocol.specs.Served.{MayAnswer, source_event}
+use Rattle.protocol.proofs.Roles.{Listed, Knows}
+use Rattle.protocol.proofs.Good.{Good}
+use Rattle.proof_thread.specs.Variables.{IsVariable, variable_address}
+use Rattle.proof_templates.specs.Layout.{place, valid}
+use Rattle.proof_templates.specs.Asking.{machine_request, machine_answer}
+use Rattle.proof_templates.proofs.Addresses.{variable_apart}
+use Rattle.proof_templates.proofs.Layouts.{apart, number_is, is_number, monitor_valid, monitor_below}
+use Rattle.proof_simulation.specs.Ordering.{StepsSo, any_below, is_process_word, is_link_word, is_lock_word, completes}
+use Rattle.proof_simulation.specs.Ordering.{completes_exit}
+use Rattle.proof_simulation.specs.Ordering.{MovesSo}
+use Rattle.proof_simulation.specs.Serving.{IsAskable}
+use Rattle.proof_simulation.specs.Deferred.{Stage, stage_of, Agrees, Stays, Works}
+use Rattle.lowering.specs.declared.mark.Mark.{Mark}
+use Rattle.proof_thread.specs.Deferrals.{deferred_by_mark, deferred_by_request}
+use Rattle.proof_simulation.specs.Progress.{answer_in, visible_step}
+use Rattle.proof_thread.specs.Deferrals.{deferred_by_step}
+
+none_below : (k : ℕ) (test : ℕ → Bool) → ((n : ℕ) → n < k → test n ≡ false) → any_below k test ≡ false
+none_below zero test h = refl
+none_below (suc k) test h = rw (h k (omega arith)) (none_below k test (λ n l. h n (omega (arith, l))))
+
+found_below : (k : ℕ) (test : ℕ → Bool) (n : ℕ) → n < k → test n ≡ true → any_below k test ≡ true
+found_below zero test n l h = absurd (omega (arith, l))
+found_below (suc k) test n l h = elim (cases_eq n k) [
+  | inl e ↦ or_left (test k) (any_below k test) (subst (λ i. test i ≡ true) e h)
+  | inr o ↦ or_right (test k) (any_below k test) (found_below k test n (omega (arith, l, o)) h)
+]
+
+-- what a step does, as it is an action or none
+pub plainly : (p : Program) (done : Bool) (deferral : Option Kind) (mark : Option Mark) (s : State) (t : ℕ)
+    (woken : List ℕ) (l : Look) (s' : State) → StepsSo p done deferral mark s t woken l s' → Moves s t woken l s'
+plainly p done deferral mark s t woken (Goes x) s' g = (g.0, g.1)
+plainly p done deferral mark s t woken (Asks request go) s' g = (g.0, g.1, g.2, g.3)
+plainly p done deferral mark s t woken (Leaves phase) s' g = (g.0, g.1, g.2, g.3)
+plainly p done deferral mark s t woken Breaks s' g = g
+plainly p done deferral mark s t woken Rests s' g = g
+
+-- and which of the two
+pub told_apart : (p : Program) (s : State) (t : ℕ) (woken : List ℕ) (l : Look) (s' : State) → Moves s t woken l s'
+    → (done : Bool) × MovesSo p done s t woken l s'
+told_apart p s t woken (Goes x) s' g = (false, (g.0, g.1, refl))
+told_apart p s t woken (Asks request go) s' g = (completes p request g.0, (g.0, g.1, g.2, g.3, refl))
+told_apart p s t woken (Leaves phase) s' g = (completes_exit phase, (g.0, g.1, g.2, g.3, refl))
+told_apart p s t woken Breaks s' g = absurd g
+told_apart p s t woken Rests s' g = absurd g
+
+-- and the action that waits
+pub told_deferral : (p : Program) (done : Bool) (mark : Option Mark) (s : State) (t : ℕ) (woken : List ℕ) (l : Look)
+    (s' : State) → MovesSo p done s t woken l s' → (deferral : Option Kind) × StepsSo p done deferral mark s t woken l s'
+told_deferral p done mark s t woken (Goes x) s' g = (deferred_by_mark mark, (g.0, g.1, g.2, refl))
+told_deferral p done mark s t woken (Asks request go) s' g =
+    (deferred_by_request mark request g.0, (g.0, g.1, g.2, g.3, g.4, refl))
+told_deferral p done mark s t woken (Leaves phase) s' g = (None, (g.0, g.1, g.2, g.3, g.4, refl))
+told_deferral p done mark s t woken Breaks s' g = absurd g
+told_deferral p done mark s t woken Rests s' g = absurd g
+
+-- what a step does, with whether others learn of it and the action that waits
+pub steps_so : (p : Program) (mark : Option Mark) (s s' : State) (t : ℕ) (woken : List ℕ) (l : Look)
+    (g : Moves s t woken l s')
+    → StepsSo p (visible_step p l (answer_in s s' t woken l g)) (deferred_by_step mark l
+    (answer_in s s' t woken l g)) mark s t woken l s'
+steps_so p mark s s' t woken (Goes x) g = (g.0, g.1, refl, refl)
+steps_so p mark s s' t woken (Asks request go) g = (g.0, g.1, g.2, g.3, refl, refl)
+steps_so p mark s s' t woken (Leaves phase) g = (g.0, g.1, g.2, g.3, refl, refl)
+steps_so p mark s s' t woken Breaks g = absurd g
+steps_so p mark s s' t woken Rests g = absurd g
+
+-- what a point asks is no action that waits, but where a fault is written
+abbrev DeferralOf : Option Mark → Option Request → ℕ → Option Kind
+DeferralOf mark None r = None
+DeferralOf mark (Some q) r = deferred_by_request mark q r
+
+none_deferral : (p : Program) (mark : Option Mark) (t : ℕ) (pt : Point) (r : ℕ) → stage_of pt ≡ Works
+    → DeferralOf mark (machine_request p (request t pt)) r ≡ None
+none_deferral p mark t (Dies cause x) r h = absurd cc
+none_deferral p mark t (LeaveSwaps m ToExit) r h = refl
+none_deferral p mark t (LeaveSwaps m (ToWait c s)) r h = refl
+none_deferral p mark t (HasLeft m ToExit) r h = refl
+none_deferral p mark t (HasLeft m (ToWait c s)) r h = refl
+none_deferral p mark t pt r h = refl
+
+pub point_deferral : (p : Program) (mark : Option Mark) (t : ℕ) (pt : Point) (r : ℕ) (asks : Request)
+    → stage_of pt ≡ Works → machine_request p (request t pt) ≡ Some asks → deferred_by_request mark asks r ≡ None
+point_deferral p mark t pt r asks h same =
+    sym (ap (λ (o : Option Request). DeferralOf mark o r) same) ∙ none_deferral p mark t pt r h
+
+-- a step from a point leads to no fault
+either_works : (b : Bool) (x y : Point) → stage_of x ≡ Works → stage_of y ≡ Works
+    → stage_of (if b then x else y) ≡ Works
+either_works true x y h g = h
+either_works false x y h g = g
+
+pub next_stays : (w : World) (e : End) (pt : Point) (r : ℕ) → Stays (stage_of pt) (stage_of (next w e pt r))
+next_stays w e (EnterTries m) r = inl (either_works (r == 0) _ _ refl refl)
+next_stays w e (ReenterTries m) r = inl (either_works (r == 0) _ _ refl refl)
+next_stays w e (TakeReads m k) r = inl (either_works (owner r == 0) _ _ refl refl)
+next_stays w e (TakeMarks m v k) r = inl (either_works (r == v) _ _ refl refl)
+next_stays w e (TakeTries m v k) r = inl (either_works (r == v) _ _ refl refl)
+next_stays w e (JoinReads q) r = inl (either_works (r == 0) _ _ refl refl)
+next_stays w e (JoinLearns q end) r = inl (either_works (r == 16) _ _ refl refl)
+next_stays w e (LeaveSwaps m k) r = inl (either_works (waiters r == 0) _ _ refl refl)
+next_stays w e (HasLeft m ToExit) r = inl refl
+next_stays w e (HasLeft m (ToWait c s)) r = inl refl
+next_stays w e (Dies cause x) r = inr refl
+next_stays w e (Walks zero x end) r = inl refl
+next_stays w e (Walks (suc m) x end) r = inl refl
+next_stays w e pt r = inl refl
+
+-- so that no fault waits, where none did
+pub next_calm : (w : World) (e : End) (pt : Point) (r : ℕ) → Agrees (stage_of pt) false
+    → Agrees (stage_of (next w e pt r)) false
+next_calm w e pt r h = elim (next_stays w e pt r) [
+  | inl same ↦ subst (λ (x : Stage). Agrees x false) (sym same) h
+  | inr leaves ↦ subst (λ (x : Stage). Agrees x false) (sym leaves) tt
+]
+
+-- what a thread knows of the words in its hands
+pub listed_at : (w : World) (T : Table) (t : ℕ) (pt : Point) → Good w T → (w.at t).point ≡ pt → Listed pt (w.at t).list
+unfolding Knows
+listed_at w T t pt inv point = subst (λ (i : Point). Listed i (w.at t).list) point (inv.locks.knows t).1
+
+-- the words of processes, and of monitors
+module _ (p : Program) where
+  numbered : (n : ℕ) → n < 64 → valid p (IdOf (suc n)) ≡ true
+  numbered n l = number_is (suc n) (omega arith) (omega (arith, l))
+
+  not_id : (x : Cell) → valid p x ≡ true → ((n : ℕ) → IdOf (suc n) ≡ x → ⊥) → is_process_word 2 (place p x) ≡ false
+  not_id x h other = none_below 64 (λ n. process_word (suc n) 2 == place p x)
+      (λ n l. ne_eqb (process_word (suc n) 2) (place p x) (λ e. other n (apart p (IdOf (suc n)) x (numbered n l) h e)))
+
+  number_before : (q : ℕ) → 0 < q → (n : ℕ) × (q ≡ suc n)
+  number_before zero some = absurd (omega (arith, some))
+  number_before (suc n) some = (n, refl)
+
+  is_word : (k q : ℕ) → valid p (IdOf q) ≡ true → is_process_word k (process_word q k) ≡ true
+  is_word k q h =
+      let within = is_number q h in
+      let before = number_before q within.0 in
+      found_below 64 (λ n. process_word (suc n) k == process_word q k) before.0 (omega (arith, before.1, within.1))
+      (eq-eqb (process_word (suc before.0) k) (process_word q k)
+      (ap (λ i. process_word i k) (sym before.1)))
+
+  is_link : (m : ℕ) → valid p (LinkOf m) ≡ true → is_link_word p (place p (LinkOf m)) ≡ true
+  is_link m h = found_below (length p.monitors) (λ i. place p (LinkOf i) == place p (LinkOf m)) m (monitor_below p m h)
+      (eq-eqb (place p (LinkOf m)) (place p (LinkOf m)) refl)
+
+  is_lock : (m : ℕ) → valid p (LockOf m) ≡ true → is_lock_word p (place p (LockOf m)) ≡ true
+  is_lock m h = found_below (length p.monitors) (λ i. place p (LockOf i) == place p (LockOf m)) m (monitor_below p m h)
+      (eq-eqb (place p (LockOf m)) (place p (LockOf m)) refl)
+
+  not_lock : (x : Cell) → valid p x ≡ true → ((m : ℕ) → LockOf m ≡ x → ⊥) → is_lock_word p (place p x) ≡ false
+  not_lock x h other = none_below (length p.monitors) (λ i. place p (LockOf i) == place p x)
+      (λ m l. ne_eqb (place p (LockOf m)) (place p x)
+      (λ e. other m (apart p (LockOf m) x (monitor_valid p m l) h e)))
+
+  -- a load of a variable is no such action
+  pub variable_loaded : (m : Member) (i a r : ℕ) → IsVariable p m i → a ≡ variable_address p m i
+      → completes p (AskLoad a) r ≡ false
+  variable_loaded m i a r is there =
+      let no : is_process_word 2 a ≡ false = none_below 64 (λ n. process_word (suc n) 2 == a)
+      (λ n l. ne_eqb (process_word (suc n) 2) a
+      (λ e. variable_apart p m i (IdOf (suc n)) is (numbered n l) (sym (e ∙ there)))) in
+      ap (λ b. b && (r == 0)) no
+
+  no_variable : (m : Member) (i n : ℕ) (x : ℕ → Cell) → IsVariable p m i
+      → ((j : ℕ) → j < n → valid p (x j) ≡ true)
+      → any_below n (λ j. place p (x j) == variable_address p m i) ≡ false
+  no_variable m i n x is ok = none_below n (λ j. place p (x j) == variable_address p m i)
+      (λ j l. ne_eqb (place p (x j)) (variable_address p m i)
+      (λ e. variable_apart p m i (x j) is (ok j l) (sym e)))
+
+  -- a store into one is
+  pub variable_stored : (m : Member) (i v r : ℕ) → IsVariable p m i
+      → completes p (AskStore (variable_address p m i) v) r ≡ true
+  variable_stored m i v r is =
+      let head = no_variable m i 64 (λ n. HeadOf (suc n)) is numbered in
+      let pending = no_variable m i 64 (λ n. PendingOf (suc n)) is numbered in
+      let link = no_variable m i (length p.monitors) (λ n. LinkOf n) is (monitor_valid p) in
+      rw (head, pending, link) refl
+
+  abbrev Shown : ℕ → Point → ℕ → Option Request → Bool
+  Shown t pt r None = false
+  Shown t pt r (Some q) = completes p q (machine_answer p (request t pt) r)
+
+  abbrev Fine : World → Table → ℕ → Point → ℕ → World → End → Type 0
+  Fine w T t pt r w' e = Shown t pt r (machine_request p (request t pt)) ≡ is_some (source_event w T t pt r w' e)
+
+  either : {A : Type 0} (b : Bool) (x : A) → b ≡ is_some (if b then Some x else None)
+  either true x = refl
+  either false x = refl
+
+  both_no : (a b : Bool) → b ≡ false → (a && b) ≡ false
+  both_no true b h = h
+  both_no false b h = refl
+
+  both_yes : (a b : Bool) → b ≡ true → (a && b) ≡ a
+  both_yes true b h = h
+  both_yes false b h = refl
+
+  second_no : (a b : Bool) → (a && not true && b) ≡ false
+  second_no true b = refl
+  second_no false b = refl
+
+  third_no : (a b : Bool) → (a && b && not true) ≡ false
+  third_no true true = refl
+  third_no true false = refl
+  third_no false b = refl
+
+  loaded : (x : Cell) (r : ℕ) → valid p x ≡ true → ((n : ℕ) → IdOf (suc n) ≡ x → ⊥)
+      → completes p (AskLoad (place p x)) r ≡ false
+  loaded x r h other = ap (λ b. b && (r == 0)) (not_id x h other)
+
+  nobody : owner 0 ≡ 0
+  unfolding owner
+  nobody = refl
+
+  pub points : (w : World) (T : Table) (t : ℕ) (pt : Point) (r : ℕ) (w' : World) (e : End) (l : List ℕ)
+      → valid p (IdOf t) ≡ true → Listed pt l → MayAnswer pt r → IsAskable p (request t pt) → (asks : Request)
+      → machine_request p (request t pt) ≡ Some asks → Fine w T t pt r w' e
+  points w T t (EnterPends m) r w' e l mine listed may ok asks same = rw (is_word 1 t mine) (second_no _ _)
+  points w T t (EnterTries m) r w' e l mine listed may ok asks same =
+      both_yes (r == 0) (owner 0 == 0) (eq-eqb (owner 0) 0 nobody) ∙ either (r == 0) _
+  points w T t (ReenterPends m) r w' e l mine listed may ok asks same = rw (is_word 1 t mine) (second_no _ _)
+  points w T t (ReenterTries m) r w' e l mine listed may ok asks same = rw (ne_eqb r 0 may) refl
+  points w T t (TakeReads m k) r w' e l mine listed may ok asks same = loaded (LockOf m) r ok (λ n e. cc)
+  points w T t (TakeMarks m v k) r w' e l mine listed may ok asks same =
+      both_no (r == v) (owner v == 0) (ne_eqb (owner v) 0 listed.1)
+  points w T t (TakeTries m v k) r w' e l mine listed may ok asks same =
+      both_yes (r == v) (owner v == 0) (eq-eqb (owner v) 0 listed.1) ∙ either (r == v) _
+  points w T t (GotReads m v) r w' e l mine listed may ok asks same = loaded (HeadOf t) _ ok (λ n e. cc)
+  points w T t (GotLinks m v h) r w' e l mine listed may ok asks same = rw (is_link m ok)
+      (third_no (not (is_process_word 0 (place p (LinkOf m)))) (not (is_process_word 1 (place p (LinkOf m)))))
+  points w T t (GotHeads m v) r w' e l mine listed may ok asks same = rw (is_word 0 t mine) refl
+  points w T t (GotUnpends m v) r w' e l mine listed may ok asks same = rw (is_word 1 t mine) (second_no _ _)
+  points w T t (WaitReads c) r w' e l mine listed may ok asks same = loaded (SequenceOf c) r ok (λ n e. cc)
+  points w T t (NotifyWakes c) r w' e l mine listed may ok asks same = rw (not_lock (SequenceOf c) ok (λ m e. cc)) refl
+  points w T t (BroadcastReads c) r w' e l mine listed may ok asks same = loaded (SequenceOf c) r ok (λ n e. cc)
+  points w T t (JoinReads q) r w' e l mine listed may ok asks same = rw (is_word 2 q ok) (either (r == 0) _)
+  points w T t (JoinLearns q end) r w' e l mine listed may ok asks same = loaded (OutcomeOf q) r ok (λ n e. cc)
+  points w T t (JoinTakes q end) r w' e l mine listed may ok asks same = loaded (ResultOf q) r ok (λ n e. cc)
+  points w T t (LeavePends m k) r w' e l mine listed may ok asks same = rw (is_word 1 t mine) (second_no _ _)
+  points w T t (LeaveReads m k) r w' e l mine listed may ok asks same = loaded (LinkOf m) _ ok (λ n e. cc)
+  points w T t (LeaveHeads m h k) r w' e l mine listed may ok asks same = rw (is_word 0 t mine) refl
+  points w T t (LeaveWakes m k) r w' e l mine listed may ok asks same = rw (is_lock m ok) refl
+  points w T t (HasLeft m ToExit) r w' e l mine listed may ok asks same = rw (is_word 1 t mine) (second_no _ _)
+  points w T t Unmade r w' e l mine listed may ok asks same = absurd ok
+  points w T t Runs r w' e l mine listed may ok asks same = absurd ok
+  points w T t (HasEnded end) r w' e l mine listed may ok asks same = absurd ok
+  points w T t (Dies (Faulted fault) x) r w' e l mine listed may ok asks same = refl
+  points w T t (Dies Killed x) r w' e l mine listed may ok asks same = refl
+  points w T t (Walks n x end) r w' e l mine listed may ok asks same = absurd cc
+  points w T t (ClearsId end) r w' e l mine listed may ok asks same = absurd cc
+  points w T t (LastWakes end) r w' e l mine listed may ok asks same = refl
+  points w T t pt r w' e l mine listed may ok asks same = refl
+
+  -- the answer of the machine to what a point asks
+  pub point_completes : (w : World) (T : Table) (t : ℕ) (pt : Point) (r : ℕ) (w' : World) (e : End) (l : List ℕ)
+      (asks : Request) → valid p (IdOf t) ≡ true → Listed pt l → MayAnswer pt r → IsAskable p (request t pt)
+      → machine_request p (request t pt) ≡ Some asks
+      → completes p asks (machine_answer p (request t pt) r) ≡ is_some (source_event w T t pt r w' e)
+  point_completes w T t pt r w' e l asks mine listed may ok same =
+      sym (ap (λ (o : Option Request). Shown t pt r o) same) ∙ points w T t pt r w' e l mine listed may ok asks same

@@ -1,0 +1,280 @@
+-- The run that explains, by the machine's steps, is one.
+use Rattle.std.proofs.Common.{◌≡◌, ℕ, suc, ◌+◌, ◌<◌, Bool, true, false, List, [], ◌∷◌, length, refl, ap, Option}
+use Rattle.std.proofs.Common.{sym, ◌∙◌, subst, arith}
+use Rattle.std.specs.Prelude.{◌^◌, ◌++◌}
+use Rattle.words.specs.Updates.{put}
+use Rattle.locals.specs.Looks.{look, Look}
+use Rattle.machine.specs.States.{State, opening_state}
+use Rattle.machine.specs.Runs.{Step, GoesBy, MachineRun, IsStep}
+use Rattle.program.specs.Trees.{Program}
+use Rattle.program.specs.WellFormed.{WellFormed}
+use Rattle.lowering.specs.Pieces.{code_of, marks_of}
+use Rattle.meaning.specs.Labels.{Kind, kind_of, Action}
+use Rattle.meaning.specs.Runs.{IsRun, Leads, IsStep as IsSourceStep}
+use Rattle.meaning.specs.States.{SourceState, opening}
+use Rattle.proof_commutation.specs.Placed.{actions_of, actions_up_to}
+use Rattle.proof_thread.specs.Deferrals.{mark_of, deferred_by_step}
+use Rattle.proof_simulation.specs.Corresponding.{Corresponds}
+use Rattle.proof_simulation.specs.Explaining.{explanation, IsDue, IsReached}
+use Rattle.proof_commutation.specs.Deferring.{IsBehind}
+use Rattle.proof_simulation.specs.Next.{after_next, next_kinds, next_visible, offer_of_process, take_deferred, internal_next}
+use Rattle.proof_simulation.specs.Ordering.{act}
+use Rattle.proof_simulation.specs.Progress.{answer_in, visible_step, Progress, progress, progress_by, progress_step}
+use Rattle.proof_simulation.specs.Progress.{progress_taken}
+use Rattle.proof_simulation.specs.Progress.{opening_progress}
+use Rattle.proof_simulation.specs.Tracking.{CanTake, Tracks, HasDeferred}
+use Rattle.proof_simulation.specs.Deferred.{deferred_then, Stage, Agrees, AreOwn}
+use Rattle.proof_simulation.proofs.Completions.{steps_so}
+use Rattle.proof_simulation.proofs.Nexts.{catches_up_behind, visible_is, visible_so}
+use Rattle.proof_simulation.proofs.Finishing.{finishes, finishes_counted, finishes_own, own_of, own_both}
+use Rattle.proof_simulation.proofs.Local.{put_again}
+use Rattle.proof_simulation.proofs.Sourcing.{action}
+use Rattle.proof_simulation.proofs.Tracking.{opens_deferred, tracks_deferred, catches_up_deferred, takes_visible_deferred, takes_visible_own}
+use Rattle.proof_simulation.proofs.Whole.{AllOwn, leads_on, come, most, few, own_kinds, none_from_outside}
+use Rattle.proof_simulation.proofs.Worlds.{put_put}
+use Rattle.proof_simulation.proofs.Observing.{ends, sound}
+use Rattle.proof_simulation.proofs.Resting.{at_rest, sleepers}
+use Rattle.proof_simulation.proofs.Paces.{count_by-append, keeps_pace}
+use Rattle.proof_simulation.proofs.Counting.{count, counts, count_map, count_one, of_one, step_count, behind, length_waits}
+use Rattle.proof_simulation.proofs.Counting.{length_taken}
+use Rattle.proof_simulation.proofs.Opening.{opens, opens_calm}
+use Rattle.proof_simulation.proofs.Bounds.{left_short}
+use Rattle.proof_simulation.proofs.Moving.{left_of}
+use Rattle.refinement.specs.Pace.{is_action_of, stretch_length}
+use Rattle.refinement.specs.Refines.{Explained, is_stray_kind, is_kill_kind}
+
+-- a run of the machine goes on by a step
+pub goes_on_by : (p : Program) (g : Progress) (ls : List Step) (s mid : State) (run : GoesBy (code_of p) s ls mid)
+    (l : Step) (s' : State) (st : IsStep (code_of p) mid l s') → (r : GoesBy (code_of p) s (ls ++ l ∷ []) s')
+    × (progress_by p g (ls ++ l ∷ []) s s' r ≡ progress_taken p mid s' l st (progress_by p g ls s mid run))
+goes_on_by p g [] s mid run l s' st =
+    subst (λ (x : State). (i : IsStep (code_of p) x l s') → (r : GoesBy (code_of p) s (l ∷ []) s')
+    × (progress_by p g (l ∷ []) s s' r ≡ progress_taken p x s' l i g)) run (λ i. ((s', i, refl), refl)) st
+goes_on_by p g (x ∷ ls) s mid run l s' st =
+    let more = goes_on_by p (progress_taken p s run.0 x run.1 g) ls run.0 mid run.2 l s' st in
+    ((run.0, run.1, more.0), more.1)
+
+module _ (p : Program) (w : WellFormed p) where
+  -- all that waits of a process is taken
+  pay_all : (steps : ℕ) (s : State) (t : ℕ) (ks : List Kind) (a : SourceState) (o : HasDeferred p w steps s t a ks)
+      → Leads p a (actions_of t ks) (take_deferred p t ks a)
+      × ((n : HasDeferred p w steps s t (take_deferred p t ks a) []) × (n.deferred ≡ put o.deferred t []))
+  pay_all steps s t [] a o = (refl, (o, put_again o.deferred t [] o.mine))
+  pay_all steps s t (k ∷ ks) a o =
+      let catches_up = catches_up_deferred p w steps s t a k ks o in
+      let step = (catches_up_behind p t o.deferred a o.now k ks o.behind o.mine).4 in
+      let there = after_next t (internal_next (offer_of_process p a.variable (a.process t))) a in
+      let next = catches_up.4 there step in
+      let more = pay_all steps s t ks there next.0 in (
+        (there, step, more.0),
+        (more.1.0, more.1.1 ∙ ap (λ (f : ℕ → List Kind). put f t []) next.1 ∙ put_put o.deferred t ks []),
+      )
+
+  -- the source behind some steps: also, all its actions are of processes' own
+  pub record Reaches (taken : ℕ) (s : State) (g : Progress) : Type 0 where
+    pub is : IsReached p w taken s g
+    pub own : AllOwn g.actions
+
+  -- as many actions of each process more, taken or waiting
+  abbrev pub Adds : Progress → Progress → (ℕ → ℕ) → Type 0
+  Adds g g' more = (t : ℕ) → count t g'.actions + length (g'.deferred t)
+      ≡ count t g.actions + length (g.deferred t) + more t
+
+  module _ (taken : ℕ) (s : State) (g : Progress) (r : IsReached p w taken s g) (l : Step) (s' : State)
+      (st : IsStep (code_of p) s l s') (short : taken + 1 < 2 ^ 32) where
+    abbrev t : ℕ
+    t = l.thread
+
+    abbrev looks : Look
+    looks = look (code_of p) l.thread st.thread
+
+    abbrev answer : ℕ
+    answer = answer_in s s' l.thread l.woken looks st.moves
+
+    abbrev deferral : Option Kind
+    deferral = deferred_by_step (mark_of (marks_of p) st.thread) looks answer
+
+    on : (visible_step p looks answer ≡ false → (n : Tracks p w (suc taken) s' g.source)
+        × (n.deferred ≡ put r.tracks.deferred t (deferred_then deferral (r.tracks.deferred t))))
+        × (visible_step p looks answer ≡ true → (o : HasDeferred p w (suc taken) s' t g.source (r.tracks.deferred t))
+        × (o.deferred ≡ r.tracks.deferred))
+    on = tracks_deferred p w taken s g.source r.tracks l s' st (visible_step p looks answer) deferral
+        (steps_so p (mark_of (marks_of p) st.thread) s s' l.thread l.woken looks st.moves) short
+
+    owes : visible_step p looks answer ≡ true
+        → (o : HasDeferred p w (suc taken) s' t g.source (g.deferred t)) × (o.deferred ≡ g.deferred)
+    owes e =
+        let o = on.1 e in
+        let same = subst (λ (f : ℕ → List Kind). (i : HasDeferred p w (suc taken) s' t g.source (f t))
+        × (i.deferred ≡ r.tracks.deferred)) r.waits o in
+        (same.0, same.1 ∙ r.waits)
+
+    pub due : visible_step p looks answer ≡ true → IsDue p s' t g
+    due e =
+        let o = owes e in
+        let paying = pay_all (suc taken) s' t (g.deferred t) g.source o.0 in
+        let last = takes_visible_deferred p w (suc taken) s' t (take_deferred p t (g.deferred t) g.source) paying.1.0 in
+        record {
+          ahead = o.0.now;
+          behind = subst (λ (f : ℕ → List Kind). IsBehind p f g.source o.0.now) o.1 o.0.behind;
+          label = last.0;
+          visible = last.1;
+          can = last.2;
+          resumes = last.3;
+        }
+
+    by_visible : (b : Bool) → visible_step p looks answer ≡ b
+        → IsReached p w (suc taken) s' (progress_step p b deferral s' t g)
+        × (AllOwn g.actions → AllOwn (progress_step p b deferral s' t g).actions)
+        × Adds g (progress_step p b deferral s' t g) (λ u. of_one t u (step_count b deferral (g.deferred t)))
+    by_visible false e =
+        let n = on.0 e in (
+          record {
+            run = r.run;
+            tracks = n.0;
+            waits = n.1 ∙ ap (λ (f : ℕ → List Kind). put f t (deferred_then deferral (f t))) r.waits;
+          },
+          λ h. h,
+          λ u. let long = length_waits g.deferred t u deferral in omega (arith, long),
+        )
+    by_visible true e =
+        let ks = g.deferred t in
+        let o = owes e in
+        let paying = pay_all (suc taken) s' t ks g.source o.0 in
+        let a = take_deferred p t ks g.source in
+        let last = takes_visible_deferred p w (suc taken) s' t a paying.1.0 in
+        let can : CanTake p a t last.0 = last.2 in
+        let kind = kind_of last.0 in
+        let there = after_next t (next_visible p s' t a) a in
+        let step : IsSourceStep p a (act t kind) there =
+        subst (λ (x : SourceState). IsSourceStep p a (act t kind) x)
+        (sym (visible_so p a t last.0 can s' last.1 last.3))
+        (action p a t can.before can.after last.0 can.effect can.table can.stands can.takes can.allows) in
+        let next = last.4 there step in
+        let name : actions_of t (next_kinds (next_visible p s' t a)) ≡ act t kind ∷ [] =
+        ap (λ n. actions_of t (next_kinds n)) (visible_is p a t last.0 can s' last.1 last.3) in
+        let led : Leads p a (actions_of t (next_kinds (next_visible p s' t a))) there =
+        subst (λ (l : List Action). Leads p a l there) (sym name) (there, step, refl) in
+        let caught_up_run : IsRun p (g.actions ++ actions_of t ks) a =
+        leads_on p (opening p) g.source a g.actions (actions_of t ks) r.run paying.0 in (
+          record {
+            run = leads_on p (opening p) a there (g.actions ++ actions_of t ks)
+                (actions_of t (next_kinds (next_visible p s' t a))) caught_up_run led;
+            tracks = next.0;
+            waits = next.1 ∙ paying.1.1 ∙ ap (λ (f : ℕ → List Kind). put f t []) o.1;
+          },
+          λ h. own_both (g.actions ++ actions_of t ks) (actions_of t (next_kinds (next_visible p s' t a)))
+              (own_both g.actions (actions_of t ks) h (own_of t ks
+              (subst (λ (f : ℕ → List Kind). AreOwn (f t)) r.waits (r.tracks.own t))))
+              (subst (λ (l : List Action). AllOwn l) (sym name)
+              (takes_visible_own p w (suc taken) s' t a paying.1.0, tt)),
+          λ u.
+              let all = count_by-append (is_action_of u) (g.actions ++ actions_of t ks)
+              (actions_of t (next_kinds (next_visible p s' t a))) in
+              let both = count_by-append (is_action_of u) g.actions (actions_of t ks) in
+              let first = count_map t u ks in
+              let one = ap (count u) name ∙ count_one t u kind [] in
+              let none = length_taken g.deferred t u in
+              omega (arith, all, both, first, one, none),
+        )
+
+    step_so : IsReached p w (suc taken) s' (progress_taken p s s' l st g)
+        × (AllOwn g.actions → AllOwn (progress_taken p s s' l st g).actions)
+        × Adds g (progress_taken p s s' l st g)
+        (λ u. of_one t u (step_count (visible_step p looks answer) deferral (g.deferred t)))
+    step_so = by_visible (visible_step p looks answer) refl
+
+  deferred_behind : (b : Bool) (k : Option Kind) (s : State) (u : ℕ) (g : Progress)
+      → (progress_step p b k s u g).deferred ≡ put g.deferred u (behind b k (g.deferred u))
+  deferred_behind true k s u g = refl
+  deferred_behind false k s u g = refl
+
+  pub reaches_by : (steps : List Step) (taken : ℕ) (s s' : State) (g : Progress) → Reaches taken s g
+      → (run : GoesBy (code_of p) s steps s') → taken + length steps < 2 ^ 32
+      → Reaches (taken + length steps) s' (progress_by p g steps s s' run)
+      × Adds g (progress_by p g steps s s' run) (λ t. counts p g.deferred steps s s' run t)
+  reaches_by [] taken s s' g r run short =
+      let same : taken ≡ taken + 0 = omega arith in (
+        subst (λ n. Reaches n s' g) same (subst (λ (x : State). Reaches taken x g) run r),
+        λ t. omega arith,
+      )
+  reaches_by (l ∷ ls) taken s s' g r run short =
+      let looks = look (code_of p) l.thread run.1.thread in
+      let answer = answer_in s run.0 l.thread l.woken looks run.1.moves in
+      let deferral = deferred_by_step (mark_of (marks_of p) run.1.thread) looks answer in
+      let visible = visible_step p looks answer in
+      let first = step_so taken s g r.is l run.0 run.1 (omega (arith, short)) in
+      let there = progress_taken p s run.0 l run.1 g in
+      let more = reaches_by ls (suc taken) run.0 s' there
+      (record { is = first.0; own = first.1 r.own }) run.2 (omega (arith, short)) in
+      let total : suc taken + length ls ≡ taken + suc (length ls) = omega arith in (
+        subst (λ n. Reaches n s' (progress_by p there ls run.0 s' run.2)) total more.0,
+        λ t.
+            let one = first.2 t in
+            let rest = subst (λ (f : ℕ → List Kind). count t (progress_by p there ls run.0 s' run.2).actions
+            + length ((progress_by p there ls run.0 s' run.2).deferred t)
+            ≡ count t there.actions + length (there.deferred t) + counts p f ls run.0 s' run.2 t)
+            (deferred_behind visible deferral run.0 l.thread g) (more.1 t) in
+            omega (arith, one, rest),
+      )
+
+  pub opens_reached : Reaches 0 (opening_state (code_of p)) (opening_progress p)
+  opens_reached = let o = opens_deferred p w in
+      record { is = record { run = refl; tracks = o.0; waits = o.1 }; own = tt }
+
+  module _ (steps : List Step) (s : State) (run : MachineRun (code_of p) steps s) (short : length steps < 2 ^ 32) where
+    abbrev g : Progress
+    g = progress p steps s run
+
+    whole : Reaches (0 + length steps) s g × Adds (opening_progress p) g
+        (λ t. counts p (λ u. []) steps (opening_state (code_of p)) s run t)
+    whole = reaches_by steps 0 (opening_state (code_of p)) s (opening_progress p) opens_reached run
+        (omega (arith, short))
+
+    pub reached : IsReached p w (length steps) s (progress p steps s run)
+    reached =
+        let same : 0 + length steps ≡ length steps = omega arith in
+        subst (λ n. IsReached p w n s g) same whole.0.is
+
+    pub explained_so : (e : Explained p (code_of p) steps s) × (e.actions ≡ explanation p steps s run)
+    explained_so =
+        let r = whole.0.is.tracks in
+        let done = finishes p w (0 + length steps) s g.source r in
+        let n = 0 + length steps in
+        let source = done.0 in
+        let k : Corresponds p w n s source = done.2 in
+        let up : actions_up_to s.made r.deferred ≡ actions_up_to s.made g.deferred =
+        ap (λ (f : ℕ → List Kind). actions_up_to s.made f) whole.0.is.waits in
+        let rest : Leads p g.source (actions_up_to s.made g.deferred) source =
+        subst (λ (l : List Action). Leads p g.source l source) up done.1 in
+        let start = opens p w in
+        let c = come p w 0 (opening_state (code_of p)) (opening p) start steps s (omega (arith, short)) run in
+        let pace = keeps_pace (most p w) (stretch_length p) (left_of p w start) (left_of p w c.ties) steps c.actions
+        (left_short p w 0) (few p w 0 (opening_state (code_of p)) (opening p) start) c.trail in
+        let actions = explanation p steps s run in
+        let all_own : AllOwn actions = own_both g.actions (actions_up_to s.made g.deferred) whole.0.own
+        (subst (λ (l : List Action). AllOwn l) up (finishes_own p w n s g.source r)) in (
+          record {
+            sound = sound p w n s source k;
+            actions = actions;
+            source = source;
+            run = leads_on p (opening p) g.source source g.actions (actions_up_to s.made g.deferred) whole.0.is.run rest;
+            output = k.output;
+            variables = k.variables;
+            ends = ends p w n s source k;
+            at_rest = at_rest p w n s source k;
+            sleepers = sleepers p w n s source k;
+            pace = λ t parts e.
+                let less = pace t parts e in
+                let first = c.counted (λ t. [])
+                (λ u. subst (λ (x : Stage). Agrees x false) (sym (opens_calm p w u)) refl) t in
+                let second = whole.1 t in
+                let both = count_by-append (is_action_of t) g.actions (actions_up_to s.made g.deferred) in
+                let last = subst (λ (f : ℕ → List Kind). count t (actions_up_to s.made f) ≡ length (f t))
+                whole.0.is.waits (finishes_counted p w n s g.source r t) in
+                omega (arith, less, first, second, both, last);
+            strays = none_from_outside is_stray_kind (λ i h. (own_kinds i h).0) actions all_own;
+            kills = none_from_outside is_kill_kind (λ i h. (own_kinds i h).1) actions all_own;
+          },
+          refl,
+        )

@@ -1,0 +1,172 @@
+-- All actions that wait may be taken, process by process.
+use Rattle.std.proofs.Common.{◌≡◌, ℕ, zero, suc, ◌<◌, ◌≤◌, List, [], ◌∷◌, Option, Some, None, refl}
+use Rattle.std.proofs.Common.{◌∙◌, subst, arith, inl, inr}
+use Rattle.std.proofs.lemmas.Bool.{cases_eq, cases_lt}
+use Rattle.words.specs.Updates.{put}
+use Rattle.locals.specs.Threads.{Thread}
+use Rattle.machine.specs.States.{State}
+use Rattle.program.specs.Trees.{Program}
+use Rattle.program.specs.WellFormed.{WellFormed}
+use Rattle.meaning.specs.Labels.{Action, Kind}
+use Rattle.meaning.specs.Processes.{Process}
+use Rattle.meaning.specs.Runs.{Leads}
+use Rattle.meaning.specs.States.{SourceState}
+use Rattle.proof_commutation.specs.Deferring.{IsBehind, LeadsDeferredAt}
+use Rattle.proof_commutation.specs.Placed.{actions_of, actions_up_to}
+use Rattle.proof_commutation.proofs.Waiting.{at_equal, at_none}
+use Rattle.proof_commutation.proofs.Behind as D
+use Rattle.protocol.specs.Points.{Point}
+use Rattle.protocol.proofs.Sleeps.{at_put, put_same, put_other}
+use Rattle.refinement.specs.Built.{build_of}
+use Rattle.proof_simulation.specs.Standing.{StandsAt}
+use Rattle.proof_simulation.specs.Standing as S
+use Rattle.proof_simulation.specs.Corresponding.{Corresponds}
+use Rattle.proof_simulation.specs.Tracking.{Tracks}
+use Rattle.proof_simulation.proofs.Local.{put_again}
+use Rattle.proof_simulation.proofs.Observing.{number_of}
+use Rattle.proof_simulation.proofs.Whole.{leads_on}
+use Rattle.proof_simulation.proofs.Worlds.{put_put}
+use Rattle.std.proofs.Common.{length, ◌+◌}
+use Rattle.refinement.specs.Pace.{is_action_of}
+use Rattle.proof_simulation.specs.Deferred.{AreOwn}
+use Rattle.proof_simulation.proofs.Whole.{AllOwn}
+use Rattle.proof_simulation.proofs.Paces.{count_by-append}
+use Rattle.proof_simulation.proofs.Counting.{count, count_map, of_one, length_taken}
+use Rattle.std.proofs.Common.{ap, ◌++◌}
+
+-- the actions of one process
+abbrev Caught : Program → SourceState → List Action → (ℕ → List Kind) → SourceState → Type 0
+Caught p a actions w c = (a' : SourceState) × Leads p a actions a' × IsBehind p w a' c
+
+catch_up : (p : Program) (ks : List Kind) (w : ℕ → List Kind) (a c : SourceState) (t : ℕ) → IsBehind p w a c
+    → w t ≡ ks → Caught p a (actions_of t ks) (put w t []) c
+catch_up p [] w a c t b e = (a, refl, subst (λ (f : ℕ → List Kind). IsBehind p f a c) (put_again w t [] e) b)
+catch_up p (k ∷ ks) w a c t b e =
+    let one = D.takes p w a c t k ks b e in
+    let more = catch_up p ks (put w t ks) one.0 c t one.2 (put_same w t ks) in
+    (more.0, (one.0, one.1, more.1), subst (λ (f : ℕ → List Kind). IsBehind p f more.0 c) (put_put w t ks []) more.2)
+
+-- of processes 1 to n none waits
+abbrev emptied : ℕ → (ℕ → List Kind) → ℕ → List Kind
+emptied zero w = w
+emptied (suc n) w = put (emptied n w) (suc n) []
+
+emptied_above : (n : ℕ) (w : ℕ → List Kind) (u : ℕ) → n < u → emptied n w u ≡ w u
+emptied_above zero w u past = refl
+emptied_above (suc n) w u past =
+    put_other (emptied n w) (suc n) [] u (λ e. omega (arith, e, past)) ∙ emptied_above n w u (omega (arith, past))
+
+emptied_below : (n : ℕ) (w : ℕ → List Kind) (u : ℕ) → 0 < u → u ≤ n → emptied n w u ≡ []
+emptied_below zero w u low high = absurd (omega (arith, low, high))
+emptied_below (suc n) w u low high =
+    at_put (emptied n w) (suc n) [] u (λ (ks : List Kind). ks ≡ []) (λ e. refl)
+    (λ o. emptied_below n w u low (omega (arith, o, high)))
+
+catch_up_all : (p : Program) (n : ℕ) (w : ℕ → List Kind) (a c : SourceState) → IsBehind p w a c
+    → Caught p a (actions_up_to n w) (emptied n w) c
+catch_up_all p zero w a c b = (a, refl, b)
+catch_up_all p (suc n) w a c b =
+    let before : Caught p a (actions_up_to n w) (emptied n w) c = catch_up_all p n w a c b in
+    let last : Caught p before.0 (actions_of (suc n) (w (suc n))) (emptied (suc n) w) c =
+    catch_up p (w (suc n)) (emptied n w) before.0 c (suc n) before.2 (emptied_above n w (suc n) (omega arith)) in (
+      last.0,
+      leads_on p a before.0 last.0 (actions_up_to n w) (actions_of (suc n) (w (suc n))) before.1 last.1,
+      last.2,
+    )
+
+-- as many as wait
+up_counted : (n : ℕ) (w : ℕ → List Kind) (t : ℕ)
+    → count t (actions_up_to n w) + length (emptied n w t) ≡ length (w t)
+up_counted zero w t = omega arith
+up_counted (suc n) w t =
+    let both = count_by-append (is_action_of t) (actions_up_to n w) (actions_of (suc n) (w (suc n))) in
+    let last = count_map (suc n) t (w (suc n)) in
+    let taken = length_taken (emptied n w) (suc n) t in
+    let same = ap (λ (i : List Kind). of_one (suc n) t (length i)) (emptied_above n w (suc n) (omega arith)) in
+    let before = up_counted n w t in
+    omega (arith, both, last, taken, same, before)
+
+-- and a process's own, as they are
+pub own_both : (xs ys : List Action) → AllOwn xs → AllOwn ys → AllOwn (xs ++ ys)
+own_both [] ys h g = g
+own_both (x ∷ xs) ys h g = (h.0, own_both xs ys h.1 g)
+
+pub own_of : (t : ℕ) (ks : List Kind) → AreOwn ks → AllOwn (actions_of t ks)
+own_of t [] h = tt
+own_of t (k ∷ ks) h = (h.0, own_of t ks h.1)
+
+own_up : (n : ℕ) (w : ℕ → List Kind) → ((t : ℕ) → AreOwn (w t)) → AllOwn (actions_up_to n w)
+own_up zero w h = tt
+own_up (suc n) w h = own_both (actions_up_to n w) (actions_of (suc n) (w (suc n))) (own_up n w h)
+    (own_of (suc n) (w (suc n)) (h (suc n)))
+
+-- where nothing waits the states are one
+same_behind : (p : Program) (w : ℕ → List Kind) (a c : SourceState) → IsBehind p w a c → ((u : ℕ) → w u ≡ [])
+    → a ≡ c
+same_behind p w a c b empty = λ i. record {
+  table = b.table i;
+  variable = b.variables i;
+  process = λ u. at u i;
+  printed = b.printed i;
+}
+  where
+    at : (u : ℕ) → a.process u ≡ c.process u
+    at u = at_equal p u c.variable c.table (a.process u) (c.process u)
+        (subst (λ (ks : List Kind). LeadsDeferredAt p u c.variable c.table ks (a.process u) (c.process u)) (empty u)
+        (b.processes u))
+
+module _ (p : Program) (w : WellFormed p) (steps : ℕ) (s : State) (a : SourceState) (r : Tracks p w steps s a) where
+  abbrev c : SourceState
+  c = r.ahead
+
+  -- a process that wasn't made
+  nobody : (u : ℕ) → ((x : Thread) → s.thread u ≡ Some x → ⊥) → c.process u ≡ None
+  nobody u none = by_thread (s.thread u) refl
+    where
+      unmade : (o : Option Thread) (q : Option Process) (pt : Point) (l : List ℕ)
+          → StandsAt (build_of p w r.ties.world.made) c.variable u o q pt l → o ≡ None → q ≡ None
+      unmade o q pt l S.unmade e = refl
+      unmade o q pt l stand e = absurd cc
+
+      by_thread : (o : Option Thread) → s.thread u ≡ o → c.process u ≡ None
+      by_thread None e = unmade (s.thread u) (c.process u) (r.ties.world.at u).point (r.ties.world.at u).list
+          (r.ties.threads u) e
+      by_thread (Some x) e = absurd (none x e)
+
+  caught : Caught p a (actions_up_to s.made r.deferred) (emptied s.made r.deferred) c
+  caught = catch_up_all p s.made r.deferred a c r.behind
+
+  empty : (u : ℕ) → emptied s.made r.deferred u ≡ []
+  empty u = elim (cases_lt s.made u) [
+    | inl past ↦ never (λ x e.
+        let number = number_of p w steps s c r.ties u x e in
+        let made = r.ties.made in
+        omega (arith, past, number.1, made))
+    | inr within ↦ elim (cases_eq u 0) [
+      | inl e ↦ never (λ x there. let number = number_of p w steps s c r.ties u x there in omega (arith, number.0, e))
+      | inr o ↦ emptied_below s.made r.deferred u (omega (arith, o)) (omega (arith, within))
+    ]
+  ]
+    where
+      never : ((x : Thread) → s.thread u ≡ Some x → ⊥) → emptied s.made r.deferred u ≡ []
+      never none = at_none p u c.variable c.table (emptied s.made r.deferred u) (caught.0.process u)
+          (subst (λ (y : Option Process). LeadsDeferredAt p u c.variable c.table (emptied s.made r.deferred u)
+          (caught.0.process u) y) (nobody u none) (caught.2.processes u))
+
+  pub finishes : (source : SourceState) × Leads p a (actions_up_to s.made r.deferred) source
+      × Corresponds p w steps s source
+  finishes = (
+    c,
+    subst (λ (x : SourceState). Leads p a (actions_up_to s.made r.deferred) x)
+        (same_behind p (emptied s.made r.deferred) caught.0 c caught.2 empty) caught.1,
+    r.ties,
+  )
+
+  pub finishes_counted : (t : ℕ) → count t (actions_up_to s.made r.deferred) ≡ length (r.deferred t)
+  finishes_counted t =
+      let all = up_counted s.made r.deferred t in
+      let none = ap (λ (i : List Kind). length i) (empty t) in
+      omega (arith, all, none)
+
+  pub finishes_own : AllOwn (actions_up_to s.made r.deferred)
+  finishes_own = own_up s.made r.deferred r.own

@@ -1,0 +1,184 @@
+-- Inside a template each step that carries nothing, and after which the thread doesn't sleep, leaves fewer steps.
+use Rattle.std.proofs.Common.{◌≡◌, ◌≢◌, ℕ, ◌+◌, ◌<◌, ◌==◌, Bool, true, false, List, Option, Some, None, refl, ap, sym}
+use Rattle.std.proofs.Common.{◌∙◌, arith, inl, inr}
+use Rattle.std.specs.Prelude.{if◌then◌else◌}
+use Rattle.std.proofs.lemmas.Bool.{cond-true, cond-false, eq-eqb, ne_eqb, eqb-true}
+use Rattle.meaning.specs.Labels.{End}
+use Rattle.meaning.specs.Table.{Table}
+use Rattle.protocol.specs.Word.{owner, with_waiters}
+use Rattle.protocol.specs.Points.{ToEnter, ToReenter, ToExit, ToWait, Spot, OnLock, OnSequence, Point, Unmade, Runs}
+use Rattle.protocol.specs.Points.{EnterPends, EnterTries, ReenterPends, ReenterTries, TakeReads, TakeMarks, TakeSleeps}
+use Rattle.protocol.specs.Points.{TakeTries, GotReads, GotLinks, GotHeads, GotUnpends, WaitReads, NotifyAdds}
+use Rattle.protocol.specs.Points.{NotifyWakes, BroadcastAdds, BroadcastMarks, BroadcastReads, BroadcastMoves, JoinReads}
+use Rattle.protocol.specs.Points.{JoinSleeps, JoinLearns, JoinTakes, LeavePends, LeaveReads, LeaveHeads, LeaveSwaps}
+use Rattle.protocol.specs.Points.{LeaveWakes, HasLeft, Dies, Walks, ClearsId, LastWakes, HasEnded}
+use Rattle.protocol.specs.World.{World}
+use Rattle.protocol.specs.Steps.{go_list}
+use Rattle.protocol.specs.Carries.{Event}
+use Rattle.protocol.specs.Requests.{request}
+use Rattle.protocol.specs.Answers.{Serves, next}
+use Rattle.protocol.specs.Served.{MayAnswer, source_event}
+use Rattle.protocol.proofs.Sleeps.{put_same}
+use Rattle.proof_simulation.specs.Ranks.{rank}
+
+-- a point of a template of monitors and conditions
+abbrev pub IsTemplate : Point → Type 0
+IsTemplate Unmade = ⊥
+IsTemplate Runs = ⊥
+IsTemplate (JoinReads q) = ⊥
+IsTemplate (JoinSleeps q) = ⊥
+IsTemplate (JoinLearns q end) = ⊥
+IsTemplate (JoinTakes q end) = ⊥
+IsTemplate (Dies cause x) = ⊥
+IsTemplate (Walks e x end) = ⊥
+IsTemplate (ClearsId end) = ⊥
+IsTemplate (LastWakes end) = ⊥
+IsTemplate (HasEnded end) = ⊥
+IsTemplate pt = Unit {0}
+
+fresh : (v r a b : ℕ) → v ≡ r → (if v == r then a else b) ≡ a
+fresh v r a b e = cond-true (v == r) a b (eq-eqb v r e)
+
+stale : (v r a b : ℕ) → v ≢ r → (if v == r then a else b) ≡ b
+stale v r a b e = cond-false (v == r) a b (ne_eqb v r e)
+
+-- one of two points
+chosen : (P : Point → Type 0) (b : Bool) (x y : Point) → (b ≡ true → P x) → (b ≡ false → P y)
+    → P (if b then x else y)
+chosen P true x y h g = h refl
+chosen P false x y h g = g refl
+
+none_chosen : (b : Bool) (e : Event) → (if b then Some e else None) ≡ None → b ≡ false
+none_chosen true e h = absurd cc
+none_chosen false e h = refl
+
+slept : (asleep : Option Spot) (x : Spot) → asleep ≡ Some x → asleep ≡ None → ⊥
+slept asleep x h g = absurd (cc (h, g))
+
+module _ (more : ℕ) (w : World) (T : Table) (t r : ℕ) (w' : World) (e : End) (p : Point) (l : List ℕ)
+    (awake : w'.asleep t ≡ None) where
+  abbrev after : World
+  after = go_list w' t p l
+
+  abbrev Falls : ℕ → Point → Type 0
+  Falls n to = rank more after to + 16 < n
+
+  pub rank_falls : (pt : Point) → IsTemplate pt → Serves w t pt (request t pt) r w' → MayAnswer pt r
+      → source_event w T t pt r w' e ≡ None → next w e pt r ≢ Runs → Falls (rank more w pt) (next w e pt r)
+  rank_falls Unmade is serves may none on = absurd is
+  rank_falls Runs is serves may none on = absurd is
+  rank_falls (EnterPends m) is serves may none on = omega arith
+  rank_falls (EnterTries m) is serves may none on =
+      let b = none_chosen (r == 0) _ none in
+      chosen (Falls 52) (r == 0) (GotReads m 0) (TakeReads m ToEnter) (λ h. absurd (cc (h, b))) (λ h. omega arith)
+  rank_falls (ReenterPends m) is serves may none on = omega arith
+  rank_falls (ReenterTries m) is serves may none on =
+      chosen (Falls 52) (r == 0) (GotReads m 0) (TakeReads m ToReenter) (λ h. absurd (may (eqb-true r 0 h)))
+      (λ h. omega arith)
+  rank_falls (TakeReads m k) is serves may none on =
+      let same : w'.lock m ≡ r = ap (λ (x : World). x.lock m) serves.1 ∙ sym serves.0 in
+      chosen (Falls 35) (owner r == 0) (TakeTries m r k) (TakeMarks m r k)
+      (λ h. let x = fresh (w'.lock m) r 1 52 same in omega (arith, x))
+      (λ h. let x = fresh (w'.lock m) r 18 52 same in omega (arith, x))
+  rank_falls (TakeMarks m v k) is serves may none on = elim serves.1 [
+    | inl z ↦
+        let now : w'.lock m ≡ with_waiters v =
+        ap (λ (x : World). x.lock m) z.1 ∙ put_same w.lock m (with_waiters v) in
+        let was = fresh (w.lock m) v 18 52 z.0 in
+        chosen (Falls (rank more w (TakeMarks m v k))) (r == v) (TakeSleeps m (with_waiters v) k) (TakeReads m k)
+        (λ h. let x = fresh (w'.lock m) (with_waiters v) 1 52 now in omega (arith, x, was))
+        (λ h. absurd (cc (h, eq-eqb r v (serves.0 ∙ z.0))))
+    | inr z ↦
+        let was = stale (w.lock m) v 18 52 z.0 in
+        chosen (Falls (rank more w (TakeMarks m v k))) (r == v) (TakeSleeps m (with_waiters v) k) (TakeReads m k)
+        (λ h. absurd (z.0 (sym serves.0 ∙ eqb-true r v h))) (λ h. omega (arith, was))
+  ]
+  rank_falls (TakeSleeps m v k) is serves may none on = elim serves [
+    | inl z ↦ absurd (slept (w'.asleep t) (OnLock m)
+        (ap (λ (x : World). x.asleep t) z.1 ∙ put_same w.asleep t (Some (OnLock m))) awake)
+    | inr z ↦ let was = stale (w.lock m) v 1 52 z.0 in omega (arith, was)
+  ]
+  rank_falls (TakeTries m v k) is serves may none on = elim serves.1 [
+    | inl z ↦ let b = none_chosen (r == v) _ none in absurd (cc (b, eq-eqb r v (serves.0 ∙ z.0)))
+    | inr z ↦
+        let was = stale (w.lock m) v 1 52 z.0 in
+        chosen (Falls (rank more w (TakeTries m v k))) (r == v) (GotReads m v) (TakeReads m k)
+        (λ h. absurd (z.0 (sym serves.0 ∙ eqb-true r v h))) (λ h. omega (arith, was))
+  ]
+  rank_falls (GotReads m v) is serves may none on = omega arith
+  rank_falls (GotLinks m v h) is serves may none on = omega arith
+  rank_falls (GotHeads m v) is serves may none on = omega arith
+  rank_falls (GotUnpends m v) is serves may none on = absurd (on refl)
+  rank_falls (WaitReads c) is serves may none on = omega arith
+  rank_falls (NotifyAdds c) is serves may none on = omega arith
+  rank_falls (NotifyWakes c) is serves may none on = absurd cc
+  rank_falls (BroadcastAdds c) is serves may none on = omega arith
+  rank_falls (BroadcastMarks c) is serves may none on = omega arith
+  rank_falls (BroadcastReads c) is serves may none on = omega arith
+  rank_falls (BroadcastMoves c s) is serves may none on = absurd cc
+  rank_falls (JoinReads q) is serves may none on = absurd is
+  rank_falls (JoinSleeps q) is serves may none on = absurd is
+  rank_falls (JoinLearns q end) is serves may none on = absurd is
+  rank_falls (JoinTakes q end) is serves may none on = absurd is
+  rank_falls (LeavePends m k) is serves may none on = omega arith
+  rank_falls (LeaveReads m k) is serves may none on = omega arith
+  rank_falls (LeaveHeads m h k) is serves may none on = omega arith
+  rank_falls (LeaveSwaps m k) is serves may none on = absurd cc
+  rank_falls (LeaveWakes m ToExit) is serves may none on = omega arith
+  rank_falls (LeaveWakes m (ToWait c s)) is serves may none on = omega arith
+  rank_falls (HasLeft m ToExit) is serves may none on = absurd (on refl)
+  rank_falls (HasLeft m (ToWait c s)) is serves may none on = elim serves [
+    | inl z ↦ absurd (slept (w'.asleep t) (OnSequence c)
+        (ap (λ (x : World). x.asleep t) z.1 ∙ put_same w.asleep t (Some (OnSequence c))) awake)
+    | inr z ↦ omega arith
+  ]
+  rank_falls (Dies cause x) is serves may none on = absurd is
+  rank_falls (Walks a x end) is serves may none on = absurd is
+  rank_falls (ClearsId end) is serves may none on = absurd is
+  rank_falls (LastWakes end) is serves may none on = absurd is
+  rank_falls (HasEnded end) is serves may none on = absurd is
+
+  -- behind the template there are so many more at most
+  if_runs : (b : Bool) (x y : Point) → (x ≡ Runs → ⊥) → (y ≡ Runs → ⊥) → (if b then x else y) ≡ Runs → ⊥
+  if_runs true x y h g e = h e
+  if_runs false x y h g e = g e
+
+  pub rank_ends : (pt : Point) → IsTemplate pt → source_event w T t pt r w' e ≡ None → next w e pt r ≡ Runs
+      → more + 16 < rank more w pt
+  rank_ends Unmade is none on = absurd is
+  rank_ends Runs is none on = absurd is
+  rank_ends (EnterPends m) is none on = absurd cc
+  rank_ends (EnterTries m) is none on = absurd (if_runs (r == 0) _ _ (λ h. cc) (λ h. cc) on)
+  rank_ends (ReenterPends m) is none on = absurd cc
+  rank_ends (ReenterTries m) is none on = absurd (if_runs (r == 0) _ _ (λ h. cc) (λ h. cc) on)
+  rank_ends (TakeReads m k) is none on = absurd (if_runs (owner r == 0) _ _ (λ h. cc) (λ h. cc) on)
+  rank_ends (TakeMarks m v k) is none on = absurd (if_runs (r == v) _ _ (λ h. cc) (λ h. cc) on)
+  rank_ends (TakeSleeps m v k) is none on = absurd cc
+  rank_ends (TakeTries m v k) is none on = absurd (if_runs (r == v) _ _ (λ h. cc) (λ h. cc) on)
+  rank_ends (GotReads m v) is none on = absurd cc
+  rank_ends (GotLinks m v h) is none on = absurd cc
+  rank_ends (GotHeads m v) is none on = absurd cc
+  rank_ends (GotUnpends m v) is none on = omega arith
+  rank_ends (WaitReads c) is none on = absurd cc
+  rank_ends (NotifyAdds c) is none on = absurd cc
+  rank_ends (NotifyWakes c) is none on = absurd cc
+  rank_ends (BroadcastAdds c) is none on = absurd cc
+  rank_ends (BroadcastMarks c) is none on = absurd cc
+  rank_ends (BroadcastReads c) is none on = absurd cc
+  rank_ends (BroadcastMoves c s) is none on = absurd cc
+  rank_ends (JoinReads q) is none on = absurd is
+  rank_ends (JoinSleeps q) is none on = absurd is
+  rank_ends (JoinLearns q end) is none on = absurd is
+  rank_ends (JoinTakes q end) is none on = absurd is
+  rank_ends (LeavePends m k) is none on = absurd cc
+  rank_ends (LeaveReads m k) is none on = absurd cc
+  rank_ends (LeaveHeads m h k) is none on = absurd cc
+  rank_ends (LeaveSwaps m k) is none on = absurd cc
+  rank_ends (LeaveWakes m k) is none on = absurd cc
+  rank_ends (HasLeft m ToExit) is none on = omega arith
+  rank_ends (HasLeft m (ToWait c s)) is none on = absurd cc
+  rank_ends (Dies cause x) is none on = absurd is
+  rank_ends (Walks a x end) is none on = absurd is
+  rank_ends (ClearsId end) is none on = absurd is
+  rank_ends (LastWakes end) is none on = absurd is
+  rank_ends (HasEnded end) is none on = absurd is

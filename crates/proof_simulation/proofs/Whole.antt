@@ -1,0 +1,234 @@
+-- Each run of the machine on the code of a program is explained by a run of the program.
+use Rattle.std.proofs.Common.{◌≡◌, ℕ, zero, suc, ◌+◌, ◌<◌, ◌≤◌, Bool, false, List, [], ◌∷◌, ◌++◌, length, refl, sym}
+use Rattle.std.proofs.Common.{subst, arith, Option, Some, None, ◌∙◌}
+use Rattle.std.specs.Prelude.{map, ◌^◌}
+use Rattle.locals.specs.Threads.{Thread}
+use Rattle.locals.specs.Looks.{Look, Goes, Asks, Leaves, Breaks, Rests, look}
+use Rattle.locals.specs.Steps.{local_next, and_step, local_after}
+use Rattle.machine.specs.States.{State, opening_state, with_thread}
+use Rattle.machine.specs.Runs.{Step, GoesBy, MachineRun, IsStep, Moves, NextIsBroken, is_paused}
+use Rattle.program.specs.Trees.{Program}
+use Rattle.program.specs.WellFormed.{WellFormed}
+use Rattle.lowering.specs.Pieces.{marks_of, code_of}
+use Rattle.meaning.specs.Labels.{Kind, Action}
+use Rattle.meaning.specs.Labels as L
+use Rattle.meaning.specs.States.{SourceState, opening}
+use Rattle.meaning.specs.Runs.{Leads}
+use Rattle.protocol.proofs.Sleeps.{put_same}
+use Rattle.proof_thread.specs.Completing.{IsOwn}
+use Rattle.refinement.specs.Pace.{stretch_length}
+use Rattle.refinement.specs.Refines.{is_stray_kind, is_kill_kind, processes_of, Explained, Refines}
+use Rattle.refinement.specs.Built.{build_of}
+use Rattle.proof_simulation.specs.Corresponding.{Corresponds}
+use Rattle.proof_simulation.specs.Ranks.{most_left}
+use Rattle.proof_simulation.proofs.Sourcing.{act}
+use Rattle.proof_simulation.proofs.Worlds.{put_put}
+use Rattle.proof_simulation.proofs.Local.{put_again}
+use Rattle.proof_simulation.proofs.Moving.{AreOwn, left_of}
+use Rattle.proof_simulation.proofs.Completions.{told_deferral, told_apart}
+use Rattle.proof_simulation.proofs.Stepping.{next}
+use Rattle.proof_simulation.proofs.Bounds.{left_few, left_short}
+use Rattle.proof_simulation.proofs.Paces.{Trail, rests, goes, keeps_pace}
+use Rattle.proof_simulation.proofs.Opening.{opens}
+use Rattle.proof_simulation.proofs.Observing.{sound, ends}
+use Rattle.proof_simulation.proofs.Resting.{at_rest, sleepers}
+use Rattle.proof_thread.specs.Deferrals.{mark_of}
+use Rattle.proof_simulation.specs.Deferred.{Stage, stages, Agrees, has_failed}
+use Rattle.proof_simulation.specs.Progress.{answer_in, visible_step}
+use Rattle.proof_thread.specs.Deferrals.{deferred_by_step}
+use Rattle.proof_simulation.proofs.Completions.{steps_so}
+use Rattle.proof_simulation.proofs.Tracking.{agrees_next}
+use Rattle.proof_simulation.proofs.Paces.{count_by-append}
+use Rattle.proof_simulation.proofs.Counting.{count, counts, count_map, of_one, step_count, behind, placed_count}
+use Rattle.refinement.specs.Pace.{is_action_of}
+use Rattle.meaning.specs.Labels.{Kind}
+use Rattle.protocol.proofs.Sleeps.{put_other}
+use Rattle.words.specs.Updates.{put}
+use Rattle.std.proofs.Common.{ap}
+
+abbrev pub AllOwn : List Action → Type 0
+AllOwn [] = Unit {0}
+AllOwn (a ∷ as') = IsOwn a.kind × AllOwn as'
+
+pub all_own : (t : ℕ) (ks : List Kind) (as' : List Action) → AreOwn ks → AllOwn as' → AllOwn (map (act t) ks ++ as')
+all_own t [] as' h g = g
+all_own t (k ∷ ks) as' h g = (h.0, all_own t ks as' h.1 g)
+
+pub leads_on : (p : Program) (s mid s' : SourceState) (as' bs : List Action) → Leads p s as' mid → Leads p mid bs s'
+    → Leads p s (as' ++ bs) s'
+leads_on p s mid s' [] bs h g = subst (λ (x : SourceState). Leads p x bs s') (sym h) g
+leads_on p s mid s' (a ∷ as') bs h g = (h.0, h.1, leads_on p h.0 mid s' as' bs h.2 g)
+
+-- a process's own action is neither a stray nor a kill
+pub own_kinds : (k : Kind) → IsOwn k → (is_stray_kind k ≡ false) × (is_kill_kind k ≡ false)
+own_kinds (L.Stray c) h = absurd h
+own_kinds (L.Kill r last) h = absurd h
+own_kinds k h = (refl, refl)
+
+pub none_from_outside : (test : Kind → Bool) → ((k : Kind) → IsOwn k → test k ≡ false) → (as' : List Action)
+    → AllOwn as'
+    → processes_of test as' ≡ []
+none_from_outside test own_none [] h = refl
+none_from_outside test own_none (a ∷ as') h = rw (own_none a.kind h.0) (none_from_outside test own_none as' h.1)
+
+-- a local step is one of a thread that goes
+goes_by : (l : Look) (y : Thread) → local_next l ≡ Some y → l ≡ Goes y
+goes_by (Goes z) y e = cc
+goes_by (Asks request go) y e = absurd cc
+goes_by (Leaves phase) y e = absurd cc
+goes_by Breaks y e = absurd cc
+goes_by Rests y e = absurd cc
+
+module _ (p : Program) (w : WellFormed p) where
+  abbrev pub most : ℕ
+  most = most_left (build_of p w 0)
+
+  pub few : (steps : ℕ) (s : State) (c : SourceState) (k : Corresponds p w steps s c) (u : ℕ) → left_of p w k u ≤ most
+  few steps s c k u = left_few (build_of p w k.world.made) c.variable u k.world (k.threads u)
+
+  -- what belongs to the state that a run of the machine comes to
+  pub record Come (s : State) (c : SourceState) (left : ℕ → ℕ) (was : ℕ → Stage) (steps : List Step) (s' : State)
+      (number : (ℕ → List Kind) → ℕ → ℕ) : Type 0 where
+    pub taken : ℕ
+    pub source : SourceState
+    pub ties : Corresponds p w taken s' source
+    pub actions : List Action
+    pub own : AllOwn actions
+    pub leads : Leads p c actions source
+    pub trail : Trail most left steps actions (left_of p w ties)
+    -- as many as the code's marks tell
+    pub counted : (deferred : ℕ → List Kind) → ((u : ℕ) → Agrees (was u) (has_failed (deferred u))) → (t : ℕ)
+        → count t actions ≡ number deferred t
+
+  pub come : (taken : ℕ) (s : State) (c : SourceState) (k : Corresponds p w taken s c) (steps : List Step) (s' : State)
+      → taken + length steps < 2 ^ 32 → (run : GoesBy (code_of p) s steps s')
+      → Come s c (left_of p w k) (stages k.world) steps s' (λ deferred t. counts p deferred steps s s' run t)
+  come taken s c k [] s' short run =
+      subst (λ (x : State). Come s c (left_of p w k) (stages k.world) [] x (λ deferred t. 0)) run (record {
+        taken = taken;
+        source = c;
+        ties = k;
+        actions = [];
+        own = tt;
+        leads = refl;
+        trail = rests;
+        counted = λ deferred agrees t. refl;
+      })
+  come taken s c k (l ∷ ls) s' short run =
+      let looks = look (code_of p) l.thread run.1.thread in
+      let mark = mark_of (marks_of p) run.1.thread in
+      let answer = answer_in s run.0 l.thread l.woken looks run.1.moves in
+      let n = next p w taken s c k l run.0 run.1 (visible_step p looks answer) (deferred_by_step mark looks answer)
+      (steps_so p mark s run.0 l.thread l.woken looks run.1.moves)
+      (λ request go e d. let few = k.numbers d in omega (arith, few, short)) in
+      let r = come (suc taken) run.0 n.after n.ties ls s' (omega (arith, short)) run.2 in
+      record {
+        taken = r.taken;
+        source = r.source;
+        ties = r.ties;
+        actions = map (act l.thread) n.kinds ++ r.actions;
+        own = all_own l.thread n.kinds r.actions n.own r.own;
+        leads = leads_on p c n.after r.source (map (act l.thread) n.kinds) r.actions n.leads r.leads;
+        trail = goes (left_of p w n.ties) l n.kinds n.paced (few (suc taken) run.0 n.after n.ties) r.trail;
+        counted = λ deferred agrees t.
+            let ks = deferred l.thread in
+            let d = visible_step p looks answer in
+            let deferral = deferred_by_step mark looks answer in
+            let one = placed_count p run.0 l.thread c n.after d deferral
+            (stages k.world l.thread) n.stage n.kinds ks n.places
+            (agrees l.thread) in
+            let later = agrees_next (stages k.world) n.stage l.thread
+            (λ u. has_failed (put deferred l.thread (behind d deferral ks) u)) (stages n.ties.world) n.staged
+            (λ u o. subst (λ (i : List Kind). Agrees (stages k.world u) (has_failed i))
+            (sym (put_other deferred l.thread (behind d deferral ks) u o)) (agrees u))
+            (subst (λ (i : List Kind). Agrees n.stage (has_failed i)) (sym (put_same deferred l.thread
+            (behind d deferral ks)))
+            one.1) in
+            count_by-append (is_action_of t) (map (act l.thread) n.kinds) r.actions
+            ∙ ap (λ i. i + count t r.actions)
+            (count_map l.thread t n.kinds ∙ ap (λ i. of_one l.thread t i) one.0)
+            ∙ ap (λ i. of_one l.thread t (step_count d deferral ks) + i)
+            (r.counted (put deferred l.thread (behind d deferral ks)) later t);
+      }
+
+  -- what belongs to the state in which a thread stands elsewhere, to where it came by local steps
+  record Stays (s : State) (t : ℕ) (y : Thread) : Type 0 where
+    taken : ℕ
+    source : SourceState
+    ties : Corresponds p w taken (with_thread s t y) source
+
+  -- one local step more
+  goes_on : (s : State) (t : ℕ) (m y : Thread) → s.asleep t ≡ None → look (code_of p) t m ≡ Goes y → Stays s t m
+      → Stays s t y
+  goes_on s t m y awake h r =
+      let mid = with_thread s t m in
+      let after = with_thread mid t y in
+      let step : IsStep (code_of p) mid (record { thread = t; woken = []; pauses = is_paused after t }) after = record {
+        thread = m;
+        stands = put_same s.thread t (Some m);
+        awake = awake;
+        moves = subst (λ (l : Look). Moves mid t [] l after) (sym h) (refl, refl);
+        pauses = refl;
+      } in
+      let so = told_apart p mid t [] (look (code_of p) t m) after step.moves in
+      let deferral = told_deferral p so.0 (mark_of (marks_of p) m) mid t [] (look (code_of p) t m) after so.1 in
+      let n = next p w r.taken mid r.source r.ties (record { thread = t; woken = []; pauses = is_paused after t }) after
+      step so.0 deferral.0 deferral.1 (λ request go e d. absurd (cc (h, e))) in
+      record {
+        taken = suc r.taken;
+        source = n.after;
+        ties = subst (λ (f : ℕ → Option Thread). Corresponds p w (suc r.taken) (record s { thread = f }) n.after)
+            (put_put s.thread t (Some m) (Some y)) n.ties;
+      }
+
+  stays : (taken : ℕ) (s : State) (c : SourceState) (k : Corresponds p w taken s c) (t : ℕ) (x : Thread)
+      → s.thread t ≡ Some x → s.asleep t ≡ None → (n : ℕ) (y : Thread) → local_after (code_of p) t n x ≡ Some y
+      → Stays s t y
+  stays taken s c k t x stands awake zero y e = record {
+    taken = taken;
+    source = c;
+    ties = subst (λ (f : ℕ → Option Thread). Corresponds p w taken (record s { thread = f }) c)
+        (put_again s.thread t (Some y) (stands ∙ e)) k;
+  }
+  stays taken s c k t x stands awake (suc n) y e =
+      by_mid (local_after (code_of p) t n x) (λ m is. stays taken s c k t x stands awake n m is) e
+    where
+      by_mid : (o : Option Thread) → ((m : Thread) → o ≡ Some m → Stays s t m) → and_step (code_of p) t o ≡ Some y
+          → Stays s t y
+      by_mid None before e = absurd cc
+      by_mid (Some m) before e = goes_on s t m y awake (goes_by (look (code_of p) t m) y e) (before m refl)
+
+  explained : (steps : List Step) (s : State) → MachineRun (code_of p) steps s → length steps < 2 ^ 32
+      → Explained p (code_of p) steps s
+  explained steps s run short =
+      let k = opens p w in
+      let r = come 0 (opening_state (code_of p)) (opening p) k steps s (omega (arith, short)) run in
+      record {
+        sound = sound p w r.taken s r.source r.ties;
+        actions = r.actions;
+        source = r.source;
+        run = r.leads;
+        output = r.ties.output;
+        variables = r.ties.variables;
+        ends = ends p w r.taken s r.source r.ties;
+        at_rest = at_rest p w r.taken s r.source r.ties;
+        sleepers = sleepers p w r.taken s r.source r.ties;
+        pace = keeps_pace most (stretch_length p) (left_of p w k) (left_of p w r.ties) steps r.actions
+            (left_short p w 0) (few 0 (opening_state (code_of p)) (opening p) k) r.trail;
+        strays = none_from_outside is_stray_kind (λ i h. (own_kinds i h).0) r.actions r.own;
+        kills = none_from_outside is_kill_kind (λ i h. (own_kinds i h).1) r.actions r.own;
+      }
+
+  fine_locally : (steps : List Step) (s : State) → MachineRun (code_of p) steps s → length steps < 2 ^ 32
+      → (t n : ℕ) (x y : Thread) → s.thread t ≡ Some x → s.asleep t ≡ None → local_after (code_of p) t n x ≡ Some y
+      → NextIsBroken (code_of p) (with_thread s t y) t → ⊥
+  fine_locally steps s run short t n x y stands awake local =
+      let r = come 0 (opening_state (code_of p)) (opening p) (opens p w) steps s (omega (arith, short)) run in
+      let on = stays r.taken s r.source r.ties t x stands awake n y local in
+      sound p w on.taken (with_thread s t y) on.source on.ties t
+
+  pub refines : Refines p (code_of p)
+  refines = record {
+    follows = λ steps s run short. explained steps s run short;
+    locally = λ steps s run short t n x y stands awake local. fine_locally steps s run short t n x y stands awake local;
+  }

@@ -1,0 +1,18 @@
+use Rattle.proof_simulation.proofs.Tracking.{opens_deferred, tracks_deferred, catches_up_deferred, takes_visible_deferred}
+use Rattle.proof_simulation.proofs.Finishing.{finishes}
+use Rattle.proof_simulation.proofs.law.source_waits.Goals as goal
+
+pub returns-clause-opens : goal.returns-clause-opens
+returns-clause-opens c = opens_deferred
+
+pub returns-clause-waits : goal.returns-clause-waits
+returns-clause-waits c = tracks_deferred
+
+pub returns-clause-catches_up : goal.returns-clause-catches_up
+returns-clause-catches_up c = catches_up_deferred
+
+pub returns-clause-takes_visible : goal.returns-clause-takes_visible
+returns-clause-takes_visible c = takes_visible_deferred
+
+pub returns-clause-finishes : goal.returns-clause-finishes
+returns-clause-finishes c = finishes

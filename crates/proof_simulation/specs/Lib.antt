@@ -1,0 +1,10 @@
+pub mod Deferred
+pub mod Ordering
+pub mod Standing
+pub mod Ranks
+pub mod Corresponding
+pub mod Tracking
+pub mod Next
+pub mod Progress
+pub mod Explaining
+pub mod Serving

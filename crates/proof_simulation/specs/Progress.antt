@@ -1,0 +1,83 @@
+-- How far the source has come behind some steps of the machine, as a function of the steps.
+use Rattle.std.specs.Prelude.{ℕ, Bool, true, false, List, [], ◌∷◌, ◌++◌, Option}
+use Rattle.words.specs.Updates.{put}
+use Rattle.locals.specs.Looks.{Look, Goes, Asks, Leaves, Breaks, Rests, look}
+use Rattle.machine.specs.States.{State, opening_state}
+use Rattle.machine.specs.Runs.{Step, Moves, IsStep, GoesBy, MachineRun}
+use Rattle.program.specs.Trees.{Program}
+use Rattle.lowering.specs.Pieces.{code_of, marks_of}
+use Rattle.meaning.specs.Labels.{Kind, Action}
+use Rattle.meaning.specs.States.{SourceState, opening}
+use Rattle.proof_commutation.specs.Placed.{actions_of}
+use Rattle.proof_thread.specs.Deferrals.{mark_of, deferred_by_step}
+use Rattle.proof_simulation.specs.Next.{after_next, next_kinds, next_visible, take_deferred}
+use Rattle.proof_simulation.specs.Ordering.{completes, completes_exit}
+use Rattle.proof_simulation.specs.Deferred.{deferred_then}
+
+-- the answer to what a step asks
+abbrev pub answer_in : (s s' : State) (t : ℕ) (woken : List ℕ) (l : Look) → Moves s t woken l s' → ℕ
+answer_in s s' t woken (Goes x) g = 0
+answer_in s s' t woken (Asks request go) g = g.0
+answer_in s s' t woken (Leaves phase) g = 0
+answer_in s s' t woken Breaks g = 0
+answer_in s s' t woken Rests g = 0
+
+-- whether others learn of a step that looks so
+abbrev pub visible_step : Program → Look → (answer : ℕ) → Bool
+visible_step p (Goes x) r = false
+visible_step p (Asks request go) r = completes p request r
+visible_step p (Leaves phase) r = completes_exit phase
+visible_step p Breaks r = false
+visible_step p Rests r = false
+
+-- a run of the source behind some steps of the machine: its actions, where they lead, and what still waits of each
+-- process
+pub record Progress : Type 0 where
+  pub actions : List Action
+  pub source : SourceState
+  pub deferred : ℕ → List Kind
+
+-- what waits of process t is taken
+abbrev pub progress_caught_up : Program → (t : ℕ) → Progress → Progress
+progress_caught_up p t g = record {
+  actions = g.actions ++ actions_of t (g.deferred t);
+  source = take_deferred p t (g.deferred t) g.source;
+  deferred = put g.deferred t [];
+}
+
+-- and the next action of it which others learn of, by a step to this state of the machine
+abbrev pub progress_next : Program → State → (t : ℕ) → Progress → Progress
+progress_next p s t g =
+    let next = next_visible p s t g.source in
+    record g {
+      actions = g.actions ++ actions_of t (next_kinds next);
+      source = after_next t next g.source;
+    }
+
+-- behind a step of process t that others learn of; behind another, one more may wait
+abbrev pub progress_step : Program → (visible : Bool) → (deferral : Option Kind) → State → (t : ℕ) → Progress → Progress
+progress_step p true deferral s t g = progress_next p s t (progress_caught_up p t g)
+progress_step p false deferral s t g = record g { deferred = put g.deferred t (deferred_then deferral (g.deferred t)) }
+
+-- behind a step of the machine
+abbrev pub progress_taken : (p : Program) → (s s' : State) → (l : Step) → IsStep (code_of p) s l s'
+    → Progress → Progress
+progress_taken p s s' l st g =
+    let looks = look (code_of p) l.thread st.thread in
+    let answer = answer_in s s' l.thread l.woken looks st.moves in
+    let deferral = deferred_by_step (mark_of (marks_of p) st.thread) looks answer in
+    progress_step p (visible_step p looks answer) deferral s' l.thread g
+
+-- behind several steps of the machine
+abbrev pub progress_by : (p : Program) → Progress → (steps : List Step) → (s s' : State)
+    → GoesBy (code_of p) s steps s' → Progress
+progress_by p g [] s s' run = g
+progress_by p g (l ∷ ls) s s' run = progress_by p (progress_taken p s run.0 l run.1 g) ls run.0 s' run.2
+
+-- before the first step
+abbrev pub opening_progress : Program → Progress
+opening_progress p = record { actions = []; source = opening p; deferred = λ t. [] }
+
+-- of a run from the opening state
+abbrev pub progress : (p : Program) (steps : List Step) (s : State) → MachineRun (code_of p) steps s → Progress
+progress p steps s run = progress_by p (opening_progress p) steps (opening_state (code_of p)) s run

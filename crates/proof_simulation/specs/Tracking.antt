@@ -1,0 +1,67 @@
+-- The source behind the machine: what its processes have done that others learn of, while actions that may wait still
+-- wait.
+use Rattle.std.specs.Prelude.{ℕ, ◌+◌, ◌≡◌, ◌≤◌, false, List, length, Some, None}
+use Rattle.machine.specs.States.{State}
+use Rattle.program.specs.Trees.{Program}
+use Rattle.program.specs.WellFormed.{WellFormed}
+use Rattle.meaning.specs.Labels.{Kind, Label}
+use Rattle.meaning.specs.Table.{Table, Allows}
+use Rattle.meaning.specs.Processes.{Process}
+use Rattle.meaning.specs.Offers.{Effect, offer, TakesUp}
+use Rattle.meaning.specs.States.{SourceState, variables_after}
+use Rattle.proof_commutation.specs.Deferring.{is_internal, IsBehind}
+use Rattle.protocol.specs.Carries.{IsByHolder}
+use Rattle.proof_simulation.specs.Corresponding.{Corresponds}
+use Rattle.proof_simulation.specs.Ordering.{KeepsOthers, Resumes, state_after}
+use Rattle.proof_thread.specs.Completing.{IsOwn}
+use Rattle.proof_simulation.specs.Deferred.{Agrees, AreOwn, has_failed, stages}
+use Rattle.meaning.specs.Labels.{kind_of}
+
+-- a process can take an action of this label
+pub record CanTake (p : Program) (a : SourceState) (t : ℕ) (label : Label) : Type 0 where
+  pub before : Process
+  pub after : Process
+  pub effect : Effect
+  pub table : Table
+  pub stands : a.process t ≡ Some before
+  pub takes : TakesUp (offer p a.variable before) label effect after
+  pub allows : Allows t label a.table table
+
+-- the source goes with the machine after so many steps, but that actions which may wait still wait, of each process no
+-- more than there were steps
+pub record Tracks (p : Program) (w : WellFormed p) (steps : ℕ) (s : State) (a : SourceState) : Type 0 where
+  pub deferred : ℕ → List Kind
+  pub ahead : SourceState
+  pub ties : Corresponds p w steps s ahead
+  pub behind : IsBehind p deferred a ahead
+  pub few : (t : ℕ) → length (deferred t) ≤ steps
+  pub agrees : (t : ℕ) → Agrees (stages ties.world t) (has_failed (deferred t))
+  pub own : (t : ℕ) → AreOwn (deferred t)
+
+-- a step of thread t led to a state of the machine, and was an action of its process which others learn of. First come
+-- the actions that still wait of the process, and then that
+pub record HasDeferred (p : Program) (w : WellFormed p) (steps : ℕ) (s : State) (t : ℕ) (a : SourceState)
+    (ks : List Kind) : Type 0 where
+  pub deferred : ℕ → List Kind
+  pub now : SourceState
+  pub behind : IsBehind p deferred a now
+  pub mine : deferred t ≡ ks
+  pub few : (u : ℕ) → length (deferred u) ≤ steps
+  pub before : Process
+  pub after : Process
+  pub label : Label
+  pub effect : Effect
+  pub table : Table
+  pub visible : is_internal label ≡ false
+  pub stands : now.process t ≡ Some before
+  pub takes : TakesUp (offer p now.variable before) label effect after
+  pub allows : Allows t label now.table table
+  pub holder : IsByHolder t label now.table
+  pub keeps : KeepsOthers t now.table now.variable (variables_after effect now.variable)
+  pub resumes : Resumes p s now.table label
+  pub fresh : now.process (now.table.made + 1) ≡ None
+  pub ties : Corresponds p w steps s (state_after now t effect after table)
+  pub agrees : (u : ℕ) → (u ≡ t → ⊥) → Agrees (stages ties.world u) (has_failed (deferred u))
+  pub calm : Agrees (stages ties.world t) false
+  pub own : (u : ℕ) → AreOwn (deferred u)
+  pub mine_own : IsOwn (kind_of label)

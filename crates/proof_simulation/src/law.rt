@@ -1,0 +1,116 @@
+ghost use Rattle.std.specs.Prelude.{◌≡◌, ◌+◌, ◌<◌, ◌^◌, ◌∷◌, [], ℕ, suc, Bool, true, false, List, Option, length};
+ghost use Rattle.lowering.specs.Pieces.{code_of, marks_of};
+ghost use Rattle.proof_commutation.specs.Deferring.{is_internal};
+ghost use Rattle.proof_thread.specs.Variables.{IsVariable, variable_address};
+ghost use Rattle.locals.specs.Looks.{look};
+ghost use Rattle.machine.specs.Runs.{IsStep, MachineRun, Step};
+ghost use Rattle.machine.specs.States.{State, opening_state};
+ghost use Rattle.meaning.specs.Labels.{Kind, Label, kind_of};
+ghost use Rattle.meaning.specs.Runs.{IsStep as IsSourceStep, Leads};
+ghost use Rattle.meaning.specs.States.{SourceState, opening};
+ghost use Rattle.proof_simulation.specs.Ordering.{MovesSo, Resumes, StepsSo, act};
+ghost use Rattle.proof_simulation.specs.Deferred.{deferred_then};
+ghost use Rattle.proof_simulation.specs.Corresponding.{Corresponds};
+ghost use Rattle.proof_commutation.specs.Placed.{actions_up_to};
+ghost use Rattle.proof_thread.specs.Deferrals.{mark_of};
+ghost use Rattle.proof_simulation.specs.Explaining.{IsDue, IsReached, explanation};
+ghost use Rattle.proof_simulation.specs.Progress.{Progress, answer_in, visible_step, progress};
+ghost use Rattle.words.specs.Updates.{put};
+ghost use Rattle.proof_simulation.specs.Tracking.{CanTake, HasDeferred, Tracks};
+ghost use Rattle.program.specs.Trees.{Program};
+ghost use Rattle.program.specs.WellFormed.{WellFormed};
+ghost use Rattle.program.specs.declared.kinds.Member.{Member};
+ghost use Rattle.refinement.specs.Refines.{Explained, Refines};
+ghost use Rattle.refinement.specs.Seen.{machine_end, source_end};
+ghost use Rattle.words.specs.Signed.{word_of};
+
+/// The code of each checked program refines it, in the whole language: locals, expressions, IF, WHILE, procedures with
+/// arguments and results, PRINT, ABORT, faults, FORK, and JOIN with INTO and ABORTED; monitors with ENTRY and INTERNAL
+/// procedures, nested calls and re-entry; WAIT, NOTIFY and BROADCAST; abandoned monitors and RECOVER parts; over every
+/// schedule of the machine.
+pub fn code_refines()
+    ensures { (p : Program) → WellFormed p → Refines p (code_of p) }
+{}
+
+/// The source follows the machine, step by step. It tracks the machine's opening state; a step of the machine that is
+/// no action which other processes learn of (`MovesSo` says which steps are, by the request and its answer) leaves it
+/// where it is; at one that is, the actions that still wait of the process are possible one by one, and then that
+/// action is, whose label the offer of the process tells; a notify or a broadcast resumes those who wait and don't
+/// sleep on the word of the condition. Where it tracks the machine, the same is printed, variables have the same
+/// values, and processes the same ends.
+pub fn source_follows()
+    ensures opens { (p : Program) (w : WellFormed p) → Tracks p w 0 (opening_state (code_of p)) (opening p) }
+    ensures tracks { (p : Program) (w : WellFormed p) (steps : ℕ) (s : State) (a : SourceState)
+        → Tracks p w steps s a → (l : Step) (s' : State) (st : IsStep (code_of p) s l s') (done : Bool)
+        → MovesSo p done s l.thread l.woken (look (code_of p) l.thread st.thread) s' → steps + 1 < 2 ^ 32
+        → (done ≡ false → Tracks p w (suc steps) s' a)
+        × (done ≡ true → (ks : List Kind) × HasDeferred p w (suc steps) s' l.thread a ks) }
+    ensures catches_up { (p : Program) (w : WellFormed p) (steps : ℕ) (s : State) (t : ℕ) (a : SourceState) (k : Kind)
+        (ks : List Kind) → HasDeferred p w steps s t a (k ∷ ks)
+        → (label : Label) × (k ≡ kind_of label) × (is_internal label ≡ true) × CanTake p a t label
+        × ((a' : SourceState) → IsSourceStep p a (act t k) a' → HasDeferred p w steps s t a' ks) }
+    ensures takes_visible { (p : Program) (w : WellFormed p) (steps : ℕ) (s : State) (t : ℕ) (a : SourceState)
+        → HasDeferred p w steps s t a []
+        → (label : Label) × (is_internal label ≡ false) × CanTake p a t label × Resumes p s a.table label
+        × ((a' : SourceState) → IsSourceStep p a (act t (kind_of label)) a' → Tracks p w steps s a') }
+    ensures output { (p : Program) (w : WellFormed p) (steps : ℕ) (s : State) (a : SourceState)
+        → Tracks p w steps s a → s.output ≡ a.printed }
+    ensures variables { (p : Program) (w : WellFormed p) (steps : ℕ) (s : State) (a : SourceState)
+        → Tracks p w steps s a → (m : Member) (i : ℕ) → IsVariable p m i
+        → s.word (variable_address p m i) ≡ word_of (a.variable m.monitor m.number i) }
+    ensures ends { (p : Program) (w : WellFormed p) (steps : ℕ) (s : State) (a : SourceState)
+        → Tracks p w steps s a → (q : ℕ) → machine_end s q ≡ source_end a q }
+{}
+
+/// What waits behind the machine is told by the code's marks. At a step that no other process learns of, the process
+/// has one more action that waits just where the step has one (`StepsSo` says which steps have, and which action, by
+/// the mark at which the thread stands, the request and its answer): an assignment of a local, a test, a call, a
+/// return, a fault, which waits once. Behind one that others learn of, all that waits of the process is taken first,
+/// in order, and then nothing waits of it. At any time all that waits may be taken, by rising number of process, and
+/// then the source is where the machine is.
+pub fn source_waits()
+    ensures opens { (p : Program) (w : WellFormed p)
+        → (o : Tracks p w 0 (opening_state (code_of p)) (opening p)) × (o.deferred ≡ (λ t. [])) }
+    ensures waits { (p : Program) (w : WellFormed p) (steps : ℕ) (s : State) (a : SourceState)
+        (r : Tracks p w steps s a)
+        (l : Step) (s' : State) (st : IsStep (code_of p) s l s') (done : Bool) (deferral : Option Kind)
+        → StepsSo p done deferral (mark_of (marks_of p) st.thread) s l.thread l.woken
+        (look (code_of p) l.thread st.thread) s'
+        → steps + 1 < 2 ^ 32
+        → (done ≡ false → (n : Tracks p w (suc steps) s' a)
+        × (n.deferred ≡ put r.deferred l.thread (deferred_then deferral (r.deferred l.thread))))
+        × (done ≡ true → (o : HasDeferred p w (suc steps) s' l.thread a (r.deferred l.thread)) × (o.deferred ≡ r.deferred)) }
+    ensures catches_up { (p : Program) (w : WellFormed p) (steps : ℕ) (s : State) (t : ℕ) (a : SourceState) (k : Kind)
+        (ks : List Kind) (o : HasDeferred p w steps s t a (k ∷ ks))
+        → (label : Label) × (k ≡ kind_of label) × (is_internal label ≡ true) × CanTake p a t label
+        × ((a' : SourceState) → IsSourceStep p a (act t k) a'
+        → (n : HasDeferred p w steps s t a' ks) × (n.deferred ≡ put o.deferred t ks)) }
+    ensures takes_visible { (p : Program) (w : WellFormed p) (steps : ℕ) (s : State) (t : ℕ) (a : SourceState)
+        (o : HasDeferred p w steps s t a [])
+        → (label : Label) × (is_internal label ≡ false) × CanTake p a t label × Resumes p s a.table label
+        × ((a' : SourceState) → IsSourceStep p a (act t (kind_of label)) a'
+        → (n : Tracks p w steps s a') × (n.deferred ≡ o.deferred)) }
+    ensures finishes { (p : Program) (w : WellFormed p) (steps : ℕ) (s : State) (a : SourceState)
+        (r : Tracks p w steps s a)
+        → (source : SourceState) × Leads p a (actions_up_to s.made r.deferred) source × Corresponds p w steps s source }
+{}
+
+/// The run of the source that explains a run of the machine is a function of the machine's run (`explanation`): at a
+/// step that others learn of comes what waits of its process by the code's marks, and then the action that the process
+/// offers; what waits at the end comes last, by rising number of process. What the source has come to behind each step
+/// (`progress`) is a run of the program, which goes with the machine; at a step that others learn of, what waits of its
+/// process is possible, and then an action of it which they learn of. With its explanation a run of the machine is
+/// explained in all that `Refines` says: it is a run of the program, the same is seen of both, and it keeps pace.
+pub fn run_explains()
+    ensures reached { (p : Program) (w : WellFormed p) (steps : List Step) (s : State)
+        (run : MachineRun (code_of p) steps s)
+        → length steps < 2 ^ 32 → IsReached p w (length steps) s (progress p steps s run) }
+    ensures due { (p : Program) (w : WellFormed p) (steps : ℕ) (s : State) (g : Progress) → IsReached p w steps s g
+        → (l : Step) (s' : State) (st : IsStep (code_of p) s l s') → steps + 1 < 2 ^ 32
+        → visible_step p (look (code_of p) l.thread st.thread) (answer_in s s' l.thread l.woken
+        (look (code_of p) l.thread st.thread) st.moves) ≡ true → IsDue p s' l.thread g }
+    ensures explained { (p : Program) → WellFormed p → (steps : List Step) (s : State)
+        (run : MachineRun (code_of p) steps s)
+        → length steps < 2 ^ 32
+        → (e : Explained p (code_of p) steps s) × (e.actions ≡ explanation p steps s run) }
+{}

@@ -1,0 +1,11 @@
+pub mod Typed
+pub mod Variables
+pub mod Deferrals
+pub mod Walks
+pub mod Evaluation
+pub mod Shapes
+pub mod Bodies
+pub mod Following
+pub mod Awaiting
+pub mod Completing
+pub mod Builds

@@ -1,4 +1,0 @@
-pub mod Entering
-pub mod Telling
-pub mod Recording
-pub mod Keeping

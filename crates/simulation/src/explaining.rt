@@ -1,0 +1,122 @@
+ghost use Rattle.std.specs.Prelude.{◌≡◌, ◌≢◌, IfOk, MatchBool, MatchResult, map};
+ghost use Rattle.isa.specs.Programs.{IsProgram};
+ghost use Rattle.scanner.specs.declared.refusal.RefusalKind.TheVariants.{Memory};
+ghost use Rattle.program.specs.Names.{said_by};
+ghost use Rattle.lowering.specs.Pieces.{code_of};
+ghost use Rattle.source_states.specs.Actions.{action_of};
+ghost use Rattle.simulation.specs.ExplainedLog.{IsExplainedLog, RefusesLog};
+
+use crate::fault::ExplainFault;
+use backend::{image_of, marks_of};
+use isa::{Image, encode, one_spelling};
+use layout::place;
+use log_simulation::{LogExplanation, explain_log};
+use machine::Entry;
+use program::Checked;
+use scanner::{Refusal, RefusalKind};
+use source_states::Action;
+use std::alloc::{AllocError, Global};
+
+fn are_same_bytes(a: &[u8], b: &[u8]) -> bool
+    ensures { MatchBool result (a.now ≡ b.now) (a.now ≢ b.now) }
+{
+    a == b
+}
+
+// Whether two images are the same: they are where their bytes are.
+fn are_equal(alloc: Global, image: &Image, other: &Image) -> Result<bool, AllocError>
+    ensures { IfOk result (λ b. MatchBool b (image.now ≡ other.now) (image.now ≢ other.now)) }
+{
+    one_spelling();
+    let bytes = encode(alloc, image)?;
+    let others = encode(alloc, other)?;
+    Ok(are_same_bytes(bytes.as_slice(), others.as_slice()))
+}
+
+// An image is within its limits. Nothing is done when it runs.
+fn image_is_within_limits(image: &Image)
+    ensures { IsProgram image.now }
+{
+    image.code();
+}
+
+// Whether code isn't made over its length, and not for want of memory.
+fn is_too_long(refusal: Refusal) -> bool
+    ensures { MatchBool result (refusal.kind ≢ Memory) (refusal.kind ≡ Memory) }
+{
+    refusal.kind != RefusalKind::Memory
+}
+
+// Whether the image is the code of the program.
+#[tactic(auto, using(crate::proofs::Images::other_image))]
+fn is_image_of(alloc: Global, checked: &Checked, image: &Image) -> Result<bool, AllocError>
+    ensures { IfOk result (λ b. MatchBool b (image.now ≡ code_of (said_by checked.now))
+        (image.now ≡ code_of (said_by checked.now) → ⊥)) }
+{
+    image_is_within_limits(image);
+    match image_of(alloc, checked) {
+        Ok(code) => are_equal(alloc, image, &code),
+        Err(refusal) => {
+            if is_too_long(refusal) {
+                Ok(false)
+            } else {
+                Err(AllocError)
+            }
+        }
+    }
+}
+
+// Explains a log of the program's image. That the program has one is known, so nothing is refused but for want of
+// memory.
+fn explain_own(
+    alloc: Global,
+    checked: &Checked,
+    image: &Image,
+    log: &[Entry],
+) -> Result<Vec<Action>, ExplainFault>
+    requires { image.now ≡ code_of (said_by checked.now) }
+    ensures { let p = said_by checked.now in MatchResult result
+        (λ actions. IsExplainedLog p image.now log.now (map action_of actions.items))
+        (λ fault. RefusesLog p image.now log.now fault) }
+{
+    let Ok(layout) = place(alloc, checked) else {
+        return Err(ExplainFault::Memory);
+    };
+    let Ok(marks) = marks_of(alloc, checked) else {
+        return Err(ExplainFault::Memory);
+    };
+    match explain_log(alloc, checked, image, log, layout, marks)? {
+        LogExplanation::NotARun => Err(ExplainFault::NotARun),
+        LogExplanation::TooLong => Err(ExplainFault::TooLong),
+        LogExplanation::Actions(actions) => Ok(actions),
+    }
+}
+
+/// The source run that a log of a program's image is: the actions of the source, in order.
+///
+/// The log is walked once, by the machine's own steps. At each step that is an action which other processes learn of
+/// stands that action, behind those of its process that none but itself learns of; those that none has followed yet
+/// come last, by rising process. A notify or a broadcast resumes those that wait on the condition and don't sleep on
+/// its word behind the futex call. The actions are the explanation of the run of the machine that the log is: a run of
+/// the program, with the same output, variables and ends of processes; where no thread can move, no process can; who
+/// sleeps waits; and a process has an action to each so many steps of its thread.
+///
+/// # Errors
+///
+/// `OtherImage` where the image isn't the program's; then `NotARun` where the log isn't legal for the image; then
+/// `TooLong` where it has 2^32 steps or more. `Memory` may come at any point.
+pub fn explain(
+    alloc: Global,
+    checked: &Checked,
+    image: &Image,
+    log: &[Entry],
+) -> Result<Vec<Action>, ExplainFault>
+    ensures { let p = said_by checked.now in MatchResult result
+        (λ actions. IsExplainedLog p image.now log.now (map action_of actions.items))
+        (λ fault. RefusesLog p image.now log.now fault) }
+{
+    if !is_image_of(alloc, checked, image)? {
+        return Err(ExplainFault::OtherImage);
+    }
+    explain_own(alloc, checked, image, log)
+}

@@ -1,5 +1,0 @@
-use Rattle.soundness.proofs.WellFormedUnits.{well_formed}
-use Rattle.soundness.proofs.laws.faultless_units_are_well_formed.Goals as goal
-
-pub returns : goal.returns
-returns c = well_formed

@@ -1,0 +1,56 @@
+ghost use Rattle.std.specs.Prelude.{◌≡◌, OnErr, OnOk, pos};
+ghost use Rattle.meaning.specs.Values.{with_variable};
+
+use std::alloc::{AllocError, Global};
+use std::collections::BTreeMap;
+
+/// Where a variable stands: its monitor, its member, and in an array its index (0 where the member is no array).
+#[derive(Clone, Copy, PartialEq, Eq, PartialOrd, Ord, Debug)]
+pub struct Place {
+    /// The monitor.
+    pub monitor: u32,
+    /// The member of the monitor.
+    pub member: u32,
+    /// The index in the array.
+    pub index: u32,
+}
+
+/// The value of each variable. `variables_of` makes it those of the meaning.
+#[derive(Drop)]
+pub struct Variables {
+    // What was assigned; every other variable is 0.
+    values: BTreeMap<Place, i64>,
+}
+
+impl Variables {
+    ghost use Rattle.source_offers.specs.Stores.{variables_of};
+
+    /// All variables as they begin: 0, FALSE, or the empty handle.
+    pub fn new(alloc: Global) -> Variables
+        ensures { variables_of result ≡ (λ m n i. pos 0) }
+    {
+        Variables {
+            values: BTreeMap::new(alloc),
+        }
+    }
+
+    /// The value of a variable.
+    pub fn get(&self, place: Place) -> i64
+        ensures { result ≡ variables_of self.now place.monitor place.member place.index }
+    {
+        match self.values.get(&place) {
+            None => 0,
+            Some(value) => *value,
+        }
+    }
+
+    /// Puts a value into a variable.
+    pub fn put(&mut self, place: Place, value: i64) -> Result<(), AllocError>
+        ensures ok { OnOk result (variables_of self.new
+            ≡ with_variable (variables_of self.old) place.monitor place.member place.index value) }
+        ensures err { OnErr result (variables_of self.new ≡ variables_of self.old) }
+    {
+        let _old = self.values.insert(place, value)?;
+        Ok(())
+    }
+}

@@ -1,0 +1,25 @@
+-- The state that the code keeps, as a state of the meaning.
+use Rattle.std.specs.Prelude.{ℕ, Option, option_map}
+use Rattle.std.specs.Ordering.{nat_cmp}
+use Rattle.std.specs.BTreeMap as map
+use Rattle.std.specs.BTreeMap.{BTreeMap}
+use Rattle.meaning.specs.Processes.{Process}
+use Rattle.meaning.specs.States.{SourceState}
+use Rattle.source_offers.specs.declared.process.Process.{Process as ProcessOf}
+use Rattle.source_offers.specs.Stages.{process_of}
+use Rattle.source_offers.specs.Stores.{variables_of}
+use Rattle.source_table.specs.Tables.{table_of}
+use Rattle.source_states.specs.declared.state.SourceState.{SourceState as StateOf}
+
+-- the process of each number
+abbrev pub processes_in : BTreeMap ℕ ProcessOf → ℕ → Option Process
+processes_in processes p = option_map process_of (map.get nat_cmp processes p)
+
+-- a state
+abbrev pub state_of : StateOf → SourceState
+state_of s = record {
+  table = table_of s.table;
+  variable = variables_of s.variables;
+  process = processes_in s.processes;
+  printed = s.printed.items;
+}

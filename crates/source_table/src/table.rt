@@ -1,0 +1,89 @@
+ghost use Rattle.std.specs.Prelude.{◌≡◌, option_map};
+ghost use Rattle.meaning.specs.Table.{first_table};
+ghost use Rattle.source_offers.specs.Stages.{end_of};
+
+use program::Member;
+use source_offers::End;
+use std::alloc::Global;
+use std::collections::{BTreeMap, BTreeSet};
+
+/// Whether a monitor is free.
+#[derive(Clone, Copy, PartialEq, Eq, Debug)]
+pub enum Hold {
+    /// Nobody holds it.
+    Free,
+    /// A process died in it.
+    Abandoned,
+    /// This process holds it.
+    HeldBy(u64),
+}
+
+/// Monitors, conditions and the process table. `table_of` makes it the table of the meaning.
+#[derive(Drop)]
+pub struct Table {
+    // Of each monitor that was entered once; every other is free.
+    pub(crate) holds: BTreeMap<u32, Hold>,
+    // The condition of each process that waits.
+    pub(crate) waits: BTreeMap<u64, Member>,
+    // The processes that were claimed for a JOIN.
+    pub(crate) claimed: BTreeSet<u64>,
+    // How many processes were made.
+    pub(crate) made: u64,
+    // How each process is over that is.
+    pub(crate) over: BTreeMap<u64, End>,
+}
+
+impl Table {
+    ghost use Rattle.source_table.specs.Tables.{hold_of, table_of};
+
+    /// The table as it begins.
+    pub fn new(alloc: Global) -> Table
+        ensures { table_of result ≡ first_table }
+    {
+        Table {
+            holds: BTreeMap::new(alloc),
+            waits: BTreeMap::new(alloc),
+            claimed: BTreeSet::new(alloc),
+            made: 1,
+            over: BTreeMap::new(alloc),
+        }
+    }
+
+    /// Who holds a monitor.
+    pub fn hold(&self, monitor: u32) -> Hold
+        ensures { hold_of result ≡ (table_of self.now).hold monitor }
+    {
+        match self.holds.get(&monitor) {
+            None => Hold::Free,
+            Some(hold) => *hold,
+        }
+    }
+
+    /// The condition that a process waits on.
+    pub fn waits(&self, process: u64) -> Option<Member>
+        ensures { result ≡ (table_of self.now).waits process }
+    {
+        self.waits.get(&process).copied()
+    }
+
+    /// Whether a process was claimed for a JOIN.
+    pub fn claimed(&self, process: u64) -> bool
+        ensures { result ≡ (table_of self.now).claimed process }
+    {
+        self.claimed.contains(&process)
+    }
+
+    /// How many processes were made.
+    pub fn made(&self) -> u64
+        ensures { result ≡ (table_of self.now).made }
+    {
+        self.made
+    }
+
+    /// How a process is over, where it is.
+    pub fn over(&self, process: u64) -> Option<End>
+        ensures { option_map end_of result ≡ (table_of self.now).over process }
+    {
+        self.over.get(&process).copied()
+    }
+}

@@ -1,5 +1,0 @@
-use Rattle.std.proofs.Common.{length}
-use Rattle.sourceruns.proofs.ahead.+fork_with.Given as goal
-
-abbrev pub decreases-fork_with : goal.decreases-fork_with
-decreases-fork_with l = length l.arguments.now

@@ -1,5 +1,0 @@
-use Rattle.std.proofs.Common.{length}
-use Rattle.sourceruns.proofs.rest.+take_first.Given as goal
-
-abbrev pub decreases-take_first : goal.decreases-take_first
-decreases-take_first l = length l.rest.now.items

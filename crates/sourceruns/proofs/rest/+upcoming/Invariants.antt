@@ -1,5 +1,0 @@
-use Rattle.std.proofs.Common.{length}
-use Rattle.sourceruns.proofs.rest.+upcoming.Given as goal
-
-abbrev pub decreases-upcoming : goal.decreases-upcoming
-decreases-upcoming l = length l.rest.now

@@ -1,8 +1,0 @@
-use Rattle.sourcestates.proofs.Acts.{acts, only}
-use Rattle.sourcestates.proofs.laws.offer_laws.Goals as goal
-
-pub returns-clause-does : goal.returns-clause-does
-returns-clause-does c = acts
-
-pub returns-clause-only : goal.returns-clause-only
-returns-clause-only c = only

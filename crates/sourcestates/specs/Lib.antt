@@ -1,6 +1,0 @@
-pub mod Actions
-pub mod States
-pub mod Done
-pub mod Taken
-pub mod Killed
-pub mod Quiet

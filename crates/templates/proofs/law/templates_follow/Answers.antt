@@ -1,9 +1,0 @@
-use Rattle.templates.proofs.Begins.{begins}
-use Rattle.templates.proofs.Follows.{follows}
-use Rattle.templates.proofs.law.templates_follow.Goals as goal
-
-pub returns-clause-follows : goal.returns-clause-follows
-returns-clause-follows c = follows
-
-pub returns-clause-begins : goal.returns-clause-begins
-returns-clause-begins c = begins

@@ -1,0 +1,14 @@
+pub mod Gathering
+pub mod Collecting
+pub mod Along
+pub mod Texts
+pub mod Relations
+pub mod Steps
+pub mod Views
+pub mod Uses
+pub mod Circles
+pub mod Calling
+pub mod BodyKinds
+pub mod Verdicts
+pub mod Callable
+pub mod Few

@@ -1,9 +1,0 @@
-use Rattle.std.proofs.Common.{map, take}
-use Rattle.syntax.specs.View.{name_of}
-use Rattle.unitfaults.specs.Collected.{Collects}
-use Rattle.unitfaults.proofs.Along.{Along}
-use Rattle.unitfaults.proofs.Relations.{PastAt}
-use Rattle.unitfaults.proofs.limits.past.Given as goal
-
-abbrev pub invariant-loop-i : goal.invariant-loop-i
-invariant-loop-i l = Collects (Along (PastAt l.most) (take l.i (map name_of l.names))) l.fn.least l.least

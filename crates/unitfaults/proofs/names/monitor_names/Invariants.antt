@@ -1,5 +1,0 @@
-use Rattle.std.proofs.Common.{◌≡◌, map, take}
-use Rattle.unitfaults.proofs.names.monitor_names.Given as goal
-
-abbrev pub invariant-loop-monitor : goal.invariant-loop-monitor
-invariant-loop-monitor l = l.names.items ≡ map (λ x. x.name) (take l.monitor-index l.unit.monitors.items)

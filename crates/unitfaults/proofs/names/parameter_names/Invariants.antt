@@ -1,5 +1,0 @@
-use Rattle.std.proofs.Common.{◌≡◌, map, take}
-use Rattle.unitfaults.proofs.names.parameter_names.Given as goal
-
-abbrev pub invariant-loop-parameter : goal.invariant-loop-parameter
-invariant-loop-parameter l = l.names.items ≡ map (λ x. x.name) (take l.parameter-index l.parameters)

@@ -1,4 +1,0 @@
-pub mod Collected
-pub mod Members
-pub mod Parts
-pub mod Callers

@@ -1,7 +1,0 @@
-use Rattle.std.proofs.Common.{◌≡◌, map, take}
-use Rattle.syntax.specs.View.{member_of}
-use Rattle.types.specs.Kinds.{member_kinds}
-use Rattle.unitresolver.proofs.monitors.members.Given as goal
-
-abbrev pub invariant-loop-tree : goal.invariant-loop-tree
-invariant-loop-tree l = l.kinds.items ≡ member_kinds (map member_of (take l.tree-index l.trees))

@@ -1,0 +1,15 @@
+ghost use Rattle.std.specs.Prelude.{◌≡◌};
+
+use isa::Image;
+use runner::RunName;
+use std::marker::PhantomData;
+
+/// The image of run `J`, lent to its workers.
+#[derive(Drop)]
+pub struct ImageRef<'a, J: RunName> {
+    /// The image.
+    pub image: &'a Image,
+    /// Names the run.
+    pub of: PhantomData<J>,
+    ghost is: { image.now ≡ J.program },
+}

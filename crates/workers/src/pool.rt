@@ -1,0 +1,256 @@
+ghost use Rattle.std.specs.Prelude.{ℕ, ◌≡◌, ◌≤◌, true, false, is_some, None, IfSome};
+ghost use Rattle.words.specs.Limits.{most_processes};
+ghost use Rattle.machine.specs.ConcreteSteps.{can_move};
+ghost use Rattle.workers.specs.SharedRuns.{state_of};
+ghost use Rattle.workers.specs.Handed.{IsAfresh};
+
+use crate::image_ref::ImageRef;
+use crate::parker::Parker;
+use crate::shared_run::{SharedRun, WakeReason};
+use crate::turns::Turns;
+use crossbeam_utils::CachePadded;
+use runner::{After, RunName, Share};
+use std::alloc::{AllocError, Global};
+use std::hint::spin_loop;
+use std::sync::{Condvar, Mutex, MutexGuard, Wait};
+use std::thread;
+use std::thread::Threads;
+use words::{Gate, MOST_PROCESSES};
+
+// How often a worker tries for the lock before it sleeps, and how long it lingers in between.
+const TRIALS: u32 = 200;
+
+const MOMENT: u32 = 8;
+
+/// The run under its lock, a seat for the worker of each thread that there can be, and where the calling thread parks.
+#[derive(Drop)]
+pub struct Pool<J: RunName> {
+    // Apart from the word of the lock, which those who try for it write.
+    shared_run: Mutex<CachePadded<SharedRun<J>>>,
+    parkers: Vec<CachePadded<Parker>>,
+    made: Condvar,
+}
+
+impl<J: RunName> Pool<J> {
+    /// A hall of empty seats, of which number 0 is nobody's.
+    pub fn new(alloc: Global, shared_run: SharedRun<J>) -> Result<Pool<J>, AllocError> {
+        let mut parkers = Vec::new(alloc);
+        for _ in 0..=MOST_PROCESSES {
+            parkers.push(CachePadded::new(Parker::new()))?;
+        }
+        Ok(Pool {
+            shared_run: Mutex::new(CachePadded::new(shared_run)),
+            parkers,
+            made: Condvar::new(),
+        })
+    }
+
+    /// What lay under the lock.
+    pub fn into_shared_run(self) -> SharedRun<J> {
+        let Pool { shared_run, .. } = self;
+        shared_run.into_inner().into_inner()
+    }
+
+    /// Starts a worker for each thread that is made, and parks in between. It returns when all workers have ended.
+    pub fn start<R: Threads + Wait + Sync, G: Gate>(
+        &self,
+        rt: &R,
+        alloc: Global,
+        image_ref: &ImageRef<J>,
+        gate: &G,
+    )
+    where
+        J: Send + Sync,
+    {
+        thread::scope(thread::scope_env(), rt, |scope| {
+            for _ in rt.forever() {
+                let Some((t, share)) = self.next_worker(rt) else {
+                    break;
+                };
+                let Ok(turns) = Turns::new(alloc, t) else {
+                    self.fail(rt);
+                    continue;
+                };
+                let worker = scope.spawn(move || {
+                    let share = self.work(rt, image_ref, gate, t, turns, share);
+                    self.lock(rt).give_back(share);
+                });
+                if worker.is_err() {
+                    self.fail(rt);
+                }
+            }
+        });
+    }
+
+    // The next thread without a worker, once it was made. None where nobody is left to make one.
+    fn next_worker<R: Wait>(&self, rt: &R) -> Option<(u32, Share<J>)>
+        ensures { IfSome result (λ worker. (1 ≤ worker.0) × (worker.0 ≤ most_processes)
+            × (worker.1 ≡ record { parts = 1; count = 0 })) }
+    {
+        let mut shared_run = self.made.wait_while(rt, self.lock(rt), |shared_run| {
+            !shared_run.lacks_worker() && !self.is_over(shared_run)
+        });
+        shared_run.next_worker()
+    }
+
+    // The work of the worker of thread `t`.
+    fn work<R: Wait, G: Gate>(
+        &self,
+        rt: &R,
+        image_ref: &ImageRef<J>,
+        gate: &G,
+        t: u32,
+        turns: Turns<J>,
+        share: Share<J>,
+    ) -> Share<J> {
+        let mut turns = turns;
+        let mut share = share;
+        for _ in rt.forever() {
+            if self.wake(rt, t, &mut turns) != After::Goes {
+                break;
+            }
+            if !self.go_on(rt, image_ref, gate, t, &mut turns, &mut share) {
+                break;
+            }
+        }
+        share
+    }
+
+    // Goes on until the thread sleeps. Answers whether it does: else the worker ends.
+    fn go_on<R: Wait, G: Gate>(
+        &self,
+        rt: &R,
+        image_ref: &ImageRef<J>,
+        gate: &G,
+        t: u32,
+        turns: &mut Turns<J>,
+        share: &mut Share<J>,
+    ) -> bool {
+        for _ in rt.forever() {
+            turns.take(image_ref, gate, t);
+            match self.hand_in(rt, gate, t, turns, share) {
+                After::Goes => {}
+                After::Sleeps => return true,
+                After::Ends => return false,
+            }
+        }
+        false
+    }
+
+    // Parks until thread `t` can move, or nobody is left to wake it. Then it goes on from the first of its turns.
+    fn wake<R: Wait>(&self, rt: &R, t: u32, turns: &mut Turns<J>) -> After
+        ensures { IsAfresh t turns.new.pieces.items result }
+    {
+        let Some(parker) = self.parkers.get(t as usize) else {
+            return After::Ends;
+        };
+        let shared_run = parker.called().wait_while(rt, self.lock(rt), |shared_run| {
+            !shared_run.can_move(t) && !self.is_over(shared_run)
+        });
+        shared_run.next(t, &mut turns.pieces[0])
+    }
+
+    // Takes in the turns of thread `t`, and calls whom they concern.
+    fn hand_in<R: Wait, G: Gate>(
+        &self,
+        rt: &R,
+        gate: &G,
+        t: u32,
+        turns: &mut Turns<J>,
+        share: &mut Share<J>,
+    ) -> After
+        ensures { IsAfresh t turns.new.pieces.items result }
+    {
+        let Some(parker) = self.parkers.get(t as usize) else {
+            return After::Ends;
+        };
+        let mut shared_run = self.lock(rt);
+        let after = shared_run.hand_in(t, turns, share, parker, gate);
+        let wake_reason = shared_run.wake_reason();
+        let is_over = after != After::Goes && self.is_over(&shared_run);
+        drop(shared_run);
+        self.tell(wake_reason);
+        if is_over {
+            self.call_all();
+        }
+        after
+    }
+
+    // Takes the lock. It is held for a moment only, so that it is worthwhile to try for a while before one sleeps.
+    fn lock<R: Wait>(&self, rt: &R) -> MutexGuard<'_, CachePadded<SharedRun<J>>> {
+        for _ in 0..TRIALS {
+            if let Some(shared_run) = self.shared_run.try_lock() {
+                return shared_run;
+            }
+            linger();
+        }
+        self.shared_run.lock(rt)
+    }
+
+    // Ends the run for want of memory.
+    fn fail<R: Wait>(&self, rt: &R) {
+        self.lock(rt).fail();
+        self.call_all();
+    }
+
+    // Whether no worker is left to make an entry.
+    fn is_over(&self, shared_run: &SharedRun<J>) -> bool
+        ensures over { is_some shared_run.now.fault ≡ true → result ≡ true }
+        ensures goes_on { result ≡ false → (t : ℕ) × (can_move (state_of shared_run.now) t ≡ true) }
+    {
+        if shared_run.fault().is_some() {
+            return true;
+        }
+        for t in 1..=MOST_PROCESSES {
+            if shared_run.can_move(t) && !self.is_refused(t) {
+                return false;
+            }
+        }
+        true
+    }
+
+    // Calls the workers of the threads that an entry woke, and the calling thread where one was made.
+    fn tell(&self, wake_reason: WakeReason) {
+        if wake_reason.forked {
+            self.made.notify_all();
+        }
+        if wake_reason.woken.is_empty() {
+            return;
+        }
+        for t in 1..=MOST_PROCESSES {
+            if wake_reason.woken.contains(t) {
+                self.call(t);
+            }
+        }
+    }
+
+    // Whether the worker of thread `t` was refused.
+    fn is_refused(&self, t: u32) -> bool {
+        match self.parkers.get(t as usize) {
+            Some(parker) => parker.is_refused(),
+            None => false,
+        }
+    }
+
+    // Calls the worker of thread `t`.
+    fn call(&self, t: u32) {
+        if let Some(parker) = self.parkers.get(t as usize) {
+            parker.called().notify_all();
+        }
+    }
+
+    // Calls everybody who is parked.
+    fn call_all(&self) {
+        self.made.notify_all();
+        for parker in self.parkers.iter() {
+            parker.called().notify_all();
+        }
+    }
+}
+
+// Lets a moment go by.
+fn linger() {
+    for _ in 0..MOMENT {
+        spin_loop();
+    }
+}

@@ -1,0 +1,259 @@
+ghost use Rattle.std.specs.Prelude.{◌≡◌, ◌≤◌, ◌<◌, ◌+◌, length, take, true, is_some, Some, None, IfSome, IfNone};
+ghost use Rattle.std.specs.Prelude.{◌⊎◌, MatchBool, unwrap_or};
+ghost use Rattle.words.specs.Limits.{most_processes};
+ghost use Rattle.machine.specs.ConcreteSteps.{can_move};
+ghost use Rattle.runner.specs.declared.fault.RunFault.TheVariants.{Memory};
+ghost use Rattle.workers.specs.SharedRuns.{HasCause, KeepsWorkers, StartsWorker, state_of};
+ghost use Rattle.workers.specs.Handed.{ComesIn, StaysAway, ComeIn, StopsAt, IsNextOf, IsNextOfFirst};
+ghost use Rattle.workers.specs.WakeReasons.{Concerns, last_event};
+
+use crate::parker::Parker;
+use crate::turns::Turns;
+use machine::{Entry, EventName, ThreadSet};
+use runner::{After, Piece, RunFault, RunName, Share, Shared, run_alone};
+use std::marker::Model;
+use words::Gate;
+
+/// What the lock of a run keeps.
+#[derive(Drop)]
+pub struct SharedRun<J: RunName> {
+    shared: Shared<J>,
+    fault: Option<RunFault>,
+    started: u32,
+    kept: Share<J>,
+}
+
+impl<J: RunName> Model for SharedRun<J> {
+    ghost use Rattle.workers.specs.SharedRuns.{SharedRunView, IsSharedRun};
+
+    ghost Value = { SharedRunView };
+
+    ghost view = { λ d. record {
+      shared = d.shared;
+      fault = d.fault;
+      started = d.started;
+      kept = d.kept;
+    } };
+
+    ghost invariant = { λ d. IsSharedRun J.program J.limit d.shared.given d.started d.fault };
+}
+
+/// Whom an entry concerns.
+#[derive(Clone, Copy)]
+pub struct WakeReason {
+    /// The threads that it woke.
+    pub woken: ThreadSet,
+    /// Whether it may have made a thread.
+    pub forked: bool,
+}
+
+impl<J: RunName> SharedRun<J> {
+    /// A run, with the calling thread's part of its count, before any worker was started.
+    pub fn new(shared: Shared<J>, kept: Share<J>) -> SharedRun<J>
+        requires { shared.given ≡ 1 }
+        ensures { result ≡ record { shared = shared; fault = None; started = 0; kept = kept } }
+    {
+        SharedRun {
+            shared,
+            fault: None,
+            started: 0,
+            kept,
+        }
+    }
+
+    /// Whether thread `t` can make an entry: it was made, is awake and has not ended.
+    pub fn can_move(&self, t: u32) -> bool
+        ensures { result ≡ can_move (state_of self.now) t }
+    {
+        self.shared.machine().can_move(t)
+    }
+
+    /// Why the run ends before its time, if it does.
+    pub fn fault(&self) -> Option<RunFault>
+        ensures { result ≡ self.now.fault }
+    {
+        self.fault
+    }
+
+    /// Ends the run for want of memory, if nothing else has ended it.
+    pub fn fail(&mut self)
+        ensures { self.new ≡ record self.old { fault = Some (unwrap_or self.old.fault Memory) } }
+    {
+        if self.fault.is_none() {
+            self.fault = Some(RunFault::Memory);
+        }
+    }
+
+    /// Whether there is a thread without a worker.
+    pub fn lacks_worker(&self) -> bool
+        ensures whole { MatchBool result (self.now.started < length (state_of self.now).threads)
+            (length (state_of self.now).threads ≤ self.now.started) }
+        ensures few { result ≡ true → self.now.started < most_processes }
+    {
+        self.started < self.shared.machine().threads()
+    }
+
+    /// The next thread without a worker, with a part of the count for it.
+    pub fn next_worker(&mut self) -> Option<(u32, Share<J>)>
+        ensures some { IfSome result (λ worker. StartsWorker self.old worker.0 worker.1 self.new) }
+        ensures few { IfSome result (λ worker. worker.0 ≤ most_processes) }
+        ensures none { IfNone result ((self.new ≡ self.old)
+            × ((is_some self.old.fault ≡ true) ⊎ (length (state_of self.old).threads ≤ self.old.started))) }
+    {
+        if self.fault.is_some() || !self.lacks_worker() {
+            return None;
+        }
+        let Some(share) = self.shared.share() else {
+            unreachable!()
+        };
+        self.started += 1;
+        Some((self.started, share))
+    }
+
+    /// What thread `t` does: where it goes on, its piece begins anew. It ends where the run ends before its time.
+    pub fn next(&self, t: u32, piece: &mut Piece<J>) -> After
+        ensures { IsNextOf self.now t piece.new result }
+    {
+        if self.fault.is_some() {
+            return After::Ends;
+        }
+        self.shared.next(t, piece)
+    }
+
+    /// Takes in the turns of thread `t`, an entry for each, up to one that is refused, and says how its worker goes on.
+    /// As long as no other thread was made it goes on in its place. The gate is passed before each further entry.
+    /// Where an entry is refused with `Limit`, that is noted on its seat.
+    pub fn hand_in<G: Gate>(
+        &mut self,
+        t: u32,
+        turns: &mut Turns<J>,
+        share: &mut Share<J>,
+        parker: &Parker,
+        gate: &G,
+    ) -> After
+        ensures goes_on { StopsAt J.program J.limit self.old t (take turns.old.taken turns.old.pieces.items) self.new
+            share.old share.new result
+            ⊎ IsNextOfFirst self.new t turns.new.pieces.items result }
+        ensures workers { KeepsWorkers self.old self.new }
+    {
+        if let Some(after) = self.take_in(t, turns.taken(), share, parker) {
+            return after;
+        }
+        self.go_on_alone(t, share, gate);
+        self.next(t, &mut turns.pieces[0])
+    }
+
+    // Takes in these pieces of thread `t`, up to one that is refused, and says how its worker goes on where one is.
+    fn take_in(
+        &mut self,
+        t: u32,
+        pieces: &[Piece<J>],
+        share: &mut Share<J>,
+        parker: &Parker,
+    ) -> Option<After>
+        ensures all { IfNone result
+            (ComeIn J.program J.limit self.old t pieces.now self.new share.old share.new) }
+        ensures some { IfSome result
+            (λ after. StopsAt J.program J.limit self.old t pieces.now self.new share.old share.new after) }
+        ensures workers { KeepsWorkers self.old self.new }
+    {
+        for piece in pieces {
+            if let Some(after) = self.enter(t, piece, share, parker) {
+                return Some(after);
+            }
+        }
+        None
+    }
+
+    // Lets thread `t` go on in its place, as long as no other was made: nobody waits for the lock meanwhile.
+    fn go_on_alone<G: Gate>(&mut self, t: u32, share: &mut Share<J>, gate: &G)
+        ensures { KeepsWorkers self.old self.new }
+    {
+        if let Err(fault) = run_alone(&mut self.shared, share, gate, t) {
+            self.fault = Some(fault);
+        }
+    }
+
+    // Takes in what thread `t` did, and says how its worker goes on where that is refused.
+    fn enter(
+        &mut self,
+        t: u32,
+        piece: &Piece<J>,
+        share: &mut Share<J>,
+        parker: &Parker,
+    ) -> Option<After>
+        ensures comes_in { IfNone result
+            (ComesIn J.program J.limit self.old t piece.now self.new share.old share.new) }
+        ensures away { IfSome result (λ after. StaysAway J.program J.limit self.old t piece.now self.new after
+            × (share.new ≡ share.old)) }
+        ensures workers { KeepsWorkers self.old self.new }
+    {
+        if self.fault.is_some() {
+            return Some(After::Ends);
+        }
+        match self.shared.enter(t, piece, share) {
+            Ok(()) => None,
+            // The thread has gone on without this worker, which goes on from where the thread is.
+            Err(RunFault::Stray | RunFault::CannotMove) => Some(After::Sleeps),
+            Err(RunFault::Limit) => {
+                parker.refuse();
+                Some(After::Ends)
+            }
+            Err(RunFault::Broken) => {
+                self.fault = Some(RunFault::Broken);
+                Some(After::Ends)
+            }
+            Err(RunFault::Memory) => {
+                self.fault = Some(RunFault::Memory);
+                Some(After::Ends)
+            }
+        }
+    }
+
+    /// Whom the last entry concerns.
+    pub fn wake_reason(&self) -> WakeReason
+        ensures { Concerns (last_event self.now.shared.log) result }
+    {
+        match self.shared.log().last() {
+            Some(
+                Entry {
+                    event: Some(event),
+                    ..
+                },
+            ) => WakeReason {
+                woken: event.woken,
+                forked: event.name == EventName::Fork,
+            },
+            _ => WakeReason {
+                woken: ThreadSet::new(),
+                forked: false,
+            },
+        }
+    }
+
+    /// Takes back what a worker counted.
+    pub fn give_back(&mut self, share: Share<J>)
+        ensures { self.new ≡ record self.old {
+          kept = record {
+            parts = self.old.kept.parts + share.parts;
+            count = self.old.kept.count + share.count;
+          };
+        } }
+    {
+        self.kept.merge(share);
+    }
+
+    /// The run, why it ended before its time, and what the calling thread counted and was given back.
+    pub fn into_parts(self) -> (Shared<J>, Option<RunFault>, Share<J>)
+        ensures cause { HasCause J.program J.limit result.1 }
+        ensures whole { (result.0 ≡ self.shared) × (result.1 ≡ self.fault) × (result.2 ≡ self.kept) }
+    {
+        let SharedRun {
+            shared,
+            fault,
+            kept,
+            ..
+        } = self;
+        (shared, fault, kept)
+    }
+}
