@@ -43,7 +43,8 @@ pub(crate) fn append_details(
     names: &Names,
     kind: &ActionKind,
 ) -> Result<(), AllocError>
-    ensures { OnOk result (bytes.new.items ≡ bytes.old.items ++ details (naming_of names.now) (kind_of kind.now)) }
+    ensures { OnOk result (bytes.new.items
+        ≡ bytes.old.items ++ details (naming_of names.now) (kind_of kind.now)) }
 {
     match kind {
         ActionKind::Assign

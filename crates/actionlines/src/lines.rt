@@ -13,7 +13,8 @@ use std::alloc::{AllocError, Global};
 /// Appends the line of an action: the process, the action's name, and what belongs to it (the number printed, a
 /// monitor, a condition, processes, a fault's number), with a line feed.
 pub fn append_line(bytes: &mut Vec<u8>, names: &Names, action: &Action) -> Result<(), AllocError>
-    ensures { OnOk result (bytes.new.items ≡ bytes.old.items ++ line (naming_of names.now) (action_of action.now)) }
+    ensures { OnOk result (bytes.new.items
+        ≡ bytes.old.items ++ line (naming_of names.now) (action_of action.now)) }
 {
     append_number(bytes, action.process)?;
     append_text(bytes, " ")?;
@@ -24,7 +25,8 @@ pub fn append_line(bytes: &mut Vec<u8>, names: &Names, action: &Action) -> Resul
 
 /// The lines of actions, in their order.
 pub fn action_lines(alloc: Global, names: &Names, actions: &[Action]) -> Result<Vec<u8>, AllocError>
-    ensures { IfOk result (λ v. v.items ≡ flat_map (line (naming_of names.now)) (map action_of actions.now)) }
+    ensures { IfOk result (λ v. v.items
+        ≡ flat_map (line (naming_of names.now)) (map action_of actions.now)) }
 {
     let mut bytes = Vec::new(alloc);
     for action in actions {

@@ -39,7 +39,8 @@ pub(crate) fn append_spaced(bytes: &mut Vec<u8>, number: u64) -> Result<(), Allo
 
 /// Appends numbers, a space before each.
 pub(crate) fn append_all(bytes: &mut Vec<u8>, numbers: &[u64]) -> Result<(), AllocError>
-    ensures { OnOk result (bytes.new.items ≡ bytes.old.items ++ flat_map spaced_number numbers.now) }
+    ensures { OnOk result (bytes.new.items
+        ≡ bytes.old.items ++ flat_map spaced_number numbers.now) }
 {
     for number in numbers {
         append_spaced(bytes, *number)?;
@@ -53,7 +54,8 @@ pub(crate) fn append_monitor(
     names: &Names,
     monitor: u32,
 ) -> Result<(), AllocError>
-    ensures { OnOk result (bytes.new.items ≡ bytes.old.items ++ monitor_name (naming_of names.now) monitor) }
+    ensures { OnOk result (bytes.new.items
+        ≡ bytes.old.items ++ monitor_name (naming_of names.now) monitor) }
 {
     match names.monitors.get(monitor as usize) {
         None => Ok(()),
@@ -81,7 +83,8 @@ pub(crate) fn append_condition(
     names: &Names,
     condition: Member,
 ) -> Result<(), AllocError>
-    ensures { OnOk result (bytes.new.items ≡ bytes.old.items ++ condition_name (naming_of names.now) condition) }
+    ensures { OnOk result (bytes.new.items
+        ≡ bytes.old.items ++ condition_name (naming_of names.now) condition) }
 {
     append_monitor(bytes, names, condition.monitor)?;
     append_text(bytes, ".")?;

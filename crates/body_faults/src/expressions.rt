@@ -47,7 +47,8 @@ fn factor(
 #[cycle(expressions)]
 pub fn element(standing: &NameScope<'_, '_>, tree: &Element<'_>, least: Option<Refusal>) -> Judged
     ensures least { (s : Scope) → IsNameScope s standing.now
-        → Gathers (o.element s (v.name_of tree.now.name) (v.expression_of tree.now.index)) least result.least }
+        → Gathers (o.element s (v.name_of tree.now.name) (v.expression_of tree.now.index)) least
+        result.least }
     ensures kind { (s : Scope) → IsNameScope s standing.now → result.kind
         ≡ t.factor_type s (Reads (v.name_of tree.now.name) (At (v.expression_of tree.now.index))) }
 {
@@ -70,7 +71,8 @@ pub fn element(standing: &NameScope<'_, '_>, tree: &Element<'_>, least: Option<R
 fn judge_factor(standing: &NameScope<'_, '_>, tree: &Factor<'_>, least: Option<Refusal>) -> Judged
     ensures least { (s : Scope) → IsNameScope s standing.now
         → Gathers (x.factor_faults s (v.factor_of tree.now)) least result.least }
-    ensures kind { (s : Scope) → IsNameScope s standing.now → result.kind ≡ t.factor_type s (v.factor_of tree.now) }
+    ensures kind { (s : Scope) → IsNameScope s standing.now
+        → result.kind ≡ t.factor_type s (v.factor_of tree.now) }
 {
     match tree {
         Factor::Number(_) => Judged {
@@ -190,7 +192,8 @@ fn sum(standing: &NameScope<'_, '_>, tree: &Sum<'_>, least: Option<Refusal>) -> 
 fn judge_sum(standing: &NameScope<'_, '_>, tree: &Sum<'_>, least: Option<Refusal>) -> Judged
     ensures least { (s : Scope) → IsNameScope s standing.now
         → Gathers (x.sum_faults s (v.sum_of tree.now)) least result.least }
-    ensures kind { (s : Scope) → IsNameScope s standing.now → result.kind ≡ t.sum_type s (v.sum_of tree.now) }
+    ensures kind { (s : Scope) → IsNameScope s standing.now
+        → result.kind ≡ t.sum_type s (v.sum_of tree.now) }
 {
     match tree {
         Sum::Factor(inner) => judge_factor(standing, inner, least),
@@ -209,7 +212,8 @@ fn comparison(
     least: Option<Refusal>,
 ) -> Option<Refusal>
     ensures { (s : Scope) → IsNameScope s standing.now
-        → Gathers (o.comparison s (v.sum_of tree.now.left) tree.now.comparator (v.sum_of tree.now.right))
+        → Gathers (o.comparison s (v.sum_of tree.now.left) tree.now.comparator
+        (v.sum_of tree.now.right))
         least result }
 {
     let left = judge_sum(standing, &tree.left, least);

@@ -69,7 +69,8 @@ pub fn condition(
     least: Option<Refusal>,
 ) -> Option<Refusal>
     ensures { (s : Scope) → IsNameScope s standing.now
-        → Gathers (c.condition_faults (meaning s (v.name_of name.entry)) name.entry.place) least result }
+        → Gathers (c.condition_faults (meaning s (v.name_of name.entry)) name.entry.place) least
+        result }
 {
     note(condition_fault(standing.meaning(name)), name.place, least)
 }

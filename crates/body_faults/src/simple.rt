@@ -123,7 +123,8 @@ pub fn join(
     least: Option<Refusal>,
 ) -> Option<Refusal>
     ensures { (s : Scope) → IsNameScope s standing.now → s.piece.role ≡ role
-        → Gathers (c.recover_faults s place ++ f.typed_faults s ProcessOf (v.expression_of process.now)
+        → Gathers (c.recover_faults s place
+        ++ f.typed_faults s ProcessOf (v.expression_of process.now)
         ++ f.into_faults s (SomeOf IntegerOf) (v.option_name name.entry)) least result }
 {
     let first = recover(role, place, least);

@@ -91,7 +91,8 @@ pub fn assignment(
     least: Option<Refusal>,
 ) -> Option<Refusal>
     ensures { (s : Scope) → IsNameScope s standing.now
-        → Gathers (c.statement_faults s (Assign (v.variable_of target.now) (v.expression_of tree.now)))
+        → Gathers (c.statement_faults s
+        (Assign (v.variable_of target.now) (v.expression_of tree.now)))
         least result }
 {
     match target {

@@ -1,8 +1,8 @@
 ghost use Rattle.std.specs.Prelude.{◌≡◌, ◌≢◌, ℕ, ◌<◌, ◌≤◌, ◌++◌, ◌∷◌, [], ◌↔◌, ◌==◌, not, None, Some, if◌then◌else◌};
-ghost use Rattle.std.specs.Prelude.{length, take, drop, slice_get, IfOk, IsTrue, nat_eq};
-ghost use Rattle.std.specs.List.{filter, IsDistinct};
+ghost use Rattle.std.specs.Prelude.{length, take, drop, slice_get, IfOk, IsTrue};
+ghost use Rattle.std.specs.List.{filter};
 ghost use Rattle.std.specs.Option.{option_map};
-ghost use Rattle.buckets.specs.Places.{names, with_place};
+ghost use Rattle.buckets.specs.Places.{with_place};
 ghost use Rattle.buckets.specs.Sleepers.{queue, place_of, thread_count, IsSound};
 ghost use Rattle.buckets.specs.BucketCount.{IsBucketCount};
 
@@ -157,7 +157,8 @@ impl Buckets {
     /// Takes a thread out of its list, if it stands in one.
     pub fn drop_out(&mut self, t: u32)
         requires { t ≤ thread_count self.old }
-        ensures queues { (b : ℕ) → queue self.new b ≡ filter (λ u. not (u == t)) (queue self.old b) }
+        ensures queues { (b : ℕ) → queue self.new b ≡ filter
+            (λ u. not (u == t)) (queue self.old b) }
         ensures places { place_of self.new ≡ with_place (place_of self.old) (t ∷ []) None }
         ensures threads { thread_count self.new ≡ thread_count self.old }
         ensures sound { IsSound self.old × IsSound self.new }

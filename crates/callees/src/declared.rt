@@ -43,10 +43,13 @@ impl<'u, 'a> Declared<'u, 'a> {
         requires procedures { length monitor.now.procedures.items < u32.MAX }
         ensures names { (names : List NameTree) → IsTable names self.old.names
             → OnOk result (IsTable (names ++ name_of monitor.now.name ∷ []) self.new.names) }
-        ensures inner { OnOk result ((n : NamesOf) × (self.new.inner.items ≡ self.old.inner.items ++ n ∷ [])
-            × HasNames (monitor_of monitor.now) n × (n.first_piece ≡ length self.old.pieces.items)) }
+        ensures inner { OnOk result ((n : NamesOf)
+            × (self.new.inner.items ≡ self.old.inner.items ++ n ∷ [])
+            × HasNames (monitor_of monitor.now) n
+            × (n.first_piece ≡ length self.old.pieces.items)) }
         ensures pieces { OnOk result (map piece_of self.new.pieces.items
-            ≡ map piece_of self.old.pieces.items ++ monitor_pieces number (monitor_of monitor.now)) }
+            ≡ map piece_of self.old.pieces.items
+            ++ monitor_pieces number (monitor_of monitor.now)) }
     {
         self.names.declare(monitor.name)?;
         let names = MonitorNames::new(alloc, monitor, self.pieces.len() as u32)?;
@@ -59,9 +62,11 @@ impl<'u, 'a> Declared<'u, 'a> {
         requires { declarations (unit_of unit.now) < u32.MAX }
         ensures names { IfOk result (λ d. IsTable (monitor_names (unit_of unit.now)) d.names) }
         ensures all { IfOk result (λ d. length d.inner.items ≡ length (unit_of unit.now).monitors) }
-        ensures inner { IfOk result (λ d. (m : ℕ) (n : NamesOf) → slice_get d.inner.items m ≡ SomeOf n
+        ensures inner { IfOk result (λ d. (m : ℕ) (n : NamesOf)
+            → slice_get d.inner.items m ≡ SomeOf n
             → IsNames (unit_of unit.now) m n) }
-        ensures pieces { IfOk result (λ d. map piece_of d.pieces.items ≡ pieces_from 0 (unit_of unit.now).monitors) }
+        ensures pieces { IfOk result (λ d. map piece_of d.pieces.items
+            ≡ pieces_from 0 (unit_of unit.now).monitors) }
     {
         let mut declared = Declared {
             names: Table::new(alloc),

@@ -12,6 +12,7 @@ ghost use Rattle.callees.specs.Names.{declarations};
 /// read from a text can be counted in 32 bits, since a text has at most 1,048,576 bytes.
 pub fn few_declarations()
     ensures lexemes { (u : UnitTree) → declarations u ≤ length (unit_text u) }
-    ensures text { (text : List ℕ) (tokens : List Token) (u : UnitTree) → IsTokens text (views tokens)
+    ensures text { (text : List ℕ) (tokens : List Token) (u : UnitTree)
+        → IsTokens text (views tokens)
         → unit_text u ≡ lexemes tokens → declarations u < u32.MAX }
 {}

@@ -47,7 +47,8 @@ impl<'u, 'a> Callees<'u, 'a> {
 
     // The piece of a procedure of the monitor of this number.
     fn inner_procedure(&self, monitor: u32, name: Name<'_>) -> Option<u32>
-        ensures { (u : UnitTree) → IsCallees u self.now → result ≡ inner_procedure u monitor (name_of name.entry) }
+        ensures { (u : UnitTree) → IsCallees u self.now
+            → result ≡ inner_procedure u monitor (name_of name.entry) }
     {
         let names = self.inner.get(monitor as usize)?;
         let number = names.find(name)?;
@@ -56,7 +57,8 @@ impl<'u, 'a> Callees<'u, 'a> {
 
     // The piece of an external procedure.
     fn external_procedure(&self, name: Name<'_>) -> Option<u32>
-        ensures { (u : UnitTree) → IsCallees u self.now → result ≡ external_procedure u (name_of name.entry) }
+        ensures { (u : UnitTree) → IsCallees u self.now
+            → result ≡ external_procedure u (name_of name.entry) }
     {
         if self.monitors.find(name).is_some() {
             return None;
@@ -86,7 +88,8 @@ impl<'u, 'a> Callees<'u, 'a> {
 
     /// The piece of this number.
     pub fn piece(&self, number: u32) -> Option<Piece<'u, 'a>>
-        ensures { (u : UnitTree) → IsCallees u self.now → option_map piece_of result ≡ slice_get (pieces_in u) number }
+        ensures { (u : UnitTree) → IsCallees u self.now
+            → option_map piece_of result ≡ slice_get (pieces_in u) number }
     {
         self.pieces.get(number as usize).copied()
     }
@@ -114,7 +117,8 @@ impl<'u, 'a> Callees<'u, 'a> {
     /// The names in sight of the piece of this number. The only error is that memory runs out.
     pub fn standing(&self, alloc: Global, number: usize) -> Result<NameScope<'_, 'a>, AllocError>
         requires { number < length self.now.pieces.items }
-        ensures { (s : Scope) → IsCallees s.unit self.now → slice_get (pieces_in s.unit) number ≡ SomeOf s.piece
+        ensures { (s : Scope) → IsCallees s.unit self.now
+            → slice_get (pieces_in s.unit) number ≡ SomeOf s.piece
             → IfOk result (λ st. IsNameScope s st) }
     {
         let piece = self.pieces[number];

@@ -61,7 +61,8 @@ fn push_procedures<'u, 'a>(
     procedures: &'u [MonitorProcedure<'a>],
 ) -> Result<(), AllocError>
     ensures { OnOk result (map piece_of pieces.new.items ≡ map piece_of pieces.old.items
-        ++ map (λ q. p.piece_of (p.role_of q.access number) q.procedure) (map v.monitor_procedure_of procedures.now)) }
+        ++ map (λ q. p.piece_of (p.role_of q.access number) q.procedure)
+        (map v.monitor_procedure_of procedures.now)) }
 {
     for procedure in procedures {
         let role = role_of(procedure.access, number);
@@ -92,7 +93,8 @@ fn push_externals<'u, 'a>(
     procedures: &'u [Procedure<'a>],
 ) -> Result<(), AllocError>
     ensures { OnOk result (map piece_of pieces.new.items
-        ≡ map piece_of pieces.old.items ++ map (p.piece_of ExternalRole) (map v.procedure_of procedures.now)) }
+        ≡ map piece_of pieces.old.items
+        ++ map (p.piece_of ExternalRole) (map v.procedure_of procedures.now)) }
 {
     for procedure in procedures {
         pieces.push(procedure_piece(Role::External, procedure))?;
@@ -103,7 +105,8 @@ fn push_externals<'u, 'a>(
 // Adds MAIN.
 fn push_main<'u, 'a>(pieces: &mut Vec<Piece<'u, 'a>>, main: &'u Main<'a>) -> Result<(), AllocError>
     ensures { OnOk result (map piece_of pieces.new.items
-        ≡ map piece_of pieces.old.items ++ p.part_of MainRole main.now.place (v.body_of main.now.body) ∷ []) }
+        ≡ map piece_of pieces.old.items
+        ++ p.part_of MainRole main.now.place (v.body_of main.now.body) ∷ []) }
 {
     pieces.push(part_piece(Role::Main, main.place, &main.body))?;
     Ok(())

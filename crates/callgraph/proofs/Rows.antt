@@ -1,12 +1,12 @@
 -- What each procedure calls.
 use Rattle.std.proofs.Common.{◌≡◌, ℕ, zero, suc, ◌<◌, ◌+◌, List, [], ◌∷◌, ◌++◌, length, slice_index_or, slice_set, take}
-use Rattle.std.proofs.Common.{Bool, true, false, cond, map, nat_eq, refl, ap, ◌∙◌, sym, subst, arith, eq-eqb}
+use Rattle.std.proofs.Common.{true, false, cond, map, nat_eq, refl, ap, ◌∙◌, sym, subst, arith, eq-eqb}
 use Rattle.std.proofs.Common.{eqb-true, ◌⊎◌, inl, inr}
 use Rattle.std.specs.Prelude.{filter, Contains}
 use Rattle.std.proofs.lemmas.List.{map-append, append-nil, get_or-set_same, get_or-set_other}
 use Rattle.std.proofs.lemmas.List.Elements.{filter_more}
 use Rattle.callgraph.specs.declared.Call.{Call}
-use Rattle.callgraph.specs.Calls.{IsCall, Within}
+use Rattle.callgraph.specs.Calls.{IsCall}
 use Rattle.callgraph.specs.Graphs.{callees_of, rows_of}
 use Rattle.callgraph.specs.declared.graph.Row.{Row}
 

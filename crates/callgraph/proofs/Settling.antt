@@ -7,12 +7,12 @@ use Rattle.std.proofs.Common.{eqb-true, eq-eqb, replicate}
 use Rattle.std.specs.Prelude.{Contains}
 use Rattle.std.specs.List.{list_any}
 use Rattle.std.proofs.lemmas.List.Folds.{list_any_at}
-use Rattle.std.proofs.lemmas.List.{get_or-set_other, get_or-replicate}
+use Rattle.std.proofs.lemmas.List.{get_or-replicate}
 use Rattle.callgraph.specs.declared.Call.{Call}
 use Rattle.callgraph.specs.Calls.{IsCall, Within, has_chain}
 use Rattle.callgraph.specs.Graphs.{callees_of}
 use Rattle.callgraph.specs.Marks.{AreSettled}
-use Rattle.callgraph.proofs.Fixed.{less, one_more, none_more, beyond}
+use Rattle.callgraph.proofs.Fixed.{less, one_more, none_more}
 use Rattle.callgraph.proofs.Rows.{later, is_listed}
 
 -- a chain that there isn't is in no longer one

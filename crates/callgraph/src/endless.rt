@@ -1,6 +1,6 @@
 // Chains of calls that have no end.
 
-ghost use Rattle.std.specs.Prelude.{◌≡◌, ℕ, ◌<◌, ◌^◌, List, length, slice_index_or, IfOk, vec_len, true, false};
+ghost use Rattle.std.specs.Prelude.{◌≡◌, ℕ, ◌<◌, List, length, slice_index_or, IfOk, vec_len, true, false};
 ghost use Rattle.callgraph.specs.Calls.{has_chain};
 ghost use Rattle.callgraph.specs.Graphs.{IsGraph};
 ghost use Rattle.callgraph.specs.Marks.{AreSettled};
@@ -49,7 +49,8 @@ fn all_entered(alloc: Global, count: usize) -> Result<Vec<Step>, AllocError> {
 // chains all end stay marked.
 fn walked(alloc: Global, graph: &Graph) -> Result<Vec<bool>, AllocError>
     ensures len { IfOk result (λ v. vec_len v ≡ vec_len graph.now.rows) }
-    ensures settled { (calls : List CallOf) → IsGraph calls graph.now → IfOk result (λ v. AreSettled calls v.items) }
+    ensures settled { (calls : List CallOf) → IsGraph calls graph.now
+        → IfOk result (λ v. AreSettled calls v.items) }
 {
     let mut marks = vec![in alloc; true; graph.count()]?;
     let mut seen = vec![in alloc; false; graph.count()]?;

@@ -1,8 +1,8 @@
 // Calls by their callers.
 
-ghost use Rattle.std.specs.Prelude.{◌≡◌, [], ◌<◌, ℕ, IfOk, vec_len, map, slice_index_or};
+ghost use Rattle.std.specs.Prelude.{◌≡◌, [], ◌<◌, ℕ, IfOk, vec_len, slice_index_or};
 ghost use Rattle.callgraph.specs.Calls.{Within};
-ghost use Rattle.callgraph.specs.Graphs.{IsGraph, callees_of, rows_of};
+ghost use Rattle.callgraph.specs.Graphs.{IsGraph, rows_of};
 
 use crate::Call;
 use std::alloc::{AllocError, Global};

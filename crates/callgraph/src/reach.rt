@@ -1,7 +1,6 @@
 // Where calls lead.
 
-ghost use Rattle.std.specs.Prelude.{◌≡◌, ℕ, ◌<◌, ◌+◌, ◌⊎◌, [], List, length, slice_index_or, IfOk, OnOk, true, false};
-ghost use Rattle.std.specs.Prelude.{vec_len};
+ghost use Rattle.std.specs.Prelude.{◌≡◌, ℕ, ◌<◌, ◌+◌, ◌⊎◌, List, length, slice_index_or, IfOk, OnOk, true, false};
 ghost use Rattle.std.specs.Prelude.{count_by, Contains};
 ghost use Rattle.callgraph.specs.Calls.{Leads};
 ghost use Rattle.callgraph.specs.Graphs.{IsGraph};
@@ -13,13 +12,16 @@ use std::alloc::{AllocError, Global};
 
 // Marks a procedure, and adds it to the pending ones, where it wasn't marked.
 fn mark(procedure: u32, marks: &mut [bool], pending: &mut Vec<u32>) -> Result<(), AllocError>
-    ensures marked { OnOk result (procedure < length marks.old → slice_index_or marks.new procedure false ≡ true) }
-    ensures kept { (b : ℕ) → slice_index_or marks.old b false ≡ true → slice_index_or marks.new b false ≡ true }
+    ensures marked { OnOk result (procedure < length marks.old
+        → slice_index_or marks.new procedure false ≡ true) }
+    ensures kept { (b : ℕ) → slice_index_or marks.old b false ≡ true
+        → slice_index_or marks.new b false ≡ true }
     ensures only { (b : ℕ) → slice_index_or marks.new b false ≡ true
         → (slice_index_or marks.old b false ≡ true) ⊎ (b ≡ procedure) }
     ensures added { OnOk result ((b : ℕ) → slice_index_or marks.new b false ≡ true
         → (slice_index_or marks.old b false ≡ true) ⊎ Contains pending.new.items b) }
-    ensures queued { OnOk result ((b : ℕ) → Contains pending.old.items b → Contains pending.new.items b) }
+    ensures queued { OnOk result ((b : ℕ) → Contains pending.old.items b
+        → Contains pending.new.items b) }
     ensures counted { OnOk result (count_by (λ m. m) marks.new + length pending.old.items
         ≡ count_by (λ m. m) marks.old + length pending.new.items) }
     ensures waiting { (b : ℕ) → Contains pending.new.items b
@@ -39,7 +41,8 @@ fn mark_all(
     marks: &mut [bool],
     pending: &mut Vec<u32>,
 ) -> Result<(), AllocError>
-    ensures { OnOk result (Marks procedures.now marks.old pending.old.items marks.new pending.new.items) }
+    ensures { OnOk result
+        (Marks procedures.now marks.old pending.old.items marks.new pending.new.items) }
 {
     for procedure in procedures {
         mark(*procedure, marks, pending)?;
@@ -53,7 +56,8 @@ impl Graph {
     pub fn reached(&self, alloc: Global, start: u32) -> Result<Vec<bool>, AllocError>
         ensures sound { (calls : List CallOf) → IsGraph calls self.now → IfOk result (λ v. (b : ℕ)
             → slice_index_or v.items b false ≡ true → Leads calls start b) }
-        ensures complete { (calls : List CallOf) → IsGraph calls self.now → IfOk result (λ v. (b : ℕ)
+        ensures complete { (calls : List CallOf) → IsGraph calls self.now
+            → IfOk result (λ v. (b : ℕ)
             → Leads calls start b → slice_index_or v.items b false ≡ true) }
     {
         let mut marks = vec![in alloc; false; self.count()]?;

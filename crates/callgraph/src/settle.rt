@@ -10,8 +10,10 @@ use crate::graph::Graph;
 
 // Whether one of these procedures is marked.
 fn any_marked(procedures: &[u32], marks: &[bool]) -> bool
-    ensures some { result ≡ true → (b : ℕ) × Contains procedures.now b × (slice_index_or marks.now b false ≡ true) }
-    ensures none { result ≡ false → (b : ℕ) → Contains procedures.now b → slice_index_or marks.now b false ≡ false }
+    ensures some { result ≡ true → (b : ℕ) × Contains procedures.now b
+        × (slice_index_or marks.now b false ≡ true) }
+    ensures none { result ≡ false → (b : ℕ) → Contains procedures.now b
+        → slice_index_or marks.now b false ≡ false }
 {
     for procedure in procedures {
         let number = *procedure as usize;
@@ -27,7 +29,8 @@ impl Graph {
     pub(crate) fn settle(&self, procedure: usize, marks: &mut [bool]) -> bool
         ensures fewer { result ≡ true → count_by (λ m. m) marks.new < count_by (λ m. m) marks.old }
         ensures same { result ≡ false → marks.new ≡ marks.old }
-        ensures settled { (calls : List CallOf) → IsGraph calls self.now → length marks.old ≡ length self.now.rows.items
+        ensures settled { (calls : List CallOf) → IsGraph calls self.now
+            → length marks.old ≡ length self.now.rows.items
             → AreSettled calls marks.old → AreSettled calls marks.new }
         ensures calls_marked { result ≡ false → (calls : List CallOf) → IsGraph calls self.now
             → slice_index_or marks.old procedure false ≡ true
@@ -50,7 +53,8 @@ impl Graph {
         ensures same { result ≡ false → marks.new ≡ marks.old }
         ensures settled { (calls : List CallOf) → IsGraph calls self.now
             → AreSettled calls marks.old → AreSettled calls marks.new }
-        ensures call_marked { result ≡ false → (calls : List CallOf) → IsGraph calls self.now → (a : ℕ)
+        ensures call_marked { result ≡ false → (calls : List CallOf) → IsGraph calls self.now
+            → (a : ℕ)
             → slice_index_or marks.old a false ≡ true
             → (b : ℕ) × IsCall calls a b × (slice_index_or marks.old b false ≡ true) }
     {

@@ -1,4 +1,4 @@
-use crate::labels::{append_description, monitor_name};
+use crate::labels::append_description;
 use crate::layer::{Layer, append_layers_of};
 use crate::palette::colour;
 use crate::shapes::{append_shape, append_text};

@@ -1,4 +1,4 @@
-ghost use Rattle.std.specs.Prelude.{◌≡◌, [], ◌∷◌, ◌++◌, OnOk, map};
+ghost use Rattle.std.specs.Prelude.{◌≡◌, ◌++◌, OnOk, map};
 ghost use Rattle.program.specs.Scope.{array_size};
 ghost use Rattle.program.specs.Views.{program_of, expression_of};
 ghost use Rattle.lowering.specs.Expressions as expressions;
@@ -108,7 +108,8 @@ pub(crate) fn arguments(
 ) -> Result<(), AllocError>
     requires { IsLaidOut site.now }
     ensures { OnOk result (code.new.items
-        ≡ code.old.items ++ expressions.arguments_code (said_at site.now) (map expression_of es.now)) }
+        ≡ code.old.items ++ expressions.arguments_code (said_at site.now)
+        (map expression_of es.now)) }
 {
     for e in es {
         expression(e, site, code)?;

@@ -1,4 +1,4 @@
-ghost use Rattle.std.specs.Prelude.{◌≡◌, ◌≤◌, ◌+◌, [], ◌∷◌, ◌++◌, Ok, OnOk, MatchResult, map, length};
+ghost use Rattle.std.specs.Prelude.{◌≡◌, ◌+◌, [], ◌∷◌, ◌++◌, Ok, OnOk, MatchResult, map, length};
 ghost use Rattle.isa.specs.declared.instr.Instr.TheVariants.{Print as PrintOf};
 ghost use Rattle.lowering.specs.declared.mark.Mark.TheVariants.{Print as Prints};
 ghost use Rattle.scanner.specs.Refusals.{out_of_memory};
@@ -44,7 +44,8 @@ pub(crate) fn recover_of(program: &Program, monitor: u32) -> Option<u32>
 pub(crate) fn print(e: &Expression, site: &Site, code: &mut Vec<Marked>) -> Result<(), AllocError>
     requires { IsLaidOut site.now }
     ensures { OnOk result (code.new.items ≡ code.old.items
-        ++ (expression_code (said_at site.now) (expression_of e.now) ++ with_mark Prints PrintOf ∷ [])) }
+        ++ (expression_code (said_at site.now) (expression_of e.now)
+        ++ with_mark Prints PrintOf ∷ [])) }
 {
     expression(e, site, code)?;
     append(code, Mark::Print, Instr::Print)
@@ -134,7 +135,8 @@ pub(crate) fn join_statement(
     code: &mut Vec<Marked>,
 ) -> Result<(), Refusal>
     requires { IsLaidOut site.now }
-    ensures { let made = lowered.join_all_code (expression_code (said_at site.now) (expression_of handle.now)) into
+    ensures { let made = lowered.join_all_code
+        (expression_code (said_at site.now) (expression_of handle.now)) into
         (lowered.aborted_code (setting_at site.now) trees.NoPart) (length code.old.items) in
         MatchResult result (λ _. code.new.items ≡ code.old.items ++ made)
         (λ e. Fails e (length code.old.items + length made)) }

@@ -5,7 +5,7 @@ ghost use Rattle.lowering.specs.Layout.{layout_of};
 ghost use Rattle.lowering.specs.Pieces as pieces;
 ghost use Rattle.codegen.specs.Failures.{Fails};
 ghost use Rattle.codegen.specs.Halves.{beginning_code, end_code};
-ghost use Rattle.codegen.specs.Sites.{said_at, setting_at, IsLaidOut};
+ghost use Rattle.codegen.specs.Sites.{setting_at, IsLaidOut};
 
 use crate::flat::recover_of;
 use crate::room::{count, room};
@@ -26,7 +26,8 @@ fn entering(site: &Site, code: &mut Vec<Marked>) -> Result<(), AllocError>
     requires laid_out { IsLaidOut site.now }
     requires room { length code.old.items ≤ most_instructions }
     ensures { OnOk result (code.new.items
-        ≡ code.old.items ++ pieces.entering_code (setting_at site.now) site.now.role (length code.old.items)) }
+        ≡ code.old.items ++ pieces.entering_code (setting_at site.now) site.now.role
+        (length code.old.items)) }
 {
     if let Role::Entry(monitor) = site.role {
         let recover = recover_of(site.program, monitor);
@@ -48,7 +49,8 @@ fn default_value(outcome: Option<ValueType>, code: &mut Vec<Marked>) -> Result<(
 // The beginning of a procedure: its parameters, and the lock of an ENTRY procedure.
 fn beginning(procedure: &Procedure, site: &Site, code: &mut Vec<Marked>) -> Result<(), Refusal>
     requires { IsLaidOut site.now }
-    ensures { let made = beginning_code (setting_at site.now) (length procedure.now.parameters.items)
+    ensures { let made = beginning_code (setting_at site.now)
+        (length procedure.now.parameters.items)
         (length code.old.items) in
         MatchResult result (λ _. code.new.items ≡ code.old.items ++ made)
         (λ e. Fails e (length code.old.items + length made)) }
@@ -81,7 +83,8 @@ pub(crate) fn procedure_code(
     layout: &Layout,
 ) -> Result<Vec<Marked>, Refusal>
     requires { layout.now ≡ layout_of (program_of program.now) }
-    ensures { let made = pieces.unlinked_code (program_of program.now) (procedure_of procedure.now) in
+    ensures { let made = pieces.unlinked_code (program_of program.now) (procedure_of procedure.now)
+        in
         MatchResult result (λ v. v.items ≡ made) (λ e. Fails e (length made)) }
 {
     let site = Site {

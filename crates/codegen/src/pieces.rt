@@ -20,7 +20,8 @@ pub fn generate(
     layout: &Layout,
 ) -> Result<Vec<CodePiece>, Refusal>
     requires { layout.now ≡ layout_of (said_by checked.now) }
-    ensures made { IfOk result (λ pieces. map piece_of pieces.items ≡ unlinked_pieces (said_by checked.now)) }
+    ensures made { IfOk result (λ pieces. map piece_of pieces.items
+        ≡ unlinked_pieces (said_by checked.now)) }
     ensures refusal { IfErr result (λ e. RefusesPieces (said_by checked.now) e) }
 {
     let program = checked.program();

@@ -1,4 +1,4 @@
-ghost use Rattle.std.specs.Prelude.{◌≡◌, ◌≤◌, ◌^◌, [], ◌∷◌, ◌++◌, OnOk, map, length, vec_len};
+ghost use Rattle.std.specs.Prelude.{◌≡◌, ◌≤◌, ◌++◌, OnOk, map, length};
 ghost use Rattle.isa.specs.Limits.{most_instructions};
 ghost use Rattle.program.specs.Views.{expression_of, target_of, option_expression, program_of};
 ghost use Rattle.lowering.specs.Expressions.{arguments_code, value_code};
@@ -23,7 +23,8 @@ pub(crate) fn assignment(
 ) -> Result<(), AllocError>
     requires { IsLaidOut site.now }
     ensures { OnOk result (code.new.items ≡ code.old.items
-        ++ statements.assignment_code (said_at site.now) (target_of target.now) (expression_of e.now)) }
+        ++ statements.assignment_code (said_at site.now) (target_of target.now)
+        (expression_of e.now)) }
 {
     match target {
         Target::Local(slot) => {

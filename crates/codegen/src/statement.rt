@@ -1,5 +1,4 @@
 ghost use Rattle.std.specs.Prelude.{◌≡◌, ◌<◌, ◌+◌, ◌++◌, MatchResult, length, slice_set};
-ghost use Rattle.isa.specs.Limits.{most_instructions};
 ghost use Rattle.program.specs.Views.{expression_of, statement_of, block_in};
 ghost use Rattle.isa.specs.declared.instr.Instr.TheVariants.{Jump as JumpOf};
 ghost use Rattle.lowering.specs.Marks.{plain};
@@ -34,8 +33,10 @@ fn if_then(
     code: &mut Vec<Marked>,
 ) -> Result<(), Refusal>
     requires { IsLaidOut site.now }
-    ensures { let made = lowered.if_code (expression_code (said_at site.now) (expression_of condition.now))
-        (lowered.block_code (setting_at site.now) (block_in then_part.now)) (length code.old.items) in
+    ensures { let made = lowered.if_code
+        (expression_code (said_at site.now) (expression_of condition.now))
+        (lowered.block_code (setting_at site.now) (block_in then_part.now)) (length code.old.items)
+        in
         MatchResult result (λ _. code.new.items ≡ code.old.items ++ made)
         (λ e. Fails e (length code.old.items + length made)) }
 {
@@ -61,8 +62,10 @@ fn then_passed(
     code: &mut Vec<Marked>,
 ) -> Result<usize, Refusal>
     requires { IsLaidOut site.now }
-    ensures { let made = then_code (expression_code (said_at site.now) (expression_of condition.now))
-        (lowered.block_code (setting_at site.now) (block_in then_part.now)) (length code.old.items) in
+    ensures { let made = then_code
+        (expression_code (said_at site.now) (expression_of condition.now))
+        (lowered.block_code (setting_at site.now) (block_in then_part.now)) (length code.old.items)
+        in
         MatchResult result (λ passed. (code.new.items ≡ code.old.items ++ made)
         × (passed + 1 ≡ length code.old.items + length made))
         (λ e. Fails e (length code.old.items + length made)) }
@@ -91,9 +94,11 @@ fn else_passed(
 ) -> Result<(), Refusal>
     requires laid_out { IsLaidOut site.now }
     requires there { passed < length code.old.items }
-    ensures { let made = lowered.block_code (setting_at site.now) (block_in else_part.now) (length code.old.items) in
+    ensures { let made = lowered.block_code (setting_at site.now) (block_in else_part.now)
+        (length code.old.items) in
         MatchResult result (λ _. code.new.items
-        ≡ slice_set code.old.items passed (plain (JumpOf (length code.old.items + length made))) ++ made)
+        ≡ slice_set code.old.items passed (plain (JumpOf (length code.old.items + length made)))
+        ++ made)
         (λ e. Fails e (length code.old.items + length made)) }
 {
     block(else_part, site, code)?;
@@ -114,7 +119,8 @@ fn while_do(
     code: &mut Vec<Marked>,
 ) -> Result<(), Refusal>
     requires { IsLaidOut site.now }
-    ensures { let made = lowered.while_code (expression_code (said_at site.now) (expression_of condition.now))
+    ensures { let made = lowered.while_code
+        (expression_code (said_at site.now) (expression_of condition.now))
         (lowered.block_code (setting_at site.now) (block_in body.now)) (length code.old.items) in
         MatchResult result (λ _. code.new.items ≡ code.old.items ++ made)
         (λ e. Fails e (length code.old.items + length made)) }
@@ -143,7 +149,8 @@ fn join_aborted(
     code: &mut Vec<Marked>,
 ) -> Result<(), Refusal>
     requires { IsLaidOut site.now }
-    ensures { let made = lowered.join_all_code (expression_code (said_at site.now) (expression_of handle.now)) into
+    ensures { let made = lowered.join_all_code
+        (expression_code (said_at site.now) (expression_of handle.now)) into
         (lowered.block_code (setting_at site.now) (block_in aborted.now)) (length code.old.items) in
         MatchResult result (λ _. code.new.items ≡ code.old.items ++ made)
         (λ e. Fails e (length code.old.items + length made)) }
@@ -164,7 +171,8 @@ fn join_aborted(
 #[cycle(statements)]
 fn statement(s: &Statement, site: &Site, code: &mut Vec<Marked>) -> Result<(), Refusal>
     requires { IsLaidOut site.now }
-    ensures { let made = lowered.statement_code (setting_at site.now) (statement_of s.now) (length code.old.items) in
+    ensures { let made = lowered.statement_code (setting_at site.now) (statement_of s.now)
+        (length code.old.items) in
         MatchResult result (λ _. code.new.items ≡ code.old.items ++ made)
         (λ e. Fails e (length code.old.items + length made)) }
 {
@@ -217,7 +225,8 @@ pub(crate) fn block(
     code: &mut Vec<Marked>,
 ) -> Result<(), Refusal>
     requires { IsLaidOut site.now }
-    ensures { let made = lowered.block_code (setting_at site.now) (block_in statements.now) (length code.old.items) in
+    ensures { let made = lowered.block_code (setting_at site.now) (block_in statements.now)
+        (length code.old.items) in
         MatchResult result (λ _. code.new.items ≡ code.old.items ++ made)
         (λ e. Fails e (length code.old.items + length made)) }
 {

@@ -28,7 +28,8 @@ fn with<'a>(
     subcommand: Result<Command<'a>, AllocError>,
 ) -> Result<Command<'a>, AllocError>
     requires { IfOk subcommand (λ s. (fields_of s).has_globals ≡ false) }
-    ensures { (app sub : App) → IfOk command.entry (λ c. app_of c ≡ app) → IfOk subcommand.entry (λ s. app_of s ≡ sub)
+    ensures { (app sub : App) → IfOk command.entry (λ c. app_of c ≡ app)
+        → IfOk subcommand.entry (λ s. app_of s ≡ sub)
         → IfOk result (λ r. app_of r ≡ with_subcommand app sub.top) }
 {
     let subcommand = subcommand?;

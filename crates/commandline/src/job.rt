@@ -75,7 +75,8 @@ pub fn read_job<'a>(alloc: Global, words: &'a [&'a str]) -> Result<Job<'a>, Word
 fn parse<'a>(alloc: Global, words: &'a [&'a str]) -> Result<Job<'a>, Error>
     ensures job { IfOk result (AsksFor (map (λ w. w.now) words.now)) }
     ensures only { (job : JobOf) → takes command_line (map (λ w. w.now) words.now) ≡ true
-        → AsksFor (map (λ w. w.now) words.now) job → IfErr result (λ e. kind_of e ≡ ErrorKind.OutOfMemory) }
+        → AsksFor (map (λ w. w.now) words.now) job
+        → IfErr result (λ e. kind_of e ≡ ErrorKind.OutOfMemory) }
 {
     let mut command = command(alloc)?;
     parse_by(&mut command, words)
@@ -86,7 +87,8 @@ fn parse_by<'a>(command: &mut Command<'a>, words: &'a [&'a str]) -> Result<Job<'
     requires { app_of command.old ≡ command_line }
     ensures job { IfOk result (AsksFor (map (λ w. w.now) words.now)) }
     ensures only { (job : JobOf) → takes command_line (map (λ w. w.now) words.now) ≡ true
-        → AsksFor (map (λ w. w.now) words.now) job → IfErr result (λ e. kind_of e ≡ ErrorKind.OutOfMemory) }
+        → AsksFor (map (λ w. w.now) words.now) job
+        → IfErr result (λ e. kind_of e ≡ ErrorKind.OutOfMemory) }
 {
     let matches = command.try_get_matches_from_mut(words)?;
     match job_of(&matches) {
@@ -106,7 +108,8 @@ fn missing(command: &mut Command<'_>) -> Error {
 // What the matches ask for. A command that was met has its arguments.
 fn job_of<'a>(matches: &ArgMatches<'a>) -> Option<Job<'a>>
     ensures job { IfSome result (IsAskedBy (subcommand_rows_of matches.now)) }
-    ensures none { result ≡ None → (job : JobOf) → IsAskedBy (subcommand_rows_of matches.now) job → ⊥ }
+    ensures none { result ≡ None → (job : JobOf) → IsAskedBy (subcommand_rows_of matches.now) job
+        → ⊥ }
 {
     let (name, inner) = matches.subcommand()?;
     match name {
@@ -122,7 +125,8 @@ fn job_of<'a>(matches: &ArgMatches<'a>) -> Option<Job<'a>>
 
 fn check_of<'a>(matches: &ArgMatches<'a>) -> Option<Job<'a>>
     ensures job { IfSome result (IsCheckOf (rows_of (found_of matches.now))) }
-    ensures none { result ≡ None → (job : JobOf) → IsCheckOf (rows_of (found_of matches.now)) job → ⊥ }
+    ensures none { result ≡ None → (job : JobOf) → IsCheckOf (rows_of (found_of matches.now)) job
+        → ⊥ }
 {
     let file = matches.get_str("FILE")?;
     Some(Job::Check { file })
@@ -130,7 +134,8 @@ fn check_of<'a>(matches: &ArgMatches<'a>) -> Option<Job<'a>>
 
 fn compile_of<'a>(matches: &ArgMatches<'a>) -> Option<Job<'a>>
     ensures job { IfSome result (IsCompileOf (rows_of (found_of matches.now))) }
-    ensures none { result ≡ None → (job : JobOf) → IsCompileOf (rows_of (found_of matches.now)) job → ⊥ }
+    ensures none { result ≡ None → (job : JobOf) → IsCompileOf (rows_of (found_of matches.now)) job
+        → ⊥ }
 {
     let file = matches.get_str("FILE")?;
     let out = matches.get_str("OUT")?;
@@ -139,7 +144,8 @@ fn compile_of<'a>(matches: &ArgMatches<'a>) -> Option<Job<'a>>
 
 fn list_of<'a>(matches: &ArgMatches<'a>) -> Option<Job<'a>>
     ensures job { IfSome result (IsListOf (rows_of (found_of matches.now))) }
-    ensures none { result ≡ None → (job : JobOf) → IsListOf (rows_of (found_of matches.now)) job → ⊥ }
+    ensures none { result ≡ None → (job : JobOf) → IsListOf (rows_of (found_of matches.now)) job
+        → ⊥ }
 {
     let image = matches.get_str("IMAGE")?;
     Some(Job::List { image })
@@ -147,7 +153,8 @@ fn list_of<'a>(matches: &ArgMatches<'a>) -> Option<Job<'a>>
 
 fn run_of<'a>(matches: &ArgMatches<'a>) -> Option<Job<'a>>
     ensures job { IfSome result (AsksForRun (rows_of (found_of matches.now))) }
-    ensures none { result ≡ None → (job : JobOf) → AsksForRun (rows_of (found_of matches.now)) job → ⊥ }
+    ensures none { result ≡ None → (job : JobOf) → AsksForRun (rows_of (found_of matches.now)) job
+        → ⊥ }
 {
     let file = matches.get_str("FILE")?;
     let steps = matches.get_one::<u32>("steps")?;
@@ -157,7 +164,8 @@ fn run_of<'a>(matches: &ArgMatches<'a>) -> Option<Job<'a>>
 
 fn replay_of<'a>(matches: &ArgMatches<'a>) -> Option<Job<'a>>
     ensures job { IfSome result (AsksForReplay (rows_of (found_of matches.now))) }
-    ensures none { result ≡ None → (job : JobOf) → AsksForReplay (rows_of (found_of matches.now)) job → ⊥ }
+    ensures none { result ≡ None → (job : JobOf)
+        → AsksForReplay (rows_of (found_of matches.now)) job → ⊥ }
 {
     let file = matches.get_str("FILE")?;
     let schedule = matches.get_str("SCHEDULE")?;
@@ -171,7 +179,8 @@ fn replay_of<'a>(matches: &ArgMatches<'a>) -> Option<Job<'a>>
 
 fn explain_of<'a>(matches: &ArgMatches<'a>) -> Option<Job<'a>>
     ensures job { IfSome result (IsExplainOf (rows_of (found_of matches.now))) }
-    ensures none { result ≡ None → (job : JobOf) → IsExplainOf (rows_of (found_of matches.now)) job → ⊥ }
+    ensures none { result ≡ None → (job : JobOf) → IsExplainOf (rows_of (found_of matches.now)) job
+        → ⊥ }
 {
     let file = matches.get_str("FILE")?;
     let steps = matches.get_one::<u32>("steps")?;

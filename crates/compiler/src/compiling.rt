@@ -74,7 +74,8 @@ fn read_image<'a>(alloc: Global, text: &'a [u8]) -> Result<(Checked<'a>, Image),
 pub fn compile_checked<'a>(alloc: Global, text: &'a [u8]) -> Result<(Checked<'a>, Image), Refusal>
     ensures compiled { MatchResult result (λ r. IsReadImage text.now r.0 r.1)
         (λ e. (e ≡ out_of_memory) ⊎ RefusesText text.now e) }
-    ensures only { (p : Program) → AcceptsText text.now p → CodeFits p → IfErr result (λ e. e ≡ out_of_memory) }
+    ensures only { (p : Program) → AcceptsText text.now p → CodeFits p
+        → IfErr result (λ e. e ≡ out_of_memory) }
 {
     text_laws();
     read_image(alloc, text)

@@ -11,9 +11,12 @@ use scanner::{fault_laws, token_laws};
 
 /// A text is at most one program and has at most one refusal, and a program whose code fits is not refused.
 pub fn text_laws()
-    ensures one_program { (text : List ℕ) (p q : Program) → AcceptsText text p → AcceptsText text q → p ≡ q }
-    ensures one_refusal { (text : List ℕ) (e f : RefusalOf) → RefusesText text e → RefusesText text f → e ≡ f }
-    ensures not_both { (text : List ℕ) (p : Program) (e : RefusalOf) → AcceptsText text p → CodeFits p → RefusesText text e → ⊥ }
+    ensures one_program { (text : List ℕ) (p q : Program) → AcceptsText text p → AcceptsText text q
+        → p ≡ q }
+    ensures one_refusal { (text : List ℕ) (e f : RefusalOf) → RefusesText text e
+        → RefusesText text f → e ≡ f }
+    ensures not_both { (text : List ℕ) (p : Program) (e : RefusalOf) → AcceptsText text p
+        → CodeFits p → RefusesText text e → ⊥ }
 {
     token_laws();
     fault_laws();

@@ -41,7 +41,8 @@ fn wait_from(
 ) -> Result<(), AllocError>
     requires { (link < 2 ^ 16) × (start ≤ 2 ^ 17) }
     ensures { OnOk result (code.new.items
-        ≡ code.old.items ++ rebase_all start (conditions.wait_code condition link sequence (recovery recover))) }
+        ≡ code.old.items ++ rebase_all start
+        (conditions.wait_code condition link sequence (recovery recover))) }
 {
     sleep_from(code, condition, link, sequence, start)?;
     take_from(code, Mark::Resume(condition.monitor), link, start, 24)?;
@@ -59,7 +60,8 @@ pub fn wait(
 ) -> Result<(), AllocError>
     requires { (link < 2 ^ 16) × (length code.old.items ≤ 2 ^ 17) }
     ensures { OnOk result (code.new.items ≡ code.old.items
-        ++ rebase_all (length code.old.items) (conditions.wait_code condition link sequence (recovery recover))) }
+        ++ rebase_all (length code.old.items)
+        (conditions.wait_code condition link sequence (recovery recover))) }
 {
     let start = code.len() as u32;
     wait_from(code, condition, link, sequence, recover, start)
@@ -67,7 +69,8 @@ pub fn wait(
 
 /// NOTIFY of a condition, with its sequence word.
 pub fn notify(code: &mut Vec<Marked>, condition: Member, sequence: u32) -> Result<(), AllocError>
-    ensures { OnOk result (code.new.items ≡ code.old.items ++ conditions.notify_code condition sequence) }
+    ensures { OnOk result (code.new.items
+        ≡ code.old.items ++ conditions.notify_code condition sequence) }
 {
     append_plain(
         code,
@@ -92,7 +95,8 @@ pub fn broadcast(
     sequence: u32,
 ) -> Result<(), AllocError>
     requires { link < 2 ^ 16 }
-    ensures { OnOk result (code.new.items ≡ code.old.items ++ conditions.broadcast_code condition link sequence) }
+    ensures { OnOk result (code.new.items
+        ≡ code.old.items ++ conditions.broadcast_code condition link sequence) }
 {
     append_plain(
         code,

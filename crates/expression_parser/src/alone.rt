@@ -55,7 +55,8 @@ pub fn expression_alone(conjunction: Conjunction<'_>) -> Expression<'_>
 
 /// A sum that is an expression.
 pub fn expression_of_sum(sum: Sum<'_>) -> Expression<'_>
-    ensures { expression_of result ≡ lone_expression (lone_conjunction (lone_relation (sum_of sum.entry))) }
+    ensures { expression_of result ≡ lone_expression
+        (lone_conjunction (lone_relation (sum_of sum.entry))) }
 {
     match sum {
         Sum::Factor(factor) => Expression::Factor(factor),
@@ -66,7 +67,8 @@ pub fn expression_of_sum(sum: Sum<'_>) -> Expression<'_>
 
 /// A variable that is read.
 pub fn reading(variable: Variable<'_>) -> Factor<'_>
-    ensures { factor_of result ≡ Reads (variable_of variable.entry).name (variable_of variable.entry).index }
+    ensures { factor_of result ≡ Reads (variable_of variable.entry).name
+        (variable_of variable.entry).index }
 {
     match variable {
         Variable::Name(name) => Factor::Name(name),

@@ -4,7 +4,7 @@ ghost use Rattle.std.specs.Prelude.{◌≡◌, ◌≤◌, ◌<◌, [], ◌∷◌
 ghost use Rattle.syntax.specs.Limits.{most_nestings};
 ghost use Rattle.syntax.specs.View.{expression_of, option_expression, option_name, name_of};
 ghost use Rattle.syntax.specs.View.{callee_of, first_name, dotted_name};
-ghost use Rattle.grammar.specs.Machine.{AValue, Arguments, MoreArguments, ADottedName, callee as a_callee};
+ghost use Rattle.grammar.specs.Machine.{AValue, Arguments, ADottedName, callee as a_callee};
 ghost use Rattle.grammar.specs.Reading.{Passes, Fails};
 ghost use Rattle.token_cursor.specs.Ahead.{ahead};
 ghost use Rattle.expression_parser.specs.Levels.{callee_trees};

@@ -41,7 +41,8 @@ use token_cursor::{FactorStart, Parser, refused, start_of};
 #[cycle(expression)]
 pub fn expression<'a>(parser: &mut Parser<'_, 'a>, depth: u8) -> Result<Expression<'a>, Refusal>
     requires { depth ≤ most_nestings }
-    ensures ok { IfOk result (λ x. Passes depth (an_expression []) (expression_trees (expression_of x))
+    ensures ok { IfOk result
+        (λ x. Passes depth (an_expression []) (expression_trees (expression_of x))
         (ahead parser.old) (ahead parser.new)) }
     ensures err { IfErr result (λ e. Fails depth (an_expression []) (ahead parser.old) e) }
     ensures shorter { OnOk result (length (ahead parser.new) < length (ahead parser.old)) }
@@ -64,8 +65,10 @@ fn expression_from<'a>(
     depth: u8,
 ) -> Result<Expression<'a>, Refusal>
     requires { depth ≤ most_nestings }
-    ensures front { IfOk result (λ x. first_conjunction (expression_of x) ≡ conjunction_of first.entry) }
-    ensures ok { IfOk result (λ x. Passes depth (Conjunctions ∷ []) (further_conjunctions (expression_of x), tt)
+    ensures front { IfOk result (λ x. first_conjunction (expression_of x)
+        ≡ conjunction_of first.entry) }
+    ensures ok { IfOk result
+        (λ x. Passes depth (Conjunctions ∷ []) (further_conjunctions (expression_of x), tt)
         (ahead parser.old) (ahead parser.new)) }
     ensures err { IfErr result (λ e. Fails depth (Conjunctions ∷ []) (ahead parser.old) e) }
     ensures within { OnOk result (length (ahead parser.new) ≤ length (ahead parser.old)) }
@@ -110,7 +113,8 @@ fn conjunctions<'a>(parser: &mut Parser<'_, 'a>, depth: u8) -> Result<Vec<Conjun
 #[cycle(expression)]
 fn conjunction<'a>(parser: &mut Parser<'_, 'a>, depth: u8) -> Result<Conjunction<'a>, Refusal>
     requires { depth ≤ most_nestings }
-    ensures ok { IfOk result (λ x. Passes depth (a_conjunction []) (conjunction_trees (conjunction_of x))
+    ensures ok { IfOk result
+        (λ x. Passes depth (a_conjunction []) (conjunction_trees (conjunction_of x))
         (ahead parser.old) (ahead parser.new)) }
     ensures err { IfErr result (λ e. Fails depth (a_conjunction []) (ahead parser.old) e) }
     ensures shorter { OnOk result (length (ahead parser.new) < length (ahead parser.old)) }
@@ -128,7 +132,8 @@ fn conjunction_from<'a>(
 ) -> Result<Conjunction<'a>, Refusal>
     requires { depth ≤ most_nestings }
     ensures front { IfOk result (λ x. first_relation (conjunction_of x) ≡ relation_of first.entry) }
-    ensures ok { IfOk result (λ x. Passes depth (Relations ∷ []) (further_relations (conjunction_of x), tt)
+    ensures ok { IfOk result
+        (λ x. Passes depth (Relations ∷ []) (further_relations (conjunction_of x), tt)
         (ahead parser.old) (ahead parser.new)) }
     ensures err { IfErr result (λ e. Fails depth (Relations ∷ []) (ahead parser.old) e) }
     ensures within { OnOk result (length (ahead parser.new) ≤ length (ahead parser.old)) }
@@ -191,7 +196,8 @@ fn relation_from<'a>(
 ) -> Result<Relation<'a>, Refusal>
     requires { depth ≤ most_nestings }
     ensures front { IfOk result (λ x. left_sum (relation_of x) ≡ sum_of left.entry) }
-    ensures ok { IfOk result (λ x. Passes depth (AComparison ∷ []) (comparison_part (relation_of x), tt)
+    ensures ok { IfOk result
+        (λ x. Passes depth (AComparison ∷ []) (comparison_part (relation_of x), tt)
         (ahead parser.old) (ahead parser.new)) }
     ensures err { IfErr result (λ e. Fails depth (AComparison ∷ []) (ahead parser.old) e) }
     ensures within { OnOk result (length (ahead parser.new) ≤ length (ahead parser.old)) }
@@ -435,7 +441,8 @@ pub fn expression_before<'a>(
     requires close { (place : PlaceOf) → sign_lexeme close place ≡ Mark close }
     ensures ok { IfOk result (λ x. Passes depth (an_expression (AMark close ∷ []))
         (enclosed_trees close (expression_of x)) (ahead parser.old) (ahead parser.new)) }
-    ensures err { IfErr result (λ e. Fails depth (an_expression (AMark close ∷ [])) (ahead parser.old) e) }
+    ensures err { IfErr result
+        (λ e. Fails depth (an_expression (AMark close ∷ [])) (ahead parser.old) e) }
     ensures shorter { OnOk result (length (ahead parser.new) < length (ahead parser.old)) }
 {
     let expression = expression(parser, depth)?;

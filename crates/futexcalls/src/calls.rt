@@ -27,8 +27,10 @@ pub fn wait(mem: &Mem, buckets: &mut Buckets, t: u32, a: Addr, expected: u32) ->
     requires address { a.0 < length mem.now }
     requires thread { (1 ≤ t) × (t ≤ thread_count buckets.old) }
     requires awake { place_of buckets.old t ≡ None }
-    ensures call { Waits (word_of mem.now) (place_of buckets.old) t a.0 expected result (place_of buckets.new) }
-    ensures last { result ≡ WaitAnswer.Sleeps → queue buckets.new a.0 ≡ queue buckets.old a.0 ++ t ∷ [] }
+    ensures call { Waits (word_of mem.now) (place_of buckets.old) t a.0 expected result
+        (place_of buckets.new) }
+    ensures last { result ≡ WaitAnswer.Sleeps
+        → queue buckets.new a.0 ≡ queue buckets.old a.0 ++ t ∷ [] }
     ensures others { (b : ℕ) → b ≢ a.0 → queue buckets.new b ≡ queue buckets.old b }
     ensures unchanged { result ≡ WaitAnswer.Again → buckets.new ≡ buckets.old }
     ensures threads { thread_count buckets.new ≡ thread_count buckets.old }
@@ -71,7 +73,8 @@ pub fn cmp_requeue(
     ensures equal { word_of mem.now a.0 ≡ expected → IsOk result }
     ensures differs { OnErr result (word_of mem.now a.0 ≢ expected) }
     ensures unchanged { OnErr result (buckets.new ≡ buckets.old) }
-    ensures call { IfOk result (λ r. Requeues (word_of mem.now) (place_of buckets.old) a.0 b.0 wake moves expected
+    ensures call { IfOk result
+        (λ r. Requeues (word_of mem.now) (place_of buckets.old) a.0 b.0 wake moves expected
         r.woken r.moved (place_of buckets.new)) }
 
     // Those woken are the front of the first list, and those moved the front of what is left of it.
@@ -80,7 +83,8 @@ pub fn cmp_requeue(
         ≡ (if a.0 == b.0 then [] else take moves (drop wake (queue buckets.old a.0)))) }
     ensures rest { IfOk result (λ r. queue buckets.new a.0
         ≡ drop (length r.moved) (drop wake (queue buckets.old a.0))) }
-    ensures last { IfOk result (λ r. a.0 ≢ b.0 → queue buckets.new b.0 ≡ queue buckets.old b.0 ++ r.moved) }
+    ensures last { IfOk result (λ r. a.0 ≢ b.0
+        → queue buckets.new b.0 ≡ queue buckets.old b.0 ++ r.moved) }
     ensures others { (d : ℕ) → d ≢ a.0 → d ≢ b.0 → queue buckets.new d ≡ queue buckets.old d }
     ensures threads { thread_count buckets.new ≡ thread_count buckets.old }
     ensures sound { OnOk result (IsSound buckets.old × IsSound buckets.new) }

@@ -28,7 +28,8 @@ pub fn one_answer()
     ensures spells { (ts : List TokenOf) (u : UnitTree) → EndsOnce (views ts)
         → reads most_nestings (items_of ts) unit ≡ Read (unit_trees u) → unit_text u ≡ lexemes ts }
     ensures limits { (ts : List TokenOf) (u : UnitTree)
-        → reads most_nestings (items_of ts) unit ≡ Read (unit_trees u) → unit_nesting u ≤ most_nestings }
+        → reads most_nestings (items_of ts) unit ≡ Read (unit_trees u)
+        → unit_nesting u ≤ most_nestings }
     ensures refuses { (ts : List TokenOf) (e : RefusalOf) → EndsOnce (views ts)
         → reads most_nestings (items_of ts) unit ≡ Refused e → IsRefusalOf ts e }
 {}

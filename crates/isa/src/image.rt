@@ -1,9 +1,9 @@
-ghost use Rattle.std.specs.Prelude.{◌≡◌, ◌<◌, slice_get, IfSome, IfOk, length, vec_len, List, ℕ, OnSome};
+ghost use Rattle.std.specs.Prelude.{◌≡◌, ◌<◌, slice_get, IfSome, IfOk, length, OnSome};
 ghost use Rattle.std.specs.List.{AllByRecursion};
 ghost use Rattle.isa.specs.Instructions.{operands, IsInstruction, LeadsBelow};
 ghost use Rattle.isa.specs.Spelling.{AreWords, IsSpelled};
 ghost use Rattle.isa.specs.Limits.{most_instructions};
-ghost use Rattle.isa.specs.Programs.{Program, IsProgram, memory_size};
+ghost use Rattle.isa.specs.Programs.{Program, IsProgram};
 
 use crate::instr::Instr;
 use std::alloc::{AllocError, Global};

@@ -28,8 +28,10 @@ pub fn one_spelling()
 /// A fault of one byte is the first: before that byte others are missing and nothing else is wrong, and nothing that
 /// follows mends it. Each proper beginning of an image is short.
 pub fn first_fault()
-    ensures first { (bytes : List ℕ) (fault : DecodeFaultOf) → IsOfAByte fault → program_of bytes ≡ Err fault
+    ensures first { (bytes : List ℕ) (fault : DecodeFaultOf) → IsOfAByte fault
+        → program_of bytes ≡ Err fault
         → (place : ℕ) × IsFirstFault bytes fault place }
     ensures short { (p : Program) (front : List ℕ) (b : ℕ) (behind : List ℕ)
-        → IsSpelled p → spelling p ≡ front ++ b ∷ behind → program_of front ≡ Err DecodeFault.Short }
+        → IsSpelled p → spelling p ≡ front ++ b ∷ behind
+        → program_of front ≡ Err DecodeFault.Short }
 {}

@@ -191,7 +191,8 @@ fn plain(first: u8) -> Option<Instr>
 // The instructions that name a place.
 #[tactic(auto, unfolding(crate::specs::Reading::operands_at))]
 fn with_place(first: u8, bytes: &[u8]) -> Result<(Instr, &[u8]), DecodeFault>
-    ensures { Gives (λ x. (x.0, x.1.now)) result (operands_at (row_of place_opcodes first) bytes.now) }
+    ensures { Gives (λ x. (x.0, x.1.now)) result
+        (operands_at (row_of place_opcodes first) bytes.now) }
 {
     match first {
         opcode::JUMP => {
@@ -221,7 +222,8 @@ fn with_place(first: u8, bytes: &[u8]) -> Result<(Instr, &[u8]), DecodeFault>
 // The instructions with operands.
 #[tactic(auto, unfolding(crate::specs::Reading::operands_at))]
 fn with_operands(first: u8, bytes: &[u8]) -> Result<(Instr, &[u8]), DecodeFault>
-    ensures { Gives (λ x. (x.0, x.1.now)) result (operands_at (row_of operand_opcodes first) bytes.now) }
+    ensures { Gives (λ x. (x.0, x.1.now)) result
+        (operands_at (row_of operand_opcodes first) bytes.now) }
 {
     match first {
         opcode::PUSH => {

@@ -1,9 +1,8 @@
-ghost use Rattle.std.specs.Prelude.{◌≡◌, ◌<◌, ◌≤◌, ◌+◌, ◌*◌, ◌^◌, IfOk, IfErr, length, map, sum, vec_len};
+ghost use Rattle.std.specs.Prelude.{◌≡◌, ◌<◌, ◌+◌, ◌*◌, ◌^◌, IfOk, IfErr, map};
 ghost use Rattle.scanner.specs.Refusals.{out_of_memory};
-ghost use Rattle.isa.specs.Limits.{most_monitors, most_member_words};
 ghost use Rattle.program.specs.Names.{said_by};
 ghost use Rattle.program.specs.Views.{monitor_of};
-ghost use Rattle.program.specs.WellFormed.{words_of, all_words, member_words};
+ghost use Rattle.program.specs.WellFormed.{words_of, member_words};
 ghost use Rattle.lowering.specs.Layout as layouts;
 ghost use Rattle.layout.specs.Views.{view_of};
 

@@ -16,5 +16,6 @@ pub fn program_laws()
         → IsPermutation (unlinked_pieces p) (map piece_of pieces) → Links (layout_of p) pieces image
         → image ≡ code_of p }
     ensures known { (p : Program) (pieces : List CodePiece)
-        → IsPermutation (unlinked_pieces p) (map piece_of pieces) → IsStray (length p.procedures) pieces → ⊥ }
+        → IsPermutation (unlinked_pieces p) (map piece_of pieces)
+        → IsStray (length p.procedures) pieces → ⊥ }
 {}

@@ -5,7 +5,8 @@ use isa::{MOST_MEMBER_WORDS, MOST_MONITORS};
 
 // The monitors, by the words of their members, are within the limits of an image.
 pub(crate) fn are_few(monitors: &[u32]) -> bool
-    ensures { result ≡ (nat_le (length monitors.now) most_monitors && nat_le (sum monitors.now) most_member_words) }
+    ensures { result ≡ (nat_le (length monitors.now) most_monitors && nat_le (sum monitors.now)
+        most_member_words) }
 {
     let mut left = MOST_MEMBER_WORDS;
     for words in monitors {

@@ -1,4 +1,4 @@
-ghost use Rattle.std.specs.Prelude.{◌≡◌, map, IsPermutation};
+ghost use Rattle.std.specs.Prelude.{◌≡◌, map};
 ghost use Rattle.codegen.specs.Generated.{piece_of};
 ghost use Rattle.linker.specs.Linked.{are_from};
 

@@ -1,4 +1,4 @@
-ghost use Rattle.std.specs.Prelude.{◌≡◌, ◌<◌, ◌≤◌, ◌+◌, ◌++◌, ℕ, true, false, map, length, slice_index, MatchResult};
+ghost use Rattle.std.specs.Prelude.{◌≡◌, ◌<◌, ◌≤◌, ◌+◌, ◌++◌, true, false, map, length, slice_index, MatchResult};
 ghost use Rattle.scanner.specs.Refusals.{out_of_memory};
 ghost use Rattle.isa.specs.Limits.{most_instructions};
 ghost use Rattle.lowering.specs.Marks.{instructions};
@@ -27,7 +27,8 @@ pub(crate) fn refuse_long() -> Refusal
 
 // How many instructions pieces have, which aren't too many.
 pub(crate) fn total(pieces: &[CodePiece]) -> Result<u32, Refusal>
-    ensures { MatchResult result (λ n. (n ≡ length_of (map piece_of pieces.now)) × (n ≤ most_instructions))
+    ensures { MatchResult result (λ n. (n ≡ length_of (map piece_of pieces.now))
+        × (n ≤ most_instructions))
         (λ e. (e ≡ too_long) × (most_instructions < length_of (map piece_of pieces.now))) }
 {
     let mut total = 0;
@@ -64,7 +65,8 @@ fn link_piece(
     image: &mut Vec<Instr>,
 ) -> Result<(), Refusal>
     ensures { let made = instructions (linked_code (slice_index starts.now) base code.now) in
-        MatchResult result (λ _. (image.new.items ≡ image.old.items ++ made) × (all_fit total made ≡ true))
+        MatchResult result (λ _. (image.new.items ≡ image.old.items ++ made)
+        × (all_fit total made ≡ true))
         (λ e. FailsWhere (all_fit total made ≡ false) e) }
 {
     for marked in code {
@@ -85,7 +87,8 @@ pub(crate) fn link_pieces(
 ) -> Result<Vec<Instr>, Refusal>
     requires is { total ≡ length_of (map piece_of pieces.now) }
     requires short { total ≤ most_instructions }
-    ensures { let made = instructions (code_from (slice_index starts.now) 0 (map piece_of pieces.now)) in
+    ensures { let made = instructions
+        (code_from (slice_index starts.now) 0 (map piece_of pieces.now)) in
         MatchResult result (λ v. (v.items ≡ made) × (all_fit total made ≡ true))
         (λ e. FailsWhere (all_fit total made ≡ false) e) }
 {

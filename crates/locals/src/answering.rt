@@ -16,7 +16,8 @@ impl Activation {
     /// Goes on with the answer to the request that it makes, if it makes one.
     pub fn go_on(&mut self, image: &Image, t: u32, answer: u32) -> Answered
         requires { CanBeAnswered (looks t (slice_get image.now.code self.old.place) self.old) answer }
-        ensures { Follows result (after_answer (looks t (slice_get image.now.code self.old.place) self.old) answer
+        ensures { Follows result
+            (after_answer (looks t (slice_get image.now.code self.old.place) self.old) answer
             (running self.old)) self.new }
     {
         match image.at(self.place) {
@@ -28,7 +29,8 @@ impl Activation {
     fn answer(&mut self, instr: Instr, t: u32, answer: u32) -> Answered
         requires place { self.old.place < most_instructions }
         requires fits { CanBeAnswered (looks t (Some instr) self.old) answer }
-        ensures { Follows result (after_answer (looks t (Some instr) self.old) answer (running self.old)) self.new }
+        ensures { Follows result
+            (after_answer (looks t (Some instr) self.old) answer (running self.old)) self.new }
     {
         match instr {
             Instr::Load => self.replace_one(answer),
@@ -55,7 +57,8 @@ impl Activation {
         requires { self.old.place < most_instructions }
         ensures { (asks : ℕ → RequestOf)
             → Follows result (after_answer
-            (at_its_place self.old (on_one self.old.operands (λ a rest. Asking (asks a) (λ v. v ∷ rest)))) answer
+            (at_its_place self.old (on_one self.old.operands
+            (λ a rest. Asking (asks a) (λ v. v ∷ rest)))) answer
             (running self.old)) self.new }
     {
         if self.operands.pop().is_some() {
@@ -69,7 +72,8 @@ impl Activation {
         requires { self.old.place < most_instructions }
         ensures { (asks : ℕ → ℕ → RequestOf)
             → Follows result (after_answer
-            (at_its_place self.old (on_two self.old.operands (λ a b rest. Asking (asks a b) (λ v. v ∷ rest)))) answer
+            (at_its_place self.old (on_two self.old.operands
+            (λ a b rest. Asking (asks a b) (λ v. v ∷ rest)))) answer
             (running self.old)) self.new }
     {
         if self.operands.pop_two().is_some() {
@@ -83,7 +87,8 @@ impl Activation {
         requires { self.old.place < most_instructions }
         ensures { (asks : ℕ → ℕ → ℕ → RequestOf)
             → Follows result (after_answer
-            (at_its_place self.old (on_three self.old.operands (λ a b c rest. Asking (asks a b c) (λ v. v ∷ rest))))
+            (at_its_place self.old (on_three self.old.operands
+            (λ a b c rest. Asking (asks a b c) (λ v. v ∷ rest))))
             answer (running self.old)) self.new }
     {
         if self.operands.top_three().is_some() {
@@ -99,7 +104,8 @@ impl Activation {
         ensures { (asks : ℕ → ℕ → ℕ → ℕ → ℕ → RequestOf)
             → Follows result (after_answer
             (at_its_place self.old (on_five self.old.operands
-            (λ a b c d e rest. Asking (asks a b c d e) (λ v. v ∷ rest)))) answer (running self.old)) self.new }
+            (λ a b c d e rest. Asking (asks a b c d e)
+            (λ v. v ∷ rest)))) answer (running self.old)) self.new }
     {
         if self.operands.top_five().is_some() {
             self.operands.drop_top(5);
@@ -134,7 +140,8 @@ impl Activation {
     fn answer_fork(&mut self, entry: u32, count: u32, answer: u32) -> Answered
         requires place { self.old.place < most_instructions }
         requires fits { CanBeAnswered (looks 0 (Some (Fork entry count)) self.old) answer }
-        ensures { Follows result (after_answer (looks 0 (Some (Fork entry count)) self.old) answer (running self.old))
+        ensures { Follows result
+            (after_answer (looks 0 (Some (Fork entry count)) self.old) answer (running self.old))
             self.new }
     {
         let count = count as usize;
@@ -152,7 +159,8 @@ impl Activation {
 
     fn answer_return(&mut self, answer: u32) -> Answered
         ensures { (request : RequestOf)
-            → Follows result (after_answer (return_look request self.old.operands self.old.callers) answer
+            → Follows result
+            (after_answer (return_look request self.old.operands self.old.callers) answer
             (running self.old)) self.new }
     {
         if self.callers.is_empty() {
@@ -165,7 +173,8 @@ impl Activation {
     /// The thread that it forks, where that is what it asks for.
     pub fn child(&self, image: &Image, t: u32) -> Option<Activation>
         ensures { let look = looks t (slice_get image.now.code self.now.place) self.now in
-            MatchOption result (fork_child look ≡ None) (λ child. fork_child look ≡ Some (running child)) }
+            MatchOption result (fork_child look ≡ None)
+            (λ child. fork_child look ≡ Some (running child)) }
     {
         match image.at(self.place) {
             Some(Instr::Fork(entry, count)) if count as usize <= self.operands.len() => {

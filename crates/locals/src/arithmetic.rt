@@ -42,7 +42,8 @@ pub fn negate(a: u32) -> Result<u32, Fault>
 /// The address of a word of an array of `size` words from `base` on, or that the array doesn't have the index.
 pub fn index(base: u32, size: u32, i: u32) -> Result<u32, Fault>
     ensures { (place : ℕ) (rest : List ℕ) (locals : LocalsOf) (callers : List FrameOf)
-        → at_place place locals callers (index_effect base size i rest) ≡ outcome_at result place rest locals callers }
+        → at_place place locals callers (index_effect base size i rest)
+        ≡ outcome_at result place rest locals callers }
 {
     if i < size && i < 1 << 31 {
         Ok(base.wrapping_add(i))
@@ -88,7 +89,8 @@ fn divide(a: u32, b: u32) -> Result<u32, Fault>
 
 // The remainder has the sign of `a`. That of a division by -1 is 0, also where the quotient is out of range.
 fn remainder(a: u32, b: u32) -> Result<u32, Fault>
-    ensures { QuotientResult b result (result ≡ Ok (word_of (int_rem (signed_of a) (signed_of b)))) }
+    ensures { QuotientResult b result (result
+        ≡ Ok (word_of (int_rem (signed_of a) (signed_of b)))) }
 {
     if b == 0 {
         return Err(Fault::DivisionByZero);

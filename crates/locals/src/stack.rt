@@ -104,7 +104,8 @@ impl<T: Copy + Default + Drop, const N: usize> Stack<T, N> {
     /// The three uppermost items, from the lowest one up.
     pub fn top_three(&self) -> Option<(T, T, T)>
         ensures none { IfNone result (length self.now < 3) }
-        ensures some { IfSome result (λ items. self.now ≡ items.2 ∷ items.1 ∷ items.0 ∷ drop 3 self.now) }
+        ensures some { IfSome result (λ items. self.now
+            ≡ items.2 ∷ items.1 ∷ items.0 ∷ drop 3 self.now) }
     {
         Some((self.below_top(2)?, self.below_top(1)?, self.below_top(0)?))
     }

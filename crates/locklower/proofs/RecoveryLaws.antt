@@ -1,9 +1,7 @@
 -- The recovery of a monitor is the same at each place.
-use Rattle.std.proofs.Common.{◌≡◌, ℕ, List, [], ◌∷◌, ◌++◌, Option, Some, None, refl, ap, ◌∙◌, append_assoc}
-use Rattle.lowering.specs.Marks.{rebase_all}
-use Rattle.lowering.specs.Locks.{recovery, got_at}
-use Rattle.lowering.specs.declared.mark.Marked.{Marked}
-use Rattle.lowering.specs.Marks.{plain, plainly, rebase}
+use Rattle.std.proofs.Common.{◌≡◌, ℕ, Option, Some, None, refl}
+use Rattle.lowering.specs.Locks.{recovery}
+use Rattle.lowering.specs.Marks.{rebase}
 
 pub moved_recovery : (start : ℕ) (place : Option ℕ) → rebase start (recovery place) ≡ recovery place
 moved_recovery start (Some place) = refl

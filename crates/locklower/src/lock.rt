@@ -1,5 +1,4 @@
 ghost use Rattle.std.specs.Prelude.{◌≡◌, ◌<◌, ◌≤◌, ◌+◌, ◌^◌, ◌++◌, OnOk, length};
-ghost use Rattle.isa.specs.Limits.{most_instructions};
 ghost use Rattle.lowering.specs.Marks.{rebase_all};
 ghost use Rattle.lowering.specs.Locks as locks;
 
@@ -41,7 +40,8 @@ pub fn take_from(
     a: u32,
 ) -> Result<(), AllocError>
     requires { (link < 2 ^ 16) × (start ≤ 2 ^ 17) × (a < 100) }
-    ensures { OnOk result (code.new.items ≡ code.old.items ++ rebase_all start (locks.take_at mark link a)) }
+    ensures { OnOk result (code.new.items
+        ≡ code.old.items ++ rebase_all start (locks.take_at mark link a)) }
 {
     let lock = Instr::Push(link + 1);
     let waiters = Instr::Push(WAITERS);
@@ -132,7 +132,8 @@ pub fn leave_from(
     a: u32,
 ) -> Result<(), AllocError>
     requires { (link < 2 ^ 16) × (start ≤ 2 ^ 17) × (a < 100) }
-    ensures { OnOk result (code.new.items ≡ code.old.items ++ rebase_all start (locks.leave_at mark link a)) }
+    ensures { OnOk result (code.new.items
+        ≡ code.old.items ++ rebase_all start (locks.leave_at mark link a)) }
 {
     append_plain(
         code,
@@ -179,7 +180,8 @@ pub fn take(code: &mut Vec<Marked>, mark: Mark, link: u32) -> Result<(), AllocEr
 pub fn got(code: &mut Vec<Marked>, link: u32, recover: Option<u32>) -> Result<(), AllocError>
     requires { length code.old.items ≤ 2 ^ 17 }
     ensures { OnOk result (code.new.items
-        ≡ code.old.items ++ rebase_all (length code.old.items) (locks.got_code link (locks.recovery recover))) }
+        ≡ code.old.items ++ rebase_all (length code.old.items)
+        (locks.got_code link (locks.recovery recover))) }
 {
     let start = code.len() as u32;
     got_from(code, link, recover, start, 0)
@@ -198,7 +200,8 @@ pub fn leave(code: &mut Vec<Marked>, mark: Mark, link: u32) -> Result<(), AllocE
 // The beginning of `enter`, at this place: the entry is pending, and the lock is taken where it is free.
 fn try_lock(code: &mut Vec<Marked>, monitor: u32, link: u32, start: u32) -> Result<(), AllocError>
     requires { (link < 2 ^ 16) × (start ≤ 2 ^ 17) }
-    ensures { OnOk result (code.new.items ≡ code.old.items ++ rebase_all start (locks.try_code monitor link)) }
+    ensures { OnOk result (code.new.items
+        ≡ code.old.items ++ rebase_all start (locks.try_code monitor link)) }
 {
     append_plain(
         code,
@@ -226,7 +229,8 @@ fn enter_from(
 ) -> Result<(), AllocError>
     requires { (link < 2 ^ 16) × (start ≤ 2 ^ 17) }
     ensures { OnOk result (code.new.items
-        ≡ code.old.items ++ rebase_all start (locks.enter_code monitor link (locks.recovery recover))) }
+        ≡ code.old.items ++ rebase_all start
+        (locks.enter_code monitor link (locks.recovery recover))) }
 {
     try_lock(code, monitor, link, start)?;
     take_from(code, Mark::Enter(monitor), link, start, 11)?;

@@ -7,7 +7,7 @@ use Rattle.words.specs.Limits.{most_processes}
 use Rattle.machine.specs.States.{State}
 use Rattle.program.specs.declared.kinds.Member.{Member}
 use Rattle.program.specs.Trees.{Program}
-use Rattle.meaning.specs.Labels.{Kind, kind_of}
+use Rattle.meaning.specs.Labels.{kind_of}
 use Rattle.meaning.specs.Labels as L
 use Rattle.meaning.specs.Table.{Table, Allows}
 use Rattle.meaning.specs.Processes.{Process}

@@ -1,15 +1,14 @@
 -- A recorder keeps up with the entries of a log.
-use Rattle.std.proofs.Common.{◌≡◌, ◌+◌, ◌<◌, ◌≤◌, ◌-◌, ℕ, zero, suc, List, [], ◌∷◌, length, Option, Some, None, true}
-use Rattle.std.proofs.Common.{refl, ap, sym, ◌∙◌, arith, subst, length-append}
+use Rattle.std.proofs.Common.{◌≡◌, ◌+◌, ◌<◌, ◌≤◌, ◌-◌, ℕ, List, [], length, Option, Some, None, true}
+use Rattle.std.proofs.Common.{ap, sym, ◌∙◌, arith, subst, length-append}
 use Rattle.std.specs.Prelude.{◌^◌, ◌++◌, replicate}
-use Rattle.std.proofs.lemmas.List.{length-map, length-replicate}
+use Rattle.std.proofs.lemmas.List.{length-replicate}
 use Rattle.words.specs.Limits.{most_processes}
-use Rattle.isa.specs.Programs.{Program as Image}
 use Rattle.locals.specs.Threads.{Thread}
 use Rattle.locals.specs.Looks.{look}
 use Rattle.locals.specs.Steps.{local_after}
 use Rattle.machine.specs.FrontRuns.{EventStep}
-use Rattle.machine.specs.States.{ConcreteState, opening_concrete, state_of as machine_state, thread_at, thread_of}
+use Rattle.machine.specs.States.{ConcreteState, opening_concrete, state_of as machine_state, thread_of}
 use Rattle.machine.specs.declared.event.Entry.{Entry}
 use Rattle.machine.specs.declared.event.Event.{Event}
 use Rattle.runner.specs.LogRuns.{local_step_of, shared_step_of, steps_of}

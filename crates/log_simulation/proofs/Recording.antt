@@ -1,10 +1,8 @@
 -- A recorder records what the source comes to, step by step.
-use Rattle.std.proofs.Common.{◌≡◌, ◌+◌, ◌<◌, ◌≤◌, ℕ, zero, suc, Bool, true, false, List, [], ◌∷◌, length, Option, Some}
-use Rattle.std.proofs.Common.{None, refl, ap, sym, ◌∙◌, arith, subst, length-append, inl, inr}
-use Rattle.std.specs.Prelude.{◌^◌, ◌++◌, MatchBool, map, get_or, slice_get}
+use Rattle.std.proofs.Common.{◌≡◌, ◌+◌, ◌<◌, ◌≤◌, ℕ, zero, suc, Bool, true, false, List, [], length, Option, Some}
+use Rattle.std.proofs.Common.{refl, ap, sym, ◌∙◌, arith, subst}
+use Rattle.std.specs.Prelude.{◌^◌, ◌++◌, MatchBool, map}
 use Rattle.std.proofs.lemmas.List.{append-nil, append_assoc, length-map}
-use Rattle.std.proofs.lemmas.Bool.{cases_eq}
-use Rattle.words.specs.Limits.{most_processes}
 use Rattle.words.specs.Updates.{put}
 use Rattle.locals.specs.Threads.{Thread}
 use Rattle.locals.specs.Looks.{look}
@@ -34,7 +32,7 @@ use Rattle.proof_simulation.proofs.Explaining.{explained_so, reached}
 use Rattle.proof_simulation.proofs.Nexts.{caught_up_behind}
 use Rattle.proof_simulation.proofs.Worlds.{put_put}
 use Rattle.source_states.specs.Actions.{action_of}
-use Rattle.log_simulation.specs.Entries.{ComesTo, is_visible, progress_locally, progress_shared, deferred_at, deferred_locally}
+use Rattle.log_simulation.specs.Entries.{is_visible, progress_locally, progress_shared, deferred_at, deferred_locally}
 use Rattle.log_simulation.specs.declared.follower.Follower.{Follower}
 use Rattle.log_simulation.specs.Going.{Follows, Matches, CatchesUp}
 use Rattle.log_simulation.specs.Requests.{visible_step}

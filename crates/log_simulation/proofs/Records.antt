@@ -1,8 +1,7 @@
 -- What a recorder records.
 use Rattle.std.proofs.Common.{◌≡◌, ◌+◌, ◌<◌, ◌≤◌, ℕ, zero, suc, Bool, true, false, List, [], ◌∷◌, length, Option, Some}
 use Rattle.std.proofs.Common.{None, refl, ap, sym, ◌∙◌, arith, subst, length-append, inl, inr, ◌⊎◌}
-use Rattle.std.specs.Prelude.{◌^◌, ◌++◌, ◌&&◌, ◌||◌, MatchBool, if◌then◌else◌, map, slice_get, slice_set, get_or}
-use Rattle.std.proofs.lemmas.List.{append-nil, append_assoc}
+use Rattle.std.specs.Prelude.{◌++◌, ◌&&◌, ◌||◌, MatchBool, if◌then◌else◌, slice_get, slice_set, get_or}
 use Rattle.words.specs.Updates.{put}
 use Rattle.locals.specs.Threads.{Thread}
 use Rattle.locals.specs.Looks.{Request, AskSwap, AskFork, Look, Goes, Asks, Leaves, Breaks, Rests}
@@ -13,7 +12,7 @@ use Rattle.lowering.specs.Pieces.{code_of, marks_of}
 use Rattle.proof_thread.specs.Deferrals.{deferred_by_request, deferred_by_step}
 use Rattle.meaning.specs.Labels.{Kind}
 use Rattle.program.specs.Trees.{Program}
-use Rattle.protocol.proofs.Sleeps.{at_put, put_same, put_other}
+use Rattle.protocol.proofs.Sleeps.{put_same, put_other}
 use Rattle.proof_simulation.specs.Deferred.{deferred_then, is_failing, has_failed}
 use Rattle.log_simulation.specs.Entries.{deferred_at, deferred_locally}
 use Rattle.log_simulation.specs.Deferred.{deferral_of, deferred_by_next_step, Says, CountsDeferred}

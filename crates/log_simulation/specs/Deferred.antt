@@ -1,5 +1,5 @@
 -- What waits of each process, as a recorder counts it.
-use Rattle.std.specs.Prelude.{ℕ, ◌≡◌, ◌==◌, ◌||◌, true, false, List, length, Option, Some, None, if◌then◌else◌}
+use Rattle.std.specs.Prelude.{ℕ, ◌≡◌, ◌==◌, ◌||◌, List, length, Option, Some, None, if◌then◌else◌}
 use Rattle.std.specs.Prelude.{slice_get}
 use Rattle.words.specs.declared.outcome.Fault.TheVariants.{HandleNotJoinable, ProcessTableFull}
 use Rattle.locals.specs.declared.request.Request.TheVariants as told

@@ -39,7 +39,8 @@ fn visible_alone(offered: &Offered, made: u64, resumed: Vec<u64>) -> Option<Acti
 
 /// The action that others learn of, of a process with this offer; a notify or a broadcast resumes these.
 pub fn visible_action(offer: &Offer, state: &SourceState, resumed: Vec<u64>) -> Option<ActionKind>
-    ensures { option_map kind_of result ≡ visible_kind offer.now (state_of state.now).table.made resumed.items }
+    ensures { option_map kind_of result
+        ≡ visible_kind offer.now (state_of state.now).table.made resumed.items }
 {
     match offer {
         Offer::Own(offered) => visible_alone(offered, state.made(), resumed),

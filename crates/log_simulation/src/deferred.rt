@@ -27,7 +27,8 @@ impl Deferred {
 
     /// With what a step adds. A fault waits once, though where it is written it is told of again.
     pub fn behind(self, deferral: Deferral) -> Deferred
-        ensures { (ks : List Kind) (o : Option Kind) → Says self ks → deferral ≡ deferral_of o → length ks + 1 < 2 ^ 32
+        ensures { (ks : List Kind) (o : Option Kind) → Says self ks → deferral ≡ deferral_of o
+            → length ks + 1 < 2 ^ 32
             → Says result (deferred_then o ks) }
     {
         let count = self.count.saturating_add(1);

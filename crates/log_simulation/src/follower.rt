@@ -134,7 +134,8 @@ impl<'a> Follower<'a> {
     // Who waits on a condition, and doesn't sleep on its word.
     fn waiters(&self, machine: &Machine, condition: Member) -> Result<Vec<u64>, AllocError>
         ensures { IfOk result (λ v. self.now.layout ≡ layout_of (said_by self.now.checked.now)
-            → v.items ≡ awake_waiters (said_by self.now.checked.now) (machine_state (concrete machine.now))
+            → v.items ≡ awake_waiters (said_by self.now.checked.now)
+            (machine_state (concrete machine.now))
             (state_of self.now.state).table condition) }
     {
         let word = Addr(self.layout.address(condition));
@@ -152,7 +153,8 @@ impl<'a> Follower<'a> {
     fn resumed(&self, machine: &Machine, offer: &Offer) -> Result<Vec<u64>, AllocError>
         ensures { IfOk result (λ v. self.now.layout ≡ layout_of (said_by self.now.checked.now)
             → (c : MemberOf) → resumed_only offer.now ≡ Some c
-            → v.items ≡ awake_waiters (said_by self.now.checked.now) (machine_state (concrete machine.now))
+            → v.items ≡ awake_waiters (said_by self.now.checked.now)
+            (machine_state (concrete machine.now))
             (state_of self.now.state).table c) }
     {
         match notified(offer) {
@@ -163,8 +165,10 @@ impl<'a> Follower<'a> {
 
     // The action that others learn of, which a process takes next, where it can take one.
     fn next_visible(&self, machine: &Machine, t: u32) -> Result<Option<ActionKind>, AllocError>
-        ensures { IfOk result (λ o. (label : Label) → self.now.layout ≡ layout_of (said_by self.now.checked.now)
-            → CanTake (said_by self.now.checked.now) (state_of self.now.state) t label → is_internal label ≡ false
+        ensures { IfOk result (λ o. (label : Label)
+            → self.now.layout ≡ layout_of (said_by self.now.checked.now)
+            → CanTake (said_by self.now.checked.now) (state_of self.now.state) t label
+            → is_internal label ≡ false
             → Resumes (said_by self.now.checked.now) (machine_state (concrete machine.now))
             (state_of self.now.state).table label → option_map kind_of o ≡ Some (name_of label)) }
     {

@@ -18,13 +18,16 @@ ghost use Rattle.log_simulation.specs.Entries.{ComesTo, entry_steps, is_visible,
 /// the value of its event, all that waited of its process and the action itself are taken, which are possible.
 pub fn progress_follows_logs()
     ensures opens { (p : Program) → ComesTo p [] (opening_concrete (code_of p)) (opening_progress p) }
-    ensures entries { (p : Program) (events : List EventStep) (k k' : ConcreteState) (e : Entry) (g : Progress)
+    ensures entries { (p : Program) (events : List EventStep) (k k' : ConcreteState) (e : Entry)
+        (g : Progress)
         → ComesTo p events k g
         → (enters : Enters (code_of p) k e k')
         → ComesTo p (events ++ entry_steps e) k' (progress_entry p e enters.origin enters.here k' g) }
-    ensures due { (p : Program) (events : List EventStep) (k k' : ConcreteState) (e : Entry) (g : Progress)
+    ensures due { (p : Program) (events : List EventStep) (k k' : ConcreteState) (e : Entry)
+        (g : Progress)
         → ComesTo p events k g
-        → (enters : Enters (code_of p) k e k') → WellFormed p → (event : Event) → e.event ≡ Some event
+        → (enters : Enters (code_of p) k e k') → WellFormed p → (event : Event)
+        → e.event ≡ Some event
         → is_visible p (look (code_of p) e.thread enters.here) event.value ≡ true
         → length events + e.local + 1 < 2 ^ 32
         → IsDue p (state_of k') e.thread (progress_locally p e.thread e.local enters.origin g) }

@@ -53,7 +53,8 @@ pub struct Recorder<'a> {
 
 // Nothing waits of any process.
 fn nothing(alloc: Global) -> Result<Vec<Deferred>, AllocError>
-    ensures { IfOk result (λ v. (length v.items ≡ most_processes + 1) × CountsDeferred v.items (λ t. [])) }
+    ensures { IfOk result (λ v. (length v.items ≡ most_processes + 1)
+        × CountsDeferred v.items (λ t. [])) }
 {
     let mut deferred = Vec::new(alloc);
     for _ in 0..=MOST_PROCESSES {
@@ -107,8 +108,10 @@ impl<'a> Recorder<'a> {
     fn delay(&mut self, t: u32, deferral: Deferral)
         ensures kept { self.new ≡ record self.old { deferred = self.new.deferred } }
         ensures places { length self.new.deferred.items ≡ length self.old.deferred.items }
-        ensures waits { (f : ℕ → List Kind) (o : Option Kind) → CountsDeferred self.old.deferred.items f → deferral ≡ deferral_of o
-            → length (f t) + 1 < 2 ^ 32 → CountsDeferred self.new.deferred.items (put f t (deferred_then o (f t))) }
+        ensures waits { (f : ℕ → List Kind) (o : Option Kind)
+            → CountsDeferred self.old.deferred.items f → deferral ≡ deferral_of o
+            → length (f t) + 1 < 2 ^ 32
+            → CountsDeferred self.new.deferred.items (put f t (deferred_then o (f t))) }
     {
         if deferral == Deferral::Nothing {
             return;
@@ -122,7 +125,8 @@ impl<'a> Recorder<'a> {
     fn take_deferred(&mut self, t: u32) -> u32
         ensures kept { self.new ≡ record self.old { deferred = self.new.deferred } }
         ensures places { length self.new.deferred.items ≡ length self.old.deferred.items }
-        ensures waits { (f : ℕ → List Kind) → CountsDeferred self.old.deferred.items f → t < length self.old.deferred.items
+        ensures waits { (f : ℕ → List Kind) → CountsDeferred self.old.deferred.items f
+            → t < length self.old.deferred.items
             → (result ≡ length (f t)) × CountsDeferred self.new.deferred.items (put f t []) }
     {
         match self.deferred.get_mut(t as usize) {
@@ -137,9 +141,11 @@ impl<'a> Recorder<'a> {
             (local_step image.now t here.old ≡ None) }
         ensures kept { self.new ≡ record self.old { deferred = self.new.deferred } }
         ensures places { length self.new.deferred.items ≡ length self.old.deferred.items }
-        ensures waits { (f : ℕ → List Kind) → CountsDeferred self.old.deferred.items f → length (f t) + 1 < 2 ^ 32
+        ensures waits { (f : ℕ → List Kind) → CountsDeferred self.old.deferred.items f
+            → length (f t) + 1 < 2 ^ 32
             → CountsDeferred self.new.deferred.items
-            (put f t (deferred_then (deferred_by_mark (mark_of self.old.marks.items here.old)) (f t))) }
+            (put f t (deferred_then (deferred_by_mark (mark_of self.old.marks.items here.old))
+            (f t))) }
     {
         let deferral = at_mark(mark_at(self.marks.as_slice(), here));
         self.delay(t, deferral);
@@ -151,7 +157,8 @@ impl<'a> Recorder<'a> {
         ensures goes { MatchBool result
             (local_after image.now entry.now.thread entry.now.local here.old ≡ Some here.new)
             (local_after image.now entry.now.thread entry.now.local here.old ≡ None) }
-        ensures told { result ≡ true → (p : Program) (n : ℕ) (g : Progress) → image.now ≡ code_of p → IsOf p self.old
+        ensures told { result ≡ true → (p : Program) (n : ℕ) (g : Progress) → image.now ≡ code_of p
+            → IsOf p self.old
             → RecordsUnlessLong n g self.old
             → IsOf p self.new × RecordsUnlessLong (n + entry.now.local)
             (progress_locally p entry.now.thread entry.now.local here.old g) self.new }
@@ -174,12 +181,14 @@ impl<'a> Recorder<'a> {
         image: &Image,
         event: Event,
     ) -> Result<(), AllocError>
-        ensures { OnOk result ((p : Program) (n : ℕ) (g : Progress) → image.now ≡ code_of p → IsOf p self.old
+        ensures { OnOk result ((p : Program) (n : ℕ) (g : Progress) → image.now ≡ code_of p
+            → IsOf p self.old
             → t ≤ most_processes → RecordsUnlessLong n g self.old
             → (is_visible p (look (code_of p) t here.now) event.value ≡ true → n + 1 < 2 ^ 32
             → IsDue p (machine_state (concrete machine.now)) t g)
             → IsOf p self.new
-            × RecordsUnlessLong (n + 1) (progress_shared p t here.now event.value (concrete machine.now) g) self.new) }
+            × RecordsUnlessLong (n
+            + 1) (progress_shared p t here.now event.value (concrete machine.now) g) self.new) }
     {
         self.count(1);
         if !self.is_whole {
@@ -199,8 +208,10 @@ impl<'a> Recorder<'a> {
     // The actions that wait are taken, by rising process. Each is possible, in a log that is told.
     fn take_rest(&mut self, made: u32) -> Result<(), AllocError>
         ensures { OnOk result ((p : Program) (g : Progress) (ahead : SourceState) → IsOf p self.old
-            → made ≤ most_processes → Matches self.old.follower g → CountsDeferred self.old.deferred.items g.deferred
-            → IsBehind p g.deferred g.source ahead → Matches self.new.follower (progress_rest p made g)) }
+            → made ≤ most_processes → Matches self.old.follower g
+            → CountsDeferred self.old.deferred.items g.deferred
+            → IsBehind p g.deferred g.source ahead
+            → Matches self.new.follower (progress_rest p made g)) }
     {
         for before in 0..made {
             let t = before + 1;

@@ -5,7 +5,6 @@ ghost use Rattle.locals.specs.Threads.{Thread};
 ghost use Rattle.machine.specs.States.{ConcreteState, opening_concrete, thread_of};
 ghost use Rattle.machine.specs.ConcreteSteps.{can_move};
 ghost use Rattle.machine.specs.Views.{concrete};
-ghost use Rattle.program.specs.Names.{said_by};
 ghost use Rattle.program.specs.Trees.{Program};
 ghost use Rattle.program.specs.WellFormed.{WellFormed};
 ghost use Rattle.runner.specs.LogRuns.{steps_of};
@@ -28,9 +27,11 @@ const BUCKETS: u32 = MOST_PROCESSES;
 fn take_shared(machine: &mut Machine, t: u32, event: Event) -> bool
     requires thread { (0 < t) × (t ≤ length machine.old.threads) }
     requires room { 1 ≤ machine.old.room }
-    ensures ends { (here : Thread) → thread_of (concrete machine.old) t ≡ Some here → MatchBool result
+    ensures ends { (here : Thread) → thread_of (concrete machine.old) t ≡ Some here
+        → MatchBool result
         (Ends machine.old.program (concrete machine.old) t here (Some event) (concrete machine.new))
-        ((k : ConcreteState) → Ends machine.old.program (concrete machine.old) t here (Some event) k → ⊥) }
+        ((k : ConcreteState) → Ends machine.old.program (concrete machine.old) t here (Some event) k
+        → ⊥) }
     ensures program { machine.new.program ≡ machine.old.program }
 {
     if machine.is_before_local(t, machine.local(t)) {
@@ -45,7 +46,8 @@ fn take_shared(machine: &mut Machine, t: u32, event: Event) -> bool
 // Copies the state of a thread, where it can move.
 fn copy_mover(machine: &Machine, t: u32, here: &mut Local) -> bool
     ensures { MatchBool result
-        ((can_move (concrete machine.now) t ≡ true) × (thread_of (concrete machine.now) t ≡ Some here.new))
+        ((can_move (concrete machine.now) t ≡ true)
+        × (thread_of (concrete machine.now) t ≡ Some here.new))
         (can_move (concrete machine.now) t ≡ false) }
 {
     if !machine.can_move(t) {
@@ -68,7 +70,8 @@ fn go_through(
         (Enters image.now (concrete machine.old) entry.now (concrete machine.new))
         ((k : ConcreteState) → Enters image.now (concrete machine.old) entry.now k → ⊥)) }
     ensures told { IfOk result (λ b. b ≡ true → (p : Program) → image.now ≡ code_of p
-        → KeepsUp p (concrete machine.old) recorder.old entry.now (concrete machine.new) recorder.new) }
+        → KeepsUp p (concrete machine.old) recorder.old entry.now (concrete machine.new)
+        recorder.new) }
     ensures program { OnOk result (machine.new.program ≡ image.now) }
 {
     let t = entry.thread;
@@ -96,7 +99,8 @@ pub fn walk(
 ) -> Result<Option<Machine>, AllocError>
     ensures legal { IfOk result (λ o. MatchOption o (IsIllegal image.now log.now)
         (λ m. LeadsTo image.now log.now (concrete m))) }
-    ensures told { IfOk result (λ o. MatchOption o ⊤ (λ m. (p : Program) → WellFormed p → image.now ≡ code_of p
+    ensures told { IfOk result (λ o. MatchOption o ⊤ (λ m. (p : Program) → WellFormed p
+        → image.now ≡ code_of p
         → IsAlong p [] (opening_concrete image.now) recorder.old
         → IsAlong p (steps_of log.now) (concrete m) recorder.new)) }
 {

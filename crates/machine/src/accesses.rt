@@ -1,5 +1,5 @@
 //! The accesses of threads to the words.
-ghost use Rattle.std.specs.Prelude.{◌≡◌, ◌≤◌, ◌<◌, ℕ, length, OnErr};
+ghost use Rattle.std.specs.Prelude.{◌≡◌, ◌<◌, ℕ, OnErr};
 ghost use Rattle.locals.specs.Looks.{AskLoad, AskStore, AskSwap, AskCompareSwap, AskOr, AskAdd};
 ghost use Rattle.machine.specs.ConcreteServing.{serve};
 ghost use Rattle.machine.specs.RequestMeanings.{with_common};
@@ -24,7 +24,8 @@ impl Common {
     /// Puts a word at an address.
     pub fn store(&mut self, a: Addr, v: u32) -> Result<Served, StepFault>
         ensures gives { (made t : ℕ)
-            → serve made t (AskStore a.0 v) (common self.old) ≡ with_common result (common self.new) }
+            → serve made t (AskStore a.0 v) (common self.old)
+            ≡ with_common result (common self.new) }
         ensures capacity { self.new.capacity ≡ self.old.capacity }
         ensures same { OnErr result (self.new ≡ self.old) }
     {
@@ -36,7 +37,8 @@ impl Common {
     /// Puts a word at an address; the answer is the word before.
     pub fn swap(&mut self, a: Addr, v: u32) -> Result<Served, StepFault>
         ensures gives { (made t : ℕ)
-            → serve made t (AskSwap a.0 v) (common self.old) ≡ with_common result (common self.new) }
+            → serve made t (AskSwap a.0 v) (common self.old)
+            ≡ with_common result (common self.new) }
         ensures capacity { self.new.capacity ≡ self.old.capacity }
         ensures same { OnErr result (self.new ≡ self.old) }
     {
@@ -48,7 +50,8 @@ impl Common {
     /// Puts `new` at an address where the word is `expected`; the answer is the word before.
     pub fn compare_swap(&mut self, a: Addr, expected: u32, new: u32) -> Result<Served, StepFault>
         ensures gives { (made t : ℕ)
-            → serve made t (AskCompareSwap a.0 expected new) (common self.old) ≡ with_common result (common self.new) }
+            → serve made t (AskCompareSwap a.0 expected new) (common self.old)
+            ≡ with_common result (common self.new) }
         ensures capacity { self.new.capacity ≡ self.old.capacity }
         ensures same { OnErr result (self.new ≡ self.old) }
     {

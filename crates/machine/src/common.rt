@@ -1,4 +1,4 @@
-ghost use Rattle.std.specs.Prelude.{◌≡◌, ◌-◌, ◌≤◌, ◌<◌, ◌+◌, ℕ, [], None, IfOk, OnOk, OnErr, length, replicate};
+ghost use Rattle.std.specs.Prelude.{◌≡◌, ◌-◌, ◌≤◌, ◌<◌, ℕ, [], None, IfOk, OnOk, OnErr, length, replicate};
 ghost use Rattle.std.specs.Prelude.{slice_get, slice_set, Some};
 ghost use Rattle.words.specs.Limits.{most_processes};
 ghost use Rattle.isa.specs.Programs.{memory_size};
@@ -42,7 +42,8 @@ impl Common {
     /// What is shared at the start of an image, over so many buckets of sleepers.
     pub fn new(alloc: Global, image: &Image, buckets: u32) -> Result<Common, AllocError>
         requires { IsBucketCount buckets }
-        ensures words { IfOk result (λ c. c.words ≡ slice_set (replicate (memory_size image.now) 0) 3 1) }
+        ensures words { IfOk result (λ c. c.words
+            ≡ slice_set (replicate (memory_size image.now) 0) 3 1) }
         ensures empty { IfOk result (λ c. (a : ℕ) → queue c.sleepers a ≡ []) }
         ensures awake { IfOk result (λ c. (t : ℕ) → place_of c.sleepers t ≡ None) }
         ensures output { IfOk result (λ c. c.output ≡ []) }

@@ -1,5 +1,5 @@
 //! The beginnings and ends of threads, and what they print.
-ghost use Rattle.std.specs.Prelude.{◌≡◌, ◌≤◌, ◌<◌, ℕ, Ok, length};
+ghost use Rattle.std.specs.Prelude.{◌≡◌, ◌<◌, ℕ, Ok, length};
 ghost use Rattle.words.specs.Process.{process_word};
 ghost use Rattle.locals.specs.Looks.{AskPrint, AskReturn, AskReturnValue, AskFault};
 ghost use Rattle.machine.specs.ThreadSets.{IsThread};
@@ -17,7 +17,8 @@ impl Common {
     pub fn print(&mut self, number: u32) -> Served
         requires { length self.old.output < self.old.capacity }
         ensures gives { (made t : ℕ)
-            → serve made t (AskPrint number) (common self.old) ≡ with_common (Ok result) (common self.new) }
+            → serve made t (AskPrint number) (common self.old)
+            ≡ with_common (Ok result) (common self.new) }
         ensures capacity { self.new.capacity ≡ self.old.capacity }
     {
         self.output.push_reserved(signed(number));
@@ -40,7 +41,8 @@ impl Common {
     pub fn end_with(&mut self, t: u32, value: u32) -> Served
         requires { IsThread t }
         ensures gives { (made : ℕ)
-            → serve made t (AskReturnValue value) (common self.old) ≡ with_common (Ok result) (common self.new) }
+            → serve made t (AskReturnValue value) (common self.old)
+            ≡ with_common (Ok result) (common self.new) }
         ensures capacity { self.new.capacity ≡ self.old.capacity }
     {
         self.words.store(block(t, ProcessWord::Result), value);
@@ -53,7 +55,8 @@ impl Common {
     pub fn die(&mut self, t: u32, fault: Fault) -> Served
         requires { IsThread t }
         ensures gives { (made : ℕ)
-            → serve made t (AskFault fault) (common self.old) ≡ with_common (Ok result) (common self.new) }
+            → serve made t (AskFault fault) (common self.old)
+            ≡ with_common (Ok result) (common self.new) }
         ensures capacity { self.new.capacity ≡ self.old.capacity }
     {
         let head = self.words.load(block(t, ProcessWord::Head));

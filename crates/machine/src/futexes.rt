@@ -1,5 +1,5 @@
 //! The futex calls of threads.
-ghost use Rattle.std.specs.Prelude.{◌≡◌, ◌≤◌, ℕ, None, OnErr};
+ghost use Rattle.std.specs.Prelude.{◌≡◌, ℕ, None, OnErr};
 ghost use Rattle.buckets.specs.Sleepers.{place_of};
 ghost use Rattle.locals.specs.Looks.{AskWait, AskWake, AskRequeue};
 ghost use Rattle.machine.specs.ThreadSets.{IsThread};
@@ -21,7 +21,8 @@ impl Common {
         requires thread { IsThread t }
         requires awake { place_of self.old.sleepers t ≡ None }
         ensures gives { (made : ℕ)
-            → serve made t (AskWait a.0 expected) (common self.old) ≡ with_common result (common self.new) }
+            → serve made t (AskWait a.0 expected) (common self.old)
+            ≡ with_common result (common self.new) }
         ensures capacity { self.new.capacity ≡ self.old.capacity }
         ensures same { OnErr result (self.new ≡ self.old) }
     {
@@ -35,7 +36,8 @@ impl Common {
     /// Wakes the first `n` sleepers on an address; the answer is how many.
     pub fn wake(&mut self, a: Addr, n: u32) -> Result<Served, StepFault>
         ensures gives { (made t : ℕ)
-            → serve made t (AskWake a.0 n) (common self.old) ≡ with_common result (common self.new) }
+            → serve made t (AskWake a.0 n) (common self.old)
+            ≡ with_common result (common self.new) }
         ensures capacity { self.new.capacity ≡ self.old.capacity }
         ensures same { OnErr result (self.new ≡ self.old) }
     {
@@ -58,7 +60,8 @@ impl Common {
         moves: u32,
         expected: u32,
     ) -> Result<Served, StepFault>
-        ensures gives { (made t : ℕ) → serve made t (AskRequeue a.0 b.0 wake moves expected) (common self.old)
+        ensures gives { (made t : ℕ) → serve made t (AskRequeue a.0 b.0 wake moves expected)
+            (common self.old)
             ≡ with_common result (common self.new) }
         ensures capacity { self.new.capacity ≡ self.old.capacity }
         ensures same { OnErr result (self.new ≡ self.old) }

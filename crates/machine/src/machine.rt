@@ -1,4 +1,4 @@
-ghost use Rattle.std.specs.Prelude.{◌≡◌, ◌≢◌, ◌≤◌, ◌<◌, ◌+◌, ℕ, length, slice_get, slice_index, slice_set, ◌-◌};
+ghost use Rattle.std.specs.Prelude.{◌≡◌, ◌≤◌, ◌<◌, ◌+◌, ℕ, length, slice_index, slice_set, ◌-◌};
 ghost use Rattle.std.specs.Prelude.{true, false, Some, None, Ok, Err, IfOk, IfErr, OnOk, OnErr, MatchBool, is_some};
 ghost use Rattle.words.specs.Limits.{most_processes};
 ghost use Rattle.words.specs.Process.{process_word};
@@ -72,7 +72,8 @@ impl Machine {
     pub fn make_room(&mut self, n: usize) -> Result<(), AllocError>
         ensures room { OnOk result (n ≤ self.new.room) }
         ensures err { OnErr result ((self.old.room < n) × (self.new.room ≡ self.old.room)) }
-        ensures same { (self.new.program ≡ self.old.program) × (concrete self.new ≡ concrete self.old) }
+        ensures same { (self.new.program ≡ self.old.program)
+            × (concrete self.new ≡ concrete self.old) }
     {
         self.common.make_room(n)
     }
@@ -118,7 +119,8 @@ impl Machine {
 
     /// Whether all threads that were made have ended.
     pub fn all_ended(&self) -> bool
-        ensures { MatchBool result (AllEnded (concrete self.now)) ((t : ℕ) × (0 < t) × (t ≤ length self.now.threads)
+        ensures { MatchBool result (AllEnded (concrete self.now)) ((t : ℕ) × (0 < t)
+            × (t ≤ length self.now.threads)
             × (has_ended (thread_of (concrete self.now) t) ≡ false)) }
     {
         for t in 0..self.threads() {
@@ -151,7 +153,8 @@ impl Machine {
 
     /// Whether no thread can move.
     pub fn quiet(&self) -> bool
-        ensures { MatchBool result (IsQuiet (concrete self.now)) ((t : ℕ) × (can_move (concrete self.now) t ≡ true)) }
+        ensures { MatchBool result (IsQuiet (concrete self.now)) ((t : ℕ)
+            × (can_move (concrete self.now) t ≡ true)) }
     {
         for t in 0..self.threads() {
             if self.can_move(t + 1) {
@@ -166,7 +169,8 @@ impl Machine {
         requires monitor { monitor < length self.now.program.monitors }
         requires index { index < slice_index self.now.program.monitors monitor }
         ensures { result
-            ≡ (state_of (concrete self.now)).word (variable_address self.now.program.monitors monitor index) }
+            ≡ (state_of (concrete self.now)).word
+            (variable_address self.now.program.monitors monitor index) }
     {
         self.common.word(variable(&self.image, monitor, index))
     }
@@ -239,7 +243,8 @@ impl Machine {
     /// step may not be; then nothing has changed.
     pub fn step(&mut self, t: u32) -> Result<Event, StepFault>
         requires { 1 ≤ self.old.room }
-        ensures done { IfOk result (λ e. step_of self.old.program (concrete self.old) t ≡ Ok (concrete self.new, e)) }
+        ensures done { IfOk result (λ e. step_of self.old.program (concrete self.old) t
+            ≡ Ok (concrete self.new, e)) }
         ensures room { IfOk result (λ e. self.old.room ≡ self.new.room + printed_by e) }
         ensures err { IfErr result (λ f. (step_of self.old.program (concrete self.old) t ≡ Err f)
             × (self.new ≡ self.old)) }

@@ -43,7 +43,8 @@ pub fn opening_words(alloc: Global, image: &Image) -> Result<Mem, AllocError>
 
 /// The threads at the start of an image: the first, with room for all that can be made.
 pub fn opening_threads(alloc: Global, image: &Image) -> Result<Vec<Local>, AllocError>
-    ensures threads { IfOk result (λ threads. threads.items ≡ opening_thread image.now.start [] ∷ []) }
+    ensures threads { IfOk result (λ threads. threads.items
+        ≡ opening_thread image.now.start [] ∷ []) }
     ensures space { IfOk result (λ threads. most_processes ≤ vec_capacity threads) }
 {
     let mut threads = Vec::with_capacity(alloc, MOST_PROCESSES as usize)?;
@@ -78,8 +79,10 @@ pub fn step_parts(
     ensures done { IfOk result
         (λ e. step_of image.now (parts_of shared.old threads.old.items) t
         ≡ Ok (parts_of shared.new threads.new.items, e)) }
-    ensures err { IfErr result (λ f. step_of image.now (parts_of shared.old threads.old.items) t ≡ Err f) }
-    ensures same { OnErr result ((shared.new ≡ shared.old) × (threads.new.items ≡ threads.old.items)) }
+    ensures err { IfErr result (λ f. step_of image.now (parts_of shared.old threads.old.items) t
+        ≡ Err f) }
+    ensures same { OnErr result ((shared.new ≡ shared.old)
+        × (threads.new.items ≡ threads.old.items)) }
     ensures capacity { shared.new.capacity ≡ shared.old.capacity }
     ensures space { vec_capacity threads.new ≡ vec_capacity threads.old }
 {
@@ -114,13 +117,16 @@ fn fork_parts(
     requires thread { (0 < t) × (t ≤ vec_len threads.old) }
     requires few { vec_len threads.old ≤ most_processes }
     requires awake { place_of shared.old.sleepers t ≡ None }
-    requires asks { (x : Thread) → thread_at threads.old.items t ≡ Some x → AsksFork (look image.now t x) has_room }
+    requires asks { (x : Thread) → thread_at threads.old.items t ≡ Some x
+        → AsksFork (look image.now t x) has_room }
     requires space { most_processes ≤ vec_capacity threads.old }
     ensures done { IfOk result
         (λ e. step_of image.now (parts_of shared.old threads.old.items) t
         ≡ Ok (parts_of shared.new threads.new.items, e)) }
-    ensures err { IfErr result (λ f. step_of image.now (parts_of shared.old threads.old.items) t ≡ Err f) }
-    ensures same { OnErr result ((shared.new ≡ shared.old) × (threads.new.items ≡ threads.old.items)) }
+    ensures err { IfErr result (λ f. step_of image.now (parts_of shared.old threads.old.items) t
+        ≡ Err f) }
+    ensures same { OnErr result ((shared.new ≡ shared.old)
+        × (threads.new.items ≡ threads.old.items)) }
     ensures capacity { shared.new.capacity ≡ shared.old.capacity }
     ensures space { vec_capacity threads.new ≡ vec_capacity threads.old }
 {

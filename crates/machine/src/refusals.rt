@@ -56,7 +56,8 @@ impl Common {
     /// What the next step of this state of thread `t`, where it is awake and so many threads were made, would be
     /// refused for.
     pub fn refusal(&self, image: &Image, made: u32, t: u32, local: &Local) -> Option<StepFault>
-        ensures { result ≡ fault_of (thread_step made t (common self.now) (look image.now t local.now)) }
+        ensures { result ≡ fault_of
+            (thread_step made t (common self.now) (look image.now t local.now)) }
     {
         match local.next_step(image, t) {
             NextStep::Local | NextStep::Exit(_) => None,

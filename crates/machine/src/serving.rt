@@ -17,7 +17,8 @@ impl Common {
         requires thread { IsThread t }
         requires awake { place_of self.old.sleepers t ≡ None }
         ensures gives { (made : ℕ)
-            → serve made t (asked_of request) (common self.old) ≡ with_common result (common self.new) }
+            → serve made t (asked_of request) (common self.old)
+            ≡ with_common result (common self.new) }
         ensures capacity { self.new.capacity ≡ self.old.capacity }
         ensures same { OnErr result (self.new ≡ self.old) }
     {

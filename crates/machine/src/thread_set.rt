@@ -1,4 +1,4 @@
-ghost use Rattle.std.specs.Prelude.{◌≡◌, ◌≢◌, ◌≤◌, [], MatchBool};
+ghost use Rattle.std.specs.Prelude.{◌≡◌, ◌≢◌, [], MatchBool};
 ghost use Rattle.std.specs.List.{All};
 ghost use Rattle.machine.specs.ThreadSets.{set_of, has, IsThread, SetsSo};
 

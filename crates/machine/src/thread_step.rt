@@ -1,4 +1,4 @@
-ghost use Rattle.std.specs.Prelude.{◌≡◌, ◌≢◌, ◌≤◌, ◌<◌, ℕ, Some, None, Ok, Err, IfOk, IfErr, OnErr, IsSome, length};
+ghost use Rattle.std.specs.Prelude.{◌≡◌, ◌≤◌, ◌<◌, ℕ, Some, None, Ok, Err, IfOk, IfErr, OnErr, IsSome, length};
 ghost use Rattle.words.specs.Limits.{most_processes};
 ghost use Rattle.buckets.specs.Sleepers.{place_of};
 ghost use Rattle.locals.specs.Looks.{look};
@@ -58,7 +58,8 @@ pub fn take_request(
     requires thread { IsThread t }
     requires awake { place_of shared.old.sleepers t ≡ None }
     requires asks { next_step_of (look image.now t local.old) ≡ next.Shared request }
-    ensures done { IfOk result (λ e. (made : ℕ) → thread_step made t (common shared.old) (look image.now t local.old)
+    ensures done { IfOk result (λ e. (made : ℕ)
+        → thread_step made t (common shared.old) (look image.now t local.old)
         ≡ Ok (record { common = common shared.new; thread = local.new; child = None; event = e })) }
     ensures err { IfErr result (λ f. (made : ℕ)
         → thread_step made t (common shared.old) (look image.now t local.old) ≡ Err f) }
@@ -82,9 +83,11 @@ pub fn take_fork(
 ) -> Result<(Option<Local>, Event), StepFault>
     requires few { made ≤ most_processes }
     requires asks { AsksFork (look image.now t local.old) has_room }
-    ensures done { IfOk result (λ r. thread_step made t (common shared.old) (look image.now t local.old)
+    ensures done { IfOk result
+        (λ r. thread_step made t (common shared.old) (look image.now t local.old)
         ≡ Ok (record { common = common shared.new; thread = local.new; child = r.0; event = r.1 })) }
-    ensures err { IfErr result (λ f. thread_step made t (common shared.old) (look image.now t local.old) ≡ Err f) }
+    ensures err { IfErr result
+        (λ f. thread_step made t (common shared.old) (look image.now t local.old) ≡ Err f) }
     ensures child { IfOk result (λ r. IsSome r.0 → made < most_processes) }
     ensures same { OnErr result ((local.new ≡ local.old) × (shared.new ≡ shared.old)) }
     ensures capacity { shared.new.capacity ≡ shared.old.capacity }

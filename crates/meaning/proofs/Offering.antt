@@ -15,7 +15,7 @@ use Rattle.program.specs.Typing.{Fits, BlockFits, PartFits, MayCall, MayBeForked
 use Rattle.program.specs.WellFormed.{WellFormed}
 use Rattle.meaning.specs.Values.{Variables, Evaluated, Value, Fails, EvaluatedAll, Values, FailsAll, evaluate}
 use Rattle.meaning.specs.Values.{evaluate_all, index_in, is_true}
-use Rattle.meaning.specs.Labels.{End, Ended, Aborted, Kind, Label, Alone, Stores, Enters, Resumes}
+use Rattle.meaning.specs.Labels.{End, Ended, Aborted, Kind, Alone, Stores}
 use Rattle.meaning.specs.Labels as L
 use Rattle.meaning.specs.Processes.{Frame, Caller, Process, Entering, Before, Suspended, Joining, Returning, Failing}
 use Rattle.meaning.specs.Processes.{Dying, Leaving, Over, goes_on, goes_on_by, begins, opening_frame, recovers}

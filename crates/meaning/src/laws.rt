@@ -14,7 +14,8 @@ pub fn run_laws()
     ensures goes_on { (p : Program) (actions : List Action) (a : Action) (s s' : SourceState)
         → IsRun p actions s → IsStep p s a s' → IsRun p (actions ++ a ∷ []) s' }
     ensures begins { (p : Program) (first later : List Action) (s : SourceState)
-        → IsRun p (first ++ later) s → (mid : SourceState) × IsRun p first mid × Leads p mid later s }
+        → IsRun p (first ++ later) s
+        → (mid : SourceState) × IsRun p first mid × Leads p mid later s }
     ensures one { (p : Program) (a : Action) (s left right : SourceState)
         → IsStep p s a left → IsStep p s a right → left ≡ right }
     ensures one_end { (p : Program) (actions : List Action) (left right : SourceState)
@@ -34,8 +35,10 @@ pub fn wait_laws()
 pub fn end_laws()
     ensures printed { (p : Program) (a : Action) (s s' : SourceState)
         → IsStep p s a s' → (more : List ℤ) × (s'.printed ≡ s.printed ++ more) }
-    ensures stays { (p : Program) (actions : List Action) (a : Action) (s s' : SourceState) (q : ℕ) (end : End)
-        → IsRun p actions s → IsStep p s a s' → s.process q ≡ Some (Over end) → s'.process q ≡ Some (Over end) }
+    ensures stays { (p : Program) (actions : List Action) (a : Action) (s s' : SourceState) (q : ℕ)
+        (end : End)
+        → IsRun p actions s → IsStep p s a s' → s.process q ≡ Some (Over end)
+        → s'.process q ≡ Some (Over end) }
     ensures moves { (p : Program) (s : SourceState) (q : ℕ) (end : End)
         → s.process q ≡ Some (Over end) → CanMove p s q → ⊥ }
 {}

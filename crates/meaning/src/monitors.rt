@@ -19,21 +19,28 @@ pub fn monitor_laws()
     ensures holder { (p : Program) (actions : List Action) (s : SourceState) (q m : ℕ)
         → WellFormed p → IsRun p actions s → s.table.hold m ≡ HeldBy q
         → (b : Process) × (s.process q ≡ Some b) × Contains (holds b) m }
-    ensures one { (p : Program) (actions : List Action) (s : SourceState) (q r m : ℕ) (b d : Process)
+    ensures one { (p : Program) (actions : List Action) (s : SourceState) (q r m : ℕ)
+        (b d : Process)
         → WellFormed p → IsRun p actions s → s.process q ≡ Some b → s.process r ≡ Some d
         → Contains (holds b) m → Contains (holds d) m → q ≡ r }
-    ensures variables { (p : Program) (actions : List Action) (s : SourceState) (a : Action) (s' : SourceState)
+    ensures variables { (p : Program) (actions : List Action) (s : SourceState) (a : Action)
+        (s' : SourceState)
         (m n i : ℕ)
-        → WellFormed p → IsRun p actions s → IsStep p s a s' → (s.table.hold m ≡ HeldBy a.process → ⊥)
+        → WellFormed p → IsRun p actions s → IsStep p s a s'
+        → (s.table.hold m ≡ HeldBy a.process → ⊥)
         → s'.variable m n i ≡ s.variable m n i }
-    ensures notify { (p : Program) (actions : List Action) (s : SourceState) (q : ℕ) (c : Member) (resumed : List ℕ)
+    ensures notify { (p : Program) (actions : List Action) (s : SourceState) (q : ℕ) (c : Member)
+        (resumed : List ℕ)
         (s' : SourceState)
         → WellFormed p → IsRun p actions s
-        → IsAction p s (record { process = q; kind = Notify c resumed }) s' → s.table.hold c.monitor ≡ HeldBy q }
+        → IsAction p s (record { process = q; kind = Notify c resumed }) s'
+        → s.table.hold c.monitor ≡ HeldBy q }
     ensures broadcast { (p : Program) (actions : List Action) (s : SourceState) (q : ℕ) (c : Member)
         (resumed : List ℕ) (s' : SourceState)
         → WellFormed p → IsRun p actions s
-        → IsAction p s (record { process = q; kind = Broadcast c resumed }) s' → s.table.hold c.monitor ≡ HeldBy q }
+        → IsAction p s (record { process = q; kind = Broadcast c resumed }) s'
+        → s.table.hold c.monitor ≡ HeldBy q }
     ensures waits { (p : Program) (actions : List Action) (s : SourceState) (q : ℕ) (c : Member)
-        → WellFormed p → IsRun p actions s → s.table.waits q ≡ Some c → s.table.hold c.monitor ≡ HeldBy q → ⊥ }
+        → WellFormed p → IsRun p actions s → s.table.waits q ≡ Some c
+        → s.table.hold c.monitor ≡ HeldBy q → ⊥ }
 {}

@@ -1,13 +1,11 @@
 -- What a run of a source text that is explained answers.
 use Rattle.std.specs.Prelude.{◌≡◌, ◌⊎◌, ℕ, List, map}
-use Rattle.isa.specs.Programs.{Program as Image}
 use Rattle.scanner.specs.Refusals.{out_of_memory}
 use Rattle.program.specs.Names.{said_by}
 use Rattle.lowering.specs.Pieces.{code_of}
 use Rattle.source_states.specs.Actions.{action_of}
 use Rattle.simulation.specs.ExplainedLog.{IsExplainedLog}
 use Rattle.compiler.specs.Accepts.{AcceptsText, RefusesText}
-use Rattle.compiler.specs.Compiles.{IsCompiled}
 use Rattle.mesamon.specs.Running.{IsRunOfText}
 use Rattle.mesamon.specs.declared.explained_run.ExplainedRun.{ExplainedRun}
 use Rattle.mesamon.specs.declared.explained_run.ExplainSourceFault.{ExplainSourceFault}

@@ -1,4 +1,4 @@
-ghost use Rattle.std.specs.Prelude.{◌≡◌, ◌≤◌, ◌⊎◌, ℕ, List, IfOk, IfErr, OnOk};
+ghost use Rattle.std.specs.Prelude.{◌≡◌, ◌≤◌, ◌⊎◌, List, IfOk, OnOk};
 ghost use Rattle.std.specs.Io.KnownBytes.{Appends};
 ghost use Rattle.mesamon.specs.Accounts.{output_lines, account};
 ghost use Rattle.mesamon.specs.Commands.{HasChecked, HasCompiled, HasDone, HasEnded, HasExplained, HasListed, HasRun};
@@ -45,7 +45,8 @@ pub fn perform<R: Files + AllocGlobal + Threads + Wait + Sync, O: Write, E: Writ
     errors: &mut E,
 ) -> u8
     ensures known { result ≤ 6 }
-    ensures done { result ≡ 0 → HasCompiled (Appends (O.contents output.old) (O.contents output.new))
+    ensures done { result ≡ 0 → HasCompiled
+        (Appends (O.contents output.old) (O.contents output.new))
         ⊎ (HasListed (Appends (O.contents output.old) (O.contents output.new))
         ⊎ (HasEnded (Appends (O.contents output.old) (O.contents output.new))
         (Appends (E.contents errors.old) (E.contents errors.new)) Status.Done
@@ -108,7 +109,8 @@ fn check_file<'a, R: Files + AllocGlobal, O: Write>(
     output: &mut O,
 ) -> Result<Status, Failure<'a>>
     ensures done { IfOk result (λ s. s ≡ Status.Done) }
-    ensures wrote { OnOk result (HasChecked (Appends (O.contents output.old) (O.contents output.new))) }
+    ensures wrote { OnOk result
+        (HasChecked (Appends (O.contents output.old) (O.contents output.new))) }
 {
     let text = bytes_of(rt, file)?;
     check_text(rt.alloc(), text.as_slice())?;
@@ -124,7 +126,8 @@ fn compile_file<'a, R: Files + AllocGlobal, O: Write>(
     output: &mut O,
 ) -> Result<Status, Failure<'a>>
     ensures done { IfOk result (λ s. s ≡ Status.Done) }
-    ensures wrote { OnOk result (HasCompiled (Appends (O.contents output.old) (O.contents output.new))) }
+    ensures wrote { OnOk result
+        (HasCompiled (Appends (O.contents output.old) (O.contents output.new))) }
 {
     let text = bytes_of(rt, file)?;
     let image = compile(rt.alloc(), text.as_slice())?;
@@ -142,7 +145,8 @@ fn list_file<'a, R: Files + AllocGlobal, O: Write>(
     output: &mut O,
 ) -> Result<Status, Failure<'a>>
     ensures done { IfOk result (λ s. s ≡ Status.Done) }
-    ensures wrote { OnOk result (HasListed (Appends (O.contents output.old) (O.contents output.new))) }
+    ensures wrote { OnOk result
+        (HasListed (Appends (O.contents output.old) (O.contents output.new))) }
 {
     let bytes = bytes_of(rt, file)?;
     let image = decode(rt.alloc(), bytes.as_slice())?;
@@ -210,7 +214,8 @@ fn explain_file<'a, R: Files + AllocGlobal, O: Write>(
     out: Option<&'a str>,
     output: &mut O,
 ) -> Result<Status, Failure<'a>>
-    ensures { IfOk result (λ s. HasExplained (Appends (O.contents output.old) (O.contents output.new)) s) }
+    ensures { IfOk result
+        (λ s. HasExplained (Appends (O.contents output.old) (O.contents output.new)) s) }
 {
     let text = bytes_of(rt, file)?;
     let run = explain_source(rt.alloc(), text.as_slice(), steps)?;

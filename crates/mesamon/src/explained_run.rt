@@ -58,7 +58,8 @@ impl From<Refusal> for ExplainSourceFault {
 // Runs the image of a text in order. There is no fault but want of memory.
 fn run_image(alloc: Global, image: &Image, limit: u32) -> Result<Report, ExplainSourceFault>
     requires { (text : List ℕ) × IsCompiled text image.now }
-    ensures { MatchResult result (λ report. IsReport image.now limit report) (λ fault. fault ≡ Memory) }
+    ensures { MatchResult result (λ report. IsReport image.now limit report)
+        (λ fault. fault ≡ Memory) }
 {
     logs_are_machine_runs();
     match runner::run(alloc, image, limit, &OpenGate) {
@@ -80,7 +81,8 @@ fn explain_log(
     requires legal { (k : ConcreteState) × LeadsTo image.now log.now k }
     requires few { cost log.now < 2 ^ 32 }
     ensures { MatchResult result
-        (λ actions. IsExplainedLog (said_by checked.now) image.now log.now (map action_of actions.items))
+        (λ actions. IsExplainedLog (said_by checked.now) image.now log.now
+        (map action_of actions.items))
         (λ fault. fault ≡ Memory) }
 {
     match explain(alloc, checked, image, log) {
@@ -104,7 +106,8 @@ pub fn explain_source<'a>(
 ) -> Result<ExplainedRun<'a>, ExplainSourceFault>
     ensures explained { IfOk result (λ run. IsExplanationOfText text.now limit run) }
     ensures fault { IfErr result (λ fault. IsRefusedExplanation text.now fault) }
-    ensures only { (p : Program) → AcceptsText text.now p → CodeFits p → IfErr result (λ fault. IsWantOfMemory fault) }
+    ensures only { (p : Program) → AcceptsText text.now p → CodeFits p
+        → IfErr result (λ fault. IsWantOfMemory fault) }
 {
     logs_are_machine_runs();
     let (checked, image) = compile_checked(alloc, text)?;

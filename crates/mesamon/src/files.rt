@@ -16,7 +16,8 @@ pub fn read_file<R: Files + AllocGlobal>(rt: &R, name: &str) -> io::Result<Vec<u
 
 // The bytes that a reader gives, or the first `MOST_BYTES + 1` where there are more.
 fn read_front<R: Read + Drop>(alloc: Global, reader: R) -> io::Result<Vec<u8>>
-    ensures { IfOk result (λ bytes. IfSome (R.remaining reader) (λ xs. bytes.items ≡ take (MOST_BYTES + 1) xs)) }
+    ensures { IfOk result (λ bytes. IfSome (R.remaining reader) (λ xs. bytes.items
+        ≡ take (MOST_BYTES + 1) xs)) }
 {
     let mut bytes = Vec::new(alloc);
     reader.take(MOST_BYTES as u64 + 1).read_to_end(&mut bytes)?;

@@ -43,7 +43,8 @@ impl From<Refusal> for ReplayFault {
 pub fn replay(alloc: Global, text: &[u8], schedule: &[u32]) -> Result<Report, ReplayFault>
     ensures report { IfOk result (λ report. IsReplayOfText text.now schedule.now report) }
     ensures fault { IfErr result (λ fault. IsRefusedReplay text.now schedule.now fault) }
-    ensures only { (p : Program) → AcceptsText text.now p → CodeFits p → IfErr result (λ fault. IsNoRefusal fault) }
+    ensures only { (p : Program) → AcceptsText text.now p → CodeFits p
+        → IfErr result (λ fault. IsNoRefusal fault) }
 {
     let image = compile(alloc, text)?;
     match follow(alloc, &image, schedule) {

@@ -1,8 +1,8 @@
-ghost use Rattle.std.specs.Prelude.{◌≡◌, ◌++◌, ◌≤◌, true, false, length, OnOk, IfOk, string_bytes};
+ghost use Rattle.std.specs.Prelude.{◌≡◌, ◌++◌, true, false, length, OnOk, string_bytes};
 ghost use Rattle.std.specs.Io.KnownBytes.{Appends};
-ghost use Rattle.mesamon.specs.Accounts.{account, entry_line, image_line, log_lines, output_lines, verdict_line};
+ghost use Rattle.mesamon.specs.Accounts.{account, entry_line, image_line, log_lines, output_lines};
 ghost use Rattle.mesamon.specs.Accounts.{name_text, set_text, step_text, value_text};
-ghost use Rattle.mesamon.specs.Accounts.{aborted_line, asleep_line, thread_lines, threads_lines};
+ghost use Rattle.mesamon.specs.Accounts.{aborted_line, asleep_line, threads_lines};
 ghost use Rattle.machine.specs.Views.{address_of, concrete};
 
 use machine::{Entry, Event, EventName, MOST_THREADS, Machine, ThreadSet};
@@ -15,7 +15,8 @@ use words::{Addr, Outcome, signed};
 
 /// Writes the line that tells of an image of so many instructions.
 pub fn write_image_line<W: Write>(writer: &mut W, count: usize) -> io::Result<()>
-    ensures { OnOk result (Appends (W.contents writer.old) (W.contents writer.new) (image_line count)) }
+    ensures { OnOk result
+        (Appends (W.contents writer.old) (W.contents writer.new) (image_line count)) }
 {
     writeln!(writer, "ok {count} instructions")
 }
@@ -37,7 +38,8 @@ pub fn write_bytes<W: Write>(writer: &mut W, bytes: &[u8]) -> io::Result<()>
 
 /// Writes each number of the output on a line of its own.
 pub fn write_output<W: Write>(alloc: Global, writer: &mut W, output: &[i32]) -> io::Result<()>
-    ensures { OnOk result (Appends (W.contents writer.old) (W.contents writer.new) (output_lines output.now)) }
+    ensures { OnOk result
+        (Appends (W.contents writer.old) (W.contents writer.new) (output_lines output.now)) }
 {
     let mut text = String::new(alloc);
     append_output(&mut text, output)?;
@@ -52,7 +54,8 @@ pub fn write_account<W: Write>(
     report: &Report,
     trace: bool,
 ) -> io::Result<()>
-    ensures { OnOk result (Appends (W.contents writer.old) (W.contents writer.new) (account report.now trace)) }
+    ensures { OnOk result
+        (Appends (W.contents writer.old) (W.contents writer.new) (account report.now trace)) }
 {
     let mut text = String::new(alloc);
     append_account(&mut text, report, trace)?;
@@ -60,7 +63,8 @@ pub fn write_account<W: Write>(
 }
 
 fn append_output(text: &mut String, output: &[i32]) -> Result<(), AllocError>
-    ensures { OnOk result (string_bytes text.new ≡ string_bytes text.old ++ output_lines output.now) }
+    ensures { OnOk result (string_bytes text.new
+        ≡ string_bytes text.old ++ output_lines output.now) }
 {
     for number in output {
         writeln!(text, "{number}")?;
@@ -69,7 +73,8 @@ fn append_output(text: &mut String, output: &[i32]) -> Result<(), AllocError>
 }
 
 fn append_account(text: &mut String, report: &Report, trace: bool) -> Result<(), AllocError>
-    ensures { OnOk result (string_bytes text.new ≡ string_bytes text.old ++ account report.now trace) }
+    ensures { OnOk result (string_bytes text.new
+        ≡ string_bytes text.old ++ account report.now trace) }
 {
     if trace {
         append_log(text, report.log.as_slice())?;
@@ -118,7 +123,8 @@ fn append_step(text: &mut String, event: Option<Event>) -> Result<(), AllocError
 
 // A step's value: of a printed word the number that it stands for.
 fn append_value(text: &mut String, event: Event) -> Result<(), AllocError>
-    ensures { OnOk result (string_bytes text.new ≡ string_bytes text.old ++ value_text event.name event.value) }
+    ensures { OnOk result (string_bytes text.new
+        ≡ string_bytes text.old ++ value_text event.name event.value) }
 {
     let value = event.value;
     if event.name == EventName::Print {
@@ -177,7 +183,8 @@ fn name_of(name: EventName) -> &'static str
 // The threads that have aborted, and, where nothing can move, those that sleep, by rising number.
 fn append_threads(text: &mut String, last: &Machine, stuck: bool) -> Result<(), AllocError>
     ensures { OnOk result (string_bytes text.new
-        ≡ string_bytes text.old ++ threads_lines (concrete last.now) stuck (length (concrete last.now).threads)) }
+        ≡ string_bytes text.old
+        ++ threads_lines (concrete last.now) stuck (length (concrete last.now).threads)) }
 {
     for before in 0..last.threads() {
         let thread = before + 1;
@@ -190,7 +197,8 @@ fn append_threads(text: &mut String, last: &Machine, stuck: bool) -> Result<(), 
 }
 
 fn append_end(text: &mut String, thread: u32, outcome: Outcome) -> Result<(), AllocError>
-    ensures { OnOk result (string_bytes text.new ≡ string_bytes text.old ++ aborted_line thread outcome) }
+    ensures { OnOk result (string_bytes text.new
+        ≡ string_bytes text.old ++ aborted_line thread outcome) }
 {
     if let Outcome::Aborted(fault) = outcome {
         let number = fault.number();
@@ -200,7 +208,8 @@ fn append_end(text: &mut String, thread: u32, outcome: Outcome) -> Result<(), Al
 }
 
 fn append_sleep(text: &mut String, thread: u32, address: Option<Addr>) -> Result<(), AllocError>
-    ensures { OnOk result (string_bytes text.new ≡ string_bytes text.old ++ asleep_line thread (address_of address)) }
+    ensures { OnOk result (string_bytes text.new
+        ≡ string_bytes text.old ++ asleep_line thread (address_of address)) }
 {
     if let Some(address) = address {
         let word = address.0;

@@ -60,7 +60,8 @@ pub fn run_source<R: Threads + Wait + Sync, G: Gate>(
     ensures report { IfOk result (λ report. IsRunOfText text.now limit report) }
     ensures fault { IfErr result (λ fault. IsRefusedRun text.now limit fault) }
     ensures sound { IfErr result (λ fault. fault ≢ Run Broken) }
-    ensures only { (p : Program) → AcceptsText text.now p → CodeFits p → IfErr result (λ fault. IsMemory fault) }
+    ensures only { (p : Program) → AcceptsText text.now p → CodeFits p
+        → IfErr result (λ fault. IsMemory fault) }
 {
     logs_are_machine_runs();
     let image = compile(alloc, text)?;
@@ -78,7 +79,8 @@ pub fn run_in_order<G: Gate>(
     ensures report { IfOk result (λ report. IsRunOfText text.now limit report) }
     ensures fault { IfErr result (λ fault. IsRefusedRun text.now limit fault) }
     ensures sound { IfErr result (λ fault. fault ≢ Run Broken) }
-    ensures only { (p : Program) → AcceptsText text.now p → CodeFits p → IfErr result (λ fault. IsMemory fault) }
+    ensures only { (p : Program) → AcceptsText text.now p → CodeFits p
+        → IfErr result (λ fault. IsMemory fault) }
 {
     logs_are_machine_runs();
     let image = compile(alloc, text)?;

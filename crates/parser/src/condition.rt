@@ -25,7 +25,8 @@ pub fn condition<'a>(
     requires word { (place : PlaceOf) → keyword_lexeme word place ≡ Word word }
     ensures ok { IfOk result (λ x. Passes depth (an_expression (AWord word ∷ []))
         (condition_trees word (expression_of x)) (ahead parser.old) (ahead parser.new)) }
-    ensures err { IfErr result (λ e. Fails depth (an_expression (AWord word ∷ [])) (ahead parser.old) e) }
+    ensures err { IfErr result
+        (λ e. Fails depth (an_expression (AWord word ∷ [])) (ahead parser.old) e) }
     ensures shorter { OnOk result (length (ahead parser.new) < length (ahead parser.old)) }
 {
     let condition = expression(parser, depth)?;

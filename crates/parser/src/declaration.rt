@@ -1,6 +1,6 @@
 // Types, local variables, parameters, and members of monitors.
 
-ghost use Rattle.std.specs.Prelude.{◌≡◌, ◌≤◌, ◌<◌, length, map, [], ◌∷◌, IfOk, IfErr, OnOk, OnSome};
+ghost use Rattle.std.specs.Prelude.{◌≤◌, ◌<◌, length, map, [], ◌∷◌, IfOk, IfErr, OnOk, OnSome};
 ghost use Rattle.syntax.specs.View.{local_of, member_of, parameter_of, name_of};
 ghost use Rattle.grammar.specs.Machine.{AMark, AName, ALocalType, AMemberType, AReturns, AResultType};
 ghost use Rattle.grammar.specs.Machine.{Locals, Members, Parameters, MoreParameters};
@@ -16,7 +16,8 @@ use token_cursor::Parser;
 
 /// The type of a local variable.
 pub fn local_type(parser: &mut Parser<'_, '_>) -> Result<LocalType, Refusal>
-    ensures ok { IfOk result (λ t. Passes 0 (ALocalType ∷ []) (t, tt) (ahead parser.old) (ahead parser.new)) }
+    ensures ok { IfOk result
+        (λ t. Passes 0 (ALocalType ∷ []) (t, tt) (ahead parser.old) (ahead parser.new)) }
     ensures err { IfErr result (λ e. Fails 0 (ALocalType ∷ []) (ahead parser.old) e) }
     ensures within { OnOk result (length (ahead parser.new) ≤ length (ahead parser.old)) }
 {
@@ -29,7 +30,8 @@ pub fn local_type(parser: &mut Parser<'_, '_>) -> Result<LocalType, Refusal>
 
 /// The type of a member.
 pub fn member_type(parser: &mut Parser<'_, '_>) -> Result<MemberType, Refusal>
-    ensures ok { IfOk result (λ t. Passes 0 (AMemberType ∷ []) (t, tt) (ahead parser.old) (ahead parser.new)) }
+    ensures ok { IfOk result
+        (λ t. Passes 0 (AMemberType ∷ []) (t, tt) (ahead parser.old) (ahead parser.new)) }
     ensures err { IfErr result (λ e. Fails 0 (AMemberType ∷ []) (ahead parser.old) e) }
     ensures within { OnOk result (length (ahead parser.new) ≤ length (ahead parser.old)) }
 {
@@ -50,7 +52,8 @@ pub fn member_type(parser: &mut Parser<'_, '_>) -> Result<MemberType, Refusal>
 
 // The type of a result.
 fn result_type(parser: &mut Parser<'_, '_>) -> Result<ResultType, Refusal>
-    ensures ok { IfOk result (λ t. Passes 0 (AResultType ∷ []) (t, tt) (ahead parser.old) (ahead parser.new)) }
+    ensures ok { IfOk result
+        (λ t. Passes 0 (AResultType ∷ []) (t, tt) (ahead parser.old) (ahead parser.new)) }
     ensures err { IfErr result (λ e. Fails 0 (AResultType ∷ []) (ahead parser.old) e) }
     ensures within { OnOk result (length (ahead parser.new) ≤ length (ahead parser.old)) }
 {
@@ -63,7 +66,8 @@ fn result_type(parser: &mut Parser<'_, '_>) -> Result<ResultType, Refusal>
 
 /// The type of a result behind its colon, if there is one.
 pub fn returns(parser: &mut Parser<'_, '_>) -> Result<Option<ResultType>, Refusal>
-    ensures ok { IfOk result (λ t. Passes 0 (AReturns ∷ []) (t, tt) (ahead parser.old) (ahead parser.new)) }
+    ensures ok { IfOk result
+        (λ t. Passes 0 (AReturns ∷ []) (t, tt) (ahead parser.old) (ahead parser.new)) }
     ensures err { IfErr result (λ e. Fails 0 (AReturns ∷ []) (ahead parser.old) e) }
     ensures within { OnOk result (length (ahead parser.new) ≤ length (ahead parser.old)) }
 {
@@ -76,10 +80,12 @@ pub fn returns(parser: &mut Parser<'_, '_>) -> Result<Option<ResultType>, Refusa
 
 // A local variable, if one begins.
 fn local<'a>(parser: &mut Parser<'_, 'a>) -> Result<Option<Local<'a>>, Refusal>
-    ensures ok { IfOk result (λ x. ReadsNext 0 Locals add_local [] x (ahead parser.old) (ahead parser.new)) }
+    ensures ok { IfOk result
+        (λ x. ReadsNext 0 Locals add_local [] x (ahead parser.old) (ahead parser.new)) }
     ensures err { IfErr result (λ e. Fails 0 (Locals ∷ []) (ahead parser.old) e) }
     ensures within { OnOk result (length (ahead parser.new) ≤ length (ahead parser.old)) }
-    ensures shorter { IfOk result (λ x. OnSome x (length (ahead parser.new) < length (ahead parser.old))) }
+    ensures shorter { IfOk result
+        (λ x. OnSome x (length (ahead parser.new) < length (ahead parser.old))) }
 {
     let Some(place) = parser.eat_placed(Keyword::Var) else {
         return Ok(None);
@@ -107,10 +113,12 @@ pub fn locals<'a>(parser: &mut Parser<'_, 'a>) -> Result<Vec<Local<'a>>, Refusal
 
 // A member, if one begins.
 fn member<'a>(parser: &mut Parser<'_, 'a>) -> Result<Option<Member<'a>>, Refusal>
-    ensures ok { IfOk result (λ x. ReadsNext 0 Members add_member [] x (ahead parser.old) (ahead parser.new)) }
+    ensures ok { IfOk result
+        (λ x. ReadsNext 0 Members add_member [] x (ahead parser.old) (ahead parser.new)) }
     ensures err { IfErr result (λ e. Fails 0 (Members ∷ []) (ahead parser.old) e) }
     ensures within { OnOk result (length (ahead parser.new) ≤ length (ahead parser.old)) }
-    ensures shorter { IfOk result (λ x. OnSome x (length (ahead parser.new) < length (ahead parser.old))) }
+    ensures shorter { IfOk result
+        (λ x. OnSome x (length (ahead parser.new) < length (ahead parser.old))) }
 {
     let Some(place) = parser.eat_placed(Keyword::Var) else {
         return Ok(None);
@@ -141,7 +149,8 @@ fn parameter<'a>(parser: &mut Parser<'_, 'a>) -> Result<Parameter<'a>, Refusal>
     ensures ok { IfOk result (λ p.
         Passes 0 (AName ∷ AMark Colon ∷ ALocalType ∷ []) (name_of p.name, (tt, (p.kind, tt)))
         (ahead parser.old) (ahead parser.new)) }
-    ensures err { IfErr result (λ e. Fails 0 (AName ∷ AMark Colon ∷ ALocalType ∷ []) (ahead parser.old) e) }
+    ensures err { IfErr result
+        (λ e. Fails 0 (AName ∷ AMark Colon ∷ ALocalType ∷ []) (ahead parser.old) e) }
     ensures shorter { OnOk result (length (ahead parser.new) < length (ahead parser.old)) }
 {
     let name = parser.expect_name()?;
@@ -156,7 +165,8 @@ fn further_parameter<'a>(parser: &mut Parser<'_, 'a>) -> Result<Option<Parameter
         ReadsNext 0 MoreParameters add_parameter [] x (ahead parser.old) (ahead parser.new)) }
     ensures err { IfErr result (λ e. Fails 0 (MoreParameters ∷ []) (ahead parser.old) e) }
     ensures within { OnOk result (length (ahead parser.new) ≤ length (ahead parser.old)) }
-    ensures shorter { IfOk result (λ x. OnSome x (length (ahead parser.new) < length (ahead parser.old))) }
+    ensures shorter { IfOk result
+        (λ x. OnSome x (length (ahead parser.new) < length (ahead parser.old))) }
 {
     if !parser.eat_sign(Sign::Comma) {
         return Ok(None);
@@ -168,7 +178,8 @@ fn further_parameter<'a>(parser: &mut Parser<'_, 'a>) -> Result<Option<Parameter
 /// Parameters, with commas between them, if there are any.
 pub fn parameters<'a>(parser: &mut Parser<'_, 'a>) -> Result<Vec<Parameter<'a>>, Refusal>
     ensures ok { IfOk result (λ v.
-        Passes 0 (Parameters ∷ []) (map parameter_of v.items, tt) (ahead parser.old) (ahead parser.new)) }
+        Passes 0 (Parameters ∷ []) (map parameter_of v.items, tt) (ahead parser.old)
+        (ahead parser.new)) }
     ensures err { IfErr result (λ e. Fails 0 (Parameters ∷ []) (ahead parser.old) e) }
     ensures within { OnOk result (length (ahead parser.new) ≤ length (ahead parser.old)) }
 {

@@ -15,7 +15,8 @@ use token_cursor::{Parser, refused};
 
 // The recover part, if there is one.
 fn recover<'a>(parser: &mut Parser<'_, 'a>) -> Result<Option<Recover<'a>>, Refusal>
-    ensures ok { IfOk result (λ r. Passes 0 (ARecover ∷ []) (recover_of r, tt) (ahead parser.old) (ahead parser.new)) }
+    ensures ok { IfOk result
+        (λ r. Passes 0 (ARecover ∷ []) (recover_of r, tt) (ahead parser.old) (ahead parser.new)) }
     ensures err { IfErr result (λ e. Fails 0 (ARecover ∷ []) (ahead parser.old) e) }
     ensures within { OnOk result (length (ahead parser.new) ≤ length (ahead parser.old)) }
 {
@@ -31,10 +32,12 @@ fn recover<'a>(parser: &mut Parser<'_, 'a>) -> Result<Option<Recover<'a>>, Refus
 
 // A monitor, if one begins.
 fn monitor<'a>(parser: &mut Parser<'_, 'a>) -> Result<Option<Monitor<'a>>, Refusal>
-    ensures ok { IfOk result (λ m. ReadsNext 0 Monitors add_monitor [] m (ahead parser.old) (ahead parser.new)) }
+    ensures ok { IfOk result
+        (λ m. ReadsNext 0 Monitors add_monitor [] m (ahead parser.old) (ahead parser.new)) }
     ensures err { IfErr result (λ e. Fails 0 (Monitors ∷ []) (ahead parser.old) e) }
     ensures within { OnOk result (length (ahead parser.new) ≤ length (ahead parser.old)) }
-    ensures shorter { IfOk result (λ m. OnSome m (length (ahead parser.new) < length (ahead parser.old))) }
+    ensures shorter { IfOk result
+        (λ m. OnSome m (length (ahead parser.new) < length (ahead parser.old))) }
 {
     let Some(place) = parser.eat_placed(Keyword::Monitor) else {
         return Ok(None);

@@ -30,7 +30,8 @@ pub fn body<'a>(parser: &mut Parser<'_, 'a>) -> Result<Body<'a>, Refusal>
 // A procedure, behind its first word.
 fn procedure<'a>(parser: &mut Parser<'_, 'a>, place: Place) -> Result<Procedure<'a>, Refusal>
     ensures ok { IfOk result (λ p.
-        Passes 0 (a_procedure []) (procedure_trees (procedure_of p)) (ahead parser.old) (ahead parser.new)) }
+        Passes 0 (a_procedure []) (procedure_trees (procedure_of p)) (ahead parser.old)
+        (ahead parser.new)) }
     ensures place { IfOk result (λ p. p.place ≡ place) }
     ensures err { IfErr result (λ e. Fails 0 (a_procedure []) (ahead parser.old) e) }
     ensures shorter { OnOk result (length (ahead parser.new) < length (ahead parser.old)) }
@@ -70,10 +71,12 @@ fn procedure<'a>(parser: &mut Parser<'_, 'a>, place: Place) -> Result<Procedure<
 
 // An external procedure, if one begins.
 fn external_procedure<'a>(parser: &mut Parser<'_, 'a>) -> Result<Option<Procedure<'a>>, Refusal>
-    ensures ok { IfOk result (λ p. ReadsNext 0 Procedures add_procedure [] p (ahead parser.old) (ahead parser.new)) }
+    ensures ok { IfOk result
+        (λ p. ReadsNext 0 Procedures add_procedure [] p (ahead parser.old) (ahead parser.new)) }
     ensures err { IfErr result (λ e. Fails 0 (Procedures ∷ []) (ahead parser.old) e) }
     ensures within { OnOk result (length (ahead parser.new) ≤ length (ahead parser.old)) }
-    ensures shorter { IfOk result (λ p. OnSome p (length (ahead parser.new) < length (ahead parser.old))) }
+    ensures shorter { IfOk result
+        (λ p. OnSome p (length (ahead parser.new) < length (ahead parser.old))) }
 {
     let Some(place) = parser.eat_placed(Keyword::Procedure) else {
         return Ok(None);
@@ -85,7 +88,8 @@ fn external_procedure<'a>(parser: &mut Parser<'_, 'a>) -> Result<Option<Procedur
 /// External procedures, as many as there are.
 pub fn procedures<'a>(parser: &mut Parser<'_, 'a>) -> Result<Vec<Procedure<'a>>, Refusal>
     ensures ok { IfOk result (λ v.
-        Passes 0 (Procedures ∷ []) (map procedure_of v.items, tt) (ahead parser.old) (ahead parser.new)) }
+        Passes 0 (Procedures ∷ []) (map procedure_of v.items, tt) (ahead parser.old)
+        (ahead parser.new)) }
     ensures err { IfErr result (λ e. Fails 0 (Procedures ∷ []) (ahead parser.old) e) }
     ensures within { OnOk result (length (ahead parser.new) ≤ length (ahead parser.old)) }
 {
@@ -101,10 +105,12 @@ fn monitor_procedure<'a>(
     parser: &mut Parser<'_, 'a>,
 ) -> Result<Option<MonitorProcedure<'a>>, Refusal>
     ensures ok { IfOk result (λ p.
-        ReadsNext 0 MonitorProcedures add_monitor_procedure [] p (ahead parser.old) (ahead parser.new)) }
+        ReadsNext 0 MonitorProcedures add_monitor_procedure [] p (ahead parser.old)
+        (ahead parser.new)) }
     ensures err { IfErr result (λ e. Fails 0 (MonitorProcedures ∷ []) (ahead parser.old) e) }
     ensures within { OnOk result (length (ahead parser.new) ≤ length (ahead parser.old)) }
-    ensures shorter { IfOk result (λ p. OnSome p (length (ahead parser.new) < length (ahead parser.old))) }
+    ensures shorter { IfOk result
+        (λ p. OnSome p (length (ahead parser.new) < length (ahead parser.old))) }
 {
     let Some(access) = access_of(parser.peek().kind) else {
         return Ok(None);

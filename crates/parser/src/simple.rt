@@ -36,7 +36,8 @@ pub fn into_name<'a>(parser: &mut Parser<'_, 'a>, depth: u8) -> Result<Option<Na
 pub fn ending(parser: &mut Parser<'_, '_>, depth: u8, word: Keyword) -> Result<(), Refusal>
     requires depth { depth < most_nestings }
     requires word { (place : PlaceOf) → keyword_lexeme word place ≡ Word word }
-    ensures ok { OnOk result (Passes depth (AWord word ∷ Closed ∷ AMark S.Semicolon ∷ []) (tt, (tt, (tt, tt)))
+    ensures ok { OnOk result
+        (Passes depth (AWord word ∷ Closed ∷ AMark S.Semicolon ∷ []) (tt, (tt, (tt, tt)))
         (ahead parser.old) (ahead parser.new)) }
     ensures err { IfErr result (λ e.
         Fails depth (AWord word ∷ Closed ∷ AMark S.Semicolon ∷ []) (ahead parser.old) e) }

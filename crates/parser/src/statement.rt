@@ -29,7 +29,8 @@ use token_cursor::{Parser, refused};
 pub fn statements<'a>(parser: &mut Parser<'_, 'a>, depth: u8) -> Result<Vec<Statement<'a>>, Refusal>
     requires { depth ≤ most_nestings }
     ensures ok { IfOk result (λ v.
-        Passes depth (Statements ∷ []) (statements_in v.items, tt) (ahead parser.old) (ahead parser.new)) }
+        Passes depth (Statements ∷ []) (statements_in v.items, tt) (ahead parser.old)
+        (ahead parser.new)) }
     ensures err { IfErr result (λ e. Fails depth (Statements ∷ []) (ahead parser.old) e) }
     ensures within { OnOk result (length (ahead parser.new) ≤ length (ahead parser.old)) }
 {
@@ -45,10 +46,12 @@ pub fn statements<'a>(parser: &mut Parser<'_, 'a>, depth: u8) -> Result<Vec<Stat
 fn statement<'a>(parser: &mut Parser<'_, 'a>, depth: u8) -> Result<Option<Statement<'a>>, Refusal>
     requires { depth ≤ most_nestings }
     ensures ok { IfOk result (λ s.
-        ReadsNext depth Statements add_statement NoStatements s (ahead parser.old) (ahead parser.new)) }
+        ReadsNext depth Statements add_statement NoStatements s (ahead parser.old)
+        (ahead parser.new)) }
     ensures err { IfErr result (λ e. Fails depth (Statements ∷ []) (ahead parser.old) e) }
     ensures within { OnOk result (length (ahead parser.new) ≤ length (ahead parser.old)) }
-    ensures shorter { IfOk result (λ s. OnSome s (length (ahead parser.new) < length (ahead parser.old))) }
+    ensures shorter { IfOk result
+        (λ s. OnSome s (length (ahead parser.new) < length (ahead parser.old))) }
 {
     let Some(start) = start_of(parser.peek()) else {
         return Ok(None);
@@ -121,10 +124,13 @@ fn branches<'a>(
     depth: u8,
 ) -> Result<(Vec<Statement<'a>>, Option<Vec<Statement<'a>>>), Refusal>
     requires { depth < most_nestings }
-    ensures ok { IfOk result (λ p. Passes depth (Statements ∷ AnElse ∷ AWord K.Endif ∷ Closed ∷ AMark S.Semicolon ∷ [])
-        (statements_in p.0.items, (part_in p.1, (tt, (tt, (tt, tt))))) (ahead parser.old) (ahead parser.new)) }
+    ensures ok { IfOk result
+        (λ p. Passes depth (Statements ∷ AnElse ∷ AWord K.Endif ∷ Closed ∷ AMark S.Semicolon ∷ [])
+        (statements_in p.0.items, (part_in p.1, (tt, (tt, (tt, tt))))) (ahead parser.old)
+        (ahead parser.new)) }
     ensures err { IfErr result (λ e.
-        Fails depth (Statements ∷ AnElse ∷ AWord K.Endif ∷ Closed ∷ AMark S.Semicolon ∷ []) (ahead parser.old) e) }
+        Fails depth (Statements ∷ AnElse ∷ AWord K.Endif ∷ Closed ∷ AMark S.Semicolon ∷ [])
+        (ahead parser.old) e) }
     ensures within { OnOk result (length (ahead parser.new) ≤ length (ahead parser.old)) }
 {
     let inner = depth + 1;
@@ -219,7 +225,8 @@ fn else_statements<'a>(
     depth: u8,
 ) -> Result<Option<Vec<Statement<'a>>>, Refusal>
     requires { depth ≤ most_nestings }
-    ensures ok { IfOk result (λ p. Passes depth (AnElse ∷ []) (part_in p, tt) (ahead parser.old) (ahead parser.new)) }
+    ensures ok { IfOk result
+        (λ p. Passes depth (AnElse ∷ []) (part_in p, tt) (ahead parser.old) (ahead parser.new)) }
     ensures err { IfErr result (λ e. Fails depth (AnElse ∷ []) (ahead parser.old) e) }
     ensures within { OnOk result (length (ahead parser.new) ≤ length (ahead parser.old)) }
 {

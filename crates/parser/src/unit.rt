@@ -1,6 +1,6 @@
 // A whole unit.
 
-ghost use Rattle.std.specs.Prelude.{◌≡◌, ◌≤◌, ◌⊎◌, [], ◌∷◌, List, IfOk, IfErr, MatchResult, OnOk};
+ghost use Rattle.std.specs.Prelude.{◌≡◌, ◌≤◌, ◌⊎◌, [], ◌∷◌, IfOk, IfErr, MatchResult, OnOk};
 ghost use Rattle.scanner.specs.declared.refusal.RefusalKind.TheVariants.{Memory};
 ghost use Rattle.scanner.specs.declared.token.Keyword.TheVariants as K;
 ghost use Rattle.scanner.specs.declared.token.Sign.TheVariants as S;
@@ -32,7 +32,8 @@ fn heading<'a>(parser: &mut Parser<'_, 'a>) -> Result<Name<'a>, Refusal>
     ensures ok { IfOk result (λ n.
         Passes 0 (AWord K.Program ∷ AName ∷ AMark S.Semicolon ∷ []) (tt, (name_of n, (tt, tt)))
         (ahead parser.old) (ahead parser.new)) }
-    ensures err { IfErr result (λ e. Fails 0 (AWord K.Program ∷ AName ∷ AMark S.Semicolon ∷ []) (ahead parser.old) e) }
+    ensures err { IfErr result
+        (λ e. Fails 0 (AWord K.Program ∷ AName ∷ AMark S.Semicolon ∷ []) (ahead parser.old) e) }
 {
     parser.expect_keyword(Keyword::Program)?;
     let name = parser.expect_name()?;
@@ -54,8 +55,10 @@ fn main_part<'a>(parser: &mut Parser<'_, 'a>) -> Result<Main<'a>, Refusal>
 
 // The last sign, and the end of the text.
 fn finish(parser: &mut Parser<'_, '_>) -> Result<(), Refusal>
-    ensures ok { OnOk result (reads most_nestings (ahead parser.old) (AMark S.Dot ∷ []) ≡ Read (tt, tt)) }
-    ensures err { IfErr result (λ e. reads most_nestings (ahead parser.old) (AMark S.Dot ∷ []) ≡ Refused e) }
+    ensures ok { OnOk result (reads most_nestings (ahead parser.old) (AMark S.Dot ∷ [])
+        ≡ Read (tt, tt)) }
+    ensures err { IfErr result (λ e. reads most_nestings (ahead parser.old) (AMark S.Dot ∷ [])
+        ≡ Refused e) }
 {
     parser.expect_sign(Sign::Dot)?;
     parser.expect_end()?;
@@ -64,8 +67,10 @@ fn finish(parser: &mut Parser<'_, '_>) -> Result<(), Refusal>
 
 // A whole unit, and the end of the text.
 fn unit<'a>(parser: &mut Parser<'_, 'a>) -> Result<Unit<'a>, Refusal>
-    ensures ok { IfOk result (λ u. reads most_nestings (ahead parser.old) a_unit ≡ Read (unit_trees (unit_of u))) }
-    ensures err { IfErr result (λ e. (e.kind ≡ Memory) ⊎ (reads most_nestings (ahead parser.old) a_unit ≡ Refused e)) }
+    ensures ok { IfOk result (λ u. reads most_nestings (ahead parser.old) a_unit
+        ≡ Read (unit_trees (unit_of u))) }
+    ensures err { IfErr result (λ e. (e.kind ≡ Memory)
+        ⊎ (reads most_nestings (ahead parser.old) a_unit ≡ Refused e)) }
 {
     let name = heading(parser)?;
     let monitors = monitors(parser)?;
@@ -104,7 +109,8 @@ pub fn parse<'a>(alloc: Global, tokens: &[Token<'a>]) -> Result<Unit<'a>, Refusa
     ensures tree { IfOk result (λ u. unit_text (unit_of u) ≡ lexemes tokens.now) }
     ensures within { IfOk result (λ u. unit_nesting (unit_of u) ≤ most_nestings) }
     // The tokens of a program are refused for memory alone.
-    ensures only { (t : UnitTree) → unit_text t ≡ lexemes tokens.now → unit_nesting t ≤ most_nestings
+    ensures only { (t : UnitTree) → unit_text t ≡ lexemes tokens.now
+        → unit_nesting t ≤ most_nestings
         → MatchResult result (λ u. unit_of u ≡ t) (λ e. e ≡ out_of_memory) }
     ensures refusal { IfErr result (λ e. (e ≡ out_of_memory) ⊎ IsRefusalOf tokens.now e) }
 {

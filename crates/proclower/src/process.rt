@@ -36,7 +36,8 @@ fn return_mark(role: Role, outcome: Option<ValueType>) -> Mark
 
 /// Behind its arguments: a process of so many arguments is forked at a place, and its handle goes into a local.
 pub fn fork(code: &mut Vec<Marked>, place: u32, arguments: u32, into: u32) -> Result<(), AllocError>
-    ensures { OnOk result (code.new.items ≡ code.old.items ++ processes.fork_code place arguments into) }
+    ensures { OnOk result (code.new.items
+        ≡ code.old.items ++ processes.fork_code place arguments into) }
 {
     append(code, Mark::Fork, Instr::Fork(place, arguments))?;
     append(code, Mark::Plain, Instr::SetLocal(Slot::Local(into)))
@@ -49,7 +50,8 @@ pub fn call(
     into: Option<u32>,
     outcome: Option<ValueType>,
 ) -> Result<(), AllocError>
-    ensures { OnOk result (code.new.items ≡ code.old.items ++ processes.call_code place into outcome) }
+    ensures { OnOk result (code.new.items
+        ≡ code.old.items ++ processes.call_code place into outcome) }
 {
     append(code, Mark::Call, Instr::Call(place))?;
     match (into, outcome) {
@@ -62,7 +64,8 @@ pub fn call(
 // The first part of `join`, at this place: the claim, and the sleep up to the end.
 fn await_end(code: &mut Vec<Marked>, start: u32) -> Result<(), AllocError>
     requires { start ≤ 2 ^ 17 }
-    ensures { OnOk result (code.new.items ≡ code.old.items ++ rebase_all start processes.await_code) }
+    ensures { OnOk result (code.new.items
+        ≡ code.old.items ++ rebase_all start processes.await_code) }
 {
     let id = Instr::ProcessAddress(ProcessWord::Id);
     let claim = Instr::ProcessAddress(ProcessWord::Claim);
@@ -128,7 +131,8 @@ fn take_result(code: &mut Vec<Marked>, into: Option<u32>, start: u32) -> Result<
 // The same as `join`, at this place.
 fn join_from(code: &mut Vec<Marked>, into: Option<u32>, start: u32) -> Result<(), AllocError>
     requires { start ≤ 2 ^ 17 }
-    ensures { OnOk result (code.new.items ≡ code.old.items ++ rebase_all start (processes.join_code into)) }
+    ensures { OnOk result (code.new.items
+        ≡ code.old.items ++ rebase_all start (processes.join_code into)) }
 {
     await_end(code, start)?;
     take_result(code, into, start)
@@ -147,7 +151,8 @@ pub fn join(code: &mut Vec<Marked>, into: Option<u32>) -> Result<(), AllocError>
 
 /// The return of a procedure, or of a RECOVER or the main part, with or without a result.
 pub fn ret(code: &mut Vec<Marked>, role: Role, outcome: Option<ValueType>) -> Result<(), AllocError>
-    ensures { OnOk result (code.new.items ≡ code.old.items ++ processes.return_code role outcome ∷ []) }
+    ensures { OnOk result (code.new.items
+        ≡ code.old.items ++ processes.return_code role outcome ∷ []) }
 {
     let instruction = match outcome {
         None => Instr::Ret,

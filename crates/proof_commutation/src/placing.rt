@@ -10,7 +10,9 @@ ghost use Rattle.proof_commutation.specs.Placed.{LeadsMarked, Marked, action_of,
 /// process does the same in it, in the same order.
 pub fn ordering_laws()
     ensures same_end { (p : Program) (actions : List Marked) (s : SourceState)
-        → WellFormed p → LeadsMarked p (opening p) actions s → IsRun p (placed_actions s.table.made actions) s }
+        → WellFormed p → LeadsMarked p (opening p) actions s
+        → IsRun p (placed_actions s.table.made actions) s }
     ensures same_actions { (n t : ℕ) (actions : List Marked)
-        → 0 < t → t ≤ n → kinds_of t (placed_actions n actions) ≡ kinds_of t (map action_of actions) }
+        → 0 < t → t ≤ n → kinds_of t (placed_actions n actions)
+        ≡ kinds_of t (map action_of actions) }
 {}

@@ -45,7 +45,7 @@ use Rattle.protocol.proofs.Processes.{is_made, point_made}
 use Rattle.proof_thread.specs.Variables.{variable_address}
 use Rattle.proof_thread.specs.Walks.{View, WalksWithin, Walks as WalkData, stays, goes, loads, empty_view}
 use Rattle.proof_thread.specs.Following.{Build, own_of}
-use Rattle.proof_thread.specs.Completing.{Completes, return_request, view_of}
+use Rattle.proof_thread.specs.Completing.{Completes}
 use Rattle.proof_thread.specs.Completing as F
 use Rattle.refinement.specs.Seen.{end_by, machine_end, source_end, process_end, outcome_of_end}
 use Rattle.refinement.specs.Built.{build_of, marked_image}

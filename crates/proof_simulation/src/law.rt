@@ -39,20 +39,27 @@ pub fn code_refines()
 /// sleep on the word of the condition. Where it tracks the machine, the same is printed, variables have the same
 /// values, and processes the same ends.
 pub fn source_follows()
-    ensures opens { (p : Program) (w : WellFormed p) → Tracks p w 0 (opening_state (code_of p)) (opening p) }
+    ensures opens { (p : Program) (w : WellFormed p)
+        → Tracks p w 0 (opening_state (code_of p)) (opening p) }
     ensures tracks { (p : Program) (w : WellFormed p) (steps : ℕ) (s : State) (a : SourceState)
-        → Tracks p w steps s a → (l : Step) (s' : State) (st : IsStep (code_of p) s l s') (done : Bool)
-        → MovesSo p done s l.thread l.woken (look (code_of p) l.thread st.thread) s' → steps + 1 < 2 ^ 32
+        → Tracks p w steps s a
+        → (l : Step) (s' : State) (st : IsStep (code_of p) s l s') (done : Bool)
+        → MovesSo p done s l.thread l.woken (look (code_of p) l.thread st.thread) s'
+        → steps + 1 < 2 ^ 32
         → (done ≡ false → Tracks p w (suc steps) s' a)
         × (done ≡ true → (ks : List Kind) × HasDeferred p w (suc steps) s' l.thread a ks) }
-    ensures catches_up { (p : Program) (w : WellFormed p) (steps : ℕ) (s : State) (t : ℕ) (a : SourceState) (k : Kind)
+    ensures catches_up { (p : Program) (w : WellFormed p) (steps : ℕ) (s : State) (t : ℕ)
+        (a : SourceState) (k : Kind)
         (ks : List Kind) → HasDeferred p w steps s t a (k ∷ ks)
         → (label : Label) × (k ≡ kind_of label) × (is_internal label ≡ true) × CanTake p a t label
         × ((a' : SourceState) → IsSourceStep p a (act t k) a' → HasDeferred p w steps s t a' ks) }
-    ensures takes_visible { (p : Program) (w : WellFormed p) (steps : ℕ) (s : State) (t : ℕ) (a : SourceState)
+    ensures takes_visible { (p : Program) (w : WellFormed p) (steps : ℕ) (s : State) (t : ℕ)
+        (a : SourceState)
         → HasDeferred p w steps s t a []
-        → (label : Label) × (is_internal label ≡ false) × CanTake p a t label × Resumes p s a.table label
-        × ((a' : SourceState) → IsSourceStep p a (act t (kind_of label)) a' → Tracks p w steps s a') }
+        → (label : Label) × (is_internal label ≡ false) × CanTake p a t label
+        × Resumes p s a.table label
+        × ((a' : SourceState) → IsSourceStep p a (act t (kind_of label)) a'
+        → Tracks p w steps s a') }
     ensures output { (p : Program) (w : WellFormed p) (steps : ℕ) (s : State) (a : SourceState)
         → Tracks p w steps s a → s.output ≡ a.printed }
     ensures variables { (p : Program) (w : WellFormed p) (steps : ℕ) (s : State) (a : SourceState)
@@ -73,26 +80,32 @@ pub fn source_waits()
         → (o : Tracks p w 0 (opening_state (code_of p)) (opening p)) × (o.deferred ≡ (λ t. [])) }
     ensures waits { (p : Program) (w : WellFormed p) (steps : ℕ) (s : State) (a : SourceState)
         (r : Tracks p w steps s a)
-        (l : Step) (s' : State) (st : IsStep (code_of p) s l s') (done : Bool) (deferral : Option Kind)
+        (l : Step) (s' : State) (st : IsStep (code_of p) s l s') (done : Bool)
+        (deferral : Option Kind)
         → StepsSo p done deferral (mark_of (marks_of p) st.thread) s l.thread l.woken
         (look (code_of p) l.thread st.thread) s'
         → steps + 1 < 2 ^ 32
         → (done ≡ false → (n : Tracks p w (suc steps) s' a)
         × (n.deferred ≡ put r.deferred l.thread (deferred_then deferral (r.deferred l.thread))))
-        × (done ≡ true → (o : HasDeferred p w (suc steps) s' l.thread a (r.deferred l.thread)) × (o.deferred ≡ r.deferred)) }
-    ensures catches_up { (p : Program) (w : WellFormed p) (steps : ℕ) (s : State) (t : ℕ) (a : SourceState) (k : Kind)
+        × (done ≡ true → (o : HasDeferred p w (suc steps) s' l.thread a (r.deferred l.thread))
+        × (o.deferred ≡ r.deferred)) }
+    ensures catches_up { (p : Program) (w : WellFormed p) (steps : ℕ) (s : State) (t : ℕ)
+        (a : SourceState) (k : Kind)
         (ks : List Kind) (o : HasDeferred p w steps s t a (k ∷ ks))
         → (label : Label) × (k ≡ kind_of label) × (is_internal label ≡ true) × CanTake p a t label
         × ((a' : SourceState) → IsSourceStep p a (act t k) a'
         → (n : HasDeferred p w steps s t a' ks) × (n.deferred ≡ put o.deferred t ks)) }
-    ensures takes_visible { (p : Program) (w : WellFormed p) (steps : ℕ) (s : State) (t : ℕ) (a : SourceState)
+    ensures takes_visible { (p : Program) (w : WellFormed p) (steps : ℕ) (s : State) (t : ℕ)
+        (a : SourceState)
         (o : HasDeferred p w steps s t a [])
-        → (label : Label) × (is_internal label ≡ false) × CanTake p a t label × Resumes p s a.table label
+        → (label : Label) × (is_internal label ≡ false) × CanTake p a t label
+        × Resumes p s a.table label
         × ((a' : SourceState) → IsSourceStep p a (act t (kind_of label)) a'
         → (n : Tracks p w steps s a') × (n.deferred ≡ o.deferred)) }
     ensures finishes { (p : Program) (w : WellFormed p) (steps : ℕ) (s : State) (a : SourceState)
         (r : Tracks p w steps s a)
-        → (source : SourceState) × Leads p a (actions_up_to s.made r.deferred) source × Corresponds p w steps s source }
+        → (source : SourceState) × Leads p a (actions_up_to s.made r.deferred) source
+        × Corresponds p w steps s source }
 {}
 
 /// The run of the source that explains a run of the machine is a function of the machine's run (`explanation`): at a
@@ -105,7 +118,8 @@ pub fn run_explains()
     ensures reached { (p : Program) (w : WellFormed p) (steps : List Step) (s : State)
         (run : MachineRun (code_of p) steps s)
         → length steps < 2 ^ 32 → IsReached p w (length steps) s (progress p steps s run) }
-    ensures due { (p : Program) (w : WellFormed p) (steps : ℕ) (s : State) (g : Progress) → IsReached p w steps s g
+    ensures due { (p : Program) (w : WellFormed p) (steps : ℕ) (s : State) (g : Progress)
+        → IsReached p w steps s g
         → (l : Step) (s' : State) (st : IsStep (code_of p) s l s') → steps + 1 < 2 ^ 32
         → visible_step p (look (code_of p) l.thread st.thread) (answer_in s s' l.thread l.woken
         (look (code_of p) l.thread st.thread) st.moves) ≡ true → IsDue p s' l.thread g }

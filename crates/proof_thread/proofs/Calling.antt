@@ -18,14 +18,14 @@ use Rattle.locals.specs.declared.frame.Frame.{Frame as MachineFrame}
 use Rattle.locals.specs.Threads.{Thread, Runs, Dies, fresh}
 use Rattle.locals.specs.Looks.{Goes, if_so}
 use Rattle.meaning.specs.Values.{Variables, EvaluatedAll, Values, FailsAll, evaluate_all}
-use Rattle.meaning.specs.Labels.{Faulted, Alone}
+use Rattle.meaning.specs.Labels.{Alone}
 use Rattle.meaning.specs.Labels as L
 use Rattle.meaning.specs.Processes.{Caller, Process, Before, goes_on, begins, opening_frame, frame_of, zeros}
 use Rattle.meaning.specs.Offers.{Does, Nothing, offer, with_values}
 use Rattle.proof_thread.specs.Typed.{HaveValues}
 use Rattle.proof_thread.specs.Walks.{StandAt, WalksWithin}
 use Rattle.proof_thread.specs.Following.{Build, CallersStand, is_called, Implements, taking_code}
-use Rattle.proof_thread.specs.Completing.{Completes, Proceeds}
+use Rattle.proof_thread.specs.Completing.{Proceeds}
 use Rattle.proof_thread.specs.Completing as F
 use Rattle.proof_thread.specs.Builds.{IsBuild}
 use Rattle.proof_thread.proofs.Walking.{front_stands, back_stands, look_here}

@@ -23,7 +23,7 @@ use Rattle.proof_thread.specs.Evaluation.{Evaluates}
 use Rattle.proof_thread.specs.Walks.{View, WalksWithin, Gives, stays}
 use Rattle.proof_thread.specs.Following.{Build, IsSound, AreSound, CallersStand, Implements, Running, StepsWithin, Stands}
 use Rattle.proof_thread.specs.Following.{runs}
-use Rattle.proof_thread.specs.Completing.{Completes, Proceeds, view_of}
+use Rattle.proof_thread.specs.Completing.{Proceeds, view_of}
 use Rattle.proof_thread.specs.Completing as F
 use Rattle.proof_thread.proofs.Walking.{within_on, wider}
 use Rattle.proof_thread.proofs.Bodies.{Head}

@@ -28,7 +28,7 @@ use Rattle.locals.specs.declared.frame.Locals.{Locals}
 use Rattle.locals.specs.declared.frame.Frame.{Frame}
 use Rattle.locals.specs.Threads.{Thread, Runs, Dies}
 use Rattle.locals.specs.Looks.{Goes, look, Then, Checks, at_place, index_effect}
-use Rattle.meaning.specs.Values.{Variables, Evaluated, Value, Fails, and_then, evaluate, local_value, or_zero, unary}
+use Rattle.meaning.specs.Values.{Variables, Evaluated, Value, evaluate, local_value, or_zero, unary}
 use Rattle.meaning.specs.Values.{both, at_index, index_in}
 use Rattle.meaning.specs.Values as v
 use Rattle.proof_thread.specs.Typed.{HasValue, HaveValues, HoldValues}

@@ -23,7 +23,7 @@ use Rattle.locals.specs.declared.frame.Frame.{Frame as MachineFrame}
 use Rattle.locals.specs.Threads.{Thread, Runs, Dies, with_local}
 use Rattle.locals.specs.Looks.{Asks, AskFork, look, thread_after_try}
 use Rattle.meaning.specs.Values.{Variables, EvaluatedAll, Values, FailsAll, evaluate_all}
-use Rattle.meaning.specs.Processes.{Caller, Process, Before, Dying, goes_on, begins, opening_frame, frame_of, zeros}
+use Rattle.meaning.specs.Processes.{Caller, Process, Before, goes_on, begins, opening_frame, frame_of, zeros}
 use Rattle.meaning.specs.Processes as P
 use Rattle.meaning.specs.Offers.{MakesOne, offer, with_values, dies}
 use Rattle.proof_thread.specs.Typed.{HaveValues}

@@ -28,7 +28,7 @@ use Rattle.meaning.specs.Offers.{offer, claims}
 use Rattle.proof_thread.specs.Evaluation.{OfType}
 use Rattle.proof_thread.specs.Walks.{StandAt, WalksWithin, empty_view}
 use Rattle.proof_thread.specs.Following.{Build, Implements, follows, Stands, part_nesting}
-use Rattle.proof_thread.specs.Completing.{GoesAborted, Awaits, Completes, Proceeds, join_steps}
+use Rattle.proof_thread.specs.Completing.{GoesAborted, Awaits, Proceeds, join_steps}
 use Rattle.proof_thread.specs.Completing as F
 use Rattle.proof_thread.proofs.Words.{signed_fits}
 use Rattle.proof_thread.proofs.Walking.{front_stands, back_stands, one_step, look_here, wider, within_on}

@@ -17,7 +17,7 @@ use Rattle.locals.specs.declared.frame.Locals.{Locals}
 use Rattle.locals.specs.declared.frame.Frame.{Frame as MachineFrame}
 use Rattle.locals.specs.Threads.{Thread, Runs, Dies, with_local}
 use Rattle.meaning.specs.Values.{Variables, Value, evaluate}
-use Rattle.meaning.specs.Labels.{Faulted, Alone}
+use Rattle.meaning.specs.Labels.{Alone}
 use Rattle.meaning.specs.Labels as L
 use Rattle.meaning.specs.Processes.{Caller, Process, Before, goes_on}
 use Rattle.meaning.specs.Offers.{Does, Writes}

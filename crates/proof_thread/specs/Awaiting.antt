@@ -8,7 +8,7 @@ use Rattle.program.specs.Trees.{Part, NoPart, SomePart, followed_by}
 use Rattle.locals.specs.Threads.{Thread, Dies}
 use Rattle.locals.specs.Looks.{Request, Asks, AskLoad, AskWait, AskReturn}
 use Rattle.locals.specs.Looks.{AskReturnValue, look}
-use Rattle.meaning.specs.Labels.{Faulted, Alone, Kind, Exits, Waits, Stores}
+use Rattle.meaning.specs.Labels.{Kind}
 use Rattle.meaning.specs.Labels as L
 use Rattle.meaning.specs.Processes.{Frame, Caller}
 use Rattle.meaning.specs.Processes.{goes_on, with_result}

@@ -11,7 +11,8 @@ ghost use Rattle.program.specs.Scope.{Scope};
 /// any operands beneath, as long as the variables of the own monitor don't change. Handles are those of so many
 /// processes that were `made`.
 pub fn expressions_evaluate()
-    ensures { (image : MarkedImage) (made t : ℕ) (s : Scope) (v : Variables) (values : List ℤ) (l : Locals)
+    ensures { (image : MarkedImage) (made t : ℕ) (s : Scope) (v : Variables) (values : List ℤ)
+        (l : Locals)
         → IsEvaluated made s v values l → Evaluates image made t s v values l }
 {}
 

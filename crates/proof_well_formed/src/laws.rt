@@ -19,6 +19,7 @@ pub fn faultless_units_are_well_formed()
 
 /// The numbers of a unit that a text says are within their limit, since those of its tokens are.
 pub fn units_of_texts_have_numbers()
-    ensures { (text : List ℕ) (ts : List TokenOf) (u : UnitTree) → IsTokens text (views ts) → unit_text u ≡ lexemes ts
+    ensures { (text : List ℕ) (ts : List TokenOf) (u : UnitTree) → IsTokens text (views ts)
+        → unit_text u ≡ lexemes ts
         → HasNumbers u }
 {}

@@ -21,14 +21,17 @@ ghost use Rattle.protocol.specs.Calls.{CallsFollow};
 /// Each run of moves is explained by the source: the labels that it carries, in order, are allowed one after another,
 /// to a table that is that of the last world, in which no wake was lost.
 pub fn no_wake_lost()
-    ensures { (ss : List (ℕ × Move)) (w : World) → Leads opening_world ss w → IsExplainedByMoves ss w }
+    ensures { (ss : List (ℕ × Move)) (w : World) → Leads opening_world ss w
+        → IsExplainedByMoves ss w }
 {}
 
 /// Where a run has come, each step of a thread inside a template is a move: what its point asks for, and the shared
 /// words answer, leads to the next point of the template.
 pub fn every_step_is_a_move()
-    ensures { (ss : List (ℕ × Move)) (w : World) → Leads opening_world ss w → (t : ℕ) (p : Point) (r : ℕ) (w' : World) →
-        0 < t → t ≤ w.made → w.asleep t ≡ None → (w.at t).point ≡ p → Serves w t p (request t p) r w'
+    ensures { (ss : List (ℕ × Move)) (w : World) → Leads opening_world ss w
+        → (t : ℕ) (p : Point) (r : ℕ) (w' : World) →
+        0 < t → t ≤ w.made → w.asleep t ≡ None → (w.at t).point ≡ p
+        → Serves w t p (request t p) r w'
         → IsMove w t p r w' }
 {}
 
@@ -56,7 +59,8 @@ pub fn exits_follow()
 /// Over a flat memory that shares words and sleepers with a world, a wait that sleeps, a wake of one and a requeue of
 /// all are what the protocol's words serve.
 pub fn calls_follow()
-    ensures { (place : Cell → ℕ) (valid : Cell → Bool) → IsApart place valid → CallsFollow place valid }
+    ensures { (place : Cell → ℕ) (valid : Cell → Bool) → IsApart place valid
+        → CallsFollow place valid }
 {}
 
 /// Each step of robust exit leads to the phase of the protocol's next point, before the limit of a walk.

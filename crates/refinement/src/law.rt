@@ -10,6 +10,7 @@ ghost use Rattle.refinement.specs.Built.{build_of};
 pub fn code_of_processes_follows()
     ensures stands { (p : Program) (w : WellFormed p) → (made : ℕ) → IsBuild (build_of p w made) }
     ensures goes { (p : Program) (w : WellFormed p) → (made : ℕ) → IsFollowed (build_of p w made) }
-    ensures settles { (p : Program) (w : WellFormed p) → (made : ℕ) → IsSettled (build_of p w made) }
+    ensures settles { (p : Program) (w : WellFormed p) → (made : ℕ)
+        → IsSettled (build_of p w made) }
     ensures holds { (p : Program) (w : WellFormed p) → (made : ℕ) → IsHeld (build_of p w made) }
 {}

@@ -74,9 +74,12 @@ fn may_call(
     takes: bool,
     piece: &Piece<'_, '_>,
 ) -> bool
-    ensures { (s : Scope) → IsSite s site.now → let e = v.callee_of callee.now in let q = piece_of piece.now in
-        result ≡ ((((not (f.is_recover s.piece.role) && not (is_some e.dotted && f.is_internal q.role))
-        && not (f.own_role s.piece.role q.role)) && not (not (nat_eq (length e.arguments) (length q.parameters))))
+    ensures { (s : Scope) → IsSite s site.now
+        → let e = v.callee_of callee.now in let q = piece_of piece.now in
+        result ≡ ((((not (f.is_recover s.piece.role) && not
+        (is_some e.dotted && f.is_internal q.role))
+        && not (f.own_role s.piece.role q.role)) && not
+        (not (nat_eq (length e.arguments) (length q.parameters))))
         && not (takes && is_none q.returns)) }
 {
     !is_recover(site.role)
@@ -88,7 +91,8 @@ fn may_call(
 
 // Whether a FORK may stand here and name this piece so.
 fn may_fork(site: &Site<'_, '_, '_, '_>, callee: &Callee<'_>, piece: &Piece<'_, '_>) -> bool
-    ensures { (s : Scope) → IsSite s site.now → let e = v.callee_of callee.now in let q = piece_of piece.now in
+    ensures { (s : Scope) → IsSite s site.now
+        → let e = v.callee_of callee.now in let q = piece_of piece.now in
         result ≡ ((not (f.is_recover s.piece.role) && not (f.is_internal q.role))
         && not (not (nat_eq (length e.arguments) (length q.parameters)))) }
 {
@@ -101,8 +105,10 @@ pub fn called<'u, 'a>(
     callee: &Callee<'_>,
     takes: bool,
 ) -> Callable<'u, 'a>
-    ensures number { (s : Scope) → IsSite s site.now → result.number ≡ st.procedure s (v.callee_of callee.now) }
-    ensures clean { (s : Scope) (place : PlaceOf) (into : Option NameTree) → IsSite s site.now → is_some into ≡ takes
+    ensures number { (s : Scope) → IsSite s site.now
+        → result.number ≡ st.procedure s (v.callee_of callee.now) }
+    ensures clean { (s : Scope) (place : PlaceOf) (into : Option NameTree) → IsSite s site.now
+        → is_some into ≡ takes
         → let e = v.callee_of callee.now in is_clean (c.statement_faults s (CallOf place e into))
         ≡ ((result.is_clean && is_clean (f.arguments_faults s e.arguments
         ++ f.matched_faults s e.arguments (map v.parameter_of result.parameters.now)))
@@ -124,7 +130,8 @@ pub fn called<'u, 'a>(
 
 /// What a FORK names.
 pub fn forked<'u, 'a>(site: &Site<'_, '_, 'u, 'a>, callee: &Callee<'_>) -> Callable<'u, 'a>
-    ensures number { (s : Scope) → IsSite s site.now → result.number ≡ st.procedure s (v.callee_of callee.now) }
+    ensures number { (s : Scope) → IsSite s site.now
+        → result.number ≡ st.procedure s (v.callee_of callee.now) }
     ensures clean { (s : Scope) (place : PlaceOf) (into : NameTree) → IsSite s site.now
         → let e = v.callee_of callee.now in is_clean (c.statement_faults s (ForkOf place e into))
         ≡ ((result.is_clean && is_clean (f.arguments_faults s e.arguments

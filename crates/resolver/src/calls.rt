@@ -78,9 +78,11 @@ pub fn join(
     aborted: Option<Vec<Statement>>,
     is_rest_clean: bool,
 ) -> Result<Judged, AllocError>
-    ensures { (s : Scope) (place : PlaceOf) (rest : PartTree) → IsSite s site.now → part_in aborted ≡ st.part s rest
+    ensures { (s : Scope) (place : PlaceOf) (rest : PartTree) → IsSite s site.now
+        → part_in aborted ≡ st.part s rest
         → is_rest_clean ≡ is_clean (c.part_faults s rest)
-        → IfOk result (IsJudged s (Join place (v.expression_of tree.now) (v.option_name name.entry) rest)) }
+        → IfOk result
+        (IsJudged s (Join place (v.expression_of tree.now) (v.option_name name.entry) rest)) }
 {
     let (handle, fits) = typed(alloc, site.standing, ValueType::Process, tree)?;
     let (into, takes) = into(site.standing, Some(ValueType::Integer), name);
@@ -114,7 +116,8 @@ pub fn return_from(
 
 // What NOTIFY or BROADCAST names, and whether one may stand here and name it.
 fn notified(site: &Site<'_, '_, '_, '_>, name: Name<'_>) -> (Member, bool)
-    ensures condition { (s : Scope) → IsSite s site.now → result.0 ≡ st.condition s (v.name_of name.entry) }
+    ensures condition { (s : Scope) → IsSite s site.now
+        → result.0 ≡ st.condition s (v.name_of name.entry) }
     ensures clean { (s : Scope) (place : PlaceOf) → IsSite s site.now → result.1
         ≡ is_clean (c.outside_faults s place
         ++ c.condition_faults (meaning s (v.name_of name.entry)) name.entry.place) }

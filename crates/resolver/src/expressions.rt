@@ -81,7 +81,8 @@ fn operated(
 ) -> Result<Typed, AllocError>
     ensures { (s : Scope) → IsNameScope s standing.now
         → IfOk result (Says (x.Unary operator (e.factor s (v.factor_of tree.now))) (SomeOf wanted)
-        (f.factor_faults s (v.factor_of tree.now) ++ f.wants wanted (t.factor_type s (v.factor_of tree.now))
+        (f.factor_faults s (v.factor_of tree.now)
+        ++ f.wants wanted (t.factor_type s (v.factor_of tree.now))
         (t.factor_place (v.factor_of tree.now)))) }
 {
     let operand = factor(alloc, standing, tree)?;

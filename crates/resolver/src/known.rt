@@ -59,7 +59,8 @@ pub struct Judged {
 
 /// Whether nothing of an expression is faulty where this type is wanted.
 pub fn fits(typed: &Typed, wanted: ValueType) -> bool
-    ensures { (e : t.Expression) (kind : Option TypeOf) (fs : List Refusal) (place : Place) → Says e kind fs typed.now
+    ensures { (e : t.Expression) (kind : Option TypeOf) (fs : List Refusal) (place : Place)
+        → Says e kind fs typed.now
         → result ≡ is_clean (fs ++ wants wanted kind place) }
 {
     typed.is_clean && operand_fault(wanted, typed.kind).is_none()
@@ -67,7 +68,8 @@ pub fn fits(typed: &Typed, wanted: ValueType) -> bool
 
 /// Whether nothing is faulty before an operand, nor in it where this type is wanted.
 pub fn fits_behind(before: bool, typed: &Typed, wanted: ValueType) -> bool
-    ensures { (e : t.Expression) (kind : Option TypeOf) (fs : List Refusal) (place : Place) → Says e kind fs typed.now
+    ensures { (e : t.Expression) (kind : Option TypeOf) (fs : List Refusal) (place : Place)
+        → Says e kind fs typed.now
         → result ≡ (before && is_clean (fs ++ wants wanted kind place)) }
 {
     before && fits(typed, wanted)
@@ -75,7 +77,8 @@ pub fn fits_behind(before: bool, typed: &Typed, wanted: ValueType) -> bool
 
 /// Whether nothing of two sums is faulty where this sign stands between them.
 pub fn compares(sign: Comparator, left: &Typed, right: &Typed) -> bool
-    ensures { (d e : t.Expression) (j k : Option TypeOf) (fs gs : List Refusal) (p q : Place) → Says d j fs left.now
+    ensures { (d e : t.Expression) (j k : Option TypeOf) (fs gs : List Refusal) (p q : Place)
+        → Says d j fs left.now
         → Says e k gs right.now → result ≡ is_clean (fs ++ (gs ++ faults_between sign j k p q)) }
 {
     let sides = comparison_faults(sign, left.kind, right.kind);
@@ -86,7 +89,8 @@ pub fn compares(sign: Comparator, left: &Typed, right: &Typed) -> bool
 
 /// Whether nothing is faulty where this value is assigned to this.
 pub fn takes(aim: &Aim, value: &Typed) -> bool
-    ensures { (e : t.Expression) (j k : Option TypeOf) (fs gs : List Refusal) (place : Place) → aim.now.kind ≡ j
+    ensures { (e : t.Expression) (j k : Option TypeOf) (fs gs : List Refusal) (place : Place)
+        → aim.now.kind ≡ j
         → aim.now.is_clean ≡ is_clean fs → Says e k gs value.now
         → result ≡ is_clean (fs ++ (gs ++ where_true (types_differ j k) TypeMismatch place)) }
 {

@@ -44,7 +44,8 @@ fn monitor(
     requires { first_piece + length tree.now.procedures.items ≤ u32.MAX }
     ensures { IfOk result (λ x. p.monitor_of x ≡ record {
       members = member_kinds (map member_of tree.now.members.items);
-      recover = option_map (λ _. first_piece + length tree.now.procedures.items) (recover_of tree.now.recover);
+      recover = option_map (λ _. first_piece
+          + length tree.now.procedures.items) (recover_of tree.now.recover);
     }) }
 {
     let members = members(alloc, &tree.members)?;

@@ -12,7 +12,8 @@ use syntax::{Member, Monitor, Unit};
 
 // The names of members.
 fn member_names<'a>(alloc: Global, members: &[Member<'a>]) -> Result<Vec<&'a [u8]>, AllocError>
-    ensures { IfOk result (λ x. map (λ n. n.now) x.items ≡ map (λ m. m.name.text) (map member_of members.now)) }
+    ensures { IfOk result (λ x. map (λ n. n.now) x.items
+        ≡ map (λ m. m.name.text) (map member_of members.now)) }
 {
     let mut names = Vec::new(alloc);
     for member in members {

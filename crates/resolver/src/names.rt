@@ -15,7 +15,8 @@ use types::{Meaning, read_fault, variable_type};
 
 /// What a name is read as; one that means nothing is read as local 0.
 pub fn variable(meaning: Meaning) -> Typed
-    ensures { (place : Place) → Says (x.variable_of (meaning_of meaning)) (type_of_use (meaning_of meaning) NoIndex)
+    ensures { (place : Place) → Says (x.variable_of (meaning_of meaning))
+        (type_of_use (meaning_of meaning) NoIndex)
         (use_faults (meaning_of meaning) NoIndex place) result }
 {
     let expression = match meaning {

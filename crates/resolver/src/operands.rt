@@ -26,7 +26,8 @@ use types::{NameScope, condition_fault, differ, local_kind};
 
 /// The local that a name behind INTO means, local 0 where it means none, and whether it may take a value of this type.
 pub fn local(standing: &NameScope<'_, '_>, kind: Option<ValueType>, name: Name<'_>) -> (u32, bool)
-    ensures local { (s : Scope) → IsNameScope s standing.now → result.0 ≡ st.local s (v.name_of name.entry) }
+    ensures local { (s : Scope) → IsNameScope s standing.now
+        → result.0 ≡ st.local s (v.name_of name.entry) }
     ensures clean { (s : Scope) → IsNameScope s standing.now
         → result.1 ≡ is_clean (f.taker_faults s kind (v.name_of name.entry)) }
 {
@@ -45,7 +46,8 @@ pub fn into(
     kind: Option<ValueType>,
     name: Option<Name<'_>>,
 ) -> (Option<u32>, bool)
-    ensures into { (s : Scope) → IsNameScope s standing.now → result.0 ≡ st.into s (v.option_name name.entry) }
+    ensures into { (s : Scope) → IsNameScope s standing.now
+        → result.0 ≡ st.into s (v.option_name name.entry) }
     ensures clean { (s : Scope) → IsNameScope s standing.now
         → result.1 ≡ is_clean (f.into_faults s kind (v.option_name name.entry)) }
 {
@@ -60,7 +62,8 @@ pub fn into(
 
 /// The condition behind WAIT, NOTIFY or BROADCAST, member 0 of monitor 0 where there is none, and whether it is one.
 pub fn condition_of(standing: &NameScope<'_, '_>, name: Name<'_>) -> (Member, bool)
-    ensures condition { (s : Scope) → IsNameScope s standing.now → result.0 ≡ st.condition s (v.name_of name.entry) }
+    ensures condition { (s : Scope) → IsNameScope s standing.now
+        → result.0 ≡ st.condition s (v.name_of name.entry) }
     ensures clean { (s : Scope) → IsNameScope s standing.now
         → result.1 ≡ is_clean (condition_faults (meaning s (v.name_of name.entry)) name.entry.place) }
 {
@@ -97,7 +100,8 @@ fn wanted_of(parameters: &[Parameter<'_>], number: usize) -> Option<ValueType>
 
 // Whether nothing is faulty before an argument, nor in it where this type is wanted, if any.
 fn passes(before: bool, made: &Typed, wanted: Option<ValueType>) -> bool
-    ensures { (e : t.Expression) (kind : Option TypeOf) (fs : List Refusal) (place : Place) → Says e kind fs made.now
+    ensures { (e : t.Expression) (kind : Option TypeOf) (fs : List Refusal) (place : Place)
+        → Says e kind fs made.now
         → result ≡ (before && is_clean (fs ++ wants_of wanted kind place)) }
 {
     match wanted {
@@ -115,7 +119,8 @@ pub fn arguments(
     parameters: &[Parameter<'_>],
 ) -> Result<(Vec<Expression>, bool), AllocError>
     ensures arguments { (s : Scope) → IsNameScope s standing.now
-        → IfOk result (λ es. map expression_of es.0.items ≡ st.arguments s (map v.expression_of trees.now)) }
+        → IfOk result (λ es. map expression_of es.0.items
+        ≡ st.arguments s (map v.expression_of trees.now)) }
     ensures clean { (s : Scope) → IsNameScope s standing.now
         → IfOk result (λ es. es.1 ≡ is_clean (f.arguments_faults s (map v.expression_of trees.now)
         ++ f.matched_faults s (map v.expression_of trees.now) (map v.parameter_of parameters.now))) }

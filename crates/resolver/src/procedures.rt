@@ -51,9 +51,11 @@ fn procedure<'a>(
     piece: &Piece<'_, 'a>,
 ) -> Result<(Procedure, bool), AllocError>
     requires { length piece.now.parameters.now + length piece.now.body.now.locals.items < u32.MAX }
-    ensures procedure { (u : UnitTree) → IsCallees u callees.now → Contains (pieces u) (piece_of piece.now)
+    ensures procedure { (u : UnitTree) → IsCallees u callees.now
+        → Contains (pieces u) (piece_of piece.now)
         → IfOk result (λ x. p.procedure_of x.0 ≡ r.procedure u (piece_of piece.now)) }
-    ensures clean { (u : UnitTree) → IsCallees u callees.now → Contains (pieces u) (piece_of piece.now)
+    ensures clean { (u : UnitTree) → IsCallees u callees.now
+        → Contains (pieces u) (piece_of piece.now)
         → IfOk result (λ x. x.1 ≡ is_clean (piece_faults u (piece_of piece.now))) }
 {
     let body = piece.body;
@@ -85,7 +87,8 @@ pub fn procedures(
     callees: &Callees<'_, '_>,
 ) -> Result<(Vec<Procedure>, bool), AllocError>
     requires { sum_by slots (map piece_of callees.now.pieces.items) < u32.MAX }
-    ensures procedures { (u : UnitTree) → IsCallees u callees.now → IfOk result (λ x. map p.procedure_of x.0.items
+    ensures procedures { (u : UnitTree) → IsCallees u callees.now
+        → IfOk result (λ x. map p.procedure_of x.0.items
         ≡ map (r.procedure u) (map piece_of callees.now.pieces.items)) }
     ensures clean { (u : UnitTree) → IsCallees u callees.now → IfOk result (λ x. x.1
         ≡ is_clean (flat_map (piece_faults u) (map piece_of callees.now.pieces.items))) }

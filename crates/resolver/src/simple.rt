@@ -22,9 +22,11 @@ use types::{Meaning, NameScope, read_fault, variable_type};
 
 // What is assigned to by its name alone; a name that means nothing is local 0.
 fn named(meaning: Meaning) -> Aim
-    ensures target { (s : Scope) → target_of result.target ≡ st.target_of s (meaning_of meaning) NoIndex }
+    ensures target { (s : Scope) → target_of result.target
+        ≡ st.target_of s (meaning_of meaning) NoIndex }
     ensures kind { result.kind ≡ type_of_use (meaning_of meaning) NoIndex }
-    ensures clean { (place : PlaceOf) → result.is_clean ≡ is_clean (use_faults (meaning_of meaning) NoIndex place) }
+    ensures clean { (place : PlaceOf) → result.is_clean
+        ≡ is_clean (use_faults (meaning_of meaning) NoIndex place) }
 {
     let target = match meaning {
         Meaning::Nothing => Target::Local(0),
@@ -44,7 +46,8 @@ fn target(
     standing: &NameScope<'_, '_>,
     tree: &Variable<'_>,
 ) -> Result<Aim, AllocError>
-    ensures { (s : Scope) → IsNameScope s standing.now → IfOk result (IsAim s (v.variable_of tree.now)) }
+    ensures { (s : Scope) → IsNameScope s standing.now
+        → IfOk result (IsAim s (v.variable_of tree.now)) }
 {
     match tree {
         Variable::Name(name) => Ok(named(standing.meaning(*name))),

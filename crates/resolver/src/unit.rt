@@ -42,7 +42,8 @@ pub fn resolve<'a>(
     requires { IsCallees (unit_of unit.now) callees.now }
     ensures program { IfOk result (λ x. program_of x.program ≡ resolved (unit_of unit.now)) }
     ensures naming { IfOk result (λ x. naming_of x.names ≡ naming (unit_of unit.now)) }
-    ensures clean { IfOk result (λ x. x.are_bodies_clean ≡ is_clean (body_faults (unit_of unit.now))) }
+    ensures clean { IfOk result (λ x. x.are_bodies_clean
+        ≡ is_clean (body_faults (unit_of unit.now))) }
 {
     let names = names(alloc, unit)?;
     let monitors = monitors(alloc, unit, callees)?;

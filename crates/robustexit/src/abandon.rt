@@ -1,4 +1,4 @@
-ghost use Rattle.std.specs.Prelude.{◌≡◌, ◌+◌, ◌<◌, ℕ, Bool, true, length, take, drop, if◌then◌else◌, IfNone, IfSome};
+ghost use Rattle.std.specs.Prelude.{◌≡◌, ◌+◌, ◌<◌, ℕ, true, length, take, drop, if◌then◌else◌, IfNone, IfSome};
 ghost use Rattle.std.specs.Prelude.{slice_set, ◌≢◌};
 ghost use Rattle.words.specs.LockWord.{lock_word, waiters_of};
 ghost use Rattle.buckets.specs.Sleepers.{queue, place_of, thread_count, IsSound};
@@ -39,8 +39,10 @@ fn died_word(waiters: bool) -> u32
 /// Marks a lock as one whose owner died, and wakes one sleeper on it where it says that there may be some.
 pub fn abandon(mem: &mut Mem, buckets: &mut Buckets, lock: Addr) -> Woken
     requires { lock.0 < length mem.old }
-    ensures marks { mem.new ≡ slice_set mem.old lock.0 (lock_word 0 true (waiters_of (word_of mem.old lock.0))) }
-    ensures wakes { Wakes (place_of buckets.old) lock.0 (if waiters_of (word_of mem.old lock.0) then 1 else 0)
+    ensures marks { mem.new ≡ slice_set mem.old lock.0
+        (lock_word 0 true (waiters_of (word_of mem.old lock.0))) }
+    ensures wakes { Wakes (place_of buckets.old) lock.0
+        (if waiters_of (word_of mem.old lock.0) then 1 else 0)
         result.threads (place_of buckets.new) }
     ensures woken { result.threads
         ≡ take (if waiters_of (word_of mem.old lock.0) then 1 else 0) (queue buckets.old lock.0) }

@@ -32,9 +32,11 @@ pub fn exit_step(
     requires thread { (0 < t) × (t ≤ MOST_BLOCKS) }
     requires block { process_word t 5 < length mem.old }
     requires running { phase ≢ ExitPhase.Ended }
-    ensures step { ExitStep (length mem.old) t phase (shared_view mem.old buckets.old) result.1.threads
+    ensures step { ExitStep (length mem.old) t phase (shared_view mem.old buckets.old)
+        result.1.threads
         (shared_view mem.new buckets.new) result.0 }
-    ensures front { TakesFront buckets.old buckets.new (wake_word t phase (word_of mem.old)) result.1.threads }
+    ensures front { TakesFront buckets.old buckets.new (wake_word t phase (word_of mem.old))
+        result.1.threads }
     ensures words { length mem.new ≡ length mem.old }
     ensures threads { thread_count buckets.new ≡ thread_count buckets.old }
     ensures sound { IsSound buckets.new }
@@ -79,7 +81,8 @@ fn entry_step(
         (shared_view mem.old buckets.old) result.1.threads (shared_view mem.new buckets.new)
         × (result.0 ≡ next_entry (word_of mem.old entry.0) (seen + 1)))
         ⊎ ((IsEntry (length mem.old) entry.0 → ⊥)
-        × IsIdle (shared_view mem.old buckets.old) result.1.threads (shared_view mem.new buckets.new)
+        × IsIdle (shared_view mem.old buckets.old) result.1.threads
+        (shared_view mem.new buckets.new)
         × (result.0 ≡ ExitPhase.Pending)) }
     ensures front { TakesFront buckets.old buckets.new (entry.0 + 1) result.1.threads }
     ensures words { length mem.new ≡ length mem.old }
@@ -103,7 +106,8 @@ fn pending_step(mem: &mut Mem, buckets: &mut Buckets, t: u32) -> Woken
     requires block { process_word t 5 < length mem.old }
     ensures step { PendingStep (length mem.old) t (word_of mem.old (process_word t 1))
         (shared_view mem.old buckets.old) result.threads (shared_view mem.new buckets.new) }
-    ensures front { TakesFront buckets.old buckets.new (word_of mem.old (process_word t 1) + 1) result.threads }
+    ensures front { TakesFront buckets.old buckets.new (word_of mem.old (process_word t 1)
+        + 1) result.threads }
     ensures words { length mem.new ≡ length mem.old }
     ensures threads { thread_count buckets.new ≡ thread_count buckets.old }
     ensures sound { IsSound buckets.new }

@@ -1,4 +1,4 @@
-ghost use Rattle.std.specs.Prelude.{◌≡◌, ◌≤◌, ◌<◌, ◌++◌, ◌∷◌, [], true, Ok, IfOk, OnOk, OnErr, IsOk, length};
+ghost use Rattle.std.specs.Prelude.{◌≡◌, ◌≤◌, ◌<◌, ◌++◌, ◌∷◌, [], true, Ok, IfOk, OnOk, OnErr, IsOk};
 ghost use Rattle.std.specs.Prelude.{vec_len, vec_capacity};
 ghost use Rattle.machine.specs.ConcreteSteps.{can_move};
 ghost use Rattle.machine.specs.Views.{concrete};
@@ -6,7 +6,7 @@ ghost use Rattle.runner.specs.Entries.{entry_end};
 
 use locals::Local;
 use machine::{Entry, Event, Machine};
-use std::alloc::{AllocError, Global};
+use std::alloc::AllocError;
 
 /// Takes in where thread `t` has come after `count` local steps, as one entry of the log.
 pub fn enter(
@@ -19,10 +19,13 @@ pub fn enter(
     requires thread { can_move (concrete machine.old) t ≡ true }
     requires fine { IsOk (entry_end machine.old.program (concrete machine.old) t here.now) }
     ensures gives { IfOk result
-        (λ event. entry_end machine.old.program (concrete machine.old) t here.now ≡ Ok (concrete machine.new, event)) }
+        (λ event. entry_end machine.old.program (concrete machine.old) t here.now
+        ≡ Ok (concrete machine.new, event)) }
     ensures log { IfOk result
-        (λ event. log.new.items ≡ log.old.items ++ record { thread = t; local = count; event = event } ∷ []) }
-    ensures err { OnErr result ((concrete machine.new ≡ concrete machine.old) × (log.new.items ≡ log.old.items)) }
+        (λ event. log.new.items
+        ≡ log.old.items ++ record { thread = t; local = count; event = event } ∷ []) }
+    ensures err { OnErr result ((concrete machine.new ≡ concrete machine.old)
+        × (log.new.items ≡ log.old.items)) }
     ensures program { machine.new.program ≡ machine.old.program }
 {
     make_room(machine, log)?;

@@ -14,7 +14,8 @@ use words::MOST_LOCAL_STEPS;
 pub fn take_entry(machine: &mut Machine, t: u32) -> (Entry, Result<(), RunFault>)
     requires thread { can_move (concrete machine.old) t ≡ true }
     requires room { 1 ≤ machine.old.room }
-    ensures enters { Enters machine.old.program (concrete machine.old) result.0 (concrete machine.new) }
+    ensures enters { Enters machine.old.program (concrete machine.old) result.0
+        (concrete machine.new) }
     ensures turn { result.0.local ≤ most_local_steps }
     ensures goes { OnOk result.1 (1 ≤ result.0.local + event_cost result.0.event) }
     ensures breaks { IfErr result.1

@@ -41,9 +41,11 @@ impl<J: RunName> Piece<J> {
     pub fn run(self, image: &Image) -> Piece<J>
         requires { image.now ≡ J.program }
         ensures same { (result.thread ≡ self.thread) × (result.origin ≡ self.origin) }
-        ensures reached { local_after J.program result.thread result.count result.origin ≡ Some result.here }
+        ensures reached { local_after J.program result.thread result.count result.origin
+            ≡ Some result.here }
         ensures within { result.count ≤ most_local_steps }
-        ensures whole { result.count < most_local_steps → local_step J.program result.thread result.here ≡ None }
+        ensures whole { result.count < most_local_steps
+            → local_step J.program result.thread result.here ≡ None }
     {
         let mut piece = self;
         piece.go_on(image);
@@ -54,7 +56,8 @@ impl<J: RunName> Piece<J> {
     pub fn go_on(&mut self, image: &Image)
         requires { image.now ≡ J.program }
         ensures same { (self.new.thread ≡ self.old.thread) × (self.new.origin ≡ self.old.origin) }
-        ensures reached { local_after J.program self.new.thread self.new.count self.new.origin ≡ Some self.new.here }
+        ensures reached { local_after J.program self.new.thread self.new.count self.new.origin
+            ≡ Some self.new.here }
         ensures within { self.new.count ≤ most_local_steps }
         ensures whole { self.new.count < most_local_steps
             → local_step J.program self.new.thread self.new.here ≡ None }

@@ -1,5 +1,5 @@
 ghost use Rattle.words.specs.Limits.{most_processes};
-ghost use Rattle.std.specs.Prelude.{suc, ◌≡◌, ◌≤◌, ◌<◌, ℕ, length, true, false, IfOk, IfErr, OnOk};
+ghost use Rattle.std.specs.Prelude.{suc, ◌≡◌, ◌≤◌, ◌<◌, length, true, false, IfOk, IfErr, OnOk};
 ghost use Rattle.machine.specs.ConcreteSteps.{can_move};
 ghost use Rattle.runner.specs.Logs.{cost};
 ghost use Rattle.runner.specs.Reports.{CanFail, PassesLimit};
@@ -62,7 +62,8 @@ fn run_round<J: RunName, G: Gate>(
     ensures past { OnOk result (AllPast J.program J.limit (log_state shared.new) refused.new) }
     ensures made { IfOk result (λ made. made ≡ true → (cost shared.old.log < cost shared.new.log)
         × (cost shared.new.log ≤ J.limit)) }
-    ensures none { IfOk result (λ made. made ≡ false → Idle J.program J.limit (log_state shared.new)) }
+    ensures none { IfOk result (λ made. made ≡ false
+        → Idle J.program J.limit (log_state shared.new)) }
     ensures err { IfErr result (λ fault. CanFail J.program J.limit fault) }
 {
     let mut made = false;

@@ -61,9 +61,11 @@ pub fn follow(alloc: Global, image: &Image, schedule: &[u32]) -> Result<Report, 
 
 // Takes the step of the thread that the entry of this number names.
 fn take_turn(machine: &mut Machine, number: u64, t: u32) -> Result<Entry, ScheduleFault>
-    ensures ok { IfOk result (λ e. Enters machine.old.program (concrete machine.old) e (concrete machine.new)
+    ensures ok { IfOk result
+        (λ e. Enters machine.old.program (concrete machine.old) e (concrete machine.new)
         × (e.thread ≡ t) × IsOneStep e × (number < 2 ^ 32)) }
-    ensures err { IfErr result (λ fault. RefusesSchedule machine.old.program (concrete machine.old) number t fault) }
+    ensures err { IfErr result
+        (λ fault. RefusesSchedule machine.old.program (concrete machine.old) number t fault) }
     ensures program { machine.new.program ≡ machine.old.program }
 {
     if number > u64::from(u32::MAX) || !machine.can_move(t) {
@@ -77,7 +79,8 @@ fn take_turn(machine: &mut Machine, number: u64, t: u32) -> Result<Entry, Schedu
 fn take_step(machine: &mut Machine, t: u32) -> Result<Entry, StepFault>
     requires thread { can_move (concrete machine.old) t ≡ true }
     requires room { 1 ≤ machine.old.room }
-    ensures ok { IfOk result (λ e. Enters machine.old.program (concrete machine.old) e (concrete machine.new)
+    ensures ok { IfOk result
+        (λ e. Enters machine.old.program (concrete machine.old) e (concrete machine.new)
         × (e.thread ≡ t) × IsOneStep e) }
     ensures err { OnErr result (step_of machine.old.program (concrete machine.old) t ≡ Err Broken) }
     ensures program { machine.new.program ≡ machine.old.program }

@@ -70,7 +70,8 @@ impl<J: RunName> Shared<J> {
         requires image { image.now ≡ J.program }
         requires limit { limit ≡ J.limit }
         requires blank { (blank.name ≡ J.name) × (blank.parts ≡ J.parts) × (J.parts ≡ 1024) }
-        ensures { IfOk result (λ s. (s.log ≡ []) × ((log_state s).concrete ≡ opening_concrete J.program)
+        ensures { IfOk result (λ s. (s.log ≡ [])
+            × ((log_state s).concrete ≡ opening_concrete J.program)
             × (s.given ≡ 0)) }
     {
         let machine = Machine::new(alloc, image, BUCKETS)?;
@@ -89,7 +90,8 @@ impl<J: RunName> Shared<J> {
     /// One part of the count of entries, which has counted none. There is none where all `PARTS` were given out.
     pub fn share(&mut self) -> Option<Share<J>>
         ensures some { IfSome result (λ s. (s ≡ record { parts = 1; count = 0 })
-            × (self.new ≡ record self.old { given = self.old.given + 1 }) × (self.old.given < 1024)) }
+            × (self.new ≡ record self.old { given = self.old.given + 1 })
+            × (self.old.given < 1024)) }
         ensures none { IfNone result ((self.old.given ≡ 1024) × (self.new ≡ self.old)) }
     {
         if self.given == PARTS {
@@ -105,7 +107,8 @@ impl<J: RunName> Shared<J> {
 
     /// Whether a share has all parts that were given out. Then its count is the number of entries of the log.
     pub fn audit(&mut self, share: &mut Share<J>) -> bool
-        ensures whole { MatchBool result (share.old.parts ≡ self.old.given) (share.old.parts ≢ self.old.given) }
+        ensures whole { MatchBool result (share.old.parts
+            ≡ self.old.given) (share.old.parts ≢ self.old.given) }
         ensures count { result ≡ true → share.old.count ≡ length self.old.log }
         ensures same { (self.new ≡ self.old) × (share.new ≡ share.old) }
     {
@@ -123,7 +126,8 @@ impl<J: RunName> Shared<J> {
     pub fn machine(&self) -> &Machine
         ensures concrete { concrete result.now ≡ (log_state self.now).concrete }
         ensures program { result.now.program ≡ J.program }
-        ensures legal { Runs J.program (opening_concrete J.program) self.now.log (log_state self.now).concrete }
+        ensures legal { Runs J.program (opening_concrete J.program) self.now.log
+            (log_state self.now).concrete }
     {
         &self.machine
     }
@@ -131,7 +135,8 @@ impl<J: RunName> Shared<J> {
     /// The log.
     pub fn log(&self) -> &[Entry]
         ensures value { result.now ≡ self.now.log }
-        ensures legal { Runs J.program (opening_concrete J.program) self.now.log (log_state self.now).concrete }
+        ensures legal { Runs J.program (opening_concrete J.program) self.now.log
+            (log_state self.now).concrete }
     {
         self.log.as_slice()
     }
@@ -149,7 +154,8 @@ impl<J: RunName> Shared<J> {
         ensures log { result.0.items ≡ self.log }
         ensures concrete { concrete result.1 ≡ (log_state self).concrete }
         ensures program { result.1.program ≡ J.program }
-        ensures legal { Runs J.program (opening_concrete J.program) self.log (log_state self).concrete }
+        ensures legal { Runs J.program (opening_concrete J.program) self.log
+            (log_state self).concrete }
         ensures within { cost self.log ≤ J.limit }
     {
         let Shared { log, machine, .. } = self;
@@ -160,7 +166,8 @@ impl<J: RunName> Shared<J> {
     pub fn piece(&self, t: u32) -> Option<Piece<J>>
         ensures some { IfSome result (λ p. (p.thread ≡ t) × (p.count ≡ 0) × (p.here ≡ p.origin)
             × (thread_of (log_state self.now).concrete t ≡ Some p.origin)) }
-        ensures legal { Runs J.program (opening_concrete J.program) self.now.log (log_state self.now).concrete }
+        ensures legal { Runs J.program (opening_concrete J.program) self.now.log
+            (log_state self.now).concrete }
         ensures variant { MatchOption result (can_move (log_state self.now).concrete t ≡ false)
             (λ _. can_move (log_state self.now).concrete t ≡ true) }
     {
@@ -187,14 +194,19 @@ impl<J: RunName> Shared<J> {
         piece: Piece<J>,
         share: &mut Share<J>,
     ) -> Result<Next<J>, RunFault>
-        ensures ok { IfOk result (λ next. Takes J.program J.limit (log_state self.old) t piece (log_state self.new)
+        ensures ok { IfOk result
+            (λ next. Takes J.program J.limit (log_state self.old) t piece (log_state self.new)
             × IsNext (log_state self.new).concrete t next) }
-        ensures counted { OnOk result (share.new ≡ record share.old { count = share.old.count + 1 }) }
+        ensures counted { OnOk result (share.new
+            ≡ record share.old { count = share.old.count + 1 }) }
         ensures err { IfErr result (λ fault. (log_state self.new ≡ log_state self.old)
-            × (share.new ≡ share.old) × RefusesEntry J.program J.limit (log_state self.old) t piece fault) }
-        ensures broken { IfErr result (λ fault. fault ≡ RunFault.Broken → MeetsBroken J.program J.limit) }
+            × (share.new ≡ share.old)
+            × RefusesEntry J.program J.limit (log_state self.old) t piece fault) }
+        ensures broken { IfErr result (λ fault. fault ≡ RunFault.Broken
+            → MeetsBroken J.program J.limit) }
         ensures given { self.new.given ≡ self.old.given }
-        ensures legal { Runs J.program (opening_concrete J.program) self.new.log (log_state self.new).concrete }
+        ensures legal { Runs J.program (opening_concrete J.program) self.new.log
+            (log_state self.new).concrete }
         ensures within { cost self.new.log ≤ J.limit }
     {
         let mut piece = piece;
@@ -215,12 +227,17 @@ impl<J: RunName> Shared<J> {
     ) -> Result<After, RunFault>
         ensures ok { IfOk result (λ after. Takes J.program J.limit (log_state self.old) t piece.old
             (log_state self.new) × IsAfter (log_state self.new).concrete t piece.new after) }
-        ensures counted { OnOk result (share.new ≡ record share.old { count = share.old.count + 1 }) }
-        ensures err { IfErr result (λ fault. (log_state self.new ≡ log_state self.old) × (piece.new ≡ piece.old)
-            × (share.new ≡ share.old) × RefusesEntry J.program J.limit (log_state self.old) t piece.old fault) }
-        ensures broken { IfErr result (λ fault. fault ≡ RunFault.Broken → MeetsBroken J.program J.limit) }
+        ensures counted { OnOk result (share.new
+            ≡ record share.old { count = share.old.count + 1 }) }
+        ensures err { IfErr result (λ fault. (log_state self.new ≡ log_state self.old)
+            × (piece.new ≡ piece.old)
+            × (share.new ≡ share.old)
+            × RefusesEntry J.program J.limit (log_state self.old) t piece.old fault) }
+        ensures broken { IfErr result (λ fault. fault ≡ RunFault.Broken
+            → MeetsBroken J.program J.limit) }
         ensures given { self.new.given ≡ self.old.given }
-        ensures legal { Runs J.program (opening_concrete J.program) self.new.log (log_state self.new).concrete }
+        ensures legal { Runs J.program (opening_concrete J.program) self.new.log
+            (log_state self.new).concrete }
         ensures within { cost self.new.log ≤ J.limit }
     {
         self.enter(t, piece, share)?;
@@ -229,13 +246,18 @@ impl<J: RunName> Shared<J> {
 
     /// The same, and the piece stays as it is.
     pub fn enter(&mut self, t: u32, piece: &Piece<J>, share: &mut Share<J>) -> Result<(), RunFault>
-        ensures ok { OnOk result (Takes J.program J.limit (log_state self.old) t piece.now (log_state self.new)) }
-        ensures counted { OnOk result (share.new ≡ record share.old { count = share.old.count + 1 }) }
+        ensures ok { OnOk result
+            (Takes J.program J.limit (log_state self.old) t piece.now (log_state self.new)) }
+        ensures counted { OnOk result (share.new
+            ≡ record share.old { count = share.old.count + 1 }) }
         ensures err { IfErr result (λ fault. (log_state self.new ≡ log_state self.old)
-            × (share.new ≡ share.old) × RefusesEntry J.program J.limit (log_state self.old) t piece.now fault) }
-        ensures broken { IfErr result (λ fault. fault ≡ RunFault.Broken → MeetsBroken J.program J.limit) }
+            × (share.new ≡ share.old)
+            × RefusesEntry J.program J.limit (log_state self.old) t piece.now fault) }
+        ensures broken { IfErr result (λ fault. fault ≡ RunFault.Broken
+            → MeetsBroken J.program J.limit) }
         ensures given { self.new.given ≡ self.old.given }
-        ensures legal { Runs J.program (opening_concrete J.program) self.new.log (log_state self.new).concrete }
+        ensures legal { Runs J.program (opening_concrete J.program) self.new.log
+            (log_state self.new).concrete }
         ensures within { cost self.new.log ≤ J.limit }
     {
         let count = piece.count;
@@ -254,7 +276,8 @@ impl<J: RunName> Shared<J> {
     /// frames in use are copied.
     pub fn next(&self, t: u32, piece: &mut Piece<J>) -> After
         ensures next { IsAfter (log_state self.now).concrete t piece.new result }
-        ensures legal { Runs J.program (opening_concrete J.program) self.now.log (log_state self.now).concrete }
+        ensures legal { Runs J.program (opening_concrete J.program) self.now.log
+            (log_state self.now).concrete }
     {
         if self.machine.can_move(t) {
             piece.begin(t, self.machine.local(t));
@@ -298,7 +321,8 @@ impl<J: RunName> Shared<J> {
 
     // Why the piece is refused, if not for memory.
     fn refusal(&self, t: u32, piece: &Piece<J>) -> Option<RunFault>
-        ensures some { IfSome result (λ fault. RefusesEntry J.program J.limit (log_state self.now) t piece.now fault) }
+        ensures some { IfSome result
+            (λ fault. RefusesEntry J.program J.limit (log_state self.now) t piece.now fault) }
         ensures none { IfNone result (IsFine J.program J.limit (log_state self.now) t piece.now) }
     {
         if !self.stands(t, piece) {

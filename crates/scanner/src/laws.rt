@@ -10,12 +10,15 @@ ghost use Rattle.scanner.specs.declared.refusal.Refusal.{Refusal as RefusalOf};
 /// A text has at most one list of tokens. Their bytes, each behind the gap before it, are the text. Each token's bytes
 /// stand in the text at the token's place. The end is the last token, and no other one.
 pub fn token_laws()
-    ensures one { (text : List ℕ) (ts us : List TokenView) → IsTokens text ts → IsTokens text us → ts ≡ us }
+    ensures one { (text : List ℕ) (ts us : List TokenView) → IsTokens text ts → IsTokens text us
+        → ts ≡ us }
     ensures joined { (text : List ℕ) (ts : List TokenView) → IsTokens text ts
-        → (gaps : List (List ℕ)) × AreGaps gaps × (length gaps ≡ length ts) × (text ≡ joined_bytes gaps ts) }
+        → (gaps : List (List ℕ)) × AreGaps gaps × (length gaps ≡ length ts)
+        × (text ≡ joined_bytes gaps ts) }
     ensures places { (text : List ℕ) (before after : List TokenView) (t : TokenView)
         → IsTokens text (before ++ t ∷ after)
-        → (front behind : List ℕ) × (text ≡ front ++ (t.text ++ behind)) × (t.place ≡ place_after start front) }
+        → (front behind : List ℕ) × (text ≡ front ++ (t.text ++ behind))
+        × (t.place ≡ place_after start front) }
     ensures ends { (text : List ℕ) (ts : List TokenView) → IsTokens text ts → EndsOnce ts }
 {}
 

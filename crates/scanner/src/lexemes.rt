@@ -115,7 +115,8 @@ impl<'a> Source<'a> {
             StandsFirst self.old.place self.old.rest.now (view t) self.new.rest.now
             × (self.new.place ≡ place_after t.place t.text.now))) }
         ensures fits { OnOk result (SourceFits self.new) }
-        ensures shorter { IfOk result (λ next. OnSome next (length self.new.rest.now < length self.old.rest.now)) }
+        ensures shorter { IfOk result
+            (λ next. OnSome next (length self.new.rest.now < length self.old.rest.now)) }
         ensures wrong { IfErr result (λ e. IsWrongAt self.old e) }
     {
         let front = self.pass_gap()?;

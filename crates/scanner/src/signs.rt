@@ -46,7 +46,8 @@ fn has_equal_second(bytes: &[u8]) -> bool
 /// The longest sign that stands first.
 pub fn sign_at(bytes: &[u8]) -> Option<Sign>
     requires { front_of bytes.now ≡ Front.Other }
-    ensures { MatchOption result (BeginsNoToken bytes.now) (λ s. SignFirst (sign_text s) bytes.now) }
+    ensures { MatchOption result (BeginsNoToken bytes.now)
+        (λ s. SignFirst (sign_text s) bytes.now) }
 {
     match bytes {
         [first, ..] => sign_of(*first, has_equal_second(bytes)),

@@ -1,12 +1,11 @@
 ghost use Rattle.std.specs.Prelude.{◌≡◌, List, map, ℤ};
 ghost use Rattle.program.specs.Trees.{Block};
-ghost use Rattle.program.specs.Views.{expression_of, option_expression, program_of, statement_of, target_of};
-ghost use Rattle.meaning.specs.Labels.{Alone};
+ghost use Rattle.program.specs.Views.{expression_of, program_of, statement_of, target_of};
 ghost use Rattle.meaning.specs.Processes.{Caller, Frame as FrameOf};
-ghost use Rattle.meaning.specs.Offers.{answers, assigns, offer as offer_by, rest_offer, statement_offer};
+ghost use Rattle.meaning.specs.Offers.{answers, assigns, offer as offer_by, statement_offer};
 ghost use Rattle.meaning.specs.Values.{evaluate_all as evaluate_all_of};
 ghost use Rattle.source_offers.specs.Ahead.{ahead_of, fork_ahead};
-ghost use Rattle.source_offers.specs.Frames.{callers_of, frame_of};
+ghost use Rattle.source_offers.specs.Frames.{frame_of};
 ghost use Rattle.source_offers.specs.Stages.{process_of};
 ghost use Rattle.source_offers.specs.Stores.{variables_of};
 
@@ -68,7 +67,8 @@ fn fork_with(
     locals: &[i64],
     arguments: &[Expression],
 ) -> Ahead
-    ensures { result ≡ fork_ahead (evaluate_all_of (program_of program.now) (variables_of variables.now) locals.now
+    ensures { result ≡ fork_ahead
+        (evaluate_all_of (program_of program.now) (variables_of variables.now) locals.now
         (map expression_of arguments.now)) }
 {
     match arguments {
@@ -137,7 +137,8 @@ fn statement_ahead(
 /// Whether what a process does next is quiet, told before anything is done.
 pub fn look_ahead(program: &Program, variables: &Variables, process: &Process) -> Ahead
     ensures { result
-        ≡ ahead_of (offer_by (program_of program.now) (variables_of variables.now) (process_of process.now)) }
+        ≡ ahead_of (offer_by (program_of program.now) (variables_of variables.now)
+        (process_of process.now)) }
 {
     match &process.stage {
         Stage::Returning(_) | Stage::Failing(_, _) => Ahead::Internal,

@@ -49,7 +49,8 @@ fn operand(
     expression: &Expression,
 ) -> Result<i64, Fault>
     ensures { evaluation_of result
-        ≡ evaluate_of (program_of program.now) (variables_of variables.now) locals.now (expression_of expression.now) }
+        ≡ evaluate_of (program_of program.now) (variables_of variables.now) locals.now
+        (expression_of expression.now) }
 {
     match expression {
         Expression::Number(n) => Ok(i64::from(*n)),
@@ -67,7 +68,8 @@ pub fn evaluate(
     expression: &Expression,
 ) -> Result<i64, Fault>
     ensures { evaluation_of result
-        ≡ evaluate_of (program_of program.now) (variables_of variables.now) locals.now (expression_of expression.now) }
+        ≡ evaluate_of (program_of program.now) (variables_of variables.now) locals.now
+        (expression_of expression.now) }
 {
     match expression {
         Expression::Number(n) => Ok(i64::from(*n)),

@@ -39,7 +39,8 @@ impl<'a> Frame<'a> {
         procedure: u32,
         arguments: Vec<i64>,
     ) -> Result<Frame<'a>, AllocError>
-        ensures { IfOk result (λ f. frame_of f ≡ opening_frame (program_of program.now) procedure arguments.items) }
+        ensures { IfOk result (λ f. frame_of f
+            ≡ opening_frame (program_of program.now) procedure arguments.items) }
     {
         let mut rest = Vec::new(alloc);
         let mut locals = arguments;

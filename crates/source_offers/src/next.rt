@@ -38,7 +38,8 @@ pub fn statement<'a>(
 ) -> Result<Offered<'a>, AllocError>
     requires { block_in this.now ≡ Then (statement_of next.now) Done }
     ensures { IfOk result (λ o. offer_with o process.new
-        ≡ statement_offer (program_of program.now) (variables_of variables.now) (frame_of process.old.frame)
+        ≡ statement_offer (program_of program.now) (variables_of variables.now)
+        (frame_of process.old.frame)
         (callers_of process.old.callers.items) (statement_of next.now)) }
 {
     match next {
@@ -105,7 +106,8 @@ pub fn before<'a>(
     process: &mut Process<'a>,
 ) -> Result<Offered<'a>, AllocError>
     ensures { IfOk result (λ o. offer_with o process.new
-        ≡ rest_offer (program_of program.now) (variables_of variables.now) (frame_of process.old.frame)
+        ≡ rest_offer (program_of program.now) (variables_of variables.now)
+        (frame_of process.old.frame)
         (callers_of process.old.callers.items) (rest_in process.old.frame.rest.items)) }
 {
     let Some(position) = take_first(&mut process.frame.rest) else {

@@ -113,7 +113,8 @@ pub fn answer<'a>(process: &mut Process<'a>, value: i64) -> Offered<'a>
 // Puts a value into a local.
 fn assign_local<'a>(process: &mut Process<'a>, slot: u32, value: i64) -> Offered<'a>
     ensures { offer_with result process.new ≡ Does (Alone Assign) Nothing
-        (goes_on None (with_local (frame_of process.old.frame) slot value) (callers_of process.old.callers.items)) }
+        (goes_on None (with_local (frame_of process.old.frame) slot value)
+        (callers_of process.old.callers.items)) }
 {
     process.frame.put(Some(slot), value);
     process.go_on(None);
@@ -182,7 +183,8 @@ pub fn print<'a>(
     value: &Expression,
 ) -> Result<Offered<'a>, AllocError>
     ensures { IfOk result (λ o. offer_with o process.new
-        ≡ statement_offer (program_of program.now) (variables_of variables.now) (frame_of process.old.frame)
+        ≡ statement_offer (program_of program.now) (variables_of variables.now)
+        (frame_of process.old.frame)
         (callers_of process.old.callers.items) (Print (expression_of value.now))) }
 {
     match evaluate(program, variables, process.frame.locals.as_slice(), value) {
@@ -203,7 +205,8 @@ pub fn return_value<'a>(
     value: &Option<Expression>,
 ) -> Result<Offered<'a>, AllocError>
     ensures { IfOk result (λ o. offer_with o process.new
-        ≡ statement_offer (program_of program.now) (variables_of variables.now) (frame_of process.old.frame)
+        ≡ statement_offer (program_of program.now) (variables_of variables.now)
+        (frame_of process.old.frame)
         (callers_of process.old.callers.items) (Return (option_expression value.now))) }
 {
     let Some(value) = value else {
@@ -240,7 +243,8 @@ pub fn claim<'a>(
 /// A WAIT.
 pub fn wait<'a>(process: &mut Process<'a>, condition: Member) -> Offered<'a>
     ensures { (p : ProgramOf) (v : VariablesOf) → offer_with result process.new
-        ≡ statement_offer p v (frame_of process.old.frame) (callers_of process.old.callers.items) (Wait condition) }
+        ≡ statement_offer p v (frame_of process.old.frame) (callers_of process.old.callers.items)
+        (Wait condition) }
 {
     process.stage = Stage::Suspended(condition);
     Offered::Does(Label::Waits(condition), Effect::Nothing)
@@ -249,7 +253,8 @@ pub fn wait<'a>(process: &mut Process<'a>, condition: Member) -> Offered<'a>
 /// A NOTIFY.
 pub fn notify<'a>(process: &mut Process<'a>, condition: Member) -> Offered<'a>
     ensures { (p : ProgramOf) (v : VariablesOf) → offer_with result process.new
-        ≡ statement_offer p v (frame_of process.old.frame) (callers_of process.old.callers.items) (Notify condition) }
+        ≡ statement_offer p v (frame_of process.old.frame) (callers_of process.old.callers.items)
+        (Notify condition) }
 {
     process.go_on(None);
     Offered::NotifiesSome(condition)

@@ -77,7 +77,8 @@ impl<'a> Process<'a> {
     /// Goes on before the next statement.
     #[inline(always)]
     pub fn go_on(&mut self, entered: Option<u32>)
-        ensures { process_of self.new ≡ goes_on entered (frame_of self.old.frame) (callers_of self.old.callers.items) }
+        ensures { process_of self.new ≡ goes_on entered (frame_of self.old.frame)
+            (callers_of self.old.callers.items) }
     {
         self.stage = Stage::Before(entered);
         match self.frame.role {
@@ -98,7 +99,8 @@ impl<'a> Process<'a> {
 
     /// The uppermost procedure begins: an ENTRY procedure enters its monitor first.
     pub fn begin(&mut self)
-        ensures { process_of self.new ≡ begins (frame_of self.old.frame) (callers_of self.old.callers.items) }
+        ensures { process_of self.new ≡ begins (frame_of self.old.frame)
+            (callers_of self.old.callers.items) }
     {
         match self.frame.role {
             Role::Entry(m) => self.stage = Stage::Entering(m),

@@ -21,7 +21,8 @@ pub fn upcoming<'a>(rest: &[&'a [Statement]]) -> Option<&'a Statement>
 
 /// Takes the next statement, which is the first of the answer; None where nothing is left.
 pub fn take_first<'a>(rest: &mut Vec<&'a [Statement]>) -> Option<&'a [Statement]>
-    ensures { IsTaken (option_map (λ s. s.now) result) (rest_in rest.old.items) (rest_in rest.new.items) }
+    ensures { IsTaken (option_map (λ s. s.now) result) (rest_in rest.old.items)
+        (rest_in rest.new.items) }
 {
     let Some(top) = rest.last_mut() else {
         return None;

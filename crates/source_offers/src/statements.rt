@@ -54,7 +54,8 @@ pub fn branch<'a>(
     else_part: Option<&'a [Statement]>,
 ) -> Result<Offered<'a>, AllocError>
     ensures { IfOk result (λ o. offer_with o process.new
-        ≡ statement_offer (program_of program.now) (variables_of variables.now) (frame_of process.old.frame)
+        ≡ statement_offer (program_of program.now) (variables_of variables.now)
+        (frame_of process.old.frame)
         (callers_of process.old.callers.items)
         (If (expression_of condition.now) (block_in then_part.now) (part_at else_part.entry))) }
 {
@@ -98,10 +99,13 @@ pub fn repeat_while<'a>(
     body: &'a [Statement],
     this: &'a [Statement],
 ) -> Result<Offered<'a>, AllocError>
-    requires { block_in this.now ≡ Then (While (expression_of condition.now) (block_in body.now)) Done }
+    requires { block_in this.now ≡ Then (While (expression_of condition.now) (block_in body.now))
+        Done }
     ensures { IfOk result (λ o. offer_with o process.new
-        ≡ statement_offer (program_of program.now) (variables_of variables.now) (frame_of process.old.frame)
-        (callers_of process.old.callers.items) (While (expression_of condition.now) (block_in body.now))) }
+        ≡ statement_offer (program_of program.now) (variables_of variables.now)
+        (frame_of process.old.frame)
+        (callers_of process.old.callers.items)
+        (While (expression_of condition.now) (block_in body.now))) }
 {
     let locals = process.frame.locals.as_slice();
     match tested(evaluate(program, variables, locals, condition)) {
@@ -117,7 +121,8 @@ fn begin_call<'a>(
     frame: Frame<'a>,
     into: Option<u32>,
 ) -> Result<Offered<'a>, AllocError>
-    ensures { IfOk result (λ o. offer_with o process.new ≡ Does (Alone CallKind) Nothing (begins (frame_of frame.entry)
+    ensures { IfOk result (λ o. offer_with o process.new
+        ≡ Does (Alone CallKind) Nothing (begins (frame_of frame.entry)
         (record { into = into; frame = frame_of process.old.frame } ∷ callers_of process.old.callers.items))) }
 {
     let mut caller = mem::replace(&mut process.frame, frame);
@@ -138,8 +143,10 @@ pub fn call<'a>(
     into: Option<u32>,
 ) -> Result<Offered<'a>, AllocError>
     ensures { IfOk result (λ o. offer_with o process.new
-        ≡ statement_offer (program_of program.now) (variables_of variables.now) (frame_of process.old.frame)
-        (callers_of process.old.callers.items) (Call procedure (map expression_of arguments.now) into)) }
+        ≡ statement_offer (program_of program.now) (variables_of variables.now)
+        (frame_of process.old.frame)
+        (callers_of process.old.callers.items)
+        (Call procedure (map expression_of arguments.now) into)) }
 {
     let locals = process.frame.locals.as_slice();
     match evaluate_all(alloc, program, variables, locals, arguments)? {
@@ -162,8 +169,10 @@ pub fn fork<'a>(
     into: u32,
 ) -> Result<Offered<'a>, AllocError>
     ensures { IfOk result (λ o. offer_with o process.new
-        ≡ statement_offer (program_of program.now) (variables_of variables.now) (frame_of process.old.frame)
-        (callers_of process.old.callers.items) (Fork procedure (map expression_of arguments.now) into)) }
+        ≡ statement_offer (program_of program.now) (variables_of variables.now)
+        (frame_of process.old.frame)
+        (callers_of process.old.callers.items)
+        (Fork procedure (map expression_of arguments.now) into)) }
 {
     let locals = process.frame.locals.as_slice();
     match evaluate_all(alloc, program, variables, locals, arguments)? {
@@ -191,8 +200,10 @@ pub fn join<'a>(
     aborted: Option<&'a [Statement]>,
 ) -> Result<Offered<'a>, AllocError>
     ensures { IfOk result (λ o. offer_with o process.new
-        ≡ statement_offer (program_of program.now) (variables_of variables.now) (frame_of process.old.frame)
-        (callers_of process.old.callers.items) (Join (expression_of handle.now) into (part_at aborted.entry))) }
+        ≡ statement_offer (program_of program.now) (variables_of variables.now)
+        (frame_of process.old.frame)
+        (callers_of process.old.callers.items)
+        (Join (expression_of handle.now) into (part_at aborted.entry))) }
 {
     match evaluate(program, variables, process.frame.locals.as_slice(), handle) {
         Err(reason) => fault(alloc, process, reason),

@@ -12,7 +12,8 @@ use std::alloc::AllocError;
 
 /// What an action of this label does to monitors, conditions and the process table, which allow it always.
 pub fn permit(table: &mut Table, process: u64, label: Label) -> Result<(), AllocError>
-    ensures { OnOk result (Allows process (label_of label) (table_of table.old) (table_of table.new)) }
+    ensures { OnOk result
+        (Allows process (label_of label) (table_of table.old) (table_of table.new)) }
 {
     match label {
         Label::Exits(monitor) => table.exit(monitor)?,
@@ -46,8 +47,10 @@ impl<'a> SourceState<'a> {
     /// Does an action of a process that stands after it already.
     #[inline(always)]
     pub fn perform(&mut self, process: u64, label: Label, effect: Effect) -> Result<(), AllocError>
-        ensures { OnOk result ((after : ProcessOf) → (state_of self.old).process process ≡ Some after
-            → IsDone process (label_of label) (effect_of effect) after (state_of self.old) (state_of self.new)) }
+        ensures { OnOk result ((after : ProcessOf)
+            → (state_of self.old).process process ≡ Some after
+            → IsDone process (label_of label) (effect_of effect) after (state_of self.old)
+            (state_of self.new)) }
     {
         permit(&mut self.table, process, label)?;
         self.affect(effect)?;

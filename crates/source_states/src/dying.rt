@@ -48,7 +48,8 @@ pub(crate) fn held(alloc: Global, process: &Process) -> Result<Vec<u32>, AllocEr
 
 /// Whether a process can be killed: it isn't dying and isn't over.
 pub(crate) fn is_killable(process: &Process) -> bool
-    ensures { MatchBool result (IsKillable (process_of process.now)) (IsKillable (process_of process.now) → ⊥) }
+    ensures { MatchBool result (IsKillable (process_of process.now))
+        (IsKillable (process_of process.now) → ⊥) }
 {
     !matches!(process.stage, Stage::Dying(_, _) | Stage::Over(_))
 }

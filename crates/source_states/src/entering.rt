@@ -31,7 +31,8 @@ impl<'a> SourceState<'a> {
           process = put (state_of self.old).process number (Some (if was_abandoned
               then recovers (program_of program.now) monitor (frame_of process.entry.frame)
               (callers_of process.entry.callers.items)
-              else goes_on (Some monitor) (frame_of process.entry.frame) (callers_of process.entry.callers.items)));
+              else goes_on (Some monitor) (frame_of process.entry.frame)
+              (callers_of process.entry.callers.items)));
         }) }
     {
         let mut process = process;
@@ -54,7 +55,8 @@ impl<'a> SourceState<'a> {
         process: Process<'a>,
     ) -> Result<bool, AllocError>
         ensures { IfOk result (λ b. IsAnswer b
-            (IsTakenUp number (kind_of kind.now) (offer_of (program_of program.now) (Enters monitor) process.entry)
+            (IsTakenUp number (kind_of kind.now)
+            (offer_of (program_of program.now) (Enters monitor) process.entry)
             (state_of self.old)) (state_of self.new)) }
     {
         let ActionKind::Enter(named) = kind else {
@@ -81,7 +83,8 @@ impl<'a> SourceState<'a> {
         process: Process<'a>,
     ) -> Result<bool, AllocError>
         ensures { IfOk result (λ b. IsAnswer b
-            (IsTakenUp number (kind_of kind.now) (offer_of (program_of program.now) (Resumes monitor) process.entry)
+            (IsTakenUp number (kind_of kind.now)
+            (offer_of (program_of program.now) (Resumes monitor) process.entry)
             (state_of self.old)) (state_of self.new)) }
     {
         let ActionKind::Resume(named) = kind else {

@@ -62,7 +62,8 @@ impl<'a> SourceState<'a> {
         process: Process<'a>,
     ) -> Result<bool, AllocError>
         ensures { IfOk result (λ b. IsAnswer b
-            (IsTakenUp number (kind_of kind.now) (offer_with (Claims child into aborted.entry) process.entry)
+            (IsTakenUp number (kind_of kind.now)
+            (offer_with (Claims child into aborted.entry) process.entry)
             (state_of self.old)) (state_of self.new)) }
     {
         if !self.table.claim(child)? {

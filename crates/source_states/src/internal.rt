@@ -20,7 +20,8 @@ use words::{Fault, MOST_PROCESSES};
 
 // Whether what comes next is quiet by this table.
 fn is_internal(table: &Table, ahead: Ahead) -> bool
-    ensures { (o : OfferOf) → ahead ≡ ahead_of o → result ≡ is_some (internal_kind o (table_of table.now)) }
+    ensures { (o : OfferOf) → ahead ≡ ahead_of o
+        → result ≡ is_some (internal_kind o (table_of table.now)) }
 {
     match ahead {
         Ahead::Internal => true,
@@ -57,7 +58,8 @@ impl<'a> SourceState<'a> {
         program: &'a Program,
         number: u64,
     ) -> Result<Option<ActionKind>, AllocError>
-        ensures { IfOk result (λ o. IsInternalTaken (program_of program.now) number (option_map kind_of o)
+        ensures { IfOk result
+            (λ o. IsInternalTaken (program_of program.now) number (option_map kind_of o)
             (state_of self.old) (state_of self.new)) }
     {
         let Some(process) = self.processes.get_mut(&number) else {

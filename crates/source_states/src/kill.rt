@@ -22,7 +22,8 @@ impl<'a> SourceState<'a> {
         last: Option<u32>,
     ) -> Result<bool, AllocError>
         ensures { IfOk result (λ b. IsAnswer b
-            (IsKill (program_of program.now) (state_of self.old) number resumed.now last) (state_of self.new)) }
+            (IsKill (program_of program.now) (state_of self.old) number resumed.now last)
+            (state_of self.new)) }
     {
         let Some(process) = self.processes.get_mut(&number) else {
             return Ok(false);

@@ -11,12 +11,14 @@ ghost use Rattle.source_states.specs.Internal.{if_internal, next_internal};
 
 /// A process that offers one action can do this action and no other, and it leads where its label and effect say.
 pub fn offer_laws()
-    ensures does { (p : Program) (s s' : SourceState) (n : ℕ) (before after : Process) (label : Label)
+    ensures does { (p : Program) (s s' : SourceState) (n : ℕ) (before after : Process)
+        (label : Label)
         (effect : Effect)
         → s.process n ≡ Some before → offer p s.variable before ≡ Does label effect after
         → IsDone n label effect after s s'
         → IsAction p s (record { process = n; kind = kind_of label }) s' }
-    ensures only { (p : Program) (s s' : SourceState) (a : Action) (before after : Process) (label : Label)
+    ensures only { (p : Program) (s s' : SourceState) (a : Action) (before after : Process)
+        (label : Label)
         (effect : Effect)
         → s.process a.process ≡ Some before → offer p s.variable before ≡ Does label effect after
         → IsAction p s a s'
@@ -26,7 +28,8 @@ pub fn offer_laws()
 /// Of a process that can take an action of its own, the quiet action is that one where it is quiet, and else there is
 /// none.
 pub fn internal_laws()
-    ensures { (p : Program) (s : SourceState) (n : ℕ) (before after : Process) (label : Label) (effect : Effect)
+    ensures { (p : Program) (s : SourceState) (n : ℕ) (before after : Process) (label : Label)
+        (effect : Effect)
         (t : Table)
         → s.process n ≡ Some before → TakesUp (offer p s.variable before) label effect after
         → Allows n label s.table t → next_internal p s n ≡ if_internal label }

@@ -19,8 +19,10 @@ impl<'a> SourceState<'a> {
         checked: &'a Checked,
         process: u64,
     ) -> Result<Option<(Offer<'a>, Process<'a>)>, AllocError>
-        ensures { let p = program_of checked.now.tree in IfOk result (λ o. option_map (λ n. offer_of p n.0 n.1) o
-            ≡ option_map (offer_by p (state_of self.now).variable) ((state_of self.now).process process)) }
+        ensures { let p = program_of checked.now.tree in IfOk result
+            (λ o. option_map (λ n. offer_of p n.0 n.1) o
+            ≡ option_map (offer_by p (state_of self.now).variable)
+            ((state_of self.now).process process)) }
     {
         let Some(found) = self.process(process) else {
             return Ok(None);

@@ -50,9 +50,11 @@ impl<'a> SourceState<'a> {
         process: Process<'a>,
     ) -> Result<bool, AllocError>
         ensures { IfOk result (λ b. MatchBool b
-            ((kind_of kind.now ≡ FailsKind reason) × (state_of self.new ≡ record (state_of self.old) {
+            ((kind_of kind.now ≡ FailsKind reason)
+            × (state_of self.new ≡ record (state_of self.old) {
               process = put (state_of self.old).process number
-                  (Some (dies reason (frame_of process.entry.frame) (callers_of process.entry.callers.items)));
+                  (Some (dies reason (frame_of process.entry.frame)
+                  (callers_of process.entry.callers.items)));
             }))
             (kind_of kind.now ≡ FailsKind reason → ⊥)) }
     {

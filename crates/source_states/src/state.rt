@@ -36,7 +36,8 @@ impl<'a> SourceState<'a> {
         program: &'a Program,
         piece: u32,
     ) -> Result<Process<'a>, AllocError>
-        ensures { IfOk result (λ q. process_of q ≡ begins (opening_frame (program_of program.now) piece []) []) }
+        ensures { IfOk result (λ q. process_of q
+            ≡ begins (opening_frame (program_of program.now) piece []) []) }
     {
         let mut main = Process {
             frame: Frame::new(alloc, program, piece, Vec::new(alloc))?,
@@ -88,7 +89,8 @@ impl<'a> SourceState<'a> {
     /// The numbers of the processes that were made, rising.
     pub fn numbers(&self, alloc: Global) -> Result<Vec<u64>, AllocError>
         ensures rising { IfOk result (λ v. IsStrictlyIncreasing v.items) }
-        ensures all { IfOk result (λ v. (q : ℕ) → Contains v.items q ↔ IsSome ((state_of self.now).process q)) }
+        ensures all { IfOk result (λ v. (q : ℕ)
+            → Contains v.items q ↔ IsSome ((state_of self.now).process q)) }
     {
         let mut numbers = Vec::new(alloc);
         for number in self.processes.keys() {
@@ -141,7 +143,8 @@ impl<'a> SourceState<'a> {
 
     /// A stray wake-up: a process resumes that waits on the condition; false, and nothing is done, where it doesn't.
     pub fn stray(&mut self, process: u64, condition: Member) -> bool
-        ensures { MatchBool result (IsStray (state_of self.old) process condition (state_of self.new))
+        ensures { MatchBool result
+            (IsStray (state_of self.old) process condition (state_of self.new))
             ((s : SourceStateOf) → IsStray (state_of self.old) process condition s → ⊥) }
     {
         self.table.stray(process, condition)

@@ -33,8 +33,10 @@ impl<'a> SourceState<'a> {
         label: Label,
         effect: Effect,
     ) -> Result<bool, AllocError>
-        ensures { IfOk result (λ b. (after : ProcessOf) → (state_of self.old).process number ≡ Some after
-            → IsAnswer b (IsTakenUp number (kind_of kind.now) (Does (label_of label) (effect_of effect) after)
+        ensures { IfOk result (λ b. (after : ProcessOf)
+            → (state_of self.old).process number ≡ Some after
+            → IsAnswer b
+            (IsTakenUp number (kind_of kind.now) (Does (label_of label) (effect_of effect) after)
             (state_of self.old)) (state_of self.new)) }
     {
         if !is_named(kind, label) {
@@ -54,7 +56,8 @@ impl<'a> SourceState<'a> {
         process: Process<'a>,
     ) -> Result<bool, AllocError>
         ensures { IfOk result (λ b. IsAnswer b
-            (IsTakenUp number (kind_of kind.now) (offer_with own.entry process.entry) (state_of self.old))
+            (IsTakenUp number (kind_of kind.now) (offer_with own.entry process.entry)
+            (state_of self.old))
             (state_of self.new)) }
     {
         match own {
@@ -85,7 +88,8 @@ impl<'a> SourceState<'a> {
         process: Process<'a>,
     ) -> Result<bool, AllocError>
         ensures { IfOk result (λ b. IsAnswer b
-            (IsTakenUp number (kind_of kind.now) (offer_of (program_of program.now) offer.entry process.entry)
+            (IsTakenUp number (kind_of kind.now)
+            (offer_of (program_of program.now) offer.entry process.entry)
             (state_of self.old)) (state_of self.new)) }
     {
         match offer {
@@ -110,7 +114,8 @@ impl<'a> SourceState<'a> {
         offer: Offer<'a>,
     ) -> Result<bool, AllocError>
         ensures { IfOk result (λ b. (q : ProcessIn) → get nat_cmp self.old.processes number ≡ Some q
-            → IsAnswer b (IsTakenUp number (kind_of kind.now) (offer_of (program_of program.now) offer.entry q)
+            → IsAnswer b
+            (IsTakenUp number (kind_of kind.now) (offer_of (program_of program.now) offer.entry q)
             (state_of self.old)) (state_of self.new)) }
     {
         let found = self.processes.insert(number, blank(alloc))?;
@@ -128,7 +133,8 @@ impl<'a> SourceState<'a> {
         action: &Action,
     ) -> Result<bool, AllocError>
         ensures { IfOk result (λ b. IsAnswer b
-            (IsAction (program_of program.now) (state_of self.old) (action_of action.now)) (state_of self.new)) }
+            (IsAction (program_of program.now) (state_of self.old) (action_of action.now))
+            (state_of self.new)) }
     {
         let number = action.process;
         let Some(process) = self.processes.get_mut(&number) else {
@@ -149,7 +155,8 @@ impl<'a> SourceState<'a> {
         action: &Action,
     ) -> Result<bool, AllocError>
         ensures { IfOk result (λ b. IsAnswer b
-            (IsStep (program_of program.now) (state_of self.old) (action_of action.now)) (state_of self.new)) }
+            (IsStep (program_of program.now) (state_of self.old) (action_of action.now))
+            (state_of self.new)) }
     {
         match &action.kind {
             ActionKind::Stray(condition) => Ok(self.stray(action.process, *condition)),
@@ -170,8 +177,10 @@ impl<'a> SourceState<'a> {
     ) -> Result<Option<SourceState<'a>>, AllocError>
         ensures { IfOk result (λ o. MatchOption o
             ((s : SourceStateOf)
-            → IsStep (program_of checked.now.tree) (state_of self.entry) (action_of action.now) s → ⊥)
-            (λ s. IsStep (program_of checked.now.tree) (state_of self.entry) (action_of action.now) (state_of s))) }
+            → IsStep (program_of checked.now.tree) (state_of self.entry) (action_of action.now) s
+            → ⊥)
+            (λ s. IsStep (program_of checked.now.tree) (state_of self.entry) (action_of action.now)
+            (state_of s))) }
     {
         let mut state = self;
         if !state.advance(alloc, checked.program(), action)? {
@@ -188,7 +197,8 @@ pub fn accepts<'a>(
     actions: &[Action],
 ) -> Result<Option<SourceState<'a>>, AllocError>
     ensures { IfOk result (λ o. MatchOption o
-        ((s : SourceStateOf) → IsRun (program_of checked.now.tree) (map action_named actions.now) s → ⊥)
+        ((s : SourceStateOf) → IsRun (program_of checked.now.tree) (map action_named actions.now) s
+        → ⊥)
         (λ s. IsRun (program_of checked.now.tree) (map action_named actions.now) (state_in s))) }
 {
     let mut state = SourceState::opening(alloc, checked)?;

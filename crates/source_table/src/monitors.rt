@@ -22,7 +22,8 @@ impl Table {
 
     /// A process enters a monitor: whether that was abandoned; None, and nothing is done, where it is held.
     pub fn enter(&mut self, process: u64, monitor: u32) -> Result<Option<bool>, AllocError>
-        ensures ok { IfOk result (λ o. IsTaken o process (Enters monitor) (table_of self.old) (table_of self.new)) }
+        ensures ok { IfOk result
+            (λ o. IsTaken o process (Enters monitor) (table_of self.old) (table_of self.new)) }
         ensures err { OnErr result (table_of self.new ≡ table_of self.old) }
     {
         let was_abandoned = match self.hold(monitor) {
@@ -37,7 +38,8 @@ impl Table {
     /// A process takes its monitor again after a WAIT: whether that was abandoned; None, and nothing is done, where
     /// the process waits or the monitor is held.
     pub fn resume(&mut self, process: u64, monitor: u32) -> Result<Option<bool>, AllocError>
-        ensures ok { IfOk result (λ o. IsTaken o process (Resumes monitor) (table_of self.old) (table_of self.new)) }
+        ensures ok { IfOk result
+            (λ o. IsTaken o process (Resumes monitor) (table_of self.old) (table_of self.new)) }
         ensures err { OnErr result (table_of self.new ≡ table_of self.old) }
     {
         if self.waits(process).is_some() {
@@ -48,7 +50,8 @@ impl Table {
 
     /// A process gives up a monitor.
     pub fn exit(&mut self, monitor: u32) -> Result<(), AllocError>
-        ensures ok { OnOk result ((p : ℕ) → Allows p (Exits monitor) (table_of self.old) (table_of self.new)) }
+        ensures ok { OnOk result
+            ((p : ℕ) → Allows p (Exits monitor) (table_of self.old) (table_of self.new)) }
         ensures err { OnErr result (table_of self.new ≡ table_of self.old) }
     {
         self.put_hold(monitor, Hold::Free)
@@ -56,7 +59,8 @@ impl Table {
 
     /// A process gives up a monitor, dying.
     pub fn abandon(&mut self, monitor: u32) -> Result<(), AllocError>
-        ensures ok { OnOk result ((p : ℕ) → Allows p (Abandons monitor) (table_of self.old) (table_of self.new)) }
+        ensures ok { OnOk result
+            ((p : ℕ) → Allows p (Abandons monitor) (table_of self.old) (table_of self.new)) }
         ensures err { OnErr result (table_of self.new ≡ table_of self.old) }
     {
         self.put_hold(monitor, Hold::Abandoned)

@@ -13,7 +13,8 @@ impl Table {
 
     /// Makes a process, and tells its number; None where no more can be made.
     pub fn fork(&mut self) -> Option<u64>
-        ensures { (p : ℕ) → MatchOption result (Allows p FindsFull (table_of self.old) (table_of self.new))
+        ensures { (p : ℕ) → MatchOption result
+            (Allows p FindsFull (table_of self.old) (table_of self.new))
             (λ child. Allows p (Forks child) (table_of self.old) (table_of self.new)) }
     {
         if self.made >= u64::from(MOST_PROCESSES) {
@@ -35,7 +36,8 @@ impl Table {
 
     /// A process is over.
     pub fn finish(&mut self, process: u64, end: End) -> Result<(), AllocError>
-        ensures ok { OnOk result (Allows process (Ends (end_of end)) (table_of self.old) (table_of self.new)) }
+        ensures ok { OnOk result
+            (Allows process (Ends (end_of end)) (table_of self.old) (table_of self.new)) }
         ensures err { OnErr result (table_of self.new ≡ table_of self.old) }
     {
         let _old = self.over.insert(process, end)?;

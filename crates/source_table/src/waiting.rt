@@ -20,7 +20,8 @@ impl Table {
 
     /// A process gives up the monitor of a condition, and waits on it.
     pub fn wait(&mut self, process: u64, condition: Member) -> Result<(), AllocError>
-        ensures { OnOk result (Allows process (Waits condition) (table_of self.old) (table_of self.new)) }
+        ensures { OnOk result
+            (Allows process (Waits condition) (table_of self.old) (table_of self.new)) }
     {
         let _old = self.waits.insert(process, condition)?;
         self.put_hold(condition.monitor, Hold::Free)
@@ -62,7 +63,8 @@ impl Table {
     fn names_all(&self, condition: Member, resumed: &[u64]) -> bool
         ensures { MatchBool result
             ((q : ℕ) → (table_of self.now).waits q ≡ Some condition → Contains resumed.now q)
-            (((q : ℕ) → (table_of self.now).waits q ≡ Some condition → Contains resumed.now q) → ⊥) }
+            (((q : ℕ) → (table_of self.now).waits q ≡ Some condition → Contains resumed.now q)
+            → ⊥) }
     {
         for (process, waits) in self.waits.iter() {
             if !is_named(*process, *waits, condition, resumed) {
@@ -85,7 +87,8 @@ impl Table {
     /// A process notifies a condition and resumes these; false, and nothing is done, where one of them doesn't wait on
     /// it, or where somebody waits on it and these are none.
     pub fn notify(&mut self, condition: Member, resumed: &[u64]) -> bool
-        ensures { (p : ℕ) → IsDecided result (Allows p (Notifies condition resumed.now) (table_of self.old))
+        ensures { (p : ℕ) → IsDecided result
+            (Allows p (Notifies condition resumed.now) (table_of self.old))
             (table_of self.old) (table_of self.new) }
     {
         if !self.all_wait(condition, resumed) {
@@ -101,7 +104,8 @@ impl Table {
     /// A process broadcasts a condition and resumes these; false, and nothing is done, where they aren't all that
     /// wait on it.
     pub fn broadcast(&mut self, condition: Member, resumed: &[u64]) -> bool
-        ensures { (p : ℕ) → IsDecided result (Allows p (Broadcasts condition resumed.now) (table_of self.old))
+        ensures { (p : ℕ) → IsDecided result
+            (Allows p (Broadcasts condition resumed.now) (table_of self.old))
             (table_of self.old) (table_of self.new) }
     {
         if !self.all_wait(condition, resumed) || !self.names_all(condition, resumed) {

@@ -30,8 +30,10 @@ fn is_enterable(state: &SourceState, monitor: u32) -> bool
 // Whether a process waits no longer, and its monitor is free or abandoned.
 fn is_resumable(state: &SourceState, number: u64, monitor: u32) -> bool
     ensures { MatchBool result
-        (((state_of state.now).table.waits number ≡ None) × IsEnterable (state_of state.now).table monitor)
-        (((state_of state.now).table.waits number ≡ None) × IsEnterable (state_of state.now).table monitor → ⊥) }
+        (((state_of state.now).table.waits number ≡ None)
+        × IsEnterable (state_of state.now).table monitor)
+        (((state_of state.now).table.waits number ≡ None)
+        × IsEnterable (state_of state.now).table monitor → ⊥) }
 {
     state.waits(number).is_none() && is_enterable(state, monitor)
 }
@@ -52,9 +54,11 @@ fn has_value(
     value: &Option<Expression>,
 ) -> bool
     ensures { MatchBool result
-        ((z : ℤ) × (return_value (program_of program.now) (state_of state.now).variable (frame_of frame.now)
+        ((z : ℤ) × (return_value (program_of program.now) (state_of state.now).variable
+        (frame_of frame.now)
         (option_expression value.now) ≡ Value z))
-        ((fault : FaultOf) × (return_value (program_of program.now) (state_of state.now).variable (frame_of frame.now)
+        ((fault : FaultOf) ×
+        (return_value (program_of program.now) (state_of state.now).variable (frame_of frame.now)
         (option_expression value.now) ≡ Fails fault)) }
 {
     match value {
@@ -69,9 +73,11 @@ fn has_value(
 // Whether a RECOVER part or the main part has nothing left to do.
 fn rests(state: &SourceState, program: &Program, process: &Process) -> bool
     ensures { MatchBool result
-        (rest_offer (program_of program.now) (state_of state.now).variable (frame_of process.now.frame)
+        (rest_offer (program_of program.now) (state_of state.now).variable
+        (frame_of process.now.frame)
         (callers_of process.now.callers.items) (rest_in process.now.frame.rest.items) ≡ Rests)
-        (IsFree (rest_offer (program_of program.now) (state_of state.now).variable (frame_of process.now.frame)
+        (IsFree (rest_offer (program_of program.now) (state_of state.now).variable
+        (frame_of process.now.frame)
         (callers_of process.now.callers.items) (rest_in process.now.frame.rest.items))) }
 {
     match process.frame.role {
@@ -90,7 +96,8 @@ fn is_ready(state: &SourceState, program: &Program, number: u64, process: &Proce
         (CanBeTakenUp number (state_of state.now).table
         (offer_by (program_of program.now) (state_of state.now).variable (process_of process.now)))
         (CanBeTakenUp number (state_of state.now).table
-        (offer_by (program_of program.now) (state_of state.now).variable (process_of process.now)) → ⊥) }
+        (offer_by (program_of program.now) (state_of state.now).variable (process_of process.now))
+        → ⊥) }
 {
     match &process.stage {
         Stage::Entering(monitor) => is_enterable(state, *monitor),
@@ -123,7 +130,8 @@ fn add_mover(
     number: u64,
     movers: &mut Vec<u64>,
 ) -> Result<(), AllocError>
-    ensures { OnOk result (IsAdded (CanMove (program_of checked.now.tree) (state_of state.now) number) number
+    ensures { OnOk result
+        (IsAdded (CanMove (program_of checked.now.tree) (state_of state.now) number) number
         movers.old.items movers.new.items) }
 {
     if can_move(state, checked, number) {

@@ -45,7 +45,8 @@ impl<'a> Parser<'_, 'a> {
     /// Passes a keyword and gives its place, or it is Expected there.
     pub fn expect_placed(&mut self, word: Keyword) -> Result<Place, Refusal>
         requires { (place : PlaceOf) → keyword_lexeme word place ≡ WordAt word place }
-        ensures ok { IfOk result (λ place. Takes (AWordAt word) place (ahead self.old) (ahead self.new)) }
+        ensures ok { IfOk result
+            (λ place. Takes (AWordAt word) place (ahead self.old) (ahead self.new)) }
         ensures err { IfErr result (λ e. Rejects (AWordAt word) (ahead self.old) e) }
         ensures same { OnErr result (ahead self.new ≡ ahead self.old) }
     {

@@ -70,7 +70,8 @@ fn comparison(kind: Kind) -> Option<Comparator>
 
 /// What a factor starts with at a token, if one does.
 pub fn start_of(kind: Kind) -> Option<FactorStart>
-    ensures { (text : List ℕ) (place : PlaceOf) → Starts result text place (lexeme kind text place) }
+    ensures { (text : List ℕ) (place : PlaceOf)
+        → Starts result text place (lexeme kind text place) }
 {
     match kind {
         Kind::Number(value) => Some(FactorStart::Number(value)),
@@ -86,7 +87,8 @@ pub fn start_of(kind: Kind) -> Option<FactorStart>
 
 // Whether a token stands between sums, relations or conjunctions.
 fn is_relation(kind: Kind) -> bool
-    ensures { result ≡ false → (text : List ℕ) (place : PlaceOf) → EndsExpression (lexeme kind text place) }
+    ensures { result ≡ false → (text : List ℕ) (place : PlaceOf)
+        → EndsExpression (lexeme kind text place) }
 {
     match kind {
         Kind::Sign(

@@ -77,7 +77,8 @@ impl<'t, 'a> Parser<'t, 'a> {
         ensures ok { IfOk result (λ d. (d ≡ depth + 1) × (d ≤ most_nestings)) }
         ensures rest { OnOk result (ahead self.new ≡ rest_after (ahead self.old)) }
         ensures shorter { OnOk result (length (ahead self.new) ≡ length (ahead self.old) - 1) }
-        ensures err { IfErr result (λ e. (most_nestings ≤ depth) × (e ≡ refusal_at ALimit (ahead self.old))) }
+        ensures err { IfErr result (λ e. (most_nestings ≤ depth)
+            × (e ≡ refusal_at ALimit (ahead self.old))) }
         ensures same { OnErr result (ahead self.new ≡ ahead self.old) }
     {
         if depth >= MOST_NESTINGS {

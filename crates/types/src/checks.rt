@@ -70,7 +70,8 @@ pub fn operand_fault(wanted: ValueType, kind: Option<ValueType>) -> Option<Refus
 
 /// The fault of a name that is read or assigned, and means something else than a variable.
 pub fn read_fault(meaning: Meaning) -> Option<RefusalKind>
-    ensures { (place : PlaceOf) → x.use_faults (meaning_of meaning) NoIndex place ≡ faults_of result place }
+    ensures { (place : PlaceOf) → x.use_faults (meaning_of meaning) NoIndex place
+        ≡ faults_of result place }
 {
     match meaning {
         Meaning::Nothing => Some(RefusalKind::Unknown),
@@ -93,7 +94,8 @@ pub fn index_fault(meaning: Meaning) -> Option<RefusalKind>
 
 /// The fault of a name behind WAIT, NOTIFY or BROADCAST that means something else than a condition.
 pub fn condition_fault(meaning: Meaning) -> Option<RefusalKind>
-    ensures { (place : PlaceOf) → c.condition_faults (meaning_of meaning) place ≡ faults_of result place }
+    ensures { (place : PlaceOf) → c.condition_faults (meaning_of meaning) place
+        ≡ faults_of result place }
 {
     match meaning {
         Meaning::Nothing => Some(RefusalKind::Unknown),
@@ -113,7 +115,8 @@ pub struct Sides {
 
 // The faults of the sides of `=` or `#`, of these types.
 fn equality_faults(left: Option<ValueType>, right: Option<ValueType>) -> Sides
-    ensures { (p q : PlaceOf) → x.equality_faults left right p q ≡ faults_of result.left p ++ faults_of result.right q }
+    ensures { (p q : PlaceOf) → x.equality_faults left right p q
+        ≡ faults_of result.left p ++ faults_of result.right q }
 {
     if let Some(ValueType::Process) = left {
         return Sides {
@@ -135,7 +138,8 @@ fn equality_faults(left: Option<ValueType>, right: Option<ValueType>) -> Sides
 
 // The faults of the sides of a sign that orders numbers.
 fn order_faults(left: Option<ValueType>, right: Option<ValueType>) -> Sides
-    ensures { (p q : PlaceOf) → x.order_faults left right p q ≡ faults_of result.left p ++ faults_of result.right q }
+    ensures { (p q : PlaceOf) → x.order_faults left right p q
+        ≡ faults_of result.left p ++ faults_of result.right q }
 {
     Sides {
         left: operand_fault(ValueType::Integer, left),
@@ -150,7 +154,8 @@ pub fn comparison_faults(
     right: Option<ValueType>,
 ) -> Sides
     ensures { (p q : PlaceOf)
-        → x.comparison_faults sign left right p q ≡ faults_of result.left p ++ faults_of result.right q }
+        → x.comparison_faults sign left right p q
+        ≡ faults_of result.left p ++ faults_of result.right q }
 {
     match sign {
         Comparator::Equal => equality_faults(left, right),

@@ -22,7 +22,8 @@ pub fn comes_no_later(first: Refusal, second: Refusal) -> bool
 
 /// The least of some faults and one more, from the least of them.
 pub fn lesser(least: Option<Refusal>, fault: Refusal) -> Refusal
-    ensures { (es : List RefusalOf) → IsLeastOf es least → IsLeastOf (es ++ fault ∷ []) (Some result) }
+    ensures { (es : List RefusalOf) → IsLeastOf es least
+        → IsLeastOf (es ++ fault ∷ []) (Some result) }
 {
     match least {
         Some(first) if comes_no_later(first, fault) => first,

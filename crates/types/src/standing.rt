@@ -3,7 +3,7 @@
 ghost use Rattle.std.specs.Prelude.{◌≡◌, ◌<◌, ◌+◌, Option, IfOk, length, map, slice_get};
 ghost use Rattle.syntax.specs.Tree.{MonitorTree};
 ghost use Rattle.syntax.specs.View.{name_of, parameter_of, local_of, member_of};
-ghost use Rattle.types.specs.Scope.{Scope, meaning, local_meaning, member_meaning, kind_in, member_number};
+ghost use Rattle.types.specs.Scope.{Scope, meaning, local_meaning};
 ghost use Rattle.types.specs.Standings.{meaning_of, HasMembers, IsMembers, IsLocals, IsNameScope, member_in};
 
 use crate::kinds::{local_kind, member_kind};
@@ -77,7 +77,8 @@ impl<'s, 'a> NameScope<'s, 'a> {
         own: Option<Own<'s, 'a>>,
     ) -> Result<NameScope<'s, 'a>, AllocError>
         requires { length parameters.now + length locals.now < u32.MAX }
-        ensures locals { IfOk result (λ st. IsLocals (map parameter_of parameters.now) (map local_of locals.now) st) }
+        ensures locals { IfOk result
+            (λ st. IsLocals (map parameter_of parameters.now) (map local_of locals.now) st) }
         ensures own { IfOk result (λ st. st.own ≡ own.entry) }
     {
         let mut table = Table::new(alloc);
@@ -134,7 +135,8 @@ impl NameScope<'_, '_> {
     /// What a variable's name means: it is sought among the parameters and locals, then among the members of the own
     /// monitor.
     pub fn meaning(&self, name: Name<'_>) -> Meaning
-        ensures { (s : Scope) → IsNameScope s self.now → meaning_of result ≡ meaning s (name_of name.entry) }
+        ensures { (s : Scope) → IsNameScope s self.now
+            → meaning_of result ≡ meaning s (name_of name.entry) }
     {
         if let Some(slot) = self.locals.find(name) {
             return self.local(slot);

@@ -71,7 +71,8 @@ impl<'a> Table<'a> {
             → IfOk result (λ fresh. IsTable (names ++ name_of name.entry ∷ []) self.new) }
         ensures fresh { (names : List NameTree) → IsTable names self.old
             → IfOk result (λ fresh. fresh ≡ is_none (number_in names (name_of name.entry))) }
-        ensures same { (names : List NameTree) → IsTable names self.old → OnErr result (IsTable names self.new) }
+        ensures same { (names : List NameTree) → IsTable names self.old
+            → OnErr result (IsTable names self.new) }
     {
         let fresh = self.find(name).is_none();
         if (self.count as usize) < MOST_COMPARED {
@@ -85,7 +86,8 @@ impl<'a> Table<'a> {
 
     /// The number of the first name that is written as this one.
     pub fn find(&self, name: Name<'_>) -> Option<u32>
-        ensures { (names : List NameTree) → IsTable names self.now → result ≡ number_in names (name_of name.entry) }
+        ensures { (names : List NameTree) → IsTable names self.now
+            → result ≡ number_in names (name_of name.entry) }
     {
         let compared = position(&self.first, name.text);
         if compared.is_some() || self.count as usize <= MOST_COMPARED {

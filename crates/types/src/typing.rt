@@ -48,7 +48,8 @@ impl NameScope<'_, '_> {
     /// The type of a factor, where it has one of its own.
     #[cycle(types)]
     pub fn factor_type(&self, factor: &Factor<'_>) -> Option<ValueType>
-        ensures { (s : Scope) → IsNameScope s self.now → result ≡ t.factor_type s (v.factor_of factor.now) }
+        ensures { (s : Scope) → IsNameScope s self.now
+            → result ≡ t.factor_type s (v.factor_of factor.now) }
     {
         match factor {
             Factor::Number(_) | Factor::Minus(_, _) => Some(ValueType::Integer),
@@ -62,7 +63,8 @@ impl NameScope<'_, '_> {
     /// The type of an expression, where it has one of its own.
     #[cycle(types)]
     pub fn expression_type(&self, expression: &Expression<'_>) -> Option<ValueType>
-        ensures { (s : Scope) → IsNameScope s self.now → result ≡ t.expression_type s (v.expression_of expression.now) }
+        ensures { (s : Scope) → IsNameScope s self.now
+            → result ≡ t.expression_type s (v.expression_of expression.now) }
     {
         match expression {
             Expression::Factor(factor) => self.factor_type(factor),
@@ -76,7 +78,8 @@ impl NameScope<'_, '_> {
 
     /// The type of a term, where it has one of its own.
     pub fn term_type(&self, term: &Term<'_>) -> Option<ValueType>
-        ensures { (s : Scope) → IsNameScope s self.now → result ≡ t.term_type s (v.term_of term.now) }
+        ensures { (s : Scope) → IsNameScope s self.now
+            → result ≡ t.term_type s (v.term_of term.now) }
     {
         match term {
             Term::Factor(factor) => self.factor_type(factor),
@@ -97,7 +100,8 @@ impl NameScope<'_, '_> {
 
     /// The type of a relation, where it has one of its own.
     pub fn relation_type(&self, relation: &Relation<'_>) -> Option<ValueType>
-        ensures { (s : Scope) → IsNameScope s self.now → result ≡ t.relation_type s (v.relation_of relation.now) }
+        ensures { (s : Scope) → IsNameScope s self.now
+            → result ≡ t.relation_type s (v.relation_of relation.now) }
     {
         match relation {
             Relation::Factor(factor) => self.factor_type(factor),

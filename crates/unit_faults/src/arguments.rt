@@ -36,7 +36,8 @@ pub fn matched(
     least: Option<Refusal>,
 ) -> Option<Refusal>
     ensures { (s : Scope) → IsNameScope s standing.now
-        → Gathers (f.matched_faults s (map v.expression_of trees.now) (map v.parameter_of parameters.now)) least
+        → Gathers (f.matched_faults s (map v.expression_of trees.now)
+        (map v.parameter_of parameters.now)) least
         result }
 {
     let mut all = least;

@@ -55,8 +55,10 @@ pub fn bodies(
     callees: &Callees<'_, '_>,
     least: Option<Refusal>,
 ) -> Result<Option<Refusal>, AllocError>
-    requires { All (λ p. length p.parameters.now + length p.body.now.locals.items < u32.MAX) callees.now.pieces.items }
-    ensures { (u : UnitTree) → IsCallees u callees.now → IfOk result (λ r. Collects (IsInBody u) least r) }
+    requires { All (λ p. length p.parameters.now
+        + length p.body.now.locals.items < u32.MAX) callees.now.pieces.items }
+    ensures { (u : UnitTree) → IsCallees u callees.now
+        → IfOk result (λ r. Collects (IsInBody u) least r) }
 {
     let mut least = least;
     for piece in &callees.pieces {

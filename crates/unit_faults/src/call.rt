@@ -31,7 +31,8 @@ fn missing(
     least: Option<Refusal>,
 ) -> Option<Refusal>
     ensures { (s : Scope) → IsContext s context.now → let e = v.callee_of callee.now in
-        Gathers (unknown (f.missing_place s e.name e.dotted) ++ f.arguments_faults s e.arguments) least result }
+        Gathers (unknown (f.missing_place s e.name e.dotted)
+        ++ f.arguments_faults s e.arguments) least result }
 {
     let place = context.callees.missing_place(callee);
     let first = note(Some(RefusalKind::Unknown), place, least);
@@ -46,7 +47,8 @@ fn passed(
     least: Option<Refusal>,
 ) -> Option<Refusal>
     ensures { (s : Scope) → IsContext s context.now → let e = v.callee_of callee.now in
-        Gathers (f.arguments_faults s e.arguments ++ f.matched_faults s e.arguments (piece_of piece.now).parameters)
+        Gathers (f.arguments_faults s e.arguments
+        ++ f.matched_faults s e.arguments (piece_of piece.now).parameters)
         least result }
 {
     let first = arguments(context.standing, &callee.arguments, least);
@@ -62,7 +64,8 @@ fn named(
     least: Option<Refusal>,
 ) -> Option<Refusal>
     ensures { (s : Scope) → IsContext s context.now
-        → Gathers (call_name_faults s (v.callee_of callee.now) (piece_of piece.now) takes) least result }
+        → Gathers (call_name_faults s (v.callee_of callee.now) (piece_of piece.now) takes) least
+        result }
 {
     let place = callee_place(callee);
     let inner = is_hidden(callee, piece.role);
@@ -128,7 +131,8 @@ pub fn call(
     least: Option<Refusal>,
 ) -> Option<Refusal>
     ensures { (s : Scope) → IsContext s context.now
-        → Gathers (c.statement_faults s (CallOf place (v.callee_of callee.now) (v.option_name name.entry))) least
+        → Gathers (c.statement_faults s
+        (CallOf place (v.callee_of callee.now) (v.option_name name.entry))) least
         result }
 {
     let first = recover(context.role, place, least);
@@ -167,7 +171,8 @@ pub fn fork(
     least: Option<Refusal>,
 ) -> Option<Refusal>
     ensures { (s : Scope) → IsContext s context.now
-        → Gathers (c.statement_faults s (ForkOf place (v.callee_of callee.now) (v.name_of name.entry))) least result }
+        → Gathers (c.statement_faults s
+        (ForkOf place (v.callee_of callee.now) (v.name_of name.entry))) least result }
 {
     let first = recover(context.role, place, least);
     begun(context, callee, name, first)

@@ -33,7 +33,8 @@ fn call(
     calls: &mut Vec<Call>,
 ) -> Result<(), AllocError>
     ensures { (s : Scope) → IsCaller s caller.now → OnOk result (calls.new.items
-        ≡ calls.old.items ++ calls_at caller.now.number (option_to_list (callee_in s (v.callee_of callee.now)))) }
+        ≡ calls.old.items ++ calls_at caller.now.number
+        (option_to_list (callee_in s (v.callee_of callee.now)))) }
 {
     if let Some(number) = caller.callees.find(caller.role, callee) {
         calls.push(Call {
@@ -84,7 +85,8 @@ fn block(
     calls: &mut Vec<Call>,
 ) -> Result<(), AllocError>
     ensures { (s : Scope) → IsCaller s caller.now → OnOk result (calls.new.items
-        ≡ calls.old.items ++ calls_at caller.now.number (c.block_calls s (v.statements_in statements.now))) }
+        ≡ calls.old.items ++ calls_at caller.now.number
+        (c.block_calls s (v.statements_in statements.now))) }
 {
     for tree in statements {
         statement(tree, caller, calls)?;
@@ -95,7 +97,8 @@ fn block(
 /// The calls of all pieces, in their order. The only error is that memory runs out.
 pub fn all_calls(alloc: Global, callees: &Callees<'_, '_>) -> Result<Vec<Call>, AllocError>
     requires { length callees.now.pieces.items < 2 ^ 32 }
-    ensures { (u : UnitTree) → IsCallees u callees.now → IfOk result (λ v. v.items ≡ all_calls_of u) }
+    ensures { (u : UnitTree) → IsCallees u callees.now
+        → IfOk result (λ v. v.items ≡ all_calls_of u) }
 {
     let mut calls = Vec::new(alloc);
     for (number, piece) in callees.pieces.iter().enumerate() {

@@ -1,6 +1,6 @@
 // Procedures on cycles of calls, and chains of calls that are too long.
 
-ghost use Rattle.std.specs.Prelude.{◌≡◌, ◌<◌, ◌^◌, List, IfOk, length, map, true};
+ghost use Rattle.std.specs.Prelude.{◌≡◌, ◌<◌, ◌^◌, List, IfOk, length, map};
 ghost use Rattle.scanner.specs.declared.refusal.RefusalKind.TheVariants.{Recursion};
 ghost use Rattle.syntax.specs.Tree.{UnitTree};
 ghost use Rattle.callgraph.specs.Calls.{Within, Leads};
@@ -41,7 +41,8 @@ fn cycle(
     least: Option<Refusal>,
 ) -> Result<Option<Refusal>, AllocError>
     ensures { (calls : List CallOf) → IsGraph calls graph.now
-        → IfOk result (λ r. Collects (λ e. Leads calls number number × (e ≡ fault Recursion place)) least r) }
+        → IfOk result (λ r. Collects (λ e. Leads calls number number
+        × (e ≡ fault Recursion place)) least r) }
 {
     let fault = Refusal {
         kind: RefusalKind::Recursion,

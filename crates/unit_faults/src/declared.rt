@@ -39,7 +39,8 @@ pub fn body(
     least: Option<Refusal>,
 ) -> Result<Option<Refusal>, AllocError>
     requires { length parameters.now + length locals.now < u32.MAX }
-    ensures { IfOk result (λ r. Collects (InBody (map parameter_of parameters.now) (map local_of locals.now))
+    ensures { IfOk result
+        (λ r. Collects (InBody (map parameter_of parameters.now) (map local_of locals.now))
         least r) }
 {
     let names = body_scope(alloc, parameters, locals)?;
@@ -67,7 +68,8 @@ fn scopes(
     monitors: &[Monitor<'_>],
     least: Option<Refusal>,
 ) -> Result<Option<Refusal>, AllocError>
-    requires { All (λ m. length m.members.items + length m.procedures.items < u32.MAX) monitors.now }
+    requires { All (λ m. length m.members.items
+        + length m.procedures.items < u32.MAX) monitors.now }
     ensures { IfOk result (λ r. Collects (InOne InScope (map monitor_of monitors.now)) least r) }
 {
     let mut least = least;
@@ -113,7 +115,8 @@ pub fn outer(
     least: Option<Refusal>,
 ) -> Result<Option<Refusal>, AllocError>
     requires outer { length unit.now.monitors.items + length unit.now.procedures.items < u32.MAX }
-    requires inner { All (λ m. length m.members.items + length m.procedures.items < u32.MAX) unit.now.monitors.items }
+    requires inner { All (λ m. length m.members.items
+        + length m.procedures.items < u32.MAX) unit.now.monitors.items }
     ensures { IfOk result (λ r. Collects (InOuter (unit_of unit.now)) least r) }
 {
     let names = outer_names(alloc, unit)?;
@@ -129,7 +132,8 @@ pub fn inner(
     pieces: &[Piece<'_, '_>],
     least: Option<Refusal>,
 ) -> Result<Option<Refusal>, AllocError>
-    requires { All (λ p. length p.parameters.now + length p.body.now.locals.items < u32.MAX) pieces.now }
+    requires { All (λ p. length p.parameters.now
+        + length p.body.now.locals.items < u32.MAX) pieces.now }
     ensures { IfOk result (λ r. Collects (InOne InPiece (map piece_of pieces.now)) least r) }
 {
     let mut least = least;

@@ -22,7 +22,8 @@ pub fn monitor_names<'a>(alloc: Global, unit: &Unit<'a>) -> Result<Vec<Name<'a>>
 /// The names of monitors and external procedures, which share one scope.
 pub fn outer_names<'a>(alloc: Global, unit: &Unit<'a>) -> Result<Vec<Name<'a>>, AllocError>
     ensures { IfOk result (λ v. v.items
-        ≡ map (λ m. m.name) unit.now.monitors.items ++ map (λ q. q.name) unit.now.procedures.items) }
+        ≡ map (λ m. m.name) unit.now.monitors.items ++ map
+        (λ q. q.name) unit.now.procedures.items) }
 {
     let mut names = monitor_names(alloc, unit)?;
     push_external(&mut names, &unit.procedures)?;
@@ -43,7 +44,8 @@ fn member_names<'a>(alloc: Global, members: &[Member<'a>]) -> Result<Vec<Name<'a
 /// The names of a monitor's members and procedures, which share one scope.
 pub fn monitor_scope<'a>(alloc: Global, monitor: &Monitor<'a>) -> Result<Vec<Name<'a>>, AllocError>
     ensures { IfOk result (λ v. v.items
-        ≡ map (λ m. m.name) monitor.now.members.items ++ map (λ q. q.procedure.name) monitor.now.procedures.items) }
+        ≡ map (λ m. m.name) monitor.now.members.items ++ map
+        (λ q. q.procedure.name) monitor.now.procedures.items) }
 {
     let mut names = member_names(alloc, &monitor.members)?;
     push_inner(&mut names, &monitor.procedures)?;
@@ -80,7 +82,8 @@ pub fn body_scope<'a>(
     parameters: &[Parameter<'a>],
     locals: &[Local<'a>],
 ) -> Result<Vec<Name<'a>>, AllocError>
-    ensures { IfOk result (λ v. v.items ≡ map (λ p. p.name) parameters.now ++ map (λ l. l.name) locals.now) }
+    ensures { IfOk result (λ v. v.items
+        ≡ map (λ p. p.name) parameters.now ++ map (λ l. l.name) locals.now) }
 {
     let mut names = parameter_names(alloc, parameters)?;
     push_locals(&mut names, locals)?;
@@ -106,7 +109,8 @@ pub fn condition_names<'a>(
     alloc: Global,
     members: &[Member<'a>],
 ) -> Result<Vec<Name<'a>>, AllocError>
-    ensures { IfOk result (λ v. v.items ≡ map (λ m. m.name) (filter (λ m. is_condition m.kind) members.now)) }
+    ensures { IfOk result (λ v. v.items
+        ≡ map (λ m. m.name) (filter (λ m. is_condition m.kind) members.now)) }
 {
     members
         .iter()
@@ -120,7 +124,8 @@ fn push_inner<'a>(
     names: &mut Vec<Name<'a>>,
     procedures: &[MonitorProcedure<'a>],
 ) -> Result<(), AllocError>
-    ensures { OnOk result (names.new.items ≡ names.old.items ++ map (λ q. q.procedure.name) procedures.now) }
+    ensures { OnOk result (names.new.items ≡ names.old.items ++ map
+        (λ q. q.procedure.name) procedures.now) }
 {
     for inner in procedures {
         names.push(inner.procedure.name)?;
@@ -143,7 +148,8 @@ fn push_external<'a>(
 
 /// The names of all procedures, in the order of the text.
 pub fn procedure_names<'a>(alloc: Global, unit: &Unit<'a>) -> Result<Vec<Name<'a>>, AllocError>
-    ensures { IfOk result (λ v. v.items ≡ flat_map (λ m. map (λ q. q.procedure.name) m.procedures.items)
+    ensures { IfOk result (λ v. v.items
+        ≡ flat_map (λ m. map (λ q. q.procedure.name) m.procedures.items)
         unit.now.monitors.items ++ map (λ q. q.name) unit.now.procedures.items) }
 {
     let mut names = Vec::new(alloc);

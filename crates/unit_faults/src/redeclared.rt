@@ -19,7 +19,8 @@ pub fn repeated(
     least: Option<Refusal>,
 ) -> Result<Option<Refusal>, AllocError>
     requires { length names.now < u32.MAX }
-    ensures { IfOk result (λ r. Collects (OfKind Redeclared (IsRepeated (map name_of names.now))) least r) }
+    ensures { IfOk result
+        (λ r. Collects (OfKind Redeclared (IsRepeated (map name_of names.now))) least r) }
 {
     let mut table = Table::new(alloc);
     let mut least = least;

@@ -1,5 +1,5 @@
 ghost use Rattle.std.specs.Prelude.{◌≡◌, ◌+◌, ◌%◌, ◌^◌, ◌<◌, length, replicate, IfOk, if◌then◌else◌, ◌==◌, Some};
-ghost use Rattle.std.specs.Prelude.{slice_get, slice_index, slice_set};
+ghost use Rattle.std.specs.Prelude.{slice_get, slice_set};
 ghost use Rattle.std.specs.Int.Bits.{bit_or};
 
 use std::alloc::{AllocError, Global};
@@ -68,7 +68,8 @@ impl Mem {
     pub fn compare_swap(&mut self, a: Addr, expected: u32, new: u32) -> u32
         requires { a.0 < length self.old }
         ensures before { slice_get self.old a.0 ≡ Some result }
-        ensures after { self.new ≡ (if result == expected then slice_set self.old a.0 new else self.old) }
+        ensures after { self.new ≡ (if result == expected then slice_set self.old a.0 new else
+            self.old) }
     {
         let old = self.words[a.0 as usize];
         if old == expected {

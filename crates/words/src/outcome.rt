@@ -1,7 +1,5 @@
-ghost use Rattle.std.specs.Prelude.{◌≡◌, ◌<◌, ℕ};
+ghost use Rattle.std.specs.Prelude.{◌≡◌, ℕ};
 ghost use Rattle.words.specs.Outcomes.{fault_number, outcome_of, outcome_word};
-ghost use Rattle.words.specs.declared.outcome.Outcome.{Outcome as OutcomeOf};
-ghost use Rattle.words.specs.declared.outcome.Fault.{Fault as FaultOf};
 
 /// Why a process aborts.
 #[derive(Clone, Copy, PartialEq, Eq, PartialOrd, Ord, Debug, Hash)]

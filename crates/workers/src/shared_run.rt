@@ -98,7 +98,8 @@ impl<J: RunName> SharedRun<J> {
         ensures some { IfSome result (λ worker. StartsWorker self.old worker.0 worker.1 self.new) }
         ensures few { IfSome result (λ worker. worker.0 ≤ most_processes) }
         ensures none { IfNone result ((self.new ≡ self.old)
-            × ((is_some self.old.fault ≡ true) ⊎ (length (state_of self.old).threads ≤ self.old.started))) }
+            × ((is_some self.old.fault ≡ true)
+            ⊎ (length (state_of self.old).threads ≤ self.old.started))) }
     {
         if self.fault.is_some() || !self.lacks_worker() {
             return None;
@@ -131,7 +132,8 @@ impl<J: RunName> SharedRun<J> {
         parker: &Parker,
         gate: &G,
     ) -> After
-        ensures goes_on { StopsAt J.program J.limit self.old t (take turns.old.taken turns.old.pieces.items) self.new
+        ensures goes_on { StopsAt J.program J.limit self.old t
+            (take turns.old.taken turns.old.pieces.items) self.new
             share.old share.new result
             ⊎ IsNextOfFirst self.new t turns.new.pieces.items result }
         ensures workers { KeepsWorkers self.old self.new }
@@ -154,7 +156,8 @@ impl<J: RunName> SharedRun<J> {
         ensures all { IfNone result
             (ComeIn J.program J.limit self.old t pieces.now self.new share.old share.new) }
         ensures some { IfSome result
-            (λ after. StopsAt J.program J.limit self.old t pieces.now self.new share.old share.new after) }
+            (λ after. StopsAt J.program J.limit self.old t pieces.now self.new share.old share.new
+            after) }
         ensures workers { KeepsWorkers self.old self.new }
     {
         for piece in pieces {
@@ -184,7 +187,8 @@ impl<J: RunName> SharedRun<J> {
     ) -> Option<After>
         ensures comes_in { IfNone result
             (ComesIn J.program J.limit self.old t piece.now self.new share.old share.new) }
-        ensures away { IfSome result (λ after. StaysAway J.program J.limit self.old t piece.now self.new after
+        ensures away { IfSome result
+            (λ after. StaysAway J.program J.limit self.old t piece.now self.new after
             × (share.new ≡ share.old)) }
         ensures workers { KeepsWorkers self.old self.new }
     {
@@ -246,7 +250,8 @@ impl<J: RunName> SharedRun<J> {
     /// The run, why it ended before its time, and what the calling thread counted and was given back.
     pub fn into_parts(self) -> (Shared<J>, Option<RunFault>, Share<J>)
         ensures cause { HasCause J.program J.limit result.1 }
-        ensures whole { (result.0 ≡ self.shared) × (result.1 ≡ self.fault) × (result.2 ≡ self.kept) }
+        ensures whole { (result.0 ≡ self.shared) × (result.1 ≡ self.fault)
+            × (result.2 ≡ self.kept) }
     {
         let SharedRun {
             shared,

@@ -1,4 +1,4 @@
-use Rattle.std.proofs.Common.{◌++◌, [], ◌∷◌, ap, ◌∙◌, append_assoc, sym}
+use Rattle.std.proofs.Common.{ap, sym}
 use Rattle.lowering.proofs.Joins.{joined}
 use Rattle.lowering.specs.Marks.{plain}
 use Rattle.locklower.proofs.RecoveryLaws.{moved_recovery}

@@ -1,4 +1,4 @@
-use Rattle.std.proofs.Common.{◌≡◌, ◌∙◌, ap, sym, slice_index_or, false, arith}
+use Rattle.std.proofs.Common.{◌∙◌, ap, sym, slice_index_or, false, arith}
 use Rattle.callgraph.proofs.Marking.{written_back}
 use Rattle.callgraph.proofs.Settling.{goes_on}
 use Rattle.callgraph.proofs.graph.Graph.endless_chains.Goals as goal

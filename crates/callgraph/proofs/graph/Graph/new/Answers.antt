@@ -1,4 +1,4 @@
-use Rattle.std.proofs.Common.{◌≡◌, ℕ, arith, ap, slice_index_or, slice_set, [], ◌∷◌, ◌++◌, ◌∙◌, length, ◌<◌}
+use Rattle.std.proofs.Common.{◌≡◌, arith, ap, slice_index_or, slice_set, [], ◌∷◌, ◌++◌, ◌∙◌, length, ◌<◌}
 use Rattle.std.proofs.lemmas.List.{map-set, length-map}
 use Rattle.std.proofs.lemmas.Grind.{common_steps}
 use Rattle.callgraph.specs.declared.graph.Row.{Row}

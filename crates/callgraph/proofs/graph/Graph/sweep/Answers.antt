@@ -1,4 +1,4 @@
-use Rattle.std.proofs.Common.{◌≡◌, ◌≤◌, ◌∙◌, ℕ, ◌<◌, ap, subst, sym, slice_index_or, inl, inr, true, false, arith}
+use Rattle.std.proofs.Common.{◌≡◌, ◌≤◌, ◌∙◌, ℕ, ◌<◌, subst, sym, slice_index_or, inl, inr, true, false, arith}
 use Rattle.std.proofs.Common.{count_by, length}
 use Rattle.callgraph.specs.Calls.{IsCall}
 use Rattle.callgraph.proofs.Settling.{up_to, no_more_marked}

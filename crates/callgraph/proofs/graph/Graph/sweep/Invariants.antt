@@ -1,4 +1,4 @@
-use Rattle.std.proofs.Common.{◌≡◌, ◌<◌, ℕ, List, length, slice_index_or, true, false, count_by}
+use Rattle.std.proofs.Common.{◌≡◌, ◌<◌, ℕ, List, slice_index_or, true, false, count_by}
 use Rattle.callgraph.specs.declared.Call.{Call}
 use Rattle.callgraph.specs.Calls.{IsCall}
 use Rattle.callgraph.specs.Graphs.{IsGraph}

@@ -1,4 +1,4 @@
-use Rattle.std.proofs.Common.{◌≡◌, ◌∙◌, ap, arith, length, map, subst, ℕ}
+use Rattle.std.proofs.Common.{ap, arith, map, subst, ℕ}
 use Rattle.machine.specs.Views.{concrete}
 use Rattle.source_states.specs.Actions.{action_of}
 use Rattle.log_simulation.specs.Going.{Matches}

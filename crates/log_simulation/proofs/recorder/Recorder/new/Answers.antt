@@ -1,5 +1,4 @@
-use Rattle.std.proofs.Common.{◌≡◌, ◌∙◌, ap, arith, refl, []}
-use Rattle.lowering.specs.Layout.{layout_of}
+use Rattle.std.proofs.Common.{ap, arith, refl}
 use Rattle.program.specs.Names.{said_by}
 use Rattle.proof_simulation.specs.Progress.{opening_progress}
 use Rattle.log_simulation.proofs.Progressing.{opens_so}

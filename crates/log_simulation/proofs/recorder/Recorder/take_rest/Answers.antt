@@ -1,12 +1,12 @@
 -- Each process pays in its turn.
-use Rattle.std.proofs.Common.{◌≡◌, ◌+◌, ◌∙◌, ap, arith, subst, sym, suc, true, false, ℕ}
+use Rattle.std.proofs.Common.{◌≡◌, ◌+◌, ◌∙◌, ap, arith, subst, sym, true, false, ℕ}
 use Rattle.std.proofs.lemmas.Bool.{false≢true}
 use Rattle.program.specs.Names.{said_by}
 use Rattle.log_simulation.specs.Going.{Matches}
 use Rattle.log_simulation.specs.declared.follower.Follower.{Follower}
 use Rattle.proof_commutation.specs.Deferring.{IsBehind}
 use Rattle.log_simulation.specs.declared.recorder.Recorder.{Recorder}
-use Rattle.log_simulation.specs.Recording.{IsOf, progress_rest}
+use Rattle.log_simulation.specs.Recording.{progress_rest}
 use Rattle.log_simulation.specs.Deferred.{CountsDeferred}
 use Rattle.log_simulation.proofs.Recording.{catches_up_next, rest_more, still_of}
 use Rattle.log_simulation.proofs.recorder.Recorder.take_rest.Goals as goal

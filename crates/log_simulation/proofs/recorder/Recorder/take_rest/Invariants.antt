@@ -1,4 +1,4 @@
-use Rattle.std.proofs.Common.{◌≡◌, ◌≤◌, length}
+use Rattle.std.proofs.Common.{◌≤◌}
 use Rattle.words.specs.Limits.{most_processes}
 use Rattle.proof_commutation.specs.Deferring.{IsBehind}
 use Rattle.meaning.specs.States.{SourceState}

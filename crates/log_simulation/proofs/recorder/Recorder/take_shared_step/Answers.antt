@@ -1,16 +1,14 @@
 -- The step was an action that is due, or none that others learn of.
-use Rattle.std.proofs.Common.{◌≡◌, ◌<◌, ◌≤◌, ◌^◌, ◌+◌, ◌∙◌, ap, arith, refl, subst, sym, true, false, Bool, List}
+use Rattle.std.proofs.Common.{◌≡◌, ◌<◌, ◌≤◌, ◌^◌, ◌+◌, ◌∙◌, ap, arith, subst, sym, true, false, Bool, List}
 use Rattle.std.proofs.Common.{length}
 use Rattle.std.specs.Prelude.{MatchBool}
-use Rattle.words.specs.Updates.{put}
 use Rattle.proof_thread.specs.Deferrals.{deferred_by_step, mark_of}
 use Rattle.lowering.specs.Pieces.{code_of, marks_of}
 use Rattle.locals.specs.Looks.{look}
-use Rattle.machine.specs.States.{state_of as machine_state}
 use Rattle.machine.specs.Views.{concrete}
 use Rattle.program.specs.Names.{said_by}
 use Rattle.log_simulation.specs.Entries.{progress_shared}
-use Rattle.log_simulation.specs.Going.{Follows, Matches}
+use Rattle.log_simulation.specs.Going.{Matches}
 use Rattle.log_simulation.specs.declared.follower.Follower.{Follower}
 use Rattle.log_simulation.specs.declared.recorder.Recorder.{Recorder}
 use Rattle.log_simulation.specs.declared.deferred.Deferred.{Deferred}
