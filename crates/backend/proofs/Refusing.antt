@@ -38,7 +38,7 @@ length_instructions [] = refl
 length_instructions (i ∷ is) = ap suc (length_instructions is)
 
 -- a program that isn't generated
-pub of_generate : (p : Program) (e : Refusal) → generated.Refuses p e → RefusesCode p e
+pub of_generate : (p : Program) (e : Refusal) → generated.RefusesPieces p e → RefusesCode p e
 of_generate p e (inl memory) = inl memory
 of_generate p e (inr long) =
     let over = long.1 in
@@ -63,7 +63,7 @@ module _ (p : Program) (pieces : List CodePiece) (made : map generated.piece_of 
         (IsPermutation-refl (map generated.piece_of pieces))
 
     -- pieces that aren't linked
-    pub of_link : WellFormed p → (e : Refusal) → linked.Refuses (layout_of p) pieces e → RefusesCode p e
+    pub of_link : WellFormed p → (e : Refusal) → linked.RefusesLinking (layout_of p) pieces e → RefusesCode p e
     of_link formed e (inl memory) = inl memory
     of_link formed e (inr (inl stray)) = absurd (program_known p pieces same stray.1)
     of_link formed e (inr (inr much)) =

@@ -21,7 +21,7 @@ Answers text r = MatchResult r (λ image. IsCompiled text image) (λ e. (e ≡ o
 
 -- the image of a program, or that its code is too long
 pub answers : (text : List ℕ) (p : Program) (r : Result Image Refusal) → AcceptsText text p → Refines p (code_of p)
-    → MatchResult r (λ image. (image ≡ code_of p) × backend.Fits p) (λ e. backend.Refuses p e) → Answers text r
+    → MatchResult r (λ image. (image ≡ code_of p) × backend.CodeFits p) (λ e. backend.RefusesCode p e) → Answers text r
 answers text p (Ok image) a refines (same, fits) = record {
   program = p;
   accepts = a;
@@ -35,10 +35,10 @@ answers text p (Err e) a refines (inr long) =
 
 pub record Laws : Type 0 where
   pub one : (text : List ℕ) (p q : Program) → AcceptsText text p → AcceptsText text q → p ≡ q
-  pub not_both : (text : List ℕ) (p : Program) (e : Refusal) → AcceptsText text p → backend.Fits p → RefusesText text e → ⊥
+  pub not_both : (text : List ℕ) (p : Program) (e : Refusal) → AcceptsText text p → backend.CodeFits p → RefusesText text e → ⊥
 
 pub only_memory : Laws → (text : List ℕ) (r : Result Image Refusal) → Answers text r → (p : Program) → AcceptsText text p
-    → backend.Fits p → MatchResult r (λ image. image ≡ code_of p) (λ e. e ≡ out_of_memory)
+    → backend.CodeFits p → MatchResult r (λ image. image ≡ code_of p) (λ e. e ≡ out_of_memory)
 only_memory laws text (Ok image) c p a fits = c.code ∙ ap code_of (laws.one text c.program p c.accepts a)
 only_memory laws text (Err e) (inl memory) p a fits = memory
 only_memory laws text (Err e) (inr refused) p a fits = absurd (laws.not_both text p e a fits refused)

@@ -18,7 +18,7 @@ unread text e (inl memory) = inl memory
 unread text e (inr refused) = inr (inl refused)
 
 -- a program whose code is too long
-pub not_fitting : (text : List ℕ) (p : Program) (e : Refusal) → AcceptsText text p → backend.Refuses p e
+pub not_fitting : (text : List ℕ) (p : Program) (e : Refusal) → AcceptsText text p → backend.RefusesCode p e
     → (e ≡ out_of_memory) ⊎ RefusesText text e
 not_fitting text p e a (inl memory) = inl memory
 not_fitting text p e a (inr long) =
@@ -26,7 +26,7 @@ not_fitting text p e a (inr long) =
 
 -- a program whose code fits
 pub read_whole : (text : List ℕ) (c : CheckedProgram) (image : Image) → IsRead text c
-    → Refines (said_by c) (code_of (said_by c)) → (image ≡ code_of (said_by c)) × backend.Fits (said_by c)
+    → Refines (said_by c) (code_of (said_by c)) → (image ≡ code_of (said_by c)) × backend.CodeFits (said_by c)
     → IsReadImage text c image
 read_whole text c image read refines (same, fits) = record {
   accepts = read.accepts;
@@ -41,9 +41,9 @@ read_whole text c image read refines (same, fits) = record {
 }
 
 -- a text whose program's code fits is refused for want of memory alone
-pub only_memory : ((text : List ℕ) (p : Program) (e : Refusal) → AcceptsText text p → backend.Fits p → RefusesText text e → ⊥)
+pub only_memory : ((text : List ℕ) (p : Program) (e : Refusal) → AcceptsText text p → backend.CodeFits p → RefusesText text e → ⊥)
     → (text : List ℕ) (A : Type 0) (Good : A → Type 0) (r : Result A Refusal)
-    → MatchResult r Good (λ e. (e ≡ out_of_memory) ⊎ RefusesText text e) → (p : Program) → AcceptsText text p → backend.Fits p
+    → MatchResult r Good (λ e. (e ≡ out_of_memory) ⊎ RefusesText text e) → (p : Program) → AcceptsText text p → backend.CodeFits p
     → IfErr r (λ e. e ≡ out_of_memory)
 only_memory not_both text A Good (Ok x) h p a fits = tt
 only_memory not_both text A Good (Err e) (inl memory) p a fits = memory

@@ -52,7 +52,7 @@ pub record IsFaultyUnit (text : List ℕ) (e : Refusal) : Type 0 where
 pub record TextIsTooLong (text : List ℕ) (e : Refusal) : Type 0 where
   pub program : Program
   pub accepts : AcceptsText text program
-  pub long : backend.IsTooLong program
+  pub long : backend.CodeIsTooLong program
   pub refusal : e ≡ too_long
 
 -- the refusal of a text that is no program: it has no tokens, they are no unit, or the unit has a fault

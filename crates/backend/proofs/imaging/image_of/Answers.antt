@@ -22,7 +22,7 @@ returns-in_err-image c =
     passed c.from_residual-in_err-image.result e (λ image. (image ≡ code_of p) × CodeFits p) (RefusesCode p)
     c.from_residual-in_err-image.ensures
     (of_link p pieces c.in_ok-pieces.ensures.made c.checked_is_well_formed.ensures e
-    (subst (λ l. linked.Refuses l pieces e) c.in_ok-layout.ensures.layout c.in_err-image.ensures))
+    (subst (λ l. linked.RefusesLinking l pieces e) c.in_ok-layout.ensures.layout c.in_err-image.ensures))
 
 pub returns : goal.returns
 returns c =
