@@ -1,8 +1,7 @@
-//! From a checked program to its image, and to the source action that stands at each of its instructions.
+//! From a checked program to its image, with where its words lie and the source action at each of its instructions.
 #![tactic(auto)]
 
-mod imaging;
+mod lowered;
 mod marking;
 
-pub use imaging::image_of;
-pub use marking::marks_of;
+pub use lowered::{Lowered, lower};

@@ -1,13 +1,10 @@
-ghost use Rattle.std.specs.Prelude.{◌≡◌, ◌++◌, OnOk, MatchResult, map};
-ghost use Rattle.program.specs.Names.{said_by};
+ghost use Rattle.std.specs.Prelude.{◌≡◌, ◌++◌, IfOk, OnOk, map};
+ghost use Rattle.program.specs.Trees.{Program};
 ghost use Rattle.lowering.specs.Pieces as pieces_of;
-ghost use Rattle.backend.specs.Refusals.{RefusesCode};
+ghost use Rattle.codegen.specs.Generated.{piece_of, unlinked_pieces};
 
-use codegen::generate;
-use layout::place;
+use codegen::CodePiece;
 use lowering::{Mark, Marked};
-use program::Checked;
-use scanner::Refusal;
 use std::alloc::{AllocError, Global};
 
 // The marks of one piece's code.
@@ -20,18 +17,14 @@ fn append_marks(code: &[Marked], marks: &mut Vec<Mark>) -> Result<(), AllocError
     Ok(())
 }
 
-/// The source action that stands at each place of a checked program's code: what `image_of` drops of its pieces.
-///
-/// `Limit` at 1:1 only where its code has more than 65,536 instructions. `Memory` may come at any point.
-pub fn marks_of(alloc: Global, checked: &Checked) -> Result<Vec<Mark>, Refusal>
-    ensures { let p = said_by checked.now in
-        MatchResult result (λ marks. marks.items ≡ pieces_of.marks_of p) (λ e. RefusesCode p e) }
+/// The source action that stands at each place of a program's code, of its pieces in order.
+pub(crate) fn collect_marks(alloc: Global, pieces: &[CodePiece]) -> Result<Vec<Mark>, AllocError>
+    ensures { IfOk result (λ marks. (p : Program) → map piece_of pieces.now ≡ unlinked_pieces p
+        → marks.items ≡ pieces_of.marks_of p) }
 {
-    let layout = place(alloc, checked)?;
-    let pieces = generate(alloc, checked, &layout)?;
     let mut marks = Vec::new(alloc);
-    for piece in &pieces {
-        append_marks(&piece.code, &mut marks)?;
+    for piece in pieces {
+        append_marks(piece.code.as_slice(), &mut marks)?;
     }
     Ok(marks)
 }

@@ -7,9 +7,11 @@ use Rattle.program.specs.Names.{CheckedProgram, said_by}
 use Rattle.program.specs.Trees.{Program}
 use Rattle.lowering.specs.Pieces.{code_of}
 use Rattle.backend.specs.Refusals as backend
+use Rattle.backend.specs.Lowered.{IsLowered}
+use Rattle.backend.specs.declared.lowered.Lowered.{Lowered}
 use Rattle.refinement.specs.Refines.{Refines}
 use Rattle.compiler.specs.Accepts.{AcceptsText, RefusesProgram, RefusesText}
-use Rattle.compiler.specs.Compiles.{IsRead, IsReadImage}
+use Rattle.compiler.specs.Compiles.{IsRead, IsReadLowered}
 
 -- a text that is no program
 pub unread : (text : List ℕ) (e : Refusal) → (e ≡ out_of_memory) ⊎ RefusesProgram text e
@@ -25,18 +27,17 @@ not_fitting text p e a (inr long) =
     inr (inr record { program = p; accepts = a; long = long.1; refusal = long.0 })
 
 -- a program whose code fits
-pub read_whole : (text : List ℕ) (c : CheckedProgram) (image : Image) → IsRead text c
-    → Refines (said_by c) (code_of (said_by c)) → (image ≡ code_of (said_by c)) × backend.CodeFits (said_by c)
-    → IsReadImage text c image
-read_whole text c image read refines (same, fits) = record {
+pub read_whole : (text : List ℕ) (c : CheckedProgram) (lowered : Lowered) → IsRead text c
+    → Refines (said_by c) (code_of (said_by c)) → IsLowered (said_by c) lowered → IsReadLowered text c lowered
+read_whole text c lowered read refines is = record {
   accepts = read.accepts;
-  code = same;
+  lowered = is;
   compiled = record {
     program = said_by c;
     accepts = read.accepts;
-    fits = fits;
-    code = same;
-    refines = subst (λ (i : Image). Refines (said_by c) i) (sym same) refines;
+    fits = is.fits;
+    code = is.image;
+    refines = subst (λ (i : Image). Refines (said_by c) i) (sym is.image) refines;
   };
 }
 

@@ -6,7 +6,9 @@ use Rattle.program.specs.Trees.{Program}
 use Rattle.program.specs.WellFormed.{WellFormed}
 use Rattle.lowering.specs.Pieces.{code_of}
 use Rattle.refinement.specs.Refines.{Refines}
+use Rattle.backend.specs.Lowered.{IsLowered}
 use Rattle.backend.specs.Refusals.{CodeFits}
+use Rattle.backend.specs.declared.lowered.Lowered.{Lowered}
 use Rattle.compiler.specs.Accepts.{AcceptsText}
 
 -- the text's checked program
@@ -22,8 +24,8 @@ pub record IsCompiled (text : List ℕ) (image : Image) : Type 0 where
   pub code : image ≡ code_of program
   pub refines : Refines program image
 
--- the text's checked program, and its image
-pub record IsReadImage (text : List ℕ) (c : CheckedProgram) (image : Image) : Type 0 where
+-- the text's checked program, and what it is lowered to
+pub record IsReadLowered (text : List ℕ) (c : CheckedProgram) (lowered : Lowered) : Type 0 where
   pub accepts : AcceptsText text (said_by c)
-  pub code : image ≡ code_of (said_by c)
-  pub compiled : IsCompiled text image
+  pub lowered : IsLowered (said_by c) lowered
+  pub compiled : IsCompiled text lowered.image

@@ -6,10 +6,10 @@ ghost use Rattle.program.specs.Trees.{Program};
 ghost use Rattle.lowering.specs.Pieces.{code_of};
 ghost use Rattle.backend.specs.Refusals.{CodeFits};
 ghost use Rattle.compiler.specs.Accepts.{AcceptsText, RefusesProgram, RefusesText};
-ghost use Rattle.compiler.specs.Compiles.{IsCompiled, IsRead, IsReadImage};
+ghost use Rattle.compiler.specs.Compiles.{IsCompiled, IsRead, IsReadLowered};
 
 use crate::laws::text_laws;
-use backend::image_of;
+use backend::{Lowered, lower};
 use callees::few_declarations;
 use checker::check;
 use isa::Image;
@@ -54,31 +54,32 @@ fn image_or_refusal(alloc: Global, text: &[u8]) -> Result<Image, Refusal>
     ensures { MatchResult result (λ image. IsCompiled text.now image)
         (λ e. (e ≡ out_of_memory) ⊎ RefusesText text.now e) }
 {
-    code_refines();
-    let checked = read(alloc, text)?;
-    image_of(alloc, &checked)
+    let (_, lowered) = read_lowered(alloc, text)?;
+    let Lowered { image, .. } = lowered;
+    Ok(image)
 }
 
-// The checked program of a text, and its image; or its refusal.
-fn read_image<'a>(alloc: Global, text: &'a [u8]) -> Result<(Checked<'a>, Image), Refusal>
-    ensures { MatchResult result (λ r. IsReadImage text.now r.0 r.1)
+// The checked program of a text, and what it is lowered to; or its refusal.
+fn read_lowered<'a>(alloc: Global, text: &'a [u8]) -> Result<(Checked<'a>, Lowered), Refusal>
+    ensures { MatchResult result (λ r. IsReadLowered text.now r.0 r.1)
         (λ e. (e ≡ out_of_memory) ⊎ RefusesText text.now e) }
 {
     code_refines();
     let checked = read(alloc, text)?;
-    let image = image_of(alloc, &checked)?;
-    Ok((checked, image))
+    let lowered = lower(alloc, &checked)?;
+    Ok((checked, lowered))
 }
 
-/// The checked program of a source text, and its image. The refusals are those of `compile`.
-pub fn compile_checked<'a>(alloc: Global, text: &'a [u8]) -> Result<(Checked<'a>, Image), Refusal>
-    ensures compiled { MatchResult result (λ r. IsReadImage text.now r.0 r.1)
+/// The checked program of a source text, and what it is lowered to: its image, with what explains a run of it. The
+/// refusals are those of `compile`.
+pub fn compile_checked<'a>(alloc: Global, text: &'a [u8]) -> Result<(Checked<'a>, Lowered), Refusal>
+    ensures compiled { MatchResult result (λ r. IsReadLowered text.now r.0 r.1)
         (λ e. (e ≡ out_of_memory) ⊎ RefusesText text.now e) }
     ensures only { (p : Program) → AcceptsText text.now p → CodeFits p
         → IfErr result (λ e. e ≡ out_of_memory) }
 {
     text_laws();
-    read_image(alloc, text)
+    read_lowered(alloc, text)
 }
 
 /// The image of a source text.

@@ -2,24 +2,25 @@ ghost use Rattle.std.specs.Prelude.{◌≡◌, ◌<◌, ◌^◌, IfOk, IfErr, Li
 ghost use Rattle.machine.specs.States.{ConcreteState};
 ghost use Rattle.program.specs.Names.{said_by};
 ghost use Rattle.program.specs.Trees.{Program};
-ghost use Rattle.lowering.specs.Pieces.{code_of};
 ghost use Rattle.source_states.specs.Actions.{action_of};
 ghost use Rattle.runner.specs.Logs.{cost};
 ghost use Rattle.runner.specs.Reports.{IsReport};
 ghost use Rattle.simulation.specs.ExplainedLog.{IsExplainedLog, LeadsTo};
+ghost use Rattle.backend.specs.Lowered.{IsLowered};
 ghost use Rattle.backend.specs.Refusals.{CodeFits};
 ghost use Rattle.compiler.specs.Accepts.{AcceptsText};
 ghost use Rattle.compiler.specs.Compiles.{IsCompiled};
 ghost use Rattle.mesamon.specs.Explaining.{IsExplanationOfText, IsRefusedExplanation, IsWantOfMemory};
 ghost use Rattle.mesamon.specs.declared.explained_run.ExplainSourceFault.TheVariants.{Refused, Memory};
 
+use backend::Lowered;
 use compiler::compile_checked;
 use isa::Image;
 use machine::Entry;
 use program::Checked;
 use runner::{Report, RunFault, logs_are_machine_runs};
 use scanner::Refusal;
-use simulation::{ExplainFault, explain};
+use simulation::{ExplainFault, explain_lowered};
 use source_states::Action;
 use std::alloc::Global;
 use thiserror::Error;
@@ -62,7 +63,7 @@ fn run_image(alloc: Global, image: &Image, limit: u32) -> Result<Report, Explain
         (λ fault. fault ≡ Memory) }
 {
     logs_are_machine_runs();
-    match runner::run(alloc, image, limit, &OpenGate) {
+    match runner::run_in_order(alloc, image, limit, &OpenGate) {
         Ok(report) => Ok(report),
         Err(RunFault::Broken) => unreachable!(),
         Err(RunFault::Stray | RunFault::CannotMove | RunFault::Limit) => unreachable!(),
@@ -71,21 +72,21 @@ fn run_image(alloc: Global, image: &Image, limit: u32) -> Result<Report, Explain
 }
 
 // Explains a legal log of a program's image. There is no fault but want of memory.
-fn explain_log(
+fn explain_run(
     alloc: Global,
     checked: &Checked,
-    image: &Image,
+    lowered: Lowered,
     log: &[Entry],
 ) -> Result<Vec<Action>, ExplainSourceFault>
-    requires own { image.now ≡ code_of (said_by checked.now) }
-    requires legal { (k : ConcreteState) × LeadsTo image.now log.now k }
+    requires own { IsLowered (said_by checked.now) lowered }
+    requires legal { (k : ConcreteState) × LeadsTo lowered.image log.now k }
     requires few { cost log.now < 2 ^ 32 }
     ensures { MatchResult result
-        (λ actions. IsExplainedLog (said_by checked.now) image.now log.now
+        (λ actions. IsExplainedLog (said_by checked.now) lowered.image log.now
         (map action_of actions.items))
         (λ fault. fault ≡ Memory) }
 {
-    match explain(alloc, checked, image, log) {
+    match explain_lowered(alloc, checked, lowered, log) {
         Ok(actions) => Ok(actions),
         Err(ExplainFault::Memory) => Err(ExplainSourceFault::Memory),
         Err(ExplainFault::TooLong) => unreachable!(),
@@ -110,9 +111,9 @@ pub fn explain_source<'a>(
         → IfErr result (λ fault. IsWantOfMemory fault) }
 {
     logs_are_machine_runs();
-    let (checked, image) = compile_checked(alloc, text)?;
-    let report = run_image(alloc, &image, limit)?;
-    let actions = explain_log(alloc, &checked, &image, report.log.as_slice())?;
+    let (checked, lowered) = compile_checked(alloc, text)?;
+    let report = run_image(alloc, &lowered.image, limit)?;
+    let actions = explain_run(alloc, &checked, lowered, report.log.as_slice())?;
     Ok(ExplainedRun {
         checked,
         report,

@@ -11,7 +11,9 @@ mod schedule;
 mod source_run;
 mod status;
 
+pub use commandline::{Job, WordsFault, read_job};
 pub use commands::perform;
+pub use compiler::{check_text, compile, compile_checked};
 pub use explained_run::{ExplainSourceFault, ExplainedRun, explain_source};
 pub use replaying::{ReplayFault, replay};
 pub use source_run::{RunSourceFault, run_in_order, run_source};

@@ -22,7 +22,7 @@ pub use next::{After, Next};
 pub use piece::Piece;
 pub use report::{Report, Verdict};
 pub use rounds::run_alone;
-pub use running::{finish, run};
+pub use running::{finish, run_in_order};
 pub use schedule::{ScheduleFault, follow};
 pub use share::{PARTS, Share};
 pub use shared::Shared;

@@ -22,7 +22,12 @@ use words::Gate;
 ///
 /// Refuses only with `Memory` and with `Broken`, where some legal log within the limit leads a thread, within a turn
 /// of local steps, to a step that may not be.
-pub fn run<G: Gate>(alloc: Global, image: &Image, limit: u32, gate: &G) -> Result<Report, RunFault>
+pub fn run_in_order<G: Gate>(
+    alloc: Global,
+    image: &Image,
+    limit: u32,
+    gate: &G,
+) -> Result<Report, RunFault>
     ensures ok { IfOk result (λ report. IsReport image.now limit report) }
     ensures err { IfErr result (λ fault. CanFail image.now limit fault) }
 {
@@ -51,7 +56,7 @@ fn run_as<J: RunName, G: Gate>(
     finish(alloc, shared, image, &mut share, gate)
 }
 
-/// Runs on the calling thread, as `run` does, from where the log leads.
+/// Runs on the calling thread, as `run_in_order` does, from where the log leads.
 pub fn finish<J: RunName, G: Gate>(
     alloc: Global,
     shared: Shared<J>,

@@ -1,15 +1,15 @@
-ghost use Rattle.std.specs.Prelude.{◌≡◌, ◌≢◌, IfOk, MatchBool, MatchResult, map};
+ghost use Rattle.std.specs.Prelude.{◌≡◌, ◌≢◌, IfOk, MatchBool, MatchOption, MatchResult, map};
 ghost use Rattle.isa.specs.Programs.{IsProgram};
 ghost use Rattle.scanner.specs.declared.refusal.RefusalKind.TheVariants.{Memory};
 ghost use Rattle.program.specs.Names.{said_by};
 ghost use Rattle.lowering.specs.Pieces.{code_of};
+ghost use Rattle.backend.specs.Lowered.{IsLowered};
 ghost use Rattle.source_states.specs.Actions.{action_of};
 ghost use Rattle.simulation.specs.ExplainedLog.{IsExplainedLog, RefusesLog};
 
 use crate::fault::ExplainFault;
-use backend::{image_of, marks_of};
+use backend::{Lowered, lower};
 use isa::{Image, encode, one_spelling};
-use layout::place;
 use log_simulation::{LogExplanation, explain_log};
 use machine::Entry;
 use program::Checked;
@@ -47,18 +47,25 @@ fn is_too_long(refusal: Refusal) -> bool
     refusal.kind != RefusalKind::Memory
 }
 
-// Whether the image is the code of the program.
+// What the program is lowered to, where the image is its code.
 #[tactic(auto, using(crate::proofs::Images::other_image))]
-fn is_image_of(alloc: Global, checked: &Checked, image: &Image) -> Result<bool, AllocError>
-    ensures { IfOk result (λ b. MatchBool b (image.now ≡ code_of (said_by checked.now))
-        (image.now ≡ code_of (said_by checked.now) → ⊥)) }
+fn lower_as(alloc: Global, checked: &Checked, image: &Image) -> Result<Option<Lowered>, AllocError>
+    ensures { let p = said_by checked.now in
+        IfOk result (λ o. MatchOption o (image.now ≡ code_of p → ⊥)
+        (λ lowered. (lowered.image ≡ image.now) × IsLowered p lowered)) }
 {
     image_is_within_limits(image);
-    match image_of(alloc, checked) {
-        Ok(code) => are_equal(alloc, image, &code),
+    match lower(alloc, checked) {
+        Ok(lowered) => {
+            if are_equal(alloc, image, &lowered.image)? {
+                Ok(Some(lowered))
+            } else {
+                Ok(None)
+            }
+        }
         Err(refusal) => {
             if is_too_long(refusal) {
-                Ok(false)
+                Ok(None)
             } else {
                 Err(AllocError)
             }
@@ -66,26 +73,25 @@ fn is_image_of(alloc: Global, checked: &Checked, image: &Image) -> Result<bool, 
     }
 }
 
-// Explains a log of the program's image. That the program has one is known, so nothing is refused but for want of
-// memory.
-fn explain_own(
+/// The source run that a log of a program's image is, where the program was lowered already: as `explain` has it, with
+/// the image that it was lowered to.
+pub fn explain_lowered(
     alloc: Global,
     checked: &Checked,
-    image: &Image,
+    lowered: Lowered,
     log: &[Entry],
 ) -> Result<Vec<Action>, ExplainFault>
-    requires { image.now ≡ code_of (said_by checked.now) }
+    requires { IsLowered (said_by checked.now) lowered }
     ensures { let p = said_by checked.now in MatchResult result
-        (λ actions. IsExplainedLog p image.now log.now (map action_of actions.items))
-        (λ fault. RefusesLog p image.now log.now fault) }
+        (λ actions. IsExplainedLog p lowered.image log.now (map action_of actions.items))
+        (λ fault. RefusesLog p lowered.image log.now fault) }
 {
-    let Ok(layout) = place(alloc, checked) else {
-        return Err(ExplainFault::Memory);
-    };
-    let Ok(marks) = marks_of(alloc, checked) else {
-        return Err(ExplainFault::Memory);
-    };
-    match explain_log(alloc, checked, image, log, layout, marks)? {
+    let Lowered {
+        image,
+        layout,
+        marks,
+    } = lowered;
+    match explain_log(alloc, checked, &image, log, layout, marks)? {
         LogExplanation::NotARun => Err(ExplainFault::NotARun),
         LogExplanation::TooLong => Err(ExplainFault::TooLong),
         LogExplanation::Actions(actions) => Ok(actions),
@@ -115,8 +121,8 @@ pub fn explain(
         (λ actions. IsExplainedLog p image.now log.now (map action_of actions.items))
         (λ fault. RefusesLog p image.now log.now fault) }
 {
-    if !is_image_of(alloc, checked, image)? {
-        return Err(ExplainFault::OtherImage);
+    match lower_as(alloc, checked, image)? {
+        Some(lowered) => explain_lowered(alloc, checked, lowered, log),
+        None => Err(ExplainFault::OtherImage),
     }
-    explain_own(alloc, checked, image, log)
 }

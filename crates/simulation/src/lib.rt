@@ -4,5 +4,5 @@
 mod explaining;
 mod fault;
 
-pub use explaining::explain;
+pub use explaining::{explain, explain_lowered};
 pub use fault::ExplainFault;

@@ -6,3 +6,4 @@ mod running;
 
 pub use moving::{can_move, movers};
 pub use running::run_length;
+pub use source_states::{Action, ActionKind, SourceState, accepts};

@@ -45,7 +45,7 @@ use crate::opening::show_opening;
 use crate::schedules::run_schedules;
 use crate::show::{show, show_end};
 use isa::{Image, decode};
-use runner::{Report, run};
+use runner::{Report, run_in_order};
 use std::alloc::Global;
 use std::io;
 use std::str::SplitWhitespace;
@@ -115,7 +115,7 @@ fn run_image<R: Threads + Wait + Sync + Print>(
 
 fn run_alone<R: Print>(rt: &R, alloc: Global, image: &Image, limit: u32) -> Result<(), Failure> {
     show_opening(rt, alloc, image)?;
-    let report = run(alloc, image, limit, &OpenGate)?;
+    let report = run_in_order(alloc, image, limit, &OpenGate)?;
     show(rt, &report)?;
     Ok(())
 }
@@ -150,7 +150,7 @@ fn meet_alone<R: Print>(
     limit: u32,
     gate: &Meeting,
 ) -> Result<(), Failure> {
-    let report = run(alloc, image, limit, gate)?;
+    let report = run_in_order(alloc, image, limit, gate)?;
     show_met(rt, gate.was_held(), &report)?;
     Ok(())
 }

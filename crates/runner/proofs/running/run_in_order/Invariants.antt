@@ -1,4 +1,4 @@
-use Rattle.runner.proofs.running.run.Given as goal
+use Rattle.runner.proofs.running.run_in_order.Given as goal
 
 abbrev pub ghosts-run_as-J-RunName : goal.ghosts-run_as-J-RunName
 ghosts-run_as-J-RunName g a = record { program = a.image.now; limit = a.limit }

@@ -1,17 +1,30 @@
-ghost use Rattle.std.specs.Prelude.{◌≡◌, MatchResult};
+ghost use Rattle.std.specs.Prelude.{MatchResult};
 ghost use Rattle.isa.specs.Programs.{IsProgram};
 ghost use Rattle.program.specs.Names.{said_by};
 ghost use Rattle.program.specs.WellFormed.{WellFormed};
-ghost use Rattle.lowering.specs.Pieces.{code_of};
-ghost use Rattle.backend.specs.Refusals.{CodeFits, RefusesCode};
+ghost use Rattle.backend.specs.Lowered.{IsLowered};
+ghost use Rattle.backend.specs.Refusals.{RefusesCode};
 
+use crate::marking::collect_marks;
 use codegen::generate;
 use isa::Image;
-use layout::place;
+use layout::{Layout, place};
 use linker::link;
+use lowering::Mark;
 use program::Checked;
 use scanner::Refusal;
 use std::alloc::Global;
+
+/// What a checked program is lowered to.
+#[derive(Drop)]
+pub struct Lowered {
+    /// Its image.
+    pub image: Image,
+    /// Where the words of its monitors lie.
+    pub layout: Layout,
+    /// The source action that stands at each place of its code.
+    pub marks: Vec<Mark>,
+}
 
 // A checked program is well formed. Nothing is done when it runs.
 fn checked_is_well_formed(checked: &Checked)
@@ -27,17 +40,22 @@ fn image_is_within_limits(image: &Image)
     image.code();
 }
 
-/// The image of a checked program: its memory is laid out, the code of each of its pieces made, and the pieces linked.
+/// Lowers a checked program: its memory is laid out, the code of each of its pieces made, and the pieces linked.
 ///
 /// `Limit` at 1:1 where its code has more than 65,536 instructions, and there alone. `Memory` may come at any point.
-pub fn image_of(alloc: Global, checked: &Checked) -> Result<Image, Refusal>
+pub fn lower(alloc: Global, checked: &Checked) -> Result<Lowered, Refusal>
     ensures { let p = said_by checked.now in
-        MatchResult result (λ image. (image ≡ code_of p) × CodeFits p) (λ e. RefusesCode p e) }
+        MatchResult result (λ lowered. IsLowered p lowered) (λ e. RefusesCode p e) }
 {
     checked_is_well_formed(checked);
     let layout = place(alloc, checked)?;
     let pieces = generate(alloc, checked, &layout)?;
+    let marks = collect_marks(alloc, pieces.as_slice())?;
     let image = link(alloc, &layout, pieces)?;
     image_is_within_limits(&image);
-    Ok(image)
+    Ok(Lowered {
+        image,
+        layout,
+        marks,
+    })
 }
