@@ -14,9 +14,11 @@ Answers text r = MatchResult r (λ image. IsCompiled text image) (λ e. (e ≡ o
 
 pub record Laws : Type 0 where
   pub one : (text : List ℕ) (p q : Program) → AcceptsText text p → AcceptsText text q → p ≡ q
-  pub not_both : (text : List ℕ) (p : Program) (e : Refusal) → AcceptsText text p → backend.CodeFits p → RefusesText text e → ⊥
+  pub not_both : (text : List ℕ) (p : Program) (e : Refusal) → AcceptsText text p → backend.CodeFits p
+      → RefusesText text e → ⊥
 
-pub only_memory : Laws → (text : List ℕ) (r : Result Image Refusal) → Answers text r → (p : Program) → AcceptsText text p
+pub only_memory : Laws → (text : List ℕ) (r : Result Image Refusal) → Answers text r → (p : Program)
+    → AcceptsText text p
     → backend.CodeFits p → MatchResult r (λ image. image ≡ code_of p) (λ e. e ≡ out_of_memory)
 only_memory laws text (Ok image) c p a fits = c.code ∙ ap code_of (laws.one text c.program p c.accepts a)
 only_memory laws text (Err e) (inl memory) p a fits = memory

@@ -138,12 +138,14 @@ one_refusal r text e f (inr x) (inl (inr (inr y))) = absurd (program_or_fault r 
 one_refusal r text e f (inr x) (inr y) = x.refusal ∙ sym y.refusal
 
 -- a program is not refused as none
-program_or_refused : Reads → (text : List ℕ) (p : Program) (e : Refusal) → AcceptsText text p → RefusesProgram text e → ⊥
+program_or_refused : Reads → (text : List ℕ) (p : Program) (e : Refusal) → AcceptsText text p → RefusesProgram text e
+    → ⊥
 program_or_refused r text p e a (inl x) = fault_or_unit r text a.tokens a.unit e x a.is_unit
 program_or_refused r text p e a (inr (inl x)) = unit_or_none r text a.tokens a.unit e a.is_unit x
 program_or_refused r text p e a (inr (inr x)) = program_or_fault r text p e a x
 
-pub not_both : Reads → (text : List ℕ) (p : Program) (e : Refusal) → AcceptsText text p → CodeFits p → RefusesText text e → ⊥
+pub not_both : Reads → (text : List ℕ) (p : Program) (e : Refusal) → AcceptsText text p → CodeFits p
+    → RefusesText text e → ⊥
 not_both r text p e a fits (inl x) = program_or_refused r text p e a x
 not_both r text p e a fits (inr x) =
     let same = ap (λ (q : Program). length (code_of q).code) (one_program r text x.program p x.accepts a) in

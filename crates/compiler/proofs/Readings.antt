@@ -42,9 +42,11 @@ read_whole text c lowered read refines is = record {
 }
 
 -- a text whose program's code fits is refused for want of memory alone
-pub only_memory : ((text : List ℕ) (p : Program) (e : Refusal) → AcceptsText text p → backend.CodeFits p → RefusesText text e → ⊥)
+pub only_memory : ((text : List ℕ) (p : Program) (e : Refusal) → AcceptsText text p → backend.CodeFits p
+    → RefusesText text e → ⊥)
     → (text : List ℕ) (A : Type 0) (Good : A → Type 0) (r : Result A Refusal)
-    → MatchResult r Good (λ e. (e ≡ out_of_memory) ⊎ RefusesText text e) → (p : Program) → AcceptsText text p → backend.CodeFits p
+    → MatchResult r Good (λ e. (e ≡ out_of_memory) ⊎ RefusesText text e) → (p : Program) → AcceptsText text p
+        → backend.CodeFits p
     → IfErr r (λ e. e ≡ out_of_memory)
 only_memory not_both text A Good (Ok x) h p a fits = tt
 only_memory not_both text A Good (Err e) (inl memory) p a fits = memory

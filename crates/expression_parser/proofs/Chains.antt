@@ -21,7 +21,8 @@ use Rattle.grammar.specs.Machine.{reply_conjunctions, relation_tree, conjunction
 use Rattle.grammar.specs.Reading.{lexeme_at, rest_after, Passes, Fails, Leads}
 use Rattle.grammar.proofs.Joins.{done, leads_as, onto, then1, fail1, then2, fail2, then4, fail4, then5, fail5}
 use Rattle.token_cursor.specs.Taking.{Found}
-use Rattle.expression_parser.specs.Levels.{term_trees, relation_trees, conjunction_trees, further_factors, further_terms}
+use Rattle.expression_parser.specs.Levels.{term_trees, relation_trees, conjunction_trees, further_factors}
+use Rattle.expression_parser.specs.Levels.{further_terms}
 use Rattle.expression_parser.specs.Levels.{further_relations, further_conjunctions}
 use Rattle.token_cursor.proofs.Small.{pushes}
 use Rattle.expression_parser.proofs.LevelLaws.{term_back, relation_back, conjunction_back}

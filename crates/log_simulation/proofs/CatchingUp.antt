@@ -18,7 +18,8 @@ use Rattle.source_offers.specs.declared.process.Process.{Process}
 use Rattle.source_offers.specs.NextAction.{offer_of}
 use Rattle.source_states.specs.States.{state_of}
 use Rattle.protocol.proofs.Sleeps.{put_same}
-use Rattle.proof_simulation.specs.Next.{after_next, next_kinds, next_visible, offer_of_process, take_deferred, internal_next}
+use Rattle.proof_simulation.specs.Next.{after_next, next_kinds, next_visible, offer_of_process, take_deferred}
+use Rattle.proof_simulation.specs.Next.{internal_next}
 use Rattle.proof_simulation.specs.Ordering.{Resumes, act, awake_waiters}
 use Rattle.proof_simulation.specs.Progress.{Progress, progress_next, progress_caught_up}
 use Rattle.proof_simulation.specs.Tracking.{CanTake}
@@ -43,7 +44,8 @@ module _ (p : Program) (a : SourceState) (t : ℕ) (o : Offer) (q : Process) (la
   pub visible_here : (s : State) (resumed : List ℕ) → is_internal label ≡ false → Resumes p s a.table label
       → ((c : Member) → resumed_only o ≡ Some c → resumed ≡ awake_waiters p s a.table c)
       → visible_kind o a.table.made resumed ≡ Some (kind_of label)
-  visible_here s resumed visible who waiters = visible_found p q t a.table can.table label can.effect can.after s o resumed
+  visible_here s resumed visible who waiters = visible_found p q t a.table can.table label can.effect can.after s o
+      resumed
       takes can.allows visible who waiters
 
 pub none_some : {A : Type 0} (k : Kind) → Some k ≡ None → A
@@ -93,7 +95,8 @@ begins_paying p t count f = record {
 module _ (p : Program) (t : ℕ) (g : Progress) (ahead : SourceState) (count taken : ℕ) (now : Follower)
     (paying : IsPaying p t g ahead count taken now) where
   -- one more waits, and is paid
-  pub catches_up_one : taken < count → said_by now.checked.now ≡ p → (b : Bool) (new : Follower) → TakesInternal now t b new
+  pub catches_up_one : taken < count → said_by now.checked.now ≡ p → (b : Bool) (new : Follower)
+      → TakesInternal now t b new
       → (b ≡ true) × IsPaying p t g ahead count (taken + 1) new
   catches_up_one more same b new act_taken = by_rest (paying.so_far.deferred t) refl
     where

@@ -13,7 +13,8 @@ use Rattle.meaning.specs.Table.{Table, Allows}
 use Rattle.meaning.specs.Processes.{Process}
 use Rattle.meaning.specs.Offers.{Effect, TakesUp}
 use Rattle.proof_commutation.specs.Deferring.{is_internal}
-use Rattle.source_offers.specs.declared.offers.Offered.TheVariants.{Rests, Does, Makes, Claims, NotifiesSome, NotifiesAll}
+use Rattle.source_offers.specs.declared.offers.Offered.TheVariants.{Rests, Does, Makes, Claims, NotifiesSome}
+use Rattle.source_offers.specs.declared.offers.Offered.TheVariants.{NotifiesAll}
 use Rattle.source_offers.specs.declared.next_action.Offer.{Offer}
 use Rattle.source_offers.specs.declared.next_action.Offer.TheVariants.{Own, Enters, Resumes, Joins}
 use Rattle.source_offers.specs.declared.process.Process.{Process as ProcessOf}

@@ -19,7 +19,8 @@ use Rattle.program.specs.Trees.{Program}
 use Rattle.program.specs.WellFormed.{WellFormed}
 use Rattle.proof_simulation.specs.Explaining.{IsDue}
 use Rattle.proof_simulation.specs.Progress.{Progress}
-use Rattle.log_simulation.specs.Entries.{ComesTo, entry_steps, is_visible, progress_end, progress_entry, progress_locally}
+use Rattle.log_simulation.specs.Entries.{ComesTo, entry_steps, is_visible, progress_end, progress_entry}
+use Rattle.log_simulation.specs.Entries.{progress_locally}
 use Rattle.log_simulation.specs.Entries.{progress_shared}
 use Rattle.log_simulation.proofs.Progressing.{due_so, enters_so}
 use Rattle.log_simulation.specs.declared.recorder.Recorder.{Recorder}
@@ -80,7 +81,8 @@ module _ (p : Program) (events : List EventStep) (k k' : ConcreteState) (e : Ent
         of_program = of;
         source = progress_entry p e o here k' along.source;
         comes = comes_at along.source along.comes;
-        told = subst (λ (x : Option Event). RecordsUnlessLong (length (events ++ (replicate e.local (local_step_of e.thread)
+        told = subst (λ (x : Option Event). RecordsUnlessLong
+            (length (events ++ (replicate e.local (local_step_of e.thread)
             ++ shared_step_of e.thread x))) (progress_end p e.thread here x k' g) r') (sym alone)
             (subst (λ n. RecordsUnlessLong n g r') count tells);
       }
@@ -97,7 +99,8 @@ module _ (p : Program) (events : List EventStep) (k k' : ConcreteState) (e : Ent
         of_program = of;
         source = progress_entry p e o here k' along.source;
         comes = comes_at along.source along.comes;
-        told = subst (λ (x : Option Event). RecordsUnlessLong (length (events ++ (replicate e.local (local_step_of e.thread)
+        told = subst (λ (x : Option Event). RecordsUnlessLong
+            (length (events ++ (replicate e.local (local_step_of e.thread)
             ++ shared_step_of e.thread x))) (progress_end p e.thread here x k' g) r') (sym is)
             (subst (λ n. RecordsUnlessLong n (progress_shared p e.thread here event.value k' g) r') (sym many) tells);
       }

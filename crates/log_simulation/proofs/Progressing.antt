@@ -37,7 +37,8 @@ use Rattle.proof_simulation.proofs.Completions.{steps_so as tells_so}
 use Rattle.proof_simulation.proofs.Explaining.{goes_on_by, due, reached}
 use Rattle.proof_simulation.proofs.Local.{put_again}
 use Rattle.proof_simulation.proofs.Worlds.{put_put}
-use Rattle.log_simulation.specs.Entries.{is_visible, deferred_at, deferred_locally, progress_locally, progress_shared, progress_end}
+use Rattle.log_simulation.specs.Entries.{is_visible, deferred_at, deferred_locally, progress_locally}
+use Rattle.log_simulation.specs.Entries.{progress_shared, progress_end}
 use Rattle.log_simulation.specs.Entries.{entry_steps, progress_entry, ComesTo}
 use Rattle.log_simulation.proofs.LogSteps.{visible, deferral, put_twice, goes_local, goes_by, same_thread}
 
@@ -173,7 +174,8 @@ module _ (p : Program) where
           ∙ ap (λ i. n ++ i) (replicate_more more (local_step_of t)
           ∙ ap (λ (j : ℕ). replicate j (local_step_of t)) one) in
           let told : progress_shared p t m 0 (put_thread there t here) (record g { deferred = put g.deferred t ks })
-          ≡ record g { deferred = put (put g.deferred t ks) t (deferred_at (marks_of p) (Some m) (put g.deferred t ks t)) } =
+          ≡ record g { deferred = put (put g.deferred t ks) t
+              (deferred_at (marks_of p) (Some m) (put g.deferred t ks t)) } =
           ap (λ (l : Look). progress_step p (is_visible p l 0) (deferred_by_step (mark_of (marks_of p) m) l 0)
           (state_of (put_thread there t here)) t (record g { deferred = put g.deferred t ks })) local in
           let waits : put (put g.deferred t ks) t (deferred_at (marks_of p) (Some m) (put g.deferred t ks t))

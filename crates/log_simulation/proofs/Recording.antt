@@ -48,7 +48,8 @@ use Rattle.log_simulation.proofs.Records.{deferral_so, when_false, when_true, fe
 -- what is told behind more steps
 pub tells_on : (more n : ℕ) (g g' : Progress) (r r' last : Recorder) → Counts more r r' → RecordsUnlessLong n g r
     → last.is_whole ≡ r'.is_whole
-    → (Records n g r → r'.steps ≡ n + more → n + more < 2 ^ 32 → Records (n + more) g' last) → RecordsUnlessLong (n + more) g' last
+    → (Records n g r → r'.steps ≡ n + more → n + more < 2 ^ 32 → Records (n + more) g' last)
+        → RecordsUnlessLong (n + more) g' last
 tells_on more n g g' r r' last counts tells same on = by_whole last.is_whole refl
   where
     past : (b : Bool) → r.is_whole ≡ b → r'.is_whole ≡ false → 2 ^ 32 ≤ n + more
@@ -78,7 +79,8 @@ still_of p r r' of checked layout marks places = record {
 }
 
 -- what is heard of a step
-pub is_visible_so : (p : Program) (f : Follower) (image : Image) (t : ℕ) (here : Thread) (step : NextStep) (v : ℕ) (b : Bool)
+pub is_visible_so : (p : Program) (f : Follower) (image : Image) (t : ℕ) (here : Thread) (step : NextStep) (v : ℕ)
+    (b : Bool)
     → said_by f.checked.now ≡ p → f.layout ≡ layout_of p → image ≡ code_of p
     → step ≡ next_step_of (look image t here)
     → (f.layout ≡ layout_of (said_by f.checked.now) → b ≡ visible_step (said_by f.checked.now) step v)
@@ -117,7 +119,8 @@ module _ (p : Program) (n t v : ℕ) (here : Thread) (k : ConcreteState) (g : Pr
   -- behind a step that others don't learn of
   pub internally : (r last : Recorder) → Records n g r → is_visible p (look (code_of p) t here) v ≡ false
       → last.steps ≡ n + 1 → n + 1 < 2 ^ 32 → last.follower ≡ r.follower
-      → CountsDeferred last.deferred.items (put g.deferred t (deferred_then (deferred_by_step (mark_of (marks_of p) here)
+      → CountsDeferred last.deferred.items
+          (put g.deferred t (deferred_then (deferred_by_step (mark_of (marks_of p) here)
       (look (code_of p) t here) v) (g.deferred t)))
       → Records (n + 1) (progress_shared p t here v k g) last
   internally r last h none steps few follower waits =
@@ -175,7 +178,8 @@ module _ (p : Program) where
       ∙ append_assoc g.actions (actions_up_to n g.deferred) (actions_of (suc n) (g.deferred (suc n)))
 
   -- one process more
-  pub rest_more : (n : ℕ) (g : Progress) → progress_rest p (n + 1) g ≡ progress_caught_up p (n + 1) (progress_rest p n g)
+  pub rest_more : (n : ℕ) (g : Progress) → progress_rest p (n + 1) g
+      ≡ progress_caught_up p (n + 1) (progress_rest p n g)
   rest_more n g =
       let one : suc n ≡ n + 1 = omega arith in
       subst (λ m. progress_rest p m g ≡ progress_caught_up p m (progress_rest p n g)) one refl
@@ -188,7 +192,8 @@ module _ (p : Program) where
       × IsBehind p (progress_caught_up p t g).deferred (progress_caught_up p t g).source ahead
   catches_up_next f f' t count b g ahead program matches behind many catches_up =
       let caught_up = subst (λ q. IsBehind q g.deferred g.source ahead
-      → (b ≡ true) × Matches f' (progress_caught_up q t g)) program (λ h. catches_up g ahead matches h (sym many)) behind in
+      → (b ≡ true) × Matches f' (progress_caught_up q t g)) program
+          (λ h. catches_up g ahead matches h (sym many)) behind in
       (caught_up.0, caught_up.1, (caught_up_behind p t g.deferred g.source ahead (g.deferred t) behind refl).1)
 
   pub as_many : (run : List Step) (events : List EventStep)

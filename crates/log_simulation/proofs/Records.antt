@@ -55,7 +55,8 @@ deferral_request mark (AskSwap a new) v = refl
 deferral_request mark (AskFork entry arguments has_room) v = refl
 deferral_request mark request v = refl
 
-pub deferral_so : (mark : Option Mark) (l : Look) (v : ℕ) → deferred_by_next_step mark (next_step_of l) v ≡ deferred_by_step mark l v
+pub deferral_so : (mark : Option Mark) (l : Look) (v : ℕ)
+    → deferred_by_next_step mark (next_step_of l) v ≡ deferred_by_step mark l v
 deferral_so mark (Goes x) v = refl
 deferral_so mark (Asks request go) v = deferral_request mark request v
 deferral_so mark (Leaves phase) v = refl
@@ -146,7 +147,8 @@ get_set (w ∷ ws) (suc t) (suc u) x y h = by_rest (get_set ws t u x y h)
     by_rest (inl (e, s)) = inl (ap suc e, s)
     by_rest (inr (o, s)) = inr (λ e. o (omega (arith, e)), s)
 
-pub put_deferred : (ws : List Deferred) (f : ℕ → List Kind) (t : ℕ) (y : Deferred) (ks : List Kind) → CountsDeferred ws f → Says y ks
+pub put_deferred : (ws : List Deferred) (f : ℕ → List Kind) (t : ℕ) (y : Deferred) (ks : List Kind)
+    → CountsDeferred ws f → Says y ks
     → CountsDeferred (slice_set ws t y) (put f t ks)
 put_deferred ws f t y ks waits says u x h = by_place (get_set ws t u x y h)
   where
@@ -166,7 +168,8 @@ deferred_past ws f t ks waits none u x h =
     nowhere there = let both : Some x ≡ None = sym there ∙ none in absurd cc
 
 -- nothing waits of any process
-pub none_deferred : (ws : List Deferred) (x : Deferred) → CountsDeferred ws (λ t. []) → Says x [] → CountsDeferred (ws ++ x ∷ []) (λ t. [])
+pub none_deferred : (ws : List Deferred) (x : Deferred) → CountsDeferred ws (λ t. []) → Says x []
+    → CountsDeferred (ws ++ x ∷ []) (λ t. [])
 none_deferred [] x waits says zero y h = let e : x ≡ y = cc in subst (λ (i : Deferred). Says i []) e says
 none_deferred [] x waits says (suc t) y h = absurd cc
 none_deferred (w ∷ ws) x waits says zero y h = waits zero y h

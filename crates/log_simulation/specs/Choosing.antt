@@ -6,7 +6,8 @@ use Rattle.meaning.specs.Labels.{Kind, kind_of}
 use Rattle.meaning.specs.Labels as L
 use Rattle.source_offers.specs.declared.offers.Label.{Label}
 use Rattle.source_offers.specs.declared.offers.Offered.{Offered}
-use Rattle.source_offers.specs.declared.offers.Offered.TheVariants.{Rests, Does, Makes, Claims, NotifiesSome, NotifiesAll}
+use Rattle.source_offers.specs.declared.offers.Offered.TheVariants.{Rests, Does, Makes, Claims, NotifiesSome}
+use Rattle.source_offers.specs.declared.offers.Offered.TheVariants.{NotifiesAll}
 use Rattle.source_offers.specs.declared.next_action.Offer.{Offer}
 use Rattle.source_offers.specs.declared.next_action.Offer.TheVariants.{Own, Enters, Resumes, Joins}
 use Rattle.source_offers.specs.Offered.{label_of}

@@ -36,7 +36,8 @@ deferred_at marks (Some x) ks = deferred_then (deferred_by_mark (mark_of marks x
 -- what waits of process t behind so many local steps of its thread
 abbrev pub deferred_locally : Program → (t steps : ℕ) → Thread → List Kind → List Kind
 deferred_locally p t zero x ks = ks
-deferred_locally p t (suc n) x ks = deferred_at (marks_of p) (local_after (code_of p) t n x) (deferred_locally p t n x ks)
+deferred_locally p t (suc n) x ks = deferred_at (marks_of p) (local_after (code_of p) t n x)
+    (deferred_locally p t n x ks)
 
 -- what the source has come to behind them
 abbrev pub progress_locally : Program → (t steps : ℕ) → Thread → Progress → Progress

@@ -68,7 +68,8 @@ pub fn run_source<R: Threads + Wait + Sync, G: Gate>(
     Ok(workers::run(rt, alloc, &image, limit, gate)?)
 }
 
-/// The same on the calling thread, as `runner::run_in_order` does: round after round, an entry of each thread that can move, by
+/// The same on the calling thread, as `runner::run_in_order` does: round after round, an entry of each thread that
+/// can move, by
 /// rising number. So the report depends on the text and the limit alone, want of memory aside.
 pub fn run_in_order<G: Gate>(
     alloc: Global,

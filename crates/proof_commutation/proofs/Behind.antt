@@ -14,7 +14,8 @@ use Rattle.meaning.specs.Runs.{IsAction, IsStep}
 use Rattle.meaning.proofs.Offered.{IsPlain, IsQuiet, plain}
 use Rattle.proof_commutation.specs.Deferring.{MayDefer, LeadsDeferredAt, IsBehind}
 use Rattle.proof_commutation.proofs.Puts.{at_put2}
-use Rattle.proof_commutation.proofs.Waiting.{at_more, at_same, at_self, at_none, First, at_first, over_ahead, over_behind}
+use Rattle.proof_commutation.proofs.Waiting.{at_more, at_same, at_self, at_none, First, at_first, over_ahead}
+use Rattle.proof_commutation.proofs.Waiting.{over_behind}
 use Rattle.proof_commutation.proofs.Keeping.{grows, Stays, at_still}
 
 abbrev pub act : ℕ → Kind → Action
@@ -54,7 +55,8 @@ module _ (p : Program) where
       at : (u : ℕ) → LeadsDeferredAt p u c.variable c.table (more u) (a.process u) (put c.process t (Some r) u)
       at u = at_put2 deferred c.process t (deferred t ++ kind_of label ∷ []) (Some r) u
           (λ ks x. LeadsDeferredAt p u c.variable c.table ks (a.process u) x)
-          (λ e. subst (λ w. LeadsDeferredAt p w c.variable c.table (deferred t ++ kind_of label ∷ []) (a.process w) (Some r))
+          (λ e. subst (λ w. LeadsDeferredAt p w c.variable c.table (deferred t ++ kind_of label ∷ []) (a.process w)
+              (Some r))
           (sym e) mine)
           (λ o. b.processes u)
 
@@ -132,7 +134,8 @@ held_once u t h o x y =
 -- where the processes stand after an effect, the process that acts aside
 others_after : (p : Program) (u : ℕ) (v : Variables) (T : Table) (ks : List Kind) (e : Effect)
     (f g : ℕ → Option Process) → ((child : ℕ) (q : Process) → e ≡ Makes child q → g child ≡ None)
-    → LeadsDeferredAt p u v T ks (f u) (g u) → LeadsDeferredAt p u v T ks (processes_after e f u) (processes_after e g u)
+    → LeadsDeferredAt p u v T ks (f u) (g u) → LeadsDeferredAt p u v T ks (processes_after e f u)
+        (processes_after e g u)
 others_after p u v T ks Nothing f g none w = w
 others_after p u v T ks (Puts m n i z) f g none w = w
 others_after p u v T ks (Writes z) f g none w = w
@@ -202,7 +205,8 @@ module _ (p : Program) (deferred : ℕ → List Kind) (a c c' : SourceState) (t 
       table = refl;
       variables = refl;
       printed = refl;
-      processes = λ u. subst (λ f. LeadsDeferredAt p u c'.variable c'.table (deferred u) (a'.process u) (f u)) (sym x.processes)
+      processes = λ u. subst (λ f. LeadsDeferredAt p u c'.variable c'.table (deferred u) (a'.process u) (f u))
+          (sym x.processes)
           (at u);
     },
   )

@@ -119,7 +119,8 @@ module _ (p : Program) (wf : WellFormed p) (actions : List Action) (c : SourceSt
       table = refl;
       variables = refl;
       printed = refl;
-      processes = λ u. subst (λ f. LeadsDeferredAt p u c'.variable c'.table (deferred u) (a.process u) (f u)) (sym x.processes)
+      processes = λ u. subst (λ f. LeadsDeferredAt p u c'.variable c'.table (deferred u) (a.process u) (f u))
+          (sym x.processes)
           (at_still p u c.variable c'.variable c.table c'.table
           (stays_same u c.variable c'.variable c.table c'.table x.variables
           (ap (λ T. T.hold) x.allows.1) (ap (λ T. T.made) x.allows.1) (ap (λ T. T.claimed) x.allows.1))
@@ -152,7 +153,8 @@ module _ (p : Program) (wf : WellFormed p) (actions : List Action) (c : SourceSt
       table = refl;
       variables = refl;
       printed = refl;
-      processes = λ u. subst (λ f. LeadsDeferredAt p u c'.variable c'.table (deferred u) (a'.process u) (f u)) (sym x.processes)
+      processes = λ u. subst (λ f. LeadsDeferredAt p u c'.variable c'.table (deferred u) (a'.process u) (f u))
+          (sym x.processes)
           (at_put2 a.process c.process t dying dying u
           (λ y z. LeadsDeferredAt p u c'.variable c'.table (deferred u) y z)
           (λ e. subst (λ l. LeadsDeferredAt p u c'.variable c'.table l dying dying) (sym (ap deferred e ∙ empty)) refl)

@@ -74,7 +74,8 @@ module _ (p : Program) (u : ℕ) (v v' : Variables) (T T' : Table) (s : Stays u 
   waits_still [] q r w = w
   waits_still (k ∷ ks) q r w = (w.0, w.1, w.2, may_still q w.1 w.0 w.3, waits_still ks w.1 r w.4)
 
-  pub at_still : (ks : List Kind) (x y : Option Process) → LeadsDeferredAt p u v T ks x y → LeadsDeferredAt p u v' T' ks x y
+  pub at_still : (ks : List Kind) (x y : Option Process) → LeadsDeferredAt p u v T ks x y
+      → LeadsDeferredAt p u v' T' ks x y
   at_still ks None None w = w
   at_still ks None (Some r) w = absurd w
   at_still ks (Some q) None w = absurd w

@@ -13,7 +13,8 @@ use Rattle.meaning.proofs.Unique.{step_once}
 use Rattle.meaning.proofs.Ends.{numbered}
 use Rattle.meaning.proofs.Led.{leads_more}
 use Rattle.proof_commutation.specs.Deferring.{LeadsDeferredAt, IsBehind}
-use Rattle.proof_commutation.specs.Placed.{Marked, action_of, actions_of, actions_up_to, placed_behind, Defers, LeadsMarked}
+use Rattle.proof_commutation.specs.Placed.{Marked, action_of, actions_of, actions_up_to, placed_behind, Defers}
+use Rattle.proof_commutation.specs.Placed.{LeadsMarked}
 use Rattle.proof_commutation.proofs.Puts.{at_put, put_same, put_other, put_again, put_itself}
 use Rattle.proof_commutation.proofs.Waiting.{at_equal, at_none}
 use Rattle.proof_commutation.proofs.Behind.{act, waits, takes}
@@ -30,7 +31,8 @@ behind_same p w w' a c same b = record {
   table = b.table;
   variables = b.variables;
   printed = b.printed;
-  processes = λ u. subst (λ ks. LeadsDeferredAt p u c.variable c.table ks (a.process u) (c.process u)) (same u) (b.processes u);
+  processes = λ u. subst (λ ks. LeadsDeferredAt p u c.variable c.table ks (a.process u) (c.process u)) (same u)
+      (b.processes u);
 }
 
 -- some actions lead from a state to one in which these wait still

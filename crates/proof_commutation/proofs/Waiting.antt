@@ -52,7 +52,8 @@ module _ (p : Program) (t : ℕ) (v : Variables) (T : Table) where
     pub may : MayDefer p t v T before label mid
     pub later : LeadsDeferred p t v T ks mid after
 
-  pub at_first : (k : Kind) (ks : List Kind) (x y : Option Process) → LeadsDeferredAt p t v T (k ∷ ks) x y → First k ks x y
+  pub at_first : (k : Kind) (ks : List Kind) (x y : Option Process) → LeadsDeferredAt p t v T (k ∷ ks) x y
+      → First k ks x y
   at_first k ks None None w = absurd (cc)
   at_first k ks None (Some r) w = absurd w
   at_first k ks (Some q) None w = absurd w

@@ -35,7 +35,8 @@ pub record MayDefer (p : Program) (t : ℕ) (v : Variables) (T : Table) (q : Pro
 abbrev pub LeadsDeferred : Program → ℕ → Variables → Table → List Kind → Process → Process → Type 0
 LeadsDeferred p t v T [] q r = q ≡ r
 LeadsDeferred p t v T (k ∷ ks) q r =
-    (label : Label) × (mid : Process) × (k ≡ kind_of label) × MayDefer p t v T q label mid × LeadsDeferred p t v T ks mid r
+    (label : Label) × (mid : Process) × (k ≡ kind_of label) × MayDefer p t v T q label mid
+        × LeadsDeferred p t v T ks mid r
 
 -- the same of process t, in a state and in the one behind these actions
 abbrev pub LeadsDeferredAt : Program → ℕ → Variables → Table → List Kind → Option Process → Option Process → Type 0

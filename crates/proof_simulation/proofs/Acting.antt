@@ -136,7 +136,8 @@ module _ (p : Program) (w : WellFormed p) (steps : ℕ) (s : State) (c : SourceS
       subst (λ (x : State). Next p w steps x t done deferral pauses n c (stages k.world)) (sym same) next
 
   -- a local step, and no move: a thread stands where it stood, with fewer steps left
-  pub remains : done ≡ false → deferral ≡ None → (y : Thread) (q : Process) (pt : Point) (l : List ℕ) → c.process t ≡ Some q
+  pub remains : done ≡ false → deferral ≡ None → (y : Thread) (q : Process) (pt : Point) (l : List ℕ)
+      → c.process t ≡ Some q
       → (k.world.at t).point ≡ pt → (k.world.at t).list ≡ l → s' ≡ with_thread s t y
       → (stand : StandsAt b c.variable t (Some y) (Some q) pt l)
       → steps_left b c.variable t k.world stand < n → Next p w steps s' t done deferral pauses n c (stages k.world)

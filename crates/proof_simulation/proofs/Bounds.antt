@@ -16,7 +16,8 @@ use Rattle.protocol.specs.World.{World}
 use Rattle.proof_thread.specs.Following.{Build}
 use Rattle.refinement.specs.Built.{build_of}
 use Rattle.refinement.specs.Pace.{stretch_length}
-use Rattle.proof_simulation.specs.Standing.{StandsAt, unmade, works, returns, inside, faults, reads, sleeps, learns, takes}
+use Rattle.proof_simulation.specs.Standing.{StandsAt, unmade, works, returns, inside, faults, reads, sleeps, learns}
+use Rattle.proof_simulation.specs.Standing.{takes}
 use Rattle.proof_simulation.specs.Standing.{walks, clears, wakes, rests}
 use Rattle.proof_simulation.specs.Ranks.{rank, steps_left, more_steps, most_left}
 

@@ -76,7 +76,8 @@ count_one u t k actions = count_by-cons (is_action_of t) (act u k) actions ∙ b
 
 -- what is placed at a step, and the faults that wait behind it
 pub placed_count : (p : Program) (s' : State) (u : ℕ) (c c' : SourceState) (done : Bool) (deferral : Option Kind)
-    (was now : Stage) (kinds ks : List Kind) → Places p s' u c c' done deferral was now kinds → Agrees was (has_failed ks)
+    (was now : Stage) (kinds ks : List Kind) → Places p s' u c c' done deferral was now kinds
+        → Agrees was (has_failed ks)
     → (length kinds ≡ step_count done deferral ks) × Agrees now (has_failed (behind done deferral ks))
 placed_count p s' u c c' done deferral was now kinds ks (P.nothing none plain stays same) h = (
   sym (ap (λ b. step_count b deferral ks) none ∙ ap (λ (i : Option Kind). step_count false i ks) plain),
@@ -100,7 +101,8 @@ placed_count p s' u c c' done deferral was now kinds ks (P.waits q r label none 
           (sym (ap (λ b. behind b deferral ks) none ∙ ap (λ (i : Option Kind). behind false i ks) told
           ∙ more_deferred ks k fine)) (subst (λ b. Agrees now b) (sym (failed_first ks k fine)) here),
     )
-placed_count p s' u c c' done deferral was now kinds ks (P.acts q r label effect T is calm visible stands takes allows holder
+placed_count p s' u c c' done deferral was now kinds ks
+    (P.acts q r label effect T is calm visible stands takes allows holder
     keeps resumes same) h = (
       sym (ap (λ b. step_count b deferral ks) is),
       subst (λ (i : List Kind). Agrees now (has_failed i)) (sym (ap (λ b. behind b deferral ks) is)) calm,

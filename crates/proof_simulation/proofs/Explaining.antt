@@ -17,7 +17,8 @@ use Rattle.proof_thread.specs.Deferrals.{mark_of, deferred_by_step}
 use Rattle.proof_simulation.specs.Corresponding.{Corresponds}
 use Rattle.proof_simulation.specs.Explaining.{explanation, IsDue, IsReached}
 use Rattle.proof_commutation.specs.Deferring.{IsBehind}
-use Rattle.proof_simulation.specs.Next.{after_next, next_kinds, next_visible, offer_of_process, take_deferred, internal_next}
+use Rattle.proof_simulation.specs.Next.{after_next, next_kinds, next_visible, offer_of_process, take_deferred}
+use Rattle.proof_simulation.specs.Next.{internal_next}
 use Rattle.proof_simulation.specs.Ordering.{act}
 use Rattle.proof_simulation.specs.Progress.{answer_in, visible_step, Progress, progress, progress_by, progress_step}
 use Rattle.proof_simulation.specs.Progress.{progress_taken}
@@ -29,13 +30,15 @@ use Rattle.proof_simulation.proofs.Nexts.{catches_up_behind, visible_is, visible
 use Rattle.proof_simulation.proofs.Finishing.{finishes, finishes_counted, finishes_own, own_of, own_both}
 use Rattle.proof_simulation.proofs.Local.{put_again}
 use Rattle.proof_simulation.proofs.Sourcing.{action}
-use Rattle.proof_simulation.proofs.Tracking.{opens_deferred, tracks_deferred, catches_up_deferred, takes_visible_deferred, takes_visible_own}
+use Rattle.proof_simulation.proofs.Tracking.{opens_deferred, tracks_deferred, catches_up_deferred}
+use Rattle.proof_simulation.proofs.Tracking.{takes_visible_deferred, takes_visible_own}
 use Rattle.proof_simulation.proofs.Whole.{AllOwn, leads_on, come, most, few, own_kinds, none_from_outside}
 use Rattle.proof_simulation.proofs.Worlds.{put_put}
 use Rattle.proof_simulation.proofs.Observing.{ends, sound}
 use Rattle.proof_simulation.proofs.Resting.{at_rest, sleepers}
 use Rattle.proof_simulation.proofs.Paces.{count_by-append, keeps_pace}
-use Rattle.proof_simulation.proofs.Counting.{count, counts, count_map, count_one, of_one, step_count, behind, length_waits}
+use Rattle.proof_simulation.proofs.Counting.{count, counts, count_map, count_one, of_one, step_count, behind}
+use Rattle.proof_simulation.proofs.Counting.{length_waits}
 use Rattle.proof_simulation.proofs.Counting.{length_taken}
 use Rattle.proof_simulation.proofs.Opening.{opens, opens_calm}
 use Rattle.proof_simulation.proofs.Bounds.{left_short}
@@ -258,7 +261,8 @@ module _ (p : Program) (w : WellFormed p) where
             sound = sound p w n s source k;
             actions = actions;
             source = source;
-            run = leads_on p (opening p) g.source source g.actions (actions_up_to s.made g.deferred) whole.0.is.run rest;
+            run = leads_on p (opening p) g.source source g.actions
+                (actions_up_to s.made g.deferred) whole.0.is.run rest;
             output = k.output;
             variables = k.variables;
             ends = ends p w n s source k;

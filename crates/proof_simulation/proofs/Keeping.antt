@@ -22,7 +22,8 @@ use Rattle.meaning.specs.Processes.{frame_of, with_local, with_result, hands_ove
 use Rattle.meaning.specs.Processes.{callers_monitors, monitor_of_role}
 use Rattle.meaning.specs.Offers.{Effect, Offer, Does, faults, with_value, with_values, with_index, answers, assigns}
 use Rattle.meaning.specs.Offers.{claims, return_value, statement_offer, rest_offer, offer, TakesUp}
-use Rattle.proof_thread.specs.Following.{Build, AreSound, IsFrame, CallersStand, is_called, is_recovery, Running, Stands}
+use Rattle.proof_thread.specs.Following.{Build, AreSound, IsFrame, CallersStand, is_called, is_recovery, Running}
+use Rattle.proof_thread.specs.Following.{Stands}
 use Rattle.proof_thread.specs.Following.{runs, enters, returns, fails}
 use Rattle.proof_thread.proofs.Holding.{main_alone, goes_on_holds}
 use Rattle.proof_simulation.specs.Standing.{IsLast, KeepsMonitors, Holds}

@@ -166,7 +166,8 @@ module _ (p : Program) (w : WellFormed p) (steps : ℕ) (s : State) (c : SourceS
       (LastWakes end) LastWake woken s' tt point (k.lists t) refl tt (plainly p done deferral None s t woken
       (Leaves LastWake) s' moves)
       in
-      stepped p w steps s c k t done deferral pauses s' on.mid n 0 (Exits on.later) (Over end) (LastWakes end) number awake
+      stepped p w steps s c k t done deferral pauses s' on.mid n 0 (Exits on.later) (Over end)
+          (LastWakes end) number awake
       proc point on.served on.same moves.5 tt (λ e may. moves.4)
       (λ e u label h. absurd cc)
       (λ e may.

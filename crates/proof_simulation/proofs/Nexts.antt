@@ -22,7 +22,8 @@ use Rattle.proof_commutation.specs.Placed.{actions_of}
 use Rattle.proof_commutation.proofs.Waiting.{First, at_first}
 use Rattle.proof_commutation.proofs.Behind as D
 use Rattle.protocol.proofs.Sleeps.{put_same}
-use Rattle.proof_simulation.specs.Next.{NextAction, internal_next, visible_next, is_abandoned, entered_monitor, joins_next}
+use Rattle.proof_simulation.specs.Next.{NextAction, internal_next, visible_next, is_abandoned, entered_monitor}
+use Rattle.proof_simulation.specs.Next.{joins_next}
 use Rattle.proof_simulation.specs.Next.{table_after, after_next, offer_of_process, next_visible, take_deferred}
 use Rattle.proof_simulation.specs.Ordering.{act, state_after, awake_waiters, Resumes as Resumes'}
 use Rattle.proof_simulation.specs.Tracking.{CanTake}
@@ -77,7 +78,8 @@ taken_so t k m b T T' (inr e) allows =
 
 module _ (p : Program) (s : State) (t : ℕ) (T T' : Table) where
   visible_taken : (o : Offer) (l : Label) (e : Effect) (q : Process) → IsPlain o → TakesUp o l e q → Allows t l T T'
-      → is_internal l ≡ false → Resumes' p s T l → visible_next p s T o ≡ Some (record { label = l; effect = e; after = q })
+      → is_internal l ≡ false → Resumes' p s T l → visible_next p s T o
+          ≡ Some (record { label = l; effect = e; after = q })
   unfolding deed
   visible_taken Rests l e q is h allows visible who = absurd h
   visible_taken (Does k f r) l e q is h allows visible who = same_deed l k e f q r h.0 h.1 h.2
@@ -137,7 +139,8 @@ module _ (p : Program) (a : SourceState) (t : ℕ) (label : Label) (can : CanTak
       → after_next t (internal_next (offer_of_process p a.variable (a.process t))) a ≡ state_after a t can.effect
       can.after can.table
   internal_so internal = ap (λ o. after_next t o a) (ap internal_next offered_so
-      ∙ internal_taken (offer p a.variable can.before) label can.effect can.after (plain p a.variable can.before) can.takes
+      ∙ internal_taken (offer p a.variable can.before) label can.effect can.after
+          (plain p a.variable can.before) can.takes
       internal) ∙ leads_so
 
   module _ (s : State) (visible : is_internal label ≡ false) (who : Resumes' p s a.table label) where
@@ -152,7 +155,8 @@ module _ (p : Program) (a : SourceState) (t : ℕ) (label : Label) (can : CanTak
 
 module _ (p : Program) (t : ℕ) where
   -- the first action that waits is the next quiet one, and waits no longer behind it
-  pub catches_up_behind : (deferred : ℕ → List Kind) (a c : SourceState) (k : Kind) (ks : List Kind) → IsBehind p deferred a c
+  pub catches_up_behind : (deferred : ℕ → List Kind) (a c : SourceState) (k : Kind) (ks : List Kind)
+      → IsBehind p deferred a c
       → deferred t ≡ k ∷ ks
       → (label : Label) × (k ≡ kind_of label) × (is_internal label ≡ true) × CanTake p a t label
       × IsStep p a (act t k) (after_next t (internal_next (offer_of_process p a.variable (a.process t))) a)

@@ -56,8 +56,10 @@ use Rattle.proof_templates.specs.Locking.{Takes, EntersAt, ExitsAt, WaitsAt}
 use Rattle.proof_templates.specs.Locking as L
 use Rattle.proof_templates.specs.Notifying.{NotifiesAt, BroadcastsAt}
 use Rattle.proof_templates.specs.Notifying as N
-use Rattle.proof_templates.specs.Inside.{Template, Enters, Exits, Waits, Notifies, Broadcasts, lock_taker, taking_process}
-use Rattle.proof_templates.specs.Inside.{releasing_process, process_at, StandsIn, first_thread, first_point, TemplateFits, IsSteady}
+use Rattle.proof_templates.specs.Inside.{Template, Enters, Exits, Waits, Notifies, Broadcasts, lock_taker}
+use Rattle.proof_templates.specs.Inside.{taking_process}
+use Rattle.proof_templates.specs.Inside.{releasing_process, process_at, StandsIn, first_thread, first_point}
+use Rattle.proof_templates.specs.Inside.{TemplateFits, IsSteady}
 use Rattle.proof_templates.proofs.Follows.{follows}
 use Rattle.proof_templates.proofs.Begins.{begins}
 use Rattle.proof_templates.proofs.Layouts.{valid_lies, word_lies, number_is}
@@ -169,7 +171,8 @@ releasing_end before after (LeaveSwaps m r) h g = h
 releasing_end before after pt h g = g
 
 module _ (b : Build) (u : Variables) (t : ℕ) where
-  template_end : (k : Template) (pt : Point) → TemplateFits b u t k → process_end (Some (process_at b.program k pt)) ≡ None
+  template_end : (k : Template) (pt : Point) → TemplateFits b u t k
+      → process_end (Some (process_at b.program k pt)) ≡ None
   template_end (Enters m base l fs f cs) pt h = taking_end b.program m f cs (Entering m f cs) pt refl
   template_end (Exits m base shown l fs before z cs) pt h =
       releasing_end before _ pt (offers_end b.program u before (λ r. cc (r, h.offers))) refl
@@ -343,7 +346,8 @@ module _ (p : Program) (w : WellFormed p) (s : State) (size : s.size ≡ memory_
     begins_inside (Notifies c base l fs before after ms) e = cc
     begins_inside (Broadcasts c base l fs before after ms) e = cc
 
-    begins_busy : (v : Variables) (k : Template) (x : Thread) → x ≡ first_thread k → TemplateFits b v t k → IsBusy p s t x
+    begins_busy : (v : Variables) (k : Template) (x : Thread) → x ≡ first_thread k → TemplateFits b v t k
+        → IsBusy p s t x
     begins_busy v k x is fits =
         let g = begins b v t false k some few fits in
         subst (λ (z : Thread). IsBusy p s t z) (sym is) (steps_busy 16 (first_thread k) g.thread g.walk

@@ -20,7 +20,8 @@ use Rattle.protocol.specs.Served.{source_event}
 use Rattle.proof_thread.specs.Following.{Build}
 use Rattle.proof_templates.specs.Locking.{Takes, EntersAt, ExitsAt, WaitsAt}
 use Rattle.proof_templates.specs.Locking as L
-use Rattle.proof_templates.specs.Inside.{Template, Enters, Exits, Waits, Notifies, Broadcasts, process_at, taking_process}
+use Rattle.proof_templates.specs.Inside.{Template, Enters, Exits, Waits, Notifies, Broadcasts, process_at}
+use Rattle.proof_templates.specs.Inside.{taking_process}
 use Rattle.proof_templates.specs.Inside.{StandsIn, TemplateFits, IsBeforeRelease, SameBefore}
 use Rattle.proof_templates.specs.Templates.{ActsSo}
 use Rattle.proof_simulation.proofs.Ranking.{IsTemplate}

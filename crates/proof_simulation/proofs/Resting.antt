@@ -41,7 +41,8 @@ use Rattle.proof_templates.specs.Locking.{Takes, EntersAt, ExitsAt, WaitsAt}
 use Rattle.proof_templates.specs.Locking as L
 use Rattle.proof_templates.specs.Notifying.{NotifiesAt, BroadcastsAt}
 use Rattle.proof_templates.specs.Notifying as N
-use Rattle.proof_templates.specs.Inside.{Template, Enters, Exits, Waits, Notifies, Broadcasts, process_at, StandsIn, TemplateFits}
+use Rattle.proof_templates.specs.Inside.{Template, Enters, Exits, Waits, Notifies, Broadcasts, process_at, StandsIn}
+use Rattle.proof_templates.specs.Inside.{TemplateFits}
 use Rattle.proof_templates.proofs.Layouts.{number_is, monitor_valid, is_cell}
 use Rattle.proof_simulation.specs.Standing as S
 use Rattle.proof_simulation.specs.Standing.{StandsAt}
@@ -175,7 +176,8 @@ module _ (p : Program) (t n i : ℕ) (is : n ≡ suc i) where
       by_monitor None h = absurd cc
       by_monitor (Some x) h = refl
 
-  inside_entry : (b : Build) → b.program ≡ p → (u : Variables) (k : Template) (pt : Point) (x : Thread) → TemplateFits b u t k
+  inside_entry : (b : Build) → b.program ≡ p → (u : Variables) (k : Template) (pt : Point) (x : Thread)
+      → TemplateFits b u t k
       → StandsIn p t k pt x → PendAt pt n → is_monitor p i ≡ true
   inside_entry b same u (Enters m base l fs f cs) pt x fits stands e =
       let there = monitor_valid p m (subst (λ (q : Program). m < length q.monitors) same fits.monitor) in

@@ -17,9 +17,11 @@ use Rattle.proof_thread.specs.Following.{Build, with_made, own_of}
 use Rattle.proof_thread.proofs.Growing.{stands_grow, goes_on_grows, awaits_grow, proceeds_grow, proceeds_same}
 use Rattle.proof_templates.specs.Locking.{Takes, ExitsAt, WaitsAt}
 use Rattle.proof_templates.specs.Locking as L
-use Rattle.proof_templates.specs.Inside.{Template, Enters, Exits, Waits, Notifies, Broadcasts, list_at, StandsIn, TemplateFits}
+use Rattle.proof_templates.specs.Inside.{Template, Enters, Exits, Waits, Notifies, Broadcasts, list_at, StandsIn}
+use Rattle.proof_templates.specs.Inside.{TemplateFits}
 use Rattle.proof_templates.specs.Inside.{IsSteady, IsBeforeRelease, SameBefore}
-use Rattle.proof_simulation.specs.Standing.{IsChild, StandsAt, unmade, works, returns, inside, faults, reads, sleeps, learns}
+use Rattle.proof_simulation.specs.Standing.{IsChild, StandsAt, unmade, works, returns, inside, faults, reads, sleeps}
+use Rattle.proof_simulation.specs.Standing.{learns}
 use Rattle.proof_simulation.specs.Standing.{takes, walks, clears, wakes, rests}
 
 -- the first of a list is on it
@@ -136,7 +138,8 @@ module _ (b : Build) (made : ℕ) (le : b.made ≤ made) (v v' : Variables) (t :
     goes = stands_grow b made le t _ _ h.goes;
   }
 
-  same_before : (u : Variables) (k : Template) (pt : Point) (x : Thread) → TemplateFits b u t k → StandsIn b.program t k pt x
+  same_before : (u : Variables) (k : Template) (pt : Point) (x : Thread) → TemplateFits b u t k
+      → StandsIn b.program t k pt x
       → Near (list_at k pt) pt v v' → SameBefore k pt u v → SameBefore k pt u v'
   same_before u (Enters m base l fs f cs) pt x fit stands near same = tt
   same_before u (Exits m base shown l fs before z cs) pt x fit stands near same = λ r.

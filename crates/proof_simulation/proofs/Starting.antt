@@ -26,7 +26,8 @@ use Rattle.proof_thread.specs.Following.{Build, StepsWithin}
 use Rattle.refinement.specs.Built.{build_of, marked_image}
 use Rattle.proof_templates.specs.Layout.{place, valid}
 use Rattle.proof_templates.specs.Asking.{template_steps}
-use Rattle.proof_templates.specs.Inside.{Template, Enters, Exits, Waits, Notifies, Broadcasts, process_at, list_at, StandsIn}
+use Rattle.proof_templates.specs.Inside.{Template, Enters, Exits, Waits, Notifies, Broadcasts, process_at, list_at}
+use Rattle.proof_templates.specs.Inside.{StandsIn}
 use Rattle.proof_templates.specs.Inside.{TemplateFits, SameBefore, first_thread, first_point}
 use Rattle.proof_templates.specs.Templates.{Begins}
 use Rattle.proof_templates.proofs.Begins.{begins}
@@ -60,7 +61,8 @@ module _ (p : Program) (w : WellFormed p) (steps : ℕ) (s : State) (c : SourceS
     where
       by_step : (x ≡ y) ⊎ ((z : Thread) × (m : ℕ) × (look (code_of p) t x ≡ Goes z)
           × (deferred_by_mark (mark_of (marks_of p) x) ≡ None) × (suc m ≤ left)
-          × StepsWithin (build_of p w k.world.made) t m z y) → Next p w steps s' t done deferral pauses n c (stages k.world)
+          × StepsWithin (build_of p w k.world.made) t m z y)
+              → Next p w steps s' t done deferral pauses n c (stages k.world)
       by_step (inl e) =
           inside_step p w steps s c k t woken done deferral pauses s' n number few awake paused kind u pt y fits same ne
           stands

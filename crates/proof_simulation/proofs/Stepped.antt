@@ -83,7 +83,8 @@ walk_visible false u t m label e = one_visible u t (Abandons m) label (tt, refl)
 carried_visible : (w : World) (T : Table) (t : ℕ) (pt : Point) (r : ℕ) (w' : World) (e : End) (u : ℕ) (label : Label)
     → source_event w T t pt r w' e ≡ Some (Acts u label) → IsVisible label
 carried_visible w T t (EnterTries m) r w' e u label h = if_visible (r == 0) u t _ label (tt, refl) h
-carried_visible w T t (TakeTries m v k) r w' e u label h = if_visible (r == v) u t _ label (taking_visible k m (has_died v)) h
+carried_visible w T t (TakeTries m v k) r w' e u label h =
+    if_visible (r == v) u t _ label (taking_visible k m (has_died v)) h
 carried_visible w T t (LeaveSwaps m ToExit) r w' e u label h = one_visible u t _ label (tt, refl) h
 carried_visible w T t (LeaveSwaps m (ToWait c s)) r w' e u label h = one_visible u t _ label (tt, refl) h
 carried_visible w T t (NotifyWakes c) r w' e u label h = one_visible u t _ label (tt, refl) h
@@ -190,7 +191,8 @@ module _ (p : Program) (w : WellFormed p) (steps : ℕ) (s : State) (c : SourceS
   pub stepped : deferral ≡ None → Agrees (stage_of pt) false → ((e : End) → MayAnswer pt served.reply
       → done ≡ is_some (event e))
       → ((e : End) (u : ℕ) (label : Label) → event e ≡ Some (Acts u label) → Resumes p s' c.table label)
-      → ((e : End) → MayAnswer pt served.reply → Arrives e) → Next p w steps s' t done deferral pauses n c (stages k.world)
+      → ((e : End) → MayAnswer pt served.reply → Arrives e)
+          → Next p w steps s' t done deferral pauses n c (stages k.world)
   stepped plain calm shown resumes arrives =
       let a = arrives end is_move.possible in
       by_event (event end) refl permits a.acts

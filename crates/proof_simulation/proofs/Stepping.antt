@@ -20,7 +20,8 @@ use Rattle.refinement.specs.Built.{build_of, marked_image}
 use Rattle.proof_templates.specs.Layout.{place}
 use Rattle.proof_templates.specs.Inside.{Enters, Exits, Waits, Notifies, Broadcasts}
 use Rattle.proof_simulation.specs.Ordering.{StepsSo}
-use Rattle.proof_simulation.specs.Standing.{StandsAt, unmade, works, returns, inside, faults, reads, sleeps, learns, takes}
+use Rattle.proof_simulation.specs.Standing.{StandsAt, unmade, works, returns, inside, faults, reads, sleeps, learns}
+use Rattle.proof_simulation.specs.Standing.{takes}
 use Rattle.proof_simulation.specs.Standing.{walks, clears, wakes, rests, IsAtWork, IsEnding, ending, entries_seen}
 use Rattle.proof_simulation.specs.Ranks.{steps_left, before_template}
 use Rattle.proof_simulation.specs.Corresponding.{Corresponds}
@@ -70,7 +71,8 @@ module _ (p : Program) (w : WellFormed p) (steps : ℕ) (s : State) (c : SourceS
       first is fits go
       r h o stands
   completed x q thread proc point list work enough (F.returns h mark e) low moves =
-      returns_step p w steps s c k t woken done deferral pauses s' n number few awake None x tt point (list ∙ ap holds e)
+      returns_step p w steps s c k t woken done deferral pauses s' n number few awake None x tt point (list
+          ∙ ap holds e)
       (proc ∙ ap Some e) h mark (omega (arith, enough)) moves
   completed x q thread proc point list work enough (F.leaves r fits h mark o) low moves =
       leaves_step p w steps s c k t woken done deferral pauses s' n number few awake q proc point list r x work fits h
@@ -82,7 +84,8 @@ module _ (p : Program) (w : WellFormed p) (steps : ℕ) (s : State) (c : SourceS
       work h full o empty mine its moves
   completed x q thread proc point list work enough (F.claims {into = i} {part = y} {f = f} {callers = cs} child go some
       made most h o j to bad) low moves =
-      claims_step p w steps s c k t woken done deferral pauses s' n number few awake q proc point list x work moves child
+      claims_step p w steps s c k t woken done deferral pauses s' n number few awake q proc point list x work moves
+          child
       go some made
       h o j to bad
   completed x q thread proc point list work enough (F.faults fault e o) low moves =
@@ -205,7 +208,8 @@ module _ (p : Program) (w : WellFormed p) (steps : ℕ) (s : State) (c : SourceS
   from_stand o q pt l (sleeps {child = child} {x = y} {into = i} {part = part} {f = f} {cs = cs} left few' is j h) proc
       point list enough x thread e low moves =
       walking x y j.sleeps left (same_thread e) h
-      (λ there. sleep_step p w steps s c k t woken done deferral pauses s' n number few awake paused child i part f cs is
+      (λ there. sleep_step p w steps s c k t woken done deferral pauses s' n number few awake paused child i part f cs
+          is
       j list x
       there proc point (omega (arith, enough)) low moves)
       (λ z m g plain le more. goes_local p w steps s c k t woken done deferral pauses s' n x z _ _ _ proc point list
@@ -214,7 +218,8 @@ module _ (p : Program) (w : WellFormed p) (steps : ℕ) (s : State) (c : SourceS
       is
       j h) proc point list enough x thread e low moves =
       walking x y j.learns left (same_thread e) h
-      (λ there. learn_step p w steps s c k t woken done deferral pauses s' n number few awake paused child i part f cs is
+      (λ there. learn_step p w steps s c k t woken done deferral pauses s' n number few awake paused child i part f cs
+          is
       j list x
       end there proc point (omega (arith, enough)) low moves)
       (λ z m g plain le more. goes_local p w steps s c k t woken done deferral pauses s' n x z _ _ _ proc point list
@@ -258,7 +263,8 @@ module _ (p : Program) (w : WellFormed p) (steps : ℕ) (s : State) (c : SourceS
 
 pub next : (p : Program) (w : WellFormed p) (steps : ℕ) (s : State) (c : SourceState) (k : Corresponds p w steps s c)
     (l : Step) (s' : State) (st : IsStep (code_of p) s l s') (done : Bool) (deferral : Option Kind)
-    → StepsSo p done deferral (mark_of (marks_of p) st.thread) s l.thread l.woken (look (code_of p) l.thread st.thread) s'
+    → StepsSo p done deferral (mark_of (marks_of p) st.thread) s l.thread l.woken
+        (look (code_of p) l.thread st.thread) s'
     → IsLow k.world.sequence (look (code_of p) l.thread st.thread)
     → Next p w steps s' l.thread done deferral l.pauses (left_of p w k l.thread) c (stages k.world)
 next p w steps s c k l s' st done deferral moves low =

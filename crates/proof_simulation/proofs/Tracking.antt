@@ -45,7 +45,8 @@ use Rattle.proof_simulation.proofs.Worlds.{reached_good}
 use Rattle.words.specs.declared.outcome.Fault.{Fault}
 use Rattle.proof_simulation.proofs.Local.{put_again}
 use Rattle.proof_simulation.proofs.Completions.{told_deferral}
-use Rattle.proof_simulation.specs.Deferred.{Stage, stages, Agrees, Stays, is_failing, has_failed, deferred_then, Works, Meets}
+use Rattle.proof_simulation.specs.Deferred.{Stage, stages, Agrees, Stays, is_failing, has_failed, deferred_then}
+use Rattle.proof_simulation.specs.Deferred.{Works, Meets}
 use Rattle.proof_thread.specs.Deferrals.{mark_of}
 use Rattle.meaning.specs.Labels as L
 use Rattle.std.specs.Prelude.{if◌then◌else◌, ◌||◌, ◌&&◌}
@@ -171,11 +172,13 @@ module _ (p : Program) (w : WellFormed p) where
   -- a step of the machine, which is none that others learn of, or is one; and what waits behind it
   pub tracks_deferred : (steps : ℕ) (s : State) (a : SourceState) (r : Tracks p w steps s a) (l : Step) (s' : State)
       (st : IsStep (code_of p) s l s') (done : Bool) (deferral : Option Kind)
-      → StepsSo p done deferral (mark_of (marks_of p) st.thread) s l.thread l.woken (look (code_of p) l.thread st.thread) s'
+      → StepsSo p done deferral (mark_of (marks_of p) st.thread) s l.thread l.woken
+          (look (code_of p) l.thread st.thread) s'
       → steps + 1 < 2 ^ 32
       → (done ≡ false → (n : Tracks p w (suc steps) s' a)
       × (n.deferred ≡ put r.deferred l.thread (deferred_then deferral (r.deferred l.thread))))
-      × (done ≡ true → (o : HasDeferred p w (suc steps) s' l.thread a (r.deferred l.thread)) × (o.deferred ≡ r.deferred))
+      × (done ≡ true → (o : HasDeferred p w (suc steps) s' l.thread a (r.deferred l.thread))
+          × (o.deferred ≡ r.deferred))
   tracks_deferred steps s a r l s' st done deferral moves short = by_places n.kinds n.places n.own
     where
       c : SourceState
@@ -216,7 +219,8 @@ module _ (p : Program) (w : WellFormed p) where
 
       by_places : (kinds : List Kind) → Places p s' t c n.after done deferral (stages r.ties.world t) n.stage kinds
           → AreOwn kinds
-          → (done ≡ false → (x : Tracks p w (suc steps) s' a) × (x.deferred ≡ put r.deferred t (deferred_then deferral ks)))
+          → (done ≡ false → (x : Tracks p w (suc steps) s' a)
+              × (x.deferred ≡ put r.deferred t (deferred_then deferral ks)))
           × (done ≡ true → (o : HasDeferred p w (suc steps) s' t a ks) × (o.deferred ≡ r.deferred))
       by_places kinds (P.nothing none plain stays same) own = (
         λ e. still same (ap (λ (i : Option Kind). deferred_then i ks) plain)

@@ -24,7 +24,8 @@ pub record NextAction : Type 0 where
 abbrev pub internal_next : Offer → Option NextAction
 internal_next (Does l e q) = Some (record { label = l; effect = e; after = q })
 internal_next (MakesOne child q full) = Some (record { label = FindsFull; effect = Nothing; after = full })
-internal_next (ClaimsOne child q refused) = Some (record { label = FindsClaimed child; effect = Nothing; after = refused })
+internal_next (ClaimsOne child q refused) = Some
+    (record { label = FindsClaimed child; effect = Nothing; after = refused })
 internal_next other = None
 
 -- whether a monitor is abandoned

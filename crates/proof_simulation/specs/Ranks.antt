@@ -12,7 +12,8 @@ use Rattle.protocol.specs.Points.{LeaveHeads, LeaveSwaps, LeaveWakes, HasLeft, D
 use Rattle.protocol.specs.World.{World}
 use Rattle.proof_thread.specs.Following.{Build}
 use Rattle.proof_thread.specs.Builds.{most_steps}
-use Rattle.proof_simulation.specs.Standing.{StandsAt, unmade, works, returns, inside, faults, reads, sleeps, learns, takes}
+use Rattle.proof_simulation.specs.Standing.{StandsAt, unmade, works, returns, inside, faults, reads, sleeps, learns}
+use Rattle.proof_simulation.specs.Standing.{takes}
 use Rattle.proof_simulation.specs.Standing.{walks, clears, wakes, rests}
 
 -- from its own code to the first request of the longest template

@@ -22,7 +22,8 @@ use Rattle.protocol.specs.World.{World}
 use Rattle.proof_thread.specs.Following.{Build, recovery_in, Stands}
 use Rattle.proof_thread.specs.Builds.{IsBuild}
 use Rattle.proof_templates.specs.Asking.{AsksSo}
-use Rattle.proof_templates.specs.Locking.{Takes, reads, marks, sleeps, tries, heads, links, lists, unpends, enters, recovers}
+use Rattle.proof_templates.specs.Locking.{Takes, reads, marks, sleeps, tries, heads, links, lists, unpends, enters}
+use Rattle.proof_templates.specs.Locking.{recovers}
 use Rattle.proof_templates.specs.Locking.{EntersAt, template_locals}
 use Rattle.proof_templates.specs.Locking as T
 use Rattle.proof_templates.specs.Inside.{Template, Enters, lock_taker, EnterFits}

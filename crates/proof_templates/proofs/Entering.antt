@@ -22,7 +22,8 @@ use Rattle.proof_thread.specs.Walks.{empty_view, StandAt, WalksWithin}
 use Rattle.proof_thread.proofs.Walking.{front_stands, back_stands, within_on, wider, one_step, look_here}
 use Rattle.proof_thread.proofs.Awaiting.{stand_index}
 use Rattle.proof_templates.specs.Asking.{AsksSo, template_steps}
-use Rattle.proof_templates.specs.Locking.{reads, heads, EntersAt, pends, tries, takes, pends_again, tries_again, takes_again}
+use Rattle.proof_templates.specs.Locking.{reads, heads, EntersAt, pends, tries, takes, pends_again, tries_again}
+use Rattle.proof_templates.specs.Locking.{takes_again}
 use Rattle.proof_templates.specs.Locking.{template_locals}
 use Rattle.proof_templates.proofs.Locking.{takes_follow, to_list, again, address_step}
 

@@ -27,7 +27,8 @@ use Rattle.proof_thread.proofs.Walking.{within_on, wider, one_step, look_here}
 use Rattle.proof_thread.proofs.Awaiting.{stand_index}
 use Rattle.proof_templates.specs.Layout.{place}
 use Rattle.proof_templates.specs.Asking.{AsksSo, template_steps}
-use Rattle.proof_templates.specs.Locking.{Takes, reads, marks, sleeps, tries, heads, links, lists, unpends, enters, recovers}
+use Rattle.proof_templates.specs.Locking.{Takes, reads, marks, sleeps, tries, heads, links, lists, unpends, enters}
+use Rattle.proof_templates.specs.Locking.{recovers}
 use Rattle.proof_templates.specs.Locking.{template_locals}
 use Rattle.protocol.specs.Memory.{entry_address}
 

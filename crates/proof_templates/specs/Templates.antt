@@ -19,7 +19,8 @@ use Rattle.protocol.specs.Served.{MayAnswer, source_event}
 use Rattle.proof_thread.specs.Following.{Build, StepsWithin, Stands}
 use Rattle.proof_thread.specs.Builds.{IsBuild}
 use Rattle.proof_templates.specs.Asking.{machine_request, machine_answer, template_steps}
-use Rattle.proof_templates.specs.Inside.{Template, process_at, list_at, StandsIn, first_thread, first_point, TemplateFits}
+use Rattle.proof_templates.specs.Inside.{Template, process_at, list_at, StandsIn, first_thread, first_point}
+use Rattle.proof_templates.specs.Inside.{TemplateFits}
 
 -- the process does what a step of its thread carries, or nothing
 abbrev pub ActsSo : Program → Variables → ℕ → Option Event → Process → Process → Type 0

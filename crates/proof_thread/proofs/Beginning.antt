@@ -19,7 +19,8 @@ use Rattle.meaning.specs.Values.{local_value, or_zero}
 use Rattle.meaning.specs.Processes.{Frame, Caller, goes_on, begins, begins_by, zeros}
 use Rattle.proof_thread.specs.Typed.{HaveValues, HoldValues}
 use Rattle.proof_thread.specs.Walks.{StandAt, empty_view}
-use Rattle.proof_thread.specs.Following.{Build, CallersStand, Implements, finishes, IsFrame, Running, Stands, StepsWithin}
+use Rattle.proof_thread.specs.Following.{Build, CallersStand, Implements, finishes, IsFrame, Running, Stands}
+use Rattle.proof_thread.specs.Following.{StepsWithin}
 use Rattle.proof_thread.specs.Following.{runs, enters, recovery_in}
 use Rattle.proof_thread.specs.Builds.{IsBuild}
 use Rattle.proof_thread.proofs.Walking.{front_stands, back_stands, wider}

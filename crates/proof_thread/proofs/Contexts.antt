@@ -21,7 +21,8 @@ use Rattle.proof_thread.specs.Typed.{HaveValues, HoldValues}
 use Rattle.proof_thread.specs.Variables.{ArraysAreLow}
 use Rattle.proof_thread.specs.Evaluation.{Evaluates}
 use Rattle.proof_thread.specs.Walks.{View, WalksWithin, Gives, stays}
-use Rattle.proof_thread.specs.Following.{Build, IsSound, AreSound, CallersStand, Implements, Running, StepsWithin, Stands}
+use Rattle.proof_thread.specs.Following.{Build, IsSound, AreSound, CallersStand, Implements, Running, StepsWithin}
+use Rattle.proof_thread.specs.Following.{Stands}
 use Rattle.proof_thread.specs.Following.{runs}
 use Rattle.proof_thread.specs.Completing.{Proceeds, view_of}
 use Rattle.proof_thread.specs.Completing as F

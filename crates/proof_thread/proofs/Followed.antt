@@ -25,7 +25,8 @@ use Rattle.meaning.specs.Processes.{goes_on_by}
 use Rattle.proof_thread.specs.Variables.{VariablesFit}
 use Rattle.proof_thread.specs.Walks.{StandAt}
 use Rattle.proof_thread.specs.Following.{Build, CallersStand, is_first, is_called, is_recovery, Implements, finishes}
-use Rattle.proof_thread.specs.Following.{IsFrame, Running, Stands, runs, enters, returns, fails, own_of, result_operands}
+use Rattle.proof_thread.specs.Following.{IsFrame, Running, Stands, runs, enters, returns, fails, own_of}
+use Rattle.proof_thread.specs.Following.{result_operands}
 use Rattle.proof_thread.specs.Completing.{Proceeds, view_of}
 use Rattle.proof_thread.specs.Completing as F
 use Rattle.proof_thread.specs.Builds.{IsBuild, IsFollowed, OwnFit, most_steps}

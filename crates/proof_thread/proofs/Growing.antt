@@ -16,7 +16,8 @@ use Rattle.meaning.specs.Offers.{offer}
 use Rattle.proof_thread.specs.Typed.{HasValue, HaveValues}
 use Rattle.proof_thread.specs.Variables.{ValueFits, SameIn}
 use Rattle.proof_thread.specs.Following.{Build, with_made, IsFrame, StandsBehind, CallersStand, is_first, is_called}
-use Rattle.proof_thread.specs.Following.{is_recovery, Running, IsEntering, IsReturning, ShowsResult, Stands, runs, enters}
+use Rattle.proof_thread.specs.Following.{is_recovery, Running, IsEntering, IsReturning, ShowsResult, Stands, runs}
+use Rattle.proof_thread.specs.Following.{enters}
 use Rattle.proof_thread.specs.Following.{returns, fails, own_of}
 use Rattle.proof_thread.specs.Completing.{GoesAborted, Awaits, GoesOn, Completes, Proceeds}
 use Rattle.proof_thread.specs.Completing as F

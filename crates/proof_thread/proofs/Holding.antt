@@ -10,7 +10,8 @@ use Rattle.locals.specs.declared.frame.Locals.{Locals}
 use Rattle.locals.specs.declared.frame.Frame.{Frame as MachineFrame}
 use Rattle.meaning.specs.Processes.{Frame, Caller, Process, goes_on, goes_on_by, begins, begins_by, holds, all_monitors}
 use Rattle.meaning.specs.Processes.{callers_monitors, monitor_of_role}
-use Rattle.proof_thread.specs.Following.{Build, IsFirst, CallersStand, is_first, is_called, is_recovery, Running, own_of}
+use Rattle.proof_thread.specs.Following.{Build, IsFirst, CallersStand, is_first, is_called, is_recovery, Running}
+use Rattle.proof_thread.specs.Following.{own_of}
 use Rattle.proof_thread.specs.Following.{runs, enters, returns, fails}
 use Rattle.proof_thread.specs.Completing.{HasFirst}
 use Rattle.proof_thread.specs.Builds.{IsBuild, IsHeld}

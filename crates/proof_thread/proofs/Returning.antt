@@ -24,7 +24,8 @@ use Rattle.meaning.specs.Processes.{Frame, Caller, Process, Leaving, goes_on, ha
 use Rattle.meaning.specs.Offers.{Does, Nothing, offer}
 use Rattle.proof_thread.specs.Typed.{HasValue}
 use Rattle.proof_thread.specs.Walks.{WalksWithin, stays}
-use Rattle.proof_thread.specs.Following.{Build, CallersStand, is_first, is_called, is_recovery, StandsBehind, Implements}
+use Rattle.proof_thread.specs.Following.{Build, CallersStand, is_first, is_called, is_recovery, StandsBehind}
+use Rattle.proof_thread.specs.Following.{Implements}
 use Rattle.proof_thread.specs.Following.{IsFrame, Stands, runs, taking_code, ShowsResult, result_operands}
 use Rattle.proof_thread.specs.Completing.{Completes, Proceeds, view_of}
 use Rattle.proof_thread.specs.Completing as F

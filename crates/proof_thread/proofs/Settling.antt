@@ -16,7 +16,8 @@ use Rattle.meaning.specs.Values.{at_index, index_in, put_first, unary, both}
 use Rattle.meaning.specs.Processes.{Frame, Caller, Process, goes_on, goes_on_by}
 use Rattle.meaning.specs.Offers.{Offer, offer, with_value, with_values, with_index, statement_offer, rest_offer}
 use Rattle.proof_thread.specs.Variables.{SameIn}
-use Rattle.proof_thread.specs.Following.{Build, AreSound, IsFrame, CallersStand, is_called, is_recovery, Running, own_of}
+use Rattle.proof_thread.specs.Following.{Build, AreSound, IsFrame, CallersStand, is_called, is_recovery, Running}
+use Rattle.proof_thread.specs.Following.{own_of}
 use Rattle.proof_thread.specs.Following.{runs, enters, returns, fails}
 use Rattle.proof_thread.specs.Builds.{IsBuild, IsSettled}
 

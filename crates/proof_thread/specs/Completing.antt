@@ -30,7 +30,8 @@ use Rattle.proof_thread.specs.Variables.{IsVariable, variable_address, ValueFits
 use Rattle.proof_thread.specs.Deferrals.{mark_of, deferred_by_mark, last_mark}
 use Rattle.proof_thread.specs.Walks.{View, StandAt, WalksWithin}
 use Rattle.proof_thread.specs.Following.{Build, with_made, recovery_in, result_operands, own_of, StepsWithin, Stands}
-pub use Rattle.proof_thread.specs.Awaiting.{IsOwn, IsInternal, return_request, left_value, IsResult, join_steps, GoesAborted}
+pub use Rattle.proof_thread.specs.Awaiting.{IsOwn, IsInternal, return_request, left_value, IsResult, join_steps}
+pub use Rattle.proof_thread.specs.Awaiting.{GoesAborted}
 pub use Rattle.proof_thread.specs.Awaiting.{Awaits}
 
 -- locals with a word in the templates' own

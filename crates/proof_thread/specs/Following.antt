@@ -22,7 +22,8 @@ use Rattle.meaning.specs.Processes.{Frame, Caller, Process, Entering, Before, Re
 use Rattle.proof_thread.specs.Typed.{HasValue}
 use Rattle.proof_thread.specs.Walks.{StandAt}
 pub use Rattle.proof_thread.specs.Shapes.{nesting, block_nesting, part_nesting}
-pub use Rattle.proof_thread.specs.Bodies.{Implements, finishes, states, follows, IsSound, AreSound, IsFrame, taking_code}
+pub use Rattle.proof_thread.specs.Bodies.{Implements, finishes, states, follows, IsSound, AreSound, IsFrame}
+pub use Rattle.proof_thread.specs.Bodies.{taking_code}
 pub use Rattle.proof_thread.specs.Bodies.{Build, with_made, StepsWithin, IsFirst}
 
 -- a machine's frame stands for a caller's: behind its call comes this code, and then what is left of its body

@@ -25,7 +25,8 @@ use Rattle.types.specs.Expressions.{expression, array_of}
 use Rattle.types.specs.Statements.{target_of, target, value, condition, statement, block, part}
 use Rattle.proof_well_formed.proofs.Free.{Free, parts, three}
 use Rattle.proof_well_formed.proofs.Agreement.{Agrees}
-use Rattle.proof_well_formed.proofs.Small.{SmallExpression, SmallIndex, SmallValue, SmallStatement, SmallStatements, SmallPart}
+use Rattle.proof_well_formed.proofs.Small.{SmallExpression, SmallIndex, SmallValue, SmallStatement, SmallStatements}
+use Rattle.proof_well_formed.proofs.Small.{SmallPart}
 use Rattle.proof_well_formed.proofs.ExpressionsFit.{HasKnown, IsIndex, wanted, expression_fits, index_fits}
 use Rattle.proof_well_formed.proofs.CallsFit.{result_taken, no_recover, call_fits, fork_fits}
 

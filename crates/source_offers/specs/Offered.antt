@@ -12,7 +12,8 @@ use Rattle.source_offers.specs.declared.offers.Label.TheVariants.{Returns as Ret
 use Rattle.source_offers.specs.declared.offers.Label.TheVariants.{Fails as Fails', Stores as Stores', Exits as Exits'}
 use Rattle.source_offers.specs.declared.offers.Label.TheVariants.{Waits as Waits', Abandons as Abandons', Ends as Ends'}
 use Rattle.source_offers.specs.declared.offers.Effect.{Effect as EffectOf}
-use Rattle.source_offers.specs.declared.offers.Effect.TheVariants.{Nothing as Nothing', Puts as Puts', Writes as Writes'}
+use Rattle.source_offers.specs.declared.offers.Effect.TheVariants.{Nothing as Nothing', Puts as Puts'}
+use Rattle.source_offers.specs.declared.offers.Effect.TheVariants.{Writes as Writes'}
 use Rattle.source_offers.specs.declared.offers.Offered.{Offered}
 use Rattle.source_offers.specs.declared.offers.Offered.TheVariants.{Rests as Rests', Does as Does', Makes as Makes'}
 use Rattle.source_offers.specs.declared.offers.Offered.TheVariants.{Claims as Claims', NotifiesSome as NotifiesSome'}

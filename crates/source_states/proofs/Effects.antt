@@ -5,7 +5,8 @@ use Rattle.words.specs.Updates.{put}
 use Rattle.meaning.specs.Processes.{Process}
 use Rattle.meaning.specs.States.{processes_after}
 use Rattle.source_offers.specs.declared.offers.Effect.{Effect as EffectOf}
-use Rattle.source_offers.specs.declared.offers.Effect.TheVariants.{Nothing as Nothing', Puts as Puts', Writes as Writes'}
+use Rattle.source_offers.specs.declared.offers.Effect.TheVariants.{Nothing as Nothing', Puts as Puts'}
+use Rattle.source_offers.specs.declared.offers.Effect.TheVariants.{Writes as Writes'}
 use Rattle.source_offers.specs.Offered.{effect_of}
 
 makes_none : (e : EffectOf) (f : ℕ → Option Process) → processes_after (effect_of e) f ≡ f

@@ -11,7 +11,8 @@ use Rattle.meaning.specs.Table.{Hold, Free, Abandoned, HeldBy, Table}
 use Rattle.source_offers.specs.declared.process.End.{End as EndOf}
 use Rattle.source_offers.specs.Stages.{end_of}
 use Rattle.source_table.specs.declared.table.Hold.{Hold as HoldOf}
-use Rattle.source_table.specs.declared.table.Hold.TheVariants.{Free as Free', Abandoned as Abandoned', HeldBy as HeldBy'}
+use Rattle.source_table.specs.declared.table.Hold.TheVariants.{Free as Free', Abandoned as Abandoned'}
+use Rattle.source_table.specs.declared.table.Hold.TheVariants.{HeldBy as HeldBy'}
 use Rattle.source_table.specs.declared.table.Table.{Table as TableOf}
 
 -- who has a monitor

@@ -4,7 +4,8 @@ ghost use Rattle.syntax.specs.Lexeme.{lexeme};
 ghost use Rattle.grammar.specs.Machine.{reply_multipliers, reply_summands, reply_comparison, factor_begin, NoFactor};
 ghost use Rattle.grammar.specs.Reading.{lexeme_at, StartsFactor};
 ghost use Rattle.token_cursor.specs.Ahead.{ahead};
-ghost use Rattle.token_cursor.specs.Openers.{product_reply, sum_signed, sum_reply, comparison_reply, Starts, EndsExpression};
+ghost use Rattle.token_cursor.specs.Openers.{product_reply, sum_signed, sum_reply, comparison_reply, Starts};
+ghost use Rattle.token_cursor.specs.Openers.{EndsExpression};
 
 use crate::parser::Parser;
 use scanner::{Keyword, Kind, Place, Sign};

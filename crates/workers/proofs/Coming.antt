@@ -21,7 +21,8 @@ take_one [] at piece h = absurd cc
 take_one (x ∷ xs) zero piece h = let e : x ≡ piece = cc in ap (λ (y : PieceView). y ∷ []) e
 take_one (x ∷ xs) (suc at) piece h = ap (λ (ys : List PieceView). x ∷ ys) (take_one xs at piece h)
 
-come_more : (p : Program) (limit : ℕ) (old mid new : SharedRunView) (t : ℕ) (pieces : List PieceView) (piece : PieceView)
+come_more : (p : Program) (limit : ℕ) (old mid new : SharedRunView) (t : ℕ) (pieces : List PieceView)
+    (piece : PieceView)
     (share counted share' : ShareView) → ComeIn p limit old t pieces mid share counted
     → ComesIn p limit mid t piece new counted share' → ComeIn p limit old t (pieces ++ piece ∷ []) new share share'
 come_more p limit old mid new t [] piece share counted share' come last =

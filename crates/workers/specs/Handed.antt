@@ -47,7 +47,8 @@ ComeIn p limit old t (piece ∷ pieces) new share share' =
     × ComeIn p limit mid t pieces new counted share'
 
 -- the pieces before one came in, and that one stays away
-pub record StopsAt (p : Program) (limit : ℕ) (old : SharedRunView) (t : ℕ) (pieces : List PieceView) (new : SharedRunView)
+pub record StopsAt (p : Program) (limit : ℕ) (old : SharedRunView) (t : ℕ) (pieces : List PieceView)
+    (new : SharedRunView)
     (share share' : ShareView) (after : After) : Type 0 where
   pub at : ℕ
   pub piece : PieceView

@@ -12,7 +12,8 @@ use Rattle.types.specs.Typing.{sum_place, type_of_use}
 use Rattle.types.specs.ExpressionFaults as x
 use Rattle.types.proofs.Gathered.{gathers_none, gathers_both}
 use Rattle.body_faults.specs.Operands as o
-use Rattle.body_faults.proofs.Gathering.{lone, lone2, lone3, lone4, lone5, behind3, behind4, gathers_operand, gathers_use}
+use Rattle.body_faults.proofs.Gathering.{lone, lone2, lone3, lone4, lone5, behind3, behind4, gathers_operand}
+use Rattle.body_faults.proofs.Gathering.{gathers_use}
 use Rattle.body_faults.proofs.Gathering.{gathers_comparison, gathers_chain, gathers_next, gathers_past}
 use Rattle.body_faults.proofs.Rows.{all_of_seen, any_of_seen, gathers_product, gathers_total}
 use Rattle.body_faults.proofs.expressions.+expressions.Goals.{relation-in-Product}

@@ -1,5 +1,6 @@
 use Rattle.token_cursor.proofs.Small.{rejects, exit_fails}
-use Rattle.expression_parser.proofs.Callees.{after_dot, dot_fails, opening_fails, after_opening, list_fails, closing_fails}
+use Rattle.expression_parser.proofs.Callees.{after_dot, dot_fails, opening_fails, after_opening, list_fails}
+use Rattle.expression_parser.proofs.Callees.{closing_fails}
 use Rattle.expression_parser.proofs.Callees.{callee_closes}
 use Rattle.expression_parser.proofs.calls.callee.Goals as goal
 

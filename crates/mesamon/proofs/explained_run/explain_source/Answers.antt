@@ -9,7 +9,8 @@ returns-clause-explained c =
     let read = c.in_ok-checked.ensures.compiled in
     record {
       accepts = read.accepts;
-      run = run_explained c.logs_are_machine_runs.ensures.runs c.args.text.now c.in_ok-checked.lowered.image c.args.limit
+      run = run_explained c.logs_are_machine_runs.ensures.runs c.args.text.now c.in_ok-checked.lowered.image
+          c.args.limit
           c.in_ok-report.report read.compiled small c.in_ok-report.ensures;
       explained = of_code (said_by c.in_ok-checked.checked) c.in_ok-checked.lowered.image _ _ _ read.lowered.image
           c.as_slice.ensures.value c.in_ok-actions.ensures;

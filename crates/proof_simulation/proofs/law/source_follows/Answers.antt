@@ -1,4 +1,5 @@
-use Rattle.proof_simulation.proofs.Tracking.{opens_tracking, tracks, catches_up, takes_visible, tracked_output, tracked_variables}
+use Rattle.proof_simulation.proofs.Tracking.{opens_tracking, tracks, catches_up, takes_visible, tracked_output}
+use Rattle.proof_simulation.proofs.Tracking.{tracked_variables}
 use Rattle.proof_simulation.proofs.Tracking.{tracked_ends}
 use Rattle.proof_simulation.proofs.law.source_follows.Goals as goal
 

@@ -1,4 +1,5 @@
-use Rattle.proof_simulation.proofs.Tracking.{opens_deferred, tracks_deferred, catches_up_deferred, takes_visible_deferred}
+use Rattle.proof_simulation.proofs.Tracking.{opens_deferred, tracks_deferred, catches_up_deferred}
+use Rattle.proof_simulation.proofs.Tracking.{takes_visible_deferred}
 use Rattle.proof_simulation.proofs.Finishing.{finishes}
 use Rattle.proof_simulation.proofs.law.source_waits.Goals as goal
 

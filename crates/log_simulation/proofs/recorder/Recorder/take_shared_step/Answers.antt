@@ -14,7 +14,8 @@ use Rattle.log_simulation.specs.declared.recorder.Recorder.{Recorder}
 use Rattle.log_simulation.specs.declared.deferred.Deferred.{Deferred}
 use Rattle.log_simulation.specs.Recording.{Records}
 use Rattle.log_simulation.specs.Deferred.{CountsDeferred}
-use Rattle.log_simulation.proofs.Recording.{follows_due, is_visible_so, deferral_told, loudly, internally, still_of, tells_on}
+use Rattle.log_simulation.proofs.Recording.{follows_due, is_visible_so, deferral_told, loudly, internally, still_of}
+use Rattle.log_simulation.proofs.Recording.{tells_on}
 use Rattle.log_simulation.proofs.Records.{when_true}
 use Rattle.log_simulation.proofs.recorder.Recorder.take_shared_step.Goals as goal
 
@@ -82,7 +83,8 @@ returns-else-is_visible c = λ p n g own of less tells due.
     (ap (λ (x : Follower). said_by x.checked.now) first ∙ of.program)
     (ap (λ (x : Follower). x.layout) first ∙ of.layout)
     own c.next_step-step.ensures c.is_visible.ensures ∙ c.if-is_visible.false in
-    let deferral = deferral_told p c.args.image.now t v here counted.marks.items c.mark_at-mark.result c.next_step-step.result
+    let deferral = deferral_told p c.args.image.now t v here counted.marks.items c.mark_at-mark.result
+        c.next_step-step.result
     c.at_step.result own (ap (λ m. m.items) marks ∙ of.marks)
     (c.mark_at-mark.ensures ∙ ap (λ m. mark_of m here) c.as_slice.ensures.value) c.next_step-step.ensures
     c.at_step.ensures in (
