@@ -1,0 +1,8 @@
+//! What the tests that run images by schedules share: the numbers that follow from a seed, and the threads drawn by them.
+#![tactic(auto)]
+
+mod movers;
+mod sequence;
+
+pub use movers::draw_mover;
+pub use sequence::{SORTS, Sequence};
