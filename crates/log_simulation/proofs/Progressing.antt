@@ -174,8 +174,10 @@ module _ (p : Program) where
           ∙ ap (λ i. n ++ i) (replicate_more more (local_step_of t)
           ∙ ap (λ (j : ℕ). replicate j (local_step_of t)) one) in
           let told : progress_shared p t m 0 (put_thread there t here) (record g { deferred = put g.deferred t ks })
-          ≡ record g { deferred = put (put g.deferred t ks) t
-              (deferred_at (marks_of p) (Some m) (put g.deferred t ks t)) } =
+          ≡ record g {
+            deferred = put (put g.deferred t ks) t
+                (deferred_at (marks_of p) (Some m) (put g.deferred t ks t));
+          } =
           ap (λ (l : Look). progress_step p (is_visible p l 0) (deferred_by_step (mark_of (marks_of p) m) l 0)
           (state_of (put_thread there t here)) t (record g { deferred = put g.deferred t ks })) local in
           let waits : put (put g.deferred t ks) t (deferred_at (marks_of p) (Some m) (put g.deferred t ks t))

@@ -49,7 +49,7 @@ use Rattle.log_simulation.proofs.Records.{deferral_so, when_false, when_true, fe
 pub tells_on : (more n : ℕ) (g g' : Progress) (r r' last : Recorder) → Counts more r r' → RecordsUnlessLong n g r
     → last.is_whole ≡ r'.is_whole
     → (Records n g r → r'.steps ≡ n + more → n + more < 2 ^ 32 → Records (n + more) g' last)
-        → RecordsUnlessLong (n + more) g' last
+    → RecordsUnlessLong (n + more) g' last
 tells_on more n g g' r r' last counts tells same on = by_whole last.is_whole refl
   where
     past : (b : Bool) → r.is_whole ≡ b → r'.is_whole ≡ false → 2 ^ 32 ≤ n + more
@@ -120,7 +120,7 @@ module _ (p : Program) (n t v : ℕ) (here : Thread) (k : ConcreteState) (g : Pr
   pub internally : (r last : Recorder) → Records n g r → is_visible p (look (code_of p) t here) v ≡ false
       → last.steps ≡ n + 1 → n + 1 < 2 ^ 32 → last.follower ≡ r.follower
       → CountsDeferred last.deferred.items
-          (put g.deferred t (deferred_then (deferred_by_step (mark_of (marks_of p) here)
+      (put g.deferred t (deferred_then (deferred_by_step (mark_of (marks_of p) here)
       (look (code_of p) t here) v) (g.deferred t)))
       → Records (n + 1) (progress_shared p t here v k g) last
   internally r last h none steps few follower waits =
@@ -193,7 +193,7 @@ module _ (p : Program) where
   catches_up_next f f' t count b g ahead program matches behind many catches_up =
       let caught_up = subst (λ q. IsBehind q g.deferred g.source ahead
       → (b ≡ true) × Matches f' (progress_caught_up q t g)) program
-          (λ h. catches_up g ahead matches h (sym many)) behind in
+      (λ h. catches_up g ahead matches h (sym many)) behind in
       (caught_up.0, caught_up.1, (caught_up_behind p t g.deferred g.source ahead (g.deferred t) behind refl).1)
 
   pub as_many : (run : List Step) (events : List EventStep)

@@ -16,13 +16,17 @@ use Rattle.source_states.specs.Actions.{action_of}
 use Rattle.log_simulation.specs.declared.explained_log.LogExplanation.{LogExplanation}
 use Rattle.log_simulation.specs.declared.explained_log.LogExplanation.TheVariants as told
 
--- the log is legal for the image, and leads there
+-- the entries are legal for the image, one by one, and lead there
 abbrev pub LeadsTo : Image → List Entry → ConcreteState → Type 0
 LeadsTo image log k = Runs image (opening_concrete image) log k
 
--- the log isn't legal
+-- the entries lead nowhere
 abbrev pub IsIllegal : Image → List Entry → Type 0
 IsIllegal image log = (k : ConcreteState) → LeadsTo image log k → ⊥
+
+-- they are no log of a run: they lead nowhere, or have 2^32 steps or more
+abbrev pub IsNoLog : Image → List Entry → Type 0
+IsNoLog image log = (k : ConcreteState) → LeadsTo image log k → 2 ^ 32 ≤ cost log
 
 -- a run of the machine of these steps leads there, and the actions are its explanation, which explains it in all that a
 -- refinement promises
@@ -44,6 +48,5 @@ pub record IsRecorded (p : Program) (log : List Entry) (actions : List Action) :
 
 -- what is told of a log of the program's image
 abbrev pub ExplainsLog : Program → List Entry → LogExplanation → Type 0
-ExplainsLog p log told.NotARun = IsIllegal (code_of p) log
-ExplainsLog p log told.TooLong = (2 ^ 32 ≤ cost log) × (k : ConcreteState) × LeadsTo (code_of p) log k
+ExplainsLog p log told.NotARun = IsNoLog (code_of p) log
 ExplainsLog p log (told.Actions actions) = IsRecorded p log (map action_of actions.items)

@@ -18,10 +18,8 @@ use std::alloc::{AllocError, Global};
 /// What is told of a log of a program's image.
 #[derive(Drop)]
 pub enum LogExplanation {
-    /// The log isn't legal.
+    /// The entries are no log of a run: not legal, or of 2^32 steps or more, which the machine's words don't count.
     NotARun,
-    /// It has 2^32 steps or more: the machine's words count no further, so that a sequence word may come round.
-    TooLong,
     /// The actions of the source, in order.
     Actions(Vec<Action>),
 }
@@ -55,7 +53,7 @@ pub fn explain_log(
         return Ok(LogExplanation::NotARun);
     };
     if !recorder.is_whole() {
-        return Ok(LogExplanation::TooLong);
+        return Ok(LogExplanation::NotARun);
     }
     Ok(LogExplanation::Actions(recorder.finish(&machine)?))
 }

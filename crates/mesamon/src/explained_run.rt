@@ -89,7 +89,6 @@ fn explain_run(
     match explain_lowered(alloc, checked, lowered, log) {
         Ok(actions) => Ok(actions),
         Err(ExplainFault::Memory) => Err(ExplainSourceFault::Memory),
-        Err(ExplainFault::TooLong) => unreachable!(),
         Err(ExplainFault::OtherImage | ExplainFault::NotARun) => unreachable!(),
     }
 }

@@ -1,12 +1,17 @@
 use std::alloc::{AllocError, Global};
 
+// White space in a schedule, as in a source text: space, tab, line feed and carriage return.
+fn is_white_space(byte: u8) -> bool {
+    matches!(byte, b' ' | b'\t' | b'\n' | b'\r')
+}
+
 /// The threads that a schedule's text names: decimal numbers between white space.
 ///
 /// What is no number to 4294967295 names thread 0, which there never is, so that it is refused as an entry of a thread
 /// that can't move.
 pub fn threads_of(alloc: Global, text: &[u8]) -> Result<Vec<u32>, AllocError> {
     let mut threads = Vec::new(alloc);
-    for word in text.split(|byte| byte.is_ascii_whitespace()) {
+    for word in text.split(|byte| is_white_space(*byte)) {
         if !word.is_empty() {
             threads.push(thread_of(word))?;
         }

@@ -1,15 +1,13 @@
 -- What comes of a log that is to be explained.
-use Rattle.std.specs.Prelude.{◌≡◌, ◌≤◌, ◌^◌, List}
+use Rattle.std.specs.Prelude.{◌≡◌, List}
 use Rattle.isa.specs.Programs.{Program as Image}
 use Rattle.machine.specs.declared.event.Entry.{Entry}
-use Rattle.machine.specs.States.{ConcreteState}
-use Rattle.runner.specs.Logs.{cost}
 use Rattle.program.specs.Trees.{Program}
 use Rattle.lowering.specs.Pieces.{code_of}
 use Rattle.meaning.specs.Labels.{Action}
 use Rattle.simulation.specs.declared.fault.ExplainFault.{ExplainFault}
-use Rattle.simulation.specs.declared.fault.ExplainFault.TheVariants.{NotARun, OtherImage, Memory, TooLong}
-pub use Rattle.log_simulation.specs.Explanations.{LeadsTo, IsIllegal, IsRecorded}
+use Rattle.simulation.specs.declared.fault.ExplainFault.TheVariants.{NotARun, OtherImage, Memory}
+pub use Rattle.log_simulation.specs.Explanations.{LeadsTo, IsNoLog, IsRecorded}
 
 -- the image is the program's, the log is legal for it, and the actions are the explanation of the run of the machine
 -- that the log is, which explains it in all that a refinement promises
@@ -20,6 +18,5 @@ pub record IsExplainedLog (p : Program) (image : Image) (log : List Entry) (acti
 -- why a log isn't explained
 abbrev pub RefusesLog : Program → Image → List Entry → ExplainFault → Type 0
 RefusesLog p image log OtherImage = image ≡ code_of p → ⊥
-RefusesLog p image log NotARun = (image ≡ code_of p) × IsIllegal image log
-RefusesLog p image log TooLong = (image ≡ code_of p) × (2 ^ 32 ≤ cost log) × (k : ConcreteState) × LeadsTo image log k
+RefusesLog p image log NotARun = (image ≡ code_of p) × IsNoLog image log
 RefusesLog p image log Memory = Unit {0}

@@ -1,10 +1,10 @@
 use std::alloc::AllocError;
 use thiserror::Error;
 
-/// Why a log is not explained. `OtherImage` is tested before `NotARun`, and that before `TooLong`.
+/// Why a log is not explained. `OtherImage` is tested before `NotARun`.
 #[derive(Clone, Copy, PartialEq, Eq, Debug, Error)]
 pub enum ExplainFault {
-    /// The log isn't legal for the image.
+    /// The entries aren't legal for the image, or have 2^32 steps or more: the machine's words count no further.
     #[error("fault 1")]
     NotARun = 1,
     /// The image isn't the code of the program.
@@ -13,9 +13,6 @@ pub enum ExplainFault {
     /// There is no memory for the walk.
     #[error("memory")]
     Memory = 3,
-    /// The log has 2^32 steps or more: the machine's words count no further, so that a sequence word may come round.
-    #[error("fault 4")]
-    TooLong = 4,
 }
 
 impl From<AllocError> for ExplainFault {

@@ -30,7 +30,7 @@ returns-then-not-is_whole c =
     let over = when_false _ _ c.walk.new.recorder.is_whole along.told
     (sym c.is_whole.ensures ∙ c.if-not-is_whole.true) in
     let many = cost_steps p log (concrete c.in-Some.machine) legal in
-    (omega (arith, over, many), concrete c.in-Some.machine, legal)
+    λ k leads. omega (arith, over, many)
 
 pub returns : goal.returns
 returns c =

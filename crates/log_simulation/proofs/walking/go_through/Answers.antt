@@ -90,5 +90,5 @@ returns-clause-told c = λ _ p own w events along.
     (λ is short. due_at p events k new c.args.entry.now o here enters stood goes along.source along.comes w
     c.in-Some.event c.in-Some.is is short) in
     keeps_shared p events k new c.args.entry.now o here enters stood goes c.args.recorder.now
-        c.take_shared_step.new.self along
+    c.take_shared_step.new.self along
     c.in-Some.event c.in-Some.is visible.0 visible.1

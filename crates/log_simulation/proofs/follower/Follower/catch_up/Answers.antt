@@ -14,7 +14,7 @@ loop-init c = record {
 pub returns-then-not-branch-clause-catches_up : goal.returns-then-not-branch-clause-catches_up
 returns-then-not-branch-clause-catches_up c = λ g ahead matches behind all.
     let caught_up = catches_up_one
-        (said_by c.args.self.now.checked.now) c.args.t g ahead c.args.count c.loop.counter c.loop.self
+    (said_by c.args.self.now.checked.now) c.args.t g ahead c.args.count c.loop.counter c.loop.self
     (c.loop.invariant.catches_up.paying g ahead matches behind all) c.loop-test.true
     (ap (λ x. said_by x.now) c.loop.invariant.checked) c.in_ok-take_internal.field-0 c.take_internal.new.self
     c.in_ok-take_internal.ensures.takes in

@@ -29,7 +29,7 @@ returns-in-Some-clause-follows c =
     let caught_up = progress_caught_up p c.args.t g in
     let here = (c.in_ok-catch_up.ensures.catches_up g ahead matches behind all).1 in
     let found = found_so p s c.args.t caught_up label can visible who f same here
-        (option_map kind_of c.in_ok-kind.field-0)
+    (option_map kind_of c.in_ok-kind.field-0)
     (λ l. c.in_ok-kind.ensures l (c.in_ok-catch_up.ensures.kept.1 ∙ layout ∙ ap layout_of (sym same))) in
     follows_so p s c.args.t caught_up label can visible who f same here k
     (sym (ap (option_map kind_of) c.in-Some.is) ∙ found) b c.take.new.self takes) c.take.ensures.takes
@@ -43,6 +43,6 @@ returns-in-None-clause-follows c = λ g ahead label layout matches behind all ca
     let caught_up = progress_caught_up p c.args.t g in
     let here = (c.in_ok-catch_up.ensures.catches_up g ahead matches behind all).1 in
     let found = found_so p s c.args.t caught_up label can visible who f same here
-        (option_map kind_of c.in_ok-kind.field-0)
+    (option_map kind_of c.in_ok-kind.field-0)
     (λ l. c.in_ok-kind.ensures l (c.in_ok-catch_up.ensures.kept.1 ∙ layout ∙ ap layout_of (sym same))) in
     none_some (name_of label) (sym found ∙ ap (option_map kind_of) c.in-None.is)

@@ -84,7 +84,7 @@ returns-else-is_visible c = λ p n g own of less tells due.
     (ap (λ (x : Follower). x.layout) first ∙ of.layout)
     own c.next_step-step.ensures c.is_visible.ensures ∙ c.if-is_visible.false in
     let deferral = deferral_told p c.args.image.now t v here counted.marks.items c.mark_at-mark.result
-        c.next_step-step.result
+    c.next_step-step.result
     c.at_step.result own (ap (λ m. m.items) marks ∙ of.marks)
     (c.mark_at-mark.ensures ∙ ap (λ m. mark_of m here) c.as_slice.ensures.value) c.next_step-step.ensures
     c.at_step.ensures in (

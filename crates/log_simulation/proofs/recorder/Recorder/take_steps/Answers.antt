@@ -57,6 +57,6 @@ returns-clause-told c = λ _ p n g own of tells.
           (progress_locally p t c.args.entry.now.local o g) r last last i.counts tells refl
           (λ h steps few. locally p n c.args.entry.now.local t o g r last h steps few i.follower
           (subst (λ j. CountsDeferred last.deferred.items
-              (put g.deferred t (deferred_locally p t j o (g.deferred t)))) all
+          (put g.deferred t (deferred_locally p t j o (g.deferred t)))) all
           (i.waits p g.deferred own of.marks h.waits (let less = h.bounded t in omega (arith, few, less))))),
     )
