@@ -46,7 +46,7 @@ pub only_memory : ((text : List ℕ) (p : Program) (e : Refusal) → AcceptsText
     → RefusesText text e → ⊥)
     → (text : List ℕ) (A : Type 0) (Good : A → Type 0) (r : Result A Refusal)
     → MatchResult r Good (λ e. (e ≡ out_of_memory) ⊎ RefusesText text e) → (p : Program) → AcceptsText text p
-        → backend.CodeFits p
+    → backend.CodeFits p
     → IfErr r (λ e. e ≡ out_of_memory)
 only_memory not_both text A Good (Ok x) h p a fits = tt
 only_memory not_both text A Good (Err e) (inl memory) p a fits = memory

@@ -56,7 +56,7 @@ module _ (p : Program) where
       at u = at_put2 deferred c.process t (deferred t ++ kind_of label ∷ []) (Some r) u
           (λ ks x. LeadsDeferredAt p u c.variable c.table ks (a.process u) x)
           (λ e. subst (λ w. LeadsDeferredAt p w c.variable c.table (deferred t ++ kind_of label ∷ []) (a.process w)
-              (Some r))
+          (Some r))
           (sym e) mine)
           (λ o. b.processes u)
 
@@ -135,7 +135,7 @@ held_once u t h o x y =
 others_after : (p : Program) (u : ℕ) (v : Variables) (T : Table) (ks : List Kind) (e : Effect)
     (f g : ℕ → Option Process) → ((child : ℕ) (q : Process) → e ≡ Makes child q → g child ≡ None)
     → LeadsDeferredAt p u v T ks (f u) (g u) → LeadsDeferredAt p u v T ks (processes_after e f u)
-        (processes_after e g u)
+    (processes_after e g u)
 others_after p u v T ks Nothing f g none w = w
 others_after p u v T ks (Puts m n i z) f g none w = w
 others_after p u v T ks (Writes z) f g none w = w

@@ -36,7 +36,7 @@ abbrev pub LeadsDeferred : Program → ℕ → Variables → Table → List Kind
 LeadsDeferred p t v T [] q r = q ≡ r
 LeadsDeferred p t v T (k ∷ ks) q r =
     (label : Label) × (mid : Process) × (k ≡ kind_of label) × MayDefer p t v T q label mid
-        × LeadsDeferred p t v T ks mid r
+    × LeadsDeferred p t v T ks mid r
 
 -- the same of process t, in a state and in the one behind these actions
 abbrev pub LeadsDeferredAt : Program → ℕ → Variables → Table → List Kind → Option Process → Option Process → Type 0

@@ -67,7 +67,7 @@ module _ (p : Program) (w : WellFormed p) (steps : ℕ) (s : State) (c : SourceS
       → Shares (place p) (valid p) (shared_of mid) w2 → Keeps p s mid → w2.made ≡ k.world.made
       → w2.at ≡ k.world.at → w2.result ≡ k.world.result → w2.sequence ≡ k.world.sequence
       → Places p (with_thread mid t y) t c
-          (state_after c t Nothing r (table_after k.world c.table t move)) done deferral
+      (state_after c t Nothing r (table_after k.world c.table t move)) done deferral
       (stages k.world t) (stage_of pt) (kind_of label ∷ [])
       → s' ≡ with_thread mid t y → Next p w steps s' t done deferral pauses n c (stages k.world)
   starts move label mid w2 y r pt l can comes carries takes own has stands shares keeps made at result sequence places

@@ -74,7 +74,7 @@ told_apart p s t woken Rests s' g = absurd g
 -- and the action that waits
 pub told_deferral : (p : Program) (done : Bool) (mark : Option Mark) (s : State) (t : ℕ) (woken : List ℕ) (l : Look)
     (s' : State) → MovesSo p done s t woken l s' → (deferral : Option Kind)
-        × StepsSo p done deferral mark s t woken l s'
+    × StepsSo p done deferral mark s t woken l s'
 told_deferral p done mark s t woken (Goes x) s' g = (deferred_by_mark mark, (g.0, g.1, g.2, refl))
 told_deferral p done mark s t woken (Asks request go) s' g =
     (deferred_by_request mark request g.0, (g.0, g.1, g.2, g.3, g.4, refl))

@@ -77,7 +77,7 @@ count_one u t k actions = count_by-cons (is_action_of t) (act u k) actions ∙ b
 -- what is placed at a step, and the faults that wait behind it
 pub placed_count : (p : Program) (s' : State) (u : ℕ) (c c' : SourceState) (done : Bool) (deferral : Option Kind)
     (was now : Stage) (kinds ks : List Kind) → Places p s' u c c' done deferral was now kinds
-        → Agrees was (has_failed ks)
+    → Agrees was (has_failed ks)
     → (length kinds ≡ step_count done deferral ks) × Agrees now (has_failed (behind done deferral ks))
 placed_count p s' u c c' done deferral was now kinds ks (P.nothing none plain stays same) h = (
   sym (ap (λ b. step_count b deferral ks) none ∙ ap (λ (i : Option Kind). step_count false i ks) plain),

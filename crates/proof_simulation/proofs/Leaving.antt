@@ -167,7 +167,7 @@ module _ (p : Program) (w : WellFormed p) (steps : ℕ) (s : State) (c : SourceS
       (Leaves LastWake) s' moves)
       in
       stepped p w steps s c k t done deferral pauses s' on.mid n 0 (Exits on.later) (Over end)
-          (LastWakes end) number awake
+      (LastWakes end) number awake
       proc point on.served on.same moves.5 tt (λ e may. moves.4)
       (λ e u label h. absurd cc)
       (λ e may.

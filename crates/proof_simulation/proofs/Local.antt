@@ -41,7 +41,7 @@ first_step source image t n x z walk = by_walk walk.few walk.walk
   where
     by_walk : {k : ℕ} {x z : Thread} → k ≤ n → Walks image t (empty_view source) k x z → (x ≡ z)
         ⊎ ((y : Thread) × (m : ℕ) × (look image.image t x ≡ Goes y)
-            × (deferred_by_mark (mark_of image.marks x) ≡ None) ×
+        × (deferred_by_mark (mark_of image.marks x) ≡ None) ×
         (suc m ≤ n)
         × WalksWithin image t (empty_view source) m y z)
     by_walk few stays = inl refl

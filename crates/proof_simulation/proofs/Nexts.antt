@@ -79,7 +79,7 @@ taken_so t k m b T T' (inr e) allows =
 module _ (p : Program) (s : State) (t : ℕ) (T T' : Table) where
   visible_taken : (o : Offer) (l : Label) (e : Effect) (q : Process) → IsPlain o → TakesUp o l e q → Allows t l T T'
       → is_internal l ≡ false → Resumes' p s T l → visible_next p s T o
-          ≡ Some (record { label = l; effect = e; after = q })
+      ≡ Some (record { label = l; effect = e; after = q })
   unfolding deed
   visible_taken Rests l e q is h allows visible who = absurd h
   visible_taken (Does k f r) l e q is h allows visible who = same_deed l k e f q r h.0 h.1 h.2
@@ -140,7 +140,7 @@ module _ (p : Program) (a : SourceState) (t : ℕ) (label : Label) (can : CanTak
       can.after can.table
   internal_so internal = ap (λ o. after_next t o a) (ap internal_next offered_so
       ∙ internal_taken (offer p a.variable can.before) label can.effect can.after
-          (plain p a.variable can.before) can.takes
+      (plain p a.variable can.before) can.takes
       internal) ∙ leads_so
 
   module _ (s : State) (visible : is_internal label ≡ false) (who : Resumes' p s a.table label) where

@@ -62,7 +62,7 @@ module _ (p : Program) (w : WellFormed p) (steps : ℕ) (s : State) (c : SourceS
       by_step : (x ≡ y) ⊎ ((z : Thread) × (m : ℕ) × (look (code_of p) t x ≡ Goes z)
           × (deferred_by_mark (mark_of (marks_of p) x) ≡ None) × (suc m ≤ left)
           × StepsWithin (build_of p w k.world.made) t m z y)
-              → Next p w steps s' t done deferral pauses n c (stages k.world)
+          → Next p w steps s' t done deferral pauses n c (stages k.world)
       by_step (inl e) =
           inside_step p w steps s c k t woken done deferral pauses s' n number few awake paused kind u pt y fits same ne
           stands

@@ -192,7 +192,7 @@ module _ (p : Program) (w : WellFormed p) (steps : ℕ) (s : State) (c : SourceS
       → done ≡ is_some (event e))
       → ((e : End) (u : ℕ) (label : Label) → event e ≡ Some (Acts u label) → Resumes p s' c.table label)
       → ((e : End) → MayAnswer pt served.reply → Arrives e)
-          → Next p w steps s' t done deferral pauses n c (stages k.world)
+      → Next p w steps s' t done deferral pauses n c (stages k.world)
   stepped plain calm shown resumes arrives =
       let a = arrives end is_move.possible in
       by_event (event end) refl permits a.acts

@@ -72,7 +72,7 @@ module _ (p : Program) (w : WellFormed p) (steps : ℕ) (s : State) (c : SourceS
       r h o stands
   completed x q thread proc point list work enough (F.returns h mark e) low moves =
       returns_step p w steps s c k t woken done deferral pauses s' n number few awake None x tt point (list
-          ∙ ap holds e)
+      ∙ ap holds e)
       (proc ∙ ap Some e) h mark (omega (arith, enough)) moves
   completed x q thread proc point list work enough (F.leaves r fits h mark o) low moves =
       leaves_step p w steps s c k t woken done deferral pauses s' n number few awake q proc point list r x work fits h
@@ -85,7 +85,7 @@ module _ (p : Program) (w : WellFormed p) (steps : ℕ) (s : State) (c : SourceS
   completed x q thread proc point list work enough (F.claims {into = i} {part = y} {f = f} {callers = cs} child go some
       made most h o j to bad) low moves =
       claims_step p w steps s c k t woken done deferral pauses s' n number few awake q proc point list x work moves
-          child
+      child
       go some made
       h o j to bad
   completed x q thread proc point list work enough (F.faults fault e o) low moves =
@@ -209,7 +209,7 @@ module _ (p : Program) (w : WellFormed p) (steps : ℕ) (s : State) (c : SourceS
       point list enough x thread e low moves =
       walking x y j.sleeps left (same_thread e) h
       (λ there. sleep_step p w steps s c k t woken done deferral pauses s' n number few awake paused child i part f cs
-          is
+      is
       j list x
       there proc point (omega (arith, enough)) low moves)
       (λ z m g plain le more. goes_local p w steps s c k t woken done deferral pauses s' n x z _ _ _ proc point list
@@ -219,7 +219,7 @@ module _ (p : Program) (w : WellFormed p) (steps : ℕ) (s : State) (c : SourceS
       j h) proc point list enough x thread e low moves =
       walking x y j.learns left (same_thread e) h
       (λ there. learn_step p w steps s c k t woken done deferral pauses s' n number few awake paused child i part f cs
-          is
+      is
       j list x
       end there proc point (omega (arith, enough)) low moves)
       (λ z m g plain le more. goes_local p w steps s c k t woken done deferral pauses s' n x z _ _ _ proc point list
@@ -264,7 +264,7 @@ module _ (p : Program) (w : WellFormed p) (steps : ℕ) (s : State) (c : SourceS
 pub next : (p : Program) (w : WellFormed p) (steps : ℕ) (s : State) (c : SourceState) (k : Corresponds p w steps s c)
     (l : Step) (s' : State) (st : IsStep (code_of p) s l s') (done : Bool) (deferral : Option Kind)
     → StepsSo p done deferral (mark_of (marks_of p) st.thread) s l.thread l.woken
-        (look (code_of p) l.thread st.thread) s'
+    (look (code_of p) l.thread st.thread) s'
     → IsLow k.world.sequence (look (code_of p) l.thread st.thread)
     → Next p w steps s' l.thread done deferral l.pauses (left_of p w k l.thread) c (stages k.world)
 next p w steps s c k l s' st done deferral moves low =

@@ -173,12 +173,12 @@ module _ (p : Program) (w : WellFormed p) where
   pub tracks_deferred : (steps : ℕ) (s : State) (a : SourceState) (r : Tracks p w steps s a) (l : Step) (s' : State)
       (st : IsStep (code_of p) s l s') (done : Bool) (deferral : Option Kind)
       → StepsSo p done deferral (mark_of (marks_of p) st.thread) s l.thread l.woken
-          (look (code_of p) l.thread st.thread) s'
+      (look (code_of p) l.thread st.thread) s'
       → steps + 1 < 2 ^ 32
       → (done ≡ false → (n : Tracks p w (suc steps) s' a)
       × (n.deferred ≡ put r.deferred l.thread (deferred_then deferral (r.deferred l.thread))))
       × (done ≡ true → (o : HasDeferred p w (suc steps) s' l.thread a (r.deferred l.thread))
-          × (o.deferred ≡ r.deferred))
+      × (o.deferred ≡ r.deferred))
   tracks_deferred steps s a r l s' st done deferral moves short = by_places n.kinds n.places n.own
     where
       c : SourceState
@@ -220,7 +220,7 @@ module _ (p : Program) (w : WellFormed p) where
       by_places : (kinds : List Kind) → Places p s' t c n.after done deferral (stages r.ties.world t) n.stage kinds
           → AreOwn kinds
           → (done ≡ false → (x : Tracks p w (suc steps) s' a)
-              × (x.deferred ≡ put r.deferred t (deferred_then deferral ks)))
+          × (x.deferred ≡ put r.deferred t (deferred_then deferral ks)))
           × (done ≡ true → (o : HasDeferred p w (suc steps) s' t a ks) × (o.deferred ≡ r.deferred))
       by_places kinds (P.nothing none plain stays same) own = (
         λ e. still same (ap (λ (i : Option Kind). deferred_then i ks) plain)

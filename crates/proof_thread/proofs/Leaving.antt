@@ -149,7 +149,7 @@ module _ (b : Build) (t : ℕ) (v : Variables) where
           let step = one_step b.code t (view_at b q v) (Runs place [] l fs) (Runs (place + 1) (0 ∷ []) l fs)
           (push_step b.code t (view_at b q v) place 0 [] l fs
           (look_here b.code t (view_at b q v) place (Push 0) [] l fs here.0) (omega arith))
-              (ap deferred_by_mark here.0.1) in
+          (ap deferred_by_mark here.0.1) in
           proceeds_on b t v 1 1 _ _ pending step
           (leaves_at (Some 0) (place + 1) l fs number q cs (pos 0) pending hands callers
           (subst (λ (k : Option ValueType). ShowsResult b.made k (Some 0) (pos 0)) (sym e) (refl, zero_value b.made u))

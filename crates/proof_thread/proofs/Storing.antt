@@ -111,7 +111,7 @@ module _ (b : Build) (t : ℕ) (v : Variables) (place : ℕ) (l : Locals) (fs : 
       let seen = look_here b.code t (view_at b procedure v) place (Push a) [] l fs c.head.here.0 in
       let step = one_step b.code t (view_at b procedure v) x (Runs (place + 1) (a ∷ []) l fs)
       (push_step b.code t (view_at b procedure v) place a [] l fs seen (omega arith))
-          (ap deferred_by_mark c.head.here.0.1) in
+      (ap deferred_by_mark c.head.here.0.1) in
       as_it_stands b t v place l fs values rest procedure cs entered s c tt (1 + (2 * expression_tokens e + 0))
       (omega arith)
       (proceeds_on b t v 1 (2 * expression_tokens e + 0) x (Runs (place + 1) (a ∷ []) l fs) (process s) step
