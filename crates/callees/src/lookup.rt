@@ -114,7 +114,7 @@ impl<'u, 'a> Callees<'u, 'a> {
         }
     }
 
-    /// The names in sight of the piece of this number. The only error is that memory runs out.
+    /// The names in scope of the piece of this number. The only error is that memory runs out.
     pub fn standing(&self, alloc: Global, number: usize) -> Result<NameScope<'_, 'a>, AllocError>
         requires { number < length self.now.pieces.items }
         ensures { (s : Scope) → IsCallees s.unit self.now

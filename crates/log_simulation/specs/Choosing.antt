@@ -1,4 +1,4 @@
--- Which action of a process others learn of next, by its offer.
+-- Which visible action a process takes next, by its offer.
 use Rattle.std.specs.Prelude.{ℕ, ◌+◌, List, Option, Some, None, nat_lt, if◌then◌else◌}
 use Rattle.words.specs.Limits.{most_processes}
 use Rattle.program.specs.declared.kinds.Member.{Member}
@@ -16,8 +16,8 @@ use Rattle.source_offers.specs.Offered.{label_of}
 abbrev pub visible_label : Label → Kind
 visible_label label = kind_of (label_of label)
 
--- the action that others learn of, of a process with this offer, where so many processes were made; a notify or a
--- broadcast resumes these
+-- the visible action of a process with this offer, where so many processes were made; a notify or a broadcast resumes
+-- these
 abbrev pub visible_own : Offered → ℕ → List ℕ → Option Kind
 visible_own Rests made resumed = None
 visible_own (Does label effect) made resumed = Some (visible_label label)
@@ -26,7 +26,7 @@ visible_own (Claims child into aborted) made resumed = Some (L.Claim child)
 visible_own (NotifiesSome c) made resumed = Some (L.Notify c resumed)
 visible_own (NotifiesAll c) made resumed = Some (L.Broadcast c resumed)
 
--- the action that others learn of, if it is one; a fork makes a process of the number that comes next
+-- the visible action, if it is one; a fork makes a process of the number that comes next
 abbrev pub visible_kind : Offer → ℕ → List ℕ → Option Kind
 visible_kind (Own o) made resumed = visible_own o made resumed
 visible_kind (Enters m) made resumed = Some (L.Enter m)

@@ -1,4 +1,4 @@
--- What waits of each process, as a recorder counts it.
+-- What is deferred of each process, as a recorder counts it.
 use Rattle.std.specs.Prelude.{ℕ, ◌≡◌, ◌==◌, ◌||◌, List, length, Option, Some, None, if◌then◌else◌}
 use Rattle.std.specs.Prelude.{slice_get}
 use Rattle.words.specs.declared.outcome.Fault.TheVariants.{HandleNotJoinable, ProcessTableFull}
@@ -13,13 +13,13 @@ use Rattle.log_simulation.specs.declared.deferral.Deferral.{Deferral}
 use Rattle.log_simulation.specs.declared.deferral.Deferral.TheVariants as deferral
 use Rattle.log_simulation.specs.declared.deferred.Deferred.{Deferred}
 
--- no action, or one that waits: a fault, or another one
+-- no action, or one that is deferred: a fault, or another one
 abbrev pub deferral_of : Option Kind → Deferral
 deferral_of None = deferral.Nothing
 deferral_of (Some k) = if is_failing k then deferral.Fault else deferral.Action
 
--- the action that waits behind a step of a thread that stands at this mark and comes to this, with this value in its
--- event
+-- the action that is deferred behind a step of a thread that stands at this mark and comes to this, with this value in
+-- its event
 abbrev pub deferred_by_next_step : Option Mark → NextStep → ℕ → Option Kind
 deferred_by_next_step mark next.Local v = deferred_by_mark mark
 deferred_by_next_step mark (next.Shared told.Return) v = last_mark mark
@@ -30,7 +30,7 @@ deferred_by_next_step mark (next.Shared (told.Swap a new)) v =
 deferred_by_next_step mark (next.Fork entry count has_room) v = if v == 0 then Some (Fails ProcessTableFull) else None
 deferred_by_next_step mark step v = None
 
--- so many wait, and a fault is among them or not
+-- so many are deferred, and a fault is among them or not
 pub record Says (x : Deferred) (ks : List Kind) : Type 0 where
   pub count : x.count ≡ length ks
   pub failed : x.has_failed ≡ has_failed ks

@@ -20,7 +20,7 @@ use Rattle.proof_simulation.specs.Ordering.{completes, completes_exit}
 use Rattle.proof_simulation.specs.Progress.{Progress, progress, progress_step}
 use Rattle.proof_simulation.specs.Deferred.{deferred_then}
 
--- whether the shared step of a thread that looks so, with this value in its event, is an action which others learn of
+-- whether the shared step of a thread that looks so, with this value in its event, is a visible action
 abbrev pub is_visible : Program → Look → (value : ℕ) → Bool
 is_visible p (Goes x) v = false
 is_visible p (Asks request go) v = completes p request v
@@ -28,12 +28,12 @@ is_visible p (Leaves phase) v = completes_exit phase
 is_visible p Breaks v = false
 is_visible p Rests v = false
 
--- what waits behind so many local steps of thread t, by the marks at which it stands
+-- what is deferred behind so many local steps of thread t, by the marks at which it stands
 abbrev pub deferred_at : List Mark → Option Thread → List Kind → List Kind
 deferred_at marks None ks = ks
 deferred_at marks (Some x) ks = deferred_then (deferred_by_mark (mark_of marks x)) ks
 
--- what waits of process t behind so many local steps of its thread
+-- what is deferred of process t behind so many local steps of its thread
 abbrev pub deferred_locally : Program → (t steps : ℕ) → Thread → List Kind → List Kind
 deferred_locally p t zero x ks = ks
 deferred_locally p t (suc n) x ks = deferred_at (marks_of p) (local_after (code_of p) t n x)

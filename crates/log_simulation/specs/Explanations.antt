@@ -1,4 +1,4 @@
--- What is told of a log.
+-- How a log is explained.
 use Rattle.std.specs.Prelude.{◌≡◌, ◌<◌, ◌≤◌, ◌^◌, List, map}
 use Rattle.isa.specs.Programs.{Program as Image}
 use Rattle.machine.specs.FrontRuns.{EventStep, label_of, event_label}
@@ -46,7 +46,7 @@ pub record IsRecorded (p : Program) (log : List Entry) (actions : List Action) :
   pub short : cost log < 2 ^ 32
   pub explained : IsExplanationOf p (steps_of log) machine actions
 
--- what is told of a log of the program's image
+-- how a log of the program's image is explained
 abbrev pub ExplainsLog : Program → List Entry → LogExplanation → Type 0
 ExplainsLog p log told.NotARun = IsNoLog (code_of p) log
 ExplainsLog p log (told.Actions actions) = IsRecorded p log (map action_of actions.items)

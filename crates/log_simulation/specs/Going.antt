@@ -26,7 +26,7 @@ Takes old action is_possible new =
     → IsStep (said_by old.checked.now) g.source action after
     → (is_possible ≡ true) × Matches new (record g { actions = g.actions ++ action ∷ []; source = after })
 
--- where process t can take a quiet action, it takes that
+-- where process t can take an internal action, it takes that
 abbrev pub TakesInternal : Follower → (t : ℕ) → (is_possible : Bool) → Follower → Type 0
 TakesInternal old t is_possible new =
     let p = said_by old.checked.now in
@@ -35,14 +35,14 @@ TakesInternal old t is_possible new =
     → (is_possible ≡ true)
     × Matches new (record g { actions = g.actions ++ act t (kind_of label) ∷ []; source = after })
 
--- where so many actions of process t wait, it takes them
+-- where so many actions of process t are deferred, it takes them
 abbrev pub CatchesUp : Follower → (t count : ℕ) → (is_possible : Bool) → Follower → Type 0
 CatchesUp old t count is_possible new =
     let p = said_by old.checked.now in
     (g : Progress) (ahead : SourceState) → Matches old g → IsBehind p g.deferred g.source ahead
     → length (g.deferred t) ≡ count → (is_possible ≡ true) × Matches new (progress_caught_up p t g)
 
--- and then the next action of process t that others learn of, by a step of the machine to this state
+-- and then the next visible action of process t, by a step of the machine to this state
 abbrev pub Follows : Follower → State → (t count : ℕ) → (is_possible : Bool) → Follower → Type 0
 Follows old s t count is_possible new =
     let p = said_by old.checked.now in

@@ -30,7 +30,7 @@ pub record Records (steps : ℕ) (g : Progress) (r : Recorder) : Type 0 where
   pub waits : CountsDeferred r.deferred.items g.deferred
   pub bounded : (t : ℕ) → length (g.deferred t) ≤ steps
 
--- or there are more steps than are told
+-- or there are more steps than are counted
 abbrev pub RecordsUnlessLong : ℕ → Progress → Recorder → Type 0
 RecordsUnlessLong steps g r = MatchBool r.is_whole (Records steps g r) (2 ^ 32 ≤ steps)
 
@@ -40,7 +40,7 @@ Counts more r r' =
     MatchBool r'.is_whole ((r.is_whole ≡ true) × (r.steps + more < 2 ^ 32) × (r'.steps ≡ r.steps + more))
     (r.is_whole ≡ true → 2 ^ 32 ≤ r.steps + more)
 
--- the steps so far lead to this state of the machine, and what the source has come to is told
+-- the steps so far lead to this state of the machine, and what the source has come to is recorded
 pub record IsAlong (p : Program) (events : List EventStep) (k : ConcreteState) (r : Recorder) : Type 0 where
   pub of_program : IsOf p r
   pub source : Progress
@@ -52,7 +52,7 @@ abbrev pub KeepsUp : Program → ConcreteState → Recorder → Entry → Concre
 KeepsUp p k r e k' r' =
     WellFormed p → (events : List EventStep) → IsAlong p events k r → IsAlong p (events ++ entry_steps e) k' r'
 
--- what waits of processes 1 to n is taken, by number
+-- what is deferred of processes 1 to n is taken, by number
 abbrev pub progress_rest : Program → ℕ → Progress → Progress
 progress_rest p zero g = g
 progress_rest p (suc n) g = progress_caught_up p (suc n) (progress_rest p n g)

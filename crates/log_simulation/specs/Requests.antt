@@ -1,4 +1,4 @@
--- Whether a step is an action that others learn of, as the code tells the step.
+-- Whether a step is a visible action, as the code has the step.
 use Rattle.std.specs.Prelude.{ℕ, ◌==◌, ◌&&◌, ◌||◌, not, Bool, true, false}
 use Rattle.locals.specs.declared.request.Request.{Request}
 use Rattle.locals.specs.declared.request.Request.TheVariants as told

@@ -20,7 +20,7 @@ pub fn notified(offer: &Offer) -> Option<Member>
     }
 }
 
-// The action that others learn of, of what a process does for itself, where so many processes were made.
+// The visible action of what a process does for itself, where so many processes were made.
 fn visible_alone(offered: &Offered, made: u64, resumed: Vec<u64>) -> Option<ActionKind>
     ensures { option_map kind_of result ≡ visible_own offered.now made resumed.items }
 {
@@ -37,7 +37,7 @@ fn visible_alone(offered: &Offered, made: u64, resumed: Vec<u64>) -> Option<Acti
     }
 }
 
-/// The action that others learn of, of a process with this offer; a notify or a broadcast resumes these.
+/// The visible action of a process with this offer; a notify or a broadcast resumes these.
 pub fn visible_action(offer: &Offer, state: &SourceState, resumed: Vec<u64>) -> Option<ActionKind>
     ensures { option_map kind_of result
         ≡ visible_kind offer.now (state_of state.now).table.made resumed.items }

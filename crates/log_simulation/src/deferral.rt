@@ -5,7 +5,7 @@ ghost use Rattle.log_simulation.specs.Deferred.{deferral_of, deferred_by_next_st
 use locals::{Local, NextStep, Request};
 use lowering::Mark;
 
-/// What a step adds to the actions of its process that wait for its next one that others learn of.
+/// What a step adds to the deferred actions of its process, which come before its next visible one.
 #[derive(Clone, Copy, PartialEq, Eq, Debug)]
 pub enum Deferral {
     /// Nothing.
@@ -44,8 +44,8 @@ fn at_last(mark: Option<Mark>) -> Deferral
     }
 }
 
-/// What a step at this mark adds that comes to this, with this value in its event: a fault waits, where it is written,
-/// where no process can be made, and where a process was claimed before; and so does a last return.
+/// What a step at this mark adds that comes to this, with this value in its event: a fault is deferred, where it is
+/// written, where no process can be made, and where a process was claimed before; and so is a last return.
 pub fn at_step(mark: Option<Mark>, step: NextStep, value: u32) -> Deferral
     ensures { result ≡ deferral_of (deferred_by_next_step mark step value) }
 {

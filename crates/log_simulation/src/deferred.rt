@@ -5,7 +5,7 @@ ghost use Rattle.log_simulation.specs.Deferred.{Says, deferral_of};
 
 use crate::deferral::Deferral;
 
-/// What waits of a process: how many actions, and whether a fault is among them.
+/// What is deferred of a process: how many actions, and whether a fault is among them.
 #[derive(Clone, Copy, PartialEq, Eq, Debug)]
 pub struct Deferred {
     /// How many.
@@ -25,7 +25,7 @@ impl Deferred {
         }
     }
 
-    /// With what a step adds. A fault waits once, though where it is written it is told of again.
+    /// With what a step adds. A fault is deferred once, though the step that writes it has it again.
     pub fn behind(self, deferral: Deferral) -> Deferred
         ensures { (ks : List Kind) (o : Option Kind) → Says self ks → deferral ≡ deferral_of o
             → length ks + 1 < 2 ^ 32

@@ -15,7 +15,7 @@ use program::Checked;
 use source_states::Action;
 use std::alloc::{AllocError, Global};
 
-/// What is told of a log of a program's image.
+/// How a log of a program's image is explained.
 #[derive(Drop)]
 pub enum LogExplanation {
     /// The entries are no log of a run: not legal, or of 2^32 steps or more, which the machine's words don't count.
@@ -31,9 +31,9 @@ fn checked_is_well_formed(checked: &Checked)
     checked.program();
 }
 
-/// The source behind a log of a program's image: the log is walked once, by the machine's own steps, with the layout of
-/// the program and the marks of its code. Which actions wait for the next of their process that others learn of is told
-/// by the marks.
+/// The source behind a log of a program's image: the log is walked once, by the machine's own steps, with the layout
+/// of the program and the marks of its code. The marks say which actions are deferred until the next visible one of
+/// their process.
 pub fn explain_log(
     alloc: Global,
     checked: &Checked,

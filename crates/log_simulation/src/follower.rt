@@ -65,8 +65,8 @@ impl<'a> Follower<'a> {
         self.actions
     }
 
-    /// Whether the step of a thread that comes to this, with this value in its event, is an action of its process
-    /// which other processes learn of.
+    /// Whether the step of a thread that comes to this, with this value in its event, is a visible action of its
+    /// process.
     pub fn is_visible(&self, step: NextStep, value: u32) -> bool
         ensures { self.now.layout ≡ layout_of (said_by self.now.checked.now)
             → result ≡ visible_step (said_by self.now.checked.now) step value }
@@ -94,7 +94,7 @@ impl<'a> Follower<'a> {
         Ok(is_possible)
     }
 
-    // Takes the quiet action that a process can take next; false where it can take none.
+    // Takes the internal action that a process can take next; false where it can take none.
     fn take_internal(&mut self, t: u32) -> Result<bool, AllocError>
         ensures takes { IfOk result (λ b. TakesInternal self.old t b self.new) }
         ensures kept { OnOk result ((self.new.checked ≡ self.old.checked)
@@ -109,7 +109,7 @@ impl<'a> Follower<'a> {
         Ok(true)
     }
 
-    /// Takes so many quiet actions of a process, which no other process learns of. False where one isn't there.
+    /// Takes so many internal actions of a process. False where one isn't there.
     pub fn catch_up(&mut self, t: u32, count: u32) -> Result<bool, AllocError>
         ensures catches_up { IfOk result (λ b. CatchesUp self.old t count b self.new) }
         ensures kept { OnOk result ((self.new.checked ≡ self.old.checked)
@@ -163,7 +163,7 @@ impl<'a> Follower<'a> {
         }
     }
 
-    // The action that others learn of, which a process takes next, where it can take one.
+    // The visible action that a process takes next, where it can take one.
     fn next_visible(&self, machine: &Machine, t: u32) -> Result<Option<ActionKind>, AllocError>
         ensures { IfOk result (λ o. (label : Label)
             → self.now.layout ≡ layout_of (said_by self.now.checked.now)
@@ -179,8 +179,8 @@ impl<'a> Follower<'a> {
         Ok(visible_action(&offer, &self.state, resumed))
     }
 
-    /// Follows a step of thread `t` to this machine, which is an action that other processes learn of: first come so
-    /// many quiet actions of its process, and then that. False where one isn't there, or isn't possible.
+    /// Follows a step of thread `t` to this machine, which is a visible action: first come so many internal actions of
+    /// its process, and then that. False where one isn't there, or isn't possible.
     pub fn follow(&mut self, machine: &Machine, t: u32, count: u32) -> Result<bool, AllocError>
         ensures follows { let s = machine_state (concrete machine.now) in
             IfOk result (λ b. Follows self.old s t count b self.new) }

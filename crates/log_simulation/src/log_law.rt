@@ -12,10 +12,10 @@ ghost use Rattle.runner.specs.Logs.{Enters};
 ghost use Rattle.std.specs.Prelude.{[], ◌≡◌, ◌+◌, ◌++◌, ◌<◌, ◌^◌, List, Some, length, true};
 ghost use Rattle.log_simulation.specs.Entries.{ComesTo, entry_steps, is_visible, progress_entry, progress_locally};
 
-/// What the source has come to behind a legal log of a program's code is told entry by entry: each local step, and each
-/// shared one that no other process learns of, adds the action that it completes by the marks of the code, if it
-/// completes one, to what waits; behind a shared step that others learn of, by the request that the thread makes and
-/// the value of its event, all that waited of its process and the action itself are taken, which are possible.
+/// What the source has come to behind a legal log of a program's code is a function of the log, entry by entry: each
+/// local step, and each shared one that isn't visible, adds the action that it completes by the marks of the code, if
+/// it completes one, to what is deferred; behind a visible step, by the request that the thread makes and the value of
+/// its event, all that was deferred of its process and the action itself are taken, which are possible.
 pub fn progress_follows_logs()
     ensures opens { (p : Program) → ComesTo p [] (opening_concrete (code_of p)) (opening_progress p) }
     ensures entries { (p : Program) (events : List EventStep) (k k' : ConcreteState) (e : Entry)

@@ -39,19 +39,19 @@ use source_states::Action;
 use std::alloc::{AllocError, Global};
 use words::MOST_PROCESSES;
 
-/// The source behind a log, as far as it was walked. It is told as long as the log has fewer than 2^32 steps.
+/// The source behind a log, as far as it was walked. It is kept as long as the log has fewer than 2^32 steps.
 #[derive(Drop)]
 pub struct Recorder<'a> {
     marks: Vec<Mark>,
     follower: Follower<'a>,
-    // What waits of each process for its next action that others learn of, by its number.
+    // What is deferred of each process until its next visible action, by its number.
     deferred: Vec<Deferred>,
-    // How many steps the log has so far, while it is told.
+    // How many steps the log has so far, while they are counted.
     steps: u32,
     is_whole: bool,
 }
 
-// Nothing waits of any process.
+// Nothing is deferred of any process.
 fn nothing(alloc: Global) -> Result<Vec<Deferred>, AllocError>
     ensures { IfOk result (λ v. (length v.items ≡ most_processes + 1)
         × CountsDeferred v.items (λ t. [])) }
@@ -104,7 +104,7 @@ impl<'a> Recorder<'a> {
         }
     }
 
-    // What a step of a process adds waits.
+    // What a step of a process adds is deferred.
     fn delay(&mut self, t: u32, deferral: Deferral)
         ensures kept { self.new ≡ record self.old { deferred = self.new.deferred } }
         ensures places { length self.new.deferred.items ≡ length self.old.deferred.items }
@@ -121,7 +121,7 @@ impl<'a> Recorder<'a> {
         }
     }
 
-    // No action of a process waits any more; how many did.
+    // No action of a process is deferred any more; how many were.
     fn take_deferred(&mut self, t: u32) -> u32
         ensures kept { self.new ≡ record self.old { deferred = self.new.deferred } }
         ensures places { length self.new.deferred.items ≡ length self.old.deferred.items }
@@ -205,7 +205,7 @@ impl<'a> Recorder<'a> {
         Ok(())
     }
 
-    // The actions that wait are taken, by rising process. Each is possible, in a log that is told.
+    // The deferred actions are taken, by rising process. Each is possible, in a legal log of fewer than 2^32 steps.
     fn take_rest(&mut self, made: u32) -> Result<(), AllocError>
         ensures { OnOk result ((p : Program) (g : Progress) (ahead : SourceState) → IsOf p self.old
             → made ≤ most_processes → Matches self.old.follower g
@@ -223,7 +223,7 @@ impl<'a> Recorder<'a> {
         Ok(())
     }
 
-    /// All actions of the log, where it led to this machine; those that wait come last, by rising process.
+    /// All actions of the log, where it led to this machine; those that are deferred come last, by rising process.
     pub fn finish(self, machine: &Machine) -> Result<Vec<Action>, AllocError>
         ensures { IfOk result (λ actions. (p : Program) (events : List EventStep) → WellFormed p
             → IsAlong p events (concrete machine.now) self.entry → self.entry.is_whole ≡ true

@@ -59,7 +59,7 @@ fn is_variable(layout: &Layout, monitors: u32, address: Addr) -> bool
         && !is_link(layout, monitors, address)
 }
 
-// Whether the answer to a request is that of an action which other processes learn of.
+// Whether the answer to a request is that of a visible action.
 fn completes(layout: &Layout, monitors: u32, request: Request, value: u32) -> bool
     ensures { (p : Program) → layout.now ≡ layout_of p → monitors ≡ length p.monitors
         → result ≡ visible_request p request value }
@@ -75,8 +75,7 @@ fn completes(layout: &Layout, monitors: u32, request: Request, value: u32) -> bo
     }
 }
 
-/// Whether the step of a thread that comes to this, with this value in its event, is an action of its process which
-/// other processes learn of.
+/// Whether the step of a thread that comes to this, with this value in its event, is a visible action of its process.
 pub fn is_visible(layout: &Layout, monitors: u32, step: NextStep, value: u32) -> bool
     ensures { (p : Program) → layout.now ≡ layout_of p → monitors ≡ length p.monitors
         → result ≡ visible_step p step value }

@@ -1,5 +1,5 @@
--- Actions of a process that may wait: they touch only what belongs to the process, so that the actions of others may as
--- well come before them.
+-- Actions of a process that may be deferred: they touch only what belongs to the process, so that the actions of
+-- others may as well come before them.
 use Rattle.std.specs.Prelude.{ℕ, ◌≡◌, Bool, true, false, List, [], ◌∷◌, Option, Some, None}
 use Rattle.program.specs.Trees.{Program}
 use Rattle.meaning.specs.Values.{Variables}
@@ -10,7 +10,7 @@ use Rattle.meaning.specs.Processes.{Process, Over}
 use Rattle.meaning.specs.Offers.{Nothing, offer, TakesUp}
 use Rattle.meaning.specs.States.{SourceState}
 
--- an action that no other process learns of: of a local, a test, a call, a return, a fault
+-- an internal action, which no other process sees: of a local, a test, a call, a return, a fault
 abbrev pub is_internal : Label → Bool
 is_internal (Alone (L.Print number)) = false
 is_internal (Alone kind) = true
@@ -22,8 +22,8 @@ is_internal label = false
 abbrev pub SameHeld : ℕ → Table → Variables → Variables → Type 0
 SameHeld t T v v' = (m : ℕ) → T.hold m ≡ HeldBy t → (n i : ℕ) → v m n i ≡ v' m n i
 
--- process t, where it stands, may take the quiet action, whatever becomes of the monitors that it doesn't hold; and it
--- isn't over behind it
+-- process t, where it stands, may take the internal action, whatever becomes of the monitors that it doesn't hold; and
+-- it isn't over behind it
 pub record MayDefer (p : Program) (t : ℕ) (v : Variables) (T : Table) (q : Process) (label : Label)
     (r : Process) : Type 0 where
   pub internal : is_internal label ≡ true
@@ -31,7 +31,7 @@ pub record MayDefer (p : Program) (t : ℕ) (v : Variables) (T : Table) (q : Pro
   pub allows : Allows t label T T
   pub goes_on : (end : End) → r ≡ Over end → ⊥
 
--- actions that still wait, in order: they lead the process from one place to another
+-- deferred actions, in order: they lead the process from one place to another
 abbrev pub LeadsDeferred : Program → ℕ → Variables → Table → List Kind → Process → Process → Type 0
 LeadsDeferred p t v T [] q r = q ≡ r
 LeadsDeferred p t v T (k ∷ ks) q r =
@@ -45,7 +45,7 @@ LeadsDeferredAt p t v T ks (Some q) (Some r) = LeadsDeferred p t v T ks q r
 LeadsDeferredAt p t v T ks None (Some r) = ⊥
 LeadsDeferredAt p t v T ks (Some q) None = ⊥
 
--- a state in which these actions of each process still wait that were taken in another
+-- a state in which these actions of each process are still deferred that were taken in another
 pub record IsBehind (p : Program) (deferred : ℕ → List Kind) (a c : SourceState) : Type 0 where
   pub table : a.table ≡ c.table
   pub variables : a.variable ≡ c.variable

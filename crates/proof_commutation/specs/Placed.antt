@@ -1,4 +1,4 @@
--- A run reordered: an action that may wait comes right before the next of its process that doesn't wait.
+-- A run reordered: an action that is deferred comes right before the next of its process that isn't.
 use Rattle.std.specs.Prelude.{ℕ, zero, suc, ◌≡◌, ◌==◌, Bool, true, List, [], ◌∷◌, ◌++◌, map, Some, if◌then◌else◌}
 use Rattle.words.specs.Updates.{put}
 use Rattle.program.specs.Trees.{Program}
@@ -8,7 +8,7 @@ use Rattle.meaning.specs.States.{SourceState}
 use Rattle.meaning.specs.Runs.{IsStep}
 use Rattle.proof_commutation.specs.Deferring.{MayDefer}
 
--- an action of a run, and whether it is to wait
+-- an action of a run, and whether it is to be deferred
 pub record Marked : Type 0 where
   pub process : ℕ
   pub kind : Kind
@@ -18,24 +18,24 @@ pub record Marked : Type 0 where
 abbrev pub action_of : Marked → Action
 action_of x = record { process = x.process; kind = x.kind }
 
--- what waits of process t, as actions
+-- what is deferred of process t, as actions
 abbrev pub actions_of : ℕ → List Kind → List Action
 actions_of t ks = map (λ k. record { process = t; kind = k }) ks
 
--- what waits of processes 1 to n, by number
+-- what is deferred of processes 1 to n, by number
 abbrev pub actions_up_to : ℕ → (ℕ → List Kind) → List Action
 actions_up_to zero deferred = []
 actions_up_to (suc n) deferred = actions_up_to n deferred ++ actions_of (suc n) (deferred (suc n))
 
--- the actions of a run in another order, where these wait already; what waits at the end, of processes 1 to n, comes
--- last
+-- the actions of a run in another order, where these are deferred already; what is deferred at the end, of processes 1
+-- to n, comes last
 abbrev pub placed_behind : (n : ℕ) → (deferred : ℕ → List Kind) → List Marked → List Action
 placed_behind n deferred [] = actions_up_to n deferred
 placed_behind n deferred (x ∷ xs) =
     if x.waits then placed_behind n (put deferred x.process (deferred x.process ++ x.kind ∷ [])) xs
     else actions_of x.process (deferred x.process) ++ action_of x ∷ placed_behind n (put deferred x.process []) xs
 
--- the run reordered, where there are n processes and nothing waits at first
+-- the run reordered, where there are n processes and nothing is deferred at first
 abbrev pub placed_actions : (n : ℕ) → List Marked → List Action
 placed_actions n xs = placed_behind n (λ t. []) xs
 
@@ -44,7 +44,7 @@ abbrev pub kinds_of : ℕ → List Action → List Kind
 kinds_of t [] = []
 kinds_of t (a ∷ actions) = if a.process == t then a.kind ∷ kinds_of t actions else kinds_of t actions
 
--- the action may wait, in this state
+-- the action may be deferred, in this state
 pub record Defers (p : Program) (s : SourceState) (x : Marked) : Type 0 where
   pub before : Process
   pub after : Process
@@ -53,7 +53,7 @@ pub record Defers (p : Program) (s : SourceState) (x : Marked) : Type 0 where
   pub named : x.kind ≡ kind_of label
   pub may : MayDefer p x.process s.variable s.table before label after
 
--- the actions lead from a state to another, and those that are to wait may wait
+-- the actions lead from a state to another, and those that are to be deferred may be
 abbrev pub LeadsMarked : Program → SourceState → List Marked → SourceState → Type 0
 LeadsMarked p s [] s' = s ≡ s'
 LeadsMarked p s (x ∷ xs) s' =

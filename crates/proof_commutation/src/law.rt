@@ -8,10 +8,10 @@ ghost use Rattle.meaning.specs.States.{SourceState};
 ghost use Rattle.meaning.specs.Table.{HeldBy};
 ghost use Rattle.proof_commutation.specs.Deferring.{IsBehind, MayDefer};
 
-/// Quiet actions may wait. A state is behind itself with nothing waiting; a quiet action of the state ahead is one more
-/// that waits; the first that waits of a process is possible in the state behind, and then waits no more; an action of
-/// a process of which nothing waits is possible in the state behind, where it is in the one ahead; and the same
-/// processes are over in both.
+/// Internal actions may be deferred. A state is behind itself with nothing deferred; an internal action of the state
+/// ahead is one more that is deferred; the first that is deferred of a process is possible in the state behind, and
+/// then is deferred no more; an action of a process of which nothing is deferred is possible in the state behind,
+/// where it is in the one ahead; and the same processes are over in both.
 pub fn deferral_laws()
     ensures begins { (p : Program) (c : SourceState) → IsBehind p (λ t. []) c c }
     ensures waits { (p : Program) (deferred : ℕ

@@ -5,9 +5,9 @@ ghost use Rattle.meaning.specs.Runs.{IsRun};
 ghost use Rattle.meaning.specs.States.{SourceState, opening};
 ghost use Rattle.proof_commutation.specs.Placed.{LeadsMarked, Marked, action_of, kinds_of, placed_actions};
 
-/// A run of a well-formed program may be reordered: where each action that may wait is put right before the next of its
-/// process that doesn't wait, and what waits at the end comes last, the actions are a run to the same state. Each
-/// process does the same in it, in the same order.
+/// A run of a well-formed program may be reordered: where each action that may be deferred is put right before the
+/// next of its process that isn't, and what is deferred at the end comes last, the actions are a run to the same
+/// state. Each process does the same in it, in the same order.
 pub fn ordering_laws()
     ensures same_end { (p : Program) (actions : List Marked) (s : SourceState)
         → WellFormed p → LeadsMarked p (opening p) actions s

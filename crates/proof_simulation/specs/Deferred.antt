@@ -1,4 +1,4 @@
--- What waits of a process behind each step of its thread, and how far the thread is that has met a fault.
+-- What is deferred of a process behind each step of its thread, and how far the thread is that has met a fault.
 use Rattle.std.specs.Prelude.{ℕ, ◌≡◌, ◌⊎◌, ◌&&◌, ◌||◌, Bool, true, false, List, [], ◌∷◌, ◌++◌, Option, Some, None}
 use Rattle.std.specs.Prelude.{if◌then◌else◌}
 use Rattle.meaning.specs.Labels.{Kind, Fails}
@@ -16,8 +16,8 @@ abbrev pub has_failed : List Kind → Bool
 has_failed [] = false
 has_failed (k ∷ ks) = is_failing k || has_failed ks
 
--- what waits of a process behind a step with this action, if it has one; a fault waits once, though a fork that finds
--- no room and a claim that is refused are told of again where the fault is written
+-- what is deferred of a process behind a step with this action, if it has one; a fault is deferred once, though a fork
+-- that finds no room and a claim that is refused have it again where the fault is written
 abbrev pub deferred_then : Option Kind → List Kind → List Kind
 deferred_then None ks = ks
 deferred_then (Some k) ks = if is_failing k && has_failed ks then ks else ks ++ k ∷ []
@@ -46,7 +46,7 @@ stage_of pt = Works
 abbrev pub stages : World → ℕ → Stage
 stages w u = stage_of (w.at u).point
 
--- a fault waits of a process whose thread has met it, and none of one whose thread works
+-- a fault is deferred of a process whose thread has met it, and none of one whose thread works
 abbrev pub Agrees : Stage → Bool → Type 0
 Agrees Works failed = failed ≡ false
 Agrees Meets failed = failed ≡ true

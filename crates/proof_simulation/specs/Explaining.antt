@@ -1,5 +1,5 @@
 -- The run of the source that explains a run of the machine: what the source has come to by the machine's steps, and
--- what waits at the end, by rising number of process.
+-- what is deferred at the end, by rising number of process.
 use Rattle.std.specs.Prelude.{ℕ, ◌≡◌, false, List, ◌++◌}
 use Rattle.machine.specs.States.{State}
 use Rattle.machine.specs.Runs.{Step, MachineRun}
@@ -15,18 +15,18 @@ use Rattle.proof_simulation.specs.Ordering.{Resumes}
 use Rattle.proof_simulation.specs.Progress.{Progress, progress, progress_caught_up}
 use Rattle.proof_simulation.specs.Tracking.{CanTake, Tracks}
 
--- all actions that the source has come to, and then what waits
+-- all actions that the source has come to, and then what is deferred
 abbrev pub explanation : (p : Program) (steps : List Step) (s : State) → MachineRun (code_of p) steps s → List Action
 explanation p steps s run = let g = progress p steps s run in g.actions ++ actions_up_to s.made g.deferred
 
--- the actions so far are a run of the program, whose source goes with the machine, but for what waits
+-- the actions so far are a run of the program, whose source goes with the machine, but for what is deferred
 pub record IsReached (p : Program) (w : WellFormed p) (steps : ℕ) (s : State) (g : Progress) : Type 0 where
   pub run : IsRun p g.actions g.source
   pub tracks : Tracks p w steps s g.source
   pub waits : tracks.deferred ≡ g.deferred
 
--- a step of process t led to this state of the machine, and others learn of it: what waits of the process may be taken,
--- and then an action of it which others learn of
+-- a visible step of process t led to this state of the machine: what is deferred of the process may be taken, and then
+-- a visible action of it
 pub record IsDue (p : Program) (s : State) (t : ℕ) (g : Progress) : Type 0 where
   pub ahead : SourceState
   pub behind : IsBehind p g.deferred g.source ahead

@@ -1,5 +1,4 @@
--- What a process does next, and where that leads: a function of the state, where it is known whether others learn of
--- it.
+-- What a process does next, and where that leads: a function of the state, where it is known whether it is visible.
 use Rattle.std.specs.Prelude.{ℕ, ◌+◌, Bool, true, false, List, [], ◌∷◌, Option, Some, None, if◌then◌else◌}
 use Rattle.words.specs.Updates.{put}
 use Rattle.machine.specs.States.{State}
@@ -20,7 +19,7 @@ pub record NextAction : Type 0 where
   pub effect : Effect
   pub after : Process
 
--- the quiet action of an offer, where it has one: a process finds the table full, or another one claimed
+-- the internal action of an offer, where it has one: a process finds the table full, or another one claimed
 abbrev pub internal_next : Offer → Option NextAction
 internal_next (Does l e q) = Some (record { label = l; effect = e; after = q })
 internal_next (MakesOne child q full) = Some (record { label = FindsFull; effect = Nothing; after = full })
@@ -44,8 +43,8 @@ abbrev pub joins_next : ℕ → (End → Process) → Option End → Option Next
 joins_next child q None = None
 joins_next child q (Some end) = Some (record { label = Joins child end; effect = Nothing; after = q end })
 
--- the action of an offer which others learn of, in this table; a notify or a broadcast resumes those who wait on the
--- condition and don't sleep on its word in this state of the machine
+-- the visible action of an offer, in this table; a notify or a broadcast resumes those who wait on the condition and
+-- don't sleep on its word in this state of the machine
 abbrev pub visible_next : Program → State → Table → Offer → Option NextAction
 visible_next p s T Rests = None
 visible_next p s T (Does l e q) = Some (record { label = l; effect = e; after = q })
@@ -90,12 +89,12 @@ abbrev pub next_kinds : Option NextAction → List Kind
 next_kinds None = []
 next_kinds (Some x) = kind_of x.label ∷ []
 
--- the quiet actions of process t, as many as these, are taken
+-- the internal actions of process t, as many as these, are taken
 abbrev pub take_deferred : Program → (t : ℕ) → List Kind → SourceState → SourceState
 take_deferred p t [] a = a
 take_deferred p t (k ∷ ks) a = take_deferred p t ks
     (after_next t (internal_next (offer_of_process p a.variable (a.process t))) a)
 
--- what others learn of next from process t
+-- the visible action that process t takes next
 abbrev pub next_visible : Program → State → (t : ℕ) → SourceState → Option NextAction
 next_visible p s t a = visible_next p s a.table (offer_of_process p a.variable (a.process t))

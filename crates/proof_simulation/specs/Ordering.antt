@@ -48,10 +48,10 @@ is_link_word p a = any_below (length p.monitors) (λ m. link_word p m == a)
 abbrev pub is_lock_word : Program → ℕ → Bool
 is_lock_word p a = any_below (length p.monitors) (λ m. lock_word_address p m == a)
 
--- whether the answer to a request is that of an action which others learn of: a free lock is taken (all that is
--- compared and swapped is a lock word); a lock is given up (all that a 0 is swapped into is one), or a process claimed;
--- an id word is read as 0; a variable is stored, which is all that is stored but list heads, pending words and links; a
--- condition's word is woken, or all that sleep on it are moved; a number is printed; a process is made
+-- whether the answer to a request is that of a visible action: a free lock is taken (all that is compared and swapped
+-- is a lock word); a lock is given up (all that a 0 is swapped into is one), or a process claimed; an id word is read
+-- as 0; a variable is stored, which is all that is stored but list heads, pending words and links; a condition's word
+-- is woken, or all that sleep on it are moved; a number is printed; a process is made
 abbrev pub completes : Program → Request → (answer : ℕ) → Bool
 completes p (AskCompareSwap a expected new) r = (r == expected) && (owner expected == 0)
 completes p (AskSwap a v) r = (v == 0) || (r == 0)
@@ -71,7 +71,7 @@ completes_exit ClearId = true
 completes_exit LastWake = false
 completes_exit Ended = false
 
--- what a thread that looks so does in one step, and whether that is an action which others learn of
+-- what a thread that looks so does in one step, and whether that is a visible action
 abbrev pub MovesSo : Program → Bool → State → ℕ → List ℕ → Look → State → Type 0
 MovesSo p done s t woken (Goes x) s' = (woken ≡ []) × (s' ≡ with_thread s t x) × (done ≡ false)
 MovesSo p done s t woken (Asks request go) s' =
@@ -83,7 +83,7 @@ MovesSo p done s t woken (Leaves phase) s' =
 MovesSo p done s t woken Breaks s' = ⊥
 MovesSo p done s t woken Rests s' = ⊥
 
--- the same, with the action that waits, if the step of a thread at this mark has one
+-- the same, with the action that is deferred, if the step of a thread at this mark has one
 abbrev pub StepsSo : Program → Bool → Option Kind → Option Mark → State → ℕ → List ℕ → Look → State → Type 0
 StepsSo p done deferral mark s t woken (Goes x) s' =
     (woken ≡ []) × (s' ≡ with_thread s t x) × (done ≡ false) × (deferral ≡ deferred_by_mark mark)
@@ -129,8 +129,8 @@ abbrev pub KeepsOthers : ℕ → Table → Variables → Variables → Type 0
 KeepsOthers t T v v' = (m n i : ℕ) → (T.hold m ≡ HeldBy t → ⊥) → v' m n i ≡ v m n i
 
 -- what process t does in the source by a step of its thread to a state of the machine, from a stage to the next:
--- nothing; nothing more, where the fault that is written was met already; an action that waits, just where the step has
--- one; or, just where the step is an action which others learn of, that
+-- nothing; nothing more, where the fault that is written was met already; a deferred action, just where the step has
+-- one; or, just where the step is a visible action, that
 pub data Places (p : Program) (s : State) (t : ℕ) (c c' : SourceState) (done : Bool) (deferral : Option Kind)
     (was now : Stage) : List Kind → Type 0 where
   nothing : done ≡ false → deferral ≡ None → Stays was now → c' ≡ c → Places p s t c c' done deferral was now []

@@ -22,7 +22,7 @@ answer_in s s' t woken (Leaves phase) g = 0
 answer_in s s' t woken Breaks g = 0
 answer_in s s' t woken Rests g = 0
 
--- whether others learn of a step that looks so
+-- whether a step that looks so is visible
 abbrev pub visible_step : Program → Look → (answer : ℕ) → Bool
 visible_step p (Goes x) r = false
 visible_step p (Asks request go) r = completes p request r
@@ -30,14 +30,14 @@ visible_step p (Leaves phase) r = completes_exit phase
 visible_step p Breaks r = false
 visible_step p Rests r = false
 
--- a run of the source behind some steps of the machine: its actions, where they lead, and what still waits of each
--- process
+-- a run of the source behind some steps of the machine: its actions, where they lead, and what is still deferred of
+-- each process
 pub record Progress : Type 0 where
   pub actions : List Action
   pub source : SourceState
   pub deferred : ℕ → List Kind
 
--- what waits of process t is taken
+-- what is deferred of process t is taken
 abbrev pub progress_caught_up : Program → (t : ℕ) → Progress → Progress
 progress_caught_up p t g = record {
   actions = g.actions ++ actions_of t (g.deferred t);
@@ -45,7 +45,7 @@ progress_caught_up p t g = record {
   deferred = put g.deferred t [];
 }
 
--- and the next action of it which others learn of, by a step to this state of the machine
+-- and the next visible action of it, by a step to this state of the machine
 abbrev pub progress_next : Program → State → (t : ℕ) → Progress → Progress
 progress_next p s t g =
     let next = next_visible p s t g.source in
@@ -54,7 +54,7 @@ progress_next p s t g =
       source = after_next t next g.source;
     }
 
--- behind a step of process t that others learn of; behind another, one more may wait
+-- behind a visible step of process t; behind another, one more may be deferred
 abbrev pub progress_step : Program → (visible : Bool) → (deferral : Option Kind) → State → (t : ℕ) → Progress → Progress
 progress_step p true deferral s t g = progress_next p s t (progress_caught_up p t g)
 progress_step p false deferral s t g = record g { deferred = put g.deferred t (deferred_then deferral (g.deferred t)) }

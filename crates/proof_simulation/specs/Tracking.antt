@@ -1,5 +1,5 @@
--- The source behind the machine: what its processes have done that others learn of, while actions that may wait still
--- wait.
+-- The source behind the machine: what its processes have done that is visible, while internal actions are still
+-- deferred.
 use Rattle.std.specs.Prelude.{ℕ, ◌+◌, ◌≡◌, ◌≤◌, false, List, length, Some, None}
 use Rattle.machine.specs.States.{State}
 use Rattle.program.specs.Trees.{Program}
@@ -27,8 +27,8 @@ pub record CanTake (p : Program) (a : SourceState) (t : ℕ) (label : Label) : T
   pub takes : TakesUp (offer p a.variable before) label effect after
   pub allows : Allows t label a.table table
 
--- the source goes with the machine after so many steps, but that actions which may wait still wait, of each process no
--- more than there were steps
+-- the source goes with the machine after so many steps, but that internal actions are still deferred, of each process
+-- no more than there were steps
 pub record Tracks (p : Program) (w : WellFormed p) (steps : ℕ) (s : State) (a : SourceState) : Type 0 where
   pub deferred : ℕ → List Kind
   pub ahead : SourceState
@@ -38,8 +38,8 @@ pub record Tracks (p : Program) (w : WellFormed p) (steps : ℕ) (s : State) (a 
   pub agrees : (t : ℕ) → Agrees (stages ties.world t) (has_failed (deferred t))
   pub own : (t : ℕ) → AreOwn (deferred t)
 
--- a step of thread t led to a state of the machine, and was an action of its process which others learn of. First come
--- the actions that still wait of the process, and then that
+-- a step of thread t led to a state of the machine, and was a visible action of its process. First come the deferred
+-- actions of the process, and then that
 pub record HasDeferred (p : Program) (w : WellFormed p) (steps : ℕ) (s : State) (t : ℕ) (a : SourceState)
     (ks : List Kind) : Type 0 where
   pub deferred : ℕ → List Kind

@@ -33,11 +33,11 @@ pub fn code_refines()
 {}
 
 /// The source follows the machine, step by step. It tracks the machine's opening state; a step of the machine that is
-/// no action which other processes learn of (`MovesSo` says which steps are, by the request and its answer) leaves it
-/// where it is; at one that is, the actions that still wait of the process are possible one by one, and then that
-/// action is, whose label the offer of the process tells; a notify or a broadcast resumes those who wait and don't
-/// sleep on the word of the condition. Where it tracks the machine, the same is printed, variables have the same
-/// values, and processes the same ends.
+/// no visible action (`MovesSo` says which steps are, by the request and its answer) leaves it where it is; at one
+/// that is, the deferred actions of the process are possible one by one, and then that action is, whose label the
+/// offer of the process tells; a notify or a broadcast resumes those who wait and don't sleep on the word of the
+/// condition. Where it tracks the machine, the same is printed, variables have the same values, and processes the same
+/// ends.
 pub fn source_follows()
     ensures opens { (p : Program) (w : WellFormed p)
         → Tracks p w 0 (opening_state (code_of p)) (opening p) }
@@ -69,11 +69,11 @@ pub fn source_follows()
         → Tracks p w steps s a → (q : ℕ) → machine_end s q ≡ source_end a q }
 {}
 
-/// What waits behind the machine is told by the code's marks. At a step that no other process learns of, the process
-/// has one more action that waits just where the step has one (`StepsSo` says which steps have, and which action, by
-/// the mark at which the thread stands, the request and its answer): an assignment of a local, a test, a call, a
-/// return, a fault, which waits once. Behind one that others learn of, all that waits of the process is taken first,
-/// in order, and then nothing waits of it. At any time all that waits may be taken, by rising number of process, and
+/// What is deferred behind the machine follows from the code's marks. At a step that isn't visible, the process has
+/// one more deferred action just where the step has one (`StepsSo` says which steps have, and which action, by the
+/// mark at which the thread stands, the request and its answer): an assignment of a local, a test, a call, a return, a
+/// fault, which is deferred once. Behind a visible one, all that is deferred of the process is taken first, in order,
+/// and then nothing is deferred of it. At any time all that is deferred may be taken, by rising number of process, and
 /// then the source is where the machine is.
 pub fn source_waits()
     ensures opens { (p : Program) (w : WellFormed p)
@@ -109,11 +109,11 @@ pub fn source_waits()
 {}
 
 /// The run of the source that explains a run of the machine is a function of the machine's run (`explanation`): at a
-/// step that others learn of comes what waits of its process by the code's marks, and then the action that the process
-/// offers; what waits at the end comes last, by rising number of process. What the source has come to behind each step
-/// (`progress`) is a run of the program, which goes with the machine; at a step that others learn of, what waits of its
-/// process is possible, and then an action of it which they learn of. With its explanation a run of the machine is
-/// explained in all that `Refines` says: it is a run of the program, the same is seen of both, and it keeps pace.
+/// visible step comes what is deferred of its process by the code's marks, and then the action that the process
+/// offers; what is deferred at the end comes last, by rising number of process. What the source has come to behind
+/// each step (`progress`) is a run of the program, which goes with the machine; at a visible step, what is deferred of
+/// its process is possible, and then a visible action of it. With its explanation a run of the machine is explained in
+/// all that `Refines` says: it is a run of the program, the same is seen of both, and it keeps pace.
 pub fn run_explains()
     ensures reached { (p : Program) (w : WellFormed p) (steps : List Step) (s : State)
         (run : MachineRun (code_of p) steps s)

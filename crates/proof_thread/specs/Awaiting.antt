@@ -20,7 +20,7 @@ IsOwn (L.Stray c) = ⊥
 IsOwn (L.Kill resumed last) = ⊥
 IsOwn kind = ⊤
 
--- an action of a process's own that no other process learns of
+-- an internal action of a process's own
 abbrev pub IsInternal : Kind → Type 0
 IsInternal L.Assign = ⊤
 IsInternal L.Test = ⊤

@@ -1,5 +1,5 @@
--- Which steps of a thread complete an action of its process that no other process learns of: by the marks of the code,
--- the request and its answer.
+-- Which steps of a thread complete an internal action of its process: by the marks of the code, the request and its
+-- answer.
 use Rattle.std.specs.Prelude.{ℕ, ◌≡◌, ◌==◌, ◌||◌, List, Option, Some, None, if◌then◌else◌, slice_get}
 use Rattle.words.specs.declared.outcome.Fault.TheVariants.{HandleNotJoinable, ProcessTableFull}
 use Rattle.isa.specs.Programs.{Program as Image}

@@ -323,7 +323,7 @@ fn any_of(
     })
 }
 
-/// An expression, with these names in sight.
+/// An expression, with these names in scope.
 ///
 /// Only memory can run out. Calls are nested as deep as the text, of which the parser bounds the nestings.
 #[cycle(expressions)]

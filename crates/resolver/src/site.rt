@@ -7,7 +7,7 @@ use types::NameScope;
 pub struct Site<'s, 'm, 'u, 'a> {
     /// What the unit declares.
     pub callees: &'s Callees<'u, 'a>,
-    /// The names in sight.
+    /// The names in scope.
     pub standing: &'s NameScope<'m, 'a>,
     /// Which part of the unit they are in.
     pub role: Role,

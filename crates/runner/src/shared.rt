@@ -187,7 +187,7 @@ impl<J: RunName> Shared<J> {
     /// Takes in what thread `t` did, as one entry of the log: the piece's local steps, and the shared step that it
     /// stands before, if any. The share counts it.
     ///
-    /// RefusesEntry in this order: `Stray`, `CannotMove`, `Broken`, `Limit`, `Memory`; then nothing has changed.
+    /// Refuses in this order: `Stray`, `CannotMove`, `Broken`, `Limit`, `Memory`; then nothing has changed.
     pub fn step(
         &mut self,
         t: u32,
@@ -300,8 +300,7 @@ impl<J: RunName> Shared<J> {
     /// Takes the next entry of thread `t`, which can move, in its place on the machine, so that nothing is copied: its
     /// local steps until another step comes or its turn is over, and the shared step that it stands before, if any.
     ///
-    /// RefusesEntry with `Memory`, and then nothing has changed; and with `Broken`, and then the local steps are an
-    /// entry.
+    /// Refuses with `Memory`, and then nothing has changed; and with `Broken`, and then the local steps are an entry.
     pub(crate) fn go_on(&mut self, t: u32, share: &mut Share<J>) -> Result<(), RunFault>
         requires thread { can_move (log_state self.old).concrete t ≡ true }
         requires room { cost self.old.log + suc most_local_steps ≤ J.limit }

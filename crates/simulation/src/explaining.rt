@@ -99,12 +99,13 @@ pub fn explain_lowered(
 
 /// The source run that a log of a program's image is: the actions of the source, in order.
 ///
-/// The log is walked once, by the machine's own steps. At each step that is a visible action stands that action, behind
-/// the internal ones of its process, which are deferred until then; those that none has followed yet come last, by
-/// rising process. A notify or a broadcast resumes those that wait on the condition and don't sleep on
-/// its word behind the futex call. The actions are the explanation of the run of the machine that the log is: a run of
-/// the program, with the same output, variables and ends of processes; where no thread can move, no process can; who
-/// sleeps waits; and a process has an action to each so many steps of its thread.
+/// The log is walked once, by the machine's own steps. At each step that is a visible action stands that action,
+/// behind the deferred ones of its process, which are internal; those that are still deferred at the end come last, by
+/// rising process. A notify or a broadcast resumes those that wait on the condition and don't sleep on its word behind
+/// the futex call. The actions are the explanation of the run of the machine that the log is: a run of the program,
+/// with the same output, variables and ends of processes; where no thread can move, no process can; where all others
+/// are outside the taking and giving up of locks, no process whose thread sleeps can move; and a process has an action
+/// to each so many steps of its thread.
 ///
 /// # Errors
 ///

@@ -17,16 +17,16 @@ use crate::variables::Variables;
 use program::{Expression, Program, Role, Statement, Target};
 use words::Fault;
 
-/// Whether what a process does next is quiet: no other process learns of it.
+/// Whether what a process does next is internal: no other process sees it.
 #[derive(Clone, Copy, PartialEq, Eq, Debug)]
 pub enum Ahead {
-    /// It is quiet.
+    /// It is internal.
     Internal,
     /// It isn't, or nothing comes next.
     Visible,
-    /// A process is made; where no more can be made, a fault comes in its place, which is quiet.
+    /// A process is made; where no more can be made, a fault comes in its place, which is internal.
     Makes,
-    /// This child is claimed; where it was claimed before, a fault comes in its place, which is quiet.
+    /// This child is claimed; where it was claimed before, a fault comes in its place, which is internal.
     Claims(u64),
 }
 
@@ -134,7 +134,7 @@ fn statement_ahead(
     }
 }
 
-/// Whether what a process does next is quiet, told before anything is done.
+/// Whether what a process does next is internal, known before anything is done.
 pub fn look_ahead(program: &Program, variables: &Variables, process: &Process) -> Ahead
     ensures { result
         ≡ ahead_of (offer_by (program_of program.now) (variables_of variables.now)

@@ -1,4 +1,4 @@
--- The quiet action that a process can take next: one that no other process learns of.
+-- The internal action that a process can take next: one that no other process sees.
 use Rattle.std.specs.Prelude.{ℕ, ◌≡◌, Option, Some, None, nat_le, if◌then◌else◌}
 use Rattle.words.specs.Limits.{most_processes}
 use Rattle.program.specs.Trees.{Program}
@@ -10,7 +10,7 @@ use Rattle.meaning.specs.States.{SourceState}
 use Rattle.meaning.specs.Table.{Table}
 use Rattle.proof_commutation.specs.Deferring.{is_internal}
 
--- a label's action, where it is quiet
+-- a label's action, where it is internal
 abbrev pub if_internal : Label → Option Kind
 if_internal label = if is_internal label then Some (kind_of label) else None
 
@@ -22,7 +22,7 @@ internal_kind (MakesOne child after full) T = if nat_le most_processes T.made th
 internal_kind (ClaimsOne child after refused) T = if T.claimed child then Some (kind_of (FindsClaimed child)) else None
 internal_kind other T = None
 
--- the quiet action that a process can take, if there is such a process
+-- the internal action that a process can take, if there is such a process
 abbrev pub internal_from : Program → SourceState → Option Process → Option Kind
 internal_from p s None = None
 internal_from p s (Some q) = internal_kind (offer p s.variable q) s.table

@@ -18,7 +18,7 @@ use source_table::Table;
 use std::alloc::{AllocError, Global};
 use words::{Fault, MOST_PROCESSES};
 
-// Whether what comes next is quiet by this table.
+// Whether what comes next is internal by this table.
 fn is_internal(table: &Table, ahead: Ahead) -> bool
     ensures { (o : OfferOf) → ahead ≡ ahead_of o
         → result ≡ is_some (internal_kind o (table_of table.now)) }
@@ -49,8 +49,8 @@ impl<'a> SourceState<'a> {
     ghost use Rattle.source_states.specs.Internal.{IsInternalTaken};
     ghost use Rattle.source_states.specs.States.{state_of};
 
-    /// Takes the quiet action that a process can take next, one that no other process learns of, and tells which it
-    /// was; None, and nothing is done, where the process can't take one. It takes time in proportion to what the action
+    /// Takes the internal action that a process can take next, one that no other process sees, and tells which it was;
+    /// None, and nothing is done, where the process can't take one. It takes time in proportion to what the action
     /// touches.
     pub fn take_internal(
         &mut self,

@@ -25,8 +25,8 @@ pub fn offer_laws()
         → (a.kind ≡ kind_of label) × IsDone a.process label effect after s s' }
 {}
 
-/// Of a process that can take an action of its own, the quiet action is that one where it is quiet, and else there is
-/// none.
+/// Of a process that can take an action of its own, the internal action is that one where it is internal, and else
+/// there is none.
 pub fn internal_laws()
     ensures { (p : Program) (s : SourceState) (n : ℕ) (before after : Process) (label : Label)
         (effect : Effect)

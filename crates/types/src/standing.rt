@@ -41,7 +41,7 @@ pub struct Own<'s, 'a> {
     pub members: &'s Members<'a>,
 }
 
-/// The names in sight of a procedure, a RECOVER part or MAIN.
+/// The names in scope of a procedure, a RECOVER part or MAIN.
 #[derive(Drop)]
 pub struct NameScope<'s, 'a> {
     /// The names of its parameters and locals.
@@ -69,7 +69,7 @@ impl<'a> Members<'a> {
 }
 
 impl<'s, 'a> NameScope<'s, 'a> {
-    /// The names in sight of a piece of these parameters and locals, in this monitor.
+    /// The names in scope of a piece of these parameters and locals, in this monitor.
     pub fn new(
         alloc: Global,
         parameters: &[Parameter<'a>],

@@ -7,7 +7,7 @@ use types::NameScope;
 /// What the statements of a piece are judged by.
 #[derive(Clone, Copy)]
 pub struct Context<'c, 'u, 'a> {
-    /// The names in sight of the piece.
+    /// The names in scope of the piece.
     pub standing: &'c NameScope<'c, 'a>,
     /// What the unit declares.
     pub callees: &'c Callees<'u, 'a>,

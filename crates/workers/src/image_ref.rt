@@ -4,7 +4,7 @@ use isa::Image;
 use runner::RunName;
 use std::marker::PhantomData;
 
-/// The image of run `J`, lent to its workers.
+/// A reference to the image of run `J`, for its workers.
 #[derive(Drop)]
 pub struct ImageRef<'a, J: RunName> {
     /// The image.

@@ -9,7 +9,7 @@ pub struct Parker {
 }
 
 impl Parker {
-    /// A seat whose worker was not refused.
+    /// A parker whose worker was not refused.
     pub fn new() -> Parker {
         Parker {
             called: Condvar::new(),

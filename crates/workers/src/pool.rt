@@ -22,7 +22,8 @@ const TRIALS: u32 = 200;
 
 const MOMENT: u32 = 8;
 
-/// The run under its lock, a seat for the worker of each thread that there can be, and where the calling thread parks.
+/// The run under its lock, a parker for the worker of each thread that there can be, and where the calling thread
+/// parks.
 #[derive(Drop)]
 pub struct Pool<J: RunName> {
     // Apart from the word of the lock, which those who try for it write.
@@ -32,7 +33,7 @@ pub struct Pool<J: RunName> {
 }
 
 impl<J: RunName> Pool<J> {
-    /// A hall of empty seats, of which number 0 is nobody's.
+    /// A pool without workers; parker number 0 is nobody's.
     pub fn new(alloc: Global, shared_run: SharedRun<J>) -> Result<Pool<J>, AllocError> {
         let mut parkers = Vec::new(alloc);
         for _ in 0..=MOST_PROCESSES {

@@ -121,9 +121,9 @@ impl<J: RunName> SharedRun<J> {
         self.shared.next(t, piece)
     }
 
-    /// Takes in the turns of thread `t`, an entry for each, up to one that is refused, and says how its worker goes on.
-    /// As long as no other thread was made it goes on in its place. The gate is passed before each further entry.
-    /// Where an entry is refused with `Limit`, that is noted on its seat.
+    /// Takes in the turns of thread `t`, an entry for each, up to one that is refused, and says how its worker goes
+    /// on. As long as no other thread was made it goes on in its place. The gate is passed before each further entry.
+    /// Where an entry is refused with `Limit`, that is noted on its parker.
     pub fn hand_in<G: Gate>(
         &mut self,
         t: u32,
