@@ -46,7 +46,7 @@
 //! Of a list that is a run of its program the line printed has the processes that can move at its end and the numbers
 //! printed; of any other it has the first action that isn't possible, from 1.
 //!
-//! Logs are explained, and forged ones too (`logtrials`): the line printed tells how many logs were explained by runs
+//! Logs are explained, and forged ones too (`test_logs`): the line printed tells how many logs were explained by runs
 //! of the program, and how many were refused as another image's, or forged in each way.
 #![tactic(auto)]
 
