@@ -23,8 +23,8 @@ pub fn following_laws()
         → (left : SourceState) × (right : SourceState)
         × IsAction p s1 (record { process = u; kind = j }) left
         × IsAction p s2 (record { process = t; kind = k }) right × IsLike left right }
-    ensures follows { (p : Program) (pick : SourceState
-        → Option ℕ) (actions : List Action) (s : SourceState)
+    ensures follows { (p : Program) (pick : SourceState → Option ℕ)
+        (actions : List Action) (s : SourceState)
         → WellFormed p → PicksCalm p pick → LeadsAlone p (opening p) actions s → IsStuck p s
         → (others : List Action) × (end : SourceState) × Follows p pick (opening p) others end
         × IsLike end s
