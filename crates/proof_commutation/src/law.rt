@@ -14,20 +14,20 @@ ghost use Rattle.proof_commutation.specs.Deferring.{IsBehind, MayDefer};
 /// where it is in the one ahead; and the same processes are over in both.
 pub fn deferral_laws()
     ensures begins { (p : Program) (c : SourceState) → IsBehind p (λ t. []) c c }
-    ensures waits { (p : Program) (deferred : ℕ
-        → List Kind) (a c c' : SourceState) (t : ℕ) (q r : Process)
+    ensures waits { (p : Program) (deferred : ℕ → List Kind)
+        (a c c' : SourceState) (t : ℕ) (q r : Process)
         (label : Label)
         → IsBehind p deferred a c → c.process t ≡ Some q → MayDefer p t c.variable c.table q label r
         → c'.table ≡ c.table → c'.variable ≡ c.variable → c'.printed ≡ c.printed
         → c'.process ≡ put c.process t (Some r)
         → IsBehind p (put deferred t (deferred t ++ kind_of label ∷ [])) a c' }
-    ensures takes { (p : Program) (deferred : ℕ
-        → List Kind) (a c : SourceState) (t : ℕ) (k : Kind) (ks : List Kind)
+    ensures takes { (p : Program) (deferred : ℕ → List Kind)
+        (a c : SourceState) (t : ℕ) (k : Kind) (ks : List Kind)
         → IsBehind p deferred a c → deferred t ≡ k ∷ ks
         → (a' : SourceState) × IsStep p a (record { process = t; kind = k }) a'
         × IsBehind p (put deferred t ks) a' c }
-    ensures goes_on { (p : Program) (deferred : ℕ
-        → List Kind) (a c c' : SourceState) (t : ℕ) (k : Kind)
+    ensures goes_on { (p : Program) (deferred : ℕ → List Kind)
+        (a c c' : SourceState) (t : ℕ) (k : Kind)
         → IsBehind p deferred a c → deferred t ≡ []
         → IsAction p c (record { process = t; kind = k }) c'
         → ((m n i : ℕ) → (c.table.hold m ≡ HeldBy t → ⊥) → c'.variable m n i ≡ c.variable m n i)
