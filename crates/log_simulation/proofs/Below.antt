@@ -1,11 +1,8 @@
 -- Whether a test holds of a number below another, number by number.
-use Rattle.std.proofs.Common.{◌≡◌, ℕ, zero, suc, ◌+◌, ◌<◌, ◌≤◌, ◌||◌, Bool, true, false, ap, sym, ◌∙◌, subst}
+use Rattle.std.proofs.Common.{◌≡◌, ℕ, zero, suc, ◌+◌, ◌<◌, ◌||◌, Bool, true, false, ap, sym, ◌∙◌, subst}
 use Rattle.std.proofs.Common.{arith, inl, inr}
 use Rattle.std.proofs.lemmas.Bool.{cases_eq, or_left, or_right}
-use Rattle.std.specs.Prelude.{◌==◌}
-use Rattle.words.specs.Process.{process_word}
 use Rattle.proof_simulation.specs.Ordering.{any_below}
-use Rattle.log_simulation.specs.Requests.{is_word_of}
 
 pub found_below : (k : ℕ) (test : ℕ → Bool) (n : ℕ) → n < k → test n ≡ true → true ≡ any_below k test
 found_below zero test n l h = absurd (omega (arith, l))
@@ -25,15 +22,3 @@ none_more test n before here =
 
 pub none_at_end : (test : ℕ → Bool) (n k : ℕ) → any_below n test ≡ false → n ≡ k → false ≡ any_below k test
 none_at_end test n k before same = sym (sym (ap (λ i. any_below i test) same) ∙ before)
-
--- a word of a process, found among all or not
-pub word_found : (k a n : ℕ) → n < 64 → (process_word (n + 1) k == a) ≡ true → true ≡ is_word_of k a
-unfolding is_word_of
-word_found k a n l h =
-    let one : suc n ≡ n + 1 = omega arith in
-    found_below 64 (λ i. process_word (suc i) k == a) n l (ap (λ j. process_word j k == a) one ∙ h)
-
-pub word_none : (k a n : ℕ) → 64 ≤ n → n ≤ 64 → any_below n (λ i. process_word (suc i) k == a) ≡ false
-    → false ≡ is_word_of k a
-unfolding is_word_of
-word_none k a n low high h = none_at_end (λ i. process_word (suc i) k == a) n 64 h (omega (arith, low, high))

@@ -122,9 +122,6 @@ module _ (p : Program) (k k' : ConcreteState) (t : ℕ) (event : Event) (done : 
     deferral_request : (request : Request) (go : ℕ → Thread) (answer : ℕ) (mid : State)
         → Serves t request s woken answer mid → Gives (Asks request go)
         → deferred_by_request mark request answer ≡ deferred_by_request mark request event.value
-    deferral_request (AskSwap a v) go answer mid serves h =
-        ap (deferred_by_request mark (AskSwap a v)) (serves.1.1.0 ∙ sym (by_word go a (load k.common a) _ name.Swap
-        (nat_lt a (length k.common.words)) (lt-ltb a (length k.common.words) serves.0) h))
     deferral_request (AskFork entry arguments room) go answer mid serves h =
         ap (deferred_by_request mark (AskFork entry arguments room))
         (sym (by_fork go entry arguments room answer mid serves h))

@@ -4,7 +4,7 @@ use Rattle.std.proofs.Common.{None, refl, ap, sym, ◌∙◌, arith, subst, leng
 use Rattle.std.specs.Prelude.{◌++◌, ◌&&◌, ◌||◌, MatchBool, if◌then◌else◌, slice_get, slice_set, get_or}
 use Rattle.words.specs.Updates.{put}
 use Rattle.locals.specs.Threads.{Thread}
-use Rattle.locals.specs.Looks.{Request, AskSwap, AskFork, Look, Goes, Asks, Leaves, Breaks, Rests}
+use Rattle.locals.specs.Looks.{Request, AskFork, Look, Goes, Asks, Leaves, Breaks, Rests}
 use Rattle.locals.specs.Requests.{next_step_of, request_step}
 use Rattle.locals.specs.Steps.{local_after}
 use Rattle.lowering.specs.declared.mark.Mark.{Mark}
@@ -51,7 +51,6 @@ few_deferred p t (suc n) x ks =
 -- what waits behind a step is told by what the thread comes to
 deferral_request : (mark : Option Mark) (request : Request) (v : ℕ)
     → deferred_by_next_step mark (request_step request) v ≡ deferred_by_request mark request v
-deferral_request mark (AskSwap a new) v = refl
 deferral_request mark (AskFork entry arguments has_room) v = refl
 deferral_request mark request v = refl
 

@@ -5,13 +5,13 @@ use Rattle.words.specs.declared.mem.Addr.{Addr}
 use Rattle.words.specs.LockWord.{owner_of}
 use Rattle.locals.specs.declared.request.Request.{Request}
 use Rattle.locals.specs.declared.request.Request.TheVariants as told
-use Rattle.locals.specs.Looks.{Request as RequestOf, AskLoad, AskStore, Look, Goes, Asks, Leaves, Breaks, Rests}
+use Rattle.locals.specs.Looks.{Request as RequestOf, Look, Goes, Asks, Leaves, Breaks, Rests}
 use Rattle.locals.specs.Requests.{next_step_of, request_step}
 use Rattle.program.specs.Trees.{Program}
 use Rattle.proof_simulation.specs.Ordering.{completes}
 use Rattle.protocol.specs.Word.{owner}
 use Rattle.log_simulation.specs.Entries.{is_visible}
-use Rattle.log_simulation.specs.Requests.{visible_request, visible_step, is_word_of}
+use Rattle.log_simulation.specs.Requests.{visible_request, visible_step}
 
 -- a compare-and-swap that found what it expected took a free lock, or an owned one
 pub taken : (p : Program) (request : Request) (a : Addr) (expected new value t : ℕ) → value ≡ expected
@@ -28,9 +28,6 @@ taken p request a expected new value t same is here =
 
 by_request : (p : Program) (request : RequestOf) (v : ℕ) → visible_step p (request_step request) v
     ≡ completes p request v
-unfolding is_word_of
-by_request p (AskLoad a) v = refl
-by_request p (AskStore a n) v = refl
 by_request p request v = refl
 
 -- the step of a thread that looks so

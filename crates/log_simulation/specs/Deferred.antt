@@ -1,7 +1,7 @@
 -- What is deferred of each process, as a recorder counts it.
-use Rattle.std.specs.Prelude.{ℕ, ◌≡◌, ◌==◌, ◌||◌, List, length, Option, Some, None, if◌then◌else◌}
+use Rattle.std.specs.Prelude.{ℕ, ◌≡◌, ◌==◌, List, length, Option, Some, None, if◌then◌else◌}
 use Rattle.std.specs.Prelude.{slice_get}
-use Rattle.words.specs.declared.outcome.Fault.TheVariants.{HandleNotJoinable, ProcessTableFull}
+use Rattle.words.specs.declared.outcome.Fault.TheVariants.{ProcessTableFull}
 use Rattle.locals.specs.declared.request.Request.TheVariants as told
 use Rattle.locals.specs.declared.request.NextStep.{NextStep}
 use Rattle.locals.specs.declared.request.NextStep.TheVariants as next
@@ -25,8 +25,6 @@ deferred_by_next_step mark next.Local v = deferred_by_mark mark
 deferred_by_next_step mark (next.Shared told.Return) v = last_mark mark
 deferred_by_next_step mark (next.Shared (told.ReturnValue z)) v = last_mark mark
 deferred_by_next_step mark (next.Shared (told.Fault fault)) v = Some (Fails fault)
-deferred_by_next_step mark (next.Shared (told.Swap a new)) v =
-    if (new == 0) || (v == 0) then None else Some (Fails HandleNotJoinable)
 deferred_by_next_step mark (next.Fork entry count has_room) v = if v == 0 then Some (Fails ProcessTableFull) else None
 deferred_by_next_step mark step v = None
 

@@ -8,17 +8,13 @@ use Rattle.program.specs.Trees.{Program}
 use Rattle.proof_simulation.specs.Ordering.{is_process_word, is_link_word, is_lock_word, completes_exit}
 use Rattle.protocol.specs.Word.{owner}
 
--- the address is that of the k-th word of a process
-unfoldable pub is_word_of : ℕ → ℕ → Bool
-is_word_of k a = is_process_word k a
-
 -- whether a request with this value in its event is one
 abbrev pub visible_request : Program → Request → ℕ → Bool
 visible_request p (told.CompareSwap a expected new) v = (v == expected) && (owner expected == 0)
 visible_request p (told.Swap a new) v = (new == 0) || (v == 0)
-visible_request p (told.Load a) v = is_word_of 2 a.0 && (v == 0)
+visible_request p (told.Load a) v = is_process_word 2 a.0 && (v == 0)
 visible_request p (told.Store a value) v =
-    not (is_word_of 0 a.0) && not (is_word_of 1 a.0) && not (is_link_word p a.0)
+    not (is_process_word 0 a.0) && not (is_process_word 1 a.0) && not (is_link_word p a.0)
 visible_request p (told.Wake a n) v = not (is_lock_word p a.0)
 visible_request p (told.Requeue from to wake moves expected) v = true
 visible_request p (told.Print number) v = true

@@ -45,7 +45,7 @@ fn at_last(mark: Option<Mark>) -> Deferral
 }
 
 /// What a step at this mark adds that comes to this, with this value in its event: a fault is deferred, where it is
-/// written, where no process can be made, and where a process was claimed before; and so is a last return.
+/// written, and where no process can be made; and so is a last return.
 pub fn at_step(mark: Option<Mark>, step: NextStep, value: u32) -> Deferral
     ensures { result ≡ deferral_of (deferred_by_next_step mark step value) }
 {
@@ -53,7 +53,6 @@ pub fn at_step(mark: Option<Mark>, step: NextStep, value: u32) -> Deferral
         NextStep::Local => at_mark(mark),
         NextStep::Shared(Request::Return | Request::ReturnValue(_)) => at_last(mark),
         NextStep::Shared(Request::Fault(_)) => Deferral::Fault,
-        NextStep::Shared(Request::Swap(_, new)) if new != 0 && value != 0 => Deferral::Fault,
         NextStep::Fork { .. } if value == 0 => Deferral::Fault,
         _ => Deferral::Nothing,
     }

@@ -2,24 +2,19 @@ ghost use Rattle.std.specs.Prelude.{◌≡◌, ◌&&◌, length, not};
 ghost use Rattle.lowering.specs.Layout.{layout_of};
 ghost use Rattle.words.specs.Process.{number_of};
 ghost use Rattle.program.specs.Trees.{Program};
-ghost use Rattle.proof_simulation.specs.Ordering.{is_link_word, is_lock_word};
-ghost use Rattle.log_simulation.specs.Requests.{visible_request, visible_step, is_word_of};
+ghost use Rattle.proof_simulation.specs.Ordering.{is_link_word, is_lock_word, is_process_word};
+ghost use Rattle.log_simulation.specs.Requests.{visible_request, visible_step};
 
 use layout::Layout;
 use locals::{NextStep, Request};
 use robustexit::ExitPhase;
-use words::{Addr, MOST_PROCESSES, ProcessWord, block, tid};
+use words::{Addr, MONITORS_BASE, ProcessWord, tid};
 
 // Whether the address is that of this word of some process.
 fn is_of_process(address: Addr, word: ProcessWord) -> bool
-    ensures { result ≡ is_word_of (number_of word) address.0 }
+    ensures { result ≡ is_process_word (number_of word) address.0 }
 {
-    for before in 0..MOST_PROCESSES {
-        if block(before + 1, word) == address {
-            return true;
-        }
-    }
-    false
+    address.0 > 0 && address.0 < MONITORS_BASE && (address.0 - 1) % 6 == word as u32
 }
 
 // Whether the address is that of a monitor's link word.
@@ -51,7 +46,7 @@ fn is_lock(layout: &Layout, monitors: u32, address: Addr) -> bool
 // Whether a store is into a variable: not into a list head, a pending word or a link word.
 fn is_variable(layout: &Layout, monitors: u32, address: Addr) -> bool
     ensures { (p : Program) → layout.now ≡ layout_of p → monitors ≡ length p.monitors
-        → result ≡ (not (is_word_of 0 address.0) && not (is_word_of 1 address.0)
+        → result ≡ (not (is_process_word 0 address.0) && not (is_process_word 1 address.0)
         && not (is_link_word p address.0)) }
 {
     !is_of_process(address, ProcessWord::Head)

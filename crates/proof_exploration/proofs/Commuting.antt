@@ -26,7 +26,8 @@ use Rattle.meaning.proofs.Holders.{changes}
 use Rattle.proof_commutation.proofs.Behind.{act, made_next}
 use Rattle.proof_commutation.proofs.Following.{step_keeps}
 use Rattle.proof_exploration.specs.Exploring.{IsLike, IsCalm}
-use Rattle.proof_exploration.proofs.Tables.{table_after, Guard, Fit, split, allowed, put_swap, table_swap, calm_stays, stays_calm}
+use Rattle.proof_exploration.proofs.Tables.{table_after, Guard, Fit, split, allowed, put_swap, table_swap}
+use Rattle.proof_exploration.proofs.Tables.{calm_stays, stays_calm}
 use Rattle.proof_exploration.proofs.Locality.{offer_same}
 use Rattle.proof_exploration.proofs.Ending.{knows_over}
 
@@ -66,7 +67,8 @@ fit_of q hs ks (Resumes m w) b T held moves fits none ends = tt
 
 -- variables of two monitors are written in either order
 with_swap : (v : Variables) (m n i : ℕ) (z : ℤ) (m' n' i' : ℕ) (z' : ℤ) (a b c : ℕ) → m ≢ m'
-    → with_variable (with_variable v m n i z) m' n' i' z' a b c ≡ with_variable (with_variable v m' n' i' z') m n i z a b c
+    → with_variable (with_variable v m n i z) m' n' i' z' a b c
+        ≡ with_variable (with_variable v m' n' i' z') m n i z a b c
 with_swap v m n i z m' n' i' z' a b c o = elim (cases_eq a m) [
   | inl e ↦ rw (ne_eqb a m' (λ x. o (sym e ∙ x))) refl
   | inr other ↦ rw (ne_eqb a m other) refl

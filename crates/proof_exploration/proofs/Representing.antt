@@ -7,7 +7,8 @@ use Rattle.meaning.specs.Labels.{Ends}
 use Rattle.meaning.specs.States.{SourceState}
 use Rattle.meaning.specs.Runs.{IsAction, IsStep, Leads}
 use Rattle.proof_commutation.proofs.Behind.{act}
-use Rattle.proof_exploration.specs.Exploring.{IsLike, MovesCalmly, LeadsAlone, IsFromOutside, AreOwn, IsCalm, IsCalmKind}
+use Rattle.proof_exploration.specs.Exploring.{IsLike, MovesCalmly, LeadsAlone, IsFromOutside, AreOwn, IsCalm}
+use Rattle.proof_exploration.specs.Exploring.{IsCalmKind}
 use Rattle.proof_exploration.specs.Searching.{IsKept, IsCovered, IsExpanded, IsComplete}
 use Rattle.proof_exploration.proofs.Alike.{like_back, like_trans, printing, like_action, like_after}
 

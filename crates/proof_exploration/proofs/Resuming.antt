@@ -5,8 +5,10 @@ use Rattle.std.proofs.lemmas.Bool.{cases_eq}
 use Rattle.program.specs.declared.kinds.Member.{Member}
 use Rattle.program.specs.Trees.{Program}
 use Rattle.program.specs.WellFormed.{WellFormed}
-use Rattle.meaning.specs.Labels.{Action, Kind, Notify, Broadcast, kind_of, Label, Alone, Stores, Forks, FindsFull, Claims}
-use Rattle.meaning.specs.Labels.{FindsClaimed, Joins, Enters, Resumes, Exits, Waits, Notifies, Broadcasts, Abandons, Ends}
+use Rattle.meaning.specs.Labels.{Action, Kind, Notify, Broadcast, kind_of, Label, Alone, Stores, Forks, FindsFull}
+use Rattle.meaning.specs.Labels.{Claims}
+use Rattle.meaning.specs.Labels.{FindsClaimed, Joins, Enters, Resumes, Exits, Waits, Notifies, Broadcasts, Abandons}
+use Rattle.meaning.specs.Labels.{Ends}
 use Rattle.meaning.specs.Table.{Allows, without_waiters}
 use Rattle.meaning.specs.Processes.{Process, holds}
 use Rattle.meaning.specs.Offers.{Effect, Offer, Rests, Does, Takes, MakesOne, ClaimsOne, JoinsOne, NotifiesSome}

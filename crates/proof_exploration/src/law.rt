@@ -42,7 +42,8 @@ pub fn following_laws()
         → IsAction p s (record { process = t; kind = Broadcast c rs }) s' }
 {}
 
-/// A search is complete where the states that it keeps are closed under what may come next, and between them one process
+/// A search is complete where the states that it keeps are closed under what may come next, and between them one
+/// process
 /// with a calm next action may be followed alone. Then no run gets stuck where no kept state is stuck, and no process
 /// aborts in any run where none has in a kept state. What is covered stays so while more is kept. By its name an action
 /// is calm. A run without actions from outside is one of processes' own actions.

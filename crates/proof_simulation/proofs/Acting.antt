@@ -300,7 +300,7 @@ module _ (p : Program) (w : WellFormed p) (steps : ℕ) (s : State) (c : SourceS
           k.variables k.fit (λ u m d i j e. refl)
           (waits _ _ (Alone kind) g.2 (g.3 ∙ mark) (ap stage_of point) (no_fault (mark_of
           (marks_of p) x) kind mark) proc
-          (may_defer p w steps s c k t number awake point q r (Alone kind) list work.steady
+          (may_defer p w steps s c k t q r (Alone kind) list work.steady
           (internal_kind kind mine) takes refl (stands_open b t y r stands)) refl) g.1
 
       pub prints_step : (v : ℕ) (go : ℕ → Thread) (r : Process) → look (code_of p) t x ≡ Asks (AskPrint v) go
@@ -381,7 +381,7 @@ module _ (p : Program) (w : WellFormed p) (steps : ℕ) (s : State) (c : SourceS
             let g : StepsSo p done deferral (mark_of (marks_of p) x) s t woken (Asks (AskStore a (word_of z)) go) s' =
             subst (λ (l : Look). StepsSo p done deferral (mark_of (marks_of p) x) s t woken l s') h moves in
             let effect = Puts' m.monitor m.number i z in
-            let mine = holder p w steps s c k t number awake point m.monitor listed in
+            let mine = holder p w steps s c k t m.monitor listed in
             let takes = takes_up (Stores m.monitor) effect r o in
             does (with_word s a (word_of z)) (Stores m.monitor) effect (go g.0) r takes listed tt refl
             (held_of (holds q) r (work.keeps (Stores m.monitor) effect r tt takes)) (stands g.0) refl refl refl k.output

@@ -11,14 +11,13 @@ use Rattle.protocol.specs.Points.{ReenterTries, TakeReads, TakeMarks, TakeSleeps
 use Rattle.protocol.specs.Points.{GotHeads, GotUnpends, WaitReads, NotifyAdds, NotifyWakes, BroadcastAdds}
 use Rattle.protocol.specs.Points.{BroadcastMarks, BroadcastReads, BroadcastMoves, JoinReads, JoinSleeps, JoinLearns}
 use Rattle.protocol.specs.Points.{JoinTakes, LeavePends, LeaveReads, LeaveHeads, LeaveSwaps, LeaveWakes, HasLeft, Dies}
-use Rattle.protocol.specs.Points.{Walks, ClearsId, LastWakes, HasEnded}
+use Rattle.protocol.specs.Points.{MeetsClaimed, Walks, ClearsId, LastWakes, HasEnded}
 use Rattle.protocol.specs.World.{World}
 use Rattle.proof_thread.specs.Following.{Build}
 use Rattle.refinement.specs.Built.{build_of}
 use Rattle.refinement.specs.Pace.{stretch_length}
-use Rattle.proof_simulation.specs.Standing.{StandsAt, unmade, works, returns, inside, faults, reads, sleeps, learns}
-use Rattle.proof_simulation.specs.Standing.{takes}
-use Rattle.proof_simulation.specs.Standing.{walks, clears, wakes, rests}
+use Rattle.proof_simulation.specs.Standing.{StandsAt, unmade, works, returns, inside, faults, refused, reads, sleeps}
+use Rattle.proof_simulation.specs.Standing.{learns, takes, walks, clears, wakes, rests}
 use Rattle.proof_simulation.specs.Ranks.{rank, steps_left, more_steps, most_left}
 
 either_few : (b : Bool) (x y n : ℕ) → x ≤ n → y ≤ n → (if b then x else y) ≤ n
@@ -64,6 +63,7 @@ rank_few more w big (ClearsId end) = omega arith
 rank_few more w big (LastWakes end) = omega arith
 rank_few more w big Unmade = omega arith
 rank_few more w big Runs = omega arith
+rank_few more w big (MeetsClaimed q) = omega arith
 rank_few more w big (HasEnded end) = omega arith
 
 module _ (b : Build) (v : Variables) (t : ℕ) (w : World) where
@@ -76,7 +76,8 @@ module _ (b : Build) (v : Variables) (t : ℕ) (w : World) where
   left_few (works left few h s) = omega (arith, few)
   left_few (returns r fits h mark) = omega arith
   left_few (inside {pt = pt} left k u few walk fits same ne stands) = let r = at_most pt in omega (arith, few, r)
-  left_few (faults fault left few h) = omega (arith, few)
+  left_few (faults fault) = omega arith
+  left_few (refused left few h o s) = omega (arith, few)
   left_few (reads {child = child} left few c j h) = let r = at_most (JoinReads child) in omega (arith, few, r)
   left_few (sleeps left few c j h) = omega (arith, few)
   left_few (learns left few c j h) = omega (arith, few)

@@ -1,7 +1,7 @@
 -- The claim of a JOIN, and the steps of a JOIN after it.
 use Rattle.std.proofs.Common.{◌≡◌, ◌≢◌, ℕ, zero, suc, ◌<◌, ◌≤◌, Bool, true, List, [], ◌∷◌, Option, Some, None, refl, ap}
-use Rattle.std.proofs.Common.{sym, ◌∙◌, subst, arith, inl, inr}
-use Rattle.std.specs.Prelude.{◌^◌, ◌==◌}
+use Rattle.std.proofs.Common.{sym, ◌∙◌, subst, arith, ◌+◌, ◌⊎◌, inl, inr}
+use Rattle.std.specs.Prelude.{◌^◌, ◌==◌, map}
 use Rattle.std.proofs.lemmas.Bool.{cases_eq, ne_eqb}
 use Rattle.words.specs.Updates.{put}
 use Rattle.words.specs.Process.{process_word}
@@ -14,13 +14,14 @@ use Rattle.program.specs.declared.kinds.Member.{Member}
 use Rattle.program.specs.Trees.{Program, Part}
 use Rattle.program.specs.WellFormed.{WellFormed}
 use Rattle.lowering.specs.Pieces.{marks_of, code_of}
-use Rattle.meaning.specs.Labels.{Kind, Label, Claims, FindsClaimed, Faulted, kind_of}
+use Rattle.meaning.specs.Labels.{Kind, Label, Claims, Faulted, kind_of}
 use Rattle.meaning.specs.Processes.{Frame, Caller, Process, Joining, Dying, holds, all_monitors}
 use Rattle.meaning.specs.Offers.{ClaimsOne, Nothing, Offer, offer, TakesUp}
 use Rattle.meaning.specs.States.{SourceState}
-use Rattle.protocol.specs.Points.{NoEntry, Point, Runs, JoinReads, Dies, Thread as Place, thread_at}
+use Rattle.meaning.specs.Runs.{Leads}
+use Rattle.protocol.specs.Points.{Point, Runs, JoinReads, MeetsClaimed, Thread as Place, thread_at}
 use Rattle.protocol.specs.World.{World, mem}
-use Rattle.protocol.specs.Moves.{Move, Claim, ClaimTaken}
+use Rattle.protocol.specs.Moves.{Move, Claim, ReadClaimed}
 use Rattle.protocol.specs.Steps.{Can, after, go, go_list}
 use Rattle.protocol.specs.Carries.{Event, Acts, PermitsMove, event_of, table_after}
 use Rattle.protocol.specs.Cells.{ClaimOf, write}
@@ -35,18 +36,16 @@ use Rattle.refinement.specs.Built.{build_of}
 use Rattle.proof_templates.specs.Layout.{place, valid, is_process}
 use Rattle.proof_templates.proofs.Layouts.{apart, number_is}
 use Rattle.proof_templates.proofs.Addresses.{variable_apart}
-use Rattle.proof_simulation.specs.Ordering.{StepsSo, Places, waits, acts}
-use Rattle.proof_simulation.specs.Standing.{StandsAt, IsAtWork, reads, faults}
+use Rattle.proof_simulation.specs.Ordering.{StepsSo, Places, nothing, acts}
+use Rattle.proof_simulation.specs.Standing.{StandsAt, IsAtWork, reads, refused as refused'}
+use Rattle.proof_simulation.specs.Ranks.{steps_left}
 use Rattle.proof_simulation.specs.Serving.{Keeps}
 use Rattle.proof_simulation.specs.Corresponding.{Reached, IsBefore, Corresponds}
-use Rattle.proof_simulation.proofs.Moving.{Puts, put_puts, Next, moved}
-use Rattle.proof_simulation.proofs.Sourcing.{action, state_after}
-use Rattle.proof_simulation.proofs.Deferred.{may_defer}
+use Rattle.proof_simulation.proofs.Moving.{Puts, put_puts, same_puts, AreOwn, IsSome, Next, moved}
+use Rattle.proof_simulation.proofs.Sourcing.{act, action, state_after}
 use Rattle.proof_simulation.proofs.Worlds.{reached_on, reached_good, shares_at, shares_stored}
 use Rattle.proof_simulation.specs.Deferred.{stages, stage_of}
 use Rattle.proof_thread.specs.Deferrals.{mark_of}
-use Rattle.std.specs.Prelude.{if◌then◌else◌}
-use Rattle.meaning.specs.Labels as L
 
 module _ (p : Program) (w : WellFormed p) (steps : ℕ) (s : State) (c : SourceState) (k : Corresponds p w steps s c)
     (t : ℕ) (woken : List ℕ) (done : Bool) (deferral : Option Kind) (pauses : Bool) (s' : State) (n : ℕ) (number :
@@ -59,21 +58,24 @@ module _ (p : Program) (w : WellFormed p) (steps : ℕ) (s : State) (c : SourceS
   inv : Good k.world c.table
   inv = reached_good k.world c.table k.reached
 
-  -- an action that is a move to another point, over these words
-  pub starts : (move : Move) (label : Label) (mid : State) (w2 : World) (y : Thread) (r : Process) (pt : Point)
-      (l : List ℕ) → Can k.world t move → after k.world t move ≡ go w2 t pt
-      → event_of k.world c.table t move ≡ Some (Acts t label) → TakesUp (offer p c.variable q) label Nothing r
-      → IsOwn (kind_of label) → l ≡ holds q → StandsAt b c.variable t (Some y) (Some r) pt l
+  -- a move to another point, over these words, with these actions
+  reaches : (move : Move) (f : ℕ → Option Process) (kinds : List Kind) (mid : State) (w2 : World) (y : Thread)
+      (r : Process) (pt : Point) (l : List ℕ) → Can k.world t move → after k.world t move ≡ go w2 t pt → l ≡ holds q
+      → Puts c.process f t (Some r) → AreOwn kinds
+      → Leads p c (map (act t) kinds) (record c { table = table_after k.world c.table t move; process = f })
+      → (stands : StandsAt (build_of p w w2.made) c.variable t (Some y) (Some r) pt l)
       → Shares (place p) (valid p) (shared_of mid) w2 → Keeps p s mid → w2.made ≡ k.world.made
       → w2.at ≡ k.world.at → w2.result ≡ k.world.result → w2.sequence ≡ k.world.sequence
-      → Places p (with_thread mid t y) t c
-      (state_after c t Nothing r (table_after k.world c.table t move)) done deferral
-      (stages k.world t) (stage_of pt) (kind_of label ∷ [])
+      → Places p (with_thread mid t y) t c (record c {
+        table = table_after k.world c.table t move;
+        process = f;
+      }) done deferral (stages k.world t) (stage_of pt) kinds
+      → IsSome kinds ⊎ (steps_left (build_of p w w2.made) c.variable t (go_list w2 t pt l) stands < n)
       → s' ≡ with_thread mid t y → Next p w steps s' t done deferral pauses n c (stages k.world)
-  starts move label mid w2 y r pt l can comes carries takes own has stands shares keeps made at result sequence places
-      same =
+  reaches move f kinds mid w2 y r pt l can comes has ps own leads stands shares keeps made at result sequence places
+      paced same =
       let T = table_after k.world c.table t move in
-      let c' = state_after c t Nothing r T in
+      let c' = record c { table = T; process = f } in
       let w' = go_list w2 t pt l in
       let listed : (k.world.at t).list ≡ l = list ∙ sym has in
       let is : after k.world t move ≡ w' =
@@ -90,9 +92,9 @@ module _ (p : Program) (w : WellFormed p) (steps : ℕ) (s : State) (c : SourceS
         same = λ u d o h i j. refl;
         threads = subst (λ (g : ℕ → Option Thread). Puts s.thread (put g t (Some y)) t (Some y))
             (sym keeps.thread) (put_puts s.thread t (Some y));
-        processes = put_puts c.process t (Some r);
+        processes = ps;
         at = ap (λ (g : ℕ → Place). put g t (thread_at pt l)) at;
-        stands = subst (λ (a : ℕ). StandsAt (build_of p w a) c.variable t (Some y) (Some r) pt l) (sym made) stands;
+        stands = stands;
         listed = λ i h. k.lists t i (subst (λ (e : List ℕ). mem i e ≡ true) (sym listed) h);
         words = λ u. subst (λ (f : ℕ → ℕ). f u < 2 ^ 32) (sym result) (k.words u);
         blank = λ u h. ap (λ (f : ℕ → ℕ). f u) result ∙ at_put k.world.at t (thread_at pt l) u
@@ -101,33 +103,51 @@ module _ (p : Program) (w : WellFormed p) (steps : ℕ) (s : State) (c : SourceS
             (λ o i. k.blank u i) h;
         numbers = λ d. omega (arith, k.numbers d, ap (λ (g : Member → ℕ). g d) sequence);
       }) in
-      let permits = subst (λ (e : Option Event). PermitsMove e c.table T) carries
-      (permitted k.world c.table t move inv can) in
       subst (λ (x : State). Next p w steps x t done deferral pauses n c (stages k.world)) (sym same) (record {
         after = c';
         ties = m.ties;
-        kinds = kind_of label ∷ [];
-        own = (own, tt);
-        leads = (c', action p c t q r label Nothing T proc takes permits.0, refl);
+        kinds = kinds;
+        own = own;
+        leads = leads;
         stage = stage_of pt;
         staged = m.staged;
         places = places;
-        paced = λ z. inl tt;
+        paced = λ z. elim paced [ inl h ↦ inl h | inr h ↦ inr (omega (arith, m.is, h)) ];
       })
+
+  -- an action that is such a move
+  pub starts : (move : Move) (label : Label) (mid : State) (w2 : World) (y : Thread) (r : Process) (pt : Point)
+      (l : List ℕ) → Can k.world t move → after k.world t move ≡ go w2 t pt
+      → event_of k.world c.table t move ≡ Some (Acts t label) → TakesUp (offer p c.variable q) label Nothing r
+      → IsOwn (kind_of label) → l ≡ holds q → StandsAt b c.variable t (Some y) (Some r) pt l
+      → Shares (place p) (valid p) (shared_of mid) w2 → Keeps p s mid → w2.made ≡ k.world.made
+      → w2.at ≡ k.world.at → w2.result ≡ k.world.result → w2.sequence ≡ k.world.sequence
+      → Places p (with_thread mid t y) t c
+      (state_after c t Nothing r (table_after k.world c.table t move)) done deferral
+      (stages k.world t) (stage_of pt) (kind_of label ∷ [])
+      → s' ≡ with_thread mid t y → Next p w steps s' t done deferral pauses n c (stages k.world)
+  starts move label mid w2 y r pt l can comes carries takes own has stands shares keeps made at result sequence places
+      same =
+      let T = table_after k.world c.table t move in
+      let permits = subst (λ (e : Option Event). PermitsMove e c.table T) carries
+      (permitted k.world c.table t move inv can) in
+      reaches move (put c.process t (Some r)) (kind_of label ∷ []) mid w2 y r pt l can comes has
+      (put_puts c.process t (Some r)) (own, tt)
+      (state_after c t Nothing r T, action p c t q r label Nothing T proc takes permits.0, refl)
+      (subst (λ (a : ℕ). StandsAt (build_of p w a) c.variable t (Some y) (Some r) pt l) (sym made) stands)
+      shares keeps made at result sequence places (inl tt) same
 
   module _ (x : Thread) (work : IsAtWork p q c.variable) (moves : StepsSo p done deferral (mark_of
       (marks_of p) x) s t woken (look (code_of p) t x) s') where
-    abbrev refusal : Bool → Option Kind
-    refusal free = if free then None else Some (L.Fails HandleNotJoinable)
-
     pub claims_step : {into : Option ℕ} {part : Part} {f : Frame} {cs : List Caller} (child : ℕ) (go' : ℕ → Thread)
-        → 0 < child → child ≤ k.world.made → look (code_of p) t x ≡ Asks (AskSwap (process_word child 3) 1) go'
+        → 0 < child → child ≤ k.world.made → join_steps + 5 < n
+        → look (code_of p) t x ≡ Asks (AskSwap (process_word child 3) 1) go'
         → offer p c.variable q ≡ ClaimsOne child (Joining child into part f cs)
         (Dying (Faulted HandleNotJoinable) (holds q)) → (j : Awaits b t child into part f cs)
         → StepsWithin b t join_steps (go' 0) j.reads
         → ((m : ℕ) → StepsWithin b t join_steps (go' (suc m)) (Dies' HandleNotJoinable))
         → Next p w steps s' t done deferral pauses n c (stages k.world)
-    claims_step {into = into} {part = part} {f = f} {cs = cs} child go' some below h o j free taken =
+    claims_step {into = into} {part = part} {f = f} {cs = cs} child go' some below enough h o j free taken =
         elim (cases_eq (k.world.claim child) 0) [ inl z ↦ claimed z | inr z ↦ refused z ]
       where
         g : StepsSo p done deferral (mark_of (marks_of p) x) s t woken (Asks (AskSwap (process_word child 3) 1) go') s'
@@ -168,13 +188,8 @@ module _ (p : Program) (w : WellFormed p) (steps : ℕ) (s : State) (c : SourceS
         free_to_claim : k.world.claim child ≡ 0 → Can k.world t (Claim child)
         free_to_claim z = record { number = number; awake = awake; stands = point; finds = (some, below, z) }
 
-        not_free : k.world.claim child ≢ 0 → Can k.world t (ClaimTaken child)
+        not_free : k.world.claim child ≢ 0 → Can k.world t (ReadClaimed child)
         not_free z = record { number = number; awake = awake; stands = point; finds = (some, below, z) }
-
-        found_claimed : TakesUp (offer p c.variable q) (FindsClaimed child) Nothing
-            (Dying (Faulted HandleNotJoinable) (holds q))
-        found_claimed = subst (λ (i : Offer). TakesUp i (FindsClaimed child) Nothing
-            (Dying (Faulted HandleNotJoinable) (holds q))) (sym o) (inr (refl, refl, refl))
 
         claimed : k.world.claim child ≡ 0 → Next p w steps s' t done deferral pauses n c (stages k.world)
         claimed z =
@@ -194,16 +209,9 @@ module _ (p : Program) (w : WellFormed p) (steps : ℕ) (s : State) (c : SourceS
             by_word : (v : ℕ) → k.world.claim child ≡ v → Next p w steps s' t done deferral pauses n c (stages k.world)
             by_word zero e = absurd (z e)
             by_word (suc v) e =
-                starts (ClaimTaken child) (FindsClaimed child) (with_word s (process_word child 3) 1)
-                (write k.world (ClaimOf child) 1) (go' (suc v)) (Dying (Faulted HandleNotJoinable) (holds q))
-                (Dies (Faulted HandleNotJoinable) NoEntry) (holds q)
-                (not_free z) refl refl found_claimed tt refl
-                (faults HandleNotJoinable join_steps (omega arith) (taken v)) shares keeps refl refl refl refl
-                (waits _ _ (FindsClaimed child)
-                (g.4 ∙ ap (λ (i : ℕ). i == 0) (answer ∙ e) ∙ ne_eqb (suc v) 0 (λ i. absurd cc))
-                (g.5 ∙ ap (λ (i : ℕ). refusal (i == 0)) (answer ∙ e) ∙ ap refusal (ne_eqb (suc v) 0 (λ i. absurd cc)))
-                (ap stage_of point) refl proc
-                (may_defer p w steps s c k t number awake point q _ (FindsClaimed child) list work.steady refl
-                (found_claimed) ((permitted k.world c.table t (ClaimTaken child) inv (not_free z)).0)
-                (λ end h. cc)) refl)
-                (same (suc v) e)
+                reaches (ReadClaimed child) c.process [] (with_word s (process_word child 3) 1)
+                (write k.world (ClaimOf child) 1) (go' (suc v)) q (MeetsClaimed child) (holds q) (not_free z) refl refl
+                (same_puts c.process t _ proc) tt refl (refused' join_steps (omega arith) (taken v) o work.steady)
+                shares keeps refl refl refl refl
+                (nothing (g.4 ∙ ap (λ (i : ℕ). i == 0) (answer ∙ e) ∙ ne_eqb (suc v) 0 (λ i. absurd cc)) g.5
+                (inl (ap stage_of (sym point))) refl) (inr (omega (arith, enough))) (same (suc v) e)

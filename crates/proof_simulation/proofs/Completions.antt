@@ -1,8 +1,10 @@
 -- The answer to a request is that of an action which others learn of just where the protocol's step carries one.
-use Rattle.std.proofs.Common.{◌≡◌, ℕ, zero, suc, ◌<◌, ◌==◌, ◌&&◌, Bool, true, false, Option, Some, None}
+use Rattle.std.proofs.Common.{◌≡◌, ℕ, zero, suc, ◌+◌, ◌-◌, ◌*◌, ◌/◌, ◌%◌, ◌<◌, ◌≤◌, ◌==◌, ◌&&◌, Bool, true, false}
+use Rattle.std.proofs.Common.{Option, Some, None}
 use Rattle.std.proofs.Common.{refl, ap, sym, ◌∙◌, subst, arith, inl, inr, List, length, if◌then◌else◌}
-use Rattle.std.specs.Prelude.{not, is_some}
-use Rattle.std.proofs.lemmas.Bool.{cases_eq, eq-eqb, ne_eqb, or_left, or_right}
+use Rattle.std.specs.Prelude.{not, is_some, nat_lt}
+use Rattle.std.proofs.lemmas.Bool.{cases_eq, cases_Bool, eq-eqb, eqb-true, ne_eqb, lt-ltb, ltb-true, or_left, or_right}
+use Rattle.std.proofs.lemmas.Nat.{mod-mul-add, div-add-mod'}
 use Rattle.words.specs.Process.{process_word}
 use Rattle.locals.specs.Looks.{Request, Look, Goes, Asks, Leaves, Breaks, Rests, AskLoad, AskStore}
 use Rattle.machine.specs.States.{State}
@@ -51,6 +53,39 @@ found_below zero test n l h = absurd (omega (arith, l))
 found_below (suc k) test n l h = elim (cases_eq n k) [
   | inl e ↦ or_left (test k) (any_below k test) (subst (λ i. test i ≡ true) e h)
   | inr o ↦ or_right (test k) (any_below k test) (found_below k test n (omega (arith, l, o)) h)
+]
+
+-- the words of the processes that there can be are found as such
+found_word : (k t : ℕ) → k < 6 → 0 < t → t ≤ 64 → is_process_word k (process_word t k) ≡ true
+found_word k t low some few =
+    let before : process_word t k - 1 ≡ (t - 1) * 6 + k = omega (arith, some) in
+    let above : 0 < process_word t k = omega (arith, some) in
+    let below : process_word t k < 385 = omega (arith, some, few, low) in
+    rw (lt-ltb 0 (process_word t k) above, lt-ltb (process_word t k) 385 below)
+    (eq-eqb ((process_word t k - 1) % 6) k (ap (λ i. i % 6) before ∙ mod-mul-add (t - 1) 6 k low))
+
+-- and no others
+word_is : (k a : ℕ) → is_process_word k a ≡ true → (n : ℕ) × (n < 64) × (process_word (suc n) k ≡ a)
+word_is k a h =
+    let above = ltb-true 0 a (and_first (nat_lt 0 a) _ h) in
+    let rest = and_second (nat_lt 0 a) _ h in
+    let below = ltb-true a 385 (and_first (nat_lt a 385) _ rest) in
+    let left = eqb-true ((a - 1) % 6) k (and_second (nat_lt a 385) _ rest) in
+    let whole = div-add-mod' (a - 1) 6 in
+    ((a - 1) / 6, omega (arith, above, below, whole), omega (arith, above, whole, left))
+  where
+    and_first : (x y : Bool) → (x && y) ≡ true → x ≡ true
+    and_first true y h = refl
+    and_first false y h = h
+
+    and_second : (x y : Bool) → (x && y) ≡ true → y ≡ true
+    and_second true y h = h
+    and_second false y h = absurd cc
+
+no_word : (k a : ℕ) → ((n : ℕ) → n < 64 → process_word (suc n) k ≡ a → ⊥) → is_process_word k a ≡ false
+no_word k a none = elim (cases_Bool (is_process_word k a)) [
+  | inl h ↦ let w = word_is k a h in absurd (none w.0 w.1 w.2)
+  | inr h ↦ h
 ]
 
 -- what a step does, as it is an action or none
@@ -153,20 +188,10 @@ module _ (p : Program) where
   numbered n l = number_is (suc n) (omega arith) (omega (arith, l))
 
   not_id : (x : Cell) → valid p x ≡ true → ((n : ℕ) → IdOf (suc n) ≡ x → ⊥) → is_process_word 2 (place p x) ≡ false
-  not_id x h other = none_below 64 (λ n. process_word (suc n) 2 == place p x)
-      (λ n l. ne_eqb (process_word (suc n) 2) (place p x) (λ e. other n (apart p (IdOf (suc n)) x (numbered n l) h e)))
+  not_id x h other = no_word 2 (place p x) (λ n l e. other n (apart p (IdOf (suc n)) x (numbered n l) h e))
 
-  number_before : (q : ℕ) → 0 < q → (n : ℕ) × (q ≡ suc n)
-  number_before zero some = absurd (omega (arith, some))
-  number_before (suc n) some = (n, refl)
-
-  is_word : (k q : ℕ) → valid p (IdOf q) ≡ true → is_process_word k (process_word q k) ≡ true
-  is_word k q h =
-      let within = is_number q h in
-      let before = number_before q within.0 in
-      found_below 64 (λ n. process_word (suc n) k == process_word q k) before.0 (omega (arith, before.1, within.1))
-      (eq-eqb (process_word (suc before.0) k) (process_word q k)
-      (ap (λ i. process_word i k) (sym before.1)))
+  is_word : (k q : ℕ) → k < 6 → valid p (IdOf q) ≡ true → is_process_word k (process_word q k) ≡ true
+  is_word k q low h = let within = is_number q h in found_word k q low within.0 within.1
 
   is_link : (m : ℕ) → valid p (LinkOf m) ≡ true → is_link_word p (place p (LinkOf m)) ≡ true
   is_link m h = found_below (length p.monitors) (λ i. place p (LinkOf i) == place p (LinkOf m)) m (monitor_below p m h)
@@ -185,25 +210,21 @@ module _ (p : Program) where
   pub variable_loaded : (m : Member) (i a r : ℕ) → IsVariable p m i → a ≡ variable_address p m i
       → completes p (AskLoad a) r ≡ false
   variable_loaded m i a r is there =
-      let no : is_process_word 2 a ≡ false = none_below 64 (λ n. process_word (suc n) 2 == a)
-      (λ n l. ne_eqb (process_word (suc n) 2) a
-      (λ e. variable_apart p m i (IdOf (suc n)) is (numbered n l) (sym (e ∙ there)))) in
+      let no : is_process_word 2 a ≡ false = no_word 2 a
+      (λ n l e. variable_apart p m i (IdOf (suc n)) is (numbered n l) (sym (e ∙ there))) in
       ap (λ b. b && (r == 0)) no
-
-  no_variable : (m : Member) (i n : ℕ) (x : ℕ → Cell) → IsVariable p m i
-      → ((j : ℕ) → j < n → valid p (x j) ≡ true)
-      → any_below n (λ j. place p (x j) == variable_address p m i) ≡ false
-  no_variable m i n x is ok = none_below n (λ j. place p (x j) == variable_address p m i)
-      (λ j l. ne_eqb (place p (x j)) (variable_address p m i)
-      (λ e. variable_apart p m i (x j) is (ok j l) (sym e)))
 
   -- a store into one is
   pub variable_stored : (m : Member) (i v r : ℕ) → IsVariable p m i
       → completes p (AskStore (variable_address p m i) v) r ≡ true
   variable_stored m i v r is =
-      let head = no_variable m i 64 (λ n. HeadOf (suc n)) is numbered in
-      let pending = no_variable m i 64 (λ n. PendingOf (suc n)) is numbered in
-      let link = no_variable m i (length p.monitors) (λ n. LinkOf n) is (monitor_valid p) in
+      let head = no_word 0 (variable_address p m i)
+      (λ n l e. variable_apart p m i (HeadOf (suc n)) is (numbered n l) (sym e)) in
+      let pending = no_word 1 (variable_address p m i)
+      (λ n l e. variable_apart p m i (PendingOf (suc n)) is (numbered n l) (sym e)) in
+      let link = none_below (length p.monitors) (λ n. place p (LinkOf n) == variable_address p m i)
+      (λ n l. ne_eqb (place p (LinkOf n)) (variable_address p m i)
+      (λ e. variable_apart p m i (LinkOf n) is (monitor_valid p n l) (sym e))) in
       rw (head, pending, link) refl
 
   abbrev Shown : ℕ → Point → ℕ → Option Request → Bool
@@ -245,10 +266,12 @@ module _ (p : Program) where
   pub points : (w : World) (T : Table) (t : ℕ) (pt : Point) (r : ℕ) (w' : World) (e : End) (l : List ℕ)
       → valid p (IdOf t) ≡ true → Listed pt l → MayAnswer pt r → IsAskable p (request t pt) → (asks : Request)
       → machine_request p (request t pt) ≡ Some asks → Fine w T t pt r w' e
-  points w T t (EnterPends m) r w' e l mine listed may ok asks same = rw (is_word 1 t mine) (second_no _ _)
+  points w T t (EnterPends m) r w' e l mine listed may ok asks same =
+      rw (is_word 1 t (omega arith) mine) (second_no _ _)
   points w T t (EnterTries m) r w' e l mine listed may ok asks same =
       both_yes (r == 0) (owner 0 == 0) (eq-eqb (owner 0) 0 nobody) ∙ either (r == 0) _
-  points w T t (ReenterPends m) r w' e l mine listed may ok asks same = rw (is_word 1 t mine) (second_no _ _)
+  points w T t (ReenterPends m) r w' e l mine listed may ok asks same =
+      rw (is_word 1 t (omega arith) mine) (second_no _ _)
   points w T t (ReenterTries m) r w' e l mine listed may ok asks same = rw (ne_eqb r 0 may) refl
   points w T t (TakeReads m k) r w' e l mine listed may ok asks same = loaded (LockOf m) r ok (λ n e. cc)
   points w T t (TakeMarks m v k) r w' e l mine listed may ok asks same =
@@ -258,19 +281,23 @@ module _ (p : Program) where
   points w T t (GotReads m v) r w' e l mine listed may ok asks same = loaded (HeadOf t) _ ok (λ n e. cc)
   points w T t (GotLinks m v h) r w' e l mine listed may ok asks same = rw (is_link m ok)
       (third_no (not (is_process_word 0 (place p (LinkOf m)))) (not (is_process_word 1 (place p (LinkOf m)))))
-  points w T t (GotHeads m v) r w' e l mine listed may ok asks same = rw (is_word 0 t mine) refl
-  points w T t (GotUnpends m v) r w' e l mine listed may ok asks same = rw (is_word 1 t mine) (second_no _ _)
+  points w T t (GotHeads m v) r w' e l mine listed may ok asks same = rw (is_word 0 t (omega arith) mine) refl
+  points w T t (GotUnpends m v) r w' e l mine listed may ok asks same =
+      rw (is_word 1 t (omega arith) mine) (second_no _ _)
   points w T t (WaitReads c) r w' e l mine listed may ok asks same = loaded (SequenceOf c) r ok (λ n e. cc)
   points w T t (NotifyWakes c) r w' e l mine listed may ok asks same = rw (not_lock (SequenceOf c) ok (λ m e. cc)) refl
   points w T t (BroadcastReads c) r w' e l mine listed may ok asks same = loaded (SequenceOf c) r ok (λ n e. cc)
-  points w T t (JoinReads q) r w' e l mine listed may ok asks same = rw (is_word 2 q ok) (either (r == 0) _)
+  points w T t (JoinReads q) r w' e l mine listed may ok asks same =
+      rw (is_word 2 q (omega arith) ok) (either (r == 0) _)
   points w T t (JoinLearns q end) r w' e l mine listed may ok asks same = loaded (OutcomeOf q) r ok (λ n e. cc)
   points w T t (JoinTakes q end) r w' e l mine listed may ok asks same = loaded (ResultOf q) r ok (λ n e. cc)
-  points w T t (LeavePends m k) r w' e l mine listed may ok asks same = rw (is_word 1 t mine) (second_no _ _)
+  points w T t (LeavePends m k) r w' e l mine listed may ok asks same =
+      rw (is_word 1 t (omega arith) mine) (second_no _ _)
   points w T t (LeaveReads m k) r w' e l mine listed may ok asks same = loaded (LinkOf m) _ ok (λ n e. cc)
-  points w T t (LeaveHeads m h k) r w' e l mine listed may ok asks same = rw (is_word 0 t mine) refl
+  points w T t (LeaveHeads m h k) r w' e l mine listed may ok asks same = rw (is_word 0 t (omega arith) mine) refl
   points w T t (LeaveWakes m k) r w' e l mine listed may ok asks same = rw (is_lock m ok) refl
-  points w T t (HasLeft m ToExit) r w' e l mine listed may ok asks same = rw (is_word 1 t mine) (second_no _ _)
+  points w T t (HasLeft m ToExit) r w' e l mine listed may ok asks same =
+      rw (is_word 1 t (omega arith) mine) (second_no _ _)
   points w T t Unmade r w' e l mine listed may ok asks same = absurd ok
   points w T t Runs r w' e l mine listed may ok asks same = absurd ok
   points w T t (HasEnded end) r w' e l mine listed may ok asks same = absurd ok

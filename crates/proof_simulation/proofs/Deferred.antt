@@ -1,23 +1,21 @@
 -- Which actions of a process may wait.
-use Rattle.std.proofs.Common.{◌≡◌, ℕ, ◌<◌, ◌≤◌, true, Option, Some, None, List, [], ◌∷◌, refl, sym, subst, ◌∙◌}
+use Rattle.std.proofs.Common.{◌≡◌, ℕ, true, Option, Some, List, [], ◌∷◌, inl, refl, sym, subst, ◌∙◌}
 use Rattle.program.specs.Trees.{Program, Return, Block, Done, Then}
 use Rattle.program.specs.WellFormed.{WellFormed}
 use Rattle.program.specs.declared.kinds.Role.{Role}
 use Rattle.program.specs.declared.kinds.Role.TheVariants.{Recover, Main}
 use Rattle.machine.specs.States.{State}
 use Rattle.locals.specs.Threads.{Thread}
-use Rattle.meaning.specs.Labels.{End, Kind, Label, Alone, Stores}
+use Rattle.meaning.specs.Labels.{End, Kind, Label, Alone}
 use Rattle.meaning.specs.Labels as L
 use Rattle.meaning.specs.Table.{Allows, HeldBy}
 use Rattle.meaning.specs.Processes.{Frame, Caller, Process, Over, goes_on_by, holds}
 use Rattle.meaning.specs.Offers.{Offer, Nothing, offer, TakesUp}
 use Rattle.meaning.specs.States.{SourceState}
 use Rattle.proof_commutation.specs.Deferring.{is_internal, MayDefer}
-use Rattle.protocol.specs.Points.{Runs}
 use Rattle.protocol.specs.World.{mem}
-use Rattle.protocol.specs.Moves.{Own}
 use Rattle.protocol.proofs.Good.{Good}
-use Rattle.protocol.proofs.Kept.{permitted}
+use Rattle.protocol.proofs.Rest.{matches}
 use Rattle.proof_thread.specs.Following.{Build, Stands, runs, enters, returns, fails, own_of}
 use Rattle.proof_thread.specs.Completing.{IsOwn, IsInternal}
 use Rattle.proof_templates.specs.Inside.{IsSteady}
@@ -61,15 +59,13 @@ stands_open b t x q (returns z cs place shown l fs walk at is) end h = cc
 stands_open b t x q (fails m f cs walk is) end h = cc
 
 module _ (p : Program) (w : WellFormed p) (steps : ℕ) (s : State) (c : SourceState) (k : Corresponds p w steps s c)
-    (t : ℕ) (number : (0 < t) × (t ≤ k.world.made)) (awake : k.world.asleep t ≡ None)
-    (point : (k.world.at t).point ≡ Runs) where
+    (t : ℕ) where
   inv : Good k.world c.table
   inv = reached_good k.world c.table k.reached
 
   -- a thread holds the monitors of its robust list
   pub holder : (m : ℕ) → mem m (k.world.at t).list ≡ true → c.table.hold m ≡ HeldBy t
-  holder m h = (permitted k.world c.table t (Own (Stores m)) inv
-      (record { number = number; awake = awake; stands = point; finds = h })).1
+  holder m h = (matches k.world c.table inv).has m t (inl h)
 
   -- what a steady process offers is the same whatever becomes of the monitors that it doesn't hold
   pub may_defer : (q r : Process) (label : Label) → (k.world.at t).list ≡ holds q → IsSteady p q c.variable

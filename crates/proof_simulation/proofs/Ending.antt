@@ -5,6 +5,7 @@ use Rattle.std.proofs.Common.{None, refl, ap, sym, ◌∙◌, subst, arith, inl,
 use Rattle.std.specs.Prelude.{◌^◌, map}
 use Rattle.words.specs.Updates.{put}
 use Rattle.words.specs.declared.outcome.Fault.{Fault}
+use Rattle.words.specs.declared.outcome.Fault.TheVariants.{HandleNotJoinable}
 use Rattle.words.specs.Outcomes.{fault_number}
 use Rattle.words.specs.Process.{process_word}
 use Rattle.words.specs.Signed.{signed_of}
@@ -18,16 +19,18 @@ use Rattle.program.specs.declared.kinds.Member.{Member}
 use Rattle.program.specs.Trees.{Program}
 use Rattle.program.specs.WellFormed.{WellFormed}
 use Rattle.lowering.specs.Pieces.{marks_of, code_of}
-use Rattle.meaning.specs.Labels.{Kind, Label, Alone, End, Ended, Aborted, Faulted}
+use Rattle.meaning.specs.Labels.{Kind, Label, Alone, FindsClaimed, End, Ended, Aborted, Faulted, kind_of}
+use Rattle.meaning.specs.Table.{Allows}
 use Rattle.meaning.specs.Labels as L
 use Rattle.meaning.specs.Values.{Variables}
 use Rattle.meaning.specs.Processes.{Process, Dying, Leaving, holds}
-use Rattle.meaning.specs.Offers.{Does, Nothing, Offer, offer, TakesUp}
+use Rattle.meaning.specs.Offers.{Does, ClaimsOne, Nothing, Offer, offer, TakesUp}
 use Rattle.meaning.specs.States.{SourceState}
 use Rattle.meaning.specs.Runs.{Leads}
-use Rattle.protocol.specs.Points.{NoEntry, Point, Runs, Dies, Walks, Thread as Place, thread_at}
+use Rattle.proof_commutation.specs.Deferring.{is_internal}
+use Rattle.protocol.specs.Points.{NoEntry, Point, Runs, MeetsClaimed, Dies, Walks, Thread as Place, thread_at}
 use Rattle.protocol.specs.World.{World}
-use Rattle.protocol.specs.Moves.{Own, Raise, WriteFault, Return}
+use Rattle.protocol.specs.Moves.{Own, Raise, ClaimTaken, WriteFault, Return}
 use Rattle.protocol.specs.Steps.{Can, after, go_list, result_after, returned_end}
 use Rattle.protocol.specs.Cells.{HeadOf, ResultOf, OutcomeOf, write}
 use Rattle.protocol.specs.Exits.{Shares, PhaseIs}
@@ -37,17 +40,18 @@ use Rattle.protocol.proofs.Good.{Good}
 use Rattle.protocol.proofs.Kept.{permitted}
 use Rattle.protocol.proofs.Sleeps.{at_put, put_same, put_other}
 use Rattle.proof_thread.specs.Variables.{IsVariable, variable_address, VariablesFit}
-use Rattle.proof_thread.specs.Completing.{left_value, IsResult, return_request}
+use Rattle.proof_thread.specs.Completing.{IsOwn, left_value, IsResult, return_request}
 use Rattle.proof_thread.specs.Following.{Build}
 use Rattle.refinement.specs.Built.{build_of}
 use Rattle.proof_templates.specs.Layout.{place, valid, is_process}
 use Rattle.proof_templates.proofs.Layouts.{apart, number_is}
+use Rattle.proof_templates.specs.Inside.{IsSteady}
 use Rattle.proof_templates.proofs.Addresses.{variable_apart}
 use Rattle.proof_simulation.specs.Ordering.{StepsSo, Places, nothing, again, waits}
 use Rattle.proof_simulation.specs.Standing.{StandsAt, IsAtWork, IsEnding, ending, entries_seen, walks}
 use Rattle.proof_simulation.specs.Ranks.{steps_left}
 use Rattle.proof_simulation.specs.Corresponding.{Reached, IsBefore, Corresponds}
-use Rattle.proof_simulation.proofs.ExitServing.{running_chain, dying_chain, first_phase, first_short}
+use Rattle.proof_simulation.proofs.ExitServing.{running_chain, refused_chain, dying_chain, first_phase, first_short}
 use Rattle.proof_simulation.proofs.Moving.{Puts, put_puts, same_puts, AreOwn, IsSome, Next, moved}
 use Rattle.proof_simulation.proofs.Sourcing.{act, action, state_after}
 use Rattle.proof_simulation.proofs.Deferred.{may_defer}
@@ -212,6 +216,49 @@ module _ (p : Program) (w : WellFormed p) (steps : ℕ) (s : State) (c : SourceS
       (again fault moves.4 moves.5 (ap stage_of point) refl refl)
       (inr enough) moves
 
+  -- a thread that meets a fault, as its process does by this action
+  fault_met : (q : Process) (fault : Fault) (label : Label) (x : Thread) → c.process t ≡ Some q → l ≡ holds q
+      → IsSteady p q c.variable → x ≡ Dies' fault → stages k.world t ≡ W.Works → Chain k.world.link first l
+      → Reached (go_list k.world t (Dies (Faulted fault) NoEntry) l) c.table
+      → kind_of label ≡ L.Fails fault → is_internal label ≡ true
+      → TakesUp (offer p c.variable q) label Nothing (Dying (Faulted fault) l) → Allows t label c.table c.table
+      → StepsSo p done deferral (mark_of (marks_of p) x) s t woken (look (code_of p) t x) s'
+      → Next p w steps s' t done deferral pauses n c (stages k.world)
+  fault_met q fault label x proc list steady e works chain reached kind internal takes allowed moves =
+      let r = Dying (Faulted fault) l in
+      let z = thread_at (Dies (Faulted fault) NoEntry) l in
+      let g : StepsSo p done deferral (mark_of (marks_of p) (Dies' fault)) s t woken
+      (look (code_of p) t (Dies' fault)) s' =
+      subst (λ (i : Thread). StepsSo p done deferral (mark_of (marks_of p) i) s t woken
+      (look (code_of p) t i) s') e moves
+      in
+      by_fault fault (put k.world.at t z) (put c.process t (Some r)) (kind_of label ∷ []) reached
+      (ap (λ (i : Place). i.point) (put_same k.world.at t z))
+      (ap (λ (i : Place). i.list) (put_same k.world.at t z)) (λ y. put_put k.world.at t z y) chain
+      (put_puts c.process t (Some r)) (subst (λ (i : Kind). IsOwn i) (sym kind) tt, tt)
+      (state_after c t Nothing r c.table, action p c t q r label Nothing c.table proc takes allowed, refl)
+      (waits _ _ label g.4 (g.5 ∙ ap Some (sym kind)) works tt proc
+      (may_defer p w steps s c k t q r label list steady internal takes allowed (λ end h. cc)) refl)
+      (inl tt) g
+
+  -- a thread that was refused a process
+  pub refused_step : (child : ℕ) (q joining : Process) (x : Thread) → c.process t ≡ Some q → l ≡ holds q
+      → (k.world.at t).point ≡ MeetsClaimed child → IsSteady p q c.variable
+      → offer p c.variable q ≡ ClaimsOne child joining (Dying (Faulted HandleNotJoinable) (holds q))
+      → x ≡ Dies' HandleNotJoinable
+      → StepsSo p done deferral (mark_of (marks_of p) x) s t woken (look (code_of p) t x) s'
+      → Next p w steps s' t done deferral pauses n c (stages k.world)
+  refused_step child q joining x proc list point steady o e moves =
+      let move = ClaimTaken child in
+      let can : Can k.world t move = record { number = number; awake = awake; stands = point; finds = tt } in
+      let r = Dying (Faulted HandleNotJoinable) l in
+      let o' : offer p c.variable q ≡ ClaimsOne child joining r =
+      o ∙ ap (λ (i : List ℕ). ClaimsOne child joining (Dying (Faulted HandleNotJoinable) i)) (sym list) in
+      fault_met q HandleNotJoinable (FindsClaimed child) x proc list steady e (ap stage_of point)
+      (refused_chain k.world c.table t child inv point) (reached_on k.world c.table t move k.reached can) refl refl
+      (subst (λ (i : Offer). TakesUp i (FindsClaimed child) Nothing r) (sym o') (inr (refl, refl, refl)))
+      (permitted k.world c.table t move inv can).0 moves
+
   -- the state of the machine, and the words of the world, after a return
   abbrev returned_state : Option ℕ → State
   returned_state None = with_outcome s t 16
@@ -348,25 +395,9 @@ module _ (p : Program) (w : WellFormed p) (steps : ℕ) (s : State) (c : SourceS
         let r = Dying (Faulted fault) l in
         let o' : offer p c.variable q ≡ Does (Alone (L.Fails fault)) Nothing r =
         o ∙ ap (λ (i : List ℕ). Does (Alone (L.Fails fault)) Nothing (Dying (Faulted fault) i)) (sym list) in
-        let z = thread_at (Dies (Faulted fault) NoEntry) l in
-        let g : StepsSo p done deferral (mark_of (marks_of p) (Dies' fault)) s t woken (look (code_of p) t
-        (Dies' fault)) s' =
-        subst (λ (i : Thread). StepsSo p done deferral (mark_of (marks_of p) i) s t woken (look
-        (code_of p) t i) s') e moves in
-        by_fault fault (put k.world.at t z) (put c.process t (Some r)) (L.Fails fault ∷ [])
-        (reached_on k.world c.table t move k.reached can)
-        (ap (λ (i : Place). i.point) (put_same k.world.at t z))
-        (ap (λ (i : Place). i.list) (put_same k.world.at t z)) (λ y. put_put k.world.at t z y)
-        (running_chain k.world c.table t inv point) (put_puts c.process t (Some r)) (tt, tt) (
-          state_after c t Nothing r c.table,
-          action p c t q r (Alone (L.Fails fault)) Nothing c.table proc
-              (takes_up (Alone (L.Fails fault)) r o') (permitted k.world c.table t move inv can).0,
-          refl,
-        )
-        (waits _ _ (Alone (L.Fails fault)) g.4 g.5 (ap stage_of point) tt proc
-        (may_defer p w steps s c k t number awake point q r
-        (Alone (L.Fails fault)) list work.steady refl (takes_up (Alone (L.Fails fault)) r o') refl (λ end h. cc)) refl)
-        (inl tt) g
+        fault_met q fault (Alone (L.Fails fault)) x proc list work.steady e (ap stage_of point)
+        (running_chain k.world c.table t inv point) (reached_on k.world c.table t move k.reached can) refl refl
+        (takes_up (Alone (L.Fails fault)) r o') refl moves
 
     -- a thread whose process leaves with this step
     pub leaves_step : (r : Option ℕ) (x : Thread) → IsAtWork p q c.variable → IsResult r
@@ -399,6 +430,6 @@ module _ (p : Program) (w : WellFormed p) (steps : ℕ) (s : State) (c : SourceS
         (returns_deferral (mark_of (marks_of p) x) r (subst (λ (i : Look). StepsSo p done deferral (mark_of
         (marks_of p) x) s t woken i s') h moves) ∙ mark)
         (ap stage_of point) tt proc
-        (may_defer p w steps s c k t number awake point q after' (Alone L.Return) list work.steady refl takes refl
+        (may_defer p w steps s c k t q after' (Alone L.Return) list work.steady refl takes refl
         (λ end h. cc)) refl)
         (inl tt) (subst (λ (i : Look). StepsSo p done deferral (mark_of (marks_of p) x) s t woken i s') h moves)

@@ -24,7 +24,7 @@ use Rattle.machine.specs.AbstractServing.{shared_of, with_shared}
 use Rattle.machine.specs.Runs.{Moves}
 use Rattle.protocol.specs.Word.{died_word}
 use Rattle.protocol.specs.Points.{Entry as PendingEntry, NoEntry, Spot, OnLock, OnId, Point, Walks, ClearsId, LastWakes}
-use Rattle.protocol.specs.Points.{Runs, Dies}
+use Rattle.protocol.specs.Points.{Runs, MeetsClaimed, Dies}
 use Rattle.protocol.specs.World.{World, mem, tail}
 use Rattle.protocol.specs.Cells.{LockOf, LinkOf, PendingOf, IdOf, write}
 use Rattle.protocol.specs.Memory.{entry_address}
@@ -306,6 +306,11 @@ module _ (p : Program) (fits : WellFormed p) (s : State) (w : World) (T : Table)
 pub running_chain : (w : World) (T : Table) (t : ℕ) → Good w T → (w.at t).point ≡ Runs
     → Chain w.link (w.head t) (w.at t).list
 running_chain w T t good point =
+    subst (λ (q : Point). ChainAt w.link (w.head t) q (w.at t).list) point (good.chains.chain t)
+
+pub refused_chain : (w : World) (T : Table) (t child : ℕ) → Good w T → (w.at t).point ≡ MeetsClaimed child
+    → Chain w.link (w.head t) (w.at t).list
+refused_chain w T t child good point =
     subst (λ (q : Point). ChainAt w.link (w.head t) q (w.at t).list) point (good.chains.chain t)
 
 pub dying_chain : (w : World) (T : Table) (t : ℕ) (cause : Cause) (x : PendingEntry) → Good w T

@@ -35,8 +35,8 @@ use Rattle.proof_thread.proofs.Growing.{fitting_grows}
 use Rattle.proof_templates.specs.Layout.{place, valid, is_process}
 use Rattle.proof_templates.proofs.Layouts.{apart, number_is}
 use Rattle.proof_templates.proofs.Addresses.{variable_apart}
-use Rattle.proof_thread.specs.Walks.{WalksWithin, stays, empty_view}
-use Rattle.refinement.specs.Built.{build_of, marked_image}
+use Rattle.proof_thread.specs.Walks.{stays}
+use Rattle.refinement.specs.Built.{build_of}
 use Rattle.proof_templates.specs.Inside.{IsSteady}
 use Rattle.proof_simulation.specs.Ordering.{StepsSo, waits, acts}
 use Rattle.proof_simulation.specs.Standing.{StandsAt, IsAtWork, faults}
@@ -73,13 +73,13 @@ module _ (p : Program) (w : WellFormed p) (steps : ℕ) (s : State) (c : SourceS
       k.world (go' 0)
       (Dying (Faulted ProcessTableFull) (holds q)) (Dies (Faulted ProcessTableFull) NoEntry) (holds q)
       can refl refl takes tt refl
-      (faults ProcessTableFull 0 (omega arith) (subst (λ (y : Thread).
-      WalksWithin (marked_image p) t (empty_view p) 0 (go' 0) y) full
-      (record { count = 0; few = omega arith; walk = stays })))
+      (subst (λ (y : Thread). StandsAt (build_of p w k.world.made) c.variable t (Some y)
+      (Some (Dying (Faulted ProcessTableFull) (holds q))) (Dies (Faulted ProcessTableFull) NoEntry) (holds q))
+      (sym full) (faults ProcessTableFull))
       k.shares (record { size = refl; made = refl; output = refl; thread = refl; variables = λ m i is. refl })
       refl refl refl refl
       (waits _ _ FindsFull none fails (ap stage_of point) refl proc
-      (may_defer p w steps s c k t number awake point q _ FindsFull list steady refl takes
+      (may_defer p w steps s c k t q _ FindsFull list steady refl takes
       ((permitted k.world c.table t ForkFull (reached_good k.world c.table k.reached) can).0) (λ end h. cc)) refl) same
 
   module _ (child : Process) (later : ℕ → Process) (go' : ℕ → Thread) (entry : ℕ) (arguments : List ℕ)

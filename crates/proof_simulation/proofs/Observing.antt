@@ -425,8 +425,10 @@ module _ (p : Program) (w : WellFormed p) (s : State) (size : s.size ≡ memory_
     seen v o q pt l listed (S.returns (Some n) fits k mark) = busy (asks _ _ k (λ z. z)) refl
     seen v o q pt l listed (S.inside {x = x} {y = y} {pt = at} left k u few' walk fits same ne stands) =
         busy (steps_busy left x y walk (inside_busy u k at y fits ne stands)) (template_end b u t k at fits)
-    seen v o q pt l listed (S.faults {x = x} fault left few' k) =
-        busy (steps_busy left x (Dies' fault) k (asks _ _ refl (λ z. z))) refl
+    seen v o q pt l listed (S.faults fault) = busy (asks _ _ refl (λ z. z)) refl
+    seen v o q pt l listed (S.refused {x = x} {q = r} left few' k o' steady) =
+        busy (steps_busy left x (Dies' HandleNotJoinable) k (asks _ _ refl (λ z. z)))
+        (offers_end b.program v r (λ e. cc (e, o')))
     seen v o q pt l listed (S.reads {child = child} {x = x} left few' is j k) =
         busy (steps_busy left x j.reads k (asks _ _ j.read (child_there child 2 is.some is.made (omega arith)))) refl
     seen v o q pt l listed (S.sleeps {child = child} {x = x} left few' is j k) =

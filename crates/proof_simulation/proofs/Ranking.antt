@@ -10,8 +10,8 @@ use Rattle.protocol.specs.Points.{ToEnter, ToReenter, ToExit, ToWait, Spot, OnLo
 use Rattle.protocol.specs.Points.{EnterPends, EnterTries, ReenterPends, ReenterTries, TakeReads, TakeMarks, TakeSleeps}
 use Rattle.protocol.specs.Points.{TakeTries, GotReads, GotLinks, GotHeads, GotUnpends, WaitReads, NotifyAdds}
 use Rattle.protocol.specs.Points.{NotifyWakes, BroadcastAdds, BroadcastMarks, BroadcastReads, BroadcastMoves, JoinReads}
-use Rattle.protocol.specs.Points.{JoinSleeps, JoinLearns, JoinTakes, LeavePends, LeaveReads, LeaveHeads, LeaveSwaps}
-use Rattle.protocol.specs.Points.{LeaveWakes, HasLeft, Dies, Walks, ClearsId, LastWakes, HasEnded}
+use Rattle.protocol.specs.Points.{JoinSleeps, JoinLearns, JoinTakes, MeetsClaimed, LeavePends, LeaveReads, LeaveHeads}
+use Rattle.protocol.specs.Points.{LeaveSwaps, LeaveWakes, HasLeft, Dies, Walks, ClearsId, LastWakes, HasEnded}
 use Rattle.protocol.specs.World.{World}
 use Rattle.protocol.specs.Steps.{go_list}
 use Rattle.protocol.specs.Carries.{Event}
@@ -29,6 +29,7 @@ IsTemplate (JoinReads q) = ⊥
 IsTemplate (JoinSleeps q) = ⊥
 IsTemplate (JoinLearns q end) = ⊥
 IsTemplate (JoinTakes q end) = ⊥
+IsTemplate (MeetsClaimed q) = ⊥
 IsTemplate (Dies cause x) = ⊥
 IsTemplate (Walks e x end) = ⊥
 IsTemplate (ClearsId end) = ⊥
@@ -120,6 +121,7 @@ module _ (more : ℕ) (w : World) (T : Table) (t r : ℕ) (w' : World) (e : End)
   rank_falls (JoinSleeps q) is serves may none on = absurd is
   rank_falls (JoinLearns q end) is serves may none on = absurd is
   rank_falls (JoinTakes q end) is serves may none on = absurd is
+  rank_falls (MeetsClaimed q) is serves may none on = absurd is
   rank_falls (LeavePends m k) is serves may none on = omega arith
   rank_falls (LeaveReads m k) is serves may none on = omega arith
   rank_falls (LeaveHeads m h k) is serves may none on = omega arith
@@ -170,6 +172,7 @@ module _ (more : ℕ) (w : World) (T : Table) (t r : ℕ) (w' : World) (e : End)
   rank_ends (JoinSleeps q) is none on = absurd is
   rank_ends (JoinLearns q end) is none on = absurd is
   rank_ends (JoinTakes q end) is none on = absurd is
+  rank_ends (MeetsClaimed q) is none on = absurd is
   rank_ends (LeavePends m k) is none on = absurd cc
   rank_ends (LeaveReads m k) is none on = absurd cc
   rank_ends (LeaveHeads m h k) is none on = absurd cc

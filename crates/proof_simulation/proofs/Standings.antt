@@ -20,9 +20,8 @@ use Rattle.proof_templates.specs.Locking as L
 use Rattle.proof_templates.specs.Inside.{Template, Enters, Exits, Waits, Notifies, Broadcasts, list_at, StandsIn}
 use Rattle.proof_templates.specs.Inside.{TemplateFits}
 use Rattle.proof_templates.specs.Inside.{IsSteady, IsBeforeRelease, SameBefore}
-use Rattle.proof_simulation.specs.Standing.{IsChild, StandsAt, unmade, works, returns, inside, faults, reads, sleeps}
-use Rattle.proof_simulation.specs.Standing.{learns}
-use Rattle.proof_simulation.specs.Standing.{takes, walks, clears, wakes, rests}
+use Rattle.proof_simulation.specs.Standing.{IsChild, StandsAt, unmade, works, returns, inside, faults, refused, reads}
+use Rattle.proof_simulation.specs.Standing.{sleeps, learns, takes, walks, clears, wakes, rests}
 
 -- the first of a list is on it
 pub first_in : (m : ℕ) (ms l : List ℕ) → l ≡ m ∷ ms → mem m l ≡ true
@@ -162,6 +161,10 @@ module _ (b : Build) (made : ℕ) (le : b.made ≤ made) (v v' : Variables) (t :
   child_grows : (c : ℕ) (f : Frame) (cs : List Caller) → IsChild b c f cs → IsChild (with_made b made) c f cs
   child_grows c f cs is = record { some = is.some; made = omega (arith, le, is.made); last = is.last }
 
+  -- the variables of a process's own monitor are among those of the monitors that it holds
+  own_same : (pt : Point) (q : Process) → Near (holds q) pt v v' → IsSteady b.program q v → SameIn (own_of q) v v'
+  own_same pt q near steady m e n i = near m (inl (first_in m (steady.first m e).0 (holds q) (steady.first m e).1)) n i
+
   -- more processes, and variables that are the same in the monitors that the thread has
   pub stand_moves : (x : Option Thread) (q : Option Process) (pt : Point) (l : List ℕ) → Near l pt v v'
       → StandsAt b v t x q pt l → StandsAt (with_made b made) v' t x q pt l
@@ -169,8 +172,7 @@ module _ (b : Build) (made : ℕ) (le : b.made ≤ made) (v v' : Variables) (t :
   stand_moves x q pt l near unmade = unmade
   stand_moves x q pt l near (works {x = y} {q = r} left few h work) =
       let steady = work.steady in
-      let same : SameIn (own_of r) v v' = λ m e n i. near m (inl (first_in m (steady.first m e).0 (holds r)
-      (steady.first m e).1)) n i in
+      let same = own_same pt r near steady in
       works left few (proceeds_grow b made le t v' left y r (proceeds_same b t v v' left y r same (sym (steady.same v'
       same)) h)) (record {
         steady = steady_moves r steady same;
@@ -180,7 +182,10 @@ module _ (b : Build) (made : ℕ) (le : b.made ≤ made) (v v' : Variables) (t :
   stand_moves x q pt l near (returns r fits h mark) = returns r fits h mark
   stand_moves x q pt l near (inside {y = y} {pt = at} left k u few walk fits same ne stands) =
       inside left k u few walk (fits_grows u k fits) (same_before u k at y fits stands near same) ne stands
-  stand_moves x q pt l near (faults f left few h) = faults f left few h
+  stand_moves x q pt l near (faults f) = faults f
+  stand_moves x q pt l near (refused {q = r} left few h o steady) =
+      let same = own_same pt r near steady in
+      refused left few h (steady.same v' same ∙ o) (steady_moves r steady same)
   stand_moves x q pt l near (reads {child = c} {into = i} {part = p} {f = f} {cs = cs} left few is j h) =
       reads left few (child_grows c f cs is) (awaits_grow b made le t c i p f cs j) h
   stand_moves x q pt l near (sleeps {child = c} {into = i} {part = p} {f = f} {cs = cs} left few is j h) =

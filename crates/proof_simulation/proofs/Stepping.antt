@@ -9,6 +9,7 @@ use Rattle.program.specs.Trees.{Program}
 use Rattle.program.specs.WellFormed.{WellFormed}
 use Rattle.lowering.specs.Pieces.{code_of, marks_of}
 use Rattle.proof_thread.specs.Deferrals.{last_mark, deferred_by_mark, mark_of}
+use Rattle.words.specs.declared.outcome.Fault.TheVariants.{HandleNotJoinable}
 use Rattle.meaning.specs.Labels.{Kind, Faulted}
 use Rattle.meaning.specs.Processes.{Process, Dying, holds}
 use Rattle.meaning.specs.States.{SourceState}
@@ -20,9 +21,9 @@ use Rattle.refinement.specs.Built.{build_of, marked_image}
 use Rattle.proof_templates.specs.Layout.{place}
 use Rattle.proof_templates.specs.Inside.{Enters, Exits, Waits, Notifies, Broadcasts}
 use Rattle.proof_simulation.specs.Ordering.{StepsSo}
-use Rattle.proof_simulation.specs.Standing.{StandsAt, unmade, works, returns, inside, faults, reads, sleeps, learns}
-use Rattle.proof_simulation.specs.Standing.{takes}
-use Rattle.proof_simulation.specs.Standing.{walks, clears, wakes, rests, IsAtWork, IsEnding, ending, entries_seen}
+use Rattle.proof_simulation.specs.Standing.{StandsAt, unmade, works, returns, inside, faults, refused, reads, sleeps}
+use Rattle.proof_simulation.specs.Standing.{learns, takes, walks, clears, wakes, rests, IsAtWork, IsEnding, ending}
+use Rattle.proof_simulation.specs.Standing.{entries_seen}
 use Rattle.proof_simulation.specs.Ranks.{steps_left, before_template}
 use Rattle.proof_simulation.specs.Corresponding.{Corresponds}
 use Rattle.proof_simulation.proofs.Standings.{first_in}
@@ -30,7 +31,7 @@ use Rattle.proof_simulation.proofs.Moving.{IsLow, Next, left_of}
 use Rattle.proof_simulation.proofs.Templating.{awake_at}
 use Rattle.proof_simulation.proofs.Local.{first_step, goes_local}
 use Rattle.proof_simulation.proofs.Acting.{works_step, acts_step, prints_step, stores_step}
-use Rattle.proof_simulation.proofs.Ending.{dies_step, returns_step, faults_step, leaves_step}
+use Rattle.proof_simulation.proofs.Ending.{dies_step, refused_step, returns_step, faults_step, leaves_step}
 use Rattle.proof_simulation.proofs.Claiming.{claims_step}
 use Rattle.proof_simulation.proofs.Making.{forks_step}
 use Rattle.proof_simulation.proofs.Joining.{read_step, sleep_step, learn_step, take_step}
@@ -86,7 +87,7 @@ module _ (p : Program) (w : WellFormed p) (steps : ℕ) (s : State) (c : SourceS
       made most h o j to bad) low moves =
       claims_step p w steps s c k t woken done deferral pauses s' n number few awake q proc point list x work moves
       child
-      go some made
+      go some made (omega (arith, enough))
       h o j to bad
   completed x q thread proc point list work enough (F.faults fault e o) low moves =
       faults_step p w steps s c k t woken done deferral pauses s' n number few awake q proc point list fault x work e o
@@ -189,14 +190,19 @@ module _ (p : Program) (w : WellFormed p) (steps : ℕ) (s : State) (c : SourceS
       inside_any p w steps s c k t woken done deferral pauses s' n number few awake paused kind u at left x y few'
       (subst (λ (v : Thread). StepsWithin b t left v y) (sym (same_thread e)) walk) fits same ne stands proc point list
       enough low moves
-  from_stand o q pt l (faults {x = y} {ms = ms} fault left few' h) proc point list enough x thread e low moves =
-      walking x y (Dies' fault) left (same_thread e) h
-      (λ there. dies_step p w steps s c k t woken done deferral pauses s' n number few awake fault point
+  from_stand o q pt l (faults fault) proc point list enough x thread e low moves =
+      dies_step p w steps s c k t woken done deferral pauses s' n number few awake fault point
       (proc ∙ ap (λ (i : List ℕ). Some (Dying (Faulted fault) i)) (sym list)) (omega (arith, enough))
       (subst (λ (v : Thread). StepsSo p done deferral (mark_of (marks_of p) v) s t woken (look
-      (code_of p) t v) s') there moves))
-      (λ z m g plain le more. goes_local p w steps s c k t woken done deferral pauses s' n x z _ _ ms proc point list
-      (faults fault m (omega (arith, le, few')) more) (omega (arith, le, enough)) g plain moves)
+      (code_of p) t v) s') (same_thread e) moves)
+  from_stand o q pt l (refused {child = child} {x = y} {q = r} {joining = joining} left few' h o' steady) proc point
+      list enough x thread e low moves =
+      walking x y (Dies' HandleNotJoinable) left (same_thread e) h
+      (λ there. refused_step p w steps s c k t woken done deferral pauses s' n number few awake child r joining x proc
+      list
+      point steady o' there moves)
+      (λ z m g plain le more. goes_local p w steps s c k t woken done deferral pauses s' n x z _ _ _ proc point list
+      (refused m (omega (arith, le, few')) more o' steady) (omega (arith, le, enough)) g plain moves)
   from_stand o q pt l (reads {child = child} {x = y} {into = i} {part = part} {f = f} {cs = cs} left few' is j h) proc
       point list enough x thread e low moves =
       walking x y j.reads left (same_thread e) h

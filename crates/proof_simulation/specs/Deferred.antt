@@ -17,7 +17,7 @@ has_failed [] = false
 has_failed (k ∷ ks) = is_failing k || has_failed ks
 
 -- what is deferred of a process behind a step with this action, if it has one; a fault is deferred once, though a fork
--- that finds no room and a claim that is refused have it again where the fault is written
+-- that finds no room has it again where the fault is written
 abbrev pub deferred_then : Option Kind → List Kind → List Kind
 deferred_then None ks = ks
 deferred_then (Some k) ks = if is_failing k && has_failed ks then ks else ks ++ k ∷ []

@@ -1,9 +1,8 @@
 -- Where the actions of the source stand among the steps of the machine.
-use Rattle.std.specs.Prelude.{ℕ, zero, suc, ◌≡◌, ◌==◌, ◌&&◌, ◌||◌, not, Bool, true, false, List, [], ◌∷◌, length}
-use Rattle.std.specs.Prelude.{Option, Some, None}
+use Rattle.std.specs.Prelude.{ℕ, zero, suc, ◌-◌, ◌%◌, ◌≡◌, ◌==◌, ◌&&◌, ◌||◌, not, nat_lt, Bool, true, false, List, []}
+use Rattle.std.specs.Prelude.{◌∷◌, length, Option, Some, None}
 use Rattle.words.specs.Updates.{put}
-use Rattle.words.specs.Process.{process_word}
-use Rattle.words.specs.Limits.{most_processes}
+use Rattle.words.specs.Limits.{monitors_base}
 use Rattle.robustexit.specs.declared.phase.ExitPhase.{ExitPhase}
 use Rattle.robustexit.specs.declared.phase.ExitPhase.TheVariants.{Entry, Pending, ClearId, LastWake, Ended}
 use Rattle.robustexit.specs.RobustExit.{Shared, ExitStep}
@@ -36,9 +35,9 @@ abbrev pub any_below : ℕ → (ℕ → Bool) → Bool
 any_below zero test = false
 any_below (suc n) test = test n || any_below n test
 
--- the address is that of the k-th word of a process
+-- the address is that of the k-th word of a process: each has six of them, from 1 on, and the monitors lie behind them
 abbrev pub is_process_word : ℕ → ℕ → Bool
-is_process_word k a = any_below most_processes (λ n. process_word (suc n) k == a)
+is_process_word k a = nat_lt 0 a && (nat_lt a monitors_base && ((a - 1) % 6 == k))
 
 -- the address is that of a monitor's link word, or of its lock word
 abbrev pub is_link_word : Program → ℕ → Bool

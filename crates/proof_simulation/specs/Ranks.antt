@@ -12,9 +12,8 @@ use Rattle.protocol.specs.Points.{LeaveHeads, LeaveSwaps, LeaveWakes, HasLeft, D
 use Rattle.protocol.specs.World.{World}
 use Rattle.proof_thread.specs.Following.{Build}
 use Rattle.proof_thread.specs.Builds.{most_steps}
-use Rattle.proof_simulation.specs.Standing.{StandsAt, unmade, works, returns, inside, faults, reads, sleeps, learns}
-use Rattle.proof_simulation.specs.Standing.{takes}
-use Rattle.proof_simulation.specs.Standing.{walks, clears, wakes, rests}
+use Rattle.proof_simulation.specs.Standing.{StandsAt, unmade, works, returns, inside, faults, refused, reads, sleeps}
+use Rattle.proof_simulation.specs.Standing.{learns, takes, walks, clears, wakes, rests}
 
 -- from its own code to the first request of the longest template
 abbrev pub before_template : ℕ
@@ -72,7 +71,8 @@ steps_left b v t w unmade = 0
 steps_left b v t w (works left few h s) = left + before_template
 steps_left b v t w (returns r fits h mark) = 5
 steps_left b v t w (inside {pt = pt} left k u few walk fits same ne stands) = left + rank (more_steps b) w pt
-steps_left b v t w (faults fault left few h) = left + 5
+steps_left b v t w (faults fault) = 5
+steps_left b v t w (refused left few h o s) = left + 5
 steps_left b v t w (reads {child = child} left few c j h) = left + rank (more_steps b) w (JoinReads child)
 steps_left b v t w (sleeps left few c j h) = left + 18
 steps_left b v t w (learns left few c j h) = left + (more_steps b + 34)

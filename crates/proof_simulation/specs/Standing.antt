@@ -1,6 +1,7 @@
 -- Where a thread of the machine stands, the process that it stands for, its point of the protocol and its robust list.
 use Rattle.std.specs.Prelude.{ℕ, ◌+◌, ◌≡◌, ◌≢◌, ◌<◌, ◌≤◌, ℤ, List, [], length, Option, Some, None}
 use Rattle.words.specs.declared.outcome.Fault.{Fault}
+use Rattle.words.specs.declared.outcome.Fault.TheVariants.{HandleNotJoinable}
 use Rattle.robustexit.specs.declared.phase.ExitPhase.{ExitPhase}
 use Rattle.robustexit.specs.declared.phase.ExitPhase.TheVariants.{Entry, ClearId, LastWake, Ended as Ended'}
 use Rattle.program.specs.declared.kinds.Role.TheVariants.{Main}
@@ -13,9 +14,9 @@ use Rattle.meaning.specs.Labels.{End, Ended, Aborted, Faulted, Label, Enters, Re
 use Rattle.meaning.specs.Labels.{Ends}
 use Rattle.meaning.specs.Processes.{Frame, Caller, Process, Joining, Dying, Leaving, Over, goes_on, with_result, holds}
 use Rattle.meaning.specs.Processes.{all_monitors}
-use Rattle.meaning.specs.Offers.{Effect, after_join, offer, TakesUp}
-use Rattle.protocol.specs.Points.{NoEntry, Point, Unmade, Runs, JoinReads, JoinSleeps, JoinLearns, JoinTakes, Dies}
-use Rattle.protocol.specs.Points.{Walks, ClearsId, LastWakes, HasEnded}
+use Rattle.meaning.specs.Offers.{Effect, ClaimsOne, after_join, offer, TakesUp}
+use Rattle.protocol.specs.Points.{NoEntry, Point, Unmade, Runs, JoinReads, JoinSleeps, JoinLearns, JoinTakes}
+use Rattle.protocol.specs.Points.{MeetsClaimed, Dies, Walks, ClearsId, LastWakes, HasEnded}
 use Rattle.protocol.specs.Exits.{PhaseIs}
 use Rattle.proof_thread.specs.Deferrals.{mark_of, last_mark}
 use Rattle.proof_thread.specs.Following.{Build, StepsWithin}
@@ -84,10 +85,14 @@ pub data StandsAt (b : Build) (v : Variables) (t : ℕ) : Option Thread → Opti
   inside : {x y : Thread} {pt : Point} (left : ℕ) (k : Template) (u : Variables) → left ≤ template_steps
       → StepsWithin b t left x y → TemplateFits b u t k → SameBefore k pt u v → pt ≢ Runs → StandsIn b.program t k pt y
       → StandsAt b v t (Some x) (Some (process_at b.program k pt)) pt (list_at k pt)
-  -- on the way to a fault that it met in the source already
-  faults : {x : Thread} {ms : List ℕ} (fault : Fault) (left : ℕ) → left ≤ join_steps
-      → StepsWithin b t left x (Dies' fault)
-      → StandsAt b v t (Some x) (Some (Dying (Faulted fault) ms)) (Dies (Faulted fault) NoEntry) ms
+  -- at a fault that it met in the source already
+  faults : {ms : List ℕ} (fault : Fault)
+      → StandsAt b v t (Some (Dies' fault)) (Some (Dying (Faulted fault) ms)) (Dies (Faulted fault) NoEntry) ms
+  -- refused a process that was claimed before: on the way to the fault, which the source still has before it
+  refused : {child : ℕ} {x : Thread} {q joining : Process} (left : ℕ) → left ≤ join_steps
+      → StepsWithin b t left x (Dies' HandleNotJoinable)
+      → offer b.program v q ≡ ClaimsOne child joining (Dying (Faulted HandleNotJoinable) (holds q))
+      → IsSteady b.program q v → StandsAt b v t (Some x) (Some q) (MeetsClaimed child) (holds q)
   -- in a JOIN: on the way to each of its requests
   reads : {child : ℕ} {x : Thread} {into : Option ℕ} {part : Part} {f : Frame} {cs : List Caller} (left : ℕ)
       → left ≤ join_steps → IsChild b child f cs → (j : Awaits b t child into part f cs)

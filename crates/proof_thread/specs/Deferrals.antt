@@ -1,13 +1,13 @@
 -- Which steps of a thread complete an internal action of its process: by the marks of the code, the request and its
 -- answer.
-use Rattle.std.specs.Prelude.{ℕ, ◌≡◌, ◌==◌, ◌||◌, List, Option, Some, None, if◌then◌else◌, slice_get}
-use Rattle.words.specs.declared.outcome.Fault.TheVariants.{HandleNotJoinable, ProcessTableFull}
+use Rattle.std.specs.Prelude.{ℕ, ◌≡◌, ◌==◌, List, Option, Some, None, if◌then◌else◌, slice_get}
+use Rattle.words.specs.declared.outcome.Fault.TheVariants.{ProcessTableFull}
 use Rattle.isa.specs.Programs.{Program as Image}
 use Rattle.lowering.specs.declared.mark.Mark.{Mark}
 use Rattle.lowering.specs.declared.mark.Mark.TheVariants.{AssignLocal, Test, Call, Return, LastReturn}
 use Rattle.lowering.specs.declared.mark.Marked.{Marked}
 use Rattle.locals.specs.Threads.{Thread, Runs, Dies, Exits}
-use Rattle.locals.specs.Looks.{Request, Look, Goes, Asks, Leaves, Breaks, Rests, AskSwap, AskFork, AskReturn}
+use Rattle.locals.specs.Looks.{Request, Look, Goes, Asks, Leaves, Breaks, Rests, AskFork, AskReturn}
 use Rattle.locals.specs.Looks.{AskReturnValue, AskFault}
 use Rattle.meaning.specs.Labels.{Kind, Fails}
 use Rattle.meaning.specs.Labels as L
@@ -41,14 +41,12 @@ last_mark (Some Return) = Some L.Return
 last_mark (Some LastReturn) = Some L.Return
 last_mark other = None
 
--- at a request and its answer: a return, a fault, a fork that finds no room, and a claim (all that is swapped is a 0
--- into a lock word, and a 1 into a claim word) of a process that was claimed already
+-- at a request and its answer: a return, a fault, and a fork that finds no room
 abbrev pub deferred_by_request : Option Mark → Request → (answer : ℕ) → Option Kind
 deferred_by_request mark AskReturn r = last_mark mark
 deferred_by_request mark (AskReturnValue v) r = last_mark mark
 deferred_by_request mark (AskFault fault) r = Some (Fails fault)
 deferred_by_request mark (AskFork entry arguments has_room) r = if r == 0 then Some (Fails ProcessTableFull) else None
-deferred_by_request mark (AskSwap a v) r = if (v == 0) || (r == 0) then None else Some (Fails HandleNotJoinable)
 deferred_by_request mark request r = None
 
 -- at a step of a thread that stands at this mark and looks so

@@ -20,7 +20,7 @@ use Rattle.protocol.proofs.Waits.{HomeAt, Homes, Fresh, Marks}
 use Rattle.protocol.proofs.Conds.{StandsBefore, Conds}
 use Rattle.protocol.proofs.Joins.{Joiners}
 use Rattle.protocol.proofs.Pend.{Pends}
-use Rattle.protocol.proofs.Processes.{Threads, Ends}
+use Rattle.protocol.proofs.Processes.{Threads, Ends, Refusals}
 
 pub record Good (w : World) (T : Table) : Type 0 where
   pub locks : Inv w.lock w.asleep w.at T.hold
@@ -34,6 +34,7 @@ pub record Good (w : World) (T : Table) : Type 0 where
   pub threads : Threads w.made w.at
   pub ends : Ends w.outcome w.result w.at T.over
   pub claims : (q : ℕ) → ClaimIs (T.claimed q) (w.claim q)
+  pub refusals : Refusals T.claimed w.at
   pub made : T.made ≡ w.made
 
 -- the mover

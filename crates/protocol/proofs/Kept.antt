@@ -1,5 +1,6 @@
 -- Each move keeps all of it, and the source allows what it carries.
-use Rattle.std.proofs.Common.{not, if◌then◌else◌, ◌≡◌, ℕ, ◌<◌, ◌≤◌, true, ◌==◌, Option, Some, None, List, [], ◌∷◌}
+use Rattle.std.proofs.Common.{not, if◌then◌else◌, ◌≡◌, ℕ, ◌<◌, ◌≤◌, true, false, ◌==◌, Option, Some, None, List, []}
+use Rattle.std.proofs.Common.{◌∷◌}
 use Rattle.std.proofs.Common.{inl, inr, refl, sym, ap, ◌∙◌, subst, arith}
 use Rattle.std.proofs.lemmas.Bool.{cases_eq, false≢true, eq-eqb, ne_eqb, or_left, or_right, cond-true}
 use Rattle.words.specs.Updates.{put}
@@ -29,15 +30,15 @@ use Rattle.protocol.proofs.Waits.{HomeAt, FreshAt, marks}
 use Rattle.protocol.proofs.Conds.{Between, Notifying, stage, resumed_waits, resumed_or_asleep}
 use Rattle.protocol.proofs.Joins.{IdAt, joins, goes}
 use Rattle.protocol.proofs.Pend.{PendAt}
-use Rattle.protocol.proofs.Processes.{is_made, point_made, EndsAt}
+use Rattle.protocol.proofs.Processes.{is_made, point_made, EndsAt, RefusedAt}
 use Rattle.std.specs.Prelude.{Contains}
 use Rattle.std.proofs.lemmas.Bool.{cond_both}
 use Rattle.meaning.specs.Table.{enterable}
 use Rattle.protocol.proofs.KeptLocks.{kept_locks}
 use Rattle.protocol.proofs.KeptLists.{kept_chains, kept_pends, kept_homes, kept_fresh, kept_marks}
 use Rattle.protocol.proofs.KeptConds.{kept_conds, waiter_made, resuming}
-use Rattle.protocol.proofs.KeptEnds.{kept_joins, kept_threads, kept_ends, kept_claims, kept_made, claim_free}
-use Rattle.protocol.proofs.KeptEnds.{claim_taken, over_at}
+use Rattle.protocol.proofs.KeptEnds.{kept_joins, kept_threads, kept_ends, kept_claims, kept_refusals, kept_made}
+use Rattle.protocol.proofs.KeptEnds.{claim_free, refused_claim, over_at}
 use Rattle.protocol.proofs.Good.{Good, known_at, chain_at, mine_at, head_in}
 
 pub kept : (w : World) (T : Table) (t : ℕ) (m : Move) → Good w T → Can w t m → Good (after w t m) (table_after w T t m)
@@ -53,6 +54,7 @@ kept w T t m inv can = record {
   threads = kept_threads w T t m inv can;
   ends = kept_ends w T t m inv can;
   claims = kept_claims w T t m inv can;
+  refusals = kept_refusals w T t m inv can;
   made = kept_made w T t m inv can;
 }
 
@@ -213,7 +215,7 @@ permitted w T t (ClearId end) inv can = (refl, tt)
 permitted w T t (Fork parent) inv can = ((rw inv.made can.finds.1, omega (arith, can.finds.0, inv.made), refl), tt)
 permitted w T t ForkFull inv can = ((rw inv.made can.finds, refl), tt)
 permitted w T t (Claim q) inv can = ((claim_free w T q inv can.finds.2, refl), tt)
-permitted w T t (ClaimTaken q) inv can = (((claim_taken w T q inv can.finds.2).0, refl), tt)
+permitted w T t (ClaimTaken q) inv can = ((refused_claim w T t q inv can.stands, refl), tt)
 permitted w T t (IdGone q end) inv can = ((over_at w T q end inv can.finds.1, refl), tt)
 permitted w T t (StraySeq c p) inv can = (inv.conds.sleeper t c can.awake, refl)
 permitted w T t (Kill p) inv can = kill_permitted w T t p
@@ -298,5 +300,6 @@ good_start = record {
     learned = λ t q e. opening_case (λ y. HasJoined y.point q e → None ≡ Some e) (λ h. absurd h) (λ h. absurd h) t;
   };
   claims = λ q. refl;
+  refusals = record { refused = λ t. opening_case (λ y. RefusedAt (λ q. false) y.point) tt tt t };
   made = refl;
 }

@@ -11,7 +11,7 @@ use Rattle.protocol.specs.Moves.{Move, Own, Begin, Rebegin, Leave, Wait, Notify,
 use Rattle.protocol.specs.Moves.{CompareSwapBusy, CompareSwapHeld, LoadHeld, LoadFree, MarkDone, MarkFail, Sleep}
 use Rattle.protocol.specs.Moves.{Again, FreeGot, FreeFail, SwapWake, SwapAlone, Wake, SeqSleep, SeqAgain, WakeSeq}
 use Rattle.protocol.specs.Moves.{MoveAll, Kill, EntryAlone, EntryWake, PendAlone, PendWake, PendForeign, LastWake}
-use Rattle.protocol.specs.Moves.{Fork, ForkFull, Claim, ClaimTaken, IdGone, IdThere, IdSleep, IdAgain, LearnEnded}
+use Rattle.protocol.specs.Moves.{Fork, ForkFull, Claim, ReadClaimed, IdGone, IdThere, IdSleep, IdAgain, LearnEnded}
 use Rattle.protocol.specs.Moves.{LearnAborted}
 
 -- a thread's innermost monitor
@@ -74,7 +74,7 @@ Finds w t (Fork parent) =
 Finds w t ForkFull = most_processes ≤ w.made
 -- a handle that isn't empty names a process that was made
 Finds w t (Claim q) = (0 < q) × (q ≤ w.made) × (w.claim q ≡ 0)
-Finds w t (ClaimTaken q) = (0 < q) × (q ≤ w.made) × (w.claim q ≢ 0)
+Finds w t (ReadClaimed q) = (0 < q) × (q ≤ w.made) × (w.claim q ≢ 0)
 Finds w t (IdGone q end) = (w.id q ≡ 0) × (((w.at q).point ≡ LastWakes end) ⊎ ((w.at q).point ≡ HasEnded end))
 Finds w t (IdThere q) = w.id q ≢ 0
 Finds w t (IdSleep q) = w.id q ≡ q

@@ -74,6 +74,7 @@ pub data Move : Type 0 where
   Fork : (parent : ℕ) → Move
   ForkFull : Move
   Claim : (child : ℕ) → Move
+  ReadClaimed : (child : ℕ) → Move
   ClaimTaken : (child : ℕ) → Move
   IdGone : (child : ℕ) → End → Move
   IdThere : (child : ℕ) → Move

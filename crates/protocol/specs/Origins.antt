@@ -4,7 +4,8 @@ use Rattle.protocol.specs.Points.{ToExit, ToWait, NoEntry, Owned, Unowned, Spot,
 use Rattle.protocol.specs.Points.{Unmade, Runs, EnterPends, EnterTries, ReenterPends, ReenterTries, TakeReads}
 use Rattle.protocol.specs.Points.{TakeMarks, TakeSleeps, TakeTries, GotReads, GotLinks, GotHeads, GotUnpends}
 use Rattle.protocol.specs.Points.{WaitReads, NotifyAdds, NotifyWakes, BroadcastAdds, BroadcastMarks, BroadcastReads}
-use Rattle.protocol.specs.Points.{BroadcastMoves, JoinReads, JoinSleeps, JoinLearns, JoinTakes, LeavePends}
+use Rattle.protocol.specs.Points.{BroadcastMoves, JoinReads, JoinSleeps, JoinLearns, JoinTakes, MeetsClaimed}
+use Rattle.protocol.specs.Points.{LeavePends}
 use Rattle.protocol.specs.Points.{LeaveReads, LeaveHeads, LeaveSwaps, LeaveWakes, HasLeft, Dies, Walks, ClearsId}
 use Rattle.protocol.specs.Points.{LastWakes}
 use Rattle.protocol.specs.Moves.{Move, Own, Begin, Rebegin, Leave, Wait, Notify, Broadcast, Raise, SetPend}
@@ -14,7 +15,8 @@ use Rattle.protocol.specs.Moves.{ClearPend, PendAgain, ReadLink, CutHead, SwapWa
 use Rattle.protocol.specs.Moves.{SeqSleep, SeqAgain, AddSeq, WakeSeq, AddAll, OrLock, LoadSeq, MoveAll, Kill, Stray}
 use Rattle.protocol.specs.Moves.{StraySeq, StrayId, Return, WriteFault, SkipEntry, EntryAlone, EntryWake, PendNone}
 use Rattle.protocol.specs.Moves.{PendAlone, PendWake, PendForeign, ClearId, LastWake, Fork, ForkFull, Claim}
-use Rattle.protocol.specs.Moves.{ClaimTaken, IdGone, IdThere, IdSleep, IdAgain, LearnEnded, LearnAborted, TakeResult}
+use Rattle.protocol.specs.Moves.{ReadClaimed, ClaimTaken, IdGone, IdThere, IdSleep, IdAgain, LearnEnded}
+use Rattle.protocol.specs.Moves.{LearnAborted, TakeResult}
 
 -- the point of the thread that moves; of a fork the thread that is made, whose parent stays where it is
 abbrev pub from : Move → Point
@@ -77,7 +79,8 @@ from (LastWake end woken) = LastWakes end
 from (Fork parent) = Unmade
 from ForkFull = Runs
 from (Claim q) = Runs
-from (ClaimTaken q) = Runs
+from (ReadClaimed q) = Runs
+from (ClaimTaken q) = MeetsClaimed q
 from (IdGone q end) = JoinReads q
 from (IdThere q) = JoinReads q
 from (IdSleep q) = JoinSleeps q

@@ -61,6 +61,8 @@ pub data Point : Type 0 where
   JoinSleeps : (child : ℕ) → Point
   JoinLearns : (child : ℕ) → End → Point
   JoinTakes : (child : ℕ) → End → Point
+  -- it was refused a process that was claimed before, and its fault isn't met yet
+  MeetsClaimed : (child : ℕ) → Point
   -- leaving: the entry goes from the list, the lock word is swapped for 0, and one sleeper is woken where it had
   -- waiters
   LeavePends : (monitor : ℕ) → Release → Point

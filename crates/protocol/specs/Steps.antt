@@ -9,7 +9,8 @@ use Rattle.protocol.specs.Points.{ToEnter, ToReenter, ToResume, ToExit, ToWait, 
 use Rattle.protocol.specs.Points.{OnId, Point, Runs, EnterPends, EnterTries, ReenterPends, ReenterTries, TakeReads}
 use Rattle.protocol.specs.Points.{TakeMarks, TakeSleeps, TakeTries, GotReads, GotLinks, GotHeads, GotUnpends}
 use Rattle.protocol.specs.Points.{WaitReads, NotifyAdds, NotifyWakes, BroadcastAdds, BroadcastMarks, BroadcastReads}
-use Rattle.protocol.specs.Points.{BroadcastMoves, JoinReads, JoinSleeps, JoinLearns, JoinTakes, LeavePends}
+use Rattle.protocol.specs.Points.{BroadcastMoves, JoinReads, JoinSleeps, JoinLearns, JoinTakes, MeetsClaimed}
+use Rattle.protocol.specs.Points.{LeavePends}
 use Rattle.protocol.specs.Points.{LeaveReads, LeaveHeads, LeaveSwaps, LeaveWakes, HasLeft, Dies, Walks, ClearsId}
 use Rattle.protocol.specs.Points.{LastWakes, HasEnded, entry_at, thread_at}
 use Rattle.protocol.specs.World.{World, put_sequence, awake_after, requeued_sleep, tail}
@@ -20,7 +21,7 @@ use Rattle.protocol.specs.Moves.{PendAgain, ReadLink, CutHead, SwapWake, SwapAlo
 use Rattle.protocol.specs.Moves.{SeqAgain, AddSeq, WakeSeq, AddAll, OrLock, LoadSeq, MoveAll, Kill, Stray, StraySeq}
 use Rattle.protocol.specs.Moves.{StrayId, Return, WriteFault, SkipEntry, EntryAlone, EntryWake, PendNone, PendAlone}
 use Rattle.protocol.specs.Moves.{PendWake, PendForeign, ClearId, LastWake, Fork, ForkFull, Claim, ClaimTaken, IdGone}
-use Rattle.protocol.specs.Moves.{IdThere, IdSleep, IdAgain, LearnEnded, LearnAborted, TakeResult}
+use Rattle.protocol.specs.Moves.{ReadClaimed, IdThere, IdSleep, IdAgain, LearnEnded, LearnAborted, TakeResult}
 use Rattle.protocol.specs.Origins.{from, Awake}
 use Rattle.protocol.specs.Finds.{cause_word, Finds, HasNumber}
 
@@ -123,7 +124,8 @@ after w t (LastWake end woken) = go (record w { asleep = awake_after w.asleep wo
 after w t (Fork parent) = go_list (record w { id = put w.id t t; made = suc w.made }) t Runs []
 after w t ForkFull = go w t (Dies (Faulted ProcessTableFull) NoEntry)
 after w t (Claim q) = go (record w { claim = put w.claim q 1 }) t (JoinReads q)
-after w t (ClaimTaken q) = go (record w { claim = put w.claim q 1 }) t (Dies (Faulted HandleNotJoinable) NoEntry)
+after w t (ReadClaimed q) = go (record w { claim = put w.claim q 1 }) t (MeetsClaimed q)
+after w t (ClaimTaken q) = go w t (Dies (Faulted HandleNotJoinable) NoEntry)
 after w t (IdGone q end) = go w t (JoinLearns q end)
 after w t (IdThere q) = go w t (JoinSleeps q)
 after w t (IdSleep q) = go (record w { asleep = put w.asleep t (Some (OnId q)) }) t (JoinReads q)

@@ -1,4 +1,5 @@
-//! What the tests that run images by schedules share: the numbers that follow from a seed, and the threads drawn by them.
+//! What the tests that run images by schedules share: the numbers that follow from a seed, and the threads drawn by
+//! them.
 #![tactic(auto)]
 
 mod movers;
