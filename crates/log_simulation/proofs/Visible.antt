@@ -5,7 +5,7 @@ use Rattle.words.specs.declared.mem.Addr.{Addr}
 use Rattle.words.specs.LockWord.{owner_of}
 use Rattle.locals.specs.declared.request.Request.{Request}
 use Rattle.locals.specs.declared.request.Request.TheVariants as told
-use Rattle.locals.specs.Looks.{Request as RequestOf, Look, Goes, Asks, Leaves, Breaks, Rests}
+use Rattle.locals.specs.Looks.{Request as RequestOf, AskLoad, Look, Goes, Asks, Leaves, Breaks, Rests}
 use Rattle.locals.specs.Requests.{next_step_of, request_step}
 use Rattle.program.specs.Trees.{Program}
 use Rattle.proof_simulation.specs.Ordering.{completes}
@@ -28,6 +28,7 @@ taken p request a expected new value t same is here =
 
 by_request : (p : Program) (request : RequestOf) (v : ℕ) → visible_step p (request_step request) v
     ≡ completes p request v
+by_request p (AskLoad a) v = refl
 by_request p request v = refl
 
 -- the step of a thread that looks so
