@@ -4,3 +4,4 @@ pub mod Tests
 pub mod Images
 pub mod Orders
 pub mod Rising
+pub mod Collected

@@ -14,7 +14,7 @@ use scanner::{Place, Refusal, RefusalKind};
 use std::alloc::Global;
 
 // The refusal of pieces that don't have each number once.
-fn refuse_stray() -> Refusal
+pub(crate) fn refuse_stray() -> Refusal
     ensures { result ≡ stray }
 {
     Refusal {
