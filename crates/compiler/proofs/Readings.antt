@@ -31,7 +31,7 @@ pub read_whole : (text : List ℕ) (c : CheckedProgram) (lowered : Lowered) → 
     → Refines (said_by c) (code_of (said_by c)) → IsLowered (said_by c) lowered → IsReadLowered text c lowered
 read_whole text c lowered read refines is = record {
   accepts = read.accepts;
-  lowered = is;
+  code = is;
   compiled = record {
     program = said_by c;
     accepts = read.accepts;

@@ -27,5 +27,5 @@ pub record IsCompiled (text : List ℕ) (image : Image) : Type 0 where
 -- the text's checked program, and what it is lowered to
 pub record IsReadLowered (text : List ℕ) (c : CheckedProgram) (lowered : Lowered) : Type 0 where
   pub accepts : AcceptsText text (said_by c)
-  pub lowered : IsLowered (said_by c) lowered
+  pub code : IsLowered (said_by c) lowered
   pub compiled : IsCompiled text lowered.image

@@ -12,6 +12,6 @@ returns-clause-explained c =
       run = run_explained c.logs_are_machine_runs.ensures.runs c.args.text.now c.in_ok-checked.lowered.image
           c.args.limit
           c.in_ok-report.report read.compiled small c.in_ok-report.ensures;
-      explained = of_code (said_by c.in_ok-checked.checked) c.in_ok-checked.lowered.image _ _ _ read.lowered.image
+      explained = of_code (said_by c.in_ok-checked.checked) c.in_ok-checked.lowered.image _ _ _ read.code.image
           c.as_slice.ensures.value c.in_ok-actions.ensures;
     }
