@@ -68,7 +68,7 @@ fit_of q hs ks (Resumes m w) b T held moves fits none ends = tt
 -- variables of two monitors are written in either order
 with_swap : (v : Variables) (m n i : ℕ) (z : ℤ) (m' n' i' : ℕ) (z' : ℤ) (a b c : ℕ) → m ≢ m'
     → with_variable (with_variable v m n i z) m' n' i' z' a b c
-        ≡ with_variable (with_variable v m' n' i' z') m n i z a b c
+    ≡ with_variable (with_variable v m' n' i' z') m n i z a b c
 with_swap v m n i z m' n' i' z' a b c o = elim (cases_eq a m) [
   | inl e ↦ rw (ne_eqb a m' (λ x. o (sym e ∙ x))) refl
   | inr other ↦ rw (ne_eqb a m other) refl

@@ -99,7 +99,7 @@ module _ (p : Program) (wf : WellFormed p) (f : Fault) (kept : List SourceState)
             (like_bad p f idle.after (idle.later).0 (like_back (idle.later).0 idle.after (idle.later).2)
             (bad_after f (done ++ actions) e idle.after (act t calm.kind)
             (leads_both (opening p) s e done actions (alone_leads p (opening p) s done run)
-                (alone_leads p s e actions led))
+            (alone_leads p s e actions led))
             idle.moves bad))
         by_front (inr busy) =
             fewer (length busy.rest) (sym busy.shorter ∙ long) k busy.rest (done ++ act t busy.kind ∷ []) busy.next
