@@ -16,8 +16,8 @@ pub fn show_logs(rt: &HostRuntime, row: &str) -> Result<(), Failure> {
     let (count, most) = said.trim().split_once(' ').ok_or(Failure::Row)?;
     let count: u32 = count.parse().map_err(|_| Failure::Row)?;
     let most: u32 = most.parse().map_err(|_| Failure::Row)?;
-    let (checked, image) = compile_checked(rt.alloc(), text.as_bytes())?;
-    let trial = trial_of(rt.alloc(), &checked, &image, count, most)?;
+    let (checked, lowered) = compile_checked(rt.alloc(), text.as_bytes())?;
+    let trial = trial_of(rt.alloc(), &checked, &lowered.image, count, most)?;
     show_trial(rt, &trial)?;
     Ok(())
 }
