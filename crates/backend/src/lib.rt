@@ -4,4 +4,4 @@
 mod lowered;
 mod marking;
 
-pub use lowered::{Lowered, lower};
+pub use lowered::{Lowered, lower, lower_with};

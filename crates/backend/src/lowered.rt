@@ -1,12 +1,16 @@
-ghost use Rattle.std.specs.Prelude.{MatchResult};
+ghost use Rattle.std.specs.Prelude.{◌≡◌, ◌≤◌, map, MatchResult};
 ghost use Rattle.isa.specs.Programs.{IsProgram};
 ghost use Rattle.program.specs.Names.{said_by};
 ghost use Rattle.program.specs.WellFormed.{WellFormed};
+ghost use Rattle.lowering.specs.Layout.{layout_of};
+ghost use Rattle.codegen.specs.Generated.{piece_of, unlinked_pieces};
+ghost use Rattle.codegen_workers.specs.Limits.{most_workers};
 ghost use Rattle.backend.specs.Lowered.{IsLowered};
 ghost use Rattle.backend.specs.Refusals.{RefusesCode};
 
 use crate::marking::collect_marks;
-use codegen::generate;
+use codegen::{CodePiece, generate};
+use codegen_workers::generate_with;
 use isa::Image;
 use layout::{Layout, place};
 use linker::link;
@@ -14,6 +18,9 @@ use lowering::Mark;
 use program::Checked;
 use scanner::Refusal;
 use std::alloc::Global;
+use std::sync::Wait;
+use std::thread::Threads;
+use words::Gate;
 
 /// What a checked program is lowered to.
 #[derive(Drop)]
@@ -40,16 +47,19 @@ fn image_is_within_limits(image: &Image)
     image.code();
 }
 
-/// Lowers a checked program: its memory is laid out, the code of each of its pieces made, and the pieces linked.
-///
-/// `Limit` at 1:1 where its code has more than 65,536 instructions, and there alone. `Memory` may come at any point.
-pub fn lower(alloc: Global, checked: &Checked) -> Result<Lowered, Refusal>
+// What a checked program with these pieces is lowered to.
+fn assemble(
+    alloc: Global,
+    checked: &Checked,
+    layout: Layout,
+    pieces: Vec<CodePiece>,
+) -> Result<Lowered, Refusal>
+    requires layout { layout ≡ layout_of (said_by checked.now) }
+    requires pieces { map piece_of pieces.items ≡ unlinked_pieces (said_by checked.now) }
     ensures { let p = said_by checked.now in
         MatchResult result (λ lowered. IsLowered p lowered) (λ e. RefusesCode p e) }
 {
     checked_is_well_formed(checked);
-    let layout = place(alloc, checked)?;
-    let pieces = generate(alloc, checked, &layout)?;
     let marks = collect_marks(alloc, pieces.as_slice())?;
     let image = link(alloc, &layout, pieces)?;
     image_is_within_limits(&image);
@@ -58,4 +68,36 @@ pub fn lower(alloc: Global, checked: &Checked) -> Result<Lowered, Refusal>
         layout,
         marks,
     })
+}
+
+/// Lowers a checked program: its memory is laid out, the code of each of its pieces made, and the pieces linked.
+///
+/// `Limit` at 1:1 where its code has more than 65,536 instructions, and there alone. `Memory` may come at any point.
+pub fn lower(alloc: Global, checked: &Checked) -> Result<Lowered, Refusal>
+    ensures { let p = said_by checked.now in
+        MatchResult result (λ lowered. IsLowered p lowered) (λ e. RefusesCode p e) }
+{
+    let layout = place(alloc, checked)?;
+    let pieces = generate(alloc, checked, &layout)?;
+    assemble(alloc, checked, layout, pieces)
+}
+
+/// Lowers a checked program as `lower` does, to the same, with the code of its pieces made by this many workers, from 1
+/// to 64 (`codegen_workers::generate_with`).
+///
+/// `Memory` comes also where a worker can't be started.
+pub fn lower_with<R: Threads + Wait + Sync, G: Gate>(
+    rt: &R,
+    alloc: Global,
+    checked: &Checked,
+    workers: u32,
+    gate: &G,
+) -> Result<Lowered, Refusal>
+    requires { (1 ≤ workers) × (workers ≤ most_workers) }
+    ensures { let p = said_by checked.now in
+        MatchResult result (λ lowered. IsLowered p lowered) (λ e. RefusesCode p e) }
+{
+    let layout = place(alloc, checked)?;
+    let pieces = generate_with(rt, alloc, checked, &layout, workers, gate)?;
+    assemble(alloc, checked, layout, pieces)
 }

@@ -13,7 +13,7 @@ use Rattle.words.specs.declared.mem.Addr.{Addr}
 use Rattle.buckets.specs.declared.sleeper.Sleeper.{Sleeper}
 use Rattle.buckets.specs.Sleepers.{thread_on}
 use Rattle.buckets.specs.Lists.{among, Stand, IsConsistent}
-use Rattle.buckets.proofs.Fronts.{on}
+use Rattle.buckets.proofs.Queues.{on}
 use Rattle.buckets.proofs.Rows.{mod_lt}
 use Rattle.buckets.proofs.Changes.{Replaces}
 

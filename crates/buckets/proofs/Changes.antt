@@ -6,7 +6,7 @@ use Rattle.std.proofs.lemmas.List.{get_or-set_same, get_or-set_other, length-set
 use Rattle.words.specs.declared.mem.Addr.{Addr}
 use Rattle.buckets.specs.declared.sleeper.Sleeper.{Sleeper}
 use Rattle.buckets.specs.Lists.{concatenation, among, Stand, IsConsistent}
-use Rattle.buckets.proofs.Fronts.{on}
+use Rattle.buckets.proofs.Queues.{on}
 use Rattle.buckets.proofs.Rows.{on-concatenation}
 
 -- what a new table and a new list of bucket k owe, where n buckets are

@@ -9,7 +9,7 @@ use Rattle.words.specs.declared.mem.Addr.{Addr}
 use Rattle.buckets.specs.declared.sleeper.Sleeper.{Sleeper}
 use Rattle.buckets.specs.Places.{names}
 use Rattle.buckets.specs.Lists.{among, Stand, IsConsistent}
-use Rattle.buckets.proofs.Fronts.{on, on-here, on-elsewhere}
+use Rattle.buckets.proofs.Queues.{on, on-here, on-elsewhere}
 use Rattle.buckets.proofs.Rows.{mod_lt}
 use Rattle.buckets.proofs.Changes.{Replaces}
 
@@ -17,10 +17,10 @@ use Rattle.buckets.proofs.Changes.{Replaces}
 abbrev pub others : ℕ → List Sleeper → List Sleeper
 others t ss = filter (λ s. not (eqb s.thread t)) ss
 
-others-same : (t : ℕ) (s : Sleeper) (ss : List Sleeper) → s.thread ≡ t → others t (s ∷ ss) ≡ others t ss
+pub others-same : (t : ℕ) (s : Sleeper) (ss : List Sleeper) → s.thread ≡ t → others t (s ∷ ss) ≡ others t ss
 others-same t s ss e = rw (eq-eqb s.thread t e) refl
 
-others-kept : (t : ℕ) (s : Sleeper) (ss : List Sleeper) → s.thread ≢ t → others t (s ∷ ss) ≡ s ∷ others t ss
+pub others-kept : (t : ℕ) (s : Sleeper) (ss : List Sleeper) → s.thread ≢ t → others t (s ∷ ss) ≡ s ∷ others t ss
 others-kept t s ss ne = rw (ne_eqb s.thread t ne) refl
 
 pub filter-absent : (t : ℕ) (xs : List ℕ) → names xs t ≡ false → filter (λ u. not (eqb u t)) xs ≡ xs

@@ -1,8 +1,13 @@
 pub mod Arrivals
 pub mod Changes
 pub mod Drops
-pub mod Fronts
+pub mod Finds
+pub mod Links
 pub mod Moves
+pub mod Once
 pub mod Outcomes
+pub mod Queues
 pub mod Rows
+pub mod Segments
+pub mod Stores
 pub mod Takes

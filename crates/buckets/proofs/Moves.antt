@@ -1,14 +1,14 @@
 -- Threads that were taken come to the end of another list, one after another.
-use Rattle.std.proofs.Common.{◌≡◌, ◌≢◌, ℕ, zero, suc, ◌+◌, ◌<◌, ◌≤◌, Bool, true, false, ◌||◌, cond, eqb, Option, Some}
+use Rattle.std.proofs.Common.{◌≡◌, ◌≢◌, ℕ, zero, suc, ◌+◌, ◌<◌, ◌≤◌, Bool, true, false, cond, eqb, Option, Some}
 use Rattle.std.proofs.Common.{None, List, [], ◌∷◌, ◌++◌, length, get_or, take, drop, refl, sym, ap, ◌∙◌, arith}
 use Rattle.std.specs.List.{IsDistinct, AllByRecursion}
 use Rattle.std.proofs.Math.Path.{fun_ext}
 use Rattle.std.proofs.lemmas.Bool.{or_from, both_ways, false_from_ne_true, eq-eqb, eqb-true}
-use Rattle.std.proofs.lemmas.List.{append_assoc, append-nil, take_more, take_all, drop_min, length-take}
-use Rattle.std.proofs.lemmas.List.Folds.{list_any-append}
+use Rattle.std.proofs.lemmas.List.{append_assoc, append-nil, take_more, take_all}
 use Rattle.buckets.specs.Places.{names, with_place}
 use Rattle.buckets.specs.Sleepers.{Sleepers, queue, place_of, thread_count, IsSound}
-use Rattle.buckets.proofs.Takes.{names-take}
+use Rattle.buckets.proofs.Takes.{names-take, with_place-append}
+pub use Rattle.buckets.proofs.Takes.{drop-take_length}
 use Rattle.buckets.proofs.Outcomes.{names-get_or, Taken}
 
 -- after the first i of those moved came to b
@@ -55,15 +55,6 @@ IsDistinct-take (suc n) (x ∷ xs) h = (some n xs h.0, IsDistinct-take n xs h.1)
   some zero ys a = tt
   some (suc m) [] a = tt
   some (suc m) (y ∷ ys) a = (a.0, some m ys a.1)
-
-pub with_place-append : (asleep : ℕ → Option ℕ) (xs : List ℕ) (t : ℕ) (p : Option ℕ) → with_place
-    (with_place asleep xs p) (t ∷ []) p ≡ with_place asleep (xs ++ t ∷ []) p
-with_place-append asleep xs t p = fun_ext (λ u. rw (list_any-append (eqb u) xs (t ∷ []))
-    (both p (asleep u) (names xs u) (names (t ∷ []) u))) where
-      both : {A : Type 0} (x y : A) (b c : Bool) → cond c x (cond b x y) ≡ cond (b || c) x y
-      both x y true true = refl
-      both x y true false = refl
-      both x y false c = refl
 
 pub Moved-more : (s s' s'' : Sleepers) (moved : List ℕ) (b i t : ℕ) → Moved s s' moved b i → i < length moved → t
     ≡ get_or moved i t
@@ -113,9 +104,6 @@ pub record Shifted (o s : Sleepers) (moved : List ℕ) (a b : ℕ) : Type 0 wher
   pub others : (d : ℕ) → d ≢ a → d ≢ b → queue s d ≡ queue o d
   pub places : place_of s ≡ with_place (place_of o) moved (Some b)
   pub threads : thread_count s ≡ thread_count o
-
-pub drop-take_length : (n : ℕ) (xs : List ℕ) → drop n xs ≡ drop (length (take n xs)) xs
-drop-take_length n xs = sym (drop_min n xs) ∙ ap (λ k. drop k xs) (sym (length-take n xs))
 
 pub Moved-all : (o s s' : Sleepers) (moved : List ℕ) (a b n i : ℕ) → a ≢ b → Taken o s moved a n → Moved s s' moved b
     i → length moved ≤ i → Shifted o s' moved a b

@@ -12,7 +12,7 @@ use Rattle.buckets.specs.declared.sleeper.Sleeper.{Sleeper}
 use Rattle.buckets.specs.Places.{names}
 use Rattle.buckets.specs.Sleepers.{thread_on, queue, place_of, thread_count, IsSound}
 use Rattle.buckets.specs.Lists.{concatenation, among, Stand, IsConsistent}
-use Rattle.buckets.proofs.Fronts.{on, on-here, on-elsewhere}
+use Rattle.buckets.proofs.Queues.{on, on-here, on-elsewhere}
 
 -- no list of another bucket has a sleeper on the address
 pub on-away : (places : List (Option Addr)) (n k b : ℕ) (ss : List Sleeper) → Stand places n k ss → b % n ≢ k → on b

@@ -1,46 +1,15 @@
--- The first sleepers on an address leave their bucket's list.
-use Rattle.std.proofs.Common.{◌≡◌, ◌≢◌, ℕ, zero, suc, ◌-◌, ◌<◌, ◌%◌, true, false, cond, eqb, Option, Some, None, List}
-use Rattle.std.proofs.Common.{[], ◌∷◌, length, get_or, take, drop, refl, sym, ap, ◌∙◌, arith, ◌⊎◌, inl, inr}
-use Rattle.std.specs.Option.{option_map}
-use Rattle.std.proofs.lemmas.Bool.{cases_eq, cases_lt, cases_Bool, or_cases, or_parts, or_left, or_right, or_from}
-use Rattle.std.proofs.lemmas.Bool.{both_ways, false_from_ne_true, eqb-true, eq-eqb}
-use Rattle.words.specs.declared.mem.Addr.{Addr}
-use Rattle.buckets.specs.declared.sleeper.Sleeper.{Sleeper}
-use Rattle.buckets.specs.Places.{names}
-use Rattle.buckets.specs.Lists.{without, among, Stand, IsConsistent}
-use Rattle.buckets.proofs.Fronts.{on, on-here, on-elsewhere, IsPassed, without-taken, without-kept, take-cons}
-use Rattle.buckets.proofs.Fronts.{take-passed}
-use Rattle.buckets.proofs.Rows.{mod_lt, place-on, among-on}
-use Rattle.buckets.proofs.Changes.{Replaces}
-
--- an element is taken or passed over
-taken_or : (a n : ℕ) (s : Sleeper) → ((s.address.0 ≡ a) × (0 < n)) ⊎ IsPassed a n s
-taken_or a n s = elim (cases_eq s.address.0 a) [
-  | inl e ↦ elim (cases_lt 0 n) [
-    | inl l ↦ inl (e, l)
-    | inr z ↦ inr
-        (inr (omega arith))
-  ]
-  | inr ne ↦ inr (inl ne)
-]
-
-take-on : (a n : ℕ) (s : Sleeper) (ss : List Sleeper) → s.address.0 ≡ a → 0 < n → take n (on a (s ∷ ss)) ≡ s.thread ∷
-    take (n - 1) (on a ss)
-take-on a n s ss e l = rw (on-here a s ss e) (take-cons n s.thread (on a ss) l)
-
-drop-cons : (n x : ℕ) (xs : List ℕ) → 0 < n → drop n (x ∷ xs) ≡ drop (n - 1) xs
-drop-cons zero x xs h = absurd (omega arith)
-drop-cons (suc n) x xs h = ap (λ k. drop k xs) (omega arith)
-
-pub among-without : (a n t : ℕ) (ss : List Sleeper) → among t (without a n ss) ≡ true → among t ss ≡ true
-among-without a n t [] h = h
-among-without a n t (s ∷ ss) h = elim (taken_or a n s) [
-  | inl p ↦ or_right (eqb t s.thread) _ (among-without a (n - 1) t ss (rw (without-taken a n s ss p.0 p.1) at h))
-  | inr p ↦ elim (or_cases (eqb t s.thread) (among t (without a n ss)) (rw (without-kept a n s ss p) at h)) [
-    | inl q ↦ or_left (eqb t s.thread) _ q
-    | inr q ↦ or_right (eqb t s.thread) _ (among-without a n t ss q)
-  ]
-]
+-- The first sleepers on an address leave it one after another.
+use Rattle.std.proofs.Common.{◌≡◌, ◌≢◌, ℕ, zero, suc, ◌+◌, ◌<◌, ◌≤◌, Bool, true, false, ◌||◌, not, cond, eqb, Option}
+use Rattle.std.proofs.Common.{None, List, [], ◌∷◌, ◌++◌, length, get_or, take, drop, refl, sym, ap, ◌∙◌, arith, inl, inr}
+use Rattle.std.specs.List.{filter, IsDistinct, AllByRecursion}
+use Rattle.std.proofs.Math.Path.{fun_ext}
+use Rattle.std.proofs.lemmas.Bool.{or_cases, or_left, or_right, or_from, false_from_ne_true, eq-eqb}
+use Rattle.std.proofs.lemmas.List.{take_more, take_all, drop_more, drop_min, length-take}
+use Rattle.std.proofs.lemmas.List.Folds.{list_any-append}
+use Rattle.buckets.specs.Places.{names, with_place}
+use Rattle.buckets.specs.Sleepers.{Sleepers, queue, place_of, thread_count, IsSound}
+use Rattle.buckets.proofs.Drops.{filter-absent}
+use Rattle.buckets.proofs.Outcomes.{names-get_or, Taken, Dropped}
 
 pub names-take : (n t : ℕ) (xs : List ℕ) → names (take n xs) t ≡ true → names xs t ≡ true
 names-take zero t xs h = absurd cc
@@ -50,121 +19,101 @@ names-take (suc n) t (x ∷ xs) h = elim (or_cases (eqb t x) (names (take n xs) 
   | inr q ↦ or_right (eqb t x) _ (names-take n t xs q)
 ]
 
--- who was taken has left the list, since nobody stands there twice
-pub without-apart : (places : List (Option Addr)) (b k a n t : ℕ) (ss : List Sleeper) → Stand places b k ss → among t
-    (without a n ss) ≡ true → names (take n (on a ss)) t ≡ false
-without-apart places b k a n t [] st h = absurd cc
-without-apart places b k a n t (s ∷ ss) st h = elim (taken_or a n s) [
-  | inl p ↦ let h' : among t (without a (n - 1) ss) ≡ true = rw (without-taken a n s ss p.0 p.1) at h in
-      rw (take-on a n s ss p.0 p.1) (or_from (eqb t s.thread) _
-      (false_from_ne_true _ (λ q. let same = eqb-true t s.thread q in both_ways (among s.thread ss) st.2
-      (rw same at (among-without a (n - 1) t ss h')))) (without-apart places b k a (n - 1) t ss st.3 h'))
-  | inr p ↦ rw (take-passed a n s ss p) (elim (or_cases (eqb t s.thread) (among t (without a n ss))
-      (rw (without-kept a n s ss p) at h)) [
-        | inl q ↦ let same = eqb-true t s.thread q in rw same (false_from_ne_true _ (λ g. both_ways (among s.thread ss)
-            st.2 (among-on a s.thread ss (names-take n s.thread (on a ss) g))))
-        | inr q ↦ without-apart places b k a n t ss st.3 q
-      ])
-]
+pub with_place-append : (asleep : ℕ → Option ℕ) (xs : List ℕ) (t : ℕ) (p : Option ℕ) → with_place
+    (with_place asleep xs p) (t ∷ []) p ≡ with_place asleep (xs ++ t ∷ []) p
+with_place-append asleep xs t p = fun_ext (λ u. rw (list_any-append (eqb u) xs (t ∷ []))
+    (both p (asleep u) (names xs u) (names (t ∷ []) u))) where
+      both : {A : Type 0} (x y : A) (b c : Bool) → cond c x (cond b x y) ≡ cond (b || c) x y
+      both x y true true = refl
+      both x y true false = refl
+      both x y false c = refl
 
--- who was not taken is still there
-pub without-rest : (a n t : ℕ) (ss : List Sleeper) → among t ss ≡ true → names (take n (on a ss)) t ≡ false → among t
-    (without a n ss) ≡ true
-without-rest a n t [] h g = h
-without-rest a n t (s ∷ ss) h g = elim (taken_or a n s) [
-  | inl p ↦ let g' = or_parts (eqb t s.thread) _ (rw (take-on a n s ss p.0 p.1) at g) in
-      rw (without-taken a n s ss p.0 p.1) (elim (or_cases (eqb t s.thread) (among t ss) h) [
-        | inl q ↦ absurd (both_ways (eqb t s.thread) g'.0 q)
-        | inr q ↦ without-rest a (n - 1) t ss q g'.1
-      ])
-  | inr p ↦ rw (without-kept a n s ss p) (elim (or_cases (eqb t s.thread) (among t ss) h) [
-    | inl q ↦ or_left (eqb t s.thread) _ q
-    | inr q ↦ or_right (eqb t s.thread) _ (without-rest a n t ss q (rw (take-passed a n s ss p) at g))
-  ])
-]
+none_named : (t : ℕ) (ts : List ℕ) → AllByRecursion (λ y. eqb t y ≡ false) ts → names ts t ≡ false
+none_named t [] h = refl
+none_named t (x ∷ xs) h = or_from (eqb t x) _ h.0 (none_named t xs h.1)
 
--- the list of the address loses its front, and each other list stays
-pub on-without : (a n : ℕ) (ss : List Sleeper) → on a (without a n ss) ≡ drop n (on a ss)
-on-without a zero [] = refl
-on-without a (suc n) [] = refl
-on-without a n (s ∷ ss) = elim (taken_or a n s) [
-  | inl p ↦ rw (without-taken a n s ss p.0 p.1, on-here a s ss p.0, drop-cons n s.thread (on a ss) p.1)
-      (on-without a (n - 1) ss)
-  | inr (inl ne) ↦ rw (without-kept a n s ss (inl ne), on-elsewhere a s (without a n ss) ne, on-elsewhere a s ss ne)
-      (on-without a n ss)
-  | inr (inr z) ↦ rw (without-kept a n s ss (inr z), z) (ap (on a) (ap (λ x. s ∷ x) (without-none a ss)))
-] where
-  without-none : (b : ℕ) (xs : List Sleeper) → without b 0 xs ≡ xs
-  without-none b [] = refl
-  without-none b (x ∷ xs) = without-kept b 0 x xs (inr refl) ∙ ap (λ y. x ∷ y) (without-none b xs)
+distinct-drop : (i : ℕ) (xs : List ℕ) → IsDistinct eqb xs → IsDistinct eqb (drop i xs)
+unfolding IsDistinct
+distinct-drop zero xs h = h
+distinct-drop (suc i) [] h = h
+distinct-drop (suc i) (x ∷ xs) h = distinct-drop i xs h.1
 
-pub on-without_other : (a n b : ℕ) (ss : List Sleeper) → b ≢ a → on b (without a n ss) ≡ on b ss
-on-without_other a n b [] ne = refl
-on-without_other a n b (s ∷ ss) ne = elim (taken_or a n s) [
-  | inl p ↦ rw (without-taken a n s ss p.0 p.1) (on-without_other a (n - 1) b ss ne
-      ∙ sym (on-elsewhere b s ss (λ e. ne (sym e ∙ p.0))))
-  | inr p ↦ rw (without-kept a n s ss p) (elim (cases_eq s.address.0 b) [
-    | inl e ↦ rw (on-here b s (without a n ss) e, on-here b s ss e)
-        (ap (λ x. s.thread ∷ x) (on-without_other a n b ss ne))
-    | inr o ↦ rw (on-elsewhere b s (without a n ss) o, on-elsewhere b s ss o) (on-without_other a n b ss ne)
-  ])
-]
+-- who heads a list without repeats leaves its rest
+filter-head : (t : ℕ) (xs : List ℕ) → IsDistinct eqb (t ∷ xs) → filter (λ u. not (eqb u t)) (t ∷ xs) ≡ xs
+unfolding IsDistinct
+filter-head t xs h = rw (eq-eqb t t refl) (filter-absent t xs (none_named t xs h.0))
 
-stand-without : (places places' : List (Option Addr)) (b k a n : ℕ) (ss : List Sleeper)
-    → ((t : ℕ) → among t (without a n ss) ≡ true → get_or places' t None ≡ get_or places t None) → Stand places b k
-    ss → Stand places' b k (without a n ss)
-stand-without places places' b k a n [] same st = tt
-stand-without places places' b k a n (s ∷ ss) same st = elim (taken_or a n s) [
-  | inl p ↦ let eq = without-taken a n s ss p.0 p.1 in rw eq (stand-without places places' b k a (n - 1) ss
-      (λ t h. same t (rw eq h)) st.3)
-  | inr p ↦ let eq = without-kept a n s ss p in rw eq (
-    st.0,
-    same s.thread (rw eq (or_left (eqb s.thread s.thread) _ (eq-eqb s.thread s.thread refl))) ∙ st.1,
-    false_from_ne_true _ (λ h. both_ways (among s.thread ss) st.2 (among-without a n s.thread ss h)),
-    stand-without places places' b k a n ss (λ t h. same t (rw eq (or_right (eqb t s.thread) _ h))) st.3,
-  )
-]
+pub drop-take_length : (n : ℕ) (xs : List ℕ) → drop n xs ≡ drop (length (take n xs)) xs
+drop-take_length n xs = sym (drop_min n xs) ∙ ap (λ k. drop k xs) (sym (length-take n xs))
 
--- the table of places without the threads taken
-abbrev pub IsCleared : (places places' : List (Option Addr)) → List ℕ → Type 0
-IsCleared places places' taken = (t : ℕ) → get_or places' t None ≡ cond (names taken t) None (get_or places t None)
+-- after the first i of those taken left
+pub record Left (s s' : Sleepers) (taken : List ℕ) (a i : ℕ) : Type 0 where
+  pub within : i ≤ length taken
+  pub rest : queue s' a ≡ drop i (queue s a)
+  pub others : (b : ℕ) → b ≢ a → queue s' b ≡ queue s b
+  pub places : place_of s' ≡ with_place (place_of s) (take i taken) None
+  pub threads : thread_count s' ≡ thread_count s
+  pub sound : IsSound s'
 
-pub leaves : (places places' : List (Option Addr)) (rows : List (List Sleeper)) (a n : ℕ) → IsConsistent places rows
-    → length places' ≡ length places → IsCleared places places' (take n (on a (get_or rows (a % length rows) [])))
-    → Replaces places places' (length rows) (a % length rows) (without a n (get_or rows (a % length rows) []))
-leaves places places' rows a n i long cleared =
-    let st = i.stand (a % length rows) (mod_lt a (length rows) i.some) in
+pub Left-none : (s : Sleepers) (taken : List ℕ) (a : ℕ) → IsSound s → Left s s taken a 0
+Left-none s taken a ok = record {
+  within = omega arith;
+  rest = refl;
+  others = λ b ne. refl;
+  places = refl;
+  threads = refl;
+  sound = ok;
+}
+
+get_or-take : (n i d : ℕ) (xs : List ℕ) → i < length (take n xs) → (i < length xs)
+    × (get_or (take n xs) i d ≡ get_or xs i d)
+get_or-take zero i d xs l = absurd (omega (arith, l))
+get_or-take (suc n) i d [] l = absurd (omega (arith, l))
+get_or-take (suc n) zero d (x ∷ xs) l = (omega arith, refl)
+get_or-take (suc n) (suc i) d (x ∷ xs) l = let r = get_or-take n i d xs (omega (arith, l)) in (omega (arith, r.0), r.1)
+
+-- the next of those taken is a thread
+pub Left-next : (s s' : Sleepers) (taken : List ℕ) (a n i t : ℕ) → IsSound s → taken ≡ take n (queue s a) → Left s s'
+    taken a i → i < length taken → t ≡ get_or taken i t → t ≤ thread_count s'
+Left-next s s' taken a n i t ok is l h e =
+    let named : names (queue s a) t ≡ true = names-take n t (queue s a) (rw (← is, e) (names-get_or taken i t h)) in
+    omega (arith, (ok.in_range t a (ok.agree.sleeps t a named)).1, l.threads)
+
+pub Left-more : (s s' s'' : Sleepers) (taken : List ℕ) (a n i t : ℕ) → IsSound s → taken ≡ take n (queue s a)
+    → Left s s' taken a i → i < length taken → t ≡ get_or taken i t → Dropped s' s'' t → Left s s'' taken a (i + 1)
+Left-more s s' s'' taken a n i t ok is l h e d =
+    let q = queue s a in
+    let g = get_or-take n i t q (rw is at h) in
+    let head : drop i q ≡ t ∷ drop (i + 1) q = drop_more q i t g.0
+    ∙ ap (λ x. x ∷ drop (i + 1) q) (sym g.1 ∙ ap (λ x. get_or x i t) (sym is) ∙ sym e) in
+    let named : names q t ≡ true = names-take n t q (rw (← is) (rw e (names-get_or taken i t h))) in
+    let more : take (i + 1) taken ≡ take i taken ++ t ∷ [] = take_more taken i t h ∙ ap (λ x. take i taken ++ x ∷ [])
+    (sym e) in
     record {
-      long = long;
-      no_zero = elim (cases_Bool (names taken 0)) [ inl h ↦ gone 0 h | inr h ↦ still 0 h ∙ i.no_zero ];
-      kept = λ t b h ne. elim (cases_Bool (names taken t)) [
-        | inl q ↦ absurd (ne (let at = place-on places (length rows) (a % length rows) a t row st
-            (names-take n t (on a row) q) in ap (λ x. x % length rows) (same_address t b h at)))
-        | inr q ↦ still t q ∙ h
-      ];
-      back = λ t b h ne. was t b h;
-      stand = stand-without places places' (length rows) (a % length rows) a n row
-          (λ t h. still t (without-apart places (length rows) (a % length rows) a n t row st h)) st;
-      found = λ t b h e. without-rest a n t row (rw e at (i.found t b (was t b h))) (untaken t b h);
-    } where
-      row : List Sleeper
-      row = get_or rows (a % length rows) []
+      within = omega (arith, h);
+      rest = d.queues a ∙ ap (filter (λ u. not (eqb u t))) (l.rest ∙ head)
+          ∙ filter-head t (drop (i + 1) q) (rw head at (distinct-drop i q (ok.agree.distinct a)));
+      others = λ b ne. d.queues b ∙ ap (filter (λ u. not (eqb u t))) (l.others b ne) ∙ filter-absent t (queue s b)
+          (false_from_ne_true _ (λ r. ne (let there = ok.agree.sleeps t a named in
+          let also = ok.agree.sleeps t b r in cc)));
+      places = d.places ∙ ap (λ p. with_place p (t ∷ []) None) l.places ∙ with_place-append (place_of s)
+          (take i taken) t None ∙ ap (λ x. with_place (place_of s) x None) (sym more);
+      threads = d.threads ∙ l.threads;
+      sound = d.sound.1;
+    }
 
-      taken : List ℕ
-      taken = take n (on a row)
-
-      gone : (t : ℕ) → names taken t ≡ true → get_or places' t None ≡ None
-      gone t h = cleared t ∙ ap (λ b. cond b None (get_or places t None)) h
-
-      still : (t : ℕ) → names taken t ≡ false → get_or places' t None ≡ get_or places t None
-      still t h = cleared t ∙ ap (λ b. cond b None (get_or places t None)) h
-
-      untaken : (t : ℕ) (b : Addr) → get_or places' t None ≡ Some b → names taken t ≡ false
-      untaken t b h = false_from_ne_true _ (λ q. let none = gone t q in cc)
-
-      was : (t : ℕ) (b : Addr) → get_or places' t None ≡ Some b → get_or places t None ≡ Some b
-      was t b h = sym (still t (untaken t b h)) ∙ h
-
-      same_address : (t : ℕ) (b : Addr) → get_or places t None ≡ Some b → option_map (λ x. x.0)
-          (get_or places t None) ≡ Some a → b.0 ≡ a
-      same_address t b h g = let at : Some b.0 ≡ Some a = rw h at g in cc
+-- all of them left
+pub Left-all : (s s' : Sleepers) (taken : List ℕ) (a n i : ℕ) → IsSound s → taken ≡ take n (queue s a) → Left s s' taken
+    a i → length taken ≤ i → Taken s s' taken a n
+Left-all s s' taken a n i ok is l h =
+    let whole : take i taken ≡ taken = take_all i taken h in
+    let i_is : i ≡ length taken = omega (arith, h, l.within) in
+    record {
+      taken = is;
+      rest = l.rest ∙ ap (λ k. drop k (queue s a)) i_is ∙ sym (drop-take_length n (queue s a)
+          ∙ ap (λ x. drop (length x) (queue s a)) (sym is));
+      others = l.others;
+      places = l.places ∙ ap (λ x. with_place (place_of s) x None) whole;
+      threads = l.threads;
+      sound = (ok, l.sound);
+    }

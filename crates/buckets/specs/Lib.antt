@@ -1,4 +1,5 @@
 pub mod BucketCount
+pub mod Chains
 pub mod Lists
 pub mod Places
 pub mod Sleepers

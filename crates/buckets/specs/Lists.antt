@@ -1,15 +1,10 @@
 -- The lists of the buckets, in each of which sleepers of several addresses stand, and the table of the threads' places.
-use Rattle.std.specs.Prelude.{◌≡◌, ℕ, ◌+◌, ◌-◌, ◌<◌, ◌≤◌, ◌%◌, Bool, false, ◌&&◌, ◌==◌, nat_lt, nat_eq, if◌then◌else◌}
+use Rattle.std.specs.Prelude.{◌≡◌, ℕ, ◌+◌, ◌<◌, ◌≤◌, ◌%◌, Bool, false, nat_eq}
 use Rattle.std.specs.Prelude.{Option, Some, None, List, [], ◌∷◌, length, slice_index_or, IsTrue, ⊤}
 use Rattle.std.specs.List.{flat_map, list_any}
 use Rattle.words.specs.Limits.{most_processes}
 use Rattle.words.specs.declared.mem.Addr.{Addr}
 use Rattle.buckets.specs.declared.sleeper.Sleeper.{Sleeper}
-
--- what is left of a list without the first n sleepers on an address
-abbrev pub without : ℕ → ℕ → List Sleeper → List Sleeper
-without a n [] = []
-without a n (s ∷ ss) = if (s.address.0 == a) && nat_lt 0 n then without a (n - 1) ss else s ∷ without a n ss
 
 -- the lists of the buckets, one after another
 abbrev pub concatenation : List (List Sleeper) → List Sleeper

@@ -6,40 +6,45 @@ ghost use Rattle.buckets.specs.Places.{with_place};
 ghost use Rattle.buckets.specs.Sleepers.{queue, place_of, thread_count, IsSound};
 ghost use Rattle.buckets.specs.BucketCount.{IsBucketCount};
 
-use crate::list::{bucket_of, clear_places, count_on, empty_lists, nth_on, take_front};
+use crate::chain::{append, bucket_of, threads_on, unlink};
+use crate::node::{Chain, Node};
 use crate::sleeper::Sleeper;
 use crate::thread_list::{MOST_THREADS, ThreadList};
+use slab::Slab;
 use std::alloc::{AllocError, Global};
 use std::marker::Model;
 use words::Addr;
 
 /// The threads that sleep, in buckets: for each address a list of its sleepers, in the order in which they came to it.
 /// A thread stands in at most one list. Contracts read the list of an address by `queue`, and the address on which a
-/// thread sleeps by `place_of`. After `new` no call takes memory.
+/// thread sleeps by `place_of`. After `new` no call takes memory: what it takes grows with the threads, and with the
+/// buckets by two keys each.
 #[derive(Drop)]
 pub struct Buckets {
     alloc: Global,
-    // The sleepers of each bucket, in the order of their arrival, with room for all threads in each.
-    lists: Vec<Vec<Sleeper>>,
+    // A node for each sleeper, with room for all threads.
+    nodes: Slab<Node>,
+    // The chain of each bucket's nodes.
+    chains: Vec<Chain>,
     // For each thread from 0 where it sleeps. There is no thread 0.
     places: Vec<Option<Addr>>,
 }
 
 impl Model for Buckets {
-    ghost use Rattle.std.specs.Prelude.{◌+◌, ◌≤◌, map, vec_len, vec_capacity};
-    ghost use Rattle.std.specs.List.{All};
+    ghost use Rattle.std.specs.Prelude.{◌-◌, length};
+    ghost use Rattle.slab.specs.Slab.{get};
     ghost use Rattle.buckets.specs.Sleepers.{Sleepers};
-    ghost use Rattle.buckets.specs.Lists.{concatenation, IsConsistent};
+    ghost use Rattle.buckets.specs.Lists.{concatenation};
+    ghost use Rattle.buckets.specs.Chains.{rows, IsStored};
 
     ghost Value = { Sleepers };
 
     ghost view = { λ b. record {
       places = b.places.items;
-      waiting = concatenation (map (λ v. v.items) b.lists.items);
+      waiting = concatenation (rows (get b.nodes) (length b.places.items - 1) b.chains.items);
     } };
 
-    ghost invariant = { λ b. IsConsistent b.places.items (map (λ v. v.items) b.lists.items)
-        × All (λ v. vec_len b.places ≤ vec_capacity v + 1) b.lists.items };
+    ghost invariant = { λ b. IsStored b.nodes b.chains.items b.places.items };
 }
 
 impl Buckets {
@@ -61,7 +66,11 @@ impl Buckets {
     {
         Ok(Buckets {
             alloc,
-            lists: empty_lists(alloc, n, threads)?,
+            nodes: Slab::with_capacity(alloc, threads as usize)?,
+            chains: vec![in alloc; Chain {
+                first: None,
+                last: None
+            }; n as usize]?,
             places: vec![in alloc; None; threads as usize + 1]?,
         })
     }
@@ -74,12 +83,27 @@ impl Buckets {
         ThreadList::new(self.alloc)
     }
 
+    // The threads that sleep on `a`.
+    fn threads_at(&self, a: Addr) -> ThreadList
+        ensures value { result ≡ queue self.now a.0 }
+        ensures sound { IsSound self.now }
+    {
+        let bucket = bucket_of(a, self.chains.len());
+        threads_on(
+            self.alloc,
+            &self.nodes,
+            self.chains[bucket],
+            self.places.len() - 1,
+            a,
+        )
+    }
+
     /// How many threads sleep on `a`.
     pub fn sleepers(&self, a: Addr) -> usize
         ensures count { result ≡ length (queue self.now a.0) }
         ensures sound { IsSound self.now }
     {
-        count_on(&self.lists[bucket_of(a, self.lists.len())], a)
+        self.threads_at(a).len()
     }
 
     /// The thread at place `i`, from 0, of the list of `a`, if there are more than `i`.
@@ -87,7 +111,7 @@ impl Buckets {
         ensures value { result ≡ slice_get (queue self.now a.0) i }
         ensures sound { IsSound self.now }
     {
-        nth_on(&self.lists[bucket_of(a, self.lists.len())], a, i)
+        self.threads_at(a).as_slice().get(i).copied()
     }
 
     /// Where the thread sleeps, if it does.
@@ -109,11 +133,12 @@ impl Buckets {
         ensures threads { thread_count self.new ≡ thread_count self.old }
         ensures sound { IsSound self.old × IsSound self.new }
     {
-        let bucket = bucket_of(a, self.lists.len());
-        self.lists[bucket].push_reserved(Sleeper {
+        let bucket = bucket_of(a, self.chains.len());
+        let sleeper = Sleeper {
             thread: t,
             address: a,
-        });
+        };
+        self.chains[bucket] = append(&mut self.nodes, self.chains[bucket], sleeper);
         self.places[t as usize] = Some(a);
     }
 
@@ -126,9 +151,11 @@ impl Buckets {
         ensures threads { thread_count self.new ≡ thread_count self.old }
         ensures sound { IsSound self.old × IsSound self.new }
     {
-        let bucket = bucket_of(a, self.lists.len());
-        let taken = take_front(self.alloc, &mut self.lists[bucket], a, n);
-        clear_places(&mut self.places, taken.as_slice());
+        let mut taken = self.threads_at(a);
+        taken.truncate(n as usize);
+        for t in taken.as_slice() {
+            self.drop_out(*t);
+        }
         taken
     }
 
@@ -164,8 +191,9 @@ impl Buckets {
         ensures sound { IsSound self.old × IsSound self.new }
     {
         if let Some(a) = self.places[t as usize] {
-            let bucket = bucket_of(a, self.lists.len());
-            self.lists[bucket].retain(|s| s.thread != t);
+            let bucket = bucket_of(a, self.chains.len());
+            let most = self.places.len() - 1;
+            self.chains[bucket] = unlink(&mut self.nodes, self.chains[bucket], most, t);
             self.places[t as usize] = None;
         }
     }

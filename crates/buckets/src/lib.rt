@@ -2,7 +2,8 @@
 #![tactic(auto)]
 
 mod buckets;
-mod list;
+mod chain;
+mod node;
 mod sleeper;
 mod thread_list;
 

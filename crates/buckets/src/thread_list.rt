@@ -1,4 +1,4 @@
-ghost use Rattle.std.specs.Prelude.{◌≡◌, ◌<◌, ◌≤◌, ◌==◌, [], ◌∷◌, ◌++◌, length};
+ghost use Rattle.std.specs.Prelude.{◌≡◌, ◌<◌, ◌≤◌, ◌==◌, [], ◌∷◌, ◌++◌, length, take};
 
 use smallvec::SmallVec;
 use std::alloc::Global;
@@ -42,6 +42,13 @@ impl ThreadList {
         ensures { self.new ≡ self.old ++ thread ∷ [] }
     {
         self.threads.push_reserved(thread);
+    }
+
+    /// Keeps the first `n` threads, all where there are no more.
+    pub fn truncate(&mut self, n: usize)
+        ensures { self.new ≡ take n self.old }
+    {
+        self.threads.truncate(n);
     }
 
     /// How many threads there are.

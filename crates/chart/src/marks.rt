@@ -4,10 +4,11 @@ use crate::shapes::{append_escaped, append_shape, append_text};
 use crate::sheet::{Sheet, index_of};
 use actionlines::append_line;
 use itoa::Buffer;
-use source_offers::{Cause, End};
+use source_offers::End;
 use source_states::{Action, ActionKind, SourceState};
 use source_table::Hold;
 use std::alloc::AllocError;
+use words::Cause;
 
 /// Whether an action takes a monitor that was abandoned.
 pub(crate) fn finds_abandoned(state: &SourceState, kind: &ActionKind) -> bool {

@@ -12,4 +12,5 @@ mod site;
 mod statement;
 
 pub use code_piece::CodePiece;
+pub use piece::procedure_code;
 pub use pieces::generate;

@@ -75,8 +75,11 @@ fn text_end(site: &Site, code: &mut Vec<Marked>) -> Result<(), Refusal>
     Ok(())
 }
 
-// The code of a procedure, before it is linked.
-pub(crate) fn procedure_code(
+/// The code of a procedure of this program, before it is linked. Places count from its first instruction, and calls name
+/// pieces by their numbers.
+///
+/// Code of more instructions than an image may have is `Limit` at 1:1.
+pub fn procedure_code(
     alloc: Global,
     procedure: &Procedure,
     program: &Program,

@@ -1,3 +1,4 @@
 mod Numbers
 mod NoJobs
+mod Sources
 mod Worked

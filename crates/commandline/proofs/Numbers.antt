@@ -1,7 +1,8 @@
 -- The number that a typed getter reads.
-use Rattle.std.proofs.Common.{◌≡◌, ◌<◌, ◌^◌, ℕ, Option, Some, None, Result, Ok, Err, refl, sym, ◌∙◌, subst}
-use Rattle.std.specs.Str.Parse.{IsNumeral, ParsesUnsigned, digits_value, without_leading_plus}
+use Rattle.std.proofs.Common.{◌≡◌, ◌<◌, ◌^◌, ℕ, Option, Some, None, Result, Ok, Err, IfSome, refl, sym, ◌∙◌, subst}
+use Rattle.std.specs.Str.Parse.{ParsesUnsigned}
 use Rattle.clap.specs.Words.{ReadsOne, Text}
+use Rattle.commandline.specs.CommandLine.{IsNumberOf}
 
 abbrev Stands : {X : Type 0} → Option X → Type 0
 Stands None = ⊥
@@ -13,20 +14,19 @@ no_value o x none some = subst Stands (sym some ∙ none) tt
 -- where a number was read, there is a text, and it writes that number
 pub number_read : (E : Type 0) (G : Text → Result ℕ E → Type 0) (k : ℕ)
     → ((u : Text) (x : Result ℕ E) → G u x → ParsesUnsigned k 10 u x)
-    → (o : Option Text) (r : Option ℕ) (n : ℕ) → r ≡ Some n → (o ≡ None → r ≡ None)
-    → ((t : Text) → o ≡ Some t → ReadsOne G t r)
-    → (t : Text) × (o ≡ Some t) × IsNumeral 10 (without_leading_plus t)
-    × (n ≡ digits_value 10 (without_leading_plus t)) × (n < 2 ^ k)
-number_read E G k only None r n is none some = absurd (no_value r n (none refl) is)
-number_read E G k only (Some t) r n is none some =
-    let read : G t (Ok n) = subst (λ (x : Option ℕ). ReadsOne G t x) is (some t refl) in
-    let parsed = only t (Ok n) read in
+    → (o : Option Text) (r : Option ℕ) → (o ≡ None → r ≡ None) → ((t : Text) → o ≡ Some t → ReadsOne G t r)
+    → IfSome r (IsNumberOf o k)
+number_read E G k only o None none some = tt
+number_read E G k only None (Some n) none some = absurd (no_value (Some n) n (none refl) refl)
+number_read E G k only (Some t) (Some n) none some =
+    let parsed = only t (Ok n) (some t refl) in
     (t, refl, parsed.0.0, parsed.1, subst (λ (m : ℕ). m < 2 ^ k) (sym parsed.1) parsed.0.1)
 
--- a text that writes a number is read
-pub number_not_refused : (E : Type 0) (G : Text → Result ℕ E → Type 0) (k : ℕ)
+-- where none was read, no text writes one
+pub no_number : (E : Type 0) (G : Text → Result ℕ E → Type 0) (k : ℕ)
     → ((u : Text) (x : Result ℕ E) → G u x → ParsesUnsigned k 10 u x)
-    → (t : Text) (n : ℕ) → ReadsOne G t None → IsNumeral 10 (without_leading_plus t)
-    → n ≡ digits_value 10 (without_leading_plus t) → n < 2 ^ k → ⊥
-number_not_refused E G k only t n read numeral is small =
-    only t (Err read.0) read.1 (numeral, subst (λ (m : ℕ). m < 2 ^ k) is small)
+    → (o : Option Text) (r : Option ℕ) → ((t : Text) → o ≡ Some t → ReadsOne G t r) → r ≡ None
+    → (n : ℕ) → IsNumberOf o k n → ⊥
+no_number E G k only o r some none n (t, is, numeral, value, small) =
+    let read : ReadsOne G t None = subst (λ (x : Option ℕ). ReadsOne G t x) none (some t is) in
+    only t (Err read.0) read.1 (numeral, subst (λ (m : ℕ). m < 2 ^ k) value small)

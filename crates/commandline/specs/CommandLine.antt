@@ -1,14 +1,21 @@
 -- The commands of the program, and which job the words of a command line ask for. How words are read as a command's
 -- arguments is the definition of the crate clap (`App`, `subcommand_of`).
 use Rattle.std.specs.Prelude.{◌≡◌, ◌<◌, ◌^◌, ℕ, Bool, true, false, List, [], ◌∷◌, Option, Some, None, ◌⊎◌, codes}
-use Rattle.std.specs.Prelude.{option_map}
+use Rattle.std.specs.Prelude.{find, option_and_then, option_map}
+use Rattle.std.specs.Str.{bytes_eq}
 use Rattle.std.specs.Str.Parse.{IsNumeral, digits_value, without_leading_plus}
 use Rattle.clap.specs.Words.{App, Row, Rule, Text, first_of, new_app, new_rule, one_of, with_rule, with_subcommand}
 use Rattle.clap.specs.Words.{subcommand_of}
 use Rattle.clap.specs.declared.builder.action.ArgAction.TheVariants.{SetTrue}
 use Rattle.clap.specs.declared.builder.value_parser.ValueParser.TheVariants.{Unsigned}
+use Rattle.clap.specs.declared.parser.matches.ValueSource.{ValueSource}
+use Rattle.clap.specs.declared.parser.matches.ValueSource.TheVariants.{CommandLine}
+use Rattle.commandline.specs.declared.options.Order.{Order}
+use Rattle.commandline.specs.declared.options.Order.TheVariants.{Workers, InOrder}
+use Rattle.commandline.specs.declared.options.RunOptions.{RunOptions}
 use Rattle.commandline.specs.declared.job.Job.{Job}
-use Rattle.commandline.specs.declared.job.Job.TheVariants.{Check, Compile, List as List', Run, Replay, Explain}
+use Rattle.commandline.specs.declared.job.Job.TheVariants.{Check, Compile, List as List', Run, Exec, Replay}
+use Rattle.commandline.specs.declared.job.Job.TheVariants.{Explain}
 
 -- an argument that has to stand, told by its position
 abbrev pub positional : Text → Rule
@@ -23,13 +30,22 @@ steps_option = record (new_rule (codes "steps")) {
   parser = Some (Unsigned 1 4294967295);
 }
 
+-- an option that has a value, of which no more is known
+abbrev pub valued : Text → Rule
+valued name = record (new_rule name) { long = Some name; value_names = 1 }
+
+-- `--in-order`
+abbrev pub in_order_option : Rule
+in_order_option = record (new_rule (codes "in-order")) { long = Some (codes "in-order"); action = Some SetTrue }
+
 -- `--trace`
 abbrev pub trace_option : Rule
 trace_option = record (new_rule (codes "trace")) { long = Some (codes "trace"); action = Some SetTrue }
 
--- `--chart OUT`
-abbrev pub chart_option : Rule
-chart_option = record (new_rule (codes "chart")) { long = Some (codes "chart"); value_names = 1 }
+-- `[--steps N] [--in-order] [--trace] [--log OUT]`
+abbrev pub with_run_options : App → App
+with_run_options app =
+    with_rule (with_rule (with_rule (with_rule app steps_option) in_order_option) trace_option) (valued (codes "log"))
 
 -- `compile FILE OUT`
 abbrev pub compile_command : App
@@ -44,27 +60,43 @@ check_command = with_rule (new_app (codes "check")) (positional (codes "FILE"))
 abbrev pub list_command : App
 list_command = with_rule (new_app (codes "list")) (positional (codes "IMAGE"))
 
--- `run FILE [--steps N] [--trace]`
+-- `run FILE [--steps N] [--in-order] [--trace] [--log OUT]`
 abbrev pub run_command : App
-run_command =
-    with_rule (with_rule (with_rule (new_app (codes "run")) (positional (codes "FILE"))) steps_option) trace_option
+run_command = with_run_options (with_rule (new_app (codes "run")) (positional (codes "FILE")))
 
--- `replay FILE SCHEDULE [--trace]`
+-- `exec IMAGE [--steps N] [--in-order] [--trace] [--log OUT]`
+abbrev pub exec_command : App
+exec_command = with_run_options (with_rule (new_app (codes "exec")) (positional (codes "IMAGE")))
+
+-- `replay FILE SCHEDULE [--trace] [--log OUT]`
 abbrev pub replay_command : App
 replay_command =
-    with_rule (with_rule (with_rule (new_app (codes "replay")) (positional (codes "FILE")))
-    (positional (codes "SCHEDULE"))) trace_option
+    with_rule (with_rule (with_rule (with_rule (new_app (codes "replay")) (positional (codes "FILE")))
+    (positional (codes "SCHEDULE"))) trace_option) (valued (codes "log"))
 
 -- `explain FILE [--steps N] [--chart OUT]`
 abbrev pub explain_command : App
 explain_command =
-    with_rule (with_rule (with_rule (new_app (codes "explain")) (positional (codes "FILE"))) steps_option) chart_option
+    with_rule (with_rule (with_rule (new_app (codes "explain")) (positional (codes "FILE"))) steps_option)
+    (valued (codes "chart"))
+
+-- whether the words have this argument; its default, which they don't have, is no such
+abbrev pub is_of_words : Option ValueSource → Bool
+is_of_words (Some CommandLine) = true
+is_of_words _ = false
+
+abbrev pub is_written : Text → List Row → Bool
+is_written id rows = is_of_words (option_and_then (λ r. r.source) (find (λ r. bytes_eq r.id id) rows))
+
+-- a text that is this number, which so many bits hold
+abbrev pub IsNumberOf : Option Text → ℕ → ℕ → Type 0
+IsNumberOf text bits n =
+    (t : Text) × (text ≡ Some t) × IsNumeral 10 (without_leading_plus t)
+    × (n ≡ digits_value 10 (without_leading_plus t)) × (n < 2 ^ bits)
 
 -- the text that stands for `--steps` is this number
 abbrev pub ReadsSteps : List Row → ℕ → Type 0
-ReadsSteps rows steps =
-    (t : Text) × (one_of (codes "steps") rows ≡ Some t) × IsNumeral 10 (without_leading_plus t)
-    × (steps ≡ digits_value 10 (without_leading_plus t)) × (steps < 2 ^ 32)
+ReadsSteps rows steps = IsNumberOf (one_of (codes "steps") rows) 32 steps
 
 -- whether `--trace` stands
 abbrev pub ReadsTrace : List Row → Bool → Type 0
@@ -78,11 +110,23 @@ top_command =
     let named = new_app (codes "mesamon") in
     record named { top = record named.top { no_binary_name = true; subcommand_required = true } }
 
--- `mesamon` with its six commands
+-- `mesamon` with its seven commands
 abbrev pub command_line : App
 command_line =
-    with_subcommand (with_subcommand (with_subcommand (with_subcommand (with_subcommand (with_subcommand top_command
-    check_command.top) compile_command.top) list_command.top) run_command.top) replay_command.top) explain_command.top
+    with_subcommand (with_subcommand (with_subcommand (with_subcommand (with_subcommand (with_subcommand
+    (with_subcommand top_command check_command.top) compile_command.top) list_command.top) run_command.top)
+    exec_command.top) replay_command.top) explain_command.top
+
+-- who moves the threads of a run: a worker for each, or one worker in a fixed order
+abbrev pub ReadsOrder : List Row → Order → Type 0
+ReadsOrder rows Workers = is_written (codes "in-order") rows ≡ false
+ReadsOrder rows InOrder = is_written (codes "in-order") rows ≡ true
+
+-- how a run goes, and what is kept of it
+abbrev pub ReadsOptions : List Row → RunOptions → Type 0
+ReadsOptions rows o =
+    ReadsSteps rows o.steps × ReadsOrder rows o.order × ReadsTrace rows o.trace
+    × (first_of (codes "log") rows ≡ option_map (λ log. log.now) o.log)
 
 -- a job of checking, from the values of its command's arguments
 abbrev pub IsCheckOf : List Row → Job → Type 0
@@ -100,17 +144,21 @@ abbrev pub IsListOf : List Row → Job → Type 0
 IsListOf rows (List' image) = first_of (codes "IMAGE") rows ≡ Some image.now
 IsListOf rows other = ⊥
 
--- a job of running
+-- a job of running a source text
 abbrev pub AsksForRun : List Row → Job → Type 0
-AsksForRun rows (Run file steps trace) =
-    (first_of (codes "FILE") rows ≡ Some file.now) × ReadsSteps rows steps × ReadsTrace rows trace
+AsksForRun rows (Run file options) = (first_of (codes "FILE") rows ≡ Some file.now) × ReadsOptions rows options
 AsksForRun rows other = ⊥
+
+-- a job of running an image
+abbrev pub AsksForExec : List Row → Job → Type 0
+AsksForExec rows (Exec image options) = (first_of (codes "IMAGE") rows ≡ Some image.now) × ReadsOptions rows options
+AsksForExec rows other = ⊥
 
 -- a job of running by a schedule
 abbrev pub AsksForReplay : List Row → Job → Type 0
-AsksForReplay rows (Replay file schedule trace) =
+AsksForReplay rows (Replay file schedule trace log) =
     (first_of (codes "FILE") rows ≡ Some file.now) × (first_of (codes "SCHEDULE") rows ≡ Some schedule.now)
-    × ReadsTrace rows trace
+    × ReadsTrace rows trace × (first_of (codes "log") rows ≡ option_map (λ log. log.now) log)
 AsksForReplay rows other = ⊥
 
 -- a job of explaining
@@ -126,7 +174,8 @@ IsAskedBy None job = ⊥
 IsAskedBy (Some (name, rows)) job =
     ((name ≡ codes "check") × IsCheckOf rows job) ⊎ (((name ≡ codes "compile") × IsCompileOf rows job)
     ⊎ (((name ≡ codes "list") × IsListOf rows job) ⊎ (((name ≡ codes "run") × AsksForRun rows job)
-    ⊎ (((name ≡ codes "replay") × AsksForReplay rows job) ⊎ ((name ≡ codes "explain") × IsExplainOf rows job)))))
+    ⊎ (((name ≡ codes "exec") × AsksForExec rows job) ⊎ (((name ≡ codes "replay") × AsksForReplay rows job)
+    ⊎ ((name ≡ codes "explain") × IsExplainOf rows job))))))
 
 -- the words ask for this job
 abbrev pub AsksFor : List Text → Job → Type 0

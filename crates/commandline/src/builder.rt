@@ -18,6 +18,7 @@ pub fn command<'a>(alloc: Global) -> Result<Command<'a>, AllocError>
     let command = with(command, compile_command(alloc));
     let command = with(command, list_command(alloc));
     let command = with(command, run_command(alloc));
+    let command = with(command, exec_command(alloc));
     let command = with(command, replay_command(alloc));
     with(command, explain_command(alloc))
 }
@@ -77,11 +78,33 @@ fn run_command<'a>(alloc: Global) -> Result<Command<'a>, AllocError>
     ensures app { IfOk result (λ c. app_of c ≡ line.run_command) }
     ensures local { IfOk result (λ c. (fields_of c).has_globals ≡ false) }
 {
-    Command::new(alloc, "run")
+    let command = Command::new(alloc, "run")
         .about("Runs a source text and prints its output")
-        .arg(positional(alloc, "FILE", "The source text"))?
+        .arg(positional(alloc, "FILE", "The source text"))?;
+    with_run_options(alloc, command)
+}
+
+fn exec_command<'a>(alloc: Global) -> Result<Command<'a>, AllocError>
+    ensures app { IfOk result (λ c. app_of c ≡ line.exec_command) }
+    ensures local { IfOk result (λ c. (fields_of c).has_globals ≡ false) }
+{
+    let command = Command::new(alloc, "exec")
+        .about("Runs an image and prints its output")
+        .arg(positional(alloc, "IMAGE", "The image"))?;
+    with_run_options(alloc, command)
+}
+
+// A command with the options of a run.
+fn with_run_options<'a>(alloc: Global, command: Command<'a>) -> Result<Command<'a>, AllocError>
+    requires { (fields_of command).has_globals ≡ false }
+    ensures app { IfOk result (λ c. app_of c ≡ line.with_run_options (app_of command.entry)) }
+    ensures local { IfOk result (λ c. (fields_of c).has_globals ≡ false) }
+{
+    command
         .arg(steps_option(alloc))?
-        .arg(trace_option(alloc))
+        .arg(in_order_option(alloc))?
+        .arg(trace_option(alloc))?
+        .arg(valued(alloc, "log", "OUT", "Where the log is written"))
 }
 
 fn replay_command<'a>(alloc: Global) -> Result<Command<'a>, AllocError>
@@ -92,7 +115,8 @@ fn replay_command<'a>(alloc: Global) -> Result<Command<'a>, AllocError>
         .about("Runs a source text by a schedule and prints its output")
         .arg(positional(alloc, "FILE", "The source text"))?
         .arg(positional(alloc, "SCHEDULE", "The threads of its steps"))?
-        .arg(trace_option(alloc))
+        .arg(trace_option(alloc))?
+        .arg(valued(alloc, "log", "OUT", "Where the log is written"))
 }
 
 fn explain_command<'a>(alloc: Global) -> Result<Command<'a>, AllocError>
@@ -103,7 +127,12 @@ fn explain_command<'a>(alloc: Global) -> Result<Command<'a>, AllocError>
         .about("Runs a source text in order and prints what its processes do")
         .arg(positional(alloc, "FILE", "The source text"))?
         .arg(steps_option(alloc))?
-        .arg(chart_option(alloc))
+        .arg(valued(
+            alloc,
+            "chart",
+            "OUT",
+            "Where the picture of the run is written",
+        ))
 }
 
 fn positional<'a>(alloc: Global, name: &'a str, help: &'a str) -> Arg<'a>
@@ -125,6 +154,16 @@ fn steps_option<'a>(alloc: Global) -> Arg<'a>
         .help("The most steps of the machine")
 }
 
+fn in_order_option<'a>(alloc: Global) -> Arg<'a>
+    ensures rule { rule_of result ≡ line.in_order_option }
+    ensures local { result.global ≡ false }
+{
+    Arg::new(alloc, "in-order")
+        .long("in-order")
+        .action(ArgAction::SetTrue)
+        .help("Goes on one thread, in a fixed order")
+}
+
 fn trace_option<'a>(alloc: Global) -> Arg<'a>
     ensures rule { rule_of result ≡ line.trace_option }
     ensures local { result.global ≡ false }
@@ -135,12 +174,13 @@ fn trace_option<'a>(alloc: Global) -> Arg<'a>
         .help("Shows each entry of the log on standard error")
 }
 
-fn chart_option<'a>(alloc: Global) -> Arg<'a>
-    ensures rule { rule_of result ≡ line.chart_option }
+// An option `--NAME VALUE`.
+fn valued<'a>(alloc: Global, name: &'a str, value: &'a str, help: &'a str) -> Arg<'a>
+    ensures rule { rule_of result ≡ line.valued name.entry.now }
     ensures local { result.global ≡ false }
 {
-    Arg::new(alloc, "chart")
-        .long("chart")
-        .value_name("OUT")
-        .help("Where the picture of the run is written")
+    Arg::new(alloc, name)
+        .long(name)
+        .value_name(value)
+        .help(help)
 }

@@ -2,11 +2,13 @@ ghost use Rattle.std.specs.Prelude.{IfOk, IfErr, IfSome, None, true, map, ◌≡
 ghost use Rattle.clap.specs.Words.{app_of, found_of, kind_of, subcommand_rows_of, takes};
 ghost use Rattle.clap.specs.Walk.{rows_of};
 ghost use Rattle.commandline.specs.CommandLine.{AsksFor, IsAskedBy, IsCheckOf, IsCompileOf, IsExplainOf, IsListOf};
-ghost use Rattle.commandline.specs.CommandLine.{AsksForReplay, AsksForRun, command_line};
+ghost use Rattle.commandline.specs.CommandLine.{AsksForExec, AsksForReplay, AsksForRun, command_line};
 ghost use Rattle.commandline.specs.declared.job.Job.{Job as JobOf};
 
 use crate::builder::command;
 use crate::fault::WordsFault;
+use crate::options::RunOptions;
+use crate::values::{options_of, steps_of};
 use clap::error::ErrorKind;
 use clap::{ArgMatches, Command, Error};
 use std::alloc::Global;
@@ -31,16 +33,21 @@ pub enum Job<'a> {
         /// The name of the image's file.
         image: &'a str,
     },
-    /// Run the source text of a file, within a limit of steps, and show the log where it is wanted.
+    /// Run the source text of a file.
     Run {
         /// The name of the source text's file.
         file: &'a str,
-        /// The most steps of the machine.
-        steps: u32,
-        /// Whether the log is shown.
-        trace: bool,
+        /// How it goes.
+        options: RunOptions<'a>,
     },
-    /// Run the source text of a file by the schedule of another, and show the log where it is wanted.
+    /// Run an image.
+    Exec {
+        /// The name of the image's file.
+        image: &'a str,
+        /// How it goes.
+        options: RunOptions<'a>,
+    },
+    /// Run the source text of a file by the schedule of another, show the log and write it where that is wanted.
     Replay {
         /// The name of the source text's file.
         file: &'a str,
@@ -48,6 +55,8 @@ pub enum Job<'a> {
         schedule: &'a str,
         /// Whether the log is shown.
         trace: bool,
+        /// The name of the file that the log is written to, where that is wanted.
+        log: Option<&'a str>,
     },
     /// Run the source text of a file, within a limit of steps, print the source actions that its run is, and draw them
     /// where that is wanted.
@@ -117,6 +126,7 @@ fn job_of<'a>(matches: &ArgMatches<'a>) -> Option<Job<'a>>
         "compile" => compile_of(inner),
         "list" => list_of(inner),
         "run" => run_of(inner),
+        "exec" => exec_of(inner),
         "replay" => replay_of(inner),
         "explain" => explain_of(inner),
         _ => None,
@@ -157,9 +167,18 @@ fn run_of<'a>(matches: &ArgMatches<'a>) -> Option<Job<'a>>
         → ⊥ }
 {
     let file = matches.get_str("FILE")?;
-    let steps = matches.get_one::<u32>("steps")?;
-    let trace = matches.get_flag("trace");
-    Some(Job::Run { file, steps, trace })
+    let options = options_of(matches)?;
+    Some(Job::Run { file, options })
+}
+
+fn exec_of<'a>(matches: &ArgMatches<'a>) -> Option<Job<'a>>
+    ensures job { IfSome result (AsksForExec (rows_of (found_of matches.now))) }
+    ensures none { result ≡ None → (job : JobOf) → AsksForExec (rows_of (found_of matches.now)) job
+        → ⊥ }
+{
+    let image = matches.get_str("IMAGE")?;
+    let options = options_of(matches)?;
+    Some(Job::Exec { image, options })
 }
 
 fn replay_of<'a>(matches: &ArgMatches<'a>) -> Option<Job<'a>>
@@ -170,10 +189,12 @@ fn replay_of<'a>(matches: &ArgMatches<'a>) -> Option<Job<'a>>
     let file = matches.get_str("FILE")?;
     let schedule = matches.get_str("SCHEDULE")?;
     let trace = matches.get_flag("trace");
+    let log = matches.get_str("log");
     Some(Job::Replay {
         file,
         schedule,
         trace,
+        log,
     })
 }
 
@@ -183,7 +204,7 @@ fn explain_of<'a>(matches: &ArgMatches<'a>) -> Option<Job<'a>>
         → ⊥ }
 {
     let file = matches.get_str("FILE")?;
-    let steps = matches.get_one::<u32>("steps")?;
+    let steps = steps_of(matches)?;
     let chart = matches.get_str("chart");
     Some(Job::Explain { file, steps, chart })
 }

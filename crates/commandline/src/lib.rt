@@ -4,6 +4,9 @@
 mod builder;
 mod fault;
 mod job;
+mod options;
+mod values;
 
 pub use fault::WordsFault;
 pub use job::{Job, read_job};
+pub use options::{Order, RunOptions};

@@ -21,7 +21,7 @@ use scanner::{Refusal, scan, token_laws};
 use std::alloc::Global;
 
 // The checked program of a text.
-fn read<'a>(alloc: Global, text: &'a [u8]) -> Result<Checked<'a>, Refusal>
+pub(crate) fn read<'a>(alloc: Global, text: &'a [u8]) -> Result<Checked<'a>, Refusal>
     ensures { MatchResult result (λ checked. IsRead text.now checked)
         (λ e. (e ≡ out_of_memory) ⊎ RefusesProgram text.now e) }
 {

@@ -2,7 +2,9 @@
 #![tactic(auto)]
 
 mod compiling;
+mod compiling_with;
 mod laws;
 
 pub use compiling::{check_text, compile, compile_checked};
+pub use compiling_with::compile_with;
 pub use laws::text_laws;

@@ -12,13 +12,13 @@ use crate::request::{NextStep, Request};
 use isa::Image;
 use robustexit::{ExitPhase, phase_at};
 use std::marker::Model;
-use words::Fault;
+use words::Cause;
 
 /// What a thread does, or is about to do.
 #[derive(Drop)]
 enum Stage {
     Running(Activation),
-    Dying(Fault),
+    Dying(Cause),
     Exiting(ExitPhase),
 }
 
@@ -72,7 +72,7 @@ impl Local {
     {
         let stage = match &self.stage {
             Stage::Running(activation) => Stage::Running(activation.copy()),
-            Stage::Dying(fault) => Stage::Dying(*fault),
+            Stage::Dying(cause) => Stage::Dying(*cause),
             Stage::Exiting(phase) => Stage::Exiting(*phase),
         };
         Local { stage }
@@ -133,7 +133,7 @@ impl Local {
     {
         match &self.stage {
             Stage::Running(activation) => activation.next_step(image, t),
-            Stage::Dying(fault) => NextStep::Shared(Request::Fault(*fault)),
+            Stage::Dying(cause) => NextStep::Shared(Request::Fault(*cause)),
             Stage::Exiting(ExitPhase::Ended) => NextStep::Ended,
             Stage::Exiting(phase) => NextStep::Exit(*phase),
         }
@@ -163,7 +163,7 @@ impl Local {
         match &mut self.stage {
             Stage::Running(activation) => match activation.go_on(image, t, answer) {
                 Answered::GoesOn => {}
-                Answered::Fails(fault) => self.stage = Stage::Dying(fault),
+                Answered::Fails(fault) => self.stage = Stage::Dying(Cause::Faulted(fault)),
                 Answered::Leaves(phase) => self.stage = Stage::Exiting(phase),
             },
             Stage::Dying(_) => self.stage = Stage::Exiting(phase_at(answer, 0)),
@@ -180,7 +180,7 @@ impl Local {
             Stage::Running(activation) => match activation.take_step(image, t) {
                 Progress::Went => true,
                 Progress::Failed(fault) => {
-                    self.stage = Stage::Dying(fault);
+                    self.stage = Stage::Dying(Cause::Faulted(fault));
                     true
                 }
                 Progress::Stayed => false,

@@ -1,5 +1,5 @@
 use robustexit::ExitPhase;
-use words::{Addr, Fault};
+use words::{Addr, Cause};
 
 /// What a thread asks the shared part of the machine for. Each is one step.
 #[derive(Clone, Copy, PartialEq, Eq, Debug)]
@@ -59,7 +59,7 @@ pub enum Request {
     /// The same with a value, given as its word.
     ReturnValue(u32),
     /// To write the fault that it met as its outcome; the answer is the first entry of its robust list.
-    Fault(Fault),
+    Fault(Cause),
 }
 
 /// What the next step of a thread is.

@@ -6,7 +6,7 @@ use Rattle.locals.specs.declared.request.Request.TheVariants as told
 use Rattle.locals.specs.declared.request.NextStep.{NextStep}
 use Rattle.locals.specs.declared.request.NextStep.TheVariants as next
 use Rattle.lowering.specs.declared.mark.Mark.{Mark}
-use Rattle.proof_thread.specs.Deferrals.{deferred_by_mark, last_mark}
+use Rattle.proof_thread.specs.Deferrals.{deferred_by_mark, last_mark, fault_of}
 use Rattle.meaning.specs.Labels.{Kind, Fails}
 use Rattle.proof_simulation.specs.Deferred.{has_failed, is_failing}
 use Rattle.log_simulation.specs.declared.deferral.Deferral.{Deferral}
@@ -24,7 +24,7 @@ abbrev pub deferred_by_next_step : Option Mark → NextStep → ℕ → Option K
 deferred_by_next_step mark next.Local v = deferred_by_mark mark
 deferred_by_next_step mark (next.Shared told.Return) v = last_mark mark
 deferred_by_next_step mark (next.Shared (told.ReturnValue z)) v = last_mark mark
-deferred_by_next_step mark (next.Shared (told.Fault fault)) v = Some (Fails fault)
+deferred_by_next_step mark (next.Shared (told.Fault cause)) v = fault_of cause
 deferred_by_next_step mark (next.Fork entry count has_room) v = if v == 0 then Some (Fails ProcessTableFull) else None
 deferred_by_next_step mark step v = None
 

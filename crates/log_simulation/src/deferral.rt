@@ -4,6 +4,7 @@ ghost use Rattle.log_simulation.specs.Deferred.{deferral_of, deferred_by_next_st
 
 use locals::{Local, NextStep, Request};
 use lowering::Mark;
+use words::Cause;
 
 /// What a step adds to the deferred actions of its process, which come before its next visible one.
 #[derive(Clone, Copy, PartialEq, Eq, Debug)]
@@ -52,7 +53,7 @@ pub fn at_step(mark: Option<Mark>, step: NextStep, value: u32) -> Deferral
     match step {
         NextStep::Local => at_mark(mark),
         NextStep::Shared(Request::Return | Request::ReturnValue(_)) => at_last(mark),
-        NextStep::Shared(Request::Fault(_)) => Deferral::Fault,
+        NextStep::Shared(Request::Fault(Cause::Faulted(_))) => Deferral::Fault,
         NextStep::Fork { .. } if value == 0 => Deferral::Fault,
         _ => Deferral::Nothing,
     }

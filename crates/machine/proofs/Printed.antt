@@ -87,7 +87,7 @@ served made t (AskRequeue a b n m expected) c =
     (prints_err c Broken)) (prints_err c Broken)
 served made t AskReturn c = prints_ok c _ (still _)
 served made t (AskReturnValue v) c = prints_ok c _ (still _)
-served made t (AskFault fault) c = prints_ok c _ (still _)
+served made t (AskFault cause) c = prints_ok c _ (still _)
 
 -- an exit prints nothing
 Quiet : Common → Left → Type 0

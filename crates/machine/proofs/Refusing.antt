@@ -89,7 +89,7 @@ refuses k t (AskWake a n) = inside _ a _ _ refl _ (λ f. served_is _ f)
 refuses k t (AskRequeue a b n m expected) = both_inside _ a b _ _ _ refl refl _ (λ f. both_served _ _ _ f)
 refuses k t AskReturn = always _ _ (λ f. served_is _ f)
 refuses k t (AskReturnValue v) = always _ _ (λ f. served_is _ f)
-refuses k t (AskFault fault) = always _ _ (λ f. served_is _ f)
+refuses k t (AskFault cause) = always _ _ (λ f. served_is _ f)
 
 -- what the step of a thread comes to, by what came of its request
 err_of : (k : ConcreteState) (t : ℕ) (go : ℕ → Thread) (r : Result Served StepFault) (f : StepFault)
@@ -143,7 +143,7 @@ code_rests Rests h e = absurd h
 rests_ended : (p : Program) (t : ℕ) (x : Thread) → look p t x ≡ Rests → has_ended (Some x) ≡ true
 rests_ended p t (Runs place operands locals callers) e =
     absurd (code_rests _ (look_code t _ place operands locals callers) e)
-rests_ended p t (Dies fault) e = absurd cc
+rests_ended p t (Dies cause) e = absurd cc
 rests_ended p t (Exits (Entry a seen)) e = absurd cc
 rests_ended p t (Exits Pending) e = absurd cc
 rests_ended p t (Exits ClearId) e = absurd cc
@@ -152,7 +152,7 @@ rests_ended p t (Exits Ended) e = refl
 
 ended_rests : (p : Program) (t : ℕ) (x : Thread) → has_ended (Some x) ≡ true → look p t x ≡ Rests
 ended_rests p t (Runs place operands locals callers) e = absurd cc
-ended_rests p t (Dies fault) e = absurd cc
+ended_rests p t (Dies cause) e = absurd cc
 ended_rests p t (Exits (Entry a seen)) e = absurd cc
 ended_rests p t (Exits Pending) e = absurd cc
 ended_rests p t (Exits ClearId) e = absurd cc

@@ -8,7 +8,7 @@ use Rattle.std.proofs.Math.Path.{fun_ext}
 use Rattle.std.proofs.lemmas.Bool.{cases_eq, eq-eqb, ne_eqb, ltb-true, cond-true, cond-false}
 use Rattle.std.proofs.lemmas.List.{get_or-set_other}
 use Rattle.words.specs.Process.{process_word}
-use Rattle.words.specs.Outcomes.{fault_number}
+use Rattle.words.specs.Outcomes.{cause_number}
 use Rattle.words.specs.Signed.{signed_of}
 use Rattle.buckets.specs.Places.{with_place}
 use Rattle.isa.specs.Programs.{Program, memory_size}
@@ -350,6 +350,6 @@ serves_so p k k' t e y AskReturn go one concrete stands awake place h =
     (load k.common (process_word t 0)) 16 concrete stands place.words refl (refl, (refl, refl)) h
 serves_so p k k' t e y (AskReturnValue v) go one concrete stands awake place h =
     returns p k k' t e y go v concrete stands place h
-serves_so p k k' t e y (AskFault fault) go one concrete stands awake place h =
-    accesses p k k' t e _ y (AskFault fault) go (process_word t 5) (load k.common (process_word t 0))
-    (fault_number fault) concrete stands place.words refl (refl, (refl, refl)) h
+serves_so p k k' t e y (AskFault cause) go one concrete stands awake place h =
+    accesses p k k' t e _ y (AskFault cause) go (process_word t 5) (load k.common (process_word t 0))
+    (cause_number cause) concrete stands place.words refl (refl, (refl, refl)) h

@@ -90,7 +90,7 @@ next_of_code Rests h = tt
 
 pub is_next : (p : Program) (t : ℕ) (x : Thread) → IsNext (look p t x)
 is_next p t (Runs place operands locals callers) = next_of_code _ (look_code t _ place operands locals callers)
-is_next p t (Dies fault) = tt
+is_next p t (Dies cause) = tt
 is_next p t (Exits (Entry e seen)) = tt
 is_next p t (Exits Pending) = tt
 is_next p t (Exits ClearId) = tt

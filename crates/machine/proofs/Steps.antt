@@ -49,7 +49,7 @@ asked_back (AskWake a n) q h = told_is _ _ q refl h
 asked_back (AskRequeue a b wake moves expected) q h = told_is _ _ q refl h
 asked_back AskReturn q h = told_is _ _ q refl h
 asked_back (AskReturnValue v) q h = told_is _ _ q refl h
-asked_back (AskFault fault) q h = told_is _ _ q refl h
+asked_back (AskFault cause) q h = told_is _ _ q refl h
 
 exit_is : (a b : ExitPhase) → next.Exit a ≡ next.Exit b → a ≡ b
 exit_is a b h = cc
@@ -69,7 +69,7 @@ no_local (AskWake a n) h = cc
 no_local (AskRequeue a b wake moves expected) h = cc
 no_local AskReturn h = cc
 no_local (AskReturnValue v) h = cc
-no_local (AskFault fault) h = cc
+no_local (AskFault cause) h = cc
 
 no_exit : (r : Request) (phase : ExitPhase) → request_step r ≡ next.Exit phase → ⊥
 no_exit (AskFork entry arguments has_room) phase h = cc
@@ -85,7 +85,7 @@ no_exit (AskWake a n) phase h = cc
 no_exit (AskRequeue a b wake moves expected) phase h = cc
 no_exit AskReturn phase h = cc
 no_exit (AskReturnValue v) phase h = cc
-no_exit (AskFault fault) phase h = cc
+no_exit (AskFault cause) phase h = cc
 
 no_break : (r : Request) → request_step r ≡ next.Broken → ⊥
 no_break (AskFork entry arguments has_room) h = cc
@@ -101,7 +101,7 @@ no_break (AskWake a n) h = cc
 no_break (AskRequeue a b wake moves expected) h = cc
 no_break AskReturn h = cc
 no_break (AskReturnValue v) h = cc
-no_break (AskFault fault) h = cc
+no_break (AskFault cause) h = cc
 
 no_rest : (r : Request) → request_step r ≡ next.Ended → ⊥
 no_rest (AskFork entry arguments has_room) h = cc
@@ -117,7 +117,7 @@ no_rest (AskWake a n) h = cc
 no_rest (AskRequeue a b wake moves expected) h = cc
 no_rest AskReturn h = cc
 no_rest (AskReturnValue v) h = cc
-no_rest (AskFault fault) h = cc
+no_rest (AskFault cause) h = cc
 
 -- a request that was served
 pub shared_so : (made t : ℕ) (c c' : Common) (l : Look) (x : Thread) (request : Told) (g : Given)
@@ -175,7 +175,7 @@ asks_fork (AskWake a m) go e n room h = absurd cc
 asks_fork (AskRequeue a b wake moves expected) go e n room h = absurd cc
 asks_fork AskReturn go e n room h = absurd cc
 asks_fork (AskReturnValue v) go e n room h = absurd cc
-asks_fork (AskFault fault) go e n room h = absurd cc
+asks_fork (AskFault cause) go e n room h = absurd cc
 
 pub forks_when : (l : Look) (e n : ℕ) (room : Bool) → next_step_of l ≡ next.Fork e n room → AsksFork l room
 forks_when (Goes y) e n room is = absurd cc

@@ -4,7 +4,7 @@ use Rattle.std.specs.Prelude.{Option, if◌then◌else◌}
 use Rattle.std.specs.Int.Bits.{bit_or}
 use Rattle.words.specs.Limits.{most_processes}
 use Rattle.words.specs.Process.{process_word}
-use Rattle.words.specs.Outcomes.{fault_number}
+use Rattle.words.specs.Outcomes.{cause_number}
 use Rattle.words.specs.Signed.{signed_of}
 use Rattle.futexcalls.specs.FutexCalls.{Sleeps, Wakes, Requeues}
 use Rattle.robustexit.specs.RobustExit.{Shared}
@@ -66,8 +66,8 @@ Serves t AskReturn s woken answer s' =
     Quietly woken ((answer ≡ s.word (process_word t 0)) × (s' ≡ with_outcome s t 16))
 Serves t (AskReturnValue v) s woken answer s' =
     Quietly woken ((answer ≡ s.word (process_word t 0)) × (s' ≡ with_outcome (with_word s (process_word t 4) v) t 16))
-Serves t (AskFault fault) s woken answer s' =
-    Quietly woken ((answer ≡ s.word (process_word t 0)) × (s' ≡ with_outcome s t (fault_number fault)))
+Serves t (AskFault cause) s woken answer s' =
+    Quietly woken ((answer ≡ s.word (process_word t 0)) × (s' ≡ with_outcome s t (cause_number cause)))
 
 -- the request can't be served: an address outside the memory, or a fork whose answer has no room
 abbrev pub IsUnserved : Request → State → Type 0
@@ -84,7 +84,7 @@ IsUnserved (AskWake a n) s = Lies s a → ⊥
 IsUnserved (AskRequeue a b n m expected) s = (Lies s a × Lies s b) → ⊥
 IsUnserved AskReturn s = ⊥
 IsUnserved (AskReturnValue v) s = ⊥
-IsUnserved (AskFault fault) s = ⊥
+IsUnserved (AskFault cause) s = ⊥
 
 -- what a state shares with the definition of exits
 abbrev pub shared_of : State → Shared

@@ -5,7 +5,7 @@ use Rattle.std.specs.Prelude.{nat_lt, slice_index, slice_set, Option, Some, None
 use Rattle.std.specs.Int.Bits.{bit_or}
 use Rattle.words.specs.Limits.{most_processes}
 use Rattle.words.specs.Process.{process_word}
-use Rattle.words.specs.Outcomes.{fault_number}
+use Rattle.words.specs.Outcomes.{cause_number}
 use Rattle.words.specs.Signed.{signed_of}
 use Rattle.buckets.specs.Places.{with_place}
 use Rattle.locals.specs.Threads.{Thread, opening_thread}
@@ -136,4 +136,4 @@ serve made t (AskWake a n) c = within c a (wake_on c a n)
 serve made t (AskRequeue a b n m expected) c = within c a (within c b (requeue_to c a b n m expected))
 serve made t AskReturn c = end_with_outcome t c 16 (plain name.Ret 16)
 serve made t (AskReturnValue v) c = end_with_outcome t (set_word c (process_word t 4) v) 16 (plain name.RetValue v)
-serve made t (AskFault fault) c = end_with_outcome t c (fault_number fault) (plain name.Die (fault_number fault))
+serve made t (AskFault cause) c = end_with_outcome t c (cause_number cause) (plain name.Die (cause_number cause))

@@ -28,7 +28,7 @@ asked_of (told.Wake a n) = AskWake a.0 n
 asked_of (told.Requeue a b wake moves expected) = AskRequeue a.0 b.0 wake moves expected
 asked_of told.Return = AskReturn
 asked_of (told.ReturnValue v) = AskReturnValue v
-asked_of (told.Fault fault) = AskFault fault
+asked_of (told.Fault cause) = AskFault cause
 
 -- what the code gave, with what is shared after it
 abbrev pub with_common : Result Given StepFault → Common → Result Served StepFault

@@ -20,7 +20,7 @@ abbrev pub has_ended : Option Thread → Bool
 has_ended (Some (Exits Ended)) = true
 has_ended (Some (Exits phase)) = false
 has_ended (Some (Runs place operands locals callers)) = false
-has_ended (Some (Dies fault)) = false
+has_ended (Some (Dies cause)) = false
 has_ended None = false
 
 -- the thread sleeps or has ended

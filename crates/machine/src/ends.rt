@@ -10,7 +10,7 @@ ghost use Rattle.machine.specs.Views.{common};
 use crate::common::Common;
 use crate::event::EventName;
 use crate::served::Served;
-use words::{ENDED, Fault, ProcessWord, block, signed};
+use words::{Cause, ENDED, ProcessWord, block, signed};
 
 impl Common {
     /// Prints a number, given as its word.
@@ -51,18 +51,18 @@ impl Common {
         Served::quietly(head, EventName::RetValue, value)
     }
 
-    /// Thread `t` ends by a fault. The answer is the first entry of its robust list.
-    pub fn die(&mut self, t: u32, fault: Fault) -> Served
+    /// Thread `t` dies of this cause. The answer is the first entry of its robust list.
+    pub fn die(&mut self, t: u32, cause: Cause) -> Served
         requires { IsThread t }
         ensures gives { (made : ℕ)
-            → serve made t (AskFault fault) (common self.old)
+            → serve made t (AskFault cause) (common self.old)
             ≡ with_common (Ok result) (common self.new) }
         ensures capacity { self.new.capacity ≡ self.old.capacity }
     {
         let head = self.words.load(block(t, ProcessWord::Head));
         self.words
-            .store(block(t, ProcessWord::Outcome), fault.number());
-        Served::quietly(head, EventName::Die, fault.number())
+            .store(block(t, ProcessWord::Outcome), cause.number());
+        Served::quietly(head, EventName::Die, cause.number())
     }
 
     /// Thread `t` begins: its id word is its number.

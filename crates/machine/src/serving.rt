@@ -45,7 +45,7 @@ impl Common {
             } => self.requeue(from, to, wake, moves, expected),
             Request::Return => Ok(self.end(t)),
             Request::ReturnValue(value) => Ok(self.end_with(t, value)),
-            Request::Fault(fault) => Ok(self.die(t, fault)),
+            Request::Fault(cause) => Ok(self.die(t, cause)),
         }
     }
 }

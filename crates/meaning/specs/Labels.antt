@@ -3,11 +3,9 @@ use Rattle.std.specs.Prelude.{ℕ, ℤ, Bool, List, Option}
 use Rattle.words.specs.declared.outcome.Fault.{Fault}
 use Rattle.words.specs.declared.outcome.Fault.TheVariants.{HandleNotJoinable, ProcessTableFull}
 use Rattle.program.specs.declared.kinds.Member.{Member}
-
--- why a process aborts: it faulted, or it was killed from outside
-pub data Cause : Type 0 where
-  Faulted : (fault : Fault) → Cause
-  Killed : Cause
+-- why a process dies: it faulted, or it was killed from outside
+pub use Rattle.words.specs.declared.outcome.Cause.{Cause}
+pub use Rattle.words.specs.declared.outcome.Cause.TheVariants.{Faulted, Killed}
 
 -- how a process is over
 pub data End : Type 0 where

@@ -7,7 +7,11 @@ use Rattle.mesamon.specs.declared.status.Status.{Status}
 use Rattle.mesamon.specs.declared.status.Status.TheVariants.{Done, Refused, Usage, Stuck, Limit, Memory, Failed}
 use Rattle.mesamon.specs.Statuses.{status_code}
 use Rattle.mesamon.specs.Accounts.{account, output_lines}
-use Rattle.mesamon.specs.Commands.{HasDone, HasEnded, HasExplained, HasRun, IsReportOf, status_of_verdict}
+use Rattle.isa.specs.Programs.{Program}
+use Rattle.isa.specs.Spelling.{IsSpelled, spelling}
+use Rattle.runner.specs.Reports.{IsReport}
+use Rattle.mesamon.specs.Commands.{HasDone, HasEnded, HasExecuted, HasExplained, HasRun, IsReportOf}
+use Rattle.mesamon.specs.Commands.{status_of_verdict}
 use Rattle.runner.specs.declared.report.Report.{Report}
 use Rattle.runner.specs.declared.report.Verdict.{Verdict}
 use Rattle.runner.specs.declared.report.Verdict.TheVariants as verdict
@@ -24,10 +28,15 @@ pub ran : (W E : List ℕ → Type 0) (s : Status) → HasRun W E s → HasDone 
 ran W E s h =
     done-at W E h.report.verdict s (inl (subst (HasRun W E) h.ended h)) h.ended
 
+-- so did that of an image
+pub executed : (W E : List ℕ → Type 0) (s : Status) → HasExecuted W E s → HasDone W E s
+executed W E s h =
+    done-at W E h.report.verdict s (inr (inl (subst (HasExecuted W E) h.ended h))) h.ended
+
 -- so did one that was explained
 pub explained : (W E : List ℕ → Type 0) (s : Status) → E [] → HasExplained W s → HasDone W E s
 explained W E s told h =
-    done-at W E h.explained_run.report.verdict s (inr (subst (HasExplained W) h.ended h, told)) h.ended
+    done-at W E h.explained_run.report.verdict s (inr (inr (subst (HasExplained W) h.ended h, told))) h.ended
 
 -- where nothing is written, known bytes grow by none
 pub nothing_written : (known : Option (List ℕ)) → Appends known known []
@@ -41,6 +50,25 @@ pub has_run : (W E : List ℕ → Type 0) (F : Type 0) (text : List ℕ) (trace 
 has_run W E F text trace report (Ok s) run ended wrote told =
     record { text = text; trace = trace; report = report; run = run; ended = ended; wrote = wrote; told = told }
 has_run W E F text trace report (Err f) run ended wrote told = tt
+
+pub has_executed : (W E : List ℕ → Type 0) (F : Type 0) (bytes : List ℕ) (image : Program) (limit : ℕ) (trace : Bool)
+    (report : Report) (r : Result Status F) → IsSpelled image → spelling image ≡ bytes → IsReport image limit report
+    → IfOk r (λ s. s ≡ status_of_verdict report.verdict) → OnOk r (W (output_lines report.output.items))
+    → OnOk r (E (account report trace)) → IfOk r (HasExecuted W E)
+has_executed W E F bytes image limit trace report (Ok s) spelled is run ended wrote told = record {
+  bytes = bytes;
+  image = image;
+  spelled = spelled;
+  is = is;
+  limit = limit;
+  trace = trace;
+  report = report;
+  run = run;
+  ended = ended;
+  wrote = wrote;
+  told = told;
+}
+has_executed W E F bytes image limit trace report (Err f) spelled is run ended wrote told = tt
 
 -- a command that ran nothing was done
 pub done_by : (W E : List ℕ → Type 0) (F : Type 0) (A : Type 0) (r : Result Status F) → (A → HasDone W E Done)

@@ -7,8 +7,8 @@ use Rattle.std.specs.Option.{option_map}
 use Rattle.std.specs.Fmt.{decimal}
 use Rattle.std.proofs.lemmas.List.{append_assoc, flat_map_more, take_more}
 use Rattle.words.specs.Process.{process_word}
-use Rattle.words.specs.Outcomes.{fault_number, outcome_of}
-use Rattle.words.specs.declared.outcome.Fault.{Fault}
+use Rattle.words.specs.Outcomes.{cause_number, outcome_of}
+use Rattle.words.specs.declared.outcome.Cause.{Cause}
 use Rattle.words.specs.declared.outcome.Outcome.{Outcome}
 use Rattle.words.specs.declared.outcome.Outcome.TheVariants.{Aborted}
 use Rattle.machine.specs.States.{ConcreteState, state_of}
@@ -55,11 +55,11 @@ regroup : (a b c d : List ℕ) → a ++ (b ++ (c ++ d)) ≡ ((a ++ b) ++ c) ++ d
 regroup a b c d = sym (append_assoc (a ++ b) c d ∙ append_assoc a b (c ++ d))
 
 -- the line of a process that has aborted
-pub ended_line : (t : ℕ) (fault : Fault) (n : ℕ) (o : Outcome) (old new : List ℕ) → o ≡ Aborted fault
-    → n ≡ fault_number fault → new ≡ old
+pub ended_line : (t : ℕ) (cause : Cause) (n : ℕ) (o : Outcome) (old new : List ℕ) → o ≡ Aborted cause
+    → n ≡ cause_number cause → new ≡ old
     ++ (codes "process " ++ (decimal t ++ (codes " aborted: fault " ++ (decimal n ++ line_feed))))
     → new ≡ old ++ aborted_line t o
-ended_line t fault n o old new e number h =
+ended_line t cause n o old new e number h =
     rw (e, ← number) (h ∙ ap (λ z. old ++ (codes "process " ++ z)) (regroup (decimal t) (codes " aborted: fault ")
     (decimal n) line_feed))
 

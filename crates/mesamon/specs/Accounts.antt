@@ -7,7 +7,7 @@ use Rattle.std.specs.Fmt.{decimal, signed_decimal}
 use Rattle.words.specs.Signed.{signed_of}
 use Rattle.words.specs.Limits.{most_processes}
 use Rattle.words.specs.Process.{process_word}
-use Rattle.words.specs.Outcomes.{fault_number, outcome_of}
+use Rattle.words.specs.Outcomes.{cause_number, outcome_of}
 use Rattle.words.specs.declared.outcome.Outcome.{Outcome}
 use Rattle.words.specs.declared.outcome.Outcome.TheVariants.{Aborted}
 use Rattle.machine.specs.declared.event.Entry.{Entry}
@@ -111,10 +111,10 @@ abbrev pub is_stuck : Verdict → Bool
 is_stuck Stuck = true
 is_stuck _ = false
 
--- the line of a thread that ended by a fault
+-- the line of a thread that died
 abbrev pub aborted_line : ℕ → Outcome → List ℕ
-aborted_line t (Aborted fault) =
-    codes "process " ++ decimal t ++ codes " aborted: fault " ++ decimal (fault_number fault) ++ line_feed
+aborted_line t (Aborted cause) =
+    codes "process " ++ decimal t ++ codes " aborted: fault " ++ decimal (cause_number cause) ++ line_feed
 aborted_line t _ = []
 
 -- the line of a thread that sleeps

@@ -7,6 +7,7 @@ use Rattle.isa.specs.Lines.{lines}
 use Rattle.runner.specs.declared.report.Verdict.{Verdict}
 use Rattle.runner.specs.declared.report.Verdict.TheVariants as verdict
 use Rattle.runner.specs.declared.report.Report.{Report}
+use Rattle.runner.specs.Reports.{IsReport}
 use Rattle.mesamon.specs.declared.status.Status.{Status}
 use Rattle.mesamon.specs.declared.status.Status.TheVariants.{Done, Stuck, Limit}
 use Rattle.program.specs.Trees.{Program as ProgramOf}
@@ -63,6 +64,20 @@ pub record HasRun (Wrote WroteErrors : List ℕ → Type 0) (status : Status) : 
   pub wrote : Wrote (output_lines report.output.items)
   pub told : WroteErrors (account report trace)
 
+-- some bytes spell an image that was run within some limit of steps, and its output and its account were written
+pub record HasExecuted (Wrote WroteErrors : List ℕ → Type 0) (status : Status) : Type 0 where
+  pub bytes : List ℕ
+  pub image : Program
+  pub spelled : IsSpelled image
+  pub is : spelling image ≡ bytes
+  pub limit : ℕ
+  pub trace : Bool
+  pub report : Report
+  pub run : IsReport image limit report
+  pub ended : status ≡ status_of_verdict report.verdict
+  pub wrote : Wrote (output_lines report.output.items)
+  pub told : WroteErrors (account report trace)
+
 -- the lines of the actions of an explained run, by the names of its program
 abbrev pub explained_lines : ExplainedRun → List ℕ
 explained_lines r = flat_map (line r.checked.names) (map action_of r.actions.items)
@@ -76,10 +91,11 @@ pub record HasExplained (Wrote : List ℕ → Type 0) (status : Status) : Type 0
   pub ended : status ≡ status_of_verdict explained_run.report.verdict
   pub wrote : Wrote (explained_lines explained_run)
 
--- a command that ended so has run some text, or has explained its run, with nothing told of it as an error
+-- a command that ended so has run some text or some image, or has explained a run, with nothing told of it as an error
 abbrev pub HasEnded : (Wrote WroteErrors : List ℕ → Type 0) → Status → Type 0
 HasEnded Wrote WroteErrors status =
-    HasRun Wrote WroteErrors status ⊎ (HasExplained Wrote status × WroteErrors [])
+    HasRun Wrote WroteErrors status ⊎ (HasExecuted Wrote WroteErrors status
+    ⊎ (HasExplained Wrote status × WroteErrors []))
 
 -- a command that ended well has compiled, has listed, has run, has explained or has checked
 abbrev pub HasDone : (Wrote WroteErrors : List ℕ → Type 0) → Status → Type 0

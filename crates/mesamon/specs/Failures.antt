@@ -8,6 +8,7 @@ use Rattle.isa.specs.declared.fault.DecodeFault.{DecodeFault}
 use Rattle.isa.specs.declared.fault.DecodeFault.TheVariants as image
 use Rattle.scanner.specs.declared.refusal.Refusal.{Refusal}
 use Rattle.scanner.specs.declared.refusal.RefusalKind.TheVariants as kind
+use Rattle.runner.specs.declared.fault.RunFault.{RunFault}
 use Rattle.runner.specs.declared.fault.RunFault.TheVariants as fault
 use Rattle.mesamon.specs.declared.source_run.RunSourceFault.{RunSourceFault}
 use Rattle.mesamon.specs.declared.source_run.RunSourceFault.TheVariants as source
@@ -51,11 +52,15 @@ abbrev pub OfImage : DecodeFault → Failure → Type 0
 OfImage image.Memory f = f ≡ Memory
 OfImage e f = f ≡ Image e
 
+-- and so is the fault of a run
+abbrev pub OfFault : RunFault → Failure → Type 0
+OfFault fault.Memory f = f ≡ Memory
+OfFault e f = f ≡ Run e
+
 -- the failure that comes of a fault of `run`
 abbrev pub OfRun : RunSourceFault → Failure → Type 0
 OfRun (source.Refused e) f = OfRefusal e f
-OfRun (source.Run fault.Memory) f = f ≡ Memory
-OfRun (source.Run e) f = f ≡ Run e
+OfRun (source.Run e) f = OfFault e f
 
 -- the failure that comes of a fault of `replay`
 abbrev pub OfReplay : ReplayFault → Failure → Type 0

@@ -1,31 +1,22 @@
 ghost use Rattle.std.specs.Prelude.{◌≡◌, ◌≤◌, ◌⊎◌, List, IfOk, OnOk};
 ghost use Rattle.std.specs.Io.KnownBytes.{Appends};
-ghost use Rattle.mesamon.specs.Accounts.{output_lines, account};
-ghost use Rattle.mesamon.specs.Commands.{HasChecked, HasCompiled, HasDone, HasEnded, HasExplained, HasListed, HasRun};
-ghost use Rattle.mesamon.specs.Commands.{status_of_verdict};
-ghost use Rattle.mesamon.specs.Running.{IsRunOfText};
+ghost use Rattle.mesamon.specs.Commands.{HasChecked, HasCompiled, HasDone, HasEnded, HasListed};
 
-use crate::explained_run::{ExplainedRun, explain_source};
+use crate::explaining::explain_file;
 use crate::failure::Failure;
-use crate::files::{read_file, write_file};
-use crate::replaying::replay;
-use crate::report::{write_account, write_bytes, write_image_line, write_output, write_text};
-use crate::schedule::threads_of;
-use crate::source_run::{RunSourceFault, run_in_order, run_source};
+use crate::files::{bytes_of, put_bytes};
+use crate::report::{write_image_line, write_text};
+use crate::running::{exec_file, replay_file, run_file};
+use crate::showing::Kept;
 use crate::status::Status;
-use actionlines::action_lines;
-use chart::chart;
 use commandline::{Job, read_job};
 use compiler::{check_text, compile};
 use isa::{decode, encode, list_lines};
-use runner::{Report, Verdict};
-use scanner::MOST_BYTES;
 use std::io;
 use std::io::Write;
 use std::rt::Files;
 use std::sync::Wait;
 use std::thread::Threads;
-use words::OpenGate;
 
 /// Does the command that these words ask for, those after the program's name, and answers the exit status. `output`
 /// and `errors` stand for standard output and standard error.
@@ -33,8 +24,8 @@ use words::OpenGate;
 /// The first fault decides: of the words, of reading the files, of the source text or the image, of its run, of
 /// writing.
 ///
-/// A text is run with a worker for each thread, but where its log is shown or explained: then on the calling thread, so
-/// that the log is the same each time.
+/// A text or an image is run with a worker for each thread, but where a fixed order is asked for: then on the
+/// calling thread, so that the log is the same each time.
 ///
 /// The status is 0 where the command was done, 1 where the source text is refused, 2 for words that are no command, 3
 /// where the run was stuck, 4 where it reached its limit, 5 where memory ran out, and 6 for any other failure.
@@ -87,19 +78,16 @@ fn do_job<'a, R: Files + AllocGlobal + Threads + Wait + Sync, O: Write, E: Write
         Job::Check { file } => check_file(rt, file, output),
         Job::Compile { file, out } => compile_file(rt, file, out, output),
         Job::List { image } => list_file(rt, image, output),
-        Job::Run { file, steps, trace } => run_file(rt, file, steps, trace, output, errors),
+        Job::Run { file, options } => run_file(rt, file, options, output, errors),
+        Job::Exec { image, options } => exec_file(rt, image, options, output, errors),
         Job::Replay {
             file,
             schedule,
             trace,
-        } => { replay_file(rt, file, schedule, trace, output, errors) }
+            log,
+        } => { replay_file(rt, file, schedule, Kept { trace, log }, output, errors) }
         Job::Explain { file, steps, chart } => explain_file(rt, file, steps, chart, output),
     }
-}
-
-// The bytes of the file of this name.
-fn bytes_of<'a, R: Files + AllocGlobal>(rt: &R, name: &'a str) -> Result<Vec<u8>, Failure<'a>> {
-    read_file(rt, name).map_err(|error| Failure::of_read(name, &error))
 }
 
 // Checks a file.
@@ -132,7 +120,7 @@ fn compile_file<'a, R: Files + AllocGlobal, O: Write>(
     let text = bytes_of(rt, file)?;
     let image = compile(rt.alloc(), text.as_slice())?;
     let bytes = encode(rt.alloc(), &image)?;
-    write_file(rt, out, bytes.as_slice()).map_err(|error| Failure::of_write(out, &error))?;
+    put_bytes(rt, out, bytes.as_slice())?;
     let count = image.code().len();
     write_image_line(output, count)?;
     Ok(Status::Done)
@@ -153,128 +141,4 @@ fn list_file<'a, R: Files + AllocGlobal, O: Write>(
     let lines = list_lines(rt.alloc(), &image)?;
     write_text(output, lines.as_str())?;
     Ok(Status::Done)
-}
-
-// Runs a file.
-fn run_file<'a, R: Files + AllocGlobal + Threads + Wait + Sync, O: Write, E: Write>(
-    rt: &R,
-    file: &'a str,
-    steps: u32,
-    trace: bool,
-    output: &mut O,
-    errors: &mut E,
-) -> Result<Status, Failure<'a>>
-    ensures { IfOk result (λ s. HasRun (Appends (O.contents output.old) (O.contents output.new))
-        (Appends (E.contents errors.old) (E.contents errors.new)) s) }
-{
-    let text = bytes_of(rt, file)?;
-    let report = run_text(rt, text.as_slice(), steps, trace)?;
-    show(rt, &report, trace, output, errors)
-}
-
-// Runs a text: in order where the log is shown, and else with a worker for each thread.
-fn run_text<R: AllocGlobal + Threads + Wait + Sync>(
-    rt: &R,
-    text: &[u8],
-    steps: u32,
-    trace: bool,
-) -> Result<Report, RunSourceFault>
-    ensures { IfOk result (λ report. IsRunOfText text.now steps report) }
-{
-    if trace {
-        run_in_order(rt.alloc(), text, steps, &OpenGate)
-    } else {
-        run_source(rt, rt.alloc(), text, steps, &OpenGate)
-    }
-}
-
-// Runs a file by the schedule of another.
-fn replay_file<'a, R: Files + AllocGlobal, O: Write, E: Write>(
-    rt: &R,
-    file: &'a str,
-    schedule: &'a str,
-    trace: bool,
-    output: &mut O,
-    errors: &mut E,
-) -> Result<Status, Failure<'a>>
-    ensures { IfOk result (λ s. HasRun (Appends (O.contents output.old) (O.contents output.new))
-        (Appends (E.contents errors.old) (E.contents errors.new)) s) }
-{
-    let text = bytes_of(rt, file)?;
-    let threads = schedule_of(rt, schedule)?;
-    let report = replay(rt.alloc(), text.as_slice(), threads.as_slice())?;
-    show(rt, &report, trace, output, errors)
-}
-
-// Prints what a run of a file is in its source, and draws it to another file where one is named.
-fn explain_file<'a, R: Files + AllocGlobal, O: Write>(
-    rt: &R,
-    file: &'a str,
-    steps: u32,
-    out: Option<&'a str>,
-    output: &mut O,
-) -> Result<Status, Failure<'a>>
-    ensures { IfOk result
-        (λ s. HasExplained (Appends (O.contents output.old) (O.contents output.new)) s) }
-{
-    let text = bytes_of(rt, file)?;
-    let run = explain_source(rt.alloc(), text.as_slice(), steps)?;
-    let lines = action_lines(rt.alloc(), run.checked.names(), run.actions.as_slice())?;
-    if let Some(out) = out {
-        write_chart(rt, out, &run)?;
-    }
-    write_bytes(output, lines.as_slice())?;
-    Ok(status_of(run.report.verdict))
-}
-
-// Draws a run to a file.
-fn write_chart<'a, R: Files + AllocGlobal>(
-    rt: &R,
-    out: &'a str,
-    run: &ExplainedRun<'_>,
-) -> Result<(), Failure<'a>> {
-    let picture = chart(rt.alloc(), &run.checked, run.actions.as_slice())?;
-    write_file(rt, out, picture.as_slice()).map_err(|error| Failure::of_write(out, &error))
-}
-
-// The threads that a schedule's file names.
-fn schedule_of<'a, R: Files + AllocGlobal>(rt: &R, name: &'a str) -> Result<Vec<u32>, Failure<'a>> {
-    let bytes = bytes_of(rt, name)?;
-    if bytes.len() > MOST_BYTES {
-        return Err(Failure::Schedule(0));
-    }
-    Ok(threads_of(rt.alloc(), bytes.as_slice())?)
-}
-
-// Writes what a run tells, and says how it ended. Each of the two devices gets all of its lines, also where the other
-// failed.
-fn show<'a, R: AllocGlobal, O: Write, E: Write>(
-    rt: &R,
-    report: &Report,
-    trace: bool,
-    output: &mut O,
-    errors: &mut E,
-) -> Result<Status, Failure<'a>>
-    ensures ended { IfOk result (λ s. s ≡ status_of_verdict report.now.verdict) }
-    ensures output { OnOk result (Appends (O.contents output.old) (O.contents output.new)
-        (output_lines report.now.output.items)) }
-    ensures errors { OnOk result (Appends (E.contents errors.old) (E.contents errors.new)
-        (account report.now trace)) }
-{
-    let printed = write_output(rt.alloc(), output, report.output.as_slice());
-    let told = write_account(rt.alloc(), errors, report, trace);
-    printed?;
-    told?;
-    Ok(status_of(report.verdict))
-}
-
-// How a run that came to its end so ended.
-fn status_of(verdict: Verdict) -> Status
-    ensures { result ≡ status_of_verdict verdict }
-{
-    match verdict {
-        Verdict::Done => Status::Done,
-        Verdict::Stuck => Status::Stuck,
-        Verdict::Limit => Status::Limit,
-    }
 }

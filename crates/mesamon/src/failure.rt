@@ -1,7 +1,7 @@
 ghost use Rattle.std.specs.Prelude.{◌≡◌};
 ghost use Rattle.std.specs.IoError.{error_kind};
 ghost use Rattle.mesamon.specs.declared.failure.Failure.TheVariants.{Memory as memory, Output as output};
-ghost use Rattle.mesamon.specs.Failures.{status_of, OfExplain, OfImage, OfIo, OfRefusal};
+ghost use Rattle.mesamon.specs.Failures.{status_of, OfExplain, OfFault, OfImage, OfIo, OfRefusal};
 ghost use Rattle.mesamon.specs.Failures.{OfReplay, OfRun, OfWords};
 
 use crate::explained_run::ExplainSourceFault;
@@ -124,14 +124,24 @@ impl From<DecodeFault> for Failure<'_> {
     }
 }
 
+impl From<RunFault> for Failure<'_> {
+    ghost from_gives = { OfFault };
+
+    fn from(fault: RunFault) -> Self {
+        match fault {
+            RunFault::Memory => Failure::Memory,
+            other => Failure::Run(other),
+        }
+    }
+}
+
 impl From<RunSourceFault> for Failure<'_> {
     ghost from_gives = { OfRun };
 
     fn from(fault: RunSourceFault) -> Self {
         match fault {
             RunSourceFault::Refused(refusal) => Failure::from(refusal),
-            RunSourceFault::Run(RunFault::Memory) => Failure::Memory,
-            RunSourceFault::Run(fault) => Failure::Run(fault),
+            RunSourceFault::Run(fault) => Failure::from(fault),
         }
     }
 }

@@ -1,16 +1,34 @@
 ghost use Rattle.std.specs.Prelude.{◌≡◌, ◌+◌, IfOk, IfSome, take};
 
+use crate::failure::Failure;
 use scanner::MOST_BYTES;
 use std::alloc::Global;
 use std::io::Read;
 use std::rt::Files;
 use std::{fs, io};
 
-/// The bytes of a file, or the first `MOST_BYTES + 1` of a longer one.
+/// The bytes of the file of this name, or the first `MOST_BYTES + 1` of a longer one; the failure names it.
+pub fn bytes_of<'a, R: Files + AllocGlobal>(rt: &R, name: &'a str) -> Result<Vec<u8>, Failure<'a>> {
+    read_file(rt, name).map_err(|error| Failure::of_read(name, &error))
+}
+
+/// Writes a file of this name with these bytes, in place of what it held; the failure names it.
 ///
-/// No more is needed: a source text of so many bytes is refused as too long, and an image ends earlier, since each of
-/// its 65,536 instructions has at most 11 bytes.
-pub fn read_file<R: Files + AllocGlobal>(rt: &R, name: &str) -> io::Result<Vec<u8>> {
+/// A regular file holds either all of them or what it held before. What is no regular file, as a device, is written as
+/// it stands.
+pub fn put_bytes<'a, R: Files + AllocGlobal>(
+    rt: &R,
+    name: &'a str,
+    bytes: &[u8],
+) -> Result<(), Failure<'a>> {
+    write_file(rt, name, bytes).map_err(|error| Failure::of_write(name, &error))
+}
+
+// The bytes of a file, or the first `MOST_BYTES + 1` of a longer one.
+//
+// No more is needed: a source text of so many bytes is refused as too long, and an image ends earlier, since each of
+// its 65,536 instructions has at most 11 bytes.
+fn read_file<R: Files + AllocGlobal>(rt: &R, name: &str) -> io::Result<Vec<u8>> {
     read_front(rt.alloc(), fs::open(rt, name)?)
 }
 
@@ -24,11 +42,8 @@ fn read_front<R: Read + Drop>(alloc: Global, reader: R) -> io::Result<Vec<u8>>
     Ok(bytes)
 }
 
-/// Writes a file of these bytes, in place of what it held.
-///
-/// A regular file holds either all of them or what it held before: they are written to a file beside it, named by a
-/// further `.part`, which then takes its name. What is no regular file, as a device, is written as it stands.
-pub fn write_file<R: Files + AllocGlobal>(rt: &R, name: &str, bytes: &[u8]) -> io::Result<()> {
+// The bytes go to a file beside it, named by a further `.part`, which then takes its name.
+fn write_file<R: Files + AllocGlobal>(rt: &R, name: &str, bytes: &[u8]) -> io::Result<()> {
     if is_special(rt, name) {
         return fs::write(rt, name, bytes);
     }

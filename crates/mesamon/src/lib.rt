@@ -3,15 +3,18 @@
 
 mod commands;
 mod explained_run;
+mod explaining;
 mod failure;
 mod files;
 mod replaying;
 mod report;
+mod running;
 mod schedule;
+mod showing;
 mod source_run;
 mod status;
 
-pub use commandline::{Job, WordsFault, read_job};
+pub use commandline::{Job, Order, RunOptions, WordsFault, read_job};
 pub use commands::perform;
 pub use compiler::{check_text, compile, compile_checked};
 pub use explained_run::{ExplainSourceFault, ExplainedRun, explain_source};

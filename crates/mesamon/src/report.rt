@@ -87,7 +87,8 @@ fn append_account(text: &mut String, report: &Report, trace: bool) -> Result<(),
     append_threads(text, &report.last, report.verdict == Verdict::Stuck)
 }
 
-fn append_log(text: &mut String, log: &[Entry]) -> Result<(), AllocError>
+/// Appends the lines of a log.
+pub fn append_log(text: &mut String, log: &[Entry]) -> Result<(), AllocError>
     ensures { OnOk result (string_bytes text.new ≡ string_bytes text.old ++ log_lines log.now) }
 {
     for entry in log {
@@ -200,8 +201,8 @@ fn append_end(text: &mut String, thread: u32, outcome: Outcome) -> Result<(), Al
     ensures { OnOk result (string_bytes text.new
         ≡ string_bytes text.old ++ aborted_line thread outcome) }
 {
-    if let Outcome::Aborted(fault) = outcome {
-        let number = fault.number();
+    if let Outcome::Aborted(cause) = outcome {
+        let number = cause.number();
         writeln!(text, "process {thread} aborted: fault {number}")?;
     }
     Ok(())

@@ -11,7 +11,7 @@ use Rattle.protocol.specs.Points.{ReenterTries, TakeReads, TakeMarks, TakeSleeps
 use Rattle.protocol.specs.Points.{GotHeads, GotUnpends, WaitReads, NotifyAdds, NotifyWakes, BroadcastAdds}
 use Rattle.protocol.specs.Points.{BroadcastMarks, BroadcastReads, BroadcastMoves, JoinReads, JoinSleeps, JoinLearns}
 use Rattle.protocol.specs.Points.{JoinTakes, LeavePends, LeaveReads, LeaveHeads, LeaveSwaps, LeaveWakes, HasLeft, Dies}
-use Rattle.protocol.specs.Points.{MeetsClaimed, Walks, ClearsId, LastWakes, HasEnded}
+use Rattle.protocol.specs.Points.{MeetsClaimed, LeaveLoads, LeaveKeeps, LeaveClears, Walks, ClearsId, LastWakes, HasEnded}
 use Rattle.protocol.specs.World.{World}
 use Rattle.proof_thread.specs.Following.{Build}
 use Rattle.refinement.specs.Built.{build_of}
@@ -52,6 +52,9 @@ rank_few more w big (LeavePends m r) = omega arith
 rank_few more w big (LeaveReads m r) = omega arith
 rank_few more w big (LeaveHeads m h r) = omega arith
 rank_few more w big (LeaveSwaps m r) = omega arith
+rank_few more w big (LeaveLoads m r) = omega arith
+rank_few more w big (LeaveKeeps m v r) = omega arith
+rank_few more w big (LeaveClears m r) = omega arith
 rank_few more w big (LeaveWakes m ToExit) = omega arith
 rank_few more w big (LeaveWakes m (ToWait c s)) = omega (arith, big)
 rank_few more w big (HasLeft m ToExit) = omega arith

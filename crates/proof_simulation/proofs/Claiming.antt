@@ -145,7 +145,7 @@ module _ (p : Program) (w : WellFormed p) (steps : ℕ) (s : State) (c : SourceS
         → offer p c.variable q ≡ ClaimsOne child (Joining child into part f cs)
         (Dying (Faulted HandleNotJoinable) (holds q)) → (j : Awaits b t child into part f cs)
         → StepsWithin b t join_steps (go' 0) j.reads
-        → ((m : ℕ) → StepsWithin b t join_steps (go' (suc m)) (Dies' HandleNotJoinable))
+        → ((m : ℕ) → StepsWithin b t join_steps (go' (suc m)) (Dies' (Faulted HandleNotJoinable)))
         → Next p w steps s' t done deferral pauses n c (stages k.world)
     claims_step {into = into} {part = part} {f = f} {cs = cs} child go' some below enough h o j free taken =
         elim (cases_eq (k.world.claim child) 0) [ inl z ↦ claimed z | inr z ↦ refused z ]

@@ -11,7 +11,7 @@ use Rattle.machine.specs.States.{State}
 use Rattle.machine.specs.Runs.{Moves}
 use Rattle.program.specs.declared.kinds.Member.{Member}
 use Rattle.program.specs.Trees.{Program}
-use Rattle.meaning.specs.Labels.{Kind, End, Faulted, Killed}
+use Rattle.meaning.specs.Labels.{Kind, End}
 use Rattle.meaning.specs.Table.{Table}
 use Rattle.protocol.specs.Word.{waiters, owner}
 use Rattle.protocol.specs.Points.{LeaveSwaps, ToWait, Point, ToExit, EnterPends, EnterTries, ReenterPends, ReenterTries}
@@ -301,8 +301,6 @@ module _ (p : Program) where
   points w T t Unmade r w' e l mine listed may ok asks same = absurd ok
   points w T t Runs r w' e l mine listed may ok asks same = absurd ok
   points w T t (HasEnded end) r w' e l mine listed may ok asks same = absurd ok
-  points w T t (Dies (Faulted fault) x) r w' e l mine listed may ok asks same = refl
-  points w T t (Dies Killed x) r w' e l mine listed may ok asks same = refl
   points w T t (Walks n x end) r w' e l mine listed may ok asks same = absurd cc
   points w T t (ClearsId end) r w' e l mine listed may ok asks same = absurd cc
   points w T t (LastWakes end) r w' e l mine listed may ok asks same = refl

@@ -185,7 +185,7 @@ module _ (p : Program) (w : WellFormed p) (steps : ℕ) (s : State) (c : SourceS
       → Leads p c (map (act t) kinds) (record c { process = f })
       → Places p s' t c (record c { process = f }) done deferral (stages k.world t) W.Leaves kinds
       → IsSome kinds ⊎ (3 < n)
-      → StepsSo p done deferral (mark_of (marks_of p) (Dies' fault)) s t woken (look (code_of p) t (Dies' fault)) s'
+      → StepsSo p done deferral (mark_of (marks_of p) (Dies' (Faulted fault))) s t woken (look (code_of p) t (Dies' (Faulted fault))) s'
       → Next p w steps s' t done deferral pauses n c (stages k.world)
   by_fault fault at f kinds reached stands list same chain ps own leads places paced g =
       let end = Aborted (Faulted fault) in
@@ -209,7 +209,7 @@ module _ (p : Program) (w : WellFormed p) (steps : ℕ) (s : State) (c : SourceS
   -- a thread that comes to a fault which it met in the source already
   pub dies_step : (fault : Fault) → (k.world.at t).point ≡ Dies (Faulted fault) NoEntry
       → c.process t ≡ Some (Dying (Faulted fault) l) → 3 < n
-      → StepsSo p done deferral (mark_of (marks_of p) (Dies' fault)) s t woken (look (code_of p) t (Dies' fault)) s'
+      → StepsSo p done deferral (mark_of (marks_of p) (Dies' (Faulted fault))) s t woken (look (code_of p) t (Dies' (Faulted fault))) s'
       → Next p w steps s' t done deferral pauses n c (stages k.world)
   dies_step fault point proc enough moves = by_fault fault k.world.at c.process [] k.reached point refl (λ y. refl)
       (dying_chain k.world c.table t (Faulted fault) NoEntry inv point) (same_puts c.process t _ proc) tt refl
@@ -218,7 +218,7 @@ module _ (p : Program) (w : WellFormed p) (steps : ℕ) (s : State) (c : SourceS
 
   -- a thread that meets a fault, as its process does by this action
   fault_met : (q : Process) (fault : Fault) (label : Label) (x : Thread) → c.process t ≡ Some q → l ≡ holds q
-      → IsSteady p q c.variable → x ≡ Dies' fault → stages k.world t ≡ W.Works → Chain k.world.link first l
+      → IsSteady p q c.variable → x ≡ Dies' (Faulted fault) → stages k.world t ≡ W.Works → Chain k.world.link first l
       → Reached (go_list k.world t (Dies (Faulted fault) NoEntry) l) c.table
       → kind_of label ≡ L.Fails fault → is_internal label ≡ true
       → TakesUp (offer p c.variable q) label Nothing (Dying (Faulted fault) l) → Allows t label c.table c.table
@@ -227,8 +227,8 @@ module _ (p : Program) (w : WellFormed p) (steps : ℕ) (s : State) (c : SourceS
   fault_met q fault label x proc list steady e works chain reached kind internal takes allowed moves =
       let r = Dying (Faulted fault) l in
       let z = thread_at (Dies (Faulted fault) NoEntry) l in
-      let g : StepsSo p done deferral (mark_of (marks_of p) (Dies' fault)) s t woken
-      (look (code_of p) t (Dies' fault)) s' =
+      let g : StepsSo p done deferral (mark_of (marks_of p) (Dies' (Faulted fault))) s t woken
+      (look (code_of p) t (Dies' (Faulted fault))) s' =
       subst (λ (i : Thread). StepsSo p done deferral (mark_of (marks_of p) i) s t woken
       (look (code_of p) t i) s') e moves
       in
@@ -245,7 +245,7 @@ module _ (p : Program) (w : WellFormed p) (steps : ℕ) (s : State) (c : SourceS
   pub refused_step : (child : ℕ) (q joining : Process) (x : Thread) → c.process t ≡ Some q → l ≡ holds q
       → (k.world.at t).point ≡ MeetsClaimed child → IsSteady p q c.variable
       → offer p c.variable q ≡ ClaimsOne child joining (Dying (Faulted HandleNotJoinable) (holds q))
-      → x ≡ Dies' HandleNotJoinable
+      → x ≡ Dies' (Faulted HandleNotJoinable)
       → StepsSo p done deferral (mark_of (marks_of p) x) s t woken (look (code_of p) t x) s'
       → Next p w steps s' t done deferral pauses n c (stages k.world)
   refused_step child q joining x proc list point steady o e moves =
@@ -385,7 +385,7 @@ module _ (p : Program) (w : WellFormed p) (steps : ℕ) (s : State) (c : SourceS
     takes_up label r o = subst (λ (i : Offer). TakesUp i label Nothing r) (sym o) (refl, refl, refl)
 
     -- a thread that meets a fault
-    pub faults_step : (fault : Fault) (x : Thread) → IsAtWork p q c.variable → x ≡ Dies' fault
+    pub faults_step : (fault : Fault) (x : Thread) → IsAtWork p q c.variable → x ≡ Dies' (Faulted fault)
         → offer p c.variable q ≡ Does (Alone (L.Fails fault)) Nothing (Dying (Faulted fault) (holds q))
         → StepsSo p done deferral (mark_of (marks_of p) x) s t woken (look (code_of p) t x) s'
         → Next p w steps s' t done deferral pauses n c (stages k.world)

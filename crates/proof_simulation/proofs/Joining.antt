@@ -6,6 +6,7 @@ use Rattle.std.proofs.lemmas.Bool.{cond-true, cond-false, eq-eqb, ne_eqb}
 use Rattle.words.specs.declared.outcome.Fault.TheVariants.{ResultOutOfRange, DivisionByZero, IndexOutOfRange}
 use Rattle.words.specs.declared.outcome.Fault.TheVariants.{HandleNotJoinable, ProcessTableFull, AbortStatement}
 use Rattle.words.specs.declared.outcome.Fault.TheVariants.{AbandonedMonitor, JoinedAborted}
+use Rattle.words.specs.Outcomes.{cause_number}
 use Rattle.words.specs.Process.{process_word}
 use Rattle.locals.specs.Threads.{Thread, Dies as Dies'}
 use Rattle.locals.specs.Looks.{Request, Look, Asks, AskLoad, AskWait, look}
@@ -21,7 +22,7 @@ use Rattle.meaning.specs.States.{SourceState}
 use Rattle.protocol.specs.Points.{OnId, Point, Unmade, Runs, JoinReads, JoinSleeps, JoinLearns, JoinTakes, LastWakes}
 use Rattle.protocol.specs.Points.{HasEnded}
 use Rattle.protocol.specs.World.{World, mem}
-use Rattle.protocol.specs.Finds.{cause_word, CarriesFinding}
+use Rattle.protocol.specs.Finds.{CarriesFinding}
 use Rattle.protocol.specs.Steps.{go_list}
 use Rattle.protocol.specs.Requests.{request}
 use Rattle.protocol.specs.Answers.{next, next_list}
@@ -61,7 +62,7 @@ use Rattle.proof_simulation.proofs.Acting.{held_of}
 use Rattle.proof_simulation.specs.Deferred.{Stage, stages, stage_of, Agrees, Works}
 use Rattle.proof_thread.specs.Deferrals.{mark_of, deferred_by_request}
 
-cause_small : (cause : Cause) → cause_word cause ≢ 16
+cause_small : (cause : Cause) → cause_number cause ≢ 16
 cause_small (Faulted ResultOutOfRange) e = absurd cc
 cause_small (Faulted DivisionByZero) e = absurd cc
 cause_small (Faulted IndexOutOfRange) e = absurd cc
@@ -290,9 +291,9 @@ module _ (p : Program) (w : WellFormed p) (steps : ℕ) (s : State) (c : SourceS
       × ((world : World) → steps_left b c.variable t world stand ≤ template_steps + most_steps b + before_template)
   aborted NoPart v h = (
     works join_steps (omega arith) (record {
-      last = Dies' JoinedAborted;
+      last = Dies' (Faulted JoinedAborted);
       walk = seen b.code t p (view_of b (Failing JoinedAborted None f cs) c.variable) join_steps (j.after_outcome v)
-          (Dies' JoinedAborted) h;
+          (Dies' (Faulted JoinedAborted)) h;
       completes = F.faults JoinedAborted refl refl;
     }) (record {
       steady = record { first = λ m e. absurd cc; same = λ v' h. refl };
@@ -335,7 +336,7 @@ module _ (p : Program) (w : WellFormed p) (steps : ℕ) (s : State) (c : SourceS
       }) low moves
   learn_step x (Aborted cause) there proc point enough low moves =
       let tell = tells (JoinLearns child (Aborted cause)) (Aborted cause) point (refl, refl) in
-      let v = cause_word cause in
+      let v = cause_number cause in
       let go = aborted part v (j.aborted v (cause_small cause)) in
       join_step (JoinLearns child (Aborted cause)) (after_join into part f cs (Aborted cause)) x
       (AskLoad (process_word child 5)) j.after_outcome proc point (ap (look (code_of p) t) there ∙ j.outcome)

@@ -59,7 +59,7 @@ module _ (p : Program) (w : WellFormed p) (steps : ℕ) (s : State) (c : SourceS
     (few : k.world.made ≤ 64) (awake : k.world.asleep t ≡ None) (q : Process) (proc : c.process t ≡ Some q)
     (point : (k.world.at t).point ≡ Runs) (list : (k.world.at t).list ≡ holds q) where
   -- no more can be made
-  pub full_step : (go' : ℕ → Thread) (child : Process) (later : ℕ → Process) → go' 0 ≡ Dies' ProcessTableFull
+  pub full_step : (go' : ℕ → Thread) (child : Process) (later : ℕ → Process) → go' 0 ≡ Dies' (Faulted ProcessTableFull)
       → offer p c.variable q ≡ MakesOne child later (Dying (Faulted ProcessTableFull) (holds q))
       → most_processes ≤ k.world.made → done ≡ false → deferral ≡ Some (L.Fails ProcessTableFull)
       → IsSteady p q c.variable → s' ≡ with_thread s t (go' 0)
@@ -226,7 +226,7 @@ module _ (p : Program) (w : WellFormed p) (steps : ℕ) (s : State) (c : SourceS
   -- the machine's step, whether a process was made or not
   pub forks_step : (child : Process) (later : ℕ → Process) (go' : ℕ → Thread) (entry : ℕ) (arguments : List ℕ)
       (x : Thread) → IsAtWork p q c.variable → look (code_of p) t x ≡ Asks (AskFork entry arguments true) go'
-      → go' 0 ≡ Dies' ProcessTableFull
+      → go' 0 ≡ Dies' (Faulted ProcessTableFull)
       → offer p c.variable q ≡ MakesOne child later (Dying (Faulted ProcessTableFull) (holds q)) → holds child ≡ []
       → ((m : ℕ) → k.world.made ≤ suc m → suc m ≤ most_processes
       → Stands (build_of p w (suc m)) t (go' (suc m)) (later (suc m)))

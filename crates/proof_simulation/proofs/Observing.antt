@@ -93,7 +93,7 @@ exit_idle p s t Ended' (asks r go h f) = cc
 busy_thread : (p : Program) (s : State) (t : ℕ) (x : Thread) (word : ℕ) → IsBusy p s t x
     → (end_by word (Some x) ≡ None) × (has_ended (Some x) ≡ false)
 busy_thread p s t (Runs' place operands l fs) word h = (refl, refl)
-busy_thread p s t (Dies' fault) word h = (refl, refl)
+busy_thread p s t (Dies' cause) word h = (refl, refl)
 busy_thread p s t (Exits' phase) word h = absurd (exit_idle p s t phase h)
 
 busy_fine : (p : Program) (s : State) (t : ℕ) (x : Thread) → IsBusy p s t x → IsBroken s (look (code_of p) t x) → ⊥
@@ -327,8 +327,7 @@ module _ (p : Program) (w : WellFormed p) (s : State) (size : s.size ≡ memory_
   asked_fine (P.AskWakeOne x) q e ok = one_fine _ q e (cell_there (cell_of x) ok)
   asked_fine (P.AskRequeue c x) q e ok = one_fine _ q e
       (λ un. cell_there (SequenceOf c) ok.0 (λ h. cell_there (LockOf c.monitor) ok.1 (λ g. un (h, g))))
-  asked_fine (P.AskFault (Faulted fault)) q e ok = one_fine _ q e (λ z. z)
-  asked_fine (P.AskFault Killed) q e ok = absurd cc
+  asked_fine (P.AskFault cause) q e ok = one_fine _ q e (λ z. z)
   asked_fine P.AskExitStep q e ok = absurd cc
 
   module _ (some : 0 < t) (few : t ≤ 64) where
@@ -427,7 +426,7 @@ module _ (p : Program) (w : WellFormed p) (s : State) (size : s.size ≡ memory_
         busy (steps_busy left x y walk (inside_busy u k at y fits ne stands)) (template_end b u t k at fits)
     seen v o q pt l listed (S.faults fault) = busy (asks _ _ refl (λ z. z)) refl
     seen v o q pt l listed (S.refused {x = x} {q = r} left few' k o' steady) =
-        busy (steps_busy left x (Dies' HandleNotJoinable) k (asks _ _ refl (λ z. z)))
+        busy (steps_busy left x (Dies' (Faulted HandleNotJoinable)) k (asks _ _ refl (λ z. z)))
         (offers_end b.program v r (λ e. cc (e, o')))
     seen v o q pt l listed (S.reads {child = child} {x = x} left few' is j k) =
         busy (steps_busy left x j.reads k (asks _ _ j.read (child_there child 2 is.some is.made (omega arith)))) refl

@@ -11,7 +11,8 @@ use Rattle.protocol.specs.Points.{EnterPends, EnterTries, ReenterPends, ReenterT
 use Rattle.protocol.specs.Points.{TakeTries, GotReads, GotLinks, GotHeads, GotUnpends, WaitReads, NotifyAdds}
 use Rattle.protocol.specs.Points.{NotifyWakes, BroadcastAdds, BroadcastMarks, BroadcastReads, BroadcastMoves, JoinReads}
 use Rattle.protocol.specs.Points.{JoinSleeps, JoinLearns, JoinTakes, MeetsClaimed, LeavePends, LeaveReads, LeaveHeads}
-use Rattle.protocol.specs.Points.{LeaveSwaps, LeaveWakes, HasLeft, Dies, Walks, ClearsId, LastWakes, HasEnded}
+use Rattle.protocol.specs.Points.{LeaveSwaps, LeaveLoads, LeaveKeeps, LeaveClears, LeaveWakes, HasLeft, Dies, Walks}
+use Rattle.protocol.specs.Points.{ClearsId, LastWakes, HasEnded}
 use Rattle.protocol.specs.World.{World}
 use Rattle.protocol.specs.Steps.{go_list}
 use Rattle.protocol.specs.Carries.{Event}
@@ -126,6 +127,9 @@ module _ (more : ℕ) (w : World) (T : Table) (t r : ℕ) (w' : World) (e : End)
   rank_falls (LeaveReads m k) is serves may none on = omega arith
   rank_falls (LeaveHeads m h k) is serves may none on = omega arith
   rank_falls (LeaveSwaps m k) is serves may none on = absurd cc
+  rank_falls (LeaveLoads m k) is serves may none on = absurd serves
+  rank_falls (LeaveKeeps m v k) is serves may none on = absurd serves
+  rank_falls (LeaveClears m k) is serves may none on = absurd serves
   rank_falls (LeaveWakes m ToExit) is serves may none on = omega arith
   rank_falls (LeaveWakes m (ToWait c s)) is serves may none on = omega arith
   rank_falls (HasLeft m ToExit) is serves may none on = absurd (on refl)
@@ -177,6 +181,9 @@ module _ (more : ℕ) (w : World) (T : Table) (t r : ℕ) (w' : World) (e : End)
   rank_ends (LeaveReads m k) is none on = absurd cc
   rank_ends (LeaveHeads m h k) is none on = absurd cc
   rank_ends (LeaveSwaps m k) is none on = absurd cc
+  rank_ends (LeaveLoads m k) is none on = absurd cc
+  rank_ends (LeaveKeeps m v k) is none on = absurd cc
+  rank_ends (LeaveClears m k) is none on = absurd cc
   rank_ends (LeaveWakes m k) is none on = absurd cc
   rank_ends (HasLeft m ToExit) is none on = omega arith
   rank_ends (HasLeft m (ToWait c s)) is none on = absurd cc

@@ -3,14 +3,14 @@ use Rattle.std.proofs.Common.{◌≡◌, ◌≢◌, ℕ, suc, ◌+◌, ◌%◌, 
 use Rattle.std.proofs.Common.{inl, inr, refl, sym, ap, ◌∙◌, subst, arith}
 use Rattle.std.specs.Int.Bits.{bit_or}
 use Rattle.std.proofs.lemmas.Bool.{cases_eq, eq-eqb, ne_eqb, cond-true, cond-false}
+use Rattle.words.specs.Outcomes.{cause_number}
 use Rattle.words.specs.Updates.{put}
-use Rattle.words.specs.declared.outcome.Fault.{Fault}
 use Rattle.buckets.specs.Places.{with_place}
 use Rattle.futexcalls.specs.FutexCalls.{IsChoice, Requeues}
 use Rattle.locals.specs.Looks as M
 use Rattle.program.specs.declared.kinds.Member.{Member}
 use Rattle.program.specs.Trees.{Program}
-use Rattle.meaning.specs.Labels.{Cause, Faulted, Killed}
+use Rattle.meaning.specs.Labels.{Cause}
 use Rattle.meaning.specs.Table.{Table}
 use Rattle.machine.specs.States.{State, with_word, with_sleepers}
 use Rattle.machine.specs.AbstractServing.{shared_of}
@@ -22,7 +22,6 @@ use Rattle.protocol.specs.Points.{EnterTries, ReenterPends, ReenterTries, TakeMa
 use Rattle.protocol.specs.Points.{GotUnpends, NotifyAdds, BroadcastAdds, BroadcastMarks, LeavePends, LeaveHeads}
 use Rattle.protocol.specs.Points.{LeaveSwaps, HasLeft}
 use Rattle.protocol.specs.World.{World, put_sequence, awake_after, requeued_sleep}
-use Rattle.protocol.specs.Finds.{cause_word}
 use Rattle.protocol.specs.Cells.{Cell, LockOf, LinkOf, HeadOf, PendingOf, IdOf, ClaimOf, ResultOf, OutcomeOf}
 use Rattle.protocol.specs.Cells.{SequenceOf, cell, write, cell_of}
 use Rattle.protocol.specs.Memory.{stored_value}
@@ -353,12 +352,12 @@ module _ (p : Program) (s : State) (w : World) (t : ℕ) (pt : Point)
             omega (arith, small)) in
             omega (arith, less)
 
-    faults : (cause : Cause) (fault : Fault) → cause ≡ Faulted fault → 0 < t → t ≤ 64
-        → A.Serves t (M.AskFault fault) s woken answer mid → IsAnswered p s mid w t pt (AskFault cause) answer
-    faults cause fault e some few h =
+    faults : (cause : Cause) → 0 < t → t ≤ 64
+        → A.Serves t (M.AskFault cause) s woken answer mid → IsAnswered p s mid w t pt (AskFault cause) answer
+    faults cause some few h =
         let ok = number_is t some few in
-        stored mid (AskFault cause) answer (w.head t) (OutcomeOf t) (cause_word cause) ok tt
-        (h.1.1 ∙ ap (λ (x : Cause). with_word s (place p (OutcomeOf t)) (cause_word x)) (sym e)) (refl, refl)
+        stored mid (AskFault cause) answer (w.head t) (OutcomeOf t) (cause_number cause) ok tt
+        h.1.1 (refl, refl)
         (h.1.0 ∙ shares.words.word (HeadOf t) ok)
 
 -- points make usual requests
@@ -422,9 +421,8 @@ answered p s w t pt r asks woken answer mid shares some few low sleepers = by_re
     by_request (AskRequeue c v) usual ok e h =
         requeues p s w t pt shares woken answer mid sleepers c v ok.0 ok.1
         (same (M.AskRequeue (place p (SequenceOf c)) (place p (LockOf c.monitor)) 0 everyone v) e h)
-    by_request (AskFault (Faulted fault)) usual ok e h =
-        faults p s w t pt shares woken answer mid (Faulted fault) fault refl some few (same (M.AskFault fault) e h)
-    by_request (AskFault Killed) usual ok e h = absurd cc
+    by_request (AskFault cause) usual ok e h =
+        faults p s w t pt shares woken answer mid cause some few (same (M.AskFault cause) e h)
     by_request AskExitStep usual ok e h = absurd cc
 
 -- who sleeps on a condition is a process

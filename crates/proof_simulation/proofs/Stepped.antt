@@ -29,7 +29,7 @@ use Rattle.protocol.specs.Answers.{next, next_list}
 use Rattle.protocol.specs.Served.{IsMove, MayAnswer, source_event, is_pending, pending_event}
 use Rattle.protocol.proofs.Good.{Good}
 use Rattle.protocol.proofs.Kept.{permitted}
-use Rattle.protocol.proofs.Covers.{covers}
+use Rattle.protocol.proofs.Covers.{every_step_is_a_move}
 use Rattle.protocol.proofs.Sleeps.{at_put}
 use Rattle.proof_thread.specs.Completing.{IsOwn}
 use Rattle.proof_thread.specs.Variables.{VariablesFit, variable_address}
@@ -139,7 +139,8 @@ module _ (p : Program) (w : WellFormed p) (steps : ℕ) (s : State) (c : SourceS
   inv = reached_good k.world c.table k.reached
 
   is_move : IsMove k.world t pt served.reply served.after
-  is_move = covers k.world c.table t pt served.reply served.after inv number.0 number.1 awake point served.serves
+  is_move = every_step_is_a_move k.reached.moves k.world k.reached.led t pt served.reply served.after number.0 number.1
+      awake point served.serves
 
   abbrev end : End
   end = is_move.end

@@ -197,7 +197,7 @@ module _ (p : Program) (w : WellFormed p) (steps : ℕ) (s : State) (c : SourceS
       (code_of p) t v) s') (same_thread e) moves)
   from_stand o q pt l (refused {child = child} {x = y} {q = r} {joining = joining} left few' h o' steady) proc point
       list enough x thread e low moves =
-      walking x y (Dies' HandleNotJoinable) left (same_thread e) h
+      walking x y (Dies' (Faulted HandleNotJoinable)) left (same_thread e) h
       (λ there. refused_step p w steps s c k t woken done deferral pauses s' n number few awake child r joining x proc
       list
       point steady o' there moves)

@@ -87,10 +87,10 @@ pub data StandsAt (b : Build) (v : Variables) (t : ℕ) : Option Thread → Opti
       → StandsAt b v t (Some x) (Some (process_at b.program k pt)) pt (list_at k pt)
   -- at a fault that it met in the source already
   faults : {ms : List ℕ} (fault : Fault)
-      → StandsAt b v t (Some (Dies' fault)) (Some (Dying (Faulted fault) ms)) (Dies (Faulted fault) NoEntry) ms
+      → StandsAt b v t (Some (Dies' (Faulted fault))) (Some (Dying (Faulted fault) ms)) (Dies (Faulted fault) NoEntry) ms
   -- refused a process that was claimed before: on the way to the fault, which the source still has before it
   refused : {child : ℕ} {x : Thread} {q joining : Process} (left : ℕ) → left ≤ join_steps
-      → StepsWithin b t left x (Dies' HandleNotJoinable)
+      → StepsWithin b t left x (Dies' (Faulted HandleNotJoinable))
       → offer b.program v q ≡ ClaimsOne child joining (Dying (Faulted HandleNotJoinable) (holds q))
       → IsSteady b.program q v → StandsAt b v t (Some x) (Some q) (MeetsClaimed child) (holds q)
   -- in a JOIN: on the way to each of its requests

@@ -5,7 +5,7 @@ use Rattle.locals.specs.Threads.{Thread}
 use Rattle.locals.specs.Looks.{Asks, look}
 use Rattle.locals.specs.Looks as M
 use Rattle.program.specs.Trees.{Program}
-use Rattle.meaning.specs.Labels.{End, Faulted, Killed}
+use Rattle.meaning.specs.Labels.{End}
 use Rattle.lowering.specs.Locks.{waiters}
 use Rattle.lowering.specs.Conditions.{everyone}
 use Rattle.protocol.specs.Points.{Point}
@@ -32,8 +32,7 @@ machine_request p (AskWait s x) = Some (M.AskWait (place p (cell_of s)) x)
 machine_request p (AskWakeOne s) = Some (M.AskWake (place p (cell_of s)) 1)
 machine_request p (AskRequeue c x) = Some
     (M.AskRequeue (place p (SequenceOf c)) (place p (LockOf c.monitor)) 0 everyone x)
-machine_request p (AskFault (Faulted fault)) = Some (M.AskFault fault)
-machine_request p (AskFault Killed) = None
+machine_request p (AskFault cause) = Some (M.AskFault cause)
 machine_request p AskExitStep = None
 
 -- the word that the machine answers: an entry that is loaded is an address, and so is the head that a fault answers

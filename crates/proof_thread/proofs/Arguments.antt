@@ -3,6 +3,7 @@ use Rattle.std.proofs.Common.{inl, inr, ◌≡◌, ◌⊎◌, ℕ, zero, suc, �
 use Rattle.std.proofs.Common.{Some, slice_get, refl, ap, sym, ◌∙◌, subst, arith, length-append, ℤ, pos}
 use Rattle.std.specs.Prelude.{slice_index, slice_set, replicate}
 use Rattle.words.specs.Signed.{word_of}
+use Rattle.words.specs.declared.outcome.Cause.TheVariants.{Faulted}
 use Rattle.isa.specs.declared.instr.Instr.TheVariants.{SetLocal}
 use Rattle.isa.specs.declared.slot.Slot.TheVariants.{Local as Slot'}
 use Rattle.proof_thread.specs.Deferrals.{MarkedImage, deferred_by_mark}
@@ -41,7 +42,7 @@ abbrev pub GivesAll : MarkedImage → ℕ → View → ℕ → Thread → Evalua
     → Type 0
 GivesAll p t view n x (Values zs) place operands l fs = WalksWithin p t view n x
     (Runs place (stacked zs operands) l fs)
-GivesAll p t view n x (FailsAll fault) place operands l fs = WalksWithin p t view n x (Dies fault)
+GivesAll p t view n x (FailsAll fault) place operands l fs = WalksWithin p t view n x (Dies (Faulted fault))
 
 abbrev pub HaveAll : ℕ → List ValueType → EvaluatedAll → Type 0
 HaveAll made ts (Values zs) = HaveValues made ts zs

@@ -7,6 +7,7 @@ use Rattle.words.specs.declared.process.ProcessWord.{ProcessWord}
 use Rattle.words.specs.declared.process.ProcessWord.TheVariants.{Id, Claim, Result, Outcome}
 use Rattle.words.specs.declared.outcome.Fault.TheVariants.{HandleNotJoinable}
 use Rattle.words.specs.Process.{process_word, number_of}
+use Rattle.words.specs.declared.outcome.Cause.TheVariants.{Faulted}
 use Rattle.isa.specs.declared.instr.Instr.{Instr}
 use Rattle.isa.specs.declared.instr.Instr.TheVariants.{ProcessAddress}
 use Rattle.proof_thread.specs.Deferrals.{MarkedImage, IsAt, deferred_by_mark}
@@ -101,7 +102,7 @@ module _ (p : MarkedImage) (t : ℕ) (view : View) (base : ℕ) (into : Option �
     pub claimed : WalksWithin p t view 3 (at 7 (0 ∷ [])) reads
     claimed = next 2 _ _ _ (step 7 9 _ _ (0 ∷ []) [] refl refl refl) to_read
 
-    pub refused : (n : ℕ) → WalksWithin p t view 2 (at 7 (suc n ∷ [])) (Dies HandleNotJoinable)
+    pub refused : (n : ℕ) → WalksWithin p t view 2 (at 7 (suc n ∷ [])) (Dies (Faulted HandleNotJoinable))
     refused n = next 1 _ _ _ (step 7 8 _ _ (suc n ∷ []) [] refl refl (omega arith))
         (let here = stand_index p base (rebase_all base (join_code into)) 8 (base + 8) _ code refl refl in
         one_step p t view _ _ (look_here p t view (base + 8) _ [] l fs here) (ap deferred_by_mark here.1))

@@ -18,7 +18,7 @@ use Rattle.locals.specs.declared.frame.Frame.{Frame as MachineFrame}
 use Rattle.locals.specs.Threads.{Thread, Runs, Dies, fresh}
 use Rattle.locals.specs.Looks.{Goes, if_so}
 use Rattle.meaning.specs.Values.{Variables, EvaluatedAll, Values, FailsAll, evaluate_all}
-use Rattle.meaning.specs.Labels.{Alone}
+use Rattle.meaning.specs.Labels.{Faulted, Alone}
 use Rattle.meaning.specs.Labels as L
 use Rattle.meaning.specs.Processes.{Caller, Process, Before, goes_on, begins, opening_frame, frame_of, zeros}
 use Rattle.meaning.specs.Offers.{Does, Nothing, offer, with_values}
@@ -165,11 +165,11 @@ module _ (b : Build) (is : IsBuild b) (t : ℕ) (v : Variables) (place : ℕ) (l
           (o ∙ ap (λ (k : Process). Does (Alone L.Call) Nothing k) opened)
           (begins_at b is t qn callee zs (back ∷ fs) (caller ∷ cs) c.sound.fits.2 have callers)))
       by_values (FailsAll fault) same g typed =
-          let walk : WalksWithin b.code t (view_at b procedure v) (2 * arguments_tokens es) x (Dies fault) = subst
+          let walk : WalksWithin b.code t (view_at b procedure v) (2 * arguments_tokens es) x (Dies (Faulted fault)) = subst
           (λ (k : EvaluatedAll). GivesAll b.code t (view_at b procedure v) (2 * arguments_tokens es) x k end [] l fs)
           same g in
           let o = ap (λ (k : EvaluatedAll). with_values k (frame_at procedure values rest) cs
           (λ ys. Does (Alone L.Call) Nothing (begins (opening_frame b.program qn ys) (caller ∷ cs)))) same in
-          proceeds_on b t v (2 * arguments_tokens es) 0 x (Dies fault) pending walk
-          (at_once b t v place l fs values rest procedure cs entered (Dies fault) pending
+          proceeds_on b t v (2 * arguments_tokens es) 0 x (Dies (Faulted fault)) pending walk
+          (at_once b t v place l fs values rest procedure cs entered (Dies (Faulted fault)) pending
           (F.faults fault refl o))

@@ -79,8 +79,8 @@ module _ (b : Build) (t : ℕ) (v : Variables) where
       → Proceeds b t v (n + m) x q
   with_evaluation n m x (Value z) place operands l fs f cs go q o same g k = proceeds_on n m x _ q g (k z refl o)
   with_evaluation n m x (Fails fault) place operands l fs f cs go q o same g k = record {
-    last = Dies fault;
-    walk = wider b.code t (view_of b q v) n (n + m) x (Dies fault) (omega arith) g;
+    last = Dies (Faulted fault);
+    walk = wider b.code t (view_of b q v) n (n + m) x (Dies (Faulted fault)) (omega arith) g;
     completes = F.faults fault refl (o ∙ ap (λ (ms : List ℕ). Does (Alone (L.Fails fault)) Nothing
         (Dying (Faulted fault) ms)) same);
   }

@@ -7,6 +7,7 @@ use Rattle.std.specs.Int.{w32}
 use Rattle.std.proofs.lemmas.Bool.{ltb-true}
 use Rattle.words.specs.declared.outcome.Fault.TheVariants.{IndexOutOfRange}
 use Rattle.words.specs.Signed.{word_of}
+use Rattle.words.specs.declared.outcome.Cause.TheVariants.{Faulted}
 use Rattle.isa.specs.declared.slot.Slot.TheVariants.{Local as Slot'}
 use Rattle.isa.specs.declared.instr.Instr.TheVariants.{Push, GetLocal, Load, Operate, Index}
 use Rattle.proof_thread.specs.Deferrals.{MarkedImage, IsAt, deferred_by_mark}
@@ -94,7 +95,7 @@ indexed_out base size w rest h = rw h refl
 
 -- where an index leads, by the address of the first element: to the address of that element, or to the fault
 abbrev pub Indexes : MarkedImage → ℕ → View → ℕ → ℕ → Thread → Option ℕ → ℕ → List ℕ → Locals → List Frame → Type 0
-Indexes p t view base size x None place operands l fs = WalksWithin p t view 1 x (Dies IndexOutOfRange)
+Indexes p t view base size x None place operands l fs = WalksWithin p t view 1 x (Dies (Faulted IndexOutOfRange))
 Indexes p t view base size x (Some i) place operands l fs =
     (i < size) × WalksWithin p t view 1 x (Runs (place + 1) ((base + i) ∷ operands) l fs)
 
@@ -123,7 +124,7 @@ module _ (p : MarkedImage) (t : ℕ) (view : View) (base size : ℕ) (small : si
       by_test false e =
           let w = word_of z in
           let h = look_here p t view place (Index base size) (w ∷ operands) l fs here in
-          let step = one_step p t view x (Dies IndexOutOfRange)
+          let step = one_step p t view x (Dies (Faulted IndexOutOfRange))
           (h ∙ ap (at_place place l fs) (indexed_out base size w operands e)) (ap deferred_by_mark here.1) in
           subst (λ (o : Option ℕ). Indexes p t view base size x o place operands l fs)
           (sym (out_index size z small e)) step

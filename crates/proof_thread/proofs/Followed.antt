@@ -2,6 +2,7 @@
 use Rattle.std.proofs.Common.{inl, inr, ◌≡◌, ℕ, ◌+◌, ◌*◌, ◌≤◌, List, [], ◌∷◌, ◌++◌, length, Option, Some, refl, ap, sym}
 use Rattle.std.proofs.Common.{◌∙◌, subst, arith, ℤ, pos}
 use Rattle.words.specs.declared.outcome.Fault.TheVariants.{AbandonedMonitor}
+use Rattle.words.specs.declared.outcome.Cause.TheVariants.{Faulted}
 use Rattle.isa.specs.declared.instr.Instr.TheVariants.{Ret}
 use Rattle.proof_thread.specs.Deferrals.{MarkedImage, IsAt, deferred_by_mark}
 use Rattle.program.specs.declared.kinds.Role.{Role}
@@ -337,9 +338,9 @@ module _ (b : Build) (is : IsBuild b) (t : ℕ) (v : Variables) where
       let p = Failing AbandonedMonitor (Some m) f cs in
       subst (λ (k : Process). Proceeds b t v (most_steps b) x k) (sym same)
       (proceeds_wider b t v (16 + 0) (most_steps b) x p (omega arith)
-      (proceeds_on b t v 16 0 x (Dies AbandonedMonitor) p
-      (seen b.code t b.program (view_of b p v) 16 x (Dies AbandonedMonitor) walk)
-      (done b t v (Dies AbandonedMonitor) p (F.faults AbandonedMonitor refl refl))))
+      (proceeds_on b t v 16 0 x (Dies (Faulted AbandonedMonitor)) p
+      (seen b.code t b.program (view_of b p v) 16 x (Dies (Faulted AbandonedMonitor)) walk)
+      (done b t v (Dies (Faulted AbandonedMonitor)) p (F.faults AbandonedMonitor refl refl))))
 
 pub followed : (b : Build) → IsBuild b → IsFollowed b
 followed b is t v x q s fit = stands_proceeds b is t v x q s fit

@@ -41,6 +41,7 @@ use Rattle.proof_thread.proofs.Arguments.{stacked, arguments_typed, arguments_gi
 use Rattle.proof_thread.proofs.Beginning.{begins_at}
 use Rattle.proof_thread.proofs.Growing.{values_grow, build_grows, callers_grow}
 use Rattle.words.specs.Signed.{word_of}
+use Rattle.words.specs.declared.outcome.Cause.TheVariants.{Faulted}
 use Rattle.proof_thread.specs.Deferrals.{IsAt, deferred_by_mark}
 
 stacked_length : (zs : List ℤ) (operands : List ℕ) → length (stacked zs operands) ≡ length zs + length operands
@@ -161,12 +162,12 @@ module _ (b : Build) (is : IsBuild b) (t : ℕ) (v : Variables) (place : ℕ) (l
           (values_grow b.made n more callee.parameters zs have) (is_first (inr c.sound.fits.3)))
           (first_holds b _)))
       by_values (FailsAll fault) same g typed =
-          let walk : WalksWithin b.code t (view_at b procedure v) (2 * arguments_tokens es) x (Dies fault) = subst
+          let walk : WalksWithin b.code t (view_at b procedure v) (2 * arguments_tokens es) x (Dies (Faulted fault)) = subst
           (λ (k : EvaluatedAll). GivesAll b.code t (view_at b procedure v) (2 * arguments_tokens es) x k end [] l fs)
           same g in
           let o = ap (λ (k : EvaluatedAll). with_values k (frame_at procedure values rest) cs
           (λ ys. MakesOne (begins (opening_frame b.program qn ys) []) after
           (dies ProcessTableFull (frame_at procedure values rest) cs))) same in
-          proceeds_on b t v (2 * arguments_tokens es) 0 x (Dies fault) pending walk
-          (at_once b t v place l fs values rest procedure cs entered (Dies fault) pending
+          proceeds_on b t v (2 * arguments_tokens es) 0 x (Dies (Faulted fault)) pending walk
+          (at_once b t v place l fs values rest procedure cs entered (Dies (Faulted fault)) pending
           (F.faults fault refl o))

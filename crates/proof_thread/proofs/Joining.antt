@@ -40,6 +40,7 @@ use Rattle.proof_thread.proofs.Putting.{slot_below, put_typed, put_holds, put_le
 use Rattle.proof_thread.proofs.Awaiting as J
 use Rattle.std.proofs.lemmas.Int.{of_z-to_z}
 use Rattle.std.specs.Int.{w32}
+use Rattle.words.specs.declared.outcome.Cause.TheVariants.{Faulted}
 use Rattle.program.specs.Measures.{part_calls, part_room, most_room}
 use Rattle.proof_thread.specs.Deferrals.{IsAt, deferred_by_mark}
 
@@ -227,7 +228,7 @@ module _ (b : Build) (t : ℕ) (v : Variables) (place : ℕ) (l : Locals)
   by_handle zero z is made few o =
       let last = J.stand_index b.code base (rebase_all base (join_code into)) 8 (base + 8) _ template refl refl in
       let walk : WalksWithin b.code t (view_at b procedure v) 4 (Runs base (word_of z ∷ []) l fs)
-      (Dies HandleNotJoinable) =
+      (Dies (Faulted HandleNotJoinable)) =
       J.next b.code t (view_at b procedure v) base into template (kept 0) fs 3 _ _ _ (keeps 0 z is)
       (J.next b.code t (view_at b procedure v) base into template (kept 0) fs 2 _ _ _
       (J.step b.code t (view_at b procedure v) base into template (kept 0) fs 1 2 _ _ [] (0 ∷ []) refl refl
@@ -239,7 +240,7 @@ module _ (b : Build) (t : ℕ) (v : Variables) (place : ℕ) (l : Locals)
       (kept 0) fs last) (ap deferred_by_mark last.1)))) in
       proceeds_wider b t v (4 + 0) 6 _ _ (omega arith)
       (proceeds_on b t v 4 0 _ _ pending walk
-      (at_once b t v place l fs values rest procedure cs entered (Dies HandleNotJoinable) pending
+      (at_once b t v place l fs values rest procedure cs entered (Dies (Faulted HandleNotJoinable)) pending
       (F.faults HandleNotJoinable refl (o ∙ ap (λ (k : ℤ). claims k into part f cs) is))))
   by_handle (suc n) z is made few o =
       let child = suc n in

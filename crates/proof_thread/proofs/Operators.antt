@@ -10,6 +10,7 @@ use Rattle.std.proofs.lemmas.Bool.Decides.{Decides-int_eq, Decides-eqb}
 use Rattle.std.proofs.lemmas.Bool.{eqb-true, ltb-true}
 use Rattle.words.specs.declared.outcome.Fault.TheVariants.{DivisionByZero, ResultOutOfRange}
 use Rattle.words.specs.Signed.{signed_of, word_of}
+use Rattle.words.specs.declared.outcome.Cause.TheVariants.{Faulted}
 use Rattle.isa.specs.declared.operator.Operator.TheVariants.{BitAnd, BitOr}
 use Rattle.program.specs.declared.kinds.ValueType.{ValueType}
 use Rattle.program.specs.declared.kinds.ValueType.TheVariants.{Integer, Boolean, Process}
@@ -35,7 +36,7 @@ back x h = to_z-of_z w32 x h
 -- what an evaluation is to the look at one instruction
 abbrev pub shown : Evaluated → List ℕ → ℕ → Locals → List Frame → Look
 shown (Value z) rest place l fs = Goes (Runs (place + 1) (word_of z ∷ rest) l fs)
-shown (Fails fault) rest place l fs = Goes (Dies fault)
+shown (Fails fault) rest place l fs = Goes (Dies (Faulted fault))
 
 by_range : (z : ℤ) (b : Bool) (rest : List ℕ) (place : ℕ) (l : Locals) (fs : List Frame) → or_dies b ResultOutOfRange
     (Goes (Runs (place + 1) (word_of z ∷ rest) l fs)) ≡ shown

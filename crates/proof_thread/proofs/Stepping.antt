@@ -17,7 +17,7 @@ use Rattle.locals.specs.declared.frame.Locals.{Locals}
 use Rattle.locals.specs.declared.frame.Frame.{Frame as MachineFrame}
 use Rattle.locals.specs.Threads.{Thread, Runs, Dies, with_local}
 use Rattle.meaning.specs.Values.{Variables, Value, evaluate}
-use Rattle.meaning.specs.Labels.{Alone}
+use Rattle.meaning.specs.Labels.{Faulted, Alone}
 use Rattle.meaning.specs.Labels as L
 use Rattle.meaning.specs.Processes.{Caller, Process, Before, goes_on}
 use Rattle.meaning.specs.Offers.{Does, Writes}
@@ -94,12 +94,12 @@ module _ (b : Build) (t : ℕ) (v : Variables) (place : ℕ) (l : Locals) (fs : 
   pub abort_proceeds : Context b t v place l fs values Abort rest procedure cs → Proceeds b t v (steps_of Abort) x
       (goes_on entered (frame_at procedure values (Then Abort rest)) cs)
   abort_proceeds c =
-      let step = one_step b.code t (view_at b procedure v) x (Dies AbortStatement)
+      let step = one_step b.code t (view_at b procedure v) x (Dies (Faulted AbortStatement))
       (look_here b.code t (view_at b procedure v) place (Raise AbortStatement) [] l fs c.head.here.0)
       (ap deferred_by_mark c.head.here.0.1) in
       as_it_stands Abort c tt (1 + 0) (omega arith)
-      (proceeds_on b t v 1 0 x (Dies AbortStatement) (q Abort) step
-      (at_once (Dies AbortStatement) (q Abort)
+      (proceeds_on b t v 1 0 x (Dies (Faulted AbortStatement)) (q Abort) step
+      (at_once (Dies (Faulted AbortStatement)) (q Abort)
       (F.faults AbortStatement refl refl)))
 
   -- a value goes into a local

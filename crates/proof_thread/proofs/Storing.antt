@@ -25,7 +25,7 @@ use Rattle.locals.specs.declared.frame.Frame.{Frame as MachineFrame}
 use Rattle.locals.specs.Threads.{Thread, Runs, Dies}
 use Rattle.locals.specs.Looks.{Asks, AskStore}
 use Rattle.meaning.specs.Values.{Variables, Value, evaluate, index_in}
-use Rattle.meaning.specs.Labels.{Stores}
+use Rattle.meaning.specs.Labels.{Faulted, Stores}
 use Rattle.meaning.specs.Processes.{Frame, Caller, Process, Before, goes_on}
 use Rattle.meaning.specs.Offers.{Offer, Does, Puts, offer, with_value, with_index}
 use Rattle.proof_thread.specs.Typed.{HasValue}
@@ -131,8 +131,8 @@ module _ (b : Build) (t : ℕ) (v : Variables) (place : ℕ) (l : Locals) (fs : 
       ≡ with_index o f cs (λ k. with_value (evaluate b.program v values e) f cs (put a k))
       → Proceeds b t v (1 + (2 * expression_tokens e + 0)) y (process s)
   element_stores s c a n u e end is_array own integer typed code space more None y step offered = record {
-    last = Dies IndexOutOfRange;
-    walk = wider b.code t (view_at b procedure v) 1 (1 + (2 * expression_tokens e + 0)) y (Dies IndexOutOfRange)
+    last = Dies (Faulted IndexOutOfRange);
+    walk = wider b.code t (view_at b procedure v) 1 (1 + (2 * expression_tokens e + 0)) y (Dies (Faulted IndexOutOfRange))
         (omega arith) step;
     completes = F.faults IndexOutOfRange refl offered;
   }

@@ -2,6 +2,7 @@
 use Rattle.std.proofs.Common.{◌≡◌, ℕ, ◌+◌, ◌<◌, ◌≤◌, List, [], ◌∷◌, ◌++◌, length, None, Option, refl, ap}
 use Rattle.std.proofs.Common.{◌∙◌, subst, arith, ℤ, lt-ltb}
 use Rattle.words.specs.Signed.{word_of}
+use Rattle.words.specs.declared.outcome.Cause.TheVariants.{Faulted}
 use Rattle.isa.specs.declared.instr.Instr.{Instr}
 use Rattle.proof_thread.specs.Deferrals.{MarkedImage, IsAt, mark_of, deferred_by_mark}
 use Rattle.lowering.specs.declared.mark.Mark.{Mark}
@@ -80,7 +81,7 @@ module _ (p : MarkedImage) (t : ℕ) (s : View) where
       (go z) place operands l fs) → Gives p t s (n + m) x (and_then e go) place operands l fs
   and_gives made u n m x (Value z) go place1 operands1 place operands l fs g h k = walk_gives n m x _
       (go z) place operands l fs g (k z h)
-  and_gives made u n m x (Fails fault) go place1 operands1 place operands l fs g h k = wider n (n + m) x (Dies fault)
+  and_gives made u n m x (Fails fault) go place1 operands1 place operands l fs g h k = wider n (n + m) x (Dies (Faulted fault))
       (omega arith) g
 
   -- one instruction that shows an evaluation

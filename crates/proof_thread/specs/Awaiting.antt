@@ -8,7 +8,7 @@ use Rattle.program.specs.Trees.{Part, NoPart, SomePart, followed_by}
 use Rattle.locals.specs.Threads.{Thread, Dies}
 use Rattle.locals.specs.Looks.{Request, Asks, AskLoad, AskWait, AskReturn}
 use Rattle.locals.specs.Looks.{AskReturnValue, look}
-use Rattle.meaning.specs.Labels.{Kind}
+use Rattle.meaning.specs.Labels.{Faulted, Kind}
 use Rattle.meaning.specs.Labels as L
 use Rattle.meaning.specs.Processes.{Frame, Caller}
 use Rattle.meaning.specs.Processes.{goes_on, with_result}
@@ -50,7 +50,7 @@ join_steps = 8
 
 -- a thread that learned of an abort stands for the ABORTED part, or comes to a fault where there is none
 abbrev pub GoesAborted : Build → ℕ → Thread → Part → Frame → List Caller → Type 0
-GoesAborted b t x NoPart f callers = StepsWithin b t join_steps x (Dies JoinedAborted)
+GoesAborted b t x NoPart f callers = StepsWithin b t join_steps x (Dies (Faulted JoinedAborted))
 GoesAborted b t x (SomePart body) f callers =
     Stands b t x (goes_on None (record f { rest = followed_by body f.rest }) callers)
 

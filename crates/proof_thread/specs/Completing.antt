@@ -73,7 +73,7 @@ pub data Completes (b : Build) (t : ℕ) (v : Variables) (x : Thread) (q : Proce
       → offer b.program v q ≡ Does (Alone L.Return) Nothing (Leaving (left_value result))
       → Completes b t v x q
   forks : {child : Process} {after : ℕ → Process} (entry : ℕ) (arguments : List ℕ) (go : ℕ → Thread)
-      → look b.code.image t x ≡ Asks (AskFork entry arguments true) go → go 0 ≡ Dies ProcessTableFull
+      → look b.code.image t x ≡ Asks (AskFork entry arguments true) go → go 0 ≡ Dies (Faulted ProcessTableFull)
       → offer b.program v q ≡ MakesOne child after (Dying (Faulted ProcessTableFull) (holds q))
       → ((n : ℕ) → b.made ≤ suc n → suc n ≤ most_processes
       → Stands (with_made b (suc n)) t (go (suc n)) (after (suc n)))
@@ -86,9 +86,9 @@ pub data Completes (b : Build) (t : ℕ) (v : Variables) (x : Thread) (q : Proce
       (Dying (Faulted HandleNotJoinable) (holds q))
       → (j : Awaits b t child into part f callers)
       → StepsWithin b t join_steps (go 0) j.reads
-      → ((n : ℕ) → StepsWithin b t join_steps (go (suc n)) (Dies HandleNotJoinable))
+      → ((n : ℕ) → StepsWithin b t join_steps (go (suc n)) (Dies (Faulted HandleNotJoinable)))
       → Completes b t v x q
-  faults : (fault : Fault) → x ≡ Dies fault
+  faults : (fault : Fault) → x ≡ Dies (Faulted fault)
       → offer b.program v q ≡ Does (Alone (L.Fails fault)) Nothing (Dying (Faulted fault) (holds q))
       → Completes b t v x q
   enters : {m : ℕ} {f : Frame} {cs : List Caller} {l : Locals} {fs : List MachineFrame} (base : ℕ)

@@ -9,7 +9,7 @@ use Rattle.lowering.specs.declared.mark.Marked.{Marked}
 use Rattle.locals.specs.Threads.{Thread, Runs, Dies, Exits}
 use Rattle.locals.specs.Looks.{Request, Look, Goes, Asks, Leaves, Breaks, Rests, AskFork, AskReturn}
 use Rattle.locals.specs.Looks.{AskReturnValue, AskFault}
-use Rattle.meaning.specs.Labels.{Kind, Fails}
+use Rattle.meaning.specs.Labels.{Cause, Faulted, Killed, Kind, Fails}
 use Rattle.meaning.specs.Labels as L
 
 -- an image, and the mark of each of its instructions
@@ -24,7 +24,7 @@ IsAt p place i = (slice_get p.image.code place ≡ Some i.instruction) × (slice
 -- the mark at which a thread stands
 abbrev pub mark_of : List Mark → Thread → Option Mark
 mark_of marks (Runs place operands locals callers) = slice_get marks place
-mark_of marks (Dies fault) = None
+mark_of marks (Dies cause) = None
 mark_of marks (Exits phase) = None
 
 -- the action at a local step of an instruction with this mark
@@ -41,11 +41,16 @@ last_mark (Some Return) = Some L.Return
 last_mark (Some LastReturn) = Some L.Return
 last_mark other = None
 
+-- at the writing of a cause of death: a fault; that a process was killed is no action of its own
+abbrev pub fault_of : Cause → Option Kind
+fault_of (Faulted fault) = Some (Fails fault)
+fault_of Killed = None
+
 -- at a request and its answer: a return, a fault, and a fork that finds no room
 abbrev pub deferred_by_request : Option Mark → Request → (answer : ℕ) → Option Kind
 deferred_by_request mark AskReturn r = last_mark mark
 deferred_by_request mark (AskReturnValue v) r = last_mark mark
-deferred_by_request mark (AskFault fault) r = Some (Fails fault)
+deferred_by_request mark (AskFault cause) r = fault_of cause
 deferred_by_request mark (AskFork entry arguments has_room) r = if r == 0 then Some (Fails ProcessTableFull) else None
 deferred_by_request mark request r = None
 

@@ -2,6 +2,7 @@
 use Rattle.std.specs.Prelude.{ℕ, ◌+◌, ◌≡◌, ◌<◌, ◌≤◌, List, [], ◌∷◌, length, Option, Some, None, ℤ, pos}
 use Rattle.words.specs.Signed.{word_of}
 use Rattle.words.specs.declared.outcome.Fault.TheVariants.{AbandonedMonitor}
+use Rattle.words.specs.declared.outcome.Cause.TheVariants.{Faulted}
 use Rattle.isa.specs.declared.instr.Instr.{Instr}
 use Rattle.program.specs.declared.kinds.ValueType.{ValueType}
 use Rattle.program.specs.declared.kinds.Role.TheVariants.{Entry, Recover}
@@ -120,5 +121,5 @@ pub data Stands (b : Build) (t : ℕ) (x : Thread) (q : Process) : Type 0 where
       → StepsWithin b t 16 x (Runs place (result_operands shown) l fs) → IsReturning b place shown fs z cs
       → q ≡ Returning z cs → Stands b t x q
   -- on the way to a fault, in an abandoned monitor that has no RECOVER part
-  fails : (m : ℕ) (f : Frame) (cs : List Caller) → StepsWithin b t 16 x (Dies AbandonedMonitor)
+  fails : (m : ℕ) (f : Frame) (cs : List Caller) → StepsWithin b t 16 x (Dies (Faulted AbandonedMonitor))
       → q ≡ Failing AbandonedMonitor (Some m) f cs → Stands b t x q

@@ -2,6 +2,7 @@
 -- meanwhile.
 use Rattle.std.specs.Prelude.{ℕ, suc, ◌+◌, ◌≡◌, ◌≤◌, pos, List, [], ◌∷◌, Option, Some, None}
 use Rattle.words.specs.Signed.{word_of}
+use Rattle.words.specs.declared.outcome.Cause.TheVariants.{Faulted}
 use Rattle.lowering.specs.declared.mark.Marked.{Marked}
 use Rattle.proof_thread.specs.Deferrals.{MarkedImage, IsAt, mark_of, deferred_by_mark}
 use Rattle.locals.specs.declared.frame.Locals.{Locals}
@@ -56,4 +57,4 @@ pub record WalksWithin (p : MarkedImage) (t : ℕ) (s : View) (most : ℕ) (x y 
 abbrev pub Gives : MarkedImage → ℕ → View → ℕ → Thread → Evaluated → ℕ → List ℕ → Locals → List Frame → Type 0
 Gives p t s most x (Value z) place operands locals callers =
     WalksWithin p t s most x (Runs place (word_of z ∷ operands) locals callers)
-Gives p t s most x (Fails fault) place operands locals callers = WalksWithin p t s most x (Dies fault)
+Gives p t s most x (Fails fault) place operands locals callers = WalksWithin p t s most x (Dies (Faulted fault))

@@ -1,11 +1,12 @@
 -- Each step of a thread that the shared words serve is a move.
 use Rattle.std.proofs.Common.{if◌then◌else◌, ◌≡◌, ◌≢◌, ℕ, zero, suc, ◌<◌, ◌≤◌, true, false, ◌==◌, ◌||◌, Some, None}
-use Rattle.std.proofs.Common.{List, ◌⊎◌, inl, inr, refl, sym, ap, ◌∙◌, subst, arith}
+use Rattle.std.proofs.Common.{List, [], ◌∷◌, length, ◌⊎◌, inl, inr, refl, sym, ap, ◌∙◌, subst, arith}
 use Rattle.std.proofs.lemmas.Bool.{cond-false, cases_eq, false≢true, eq-eqb, ne_eqb, or_left, or_right, cond-true}
+use Rattle.program.specs.declared.kinds.Member.{Member}
 use Rattle.meaning.specs.Labels.{Killed, End, Aborted, Notifies, Broadcasts}
 use Rattle.meaning.specs.Table.{HeldBy, Table, first_table}
 use Rattle.protocol.specs.Word.{owner, waiters}
-use Rattle.protocol.specs.Points.{ToExit, ToWait, Entry, NoEntry, Owned, Unowned, OnLock, Point, Unmade, EnterPends}
+use Rattle.protocol.specs.Points.{ToExit, ToWait, Entry, NoEntry, Owned, Unowned, Point, Unmade, EnterPends}
 use Rattle.protocol.specs.Points.{EnterTries, ReenterPends, ReenterTries, TakeReads, TakeMarks, TakeSleeps, TakeTries}
 use Rattle.protocol.specs.Points.{GotReads, GotLinks, GotHeads, GotUnpends, WaitReads, NotifyAdds, NotifyWakes}
 use Rattle.protocol.specs.Points.{BroadcastAdds, BroadcastMarks, BroadcastReads, BroadcastMoves, JoinReads}
@@ -29,12 +30,21 @@ use Rattle.protocol.proofs.Waits.{FreshAt}
 use Rattle.protocol.proofs.Joins.{IdAt, joins, point_joins}
 use Rattle.protocol.proofs.Pend.{PendAt}
 use Rattle.protocol.proofs.Processes.{is_made, point_made}
+use Rattle.protocol.specs.Moves.{CutToLoad, LoadLock, KeepWake, KeepAlone, KeepFail, WakeNone, ClearBit, ClearFail}
+use Rattle.protocol.specs.Moves.{PendPassed}
+use Rattle.protocol.specs.Points.{Release, Spot, OnLock, OnSequence, LeaveLoads, LeaveKeeps, LeaveClears}
+use Rattle.protocol.specs.Cells.{HeadOf, write}
+use Rattle.protocol.specs.Rules.{Rules, AreSafe, standard_rules, ReleaseRule, ClearsWord, KeepsWaiters, TidiesWaiters}
+use Rattle.protocol.specs.Rules.{Clears, Keeps, Tidies, ExitRule, WakesAlways, WakesUnowned, Wakes, Passes}
+use Rattle.protocol.specs.World.{opening_under, awake_after, IsWake}
 use Rattle.protocol.specs.Requests.{request}
-use Rattle.protocol.specs.Answers.{Serves, WakesOne, Abandon, ExitDoes}
+use Rattle.protocol.specs.Answers.{WakesOne, Abandon, Serves}
 use Rattle.protocol.specs.Served.{IsMove, is_pending}
+use Rattle.protocol.specs.Ruled.{request_under, Foreign, WakesUnder, ExitDoesUnder, ServesUnder, released_at, woken_at}
+use Rattle.protocol.specs.Ruled.{IsMoveUnder}
 use Rattle.protocol.specs.Carries.{Acts, resumed_by}
 use Rattle.protocol.specs.Runs.{Leads, last_table}
-use Rattle.protocol.proofs.Rest.{good_run}
+use Rattle.protocol.proofs.Rest.{good_under, rules_kept}
 use Rattle.protocol.proofs.Good.{Good}
 
 abbrev any : End
@@ -94,10 +104,10 @@ unfolding holds
 has_entry w T t a m end inv s = holder_owns w T t m
     inv (or_right (mem m (w.at t).list) _ (ap (λ y. own (entry_at y) m) s ∙ eq-eqb m m refl))
 
-abandon_covers : (w : World) (T : Table) (t m : ℕ) (end : End) (r : ℕ) (w' : World) → 0 < t → t ≤ w.made
+abandon_covers : (rules : Rules) (w : World) (T : Table) (t m : ℕ) (end : End) (r : ℕ) (w' : World) → 0 < t → t ≤ w.made
     → w.asleep t ≡ None → (w.at t).point ≡ Walks zero (Owned m) end → Abandon w t m w'
-    → IsMove w t (Walks zero (Owned m) end) r w'
-abandon_covers w T t m end r w' pos high a s d = elim d.1 [
+    → IsMoveUnder rules w t (Walks zero (Owned m) end) r w'
+abandon_covers rules w T t m end r w' pos high a s d = elim d.1 [
   | inl z ↦ record {
     end = any;
     move = PendAlone m end;
@@ -116,10 +126,161 @@ abandon_covers w T t m end r w' pos high a s d = elim d.1 [
   }
 ]
 
-walk_end : (w : World) (T : Table) (t : ℕ) (x : Entry) (end : End) (r : ℕ) (w' : World) → Good w T → 0 < t
+foreign_covers : (rules : Rules) (w : World) (x : ExitRule) (t m : ℕ) (end : End) (r : ℕ) (w' : World)
+    → w.rules.exit ≡ x → 0 < t → t ≤ w.made → w.asleep t ≡ None → (w.at t).point ≡ Walks zero (Unowned m) end
+    → Foreign x w m w' → IsMoveUnder rules w t (Walks zero (Unowned m) end) r w'
+foreign_covers rules w WakesAlways t m end r w' is pos high a s d = record {
+  end = any;
+  move = PendForeign m end d.woken;
+  can = record {
+    number = (pos, high);
+    awake = a;
+    stands = s;
+    finds = (subst (λ y. Wakes y (w.lock m)) (sym is) tt, d.wake);
+  };
+  done = fin _ w' t _ _ _ d.awake refl;
+  possible = tt;
+  carries = λ X. refl;
+}
+foreign_covers rules w WakesUnowned t m end r w' is pos high a s d = elim d [
+  | inl z ↦ record {
+    end = any;
+    move = PendForeign m end z.1.woken;
+    can = record {
+      number = (pos, high);
+      awake = a;
+      stands = s;
+      finds = (subst (λ y. Wakes y (w.lock m)) (sym is) z.0, z.1.wake);
+    };
+    done = fin _ w' t _ _ _ z.1.awake refl;
+    possible = tt;
+    carries = λ X. refl;
+  }
+  | inr z ↦ record {
+    end = any;
+    move = PendPassed m end;
+    can = record {
+      number = (pos, high);
+      awake = a;
+      stands = s;
+      finds = subst (λ y. Passes y (w.lock m)) (sym is) z.0;
+    };
+    done = fin _ w' t _ _ _ z.1 refl;
+    possible = tt;
+    carries = λ X. refl;
+  }
+]
+
+-- the entry is off the list: the release goes on by its rule
+cut_covers : (rules : Rules) (w : World) (t m h : ℕ) (k : Release) (r : ℕ) (w' : World) (rule : ReleaseRule)
+    → rules.release ≡ rule → w.rules ≡ rules → 0 < t → t ≤ w.made → w.asleep t ≡ None
+    → (w.at t).point ≡ LeaveHeads m h k → w' ≡ write w (HeadOf t) h → IsMoveUnder rules w t (LeaveHeads m h k) r w'
+cut_covers rules w t m h k r w' ClearsWord is same pos high a s d = record {
+  end = any;
+  move = CutHead m h k;
+  can = record {
+    number = (pos, high);
+    awake = a;
+    stands = s;
+    finds = subst (λ (x : Rules). Clears x.release) (sym same) (subst Clears (sym is) tt);
+  };
+  done = fin _ w' t _ _ _ d (ap (λ x. released_at x m k) is);
+  possible = tt;
+  carries = λ X. refl;
+}
+cut_covers rules w t m h k r w' KeepsWaiters is same pos high a s d = record {
+  end = any;
+  move = CutToLoad m h k;
+  can = record {
+    number = (pos, high);
+    awake = a;
+    stands = s;
+    finds = subst (λ (x : Rules). Keeps x.release) (sym same) (subst Keeps (sym is) tt);
+  };
+  done = fin _ w' t _ _ _ d (ap (λ x. released_at x m k) is);
+  possible = tt;
+  carries = λ X. refl;
+}
+cut_covers rules w t m h k r w' TidiesWaiters is same pos high a s d = record {
+  end = any;
+  move = CutToLoad m h k;
+  can = record {
+    number = (pos, high);
+    awake = a;
+    stands = s;
+    finds = subst (λ (x : Rules). Keeps x.release) (sym same) (subst Keeps (sym is) tt);
+  };
+  done = fin _ w' t _ _ _ d (ap (λ x. released_at x m k) is);
+  possible = tt;
+  carries = λ X. refl;
+}
+
+none_of : (l : List ℕ) → length l ≡ 0 → l ≡ []
+none_of [] h = refl
+none_of (x ∷ xs) h = absurd (omega (arith, h))
+
+plain_wake : (rules : Rules) (w : World) (t m : ℕ) (k : Release) (r : ℕ) (w' : World) → 0 < t → t ≤ w.made
+    → w.asleep t ≡ None → (w.at t).point ≡ LeaveWakes m k → WakesOne w (OnLock m) w'
+    → woken_at rules.release m k r ≡ HasLeft m k → IsMoveUnder rules w t (LeaveWakes m k) r w'
+plain_wake rules w t m k r w' pos high a s d goes = record {
+  end = any;
+  move = Wake m k d.woken;
+  can = record { number = (pos, high); awake = a; stands = s; finds = d.wake };
+  done = fin _ w' t _ _ _ d.awake goes;
+  possible = tt;
+  carries = λ X. refl;
+}
+
+wakes_one : (rule : ReleaseRule) (w : World) (x : Spot) (r : ℕ) (w' : World) → WakesUnder rule w x r w' → WakesOne w x w'
+wakes_one ClearsWord w x r w' d = d
+wakes_one KeepsWaiters w x r w' d = d
+wakes_one TidiesWaiters w x r w' d = d.0
+
+notify_covers : (rules : Rules) (w : World) (t : ℕ) (c : Member) (r : ℕ) (w' : World) → 0 < t → t ≤ w.made
+    → w.asleep t ≡ None → (w.at t).point ≡ NotifyWakes c → WakesOne w (OnSequence c) w'
+    → IsMoveUnder rules w t (NotifyWakes c) r w'
+notify_covers rules w t c r w' pos high a s d = record {
+  end = any;
+  move = WakeSeq c d.woken;
+  can = record { number = (pos, high); awake = a; stands = s; finds = d.wake };
+  done = fin _ w' t _ _ _ d.awake refl;
+  possible = tt;
+  carries = λ X. ap (λ (x : World). Some (Acts t (Notifies c (resumed_by w X c x.asleep)))) (sym d.awake);
+}
+
+-- the wake of a release: whether it goes on to clear the bit is told by its answer
+wake_covers : (rules : Rules) (w : World) (t m : ℕ) (k : Release) (r : ℕ) (w' : World) (rule : ReleaseRule)
+    → rules.release ≡ rule → w.rules ≡ rules → 0 < t → t ≤ w.made → w.asleep t ≡ None
+    → (w.at t).point ≡ LeaveWakes m k → WakesUnder rule w (OnLock m) r w' → IsMoveUnder rules w t (LeaveWakes m k) r w'
+wake_covers rules w t m k r w' ClearsWord is same pos high a s d = plain_wake rules w t m k r w' pos high a s d
+    (ap (λ x. woken_at x m k r) is)
+wake_covers rules w t m k r w' KeepsWaiters is same pos high a s d = plain_wake rules w t m k r w' pos high a s d
+    (ap (λ x. woken_at x m k r) is)
+wake_covers rules w t m k r w' TidiesWaiters is same pos high a s d = elim (cases_eq r 0) [
+  | inl z ↦ record {
+    end = any;
+    move = WakeNone m k;
+    can = record {
+      number = (pos, high);
+      awake = a;
+      stands = s;
+      finds = (
+        subst (λ (x : Rules). Tidies x.release) (sym same) (subst Tidies (sym is) tt),
+        subst (λ l. IsWake w.asleep (OnLock m) 1 l) (none_of d.0.woken (sym d.1 ∙ z)) d.0.wake,
+      );
+    };
+    done = fin _ w' t _ _ _ (d.0.awake ∙ ap (λ l. record w { asleep = awake_after w.asleep l })
+        (none_of d.0.woken (sym d.1 ∙ z))) (ap (λ x. woken_at x m k r) is ∙ yes r 0 _ _ z);
+    possible = tt;
+    carries = λ X. refl;
+  }
+  | inr n ↦ plain_wake rules w t m k r w' pos high a s d.0 (ap (λ x. woken_at x m k r) is ∙ no r 0 _ _ n)
+]
+
+walk_end : (rules : Rules) (w : World) (T : Table) (t : ℕ) (x : Entry) (end : End) (r : ℕ) (w' : World) → w.rules ≡ rules → Good w T → 0 < t
     → t ≤ w.made → w.asleep t ≡ None → (w.at t).point ≡ Walks zero x end → w.pending t ≡ entry_word x
-    → ExitDoes w t (Walks zero x end) w' → IsMove w t (Walks zero x end) r w'
-walk_end w T t NoEntry end r w' inv pos high a s pend d = elim d [
+    → ExitDoesUnder rules w t (Walks zero x end) w' → IsMoveUnder rules w t (Walks zero x end) r w'
+walk_end rules w T t NoEntry end r w' same inv pos high a s pend d = elim d [
   | inl k ↦ record {
     end = any;
     move = PendNone end;
@@ -130,30 +291,22 @@ walk_end w T t NoEntry end r w' inv pos high a s pend d = elim d [
   }
   | inr k ↦ absurd (omega (arith, pend, k.1))
 ]
-walk_end w T t (Owned m) end r w' inv pos high a s pend d = elim d [
+walk_end rules w T t (Owned m) end r w' same inv pos high a s pend d = elim d [
   | inl k ↦ absurd (omega (arith, pend, k.0))
   | inr k ↦
       let q : k.0 ≡ m = suc_is k.0 m (sym k.1 ∙ pend) in
       elim k.2 [
         | inl f ↦ absurd (f.0 (ap (λ y. owner (w.lock y)) q ∙ has_entry w T t zero m end inv s))
-        | inr f ↦ abandon_covers w T t m end r w' pos high a s (subst (λ y. Abandon w t y w') q f)
+        | inr f ↦ abandon_covers rules w T t m end r w' pos high a s (subst (λ y. Abandon w t y w') q f)
       ]
 ]
-walk_end w T t (Unowned m) end r w' inv pos high a s pend d = elim d [
+walk_end rules w T t (Unowned m) end r w' same inv pos high a s pend d = elim d [
   | inl k ↦ absurd (omega (arith, pend, k.0))
   | inr k ↦
       let q : k.0 ≡ m = suc_is k.0 m (sym k.1 ∙ pend) in
       elim k.2 [
-        | inl f ↦
-            let wk : WakesOne w (OnLock m) w' = subst (λ y. WakesOne w (OnLock y) w') q f.1 in
-            record {
-              end = any;
-              move = PendForeign m end wk.woken;
-              can = record { number = (pos, high); awake = a; stands = s; finds = wk.wake };
-              done = fin _ w' t _ _ _ wk.awake refl;
-              possible = tt;
-              carries = λ X. refl;
-            }
+        | inl f ↦ foreign_covers rules w rules.exit t m end r w'
+            (ap (λ (x : Rules). x.exit) same) pos high a s (subst (λ y. Foreign rules.exit w y w') q f.1)
         | inr f ↦ absurd (foreign w T t zero m end inv pos s (ap (λ y. owner (w.lock y)) (sym q) ∙ f.0))
       ]
 ]
@@ -163,10 +316,10 @@ other_pending NoEntry m n = refl
 other_pending (Owned e) m n = ne_eqb e m (λ q. n (ap Owned q))
 other_pending (Unowned e) m n = refl
 
-entry_covers : (w : World) (t m : ℕ) (x : Entry) (end : End) (r : ℕ) (w' : World) → 0 < t → t ≤ w.made
+entry_covers : (rules : Rules) (w : World) (t m : ℕ) (x : Entry) (end : End) (r : ℕ) (w' : World) → 0 < t → t ≤ w.made
     → w.asleep t ≡ None → (w.at t).point ≡ Walks (suc m) x end → x ≢ Owned m → Abandon w t m w'
-    → IsMove w t (Walks (suc m) x end) r w'
-entry_covers w t m x end r w' pos high a s n d = elim d.1 [
+    → IsMoveUnder rules w t (Walks (suc m) x end) r w'
+entry_covers rules w t m x end r w' pos high a s n d = elim d.1 [
   | inl z ↦ record {
     end = any;
     move = EntryAlone m x end;
@@ -186,13 +339,13 @@ entry_covers w t m x end r w' pos high a s n d = elim d.1 [
   }
 ]
 
-walk_covers : (w : World) (T : Table) (t a : ℕ) (x : Entry) (end : End) (r : ℕ) (w' : World) → Good w T → 0 < t
-    → t ≤ w.made → w.asleep t ≡ None → (w.at t).point ≡ Walks a x end → ExitDoes w t (Walks a x end) w'
-    → IsMove w t (Walks a x end) r w'
+walk_covers : (rules : Rules) (w : World) (T : Table) (t a : ℕ) (x : Entry) (end : End) (r : ℕ) (w' : World) → w.rules ≡ rules → Good w T → 0 < t
+    → t ≤ w.made → w.asleep t ≡ None → (w.at t).point ≡ Walks a x end → ExitDoesUnder rules w t (Walks a x end) w'
+    → IsMoveUnder rules w t (Walks a x end) r w'
 unfolding holds Knows
-walk_covers w T t zero x end r w' inv pos high aw s d = walk_end w T t x end r w'
-    inv pos high aw s (subst (λ y. PendAt y (w.pending t)) s (inv.pends.pend t)) d
-walk_covers w T t (suc m) x end r w' inv pos high aw s d =
+walk_covers rules w T t zero x end r w' same inv pos high aw s d = walk_end rules w T t x end r w'
+    same inv pos high aw s (subst (λ y. PendAt y (w.pending t)) s (inv.pends.pend t)) d
+walk_covers rules w T t (suc m) x end r w' same inv pos high aw s d =
     let pend : w.pending t ≡ entry_word x = subst (λ y. PendAt y (w.pending t)) s (inv.pends.pend t) in
     let chain : Chain w.link (suc m) (w.at t).list = subst (λ y. ChainAt w.link (w.head t) y (w.at t).list) s
     (inv.chains.chain t) in
@@ -216,14 +369,14 @@ walk_covers w T t (suc m) x end r w' inv pos high aw s d =
       ]
       | inr k ↦ elim k [
         | inl f ↦ absurd (f.0 (holder_owns w T t m inv (or_left (mem m (w.at t).list) _ listed)))
-        | inr f ↦ entry_covers w t m x end r w' pos high aw s (λ e. f.0 (pend ∙ ap entry_word e)) f.1
+        | inr f ↦ entry_covers rules w t m x end r w' pos high aw s (λ e. f.0 (pend ∙ ap entry_word e)) f.1
       ]
     ]
 
-pub covers : (w : World) (T : Table) (t : ℕ) (p : Point) (r : ℕ) (w' : World) → Good w T → 0 < t → t ≤ w.made
-    → w.asleep t ≡ None → (w.at t).point ≡ p → Serves w t p (request t p) r w' → IsMove w t p r w'
+pub covers : (rules : Rules) (w : World) (T : Table) (t : ℕ) (p : Point) (r : ℕ) (w' : World) → w.rules ≡ rules → Good w T
+    → 0 < t → t ≤ w.made → w.asleep t ≡ None → (w.at t).point ≡ p → ServesUnder rules w t p (request_under t p) r w' → IsMoveUnder rules w t p r w'
 unfolding joins is_made holds Knows
-covers w T t (EnterPends m) r w' inv pos high a s d = record {
+covers rules w T t (EnterPends m) r w' same inv pos high a s d = record {
   end = any;
   move = SetPend m;
   can = record { number = (pos, high); awake = a; stands = s; finds = tt };
@@ -231,7 +384,7 @@ covers w T t (EnterPends m) r w' inv pos high a s d = record {
   possible = tt;
   carries = λ X. refl;
 }
-covers w T t (EnterTries m) r w' inv pos high a s d = elim d.1 [
+covers rules w T t (EnterTries m) r w' same inv pos high a s d = elim d.1 [
   | inl k ↦ record {
     end = any;
     move = CompareSwapGot m;
@@ -249,7 +402,7 @@ covers w T t (EnterTries m) r w' inv pos high a s d = elim d.1 [
     carries = λ X. sym (no r 0 _ _ (λ z. k.0 (sym d.0 ∙ z)));
   }
 ]
-covers w T t (ReenterPends m) r w' inv pos high a s d = record {
+covers rules w T t (ReenterPends m) r w' same inv pos high a s d = record {
   end = any;
   move = SetPendHeld m;
   can = record { number = (pos, high); awake = a; stands = s; finds = tt };
@@ -258,7 +411,7 @@ covers w T t (ReenterPends m) r w' inv pos high a s d = record {
   possible = tt;
   carries = λ X. refl;
 }
-covers w T t (ReenterTries m) r w' inv pos high a s d = elim d.1 [
+covers rules w T t (ReenterTries m) r w' same inv pos high a s d = elim d.1 [
   | inl k ↦
       let known : mem m (w.at t).list ≡ true = subst (λ y. Listed y (w.at t).list) s (inv.locks.knows t).1 in
       let h = inv.locks.held m t (or_left (mem m (w.at t).list) _ known) in
@@ -273,7 +426,7 @@ covers w T t (ReenterTries m) r w' inv pos high a s d = elim d.1 [
     carries = λ X. refl;
   }
 ]
-covers w T t (TakeReads m k) r w' inv pos high a s d = elim (cases_eq (owner (w.lock m)) 0) [
+covers rules w T t (TakeReads m k) r w' same inv pos high a s d = elim (cases_eq (owner (w.lock m)) 0) [
   | inl z ↦ record {
     end = any;
     move = LoadFree m k;
@@ -293,7 +446,7 @@ covers w T t (TakeReads m k) r w' inv pos high a s d = elim (cases_eq (owner (w.
         λ X. refl;
   }
 ]
-covers w T t (TakeMarks m v k) r w' inv pos high a s d = elim d.1 [
+covers rules w T t (TakeMarks m v k) r w' same inv pos high a s d = elim d.1 [
   | inl z ↦ record {
     end = any;
     move = MarkDone m v k;
@@ -311,7 +464,7 @@ covers w T t (TakeMarks m v k) r w' inv pos high a s d = elim d.1 [
     carries = λ X. refl;
   }
 ]
-covers w T t (TakeSleeps m v k) r w' inv pos high a s d = elim d [
+covers rules w T t (TakeSleeps m v k) r w' same inv pos high a s d = elim d [
   | inl z ↦ record {
     end = any;
     move = Sleep m v k;
@@ -329,7 +482,7 @@ covers w T t (TakeSleeps m v k) r w' inv pos high a s d = elim d [
     carries = λ X. refl;
   }
 ]
-covers w T t (TakeTries m v k) r w' inv pos high a s d = elim d.1 [
+covers rules w T t (TakeTries m v k) r w' same inv pos high a s d = elim d.1 [
   | inl z ↦ record {
     end = any;
     move = FreeGot m v k;
@@ -347,7 +500,7 @@ covers w T t (TakeTries m v k) r w' inv pos high a s d = elim d.1 [
     carries = λ X. sym (no r v _ _ (λ q. z.0 (sym d.0 ∙ q)));
   }
 ]
-covers w T t (GotReads m v) r w' inv pos high a s d = record {
+covers rules w T t (GotReads m v) r w' same inv pos high a s d = record {
   end = any;
   move = ReadHead m v;
   can = record { number = (pos, high); awake = a; stands = s; finds = tt };
@@ -355,7 +508,7 @@ covers w T t (GotReads m v) r w' inv pos high a s d = record {
   possible = tt;
   carries = λ X. refl;
 }
-covers w T t (GotLinks m v h) r w' inv pos high a s d = record {
+covers rules w T t (GotLinks m v h) r w' same inv pos high a s d = record {
   end = any;
   move = SetLink m v h;
   can = record { number = (pos, high); awake = a; stands = s; finds = tt };
@@ -364,7 +517,7 @@ covers w T t (GotLinks m v h) r w' inv pos high a s d = record {
   possible = tt;
   carries = λ X. refl;
 }
-covers w T t (GotHeads m v) r w' inv pos high a s d = record {
+covers rules w T t (GotHeads m v) r w' same inv pos high a s d = record {
   end = any;
   move = SetHead m v;
   can = record { number = (pos, high); awake = a; stands = s; finds = tt };
@@ -372,7 +525,7 @@ covers w T t (GotHeads m v) r w' inv pos high a s d = record {
   possible = tt;
   carries = λ X. refl;
 }
-covers w T t (GotUnpends m v) r w' inv pos high a s d = record {
+covers rules w T t (GotUnpends m v) r w' same inv pos high a s d = record {
   end = any;
   move = ClearPend m v;
   can = record { number = (pos, high); awake = a; stands = s; finds = tt };
@@ -381,7 +534,7 @@ covers w T t (GotUnpends m v) r w' inv pos high a s d = record {
   possible = tt;
   carries = λ X. refl;
 }
-covers w T t (WaitReads c) r w' inv pos high a s d = record {
+covers rules w T t (WaitReads c) r w' same inv pos high a s d = record {
   end = any;
   move = ReadSeq c;
   can = record { number = (pos, high); awake = a; stands = s; finds = tt };
@@ -389,7 +542,7 @@ covers w T t (WaitReads c) r w' inv pos high a s d = record {
   possible = tt;
   carries = λ X. refl;
 }
-covers w T t (NotifyAdds c) r w' inv pos high a s d = record {
+covers rules w T t (NotifyAdds c) r w' same inv pos high a s d = record {
   end = any;
   move = AddSeq c;
   can = record { number = (pos, high); awake = a; stands = s; finds = tt };
@@ -397,20 +550,9 @@ covers w T t (NotifyAdds c) r w' inv pos high a s d = record {
   possible = tt;
   carries = λ X. refl;
 }
-covers w T t (NotifyWakes c) r w' inv pos high a s d = record {
-  end = any;
-  move = WakeSeq c d.woken;
-  can = record {
-    number = (pos, high);
-    awake = a;
-    stands = s;
-    finds = d.wake;
-  };
-  done = fin _ w' t _ _ _ d.awake refl;
-  possible = tt;
-  carries = λ X. ap (λ (x : World). Some (Acts t (Notifies c (resumed_by w X c x.asleep)))) (sym d.awake);
-}
-covers w T t (BroadcastAdds c) r w' inv pos high a s d = record {
+covers rules w T t (NotifyWakes c) r w' same inv pos high a s d =
+    notify_covers rules w t c r w' pos high a s (wakes_one rules.release w (OnSequence c) r w' d)
+covers rules w T t (BroadcastAdds c) r w' same inv pos high a s d = record {
   end = any;
   move = AddAll c;
   can = record { number = (pos, high); awake = a; stands = s; finds = tt };
@@ -419,7 +561,7 @@ covers w T t (BroadcastAdds c) r w' inv pos high a s d = record {
   possible = tt;
   carries = λ X. refl;
 }
-covers w T t (BroadcastMarks c) r w' inv pos high a s d = record {
+covers rules w T t (BroadcastMarks c) r w' same inv pos high a s d = record {
   end = any;
   move = OrLock c;
   can = record { number = (pos, high); awake = a; stands = s; finds = tt };
@@ -428,7 +570,7 @@ covers w T t (BroadcastMarks c) r w' inv pos high a s d = record {
   possible = tt;
   carries = λ X. refl;
 }
-covers w T t (BroadcastReads c) r w' inv pos high a s d = record {
+covers rules w T t (BroadcastReads c) r w' same inv pos high a s d = record {
   end = any;
   move = LoadSeq c;
   can = record { number = (pos, high); awake = a; stands = s; finds = tt };
@@ -437,7 +579,7 @@ covers w T t (BroadcastReads c) r w' inv pos high a s d = record {
   possible = tt;
   carries = λ X. refl;
 }
-covers w T t (BroadcastMoves c x) r w' inv pos high a s d = elim d [
+covers rules w T t (BroadcastMoves c x) r w' same inv pos high a s d = elim d [
   | inl z ↦ record {
     end = any;
     move = MoveAll c x;
@@ -448,7 +590,7 @@ covers w T t (BroadcastMoves c x) r w' inv pos high a s d = elim d [
   }
   | inr z ↦ let f : x ≡ w.sequence c = subst (FreshAt w.sequence) s (inv.fresh.fresh t) in absurd (z.0 (sym f))
 ]
-covers w T t (JoinReads q) r w' inv pos high a s d = elim (cases_eq (w.id q) 0) [
+covers rules w T t (JoinReads q) r w' same inv pos high a s d = elim (cases_eq (w.id q) 0) [
   | inl z ↦
       let j : joins (w.at t) q ≡ true = ap (λ y. point_joins y q) s ∙ eq-eqb q q refl in
       let c = inv.joiners.claimed t q j in
@@ -477,7 +619,7 @@ covers w T t (JoinReads q) r w' inv pos high a s d = elim (cases_eq (w.id q) 0) 
     carries = λ X. sym (no r 0 _ _ (λ k. z (sym d.0 ∙ k)));
   }
 ]
-covers w T t (JoinSleeps q) r w' inv pos high a s d = elim d [
+covers rules w T t (JoinSleeps q) r w' same inv pos high a s d = elim d [
   | inl z ↦ record {
     end = any;
     move = IdSleep q;
@@ -495,7 +637,7 @@ covers w T t (JoinSleeps q) r w' inv pos high a s d = elim d [
     carries = λ X. refl;
   }
 ]
-covers w T t (JoinLearns q end) r w' inv pos high a s d = elim (cases_eq (w.outcome q) 16) [
+covers rules w T t (JoinLearns q end) r w' same inv pos high a s d = elim (cases_eq (w.outcome q) 16) [
   | inl z ↦ record {
     end = any;
     move = LearnEnded q end;
@@ -513,7 +655,7 @@ covers w T t (JoinLearns q end) r w' inv pos high a s d = elim (cases_eq (w.outc
     carries = λ X. refl;
   }
 ]
-covers w T t (JoinTakes q end) r w' inv pos high a s d = record {
+covers rules w T t (JoinTakes q end) r w' same inv pos high a s d = record {
   end = any;
   move = TakeResult q end;
   can = record { number = (pos, high); awake = a; stands = s; finds = tt };
@@ -521,7 +663,7 @@ covers w T t (JoinTakes q end) r w' inv pos high a s d = record {
   possible = tt;
   carries = λ X. refl;
 }
-covers w T t (LeavePends m k) r w' inv pos high a s d = record {
+covers rules w T t (LeavePends m k) r w' same inv pos high a s d = record {
   end = any;
   move = PendAgain m k;
   can = record { number = (pos, high); awake = a; stands = s; finds = tt };
@@ -530,7 +672,7 @@ covers w T t (LeavePends m k) r w' inv pos high a s d = record {
   possible = tt;
   carries = λ X. refl;
 }
-covers w T t (LeaveReads m k) r w' inv pos high a s d = record {
+covers rules w T t (LeaveReads m k) r w' same inv pos high a s d = record {
   end = any;
   move = ReadLink m k;
   can = record { number = (pos, high); awake = a; stands = s; finds = tt };
@@ -539,16 +681,63 @@ covers w T t (LeaveReads m k) r w' inv pos high a s d = record {
   possible = tt;
   carries = λ X. refl;
 }
-covers w T t (LeaveHeads m h k) r w' inv pos high a s d = record {
+covers rules w T t (LeaveHeads m h k) r w' same inv pos high a s d =
+    cut_covers rules w t m h k r w' rules.release refl same pos high a s d
+covers rules w T t (LeaveLoads m k) r w' same inv pos high a s d = record {
   end = any;
-  move = CutHead m h k;
+  move = LoadLock m k;
   can = record { number = (pos, high); awake = a; stands = s; finds = tt };
-  done
-      = fin _ w' t _ _ _ d refl;
+  done = fin _ w' t _ _ _ d.1 (ap (λ x. LeaveKeeps m x k) d.0);
   possible = tt;
   carries = λ X. refl;
 }
-covers w T t (LeaveSwaps m k) r w' inv pos high a s d = elim (cases_eq (waiters (w.lock m)) 0) [
+covers rules w T t (LeaveKeeps m v k) r w' same inv pos high a s d = elim d.1 [
+  | inl z ↦ elim (cases_eq (waiters v) 0) [
+    | inl none ↦ record {
+      end = any;
+      move = KeepAlone m v k;
+      can = record { number = (pos, high); awake = a; stands = s; finds = (z.0, none) };
+      done = fin _ w' t _ _ _ z.1 (yes r v _ _ (d.0 ∙ z.0) ∙ yes (waiters v) 0 _ _ none);
+      possible = tt;
+      carries = λ X. sym (yes r v _ _ (d.0 ∙ z.0));
+    }
+    | inr some ↦ record {
+      end = any;
+      move = KeepWake m v k;
+      can = record { number = (pos, high); awake = a; stands = s; finds = (z.0, some) };
+      done = fin _ w' t _ _ _ z.1 (yes r v _ _ (d.0 ∙ z.0) ∙ no (waiters v) 0 _ _ some);
+      possible = tt;
+      carries = λ X. sym (yes r v _ _ (d.0 ∙ z.0));
+    }
+  ]
+  | inr z ↦ record {
+    end = any;
+    move = KeepFail m v k;
+    can = record { number = (pos, high); awake = a; stands = s; finds = z.0 };
+    done = fin _ w' t _ _ _ z.1 (no r v _ _ (λ q. z.0 (sym d.0 ∙ q)));
+    possible = tt;
+    carries = λ X. sym (no r v _ _ (λ q. z.0 (sym d.0 ∙ q)));
+  }
+]
+covers rules w T t (LeaveClears m k) r w' same inv pos high a s d = elim d.1 [
+  | inl z ↦ record {
+    end = any;
+    move = ClearBit m k;
+    can = record { number = (pos, high); awake = a; stands = s; finds = z.0 };
+    done = fin _ w' t _ _ _ z.1 refl;
+    possible = tt;
+    carries = λ X. refl;
+  }
+  | inr z ↦ record {
+    end = any;
+    move = ClearFail m k;
+    can = record { number = (pos, high); awake = a; stands = s; finds = z.0 };
+    done = fin _ w' t _ _ _ z.1 refl;
+    possible = tt;
+    carries = λ X. refl;
+  }
+]
+covers rules w T t (LeaveSwaps m k) r w' same inv pos high a s d = elim (cases_eq (waiters (w.lock m)) 0) [
   | inl z ↦ record {
     end = any;
     move = SwapAlone m k;
@@ -566,20 +755,9 @@ covers w T t (LeaveSwaps m k) r w' inv pos high a s d = elim (cases_eq (waiters 
     carries = λ X. refl;
   }
 ]
-covers w T t (LeaveWakes m k) r w' inv pos high a s d = record {
-  end = any;
-  move = Wake m k d.woken;
-  can = record {
-    number = (pos, high);
-    awake = a;
-    stands = s;
-    finds = d.wake;
-  };
-  done = fin _ w' t _ _ _ d.awake refl;
-  possible = tt;
-  carries = λ X. refl;
-}
-covers w T t (HasLeft m ToExit) r w' inv pos high a s d = record {
+covers rules w T t (LeaveWakes m k) r w' same inv pos high a s d =
+    wake_covers rules w t m k r w' rules.release refl same pos high a s d
+covers rules w T t (HasLeft m ToExit) r w' same inv pos high a s d = record {
   end = any;
   move = Finish m;
   can = record { number = (pos, high); awake = a; stands = s; finds = tt };
@@ -588,7 +766,7 @@ covers w T t (HasLeft m ToExit) r w' inv pos high a s d = record {
   possible = tt;
   carries = λ X. refl;
 }
-covers w T t (HasLeft m (ToWait c x)) r w' inv pos high a s d = elim d [
+covers rules w T t (HasLeft m (ToWait c x)) r w' same inv pos high a s d = elim d [
   | inl z ↦ record {
     end = any;
     move = SeqSleep m c x;
@@ -606,7 +784,7 @@ covers w T t (HasLeft m (ToWait c x)) r w' inv pos high a s d = elim d [
     carries = λ X. refl;
   }
 ]
-covers w T t (Dies cause x) r w' inv pos high a s d = record {
+covers rules w T t (Dies cause x) r w' same inv pos high a s d = record {
   end = any;
   move = WriteFault cause x;
   can = record { number = (pos, high); awake = a; stands = s; finds = tt };
@@ -614,8 +792,8 @@ covers w T t (Dies cause x) r w' inv pos high a s d = record {
   possible = tt;
   carries = λ X. refl;
 }
-covers w T t (Walks a x end) r w' inv pos high aw s d = walk_covers w T t a x end r w' inv pos high aw s d.1
-covers w T t (ClearsId end) r w' inv pos high a s d = record {
+covers rules w T t (Walks a x end) r w' same inv pos high aw s d = walk_covers rules w T t a x end r w' same inv pos high aw s d.1
+covers rules w T t (ClearsId end) r w' same inv pos high a s d = record {
   end = any;
   move = ClearId end;
   can = record { number = (pos, high); awake = a; stands = s; finds = tt };
@@ -623,7 +801,7 @@ covers w T t (ClearsId end) r w' inv pos high a s d = record {
   possible = tt;
   carries = λ X. refl;
 }
-covers w T t (LastWakes end) r w' inv pos high a s d = record {
+covers rules w T t (LastWakes end) r w' same inv pos high a s d = record {
   end = any;
   move = LastWake end d.1.woken;
   can = record {
@@ -637,10 +815,43 @@ covers w T t (LastWakes end) r w' inv pos high a s d = record {
   possible = tt;
   carries = λ X. refl;
 }
-covers w T t p r w' inv pos high a s d = absurd d
+covers rules w T t p r w' same inv pos high a s d = absurd d
+
+pub every_step_under : (rules : Rules) → AreSafe rules → (ss : List (ℕ × Move)) (w : World)
+    → Leads (opening_under rules) ss w → (t : ℕ) (p : Point) (r : ℕ) (w' : World) → 0 < t → t ≤ w.made
+    → w.asleep t ≡ None → (w.at t).point ≡ p → ServesUnder rules w t p (request_under t p) r w' → IsMoveUnder rules w t p r w'
+every_step_under rules safe ss w run t p r w' pos high a s d =
+    covers rules w (last_table (opening_under rules) first_table ss) t p r w' (rules_kept ss (opening_under rules) w run)
+    (good_under rules safe ss w run) pos high a s d
+
+-- at the points of this machine's rules the two say the same
+served_plainly : (w : World) (t : ℕ) (p : Point) (r : ℕ) (w' : World) → Serves w t p (request t p) r w'
+    → ServesUnder standard_rules w t p (request_under t p) r w'
+served_plainly w t (LeaveLoads m k) r w' d = absurd d
+served_plainly w t (LeaveKeeps m v k) r w' d = absurd d
+served_plainly w t (LeaveClears m k) r w' d = absurd d
+served_plainly w t (HasLeft m ToExit) r w' d = d
+served_plainly w t (HasLeft m (ToWait c s)) r w' d = d
+served_plainly w t (Walks zero x end) r w' d = d
+served_plainly w t (Walks (suc m) x end) r w' d = d
+served_plainly w t p r w' d = d
+
+moves_plainly : (w : World) (t : ℕ) (p : Point) (r : ℕ) (w' : World) → Serves w t p (request t p) r w'
+    → IsMoveUnder standard_rules w t p r w' → IsMove w t p r w'
+moves_plainly w t (LeaveLoads m k) r w' d h = absurd d
+moves_plainly w t (LeaveKeeps m v k) r w' d h = absurd d
+moves_plainly w t (LeaveClears m k) r w' d h = absurd d
+moves_plainly w t p r w' d h = record {
+  end = h.end;
+  move = h.move;
+  can = h.can;
+  done = h.done;
+  possible = h.possible;
+  carries = h.carries;
+}
 
 pub every_step_is_a_move : (ss : List (ℕ × Move)) (w : World) → Leads opening_world ss w
     → (t : ℕ) (p : Point) (r : ℕ) (w' : World) → 0 < t → t ≤ w.made → w.asleep t ≡ None → (w.at t).point ≡ p
     → Serves w t p (request t p) r w' → IsMove w t p r w'
-every_step_is_a_move ss w run t p r w' pos high a s d = covers w (last_table opening_world first_table ss) t p r w'
-    (good_run ss w run) pos high a s d
+every_step_is_a_move ss w run t p r w' pos high a s d = moves_plainly w t p r w' d
+    (every_step_under standard_rules (inl refl) ss w run t p r w' pos high a s (served_plainly w t p r w' d))

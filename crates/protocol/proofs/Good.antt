@@ -21,6 +21,8 @@ use Rattle.protocol.proofs.Conds.{StandsBefore, Conds}
 use Rattle.protocol.proofs.Joins.{Joiners}
 use Rattle.protocol.proofs.Pend.{Pends}
 use Rattle.protocol.proofs.Processes.{Threads, Ends, Refusals}
+use Rattle.protocol.proofs.Bits.{Styles, Bits, Plain}
+use Rattle.protocol.specs.Rules.{AreSafe}
 
 pub record Good (w : World) (T : Table) : Type 0 where
   pub locks : Inv w.lock w.asleep w.at T.hold
@@ -36,6 +38,11 @@ pub record Good (w : World) (T : Table) : Type 0 where
   pub claims : (q : ℕ) → ClaimIs (T.claimed q) (w.claim q)
   pub refusals : Refusals T.claimed w.at
   pub made : T.made ≡ w.made
+  -- by rules that lose no wake
+  pub safe_rules : AreSafe w.rules
+  pub styles : Styles w.rules.release w.at
+  pub bits : Bits w.rules.release w.lock w.asleep
+  pub plain : Plain w.rules.release w.lock T.hold
 
 -- the mover
 pub stands_at : (w : World) (t : ℕ) (m : Move) → Can w t m → w.at t ≡ thread_at (from m) (w.at t).list

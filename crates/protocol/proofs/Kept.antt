@@ -11,7 +11,7 @@ use Rattle.protocol.specs.Word.{owner, waiters, owner_died_bit}
 use Rattle.protocol.specs.Points.{ToEnter, ToReenter, ToResume, ToExit, ToWait, Owned, Spot, OnSequence, Point}
 use Rattle.protocol.specs.Points.{Unmade, Runs, NotifyWakes, BroadcastMarks, BroadcastReads, BroadcastMoves, Thread}
 use Rattle.protocol.specs.Points.{thread_at, entry_at}
-use Rattle.protocol.specs.World.{World, mem, tail, IsWake, awake_after, requeued_sleep, opening_world, opening_thread}
+use Rattle.protocol.specs.World.{World, mem, tail, IsWake, awake_after, requeued_sleep, opening_under, opening_thread}
 use Rattle.protocol.specs.Moves.{Move, Own, Raise, CompareSwapGot, FreeGot, SwapWake, SwapAlone, WakeSeq, MoveAll}
 use Rattle.protocol.specs.Moves.{EntryAlone, EntryWake, PendAlone, PendWake, ClearId, Kill, StraySeq, Fork, ForkFull}
 use Rattle.protocol.specs.Moves.{Claim, ClaimTaken, IdGone}
@@ -34,6 +34,10 @@ use Rattle.protocol.proofs.Processes.{is_made, point_made, EndsAt, RefusedAt}
 use Rattle.std.specs.Prelude.{Contains}
 use Rattle.std.proofs.lemmas.Bool.{cond_both}
 use Rattle.meaning.specs.Table.{enterable}
+use Rattle.protocol.specs.Rules.{Rules, AreSafe}
+use Rattle.protocol.proofs.Bits.{StyleAt}
+use Rattle.protocol.proofs.KeptBits.{kept_rules, kept_styles, kept_bits, kept_plain}
+use Rattle.protocol.specs.Moves.{KeepWake, KeepAlone}
 use Rattle.protocol.proofs.KeptLocks.{kept_locks}
 use Rattle.protocol.proofs.KeptLists.{kept_chains, kept_pends, kept_homes, kept_fresh, kept_marks}
 use Rattle.protocol.proofs.KeptConds.{kept_conds, waiter_made, resuming}
@@ -56,6 +60,10 @@ kept w T t m inv can = record {
   claims = kept_claims w T t m inv can;
   refusals = kept_refusals w T t m inv can;
   made = kept_made w T t m inv can;
+  safe_rules = kept_rules w T t m inv can;
+  styles = kept_styles w T t m inv can;
+  bits = kept_bits w T t m inv can;
+  plain = kept_plain w T t m inv can;
 }
 
 -- ---- the source allows what a move carries
@@ -88,8 +96,7 @@ tie_zero Abandoned v h z = absurd (omega (arith, h.1, ap owner_died_bit z, died-
 
 tie_enterable : (h : Hold) (v : ℕ) → Tie h v → owner v ≡ 0 → h ≡ enterable (has_died v)
 unfolding Tie
-tie_enterable Free v h z = let d : owner_died_bit v ≡ 0 = ap owner_died_bit h ∙ died-small 0 (omega arith)
-    in sym (ap (λ b. enterable (not b)) (eq-eqb (owner_died_bit v) 0 d))
+tie_enterable Free v h z = sym (ap (λ b. enterable (not b)) (eq-eqb (owner_died_bit v) 0 h.1))
 tie_enterable (HeldBy q) v h z = absurd (omega (arith, h.0, h.1, z))
 tie_enterable Abandoned v h z = sym
     (ap (λ b. enterable (not b)) (ne_eqb (owner_died_bit v) 0 (λ d. omega (arith, d, h.1))))
@@ -189,6 +196,14 @@ permitted w T t (SwapAlone e ToExit) inv can = (refl, holds_pending w T t e (Swa
 permitted w T t (SwapAlone e (ToWait c s)) inv can =
     let home : c.monitor ≡ e = subst HomeAt can.stands (inv.homes.home_ok t) in
     (waits_permitted t e c T home, rw home (holds_pending w T t e (SwapAlone e (ToWait c s)) inv can refl))
+permitted w T t (KeepWake e v ToExit) inv can = (refl, holds_pending w T t e (KeepWake e v ToExit) inv can refl)
+permitted w T t (KeepWake e v (ToWait c s)) inv can =
+    let home : c.monitor ≡ e = subst HomeAt can.stands (inv.homes.home_ok t) in
+    (waits_permitted t e c T home, rw home (holds_pending w T t e (KeepWake e v (ToWait c s)) inv can refl))
+permitted w T t (KeepAlone e v ToExit) inv can = (refl, holds_pending w T t e (KeepAlone e v ToExit) inv can refl)
+permitted w T t (KeepAlone e v (ToWait c s)) inv can =
+    let home : c.monitor ≡ e = subst HomeAt can.stands (inv.homes.home_ok t) in
+    (waits_permitted t e c T home, rw home (holds_pending w T t e (KeepAlone e v (ToWait c s)) inv can refl))
 permitted w T t (WakeSeq c woken) inv can = (
   (notified w T c woken inv can.finds, refl),
   holds_first w T t c.monitor (WakeSeq c woken)
@@ -240,11 +255,11 @@ opening_number t = elim (cases_eq t 1) [
       []).point ≡ true) (ne_eqb t 1 n) h))
 ]
 
-pub good_start : Good opening_world first_table
+pub good_start : (rules : Rules) → AreSafe rules → Good (opening_under rules) first_table
 unfolding holds helps may_sleep Knows stage joins goes is_made
-good_start = record {
+good_start rules safe = record {
   locks = record {
-    tie = λ e. tie_of_free;
+    tie = λ e. tie_of_free 0 (owner-small 0 (omega arith)) (died-small 0 (omega arith));
     owned = λ e t h. absurd cc;
     held = λ e t. opening_case
         (λ y. holds y e ≡ true → Free ≡ HeldBy t) (λ h. absurd (false≢true h)) (λ h. absurd (false≢true h)) t;
@@ -276,7 +291,7 @@ good_start = record {
         (λ h k. absurd cc) (λ h k. absurd cc) n;
   };
   joiners = record {
-    claimed = λ u q. opening_case (λ y. joins y q ≡ true → (opening_world.claim q ≡ 1) × (0 < q))
+    claimed = λ u q. opening_case (λ y. joins y q ≡ true → ((opening_under rules).claim q ≡ 1) × (0 < q))
         (λ h. absurd (false≢true h)) (λ h. absurd (false≢true h)) u;
     one = λ u v q. opening_case
         (λ y. joins y q ≡ true → joins (opening_thread v) q ≡ true → u ≡ v) (λ h k. absurd (false≢true h))
@@ -302,4 +317,8 @@ good_start = record {
   claims = λ q. refl;
   refusals = record { refused = λ t. opening_case (λ y. RefusedAt (λ q. false) y.point) tt tt t };
   made = refl;
+  safe_rules = safe;
+  styles = record { style = λ t. opening_case (λ y. StyleAt rules.release y.point) tt tt t };
+  bits = record { bit = λ k e u h. absurd cc };
+  plain = record { word = λ k e h. refl };
 }

@@ -4,12 +4,14 @@ use Rattle.std.proofs.Common.{inr, refl, sym, ap, ◌∙◌, subst, arith, ◌�
 use Rattle.std.proofs.lemmas.Bool.{false≢true, eq-eqb, eqb-true, or_left, or_right, cases_Bool}
 use Rattle.meaning.specs.Labels.{End, Label, Joins, Enters, Resumes}
 use Rattle.meaning.specs.Table.{Hold, Free, Abandoned, HeldBy, Table, first_table, Allows}
-use Rattle.protocol.specs.Word.{owner}
+use Rattle.protocol.specs.Word.{owner, owner_died_bit}
 use Rattle.protocol.specs.Points.{Purpose, ToEnter, ToReenter, ToResume, Entry, NoEntry, Owned, Unowned, Spot, OnLock}
 use Rattle.protocol.specs.Points.{OnSequence, OnId, Point, Unmade, TakeReads, TakeMarks, TakeSleeps, TakeTries}
 use Rattle.protocol.specs.Points.{JoinReads, JoinSleeps, LeaveWakes, Dies, Walks, LastWakes, HasEnded, entry_at}
 use Rattle.protocol.specs.Points.{taking_entry, entry_word}
-use Rattle.protocol.specs.World.{World, mem, opening_world}
+use Rattle.protocol.specs.World.{World, mem, opening_world, opening_under}
+use Rattle.protocol.specs.Rules.{ReleaseRule, ClearsWord, KeepsWaiters, TidiesWaiters, Rules, AreSafe, Clears}
+use Rattle.protocol.specs.Rules.{standard_rules}
 use Rattle.protocol.specs.Moves.{Move}
 use Rattle.protocol.specs.Finds.{CarriesFinding}
 use Rattle.protocol.specs.Steps.{after}
@@ -29,14 +31,19 @@ use Rattle.protocol.proofs.Pend.{PendAt}
 use Rattle.protocol.proofs.Processes.{EndsAt}
 use Rattle.meaning.specs.Table.{enterable}
 use Rattle.protocol.specs.Carries.{with_event}
-use Rattle.protocol.specs.Runs.{Leads, events, last_table, PermitsAll, Matches, IsNext, CannotAct, Goes, IsOutside}
-use Rattle.protocol.specs.Runs.{LosesNoWake, IsExplainedByMoves}
+use Rattle.protocol.specs.Runs.{Leads, events, last_table, PermitsAll, FreeIs, HoldIs, Matches, IsNext, CannotAct, Goes, IsOutside}
+use Rattle.protocol.specs.Runs.{LosesNoWake, IsExplainedByMoves, IsExplainedUnder}
 use Rattle.protocol.proofs.Joins.{point_goes}
 use Rattle.protocol.proofs.KeptConds.{waiter_made}
 use Rattle.protocol.proofs.Kept.{kept, permitted, good_start}
 use Rattle.protocol.proofs.Good.{Good}
 
 -- ---- whole runs
+pub with_permitted : (e : Option Event) (es : List Event) (T mid T' : Table) → PermitsMove e T mid
+    → PermitsAll es mid T' → PermitsAll (with_event e es) T T'
+with_permitted None es T mid T' here later = subst (λ x. PermitsAll es x T') here later
+with_permitted (Some e) es T mid T' here later = (mid, here, later)
+
 run_kept : (ss : List (ℕ × Move)) (w w' : World) (T : Table) → Good w T → Leads w ss w'
     → PermitsAll (events w T ss) T (last_table w T ss) × Good w' (last_table w T ss)
 run_kept [] w w' T inv run = (refl, subst (λ x. Good x T) (sym run) inv)
@@ -46,11 +53,7 @@ run_kept (s ∷ ss) w w' T inv run =
           (table_after w T s.0 s.1) (last_table (after w s.0 s.1) (table_after w T s.0 s.1) ss)
           (permitted w T s.0 s.1 inv run.0) rest.0,
       rest.1,
-    ) where
-      with_permitted : (e : Option Event) (es : List Event) (T mid T' : Table) → PermitsMove e T mid
-          → PermitsAll es mid T' → PermitsAll (with_event e es) T T'
-      with_permitted None es T mid T' here later = subst (λ x. PermitsAll es x T') here later
-      with_permitted (Some e) es T mid T' here later = (mid, here, later)
+    )
 
 -- ---- the table is the world's
 has_of : (x : ℕ) (l : List ℕ) (y : Entry) → (mem x l || own y x) ≡ true → (mem x l ≡ true) ⊎ (y ≡ Owned x)
@@ -77,10 +80,21 @@ over_tells (LastWakes end) e o r h k = rw h k
 over_tells (HasEnded end) e o r h k = rw h k
 over_tells p e o r h k = absurd h
 
-pub matches : (w : World) (T : Table) → Good w T → Matches w T
-unfolding Tie holds
+free_is : (rule : ReleaseRule) (v : ℕ) → (owner v ≡ 0) × (owner_died_bit v ≡ 0) → (Clears rule → v ≡ 0) → FreeIs rule v
+free_is ClearsWord v h plain = plain tt
+free_is KeepsWaiters v h plain = h
+free_is TidiesWaiters v h plain = h
+
+hold_is : (rule : ReleaseRule) (h : Hold) (v : ℕ) → Tie h v → (Clears rule → h ≡ Free → v ≡ 0) → HoldIs rule h v
+unfolding Tie
+hold_is rule Free v tie plain = free_is rule v tie (λ k. plain k refl)
+hold_is rule (HeldBy p) v tie plain = tie
+hold_is rule Abandoned v tie plain = tie
+
+pub matches : (w : World) (T : Table) → Good w T → Matches w.rules w T
+unfolding holds
 matches w T inv = record {
-  hold = λ m. inv.locks.tie m;
+  hold = λ m. hold_is w.rules.release (T.hold m) (w.lock m) (inv.locks.tie m) (λ k. inv.plain.word k m);
   held = λ m t h. has_of m (w.at t).list (entry_at (w.at t).point) (inv.locks.owned m t h);
   has = λ m t h. inv.locks.held m t (of_has m (w.at t).list (entry_at (w.at t).point) h);
   sleeper = λ t c h. inv.conds.sleeper t c h;
@@ -208,9 +222,20 @@ loses_none w T inv = record {
   ];
 }
 
+pub good_under : (rules : Rules) → AreSafe rules → (ss : List (ℕ × Move)) (w : World) → Leads (opening_under rules) ss w
+    → Good w (last_table (opening_under rules) first_table ss)
+good_under rules safe ss w run = (run_kept ss (opening_under rules) w first_table (good_start rules safe) run).1
+
 pub good_run : (ss : List (ℕ × Move)) (w : World) → Leads opening_world ss w
     → Good w (last_table opening_world first_table ss)
-good_run ss w run = (run_kept ss opening_world w first_table good_start run).1
+good_run ss w run = good_under standard_rules (inl refl) ss w run
+
+pub rules_kept : (ss : List (ℕ × Move)) (w w' : World) → Leads w ss w' → w'.rules ≡ w.rules
+rules_kept [] w w' run = ap (λ x. x.rules) run
+rules_kept (s ∷ ss) w w' run = rules_kept ss (after w s.0 s.1) w' run.1 ∙ same_rules w s.0 s.1 where
+  same_rules : (w : World) (t : ℕ) (m : Move) → (after w t m).rules ≡ w.rules
+  same_rules w t (AddSeq c) = refl
+  same_rules w t m = refl
 
 -- a sequence number is raised at most once by a move
 raised : (w : World) (t : ℕ) (m : Move) (d : Member) → (after w t m).sequence d ≤ suc (w.sequence d)
@@ -225,12 +250,18 @@ all_raised : (ss : List (ℕ × Move)) (w w' : World) (d : Member) → Leads w s
 all_raised [] w w' d run = let e : w'.sequence d ≡ w.sequence d = ap (λ x. x.sequence d) run in omega (arith, e)
 all_raised (s ∷ ss) w w' d run = omega (arith, raised w s.0 s.1 d, all_raised ss (after w s.0 s.1) w' d run.1)
 
-pub no_wake_lost : (ss : List (ℕ × Move)) (w : World) → Leads opening_world ss w → IsExplainedByMoves ss w
-no_wake_lost ss w run =
-    let k = run_kept ss opening_world w first_table good_start run in
+pub safe_no_wake_lost : (rules : Rules) → AreSafe rules → (ss : List (ℕ × Move)) (w : World)
+    → Leads (opening_under rules) ss w → IsExplainedUnder rules ss w
+safe_no_wake_lost rules safe ss w run =
+    let k = run_kept ss (opening_under rules) w first_table (good_start rules safe) run in
     record {
       permits = k.0;
-      matches = matches w (last_table opening_world first_table ss) k.1;
-      waking = loses_none w (last_table opening_world first_table ss) k.1;
-      numbers = λ d. omega (arith, all_raised ss opening_world w d run);
+      matches = subst (λ (x : Rules). Matches x w (last_table (opening_under rules) first_table ss))
+          (rules_kept ss (opening_under rules) w run)
+          (matches w (last_table (opening_under rules) first_table ss) k.1);
+      waking = loses_none w (last_table (opening_under rules) first_table ss) k.1;
+      numbers = λ d. omega (arith, all_raised ss (opening_under rules) w d run);
     }
+
+pub no_wake_lost : (ss : List (ℕ × Move)) (w : World) → Leads opening_world ss w → IsExplainedByMoves ss w
+no_wake_lost ss w run = safe_no_wake_lost standard_rules (inl refl) ss w run

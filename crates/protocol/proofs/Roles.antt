@@ -8,8 +8,10 @@ use Rattle.protocol.specs.Points.{EnterPends, EnterTries, ReenterPends, ReenterT
 use Rattle.protocol.specs.Points.{TakeSleeps, TakeTries, GotReads, GotLinks, GotHeads, GotUnpends, WaitReads}
 use Rattle.protocol.specs.Points.{NotifyAdds, NotifyWakes, BroadcastAdds, BroadcastMarks, BroadcastReads}
 use Rattle.protocol.specs.Points.{BroadcastMoves, LeavePends, LeaveReads, LeaveHeads, LeaveSwaps, LeaveWakes, HasLeft}
+use Rattle.protocol.specs.Points.{LeaveLoads, LeaveKeeps, LeaveClears}
 use Rattle.protocol.specs.Points.{Dies, Walks, entry_at, taking_entry, IsLive, NoEntry}
 use Rattle.protocol.specs.World.{mem, tail, Distinct}
+use Rattle.protocol.specs.Rules.{KeepsWaiters}
 use Rattle.protocol.specs.Runs.{HoldIs}
 
 abbrev pub own : Entry → ℕ → Bool
@@ -84,7 +86,10 @@ Listed (LeavePends m r) l = l ≡ m ∷ tail l
 Listed (LeaveReads m r) l = l ≡ m ∷ tail l
 Listed (LeaveHeads m h r) l = l ≡ m ∷ tail l
 Listed (LeaveSwaps m r) l = mem m l ≡ false
+Listed (LeaveLoads m r) l = mem m l ≡ false
+Listed (LeaveKeeps m v r) l = mem m l ≡ false
 Listed (LeaveWakes m r) l = mem m l ≡ false
+Listed (LeaveClears m r) l = mem m l ≡ false
 Listed (HasLeft m r) l = mem m l ≡ false
 Listed (Dies cause x) l = ListedEntry x l
 Listed (Walks a x end) l = ListedEntry x l
@@ -103,9 +108,9 @@ may_sleep p x = point_sleeps p.point x
 unfoldable pub Knows : Thread → Type 0
 Knows p = Distinct p.list × Listed p.point p.list
 
--- a monitor's state, and its lock word
+-- a monitor's state, and its lock word, by what is so under any rule of releases
 unfoldable pub Tie : Hold → ℕ → Type 0
-Tie h v = HoldIs h v
+Tie h v = HoldIs KeepsWaiters h v
 
 pub takes-same : (k : Purpose) (m x : ℕ) → takes k m x ≡ true → x ≡ m
 takes-same ToEnter m x h = eqb-true x m h
@@ -146,6 +151,7 @@ entry_listed (TakeMarks m v k) l live h = entry_for k m l h.0
 entry_listed (TakeSleeps m v k) l live h = entry_for k m l h.0
 entry_listed (TakeTries m v k) l live h = entry_free k m l h.0
 entry_listed (LeaveWakes m r) l live h = h
+entry_listed (LeaveClears m r) l live h = h
 entry_listed (HasLeft m r) l live h = h
 entry_listed (Dies cause x) l live h = h
 entry_listed (Walks a x end) l live h = h

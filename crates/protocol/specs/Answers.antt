@@ -1,5 +1,6 @@
 -- What the shared words answer to a request, and where the thread stands after each answer.
 use Rattle.std.specs.Prelude.{◌≡◌, ◌≢◌, ℕ, zero, suc, ◌+◌, ◌==◌, if◌then◌else◌, Some, List, ◌∷◌, ◌⊎◌}
+use Rattle.words.specs.Outcomes.{cause_number}
 use Rattle.words.specs.Updates.{put}
 use Rattle.meaning.specs.Labels.{End, Aborted}
 use Rattle.protocol.specs.Word.{owner, waiters, with_waiters, died_word}
@@ -11,7 +12,6 @@ use Rattle.protocol.specs.Points.{BroadcastMoves, JoinReads, JoinSleeps, JoinLea
 use Rattle.protocol.specs.Points.{LeaveReads, LeaveHeads, LeaveSwaps, LeaveWakes, HasLeft, Dies, Walks, ClearsId}
 use Rattle.protocol.specs.Points.{LastWakes, HasEnded}
 use Rattle.protocol.specs.World.{World, awake_after, requeued_sleep, tail, IsWake}
-use Rattle.protocol.specs.Finds.{cause_word}
 use Rattle.protocol.specs.Cells.{LockOf, IdOf, OutcomeOf, cell, write, cell_of}
 use Rattle.protocol.specs.Requests.{Request, AskNothing, AskLoad, AskStore, AskSwap, AskCompareSwap, AskOrWaiters}
 use Rattle.protocol.specs.Requests.{AskAddOne, AskWait, AskWakeOne, AskRequeue, AskFault, AskExitStep}
@@ -56,7 +56,7 @@ Serves w t p (AskWait s x) r w' =
 Serves w t p (AskWakeOne s) r w' = WakesOne w s w'
 Serves w t p (AskRequeue c x) r w' =
     ((w.sequence c ≡ x) × (w' ≡ record w { asleep = requeued_sleep w.asleep c })) ⊎ ((w.sequence c ≢ x) × (w' ≡ w))
-Serves w t p (AskFault cause) r w' = (r ≡ w.head t) × (w' ≡ write w (OutcomeOf t) (cause_word cause))
+Serves w t p (AskFault cause) r w' = (r ≡ w.head t) × (w' ≡ write w (OutcomeOf t) (cause_number cause))
 Serves w t p AskExitStep r w' = (r ≡ 0) × ExitDoes w t p w'
 
 -- where the thread stands after the answer; how a joined process is over, and an entry's link, are the world's

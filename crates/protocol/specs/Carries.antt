@@ -14,7 +14,7 @@ use Rattle.protocol.specs.Points.{BroadcastMoves}
 use Rattle.protocol.specs.World.{World, awake_after, requeued_sleep}
 use Rattle.protocol.specs.Moves.{Move, Own, Raise, CompareSwapGot, FreeGot, SwapWake, SwapAlone, WakeSeq, MoveAll}
 use Rattle.protocol.specs.Moves.{EntryAlone, EntryWake, PendAlone, PendWake, ClearId, Fork, ForkFull, Claim}
-use Rattle.protocol.specs.Moves.{ClaimTaken, IdGone, StraySeq, Kill}
+use Rattle.protocol.specs.Moves.{ClaimTaken, IdGone, StraySeq, Kill, KeepWake, KeepAlone}
 pub use Rattle.protocol.specs.Waiters.{on_sequence, waits_on, is_resumed, with_number, chosen_from, resumed_by}
 
 -- what a move is in the source: an action of a process, or one from outside
@@ -54,6 +54,8 @@ event_of w T t (CompareSwapGot m) = Some (Acts t (Enters m false))
 event_of w T t (FreeGot m v k) = Some (Acts t (taking_label k m (has_died v)))
 event_of w T t (SwapWake m r) = Some (Acts t (release_label r m))
 event_of w T t (SwapAlone m r) = Some (Acts t (release_label r m))
+event_of w T t (KeepWake m v r) = Some (Acts t (release_label r m))
+event_of w T t (KeepAlone m v r) = Some (Acts t (release_label r m))
 event_of w T t (WakeSeq c woken) = Some (Acts t (Notifies c (resumed_by w T c (awake_after w.asleep woken))))
 event_of w T t (MoveAll c s) = Some (Acts t (Broadcasts c (resumed_by w T c (requeued_sleep w.asleep c))))
 event_of w T t (EntryAlone m x end) = Some (Acts t (Abandons m))
@@ -105,6 +107,8 @@ table_after w T t (CompareSwapGot m) = record T { hold = put T.hold m (HeldBy t)
 table_after w T t (FreeGot m v k) = record T { hold = put T.hold m (HeldBy t) }
 table_after w T t (SwapWake m r) = record T { hold = put T.hold m Free; waits = released_waits r t T.waits }
 table_after w T t (SwapAlone m r) = record T { hold = put T.hold m Free; waits = released_waits r t T.waits }
+table_after w T t (KeepWake m v r) = record T { hold = put T.hold m Free; waits = released_waits r t T.waits }
+table_after w T t (KeepAlone m v r) = record T { hold = put T.hold m Free; waits = released_waits r t T.waits }
 table_after w T t (WakeSeq c woken) =
     record T { waits = without_waiters (resumed_by w T c (awake_after w.asleep woken)) T.waits }
 table_after w T t (MoveAll c s) =

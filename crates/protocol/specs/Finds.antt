@@ -1,9 +1,9 @@
 -- What each move finds in the world.
-use Rattle.std.specs.Prelude.{◌≡◌, ◌≢◌, ℕ, suc, ◌<◌, ◌≤◌, true, false, None, ◌∷◌, ◌⊎◌}
+use Rattle.std.specs.Prelude.{◌≡◌, ◌≢◌, ℕ, suc, ◌<◌, ◌≤◌, true, false, None, [], ◌∷◌, ◌⊎◌}
 use Rattle.words.specs.Limits.{most_processes}
-use Rattle.words.specs.Outcomes.{fault_number}
+use Rattle.words.specs.Outcomes.{cause_number}
 use Rattle.words.specs.Signed.{signed_of}
-use Rattle.meaning.specs.Labels.{Cause, Faulted, Killed, End, Ended, Aborted, Label, Alone, Stores}
+use Rattle.meaning.specs.Labels.{End, Ended, Aborted, Label, Alone, Stores}
 use Rattle.protocol.specs.Word.{owner, waiters}
 use Rattle.protocol.specs.Points.{Owned, OnLock, OnSequence, OnId, Runs, LastWakes, HasEnded, IsLive, Thread}
 use Rattle.protocol.specs.World.{World, mem, tail, IsWake}
@@ -12,21 +12,19 @@ use Rattle.protocol.specs.Moves.{CompareSwapBusy, CompareSwapHeld, LoadHeld, Loa
 use Rattle.protocol.specs.Moves.{Again, FreeGot, FreeFail, SwapWake, SwapAlone, Wake, SeqSleep, SeqAgain, WakeSeq}
 use Rattle.protocol.specs.Moves.{MoveAll, Kill, EntryAlone, EntryWake, PendAlone, PendWake, PendForeign, LastWake}
 use Rattle.protocol.specs.Moves.{Fork, ForkFull, Claim, ReadClaimed, IdGone, IdThere, IdSleep, IdAgain, LearnEnded}
-use Rattle.protocol.specs.Moves.{LearnAborted}
+use Rattle.protocol.specs.Moves.{LearnAborted, CutHead}
+use Rattle.protocol.specs.Moves.{CutToLoad, KeepWake, KeepAlone, KeepFail, WakeNone, ClearBit}
+use Rattle.protocol.specs.Moves.{ClearFail, PendPassed}
+use Rattle.protocol.specs.Rules.{Wakes, Passes, Clears, Keeps, Tidies}
 
 -- a thread's innermost monitor
 abbrev pub HoldsFirst : Thread → ℕ → Type 0
 HoldsFirst thread m = thread.list ≡ m ∷ tail thread.list
 
--- the outcome word of an aborted process: the fault's number, and 9 where it was killed
-abbrev pub cause_word : Cause → ℕ
-cause_word (Faulted fault) = fault_number fault
-cause_word Killed = 9
-
 -- the words tell how a process is over
 abbrev pub CarriesFinding : End → (outcome result : ℕ) → Type 0
 CarriesFinding (Ended z) outcome result = (outcome ≡ 16) × (signed_of result ≡ z)
-CarriesFinding (Aborted cause) outcome result = outcome ≡ cause_word cause
+CarriesFinding (Aborted cause) outcome result = outcome ≡ cause_number cause
 
 -- the labels of a thread's own code: a store into a variable of a monitor is for a thread that has the monitor
 abbrev pub IsOwn : Thread → Label → Type 0
@@ -54,6 +52,14 @@ Finds w t (Sleep m v k) = w.lock m ≡ v
 Finds w t (Again m v k) = w.lock m ≢ v
 Finds w t (FreeGot m v k) = w.lock m ≡ v
 Finds w t (FreeFail m v k) = w.lock m ≢ v
+Finds w t (CutHead m h r) = Clears w.rules.release
+Finds w t (CutToLoad m h r) = Keeps w.rules.release
+Finds w t (KeepWake m v r) = (w.lock m ≡ v) × (waiters v ≢ 0)
+Finds w t (KeepAlone m v r) = (w.lock m ≡ v) × (waiters v ≡ 0)
+Finds w t (KeepFail m v r) = w.lock m ≢ v
+Finds w t (WakeNone m r) = Tidies w.rules.release × IsWake w.asleep (OnLock m) 1 []
+Finds w t (ClearBit m r) = w.lock m ≡ 2147483648
+Finds w t (ClearFail m r) = w.lock m ≢ 2147483648
 Finds w t (SwapWake m r) = waiters (w.lock m) ≢ 0
 Finds w t (SwapAlone m r) = waiters (w.lock m) ≡ 0
 Finds w t (Wake m r woken) = IsWake w.asleep (OnLock m) 1 woken
@@ -66,7 +72,8 @@ Finds w t (EntryAlone m x end) = (x ≢ Owned m) × (waiters (w.lock m) ≡ 0)
 Finds w t (EntryWake m x end woken) = (x ≢ Owned m) × (waiters (w.lock m) ≢ 0) × IsWake w.asleep (OnLock m) 1 woken
 Finds w t (PendAlone m end) = waiters (w.lock m) ≡ 0
 Finds w t (PendWake m end woken) = (waiters (w.lock m) ≢ 0) × IsWake w.asleep (OnLock m) 1 woken
-Finds w t (PendForeign m end woken) = IsWake w.asleep (OnLock m) 1 woken
+Finds w t (PendForeign m end woken) = Wakes w.rules.exit (w.lock m) × IsWake w.asleep (OnLock m) 1 woken
+Finds w t (PendPassed m end) = Passes w.rules.exit (w.lock m)
 Finds w t (LastWake end woken) = IsWake w.asleep (OnId t) 1 woken
 -- the thread that is made has the next number; its parent runs
 Finds w t (Fork parent) =

@@ -42,6 +42,15 @@ pub data Move : Type 0 where
   SwapWake : (monitor : ℕ) → Release → Move
   SwapAlone : (monitor : ℕ) → Release → Move
   Wake : (monitor : ℕ) → Release → (woken : List ℕ) → Move
+  -- leaving, and keeping the waiters bit
+  CutToLoad : (monitor next : ℕ) → Release → Move
+  LoadLock : (monitor : ℕ) → Release → Move
+  KeepWake : (monitor seen : ℕ) → Release → Move
+  KeepAlone : (monitor seen : ℕ) → Release → Move
+  KeepFail : (monitor seen : ℕ) → Release → Move
+  WakeNone : (monitor : ℕ) → Release → Move
+  ClearBit : (monitor : ℕ) → Release → Move
+  ClearFail : (monitor : ℕ) → Release → Move
   Finish : (monitor : ℕ) → Move
   -- conditions
   ReadSeq : (condition : Member) → Move
@@ -68,6 +77,7 @@ pub data Move : Type 0 where
   PendAlone : (monitor : ℕ) → End → Move
   PendWake : (monitor : ℕ) → End → (woken : List ℕ) → Move
   PendForeign : (monitor : ℕ) → End → (woken : List ℕ) → Move
+  PendPassed : (monitor : ℕ) → End → Move
   ClearId : End → Move
   LastWake : End → (woken : List ℕ) → Move
   -- processes

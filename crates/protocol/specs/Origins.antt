@@ -17,6 +17,9 @@ use Rattle.protocol.specs.Moves.{StraySeq, StrayId, Return, WriteFault, SkipEntr
 use Rattle.protocol.specs.Moves.{PendAlone, PendWake, PendForeign, ClearId, LastWake, Fork, ForkFull, Claim}
 use Rattle.protocol.specs.Moves.{ReadClaimed, ClaimTaken, IdGone, IdThere, IdSleep, IdAgain, LearnEnded}
 use Rattle.protocol.specs.Moves.{LearnAborted, TakeResult}
+use Rattle.protocol.specs.Moves.{CutToLoad, LoadLock, KeepWake, KeepAlone, KeepFail, WakeNone, ClearBit}
+use Rattle.protocol.specs.Moves.{ClearFail, PendPassed}
+use Rattle.protocol.specs.Points.{LeaveLoads, LeaveKeeps, LeaveClears}
 
 -- the point of the thread that moves; of a fork the thread that is made, whose parent stays where it is
 abbrev pub from : Move → Point
@@ -51,6 +54,14 @@ from (CutHead m h r) = LeaveHeads m h r
 from (SwapWake m r) = LeaveSwaps m r
 from (SwapAlone m r) = LeaveSwaps m r
 from (Wake m r woken) = LeaveWakes m r
+from (CutToLoad m h r) = LeaveHeads m h r
+from (LoadLock m r) = LeaveLoads m r
+from (KeepWake m v r) = LeaveKeeps m v r
+from (KeepAlone m v r) = LeaveKeeps m v r
+from (KeepFail m v r) = LeaveKeeps m v r
+from (WakeNone m r) = LeaveWakes m r
+from (ClearBit m r) = LeaveClears m r
+from (ClearFail m r) = LeaveClears m r
 from (Finish m) = HasLeft m ToExit
 from (ReadSeq c) = WaitReads c
 from (SeqSleep m c s) = HasLeft m (ToWait c s)
@@ -74,6 +85,7 @@ from (PendNone end) = Walks 0 NoEntry end
 from (PendAlone m end) = Walks 0 (Owned m) end
 from (PendWake m end woken) = Walks 0 (Owned m) end
 from (PendForeign m end woken) = Walks 0 (Unowned m) end
+from (PendPassed m end) = Walks 0 (Unowned m) end
 from (ClearId end) = ClearsId end
 from (LastWake end woken) = LastWakes end
 from (Fork parent) = Unmade

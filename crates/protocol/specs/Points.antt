@@ -69,7 +69,12 @@ pub data Point : Type 0 where
   LeaveReads : (monitor : ℕ) → Release → Point
   LeaveHeads : (monitor next : ℕ) → Release → Point
   LeaveSwaps : (monitor : ℕ) → Release → Point
+  -- or where the waiters bit is kept: the word is loaded, compared and swapped for what is left of the bit; and, where
+  -- the wake found nobody, the bit may be cleared
+  LeaveLoads : (monitor : ℕ) → Release → Point
+  LeaveKeeps : (monitor seen : ℕ) → Release → Point
   LeaveWakes : (monitor : ℕ) → Release → Point
+  LeaveClears : (monitor : ℕ) → Release → Point
   HasLeft : (monitor : ℕ) → Release → Point
   -- dying, before its fault is written
   Dies : Cause → Entry → Point
@@ -100,7 +105,10 @@ entry_at (GotUnpends m v) = Owned m
 entry_at (LeaveReads m r) = Owned m
 entry_at (LeaveHeads m h r) = Owned m
 entry_at (LeaveSwaps m r) = Owned m
+entry_at (LeaveLoads m r) = Owned m
+entry_at (LeaveKeeps m v r) = Owned m
 entry_at (LeaveWakes m r) = Unowned m
+entry_at (LeaveClears m r) = Unowned m
 entry_at (HasLeft m r) = Unowned m
 entry_at (Dies cause x) = x
 entry_at (Walks a x end) = x

@@ -7,7 +7,8 @@ use Rattle.protocol.specs.Word.{owner, owner_died_bit}
 use Rattle.protocol.specs.Points.{ToEnter, ToReenter, ToResume, Owned, Spot, OnSequence, Point, Unmade, TakeReads}
 use Rattle.protocol.specs.Points.{JoinReads, JoinSleeps, JoinLearns, JoinTakes, Walks, ClearsId, LastWakes, HasEnded}
 use Rattle.protocol.specs.Points.{entry_at}
-use Rattle.protocol.specs.World.{World, opening_world, mem}
+use Rattle.protocol.specs.Rules.{ReleaseRule, ClearsWord, Rules, standard_rules}
+use Rattle.protocol.specs.World.{World, opening_under, mem}
 use Rattle.protocol.specs.Moves.{Move}
 use Rattle.protocol.specs.Steps.{Can, after}
 use Rattle.protocol.specs.Finds.{CarriesFinding}
@@ -33,11 +34,16 @@ abbrev pub PermitsAll : List Event → Table → Table → Type 0
 PermitsAll [] T T' = T' ≡ T
 PermitsAll (e ∷ es) T T' = (mid : Table) × Permits e T mid × PermitsAll es mid T'
 
+-- the word of a free monitor: 0, or, where releases keep the waiters bit, what they leave
+abbrev pub FreeIs : ReleaseRule → ℕ → Type 0
+FreeIs ClearsWord v = v ≡ 0
+FreeIs rule v = (owner v ≡ 0) × (owner_died_bit v ≡ 0)
+
 -- a monitor's state, and its lock word
-abbrev pub HoldIs : Hold → ℕ → Type 0
-HoldIs Free v = v ≡ 0
-HoldIs (HeldBy p) v = (owner v ≡ p) × (0 < p) × (owner_died_bit v ≡ 0)
-HoldIs Abandoned v = (owner v ≡ 0) × (owner_died_bit v ≡ 1073741824)
+abbrev pub HoldIs : ReleaseRule → Hold → ℕ → Type 0
+HoldIs rule Free v = FreeIs rule v
+HoldIs rule (HeldBy p) v = (owner v ≡ p) × (0 < p) × (owner_died_bit v ≡ 0)
+HoldIs rule Abandoned v = (owner v ≡ 0) × (owner_died_bit v ≡ 1073741824)
 
 -- a claim word is 1 where its process was claimed, else 0
 abbrev pub ClaimIs : Bool → ℕ → Type 0
@@ -61,9 +67,9 @@ HasJoined (JoinTakes q end) x e = (x ≡ q) × (e ≡ end)
 HasJoined p x e = ⊥
 
 -- the table is that of the world
-pub record Matches (w : World) (T : Table) : Type 0 where
+pub record Matches (rules : Rules) (w : World) (T : Table) : Type 0 where
   -- who holds
-  pub hold : (m : ℕ) → HoldIs (T.hold m) (w.lock m)
+  pub hold : (m : ℕ) → HoldIs rules.release (T.hold m) (w.lock m)
   pub held : (m t : ℕ) → T.hold m ≡ HeldBy t → Has w t m
   pub has : (m t : ℕ) → Has w t m → T.hold m ≡ HeldBy t
   -- who waits: each sleeper on a condition's word; and no thread but one that was made
@@ -119,9 +125,14 @@ pub record LosesNoWake (w : World) (T : Table) : Type 0 where
   pub at_rest : ((t : ℕ) → CanStep w t → ⊥) → (t : ℕ) → CannotAct w T t
 
 -- a run of moves is explained by the source
-pub record IsExplainedByMoves (ss : List (ℕ × Move)) (w : World) : Type 0 where
-  pub permits : PermitsAll (events opening_world first_table ss) first_table (last_table opening_world first_table ss)
-  pub matches : Matches w (last_table opening_world first_table ss)
-  pub waking : LosesNoWake w (last_table opening_world first_table ss)
+pub record IsExplainedUnder (rules : Rules) (ss : List (ℕ × Move)) (w : World) : Type 0 where
+  pub permits : PermitsAll (events (opening_under rules) first_table ss) first_table
+      (last_table (opening_under rules) first_table ss)
+  pub matches : Matches rules w (last_table (opening_under rules) first_table ss)
+  pub waking : LosesNoWake w (last_table (opening_under rules) first_table ss)
   -- a sequence number counts no more steps than were taken
   pub numbers : (c : Member) → w.sequence c ≤ length ss
+
+-- the same on this machine, with the templates' release
+abbrev pub IsExplainedByMoves : List (ℕ × Move) → World → Type 0
+IsExplainedByMoves ss w = IsExplainedUnder standard_rules ss w

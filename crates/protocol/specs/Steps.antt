@@ -1,10 +1,11 @@
 -- When a move can be made, and what it makes of the world.
 use Rattle.std.specs.Prelude.{◌≡◌, ℕ, suc, ◌+◌, Option, Some, None, List, [], ◌∷◌}
+use Rattle.words.specs.Outcomes.{cause_number}
 use Rattle.words.specs.Updates.{put}
 use Rattle.words.specs.Signed.{signed_of}
 use Rattle.words.specs.declared.outcome.Fault.TheVariants.{HandleNotJoinable, ProcessTableFull}
 use Rattle.meaning.specs.Labels.{Faulted, Killed, End, Ended, Aborted}
-use Rattle.protocol.specs.Word.{with_waiters, died_word}
+use Rattle.protocol.specs.Word.{waiters, with_waiters, died_word}
 use Rattle.protocol.specs.Points.{ToEnter, ToReenter, ToResume, ToExit, ToWait, NoEntry, Owned, OnLock, OnSequence}
 use Rattle.protocol.specs.Points.{OnId, Point, Runs, EnterPends, EnterTries, ReenterPends, ReenterTries, TakeReads}
 use Rattle.protocol.specs.Points.{TakeMarks, TakeSleeps, TakeTries, GotReads, GotLinks, GotHeads, GotUnpends}
@@ -22,8 +23,11 @@ use Rattle.protocol.specs.Moves.{SeqAgain, AddSeq, WakeSeq, AddAll, OrLock, Load
 use Rattle.protocol.specs.Moves.{StrayId, Return, WriteFault, SkipEntry, EntryAlone, EntryWake, PendNone, PendAlone}
 use Rattle.protocol.specs.Moves.{PendWake, PendForeign, ClearId, LastWake, Fork, ForkFull, Claim, ClaimTaken, IdGone}
 use Rattle.protocol.specs.Moves.{ReadClaimed, IdThere, IdSleep, IdAgain, LearnEnded, LearnAborted, TakeResult}
+use Rattle.protocol.specs.Moves.{CutToLoad, LoadLock, KeepWake, KeepAlone, KeepFail, WakeNone, ClearBit}
+use Rattle.protocol.specs.Moves.{ClearFail, PendPassed}
+use Rattle.protocol.specs.Points.{LeaveLoads, LeaveKeeps, LeaveClears}
 use Rattle.protocol.specs.Origins.{from, Awake}
-use Rattle.protocol.specs.Finds.{cause_word, Finds, HasNumber}
+use Rattle.protocol.specs.Finds.{Finds, HasNumber}
 
 -- thread t can make this move
 pub record Can (w : World) (t : ℕ) (m : Move) : Type 0 where
@@ -81,6 +85,14 @@ after w t (CutHead m h r) = go_list (record w { head = put w.head t h }) t (Leav
 after w t (SwapWake m r) = go (record w { lock = put w.lock m 0 }) t (LeaveWakes m r)
 after w t (SwapAlone m r) = go (record w { lock = put w.lock m 0 }) t (HasLeft m r)
 after w t (Wake m r woken) = go (record w { asleep = awake_after w.asleep woken }) t (HasLeft m r)
+after w t (CutToLoad m h r) = go_list (record w { head = put w.head t h }) t (LeaveLoads m r) (tail (w.at t).list)
+after w t (LoadLock m r) = go w t (LeaveKeeps m (w.lock m) r)
+after w t (KeepWake m v r) = go (record w { lock = put w.lock m (waiters v) }) t (LeaveWakes m r)
+after w t (KeepAlone m v r) = go (record w { lock = put w.lock m (waiters v) }) t (HasLeft m r)
+after w t (KeepFail m v r) = go w t (LeaveLoads m r)
+after w t (WakeNone m r) = go w t (LeaveClears m r)
+after w t (ClearBit m r) = go (record w { lock = put w.lock m 0 }) t (HasLeft m r)
+after w t (ClearFail m r) = go w t (HasLeft m r)
 after w t (Finish m) = go (record w { pending = put w.pending t 0 }) t Runs
 after w t (ReadSeq c) = go w t (LeavePends c.monitor (ToWait c (w.sequence c)))
 after w t (SeqSleep m c s) =
@@ -104,7 +116,7 @@ after w t (Return r) =
       outcome = put w.outcome t 16;
     }) t (Walks (w.head t) NoEntry (returned_end w t r))
 after w t (WriteFault cause x) =
-    go (record w { outcome = put w.outcome t (cause_word cause) }) t (Walks (w.head t) x (Aborted cause))
+    go (record w { outcome = put w.outcome t (cause_number cause) }) t (Walks (w.head t) x (Aborted cause))
 after w t (SkipEntry m end) = go_list w t (Walks (w.link m) (Owned m) end) (tail (w.at t).list)
 after w t (EntryAlone m x end) =
     go_list (record w { lock = put w.lock m (died_word (w.lock m)) }) t (Walks (w.link m) x end) (tail (w.at t).list)
@@ -119,6 +131,7 @@ after w t (PendAlone m end) = go (record w { lock = put w.lock m (died_word (w.l
 after w t (PendWake m end woken) =
     go (record w { lock = put w.lock m (died_word (w.lock m)); asleep = awake_after w.asleep woken }) t (ClearsId end)
 after w t (PendForeign m end woken) = go (record w { asleep = awake_after w.asleep woken }) t (ClearsId end)
+after w t (PendPassed m end) = go w t (ClearsId end)
 after w t (ClearId end) = go (record w { id = put w.id t 0 }) t (LastWakes end)
 after w t (LastWake end woken) = go (record w { asleep = awake_after w.asleep woken }) t (HasEnded end)
 after w t (Fork parent) = go_list (record w { id = put w.id t t; made = suc w.made }) t Runs []

@@ -4,12 +4,15 @@
 
 ghost use Rattle.std.specs.Prelude.{◌≡◌, ℕ, ◌<◌, ◌≤◌, Bool, List, None};
 ghost use Rattle.protocol.specs.Points.{Point};
-ghost use Rattle.protocol.specs.World.{World, opening_world};
+ghost use Rattle.protocol.specs.World.{World, opening_world, opening_under};
+ghost use Rattle.protocol.specs.Rules.{Rules, AreSafe, rules_of, WakesUnowned, ClearsWord, TidiesWaiters};
+ghost use Rattle.protocol.specs.Losses.{LosesWake, cleared_run, tidied_run};
 ghost use Rattle.protocol.specs.Moves.{Move};
-ghost use Rattle.protocol.specs.Runs.{Leads, IsExplainedByMoves};
+ghost use Rattle.protocol.specs.Runs.{Leads, IsExplainedByMoves, IsExplainedUnder};
 ghost use Rattle.protocol.specs.Requests.{request};
 ghost use Rattle.protocol.specs.Answers.{Serves};
 ghost use Rattle.protocol.specs.Served.{IsMove};
+ghost use Rattle.protocol.specs.Ruled.{request_under, ServesUnder, IsMoveUnder};
 ghost use Rattle.protocol.specs.Memory.{StoresFollow};
 ghost use Rattle.protocol.specs.Starts.{StartsMove};
 ghost use Rattle.protocol.specs.WordLaws.{AreLockWords};
@@ -66,4 +69,37 @@ pub fn calls_follow()
 /// Each step of robust exit leads to the phase of the protocol's next point, before the limit of a walk.
 pub fn phases_follow()
     ensures { PhasesFollow }
+{}
+
+/// Under other rules of exits and releases than this machine's and its templates' the first law holds too, where they
+/// are safe: any release where an exit always wakes, and, where it wakes at unowned words alone (Linux), the release
+/// that keeps the waiters bit for good.
+pub fn no_wake_lost_under()
+    ensures { (rules : Rules) → AreSafe rules → (ss : List (ℕ × Move)) (w : World)
+        → Leads (opening_under rules) ss w
+        → IsExplainedUnder rules ss w }
+{}
+
+/// Under safe rules each step of a thread inside a template is a move.
+pub fn every_step_is_a_move_under()
+    ensures { (rules : Rules) → AreSafe rules
+        → (ss : List (ℕ × Move)) (w : World) → Leads (opening_under rules) ss w
+        → (t : ℕ) (p : Point) (r : ℕ) (w' : World) →
+        0 < t → t ≤ w.made → w.asleep t ≡ None → (w.at t).point ≡ p
+        → ServesUnder rules w t p (request_under t p) r w'
+        → IsMoveUnder rules w t p r w' }
+{}
+
+/// Under safe rules claims, returns and forks are moves.
+pub fn every_start_is_a_move_under()
+    ensures { (rules : Rules) → AreSafe rules → (ss : List (ℕ × Move)) (w : World)
+        → Leads (opening_under rules) ss w → StartsMove w }
+{}
+
+/// Under the other rules a wake is lost, by one kill. Where an exit wakes at unowned words alone, so does a release that
+/// swaps the word for 0, and one that keeps the waiters bit and clears it once a wake has found nobody: at the end of
+/// the run no thread can move, and the process of a thread that sleeps can.
+pub fn a_wake_is_lost()
+    ensures cleared { LosesWake (rules_of WakesUnowned ClearsWord) cleared_run }
+    ensures tidied { LosesWake (rules_of WakesUnowned TidiesWaiters) tidied_run }
 {}

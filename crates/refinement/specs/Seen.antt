@@ -8,7 +8,7 @@ use Rattle.words.specs.Process.{process_word}
 use Rattle.robustexit.specs.declared.phase.ExitPhase.TheVariants.{Entry, Pending, ClearId, LastWake, Ended as Ended'}
 use Rattle.locals.specs.Threads.{Thread, Runs, Dies, Exits}
 use Rattle.machine.specs.States.{State}
-use Rattle.meaning.specs.Labels.{End, Ended, Aborted, Faulted, Killed}
+use Rattle.meaning.specs.Labels.{End, Ended, Aborted}
 use Rattle.meaning.specs.Processes.{Process, Over}
 use Rattle.meaning.specs.States.{SourceState}
 
@@ -16,7 +16,7 @@ use Rattle.meaning.specs.States.{SourceState}
 abbrev pub end_by : ℕ → Option Thread → Option Outcome
 end_by word None = None
 end_by word (Some (Runs place operands locals callers)) = None
-end_by word (Some (Dies fault)) = None
+end_by word (Some (Dies cause)) = None
 end_by word (Some (Exits (Entry entry seen))) = None
 end_by word (Some (Exits Pending)) = None
 end_by word (Some (Exits ClearId)) = None
@@ -27,11 +27,10 @@ end_by word (Some (Exits Ended')) = Some (outcome_of word)
 abbrev pub machine_end : State → ℕ → Option Outcome
 machine_end s t = end_by (s.word (process_word t 5)) (s.thread t)
 
--- the outcome of an end; a killed process's word is 9
+-- the outcome of an end
 abbrev pub outcome_of_end : End → Outcome
 outcome_of_end (Ended z) = outcome.Ended
-outcome_of_end (Aborted (Faulted fault)) = outcome.Aborted fault
-outcome_of_end (Aborted Killed) = outcome_of 9
+outcome_of_end (Aborted cause) = outcome.Aborted cause
 
 -- how a process ended, if it has
 abbrev pub process_end : Option Process → Option Outcome

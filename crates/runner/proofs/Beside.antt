@@ -138,7 +138,7 @@ serves t (AskRequeue a b n m expected) s woken answer s' numbered (lies, lies', 
     to t s s s' again.3 (same t s)
 serves t AskReturn s woken answer s' numbered h = to t s _ s' h.1.1 (by_words t s _ s.output)
 serves t (AskReturnValue v) s woken answer s' numbered h = to t s _ s' h.1.1 (by_words t s _ s.output)
-serves t (AskFault fault) s woken answer s' numbered h = to t s _ s' h.1.1 (by_words t s _ s.output)
+serves t (AskFault cause) s woken answer s' numbered h = to t s _ s' h.1.1 (by_words t s _ s.output)
 
 -- a step of an exit
 idle_awake : (t : ℕ) (before after : Shared) (woken : List ℕ) → IsIdle before woken after

@@ -9,3 +9,6 @@ pub mod Lives
 pub mod InPlace
 pub mod Scheduling
 pub mod Locally
+pub mod Once
+pub mod Drawn
+pub mod Turning

@@ -73,7 +73,7 @@ going_look t (Some i) place operands locals callers = going_at place locals call
 
 going : (p : Program) (t : ℕ) (x : Thread) → has_ended (Some x) ≡ false → IsGoing (look p t x)
 going p t (Runs place operands locals callers) h = going_look t _ place operands locals callers
-going p t (Dies fault) h = tt
+going p t (Dies cause) h = tt
 going p t (Exits (Entry e seen)) h = tt
 going p t (Exits Pending) h = tt
 going p t (Exits ClearId) h = tt
@@ -139,7 +139,7 @@ only_broken made t (AskRequeue a b n m expected) c =
     (only_either (load c a == expected) _ _))
 only_broken made t AskReturn c = only_ok _
 only_broken made t (AskReturnValue v) c = only_ok _
-only_broken made t (AskFault fault) c = only_ok _
+only_broken made t (AskFault cause) c = only_ok _
 
 abbrev IsBroken : Result (ConcreteState × Option Event) StepFault → Type 0
 IsBroken r = r ≡ Err step.Broken

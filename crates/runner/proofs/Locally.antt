@@ -39,7 +39,7 @@ unserved_there (AskRequeue a b n m expected) s s' size made h =
     λ lies. h (subst (λ (k : ℕ). a < k) size lies.0, subst (λ (k : ℕ). b < k) size lies.1)
 unserved_there AskReturn s s' size made h = h
 unserved_there (AskReturnValue v) s s' size made h = h
-unserved_there (AskFault fault) s s' size made h = h
+unserved_there (AskFault cause) s s' size made h = h
 
 broken_there : (l : Look) (s s' : State) → s'.size ≡ s.size → s'.made ≡ s.made → IsBroken s l → IsBroken s' l
 broken_there (Goes x) s s' size made h = h

@@ -138,7 +138,7 @@ serve_stays made made' t (AskRequeue a b n m expected) c d e full h =
     (requeue_to d a b n m expected) e (λ _. either (load d a == expected) _ _)) h
 serve_stays made made' t AskReturn c d e full h = fine_ok _
 serve_stays made made' t (AskReturnValue v) c d e full h = fine_ok _
-serve_stays made made' t (AskFault fault) c d e full h = fine_ok _
+serve_stays made made' t (AskFault cause) c d e full h = fine_ok _
 
 went_fine : (go : ℕ → Thread) (r : Result Served StepFault) → Fine r → None ≡ fault_of (go_on_with go r)
 went_fine go (Ok r) h = refl

@@ -8,3 +8,4 @@ pub mod Reports
 pub mod Rounds
 pub mod LogRuns
 pub mod Schedules
+pub mod LogSchedules

@@ -1,10 +1,12 @@
 //! Threads that make entries in one log, on one machine.
 #![tactic(auto)]
 
+mod drawing;
 mod entering;
 mod fault;
 mod in_place;
 mod laws;
+mod log_schedule;
 mod naming;
 mod next;
 mod piece;
@@ -12,17 +14,20 @@ mod report;
 mod rounds;
 mod running;
 mod schedule;
+mod seeded;
 mod share;
 mod shared;
 
 pub use fault::RunFault;
 pub use laws::logs_are_machine_runs;
+pub use log_schedule::{FollowLogFault, follow_log};
 pub use naming::RunName;
 pub use next::{After, Next};
 pub use piece::Piece;
-pub use report::{Report, Verdict};
+pub use report::{Report, Verdict, report_of};
 pub use rounds::run_alone;
 pub use running::{finish, run_in_order};
 pub use schedule::{ScheduleFault, follow};
+pub use seeded::run_by_seed;
 pub use share::{PARTS, Share};
 pub use shared::Shared;

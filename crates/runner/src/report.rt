@@ -30,7 +30,7 @@ pub struct Report {
 }
 
 /// What is told of a run that left this log and this machine.
-pub(crate) fn report_of(alloc: Global, log: Vec<Entry>, last: Machine) -> Result<Report, AllocError>
+pub fn report_of(alloc: Global, log: Vec<Entry>, last: Machine) -> Result<Report, AllocError>
     ensures log { IfOk result (λ report. report.log.items ≡ log.items) }
     ensures last { IfOk result (λ report. report.last ≡ last) }
     ensures output { IfOk result (λ report. report.output.items ≡ last.output) }

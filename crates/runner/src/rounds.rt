@@ -1,9 +1,9 @@
 ghost use Rattle.words.specs.Limits.{most_processes};
-ghost use Rattle.std.specs.Prelude.{suc, ◌≡◌, ◌≤◌, ◌<◌, length, true, false, IfOk, IfErr, OnOk};
+ghost use Rattle.std.specs.Prelude.{suc, ◌≡◌, ◌≤◌, ◌<◌, length, slice_set, true, false, IfOk, IfErr, OnOk};
 ghost use Rattle.machine.specs.ConcreteSteps.{can_move};
 ghost use Rattle.runner.specs.Logs.{cost};
 ghost use Rattle.runner.specs.Reports.{CanFail, PassesLimit};
-ghost use Rattle.runner.specs.Rounds.{AllPast, Idle};
+ghost use Rattle.runner.specs.Rounds.{AllPast, Idle, IsPickable};
 ghost use Rattle.runner.specs.Views.{log_state};
 
 use crate::fault::RunFault;
@@ -75,8 +75,9 @@ fn run_round<J: RunName, G: Gate>(
     Ok(made)
 }
 
-// Makes the next entry of thread `t`, if it can move and wasn't refused before. Says whether it did.
-fn make_entry<J: RunName, G: Gate>(
+/// Makes the next entry of thread `t`, if it can move and wasn't refused before. Says whether it did. A thread whose entry
+/// would pass the limit is refused from then on.
+pub(crate) fn make_entry<J: RunName, G: Gate>(
     shared: &mut Shared<J>,
     refused: &mut [bool],
     image: &Image,
@@ -94,6 +95,9 @@ fn make_entry<J: RunName, G: Gate>(
     ensures none { IfOk result (λ made. made ≡ false → (log_state shared.new ≡ log_state shared.old)
         × (can_move (log_state shared.new).concrete t ≡ true
         → PassesLimit J.program J.limit shared.new.log (log_state shared.new).concrete t)) }
+    ensures kept { IfOk result (λ made. made ≡ true → refused.new ≡ refused.old) }
+    ensures passed { IfOk result (λ made. made ≡ false → IsPickable (log_state shared.old).concrete refused.old t
+        → refused.new ≡ slice_set refused.old t true) }
     ensures err { IfErr result (λ fault. CanFail J.program J.limit fault) }
 {
     if !shared.has_room() {
@@ -126,6 +130,9 @@ fn try_entry<J: RunName, G: Gate>(
     ensures none { IfOk result (λ made. made ≡ false → (log_state shared.new ≡ log_state shared.old)
         × (can_move (log_state shared.new).concrete t ≡ true
         → PassesLimit J.program J.limit shared.new.log (log_state shared.new).concrete t)) }
+    ensures kept { IfOk result (λ made. made ≡ true → refused.new ≡ refused.old) }
+    ensures passed { IfOk result (λ made. made ≡ false → IsPickable (log_state shared.old).concrete refused.old t
+        → refused.new ≡ slice_set refused.old t true) }
     ensures err { IfErr result (λ fault. CanFail J.program J.limit fault) }
 {
     if refused[t as usize] {

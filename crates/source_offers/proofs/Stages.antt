@@ -5,7 +5,7 @@ use Rattle.program.specs.Trees.{Block}
 use Rattle.program.specs.Views.{block_before}
 use Rattle.meaning.specs.Processes.{Caller, Process, goes_on}
 use Rattle.meaning.specs.Offers.{after_join}
-use Rattle.source_offers.specs.declared.process.Cause.{Cause as CauseOf}
+use Rattle.words.specs.declared.outcome.Cause.{Cause}
 use Rattle.source_offers.specs.declared.process.End.{End as EndOf}
 use Rattle.source_offers.specs.declared.process.End.TheVariants.{Aborted as Aborted'}
 use Rattle.source_offers.specs.declared.frame.Frame.{Frame as FrameOf}
@@ -15,7 +15,7 @@ use Rattle.source_offers.specs.Stages.{part_at, end_of}
 use Rattle.source_offers.proofs.Rests.{followed_by-block}
 
 -- the ABORTED part comes before what is left
-pub joining : (x : Process) (into : Option ℕ) (end : EndOf) (cause : CauseOf)
+pub joining : (x : Process) (into : Option ℕ) (end : EndOf) (cause : Cause)
     (aborted : Option (Bor (List StatementOf)))
     (block : Bor (List StatementOf)) (f : FrameOf) (rest : Block) (callers : List Caller)
     → end ≡ Aborted' cause → aborted ≡ Some block → x ≡ goes_on None (record (frame_of f) { rest = rest }) callers

@@ -4,11 +4,9 @@ use Rattle.std.specs.Borrow.{Bor}
 use Rattle.program.specs.declared.statement.Statement.{Statement as StatementOf}
 use Rattle.program.specs.Trees.{Part, NoPart, SomePart}
 use Rattle.program.specs.Views.{block_in}
-use Rattle.meaning.specs.Labels.{Cause, Faulted, Killed, End, Ended, Aborted}
+use Rattle.meaning.specs.Labels.{End, Ended, Aborted}
 use Rattle.meaning.specs.Processes.{Frame, Caller, Process, Entering, Before, Suspended, Joining, Returning, Failing}
 use Rattle.meaning.specs.Processes.{Dying, Leaving, Over}
-use Rattle.source_offers.specs.declared.process.Cause.{Cause as CauseOf}
-use Rattle.source_offers.specs.declared.process.Cause.TheVariants.{Faulted as Faulted', Killed as Killed'}
 use Rattle.source_offers.specs.declared.process.End.{End as EndOf}
 use Rattle.source_offers.specs.declared.process.End.TheVariants.{Ended as Ended', Aborted as Aborted'}
 use Rattle.source_offers.specs.declared.process.Stage.{Stage as StageOf}
@@ -19,15 +17,10 @@ use Rattle.source_offers.specs.declared.process.Stage.TheVariants.{Dying as Dyin
 use Rattle.source_offers.specs.declared.process.Process.{Process as ProcessOf}
 use Rattle.source_offers.specs.Frames.{frame_of, callers_of}
 
--- why a process was aborted
-abbrev pub cause_of : CauseOf → Cause
-cause_of (Faulted' fault) = Faulted fault
-cause_of Killed' = Killed
-
 -- how a process ended
 abbrev pub end_of : EndOf → End
 end_of (Ended' z) = Ended z
-end_of (Aborted' cause) = Aborted (cause_of cause)
+end_of (Aborted' cause) = Aborted cause
 
 -- a part that may be left out
 abbrev pub part_at : Option (Bor (List StatementOf)) → Part
@@ -42,7 +35,7 @@ standing (Suspended' c) f callers = Suspended c f callers
 standing (Joining' child into aborted) f callers = Joining child into (part_at aborted) f callers
 standing (Returning' z) f callers = Returning z callers
 standing (Failing' fault entered) f callers = Failing fault entered f callers
-standing (Dying' cause monitors) f callers = Dying (cause_of cause) monitors.items
+standing (Dying' cause monitors) f callers = Dying cause monitors.items
 standing (Leaving' z) f callers = Leaving z
 standing (Over' end) f callers = Over (end_of end)
 

@@ -26,7 +26,7 @@ pub use offers::{
     wait,
 };
 pub use operators::{both, unary};
-pub use process::{Cause, End, Process, Stage};
+pub use process::{End, Process, Stage};
 pub use rest::{take_first, upcoming};
 pub use statements::{branch, call, fork, join, repeat_while};
 pub use variables::{Place, Variables};

@@ -11,11 +11,11 @@ ghost use Rattle.source_offers.specs.Stores.{variables_of};
 ghost use Rattle.source_offers.specs.Offered.{offer_with};
 
 use crate::evaluation::{element, evaluate};
-use crate::process::{Cause, End, Process, Stage};
+use crate::process::{End, Process, Stage};
 use crate::variables::{Place, Variables};
 use program::{Expression, Member, Program, Role, Statement, Target};
 use std::alloc::{AllocError, Global};
-use words::Fault;
+use words::{Cause, Fault};
 
 /// What an action is to monitors, conditions and the process table.
 #[derive(Clone, Copy, PartialEq, Eq, Debug)]

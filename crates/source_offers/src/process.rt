@@ -9,16 +9,7 @@ use crate::rest::upcoming;
 use program::{Member, Program, Role, Statement};
 use std::alloc::{AllocError, Global};
 use std::mem;
-use words::Fault;
-
-/// Why a process aborts.
-#[derive(Clone, Copy, PartialEq, Eq, Debug)]
-pub enum Cause {
-    /// It faulted.
-    Faulted(Fault),
-    /// It was killed from outside.
-    Killed,
-}
+use words::{Cause, Fault};
 
 /// How a process is over.
 #[derive(Clone, Copy, PartialEq, Eq, Debug)]
@@ -72,7 +63,7 @@ pub struct Process<'a> {
 
 impl<'a> Process<'a> {
     ghost use Rattle.source_offers.specs.Frames.{callers_of, frame_of};
-    ghost use Rattle.source_offers.specs.Stages.{cause_of, end_of, part_at, process_of};
+    ghost use Rattle.source_offers.specs.Stages.{end_of, part_at, process_of};
 
     /// Goes on before the next statement.
     #[inline(always)]
@@ -171,7 +162,7 @@ impl<'a> Process<'a> {
 
     /// Begins to die, with the monitors that its procedures hold, innermost first.
     pub fn die(&mut self, alloc: Global, cause: Cause) -> Result<(), AllocError>
-        ensures { OnOk result (process_of self.new ≡ Dying (cause_of cause)
+        ensures { OnOk result (process_of self.new ≡ Dying cause
             (all_monitors (frame_of self.old.frame) (callers_of self.old.callers.items))) }
     {
         let mut monitors = Vec::new(alloc);

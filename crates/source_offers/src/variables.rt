@@ -1,8 +1,9 @@
-ghost use Rattle.std.specs.Prelude.{◌≡◌, OnErr, OnOk, pos};
+ghost use Rattle.std.specs.Prelude.{◌≡◌, IfOk, OnErr, OnOk, pos, true};
 ghost use Rattle.meaning.specs.Values.{with_variable};
 
 use std::alloc::{AllocError, Global};
 use std::collections::BTreeMap;
+use std::hash::{FoldHasher, Hasher};
 
 /// Where a variable stands: its monitor, its member, and in an array its index (0 where the member is no array).
 #[derive(Clone, Copy, PartialEq, Eq, PartialOrd, Ord, Debug)]
@@ -52,5 +53,32 @@ impl Variables {
     {
         let _old = self.values.insert(place, value)?;
         Ok(())
+    }
+    /// The same values once more.
+    pub fn copy(&self) -> Result<Variables, AllocError>
+        ensures { IfOk result (λ v. variables_of v ≡ variables_of self.now) }
+    {
+        Ok(Variables {
+            values: self.values.clone()?,
+        })
+    }
+
+    /// Whether the same was assigned to the same variables, so that all values are the same.
+    pub fn is_same(&self, other: &Variables) -> bool
+        ensures { result ≡ true → variables_of self.now ≡ variables_of other.now }
+    {
+        self.values == other.values
+    }
+
+    /// Writes the values to a hasher, each with its place; zeros count for nothing.
+    pub fn feed(&self, hasher: &mut FoldHasher) {
+        for (place, value) in self.values.iter() {
+            if *value != 0 {
+                hasher.write_u32(place.monitor);
+                hasher.write_u32(place.member);
+                hasher.write_u32(place.index);
+                hasher.write_i64(*value);
+            }
+        }
     }
 }

@@ -9,3 +9,4 @@ pub mod Kills
 pub mod Leading
 pub mod Numbers
 pub mod Settled
+pub mod Copying

@@ -13,10 +13,10 @@ use crate::action::ActionKind;
 use crate::naming::named;
 use crate::state::SourceState;
 use program::Program;
-use source_offers::{Ahead, Cause, Offer, Offered, Process, look_ahead, next_offer};
+use source_offers::{Ahead, Offer, Offered, Process, look_ahead, next_offer};
 use source_table::Table;
 use std::alloc::{AllocError, Global};
-use words::{Fault, MOST_PROCESSES};
+use words::{Cause, Fault, MOST_PROCESSES};
 
 // Whether what comes next is internal by this table.
 fn is_internal(table: &Table, ahead: Ahead) -> bool

@@ -5,8 +5,9 @@ ghost use Rattle.meaning.specs.Runs.{IsKill};
 use crate::dying::{entered, given_up, held, is_killable, left, notified};
 use crate::state::SourceState;
 use program::Program;
-use source_offers::{Cause, Stage, next_offer};
+use source_offers::{Stage, next_offer};
 use std::alloc::{AllocError, Global};
+use words::Cause;
 
 impl<'a> SourceState<'a> {
     ghost use Rattle.source_states.specs.States.{state_of};

@@ -8,9 +8,9 @@ ghost use Rattle.source_offers.specs.Stages.{process_of};
 use crate::action::ActionKind;
 use crate::state::SourceState;
 use program::Role;
-use source_offers::{Cause, Frame, Process, Stage};
+use source_offers::{Frame, Process, Stage};
 use std::alloc::{AllocError, Global};
-use words::Fault;
+use words::{Cause, Fault};
 
 // What stands in a process's place while it acts. It takes no memory.
 pub(crate) fn blank<'a>(alloc: Global) -> Process<'a> {

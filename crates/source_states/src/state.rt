@@ -6,7 +6,7 @@ ghost use Rattle.meaning.specs.Runs.{IsStray};
 ghost use Rattle.meaning.specs.States.{SourceState as SourceStateOf, opening};
 ghost use Rattle.source_offers.specs.Stages.{end_of, process_of};
 ghost use Rattle.source_offers.specs.Stores.{variables_of};
-ghost use Rattle.source_table.specs.Tables.{hold_of};
+ghost use Rattle.source_table.specs.Tables.{hold_of, table_of};
 
 use program::{Checked, Member, Program};
 use source_offers::{End, Frame, Place, Process, Stage, Variables};
@@ -84,6 +84,29 @@ impl<'a> SourceState<'a> {
         ensures { variables_of result.now ≡ (state_of self.now).variable }
     {
         &self.variables
+    }
+
+    /// Monitors, conditions and the process table.
+    pub fn table(&self) -> &Table
+        ensures { table_of result.now ≡ (state_of self.now).table }
+    {
+        &self.table
+    }
+
+    /// The same state once more, but with nothing printed.
+    pub fn copy(&self, alloc: Global) -> Result<SourceState<'a>, AllocError>
+        ensures { IfOk result (λ s. state_of s ≡ record (state_of self.now) { printed = [] }) }
+    {
+        let mut copy = SourceState {
+            table: self.table.copy()?,
+            variables: self.variables.copy()?,
+            processes: BTreeMap::new(alloc),
+            printed: Vec::new(alloc),
+        };
+        for (number, process) in self.processes.iter() {
+            copy.place(*number, process.copy(alloc)?)?;
+        }
+        Ok(copy)
     }
 
     /// The numbers of the processes that were made, rising.

@@ -1,2 +1,4 @@
 pub mod Tables
 pub mod Waiters
+pub mod Listing
+pub mod Sameness

@@ -1,10 +1,10 @@
-ghost use Rattle.std.specs.Prelude.{◌≡◌, option_map};
+ghost use Rattle.std.specs.Prelude.{◌≡◌, IfOk, option_map, true};
 ghost use Rattle.meaning.specs.Table.{first_table};
 ghost use Rattle.source_offers.specs.Stages.{end_of};
 
 use program::Member;
 use source_offers::End;
-use std::alloc::Global;
+use std::alloc::{AllocError, Global};
 use std::collections::{BTreeMap, BTreeSet};
 
 /// Whether a monitor is free.
@@ -19,7 +19,7 @@ pub enum Hold {
 }
 
 /// Monitors, conditions and the process table. `table_of` makes it the table of the meaning.
-#[derive(Drop)]
+#[derive(PartialEq, Drop)]
 pub struct Table {
     // Of each monitor that was entered once; every other is free.
     pub(crate) holds: BTreeMap<u32, Hold>,
@@ -85,5 +85,24 @@ impl Table {
         ensures { option_map end_of result ≡ (table_of self.now).over process }
     {
         self.over.get(&process).copied()
+    }
+    /// The same table once more.
+    pub fn copy(&self) -> Result<Table, AllocError>
+        ensures { IfOk result (λ t. table_of t ≡ table_of self.now) }
+    {
+        Ok(Table {
+            holds: self.holds.clone()?,
+            waits: self.waits.clone()?,
+            claimed: self.claimed.clone()?,
+            made: self.made,
+            over: self.over.clone()?,
+        })
+    }
+
+    /// Whether the same was noted in both, so that they are the same.
+    pub fn is_same(&self, other: &Table) -> bool
+        ensures { result ≡ true → table_of self.now ≡ table_of other.now }
+    {
+        *self == *other
     }
 }

@@ -1,10 +1,10 @@
-ghost use Rattle.std.specs.Prelude.{◌≡◌, Contains, MatchBool, OnOk, Some, ℕ};
+ghost use Rattle.std.specs.Prelude.{◌≡◌, ◌↔◌, Contains, IfOk, MatchBool, OnOk, Some, ℕ};
 ghost use Rattle.meaning.specs.Labels.{Broadcasts, Notifies, Waits};
 ghost use Rattle.meaning.specs.Table.{AllWait, Allows, AllowsKill, AllowsStray, AreResumed, without_waiters};
 
 use crate::table::{Hold, Table};
 use program::Member;
-use std::alloc::AllocError;
+use std::alloc::{AllocError, Global};
 
 // Whether a process that waits on this is one of those resumed, where it waits on the condition.
 fn is_named(process: u64, waits: Member, condition: Member, resumed: &[u64]) -> bool
@@ -33,6 +33,20 @@ impl Table {
             ((table_of self.now).waits process ≡ Some condition → ⊥) }
     {
         self.waits(process) == Some(condition)
+    }
+
+    /// The processes that wait on this condition, rising.
+    pub fn waiting(&self, alloc: Global, condition: Member) -> Result<Vec<u64>, AllocError>
+        ensures { IfOk result (λ v. (q : ℕ)
+            → Contains v.items q ↔ ((table_of self.now).waits q ≡ Some condition)) }
+    {
+        let mut waiting = Vec::new(alloc);
+        for (process, waits) in self.waits.iter() {
+            if *waits == condition {
+                waiting.push(*process)?;
+            }
+        }
+        Ok(waiting)
     }
 
     // Whether all of these wait on the condition.

@@ -8,6 +8,7 @@
 //! bytes DIGITS        these bytes, in hexadecimal digits, in program.mesa
 //! again               the program.mesa of the row before
 //! schedule LINE       a line of the file program.schedule
+//! log LINE            a line of the file program.log
 //! words WORD ..       the words of the command line
 //! output LINE         a line that standard output has to have
 //! errors LINE         a line that standard error has to have
@@ -15,12 +16,14 @@
 //! output-part TEXT    the part of a line that standard output has to have taken
 //! errors-part TEXT    the part of a line that standard error has to have taken
 //! failures NUMBER     how many writes have to fail, where it isn't 0
+//! logged LINE         a line that program.log has to have afterwards, where the row gives none
 //! image DIGITS        the bytes that program.image has to have afterwards, in hexadecimal digits
 //! status NUMBER       the exit status that is wanted, where it isn't 0
 //! ```
 //!
 //! Empty lines and lines that begin with `#` say nothing. With no `text`, `times`, `bytes` and `again` there is no
 //! program.mesa, with no `schedule` no program.schedule, and with no `image` there may be no program.image afterwards.
+//! So it is with `log`, `logged` and program.log. A `logged` with no line is the empty file.
 //!
 //! Beside these there are rows of one line, of which what comes is printed:
 //!

@@ -14,6 +14,9 @@ const SOURCE: &str = "program.mesa";
 // The file that a row's schedule is written to.
 const SCHEDULE: &str = "program.schedule";
 
+// The file that a row's log is written to, and whose lines afterwards it tells.
+const LOG: &str = "program.log";
+
 // The file whose bytes a row tells.
 const IMAGE: &str = "program.image";
 
@@ -30,6 +33,8 @@ pub struct Outcome {
     pub failures: u32,
     /// The bytes of program.image, where there is that file.
     pub image: Option<Vec<u8>>,
+    /// Those of program.log, where there is that file and the row gave none.
+    pub log: Option<Vec<u8>>,
 }
 
 impl Outcome {
@@ -41,6 +46,7 @@ impl Outcome {
             errors: Vec::new(alloc),
             failures: 0,
             image: None,
+            log: None,
         }
     }
 
@@ -51,14 +57,19 @@ impl Outcome {
     ) -> Result<Outcome, RowFault> {
         put_file(rt, SOURCE, &row.source)?;
         put_file(rt, SCHEDULE, &row.schedule)?;
+        put_file(rt, LOG, &row.log)?;
         let mut outcome = Outcome::of_words(rt, row)?;
         outcome.take_files(rt)?;
+        if row.log.is_some() {
+            outcome.log = None;
+        }
         Ok(outcome)
     }
 
     // Takes the files that the command left, and those that it was given.
     fn take_files<R: Files + AllocGlobal>(&mut self, rt: &R) -> io::Result<()> {
         self.image = take_file(rt, IMAGE)?;
+        self.log = take_file(rt, LOG)?;
         take_file(rt, SOURCE)?;
         take_file(rt, SCHEDULE)?;
         Ok(())
@@ -82,6 +93,7 @@ impl Outcome {
             output: output.taken,
             errors: errors.taken,
             image: None,
+            log: None,
         })
     }
 }

@@ -11,6 +11,8 @@ pub struct Row {
     pub source: Option<Vec<u8>>,
     /// The schedule, where there is one.
     pub schedule: Option<Vec<u8>>,
+    /// The log, where there is one.
+    pub log: Option<Vec<u8>>,
     /// The words of the command line.
     pub words: Vec<String>,
     /// How many bytes standard output takes.
@@ -31,6 +33,7 @@ impl Row {
             name: String::from_str(alloc, name)?,
             source: None,
             schedule: None,
+            log: None,
             words: Vec::new(alloc),
             output_room: u32::MAX,
             errors_room: u32::MAX,
@@ -45,6 +48,8 @@ impl Row {
         match key {
             "text" => add_text(self.alloc, &mut self.source, said),
             "schedule" => add_text(self.alloc, &mut self.schedule, said),
+            "log" => add_entry(self.alloc, &mut self.log, said),
+            "logged" => add_entry(self.alloc, &mut self.wanted.log, said),
             "times" => self.add_repeated(said),
             "bytes" => self.add_bytes(said),
             "again" => self.take_before(),
@@ -121,6 +126,15 @@ fn add_text(alloc: Global, file: &mut Option<Vec<u8>>, line: &str) -> Result<(),
     add_line(&mut text, line)?;
     *file = Some(text);
     Ok(())
+}
+
+// Adds a line to a log; no line is an empty log, where it is the first.
+fn add_entry(alloc: Global, file: &mut Option<Vec<u8>>, line: &str) -> Result<(), RowFault> {
+    if line.is_empty() {
+        *file = Some(Vec::new(alloc));
+        return Ok(());
+    }
+    add_text(alloc, file, line)
 }
 
 fn add_part(text: &mut Vec<u8>, part: &str) -> Result<(), RowFault> {

@@ -101,7 +101,8 @@ fn compare<R: Print + AllocGlobal>(rt: &R, row: &Row, outcome: &Outcome) -> io::
         && outcome.output == wanted.output
         && outcome.errors == wanted.errors
         && outcome.failures == wanted.failures
-        && outcome.image == wanted.image;
+        && outcome.image == wanted.image
+        && outcome.log == wanted.log;
     if !is_well {
         show_outcome(rt, row.name.as_str(), outcome)?;
     }
@@ -115,6 +116,9 @@ fn show_outcome<R: Print + AllocGlobal>(rt: &R, name: &str, outcome: &Outcome) -
     println!(rt; "{name}: status {status}, {failures} writes failed")?;
     show(rt, "output", outcome.output.as_slice())?;
     show(rt, "errors", outcome.errors.as_slice())?;
+    if let Some(log) = &outcome.log {
+        show(rt, "logged", log.as_slice())?;
+    }
     match &outcome.image {
         Some(image) => show_image(rt, image.as_slice()),
         None => Ok(()),

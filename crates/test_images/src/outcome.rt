@@ -5,7 +5,7 @@ use machine::Machine;
 use runner::Verdict;
 use std::alloc::{AllocError, Global};
 use std::fmt::Write;
-use words::{Addr, Outcome};
+use words::{Addr, Cause, Outcome};
 
 /// How a run ended, in a word: the verdict, the numbers that were printed, who aborted, with the fault, and who sleeps,
 /// with the address, by rising number, and the words at these addresses. A comma stands before each of these.
@@ -42,8 +42,10 @@ fn append_threads(text: &mut String, machine: &Machine) -> Result<(), AllocError
 fn append_thread(text: &mut String, machine: &Machine, thread: u32) -> Result<(), AllocError>
     requires { (0 < thread) × (thread ≤ length machine.now.threads) }
 {
-    if let Outcome::Aborted(fault) = machine.outcome(thread) {
-        write!(text, ",{thread}={fault:?}")?;
+    match machine.outcome(thread) {
+        Outcome::Aborted(Cause::Faulted(fault)) => write!(text, ",{thread}={fault:?}")?,
+        Outcome::Aborted(Cause::Killed) => write!(text, ",{thread}=Killed")?,
+        _ => {}
     }
     if let Some(address) = machine.asleep(thread) {
         let word = address.0;

@@ -1,6 +1,7 @@
 use machine::{Entry, EventName, Machine, ThreadSet};
 use runner::Report;
 use std::io;
+use words::{Cause, Outcome};
 
 // The most entries of a log that is printed.
 const SHORT: usize = 24;
@@ -71,8 +72,12 @@ fn show_threads<R: Print>(rt: &R, last: &Machine) -> io::Result<()> {
     for before in 0..last.threads() {
         let thread = before + 1;
         let outcome = last.outcome(thread);
-        if let words::Outcome::Aborted(fault) = outcome {
-            println!(rt; "  thread {thread}: {fault:?}")?;
+        match outcome {
+            Outcome::Aborted(Cause::Faulted(fault)) => println!(rt;
+                "  thread {thread}: {fault:?}"
+            )?,
+            Outcome::Aborted(Cause::Killed) => println!(rt; "  thread {thread}: Killed")?,
+            _ => {}
         }
         if let Some(address) = last.asleep(thread) {
             let word = address.0;

@@ -19,7 +19,7 @@ answers (AskWake a n) = tt
 answers (AskRequeue a b wake moves expected) = tt
 answers AskReturn = tt
 answers (AskReturnValue v) = tt
-answers (AskFault fault) = tt
+answers (AskFault cause) = tt
 
 pub zero_answers : (look : Look) → CanBeAnswered look 0
 zero_answers (Asks request go) = answers request

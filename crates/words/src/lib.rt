@@ -16,5 +16,5 @@ pub use lock::{
     OWNER_DIED, TID_MASK, WAITERS, has_died, has_waiters, lock_word_laws, locked_word, tid,
 };
 pub use mem::{Addr, Mem};
-pub use outcome::{ENDED, Fault, Outcome, outcome_laws};
+pub use outcome::{Cause, ENDED, Fault, Outcome, outcome_laws};
 pub use process::{MOST_BLOCKS, ProcessWord, block, block_laws};

@@ -1,7 +1,7 @@
 ghost use Rattle.std.specs.Prelude.{◌≡◌, ℕ};
-ghost use Rattle.words.specs.Outcomes.{fault_number, outcome_of, outcome_word};
+ghost use Rattle.words.specs.Outcomes.{cause_number, fault_number, outcome_of, outcome_word};
 
-/// Why a process aborts.
+/// What a process does wrong, so that it dies.
 #[derive(Clone, Copy, PartialEq, Eq, PartialOrd, Ord, Debug, Hash)]
 pub enum Fault {
     /// A result is not from -2147483648 to 2147483647.
@@ -31,13 +31,34 @@ impl Fault {
     }
 }
 
+/// Why a process dies.
+#[derive(Clone, Copy, PartialEq, Eq, PartialOrd, Ord, Debug, Hash)]
+pub enum Cause {
+    /// It faulted.
+    Faulted(Fault),
+    /// It was killed from outside.
+    Killed,
+}
+
+impl Cause {
+    /// Its number, which is also what the outcome word then holds: from 1 to 8 the fault's, and 9 of a killed process.
+    pub fn number(self) -> u32
+        ensures { result ≡ cause_number self }
+    {
+        match self {
+            Cause::Faulted(fault) => fault.number(),
+            Cause::Killed => 9,
+        }
+    }
+}
+
 /// How a process ended, as its outcome word tells.
 #[derive(Clone, Copy, PartialEq, Eq, PartialOrd, Ord, Debug, Hash)]
 pub enum Outcome {
     /// The word is 0: not yet.
     Unfinished,
-    /// The word is a fault's number.
-    Aborted(Fault),
+    /// The word is the number of a cause, 1 to 9.
+    Aborted(Cause),
     /// The word is 16: by its return.
     Ended,
     /// Any other word, which only an image that this compiler didn't make can store.
@@ -54,14 +75,15 @@ impl Outcome {
     {
         match word {
             0 => Outcome::Unfinished,
-            1 => Outcome::Aborted(Fault::ResultOutOfRange),
-            2 => Outcome::Aborted(Fault::DivisionByZero),
-            3 => Outcome::Aborted(Fault::IndexOutOfRange),
-            4 => Outcome::Aborted(Fault::HandleNotJoinable),
-            5 => Outcome::Aborted(Fault::ProcessTableFull),
-            6 => Outcome::Aborted(Fault::AbortStatement),
-            7 => Outcome::Aborted(Fault::AbandonedMonitor),
-            8 => Outcome::Aborted(Fault::JoinedAborted),
+            1 => Outcome::Aborted(Cause::Faulted(Fault::ResultOutOfRange)),
+            2 => Outcome::Aborted(Cause::Faulted(Fault::DivisionByZero)),
+            3 => Outcome::Aborted(Cause::Faulted(Fault::IndexOutOfRange)),
+            4 => Outcome::Aborted(Cause::Faulted(Fault::HandleNotJoinable)),
+            5 => Outcome::Aborted(Cause::Faulted(Fault::ProcessTableFull)),
+            6 => Outcome::Aborted(Cause::Faulted(Fault::AbortStatement)),
+            7 => Outcome::Aborted(Cause::Faulted(Fault::AbandonedMonitor)),
+            8 => Outcome::Aborted(Cause::Faulted(Fault::JoinedAborted)),
+            9 => Outcome::Aborted(Cause::Killed),
             ENDED => Outcome::Ended,
             other => Outcome::Foreign(other),
         }
@@ -73,7 +95,7 @@ impl Outcome {
     {
         match self {
             Outcome::Unfinished => 0,
-            Outcome::Aborted(fault) => fault.number(),
+            Outcome::Aborted(cause) => cause.number(),
             Outcome::Ended => ENDED,
             Outcome::Foreign(word) => word,
         }

@@ -3,7 +3,7 @@ use program::Member;
 use source_states::{Action, ActionKind};
 use std::alloc::{AllocError, Global};
 use std::str::SplitWhitespace;
-use words::Outcome;
+use words::{Cause, Outcome};
 
 /// Appends the actions of a list.
 pub fn append_actions(actions: &mut Vec<Action>, list: &str) -> Result<(), Failure> {
@@ -104,7 +104,7 @@ fn plain_kind(name: &str, number: i32) -> Option<ActionKind> {
 // The fault of this number.
 fn fault_of(number: u32) -> Option<ActionKind> {
     match Outcome::of_word(number) {
-        Outcome::Aborted(fault) => Some(ActionKind::Fails(fault)),
+        Outcome::Aborted(Cause::Faulted(fault)) => Some(ActionKind::Fails(fault)),
         _ => None,
     }
 }

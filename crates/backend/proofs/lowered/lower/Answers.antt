@@ -1,11 +1,7 @@
-use Rattle.std.proofs.Common.{◌≡◌, ◌∙◌, ap, map, subst}
-use Rattle.codegen.specs.Generated.{piece_of}
 use Rattle.program.specs.Names.{said_by}
-use Rattle.linker.specs.Failures as linked
-use Rattle.linker.specs.Linked.{Links}
 use Rattle.backend.specs.Lowered.{IsLowered}
 use Rattle.backend.specs.Refusals.{RefusesCode}
-use Rattle.backend.proofs.Refusing.{of_generate, of_link, of_linked, passed}
+use Rattle.backend.proofs.Refusing.{of_generate, passed}
 use Rattle.backend.proofs.lowered.lower.Goals as goal
 
 pub returns-in_err-pieces : goal.returns-in_err-pieces
@@ -14,27 +10,3 @@ returns-in_err-pieces c =
     passed c.from_residual-in_err-pieces.result c.in_err-pieces.field-0.0 (IsLowered p) (RefusesCode p)
     c.from_residual-in_err-pieces.ensures
     (of_generate p c.in_err-pieces.field-0.0 c.in_err-pieces.ensures.refusal)
-
-pub returns-in_err-image : goal.returns-in_err-image
-returns-in_err-image c =
-    let p = said_by c.args.checked.now in
-    let pieces = c.in_ok-pieces.pieces.items in
-    let e = c.in_err-image.field-0.0 in
-    passed c.from_residual-in_err-image.result e (IsLowered p) (RefusesCode p)
-    c.from_residual-in_err-image.ensures
-    (of_link p pieces c.in_ok-pieces.ensures.made c.checked_is_well_formed.ensures e
-    (subst (λ l. linked.RefusesLinking l pieces e) c.in_ok-layout.ensures.layout c.in_err-image.ensures))
-
-pub returns : goal.returns
-returns c =
-    let p = said_by c.args.checked.now in
-    let pieces = c.in_ok-pieces.pieces.items in
-    let linked_so = of_linked p pieces c.in_ok-image.image c.in_ok-pieces.ensures.made
-    (subst (λ l. Links l pieces c.in_ok-image.image) c.in_ok-layout.ensures.layout c.in_ok-image.ensures)
-    c.image_is_within_limits.ensures in
-    record {
-      image = linked_so.0;
-      fits = linked_so.1;
-      layout = c.in_ok-layout.ensures.layout;
-      marks = c.in_ok-marks.ensures p (ap (λ l. map piece_of l) c.as_slice.ensures.value ∙ c.in_ok-pieces.ensures.made);
-    }

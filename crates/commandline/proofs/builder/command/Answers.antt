@@ -8,5 +8,6 @@ returns c =
     let with_compile = c.with-command-2.ensures _ line.compile_command with_check c.compile_command.ensures.app in
     let with_list = c.with-command-3.ensures _ line.list_command with_compile c.list_command.ensures.app in
     let with_run = c.with-command-4.ensures _ line.run_command with_list c.run_command.ensures.app in
-    let with_replay = c.with-command-5.ensures _ line.replay_command with_run c.replay_command.ensures.app in
+    let with_exec = c.with-command-5.ensures _ line.exec_command with_run c.exec_command.ensures.app in
+    let with_replay = c.with-command-6.ensures _ line.replay_command with_exec c.replay_command.ensures.app in
     c.with.ensures _ line.explain_command with_replay c.explain_command.ensures.app

@@ -12,13 +12,13 @@ returns-clause-app c =
     ∙ ap₂ with_rule new c.positional.ensures.rule in
     let second = c.in_ok-arg-2.ensures.shape c.steps_option.ensures.local
     ∙ ap₂ with_rule first c.steps_option.ensures.rule in
-    IfOk-weaker c.arg-3.result _ _ (λ r h. h.shape c.chart_option.ensures.local
-    ∙ ap₂ with_rule second c.chart_option.ensures.rule) c.arg-3.ensures
+    IfOk-weaker c.arg-3.result _ _ (λ r h. h.shape c.valued.ensures.local
+    ∙ ap₂ with_rule second c.valued.ensures.rule) c.arg-3.ensures
 
 pub returns-clause-local : goal.returns-clause-local
 returns-clause-local c = IfOk-weaker c.arg-3.result _ _ (λ r h. rw (
   h.globals,
-  c.chart_option.ensures.local,
+  c.valued.ensures.local,
   c.in_ok-arg-2.ensures.globals,
   c.steps_option.ensures.local,
   c.in_ok-arg.ensures.globals,

@@ -6,17 +6,22 @@ use Rattle.commandline.proofs.builder.replay_command.Goals as goal
 
 pub returns-clause-app : goal.returns-clause-app
 returns-clause-app c =
-    let new : app_of c.about.result ≡ new_app (codes "replay") = ap app_of_fields c.about.ensures ∙ c.new.ensures.app in
+    let new : app_of c.about.result ≡ new_app (codes "replay") = ap app_of_fields c.about.ensures
+    ∙ c.new.ensures.app in
     let first = c.in_ok-arg.ensures.shape c.positional.ensures.local
     ∙ ap₂ with_rule new c.positional.ensures.rule in
     let second = c.in_ok-arg-2.ensures.shape c.positional-2.ensures.local
     ∙ ap₂ with_rule first c.positional-2.ensures.rule in
-    IfOk-weaker c.arg-3.result _ _ (λ r h. h.shape c.trace_option.ensures.local
-    ∙ ap₂ with_rule second c.trace_option.ensures.rule) c.arg-3.ensures
+    let third = c.in_ok-arg-3.ensures.shape c.trace_option.ensures.local
+    ∙ ap₂ with_rule second c.trace_option.ensures.rule in
+    IfOk-weaker c.arg-4.result _ _ (λ r h. h.shape c.valued.ensures.local
+    ∙ ap₂ with_rule third c.valued.ensures.rule) c.arg-4.ensures
 
 pub returns-clause-local : goal.returns-clause-local
-returns-clause-local c = IfOk-weaker c.arg-3.result _ _ (λ r h. rw (
+returns-clause-local c = IfOk-weaker c.arg-4.result _ _ (λ r h. rw (
   h.globals,
+  c.valued.ensures.local,
+  c.in_ok-arg-3.ensures.globals,
   c.trace_option.ensures.local,
   c.in_ok-arg-2.ensures.globals,
   c.positional-2.ensures.local,
@@ -24,4 +29,4 @@ returns-clause-local c = IfOk-weaker c.arg-3.result _ _ (λ r h. rw (
   c.positional.ensures.local,
   c.about.ensures,
   c.new.ensures.local,
-) refl) c.arg-3.ensures
+) refl) c.arg-4.ensures

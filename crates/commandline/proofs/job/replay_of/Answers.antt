@@ -1,4 +1,4 @@
-use Rattle.std.proofs.Common.{rules, codes, inl, inr}
+use Rattle.std.proofs.Common.{rules, codes, inl, inr, sym, ◌∙◌}
 use Rattle.clap.proofs.WalkLemmas.{first_value-rows, one_text-rows}
 use Rattle.clap.specs.Words.{found_of}
 use Rattle.clap.specs.Walk.{rows_of}
@@ -20,5 +20,6 @@ returns-clause-job c =
     let found = found_of c.args.matches.now in
     let file = first_value-rows found (codes "FILE") in
     let schedule = first_value-rows found (codes "SCHEDULE") in
+    let log = first_value-rows found (codes "log") in
     let trace = one_text-rows found (codes "trace") in
-    (search rules, search rules, (search rules, search rules))
+    (search rules, search rules, (search rules, search rules), sym log ∙ sym c.get_str-log.ensures)

@@ -1,6 +1,6 @@
 use Rattle.std.proofs.Common.{inl, inr}
 use Rattle.std.proofs.lemmas.Result.{IfOk-weaker}
-use Rattle.mesamon.proofs.Endings.{done_by, explained, nothing_written, ran}
+use Rattle.mesamon.proofs.Endings.{done_by, executed, explained, nothing_written, ran}
 use Rattle.mesamon.proofs.commands.do_job.Goals as goal
 
 pub returns-in-Check : goal.returns-in-Check
@@ -20,6 +20,9 @@ returns-in-List g c =
 
 pub returns-in-Run : goal.returns-in-Run
 returns-in-Run g c = IfOk-weaker c.run_file.result _ _ (λ s h. ran _ _ s h) c.run_file.ensures
+
+pub returns-in-Exec : goal.returns-in-Exec
+returns-in-Exec g c = IfOk-weaker c.exec_file.result _ _ (λ s h. executed _ _ s h) c.exec_file.ensures
 
 pub returns-in-Replay : goal.returns-in-Replay
 returns-in-Replay g c = IfOk-weaker c.replay_file.result _ _ (λ s h. ran _ _ s h) c.replay_file.ensures

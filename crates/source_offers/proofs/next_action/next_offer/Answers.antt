@@ -2,7 +2,7 @@ use Rattle.std.proofs.Common.{rules, ap, sym, ◌∙◌}
 use Rattle.program.specs.Views.{program_of}
 use Rattle.meaning.specs.Offers.{offer as offer_by}
 use Rattle.source_offers.specs.Frames.{callers_of, frame_of}
-use Rattle.source_offers.specs.Stages.{cause_of, standing}
+use Rattle.source_offers.specs.Stages.{standing}
 use Rattle.source_offers.specs.Stores.{variables_of}
 use Rattle.source_offers.proofs.next_action.next_offer.Goals as goal
 
@@ -11,7 +11,7 @@ returns-in_default-abandon_next c =
     search (
       rules,
       c.in_default-abandon_next.ensures (program_of c.args.program.now) (variables_of c.args.variables.now)
-          (cause_of c.in-Dying.cause),
+          c.in-Dying.cause,
     )
 
 pub returns-in-Some : goal.returns-in-Some
@@ -21,4 +21,4 @@ returns-in-Some c =
     (standing s (frame_of c.args.process.now.frame) (callers_of c.args.process.now.callers.items)))
     c.in-Dying-stage.is
     ∙ c.in-Some.ensures (program_of c.args.program.now) (variables_of c.args.variables.now)
-    (cause_of c.in-Dying-stage.field-0))
+    c.in-Dying-stage.field-0)

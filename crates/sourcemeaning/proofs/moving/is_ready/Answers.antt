@@ -3,7 +3,7 @@ use Rattle.program.specs.Views.{program_of}
 use Rattle.meaning.specs.Offers.{offer}
 use Rattle.meaning.specs.Processes.{Dying}
 use Rattle.source_offers.specs.Frames.{callers_of, frame_of}
-use Rattle.source_offers.specs.Stages.{cause_of, standing}
+use Rattle.source_offers.specs.Stages.{standing}
 use Rattle.source_offers.specs.declared.process.Stage.TheVariants as Code
 use Rattle.source_states.specs.States.{state_of}
 use Rattle.sourcemeaning.proofs.Moves.{decided, enters, free_moves, joins, resumes}
@@ -67,8 +67,8 @@ returns-in-Dying c =
     c.in-Dying.is
     (free_moves c.args.number (state_of c.args.state.now).table
     (offer (program_of c.args.program.now) (state_of c.args.state.now).variable
-    (Dying (cause_of c.in-Dying.field-0) c.in-Dying.field-1.items)) (has_waiters c.args.state.now.table)
-    (dying_free (program_of c.args.program.now) (state_of c.args.state.now).variable (cause_of c.in-Dying.field-0)
+    (Dying c.in-Dying.field-0 c.in-Dying.field-1.items)) (has_waiters c.args.state.now.table)
+    (dying_free (program_of c.args.program.now) (state_of c.args.state.now).variable c.in-Dying.field-0
     c.in-Dying.field-1.items))
 
 pub returns-in-Leaving : goal.returns-in-Leaving

@@ -1,38 +1,26 @@
--- Nobody sleeps in empty lists.
-use Rattle.std.proofs.Common.{◌≡◌, ◌+◌, ◌≤◌, None, length, replicate, arith, rules}
-use Rattle.buckets.proofs.Outcomes.{rows, opened, queue-opened, place-opened, count-opened, some_bucket}
-use Rattle.buckets.proofs.Rows.{sound}
+-- Nobody sleeps in chains without a node.
+use Rattle.std.proofs.Common.{◌≡◌, ◌+◌, replicate, rules}
+use Rattle.buckets.proofs.Outcomes.{some_bucket, nobody_at}
+use Rattle.buckets.proofs.Stores.{made, nobody_in}
 use Rattle.buckets.proofs.buckets.Buckets.new.Goals as goal
 
 pub invariant_of-result : goal.invariant_of-result
 invariant_of-result c =
-    let made = c.in_ok-empty_lists.field-0 in
-    let places : c.in_ok-vec.field-0.items ≡ replicate (c.args.threads + 1)
-    None = c.in_ok-vec.ensures.items_if_clones_equal (λ y k. search rules) in
-    let some : 1 ≤ length made.items = omega (
-      arith,
-      some_bucket c.args.n c.requires.allowed,
-      c.in_ok-empty_lists.ensures.count,
-    ) in (
-      opened c.in_ok-vec.field-0.items made.items c.args.threads places c.requires.few some
-          c.in_ok-empty_lists.ensures.empty,
-      λ k d l. omega (arith, c.in_ok-vec.ensures.len, c.in_ok-empty_lists.ensures.room k d l),
-    )
+    let chains : c.in_ok-vec.field-0.items ≡ replicate c.args.n nobody_in = c.in_ok-vec.ensures.items_if_clones_equal
+    (λ y k. search rules) in
+    let places : c.in_ok-vec-2.field-0.items ≡ replicate (c.args.threads + 1) nobody_at = c.in_ok-vec-2.ensures.items_if_clones_equal
+    (λ y k. search rules) in
+    let s = c.in_ok-with_capacity.ensures in
+    (made c.in_ok-with_capacity.field-0 c.in_ok-vec.field-0.items c.in_ok-vec-2.field-0.items c.args.n c.args.threads
+    s.empty chains places s.capacity c.requires.few (some_bucket c.args.n c.requires.allowed)).0
 
 pub returns : goal.returns
 returns c =
-    let made = c.in_ok-empty_lists.field-0 in
-    let places : c.in_ok-vec.field-0.items ≡ replicate (c.args.threads + 1)
-    None = c.in_ok-vec.ensures.items_if_clones_equal (λ y k. search rules) in
-    let some : 1 ≤ length made.items = omega (
-      arith,
-      some_bucket c.args.n c.requires.allowed,
-      c.in_ok-empty_lists.ensures.count,
-    ) in
-    record {
-      empty = queue-opened c.in_ok-vec.field-0.items made.items c.in_ok-empty_lists.ensures.empty;
-      awake = place-opened c.in_ok-vec.field-0.items made.items c.args.threads places;
-      threads = count-opened c.in_ok-vec.field-0.items made.items c.args.threads places;
-      sound = sound c.in_ok-vec.field-0.items (rows made.items) (opened c.in_ok-vec.field-0.items made.items
-          c.args.threads places c.requires.few some c.in_ok-empty_lists.ensures.empty);
-    }
+    let chains : c.in_ok-vec.field-0.items ≡ replicate c.args.n nobody_in = c.in_ok-vec.ensures.items_if_clones_equal
+    (λ y k. search rules) in
+    let places : c.in_ok-vec-2.field-0.items ≡ replicate (c.args.threads + 1) nobody_at = c.in_ok-vec-2.ensures.items_if_clones_equal
+    (λ y k. search rules) in
+    let s = c.in_ok-with_capacity.ensures in
+    let o = (made c.in_ok-with_capacity.field-0 c.in_ok-vec.field-0.items c.in_ok-vec-2.field-0.items c.args.n
+    c.args.threads s.empty chains places s.capacity c.requires.few (some_bucket c.args.n c.requires.allowed)).1 in
+    record { empty = o.empty; awake = o.awake; threads = o.threads; sound = o.sound }

@@ -1,7 +1,7 @@
 use Rattle.std.proofs.Common.{Some, ap, rules, sym}
 use Rattle.std.specs.Prelude.{option_map}
 use Rattle.program.specs.Views.{program_of}
-use Rattle.source_offers.specs.declared.process.Cause.TheVariants.{Killed}
+use Rattle.words.specs.declared.outcome.Cause.TheVariants.{Killed}
 use Rattle.source_offers.specs.declared.process.Process.{Process as ProcessOf}
 use Rattle.source_offers.specs.declared.process.Stage.TheVariants.{Dying}
 use Rattle.source_offers.specs.NextAction.{offer_of}

@@ -1,0 +1,127 @@
+-- Workers hand in, one after the other.
+use Rattle.std.proofs.Common.{◌≡◌, ◌<◌, ◌+◌, ◌∙◌, ℕ, zero, suc, List, [], ◌∷◌, Option, None, Result, Ok, Vec, length, map}
+use Rattle.std.proofs.Common.{replicate, sym, ap, subst, arith, false, Err, inl, inr, ◌++◌, ◌⊎◌, ◌≤◌, get_or}
+use Rattle.std.proofs.lemmas.Bool.{cases_lt}
+use Rattle.std.proofs.lemmas.List.{get_or_append_left, get_or_at}
+use Rattle.std.specs.Prelude.{slice_index_or, IfOk, IfErr}
+use Rattle.std.specs.Global.{Global}
+use Rattle.scanner.specs.declared.refusal.Refusal.{Refusal}
+use Rattle.scanner.specs.Refusals.{out_of_memory}
+use Rattle.program.specs.declared.unit.Program.{Program as ProgramOf}
+use Rattle.program.specs.Trees.{Program}
+use Rattle.program.specs.Views.{program_of}
+use Rattle.lowering.specs.declared.mark.Marked.{Marked}
+use Rattle.codegen.specs.declared.code_piece.CodePiece.{CodePiece}
+use Rattle.codegen.specs.Generated.{piece_of, unlinked_pieces, RefusesPieces}
+use Rattle.linker.specs.Collecting.{collected, has_gap}
+use Rattle.codegen_workers.specs.Arrivals.{all_added, handed_in, AreFree}
+use Rattle.codegen_workers.specs.Shares.{share_of, AreShares, IsShare}
+use Rattle.codegen_workers.specs.declared.share.ShareOf.{ShareOf}
+use Rattle.codegen_workers.proofs.Places.{all_handed_in, none_handed_in, share_arrives}
+
+-- what a worker makes
+abbrev pub Made : Type 0
+Made = Result (Vec CodePiece Global) Refusal
+
+-- the first workers have handed in, and what the others made, of so many, is left
+pub record HandsIn (p : Program) (workers : ℕ) (slots : List (Option (List Marked))) (count : ℕ) (left : List Made)
+    : Type 0 where
+  pub first : ℕ
+  pub counted : first + count ≡ workers
+  pub place : slots ≡ handed_in p workers first
+  pub made : AreShares p workers first left
+
+-- at first nobody has
+pub hands_in_first : (p : Program) (workers : ℕ) (slots : List (Option (List Marked))) (count : ℕ) (left : List Made)
+    → slots ≡ replicate (length p.procedures) None → count ≡ workers → AreShares p workers 0 left
+    → HandsIn p workers slots count left
+hands_in_first p workers slots count left none all made = record {
+  first = 0;
+  counted = omega (arith, all);
+  place = none ∙ sym (none_handed_in p workers);
+  made = made;
+}
+
+module _ (p : Program) (workers : ℕ) (slots : List (Option (List Marked))) (count : ℕ) (left : List Made)
+    (hands : HandsIn p workers slots count left) (pieces : Vec CodePiece Global) (made : Made) (rest : List Made)
+    (next : left ≡ made ∷ rest) (was : made ≡ Ok pieces)
+  where
+    here : AreShares p workers hands.first (Ok pieces ∷ rest)
+    here = subst (λ m. AreShares p workers hands.first (m ∷ rest)) was
+        (subst (λ l. AreShares p workers hands.first l) next hands.made)
+
+    -- the next one's pieces have free places
+    pub next_free : AreFree slots (map piece_of pieces.items)
+    next_free = subst (λ s. AreFree s (map piece_of pieces.items)) (sym hands.place)
+        (subst (λ l. AreFree (handed_in p workers hands.first) l) (sym here.0)
+        (share_arrives p workers hands.first).0)
+
+    -- and then it has handed in
+    pub next_hands_in : (slots' : List (Option (List Marked))) (count' : ℕ) → slots' ≡ all_added slots (map piece_of pieces.items)
+        → count' + 1 ≡ count → HandsIn p workers slots' count' rest
+    next_hands_in slots' count' comes less = record {
+      first = hands.first + 1;
+      counted = (let all = hands.counted in omega (arith, all, less));
+      place = comes ∙ ap (λ s. all_added s (map piece_of pieces.items)) hands.place
+          ∙ ap (λ l. all_added (handed_in p workers hands.first) l) here.0
+          ∙ (share_arrives p workers hands.first).1;
+      made = here.1;
+    }
+
+-- what each of them made, one after the other
+pub each_made : (p : Program) (workers first : ℕ) (all : List Made)
+    → ((k : ℕ) (d : Made) → k < length all → IsShare p workers (first + k) (slice_index_or all k d))
+    → AreShares p workers first all
+each_made p workers first [] each = tt
+each_made p workers first (made ∷ rest) each =
+    let zero_is : first + 0 ≡ first = omega arith in (
+      subst (λ n. IsShare p workers n made) zero_is (each 0 made (omega arith)),
+      each_made p workers (first + 1) rest (λ k d lt.
+          let same : first + suc k ≡ first + 1 + k = omega arith in
+          subst (λ n. IsShare p workers n (slice_index_or rest k d)) same (each (suc k) d (omega (arith, lt)))),
+    )
+
+-- the promise is that of a worker
+pub record IsHandleOf (program : ProgramOf) (workers worker : ℕ) (share : ShareOf) : Type 0 where
+  pub program_is : share.program.now ≡ program
+  pub workers_are : share.workers ≡ workers
+  pub worker_is : share.worker ≡ worker
+
+-- what keeps it is what the worker makes
+pub kept_share : (program : ProgramOf) (workers worker : ℕ) (share : ShareOf) (made : Made)
+    → IsHandleOf program workers worker share
+    → IsShare (program_of share.program.now) share.workers share.worker made
+    → IsShare (program_of program) workers worker made
+kept_share program workers worker share made is kept =
+    subst (λ t. IsShare (program_of t) workers worker made) is.program_is
+    (subst (λ n. IsShare (program_of share.program.now) n worker made) is.workers_are
+    (subst (λ n. IsShare (program_of share.program.now) share.workers n made) is.worker_is kept))
+
+-- once all have handed in, the pieces are those of the program
+module _ (p : Program) (workers : ℕ) (slots : List (Option (List Marked))) (some : 0 < workers)
+    (all : slots ≡ handed_in p workers workers)
+  where
+    pub whole_made : (made : Made) → IfOk made (λ pieces. map piece_of pieces.items ≡ collected 0 slots)
+        → IfOk made (λ pieces. map piece_of pieces.items ≡ unlinked_pieces p)
+    whole_made (Ok pieces) h = h ∙ ap (λ s. collected 0 s) all ∙ (all_handed_in p workers some).1
+    whole_made (Err e) h = h
+
+    -- and they are refused for want of memory alone
+    pub memory_alone : (made : Made) → (has_gap slots ≡ false → IfErr made (λ e. e ≡ out_of_memory))
+        → IfErr made (λ e. RefusesPieces p e)
+    memory_alone (Ok pieces) h = tt
+    memory_alone (Err e) h = inl (h (ap (λ s. has_gap s) all ∙ (all_handed_in p workers some).0))
+
+-- what is said of each and of one more is said of all
+pub one_more : {X : Type 0} (xs : List X) (x : X) (P : ℕ → X → Type 0) (n : ℕ) → length xs ≡ n
+    → ((k : ℕ) (d : X) → k < n → P k (get_or xs k d)) → P n x
+    → (k : ℕ) (d : X) → k < n + 1 → P k (get_or (xs ++ x ∷ []) k d)
+one_more {X} xs x P n len each last k d lt = by_case (cases_lt k n)
+  where
+    by_case : (k < n) ⊎ (n ≤ k) → P k (get_or (xs ++ x ∷ []) k d)
+    by_case (inl below) =
+        subst (λ y. P k y) (sym (get_or_append_left xs (x ∷ []) d k (omega (arith, len, below)))) (each k d below)
+    by_case (inr above) =
+        let same : n ≡ k = omega (arith, lt, above) in
+        subst (λ m. P m (get_or (xs ++ x ∷ []) m d)) same
+        (subst (λ y. P n y) (sym (get_or_at xs x [] d n len)) last)

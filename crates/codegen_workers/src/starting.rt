@@ -1,0 +1,99 @@
+ghost use Rattle.std.specs.Prelude.{◌≡◌, ◌<◌, IfOk, vec_len};
+ghost use Rattle.program.specs.Views.{program_of};
+ghost use Rattle.lowering.specs.Layout.{layout_of};
+ghost use Rattle.codegen_workers.specs.Shares.{AreShares, IsShare};
+
+use crate::share::{ShareOf, generate_share};
+use codegen::CodePiece;
+use layout::Layout;
+use program::Program;
+use scanner::Refusal;
+use std::alloc::{AllocError, Global};
+use std::sync::Wait;
+use std::thread;
+use std::thread::{PromisedHandle, Scope, Threads};
+use words::Gate;
+
+// Starts a worker, from 0.
+fn start_worker<'s, E, G: Gate>(
+    scope: &Scope<'s, E>,
+    alloc: Global,
+    share: ShareOf<'s>,
+    layout: &'s Layout,
+    gate: &'s G,
+) -> Result<PromisedHandle<Result<Vec<CodePiece>, Refusal>, ShareOf<'s>>, AllocError>
+    requires laid_out { layout.now ≡ layout_of (program_of share.program.now) }
+    requires worker { share.worker < share.workers }
+    ensures { IfOk result (λ handle. handle.promise ≡ share.entry) }
+{
+    let ShareOf {
+        program,
+        workers,
+        worker,
+    } = share;
+    let handle = scope.spawn_with(
+        share,
+        move || -> Result<Vec<CodePiece>, Refusal>
+            requires { (layout.now ≡ layout_of (program_of program.now)) × (worker < workers) }
+            ensures { IsShare (program_of program.entry.now) workers worker result }
+        {
+            let share = ShareOf {
+                program,
+                workers,
+                worker,
+            };
+            generate_share(alloc, share, layout, gate)
+        },
+    )?;
+    Ok(handle)
+}
+
+// What so many workers of this scope make, each in a thread of its own.
+fn run_in<'s, E, R: Threads, G: Gate>(
+    rt: &R,
+    scope: &Scope<'s, E>,
+    alloc: Global,
+    program: &'s Program,
+    layout: &'s Layout,
+    workers: u32,
+    gate: &'s G,
+) -> Result<Vec<Result<Vec<CodePiece>, Refusal>>, AllocError>
+    requires { layout.now ≡ layout_of (program_of program.now) }
+    ensures { IfOk result (λ made. (vec_len made ≡ workers)
+        × AreShares (program_of program.now) workers 0 made.items) }
+{
+    let mut handles = Vec::with_capacity(alloc, workers as usize)?;
+    for worker in 0..workers {
+        let share = ShareOf {
+            program,
+            workers,
+            worker,
+        };
+        handles.push(start_worker(scope, alloc, share, layout, gate)?)?;
+    }
+    Ok(thread::join_promised(rt, handles)?)
+}
+
+// What so many workers make, each in a thread of its own. All have ended when it returns.
+pub(crate) fn run_workers<R: Threads + Wait + Sync, G: Gate>(
+    rt: &R,
+    alloc: Global,
+    program: &Program,
+    layout: &Layout,
+    workers: u32,
+    gate: &G,
+) -> Result<Vec<Result<Vec<CodePiece>, Refusal>>, AllocError>
+    requires { layout.now ≡ layout_of (program_of program.now) }
+    ensures { IfOk result (λ made. (vec_len made ≡ workers)
+        × AreShares (program_of program.now) workers 0 made.items) }
+{
+    thread::scope(
+        thread::scope_env(),
+        rt,
+        |scope| -> Result<Vec<Result<Vec<CodePiece>, Refusal>>, AllocError>
+            requires { layout.now ≡ layout_of (program_of program.now) }
+            ensures { IfOk result (λ made. (vec_len made ≡ workers)
+                × AreShares (program_of program.entry.now) workers 0 made.items) }
+        { run_in(rt, scope, alloc, program, layout, workers, gate) },
+    )
+}

@@ -1,0 +1,23 @@
+use Rattle.std.proofs.Common.{ap, ap₂, codes, refl, ◌≡◌, ◌∙◌}
+use Rattle.std.proofs.lemmas.Result.{IfOk-weaker}
+use Rattle.clap.specs.Simple.{app_of_fields}
+use Rattle.clap.specs.Words.{app_of, new_app, with_rule}
+use Rattle.commandline.specs.CommandLine as line
+use Rattle.commandline.proofs.builder.exec_command.Goals as goal
+
+pub with_run_options-requires : goal.with_run_options-requires
+with_run_options-requires c = rw (
+  c.in_ok-command.ensures.globals,
+  c.positional.ensures.local,
+  c.about.ensures,
+  c.new.ensures.local,
+) refl
+
+pub returns-clause-app : goal.returns-clause-app
+returns-clause-app c =
+    let new : app_of c.about.result ≡ new_app (codes "exec") = ap app_of_fields c.about.ensures
+    ∙ c.new.ensures.app in
+    let first = c.in_ok-command.ensures.shape c.positional.ensures.local
+    ∙ ap₂ with_rule new c.positional.ensures.rule in
+    IfOk-weaker c.with_run_options.result _ _ (λ r h. h ∙ ap line.with_run_options first)
+    c.with_run_options.ensures.app

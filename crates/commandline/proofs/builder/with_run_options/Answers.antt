@@ -1,0 +1,28 @@
+use Rattle.std.proofs.Common.{ap, ap₂, refl, ◌∙◌}
+use Rattle.std.proofs.lemmas.Result.{IfOk-weaker}
+use Rattle.clap.specs.Words.{app_of, with_rule}
+use Rattle.commandline.proofs.builder.with_run_options.Goals as goal
+
+pub returns-clause-app : goal.returns-clause-app
+returns-clause-app c =
+    let first = c.in_ok-arg.ensures.shape c.steps_option.ensures.local
+    ∙ ap (with_rule (app_of c.args.command)) c.steps_option.ensures.rule in
+    let second = c.in_ok-arg-2.ensures.shape c.in_order_option.ensures.local
+    ∙ ap₂ with_rule first c.in_order_option.ensures.rule in
+    let third = c.in_ok-arg-3.ensures.shape c.trace_option.ensures.local
+    ∙ ap₂ with_rule second c.trace_option.ensures.rule in
+    IfOk-weaker c.arg-4.result _ _ (λ r h. h.shape c.valued.ensures.local
+    ∙ ap₂ with_rule third c.valued.ensures.rule) c.arg-4.ensures
+
+pub returns-clause-local : goal.returns-clause-local
+returns-clause-local c = IfOk-weaker c.arg-4.result _ _ (λ r h. rw (
+  h.globals,
+  c.valued.ensures.local,
+  c.in_ok-arg-3.ensures.globals,
+  c.trace_option.ensures.local,
+  c.in_ok-arg-2.ensures.globals,
+  c.in_order_option.ensures.local,
+  c.in_ok-arg.ensures.globals,
+  c.steps_option.ensures.local,
+  c.requires,
+) refl) c.arg-4.ensures

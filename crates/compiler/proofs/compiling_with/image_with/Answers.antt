@@ -1,0 +1,21 @@
+use Rattle.std.proofs.lemmas.Result.{err_from_is_err_and}
+use Rattle.program.specs.Names.{said_by}
+use Rattle.compiler.proofs.Readings.{not_fitting, read_whole, unread}
+use Rattle.compiler.proofs.compiling_with.image_with.Goals as goal
+
+pub returns-in_err-checked : goal.returns-in_err-checked
+returns-in_err-checked g c =
+    let p = err_from_is_err_and c.from_residual.result c.from_residual.ensures.1 in
+    rw (p.1, p.2) (unread c.args.text.now c.in_err-checked.field-0.0 c.in_err-checked.ensures)
+
+pub returns-in_err-lowered : goal.returns-in_err-lowered
+returns-in_err-lowered g c =
+    let p = err_from_is_err_and c.from_residual-in_err-lowered.result c.from_residual-in_err-lowered.ensures.1 in
+    rw (p.1, p.2) (not_fitting c.args.text.now (said_by c.in_ok-checked.checked) c.in_err-lowered.field-0.0
+    c.in_ok-checked.ensures.accepts c.in_err-lowered.ensures)
+
+pub returns : goal.returns
+returns g c =
+    (read_whole c.args.text.now c.in_ok-checked.checked c.in_ok-lowered.lowered c.in_ok-checked.ensures
+    (c.code_refines.ensures (said_by c.in_ok-checked.checked) c.in_ok-checked.ensures.well_formed)
+    c.in_ok-lowered.ensures).compiled

@@ -1,0 +1,63 @@
+// From a text to its image, with several workers.
+
+ghost use Rattle.std.specs.Prelude.{◌≡◌, ◌≤◌, ◌⊎◌, IfOk, IfErr, MatchResult};
+ghost use Rattle.scanner.specs.Refusals.{out_of_memory};
+ghost use Rattle.program.specs.Trees.{Program};
+ghost use Rattle.lowering.specs.Pieces.{code_of};
+ghost use Rattle.codegen_workers.specs.Limits.{most_workers};
+ghost use Rattle.backend.specs.Refusals.{CodeFits};
+ghost use Rattle.compiler.specs.Accepts.{AcceptsText, RefusesText};
+ghost use Rattle.compiler.specs.Compiles.{IsCompiled};
+
+use crate::compiling::read;
+use crate::laws::text_laws;
+use backend::{Lowered, lower_with};
+use isa::Image;
+use proof_simulation::code_refines;
+use scanner::Refusal;
+use std::alloc::Global;
+use std::sync::Wait;
+use std::thread::Threads;
+use words::Gate;
+
+// The image of a source text, or its refusal.
+fn image_with<R: Threads + Wait + Sync, G: Gate>(
+    rt: &R,
+    alloc: Global,
+    text: &[u8],
+    workers: u32,
+    gate: &G,
+) -> Result<Image, Refusal>
+    requires { (1 ≤ workers) × (workers ≤ most_workers) }
+    ensures { MatchResult result (λ image. IsCompiled text.now image)
+        (λ e. (e ≡ out_of_memory) ⊎ RefusesText text.now e) }
+{
+    code_refines();
+    let checked = read(alloc, text)?;
+    let lowered = lower_with(rt, alloc, &checked, workers, gate)?;
+    let Lowered { image, .. } = lowered;
+    Ok(image)
+}
+
+/// The image of a source text, as `compile` gives it, with the code of its pieces made by this many workers, from 1 to
+/// 64. Piece `j`, from 0, belongs to worker `1 + j MOD workers`, which passes the gate before it.
+///
+/// # Errors
+///
+/// Those of `compile`; `Memory` comes also where a worker can't be started.
+pub fn compile_with<R: Threads + Wait + Sync, G: Gate>(
+    rt: &R,
+    alloc: Global,
+    text: &[u8],
+    workers: u32,
+    gate: &G,
+) -> Result<Image, Refusal>
+    requires { (1 ≤ workers) × (workers ≤ most_workers) }
+    ensures accepted { IfOk result (λ image. IsCompiled text.now image) }
+    ensures only { (p : Program) → AcceptsText text.now p → CodeFits p
+        → MatchResult result (λ image. image ≡ code_of p) (λ e. e ≡ out_of_memory) }
+    ensures refusal { IfErr result (λ e. (e ≡ out_of_memory) ⊎ RefusesText text.now e) }
+{
+    text_laws();
+    image_with(rt, alloc, text, workers, gate)
+}

@@ -1,0 +1,155 @@
+-- A name has one word, and a value one way to be written.
+use Rattle.std.proofs.Common.{◌≡◌, ◌≢◌, ◌<◌, ◌≤◌, ◌+◌, ◌*◌, ◌==◌, ◌^◌, ℕ, zero, suc, List, [], ◌∷◌, Bool, true, false, ◌&&◌}
+use Rattle.std.proofs.Common.{codes, cond, ltb, refl, ap, sym, ◌∙◌, arith, ℤ, pos, negsuc}
+use Rattle.std.specs.Fmt.{decimal, signed_decimal}
+use Rattle.words.specs.Signed.{signed_of}
+use Rattle.machine.specs.declared.event.EventName.{EventName}
+use Rattle.machine.specs.declared.event.EventName.TheVariants.{Local, Load, Store, Swap, CompareSwap, FetchOr, FetchAdd}
+use Rattle.machine.specs.declared.event.EventName.TheVariants.{Fork, Print, Wait, Wake, Requeue, Ret, RetValue, Die}
+use Rattle.machine.specs.declared.event.EventName.TheVariants.{Entry, Pending, Clear, Last}
+use Rattle.log_text.specs.LogLines.{name_text}
+use Rattle.log_text.specs.Places.{place_of}
+use Rattle.std.proofs.lemmas.Bool.{ltb-true}
+use Rattle.log_text.proofs.Cutting.{Plain}
+
+-- a word as a number
+packed : ℕ → List ℕ → ℕ
+packed n [] = n
+packed n (x ∷ xs) = packed (n * 256 + x) xs
+
+word_number : EventName → ℕ
+word_number name = packed 0 (name_text name)
+
+-- the name of a word
+named : ℕ → EventName
+named n =
+    cond (n == packed 0 (codes "LOAD")) Load
+    (cond (n == packed 0 (codes "STORE")) Store
+    (cond (n == packed 0 (codes "SWAP")) Swap
+    (cond (n == packed 0 (codes "CAS")) CompareSwap
+    (cond (n == packed 0 (codes "AOR")) FetchOr
+    (cond (n == packed 0 (codes "AADD")) FetchAdd
+    (cond (n == packed 0 (codes "FORK")) Fork
+    (cond (n == packed 0 (codes "PRINT")) Print
+    (cond (n == packed 0 (codes "FWAIT")) Wait
+    (cond (n == packed 0 (codes "FWAKE")) Wake
+    (cond (n == packed 0 (codes "FREQ")) Requeue
+    (cond (n == packed 0 (codes "RET")) Ret
+    (cond (n == packed 0 (codes "RETV")) RetValue
+    (cond (n == packed 0 (codes "DIE")) Die
+    (cond (n == packed 0 (codes "ENTRY")) Entry
+    (cond (n == packed 0 (codes "PENDING")) Pending
+    (cond (n == packed 0 (codes "CLEAR")) Clear
+    (cond (n == packed 0 (codes "LAST")) Last Local)))))))))))))))))
+
+back : (name : EventName) → named (word_number name) ≡ name
+unfolding named word_number packed
+back Local = refl
+back Load = refl
+back Store = refl
+back Swap = refl
+back CompareSwap = refl
+back FetchOr = refl
+back FetchAdd = refl
+back Fork = refl
+back Print = refl
+back Wait = refl
+back Wake = refl
+back Requeue = refl
+back Ret = refl
+back RetValue = refl
+back Die = refl
+back Entry = refl
+back Pending = refl
+back Clear = refl
+back Last = refl
+
+pub name_once : (a b : EventName) → name_text a ≡ name_text b → a ≡ b
+unfolding word_number
+name_once a b same = sym (back a) ∙ ap (λ t. named (packed 0 t)) same ∙ back b
+
+at_place : ℕ → EventName
+at_place n =
+    cond (n == 0) Load
+    (cond (n == 1) Store
+    (cond (n == 2) Swap
+    (cond (n == 3) CompareSwap
+    (cond (n == 4) FetchOr
+    (cond (n == 5) FetchAdd
+    (cond (n == 6) Fork
+    (cond (n == 7) Print
+    (cond (n == 8) Wait
+    (cond (n == 9) Wake
+    (cond (n == 10) Requeue
+    (cond (n == 11) Ret
+    (cond (n == 12) RetValue
+    (cond (n == 13) Die
+    (cond (n == 14) Entry
+    (cond (n == 15) Pending
+    (cond (n == 16) Clear
+    (cond (n == 17) Last Local)))))))))))))))))
+
+placed : (name : EventName) → at_place (place_of name) ≡ name
+unfolding at_place
+placed Local = refl
+placed Load = refl
+placed Store = refl
+placed Swap = refl
+placed CompareSwap = refl
+placed FetchOr = refl
+placed FetchAdd = refl
+placed Fork = refl
+placed Print = refl
+placed Wait = refl
+placed Wake = refl
+placed Requeue = refl
+placed Ret = refl
+placed RetValue = refl
+placed Die = refl
+placed Entry = refl
+placed Pending = refl
+placed Clear = refl
+placed Last = refl
+
+pub place_once : (a b : EventName) → place_of a ≡ place_of b → a ≡ b
+place_once a b same = sym (placed a) ∙ ap at_place same ∙ placed b
+
+pub no_place : (name : EventName) → 18 ≤ place_of name → Local ≡ name
+no_place Local past = refl
+no_place _ past = absurd (omega (arith, past))
+
+all_above : List ℕ → Bool
+all_above [] = true
+all_above (x ∷ xs) = ltb 32 x && all_above xs
+
+plain_more : (x : ℕ) (xs : List ℕ) (b : Bool) → ltb 32 x ≡ b → (b && all_above xs) ≡ true
+    → (all_above xs ≡ true → Plain xs) → Plain (x ∷ xs)
+plain_more x xs true less is rest = (ltb-true 32 x less, rest is)
+plain_more x xs false less is rest = absurd cc
+
+plain_by : (xs : List ℕ) → all_above xs ≡ true → Plain xs
+unfolding all_above
+plain_by [] is = tt
+plain_by (x ∷ xs) is = plain_more x xs (ltb 32 x) refl is (plain_by xs)
+
+pub plain_name : (name : EventName) → Plain (name_text name)
+unfolding all_above
+plain_name Local = plain_by (codes "TURN") refl
+plain_name Load = plain_by (codes "LOAD") refl
+plain_name Store = plain_by (codes "STORE") refl
+plain_name Swap = plain_by (codes "SWAP") refl
+plain_name CompareSwap = plain_by (codes "CAS") refl
+plain_name FetchOr = plain_by (codes "AOR") refl
+plain_name FetchAdd = plain_by (codes "AADD") refl
+plain_name Fork = plain_by (codes "FORK") refl
+plain_name Print = plain_by (codes "PRINT") refl
+plain_name Wait = plain_by (codes "FWAIT") refl
+plain_name Wake = plain_by (codes "FWAKE") refl
+plain_name Requeue = plain_by (codes "FREQ") refl
+plain_name Ret = plain_by (codes "RET") refl
+plain_name RetValue = plain_by (codes "RETV") refl
+plain_name Die = plain_by (codes "DIE") refl
+plain_name Entry = plain_by (codes "ENTRY") refl
+plain_name Pending = plain_by (codes "PENDING") refl
+plain_name Clear = plain_by (codes "CLEAR") refl
+plain_name Last = plain_by (codes "LAST") refl

@@ -1,0 +1,53 @@
+use Rattle.std.proofs.Common.{◌≡◌, ◌<◌, ◌+◌, ◌++◌, ◌∙◌, [], ◌∷◌, ap, length, length-append, arith, sym}
+use Rattle.std.proofs.lemmas.Bool.{eqb-true}
+use Rattle.log_text.specs.LogLines.{log_lines}
+use Rattle.log_text.proofs.Logs.{line_more, no_end, no_entry, none_there, pushed, sized_more, some_left, some_there}
+use Rattle.log_text.proofs.reading.read_log.Goals as goal
+
+pub returns-then-is_empty : goal.returns-then-is_empty
+returns-then-is_empty c =
+    let l = c.loop-rest in
+    let cut = c.cut-line.ensures in
+    record {
+      before = l.entries.items;
+      rest = l.rest.now;
+      cut = l.invariant.cut;
+      sized = l.invariant.sized;
+      counted = omega (arith, l.invariant.number);
+      more = some_left (length l.rest.now) c.loop-rest-test.ensures;
+      none = no_end l.rest.now c.cut-line.result.front.now c.cut-line.result.rest.now cut.whole cut.front cut.rest
+          (eqb-true (length c.cut-line.result.rest.now) 0 (sym c.if-is_empty.ensures));
+    }
+
+pub returns-in_default : goal.returns-in_default
+returns-in_default c =
+    let l = c.loop-rest in
+    let cut = c.cut-line.ensures in
+    record {
+      before = l.entries.items;
+      rest = l.rest.now;
+      cut = l.invariant.cut;
+      sized = l.invariant.sized;
+      counted = omega (arith, l.invariant.number);
+      more = some_left (length l.rest.now) c.loop-rest-test.ensures;
+      none = no_entry l.rest.now c.cut-line.result.front.now c.cut-line.result.rest.now cut.whole cut.front cut.rest
+          (none_there _ _ c.in_ok-entry.field-0 c.in_ok-entry.ensures c.in_default.is);
+    }
+
+pub loop-rest-preserved : goal.loop-rest-preserved
+loop-rest-preserved c =
+    let l = c.loop-rest in
+    let cut = c.cut-line.ensures in
+    let read = some_there _ _ c.in_ok-entry.field-0 c.in-Some.entry c.in_ok-entry.ensures c.in-Some.is in
+    let grows = pushed c.push.result c.is_err.result c.push.new.self.items l.entries.items c.in-Some.entry
+    c.is_err.ensures.value c.if-is_err.false c.push.ensures.items in
+    let many = ap length grows in
+    let sum = length-append l.entries.items (c.in-Some.entry ∷ []) in
+    record {
+      cut = line_more c.args.text.now l.entries.items c.push.new.self.items l.rest.now c.cut-line.result.front.now
+          c.cut-line.result.rest.now c.in-Some.entry l.invariant.cut cut.whole cut.rest
+          (some_left (length c.cut-line.result.rest.now) c.if-is_empty.ensures) read.1 grows
+          ∙ ap (λ xs. log_lines c.push.new.self.items ++ xs) (sym c.past_first-rest.ensures);
+      sized = sized_more l.entries.items c.push.new.self.items c.in-Some.entry l.invariant.sized read.0 grows;
+      number = omega (arith, l.invariant.number, many, sum);
+    }

@@ -1,0 +1,4 @@
+pub mod LogLines
+pub mod Cuts
+pub mod Spelled
+pub mod Places

@@ -1,0 +1,11 @@
+//! The text of logs: a line for each entry, written and read.
+#![tactic(auto)]
+
+mod fields;
+mod parts;
+mod reading;
+mod sets;
+mod writing;
+
+pub use reading::{ReadLogFault, read_log};
+pub use writing::append_log;

@@ -1,0 +1,77 @@
+ghost use Rattle.std.specs.Prelude.{◌≡◌, ◌≢◌, MatchOption, MatchResult, IfOk};
+ghost use Rattle.machine.specs.declared.event.Entry.{Entry as LogEntry};
+ghost use Rattle.log_text.specs.LogLines.{entry_text};
+ghost use Rattle.log_text.specs.Spelled.{IsLogText, IsSized, RefusesLines};
+ghost use Rattle.log_text.specs.declared.reading.ReadLogFault.TheVariants.{Memory};
+
+use crate::fields::entry_of;
+use crate::parts::{are_same, cut, past_first};
+use crate::writing::append_entry;
+use machine::Entry;
+use std::alloc::{AllocError, Global};
+use thiserror::Error;
+
+/// Why a text isn't read as a log. Its lines are numbered from 1.
+#[derive(Clone, Copy, PartialEq, Eq, Debug, Error)]
+pub enum ReadLogFault {
+    /// The line of this number is the first that is no entry's, or that has no end.
+    #[error("log line {0}")]
+    Line(u64),
+    /// There is no memory for the entries.
+    #[error("memory")]
+    Memory,
+}
+
+impl From<AllocError> for ReadLogFault {
+    ghost from_gives = { λ _ f. f ≡ Memory };
+
+    fn from(_error: AllocError) -> ReadLogFault {
+        ReadLogFault::Memory
+    }
+}
+
+/// The entries of which a text has the lines, just as `append_log` writes them: each ends by a line feed, its parts stand
+/// apart by one space, numbers have no zeros in front, and the threads of a set rise. The empty text is the empty log.
+///
+/// A line is read by its parts, and the entry written anew: so the text is just the lines of the entries that are
+/// answered.
+pub fn read_log(alloc: Global, text: &[u8]) -> Result<Vec<Entry>, ReadLogFault>
+    ensures { MatchResult result (λ entries. IsLogText text.now entries.items)
+        (λ fault. RefusesLines text.now fault) }
+{
+    let mut entries = Vec::new(alloc);
+    let mut spelled = String::new(alloc);
+    let mut rest = text;
+    let mut number: u64 = 0;
+    while !rest.is_empty() {
+        number += 1;
+        let line = cut(rest, b'\n');
+        if line.rest.is_empty() {
+            return Err(ReadLogFault::Line(number));
+        }
+        let Some(entry) = read_line(&mut spelled, line.front)? else {
+            return Err(ReadLogFault::Line(number));
+        };
+        if entries.push(entry).is_err() {
+            return Err(ReadLogFault::Memory);
+        }
+        rest = past_first(line.rest);
+    }
+    Ok(entries)
+}
+
+// The entry of a line, without its end. What is in the string is lost.
+fn read_line(spelled: &mut String, line: &[u8]) -> Result<Option<Entry>, AllocError>
+    ensures { IfOk result (λ o. MatchOption o
+        ((e : LogEntry) → IsSized e → line.now ≢ entry_text e)
+        (λ e. IsSized e × (line.now ≡ entry_text e))) }
+{
+    let entry = entry_of(line);
+    spelled.clear();
+    append_entry(spelled, &entry)?;
+    if are_same(line, spelled.as_bytes()) {
+        Ok(Some(entry))
+    } else {
+        Ok(None)
+    }
+}

@@ -1,0 +1,123 @@
+ghost use Rattle.std.specs.Prelude.{◌≡◌, IfOk};
+ghost use Rattle.std.specs.Io.KnownBytes.{Appends};
+ghost use Rattle.runner.specs.Reports.{IsReport};
+ghost use Rattle.mesamon.specs.Commands.{HasExecuted, HasRun};
+ghost use Rattle.mesamon.specs.Running.{IsRunOfText};
+
+use crate::failure::Failure;
+use crate::files::bytes_of;
+use crate::replaying::replay;
+use crate::schedule::threads_of;
+use crate::showing::{Kept, show};
+use crate::source_run::{RunSourceFault, run_in_order, run_source};
+use crate::status::Status;
+use commandline::{Order, RunOptions};
+use isa::{Image, decode};
+use runner::{Report, RunFault};
+use scanner::MOST_BYTES;
+use std::io::Write;
+use std::rt::Files;
+use std::sync::Wait;
+use std::thread::Threads;
+use words::OpenGate;
+
+/// Runs the source text of a file.
+pub fn run_file<'a, R: Files + AllocGlobal + Threads + Wait + Sync, O: Write, E: Write>(
+    rt: &R,
+    file: &'a str,
+    options: RunOptions<'a>,
+    output: &mut O,
+    errors: &mut E,
+) -> Result<Status, Failure<'a>>
+    ensures { IfOk result (λ s. HasRun (Appends (O.contents output.old) (O.contents output.new))
+        (Appends (E.contents errors.old) (E.contents errors.new)) s) }
+{
+    let text = bytes_of(rt, file)?;
+    let report = run_text(rt, text.as_slice(), options.steps, options.order)?;
+    show(rt, &report, kept_by(options), output, errors)
+}
+
+// Runs a text.
+fn run_text<R: AllocGlobal + Threads + Wait + Sync>(
+    rt: &R,
+    text: &[u8],
+    steps: u32,
+    order: Order,
+) -> Result<Report, RunSourceFault>
+    ensures { IfOk result (λ report. IsRunOfText text.now steps report) }
+{
+    match order {
+        Order::Workers => run_source(rt, rt.alloc(), text, steps, &OpenGate),
+        Order::InOrder => run_in_order(rt.alloc(), text, steps, &OpenGate),
+    }
+}
+
+/// Runs the image of a file.
+pub fn exec_file<'a, R: Files + AllocGlobal + Threads + Wait + Sync, O: Write, E: Write>(
+    rt: &R,
+    file: &'a str,
+    options: RunOptions<'a>,
+    output: &mut O,
+    errors: &mut E,
+) -> Result<Status, Failure<'a>>
+    ensures { IfOk result
+        (λ s. HasExecuted (Appends (O.contents output.old) (O.contents output.new))
+        (Appends (E.contents errors.old) (E.contents errors.new)) s) }
+{
+    let bytes = bytes_of(rt, file)?;
+    let image = decode(rt.alloc(), bytes.as_slice())?;
+    let report = run_image(rt, &image, options.steps, options.order)?;
+    show(rt, &report, kept_by(options), output, errors)
+}
+
+// Runs an image.
+fn run_image<R: AllocGlobal + Threads + Wait + Sync>(
+    rt: &R,
+    image: &Image,
+    steps: u32,
+    order: Order,
+) -> Result<Report, RunFault>
+    ensures { IfOk result (λ report. IsReport image.now steps report) }
+{
+    match order {
+        Order::Workers => workers::run(rt, rt.alloc(), image, steps, &OpenGate),
+        Order::InOrder => runner::run_in_order(rt.alloc(), image, steps, &OpenGate),
+    }
+}
+
+/// Runs the source text of a file by the schedule of another.
+pub fn replay_file<'a, R: Files + AllocGlobal, O: Write, E: Write>(
+    rt: &R,
+    file: &'a str,
+    schedule: &'a str,
+    kept: Kept<'a>,
+    output: &mut O,
+    errors: &mut E,
+) -> Result<Status, Failure<'a>>
+    ensures { IfOk result (λ s. HasRun (Appends (O.contents output.old) (O.contents output.new))
+        (Appends (E.contents errors.old) (E.contents errors.new)) s) }
+{
+    let text = bytes_of(rt, file)?;
+    let threads = schedule_of(rt, schedule)?;
+    let report = replay(rt.alloc(), text.as_slice(), threads.as_slice())?;
+    show(rt, &report, kept, output, errors)
+}
+
+// The threads that a schedule's file names.
+fn schedule_of<'a, R: Files + AllocGlobal>(rt: &R, name: &'a str) -> Result<Vec<u32>, Failure<'a>> {
+    let bytes = bytes_of(rt, name)?;
+    if bytes.len() > MOST_BYTES {
+        return Err(Failure::Schedule(0));
+    }
+    Ok(threads_of(rt.alloc(), bytes.as_slice())?)
+}
+
+// What these options keep of the log.
+fn kept_by<'a>(options: RunOptions<'a>) -> Kept<'a>
+    ensures { result.trace ≡ options.entry.trace }
+{
+    Kept {
+        trace: options.trace,
+        log: options.log,
+    }
+}

@@ -1,0 +1,168 @@
+-- Entries that are taken by the threads and counts of others, and those that can't be.
+use Rattle.std.proofs.Common.{◌≡◌, ℕ, ◌+◌, ◌<◌, ◌≤◌, ◌^◌, ◌⊎◌, List, [], ◌∷◌, ◌++◌, map, take, length, Bool, true, false}
+use Rattle.std.proofs.Common.{Option, Some, None, is_some, Result, is_ok, is_err, get_or, refl, ap, sym, ◌∙◌, subst, arith}
+use Rattle.std.proofs.lemmas.List.{take_more, take_all, map-append}
+use Rattle.std.proofs.lemmas.List.Sums.{sum_by-append}
+use Rattle.std.proofs.lemmas.Option.{slice_get-get_or}
+use Rattle.isa.specs.Programs.{Program}
+use Rattle.locals.specs.Threads.{Thread}
+use Rattle.locals.specs.Steps.{local_step, local_after}
+use Rattle.machine.specs.declared.event.Event.{Event}
+use Rattle.machine.specs.declared.event.Entry.{Entry}
+use Rattle.machine.specs.States.{ConcreteState, thread_of, opening_concrete}
+use Rattle.machine.specs.ConcreteSteps.{put_thread, can_move}
+use Rattle.machine.specs.Views.{View, concrete}
+use Rattle.machine.proofs.Placing.{thread_at-put}
+use Rattle.runner.specs.declared.log_schedule.FollowLogFault.{FollowLogFault}
+use Rattle.runner.specs.declared.log_schedule.FollowLogFault.TheVariants.{BadEntry}
+use Rattle.runner.specs.declared.report.Report.{Report}
+use Rattle.runner.specs.LogSchedules.{Turn, turn_of, FollowsLog, IsFollowedLog, CannotTake, IsBadLogEntry}
+use Rattle.runner.specs.Logs.{Runs, Enters, Ends, cost, event_cost}
+use Rattle.runner.specs.Reports.{IsVerdict}
+use Rattle.runner.proofs.Going.{runs_more}
+use Rattle.runner.proofs.Growing.{entry}
+use Rattle.runner.proofs.Once.{here_once, never_local}
+
+true_or_false : (b : Bool) → b ≡ true → b ≡ false → ⊥
+true_or_false b is isn't = absurd cc
+
+-- a thread that can't move
+pub no_mover : (p : Program) (k : ConcreteState) (turn : Turn) → can_move k turn.thread ≡ false → CannotTake p k turn
+no_mover p k turn rests e k' is enters =
+    true_or_false (can_move k e.thread) enters.moves (ap (λ (s : Turn). can_move k s.thread) is ∙ rests)
+
+-- fewer local steps
+pub too_few : (p : Program) (k : ConcreteState) (turn : Turn) (m : ℕ) (o h : Thread) → thread_of k turn.thread ≡ Some o
+    → local_after p turn.thread m o ≡ Some h → local_step p turn.thread h ≡ None → m < turn.local → CannotTake p k turn
+too_few p k turn m o h stands goes none less e k' is enters =
+    let t : e.thread ≡ turn.thread = ap (λ (s : Turn). s.thread) is in
+    let n : e.local ≡ turn.local = ap (λ (s : Turn). s.local) is in
+    never_local p k e m o h (ap (thread_of k) t ∙ stands) (ap (λ u. local_after p u m o) t ∙ goes)
+    (ap (λ u. local_step p u h) t ∙ none) (omega (arith, less, n)) k' enters
+
+-- no shared step behind the local ones
+pub no_shared : (p q : Program) (k mid : ConcreteState) (turn : Turn) (o h : Thread)
+    → thread_of k turn.thread ≡ Some o → local_after p turn.thread turn.local o ≡ Some h → turn.shared ≡ true → q ≡ p
+    → mid ≡ put_thread k turn.thread h
+    → ((here : Thread) (event : Event) (k' : ConcreteState) → thread_of mid turn.thread ≡ Some here
+    → Ends q mid turn.thread here (Some event) k' → ⊥)
+    → CannotTake p k turn
+no_shared p q k mid turn o h stands goes shared own there never e k' is enters =
+    by e.event refl
+  where
+    t : e.thread ≡ turn.thread
+    t = ap (λ (s : Turn). s.thread) is
+
+    n : e.local ≡ turn.local
+    n = ap (λ (s : Turn). s.local) is
+
+    same : enters.here ≡ h
+    same = here_once p k e.thread e.local enters.origin enters.here o h enters.stands enters.goes
+        (ap (thread_of k) t ∙ stands)
+        ((λ i. local_after p (t i) (n i) o) ∙ goes)
+
+    by : (event : Option Event) → e.event ≡ event → ⊥
+    by None none = true_or_false (is_some e.event) (ap (λ (s : Turn). s.shared) is ∙ shared) (ap is_some none)
+    by (Some event) some =
+        never h event k' (ap (λ (m : ConcreteState). thread_of m turn.thread) there
+        ∙ thread_at-put k.threads turn.thread o h stands)
+        (subst (λ (z : Program). Ends z mid turn.thread h (Some event) k') (sym own)
+        (subst (λ (m : ConcreteState). Ends p m turn.thread h (Some event) k') (sym there)
+        (subst (λ (u : ℕ). Ends p (put_thread k u h) u h (Some event) k') t
+        (subst (λ (x : Thread). Ends p (put_thread k e.thread x) e.thread x (Some event) k') same
+        (subst (λ (v : Option Event). Ends p (put_thread k e.thread enters.here) e.thread enters.here v k') some
+        enters.ends)))))
+
+-- local steps, and the shared step behind them
+pub takes_shared : (p q : Program) (k mid k' : ConcreteState) (t n : ℕ) (o h : Thread) (event : Event)
+    → can_move k t ≡ true → thread_of k t ≡ Some o → local_after p t n o ≡ Some h → q ≡ p → mid ≡ put_thread k t h
+    → ((here : Thread) → thread_of mid t ≡ Some here → Ends q mid t here (Some event) k')
+    → Enters p k (entry t n (Some event)) k'
+takes_shared p q k mid k' t n o h event moves stands goes own there ends = record {
+  origin = o;
+  here = h;
+  stands = stands;
+  moves = moves;
+  goes = goes;
+  ends = subst (λ (z : Program). Ends z (put_thread k t h) t h (Some event) k') own
+      (subst (λ (m : ConcreteState). Ends q m t h (Some event) k') there
+      (ends h (ap (λ (m : ConcreteState). thread_of m t) there ∙ thread_at-put k.threads t o h stands)));
+}
+
+-- entries of the same turn cost the same
+turn_cost : (e f : Entry) → turn_of e ≡ turn_of f
+    → e.local + event_cost e.event ≡ f.local + event_cost f.event
+turn_cost e f is =
+    let n : e.local ≡ f.local = ap (λ (s : Turn). s.local) is in
+    let s : is_some e.event ≡ is_some f.event = ap (λ (s : Turn). s.shared) is in
+    let c = events_cost e.event f.event s in
+    omega (arith, n, c)
+  where
+    events_cost : (a b : Option Event) → is_some a ≡ is_some b → event_cost a ≡ event_cost b
+    events_cost None None s = refl
+    events_cost None (Some b) s = absurd cc
+    events_cost (Some a) None s = absurd cc
+    events_cost (Some a) (Some b) s = refl
+
+-- one entry more
+pub cost_more : (log : List Entry) (e : Entry) → cost (log ++ e ∷ []) ≡ cost log + (e.local + event_cost e.event)
+cost_more log e =
+    let h : cost (log ++ e ∷ []) ≡ cost log + cost (e ∷ []) =
+    sum_by-append (λ (x : Entry). x.local + event_cost x.event) log (e ∷ []) in omega (arith, h)
+
+pub turns_more : (p q : Program) (entries : List Entry) (i : ℕ) (d f : Entry) (log log' : List Entry)
+    (k k' : ConcreteState) (e : Entry) → i < length entries → get_or entries i d ≡ f → q ≡ p
+    → FollowsLog p (map turn_of (take i entries)) log k → Enters q k e k' → turn_of e ≡ turn_of f
+    → log' ≡ log ++ e ∷ [] → cost log + (f.local + event_cost f.event) < 2 ^ 32
+    → FollowsLog p (map turn_of (take (i + 1) entries)) log' k' × (cost log' ≡ cost log + (f.local + event_cost f.event))
+turns_more p q entries i d f log log' k k' e inside names own follows enters is grows few =
+    let entered : Enters p k e k' = subst (λ (z : Program). Enters z k e k') own enters in
+    let next : take (i + 1) entries ≡ take i entries ++ f ∷ [] =
+    take_more entries i d inside ∙ ap (λ (x : Entry). take i entries ++ x ∷ []) names in
+    let more : cost log' ≡ cost log + (e.local + event_cost e.event) = ap cost grows ∙ cost_more log e in
+    let turn = turn_cost e f is in (
+      record {
+        legal = subst (λ (es : List Entry). Runs p (opening_concrete p) es k') (sym grows)
+            (runs_more p (opening_concrete p) k k' log e follows.legal entered);
+        same = ap (map turn_of) grows ∙ map-append turn_of log (e ∷ [])
+            ∙ (λ j. follows.same j ++ is j ∷ []) ∙ sym (map-append turn_of (take i entries) (f ∷ []))
+            ∙ ap (map turn_of) (sym next);
+        few = omega (arith, more, turn, few);
+      },
+      omega (arith, more, turn),
+    )
+
+-- the entry that can't be followed
+pub bad_entry : (p q : Program) (entries : List Entry) (i number : ℕ) (d f : Entry) (log : List Entry)
+    (k : ConcreteState) → i < length entries → get_or entries i d ≡ f → number ≡ i + 1 → q ≡ p
+    → FollowsLog p (map turn_of (take i entries)) log k
+    → CannotTake q k (turn_of f) ⊎ (2 ^ 32 ≤ cost log + (f.local + event_cost f.event))
+    → IsBadLogEntry p entries number
+bad_entry p q entries i number d f log k inside names is own follows refuses = record {
+  before = i;
+  counted = is;
+  entry = f;
+  names = slice_get-get_or entries i d inside ∙ ap (λ (x : Entry). Some x) names;
+  log = log;
+  concrete = k;
+  follows = follows;
+  refuses = subst (λ (z : Program). CannotTake z k (turn_of f)
+      ⊎ (2 ^ 32 ≤ cost log + (f.local + event_cost f.event))) own refuses;
+}
+
+-- the report of a log that was followed to its end
+pub followed_log : (p : Program) (entries : List Entry) (i : ℕ) (log : List Entry) (last : View) (r : Report)
+    → length entries ≤ i → FollowsLog p (map turn_of (take i entries)) log (concrete last)
+    → last.program ≡ p → r.log.items ≡ log → r.last ≡ last → r.output.items ≡ last.output
+    → IsVerdict (concrete last) r.verdict → IsFollowedLog p entries r
+followed_log p entries i log last r past f program logged same output verdict =
+    let all : FollowsLog p (map turn_of entries) log (concrete last) =
+    subst (λ (es : List Entry). FollowsLog p (map turn_of es) log (concrete last)) (take_all i entries past) f in
+    let of_log : FollowsLog p (map turn_of entries) r.log.items (concrete last) =
+    subst (λ (es : List Entry). FollowsLog p (map turn_of entries) es (concrete last)) (sym logged) all in
+    record {
+      follows = subst (λ (v : View). FollowsLog p (map turn_of entries) r.log.items (concrete v)) (sym same) of_log;
+      program = ap (λ (v : View). v.program) same ∙ program;
+      output = output ∙ ap (λ (v : View). v.output) (sym same);
+      verdict = subst (λ (v : View). IsVerdict (concrete v) r.verdict) (sym same) verdict;
+    }

@@ -1,0 +1,47 @@
+use Rattle.std.proofs.Common.{◌≡◌, ◌∙◌, ℕ, ap, sym, subst, arith, Some, true}
+use Rattle.locals.specs.Steps.{local_after}
+use Rattle.machine.specs.Views.{concrete}
+use Rattle.runner.specs.LogSchedules.{turn_of}
+use Rattle.runner.proofs.Once.{still_made}
+use Rattle.runner.proofs.Turning.{no_shared, takes_shared, too_few}
+use Rattle.runner.proofs.log_schedule.take_turn.Goals as goal
+
+pub returns-then-run_local-local-clause-none : goal.returns-then-run_local-local-clause-none
+returns-then-run_local-local-clause-none c =
+    let r = c.run_local.ensures in
+    let old = c.args.machine.now in
+    too_few old.program (concrete old) (turn_of c.args.entry.now) c.run_local.result r.origin r.here r.stands r.goes
+    (r.whole c.if-run_local-local.true) c.if-run_local-local.true
+
+pub take_shared-requires-clause-thread : goal.take_shared-requires-clause-thread
+take_shared-requires-clause-thread c =
+    let r = c.run_local.ensures in
+    still_made c.args.machine.now.threads c.run_local.new.self.threads c.args.entry.now.thread r.origin r.here r.stands
+    (ap (λ v. v.threads) r.after)
+
+pub returns-in_default-clause-none : goal.returns-in_default-clause-none
+returns-in_default-clause-none c =
+    let r = c.run_local.ensures in
+    let old = c.args.machine.now in
+    let mid = c.run_local.new.self in
+    let count : c.run_local.result ≡ c.args.entry.now.local = omega (arith, r.within, c.if-run_local-local.false) in
+    no_shared old.program mid.program (concrete old) (concrete mid) (turn_of c.args.entry.now) r.origin r.here r.stands
+    (subst (λ (n : ℕ). local_after old.program c.args.entry.now.thread n r.origin ≡ Some r.here) count r.goes)
+    (sym c.is_some.ensures ∙ c.if-is_some.true) (ap (λ v. v.program) r.after) (ap concrete r.after)
+    c.in_default.ensures.none
+
+pub returns-then-is_some-clause-some : goal.returns-then-is_some-clause-some
+returns-then-is_some-clause-some c =
+    let r = c.run_local.ensures in
+    let old = c.args.machine.now in
+    let mid = c.run_local.new.self in
+    let shared = sym c.is_some.ensures ∙ c.if-is_some.true in
+    let count : c.run_local.result ≡ c.args.entry.now.local = omega (arith, r.within, c.if-run_local-local.false) in (
+      takes_shared old.program mid.program (concrete old) (concrete mid)
+          (concrete c.take_shared.new.machine) c.args.entry.now.thread c.args.entry.now.local r.origin r.here
+          c.in-Some.event (sym c.can_move.ensures ∙ c.if-not-can_move.false) r.stands
+          (subst (λ (n : ℕ). local_after old.program c.args.entry.now.thread n r.origin ≡ Some r.here) count r.goes)
+          (ap (λ v. v.program) r.after)
+          (ap concrete r.after) c.in-Some.ensures.some,
+      λ i. record { thread = c.args.entry.now.thread; local = c.args.entry.now.local; shared = sym shared i },
+    )

@@ -1,0 +1,7 @@
+use Rattle.runner.proofs.seeded.run_by_seed.Given as goal
+
+abbrev pub ghosts-run_as-J-RunName : goal.ghosts-run_as-J-RunName
+ghosts-run_as-J-RunName a = record { program = a.image.now; limit = a.limit }
+
+abbrev pub ghosts-run_as-J-Ledger : goal.ghosts-run_as-J-Ledger
+ghosts-run_as-J-Ledger a = record { name = a.blank.name; parts = a.blank.parts }

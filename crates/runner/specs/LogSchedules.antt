@@ -1,0 +1,55 @@
+-- What comes of a schedule by a log: for each of its entries, one of the same thread with the same local steps, and
+-- then a shared step where the log's has one. The values of events are not compared.
+use Rattle.std.specs.Prelude.{ℕ, ◌≡◌, ◌+◌, ◌<◌, ◌≤◌, ◌^◌, ◌⊎◌, Bool, List, map, take, slice_get, Some, is_some}
+use Rattle.isa.specs.Programs.{Program}
+use Rattle.machine.specs.declared.event.Entry.{Entry}
+use Rattle.machine.specs.States.{ConcreteState, opening_concrete}
+use Rattle.machine.specs.Views.{concrete}
+use Rattle.runner.specs.declared.report.Report.{Report}
+use Rattle.runner.specs.declared.log_schedule.FollowLogFault.{FollowLogFault}
+use Rattle.runner.specs.declared.log_schedule.FollowLogFault.TheVariants.{BadEntry, Memory}
+use Rattle.runner.specs.Logs.{Runs, Enters, cost, event_cost}
+use Rattle.runner.specs.Reports.{IsVerdict}
+
+-- what a schedule takes of an entry: its thread, its local steps, and whether a shared step comes then
+pub record Turn : Type 0 where
+  pub thread : ℕ
+  pub local : ℕ
+  pub shared : Bool
+
+abbrev pub turn_of : Entry → Turn
+turn_of e = record { thread = e.thread; local = e.local; shared = is_some e.event }
+
+-- the log is legal and leads there, by these turns in this order, and has fewer than 2^32 steps
+pub record FollowsLog (p : Program) (turns : List Turn) (log : List Entry) (k : ConcreteState) : Type 0 where
+  pub legal : Runs p (opening_concrete p) log k
+  pub same : map turn_of log ≡ turns
+  pub few : cost log < 2 ^ 32
+
+-- the report of a log that was followed to its end
+pub record IsFollowedLog (p : Program) (entries : List Entry) (r : Report) : Type 0 where
+  pub follows : FollowsLog p (map turn_of entries) r.log.items (concrete r.last)
+  pub program : r.last.program ≡ p
+  pub output : r.output.items ≡ (concrete r.last).common.output
+  pub verdict : IsVerdict (concrete r.last) r.verdict
+
+-- no entry of this turn can be taken there
+abbrev pub CannotTake : Program → ConcreteState → Turn → Type 0
+CannotTake p k turn = (e : Entry) (k' : ConcreteState) → turn_of e ≡ turn → Enters p k e k' → ⊥
+
+-- the entry of this number is the first that can't be followed: the entries before it lead to where it can't be taken,
+-- or with it there are 2^32 steps or more
+pub record IsBadLogEntry (p : Program) (entries : List Entry) (number : ℕ) : Type 0 where
+  pub before : ℕ
+  pub counted : number ≡ before + 1
+  pub entry : Entry
+  pub names : slice_get entries before ≡ Some entry
+  pub log : List Entry
+  pub concrete : ConcreteState
+  pub follows : FollowsLog p (map turn_of (take before entries)) log concrete
+  pub refuses : CannotTake p concrete (turn_of entry) ⊎ (2 ^ 32 ≤ cost log + (entry.local + event_cost entry.event))
+
+-- why a log isn't followed to its end
+abbrev pub FailsLogAt : Program → List Entry → FollowLogFault → Type 0
+FailsLogAt p entries (BadEntry number) = IsBadLogEntry p entries number
+FailsLogAt p entries Memory = Unit {0}

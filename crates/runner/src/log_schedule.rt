@@ -1,0 +1,132 @@
+ghost use Rattle.std.specs.Prelude.{◌≡◌, ◌≤◌, ◌<◌, ◌+◌, ◌^◌, length, Some, IfOk, IfErr, IfSome, IfNone};
+ghost use Rattle.locals.specs.Threads.{Thread};
+ghost use Rattle.machine.specs.States.{ConcreteState, thread_of};
+ghost use Rattle.machine.specs.Views.{concrete};
+ghost use Rattle.runner.specs.Logs.{Ends, Enters, event_cost};
+ghost use Rattle.runner.specs.declared.log_schedule.FollowLogFault.TheVariants.{Memory};
+ghost use Rattle.runner.specs.LogSchedules.{CannotTake, FailsLogAt, IsFollowedLog, turn_of};
+
+use crate::report::{Report, report_of};
+use isa::Image;
+use machine::{Entry, Event, Machine};
+use std::alloc::{AllocError, Global};
+use thiserror::Error;
+use words::MOST_PROCESSES;
+
+// How many buckets its sleepers are kept in: one for each thread that there can be.
+const BUCKETS: u32 = MOST_PROCESSES;
+
+/// Why an image isn't run by the threads and counts of a log to its end. Its entries are numbered from 1.
+#[derive(Clone, Copy, PartialEq, Eq, Debug, Error)]
+pub enum FollowLogFault {
+    /// The entry of this number can't be taken: its thread can't move, takes fewer local steps, or doesn't stand before
+    /// a shared step behind them that may be; or with it there are 2^32 steps or more.
+    #[error("log entry {0}")]
+    BadEntry(u64),
+    /// There is no memory for the run.
+    #[error("memory")]
+    Memory,
+}
+
+impl From<AllocError> for FollowLogFault {
+    ghost from_gives = { λ _ f. f ≡ Memory };
+
+    fn from(_error: AllocError) -> FollowLogFault {
+        FollowLogFault::Memory
+    }
+}
+
+/// Runs an image by a log, which is taken for a schedule: for each of its entries the same thread takes as many local
+/// steps, and then a shared step where the log's entry has one. Events are not compared, so the report's log may have
+/// other values.
+///
+/// The verdict is Limit where some thread can still move. The first entry that can't be taken so is refused.
+pub fn follow_log(alloc: Global, image: &Image, entries: &[Entry]) -> Result<Report, FollowLogFault>
+    ensures ok { IfOk result (λ report. IsFollowedLog image.now entries.now report) }
+    ensures err { IfErr result (λ fault. FailsLogAt image.now entries.now fault) }
+{
+    let mut machine = Machine::new(alloc, image, BUCKETS)?;
+    let mut log = Vec::with_capacity(alloc, entries.len())?;
+    let mut steps: u64 = 0;
+    let mut number: u64 = 0;
+    for entry in entries {
+        number += 1;
+        steps += steps_of(entry);
+        if steps > u64::from(u32::MAX) {
+            return Err(FollowLogFault::BadEntry(number));
+        }
+        machine.make_room(1)?;
+        let Some(taken) = take_turn(&mut machine, entry) else {
+            return Err(FollowLogFault::BadEntry(number));
+        };
+        if log.push(taken).is_err() {
+            return Err(FollowLogFault::Memory);
+        }
+    }
+    Ok(report_of(alloc, log, machine)?)
+}
+
+// How many steps an entry has.
+fn steps_of(entry: &Entry) -> u64
+    ensures value { result ≡ entry.now.local + event_cost entry.now.event }
+    ensures few { result ≤ 2 ^ 32 }
+{
+    u64::from(entry.local) + u64::from(entry.event.is_some())
+}
+
+// Takes an entry of the thread and the counts of another; None where there is none.
+fn take_turn(machine: &mut Machine, entry: &Entry) -> Option<Entry>
+    requires room { 1 ≤ machine.old.room }
+    ensures some { IfSome result
+        (λ e. Enters machine.old.program (concrete machine.old) e (concrete machine.new)
+        × (turn_of e ≡ turn_of entry.now)) }
+    ensures none { IfNone result
+        (CannotTake machine.old.program (concrete machine.old) (turn_of entry.now)) }
+    ensures program { machine.new.program ≡ machine.old.program }
+{
+    let thread = entry.thread;
+    let local = entry.local;
+    if !machine.can_move(thread) {
+        return None;
+    }
+    if machine.run_local(thread, local) < local {
+        return None;
+    }
+    if entry.event.is_some() {
+        let Some(event) = take_shared(machine, thread) else {
+            return None;
+        };
+        return Some(Entry {
+            thread,
+            local,
+            event: Some(event),
+        });
+    }
+    Some(Entry {
+        thread,
+        local,
+        event: None,
+    })
+}
+
+// Takes the shared step that thread `t` stands before; None where it stands before none.
+fn take_shared(machine: &mut Machine, t: u32) -> Option<Event>
+    requires thread { (0 < t) × (t ≤ length machine.old.threads) }
+    requires room { 1 ≤ machine.old.room }
+    ensures some { IfSome result (λ event. (here : Thread)
+        → thread_of (concrete machine.old) t ≡ Some here
+        → Ends machine.old.program (concrete machine.old) t here (Some event) (concrete machine.new)) }
+    ensures none { IfNone result ((here : Thread) (event : Event) (k : ConcreteState)
+        → thread_of (concrete machine.old) t ≡ Some here
+        → Ends machine.old.program (concrete machine.old) t here (Some event) k
+        → ⊥) }
+    ensures program { machine.new.program ≡ machine.old.program }
+{
+    if machine.is_before_local(t, machine.local(t)) {
+        return None;
+    }
+    match machine.step(t) {
+        Ok(event) => Some(event),
+        Err(_) => None,
+    }
+}

@@ -1,0 +1,16 @@
+use Rattle.std.proofs.Common.{◌≡◌, ◌∙◌, [], ap, sym}
+use Rattle.meaning.specs.Processes.{Caller}
+use Rattle.source_offers.specs.Frames.{callers_of, frame_of}
+use Rattle.source_offers.specs.Stages.{standing}
+use Rattle.source_sameness.proofs.processes.same_process.Goals as goal
+
+pub returns : goal.returns
+returns c = λ same.
+    let frame : frame_of c.args.a.now.frame ≡ frame_of c.args.b.now.frame =
+    ap (λ (k : Caller). k.frame) (c.same_frame.ensures c.if-not-same_frame.false) in
+    let callers : callers_of c.args.a.now.callers.items ≡ callers_of c.args.b.now.callers.items =
+    sym (ap callers_of c.as_slice-first.ensures.value) ∙ c.same_callers.ensures same []
+    ∙ ap callers_of c.as_slice-second.ensures.value in
+    c.same_stage.ensures c.if-not-same_stage.false (frame_of c.args.a.now.frame)
+    (callers_of c.args.a.now.callers.items)
+    ∙ (λ i. standing c.args.b.now.stage (frame i) (callers i))

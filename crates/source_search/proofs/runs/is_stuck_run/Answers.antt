@@ -1,0 +1,10 @@
+use Rattle.source_states.specs.States.{state_of}
+use Rattle.source_search.proofs.runs.is_stuck_run.Goals as goal
+
+pub returns-in_ok-stuck-in-Some : goal.returns-in_ok-stuck-in-Some
+returns-in_ok-stuck-in-Some c = λ e. record {
+  end = state_of c.in-Some.state;
+  run = rw c.in-Some.is at c.in_ok-walked.ensures;
+  own = c.are_own.ensures c.if-not-are_own.false;
+  is = c.in_ok-stuck-in-Some.ensures e;
+}

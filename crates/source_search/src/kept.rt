@@ -1,0 +1,101 @@
+use crate::digest::digest;
+use crate::states::is_like;
+use program::Checked;
+use source_states::SourceState;
+use std::alloc::{AllocError, Global};
+use std::collections::BTreeMap;
+
+// How many places are tried for a digest.
+const TRIES: u64 = 8;
+
+/// How a kept state was come to: from which, by which process, and by which of its choices.
+#[derive(Clone, Copy, Debug)]
+pub(crate) struct Way {
+    /// The place of the state before.
+    pub before: usize,
+    /// The process.
+    pub process: u64,
+    /// The place of the action among the choices.
+    pub choice: usize,
+}
+
+/// The states that a search keeps, in the order in which they were come to.
+#[derive(Drop)]
+pub(crate) struct Kept<'a> {
+    // The states.
+    pub states: Vec<SourceState<'a>>,
+    // How each was come to.
+    pub ways: Vec<Way>,
+    // The place of each digest, or of one shortly before it.
+    pub places: BTreeMap<u64, usize>,
+    // How many states may be kept.
+    most: usize,
+}
+
+/// Whether a state like this one, whose digest is `first`, is kept at the place of that digest or of one shortly after.
+pub(crate) fn is_kept<'a>(
+    alloc: Global,
+    states: &[SourceState<'a>],
+    places: &BTreeMap<u64, usize>,
+    first: u64,
+    state: &SourceState<'a>,
+) -> Result<bool, AllocError> {
+    for tries in 0..TRIES {
+        let Some(place) = places.get(&first.wrapping_add(tries)) else {
+            return Ok(false);
+        };
+        let Some(kept) = states.get(*place) else {
+            return Ok(false);
+        };
+        if is_like(kept, state, alloc)? {
+            return Ok(true);
+        }
+    }
+    Ok(false)
+}
+
+// The first digest from this one on, of a few, of which no place is noted.
+fn free_key(places: &BTreeMap<u64, usize>, first: u64) -> Option<u64> {
+    for tries in 0..TRIES {
+        let key = first.wrapping_add(tries);
+        if !places.contains_key(&key) {
+            return Some(key);
+        }
+    }
+    None
+}
+
+impl<'a> Kept<'a> {
+    /// No states yet, and how many may be kept.
+    pub fn new(alloc: Global, most: usize) -> Kept<'a> {
+        Kept {
+            states: Vec::new(alloc),
+            ways: Vec::new(alloc),
+            places: BTreeMap::new(alloc),
+            most,
+        }
+    }
+
+    /// Keeps a state, unless one like it is kept; false, where no more can be kept.
+    pub fn keep(
+        &mut self,
+        alloc: Global,
+        checked: &'a Checked,
+        state: SourceState<'a>,
+        way: Way,
+    ) -> Result<bool, AllocError> {
+        let first = digest(alloc, checked.program(), &state)?;
+        if is_kept(alloc, self.states.as_slice(), &self.places, first, &state)? {
+            return Ok(true);
+        }
+        if self.states.len() >= self.most {
+            return Ok(false);
+        }
+        if let Some(key) = free_key(&self.places, first) {
+            let _none = self.places.insert(key, self.states.len())?;
+        }
+        self.ways.push(way)?;
+        self.states.push(state)?;
+        Ok(true)
+    }
+}

@@ -1,0 +1,16 @@
+//! A search over all runs of a source program: whether one gets stuck, and whether a process aborts in one.
+#![tactic(auto)]
+
+mod choices;
+mod digest;
+mod ends;
+mod kept;
+mod next;
+mod own;
+mod replay;
+mod runs;
+mod search;
+mod sets;
+mod states;
+
+pub use runs::{Exploration, explore};

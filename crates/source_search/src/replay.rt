@@ -1,0 +1,57 @@
+use crate::choices::choices;
+use crate::kept::Way;
+use program::Checked;
+use source_states::{Action, SourceState};
+use std::alloc::{AllocError, Global};
+
+// The ways that lead to a place, the last one first.
+fn ways_back(alloc: Global, ways: &[Way], place: usize) -> Result<Vec<Way>, AllocError> {
+    let mut back = Vec::new(alloc);
+    let mut at = place;
+    for _ in 0..ways.len() {
+        let Some(way) = ways.get(at) else {
+            break;
+        };
+        if at == 0 {
+            break;
+        }
+        back.push(*way)?;
+        at = way.before;
+    }
+    Ok(back)
+}
+
+// The action of a way.
+fn action_at<'a>(
+    alloc: Global,
+    checked: &'a Checked,
+    state: &SourceState<'a>,
+    way: Way,
+) -> Result<Option<Action>, AllocError> {
+    match choices(alloc, checked, state, way.process)? {
+        None => Ok(None),
+        Some(actions) => Ok(actions.into_iter().nth(way.choice)),
+    }
+}
+
+/// The actions that lead to the kept state at a place, by the ways that lead to each.
+pub(crate) fn actions_to(
+    alloc: Global,
+    checked: &Checked,
+    ways: &[Way],
+    place: usize,
+) -> Result<Vec<Action>, AllocError> {
+    let back = ways_back(alloc, ways, place)?;
+    let mut actions = Vec::new(alloc);
+    let mut state = SourceState::opening(alloc, checked)?;
+    for way in back.as_slice().iter().rev() {
+        let Some(action) = action_at(alloc, checked, &state, *way)? else {
+            return Ok(actions);
+        };
+        if !state.advance(alloc, checked.program(), &action)? {
+            return Ok(actions);
+        }
+        actions.push(action)?;
+    }
+    Ok(actions)
+}

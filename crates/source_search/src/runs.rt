@@ -1,0 +1,137 @@
+ghost use Rattle.std.specs.Prelude.{◌≡◌, IfOk, IfSome, true};
+ghost use Rattle.program.specs.Views.{program_of};
+ghost use Rattle.proof_exploration.specs.Exploring.{HasAborted, IsStuck};
+ghost use Rattle.source_search.specs.Found.{LeadsTo};
+
+use crate::ends::{has_aborted, is_stuck};
+use crate::kept::{Kept, Way};
+use crate::own::are_own;
+use crate::replay::actions_to;
+use crate::search::search;
+use program::Checked;
+use source_states::{Action, SourceState, accepts};
+use std::alloc::{AllocError, Global};
+
+/// What a search over all runs of a program found.
+#[derive(Drop)]
+pub struct Exploration {
+    /// How many states were kept.
+    pub states: usize,
+    /// Whether the search came to its end, so that all states were kept.
+    pub complete: bool,
+    /// A run at whose end no process can move and not all are over, where one was found.
+    pub stuck: Option<Vec<Action>>,
+    /// A run at whose end some process has aborted, where one was found.
+    pub aborted: Option<Vec<Action>>,
+}
+
+// Whether these are a run of actions of processes' own, at whose end no process can move and not all are over.
+fn is_stuck_run(alloc: Global, checked: &Checked, actions: &[Action]) -> Result<bool, AllocError>
+    ensures { IfOk result (λ is. is ≡ true → LeadsTo (program_of checked.now.tree)
+        (IsStuck (program_of checked.now.tree)) actions.now) }
+{
+    if !are_own(actions) {
+        return Ok(false);
+    }
+    let walked = accepts(alloc, checked, actions)?;
+    match walked {
+        None => Ok(false),
+        Some(state) => {
+            let stuck = is_stuck(alloc, checked, &state)?;
+            Ok(stuck)
+        }
+    }
+}
+
+// Whether these are a run of actions of processes' own, at whose end some process has aborted.
+fn is_aborted_run(alloc: Global, checked: &Checked, actions: &[Action]) -> Result<bool, AllocError>
+    ensures { IfOk result (λ is. is ≡ true
+        → LeadsTo (program_of checked.now.tree) HasAborted actions.now) }
+{
+    if !are_own(actions) {
+        return Ok(false);
+    }
+    let walked = accepts(alloc, checked, actions)?;
+    match walked {
+        None => Ok(false),
+        Some(state) => {
+            let aborted = has_aborted(alloc, &state)?;
+            Ok(aborted)
+        }
+    }
+}
+
+// A run to the kept state at this place, in which no process can move.
+fn stuck_run(
+    alloc: Global,
+    checked: &Checked,
+    ways: &[Way],
+    place: Option<usize>,
+) -> Result<Option<Vec<Action>>, AllocError>
+    ensures { IfOk result (λ o. IfSome o (λ v. LeadsTo (program_of checked.now.tree)
+        (IsStuck (program_of checked.now.tree)) v.items)) }
+{
+    let Some(place) = place else {
+        return Ok(None);
+    };
+    let actions = actions_to(alloc, checked, ways, place)?;
+    let listed = actions.as_slice();
+    if is_stuck_run(alloc, checked, listed)? {
+        return Ok(Some(actions));
+    }
+    Ok(None)
+}
+
+// A run to the kept state at this place, in which some process has aborted.
+fn aborted_run(
+    alloc: Global,
+    checked: &Checked,
+    ways: &[Way],
+    place: Option<usize>,
+) -> Result<Option<Vec<Action>>, AllocError>
+    ensures { IfOk result (λ o. IfSome o
+        (λ v. LeadsTo (program_of checked.now.tree) HasAborted v.items)) }
+{
+    let Some(place) = place else {
+        return Ok(None);
+    };
+    let actions = actions_to(alloc, checked, ways, place)?;
+    let listed = actions.as_slice();
+    if is_aborted_run(alloc, checked, listed)? {
+        return Ok(Some(actions));
+    }
+    Ok(None)
+}
+
+/// Searches all runs of actions of a program's own processes, breadth first, keeping at most so many states: for one
+/// that gets stuck, and for one in which a process aborts. What is found is such a run, and no shorter one was come
+/// to. That there is none where the search came to its end and none was found is tested, and not proved yet.
+pub fn explore(
+    alloc: Global,
+    checked: &Checked,
+    most_states: usize,
+) -> Result<Exploration, AllocError>
+    ensures stuck { IfOk result (λ e. IfSome e.stuck (λ v. LeadsTo (program_of checked.now.tree)
+        (IsStuck (program_of checked.now.tree)) v.items)) }
+    ensures aborted { IfOk result (λ e. IfSome e.aborted
+        (λ v. LeadsTo (program_of checked.now.tree) HasAborted v.items)) }
+{
+    let mut kept = Kept::new(alloc, most_states);
+    let opening = SourceState::opening(alloc, checked)?;
+    let way = Way {
+        before: 0,
+        process: 1,
+        choice: 0,
+    };
+    let _opens = kept.keep(alloc, checked, opening, way)?;
+    let findings = search(alloc, checked, &mut kept, most_states)?;
+    let ways = kept.ways.as_slice();
+    let stuck = stuck_run(alloc, checked, ways, findings.stuck)?;
+    let aborted = aborted_run(alloc, checked, ways, findings.aborted)?;
+    Ok(Exploration {
+        states: kept.states.len(),
+        complete: findings.complete,
+        stuck,
+        aborted,
+    })
+}

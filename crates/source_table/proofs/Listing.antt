@@ -1,0 +1,101 @@
+-- The processes that wait on a condition, listed one by one.
+use Rattle.std.proofs.Common.{◌≡◌, ◌↔◌, ◌⊎◌, ◌++◌, ◌<◌, ◌+◌, ℕ, zero, suc, List, [], ◌∷◌, Some, Contains, sym, ap, subst}
+use Rattle.std.proofs.Common.{inl, inr, length, arith, refl}
+use Rattle.std.proofs.lemmas.Cmp.{nat_cmp_total}
+use Rattle.std.proofs.lemmas.List.Elements.{Contains-append_cases, Contains-append_left, Contains-append_right}
+use Rattle.std.proofs.lemmas.Map.Lookups.{exact_unsigned}
+use Rattle.std.proofs.lemmas.Map.Views.{btree_map_get_iff}
+use Rattle.std.specs.Ordering.{nat_cmp}
+use Rattle.std.specs.BTreeMap.{BTreeMap, IsOrdered}
+use Rattle.program.specs.declared.kinds.Member.{Member}
+use Rattle.std.proofs.lemmas.Bool.Decides.{Decides-and, Decides-eqb, Decides-like}
+use Rattle.std.specs.Bool.{Decides}
+use Rattle.program.specs.contracts.kinds.MemberPartialEq as member
+use Rattle.source_table.specs.Tables.{waits_in}
+
+same_parts : (a b : Member) → (a.monitor ≡ b.monitor) × (a.number ≡ b.number) → a ≡ b
+same_parts a b h = λ i. record { monitor = h.0 i; number = h.1 i }
+
+pub decides_member : (a b : Member) → Decides (member.TheImpl.ghosts.eq a b) (a ≡ b)
+decides_member a b =
+    Decides-like _ (same_parts a b) (λ e. (ap (λ (m : Member). m.monitor) e, ap (λ (m : Member). m.number) e))
+    (Decides-and _ _ (Decides-eqb a.monitor b.monitor) (Decides-eqb a.number b.number))
+
+-- those found and those among these entries are all that wait on the condition
+pub record IsListed (m : BTreeMap ℕ Member) (c : Member) (found : List ℕ) (es : List (ℕ × Member)) : Type 0 where
+  pub found_wait : (q : ℕ) → Contains found q → waits_in m q ≡ Some c
+  pub left_wait : (q : ℕ) → Contains es (q, c) → waits_in m q ≡ Some c
+  pub all : (q : ℕ) → waits_in m q ≡ Some c → Contains found q ⊎ Contains es (q, c)
+
+-- the entry is the one with this key, at the condition
+abbrev IsEntry : ℕ → Member → ℕ → Member → Type 0
+IsEntry p w q c = ◌≡◌ {A = ℕ × Member} (p, w) (q, c)
+
+none : {X : Type 0} (q : X) → Contains [] q → ⊥
+none q (k, l, e) = omega (arith, l)
+
+pub listed-all : (m : BTreeMap ℕ Member) (c : Member) (found : List ℕ) → IsOrdered nat_cmp m → found ≡ []
+    → IsListed m c found m.entries
+listed-all m c found o empty = record {
+  found_wait = λ q h. absurd (none q (subst (λ xs. Contains xs q) empty h));
+  left_wait = λ q. (btree_map_get_iff nat_cmp_total exact_unsigned m o q c).1;
+  all = λ q w. inr ((btree_map_get_iff nat_cmp_total exact_unsigned m o q c).0 w);
+}
+
+module _ (m : BTreeMap ℕ Member) (c w : Member) (found : List ℕ) (p : ℕ) (es later : List (ℕ × Member))
+    (is : IsListed m c found es) (split : es ≡ (p, w) ∷ later) where
+  later_waits : (q : ℕ) → Contains later (q, c) → waits_in m q ≡ Some c
+  later_waits q (k, l, e) =
+      is.left_wait q (subst (λ xs. Contains xs (q, c)) (sym split) (suc k, omega (arith, l), e))
+
+  first_or : (q : ℕ) → Contains ((p, w) ∷ later) (q, c) → IsEntry p w q c ⊎ Contains later (q, c)
+  first_or q (zero, l, e) = inl e
+  first_or q (suc k, l, e) = inr (k, omega (arith, l), e)
+
+  one : w ≡ c → (q : ℕ) → Contains found q ⊎ Contains (p ∷ []) q → waits_in m q ≡ Some c
+  one same q (inl h) = is.found_wait q h
+  one same q (inr (zero, l, e)) =
+      subst (λ r. waits_in m r ≡ Some c) e
+      (is.left_wait p (subst (λ xs. Contains xs (p, c)) (sym split) (0, omega arith, λ i. (p, same i))))
+  one same q (inr (suc k, l, e)) = absurd (omega (arith, l))
+
+  still : (q : ℕ) → Contains found q ⊎ (IsEntry p w q c ⊎ Contains later (q, c))
+      → Contains (found ++ p ∷ []) q ⊎ Contains later (q, c)
+  still q (inl h) = inl (Contains-append_left found (p ∷ []) q h)
+  still q (inr (inl e)) = inl (Contains-append_right found (p ∷ []) q (0, omega arith, ap (λ x. x.0) e))
+  still q (inr (inr h)) = inr h
+
+  passed : (w ≡ c → ⊥) → (q : ℕ) → Contains found q ⊎ (IsEntry p w q c ⊎ Contains later (q, c))
+      → Contains found q ⊎ Contains later (q, c)
+  passed other q (inl h) = inl h
+  passed other q (inr (inl e)) = absurd (other (ap (λ x. x.1) e))
+  passed other q (inr (inr h)) = inr h
+
+  split_at : (q : ℕ) → Contains found q ⊎ Contains es (q, c)
+      → Contains found q ⊎ (IsEntry p w q c ⊎ Contains later (q, c))
+  split_at q (inl h) = inl h
+  split_at q (inr h) = inr (first_or q (subst (λ xs. Contains xs (q, c)) split h))
+
+  pub listed-one : w ≡ c → (more : List ℕ) → more ≡ found ++ p ∷ [] → IsListed m c more later
+  listed-one same more is_more =
+      subst (λ xs. IsListed m c xs later) (sym is_more)
+      (record {
+        found_wait = λ q h. one same q (Contains-append_cases found (p ∷ []) q h);
+        left_wait = later_waits;
+        all = λ q waits. still q (split_at q (is.all q waits));
+      })
+
+  pub listed-other : (w ≡ c → ⊥) → IsListed m c found later
+  listed-other other = record {
+    found_wait = is.found_wait;
+    left_wait = later_waits;
+    all = λ q waits. passed other q (split_at q (is.all q waits));
+  }
+
+pub listed-end : (m : BTreeMap ℕ Member) (c : Member) (found : List ℕ) (es : List (ℕ × Member)) → IsListed m c found es
+    → es ≡ [] → (q : ℕ) → Contains found q ↔ (waits_in m q ≡ Some c)
+listed-end m c found es is empty q = (is.found_wait q, λ waits. only (is.all q waits))
+  where
+    only : Contains found q ⊎ Contains es (q, c) → Contains found q
+    only (inl h) = h
+    only (inr h) = absurd (none (q, c) (subst (λ xs. Contains xs (q, c)) empty h))
