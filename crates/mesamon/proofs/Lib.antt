@@ -1,4 +1,5 @@
 pub mod RunsExplained
 mod Endings
+mod Failing
 mod Lines
 mod Replays

@@ -1,6 +1,8 @@
-use Rattle.std.proofs.Common.{◌<◌, ◌^◌, arith}
+use Rattle.std.proofs.Common.{◌<◌, ◌^◌, arith, subst, sym}
 use Rattle.program.specs.Names.{said_by}
 use Rattle.mesamon.proofs.RunsExplained.{of_code, run_explained}
+use Rattle.mesamon.specs.Explaining.{IsWantOfMemory}
+use Rattle.mesamon.proofs.Failing.{passed}
 use Rattle.mesamon.proofs.explained_run.explain_source.Goals as goal
 
 pub returns-clause-explained : goal.returns-clause-explained
@@ -15,3 +17,8 @@ returns-clause-explained c =
       explained = of_code (said_by c.in_ok-checked.checked) c.in_ok-checked.lowered.image _ _ _ read.code.image
           c.as_slice.ensures.value c.in_ok-actions.ensures;
     }
+
+pub returns-in_err-actions-clause-only : goal.returns-in_err-actions-clause-only
+returns-in_err-actions-clause-only c p accepts fits =
+    passed c.from_residual-in_err-actions.result c.in_err-actions.field-0.0 IsWantOfMemory
+    c.from_residual-in_err-actions.ensures (subst IsWantOfMemory (sym c.in_err-actions.ensures) tt)
