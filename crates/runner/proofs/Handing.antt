@@ -51,6 +51,28 @@ step_there p k t o here awake stands =
     ∙ ap (λ made. on_machine there t (thread_step made t k.common (look p t here)))
     (length-set k.threads (t - 1) here)
 
+-- before a local step it comes in as a turn
+turn_by : (there : ConcreteState) (r : Result (ConcreteState × Event) StepFault) (o : Option Thread) → true ≡ is_some o
+    → entry_end_by there r o ≡ Ok (there, None)
+turn_by there r (Some x) h = refl
+turn_by there r None h = absurd cc
+
+pub turn_end : (p : Program) (k : ConcreteState) (t : ℕ) (here : Thread) → true ≡ is_some (local_step p t here)
+    → entry_end p k t here ≡ Ok (put_thread k t here, None)
+turn_end p k t here h = turn_by (put_thread k t here) (step_of p (put_thread k t here) t) (local_step p t here) h
+
+-- and else with its step
+step_by : (there : ConcreteState) (r : Result (ConcreteState × Event) StepFault) (k : ConcreteState) (e : Event)
+    (o : Option Thread) → false ≡ is_some o → r ≡ Ok (k, e) → entry_end_by there r o ≡ Ok (k, Some e)
+step_by there r k e (Some x) h is = absurd cc
+step_by there r k e None h is = ap (λ y. entry_end_by there y None) is
+
+pub step_end : (p : Program) (k : ConcreteState) (t : ℕ) (here : Thread) (k' : ConcreteState) (e : Event)
+    → false ≡ is_some (local_step p t here) → step_of p (put_thread k t here) t ≡ Ok (k', e)
+    → entry_end p k t here ≡ Ok (k', Some e)
+step_end p k t here k' e h is =
+    step_by (put_thread k t here) (step_of p (put_thread k t here) t) k' e (local_step p t here) h is
+
 fine_by : (there : ConcreteState) (t : ℕ) (r : Result Stepped StepFault) (ls : Option Thread) → None ≡ fault_of r
     → (concrete : ConcreteState) × (event : Option Event)
     × (entry_end_by there (on_machine there t r) ls ≡ Ok (concrete, event))
