@@ -1,10 +1,8 @@
 -- States in which no process can move, or some process has aborted, by the numbers of their processes.
-use Rattle.std.proofs.Common.{◌≡◌, ◌↔◌, ℕ, Bool, true, false, MatchBool, List, Option, Some, All, Contains, ap}
+use Rattle.std.proofs.Common.{◌↔◌, ℕ, Bool, true, false, MatchBool, List, All, Contains, ap}
 use Rattle.std.specs.Prelude.{IsSome, is_some}
 use Rattle.std.proofs.lemmas.List.Elements.{All-contains}
 use Rattle.program.specs.Trees.{Program}
-use Rattle.meaning.specs.Labels.{Aborted}
-use Rattle.meaning.specs.Processes.{Over}
 use Rattle.meaning.specs.Runs.{CanMove}
 use Rattle.meaning.specs.States.{SourceState}
 use Rattle.proof_exploration.specs.Exploring.{HasAborted, IsStuck}

@@ -1,5 +1,5 @@
 -- How far a search has come, and what it knows at its end.
-use Rattle.std.proofs.Common.{◌≡◌, ◌<◌, ◌≤◌, ◌+◌, ℕ, zero, List, [], ◌∷◌, ◌++◌, length, get_or, take, All, Contains}
+use Rattle.std.proofs.Common.{◌≡◌, ◌<◌, ◌≤◌, ◌+◌, ℕ, zero, List, [], length, get_or, take, All}
 use Rattle.std.proofs.Common.{Option, Some, None, slice_get, sym, ap, ◌∙◌, subst, arith, ltb, false}
 use Rattle.std.proofs.lemmas.Bool.Decides.{nat_tests}
 use Rattle.std.specs.Prelude.{option_map}
@@ -9,7 +9,7 @@ use Rattle.std.proofs.lemmas.Option.{get_or_from_slice_get, slice_get-map, slice
 use Rattle.program.specs.Trees.{Program}
 use Rattle.program.specs.WellFormed.{WellFormed}
 use Rattle.meaning.specs.States.{SourceState, opening}
-use Rattle.proof_exploration.specs.Exploring.{HasAborted, IsLike, IsStuck}
+use Rattle.proof_exploration.specs.Exploring.{HasAborted, IsStuck}
 use Rattle.proof_exploration.specs.Searching.{IsComplete, IsKept}
 use Rattle.proof_exploration.proofs.Alike.{like_aborted, like_stuck}
 use Rattle.proof_exploration.proofs.Representing.{own_leads}

@@ -1,5 +1,5 @@
 -- Actions that are tried in place of all that take up an offer.
-use Rattle.std.proofs.Common.{◌≡◌, ◌⊎◌, ◌<◌, ◌≤◌, ◌+◌, ◌↔◌, ℕ, Bool, true, false, List, [], ◌∷◌, Option, Some, None, Contains}
+use Rattle.std.proofs.Common.{◌≡◌, ◌<◌, ◌≤◌, ◌+◌, ◌↔◌, ℕ, true, false, List, [], ◌∷◌, Option, Some, None, Contains}
 use Rattle.std.proofs.Common.{refl, sym, ap, ◌∙◌, subst, arith, map, inl, inr, filter}
 use Rattle.std.proofs.lemmas.Option.{IfSome_then}
 use Rattle.std.proofs.lemmas.Result.{IfOk-weaker}
@@ -11,12 +11,11 @@ use Rattle.program.specs.declared.kinds.Member.{Member}
 use Rattle.program.specs.Trees.{Program}
 use Rattle.meaning.specs.Labels.{Action, End, Kind, Fork, Claim, Join, Fails, Enter, Resume, Notify, Broadcast, Label}
 use Rattle.meaning.specs.Labels.{Forks, FindsFull, Claims, FindsClaimed, Enters, Resumes, Notifies, Broadcasts, kind_of}
-use Rattle.meaning.specs.Offers.{Effect, Nothing, Makes, Offer, Rests, Does, Takes, MakesOne, ClaimsOne, JoinsOne}
+use Rattle.meaning.specs.Offers.{Effect, Offer, Does, Takes, MakesOne, ClaimsOne, JoinsOne}
 use Rattle.meaning.specs.Offers.{NotifiesSome, NotifiesAll, TakesUp, offer}
 use Rattle.meaning.specs.Processes.{Process}
-use Rattle.meaning.specs.Runs.{IsAction}
 use Rattle.meaning.specs.States.{SourceState}
-use Rattle.meaning.specs.Table.{Table, Allows, without_waiters}
+use Rattle.meaning.specs.Table.{Table, Allows}
 use Rattle.proof_exploration.specs.Exploring.{SameMembers}
 use Rattle.proof_exploration.proofs.Resuming.{without_same}
 use Rattle.source_states.specs.Actions.{action_of}

@@ -1,5 +1,5 @@
 -- The states that a search keeps, and where it has come to its end.
-use Rattle.std.specs.Prelude.{ℕ, ◌≡◌, ◌++◌, All, List, Contains, Option, None, Some, map, take}
+use Rattle.std.specs.Prelude.{ℕ, ◌≡◌, ◌++◌, All, List, Option, None, map}
 use Rattle.program.specs.Trees.{Program}
 use Rattle.meaning.specs.Labels.{Action, Kind}
 use Rattle.meaning.specs.Runs.{IsAction}

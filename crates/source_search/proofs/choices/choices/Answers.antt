@@ -7,7 +7,7 @@ use Rattle.meaning.specs.Offers.{offer}
 use Rattle.source_offers.specs.NextAction.{offer_of}
 use Rattle.source_states.specs.Actions.{action_of}
 use Rattle.source_states.specs.States.{state_of}
-use Rattle.source_search.proofs.Tried.{absent_choices, are_choices}
+use Rattle.source_search.proofs.Tried.{are_choices}
 use Rattle.source_search.proofs.choices.choices.Goals as goal
 
 pub returns : goal.returns

@@ -4,7 +4,7 @@ use Rattle.meaning.specs.Labels.{Action, Claim, Fails}
 use Rattle.meaning.specs.Offers.{ClaimsOne}
 use Rattle.meaning.specs.Processes.{Process}
 use Rattle.source_states.specs.States.{state_of}
-use Rattle.source_search.specs.Choices.{AllTakeUp, by}
+use Rattle.source_search.specs.Choices.{AllTakeUp}
 use Rattle.source_search.proofs.Tried.{all_tried, claims_named, one_tried, refused_named}
 use Rattle.source_search.proofs.choices.claims.Goals as goal
 

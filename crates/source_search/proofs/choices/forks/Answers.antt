@@ -5,7 +5,7 @@ use Rattle.meaning.specs.Labels.{Action, Fails, Fork}
 use Rattle.meaning.specs.Offers.{MakesOne}
 use Rattle.meaning.specs.Processes.{Process}
 use Rattle.source_states.specs.States.{state_of}
-use Rattle.source_search.specs.Choices.{AllTakeUp, by}
+use Rattle.source_search.specs.Choices.{AllTakeUp}
 use Rattle.source_search.proofs.Tried.{all_tried, full_named, makes_named, one_tried}
 use Rattle.source_search.proofs.choices.forks.Goals as goal
 

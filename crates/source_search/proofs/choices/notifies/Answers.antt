@@ -1,4 +1,4 @@
-use Rattle.std.proofs.Common.{◌≡◌, ◌∙◌, ◌↔◌, ℕ, Contains, List, Some, ap, map, subst}
+use Rattle.std.proofs.Common.{◌≡◌, ◌∙◌, ◌↔◌, ℕ, Contains, Some, ap, map, subst}
 use Rattle.meaning.specs.Labels.{Notify}
 use Rattle.meaning.specs.Table.{Table}
 use Rattle.source_states.specs.Actions.{action_of}

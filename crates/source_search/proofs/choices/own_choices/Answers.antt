@@ -1,4 +1,4 @@
-use Rattle.std.proofs.Common.{◌∙◌, ◌∷◌, [], List, ap, map}
+use Rattle.std.proofs.Common.{◌∙◌, ◌∷◌, [], List, ap}
 use Rattle.std.proofs.lemmas.Option.{IfSome_then}
 use Rattle.std.proofs.lemmas.Result.{IfOk-weaker}
 use Rattle.meaning.specs.Labels.{Action, kind_of as name_of}

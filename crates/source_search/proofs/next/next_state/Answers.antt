@@ -1,4 +1,4 @@
-use Rattle.std.proofs.Common.{ap, subst}
+use Rattle.std.proofs.Common.{subst}
 use Rattle.program.specs.Views.{program_of}
 use Rattle.meaning.specs.Runs.{IsStep}
 use Rattle.meaning.specs.States.{SourceState}

@@ -1,6 +1,5 @@
 use Rattle.std.proofs.Common.{◌∙◌, ◌++◌, ◌∷◌, [], ap}
-use Rattle.source_search.specs.Kept.{states_in}
-use Rattle.source_search.proofs.Keeping.{kept_last, longer_none, longer_one}
+use Rattle.source_search.proofs.Keeping.{kept_last, longer_one}
 use Rattle.source_search.proofs.kept.Kept.keep.Goals as goal
 
 pub returns-clause-longer : goal.returns-clause-longer
