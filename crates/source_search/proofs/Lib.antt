@@ -1,0 +1,6 @@
+pub mod Subsets
+pub mod Tried
+pub mod Successors
+pub mod Endings
+pub mod Keeping
+pub mod Searched

@@ -1,10 +1,11 @@
-ghost use Rattle.std.specs.Prelude.{◌≡◌, Contains, IfOk, MatchBool, Some, true, ℕ};
+ghost use Rattle.std.specs.Prelude.{◌≡◌, All, Contains, IfOk, MatchBool, Some, true, ℕ};
 ghost use Rattle.program.specs.Views.{program_of};
 ghost use Rattle.meaning.specs.Labels.{Aborted, Cause as CauseIn};
-ghost use Rattle.meaning.specs.Processes.{Over, Process as ProcessIn};
+ghost use Rattle.meaning.specs.Processes.{Over};
 ghost use Rattle.source_offers.specs.Stages.{process_of};
 ghost use Rattle.source_states.specs.States.{state_of};
 ghost use Rattle.proof_exploration.specs.Exploring.{HasAborted, IsOver, IsStuck};
+ghost use Rattle.source_search.specs.Found.{AbortedAt, GoesOn};
 
 use program::Checked;
 use source_offers::{End, Process, Stage};
@@ -22,8 +23,9 @@ fn is_over(process: &Process) -> bool
 
 // Whether a process has aborted.
 fn is_aborted(process: &Process) -> bool
-    ensures { result ≡ true
-        → (cause : CauseIn) × (process_of process.now ≡ Over (Aborted cause)) }
+    ensures { MatchBool result
+        ((cause : CauseIn) × (process_of process.now ≡ Over (Aborted cause)))
+        ((cause : CauseIn) → process_of process.now ≡ Over (Aborted cause) → ⊥) }
 {
     match &process.stage {
         Stage::Over(end) => match end {
@@ -36,8 +38,8 @@ fn is_aborted(process: &Process) -> bool
 
 // Whether there is such a process, and it isn't over.
 fn goes_on_at(state: &SourceState, number: u64) -> bool
-    ensures { result ≡ true → (at : ProcessIn)
-        × ((state_of state.now).process number ≡ Some at) × (IsOver at → ⊥) }
+    ensures { MatchBool result (GoesOn (state_of state.now) number)
+        (GoesOn (state_of state.now) number → ⊥) }
 {
     match state.process(number) {
         None => false,
@@ -47,8 +49,8 @@ fn goes_on_at(state: &SourceState, number: u64) -> bool
 
 // Whether there is such a process, and it has aborted.
 fn has_aborted_at(state: &SourceState, number: u64) -> bool
-    ensures { result ≡ true → (cause : CauseIn)
-        × ((state_of state.now).process number ≡ Some (Over (Aborted cause))) }
+    ensures { MatchBool result (AbortedAt (state_of state.now) number)
+        (AbortedAt (state_of state.now) number → ⊥) }
 {
     match state.process(number) {
         None => false,
@@ -58,8 +60,8 @@ fn has_aborted_at(state: &SourceState, number: u64) -> bool
 
 // Whether one of these processes isn't over.
 fn goes_on(state: &SourceState, numbers: &[u64]) -> bool
-    ensures { result ≡ true → (q : ℕ) × (at : ProcessIn)
-        × ((state_of state.now).process q ≡ Some at) × (IsOver at → ⊥) }
+    ensures { MatchBool result ((q : ℕ) × GoesOn (state_of state.now) q)
+        (All (λ q. GoesOn (state_of state.now) q → ⊥) numbers.now) }
 {
     for number in numbers {
         if goes_on_at(state, *number) {
@@ -71,7 +73,8 @@ fn goes_on(state: &SourceState, numbers: &[u64]) -> bool
 
 // Whether one of these processes has aborted.
 fn some_aborted(state: &SourceState, numbers: &[u64]) -> bool
-    ensures { result ≡ true → HasAborted (state_of state.now) }
+    ensures { MatchBool result ((q : ℕ) × AbortedAt (state_of state.now) q)
+        (All (λ q. AbortedAt (state_of state.now) q → ⊥) numbers.now) }
 {
     for number in numbers {
         if has_aborted_at(state, *number) {
@@ -87,8 +90,9 @@ pub(crate) fn is_stuck(
     checked: &Checked,
     state: &SourceState,
 ) -> Result<bool, AllocError>
-    ensures { IfOk result (λ stuck. stuck ≡ true
-        → IsStuck (program_of checked.now.tree) (state_of state.now)) }
+    ensures { IfOk result (λ stuck. MatchBool stuck
+        (IsStuck (program_of checked.now.tree) (state_of state.now))
+        (IsStuck (program_of checked.now.tree) (state_of state.now) → ⊥)) }
 {
     let able = movers(alloc, checked, state)?;
     let moving = able.as_slice();
@@ -102,7 +106,8 @@ pub(crate) fn is_stuck(
 
 /// Whether some process has aborted.
 pub(crate) fn has_aborted(alloc: Global, state: &SourceState) -> Result<bool, AllocError>
-    ensures { IfOk result (λ aborted. aborted ≡ true → HasAborted (state_of state.now)) }
+    ensures { IfOk result (λ aborted. MatchBool aborted (HasAborted (state_of state.now))
+        (HasAborted (state_of state.now) → ⊥)) }
 {
     let all = state.numbers(alloc)?;
     let aborted = some_aborted(state, all.as_slice());

@@ -1,3 +1,8 @@
+ghost use Rattle.std.specs.Prelude.{◌≡◌, IfOk, OnOk, true};
+ghost use Rattle.proof_exploration.specs.Searching.{IsKept as IsKeptIn};
+ghost use Rattle.source_states.specs.States.{state_of};
+ghost use Rattle.source_search.specs.Kept.{states_in};
+
 use crate::digest::digest;
 use crate::states::is_like;
 use program::Checked;
@@ -39,7 +44,10 @@ pub(crate) fn is_kept<'a>(
     places: &BTreeMap<u64, usize>,
     first: u64,
     state: &SourceState<'a>,
-) -> Result<bool, AllocError> {
+) -> Result<bool, AllocError>
+    ensures { IfOk result (λ kept. kept ≡ true
+        → IsKeptIn (states_in states.now) (state_of state.now)) }
+{
     for tries in 0..TRIES {
         let Some(place) = places.get(&first.wrapping_add(tries)) else {
             return Ok(false);
@@ -66,6 +74,9 @@ fn free_key(places: &BTreeMap<u64, usize>, first: u64) -> Option<u64> {
 }
 
 impl<'a> Kept<'a> {
+    ghost use Rattle.source_states.specs.States.{state_of};
+    ghost use Rattle.source_search.specs.Kept.{IsLonger, states_in};
+
     /// No states yet, and how many may be kept.
     pub fn new(alloc: Global, most: usize) -> Kept<'a> {
         Kept {
@@ -76,6 +87,16 @@ impl<'a> Kept<'a> {
         }
     }
 
+    // Notes the place of the next state, by the first digest from this one on that is free.
+    fn note(&mut self, first: u64) -> Result<(), AllocError>
+        ensures { OnOk result (self.new.states.items ≡ self.old.states.items) }
+    {
+        if let Some(key) = free_key(&self.places, first) {
+            let _none = self.places.insert(key, self.states.len())?;
+        }
+        Ok(())
+    }
+
     /// Keeps a state, unless one like it is kept; false, where no more can be kept.
     pub fn keep(
         &mut self,
@@ -83,7 +104,12 @@ impl<'a> Kept<'a> {
         checked: &'a Checked,
         state: SourceState<'a>,
         way: Way,
-    ) -> Result<bool, AllocError> {
+    ) -> Result<bool, AllocError>
+        ensures longer { OnOk result
+            (IsLonger (states_in self.old.states.items) (states_in self.new.states.items)) }
+        ensures kept { IfOk result (λ kept. kept ≡ true
+            → IsKeptIn (states_in self.new.states.items) (state_of state.entry)) }
+    {
         let first = digest(alloc, checked.program(), &state)?;
         if is_kept(alloc, self.states.as_slice(), &self.places, first, &state)? {
             return Ok(true);
@@ -91,9 +117,7 @@ impl<'a> Kept<'a> {
         if self.states.len() >= self.most {
             return Ok(false);
         }
-        if let Some(key) = free_key(&self.places, first) {
-            let _none = self.places.insert(key, self.states.len())?;
-        }
+        self.note(first)?;
         self.ways.push(way)?;
         self.states.push(state)?;
         Ok(true)

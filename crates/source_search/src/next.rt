@@ -1,14 +1,30 @@
+ghost use Rattle.std.specs.Prelude.{IfOk, MatchOption};
+ghost use Rattle.program.specs.Views.{program_of};
+ghost use Rattle.meaning.specs.Runs.{IsAction};
+ghost use Rattle.meaning.specs.States.{SourceState as SourceStateOf};
+ghost use Rattle.proof_exploration.specs.Exploring.{IsLike};
+ghost use Rattle.source_states.specs.Actions.{action_of};
+ghost use Rattle.source_states.specs.States.{state_of};
+
 use program::Checked;
 use source_states::{Action, SourceState};
 use std::alloc::{AllocError, Global};
 
-/// The state to which an action leads, but for what was printed before; None where the action isn't possible.
+/// The state to which an action of a process's own leads, but for what was printed before; None where the action isn't
+/// possible.
 pub(crate) fn next_state<'a>(
     alloc: Global,
     checked: &'a Checked,
     state: &SourceState<'a>,
     action: &Action,
-) -> Result<Option<SourceState<'a>>, AllocError> {
+) -> Result<Option<SourceState<'a>>, AllocError>
+    ensures { IfOk result (λ o. MatchOption o
+        ((s : SourceStateOf)
+        → IsAction (program_of checked.now.tree) (state_of state.now) (action_of action.now) s → ⊥)
+        (λ next. (s : SourceStateOf)
+        → IsAction (program_of checked.now.tree) (state_of state.now) (action_of action.now) s
+        → IsLike (state_of next) s)) }
+{
     let mut next = state.copy(alloc)?;
     if !next.advance(alloc, checked.program(), action)? {
         return Ok(None);

@@ -1,13 +1,13 @@
-ghost use Rattle.std.specs.Prelude.{◌≡◌, IfOk, IfSome, true};
+ghost use Rattle.std.specs.Prelude.{◌≡◌, IfOk, IfSome, None, true};
 ghost use Rattle.program.specs.Views.{program_of};
 ghost use Rattle.proof_exploration.specs.Exploring.{HasAborted, IsStuck};
-ghost use Rattle.source_search.specs.Found.{LeadsTo};
+ghost use Rattle.source_search.specs.Found.{LeadsNowhere, LeadsTo};
 
 use crate::ends::{has_aborted, is_stuck};
 use crate::kept::{Kept, Way};
 use crate::own::are_own;
 use crate::replay::actions_to;
-use crate::search::search;
+use crate::search::{Findings, search};
 use program::Checked;
 use source_states::{Action, SourceState, accepts};
 use std::alloc::{AllocError, Global};
@@ -17,7 +17,7 @@ use std::alloc::{AllocError, Global};
 pub struct Exploration {
     /// How many states were kept.
     pub states: usize,
-    /// Whether the search came to its end, so that all states were kept.
+    /// Whether the search came to its end, so that all states were kept, and what was found is told.
     pub complete: bool,
     /// A run at whose end no process can move and not all are over, where one was found.
     pub stuck: Option<Vec<Action>>,
@@ -103,9 +103,34 @@ fn aborted_run(
     Ok(None)
 }
 
+// Whether what was found is told, where anything was.
+fn is_told(place: Option<usize>, run: &Option<Vec<Action>>) -> bool
+    ensures { result ≡ true → run.now ≡ None → place ≡ None }
+{
+    place.is_none() || run.is_some()
+}
+
+// Whether the search came to its end, and what it found is told.
+fn is_complete(
+    opens: bool,
+    findings: &Findings,
+    stuck: &Option<Vec<Action>>,
+    aborted: &Option<Vec<Action>>,
+) -> bool
+    ensures opens { result ≡ true → opens ≡ true }
+    ensures complete { result ≡ true → findings.now.complete ≡ true }
+    ensures stuck { result ≡ true → stuck.now ≡ None → findings.now.stuck ≡ None }
+    ensures aborted { result ≡ true → aborted.now ≡ None → findings.now.aborted ≡ None }
+{
+    opens
+        && findings.complete
+        && is_told(findings.stuck, stuck)
+        && is_told(findings.aborted, aborted)
+}
+
 /// Searches all runs of actions of a program's own processes, breadth first, keeping at most so many states: for one
 /// that gets stuck, and for one in which a process aborts. What is found is such a run, and no shorter one was come
-/// to. That there is none where the search came to its end and none was found is tested, and not proved yet.
+/// to. Where the search came to its end and none was found, there is none.
 pub fn explore(
     alloc: Global,
     checked: &Checked,
@@ -115,7 +140,12 @@ pub fn explore(
         (IsStuck (program_of checked.now.tree)) v.items)) }
     ensures aborted { IfOk result (λ e. IfSome e.aborted
         (λ v. LeadsTo (program_of checked.now.tree) HasAborted v.items)) }
+    ensures never_stuck { IfOk result (λ e. e.complete ≡ true → e.stuck ≡ None
+        → LeadsNowhere (program_of checked.now.tree) (IsStuck (program_of checked.now.tree))) }
+    ensures never_aborted { IfOk result (λ e. e.complete ≡ true → e.aborted ≡ None
+        → LeadsNowhere (program_of checked.now.tree) HasAborted) }
 {
+    let _program = checked.program();
     let mut kept = Kept::new(alloc, most_states);
     let opening = SourceState::opening(alloc, checked)?;
     let way = Way {
@@ -123,14 +153,15 @@ pub fn explore(
         process: 1,
         choice: 0,
     };
-    let _opens = kept.keep(alloc, checked, opening, way)?;
+    let opens = kept.keep(alloc, checked, opening, way)?;
     let findings = search(alloc, checked, &mut kept, most_states)?;
     let ways = kept.ways.as_slice();
     let stuck = stuck_run(alloc, checked, ways, findings.stuck)?;
     let aborted = aborted_run(alloc, checked, ways, findings.aborted)?;
+    let complete = is_complete(opens, &findings, &stuck, &aborted);
     Ok(Exploration {
         states: kept.states.len(),
-        complete: findings.complete,
+        complete,
         stuck,
         aborted,
     })

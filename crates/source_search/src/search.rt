@@ -1,9 +1,16 @@
+ghost use Rattle.std.specs.Prelude.{◌≡◌, All, IfOk, None, OnOk, length, true};
+ghost use Rattle.program.specs.Views.{program_of};
+ghost use Rattle.proof_exploration.specs.Exploring.{HasAborted, IsStuck};
+ghost use Rattle.source_states.specs.Actions.{action_of};
+ghost use Rattle.source_states.specs.States.{state_of};
+ghost use Rattle.source_search.specs.Kept.{IsExpanded, IsLonger, NoneIs, states_in};
+
 use crate::choices::choices;
 use crate::ends::{has_aborted, is_stuck};
 use crate::kept::{Kept, Way};
 use crate::next::next_state;
 use program::Checked;
-use source_states::SourceState;
+use source_states::{Action, SourceState};
 use std::alloc::{AllocError, Global};
 
 /// Where the ends that are looked for were found first, and whether all that may come next was kept.
@@ -25,7 +32,13 @@ impl Findings {
         checked: &Checked,
         state: &SourceState,
         place: usize,
-    ) -> Result<(), AllocError> {
+    ) -> Result<(), AllocError>
+        ensures complete { OnOk result (self.new.complete ≡ self.old.complete) }
+        ensures stuck { OnOk result (self.new.stuck ≡ None → (self.old.stuck ≡ None)
+            × (IsStuck (program_of checked.now.tree) (state_of state.now) → ⊥)) }
+        ensures aborted { OnOk result (self.new.aborted ≡ None → (self.old.aborted ≡ None)
+            × (HasAborted (state_of state.now) → ⊥)) }
+    {
         if self.stuck.is_none() && is_stuck(alloc, checked, state)? {
             self.stuck = Some(place);
         }
@@ -37,6 +50,63 @@ impl Findings {
 }
 
 impl<'a> Kept<'a> {
+    ghost use Rattle.meaning.specs.Labels.{Action as ActionIn};
+    ghost use Rattle.std.specs.Prelude.{Contains, map};
+    ghost use Rattle.source_states.specs.Actions.{action_of};
+    ghost use Rattle.source_states.specs.States.{state_of};
+    ghost use Rattle.source_search.specs.Kept.{IsExpanded, IsFollowed, IsLonger, LeadsToKept, states_in};
+
+    // Keeps the state to which an action leads, where it is possible; false where no more can be kept.
+    fn take(
+        &mut self,
+        alloc: Global,
+        checked: &'a Checked,
+        state: &SourceState<'a>,
+        action: &Action,
+        way: Way,
+    ) -> Result<bool, AllocError>
+        ensures longer { OnOk result
+            (IsLonger (states_in self.old.states.items) (states_in self.new.states.items)) }
+        ensures kept { IfOk result (λ kept. kept ≡ true
+            → LeadsToKept (program_of checked.now.tree) (states_in self.new.states.items)
+            (state_of state.now) (action_of action.now)) }
+    {
+        let found = next_state(alloc, checked, state, action)?;
+        match found {
+            None => Ok(true),
+            Some(next) => self.keep(alloc, checked, next, way),
+        }
+    }
+
+    // Keeps the states to which these actions lead, those that are possible; false where no more can be kept.
+    fn take_all(
+        &mut self,
+        alloc: Global,
+        checked: &'a Checked,
+        state: &SourceState<'a>,
+        before: usize,
+        process: u64,
+        actions: &[Action],
+    ) -> Result<bool, AllocError>
+        ensures longer { OnOk result
+            (IsLonger (states_in self.old.states.items) (states_in self.new.states.items)) }
+        ensures kept { IfOk result (λ kept. kept ≡ true
+            → All (LeadsToKept (program_of checked.now.tree) (states_in self.new.states.items)
+            (state_of state.now)) (map action_of actions.now)) }
+    {
+        for choice in 0..actions.len() {
+            let way = Way {
+                before,
+                process,
+                choice,
+            };
+            if !self.take(alloc, checked, state, &actions[choice], way)? {
+                return Ok(false);
+            }
+        }
+        Ok(true)
+    }
+
     // Keeps the states to which the actions of a process lead; false where no more can be kept.
     fn follow(
         &mut self,
@@ -45,23 +115,19 @@ impl<'a> Kept<'a> {
         state: &SourceState<'a>,
         before: usize,
         process: u64,
-    ) -> Result<bool, AllocError> {
+    ) -> Result<bool, AllocError>
+        ensures longer { OnOk result
+            (IsLonger (states_in self.old.states.items) (states_in self.new.states.items)) }
+        ensures kept { IfOk result (λ kept. kept ≡ true
+            → IsFollowed (program_of checked.now.tree) (states_in self.new.states.items)
+            (state_of state.now) process) }
+    {
         let Some(actions) = choices(alloc, checked, state, process)? else {
             return Ok(false);
         };
-        for (choice, action) in actions.as_slice().iter().enumerate() {
-            if let Some(next) = next_state(alloc, checked, state, action)? {
-                let way = Way {
-                    before,
-                    process,
-                    choice,
-                };
-                if !self.keep(alloc, checked, next, way)? {
-                    return Ok(false);
-                }
-            }
-        }
-        Ok(true)
+        let listed = actions.as_slice();
+        let all = self.take_all(alloc, checked, state, before, process, listed)?;
+        Ok(all)
     }
 
     // Keeps the states that may come next; false where no more can be kept.
@@ -71,9 +137,16 @@ impl<'a> Kept<'a> {
         checked: &'a Checked,
         state: &SourceState<'a>,
         before: usize,
-    ) -> Result<bool, AllocError> {
-        let numbers = state.numbers(alloc)?;
-        for number in numbers.as_slice() {
+    ) -> Result<bool, AllocError>
+        ensures longer { OnOk result
+            (IsLonger (states_in self.old.states.items) (states_in self.new.states.items)) }
+        ensures kept { IfOk result (λ kept. kept ≡ true
+            → IsExpanded (program_of checked.now.tree) (states_in self.new.states.items)
+            (state_of state.now)) }
+    {
+        let all = state.numbers(alloc)?;
+        let numbers = all.as_slice();
+        for number in numbers {
             if !self.follow(alloc, checked, state, before, *number)? {
                 return Ok(false);
             }
@@ -88,7 +161,17 @@ pub(crate) fn search<'a>(
     checked: &'a Checked,
     kept: &mut Kept<'a>,
     most: usize,
-) -> Result<Findings, AllocError> {
+) -> Result<Findings, AllocError>
+    ensures longer { OnOk result
+        (IsLonger (states_in kept.old.states.items) (states_in kept.new.states.items)) }
+    ensures expanded { IfOk result (λ f. f.complete ≡ true
+        → All (IsExpanded (program_of checked.now.tree) (states_in kept.new.states.items))
+        (states_in kept.new.states.items)) }
+    ensures stuck { IfOk result (λ f. f.complete ≡ true
+        → NoneIs (IsStuck (program_of checked.now.tree)) (states_in kept.new.states.items) f.stuck) }
+    ensures aborted { IfOk result (λ f. f.complete ≡ true
+        → NoneIs HasAborted (states_in kept.new.states.items) f.aborted) }
+{
     let mut findings = Findings {
         complete: false,
         stuck: None,
@@ -96,7 +179,7 @@ pub(crate) fn search<'a>(
     };
     for place in 0..most {
         let Some(found) = kept.states.get(place) else {
-            findings.complete = place > 0;
+            findings.complete = true;
             return Ok(findings);
         };
         let state = found.copy(alloc)?;
@@ -105,6 +188,7 @@ pub(crate) fn search<'a>(
             return Ok(findings);
         }
     }
-    findings.complete = most > 0;
+    let all = kept.states.as_slice();
+    findings.complete = all.len() <= most;
     Ok(findings)
 }

@@ -1,9 +1,16 @@
+ghost use Rattle.std.specs.Prelude.{◌≡◌, All, IfOk, true};
+ghost use Rattle.proof_exploration.specs.Exploring.{IsLike};
+ghost use Rattle.source_states.specs.States.{state_of};
+
 use source_sameness::same_process;
 use source_states::SourceState;
 use std::alloc::{AllocError, Global};
 
 // Whether a process stands at one place in both states, or is in neither.
-fn same_at(a: &SourceState, b: &SourceState, number: u64) -> bool {
+fn same_at(a: &SourceState, b: &SourceState, number: u64) -> bool
+    ensures { result ≡ true
+        → (state_of a.now).process number ≡ (state_of b.now).process number }
+{
     match (a.process(number), b.process(number)) {
         (None, None) => true,
         (Some(a), Some(b)) => same_process(a, b),
@@ -12,7 +19,10 @@ fn same_at(a: &SourceState, b: &SourceState, number: u64) -> bool {
 }
 
 // Whether each of these processes stands at one place in both states.
-fn same_processes(a: &SourceState, b: &SourceState, numbers: &[u64]) -> bool {
+fn same_processes(a: &SourceState, b: &SourceState, numbers: &[u64]) -> bool
+    ensures { result ≡ true
+        → All (λ q. (state_of a.now).process q ≡ (state_of b.now).process q) numbers.now }
+{
     for number in numbers {
         if !same_at(a, b, *number) {
             return false;
@@ -23,7 +33,9 @@ fn same_processes(a: &SourceState, b: &SourceState, numbers: &[u64]) -> bool {
 
 /// Whether two states are the same but for what was printed. Where they are, it may say no: a variable to which 0 was
 /// assigned is told from one to which nothing was.
-pub(crate) fn is_like(a: &SourceState, b: &SourceState, alloc: Global) -> Result<bool, AllocError> {
+pub(crate) fn is_like(a: &SourceState, b: &SourceState, alloc: Global) -> Result<bool, AllocError>
+    ensures { IfOk result (λ like. like ≡ true → IsLike (state_of a.now) (state_of b.now)) }
+{
     if !a.table().is_same(b.table()) {
         return Ok(false);
     }

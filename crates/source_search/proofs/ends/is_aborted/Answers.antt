@@ -5,7 +5,7 @@ use Rattle.source_offers.specs.Stages.{end_of, standing}
 use Rattle.source_search.proofs.ends.is_aborted.Goals as goal
 
 pub returns-in-Aborted : goal.returns-in-Aborted
-returns-in-Aborted c = λ e. (
+returns-in-Aborted c = (
   c.in-Aborted.field-0,
   ap (λ stage. standing stage (frame_of c.args.process.now.frame) (callers_of c.args.process.now.callers.items))
       c.in-Over.is

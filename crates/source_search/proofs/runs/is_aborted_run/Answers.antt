@@ -6,5 +6,5 @@ returns-in_ok-aborted-in-Some c = λ e. record {
   end = state_of c.in-Some.state;
   run = rw c.in-Some.is at c.in_ok-walked.ensures;
   own = c.are_own.ensures c.if-not-are_own.false;
-  is = c.in_ok-aborted-in-Some.ensures e;
+  is = rw e at c.in_ok-aborted-in-Some.ensures;
 }

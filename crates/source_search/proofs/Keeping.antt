@@ -1,0 +1,106 @@
+-- States that are kept, and stay so while more is.
+use Rattle.std.proofs.Common.{◌≡◌, ◌<◌, ◌+◌, ◌↔◌, ℕ, List, [], ◌∷◌, ◌++◌, length, get_or, map, take, All, Contains, Some}
+use Rattle.std.proofs.Common.{slice_get, sym, ap, ◌∙◌, subst, append_assoc}
+use Rattle.std.specs.Prelude.{IsSome, is_some}
+use Rattle.std.proofs.lemmas.List.{append-nil, map_more, map_push}
+use Rattle.std.proofs.lemmas.List.Elements.{All-contains, All-more, All-push, All-weaker, Contains-append_left}
+use Rattle.std.proofs.lemmas.List.Elements.{Contains-get_or, Contains-push}
+use Rattle.std.proofs.lemmas.Option.{get_or_from_slice_get, slice_get_within}
+use Rattle.program.specs.Trees.{Program}
+use Rattle.meaning.specs.Labels.{Action}
+use Rattle.meaning.specs.Runs.{IsAction}
+use Rattle.meaning.specs.States.{SourceState}
+use Rattle.proof_exploration.specs.Exploring.{IsLike}
+use Rattle.proof_exploration.specs.Searching.{IsKept}
+use Rattle.proof_exploration.proofs.Alike.{like_self, like_trans}
+use Rattle.source_states.specs.Actions.{action_of}
+use Rattle.source_states.specs.States.{state_of}
+use Rattle.source_states.specs.declared.action.Action.{Action as ActionOf}
+use Rattle.source_states.specs.declared.state.SourceState.{SourceState as StateOf}
+use Rattle.source_search.specs.Choices.{AreChoices}
+use Rattle.source_search.specs.Kept.{IsExpanded, IsFollowed, IsLonger, LeadsToKept, states_in}
+use Rattle.source_search.proofs.Subsets.{contains_map}
+
+pub longer_none : (kept : List SourceState) → IsLonger kept kept
+longer_none kept = ([], sym (append-nil kept))
+
+pub longer_twice : (first kept kept' : List SourceState) → IsLonger first kept → IsLonger kept kept'
+    → IsLonger first kept'
+longer_twice first kept kept' a b =
+    (a.0 ++ b.0, b.1 ∙ ap (λ x. x ++ b.0) a.1 ∙ append_assoc first a.0 b.0)
+
+-- one state more is kept
+last_kept : (xs ys : List StateOf) (x : StateOf) → ys ≡ xs ++ x ∷ []
+    → states_in ys ≡ states_in xs ++ state_of x ∷ []
+last_kept xs ys x is = ap states_in is ∙ map_push state_of xs x
+
+pub longer_one : (xs ys : List StateOf) (x : StateOf) → ys ≡ xs ++ x ∷ [] → IsLonger (states_in xs) (states_in ys)
+longer_one xs ys x is = (state_of x ∷ [], last_kept xs ys x is)
+
+pub kept_last : (xs ys : List StateOf) (x : StateOf) → ys ≡ xs ++ x ∷ [] → IsKept (states_in ys) (state_of x)
+kept_last xs ys x is = (
+  state_of x,
+  subst (λ l. Contains l (state_of x)) (sym (last_kept xs ys x is)) (Contains-push (states_in xs) (state_of x)),
+  like_self (state_of x),
+)
+
+-- a state like one that is kept
+pub kept_at : (xs : List StateOf) (i : ℕ) (x : StateOf) (s : SourceState) → slice_get xs i ≡ Some x
+    → IsLike (state_of x) s → IsKept (states_in xs) s
+kept_at xs i x s is like = (
+  state_of x,
+  contains_map state_of xs x (subst (Contains xs) (get_or_from_slice_get xs i x x is)
+      (Contains-get_or xs i x (slice_get_within xs i x is))),
+  like,
+)
+
+pub kept_like : (kept : List SourceState) (s r : SourceState) → IsKept kept s → IsLike s r → IsKept kept r
+kept_like kept s r is like = (is.0, is.1, like_trans is.0 s r is.2 like)
+
+module _ (kept kept' : List SourceState) (longer : IsLonger kept kept') where
+  pub kept_still : (s : SourceState) → IsKept kept s → IsKept kept' s
+  kept_still s is =
+      (is.0, subst (λ l. Contains l is.0) (sym longer.1) (Contains-append_left kept longer.0 is.0 is.1), is.2)
+
+  pub leads_still : (p : Program) (s : SourceState) (a : Action) → LeadsToKept p kept s a → LeadsToKept p kept' s a
+  leads_still p s a leads s' x = kept_still s' (leads s' x)
+
+  -- one action more
+  pub leads_more : (p : Program) (s : SourceState) (actions : List ActionOf) (i : ℕ) (a : ActionOf)
+      → i < length actions → a ≡ get_or actions i a
+      → All (LeadsToKept p kept s) (map action_of (take i actions)) → LeadsToKept p kept' s (action_of a)
+      → All (LeadsToKept p kept' s) (map action_of (take (i + 1) actions))
+  leads_more p s actions i a less is all leads =
+      subst (All (LeadsToKept p kept' s))
+      (sym (map_more action_of actions i a less
+      ∙ ap (λ x. map action_of (take i actions) ++ action_of x ∷ []) (sym is)))
+      (All-push (LeadsToKept p kept' s) (map action_of (take i actions)) (action_of a)
+      (All-weaker (LeadsToKept p kept s) (LeadsToKept p kept' s) (leads_still p s) (map action_of (take i actions)) all)
+      leads)
+
+  pub followed_still : (p : Program) (s : SourceState) (n : ℕ) → IsFollowed p kept s n → IsFollowed p kept' s n
+  followed_still p s n leads kind s' x = kept_still s' (leads kind s' x)
+
+  -- one process more
+  pub followed_more : (p : Program) (s : SourceState) (ns : List ℕ) (i : ℕ) → i < length ns
+      → All (IsFollowed p kept s) (take i ns) → IsFollowed p kept' s (get_or ns i 0)
+      → All (IsFollowed p kept' s) (take (i + 1) ns)
+  followed_more p s ns i less all one =
+      All-more (IsFollowed p kept' s) ns i 0 less
+      (All-weaker (IsFollowed p kept s) (IsFollowed p kept' s) (followed_still p s) (take i ns) all) one
+
+  pub expanded_still : (p : Program) (s : SourceState) → IsExpanded p kept s → IsExpanded p kept' s
+  expanded_still p s leads a s' x = kept_still s' (leads a s' x)
+
+-- what a process may do was all tried
+pub all_followed : (p : Program) (kept : List SourceState) (s : SourceState) (n : ℕ) (actions : List Action)
+    → AreChoices p s n actions → All (LeadsToKept p kept s) actions → IsFollowed p kept s n
+all_followed p kept s n actions are all kind s' x =
+    let tried : (a : Action) × Contains actions a × IsAction p s a s' = are kind s' x in
+    All-contains (LeadsToKept p kept s) actions tried.0 all tried.1 s' tried.2
+
+-- and that of each process that is there
+pub all_expanded : (p : Program) (kept : List SourceState) (s : SourceState) (ns : List ℕ)
+    → ((q : ℕ) → Contains ns q ↔ IsSome (s.process q)) → All (IsFollowed p kept s) ns → IsExpanded p kept s
+all_expanded p kept s ns there all a s' x =
+    All-contains (IsFollowed p kept s) ns a.process all ((there a.process).1 (ap is_some x.stands)) a.kind s' x

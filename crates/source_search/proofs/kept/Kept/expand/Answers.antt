@@ -1,0 +1,28 @@
+use Rattle.std.proofs.Common.{◌∙◌, All, subst}
+use Rattle.std.proofs.lemmas.List.{take_all}
+use Rattle.program.specs.Views.{program_of}
+use Rattle.source_states.specs.States.{state_of}
+use Rattle.source_search.specs.Kept.{IsFollowed, states_in}
+use Rattle.source_search.proofs.Keeping.{all_expanded, followed_more, longer_twice}
+use Rattle.source_search.proofs.kept.Kept.expand.Goals as goal
+
+pub loop-number-preserved : goal.loop-number-preserved
+loop-number-preserved c =
+    let kept = states_in c.loop-number.self.states.items in
+    let kept' = states_in c.follow.new.self.states.items in
+    record {
+      longer = longer_twice (states_in c.args.self.now.states.items) kept kept' c.loop-number.invariant.longer
+          c.in_ok-follow.ensures.longer;
+      all = followed_more kept kept' c.in_ok-follow.ensures.longer (program_of c.args.checked.now.tree)
+          (state_of c.args.state.now) c.as_slice-numbers.result.now c.loop-number.number-index c.loop-number-test.true
+          c.loop-number.invariant.all (c.in_ok-follow.ensures.kept c.if-not-branch.false);
+    }
+
+pub returns-clause-kept : goal.returns-clause-kept
+returns-clause-kept c = λ e.
+    let kept = states_in c.loop-number.self.states.items in
+    all_expanded (program_of c.args.checked.now.tree) kept (state_of c.args.state.now) c.in_ok-all.all.items
+    c.in_ok-all.ensures.all
+    (subst (All (IsFollowed (program_of c.args.checked.now.tree) kept (state_of c.args.state.now)))
+    (take_all c.loop-number.number-index c.as_slice-numbers.result.now c.loop-number-test.false
+    ∙ c.as_slice-numbers.ensures.value) c.loop-number.invariant.all)
