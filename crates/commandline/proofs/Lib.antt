@@ -1,4 +1,5 @@
 mod Numbers
 mod NoJobs
-mod Sources
+mod NoSources
+mod Written
 mod Worked

@@ -1,11 +1,15 @@
 -- Where a value is missing, no job is asked for.
 use Rattle.std.proofs.Common.{◌≡◌, ◌⊎◌, inl, inr, ℕ, List, None, codes}
 use Rattle.clap.specs.Words.{Row, first_of}
-use Rattle.commandline.specs.CommandLine.{IsCheckOf, IsCompileOf, IsExplainOf, IsListOf, AsksForExec, AsksForReplay}
-use Rattle.commandline.specs.CommandLine.{AsksForRun, ReadsOptions, ReadsSteps}
+use Rattle.commandline.specs.CommandLine.{IsCheckOf, IsCompileOf, IsEmitOf, IsExplainOf, IsListOf, AsksForExec}
+use Rattle.commandline.specs.CommandLine.{AsksForReplay, AsksForRun, IsExplainedBy, IsReplayedBy, ReadsOptions}
+use Rattle.commandline.specs.CommandLine.{ReadsWorkers}
+use Rattle.commandline.specs.declared.options.ExplainedBy.{ExplainedBy}
+use Rattle.commandline.specs.declared.options.ReplayedBy.{ReplayedBy}
 use Rattle.commandline.specs.declared.options.RunOptions.{RunOptions}
 use Rattle.commandline.specs.declared.job.Job.{Job}
 use Rattle.commandline.specs.declared.job.Job.TheVariants.{Check, Compile, List as List', Run, Exec, Replay, Explain}
+use Rattle.commandline.specs.declared.job.Job.TheVariants.{Emit}
 use Rattle.commandline.proofs.Numbers.{no_value}
 
 pub no_check : (rows : List Row) (job : Job) → first_of (codes "FILE") rows ≡ None → IsCheckOf rows job → ⊥
@@ -13,9 +17,11 @@ no_check rows (Check file) none h = no_value _ _ none h
 no_check rows other none h = h
 
 pub no_compile : (rows : List Row) (job : Job)
-    → (first_of (codes "FILE") rows ≡ None) ⊎ (first_of (codes "OUT") rows ≡ None) → IsCompileOf rows job → ⊥
-no_compile rows (Compile file out) (inl none) h = no_value _ _ none h.0
-no_compile rows (Compile file out) (inr none) h = no_value _ _ none h.1
+    → (first_of (codes "FILE") rows ≡ None) ⊎ ((first_of (codes "OUT") rows ≡ None)
+    ⊎ ((n : ℕ) → ReadsWorkers rows n → ⊥)) → IsCompileOf rows job → ⊥
+no_compile rows (Compile file out workers) (inl none) h = no_value _ _ none h.0
+no_compile rows (Compile file out workers) (inr (inl none)) h = no_value _ _ none h.1
+no_compile rows (Compile file out workers) (inr (inr none)) h = none workers h.2
 no_compile rows other missing h = h
 
 pub no_list : (rows : List Row) (job : Job) → first_of (codes "IMAGE") rows ≡ None → IsListOf rows job → ⊥
@@ -36,13 +42,21 @@ no_exec rows (Exec image options) (inr none) h = none options h.1
 no_exec rows other missing h = h
 
 pub no_replay : (rows : List Row) (job : Job)
-    → (first_of (codes "FILE") rows ≡ None) ⊎ (first_of (codes "SCHEDULE") rows ≡ None) → AsksForReplay rows job → ⊥
-no_replay rows (Replay file schedule trace log) (inl none) h = no_value _ _ none h.0
-no_replay rows (Replay file schedule trace log) (inr none) h = no_value _ _ none h.1
+    → (first_of (codes "FILE") rows ≡ None) ⊎ ((r : ReplayedBy) → IsReplayedBy rows r → ⊥) → AsksForReplay rows job
+    → ⊥
+no_replay rows (Replay file by trace) (inl none) h = no_value _ _ none h.0
+no_replay rows (Replay file by trace) (inr none) h = none by h.1
 no_replay rows other missing h = h
 
 pub no_explain : (rows : List Row) (job : Job)
-    → (first_of (codes "FILE") rows ≡ None) ⊎ ((n : ℕ) → ReadsSteps rows n → ⊥) → IsExplainOf rows job → ⊥
-no_explain rows (Explain file steps chart) (inl none) h = no_value _ _ none h.0
-no_explain rows (Explain file steps chart) (inr none) h = none steps h.1
+    → (first_of (codes "FILE") rows ≡ None) ⊎ ((e : ExplainedBy) → IsExplainedBy rows e → ⊥) → IsExplainOf rows job
+    → ⊥
+no_explain rows (Explain file by chart) (inl none) h = no_value _ _ none h.0
+no_explain rows (Explain file by chart) (inr none) h = none by h.1
 no_explain rows other missing h = h
+
+pub no_emit : (rows : List Row) (job : Job)
+    → (first_of (codes "FILE") rows ≡ None) ⊎ (first_of (codes "OUT") rows ≡ None) → IsEmitOf rows job → ⊥
+no_emit rows (Emit file out) (inl none) h = no_value _ _ none h.0
+no_emit rows (Emit file out) (inr none) h = no_value _ _ none h.1
+no_emit rows other missing h = h

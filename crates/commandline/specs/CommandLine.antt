@@ -1,7 +1,8 @@
 -- The commands of the program, and which job the words of a command line ask for. How words are read as a command's
 -- arguments is the definition of the crate clap (`App`, `subcommand_of`).
-use Rattle.std.specs.Prelude.{◌≡◌, ◌<◌, ◌^◌, ℕ, Bool, true, false, List, [], ◌∷◌, Option, Some, None, ◌⊎◌, codes}
+use Rattle.std.specs.Prelude.{◌≡◌, ◌<◌, ◌≤◌, ◌^◌, ℕ, Bool, true, false, List, [], ◌∷◌, Option, Some, None, ◌⊎◌, codes}
 use Rattle.std.specs.Prelude.{find, option_and_then, option_map}
+use Rattle.std.specs.List.{list_any}
 use Rattle.std.specs.Str.{bytes_eq}
 use Rattle.std.specs.Str.Parse.{IsNumeral, digits_value, without_leading_plus}
 use Rattle.clap.specs.Words.{App, Row, Rule, Text, first_of, new_app, new_rule, one_of, with_rule, with_subcommand}
@@ -11,11 +12,19 @@ use Rattle.clap.specs.declared.builder.value_parser.ValueParser.TheVariants.{Uns
 use Rattle.clap.specs.declared.parser.matches.ValueSource.{ValueSource}
 use Rattle.clap.specs.declared.parser.matches.ValueSource.TheVariants.{CommandLine}
 use Rattle.commandline.specs.declared.options.Order.{Order}
-use Rattle.commandline.specs.declared.options.Order.TheVariants.{Workers, InOrder}
+use Rattle.commandline.specs.declared.options.Order.TheVariants.{Workers, InOrder, Seed}
+use Rattle.commandline.specs.declared.options.ReplayedBy.{ReplayedBy}
+use Rattle.commandline.specs.declared.options.ReplayedBy.TheVariants.{Schedule as ReplayedBySchedule}
+use Rattle.commandline.specs.declared.options.ReplayedBy.TheVariants.{Log as ReplayedByLog}
+use Rattle.commandline.specs.declared.options.ExplainedBy.{ExplainedBy}
+use Rattle.commandline.specs.declared.options.ExplainedBy.TheVariants.{Order as ExplainedByOrder}
+use Rattle.commandline.specs.declared.options.ExplainedBy.TheVariants.{Seed as ExplainedBySeed}
+use Rattle.commandline.specs.declared.options.ExplainedBy.TheVariants.{Schedule as ExplainedBySchedule}
+use Rattle.commandline.specs.declared.options.ExplainedBy.TheVariants.{Log as ExplainedByLog}
 use Rattle.commandline.specs.declared.options.RunOptions.{RunOptions}
 use Rattle.commandline.specs.declared.job.Job.{Job}
 use Rattle.commandline.specs.declared.job.Job.TheVariants.{Check, Compile, List as List', Run, Exec, Replay}
-use Rattle.commandline.specs.declared.job.Job.TheVariants.{Explain}
+use Rattle.commandline.specs.declared.job.Job.TheVariants.{Explain, Emit}
 
 -- an argument that has to stand, told by its position
 abbrev pub positional : Text → Rule
@@ -30,6 +39,23 @@ steps_option = record (new_rule (codes "steps")) {
   parser = Some (Unsigned 1 4294967295);
 }
 
+-- `--workers N`, from 1 to 64, and 1 where it is left out
+abbrev pub workers_option : Rule
+workers_option = record (new_rule (codes "workers")) {
+  long = Some (codes "workers");
+  value_names = 1;
+  defaults = codes "1" ∷ [];
+  parser = Some (Unsigned 1 64);
+}
+
+-- `--seed N`, a number of 64 bits
+abbrev pub seed_option : Rule
+seed_option = record (new_rule (codes "seed")) {
+  long = Some (codes "seed");
+  value_names = 1;
+  parser = Some (Unsigned 0 18446744073709551615);
+}
+
 -- an option that has a value, of which no more is known
 abbrev pub valued : Text → Rule
 valued name = record (new_rule name) { long = Some name; value_names = 1 }
@@ -42,15 +68,20 @@ in_order_option = record (new_rule (codes "in-order")) { long = Some (codes "in-
 abbrev pub trace_option : Rule
 trace_option = record (new_rule (codes "trace")) { long = Some (codes "trace"); action = Some SetTrue }
 
--- `[--steps N] [--in-order] [--trace] [--log OUT]`
+-- `[--steps N] [--in-order | --seed N] [--trace] [--log OUT]`
 abbrev pub with_run_options : App → App
 with_run_options app =
-    with_rule (with_rule (with_rule (with_rule app steps_option) in_order_option) trace_option) (valued (codes "log"))
+    with_rule (with_rule (with_rule (with_rule (with_rule app steps_option) in_order_option) seed_option) trace_option)
+    (valued (codes "log"))
 
--- `compile FILE OUT`
+-- `compile FILE OUT [--workers N]`
 abbrev pub compile_command : App
-compile_command = with_rule (with_rule (new_app (codes "compile")) (positional (codes "FILE")))
-    (positional (codes "OUT"))
+compile_command = with_rule (with_rule (with_rule (new_app (codes "compile")) (positional (codes "FILE")))
+    (positional (codes "OUT"))) workers_option
+
+-- `emit FILE OUT`
+abbrev pub emit_command : App
+emit_command = with_rule (with_rule (new_app (codes "emit")) (positional (codes "FILE"))) (positional (codes "OUT"))
 
 -- `check FILE`
 abbrev pub check_command : App
@@ -60,24 +91,25 @@ check_command = with_rule (new_app (codes "check")) (positional (codes "FILE"))
 abbrev pub list_command : App
 list_command = with_rule (new_app (codes "list")) (positional (codes "IMAGE"))
 
--- `run FILE [--steps N] [--in-order] [--trace] [--log OUT]`
+-- `run FILE [--steps N] [--in-order | --seed N] [--trace] [--log OUT]`
 abbrev pub run_command : App
 run_command = with_run_options (with_rule (new_app (codes "run")) (positional (codes "FILE")))
 
--- `exec IMAGE [--steps N] [--in-order] [--trace] [--log OUT]`
+-- `exec IMAGE [--steps N] [--in-order | --seed N] [--trace] [--log OUT]`
 abbrev pub exec_command : App
 exec_command = with_run_options (with_rule (new_app (codes "exec")) (positional (codes "IMAGE")))
 
--- `replay FILE SCHEDULE [--trace] [--log OUT]`
+-- `replay FILE (SCHEDULE [--log OUT] | --log LOG) [--trace]`
 abbrev pub replay_command : App
 replay_command =
     with_rule (with_rule (with_rule (with_rule (new_app (codes "replay")) (positional (codes "FILE")))
-    (positional (codes "SCHEDULE"))) trace_option) (valued (codes "log"))
+    (new_rule (codes "SCHEDULE"))) trace_option) (valued (codes "log"))
 
--- `explain FILE [--steps N] [--chart OUT]`
+-- `explain FILE [[--steps N] [--seed N] | --schedule SCHEDULE | --log LOG] [--chart OUT]`
 abbrev pub explain_command : App
 explain_command =
-    with_rule (with_rule (with_rule (new_app (codes "explain")) (positional (codes "FILE"))) steps_option)
+    with_rule (with_rule (with_rule (with_rule (with_rule (with_rule (new_app (codes "explain"))
+    (positional (codes "FILE"))) steps_option) seed_option) (valued (codes "schedule"))) (valued (codes "log")))
     (valued (codes "chart"))
 
 -- whether the words have this argument; its default, which they don't have, is no such
@@ -88,6 +120,10 @@ is_of_words _ = false
 abbrev pub is_written : Text → List Row → Bool
 is_written id rows = is_of_words (option_and_then (λ r. r.source) (find (λ r. bytes_eq r.id id) rows))
 
+-- whether the words have one of these arguments
+abbrev pub has_any : List Text → List Row → Bool
+has_any ids rows = list_any (λ id. is_written id rows) ids
+
 -- a text that is this number, which so many bits hold
 abbrev pub IsNumberOf : Option Text → ℕ → ℕ → Type 0
 IsNumberOf text bits n =
@@ -97,6 +133,14 @@ IsNumberOf text bits n =
 -- the text that stands for `--steps` is this number
 abbrev pub ReadsSteps : List Row → ℕ → Type 0
 ReadsSteps rows steps = IsNumberOf (one_of (codes "steps") rows) 32 steps
+
+-- the text that stands for `--workers` is this number, from 1 to 64
+abbrev pub ReadsWorkers : List Row → ℕ → Type 0
+ReadsWorkers rows workers = IsNumberOf (one_of (codes "workers") rows) 32 workers × (1 ≤ workers) × (workers ≤ 64)
+
+-- the text that stands for `--seed` is this number
+abbrev pub ReadsSeed : List Row → ℕ → Type 0
+ReadsSeed rows seed = IsNumberOf (one_of (codes "seed") rows) 64 seed
 
 -- whether `--trace` stands
 abbrev pub ReadsTrace : List Row → Bool → Type 0
@@ -110,23 +154,47 @@ top_command =
     let named = new_app (codes "mesamon") in
     record named { top = record named.top { no_binary_name = true; subcommand_required = true } }
 
--- `mesamon` with its seven commands
+-- `mesamon` with its eight commands
 abbrev pub command_line : App
 command_line =
     with_subcommand (with_subcommand (with_subcommand (with_subcommand (with_subcommand (with_subcommand
-    (with_subcommand top_command check_command.top) compile_command.top) list_command.top) run_command.top)
-    exec_command.top) replay_command.top) explain_command.top
+    (with_subcommand (with_subcommand top_command check_command.top) compile_command.top) list_command.top)
+    run_command.top) exec_command.top) replay_command.top) explain_command.top) emit_command.top
 
--- who moves the threads of a run: a worker for each, or one worker in a fixed order
+-- who moves the threads of a run: a worker for each, or one worker in a fixed order or in that of a seed
 abbrev pub ReadsOrder : List Row → Order → Type 0
-ReadsOrder rows Workers = is_written (codes "in-order") rows ≡ false
-ReadsOrder rows InOrder = is_written (codes "in-order") rows ≡ true
+ReadsOrder rows Workers = has_any (codes "in-order" ∷ codes "seed" ∷ []) rows ≡ false
+ReadsOrder rows InOrder = (is_written (codes "in-order") rows ≡ true) × (is_written (codes "seed") rows ≡ false)
+ReadsOrder rows (Seed seed) =
+    (is_written (codes "in-order") rows ≡ false) × (is_written (codes "seed") rows ≡ true) × ReadsSeed rows seed
 
 -- how a run goes, and what is kept of it
 abbrev pub ReadsOptions : List Row → RunOptions → Type 0
 ReadsOptions rows o =
     ReadsSteps rows o.steps × ReadsOrder rows o.order × ReadsTrace rows o.trace
     × (first_of (codes "log") rows ≡ option_map (λ log. log.now) o.log)
+
+-- what a replay goes by: where a schedule stands, that one, and its log is kept; else a log
+abbrev pub IsReplayedBy : List Row → ReplayedBy → Type 0
+IsReplayedBy rows (ReplayedBySchedule schedule log) =
+    (first_of (codes "SCHEDULE") rows ≡ Some schedule.now)
+    × (first_of (codes "log") rows ≡ option_map (λ log. log.now) log)
+IsReplayedBy rows (ReplayedByLog log) =
+    (first_of (codes "SCHEDULE") rows ≡ None) × (first_of (codes "log") rows ≡ Some log.now)
+
+-- which run is explained: it has one source, and a schedule or a log no limit of steps
+abbrev pub IsExplainedBy : List Row → ExplainedBy → Type 0
+IsExplainedBy rows (ExplainedByOrder steps) =
+    (has_any (codes "schedule" ∷ codes "log" ∷ codes "seed" ∷ []) rows ≡ false) × ReadsSteps rows steps
+IsExplainedBy rows (ExplainedBySeed steps seed) =
+    (has_any (codes "schedule" ∷ codes "log" ∷ []) rows ≡ false) × (is_written (codes "seed") rows ≡ true)
+    × ReadsSteps rows steps × ReadsSeed rows seed
+IsExplainedBy rows (ExplainedBySchedule schedule) =
+    (has_any (codes "log" ∷ codes "seed" ∷ codes "steps" ∷ []) rows ≡ false)
+    × (is_written (codes "schedule") rows ≡ true) × (first_of (codes "schedule") rows ≡ Some schedule.now)
+IsExplainedBy rows (ExplainedByLog log) =
+    (has_any (codes "schedule" ∷ codes "seed" ∷ codes "steps" ∷ []) rows ≡ false)
+    × (is_written (codes "log") rows ≡ true) × (first_of (codes "log") rows ≡ Some log.now)
 
 -- a job of checking, from the values of its command's arguments
 abbrev pub IsCheckOf : List Row → Job → Type 0
@@ -135,8 +203,9 @@ IsCheckOf rows other = ⊥
 
 -- a job of compiling
 abbrev pub IsCompileOf : List Row → Job → Type 0
-IsCompileOf rows (Compile file out) =
+IsCompileOf rows (Compile file out workers) =
     (first_of (codes "FILE") rows ≡ Some file.now) × (first_of (codes "OUT") rows ≡ Some out.now)
+    × ReadsWorkers rows workers
 IsCompileOf rows other = ⊥
 
 -- a job of listing
@@ -154,19 +223,24 @@ abbrev pub AsksForExec : List Row → Job → Type 0
 AsksForExec rows (Exec image options) = (first_of (codes "IMAGE") rows ≡ Some image.now) × ReadsOptions rows options
 AsksForExec rows other = ⊥
 
--- a job of running by a schedule
+-- a job of running again
 abbrev pub AsksForReplay : List Row → Job → Type 0
-AsksForReplay rows (Replay file schedule trace log) =
-    (first_of (codes "FILE") rows ≡ Some file.now) × (first_of (codes "SCHEDULE") rows ≡ Some schedule.now)
-    × ReadsTrace rows trace × (first_of (codes "log") rows ≡ option_map (λ log. log.now) log)
+AsksForReplay rows (Replay file by trace) =
+    (first_of (codes "FILE") rows ≡ Some file.now) × IsReplayedBy rows by × ReadsTrace rows trace
 AsksForReplay rows other = ⊥
 
 -- a job of explaining
 abbrev pub IsExplainOf : List Row → Job → Type 0
-IsExplainOf rows (Explain file steps chart) =
-    (first_of (codes "FILE") rows ≡ Some file.now) × ReadsSteps rows steps
+IsExplainOf rows (Explain file by chart) =
+    (first_of (codes "FILE") rows ≡ Some file.now) × IsExplainedBy rows by
     × (first_of (codes "chart") rows ≡ option_map (λ out. out.now) chart)
 IsExplainOf rows other = ⊥
+
+-- a job of writing C
+abbrev pub IsEmitOf : List Row → Job → Type 0
+IsEmitOf rows (Emit file out) =
+    (first_of (codes "FILE") rows ≡ Some file.now) × (first_of (codes "OUT") rows ≡ Some out.now)
+IsEmitOf rows other = ⊥
 
 -- the job that the command of a name asks for, with these values of its arguments
 abbrev pub IsAskedBy : Option (Text × List Row) → Job → Type 0
@@ -175,7 +249,7 @@ IsAskedBy (Some (name, rows)) job =
     ((name ≡ codes "check") × IsCheckOf rows job) ⊎ (((name ≡ codes "compile") × IsCompileOf rows job)
     ⊎ (((name ≡ codes "list") × IsListOf rows job) ⊎ (((name ≡ codes "run") × AsksForRun rows job)
     ⊎ (((name ≡ codes "exec") × AsksForExec rows job) ⊎ (((name ≡ codes "replay") × AsksForReplay rows job)
-    ⊎ ((name ≡ codes "explain") × IsExplainOf rows job))))))
+    ⊎ (((name ≡ codes "explain") × IsExplainOf rows job) ⊎ ((name ≡ codes "emit") × IsEmitOf rows job)))))))
 
 -- the words ask for this job
 abbrev pub AsksFor : List Text → Job → Type 0

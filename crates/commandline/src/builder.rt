@@ -1,14 +1,22 @@
 ghost use Rattle.std.specs.Prelude.{◌≡◌, false, IfOk};
-ghost use Rattle.clap.specs.Words.{App, app_of, rule_of, with_subcommand};
+ghost use Rattle.clap.specs.Words.{App, app_of, new_rule, rule_of, with_subcommand};
 ghost use Rattle.clap.specs.declared.builder.command.Command.TheViews.{out-Command as fields_of};
 ghost use Rattle.commandline.specs.CommandLine as line;
 
+use crate::options::MOST_WORKERS;
 use clap::builder::ValueParser;
 use clap::{Arg, ArgAction, Command};
 use std::alloc::{AllocError, Global};
 
 // The limit of steps of a run that names none.
 const STEPS: &str = "1000000";
+
+// What the log of a replay is.
+const REPLAY_LOG: &str =
+    "Beside SCHEDULE, where the log is written; without it, the log that is followed";
+
+// How many workers compile where no number stands.
+const WORKERS: &str = "1";
 
 /// The commands of the program, as the command line's parser takes them.
 pub fn command<'a>(alloc: Global) -> Result<Command<'a>, AllocError>
@@ -20,7 +28,8 @@ pub fn command<'a>(alloc: Global) -> Result<Command<'a>, AllocError>
     let command = with(command, run_command(alloc));
     let command = with(command, exec_command(alloc));
     let command = with(command, replay_command(alloc));
-    with(command, explain_command(alloc))
+    let command = with(command, explain_command(alloc));
+    with(command, emit_command(alloc))
 }
 
 // A command with one more subcommand, where both could be made.
@@ -62,7 +71,8 @@ fn compile_command<'a>(alloc: Global) -> Result<Command<'a>, AllocError>
     Command::new(alloc, "compile")
         .about("Writes the image of a source text")
         .arg(positional(alloc, "FILE", "The source text"))?
-        .arg(positional(alloc, "OUT", "Where the image is written"))
+        .arg(positional(alloc, "OUT", "Where the image is written"))?
+        .arg(workers_option(alloc))
 }
 
 fn list_command<'a>(alloc: Global) -> Result<Command<'a>, AllocError>
@@ -74,7 +84,8 @@ fn list_command<'a>(alloc: Global) -> Result<Command<'a>, AllocError>
         .arg(positional(alloc, "IMAGE", "The image"))
 }
 
-fn run_command<'a>(alloc: Global) -> Result<Command<'a>, AllocError>
+/// `run`, without the command above it.
+pub fn run_command<'a>(alloc: Global) -> Result<Command<'a>, AllocError>
     ensures app { IfOk result (λ c. app_of c ≡ line.run_command) }
     ensures local { IfOk result (λ c. (fields_of c).has_globals ≡ false) }
 {
@@ -84,7 +95,8 @@ fn run_command<'a>(alloc: Global) -> Result<Command<'a>, AllocError>
     with_run_options(alloc, command)
 }
 
-fn exec_command<'a>(alloc: Global) -> Result<Command<'a>, AllocError>
+/// `exec`, without the command above it.
+pub fn exec_command<'a>(alloc: Global) -> Result<Command<'a>, AllocError>
     ensures app { IfOk result (λ c. app_of c ≡ line.exec_command) }
     ensures local { IfOk result (λ c. (fields_of c).has_globals ≡ false) }
 {
@@ -103,30 +115,36 @@ fn with_run_options<'a>(alloc: Global, command: Command<'a>) -> Result<Command<'
     command
         .arg(steps_option(alloc))?
         .arg(in_order_option(alloc))?
+        .arg(seed_option(alloc))?
         .arg(trace_option(alloc))?
         .arg(valued(alloc, "log", "OUT", "Where the log is written"))
 }
 
-fn replay_command<'a>(alloc: Global) -> Result<Command<'a>, AllocError>
+/// `replay`, without the command above it.
+pub fn replay_command<'a>(alloc: Global) -> Result<Command<'a>, AllocError>
     ensures app { IfOk result (λ c. app_of c ≡ line.replay_command) }
     ensures local { IfOk result (λ c. (fields_of c).has_globals ≡ false) }
 {
     Command::new(alloc, "replay")
-        .about("Runs a source text by a schedule and prints its output")
+        .about("Runs a source text by a schedule or a log and prints its output")
         .arg(positional(alloc, "FILE", "The source text"))?
-        .arg(positional(alloc, "SCHEDULE", "The threads of its steps"))?
+        .arg(optional(alloc, "SCHEDULE", "The threads of its steps"))?
         .arg(trace_option(alloc))?
-        .arg(valued(alloc, "log", "OUT", "Where the log is written"))
+        .arg(valued(alloc, "log", "LOG", REPLAY_LOG))
 }
 
-fn explain_command<'a>(alloc: Global) -> Result<Command<'a>, AllocError>
+/// `explain`, without the command above it.
+pub fn explain_command<'a>(alloc: Global) -> Result<Command<'a>, AllocError>
     ensures app { IfOk result (λ c. app_of c ≡ line.explain_command) }
     ensures local { IfOk result (λ c. (fields_of c).has_globals ≡ false) }
 {
     Command::new(alloc, "explain")
-        .about("Runs a source text in order and prints what its processes do")
+        .about("Runs a source text and prints what its processes do")
         .arg(positional(alloc, "FILE", "The source text"))?
         .arg(steps_option(alloc))?
+        .arg(seed_option(alloc))?
+        .arg(valued(alloc, "schedule", "SCHEDULE", "The threads of its steps"))?
+        .arg(valued(alloc, "log", "LOG", "The log of the run"))?
         .arg(valued(
             alloc,
             "chart",
@@ -135,11 +153,29 @@ fn explain_command<'a>(alloc: Global) -> Result<Command<'a>, AllocError>
         ))
 }
 
+fn emit_command<'a>(alloc: Global) -> Result<Command<'a>, AllocError>
+    ensures app { IfOk result (λ c. app_of c ≡ line.emit_command) }
+    ensures local { IfOk result (λ c. (fields_of c).has_globals ≡ false) }
+{
+    Command::new(alloc, "emit")
+        .about("Writes a source text as a program in C")
+        .arg(positional(alloc, "FILE", "The source text"))?
+        .arg(positional(alloc, "OUT", "Where the C file is written"))
+}
+
 fn positional<'a>(alloc: Global, name: &'a str, help: &'a str) -> Arg<'a>
     ensures rule { rule_of result ≡ line.positional name.entry.now }
     ensures local { result.global ≡ false }
 {
     Arg::new(alloc, name).required(true).help(help)
+}
+
+// A positional argument that may be left out.
+fn optional<'a>(alloc: Global, name: &'a str, help: &'a str) -> Arg<'a>
+    ensures rule { rule_of result ≡ new_rule name.entry.now }
+    ensures local { result.global ≡ false }
+{
+    Arg::new(alloc, name).help(help)
 }
 
 fn steps_option<'a>(alloc: Global) -> Arg<'a>
@@ -152,6 +188,29 @@ fn steps_option<'a>(alloc: Global) -> Arg<'a>
         .value_parser(ValueParser::unsigned(1, u32::MAX as u64))
         .default_value(STEPS)
         .help("The most steps of the machine")
+}
+
+fn workers_option<'a>(alloc: Global) -> Arg<'a>
+    ensures rule { rule_of result ≡ line.workers_option }
+    ensures local { result.global ≡ false }
+{
+    Arg::new(alloc, "workers")
+        .long("workers")
+        .value_name("N")
+        .value_parser(ValueParser::unsigned(1, u64::from(MOST_WORKERS)))
+        .default_value(WORKERS)
+        .help("How many workers make the code")
+}
+
+fn seed_option<'a>(alloc: Global) -> Arg<'a>
+    ensures rule { rule_of result ≡ line.seed_option }
+    ensures local { result.global ≡ false }
+{
+    Arg::new(alloc, "seed")
+        .long("seed")
+        .value_name("N")
+        .value_parser(ValueParser::unsigned(0, u64::MAX))
+        .help("Goes on one thread, in the order that follows from N")
 }
 
 fn in_order_option<'a>(alloc: Global) -> Arg<'a>

@@ -1,15 +1,17 @@
 ghost use Rattle.std.specs.Prelude.{IfOk, IfErr, IfSome, None, true, map, ◌≡◌};
 ghost use Rattle.clap.specs.Words.{app_of, found_of, kind_of, subcommand_rows_of, takes};
 ghost use Rattle.clap.specs.Walk.{rows_of};
-ghost use Rattle.commandline.specs.CommandLine.{AsksFor, IsAskedBy, IsCheckOf, IsCompileOf, IsExplainOf, IsListOf};
+ghost use Rattle.clap.specs.declared.error.kind.ErrorKind.TheVariants.{OutOfMemory};
+ghost use Rattle.commandline.specs.CommandLine.{AsksFor, IsAskedBy, IsCheckOf, IsCompileOf, IsEmitOf, IsExplainOf, IsListOf};
 ghost use Rattle.commandline.specs.CommandLine.{AsksForExec, AsksForReplay, AsksForRun, command_line};
 ghost use Rattle.commandline.specs.declared.job.Job.{Job as JobOf};
 
 use crate::builder::command;
 use crate::fault::WordsFault;
-use crate::options::RunOptions;
-use crate::values::{options_of, steps_of};
-use clap::error::ErrorKind;
+use crate::options::{ExplainedBy, ReplayedBy, RunOptions};
+use crate::refusing::refusal_of;
+use crate::sources::{explained_by, replayed_by};
+use crate::values::{options_of, workers_of};
 use clap::{ArgMatches, Command, Error};
 use std::alloc::Global;
 
@@ -27,6 +29,8 @@ pub enum Job<'a> {
         file: &'a str,
         /// The name of the image's file.
         out: &'a str,
+        /// How many workers make the code, from 1 to `MOST_WORKERS`.
+        workers: u32,
     },
     /// Print the instructions of an image.
     List {
@@ -47,26 +51,31 @@ pub enum Job<'a> {
         /// How it goes.
         options: RunOptions<'a>,
     },
-    /// Run the source text of a file by the schedule of another, show the log and write it where that is wanted.
+    /// Run the source text of a file by a schedule or by the threads and counts of a log, and show the log where that is
+    /// wanted.
     Replay {
         /// The name of the source text's file.
         file: &'a str,
-        /// The name of the schedule's file.
-        schedule: &'a str,
+        /// What it goes by.
+        by: ReplayedBy<'a>,
         /// Whether the log is shown.
         trace: bool,
-        /// The name of the file that the log is written to, where that is wanted.
-        log: Option<&'a str>,
     },
-    /// Run the source text of a file, within a limit of steps, print the source actions that its run is, and draw them
-    /// where that is wanted.
+    /// Print the source actions that a run of the source text of a file is, and draw them where that is wanted.
     Explain {
         /// The name of the source text's file.
         file: &'a str,
-        /// The most steps of the machine.
-        steps: u32,
+        /// Which run it is.
+        by: ExplainedBy<'a>,
         /// The name of the picture's file, where one is wanted.
         chart: Option<&'a str>,
+    },
+    /// Write the program of a file as one in C.
+    Emit {
+        /// The name of the source text's file.
+        file: &'a str,
+        /// The name of the C file.
+        out: &'a str,
     },
 }
 
@@ -85,36 +94,32 @@ fn parse<'a>(alloc: Global, words: &'a [&'a str]) -> Result<Job<'a>, Error>
     ensures job { IfOk result (AsksFor (map (λ w. w.now) words.now)) }
     ensures only { (job : JobOf) → takes command_line (map (λ w. w.now) words.now) ≡ true
         → AsksFor (map (λ w. w.now) words.now) job
-        → IfErr result (λ e. kind_of e ≡ ErrorKind.OutOfMemory) }
+        → IfErr result (λ e. kind_of e ≡ OutOfMemory) }
 {
     let mut command = command(alloc)?;
-    parse_by(&mut command, words)
+    parse_by(alloc, &mut command, words)
 }
 
 // The job that the words of this command ask for.
-fn parse_by<'a>(command: &mut Command<'a>, words: &'a [&'a str]) -> Result<Job<'a>, Error>
+fn parse_by<'a>(
+    alloc: Global,
+    command: &mut Command<'a>,
+    words: &'a [&'a str],
+) -> Result<Job<'a>, Error>
     requires { app_of command.old ≡ command_line }
     ensures job { IfOk result (AsksFor (map (λ w. w.now) words.now)) }
     ensures only { (job : JobOf) → takes command_line (map (λ w. w.now) words.now) ≡ true
         → AsksFor (map (λ w. w.now) words.now) job
-        → IfErr result (λ e. kind_of e ≡ ErrorKind.OutOfMemory) }
+        → IfErr result (λ e. kind_of e ≡ OutOfMemory) }
 {
     let matches = command.try_get_matches_from_mut(words)?;
     match job_of(&matches) {
         Some(job) => Ok(job),
-        None => Err(missing(command)),
+        None => Err(refusal_of(alloc, command, &matches)),
     }
 }
 
-// The refusal of words that ask for no job, or for want of memory.
-fn missing(command: &mut Command<'_>) -> Error {
-    match command.error(ErrorKind::MissingSubcommand, "a command is missing") {
-        Ok(error) => error,
-        Err(error) => Error::from(error),
-    }
-}
-
-// What the matches ask for. A command that was met has its arguments.
+// What the matches ask for.
 fn job_of<'a>(matches: &ArgMatches<'a>) -> Option<Job<'a>>
     ensures job { IfSome result (IsAskedBy (subcommand_rows_of matches.now)) }
     ensures none { result ≡ None → (job : JobOf) → IsAskedBy (subcommand_rows_of matches.now) job
@@ -129,6 +134,7 @@ fn job_of<'a>(matches: &ArgMatches<'a>) -> Option<Job<'a>>
         "exec" => exec_of(inner),
         "replay" => replay_of(inner),
         "explain" => explain_of(inner),
+        "emit" => emit_of(inner),
         _ => None,
     }
 }
@@ -149,7 +155,8 @@ fn compile_of<'a>(matches: &ArgMatches<'a>) -> Option<Job<'a>>
 {
     let file = matches.get_str("FILE")?;
     let out = matches.get_str("OUT")?;
-    Some(Job::Compile { file, out })
+    let workers = workers_of(matches)?;
+    Some(Job::Compile { file, out, workers })
 }
 
 fn list_of<'a>(matches: &ArgMatches<'a>) -> Option<Job<'a>>
@@ -187,15 +194,9 @@ fn replay_of<'a>(matches: &ArgMatches<'a>) -> Option<Job<'a>>
         → AsksForReplay (rows_of (found_of matches.now)) job → ⊥ }
 {
     let file = matches.get_str("FILE")?;
-    let schedule = matches.get_str("SCHEDULE")?;
+    let by = replayed_by(matches)?;
     let trace = matches.get_flag("trace");
-    let log = matches.get_str("log");
-    Some(Job::Replay {
-        file,
-        schedule,
-        trace,
-        log,
-    })
+    Some(Job::Replay { file, by, trace })
 }
 
 fn explain_of<'a>(matches: &ArgMatches<'a>) -> Option<Job<'a>>
@@ -204,7 +205,17 @@ fn explain_of<'a>(matches: &ArgMatches<'a>) -> Option<Job<'a>>
         → ⊥ }
 {
     let file = matches.get_str("FILE")?;
-    let steps = steps_of(matches)?;
+    let by = explained_by(matches)?;
     let chart = matches.get_str("chart");
-    Some(Job::Explain { file, steps, chart })
+    Some(Job::Explain { file, by, chart })
+}
+
+fn emit_of<'a>(matches: &ArgMatches<'a>) -> Option<Job<'a>>
+    ensures job { IfSome result (IsEmitOf (rows_of (found_of matches.now))) }
+    ensures none { result ≡ None → (job : JobOf) → IsEmitOf (rows_of (found_of matches.now)) job
+        → ⊥ }
+{
+    let file = matches.get_str("FILE")?;
+    let out = matches.get_str("OUT")?;
+    Some(Job::Emit { file, out })
 }

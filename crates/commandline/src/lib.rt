@@ -5,8 +5,10 @@ mod builder;
 mod fault;
 mod job;
 mod options;
+mod refusing;
+mod sources;
 mod values;
 
 pub use fault::WordsFault;
 pub use job::{Job, read_job};
-pub use options::{Order, RunOptions};
+pub use options::{ExplainedBy, MOST_WORKERS, Order, ReplayedBy, RunOptions};

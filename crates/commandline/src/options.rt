@@ -1,3 +1,6 @@
+/// The most workers that compile a text.
+pub const MOST_WORKERS: u32 = 64;
+
 /// Who moves the threads of a run, and in which order.
 #[derive(Clone, Copy, PartialEq, Eq, Debug)]
 pub enum Order {
@@ -5,6 +8,8 @@ pub enum Order {
     Workers,
     /// One worker, in a fixed order.
     InOrder,
+    /// One worker, in the order that follows from this seed.
+    Seed(u64),
 }
 
 /// How a run goes, and what is kept of it.
@@ -18,4 +23,39 @@ pub struct RunOptions<'a> {
     pub trace: bool,
     /// The name of the file that the log is written to, where that is wanted.
     pub log: Option<&'a str>,
+}
+
+/// What a replay goes by.
+#[derive(Clone, Copy, PartialEq, Eq, Debug)]
+pub enum ReplayedBy<'a> {
+    /// A schedule.
+    Schedule {
+        /// The name of the schedule's file.
+        schedule: &'a str,
+        /// The name of the file that the log is written to, where that is wanted.
+        log: Option<&'a str>,
+    },
+    /// The threads and counts of the log in the file of this name.
+    Log(&'a str),
+}
+
+/// Which run is explained.
+#[derive(Clone, Copy, PartialEq, Eq, Debug)]
+pub enum ExplainedBy<'a> {
+    /// That in a fixed order.
+    Order {
+        /// The most steps of the machine.
+        steps: u32,
+    },
+    /// That in the order which follows from a seed.
+    Seed {
+        /// The most steps of the machine.
+        steps: u32,
+        /// The seed.
+        seed: u64,
+    },
+    /// That by the schedule in the file of this name.
+    Schedule(&'a str),
+    /// That of the log in the file of this name.
+    Log(&'a str),
 }

@@ -1,16 +1,18 @@
 ghost use Rattle.std.specs.Prelude.{IfSome, None, ℕ, ◌≡◌};
-ghost use Rattle.clap.specs.Words.{found_of};
+ghost use Rattle.clap.specs.Words.{found_of, one_of};
 ghost use Rattle.clap.specs.Walk.{rows_of};
 ghost use Rattle.commandline.specs.CommandLine as line;
-ghost use Rattle.commandline.specs.CommandLine.{ReadsOptions, ReadsOrder, ReadsSteps};
+ghost use Rattle.commandline.specs.CommandLine.{IsNumberOf, ReadsOptions, ReadsOrder, ReadsSeed, ReadsSteps};
+ghost use Rattle.commandline.specs.CommandLine.{ReadsWorkers};
+ghost use Rattle.commandline.specs.declared.options.Order.{Order as OrderOf};
 ghost use Rattle.commandline.specs.declared.options.RunOptions.{RunOptions as OptionsOf};
 
-use crate::options::{Order, RunOptions};
+use crate::options::{MOST_WORKERS, Order, RunOptions};
 use clap::ArgMatches;
 use clap::parser::ValueSource;
 
-// Whether the words have this argument.
-fn is_written(matches: &ArgMatches<'_>, id: &str) -> bool
+/// Whether the words have this argument.
+pub fn is_written(matches: &ArgMatches<'_>, id: &str) -> bool
     ensures { result ≡ line.is_written id.now (rows_of (found_of matches.now)) }
 {
     is_of_words(matches.value_source(id))
@@ -22,22 +24,61 @@ fn is_of_words(source: Option<ValueSource>) -> bool
     matches!(source, Some(ValueSource::CommandLine))
 }
 
+// The number of 32 bits that stands for this argument.
+fn number_of(matches: &ArgMatches<'_>, id: &str) -> Option<u32>
+    ensures number { IfSome result (IsNumberOf (one_of id.now (rows_of (found_of matches.now))) 32) }
+    ensures none { result ≡ None → (n : ℕ)
+        → IsNumberOf (one_of id.now (rows_of (found_of matches.now))) 32 n → ⊥ }
+{
+    matches.get_one::<u32>(id)
+}
+
 /// The limit of steps.
 pub fn steps_of(matches: &ArgMatches<'_>) -> Option<u32>
     ensures number { IfSome result (ReadsSteps (rows_of (found_of matches.now))) }
     ensures none { result ≡ None → (n : ℕ) → ReadsSteps (rows_of (found_of matches.now)) n → ⊥ }
 {
-    matches.get_one::<u32>("steps")
+    number_of(matches, "steps")
 }
 
-fn order_of(matches: &ArgMatches<'_>) -> Order
-    ensures { ReadsOrder (rows_of (found_of matches.now)) result }
+/// How many workers compile.
+pub fn workers_of(matches: &ArgMatches<'_>) -> Option<u32>
+    ensures number { IfSome result (ReadsWorkers (rows_of (found_of matches.now))) }
+    ensures none { result ≡ None → (n : ℕ) → ReadsWorkers (rows_of (found_of matches.now)) n
+        → ⊥ }
+{
+    let workers = number_of(matches, "workers")?;
+    if workers < 1 || workers > MOST_WORKERS {
+        return None;
+    }
+    Some(workers)
+}
+
+/// The seed of a run.
+pub fn seed_of(matches: &ArgMatches<'_>) -> Option<u64>
+    ensures number { IfSome result (ReadsSeed (rows_of (found_of matches.now))) }
+    ensures none { result ≡ None → (n : ℕ) → ReadsSeed (rows_of (found_of matches.now)) n → ⊥ }
+{
+    matches.get_one::<u64>("seed")
+}
+
+// Who moves the threads of a run. A fixed order has no seed.
+fn order_of(matches: &ArgMatches<'_>) -> Option<Order>
+    ensures order { IfSome result (ReadsOrder (rows_of (found_of matches.now))) }
+    ensures none { result ≡ None → (o : OrderOf) → ReadsOrder (rows_of (found_of matches.now)) o
+        → ⊥ }
 {
     if is_written(matches, "in-order") {
-        Order::InOrder
-    } else {
-        Order::Workers
+        if is_written(matches, "seed") {
+            return None;
+        }
+        return Some(Order::InOrder);
     }
+    if is_written(matches, "seed") {
+        let seed = seed_of(matches)?;
+        return Some(Order::Seed(seed));
+    }
+    Some(Order::Workers)
 }
 
 /// How a run goes, and what is kept of it.
@@ -47,7 +88,7 @@ pub fn options_of<'a>(matches: &ArgMatches<'a>) -> Option<RunOptions<'a>>
         → ⊥ }
 {
     let steps = steps_of(matches)?;
-    let order = order_of(matches);
+    let order = order_of(matches)?;
     let trace = matches.get_flag("trace");
     let log = matches.get_str("log");
     Some(RunOptions {

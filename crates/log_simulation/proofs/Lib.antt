@@ -10,3 +10,4 @@ pub mod Recording
 pub mod Keeping
 pub mod LogSteps
 pub mod Progressing
+pub mod Stopping

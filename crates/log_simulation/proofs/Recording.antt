@@ -38,7 +38,6 @@ use Rattle.log_simulation.specs.Going.{Follows, Matches, CatchesUp}
 use Rattle.log_simulation.specs.Requests.{visible_step}
 use Rattle.log_simulation.proofs.Visible.{visible_so}
 use Rattle.log_simulation.specs.declared.recorder.Recorder.{Recorder}
-use Rattle.log_simulation.specs.declared.deferred.Deferred.{Deferred}
 use Rattle.log_simulation.specs.Explanations.{IsExplanationOf}
 use Rattle.log_simulation.specs.Recording.{Counts, IsAlong, IsOf, Records, RecordsUnlessLong, progress_rest}
 use Rattle.log_simulation.specs.Deferred.{deferral_of, deferred_by_next_step, CountsDeferred}

@@ -1,10 +1,11 @@
 -- How a log is explained.
-use Rattle.std.specs.Prelude.{◌≡◌, ◌<◌, ◌≤◌, ◌^◌, List, map}
+use Rattle.std.specs.Prelude.{ℕ, ◌≡◌, ◌+◌, ◌<◌, ◌≤◌, ◌^◌, List, length, map, take}
 use Rattle.isa.specs.Programs.{Program as Image}
 use Rattle.machine.specs.FrontRuns.{EventStep, label_of, event_label}
 use Rattle.machine.specs.Runs.{Step, MachineRun}
 use Rattle.machine.specs.declared.event.Entry.{Entry}
 use Rattle.machine.specs.States.{ConcreteState, opening_concrete, state_of}
+use Rattle.machine.specs.Views.{concrete}
 use Rattle.runner.specs.LogRuns.{steps_of}
 use Rattle.runner.specs.Logs.{Runs, cost}
 use Rattle.program.specs.Trees.{Program}
@@ -13,6 +14,7 @@ use Rattle.meaning.specs.Labels.{Action}
 use Rattle.proof_simulation.specs.Explaining.{explanation}
 use Rattle.refinement.specs.Refines.{Explained}
 use Rattle.source_states.specs.Actions.{action_of}
+use Rattle.log_simulation.specs.declared.explained_log.ExplainedLog.{ExplainedLog}
 use Rattle.log_simulation.specs.declared.explained_log.LogExplanation.{LogExplanation}
 use Rattle.log_simulation.specs.declared.explained_log.LogExplanation.TheVariants as told
 
@@ -20,13 +22,19 @@ use Rattle.log_simulation.specs.declared.explained_log.LogExplanation.TheVariant
 abbrev pub LeadsTo : Image → List Entry → ConcreteState → Type 0
 LeadsTo image log k = Runs image (opening_concrete image) log k
 
--- the entries lead nowhere
-abbrev pub IsIllegal : Image → List Entry → Type 0
-IsIllegal image log = (k : ConcreteState) → LeadsTo image log k → ⊥
-
 -- they are no log of a run: they lead nowhere, or have 2^32 steps or more
 abbrev pub IsNoLog : Image → List Entry → Type 0
 IsNoLog image log = (k : ConcreteState) → LeadsTo image log k → 2 ^ 32 ≤ cost log
+
+-- the entry of this number, from 1, is the first with which they are none: those before it are a log of a run
+pub record StopsAt (image : Image) (log : List Entry) (number : ℕ) : Type 0 where
+  pub before : ℕ
+  pub counted : number ≡ before + 1
+  pub inside : before < length log
+  pub machine : ConcreteState
+  pub legal : LeadsTo image (take before log) machine
+  pub short : cost (take before log) < 2 ^ 32
+  pub stops : IsNoLog image (take number log)
 
 -- a run of the machine of these steps leads there, and the actions are its explanation, which explains it in all that a
 -- refinement promises
@@ -46,7 +54,13 @@ pub record IsRecorded (p : Program) (log : List Entry) (actions : List Action) :
   pub short : cost log < 2 ^ 32
   pub explained : IsExplanationOf p (steps_of log) machine actions
 
+-- the log is recorded, and the machine is where it leads
+pub record IsExplained (p : Program) (log : List Entry) (e : ExplainedLog) : Type 0 where
+  pub recorded : IsRecorded p log (map action_of e.actions.items)
+  pub last : concrete e.last ≡ recorded.machine
+  pub program : e.last.program ≡ code_of p
+
 -- how a log of the program's image is explained
 abbrev pub ExplainsLog : Program → List Entry → LogExplanation → Type 0
-ExplainsLog p log told.NotARun = IsNoLog (code_of p) log
-ExplainsLog p log (told.Actions actions) = IsRecorded p log (map action_of actions.items)
+ExplainsLog p log (told.StopsAt number) = StopsAt (code_of p) log number
+ExplainsLog p log (told.Explained e) = IsExplained p log e

@@ -3,17 +3,22 @@ use Rattle.std.specs.Prelude.{ℕ, zero, suc, ◌≡◌, ◌+◌, ◌<◌, ◌�
 use Rattle.words.specs.Limits.{most_processes}
 use Rattle.machine.specs.FrontRuns.{EventStep}
 use Rattle.machine.specs.States.{ConcreteState}
+use Rattle.machine.specs.Views.{concrete}
 use Rattle.machine.specs.declared.event.Entry.{Entry}
+use Rattle.runner.specs.LogRuns.{steps_of}
 use Rattle.program.specs.Names.{said_by}
 use Rattle.program.specs.Trees.{Program}
 use Rattle.program.specs.WellFormed.{WellFormed}
 use Rattle.lowering.specs.Layout.{layout_of}
-use Rattle.lowering.specs.Pieces.{marks_of}
+use Rattle.lowering.specs.Pieces.{code_of, marks_of}
 use Rattle.proof_simulation.specs.Progress.{Progress, progress_caught_up}
 use Rattle.log_simulation.specs.Entries.{ComesTo, entry_steps}
+use Rattle.log_simulation.specs.Explanations.{LeadsTo, StopsAt}
 use Rattle.log_simulation.specs.Going.{Matches}
 use Rattle.log_simulation.specs.Deferred.{CountsDeferred}
 use Rattle.log_simulation.specs.declared.recorder.Recorder.{Recorder}
+use Rattle.log_simulation.specs.declared.walking.Walked.{Walked}
+use Rattle.log_simulation.specs.declared.walking.Walked.TheVariants as walked
 
 -- a recorder of the program's logs
 pub record IsOf (p : Program) (r : Recorder) : Type 0 where
@@ -51,6 +56,17 @@ pub record IsAlong (p : Program) (events : List EventStep) (k : ConcreteState) (
 abbrev pub KeepsUp : Program → ConcreteState → Recorder → Entry → ConcreteState → Recorder → Type 0
 KeepsUp p k r e k' r' =
     WellFormed p → (events : List EventStep) → IsAlong p events k r → IsAlong p (events ++ entry_steps e) k' r'
+
+-- all of a log that leads to this state of the machine was recorded
+pub record IsWhole (p : Program) (log : List Entry) (k : ConcreteState) (r : Recorder) : Type 0 where
+  pub legal : LeadsTo (code_of p) log k
+  pub along : IsAlong p (steps_of log) k r
+  pub whole : r.is_whole ≡ true
+
+-- what a walk over a log came to
+abbrev pub WalksTo : Program → List Entry → Walked → Recorder → Type 0
+WalksTo p log (walked.StopsAt number) r = StopsAt (code_of p) log number
+WalksTo p log (walked.LeadsTo last) r = IsWhole p log (concrete last) r × (last.program ≡ code_of p)
 
 -- what is deferred of processes 1 to n is taken, by number
 abbrev pub progress_rest : Program → ℕ → Progress → Progress

@@ -6,22 +6,32 @@ ghost use Rattle.program.specs.WellFormed.{WellFormed};
 ghost use Rattle.log_simulation.specs.Explanations.{ExplainsLog};
 
 use crate::recorder::Recorder;
-use crate::walking::walk;
+use crate::walking::{Walked, walk};
 use isa::Image;
 use layout::Layout;
 use lowering::Mark;
-use machine::Entry;
+use machine::{Entry, Machine};
 use program::Checked;
 use source_states::Action;
 use std::alloc::{AllocError, Global};
 
+/// A log of a run of a program's image, explained.
+#[derive(Drop)]
+pub struct ExplainedLog {
+    /// The actions of the source, in order.
+    pub actions: Vec<Action>,
+    /// The machine behind the log's last entry.
+    pub last: Machine,
+}
+
 /// How a log of a program's image is explained.
 #[derive(Drop)]
 pub enum LogExplanation {
-    /// The entries are no log of a run: not legal, or of 2^32 steps or more, which the machine's words don't count.
-    NotARun,
-    /// The actions of the source, in order.
-    Actions(Vec<Action>),
+    /// The entry of this number, from 1, is the first with which the entries are no log of a run: it isn't legal, or
+    /// there are 2^32 steps or more with it, which the machine's words don't count.
+    StopsAt(u64),
+    /// The entries are a log of a run.
+    Explained(ExplainedLog),
 }
 
 // A checked program is well formed. Nothing is done when it runs.
@@ -33,7 +43,7 @@ fn checked_is_well_formed(checked: &Checked)
 
 /// The source behind a log of a program's image: the log is walked once, by the machine's own steps, with the layout
 /// of the program and the marks of its code. The marks say which actions are deferred until the next visible one of
-/// their process.
+/// their process. The walk ends at the first entry that isn't legal.
 pub fn explain_log(
     alloc: Global,
     checked: &Checked,
@@ -49,11 +59,11 @@ pub fn explain_log(
 {
     checked_is_well_formed(checked);
     let mut recorder = Recorder::new(alloc, checked, layout, marks)?;
-    let Some(machine) = walk(alloc, image, log, &mut recorder)? else {
-        return Ok(LogExplanation::NotARun);
-    };
-    if !recorder.is_whole() {
-        return Ok(LogExplanation::NotARun);
+    match walk(alloc, image, log, &mut recorder)? {
+        Walked::StopsAt(number) => Ok(LogExplanation::StopsAt(number)),
+        Walked::LeadsTo(last) => {
+            let actions = recorder.finish(&last)?;
+            Ok(LogExplanation::Explained(ExplainedLog { actions, last }))
+        }
     }
-    Ok(LogExplanation::Actions(recorder.finish(&machine)?))
 }

@@ -12,5 +12,5 @@ mod recorder;
 mod requests;
 mod walking;
 
-pub use explained_log::{LogExplanation, explain_log};
+pub use explained_log::{ExplainedLog, LogExplanation, explain_log};
 pub use log_law::progress_follows_logs;

@@ -1,5 +1,4 @@
-ghost use Rattle.std.specs.Prelude.{[], ◌≡◌, ◌<◌, ◌≤◌, false, true, IfOk, MatchBool, MatchOption, OnOk, Some, length};
-ghost use Rattle.std.specs.Prelude.{⊤};
+ghost use Rattle.std.specs.Prelude.{[], ◌≡◌, ◌<◌, ◌≤◌, false, true, IfOk, MatchBool, OnOk, Some, length};
 ghost use Rattle.lowering.specs.Pieces.{code_of};
 ghost use Rattle.locals.specs.Threads.{Thread};
 ghost use Rattle.machine.specs.States.{ConcreteState, opening_concrete, thread_of};
@@ -7,10 +6,8 @@ ghost use Rattle.machine.specs.ConcreteSteps.{can_move};
 ghost use Rattle.machine.specs.Views.{concrete};
 ghost use Rattle.program.specs.Trees.{Program};
 ghost use Rattle.program.specs.WellFormed.{WellFormed};
-ghost use Rattle.runner.specs.LogRuns.{steps_of};
 ghost use Rattle.runner.specs.Logs.{Ends, Enters};
-ghost use Rattle.log_simulation.specs.Explanations.{IsIllegal, LeadsTo};
-ghost use Rattle.log_simulation.specs.Recording.{IsAlong, KeepsUp};
+ghost use Rattle.log_simulation.specs.Recording.{IsAlong, KeepsUp, WalksTo};
 
 use crate::recorder::Recorder;
 use isa::Image;
@@ -90,26 +87,37 @@ fn go_through(
     Ok(true)
 }
 
-/// Walks over a log of an image, and records its actions: the machine after it; None where the log isn't legal.
+/// What a walk over a log came to.
+#[derive(Drop)]
+pub enum Walked {
+    /// The entry of this number, from 1: with it, the entries are no log of a run.
+    StopsAt(u64),
+    /// The machine behind the last entry.
+    LeadsTo(Machine),
+}
+
+/// Walks over a log of an image, and records its actions, as far as its first entry that isn't legal, or with which
+/// there are 2^32 steps or more.
 pub fn walk(
     alloc: Global,
     image: &Image,
     log: &[Entry],
     recorder: &mut Recorder,
-) -> Result<Option<Machine>, AllocError>
-    ensures legal { IfOk result (λ o. MatchOption o (IsIllegal image.now log.now)
-        (λ m. LeadsTo image.now log.now (concrete m))) }
-    ensures told { IfOk result (λ o. MatchOption o ⊤ (λ m. (p : Program) → WellFormed p
-        → image.now ≡ code_of p
-        → IsAlong p [] (opening_concrete image.now) recorder.old
-        → IsAlong p (steps_of log.now) (concrete m) recorder.new)) }
+) -> Result<Walked, AllocError>
+    ensures { IfOk result (λ w. (p : Program) → WellFormed p → image.now ≡ code_of p
+        → IsAlong p [] (opening_concrete image.now) recorder.old → WalksTo p log.now w recorder.new) }
 {
     let mut machine = Machine::new(alloc, image, BUCKETS)?;
     let mut here = Local::exiting(ExitPhase::Ended);
+    let mut number: u64 = 0;
     for entry in log {
+        number += 1;
         if !go_through(image, &mut machine, recorder, &mut here, entry)? {
-            return Ok(None);
+            return Ok(Walked::StopsAt(number));
+        }
+        if !recorder.is_whole() {
+            return Ok(Walked::StopsAt(number));
         }
     }
-    Ok(Some(machine))
+    Ok(Walked::LeadsTo(machine))
 }

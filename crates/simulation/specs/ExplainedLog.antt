@@ -1,13 +1,18 @@
 -- What comes of a log that is to be explained.
-use Rattle.std.specs.Prelude.{◌≡◌, List}
+use Rattle.std.specs.Prelude.{◌≡◌, List, map}
 use Rattle.isa.specs.Programs.{Program as Image}
+use Rattle.machine.specs.Views.{View, concrete}
 use Rattle.machine.specs.declared.event.Entry.{Entry}
 use Rattle.program.specs.Trees.{Program}
 use Rattle.lowering.specs.Pieces.{code_of}
 use Rattle.meaning.specs.Labels.{Action}
+use Rattle.source_states.specs.Actions.{action_of}
+use Rattle.log_simulation.specs.declared.explained_log.ExplainedLog.{ExplainedLog}
 use Rattle.simulation.specs.declared.fault.ExplainFault.{ExplainFault}
 use Rattle.simulation.specs.declared.fault.ExplainFault.TheVariants.{NotARun, OtherImage, Memory}
-pub use Rattle.log_simulation.specs.Explanations.{LeadsTo, IsNoLog, IsRecorded}
+use Rattle.simulation.specs.declared.fault.LogFault.{LogFault}
+use Rattle.simulation.specs.declared.fault.LogFault.TheVariants as log
+pub use Rattle.log_simulation.specs.Explanations.{LeadsTo, IsNoLog, IsRecorded, StopsAt}
 
 -- the image is the program's, the log is legal for it, and the actions are the explanation of the run of the machine
 -- that the log is, which explains it in all that a refinement promises
@@ -20,3 +25,18 @@ abbrev pub RefusesLog : Program → Image → List Entry → ExplainFault → Ty
 RefusesLog p image log OtherImage = image ≡ code_of p → ⊥
 RefusesLog p image log NotARun = (image ≡ code_of p) × IsNoLog image log
 RefusesLog p image log Memory = Unit {0}
+
+-- the machine stands where the log leads
+pub record IsLast (image : Image) (entries : List Entry) (last : View) : Type 0 where
+  pub program : last.program ≡ image
+  pub leads : LeadsTo image entries (concrete last)
+
+-- the log is explained, and the machine stands where it leads
+pub record ExplainsEntries (p : Program) (image : Image) (entries : List Entry) (e : ExplainedLog) : Type 0 where
+  pub explained : IsExplainedLog p image entries (map action_of e.actions.items)
+  pub last : IsLast image entries e.last
+
+-- why a log of the program's image isn't explained: the entry of this number is the first with which it is none
+abbrev pub RefusesEntry : Image → List Entry → LogFault → Type 0
+RefusesEntry image entries (log.Entry number) = StopsAt image entries number
+RefusesEntry image entries log.Memory = Unit {0}

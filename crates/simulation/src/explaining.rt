@@ -5,12 +5,12 @@ ghost use Rattle.program.specs.Names.{said_by};
 ghost use Rattle.lowering.specs.Pieces.{code_of};
 ghost use Rattle.backend.specs.Lowered.{IsLowered};
 ghost use Rattle.source_states.specs.Actions.{action_of};
-ghost use Rattle.simulation.specs.ExplainedLog.{IsExplainedLog, RefusesLog};
+ghost use Rattle.simulation.specs.ExplainedLog.{ExplainsEntries, IsExplainedLog, RefusesEntry, RefusesLog};
 
-use crate::fault::ExplainFault;
+use crate::fault::{ExplainFault, LogFault};
 use backend::{Lowered, lower};
 use isa::{Image, encode, one_spelling};
-use log_simulation::{LogExplanation, explain_log};
+use log_simulation::{ExplainedLog, LogExplanation, explain_log};
 use machine::Entry;
 use program::Checked;
 use scanner::{Refusal, RefusalKind};
@@ -73,6 +73,36 @@ fn lower_as(alloc: Global, checked: &Checked, image: &Image) -> Result<Option<Lo
     }
 }
 
+/// What a log that comes from outside is, where its image's program was lowered already: the actions of the source, as
+/// `explain` has them, and the machine that the log leads to, which says whether all threads have ended there, and
+/// whether one can move.
+///
+/// # Errors
+///
+/// The first entry that isn't legal, or with which there are 2^32 steps or more: the entries before it are a log of a
+/// run. `Memory` may come at any point.
+pub fn explain_log_lowered(
+    alloc: Global,
+    checked: &Checked,
+    lowered: Lowered,
+    log: &[Entry],
+) -> Result<ExplainedLog, LogFault>
+    requires { IsLowered (said_by checked.now) lowered }
+    ensures { let p = said_by checked.now in MatchResult result
+        (λ explained. ExplainsEntries p lowered.image log.now explained)
+        (λ fault. RefusesEntry lowered.image log.now fault) }
+{
+    let Lowered {
+        image,
+        layout,
+        marks,
+    } = lowered;
+    match explain_log(alloc, checked, &image, log, layout, marks)? {
+        LogExplanation::StopsAt(number) => Err(LogFault::Entry(number)),
+        LogExplanation::Explained(explained) => Ok(explained),
+    }
+}
+
 /// The source run that a log of a program's image is, where the program was lowered already: as `explain` has it, with
 /// the image that it was lowered to.
 pub fn explain_lowered(
@@ -86,14 +116,10 @@ pub fn explain_lowered(
         (λ actions. IsExplainedLog p lowered.image log.now (map action_of actions.items))
         (λ fault. RefusesLog p lowered.image log.now fault) }
 {
-    let Lowered {
-        image,
-        layout,
-        marks,
-    } = lowered;
-    match explain_log(alloc, checked, &image, log, layout, marks)? {
-        LogExplanation::NotARun => Err(ExplainFault::NotARun),
-        LogExplanation::Actions(actions) => Ok(actions),
+    match explain_log_lowered(alloc, checked, lowered, log) {
+        Ok(explained) => Ok(explained.actions),
+        Err(LogFault::Entry(_)) => Err(ExplainFault::NotARun),
+        Err(LogFault::Memory) => Err(ExplainFault::Memory),
     }
 }
 

@@ -4,5 +4,6 @@
 mod explaining;
 mod fault;
 
-pub use explaining::{explain, explain_lowered};
-pub use fault::ExplainFault;
+pub use explaining::{explain, explain_log_lowered, explain_lowered};
+pub use fault::{ExplainFault, LogFault};
+pub use log_simulation::ExplainedLog;

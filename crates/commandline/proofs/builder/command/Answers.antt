@@ -10,4 +10,5 @@ returns c =
     let with_run = c.with-command-4.ensures _ line.run_command with_list c.run_command.ensures.app in
     let with_exec = c.with-command-5.ensures _ line.exec_command with_run c.exec_command.ensures.app in
     let with_replay = c.with-command-6.ensures _ line.replay_command with_exec c.replay_command.ensures.app in
-    c.with.ensures _ line.explain_command with_replay c.explain_command.ensures.app
+    let with_explain = c.with-command-7.ensures _ line.explain_command with_replay c.explain_command.ensures.app in
+    c.with.ensures _ line.emit_command with_explain c.emit_command.ensures.app

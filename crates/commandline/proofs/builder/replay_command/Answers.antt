@@ -10,8 +10,8 @@ returns-clause-app c =
     ∙ c.new.ensures.app in
     let first = c.in_ok-arg.ensures.shape c.positional.ensures.local
     ∙ ap₂ with_rule new c.positional.ensures.rule in
-    let second = c.in_ok-arg-2.ensures.shape c.positional-2.ensures.local
-    ∙ ap₂ with_rule first c.positional-2.ensures.rule in
+    let second = c.in_ok-arg-2.ensures.shape c.optional.ensures.local
+    ∙ ap₂ with_rule first c.optional.ensures.rule in
     let third = c.in_ok-arg-3.ensures.shape c.trace_option.ensures.local
     ∙ ap₂ with_rule second c.trace_option.ensures.rule in
     IfOk-weaker c.arg-4.result _ _ (λ r h. h.shape c.valued.ensures.local
@@ -24,7 +24,7 @@ returns-clause-local c = IfOk-weaker c.arg-4.result _ _ (λ r h. rw (
   c.in_ok-arg-3.ensures.globals,
   c.trace_option.ensures.local,
   c.in_ok-arg-2.ensures.globals,
-  c.positional-2.ensures.local,
+  c.optional.ensures.local,
   c.in_ok-arg.ensures.globals,
   c.positional.ensures.local,
   c.about.ensures,

@@ -9,20 +9,24 @@ returns-clause-app c =
     ∙ ap (with_rule (app_of c.args.command)) c.steps_option.ensures.rule in
     let second = c.in_ok-arg-2.ensures.shape c.in_order_option.ensures.local
     ∙ ap₂ with_rule first c.in_order_option.ensures.rule in
-    let third = c.in_ok-arg-3.ensures.shape c.trace_option.ensures.local
-    ∙ ap₂ with_rule second c.trace_option.ensures.rule in
-    IfOk-weaker c.arg-4.result _ _ (λ r h. h.shape c.valued.ensures.local
-    ∙ ap₂ with_rule third c.valued.ensures.rule) c.arg-4.ensures
+    let third = c.in_ok-arg-3.ensures.shape c.seed_option.ensures.local
+    ∙ ap₂ with_rule second c.seed_option.ensures.rule in
+    let fourth = c.in_ok-arg-4.ensures.shape c.trace_option.ensures.local
+    ∙ ap₂ with_rule third c.trace_option.ensures.rule in
+    IfOk-weaker c.arg-5.result _ _ (λ r h. h.shape c.valued.ensures.local
+    ∙ ap₂ with_rule fourth c.valued.ensures.rule) c.arg-5.ensures
 
 pub returns-clause-local : goal.returns-clause-local
-returns-clause-local c = IfOk-weaker c.arg-4.result _ _ (λ r h. rw (
+returns-clause-local c = IfOk-weaker c.arg-5.result _ _ (λ r h. rw (
   h.globals,
   c.valued.ensures.local,
-  c.in_ok-arg-3.ensures.globals,
+  c.in_ok-arg-4.ensures.globals,
   c.trace_option.ensures.local,
+  c.in_ok-arg-3.ensures.globals,
+  c.seed_option.ensures.local,
   c.in_ok-arg-2.ensures.globals,
   c.in_order_option.ensures.local,
   c.in_ok-arg.ensures.globals,
   c.steps_option.ensures.local,
   c.requires,
-) refl) c.arg-4.ensures
+) refl) c.arg-5.ensures

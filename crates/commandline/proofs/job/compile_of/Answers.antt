@@ -1,4 +1,4 @@
-use Rattle.std.proofs.Common.{rules, codes, inl, inr}
+use Rattle.std.proofs.Common.{rules, codes, inl, inr, refl}
 use Rattle.clap.proofs.WalkLemmas.{first_value-rows}
 use Rattle.clap.specs.Words.{found_of}
 use Rattle.clap.specs.Walk.{rows_of}
@@ -13,10 +13,14 @@ returns-in_err-file-clause-none c =
 pub returns-in_err-out-clause-none : goal.returns-in_err-out-clause-none
 returns-in_err-out-clause-none c =
     let out = first_value-rows (found_of c.args.matches.now) (codes "OUT") in
-    λ _ job. no_compile (rows_of (found_of c.args.matches.now)) job (inr (search rules))
+    λ _ job. no_compile (rows_of (found_of c.args.matches.now)) job (inr (inl (search rules)))
+
+pub returns-in_err-workers-clause-none : goal.returns-in_err-workers-clause-none
+returns-in_err-workers-clause-none c = λ _ job.
+    no_compile (rows_of (found_of c.args.matches.now)) job (inr (inr (c.in_err-workers.ensures.none refl)))
 
 pub returns-clause-job : goal.returns-clause-job
 returns-clause-job c =
     let file = first_value-rows (found_of c.args.matches.now) (codes "FILE") in
     let out = first_value-rows (found_of c.args.matches.now) (codes "OUT") in
-    search rules
+    (search rules, search rules, c.in_ok-workers.ensures.number)

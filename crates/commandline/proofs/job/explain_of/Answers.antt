@@ -10,13 +10,13 @@ returns-in_err-file-clause-none c =
     let file = first_value-rows (found_of c.args.matches.now) (codes "FILE") in
     λ _ job. no_explain (rows_of (found_of c.args.matches.now)) job (inl (search rules))
 
-pub returns-in_err-steps-clause-none : goal.returns-in_err-steps-clause-none
-returns-in_err-steps-clause-none c =
-    λ _ job. no_explain (rows_of (found_of c.args.matches.now)) job (inr (c.in_err-steps.ensures.none refl))
+pub returns-in_err-by-clause-none : goal.returns-in_err-by-clause-none
+returns-in_err-by-clause-none c = λ _ job.
+    no_explain (rows_of (found_of c.args.matches.now)) job (inr (c.in_err-by.ensures.none refl))
 
 pub returns-clause-job : goal.returns-clause-job
 returns-clause-job c =
     let found = found_of c.args.matches.now in
     let file = first_value-rows found (codes "FILE") in
     let chart = first_value-rows found (codes "chart") in
-    (search rules, c.in_ok-steps.ensures.number, sym chart ∙ sym c.get_str-chart.ensures)
+    (search rules, c.in_ok-by.ensures.by, sym chart ∙ sym c.get_str-chart.ensures)

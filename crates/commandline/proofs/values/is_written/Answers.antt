@@ -1,7 +1,7 @@
 use Rattle.std.proofs.Common.{ap, ◌∙◌}
 use Rattle.clap.specs.Words.{found_of}
 use Rattle.commandline.specs.CommandLine as line
-use Rattle.commandline.proofs.Sources.{source-rows}
+use Rattle.commandline.proofs.Written.{source-rows}
 use Rattle.commandline.proofs.values.is_written.Goals as goal
 
 pub returns : goal.returns

@@ -1,9 +1,14 @@
--- The log leads on from each entry that is taken, and nowhere past one that can't be; the source is told with it.
-use Rattle.std.proofs.Common.{rules, None, refl, subst, []}
+-- The log leads on from each entry that is taken, and stops at the first that can't be, or that is one too many.
+use Rattle.std.proofs.Common.{rules, ◌+◌, ◌∙◌, sym, arith, take, get_or, None, subst}
+use Rattle.isa.specs.Programs.{Program as Image}
 use Rattle.machine.specs.declared.event.Entry.{Entry}
 use Rattle.machine.specs.Views.{concrete}
+use Rattle.runner.specs.LogRuns.{steps_of}
+use Rattle.runner.specs.Logs.{Enters}
+use Rattle.lowering.specs.Pieces.{code_of}
 use Rattle.log_simulation.specs.Recording.{IsAlong}
-use Rattle.log_simulation.proofs.Entering.{goes_here, stops_here, nothing_left, steps_on, steps_end}
+use Rattle.log_simulation.proofs.Records.{when_false, when_true}
+use Rattle.log_simulation.proofs.Stopping.{leads_next, steps_next, stops_illegal, stops_long, whole_first}
 use Rattle.log_simulation.proofs.walking.walk.Goals as goal
 
 abbrev no_entry : Entry
@@ -12,44 +17,59 @@ no_entry = record { thread = 0; local = 0; event = None }
 pub loop-entry-init : goal.loop-entry-init
 loop-entry-init c = record {
   program = c.in_ok-machine.ensures.program;
-  leads = λ end. search rules;
-  told = λ p w own begins. ([], refl, search rules);
+  number = search rules;
+  recorded = λ p w own begins. record {
+    legal = search rules;
+    along = search rules;
+    whole = whole_first p _ _ begins;
+  };
 }
 
-pub returns-then-not-branch-clause-legal : goal.returns-then-not-branch-clause-legal
-returns-then-not-branch-clause-legal c =
+pub returns-then-not-branch : goal.returns-then-not-branch
+returns-then-not-branch c = λ p w own begins.
     let l = c.loop-entry in
-    λ end run. stops_here c.args.image.now c.args.image.now (concrete l.machine) c.args.log.now l.entry-index no_entry
-    c.in_ok-go_through.field-0 (concrete c.go_through.new.machine) refl
-    c.loop-entry-test.true c.if-not-branch.true c.in_ok-go_through.ensures.enters end ((l.invariant.leads end).1 run)
+    let log = c.args.log.now in
+    let never = when_false _ _ c.in_ok-go_through.field-0 c.in_ok-go_through.ensures.enters c.if-not-branch.true in
+    stops_illegal p log l.entry-index (l.number + 1) no_entry c.loop-entry-test.true (omega (arith, l.invariant.number))
+    (concrete l.machine) l.recorder (l.invariant.recorded p w own begins)
+    (λ new enters. never new (subst
+    (λ (i : Image). Enters i (concrete l.machine) (get_or log l.entry-index no_entry) new) (sym own) enters))
+
+pub returns-then-not-is_whole : goal.returns-then-not-is_whole
+returns-then-not-is_whole c = λ p w own begins.
+    let l = c.loop-entry in
+    let log = c.args.log.now in
+    let new = concrete c.go_through.new.machine in
+    let recorder = c.go_through.new.recorder in
+    let before = l.invariant.recorded p w own begins in
+    let enters = subst (λ (i : Image). Enters i (concrete l.machine) (get_or log l.entry-index no_entry) new) own
+    (when_true _ _ c.in_ok-go_through.field-0 c.in_ok-go_through.ensures.enters c.if-not-branch.false) in
+    let along = c.in_ok-go_through.ensures.told c.if-not-branch.false p own w (steps_of (take l.entry-index log))
+    before.along in
+    stops_long p log l.entry-index (l.number + 1) no_entry c.loop-entry-test.true (omega (arith, l.invariant.number))
+    (concrete l.machine) l.recorder before new enters
+    (when_false _ _ recorder.is_whole along.told (sym c.is_whole.ensures ∙ c.if-not-is_whole.true))
 
 pub loop-entry-preserved : goal.loop-entry-preserved
 loop-entry-preserved c =
     let l = c.loop-entry in
+    let log = c.args.log.now in
+    let new = concrete c.go_through.new.machine in
+    let recorder = c.go_through.new.recorder in
     record {
       program = c.in_ok-go_through.ensures.program;
-      leads = λ end.
-          let on = goes_here c.args.image.now c.args.image.now (concrete l.machine) c.args.log.now l.entry-index
-          no_entry c.in_ok-go_through.field-0 (concrete c.go_through.new.machine) refl
-          c.loop-entry-test.true c.if-not-branch.false c.in_ok-go_through.ensures.enters end in
-          (λ run. (l.invariant.leads end).0 (on.0 run), λ run. on.1 ((l.invariant.leads end).1 run));
-      told = λ p w own begins.
-          let before = l.invariant.told p w own begins in (
-            _,
-            steps_on c.args.log.now l.entry-index no_entry before.0 c.loop-entry-test.true before.1,
-            c.in_ok-go_through.ensures.told c.if-not-branch.false p own w before.0 before.2,
-          );
+      number = omega (arith, l.invariant.number);
+      recorded = λ p w own begins.
+          let before = l.invariant.recorded p w own begins in
+          let enters = subst (λ (i : Image). Enters i (concrete l.machine) (get_or log l.entry-index no_entry) new) own
+          (when_true _ _ c.in_ok-go_through.field-0 c.in_ok-go_through.ensures.enters c.if-not-branch.false) in
+          let along = c.in_ok-go_through.ensures.told c.if-not-branch.false p own w (steps_of (take l.entry-index log))
+          before.along in
+          record {
+            legal = leads_next log l.entry-index no_entry c.loop-entry-test.true (code_of p) (concrete l.machine)
+                before.legal new enters;
+            along = subst (λ es. IsAlong p es new recorder)
+                (sym (steps_next log l.entry-index no_entry c.loop-entry-test.true)) along;
+            whole = sym c.is_whole.ensures ∙ c.if-not-is_whole.false;
+          };
     }
-
-pub returns-clause-told : goal.returns-clause-told
-returns-clause-told c = λ p w own begins.
-    let l = c.loop-entry in
-    let before = l.invariant.told p w own begins in
-    subst (λ n. IsAlong p n (concrete l.machine) l.recorder)
-    (steps_end c.args.log.now l.entry-index before.0 c.loop-entry-test.false before.1) before.2
-
-pub returns-clause-legal : goal.returns-clause-legal
-returns-clause-legal c =
-    let l = c.loop-entry in
-    (l.invariant.leads (concrete l.machine)).0
-    (nothing_left c.args.image.now (concrete l.machine) c.args.log.now l.entry-index c.loop-entry-test.false)

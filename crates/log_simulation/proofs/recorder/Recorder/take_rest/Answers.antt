@@ -1,5 +1,5 @@
 -- Each process pays in its turn.
-use Rattle.std.proofs.Common.{◌≡◌, ◌+◌, ◌∙◌, ap, arith, subst, sym, true, false, ℕ}
+use Rattle.std.proofs.Common.{◌≡◌, ◌+◌, ◌∙◌, ap, arith, subst, sym, ℕ}
 use Rattle.std.proofs.lemmas.Bool.{false≢true}
 use Rattle.program.specs.Names.{said_by}
 use Rattle.log_simulation.specs.Going.{Matches}

@@ -1,5 +1,5 @@
 -- The step was an action that is due, or none that others learn of.
-use Rattle.std.proofs.Common.{◌≡◌, ◌<◌, ◌≤◌, ◌^◌, ◌+◌, ◌∙◌, ap, arith, subst, sym, true, false, Bool, List}
+use Rattle.std.proofs.Common.{◌≡◌, ◌<◌, ◌≤◌, ◌^◌, ◌+◌, ◌∙◌, ap, arith, subst, sym, Bool, List}
 use Rattle.std.proofs.Common.{length}
 use Rattle.std.specs.Prelude.{MatchBool}
 use Rattle.proof_thread.specs.Deferrals.{deferred_by_step, mark_of}

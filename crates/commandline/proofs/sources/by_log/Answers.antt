@@ -1,0 +1,16 @@
+use Rattle.std.proofs.Common.{rules, codes, inr}
+use Rattle.clap.proofs.WalkLemmas.{first_value-rows}
+use Rattle.clap.specs.Words.{found_of}
+use Rattle.clap.specs.Walk.{rows_of}
+use Rattle.commandline.proofs.NoSources.{no_log}
+use Rattle.commandline.proofs.sources.by_log.Goals as goal
+
+pub returns-in_err-log-clause-none : goal.returns-in_err-log-clause-none
+returns-in_err-log-clause-none c =
+    let value = first_value-rows (found_of c.args.matches.now) (codes "log") in
+    λ _ e. no_log (rows_of (found_of c.args.matches.now)) e c.requires (inr (search rules))
+
+pub returns-clause-by : goal.returns-clause-by
+returns-clause-by c =
+    let value = first_value-rows (found_of c.args.matches.now) (codes "log") in
+    (search rules, c.requires, search rules)
