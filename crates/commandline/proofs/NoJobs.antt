@@ -2,6 +2,7 @@
 use Rattle.std.proofs.Common.{◌≡◌, ◌⊎◌, inl, inr, ℕ, List, None, codes}
 use Rattle.clap.specs.Words.{Row, first_of}
 use Rattle.commandline.specs.CommandLine.{IsCheckOf, IsCompileOf, IsEmitOf, IsExplainOf, IsListOf, AsksForExec}
+use Rattle.commandline.specs.CommandLine.{IsExploreOf, ReadsStates}
 use Rattle.commandline.specs.CommandLine.{AsksForReplay, AsksForRun, IsExplainedBy, IsReplayedBy, ReadsOptions}
 use Rattle.commandline.specs.CommandLine.{ReadsWorkers}
 use Rattle.commandline.specs.declared.options.ExplainedBy.{ExplainedBy}
@@ -9,7 +10,7 @@ use Rattle.commandline.specs.declared.options.ReplayedBy.{ReplayedBy}
 use Rattle.commandline.specs.declared.options.RunOptions.{RunOptions}
 use Rattle.commandline.specs.declared.job.Job.{Job}
 use Rattle.commandline.specs.declared.job.Job.TheVariants.{Check, Compile, List as List', Run, Exec, Replay, Explain}
-use Rattle.commandline.specs.declared.job.Job.TheVariants.{Emit}
+use Rattle.commandline.specs.declared.job.Job.TheVariants.{Emit, Explore}
 use Rattle.commandline.proofs.Numbers.{no_value}
 
 pub no_check : (rows : List Row) (job : Job) → first_of (codes "FILE") rows ≡ None → IsCheckOf rows job → ⊥
@@ -60,3 +61,9 @@ pub no_emit : (rows : List Row) (job : Job)
 no_emit rows (Emit file out) (inl none) h = no_value _ _ none h.0
 no_emit rows (Emit file out) (inr none) h = no_value _ _ none h.1
 no_emit rows other missing h = h
+
+pub no_explore : (rows : List Row) (job : Job)
+    → (first_of (codes "FILE") rows ≡ None) ⊎ ((n : ℕ) → ReadsStates rows n → ⊥) → IsExploreOf rows job → ⊥
+no_explore rows (Explore file states chart) (inl none) h = no_value _ _ none h.0
+no_explore rows (Explore file states chart) (inr none) h = none states h.1
+no_explore rows other missing h = h

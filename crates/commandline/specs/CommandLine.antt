@@ -24,7 +24,7 @@ use Rattle.commandline.specs.declared.options.ExplainedBy.TheVariants.{Log as Ex
 use Rattle.commandline.specs.declared.options.RunOptions.{RunOptions}
 use Rattle.commandline.specs.declared.job.Job.{Job}
 use Rattle.commandline.specs.declared.job.Job.TheVariants.{Check, Compile, List as List', Run, Exec, Replay}
-use Rattle.commandline.specs.declared.job.Job.TheVariants.{Explain, Emit}
+use Rattle.commandline.specs.declared.job.Job.TheVariants.{Explain, Emit, Explore}
 
 -- an argument that has to stand, told by its position
 abbrev pub positional : Text → Rule
@@ -34,6 +34,15 @@ positional name = record (new_rule name) { required = true }
 abbrev pub steps_option : Rule
 steps_option = record (new_rule (codes "steps")) {
   long = Some (codes "steps");
+  value_names = 1;
+  defaults = codes "1000000" ∷ [];
+  parser = Some (Unsigned 1 4294967295);
+}
+
+-- `--states N`, with the limit that holds where it is left out
+abbrev pub states_option : Rule
+states_option = record (new_rule (codes "states")) {
+  long = Some (codes "states");
   value_names = 1;
   defaults = codes "1000000" ∷ [];
   parser = Some (Unsigned 1 4294967295);
@@ -112,6 +121,12 @@ explain_command =
     (positional (codes "FILE"))) steps_option) seed_option) (valued (codes "schedule"))) (valued (codes "log")))
     (valued (codes "chart"))
 
+-- `explore FILE [--states N] [--chart OUT]`
+abbrev pub explore_command : App
+explore_command =
+    with_rule (with_rule (with_rule (new_app (codes "explore")) (positional (codes "FILE"))) states_option)
+    (valued (codes "chart"))
+
 -- whether the words have this argument; its default, which they don't have, is no such
 abbrev pub is_of_words : Option ValueSource → Bool
 is_of_words (Some CommandLine) = true
@@ -134,6 +149,10 @@ IsNumberOf text bits n =
 abbrev pub ReadsSteps : List Row → ℕ → Type 0
 ReadsSteps rows steps = IsNumberOf (one_of (codes "steps") rows) 32 steps
 
+-- the text that stands for `--states` is this number
+abbrev pub ReadsStates : List Row → ℕ → Type 0
+ReadsStates rows states = IsNumberOf (one_of (codes "states") rows) 32 states
+
 -- the text that stands for `--workers` is this number, from 1 to 64
 abbrev pub ReadsWorkers : List Row → ℕ → Type 0
 ReadsWorkers rows workers = IsNumberOf (one_of (codes "workers") rows) 32 workers × (1 ≤ workers) × (workers ≤ 64)
@@ -154,12 +173,13 @@ top_command =
     let named = new_app (codes "mesamon") in
     record named { top = record named.top { no_binary_name = true; subcommand_required = true } }
 
--- `mesamon` with its eight commands
+-- `mesamon` with its nine commands
 abbrev pub command_line : App
 command_line =
     with_subcommand (with_subcommand (with_subcommand (with_subcommand (with_subcommand (with_subcommand
-    (with_subcommand (with_subcommand top_command check_command.top) compile_command.top) list_command.top)
-    run_command.top) exec_command.top) replay_command.top) explain_command.top) emit_command.top
+    (with_subcommand (with_subcommand (with_subcommand top_command check_command.top) compile_command.top)
+    list_command.top) run_command.top) exec_command.top) replay_command.top) explain_command.top) emit_command.top)
+    explore_command.top
 
 -- who moves the threads of a run: a worker for each, or one worker in a fixed order or in that of a seed
 abbrev pub ReadsOrder : List Row → Order → Type 0
@@ -242,6 +262,13 @@ IsEmitOf rows (Emit file out) =
     (first_of (codes "FILE") rows ≡ Some file.now) × (first_of (codes "OUT") rows ≡ Some out.now)
 IsEmitOf rows other = ⊥
 
+-- a job of searching all runs
+abbrev pub IsExploreOf : List Row → Job → Type 0
+IsExploreOf rows (Explore file states chart) =
+    (first_of (codes "FILE") rows ≡ Some file.now) × ReadsStates rows states
+    × (first_of (codes "chart") rows ≡ option_map (λ out. out.now) chart)
+IsExploreOf rows other = ⊥
+
 -- the job that the command of a name asks for, with these values of its arguments
 abbrev pub IsAskedBy : Option (Text × List Row) → Job → Type 0
 IsAskedBy None job = ⊥
@@ -249,7 +276,8 @@ IsAskedBy (Some (name, rows)) job =
     ((name ≡ codes "check") × IsCheckOf rows job) ⊎ (((name ≡ codes "compile") × IsCompileOf rows job)
     ⊎ (((name ≡ codes "list") × IsListOf rows job) ⊎ (((name ≡ codes "run") × AsksForRun rows job)
     ⊎ (((name ≡ codes "exec") × AsksForExec rows job) ⊎ (((name ≡ codes "replay") × AsksForReplay rows job)
-    ⊎ (((name ≡ codes "explain") × IsExplainOf rows job) ⊎ ((name ≡ codes "emit") × IsEmitOf rows job)))))))
+    ⊎ (((name ≡ codes "explain") × IsExplainOf rows job) ⊎ (((name ≡ codes "emit") × IsEmitOf rows job)
+    ⊎ ((name ≡ codes "explore") × IsExploreOf rows job))))))))
 
 -- the words ask for this job
 abbrev pub AsksFor : List Text → Job → Type 0

@@ -11,6 +11,9 @@ use std::alloc::{AllocError, Global};
 // The limit of steps of a run that names none.
 const STEPS: &str = "1000000";
 
+// The limit of states of a search that names none.
+const STATES: &str = "1000000";
+
 // What the log of a replay is.
 const REPLAY_LOG: &str =
     "Beside SCHEDULE, where the log is written; without it, the log that is followed";
@@ -29,7 +32,8 @@ pub fn command<'a>(alloc: Global) -> Result<Command<'a>, AllocError>
     let command = with(command, exec_command(alloc));
     let command = with(command, replay_command(alloc));
     let command = with(command, explain_command(alloc));
-    with(command, emit_command(alloc))
+    let command = with(command, emit_command(alloc));
+    with(command, explore_command(alloc))
 }
 
 // A command with one more subcommand, where both could be made.
@@ -163,6 +167,22 @@ fn emit_command<'a>(alloc: Global) -> Result<Command<'a>, AllocError>
         .arg(positional(alloc, "OUT", "Where the C file is written"))
 }
 
+fn explore_command<'a>(alloc: Global) -> Result<Command<'a>, AllocError>
+    ensures app { IfOk result (λ c. app_of c ≡ line.explore_command) }
+    ensures local { IfOk result (λ c. (fields_of c).has_globals ≡ false) }
+{
+    Command::new(alloc, "explore")
+        .about("Searches all runs of a source text for one that gets stuck or aborts")
+        .arg(positional(alloc, "FILE", "The source text"))?
+        .arg(states_option(alloc))?
+        .arg(valued(
+            alloc,
+            "chart",
+            "OUT",
+            "Where the picture of what is found is written",
+        ))
+}
+
 fn positional<'a>(alloc: Global, name: &'a str, help: &'a str) -> Arg<'a>
     ensures rule { rule_of result ≡ line.positional name.entry.now }
     ensures local { result.global ≡ false }
@@ -188,6 +208,18 @@ fn steps_option<'a>(alloc: Global) -> Arg<'a>
         .value_parser(ValueParser::unsigned(1, u32::MAX as u64))
         .default_value(STEPS)
         .help("The most steps of the machine")
+}
+
+fn states_option<'a>(alloc: Global) -> Arg<'a>
+    ensures rule { rule_of result ≡ line.states_option }
+    ensures local { result.global ≡ false }
+{
+    Arg::new(alloc, "states")
+        .long("states")
+        .value_name("N")
+        .value_parser(ValueParser::unsigned(1, u32::MAX as u64))
+        .default_value(STATES)
+        .help("The most states that are kept")
 }
 
 fn workers_option<'a>(alloc: Global) -> Arg<'a>

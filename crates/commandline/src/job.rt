@@ -3,6 +3,7 @@ ghost use Rattle.clap.specs.Words.{app_of, found_of, kind_of, subcommand_rows_of
 ghost use Rattle.clap.specs.Walk.{rows_of};
 ghost use Rattle.clap.specs.declared.error.kind.ErrorKind.TheVariants.{OutOfMemory};
 ghost use Rattle.commandline.specs.CommandLine.{AsksFor, IsAskedBy, IsCheckOf, IsCompileOf, IsEmitOf, IsExplainOf, IsListOf};
+ghost use Rattle.commandline.specs.CommandLine.{IsExploreOf};
 ghost use Rattle.commandline.specs.CommandLine.{AsksForExec, AsksForReplay, AsksForRun, command_line};
 ghost use Rattle.commandline.specs.declared.job.Job.{Job as JobOf};
 
@@ -11,7 +12,7 @@ use crate::fault::WordsFault;
 use crate::options::{ExplainedBy, ReplayedBy, RunOptions};
 use crate::refusing::refusal_of;
 use crate::sources::{explained_by, replayed_by};
-use crate::values::{options_of, workers_of};
+use crate::values::{options_of, states_of, workers_of};
 use clap::{ArgMatches, Command, Error};
 use std::alloc::Global;
 
@@ -77,6 +78,16 @@ pub enum Job<'a> {
         /// The name of the C file.
         out: &'a str,
     },
+    /// Search all runs of the source text of a file for one that gets stuck, and for one in which a process aborts; print
+    /// what is found, and draw it where that is wanted.
+    Explore {
+        /// The name of the source text's file.
+        file: &'a str,
+        /// The most states that are kept.
+        states: u32,
+        /// The name of the picture's file, where one is wanted.
+        chart: Option<&'a str>,
+    },
 }
 
 /// The job that the words of a command line ask for, those after the program's name.
@@ -135,6 +146,7 @@ fn job_of<'a>(matches: &ArgMatches<'a>) -> Option<Job<'a>>
         "replay" => replay_of(inner),
         "explain" => explain_of(inner),
         "emit" => emit_of(inner),
+        "explore" => explore_of(inner),
         _ => None,
     }
 }
@@ -218,4 +230,19 @@ fn emit_of<'a>(matches: &ArgMatches<'a>) -> Option<Job<'a>>
     let file = matches.get_str("FILE")?;
     let out = matches.get_str("OUT")?;
     Some(Job::Emit { file, out })
+}
+
+fn explore_of<'a>(matches: &ArgMatches<'a>) -> Option<Job<'a>>
+    ensures job { IfSome result (IsExploreOf (rows_of (found_of matches.now))) }
+    ensures none { result ≡ None → (job : JobOf) → IsExploreOf (rows_of (found_of matches.now)) job
+        → ⊥ }
+{
+    let file = matches.get_str("FILE")?;
+    let states = states_of(matches)?;
+    let chart = matches.get_str("chart");
+    Some(Job::Explore {
+        file,
+        states,
+        chart,
+    })
 }

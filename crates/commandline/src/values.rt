@@ -3,7 +3,7 @@ ghost use Rattle.clap.specs.Words.{found_of, one_of};
 ghost use Rattle.clap.specs.Walk.{rows_of};
 ghost use Rattle.commandline.specs.CommandLine as line;
 ghost use Rattle.commandline.specs.CommandLine.{IsNumberOf, ReadsOptions, ReadsOrder, ReadsSeed, ReadsSteps};
-ghost use Rattle.commandline.specs.CommandLine.{ReadsWorkers};
+ghost use Rattle.commandline.specs.CommandLine.{ReadsStates, ReadsWorkers};
 ghost use Rattle.commandline.specs.declared.options.Order.{Order as OrderOf};
 ghost use Rattle.commandline.specs.declared.options.RunOptions.{RunOptions as OptionsOf};
 
@@ -39,6 +39,14 @@ pub fn steps_of(matches: &ArgMatches<'_>) -> Option<u32>
     ensures none { result ≡ None → (n : ℕ) → ReadsSteps (rows_of (found_of matches.now)) n → ⊥ }
 {
     number_of(matches, "steps")
+}
+
+/// The limit of states.
+pub fn states_of(matches: &ArgMatches<'_>) -> Option<u32>
+    ensures number { IfSome result (ReadsStates (rows_of (found_of matches.now))) }
+    ensures none { result ≡ None → (n : ℕ) → ReadsStates (rows_of (found_of matches.now)) n → ⊥ }
+{
+    number_of(matches, "states")
 }
 
 /// How many workers compile.

@@ -11,4 +11,5 @@ returns c =
     let with_exec = c.with-command-5.ensures _ line.exec_command with_run c.exec_command.ensures.app in
     let with_replay = c.with-command-6.ensures _ line.replay_command with_exec c.replay_command.ensures.app in
     let with_explain = c.with-command-7.ensures _ line.explain_command with_replay c.explain_command.ensures.app in
-    c.with.ensures _ line.emit_command with_explain c.emit_command.ensures.app
+    let with_emit = c.with-command-8.ensures _ line.emit_command with_explain c.emit_command.ensures.app in
+    c.with.ensures _ line.explore_command with_emit c.explore_command.ensures.app

@@ -1,0 +1,28 @@
+use Rattle.std.proofs.Common.{ap, ap₂, codes, refl, ◌≡◌, ◌∙◌}
+use Rattle.std.proofs.lemmas.Result.{IfOk-weaker}
+use Rattle.clap.specs.Simple.{app_of_fields}
+use Rattle.clap.specs.Words.{app_of, new_app, with_rule}
+use Rattle.commandline.proofs.builder.explore_command.Goals as goal
+
+pub returns-clause-app : goal.returns-clause-app
+returns-clause-app c =
+    let new : app_of c.about.result ≡ new_app (codes "explore") = ap app_of_fields c.about.ensures
+    ∙ c.new.ensures.app in
+    let first = c.in_ok-arg.ensures.shape c.positional.ensures.local
+    ∙ ap₂ with_rule new c.positional.ensures.rule in
+    let second = c.in_ok-arg-2.ensures.shape c.states_option.ensures.local
+    ∙ ap₂ with_rule first c.states_option.ensures.rule in
+    IfOk-weaker c.arg-3.result _ _ (λ r h. h.shape c.valued.ensures.local
+    ∙ ap₂ with_rule second c.valued.ensures.rule) c.arg-3.ensures
+
+pub returns-clause-local : goal.returns-clause-local
+returns-clause-local c = IfOk-weaker c.arg-3.result _ _ (λ r h. rw (
+  h.globals,
+  c.valued.ensures.local,
+  c.in_ok-arg-2.ensures.globals,
+  c.states_option.ensures.local,
+  c.in_ok-arg.ensures.globals,
+  c.positional.ensures.local,
+  c.about.ensures,
+  c.new.ensures.local,
+) refl) c.arg-3.ensures

@@ -1,0 +1,22 @@
+use Rattle.std.proofs.Common.{rules, codes, inl, inr, refl, sym, ◌∙◌}
+use Rattle.clap.proofs.WalkLemmas.{first_value-rows}
+use Rattle.clap.specs.Words.{found_of}
+use Rattle.clap.specs.Walk.{rows_of}
+use Rattle.commandline.proofs.NoJobs.{no_explore}
+use Rattle.commandline.proofs.job.explore_of.Goals as goal
+
+pub returns-in_err-file-clause-none : goal.returns-in_err-file-clause-none
+returns-in_err-file-clause-none c =
+    let file = first_value-rows (found_of c.args.matches.now) (codes "FILE") in
+    λ _ job. no_explore (rows_of (found_of c.args.matches.now)) job (inl (search rules))
+
+pub returns-in_err-states-clause-none : goal.returns-in_err-states-clause-none
+returns-in_err-states-clause-none c = λ _ job.
+    no_explore (rows_of (found_of c.args.matches.now)) job (inr (c.in_err-states.ensures.none refl))
+
+pub returns-clause-job : goal.returns-clause-job
+returns-clause-job c =
+    let found = found_of c.args.matches.now in
+    let file = first_value-rows found (codes "FILE") in
+    let chart = first_value-rows found (codes "chart") in
+    (search rules, c.in_ok-states.ensures.number, sym chart ∙ sym c.get_str-chart.ensures)
