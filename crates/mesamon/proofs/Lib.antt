@@ -3,3 +3,4 @@ mod Endings
 mod Failing
 mod Lines
 mod Replays
+mod SourceLogs

@@ -11,6 +11,7 @@ mod report;
 mod running;
 mod schedule;
 mod showing;
+mod source_log;
 mod source_run;
 mod status;
 
@@ -19,5 +20,6 @@ pub use commands::perform;
 pub use compiler::{check_text, compile, compile_checked};
 pub use explained_run::{ExplainSourceFault, ExplainedRun, explain_source};
 pub use replaying::{ReplayFault, replay};
+pub use source_log::{SourceLogFault, explain_log_text, replay_log_text};
 pub use source_run::{RunSourceFault, run_in_order, run_source};
 pub use status::Status;
