@@ -1,5 +1,7 @@
 pub mod RunsExplained
 mod Endings
+mod Explanations
 mod Failing
 mod Lines
+mod SourceLogs
 mod Replays

@@ -1,6 +1,8 @@
 pub mod Running
 pub mod Replaying
 pub mod Explaining
+pub mod SourceLog
+pub mod Asked
 pub mod Statuses
 pub mod Accounts
 pub mod Failures

@@ -1,0 +1,108 @@
+-- What a log that comes from outside answers, as the text of its lines: explained, or run again.
+use Rattle.std.specs.Prelude.{◌≡◌, ◌⊎◌, ℕ, List, map}
+use Rattle.isa.specs.Programs.{Program as Image}
+use Rattle.machine.specs.declared.event.Entry.{Entry}
+use Rattle.machine.specs.Runs.{MachineRun, Step}
+use Rattle.machine.specs.States.{state_of}
+use Rattle.machine.specs.Views.{concrete}
+use Rattle.scanner.specs.Refusals.{out_of_memory}
+use Rattle.program.specs.Names.{said_by}
+use Rattle.program.specs.Trees.{Program}
+use Rattle.lowering.specs.Pieces.{code_of}
+use Rattle.refinement.specs.Refines.{Explained}
+use Rattle.source_states.specs.Actions.{action_of}
+use Rattle.runner.specs.LogSchedules.{IsBadLogEntry, IsFollowedLog}
+use Rattle.runner.specs.Reports.{IsVerdict}
+use Rattle.runner.specs.declared.report.Report.{Report}
+use Rattle.log_text.specs.Spelled.{IsBadLine, IsLogText}
+use Rattle.simulation.specs.ExplainedLog.{IsExplainedLog, IsLast, StopsAt}
+use Rattle.compiler.specs.Accepts.{AcceptsText, RefusesText}
+use Rattle.mesamon.specs.declared.explained_run.ExplainedRun.{ExplainedRun}
+use Rattle.mesamon.specs.declared.source_log.SourceLogFault.{SourceLogFault}
+use Rattle.mesamon.specs.declared.source_log.SourceLogFault.TheVariants.{Refused, Line, Entry as Entry', Memory}
+
+-- why lines aren't read
+abbrev pub ReadsNot : List ℕ → SourceLogFault → Type 0
+ReadsNot lines (Line number) = IsBadLine lines number
+ReadsNot lines Memory = Unit {0}
+ReadsNot lines fault = ⊥
+
+-- why entries aren't explained
+abbrev pub StopsLog : Image → List Entry → SourceLogFault → Type 0
+StopsLog image entries (Entry' number) = StopsAt image entries number
+StopsLog image entries Memory = Unit {0}
+StopsLog image entries fault = ⊥
+
+-- why entries aren't followed
+abbrev pub FollowsNot : Image → List Entry → SourceLogFault → Type 0
+FollowsNot image entries (Entry' number) = IsBadLogEntry image entries number
+FollowsNot image entries Memory = Unit {0}
+FollowsNot image entries fault = ⊥
+
+-- the report of a log: the machine stands where it leads, with the output and the verdict of that state
+pub record IsReportOfLog (p : Program) (entries : List Entry) (r : Report) : Type 0 where
+  pub log : r.log.items ≡ entries
+  pub last : IsLast (code_of p) entries r.last
+  pub output : r.output.items ≡ (concrete r.last).common.output
+  pub verdict : IsVerdict (concrete r.last) r.verdict
+
+-- the lines are those of a log of the code of the text's program, and the actions are its explanation
+pub record IsExplanationOfLog (text lines : List ℕ) (r : ExplainedRun) : Type 0 where
+  pub accepts : AcceptsText text (said_by r.checked)
+  pub entries : List Entry
+  pub reads : IsLogText lines entries
+  pub explained : IsExplainedLog (said_by r.checked) (code_of (said_by r.checked)) entries (map action_of r.actions.items)
+  pub report : IsReportOfLog (said_by r.checked) entries r.report
+
+-- the text is a program's, and the lines are those of entries
+pub record ReadsLog (text lines : List ℕ) : Type 0 where
+  pub program : Program
+  pub accepts : AcceptsText text program
+  pub entries : List Entry
+  pub reads : IsLogText lines entries
+
+-- the text is a program's, and the line of this number is the first that is no entry's
+pub record HasBadLine (text lines : List ℕ) (number : ℕ) : Type 0 where
+  pub program : Program
+  pub accepts : AcceptsText text program
+  pub bad : IsBadLine lines number
+
+-- the entry of this number is the first with which the log is none of the code of the text's program
+pub record HasBadEntry (text lines : List ℕ) (number : ℕ) : Type 0 where
+  pub log : ReadsLog text lines
+  pub stops : StopsAt (code_of log.program) log.entries number
+
+-- why a log isn't explained
+abbrev pub IsRefusedLog : List ℕ → List ℕ → SourceLogFault → Type 0
+IsRefusedLog text lines (Refused e) = (e ≡ out_of_memory) ⊎ RefusesText text e
+IsRefusedLog text lines (Line number) = HasBadLine text lines number
+IsRefusedLog text lines (Entry' number) = HasBadEntry text lines number
+IsRefusedLog text lines Memory = Unit {0}
+
+-- no refusal of the text but for want of memory
+abbrev pub IsOfLog : SourceLogFault → Type 0
+IsOfLog (Refused e) = e ≡ out_of_memory
+IsOfLog (Line number) = Unit {0}
+IsOfLog (Entry' number) = Unit {0}
+IsOfLog Memory = Unit {0}
+
+-- the report of the code of the text's program, run by the threads and counts of the log that the lines are, which a
+-- run of the program explains
+pub record IsReplayOfLog (text lines : List ℕ) (report : Report) : Type 0 where
+  pub log : ReadsLog text lines
+  pub followed : IsFollowedLog (code_of log.program) log.entries report
+  pub steps : List Step
+  pub machine_run : MachineRun (code_of log.program) steps (state_of (concrete report.last))
+  pub explained : Explained log.program (code_of log.program) steps (state_of (concrete report.last))
+
+-- the entry of this number is the first that the code of the text's program can't follow
+pub record CannotFollow (text lines : List ℕ) (number : ℕ) : Type 0 where
+  pub log : ReadsLog text lines
+  pub fails : IsBadLogEntry (code_of log.program) log.entries number
+
+-- why a log isn't run again
+abbrev pub IsUnfollowedLog : List ℕ → List ℕ → SourceLogFault → Type 0
+IsUnfollowedLog text lines (Refused e) = (e ≡ out_of_memory) ⊎ RefusesText text e
+IsUnfollowedLog text lines (Line number) = HasBadLine text lines number
+IsUnfollowedLog text lines (Entry' number) = CannotFollow text lines number
+IsUnfollowedLog text lines Memory = Unit {0}
