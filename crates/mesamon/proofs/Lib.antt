@@ -5,3 +5,4 @@ mod Failing
 mod Lines
 mod SourceLogs
 mod Replays
+mod SourceLogs
