@@ -3,3 +3,4 @@ mod NoJobs
 mod NoSources
 mod Written
 mod Worked
+pub mod Workers

@@ -1,5 +1,6 @@
 pub mod RunsExplained
 mod Endings
+mod Explanations
 mod Failing
 mod Lines
 mod Replays

@@ -1,6 +1,7 @@
 -- A report of a run of compiled code by a schedule is explained by a run of the program.
 use Rattle.std.proofs.Common.{◌≡◌, ◌<◌, ◌+◌, ◌^◌, ◌++◌, ℕ, zero, suc, List, [], ◌∷◌, Option, Some, None}
-use Rattle.std.proofs.Common.{inl, inr, length, map, min, replicate, take, refl, ap, ap₂, sym, ◌∙◌, subst, arith}
+use Rattle.std.proofs.Common.{Result, Ok, Err, IfOk, IfErr, MatchResult}
+use Rattle.std.proofs.Common.{inl, inr, length, map, min, replicate, refl, ap, ap₂, sym, ◌∙◌, subst, arith}
 use Rattle.std.specs.List.{All}
 use Rattle.std.proofs.lemmas.List.{length-map, length-take, map-append}
 use Rattle.std.proofs.lemmas.Simd.{map-map}
@@ -9,8 +10,6 @@ use Rattle.std.proofs.lemmas.List.Sums.{sum_by-cons}
 use Rattle.isa.specs.Programs.{Program}
 use Rattle.machine.specs.declared.event.Entry.{Entry}
 use Rattle.machine.specs.declared.event.Event.{Event}
-use Rattle.machine.specs.declared.event.StepFault.TheVariants as step
-use Rattle.machine.specs.ConcreteSteps.{step_of}
 use Rattle.machine.specs.FrontRuns.{EventStep, Label, label_of, event_label}
 use Rattle.machine.specs.Runs.{Step}
 use Rattle.machine.specs.States.{state_of}
@@ -25,7 +24,10 @@ use Rattle.runner.specs.declared.report.Report.{Report}
 use Rattle.runner.specs.declared.schedule.ScheduleFault.TheVariants.{Broken}
 use Rattle.runner.proofs.Unrolling.{holds, runs_so}
 use Rattle.compiler.specs.Compiles.{IsCompiled}
-use Rattle.mesamon.specs.Replaying.{IsReplayOfText}
+use Rattle.runner.specs.declared.schedule.ScheduleFault.TheVariants as follow
+use Rattle.mesamon.specs.Replaying.{IsLeftSchedule, IsNoRefusal, IsRefusedReplay, IsReplayOfText}
+use Rattle.mesamon.specs.declared.replaying.ReplayFault.{ReplayFault}
+use Rattle.mesamon.specs.declared.replaying.ReplayFault.TheVariants.{Refused, BadEntry, Memory}
 
 -- entries of one step cost as many steps as there are
 ones_cost : (log : List Entry) → All IsOneStep log → cost log ≡ length log
@@ -109,3 +111,47 @@ pub replay_sound : (text : List ℕ) (image : Program) (schedule : List ℕ) (nu
     → FailsAt image schedule (Broken number) → ⊥
 replay_sound text image schedule number c fails =
     sound_at text image schedule number c (subst (λ (p : Program). FailsAt p schedule (Broken number)) c.code fails)
+
+-- what a run by a schedule of the image of a text answers, of the text
+pub replayed : (text : List ℕ) (image : Program) (schedule : List ℕ) (r : Result Report ReplayFault)
+    → IsCompiled text image → MatchResult r (IsFollowed image schedule) (IsLeftSchedule image schedule)
+    → IfOk r (IsReplayOfText text schedule)
+replayed text image schedule (Ok report) c h = replay_explained text image schedule report c h
+replayed text image schedule (Err fault) c h = tt
+
+pub left_of_text : (text : List ℕ) (image : Program) (schedule : List ℕ) (fault : ReplayFault) → IsCompiled text image
+    → IsLeftSchedule image schedule fault → IsRefusedReplay text schedule fault
+left_of_text text image schedule (Refused e) c h = absurd h
+left_of_text text image schedule (BadEntry number) c h = record {
+  program = c.program;
+  accepts = c.accepts;
+  fails = subst (λ (p : Program). FailsAt p schedule (follow.BadEntry number)) c.code h;
+}
+left_of_text text image schedule Memory c h = tt
+
+pub replay_left : (text : List ℕ) (image : Program) (schedule : List ℕ) (r : Result Report ReplayFault)
+    → IsCompiled text image → MatchResult r (IsFollowed image schedule) (IsLeftSchedule image schedule)
+    → IfErr r (IsRefusedReplay text schedule)
+replay_left text image schedule (Ok report) c h = tt
+replay_left text image schedule (Err fault) c h = left_of_text text image schedule fault c h
+
+pub keeps_no_refusal : (image : Program) (schedule : List ℕ) (fault : ReplayFault)
+    → IsLeftSchedule image schedule fault → IsNoRefusal fault
+keeps_no_refusal image schedule (Refused e) h = absurd h
+keeps_no_refusal image schedule (BadEntry number) h = tt
+keeps_no_refusal image schedule Memory h = tt
+
+pub replay_keeps : (image : Program) (schedule : List ℕ) (r : Result Report ReplayFault)
+    → MatchResult r (IsFollowed image schedule) (IsLeftSchedule image schedule) → IfErr r IsNoRefusal
+replay_keeps image schedule (Ok report) h = tt
+replay_keeps image schedule (Err fault) h = keeps_no_refusal image schedule fault h
+
+-- a log by a schedule has fewer than 2^32 steps
+pub followed_few : (image : Program) (schedule : List ℕ) (r : Report) → IsFollowed image schedule r
+    → cost r.log.items < 2 ^ 32
+followed_few image schedule r f =
+    let total = ones_cost r.log.items f.follows.single in
+    let many : length r.log.items ≡ length schedule =
+    sym (length-map r.log.items (λ (e : Entry). e.thread)) ∙ ap length f.follows.threads in
+    let below = f.few in
+    omega (arith, total, many, below)

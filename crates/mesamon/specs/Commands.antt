@@ -17,8 +17,9 @@ use Rattle.compiler.specs.Accepts.{AcceptsText}
 use Rattle.compiler.specs.Compiles.{IsCompiled}
 use Rattle.mesamon.specs.declared.explained_run.ExplainedRun.{ExplainedRun}
 use Rattle.mesamon.specs.Running.{IsRunOfText}
-use Rattle.mesamon.specs.Explaining.{IsExplanationOfText}
+use Rattle.mesamon.specs.Explaining.{IsExplanation, IsExplanationOfText}
 use Rattle.mesamon.specs.Replaying.{IsReplayOfText}
+use Rattle.mesamon.specs.SourceLog.{IsExplanationOfLog, IsReplayOfLog}
 use Rattle.mesamon.specs.Accounts.{account, image_line, output_lines}
 
 -- some text was checked, and it was told that it is a program
@@ -49,10 +50,11 @@ status_of_verdict verdict.Done = Done
 status_of_verdict verdict.Stuck = Stuck
 status_of_verdict verdict.Limit = Limit
 
--- a report of a run of the text within some limit of steps, or by some schedule
+-- a report of a run of the text within some limit of steps, or by some schedule, or by the log that some text is
 abbrev pub IsReportOf : List ℕ → Report → Type 0
 IsReportOf text report =
-    ((limit : ℕ) × IsRunOfText text limit report) ⊎ ((schedule : List ℕ) × IsReplayOfText text schedule report)
+    ((limit : ℕ) × IsRunOfText text limit report) ⊎ (((schedule : List ℕ) × IsReplayOfText text schedule report)
+    ⊎ ((lines : List ℕ) × IsReplayOfLog text lines report))
 
 -- some text was run, and its output and its account were written
 pub record HasRun (Wrote WroteErrors : List ℕ → Type 0) (status : Status) : Type 0 where
@@ -82,12 +84,19 @@ pub record HasExecuted (Wrote WroteErrors : List ℕ → Type 0) (status : Statu
 abbrev pub explained_lines : ExplainedRun → List ℕ
 explained_lines r = flat_map (line r.checked.names) (map action_of r.actions.items)
 
--- some text was run and its run explained, and the lines of the actions were written
+-- the actions are those of a run of the text within some limit of steps or by some schedule, or of the log that some
+-- lines are
+abbrev pub IsExplained : List ℕ → ExplainedRun → Type 0
+IsExplained text r =
+    ((limit : ℕ) × IsExplanationOfText text limit r)
+    ⊎ (((schedule : List ℕ) × IsExplanation text (IsReplayOfText text schedule) r)
+    ⊎ ((lines : List ℕ) × IsExplanationOfLog text lines r))
+
+-- some text was run and its run explained, or a log of it, and the lines of the actions were written
 pub record HasExplained (Wrote : List ℕ → Type 0) (status : Status) : Type 0 where
   pub text : List ℕ
-  pub limit : ℕ
   pub explained_run : ExplainedRun
-  pub explained : IsExplanationOfText text limit explained_run
+  pub explained : IsExplained text explained_run
   pub ended : status ≡ status_of_verdict explained_run.report.verdict
   pub wrote : Wrote (explained_lines explained_run)
 

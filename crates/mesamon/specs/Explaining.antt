@@ -4,6 +4,7 @@ use Rattle.scanner.specs.Refusals.{out_of_memory}
 use Rattle.program.specs.Names.{said_by}
 use Rattle.lowering.specs.Pieces.{code_of}
 use Rattle.source_states.specs.Actions.{action_of}
+use Rattle.runner.specs.declared.report.Report.{Report}
 use Rattle.simulation.specs.ExplainedLog.{IsExplainedLog}
 use Rattle.compiler.specs.Accepts.{AcceptsText, RefusesText}
 use Rattle.mesamon.specs.Running.{IsRunOfText}
@@ -11,12 +12,16 @@ use Rattle.mesamon.specs.declared.explained_run.ExplainedRun.{ExplainedRun}
 use Rattle.mesamon.specs.declared.explained_run.ExplainSourceFault.{ExplainSourceFault}
 use Rattle.mesamon.specs.declared.explained_run.ExplainSourceFault.TheVariants.{Refused, Memory}
 
--- a run of the text's program within the limit, and the actions that the log of its code is
-pub record IsExplanationOfText (text : List ℕ) (limit : ℕ) (r : ExplainedRun) : Type 0 where
+-- a report of the text's program that is of this kind, and the actions that the log of its code is
+pub record IsExplanation (text : List ℕ) (IsOfKind : Report → Type 0) (r : ExplainedRun) : Type 0 where
   pub accepts : AcceptsText text (said_by r.checked)
-  pub run : IsRunOfText text limit r.report
+  pub run : IsOfKind r.report
   pub explained : IsExplainedLog (said_by r.checked) (code_of (said_by r.checked)) r.report.log.items
       (map action_of r.actions.items)
+
+-- a run of the text's program within the limit, and its actions
+abbrev pub IsExplanationOfText : List ℕ → ℕ → ExplainedRun → Type 0
+IsExplanationOfText text limit r = IsExplanation text (IsRunOfText text limit) r
 
 -- the text's refusal, or want of memory
 abbrev pub IsRefusedExplanation : List ℕ → ExplainSourceFault → Type 0

@@ -16,9 +16,11 @@ use Rattle.mesamon.specs.declared.replaying.ReplayFault.{ReplayFault}
 use Rattle.mesamon.specs.declared.replaying.ReplayFault.TheVariants as replay
 use Rattle.mesamon.specs.declared.explained_run.ExplainSourceFault.{ExplainSourceFault}
 use Rattle.mesamon.specs.declared.explained_run.ExplainSourceFault.TheVariants as explain
+use Rattle.mesamon.specs.declared.source_log.SourceLogFault.{SourceLogFault}
+use Rattle.mesamon.specs.declared.source_log.SourceLogFault.TheVariants as log
 use Rattle.mesamon.specs.declared.failure.Failure.{Failure}
 use Rattle.mesamon.specs.declared.failure.Failure.TheVariants.{Usage, Read, Write, Refused, Image, Run, Schedule}
-use Rattle.mesamon.specs.declared.failure.Failure.TheVariants.{Output, Memory}
+use Rattle.mesamon.specs.declared.failure.Failure.TheVariants.{LogLine, LogEntry, Output, Memory}
 use Rattle.mesamon.specs.declared.status.Status.{Status}
 use Rattle.mesamon.specs.declared.status.Status.TheVariants as status
 
@@ -31,6 +33,8 @@ status_of (Refused e) = status.Refused
 status_of (Image e) = status.Failed
 status_of (Run e) = status.Failed
 status_of (Schedule number) = status.Failed
+status_of (LogLine number) = status.Failed
+status_of (LogEntry number) = status.Failed
 status_of Output = status.Failed
 status_of Memory = status.Memory
 
@@ -72,3 +76,10 @@ OfReplay replay.Memory f = f ≡ Memory
 abbrev pub OfExplain : ExplainSourceFault → Failure → Type 0
 OfExplain (explain.Refused e) f = OfRefusal e f
 OfExplain explain.Memory f = f ≡ Memory
+
+-- the failure that comes of a fault of a log
+abbrev pub OfSourceLog : SourceLogFault → Failure → Type 0
+OfSourceLog (log.Refused e) f = OfRefusal e f
+OfSourceLog (log.Line number) f = f ≡ LogLine number
+OfSourceLog (log.Entry number) f = f ≡ LogEntry number
+OfSourceLog log.Memory f = f ≡ Memory

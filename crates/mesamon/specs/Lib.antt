@@ -2,6 +2,7 @@ pub mod Running
 pub mod Replaying
 pub mod Explaining
 pub mod SourceLog
+pub mod Asked
 pub mod Statuses
 pub mod Accounts
 pub mod Failures

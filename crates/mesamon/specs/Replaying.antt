@@ -1,5 +1,6 @@
 -- What a run of a source text by a schedule answers.
 use Rattle.std.specs.Prelude.{◌≡◌, ◌⊎◌, ℕ, List, map}
+use Rattle.isa.specs.Programs.{Program as Image}
 use Rattle.machine.specs.Runs.{MachineRun, Step}
 use Rattle.machine.specs.States.{state_of}
 use Rattle.machine.specs.Views.{concrete}
@@ -24,6 +25,12 @@ pub record IsReplayOfText (text schedule : List ℕ) (report : Report) : Type 0 
   pub threads : map (λ s. s.thread) steps ≡ schedule
   pub machine_run : MachineRun (code_of program) steps (state_of (concrete report.last))
   pub explained : Explained program (code_of program) steps (state_of (concrete report.last))
+
+-- why an image of a text isn't run by a schedule to its end: the first entry that is refused, or want of memory
+abbrev pub IsLeftSchedule : Image → List ℕ → ReplayFault → Type 0
+IsLeftSchedule image schedule (Refused e) = ⊥
+IsLeftSchedule image schedule (BadEntry number) = FailsAt image schedule (follow.BadEntry number)
+IsLeftSchedule image schedule Memory = Unit {0}
 
 -- the entry of this number is the first that the code of the text's program refuses
 pub record IsBadEntry (text schedule : List ℕ) (number : ℕ) : Type 0 where

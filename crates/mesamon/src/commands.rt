@@ -1,5 +1,6 @@
 ghost use Rattle.std.specs.Prelude.{◌≡◌, ◌≤◌, ◌⊎◌, List, IfOk, OnOk};
 ghost use Rattle.std.specs.Io.KnownBytes.{Appends};
+ghost use Rattle.compiler.specs.Compiles.{IsCompiled};
 ghost use Rattle.mesamon.specs.Commands.{HasChecked, HasCompiled, HasDone, HasEnded, HasListed};
 
 use crate::explaining::explain_file;
@@ -7,16 +8,18 @@ use crate::failure::Failure;
 use crate::files::{bytes_of, put_bytes};
 use crate::report::{write_image_line, write_text};
 use crate::running::{exec_file, replay_file, run_file};
-use crate::showing::Kept;
 use crate::status::Status;
 use commandline::{Job, read_job};
-use compiler::{check_text, compile};
-use isa::{decode, encode, list_lines};
+use compiler::{check_text, compile, compile_checked, compile_with};
+use emit::emit;
+use isa::{Image, decode, encode, list_lines};
+use scanner::Refusal;
 use std::io;
 use std::io::Write;
 use std::rt::Files;
 use std::sync::Wait;
 use std::thread::Threads;
+use words::OpenGate;
 
 /// Does the command that these words ask for, those after the program's name, and answers the exit status. `output`
 /// and `errors` stand for standard output and standard error.
@@ -24,8 +27,8 @@ use std::thread::Threads;
 /// The first fault decides: of the words, of reading the files, of the source text or the image, of its run, of
 /// writing.
 ///
-/// A text or an image is run with a worker for each thread, but where a fixed order is asked for: then on the
-/// calling thread, so that the log is the same each time.
+/// A text or an image is run with a worker for each thread, but where a fixed order or that of a seed is asked for: then
+/// on the calling thread, so that the log is the same each time.
 ///
 /// The status is 0 where the command was done, 1 where the source text is refused, 2 for words that are no command, 3
 /// where the run was stuck, 4 where it reached its limit, 5 where memory ran out, and 6 for any other failure.
@@ -76,17 +79,13 @@ fn do_job<'a, R: Files + AllocGlobal + Threads + Wait + Sync, O: Write, E: Write
 {
     match read_job(rt.alloc(), words)? {
         Job::Check { file } => check_file(rt, file, output),
-        Job::Compile { file, out } => compile_file(rt, file, out, output),
+        Job::Compile { file, out, workers } => compile_file(rt, file, out, workers, output),
         Job::List { image } => list_file(rt, image, output),
         Job::Run { file, options } => run_file(rt, file, options, output, errors),
         Job::Exec { image, options } => exec_file(rt, image, options, output, errors),
-        Job::Replay {
-            file,
-            schedule,
-            trace,
-            log,
-        } => { replay_file(rt, file, schedule, Kept { trace, log }, output, errors) }
-        Job::Explain { file, steps, chart } => explain_file(rt, file, steps, chart, output),
+        Job::Replay { file, by, trace } => replay_file(rt, file, by, trace, output, errors),
+        Job::Explain { file, by, chart } => explain_file(rt, file, by, chart, output),
+        Job::Emit { file, out } => emit_file(rt, file, out, output),
     }
 }
 
@@ -107,7 +106,45 @@ fn check_file<'a, R: Files + AllocGlobal, O: Write>(
 }
 
 // Compiles a file to another.
-fn compile_file<'a, R: Files + AllocGlobal, O: Write>(
+fn compile_file<'a, R: Files + AllocGlobal + Threads + Wait + Sync, O: Write>(
+    rt: &R,
+    file: &'a str,
+    out: &'a str,
+    workers: u32,
+    output: &mut O,
+) -> Result<Status, Failure<'a>>
+    requires { (1 ≤ workers) × (workers ≤ 64) }
+    ensures done { IfOk result (λ s. s ≡ Status.Done) }
+    ensures wrote { OnOk result
+        (HasCompiled (Appends (O.contents output.old) (O.contents output.new))) }
+{
+    let text = bytes_of(rt, file)?;
+    let image = image_by(rt, text.as_slice(), workers)?;
+    let bytes = encode(rt.alloc(), &image)?;
+    put_bytes(rt, out, bytes.as_slice())?;
+    let count = image.code().len();
+    write_image_line(output, count)?;
+    Ok(Status::Done)
+}
+
+// The image of a text. A single worker is the calling thread.
+fn image_by<R: AllocGlobal + Threads + Wait + Sync>(
+    rt: &R,
+    text: &[u8],
+    workers: u32,
+) -> Result<Image, Refusal>
+    requires { (1 ≤ workers) × (workers ≤ 64) }
+    ensures { IfOk result (λ image. IsCompiled text.now image) }
+{
+    if workers == 1 {
+        compile(rt.alloc(), text)
+    } else {
+        compile_with(rt, rt.alloc(), text, workers, &OpenGate)
+    }
+}
+
+// Writes the program of a file as one in C to another.
+fn emit_file<'a, R: Files + AllocGlobal, O: Write>(
     rt: &R,
     file: &'a str,
     out: &'a str,
@@ -115,14 +152,13 @@ fn compile_file<'a, R: Files + AllocGlobal, O: Write>(
 ) -> Result<Status, Failure<'a>>
     ensures done { IfOk result (λ s. s ≡ Status.Done) }
     ensures wrote { OnOk result
-        (HasCompiled (Appends (O.contents output.old) (O.contents output.new))) }
+        (HasChecked (Appends (O.contents output.old) (O.contents output.new))) }
 {
     let text = bytes_of(rt, file)?;
-    let image = compile(rt.alloc(), text.as_slice())?;
-    let bytes = encode(rt.alloc(), &image)?;
-    put_bytes(rt, out, bytes.as_slice())?;
-    let count = image.code().len();
-    write_image_line(output, count)?;
+    let (checked, _) = compile_checked(rt.alloc(), text.as_slice())?;
+    let lines = emit(rt.alloc(), &checked)?;
+    put_bytes(rt, out, lines.as_slice())?;
+    write_text(output, "ok\n")?;
     Ok(Status::Done)
 }
 

@@ -4,15 +4,17 @@ ghost use Rattle.program.specs.Names.{said_by};
 ghost use Rattle.program.specs.Trees.{Program};
 ghost use Rattle.source_states.specs.Actions.{action_of};
 ghost use Rattle.runner.specs.Logs.{cost};
-ghost use Rattle.runner.specs.Reports.{IsReport};
+ghost use Rattle.runner.specs.Reports.{CanFail, IsReport};
 ghost use Rattle.simulation.specs.ExplainedLog.{IsExplainedLog, LeadsTo};
 ghost use Rattle.backend.specs.Lowered.{IsLowered};
 ghost use Rattle.backend.specs.Refusals.{CodeFits};
 ghost use Rattle.compiler.specs.Accepts.{AcceptsText};
 ghost use Rattle.compiler.specs.Compiles.{IsCompiled};
-ghost use Rattle.mesamon.specs.Explaining.{IsExplanationOfText, IsRefusedExplanation, IsWantOfMemory};
+ghost use Rattle.mesamon.specs.Explaining.{IsExplanation, IsExplanationOfText, IsRefusedExplanation, IsWantOfMemory};
+ghost use Rattle.mesamon.specs.Replaying.{IsReplayOfText, IsRefusedReplay, IsNoRefusal};
 ghost use Rattle.mesamon.specs.declared.explained_run.ExplainSourceFault.TheVariants.{Refused, Memory};
 
+use crate::replaying::{ReplayFault, follow_compiled};
 use backend::Lowered;
 use compiler::compile_checked;
 use isa::Image;
@@ -56,14 +58,35 @@ impl From<Refusal> for ExplainSourceFault {
     }
 }
 
-// Runs the image of a text in order. There is no fault but want of memory.
-fn run_image(alloc: Global, image: &Image, limit: u32) -> Result<Report, ExplainSourceFault>
+// Runs an image on the calling thread, in order or as a seed says.
+fn run_alone(
+    alloc: Global,
+    image: &Image,
+    limit: u32,
+    seed: Option<u64>,
+) -> Result<Report, RunFault>
+    ensures ok { IfOk result (λ report. IsReport image.now limit report) }
+    ensures err { IfErr result (λ fault. CanFail image.now limit fault) }
+{
+    match seed {
+        Some(seed) => runner::run_by_seed(alloc, image, limit, seed),
+        None => runner::run_in_order(alloc, image, limit, &OpenGate),
+    }
+}
+
+// The same of the image of a text. There is no fault but want of memory.
+fn run_image(
+    alloc: Global,
+    image: &Image,
+    limit: u32,
+    seed: Option<u64>,
+) -> Result<Report, ExplainSourceFault>
     requires { (text : List ℕ) × IsCompiled text image.now }
     ensures { MatchResult result (λ report. IsReport image.now limit report)
         (λ fault. fault ≡ Memory) }
 {
     logs_are_machine_runs();
-    match runner::run_in_order(alloc, image, limit, &OpenGate) {
+    match run_alone(alloc, image, limit, seed) {
         Ok(report) => Ok(report),
         Err(RunFault::Broken) => unreachable!(),
         Err(RunFault::Stray | RunFault::CannotMove | RunFault::Limit) => unreachable!(),
@@ -93,6 +116,29 @@ fn explain_run(
     }
 }
 
+// Compiles a source text, runs its image in order or as a seed says, and explains the log.
+fn explain_alone<'a>(
+    alloc: Global,
+    text: &'a [u8],
+    limit: u32,
+    seed: Option<u64>,
+) -> Result<ExplainedRun<'a>, ExplainSourceFault>
+    ensures explained { IfOk result (λ run. IsExplanationOfText text.now limit run) }
+    ensures fault { IfErr result (λ fault. IsRefusedExplanation text.now fault) }
+    ensures only { (p : Program) → AcceptsText text.now p → CodeFits p
+        → IfErr result (λ fault. IsWantOfMemory fault) }
+{
+    logs_are_machine_runs();
+    let (checked, lowered) = compile_checked(alloc, text)?;
+    let report = run_image(alloc, &lowered.image, limit, seed)?;
+    let actions = explain_run(alloc, &checked, lowered, report.log.as_slice())?;
+    Ok(ExplainedRun {
+        checked,
+        report,
+        actions,
+    })
+}
+
 /// Compiles a source text, runs its image within a limit of steps as `run_in_order` does, and explains the log: the
 /// actions are a run of the text's program, at whose end the same is seen as of the machine.
 ///
@@ -109,10 +155,49 @@ pub fn explain_source<'a>(
     ensures only { (p : Program) → AcceptsText text.now p → CodeFits p
         → IfErr result (λ fault. IsWantOfMemory fault) }
 {
-    logs_are_machine_runs();
+    explain_alone(alloc, text, limit, None)
+}
+
+/// The same, with the run in the order that follows from a seed, as `run_by_seed` does.
+///
+/// # Errors
+///
+/// Those of `explain_source`.
+pub fn explain_by_seed<'a>(
+    alloc: Global,
+    text: &'a [u8],
+    limit: u32,
+    seed: u64,
+) -> Result<ExplainedRun<'a>, ExplainSourceFault>
+    ensures explained { IfOk result (λ run. IsExplanationOfText text.now limit run) }
+    ensures fault { IfErr result (λ fault. IsRefusedExplanation text.now fault) }
+    ensures only { (p : Program) → AcceptsText text.now p → CodeFits p
+        → IfErr result (λ fault. IsWantOfMemory fault) }
+{
+    explain_alone(alloc, text, limit, Some(seed))
+}
+
+/// Compiles a source text, runs its image by a schedule as `replay` does, and explains the log.
+///
+/// # Errors
+///
+/// Those of `replay`.
+pub fn explain_schedule<'a>(
+    alloc: Global,
+    text: &'a [u8],
+    schedule: &[u32],
+) -> Result<ExplainedRun<'a>, ReplayFault>
+    ensures explained { IfOk result
+        (λ run. IsExplanation text.now (IsReplayOfText text.now schedule.now) run) }
+    ensures fault { IfErr result (λ fault. IsRefusedReplay text.now schedule.now fault) }
+    ensures only { (p : Program) → AcceptsText text.now p → CodeFits p
+        → IfErr result (λ fault. IsNoRefusal fault) }
+{
     let (checked, lowered) = compile_checked(alloc, text)?;
-    let report = run_image(alloc, &lowered.image, limit)?;
-    let actions = explain_run(alloc, &checked, lowered, report.log.as_slice())?;
+    let report = follow_compiled(alloc, &lowered.image, schedule)?;
+    let Ok(actions) = explain_run(alloc, &checked, lowered, report.log.as_slice()) else {
+        return Err(ReplayFault::Memory);
+    };
     Ok(ExplainedRun {
         checked,
         report,

@@ -1,15 +1,19 @@
 ghost use Rattle.std.specs.Prelude.{IfOk};
 ghost use Rattle.std.specs.Io.KnownBytes.{Appends};
+ghost use Rattle.mesamon.specs.Asked.{IsExplainedAs};
 ghost use Rattle.mesamon.specs.Commands.{HasExplained};
 
-use crate::explained_run::{ExplainedRun, explain_source};
+use crate::explained_run::{ExplainedRun, explain_by_seed, explain_schedule, explain_source};
 use crate::failure::Failure;
-use crate::files::{bytes_of, put_bytes};
+use crate::files::{bytes_of, put_bytes, whole_bytes_of};
 use crate::report::write_bytes;
+use crate::schedule::schedule_of;
 use crate::showing::status_of;
+use crate::source_log::explain_log_text;
 use crate::status::Status;
 use actionlines::action_lines;
 use chart::chart;
+use commandline::ExplainedBy;
 use std::io::Write;
 use std::rt::Files;
 
@@ -17,7 +21,7 @@ use std::rt::Files;
 pub fn explain_file<'a, R: Files + AllocGlobal, O: Write>(
     rt: &R,
     file: &'a str,
-    steps: u32,
+    by: ExplainedBy<'a>,
     out: Option<&'a str>,
     output: &mut O,
 ) -> Result<Status, Failure<'a>>
@@ -25,13 +29,35 @@ pub fn explain_file<'a, R: Files + AllocGlobal, O: Write>(
         (λ s. HasExplained (Appends (O.contents output.old) (O.contents output.new)) s) }
 {
     let text = bytes_of(rt, file)?;
-    let run = explain_source(rt.alloc(), text.as_slice(), steps)?;
+    let run = explain_text(rt, text.as_slice(), by)?;
     let lines = action_lines(rt.alloc(), run.checked.names(), run.actions.as_slice())?;
     if let Some(out) = out {
         put_chart(rt, out, &run)?;
     }
     write_bytes(output, lines.as_slice())?;
     Ok(status_of(run.report.verdict))
+}
+
+// Runs a text and explains the run, or explains the log of a file.
+fn explain_text<'a, 't, R: Files + AllocGlobal>(
+    rt: &R,
+    text: &'t [u8],
+    by: ExplainedBy<'a>,
+) -> Result<ExplainedRun<'t>, Failure<'a>>
+    ensures { IfOk result (λ run. IsExplainedAs by.entry text.now run) }
+{
+    match by {
+        ExplainedBy::Order { steps } => Ok(explain_source(rt.alloc(), text, steps)?),
+        ExplainedBy::Seed { steps, seed } => Ok(explain_by_seed(rt.alloc(), text, steps, seed)?),
+        ExplainedBy::Schedule(name) => {
+            let threads = schedule_of(rt, name)?;
+            Ok(explain_schedule(rt.alloc(), text, threads.as_slice())?)
+        }
+        ExplainedBy::Log(name) => {
+            let log = whole_bytes_of(rt, name)?;
+            Ok(explain_log_text(rt.alloc(), text, log.as_slice())?)
+        }
+    }
 }
 
 // Draws a run to a file.

@@ -2,10 +2,11 @@ ghost use Rattle.std.specs.Prelude.{◌≡◌};
 ghost use Rattle.std.specs.IoError.{error_kind};
 ghost use Rattle.mesamon.specs.declared.failure.Failure.TheVariants.{Memory as memory, Output as output};
 ghost use Rattle.mesamon.specs.Failures.{status_of, OfExplain, OfFault, OfImage, OfIo, OfRefusal};
-ghost use Rattle.mesamon.specs.Failures.{OfReplay, OfRun, OfWords};
+ghost use Rattle.mesamon.specs.Failures.{OfReplay, OfRun, OfSourceLog, OfWords};
 
 use crate::explained_run::ExplainSourceFault;
 use crate::replaying::ReplayFault;
+use crate::source_log::SourceLogFault;
 use crate::source_run::RunSourceFault;
 use crate::status::Status;
 use commandline::WordsFault;
@@ -41,6 +42,12 @@ pub enum Failure<'a> {
     /// schedule of too many bytes.
     #[error("schedule entry {0}")]
     Schedule(u64),
+    /// The line of the log that has this number is the first that is no entry's.
+    #[error("log line {0}")]
+    LogLine(u64),
+    /// The entry of the log that has this number is the first with which it is no log of the program.
+    #[error("log entry {0}")]
+    LogEntry(u64),
     /// Output could not be written.
     #[error("cannot write output")]
     Output,
@@ -85,6 +92,8 @@ impl<'a> Failure<'a> {
             | Failure::Image(_)
             | Failure::Run(_)
             | Failure::Schedule(_)
+            | Failure::LogLine(_)
+            | Failure::LogEntry(_)
             | Failure::Output => Status::Failed,
         }
     }
@@ -165,6 +174,19 @@ impl From<ExplainSourceFault> for Failure<'_> {
         match fault {
             ExplainSourceFault::Refused(refusal) => Failure::from(refusal),
             ExplainSourceFault::Memory => Failure::Memory,
+        }
+    }
+}
+
+impl From<SourceLogFault> for Failure<'_> {
+    ghost from_gives = { OfSourceLog };
+
+    fn from(fault: SourceLogFault) -> Self {
+        match fault {
+            SourceLogFault::Refused(refusal) => Failure::from(refusal),
+            SourceLogFault::Line(number) => Failure::LogLine(number),
+            SourceLogFault::Entry(number) => Failure::LogEntry(number),
+            SourceLogFault::Memory => Failure::Memory,
         }
     }
 }

@@ -12,6 +12,14 @@ pub fn bytes_of<'a, R: Files + AllocGlobal>(rt: &R, name: &'a str) -> Result<Vec
     read_file(rt, name).map_err(|error| Failure::of_read(name, &error))
 }
 
+/// All bytes of the file of this name; the failure names it.
+pub fn whole_bytes_of<'a, R: Files + AllocGlobal>(
+    rt: &R,
+    name: &'a str,
+) -> Result<Vec<u8>, Failure<'a>> {
+    fs::read(rt, name).map_err(|error| Failure::of_read(name, &error))
+}
+
 /// Writes a file of this name with these bytes, in place of what it held; the failure names it.
 ///
 /// A regular file holds either all of them or what it held before. What is no regular file, as a device, is written as

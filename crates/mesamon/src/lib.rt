@@ -15,11 +15,13 @@ mod source_log;
 mod source_run;
 mod status;
 
-pub use commandline::{Job, Order, RunOptions, WordsFault, read_job};
+pub use commandline::{ExplainedBy, Job, Order, ReplayedBy, RunOptions, WordsFault, read_job};
 pub use commands::perform;
-pub use compiler::{check_text, compile, compile_checked};
-pub use explained_run::{ExplainSourceFault, ExplainedRun, explain_source};
+pub use compiler::{check_text, compile, compile_checked, compile_with};
+pub use explained_run::{
+    ExplainSourceFault, ExplainedRun, explain_by_seed, explain_schedule, explain_source,
+};
 pub use replaying::{ReplayFault, replay};
 pub use source_log::{SourceLogFault, explain_log_text, replay_log_text};
-pub use source_run::{RunSourceFault, run_in_order, run_source};
+pub use source_run::{RunSourceFault, run_by_seed, run_in_order, run_source};
 pub use status::Status;

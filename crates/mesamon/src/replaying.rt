@@ -1,11 +1,14 @@
-ghost use Rattle.std.specs.Prelude.{◌≡◌, IfOk, IfErr};
+ghost use Rattle.std.specs.Prelude.{◌≡◌, ℕ, IfOk, IfErr, List, MatchResult};
 ghost use Rattle.program.specs.Trees.{Program};
 ghost use Rattle.backend.specs.Refusals.{CodeFits};
 ghost use Rattle.compiler.specs.Accepts.{AcceptsText};
-ghost use Rattle.mesamon.specs.Replaying.{IsReplayOfText, IsRefusedReplay, IsNoRefusal};
+ghost use Rattle.compiler.specs.Compiles.{IsCompiled};
+ghost use Rattle.runner.specs.Schedules.{IsFollowed};
+ghost use Rattle.mesamon.specs.Replaying.{IsLeftSchedule, IsReplayOfText, IsRefusedReplay, IsNoRefusal};
 ghost use Rattle.mesamon.specs.declared.replaying.ReplayFault.TheVariants.{Refused};
 
 use compiler::compile;
+use isa::Image;
 use runner::{Report, ScheduleFault, follow};
 use scanner::Refusal;
 use std::alloc::Global;
@@ -34,6 +37,24 @@ impl From<Refusal> for ReplayFault {
     }
 }
 
+/// Runs the image of a text by a schedule. No step of it may not be, so a schedule has no fault but a bad entry.
+pub fn follow_compiled(
+    alloc: Global,
+    image: &Image,
+    schedule: &[u32],
+) -> Result<Report, ReplayFault>
+    requires { (text : List ℕ) × IsCompiled text image.now }
+    ensures { MatchResult result (λ report. IsFollowed image.now schedule.now report)
+        (λ fault. IsLeftSchedule image.now schedule.now fault) }
+{
+    match follow(alloc, image, schedule) {
+        Ok(report) => Ok(report),
+        Err(ScheduleFault::BadEntry(number)) => Err(ReplayFault::BadEntry(number)),
+        Err(ScheduleFault::Broken(_)) => unreachable!(),
+        Err(ScheduleFault::Memory) => Err(ReplayFault::Memory),
+    }
+}
+
 /// Compiles a source text and runs its image by a schedule: for each of its numbers the thread of that number takes one
 /// step of the machine, local or shared, which is an entry of the log.
 ///
@@ -47,10 +68,5 @@ pub fn replay(alloc: Global, text: &[u8], schedule: &[u32]) -> Result<Report, Re
         → IfErr result (λ fault. IsNoRefusal fault) }
 {
     let image = compile(alloc, text)?;
-    match follow(alloc, &image, schedule) {
-        Ok(report) => Ok(report),
-        Err(ScheduleFault::BadEntry(number)) => Err(ReplayFault::BadEntry(number)),
-        Err(ScheduleFault::Broken(_)) => unreachable!(),
-        Err(ScheduleFault::Memory) => Err(ReplayFault::Memory),
-    }
+    follow_compiled(alloc, &image, schedule)
 }

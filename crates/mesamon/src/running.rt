@@ -1,20 +1,21 @@
 ghost use Rattle.std.specs.Prelude.{◌≡◌, IfOk};
 ghost use Rattle.std.specs.Io.KnownBytes.{Appends};
 ghost use Rattle.runner.specs.Reports.{IsReport};
+ghost use Rattle.mesamon.specs.Asked.{IsReplayedAs};
 ghost use Rattle.mesamon.specs.Commands.{HasExecuted, HasRun};
 ghost use Rattle.mesamon.specs.Running.{IsRunOfText};
 
 use crate::failure::Failure;
-use crate::files::bytes_of;
+use crate::files::{bytes_of, whole_bytes_of};
 use crate::replaying::replay;
-use crate::schedule::threads_of;
+use crate::schedule::schedule_of;
 use crate::showing::{Kept, show};
-use crate::source_run::{RunSourceFault, run_in_order, run_source};
+use crate::source_log::replay_log_text;
+use crate::source_run::{RunSourceFault, run_by_seed, run_in_order, run_source};
 use crate::status::Status;
-use commandline::{Order, RunOptions};
+use commandline::{Order, ReplayedBy, RunOptions};
 use isa::{Image, decode};
 use runner::{Report, RunFault};
-use scanner::MOST_BYTES;
 use std::io::Write;
 use std::rt::Files;
 use std::sync::Wait;
@@ -49,6 +50,7 @@ fn run_text<R: AllocGlobal + Threads + Wait + Sync>(
     match order {
         Order::Workers => run_source(rt, rt.alloc(), text, steps, &OpenGate),
         Order::InOrder => run_in_order(rt.alloc(), text, steps, &OpenGate),
+        Order::Seed(seed) => run_by_seed(rt.alloc(), text, steps, seed),
     }
 }
 
@@ -82,15 +84,16 @@ fn run_image<R: AllocGlobal + Threads + Wait + Sync>(
     match order {
         Order::Workers => workers::run(rt, rt.alloc(), image, steps, &OpenGate),
         Order::InOrder => runner::run_in_order(rt.alloc(), image, steps, &OpenGate),
+        Order::Seed(seed) => runner::run_by_seed(rt.alloc(), image, steps, seed),
     }
 }
 
-/// Runs the source text of a file by the schedule of another.
+/// Runs the source text of a file by the schedule or the log of another.
 pub fn replay_file<'a, R: Files + AllocGlobal, O: Write, E: Write>(
     rt: &R,
     file: &'a str,
-    schedule: &'a str,
-    kept: Kept<'a>,
+    by: ReplayedBy<'a>,
+    trace: bool,
     output: &mut O,
     errors: &mut E,
 ) -> Result<Status, Failure<'a>>
@@ -98,18 +101,37 @@ pub fn replay_file<'a, R: Files + AllocGlobal, O: Write, E: Write>(
         (Appends (E.contents errors.old) (E.contents errors.new)) s) }
 {
     let text = bytes_of(rt, file)?;
-    let threads = schedule_of(rt, schedule)?;
-    let report = replay(rt.alloc(), text.as_slice(), threads.as_slice())?;
-    show(rt, &report, kept, output, errors)
+    let report = replay_text(rt, text.as_slice(), by)?;
+    let log = log_beside(by);
+    show(rt, &report, Kept { trace, log }, output, errors)
 }
 
-// The threads that a schedule's file names.
-fn schedule_of<'a, R: Files + AllocGlobal>(rt: &R, name: &'a str) -> Result<Vec<u32>, Failure<'a>> {
-    let bytes = bytes_of(rt, name)?;
-    if bytes.len() > MOST_BYTES {
-        return Err(Failure::Schedule(0));
+// Runs a text by the schedule or the log of a file.
+fn replay_text<'a, R: Files + AllocGlobal>(
+    rt: &R,
+    text: &[u8],
+    by: ReplayedBy<'a>,
+) -> Result<Report, Failure<'a>>
+    ensures { IfOk result (λ report. IsReplayedAs by.entry text.now report) }
+{
+    match by {
+        ReplayedBy::Schedule { schedule, .. } => {
+            let threads = schedule_of(rt, schedule)?;
+            Ok(replay(rt.alloc(), text, threads.as_slice())?)
+        }
+        ReplayedBy::Log(name) => {
+            let log = whole_bytes_of(rt, name)?;
+            Ok(replay_log_text(rt.alloc(), text, log.as_slice())?)
+        }
     }
-    Ok(threads_of(rt.alloc(), bytes.as_slice())?)
+}
+
+// The file that the log of a replay is written to, where that is wanted.
+fn log_beside(by: ReplayedBy<'_>) -> Option<&str> {
+    match by {
+        ReplayedBy::Schedule { log, .. } => log,
+        ReplayedBy::Log(_) => None,
+    }
 }
 
 // What these options keep of the log.

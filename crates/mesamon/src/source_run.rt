@@ -87,3 +87,21 @@ pub fn run_in_order<G: Gate>(
     let image = compile(alloc, text)?;
     Ok(runner::run_in_order(alloc, &image, limit, gate)?)
 }
+
+/// The same on the calling thread, in the order that follows from a seed, as `runner::run_by_seed` does.
+pub fn run_by_seed(
+    alloc: Global,
+    text: &[u8],
+    limit: u32,
+    seed: u64,
+) -> Result<Report, RunSourceFault>
+    ensures report { IfOk result (λ report. IsRunOfText text.now limit report) }
+    ensures fault { IfErr result (λ fault. IsRefusedRun text.now limit fault) }
+    ensures sound { IfErr result (λ fault. fault ≢ Run Broken) }
+    ensures only { (p : Program) → AcceptsText text.now p → CodeFits p
+        → IfErr result (λ fault. IsMemory fault) }
+{
+    logs_are_machine_runs();
+    let image = compile(alloc, text)?;
+    Ok(runner::run_by_seed(alloc, &image, limit, seed)?)
+}

@@ -1,7 +1,13 @@
-use Rattle.std.proofs.Common.{inl, inr}
+use Rattle.std.proofs.Common.{inl, inr, map}
 use Rattle.std.proofs.lemmas.Result.{IfOk-weaker}
 use Rattle.mesamon.proofs.Endings.{done_by, executed, explained, nothing_written, ran}
+use Rattle.commandline.proofs.Workers.{compiling_workers}
 use Rattle.mesamon.proofs.commands.do_job.Goals as goal
+
+pub compile_file-requires-after_bounds : goal.compile_file-requires-after_bounds
+compile_file-requires-after_bounds g c κs within =
+    compiling_workers (map (λ w. w.now) c.args.words.now) c.in_ok-file.field-0 c.in-Compile.file c.in-Compile.out c.in-Compile.workers
+    c.in_ok-file.ensures.job c.in-Compile.is
 
 pub returns-in-Check : goal.returns-in-Check
 returns-in-Check g c =
@@ -30,3 +36,8 @@ returns-in-Replay g c = IfOk-weaker c.replay_file.result _ _ (λ s h. ran _ _ s 
 pub returns-in-Explain : goal.returns-in-Explain
 returns-in-Explain g c =
     IfOk-weaker c.explain_file.result _ _ (λ s h. explained _ _ s (nothing_written _) h) c.explain_file.ensures
+
+pub returns-in-Emit : goal.returns-in-Emit
+returns-in-Emit g c =
+    let told = c.emit_file.ensures in
+    done_by _ _ _ _ c.emit_file.result (λ h. inr (inr (inr h))) told.done told.wrote

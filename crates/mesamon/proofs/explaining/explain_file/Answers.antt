@@ -1,12 +1,12 @@
 use Rattle.std.proofs.Common.{rules}
+use Rattle.mesamon.proofs.Explanations.{explained_so}
 use Rattle.mesamon.proofs.explaining.explain_file.Goals as goal
 
 pub returns : goal.returns
 returns g c = record {
   text = _;
-  limit = _;
   explained_run = _;
-  explained = c.in_ok-run.ensures.explained;
+  explained = explained_so c.args.by _ c.in_ok-run.run' c.in_ok-run.ensures;
   ended = c.status_of.ensures;
   wrote = search rules;
 }

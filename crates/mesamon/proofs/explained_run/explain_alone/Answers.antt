@@ -3,7 +3,7 @@ use Rattle.program.specs.Names.{said_by}
 use Rattle.mesamon.proofs.RunsExplained.{of_code, run_explained}
 use Rattle.mesamon.specs.Explaining.{IsWantOfMemory}
 use Rattle.mesamon.proofs.Failing.{passed}
-use Rattle.mesamon.proofs.explained_run.explain_source.Goals as goal
+use Rattle.mesamon.proofs.explained_run.explain_alone.Goals as goal
 
 pub returns-clause-explained : goal.returns-clause-explained
 returns-clause-explained c =

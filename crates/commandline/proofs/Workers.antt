@@ -1,0 +1,28 @@
+-- How many workers a job of compiling that was asked for has.
+use Rattle.std.proofs.Common.{◌≡◌, ◌≤◌, ◌⊎◌, ℕ, List, Option, Some, None, Bor, inl, inr, subst}
+use Rattle.clap.specs.Words.{Row, Text, subcommand_of}
+use Rattle.commandline.specs.CommandLine.{AsksFor, IsAskedBy, IsCompileOf, command_line}
+use Rattle.commandline.specs.declared.job.Job.{Job}
+use Rattle.commandline.specs.declared.job.Job.TheVariants.{Compile}
+
+of_rows : (rows : List Row) (file out : Bor (List ℕ)) (workers : ℕ) → IsCompileOf rows (Compile file out workers)
+    → (1 ≤ workers) × (workers ≤ 64)
+of_rows rows file out workers (source, image, reads) = (reads.1, reads.2)
+
+of_command : (asked : Option (Text × List Row)) (file out : Bor (List ℕ)) (workers : ℕ)
+    → IsAskedBy asked (Compile file out workers) → (1 ≤ workers) × (workers ≤ 64)
+of_command None file out workers h = absurd h
+of_command (Some (name, rows)) file out workers (inl (called, h)) = absurd h
+of_command (Some (name, rows)) file out workers (inr (inl (called, h))) = of_rows rows file out workers h
+of_command (Some (name, rows)) file out workers (inr (inr (inl (called, h)))) = absurd h
+of_command (Some (name, rows)) file out workers (inr (inr (inr (inl (called, h))))) = absurd h
+of_command (Some (name, rows)) file out workers (inr (inr (inr (inr (inl (called, h)))))) = absurd h
+of_command (Some (name, rows)) file out workers (inr (inr (inr (inr (inr (inl (called, h))))))) = absurd h
+of_command (Some (name, rows)) file out workers (inr (inr (inr (inr (inr (inr (inl (called, h)))))))) = absurd h
+of_command (Some (name, rows)) file out workers (inr (inr (inr (inr (inr (inr (inr (called, h)))))))) = absurd h
+
+pub compiling_workers : (words : List Text) (job : Job) (file out : Bor (List ℕ)) (workers : ℕ) → AsksFor words job
+    → job ≡ Compile file out workers → (1 ≤ workers) × (workers ≤ 64)
+compiling_workers words job file out workers asks is =
+    of_command (subcommand_of command_line words) file out workers
+    (subst (λ (j : Job). IsAskedBy (subcommand_of command_line words) j) is asks)
