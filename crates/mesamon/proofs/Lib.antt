@@ -3,6 +3,5 @@ mod Endings
 mod Explanations
 mod Failing
 mod Lines
-mod SourceLogs
 mod Replays
 mod SourceLogs

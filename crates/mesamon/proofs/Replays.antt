@@ -1,7 +1,7 @@
 -- A report of a run of compiled code by a schedule is explained by a run of the program.
 use Rattle.std.proofs.Common.{◌≡◌, ◌<◌, ◌+◌, ◌^◌, ◌++◌, ℕ, zero, suc, List, [], ◌∷◌, Option, Some, None}
 use Rattle.std.proofs.Common.{Result, Ok, Err, IfOk, IfErr, MatchResult}
-use Rattle.std.proofs.Common.{inl, inr, length, map, min, replicate, take, refl, ap, ap₂, sym, ◌∙◌, subst, arith}
+use Rattle.std.proofs.Common.{inl, inr, length, map, min, replicate, refl, ap, ap₂, sym, ◌∙◌, subst, arith}
 use Rattle.std.specs.List.{All}
 use Rattle.std.proofs.lemmas.List.{length-map, length-take, map-append}
 use Rattle.std.proofs.lemmas.Simd.{map-map}
@@ -10,8 +10,6 @@ use Rattle.std.proofs.lemmas.List.Sums.{sum_by-cons}
 use Rattle.isa.specs.Programs.{Program}
 use Rattle.machine.specs.declared.event.Entry.{Entry}
 use Rattle.machine.specs.declared.event.Event.{Event}
-use Rattle.machine.specs.declared.event.StepFault.TheVariants as step
-use Rattle.machine.specs.ConcreteSteps.{step_of}
 use Rattle.machine.specs.FrontRuns.{EventStep, Label, label_of, event_label}
 use Rattle.machine.specs.Runs.{Step}
 use Rattle.machine.specs.States.{state_of}
