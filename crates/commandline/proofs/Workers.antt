@@ -19,7 +19,8 @@ of_command (Some (name, rows)) file out workers (inr (inr (inr (inl (called, h))
 of_command (Some (name, rows)) file out workers (inr (inr (inr (inr (inl (called, h)))))) = absurd h
 of_command (Some (name, rows)) file out workers (inr (inr (inr (inr (inr (inl (called, h))))))) = absurd h
 of_command (Some (name, rows)) file out workers (inr (inr (inr (inr (inr (inr (inl (called, h)))))))) = absurd h
-of_command (Some (name, rows)) file out workers (inr (inr (inr (inr (inr (inr (inr (called, h)))))))) = absurd h
+of_command (Some (name, rows)) file out workers (inr (inr (inr (inr (inr (inr (inr (inl (called, h))))))))) = absurd h
+of_command (Some (name, rows)) file out workers (inr (inr (inr (inr (inr (inr (inr (inr (called, h))))))))) = absurd h
 
 pub compiling_workers : (words : List Text) (job : Job) (file out : Bor (List ℕ)) (workers : ℕ) → AsksFor words job
     → job ≡ Compile file out workers → (1 ≤ workers) × (workers ≤ 64)

@@ -1,6 +1,6 @@
 -- How a command that ran a program has ended.
 use Rattle.std.proofs.Common.{◌≡◌, arith, ℕ, Bool, List, [], Option, Some, None, Result, Ok, Err, IfOk, OnOk, inl, inr}
-use Rattle.std.proofs.Common.{sym, subst}
+use Rattle.std.proofs.Common.{false, is_some, sym, subst, true}
 use Rattle.std.proofs.lemmas.List.{append-nil}
 use Rattle.std.specs.Io.KnownBytes.{Appends}
 use Rattle.mesamon.specs.declared.status.Status.{Status}
@@ -12,6 +12,7 @@ use Rattle.isa.specs.Spelling.{IsSpelled, spelling}
 use Rattle.runner.specs.Reports.{IsReport}
 use Rattle.mesamon.specs.Commands.{HasDone, HasEnded, HasExecuted, HasExplained, HasRun, IsReportOf}
 use Rattle.mesamon.specs.Commands.{status_of_verdict}
+use Rattle.mesamon.specs.Exploring.{HasExplored, found_status}
 use Rattle.runner.specs.declared.report.Report.{Report}
 use Rattle.runner.specs.declared.report.Verdict.{Verdict}
 use Rattle.runner.specs.declared.report.Verdict.TheVariants as verdict
@@ -36,7 +37,19 @@ executed W E s h =
 -- so did one that was explained
 pub explained : (W E : List ℕ → Type 0) (s : Status) → E [] → HasExplained W s → HasDone W E s
 explained W E s told h =
-    done-at W E h.explained_run.report.verdict s (inr (inr (subst (HasExplained W) h.ended h, told))) h.ended
+    done-at W E h.explained_run.report.verdict s (inr (inr (inl (subst (HasExplained W) h.ended h, told)))) h.ended
+
+found-at : (W E : List ℕ → Type 0) (stuck complete : Bool) (s : Status) → HasEnded W E (found_status stuck complete)
+    → s ≡ found_status stuck complete → HasDone W E s
+found-at W E true complete s h e = subst (HasDone W E) (sym e) h
+found-at W E false true s h e = subst (HasDone W E) (sym e) (inr (inr (inl h)))
+found-at W E false false s h e = subst (HasDone W E) (sym e) h
+
+-- so did a search over all runs
+pub explored : (W E : List ℕ → Type 0) (s : Status) → E [] → HasExplored W s → HasDone W E s
+explored W E s told h =
+    let found = h.explored_text.exploration in
+    found-at W E (is_some found.stuck) found.complete s (inr (inr (inr (subst (HasExplored W) h.ended h, told)))) h.ended
 
 -- where nothing is written, known bytes grow by none
 pub nothing_written : (known : Option (List ℕ)) → Appends known known []
@@ -86,3 +99,24 @@ done-zero W E Stuck n h c z = absurd (omega (arith, c, z))
 done-zero W E Limit n h c z = absurd (omega (arith, c, z))
 done-zero W E Memory n h c z = absurd h
 done-zero W E Failed n h c z = absurd h
+
+-- status 3 is that of one that was stuck, and 4 of one that came to its limit
+pub stuck-three : (W E : List ℕ → Type 0) (s : Status) (n : ℕ) → HasDone W E s → n ≡ status_code s → n ≡ 3
+    → HasEnded W E Stuck
+stuck-three W E Stuck n h c z = h
+stuck-three W E Refused n h c z = absurd h
+stuck-three W E Usage n h c z = absurd h
+stuck-three W E Done n h c z = absurd (omega (arith, c, z))
+stuck-three W E Limit n h c z = absurd (omega (arith, c, z))
+stuck-three W E Memory n h c z = absurd h
+stuck-three W E Failed n h c z = absurd h
+
+pub limit-four : (W E : List ℕ → Type 0) (s : Status) (n : ℕ) → HasDone W E s → n ≡ status_code s → n ≡ 4
+    → HasEnded W E Limit
+limit-four W E Limit n h c z = h
+limit-four W E Refused n h c z = absurd h
+limit-four W E Usage n h c z = absurd h
+limit-four W E Done n h c z = absurd (omega (arith, c, z))
+limit-four W E Stuck n h c z = absurd (omega (arith, c, z))
+limit-four W E Memory n h c z = absurd h
+limit-four W E Failed n h c z = absurd h

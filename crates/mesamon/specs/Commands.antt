@@ -20,6 +20,7 @@ use Rattle.mesamon.specs.Running.{IsRunOfText}
 use Rattle.mesamon.specs.Explaining.{IsExplanation, IsExplanationOfText}
 use Rattle.mesamon.specs.Replaying.{IsReplayOfText}
 use Rattle.mesamon.specs.SourceLog.{IsExplanationOfLog, IsReplayOfLog}
+use Rattle.mesamon.specs.Exploring.{HasExplored}
 use Rattle.mesamon.specs.Accounts.{account, image_line, output_lines}
 
 -- some text was checked, and it was told that it is a program
@@ -100,11 +101,12 @@ pub record HasExplained (Wrote : List ℕ → Type 0) (status : Status) : Type 0
   pub ended : status ≡ status_of_verdict explained_run.report.verdict
   pub wrote : Wrote (explained_lines explained_run)
 
--- a command that ended so has run some text or some image, or has explained a run, with nothing told of it as an error
+-- a command that ended so has run some text or some image, has explained a run, or has searched all runs of some text,
+-- with nothing told of it as an error where it ran nothing
 abbrev pub HasEnded : (Wrote WroteErrors : List ℕ → Type 0) → Status → Type 0
 HasEnded Wrote WroteErrors status =
     HasRun Wrote WroteErrors status ⊎ (HasExecuted Wrote WroteErrors status
-    ⊎ (HasExplained Wrote status × WroteErrors []))
+    ⊎ ((HasExplained Wrote status × WroteErrors []) ⊎ (HasExplored Wrote status × WroteErrors [])))
 
 -- a command that ended well has compiled, has listed, has run, has explained or has checked
 abbrev pub HasDone : (Wrote WroteErrors : List ℕ → Type 0) → Status → Type 0

@@ -3,6 +3,7 @@ pub mod Replaying
 pub mod Explaining
 pub mod SourceLog
 pub mod Asked
+pub mod Exploring
 pub mod Statuses
 pub mod Accounts
 pub mod Failures

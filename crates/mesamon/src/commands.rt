@@ -4,6 +4,7 @@ ghost use Rattle.compiler.specs.Compiles.{IsCompiled};
 ghost use Rattle.mesamon.specs.Commands.{HasChecked, HasCompiled, HasDone, HasEnded, HasListed};
 
 use crate::explaining::explain_file;
+use crate::exploring::explore_file;
 use crate::failure::Failure;
 use crate::files::{bytes_of, put_bytes};
 use crate::report::{write_image_line, write_text};
@@ -86,6 +87,11 @@ fn do_job<'a, R: Files + AllocGlobal + Threads + Wait + Sync, O: Write, E: Write
         Job::Replay { file, by, trace } => replay_file(rt, file, by, trace, output, errors),
         Job::Explain { file, by, chart } => explain_file(rt, file, by, chart, output),
         Job::Emit { file, out } => emit_file(rt, file, out, output),
+        Job::Explore {
+            file,
+            states,
+            chart,
+        } => explore_file(rt, file, states, chart, output),
     }
 }
 

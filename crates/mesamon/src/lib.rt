@@ -4,6 +4,7 @@
 mod commands;
 mod explained_run;
 mod explaining;
+mod exploring;
 mod failure;
 mod files;
 mod replaying;
@@ -21,6 +22,7 @@ pub use compiler::{check_text, compile, compile_checked, compile_with};
 pub use explained_run::{
     ExplainSourceFault, ExplainedRun, explain_by_seed, explain_schedule, explain_source,
 };
+pub use exploring::{ExploredText, explore_source};
 pub use replaying::{ReplayFault, replay};
 pub use source_log::{SourceLogFault, explain_log_text, replay_log_text};
 pub use source_run::{RunSourceFault, run_by_seed, run_in_order, run_source};

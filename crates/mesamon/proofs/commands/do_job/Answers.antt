@@ -1,6 +1,6 @@
 use Rattle.std.proofs.Common.{inl, inr, map}
 use Rattle.std.proofs.lemmas.Result.{IfOk-weaker}
-use Rattle.mesamon.proofs.Endings.{done_by, executed, explained, nothing_written, ran}
+use Rattle.mesamon.proofs.Endings.{done_by, executed, explained, explored, nothing_written, ran}
 use Rattle.commandline.proofs.Workers.{compiling_workers}
 use Rattle.mesamon.proofs.commands.do_job.Goals as goal
 
@@ -41,3 +41,7 @@ pub returns-in-Emit : goal.returns-in-Emit
 returns-in-Emit g c =
     let told = c.emit_file.ensures in
     done_by _ _ _ _ c.emit_file.result (λ h. inr (inr (inr h))) told.done told.wrote
+
+pub returns-in-Explore : goal.returns-in-Explore
+returns-in-Explore g c =
+    IfOk-weaker c.explore_file.result _ _ (λ s h. explored _ _ s (nothing_written _) h) c.explore_file.ensures

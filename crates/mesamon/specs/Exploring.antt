@@ -1,0 +1,65 @@
+-- What a search over all runs of a source text's program answers, and what is told of it.
+use Rattle.std.specs.Prelude.{ℕ, ◌≡◌, ◌++◌, Bool, true, false, IfSome, List, [], Option, Some, None, Vec, codes, map}
+use Rattle.std.specs.Prelude.{is_some, if◌then◌else◌}
+use Rattle.std.specs.Fmt.{decimal}
+use Rattle.std.specs.Global.{Global}
+use Rattle.std.specs.List.{flat_map}
+use Rattle.program.specs.Names.{Naming, said_by}
+use Rattle.program.specs.Trees.{Program}
+use Rattle.proof_exploration.specs.Exploring.{HasAborted, IsStuck}
+use Rattle.source_states.specs.declared.action.Action.{Action}
+use Rattle.source_states.specs.Actions.{action_of}
+use Rattle.source_search.specs.Found.{LeadsNowhere, LeadsTo}
+use Rattle.source_search.specs.declared.runs.Exploration.{Exploration}
+use Rattle.actionlines.specs.Lines.{line}
+use Rattle.compiler.specs.Accepts.{AcceptsText}
+use Rattle.mesamon.specs.Accounts.{line_feed}
+use Rattle.mesamon.specs.declared.exploring.ExploredText.{ExploredText}
+use Rattle.mesamon.specs.declared.status.Status.{Status}
+use Rattle.mesamon.specs.declared.status.Status.TheVariants.{Done, Stuck, Limit}
+
+-- what was found of a program: runs with such an end; and where the search was complete and found none, there is none
+pub record IsFoundOf (p : Program) (e : Exploration) : Type 0 where
+  pub stuck : IfSome e.stuck (λ v. LeadsTo p (IsStuck p) v.items)
+  pub aborted : IfSome e.aborted (λ v. LeadsTo p HasAborted v.items)
+  pub never_stuck : e.complete ≡ true → e.stuck ≡ None → LeadsNowhere p (IsStuck p)
+  pub never_aborted : e.complete ≡ true → e.aborted ≡ None → LeadsNowhere p HasAborted
+
+-- the text's program, and what was found of it
+pub record IsExploredText (text : List ℕ) (r : ExploredText) : Type 0 where
+  pub accepts : AcceptsText text (said_by r.checked)
+  pub found : IsFoundOf (said_by r.checked) r.exploration
+
+-- the line of how many states were kept
+abbrev pub states_line : ℕ → Bool → List ℕ
+states_line states complete = decimal states ++ codes " states" ++ (if complete then line_feed else codes ", not all" ++ line_feed)
+
+-- the lines of a run that was found, behind a line of its end; or, where the search was complete, that there is none
+abbrev pub end_lines : Naming → List ℕ → List ℕ → Bool → Option (Vec Action Global) → List ℕ
+end_lines names word none complete (Some v) = word ++ flat_map (line names) (map action_of v.items)
+end_lines names word none true None = none
+end_lines names word none false None = []
+
+-- all that is told
+abbrev pub explored_lines : ExploredText → List ℕ
+explored_lines r =
+    let e = r.exploration in
+    (states_line e.states e.complete ++ end_lines r.checked.names (codes "stuck\n") (codes "no run is stuck\n") e.complete e.stuck)
+    ++ end_lines r.checked.names (codes "aborted\n") (codes "no process aborts\n") e.complete e.aborted
+
+-- how the search ended, by whether a run gets stuck and whether all were seen
+abbrev pub found_status : Bool → Bool → Status
+found_status true complete = Stuck
+found_status false true = Done
+found_status false false = Limit
+
+abbrev pub explored_status : Exploration → Status
+explored_status e = found_status (is_some e.stuck) e.complete
+
+-- all runs of some text were searched, and what was found was written
+pub record HasExplored (Wrote : List ℕ → Type 0) (status : Status) : Type 0 where
+  pub text : List ℕ
+  pub explored_text : ExploredText
+  pub explored : IsExploredText text explored_text
+  pub ended : status ≡ explored_status explored_text.exploration
+  pub wrote : Wrote (explored_lines explored_text)

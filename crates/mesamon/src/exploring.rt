@@ -1,0 +1,200 @@
+ghost use Rattle.std.specs.Prelude.{◌≡◌, ◌++◌, ◌⊎◌, IfOk, MatchResult, OnOk, string_bytes};
+ghost use Rattle.std.specs.Io.KnownBytes.{Appends};
+ghost use Rattle.scanner.specs.Refusals.{out_of_memory};
+ghost use Rattle.program.specs.Names.{naming_of, said_by};
+ghost use Rattle.compiler.specs.Accepts.{RefusesText};
+ghost use Rattle.mesamon.specs.Exploring.{end_lines, explored_lines, explored_status, states_line};
+ghost use Rattle.mesamon.specs.Exploring.{HasExplored, IsExploredText, IsFoundOf};
+
+use crate::failure::Failure;
+use crate::files::{bytes_of, put_bytes};
+use crate::report::write_bytes;
+use crate::status::Status;
+use actionlines::action_lines;
+use chart::chart;
+use compiler::compile_checked;
+use program::{Checked, Names};
+use scanner::Refusal;
+use source_search::{Exploration, explore};
+use source_states::Action;
+use std::alloc::{AllocError, Global};
+use std::fmt::Write as _;
+use std::io::Write;
+use std::rt::Files;
+
+/// A source text's program, and what a search over all its runs found.
+#[derive(Drop)]
+pub struct ExploredText<'a> {
+    /// The text's program.
+    pub checked: Checked<'a>,
+    /// What was found.
+    pub exploration: Exploration,
+}
+
+/// Searches all runs of the program of a source text, keeping at most so many states: for one that gets stuck, and for
+/// one in which a process aborts. Where the search was complete and found none, there is none.
+///
+/// # Errors
+///
+/// A text that `compile` refuses has the same refusal. Else there is no fault but want of memory.
+pub fn explore_source<'a>(
+    alloc: Global,
+    text: &'a [u8],
+    most_states: usize,
+) -> Result<ExploredText<'a>, Refusal>
+    ensures { MatchResult result (λ explored. IsExploredText text.now explored)
+        (λ e. (e ≡ out_of_memory) ⊎ RefusesText text.now e) }
+{
+    let (checked, _lowered) = compile_checked(alloc, text)?;
+    let exploration = explore_checked(alloc, &checked, most_states)?;
+    Ok(ExploredText {
+        checked,
+        exploration,
+    })
+}
+
+// What is found of a checked program.
+fn explore_checked(
+    alloc: Global,
+    checked: &Checked,
+    most_states: usize,
+) -> Result<Exploration, AllocError>
+    ensures { IfOk result (λ e. IsFoundOf (said_by checked.now) e) }
+{
+    explore(alloc, checked, most_states)
+}
+
+/// Searches all runs of the source text of a file, prints what is found, and draws it to another file where one is
+/// named and anything was found.
+pub fn explore_file<'a, R: Files + AllocGlobal, O: Write>(
+    rt: &R,
+    file: &'a str,
+    most_states: u32,
+    out: Option<&'a str>,
+    output: &mut O,
+) -> Result<Status, Failure<'a>>
+    ensures { IfOk result
+        (λ s. HasExplored (Appends (O.contents output.old) (O.contents output.new)) s) }
+{
+    let text = bytes_of(rt, file)?;
+    let explored = explore_source(rt.alloc(), text.as_slice(), most_states as usize)?;
+    let lines = lines_of(rt.alloc(), &explored)?;
+    if let Some(out) = out {
+        put_found(rt, out, &explored)?;
+    }
+    write_bytes(output, lines.as_slice())?;
+    Ok(status_of_found(&explored.exploration))
+}
+
+// Draws the run that was found to a file: the stuck one, where there are two.
+fn put_found<'a, R: Files + AllocGlobal>(
+    rt: &R,
+    out: &'a str,
+    explored: &ExploredText<'_>,
+) -> Result<(), Failure<'a>> {
+    let found = &explored.exploration;
+    if let Some(actions) = &found.stuck {
+        return put_run(rt, out, &explored.checked, actions.as_slice());
+    }
+    match &found.aborted {
+        Some(actions) => put_run(rt, out, &explored.checked, actions.as_slice()),
+        None => Ok(()),
+    }
+}
+
+fn put_run<'a, R: Files + AllocGlobal>(
+    rt: &R,
+    out: &'a str,
+    checked: &Checked<'_>,
+    actions: &[Action],
+) -> Result<(), Failure<'a>> {
+    let picture = chart(rt.alloc(), checked, actions)?;
+    put_bytes(rt, out, picture.as_slice())
+}
+
+// How a search ended.
+fn status_of_found(found: &Exploration) -> Status
+    ensures { result ≡ explored_status found.now }
+{
+    if found.stuck.is_some() {
+        Status::Stuck
+    } else if found.complete {
+        Status::Done
+    } else {
+        Status::Limit
+    }
+}
+
+// What is told of a search.
+fn lines_of(alloc: Global, explored: &ExploredText<'_>) -> Result<Vec<u8>, AllocError>
+    ensures { IfOk result (λ v. v.items ≡ explored_lines explored.now) }
+{
+    let names = explored.checked.names();
+    let found = &explored.exploration;
+    let complete = found.complete;
+    let mut lines = first_line(alloc, found.states, complete)?;
+    append_end(
+        alloc,
+        &mut lines,
+        names,
+        "stuck\n",
+        "no run is stuck\n",
+        complete,
+        &found.stuck,
+    )?;
+    append_end(
+        alloc,
+        &mut lines,
+        names,
+        "aborted\n",
+        "no process aborts\n",
+        complete,
+        &found.aborted,
+    )?;
+    Ok(lines)
+}
+
+fn first_line(alloc: Global, states: usize, complete: bool) -> Result<Vec<u8>, AllocError>
+    ensures { IfOk result (λ v. v.items ≡ states_line states complete) }
+{
+    let mut line = String::new(alloc);
+    append_states(&mut line, states, complete)?;
+    Ok(line.into_bytes())
+}
+
+// Appends the line of how many states were kept.
+fn append_states(text: &mut String, states: usize, complete: bool) -> Result<(), AllocError>
+    ensures { OnOk result (string_bytes text.new
+        ≡ string_bytes text.old ++ states_line states complete) }
+{
+    write!(text, "{states} states")?;
+    if complete {
+        writeln!(text)
+    } else {
+        writeln!(text, ", not all")
+    }
+}
+
+// Appends what is told of one kind of end.
+fn append_end(
+    alloc: Global,
+    lines: &mut Vec<u8>,
+    names: &Names,
+    word: &str,
+    none: &str,
+    complete: bool,
+    found: &Option<Vec<Action>>,
+) -> Result<(), AllocError>
+    ensures { OnOk result (lines.new.items
+        ≡ lines.old.items ++ end_lines (naming_of names.now) word.now none.now complete found.now) }
+{
+    match found {
+        Some(actions) => {
+            lines.extend_from_slice(word.as_bytes())?;
+            let told = action_lines(alloc, names, actions.as_slice())?;
+            lines.extend_from_slice(told.as_slice())
+        }
+        None if complete => lines.extend_from_slice(none.as_bytes()),
+        None => Ok(()),
+    }
+}
