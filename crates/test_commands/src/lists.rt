@@ -1,7 +1,7 @@
 //! Lists of source actions, and logs of images, which stand in rows of one line.
 
 mod action;
-mod failure;
+pub mod failure;
 mod logs;
 mod runs;
 

@@ -30,6 +30,7 @@
 //! ```text
 //! actions LIST | TEXT         a list of actions of the program of this text
 //! logs COUNT MOST | TEXT      so many logs of the program's image, each of so many entries at most
+//! workers COUNT | TEXT        so many runs of the program on real workers
 //! ```
 //!
 //! A list has actions, with commas between them; an action is the process, the action's name, and its numbers:
@@ -51,6 +52,9 @@
 //!
 //! Logs are explained, and forged ones too (`test_logs`): the line printed tells how many logs were explained by runs
 //! of the program, and how many were refused as another image's, or forged in each way.
+//!
+//! Of runs on real workers the log is written and read again, and explained: the line printed tells how many of the
+//! explanations are runs of the program that print what was printed.
 #![tactic(auto)]
 
 mod device;
@@ -59,6 +63,7 @@ mod lists;
 mod outcome;
 mod row;
 mod tally;
+mod worker_runs;
 
 use crate::tally::Tally;
 use std::io;
@@ -69,7 +74,7 @@ fn main(rt: HostRuntime) -> io::Result<ExitCode> {
     for line in rt.lines(rt.alloc()) {
         let line = line?;
         let line = line.as_str();
-        if !lists::take_line(&rt, line)? {
+        if !worker_runs::take_line(&rt, line)? && !lists::take_line(&rt, line)? {
             tally.take_line(&rt, line)?;
         }
     }

@@ -1,0 +1,71 @@
+use crate::lists::failure::Failure;
+use log_text::append_log;
+use mesamon::{explain_log_text, run_source};
+use source_states::accepts;
+use std::io;
+use std::sync::Wait;
+use std::thread::Threads;
+use words::OpenGate;
+
+// The most steps of a run.
+const STEPS: u32 = 1_000_000;
+
+/// Prints what comes of a row of runs on real workers, or why nothing does; false where this line is none.
+pub fn take_line<R: AllocGlobal + Print + Threads + Wait + Sync>(
+    rt: &R,
+    line: &str,
+) -> io::Result<bool> {
+    let Some(row) = line.strip_prefix("workers ") else {
+        return Ok(false);
+    };
+    if let Err(failure) = show_runs(rt, row) {
+        println!(rt; "{failure}")?;
+    }
+    Ok(true)
+}
+
+// Prints how many runs are explained, of the program whose text stands in the row, behind how many of them are made.
+fn show_runs<R: AllocGlobal + Print + Threads + Wait + Sync>(
+    rt: &R,
+    row: &str,
+) -> Result<(), Failure> {
+    let (said, text) = row.split_once('|').ok_or(Failure::Row)?;
+    let count: u32 = said.trim().parse().map_err(|_| Failure::Row)?;
+    let mut explained: u32 = 0;
+    for _ in 0..count {
+        if is_explained(rt, text.as_bytes())? {
+            explained = explained.saturating_add(1);
+        }
+    }
+    println!(rt; "{count} runs on workers, {explained} explained")?;
+    Ok(())
+}
+
+// Whether the log of a run on real workers, written and read again, is explained by a run of the program that prints
+// what it printed.
+fn is_explained<R: AllocGlobal + Threads + Wait + Sync>(
+    rt: &R,
+    text: &[u8],
+) -> Result<bool, Failure> {
+    let Ok(report) = run_source(rt, rt.alloc(), text, STEPS, &OpenGate) else {
+        return Ok(false);
+    };
+    let mut lines = String::new(rt.alloc());
+    append_log(&mut lines, report.log.as_slice())?;
+    let Ok(run) = explain_log_text(rt.alloc(), text, lines.as_bytes()) else {
+        return Ok(false);
+    };
+    match accepts(rt.alloc(), &run.checked, run.actions.as_slice())? {
+        Some(state) => Ok(are_printed(state.printed(), report.output.as_slice())),
+        None => Ok(false),
+    }
+}
+
+// Whether these numbers are the ones that were printed.
+fn are_printed(numbers: &[i64], output: &[i32]) -> bool {
+    numbers.len() == output.len()
+        && numbers
+            .iter()
+            .zip(output.iter())
+            .all(|(number, printed)| *number == i64::from(*printed))
+}
