@@ -1,0 +1,12 @@
+//! What a program reads and writes, by calls each of which can fail.
+#![tactic(auto)]
+
+mod counted;
+mod files;
+mod reading;
+mod writing;
+
+pub use counted::Counted;
+pub use files::put_file;
+pub use reading::{ReadFault, read_source};
+pub use writing::write_bytes;
