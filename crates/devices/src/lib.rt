@@ -4,9 +4,11 @@
 mod counted;
 mod files;
 mod reading;
+mod report;
 mod writing;
 
 pub use counted::Counted;
 pub use files::put_file;
 pub use reading::{ReadFault, read_source};
+pub use report::{WriteFault, write_report};
 pub use writing::write_bytes;
