@@ -8,7 +8,7 @@ use Rattle.std.proofs.Math.Path.{fun_ext}
 use Rattle.std.proofs.lemmas.Bool.{cases_eq, or_left, or_right, eq-eqb, ne_eqb, false_from_ne_true}
 use Rattle.std.proofs.lemmas.List.{append-nil, get_or-set_same, get_or-set_other, length-set, length-replicate}
 use Rattle.words.specs.declared.mem.Addr.{Addr}
-use Rattle.words.specs.Limits.{most_processes}
+use Rattle.words.specs.Limits.{most_threads}
 use Rattle.buckets.specs.declared.sleeper.Sleeper.{Sleeper}
 use Rattle.buckets.specs.BucketCount.{IsBucketCount}
 use Rattle.buckets.specs.Places.{names, with_place}
@@ -152,7 +152,7 @@ empty_row zero k = refl
 empty_row (suc n) zero = refl
 empty_row (suc n) (suc k) = empty_row n k
 
-pub opened : (threads n : ℕ) → threads ≤ most_processes → 1 ≤ n → IsConsistent (replicate (threads + 1) nobody_at)
+pub opened : (threads n : ℕ) → threads ≤ most_threads → 1 ≤ n → IsConsistent (replicate (threads + 1) nobody_at)
     (replicate n [])
 opened threads n few some =
     let long : length (replicate (threads + 1) nobody_at) ≡ threads + 1 = length-replicate (threads + 1) nobody_at in
@@ -171,7 +171,7 @@ pub record Opened (s : Sleepers) (most : ℕ) : Type 0 where
   pub threads : thread_count s ≡ most
   pub sound : IsSound s
 
-pub opens : (threads n : ℕ) → threads ≤ most_processes → 1 ≤ n → Opened
+pub opens : (threads n : ℕ) → threads ≤ most_threads → 1 ≤ n → Opened
     (shown (replicate (threads + 1) nobody_at) (replicate n [])) threads
 unfolding queue place_of thread_count
 opens threads n few some = record {

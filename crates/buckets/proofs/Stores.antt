@@ -13,7 +13,7 @@ use Rattle.words.specs.declared.mem.Addr.{Addr}
 use Rattle.buckets.specs.declared.sleeper.Sleeper.{Sleeper}
 use Rattle.buckets.specs.declared.node.Chain.{Chain}
 use Rattle.buckets.specs.declared.node.Node.{Node}
-use Rattle.words.specs.Limits.{most_processes}
+use Rattle.words.specs.Limits.{most_threads}
 use Rattle.buckets.specs.Sleepers.{Sleepers, queue, place_of, thread_count}
 use Rattle.buckets.specs.Lists.{among, IsConsistent}
 use Rattle.buckets.specs.Chains.{node_at, row_of, rows, Chained, IsChain, Once, Rechained, IsStored}
@@ -282,7 +282,7 @@ rows-nobody at most (suc n) = rw (walk_none at most) (ap (λ x. [] ∷ x) (rows-
 
 pub made : (nodes : Slab Node) (chains : List Chain) (places : List (Option Addr)) (n threads : ℕ) → nodes.slots ≡ []
     → chains ≡ replicate n nobody_in → places ≡ replicate (threads + 1) nobody_at → threads ≤ nodes.capacity
-    → threads ≤ most_processes → 1 ≤ n → IsStored nodes chains places × Opened (seen nodes chains places) threads
+    → threads ≤ most_threads → 1 ≤ n → IsStored nodes chains places × Opened (seen nodes chains places) threads
 made nodes chains places n threads es ec ep room few some =
     let none = rows-nobody (get nodes) (length places - 1) n in (
       record {

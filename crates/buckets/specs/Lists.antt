@@ -2,7 +2,7 @@
 use Rattle.std.specs.Prelude.{◌≡◌, ℕ, ◌+◌, ◌<◌, ◌≤◌, ◌%◌, Bool, false, nat_eq}
 use Rattle.std.specs.Prelude.{Option, Some, None, List, [], ◌∷◌, length, slice_index_or, IsTrue, ⊤}
 use Rattle.std.specs.List.{flat_map, list_any}
-use Rattle.words.specs.Limits.{most_processes}
+use Rattle.words.specs.Limits.{most_threads}
 use Rattle.words.specs.declared.mem.Addr.{Addr}
 use Rattle.buckets.specs.declared.sleeper.Sleeper.{Sleeper}
 
@@ -23,7 +23,7 @@ Stand places n k (s ∷ ss) = (s.address.0 % n ≡ k) × (slice_index_or places 
 -- the table of places and the lists of the buckets say the same
 pub record IsConsistent (places : List (Option Addr)) (rows : List (List Sleeper)) : Type 0 where
   pub threads : 1 ≤ length places
-  pub few : length places ≤ most_processes + 1
+  pub few : length places ≤ most_threads + 1
   pub no_zero : slice_index_or places 0 None ≡ None
   pub some : 1 ≤ length rows
   pub stand : (k : ℕ) → k < length rows → Stand places (length rows) k (slice_index_or rows k [])

@@ -3,10 +3,10 @@ ghost use Rattle.std.specs.Prelude.{◌≡◌, ◌<◌, ◌≤◌, ◌==◌, [],
 use smallvec::SmallVec;
 use std::alloc::Global;
 use std::marker::Model;
-use words::MOST_PROCESSES;
+use words::MOST_THREADS;
 
 /// The most threads that buckets can be made for.
-pub const MOST_THREADS: usize = MOST_PROCESSES as usize;
+pub const MOST_THREADS: usize = MOST_THREADS as usize;
 
 /// A list of threads by their numbers, with room for all threads in the value itself: it never takes memory.
 /// Contracts see the list of the numbers.
@@ -17,13 +17,13 @@ pub struct ThreadList {
 
 impl Model for ThreadList {
     ghost use Rattle.std.specs.Prelude.{◌≡◌, List, ℕ};
-    ghost use Rattle.words.specs.Limits.{most_processes};
+    ghost use Rattle.words.specs.Limits.{most_threads};
 
     ghost Value = { List ℕ };
 
     ghost view = { λ l. l.threads.items };
 
-    ghost invariant = { λ l. l.threads.capacity ≡ most_processes };
+    ghost invariant = { λ l. l.threads.capacity ≡ most_threads };
 }
 
 impl ThreadList {

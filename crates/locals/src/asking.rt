@@ -10,7 +10,7 @@ ghost use Rattle.locals.specs.Views.{shared_where, local_where, looks, IsRequest
 use crate::activation::{Activation, MOST_OPERANDS};
 use crate::request::{NextStep, Request};
 use isa::{Image, Instr};
-use words::{Addr, MOST_PROCESSES};
+use words::{Addr, MOST_THREADS};
 
 impl Activation {
     /// What the next step of thread `t` is.
@@ -44,7 +44,7 @@ impl Activation {
                 None => NextStep::Broken,
             },
             Instr::ProcessAddress(_) => match self.operands.top() {
-                Some(1..=MOST_PROCESSES) => NextStep::Local,
+                Some(1..=MOST_THREADS) => NextStep::Local,
                 Some(_) | None => NextStep::Broken,
             },
             Instr::Jump(_) | Instr::Raise(_) => NextStep::Local,

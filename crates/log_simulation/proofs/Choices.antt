@@ -3,7 +3,7 @@ use Rattle.std.proofs.Common.{◌≡◌, ℕ, Bool, true, false, List, Some, ref
 use Rattle.std.proofs.Common.{sym, ◌∙◌, subst, inl, inr}
 use Rattle.std.proofs.lemmas.Bool.{false≢true, lt-ltb}
 use Rattle.std.specs.Prelude.{if◌then◌else◌, nat_lt}
-use Rattle.words.specs.Limits.{most_processes}
+use Rattle.words.specs.Limits.{most_threads}
 use Rattle.machine.specs.States.{State}
 use Rattle.program.specs.declared.kinds.Member.{Member}
 use Rattle.program.specs.Trees.{Program}
@@ -37,7 +37,7 @@ module _ (p : Program) (q : ProcessOf) (t : ℕ) (T T' : Table) (label : L.Label
   visible_found s (Own (Does l e)) resumed takes allows visible who waiters = ap (λ i. Some (kind_of i)) (sym takes.0)
   visible_found s (Own (Makes child into)) resumed (inl made) allows visible who waiters =
       let here = subst (λ i. Allows t i T T') made.1 allows in
-      chosen (nat_lt T.made most_processes) _ _ (lt-ltb T.made most_processes here.0)
+      chosen (nat_lt T.made most_threads) _ _ (lt-ltb T.made most_threads here.0)
       ∙ ap (λ n. Some (L.Fork n)) (sym here.1) ∙ ap (λ i. Some (kind_of i)) (sym made.1)
   visible_found s (Own (Makes child into)) resumed (inr full) allows visible who waiters =
       absurd (false≢true (sym visible ∙ ap is_internal full.0))

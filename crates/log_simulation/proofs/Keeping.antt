@@ -3,7 +3,7 @@ use Rattle.std.proofs.Common.{◌≡◌, ◌+◌, ◌<◌, ◌≤◌, ℕ, List,
 use Rattle.std.proofs.Common.{ap, sym, ◌∙◌, arith, subst, length-append}
 use Rattle.std.specs.Prelude.{◌^◌, ◌++◌, replicate}
 use Rattle.std.proofs.lemmas.List.{length-replicate}
-use Rattle.words.specs.Limits.{most_processes}
+use Rattle.words.specs.Limits.{most_threads}
 use Rattle.locals.specs.Threads.{Thread}
 use Rattle.locals.specs.Looks.{look}
 use Rattle.locals.specs.Steps.{local_after}
@@ -107,7 +107,7 @@ module _ (p : Program) (events : List EventStep) (k k' : ConcreteState) (e : Ent
 
 -- a thread that stands somewhere has a number that threads have
 pub within_most : (p : Program) (events : List EventStep) (k : ConcreteState) (g : Progress) (t : ℕ) (o : Thread)
-    → ComesTo p events k g → thread_of k t ≡ Some o → t ≤ most_processes
+    → ComesTo p events k g → thread_of k t ≡ Some o → t ≤ most_threads
 within_most p events k g t o comes stands =
     let made = within_made k.threads t o stands in let few = comes.kept.few in omega (arith, made, few)
 

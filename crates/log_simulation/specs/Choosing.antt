@@ -1,6 +1,6 @@
 -- Which visible action a process takes next, by its offer.
 use Rattle.std.specs.Prelude.{ℕ, ◌+◌, List, Option, Some, None, nat_lt, if◌then◌else◌}
-use Rattle.words.specs.Limits.{most_processes}
+use Rattle.words.specs.Limits.{most_threads}
 use Rattle.program.specs.declared.kinds.Member.{Member}
 use Rattle.meaning.specs.Labels.{Kind, kind_of}
 use Rattle.meaning.specs.Labels as L
@@ -21,7 +21,7 @@ visible_label label = kind_of (label_of label)
 abbrev pub visible_own : Offered → ℕ → List ℕ → Option Kind
 visible_own Rests made resumed = None
 visible_own (Does label effect) made resumed = Some (visible_label label)
-visible_own (Makes child into) made resumed = if nat_lt made most_processes then Some (L.Fork (made + 1)) else None
+visible_own (Makes child into) made resumed = if nat_lt made most_threads then Some (L.Fork (made + 1)) else None
 visible_own (Claims child into aborted) made resumed = Some (L.Claim child)
 visible_own (NotifiesSome c) made resumed = Some (L.Notify c resumed)
 visible_own (NotifiesAll c) made resumed = Some (L.Broadcast c resumed)

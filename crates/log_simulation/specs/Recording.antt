@@ -1,6 +1,6 @@
 -- The source behind a log, as far as it was walked.
 use Rattle.std.specs.Prelude.{ℕ, zero, suc, ◌≡◌, ◌+◌, ◌<◌, ◌≤◌, ◌^◌, ◌++◌, true, List, length, MatchBool}
-use Rattle.words.specs.Limits.{most_processes}
+use Rattle.words.specs.Limits.{most_threads}
 use Rattle.machine.specs.FrontRuns.{EventStep}
 use Rattle.machine.specs.States.{ConcreteState}
 use Rattle.machine.specs.Views.{concrete}
@@ -25,7 +25,7 @@ pub record IsOf (p : Program) (r : Recorder) : Type 0 where
   pub program : said_by r.follower.checked.now ≡ p
   pub layout : r.follower.layout ≡ layout_of p
   pub marks : r.marks.items ≡ marks_of p
-  pub places : length r.deferred.items ≡ most_processes + 1
+  pub places : length r.deferred.items ≡ most_threads + 1
 
 -- it has recorded this, behind so many steps
 pub record Records (steps : ℕ) (g : Progress) (r : Recorder) : Type 0 where

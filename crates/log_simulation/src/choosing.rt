@@ -6,7 +6,7 @@ ghost use Rattle.log_simulation.specs.Choosing.{visible_kind, visible_own, resum
 use program::Member;
 use source_offers::{Offer, Offered};
 use source_states::{ActionKind, SourceState, named};
-use words::MOST_PROCESSES;
+use words::MOST_THREADS;
 
 /// The condition that a process with this offer notifies or broadcasts.
 pub fn notified(offer: &Offer) -> Option<Member>
@@ -27,7 +27,7 @@ fn visible_alone(offered: &Offered, made: u64, resumed: Vec<u64>) -> Option<Acti
     match offered {
         Offered::Rests => None,
         Offered::Does(label, _) => Some(named(*label)),
-        Offered::Makes(_, _) if made < u64::from(MOST_PROCESSES) => Some(ActionKind::Fork(
+        Offered::Makes(_, _) if made < u64::from(MOST_THREADS) => Some(ActionKind::Fork(
             made + 1,
         )),
         Offered::Makes(_, _) => None,

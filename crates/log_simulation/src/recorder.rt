@@ -1,6 +1,6 @@
 ghost use Rattle.std.specs.Prelude.{[], ◌≡◌, ◌+◌, ◌<◌, ◌≤◌, ◌^◌, true, IfOk, List, MatchBool, None, OnOk, Option, Some};
 ghost use Rattle.std.specs.Prelude.{length, map, ℕ};
-ghost use Rattle.words.specs.Limits.{most_processes};
+ghost use Rattle.words.specs.Limits.{most_threads};
 ghost use Rattle.words.specs.Updates.{put};
 ghost use Rattle.lowering.specs.Layout.{layout_of};
 ghost use Rattle.lowering.specs.Pieces.{code_of, marks_of};
@@ -37,7 +37,7 @@ use machine::{Entry, Event, Machine};
 use program::Checked;
 use source_states::Action;
 use std::alloc::{AllocError, Global};
-use words::MOST_PROCESSES;
+use words::MOST_THREADS;
 
 /// The source behind a log, as far as it was walked. It is kept as long as the log has fewer than 2^32 steps.
 #[derive(Drop)]
@@ -53,11 +53,11 @@ pub struct Recorder<'a> {
 
 // Nothing is deferred of any process.
 fn nothing(alloc: Global) -> Result<Vec<Deferred>, AllocError>
-    ensures { IfOk result (λ v. (length v.items ≡ most_processes + 1)
+    ensures { IfOk result (λ v. (length v.items ≡ most_threads + 1)
         × CountsDeferred v.items (λ t. [])) }
 {
     let mut deferred = Vec::new(alloc);
-    for _ in 0..=MOST_PROCESSES {
+    for _ in 0..=MOST_THREADS {
         deferred.push(Deferred::none())?;
     }
     Ok(deferred)
@@ -183,7 +183,7 @@ impl<'a> Recorder<'a> {
     ) -> Result<(), AllocError>
         ensures { OnOk result ((p : Program) (n : ℕ) (g : Progress) → image.now ≡ code_of p
             → IsOf p self.old
-            → t ≤ most_processes → RecordsUnlessLong n g self.old
+            → t ≤ most_threads → RecordsUnlessLong n g self.old
             → (is_visible p (look (code_of p) t here.now) event.value ≡ true → n + 1 < 2 ^ 32
             → IsDue p (machine_state (concrete machine.now)) t g)
             → IsOf p self.new
@@ -208,7 +208,7 @@ impl<'a> Recorder<'a> {
     // The deferred actions are taken, by rising process. Each is possible, in a legal log of fewer than 2^32 steps.
     fn take_rest(&mut self, made: u32) -> Result<(), AllocError>
         ensures { OnOk result ((p : Program) (g : Progress) (ahead : SourceState) → IsOf p self.old
-            → made ≤ most_processes → Matches self.old.follower g
+            → made ≤ most_threads → Matches self.old.follower g
             → CountsDeferred self.old.deferred.items g.deferred
             → IsBehind p g.deferred g.source ahead
             → Matches self.new.follower (progress_rest p made g)) }

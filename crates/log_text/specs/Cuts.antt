@@ -1,6 +1,6 @@
 -- Texts that are cut at a byte.
 use Rattle.std.specs.Prelude.{ℕ, ◌≡◌, ◌≢◌, ◌<◌, ◌≤◌, List, [], ◌∷◌, ◌++◌}
-use Rattle.words.specs.Limits.{most_processes}
+use Rattle.words.specs.Limits.{most_threads}
 
 -- there is no such byte in it
 abbrev pub NoByte : ℕ → List ℕ → Type 0

@@ -3,7 +3,7 @@ use Rattle.std.specs.Prelude.{ℕ, zero, suc, List, [], ◌∷◌, ◌++◌, Opt
 use Rattle.std.specs.List.{flat_map}
 use Rattle.std.specs.Fmt.{decimal, signed_decimal}
 use Rattle.words.specs.Signed.{signed_of}
-use Rattle.words.specs.Limits.{most_processes}
+use Rattle.words.specs.Limits.{most_threads}
 use Rattle.machine.specs.declared.event.Entry.{Entry}
 use Rattle.machine.specs.declared.event.Event.{Event}
 use Rattle.machine.specs.declared.event.EventName.{EventName}
@@ -60,7 +60,7 @@ list_text word (n ∷ ns) = word ++ numbers_text (n ∷ ns)
 
 -- a word and the threads of a set, or nothing where the set is empty
 abbrev pub set_text : List ℕ → ThreadSet → List ℕ
-set_text word set = list_text word (members set most_processes)
+set_text word set = list_text word (members set most_threads)
 
 -- a step's name and value, and the threads that it woke and moved
 abbrev pub event_text : Event → List ℕ

@@ -2,7 +2,7 @@
 use Rattle.std.specs.Prelude.{ℕ, suc, ◌≡◌, ◌≢◌, ◌<◌, ◌+◌, ◌%◌, ◌==◌, ◌⊎◌, ◌++◌, List, [], ◌∷◌, length, true}
 use Rattle.std.specs.Prelude.{Option, if◌then◌else◌}
 use Rattle.std.specs.Int.Bits.{bit_or}
-use Rattle.words.specs.Limits.{most_processes}
+use Rattle.words.specs.Limits.{most_threads}
 use Rattle.words.specs.Process.{process_word}
 use Rattle.words.specs.Outcomes.{cause_number}
 use Rattle.words.specs.Signed.{signed_of}
@@ -46,8 +46,8 @@ Serves t (AskOr a v) s woken answer s' =
 Serves t (AskAdd a v) s woken answer s' =
     Lies s a × Quietly woken ((answer ≡ s.word a) × (s' ≡ with_word s a ((s.word a + v) % 4294967296)))
 Serves t (AskFork entry arguments has_room) s woken answer s' =
-    Quietly woken (((s.made ≡ most_processes) × (answer ≡ 0) × (s' ≡ s))
-    ⊎ ((s.made < most_processes) × (has_room ≡ true) × (answer ≡ suc s.made) × (s' ≡ with_child s entry arguments)))
+    Quietly woken (((s.made ≡ most_threads) × (answer ≡ 0) × (s' ≡ s))
+    ⊎ ((s.made < most_threads) × (has_room ≡ true) × (answer ≡ suc s.made) × (s' ≡ with_child s entry arguments)))
 Serves t (AskPrint number) s woken answer s' =
     Quietly woken ((answer ≡ 0) × (s' ≡ record s { output = s.output ++ signed_of number ∷ [] }))
 Serves t (AskWait a expected) s woken answer s' =
@@ -77,7 +77,7 @@ IsUnserved (AskSwap a v) s = Lies s a → ⊥
 IsUnserved (AskCompareSwap a expected new) s = Lies s a → ⊥
 IsUnserved (AskOr a v) s = Lies s a → ⊥
 IsUnserved (AskAdd a v) s = Lies s a → ⊥
-IsUnserved (AskFork entry arguments has_room) s = (s.made < most_processes) × (has_room ≡ true → ⊥)
+IsUnserved (AskFork entry arguments has_room) s = (s.made < most_threads) × (has_room ≡ true → ⊥)
 IsUnserved (AskPrint number) s = ⊥
 IsUnserved (AskWait a expected) s = Lies s a → ⊥
 IsUnserved (AskWake a n) s = Lies s a → ⊥

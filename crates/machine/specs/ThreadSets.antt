@@ -2,7 +2,7 @@
 use Rattle.std.specs.Prelude.{ℕ, ◌≡◌, ◌-◌, ◌^◌, ◌≤◌, ◌==◌, Bool, false, List, [], ◌∷◌}
 use Rattle.std.specs.Int.{bit_at}
 use Rattle.std.specs.Int.Bits.{bit_or}
-use Rattle.words.specs.Limits.{most_processes}
+use Rattle.words.specs.Limits.{most_threads}
 use Rattle.buckets.specs.Places.{names}
 use Rattle.machine.specs.declared.thread_set.ThreadSet.{ThreadSet}
 
@@ -21,7 +21,7 @@ has set t = bit_at set.bits (t - 1) == 1
 
 -- the number of a thread
 abbrev pub IsThread : ℕ → Type 0
-IsThread t = (1 ≤ t) × (t ≤ most_processes)
+IsThread t = (1 ≤ t) × (t ≤ most_threads)
 
 -- the set of a list has the threads of the list and no others
 abbrev pub SetsSo : Type 0

@@ -4,7 +4,7 @@ use Rattle.std.specs.Prelude.{None}
 use Rattle.words.specs.declared.mem.Addr.{Addr}
 use Rattle.isa.specs.Programs.{Program, memory_size}
 use Rattle.buckets.specs.Places.{Agree}
-use Rattle.words.specs.Limits.{most_processes, monitors_base}
+use Rattle.words.specs.Limits.{most_threads, monitors_base}
 use Rattle.buckets.specs.Sleepers.{Sleepers, IsSound, queue, place_of, thread_count}
 use Rattle.machine.specs.declared.event.Event.{Event}
 use Rattle.machine.specs.declared.event.EventName.{EventName}
@@ -27,7 +27,7 @@ AllEnded k = (t : ℕ) → 0 < t → t ≤ length k.threads → has_ended (threa
 pub record IsWellFormed (p : Program) (k : ConcreteState) : Type 0 where
   pub sized : length k.common.words ≡ memory_size p
   pub some : 1 ≤ length k.threads
-  pub few : length k.threads ≤ most_processes
+  pub few : length k.threads ≤ most_threads
   pub agree : Agree k.common.queue k.common.asleep
   pub made : (t a : ℕ) → k.common.asleep t ≡ Some a → (1 ≤ t) × (t ≤ length k.threads)
 
@@ -59,7 +59,7 @@ parts_of v threads = record { common = common v; threads = threads }
 pub record IsCommon (words : List ℕ) (sleepers : Sleepers) : Type 0 where
   pub wide : monitors_base ≤ length words
   pub sound : IsSound sleepers
-  pub places : thread_count sleepers ≡ most_processes
+  pub places : thread_count sleepers ≡ most_threads
 
 -- the program that runs, the parts of its concrete state, and how many numbers can be printed without taking memory
 pub record View : Type 0 where

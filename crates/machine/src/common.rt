@@ -1,6 +1,6 @@
 ghost use Rattle.std.specs.Prelude.{◌≡◌, ◌-◌, ◌≤◌, ◌<◌, ℕ, [], None, IfOk, OnOk, OnErr, length, replicate};
 ghost use Rattle.std.specs.Prelude.{slice_get, slice_set, Some};
-ghost use Rattle.words.specs.Limits.{most_processes};
+ghost use Rattle.words.specs.Limits.{most_threads};
 ghost use Rattle.isa.specs.Programs.{memory_size};
 ghost use Rattle.buckets.specs.BucketCount.{IsBucketCount};
 ghost use Rattle.buckets.specs.Sleepers.{queue, place_of};
@@ -11,7 +11,7 @@ use buckets::Buckets;
 use isa::Image;
 use std::alloc::{AllocError, Global};
 use std::marker::Model;
-use words::{Addr, MOST_PROCESSES, Mem};
+use words::{Addr, MOST_THREADS, Mem};
 
 /// What threads share: the words, who sleeps on which address, and the numbers that were printed. Contracts see a
 /// `CommonView`. Its methods are what a thread asks of it: accesses, ends, futex calls and exits.
@@ -50,7 +50,7 @@ impl Common {
     {
         Ok(Common {
             words: opening_words(alloc, image)?,
-            buckets: Buckets::new(alloc, buckets, MOST_PROCESSES)?,
+            buckets: Buckets::new(alloc, buckets, MOST_THREADS)?,
             output: Vec::new(alloc),
         })
     }
@@ -90,7 +90,7 @@ impl Common {
 
     /// Where thread `t` sleeps, if it does.
     pub fn asleep(&self, t: u32) -> Option<Addr>
-        requires { (0 < t) × (t ≤ most_processes) }
+        requires { (0 < t) × (t ≤ most_threads) }
         ensures { address_of result ≡ place_of self.now.sleepers t }
     {
         self.buckets.asleep(t)

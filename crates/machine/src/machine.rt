@@ -1,6 +1,6 @@
 ghost use Rattle.std.specs.Prelude.{◌≡◌, ◌≤◌, ◌<◌, ◌+◌, ℕ, length, slice_index, slice_set, ◌-◌};
 ghost use Rattle.std.specs.Prelude.{true, false, Some, None, Ok, Err, IfOk, IfErr, OnOk, OnErr, MatchBool, is_some};
-ghost use Rattle.words.specs.Limits.{most_processes};
+ghost use Rattle.words.specs.Limits.{most_threads};
 ghost use Rattle.words.specs.Process.{process_word};
 ghost use Rattle.words.specs.Outcomes.{outcome_of};
 ghost use Rattle.isa.specs.Programs.{memory_size};
@@ -34,7 +34,7 @@ pub struct Machine {
 
 impl Model for Machine {
     ghost use Rattle.std.specs.Prelude.{◌≤◌, ◌-◌, length, vec_capacity};
-    ghost use Rattle.words.specs.Limits.{most_processes};
+    ghost use Rattle.words.specs.Limits.{most_threads};
     ghost use Rattle.machine.specs.Views.{View, IsWellFormed, parts_of};
 
     ghost Value = { View };
@@ -49,7 +49,7 @@ impl Model for Machine {
     } };
 
     ghost invariant = { λ m. IsWellFormed m.image (parts_of m.common m.threads.items)
-        × (most_processes ≤ vec_capacity m.threads) };
+        × (most_threads ≤ vec_capacity m.threads) };
 }
 
 impl Machine {
@@ -85,10 +85,10 @@ impl Machine {
         self.common.room()
     }
 
-    /// How many threads were made, from 1 to `MOST_PROCESSES`. With it comes what always holds of a machine.
+    /// How many threads were made, from 1 to `MOST_THREADS`. With it comes what always holds of a machine.
     pub fn threads(&self) -> u32
         ensures value { result ≡ length self.now.threads }
-        ensures within { (1 ≤ result) × (result ≤ most_processes) }
+        ensures within { (1 ≤ result) × (result ≤ most_threads) }
         ensures holds { IsWellFormed self.now.program (concrete self.now) }
     {
         self.threads.len() as u32

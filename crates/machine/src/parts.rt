@@ -1,6 +1,6 @@
 ghost use Rattle.std.specs.Prelude.{◌≡◌, ◌^◌, sum, ◌≤◌, ◌<◌, Some, None, Ok, Err, IfOk, IfErr, OnErr, [], ◌∷◌};
 ghost use Rattle.std.specs.Prelude.{length, replicate, slice_index, slice_set, vec_len, vec_capacity};
-ghost use Rattle.words.specs.Limits.{most_processes};
+ghost use Rattle.words.specs.Limits.{most_threads};
 ghost use Rattle.isa.specs.Programs.{memory_size};
 ghost use Rattle.locals.specs.Threads.{Thread, opening_thread};
 ghost use Rattle.locals.specs.Looks.{look};
@@ -16,7 +16,7 @@ use crate::thread_step::{take_exit, take_fork, take_local, take_request};
 use isa::Image;
 use locals::{Local, NextStep, opening_local};
 use std::alloc::{AllocError, Global};
-use words::{Addr, MONITORS_BASE, MOST_PROCESSES, Mem, ProcessWord, block};
+use words::{Addr, MONITORS_BASE, MOST_THREADS, Mem, ProcessWord, block};
 
 fn total(numbers: &[u32]) -> u32
     requires { sum numbers.now < 2 ^ 32 }
@@ -45,9 +45,9 @@ pub fn opening_words(alloc: Global, image: &Image) -> Result<Mem, AllocError>
 pub fn opening_threads(alloc: Global, image: &Image) -> Result<Vec<Local>, AllocError>
     ensures threads { IfOk result (λ threads. threads.items
         ≡ opening_thread image.now.start [] ∷ []) }
-    ensures space { IfOk result (λ threads. most_processes ≤ vec_capacity threads) }
+    ensures space { IfOk result (λ threads. most_threads ≤ vec_capacity threads) }
 {
-    let mut threads = Vec::with_capacity(alloc, MOST_PROCESSES as usize)?;
+    let mut threads = Vec::with_capacity(alloc, MOST_THREADS as usize)?;
     threads.push_reserved(opening_local(image.start(), &[]));
     Ok(threads)
 }
@@ -73,9 +73,9 @@ pub fn step_parts(
 ) -> Result<Event, StepFault>
     requires room { length shared.old.output < shared.old.capacity }
     requires thread { (0 < t) × (t ≤ vec_len threads.old) }
-    requires few { vec_len threads.old ≤ most_processes }
+    requires few { vec_len threads.old ≤ most_threads }
     requires awake { place_of shared.old.sleepers t ≡ None }
-    requires space { most_processes ≤ vec_capacity threads.old }
+    requires space { most_threads ≤ vec_capacity threads.old }
     ensures done { IfOk result
         (λ e. step_of image.now (parts_of shared.old threads.old.items) t
         ≡ Ok (parts_of shared.new threads.new.items, e)) }
@@ -115,11 +115,11 @@ fn fork_parts(
     has_room: bool,
 ) -> Result<Event, StepFault>
     requires thread { (0 < t) × (t ≤ vec_len threads.old) }
-    requires few { vec_len threads.old ≤ most_processes }
+    requires few { vec_len threads.old ≤ most_threads }
     requires awake { place_of shared.old.sleepers t ≡ None }
     requires asks { (x : Thread) → thread_at threads.old.items t ≡ Some x
         → AsksFork (look image.now t x) has_room }
-    requires space { most_processes ≤ vec_capacity threads.old }
+    requires space { most_threads ≤ vec_capacity threads.old }
     ensures done { IfOk result
         (λ e. step_of image.now (parts_of shared.old threads.old.items) t
         ≡ Ok (parts_of shared.new threads.new.items, e)) }

@@ -9,7 +9,7 @@ use crate::common::Common;
 use crate::event::StepFault;
 use isa::Image;
 use locals::{Local, NextStep, Request};
-use words::{Addr, MOST_PROCESSES};
+use words::{Addr, MOST_THREADS};
 
 impl Common {
     // Whether an address lies in the memory.
@@ -73,7 +73,7 @@ impl Common {
                 count: _,
                 has_room,
             } => {
-                if has_room || made == MOST_PROCESSES {
+                if has_room || made == MOST_THREADS {
                     None
                 } else {
                     Some(StepFault::Broken)

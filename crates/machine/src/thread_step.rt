@@ -1,5 +1,5 @@
 ghost use Rattle.std.specs.Prelude.{◌≡◌, ◌≤◌, ◌<◌, ℕ, Some, None, Ok, Err, IfOk, IfErr, OnErr, IsSome, length};
-ghost use Rattle.words.specs.Limits.{most_processes};
+ghost use Rattle.words.specs.Limits.{most_threads};
 ghost use Rattle.buckets.specs.Sleepers.{place_of};
 ghost use Rattle.locals.specs.Looks.{look};
 ghost use Rattle.locals.specs.Requests.{next_step_of};
@@ -15,7 +15,7 @@ use crate::event::{Event, EventName, StepFault};
 use isa::Image;
 use locals::{Local, Request};
 use robustexit::ExitPhase;
-use words::MOST_PROCESSES;
+use words::MOST_THREADS;
 
 /// A local step of thread `t`.
 pub fn take_local(image: &Image, t: u32, local: &mut Local) -> Event
@@ -81,18 +81,18 @@ pub fn take_fork(
     local: &mut Local,
     has_room: bool,
 ) -> Result<(Option<Local>, Event), StepFault>
-    requires few { made ≤ most_processes }
+    requires few { made ≤ most_threads }
     requires asks { AsksFork (look image.now t local.old) has_room }
     ensures done { IfOk result
         (λ r. thread_step made t (common shared.old) (look image.now t local.old)
         ≡ Ok (record { common = common shared.new; thread = local.new; child = r.0; event = r.1 })) }
     ensures err { IfErr result
         (λ f. thread_step made t (common shared.old) (look image.now t local.old) ≡ Err f) }
-    ensures child { IfOk result (λ r. IsSome r.0 → made < most_processes) }
+    ensures child { IfOk result (λ r. IsSome r.0 → made < most_threads) }
     ensures same { OnErr result ((local.new ≡ local.old) × (shared.new ≡ shared.old)) }
     ensures capacity { shared.new.capacity ≡ shared.old.capacity }
 {
-    if made == MOST_PROCESSES {
+    if made == MOST_THREADS {
         local.go_on(image, t, 0);
         return Ok((None, Event::new(EventName::Fork, 0)));
     }

@@ -2,7 +2,7 @@
 -- allows (Lampson and Redell, sections 2 and 3).
 use Rattle.std.specs.Prelude.{ℕ, ◌+◌, ◌≡◌, ◌≤◌, ◌<◌, Bool, true, false, List, [], ◌∷◌, Option, Some, None, Contains}
 use Rattle.words.specs.Updates.{put}
-use Rattle.words.specs.Limits.{most_processes}
+use Rattle.words.specs.Limits.{most_threads}
 use Rattle.program.specs.declared.kinds.Member.{Member}
 use Rattle.meaning.specs.Labels.{End, Label, Alone, Stores, Forks, FindsFull, Claims, FindsClaimed, Joins, Enters}
 use Rattle.meaning.specs.Labels.{Resumes, Exits, Waits, Notifies, Broadcasts, Abandons, Ends}
@@ -54,8 +54,8 @@ pub record IsBroadcast (t : Table) (c : Member) (resumed : List ℕ) : Type 0 wh
 abbrev pub Allows : ℕ → Label → Table → Table → Type 0
 Allows p (Alone kind) t t' = t' ≡ t
 Allows p (Stores m) t t' = t' ≡ t
-Allows p (Forks child) t t' = (t.made < most_processes) × (child ≡ t.made + 1) × (t' ≡ record t { made = t.made + 1 })
-Allows p FindsFull t t' = (most_processes ≤ t.made) × (t' ≡ t)
+Allows p (Forks child) t t' = (t.made < most_threads) × (child ≡ t.made + 1) × (t' ≡ record t { made = t.made + 1 })
+Allows p FindsFull t t' = (most_threads ≤ t.made) × (t' ≡ t)
 Allows p (Claims child) t t' = (t.claimed child ≡ false) × (t' ≡ record t { claimed = put t.claimed child true })
 Allows p (FindsClaimed child) t t' = (t.claimed child ≡ true) × (t' ≡ t)
 Allows p (Joins child end) t t' = (t.over child ≡ Some end) × (t' ≡ t)

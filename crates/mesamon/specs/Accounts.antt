@@ -5,7 +5,7 @@ use Rattle.std.specs.Prelude.{codes, length, if◌then◌else◌}
 use Rattle.std.specs.List.{flat_map}
 use Rattle.std.specs.Fmt.{decimal, signed_decimal}
 use Rattle.words.specs.Signed.{signed_of}
-use Rattle.words.specs.Limits.{most_processes}
+use Rattle.words.specs.Limits.{most_threads}
 use Rattle.words.specs.Process.{process_word}
 use Rattle.words.specs.Outcomes.{cause_number, outcome_of}
 use Rattle.words.specs.declared.outcome.Outcome.{Outcome}
@@ -79,7 +79,7 @@ list_text word (n ∷ ns) = word ++ numbers_text (n ∷ ns)
 
 -- a word and the threads of a set, or nothing where the set is empty
 abbrev pub set_text : List ℕ → ThreadSet → List ℕ
-set_text word set = list_text word (members set most_processes)
+set_text word set = list_text word (members set most_threads)
 
 -- a step's name and value, and the threads that it woke and moved
 abbrev pub event_text : Event → List ℕ

@@ -4,7 +4,7 @@ use Rattle.std.proofs.Common.{ap, ◌∙◌, subst, arith, inl, inr, ◌⊎◌, 
 use Rattle.std.proofs.lemmas.Bool.{cases_eq}
 use Rattle.words.specs.Updates.{put}
 use Rattle.program.specs.Trees.{Program}
-use Rattle.words.specs.Limits.{most_processes}
+use Rattle.words.specs.Limits.{most_threads}
 use Rattle.program.specs.declared.kinds.Member.{Member}
 use Rattle.program.specs.WellFormed.{WellFormed}
 use Rattle.meaning.specs.Values.{Variables}
@@ -74,7 +74,7 @@ stays_same : (u : ℕ) (v v' : Variables) (T T' : Table) → v' ≡ v → T'.hol
     → T'.claimed ≡ T.claimed → Stays u v v' T T'
 stays_same u v v' T T' variables hold made claimed = record {
   grows = record {
-    full = λ h. subst (λ n. most_processes ≤ n) (sym made) h;
+    full = λ h. subst (λ n. most_threads ≤ n) (sym made) h;
     claimed = λ child h. subst (λ f. f child ≡ true) (sym claimed) h;
   };
   held = λ m h. subst (λ f. f m ≡ HeldBy u) (sym hold) h;

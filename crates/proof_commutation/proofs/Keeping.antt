@@ -2,7 +2,7 @@
 use Rattle.std.proofs.Common.{◌≡◌, ℕ, ◌+◌, ◌≤◌, true, List, [], ◌∷◌, Option, Some, None, refl, sym, ap}
 use Rattle.std.proofs.Common.{◌∙◌, subst, arith}
 use Rattle.std.proofs.lemmas.Bool.{false≢true}
-use Rattle.words.specs.Limits.{most_processes}
+use Rattle.words.specs.Limits.{most_threads}
 use Rattle.program.specs.Trees.{Program}
 use Rattle.meaning.specs.Values.{Variables}
 use Rattle.meaning.specs.Labels.{Kind, Label, Alone, Stores, Forks, FindsFull, Claims, FindsClaimed, Joins, Enters}
@@ -14,23 +14,23 @@ use Rattle.proof_commutation.proofs.Puts.{at_put}
 
 -- the process table stays full, and what is claimed stays claimed
 pub record Grows (T T' : Table) : Type 0 where
-  pub full : most_processes ≤ T.made → most_processes ≤ T'.made
+  pub full : most_threads ≤ T.made → most_threads ≤ T'.made
   pub claimed : (child : ℕ) → T.claimed child ≡ true → T'.claimed child ≡ true
 
 same_grows : (T T' : Table) → T'.made ≡ T.made → T'.claimed ≡ T.claimed → Grows T T'
 same_grows T T' made claimed = record {
-  full = λ h. subst (λ n. most_processes ≤ n) (sym made) h;
+  full = λ h. subst (λ n. most_threads ≤ n) (sym made) h;
   claimed = λ child h. subst (λ f. f child ≡ true) (sym claimed) h;
 }
 
 pub grows : (t : ℕ) (label : Label) (T T' : Table) → Allows t label T T' → Grows T T'
 grows t (Forks child) T T' a = record {
-  full = λ h. subst (λ X. most_processes ≤ X.made) (sym a.2)
-      (let more : most_processes ≤ T.made + 1 = omega (arith, h) in more);
+  full = λ h. subst (λ X. most_threads ≤ X.made) (sym a.2)
+      (let more : most_threads ≤ T.made + 1 = omega (arith, h) in more);
   claimed = λ other h. subst (λ X. X.claimed other ≡ true) (sym a.2) h;
 }
 grows t (Claims child) T T' a = record {
-  full = λ h. subst (λ X. most_processes ≤ X.made) (sym a.1) h;
+  full = λ h. subst (λ X. most_threads ≤ X.made) (sym a.1) h;
   claimed = λ other h. subst (λ X. X.claimed other ≡ true) (sym a.1)
       (at_put T.claimed child true other (λ b. b ≡ true) (λ e. refl) (λ o. h));
 }

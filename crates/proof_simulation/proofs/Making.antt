@@ -5,7 +5,7 @@ use Rattle.std.proofs.Common.{ap, sym, ◌∙◌, subst, arith, inl, inr}
 use Rattle.std.proofs.lemmas.Bool.{cases_eq, false≢true, ne_eqb}
 use Rattle.std.specs.Prelude.{not, ◌==◌}
 use Rattle.words.specs.Updates.{put}
-use Rattle.words.specs.Limits.{most_processes}
+use Rattle.words.specs.Limits.{most_threads}
 use Rattle.words.specs.Process.{process_word}
 use Rattle.words.specs.declared.outcome.Fault.TheVariants.{ProcessTableFull}
 use Rattle.locals.specs.Threads.{Thread, Dies as Dies', opening_thread}
@@ -61,7 +61,7 @@ module _ (p : Program) (w : WellFormed p) (steps : ℕ) (s : State) (c : SourceS
   -- no more can be made
   pub full_step : (go' : ℕ → Thread) (child : Process) (later : ℕ → Process) → go' 0 ≡ Dies' (Faulted ProcessTableFull)
       → offer p c.variable q ≡ MakesOne child later (Dying (Faulted ProcessTableFull) (holds q))
-      → most_processes ≤ k.world.made → done ≡ false → deferral ≡ Some (L.Fails ProcessTableFull)
+      → most_threads ≤ k.world.made → done ≡ false → deferral ≡ Some (L.Fails ProcessTableFull)
       → IsSteady p q c.variable → s' ≡ with_thread s t (go' 0)
       → Next p w steps s' t done deferral pauses n c (stages k.world)
   full_step go' child later full o many none fails steady same =
@@ -228,7 +228,7 @@ module _ (p : Program) (w : WellFormed p) (steps : ℕ) (s : State) (c : SourceS
       (x : Thread) → IsAtWork p q c.variable → look (code_of p) t x ≡ Asks (AskFork entry arguments true) go'
       → go' 0 ≡ Dies' (Faulted ProcessTableFull)
       → offer p c.variable q ≡ MakesOne child later (Dying (Faulted ProcessTableFull) (holds q)) → holds child ≡ []
-      → ((m : ℕ) → k.world.made ≤ suc m → suc m ≤ most_processes
+      → ((m : ℕ) → k.world.made ≤ suc m → suc m ≤ most_threads
       → Stands (build_of p w (suc m)) t (go' (suc m)) (later (suc m)))
       → ((m u : ℕ) → k.world.made ≤ m → Stands (build_of p w m) u (opening_thread entry arguments) child)
       → StepsSo p done deferral (mark_of (marks_of p) x) s t woken (look (code_of p) t x) s'

@@ -1,6 +1,6 @@
 -- Where the words of the protocol lie in the memory of a program's image.
 use Rattle.std.specs.Prelude.{ℕ, Bool, true, false, ◌&&◌, nat_lt, nat_le, Option, Some, None, is_some, slice_get}
-use Rattle.words.specs.Limits.{most_processes}
+use Rattle.words.specs.Limits.{most_threads}
 use Rattle.words.specs.Process.{process_word}
 use Rattle.program.specs.declared.kinds.MemberType.{MemberType}
 use Rattle.program.specs.declared.kinds.MemberType.TheVariants.{Variable, Condition, Array}
@@ -24,7 +24,7 @@ place p (SequenceOf c) = member_address p c
 
 -- the number of a process
 abbrev pub is_process : ℕ → Bool
-is_process t = nat_lt 0 t && nat_le t most_processes
+is_process t = nat_lt 0 t && nat_le t most_threads
 
 -- whether the program has a monitor of this number
 abbrev pub is_monitor : Program → ℕ → Bool

@@ -4,7 +4,7 @@ use Rattle.std.proofs.Common.{refl, ap, ◌∙◌, subst, arith, length-append, 
 use Rattle.std.specs.Prelude.{slice_set}
 use Rattle.std.proofs.Math.Seq.{take-length, drop-length}
 use Rattle.std.proofs.lemmas.Bool.{le-leb}
-use Rattle.words.specs.Limits.{most_processes}
+use Rattle.words.specs.Limits.{most_threads}
 use Rattle.words.specs.declared.outcome.Fault.TheVariants.{ProcessTableFull}
 use Rattle.isa.specs.declared.instr.Instr.TheVariants.{Fork as Fork', SetLocal}
 use Rattle.isa.specs.declared.slot.Slot.TheVariants.{Local as Slot'}
@@ -108,7 +108,7 @@ module _ (b : Build) (is : IsBuild b) (t : ℕ) (v : Variables) (place : ℕ) (l
       len = omega (arith, length-append (arguments_code b.program es) (fork_code (b.starts qn) (length es) into))
 
       -- with the number of the child in its local
-      mine : (n : ℕ) → b.made ≤ suc n → suc n ≤ most_processes
+      mine : (n : ℕ) → b.made ≤ suc n → suc n ≤ most_threads
           → Stands (with_made b (suc n)) t (go (suc n)) (after (suc n))
       mine n more few =
           let made = suc n in

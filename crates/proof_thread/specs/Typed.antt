@@ -1,7 +1,7 @@
 -- Values of the types that a program gives them, and the words that hold them.
 use Rattle.std.specs.Prelude.{ℕ, ℤ, pos, ◌≡◌, ◌≤◌, ◌⊎◌, List, [], ◌∷◌, slice_get, slice_index, Some, FitsSigned, ⊤}
 use Rattle.std.specs.Int.{w32}
-use Rattle.words.specs.Limits.{most_processes}
+use Rattle.words.specs.Limits.{most_threads}
 use Rattle.words.specs.Signed.{word_of}
 use Rattle.program.specs.declared.kinds.ValueType.{ValueType}
 use Rattle.program.specs.declared.kinds.ValueType.TheVariants.{Integer, Boolean, Process}
@@ -10,7 +10,7 @@ use Rattle.program.specs.declared.kinds.ValueType.TheVariants.{Integer, Boolean,
 abbrev pub HasValue : ℕ → ValueType → ℤ → Type 0
 HasValue made Integer z = FitsSigned w32 z
 HasValue made Boolean z = (z ≡ pos 0) ⊎ (z ≡ pos 1)
-HasValue made Process z = (n : ℕ) × (z ≡ pos n) × (n ≤ made) × (n ≤ most_processes)
+HasValue made Process z = (n : ℕ) × (z ≡ pos n) × (n ≤ made) × (n ≤ most_threads)
 
 -- values of these types, one for one
 abbrev pub HaveValues : ℕ → List ValueType → List ℤ → Type 0

@@ -1,7 +1,7 @@
 -- Where a run meets a step that may not be, local steps of one thread lead there from where the log leads.
 use Rattle.std.proofs.Common.{◌≡◌, ◌<◌, ◌-◌, ℕ, Some, subst, sym, ◌∙◌, refl, length-set}
 use Rattle.std.proofs.lemmas.Bool.{eq-eqb}
-use Rattle.words.specs.Limits.{most_processes}
+use Rattle.words.specs.Limits.{most_threads}
 use Rattle.words.specs.Updates.{put}
 use Rattle.locals.specs.Threads.{Thread}
 use Rattle.locals.specs.Looks.{Request, AskLoad, AskStore, AskSwap, AskCompareSwap, AskOr, AskAdd, AskFork, AskPrint}
@@ -31,7 +31,7 @@ unserved_there (AskCompareSwap a expected new) s s' size made h = out_there s s'
 unserved_there (AskOr a v) s s' size made h = out_there s s' a size h
 unserved_there (AskAdd a v) s s' size made h = out_there s s' a size h
 unserved_there (AskFork entry arguments has_room) s s' size made h =
-    (subst (λ (n : ℕ). n < most_processes) (sym made) h.0, h.1)
+    (subst (λ (n : ℕ). n < most_threads) (sym made) h.0, h.1)
 unserved_there (AskPrint number) s s' size made h = h
 unserved_there (AskWait a expected) s s' size made h = out_there s s' a size h
 unserved_there (AskWake a n) s s' size made h = out_there s s' a size h

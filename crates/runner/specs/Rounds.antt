@@ -1,6 +1,6 @@
 -- What the rounds of a run keep.
 use Rattle.std.specs.Prelude.{ℕ, ◌≡◌, ◌<◌, ◌≤◌, true, false, Bool, List, slice_get, Some}
-use Rattle.words.specs.Limits.{most_processes}
+use Rattle.words.specs.Limits.{most_threads}
 use Rattle.isa.specs.Programs.{Program}
 use Rattle.machine.specs.States.{ConcreteState}
 use Rattle.machine.specs.ConcreteSteps.{can_move}
@@ -23,7 +23,7 @@ IsPickable k refused t = (can_move k t ≡ true) × (slice_get refused t ≡ Som
 
 -- such a thread, by its number
 abbrev pub IsDrawn : ConcreteState → List Bool → ℕ → Type 0
-IsDrawn k refused t = IsPickable k refused t × (0 < t) × (t ≤ most_processes)
+IsDrawn k refused t = IsPickable k refused t × (0 < t) × (t ≤ most_threads)
 
 -- each thread that can move was refused
 abbrev pub NoneLeft : ConcreteState → List Bool → Type 0

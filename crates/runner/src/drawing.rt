@@ -1,4 +1,4 @@
-ghost use Rattle.words.specs.Limits.{most_processes};
+ghost use Rattle.words.specs.Limits.{most_threads};
 ghost use Rattle.std.specs.Prelude.{suc, ◌≡◌, ◌+◌, ◌<◌, ◌≤◌, length, slice_get, true, Some, IfErr, MatchBool, MatchOption, OnOk};
 ghost use Rattle.std.specs.List.{All};
 ghost use Rattle.machine.specs.ConcreteSteps.{can_move};
@@ -17,7 +17,7 @@ use isa::Image;
 use machine::Machine;
 use rand_core::Rng;
 use rand_xoshiro::SplitMix64;
-use words::{MOST_PROCESSES, OpenGate};
+use words::{MOST_THREADS, OpenGate};
 
 /// Makes entries until no thread can make one, each of a thread that is drawn anew among those that can move. A thread
 /// that was refused with `Limit` is passed over from then on.
@@ -31,7 +31,7 @@ pub fn run_drawn<J: RunName>(
     ensures ok { OnOk result (Idle J.program J.limit (log_state shared.new)) }
     ensures err { IfErr result (λ fault. CanFail J.program J.limit fault) }
 {
-    let mut refused = [false; MOST_PROCESSES as usize + 1];
+    let mut refused = [false; MOST_THREADS as usize + 1];
     while let Some(t) = draw_thread(shared.machine(), &refused, generator) {
         make_entry(shared, &mut refused, image, share, &OpenGate, t)?;
     }
@@ -41,7 +41,7 @@ pub fn run_drawn<J: RunName>(
 // The thread that the generator's next number picks, among those that can move and weren't refused, by rising number:
 // that at the number modulo how many they are. None where there is none, and then no number is drawn.
 fn draw_thread(machine: &Machine, refused: &[bool], generator: &mut SplitMix64) -> Option<u32>
-    requires room { length refused.now ≡ suc most_processes }
+    requires room { length refused.now ≡ suc most_threads }
     ensures { MatchOption result (NoneLeft (concrete machine.now) refused.now)
         (λ t. IsDrawn (concrete machine.now) refused.now t) }
 {
@@ -59,8 +59,8 @@ fn draw_thread(machine: &Machine, refused: &[bool], generator: &mut SplitMix64) 
 // Adds thread `t`, if it can move and wasn't refused.
 fn add_pickable(movers: &mut ArrayVec<u32, 64>, machine: &Machine, refused: &[bool], t: u32)
     requires space { length movers.old.items < 64 }
-    requires room { length refused.now ≡ suc most_processes }
-    requires thread { (0 < t) × (t ≤ most_processes) }
+    requires room { length refused.now ≡ suc most_threads }
+    requires thread { (0 < t) × (t ≤ most_threads) }
     ensures drawn { All (IsDrawn (concrete machine.now) refused.now) movers.old.items
         → All (IsDrawn (concrete machine.now) refused.now) movers.new.items }
     ensures few { length movers.new.items ≤ length movers.old.items + 1 }
@@ -75,8 +75,8 @@ fn add_pickable(movers: &mut ArrayVec<u32, 64>, machine: &Machine, refused: &[bo
 
 // Whether thread `t` can move and wasn't refused.
 fn is_pickable(machine: &Machine, refused: &[bool], t: u32) -> bool
-    requires room { length refused.now ≡ suc most_processes }
-    requires thread { t ≤ most_processes }
+    requires room { length refused.now ≡ suc most_threads }
+    requires thread { t ≤ most_threads }
     ensures { MatchBool result (IsPickable (concrete machine.now) refused.now t)
         (can_move (concrete machine.now) t ≡ true → slice_get refused.now t ≡ Some true) }
 {

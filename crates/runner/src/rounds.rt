@@ -1,4 +1,4 @@
-ghost use Rattle.words.specs.Limits.{most_processes};
+ghost use Rattle.words.specs.Limits.{most_threads};
 ghost use Rattle.std.specs.Prelude.{suc, ◌≡◌, ◌≤◌, ◌<◌, length, slice_set, true, false, IfOk, IfErr, OnOk};
 ghost use Rattle.machine.specs.ConcreteSteps.{can_move};
 ghost use Rattle.runner.specs.Logs.{cost};
@@ -11,7 +11,7 @@ use crate::naming::RunName;
 use crate::share::Share;
 use crate::shared::Shared;
 use isa::Image;
-use words::{Gate, MOST_PROCESSES};
+use words::{Gate, MOST_THREADS};
 
 /// Makes entries, round after round, until no thread can make one. A round goes through the threads by rising number,
 /// those made in the round included. A thread that was refused with `Limit` is passed over from then on.
@@ -25,7 +25,7 @@ pub fn run_rounds<J: RunName, G: Gate>(
     ensures ok { OnOk result (Idle J.program J.limit (log_state shared.new)) }
     ensures err { IfErr result (λ fault. CanFail J.program J.limit fault) }
 {
-    let mut refused = [false; MOST_PROCESSES as usize + 1];
+    let mut refused = [false; MOST_THREADS as usize + 1];
     while run_round(shared, &mut refused, image, share, gate)? {}
     Ok(())
 }
@@ -57,7 +57,7 @@ fn run_round<J: RunName, G: Gate>(
     gate: &G,
 ) -> Result<bool, RunFault>
     requires image { image.now ≡ J.program }
-    requires room { length refused.old ≡ suc most_processes }
+    requires room { length refused.old ≡ suc most_threads }
     requires past { AllPast J.program J.limit (log_state shared.old) refused.old }
     ensures past { OnOk result (AllPast J.program J.limit (log_state shared.new) refused.new) }
     ensures made { IfOk result (λ made. made ≡ true → (cost shared.old.log < cost shared.new.log)
@@ -86,8 +86,8 @@ pub(crate) fn make_entry<J: RunName, G: Gate>(
     t: u32,
 ) -> Result<bool, RunFault>
     requires image { image.now ≡ J.program }
-    requires room { length refused.old ≡ suc most_processes }
-    requires thread { (0 < t) × (t ≤ most_processes) }
+    requires room { length refused.old ≡ suc most_threads }
+    requires thread { (0 < t) × (t ≤ most_threads) }
     requires past { AllPast J.program J.limit (log_state shared.old) refused.old }
     ensures past { OnOk result (AllPast J.program J.limit (log_state shared.new) refused.new) }
     ensures made { IfOk result (λ made. made ≡ true → (cost shared.old.log < cost shared.new.log)
@@ -121,8 +121,8 @@ fn try_entry<J: RunName, G: Gate>(
     t: u32,
 ) -> Result<bool, RunFault>
     requires image { image.now ≡ J.program }
-    requires room { length refused.old ≡ suc most_processes }
-    requires thread { (0 < t) × (t ≤ most_processes) }
+    requires room { length refused.old ≡ suc most_threads }
+    requires thread { (0 < t) × (t ≤ most_threads) }
     requires past { AllPast J.program J.limit (log_state shared.old) refused.old }
     ensures past { OnOk result (AllPast J.program J.limit (log_state shared.new) refused.new) }
     ensures made { IfOk result (λ made. made ≡ true → (cost shared.old.log < cost shared.new.log)

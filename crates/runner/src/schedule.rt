@@ -11,10 +11,10 @@ use isa::Image;
 use machine::{Entry, Machine, StepFault};
 use std::alloc::{AllocError, Global};
 use thiserror::Error;
-use words::MOST_PROCESSES;
+use words::MOST_THREADS;
 
 // How many buckets its sleepers are kept in: one for each thread that there can be.
-const BUCKETS: u32 = MOST_PROCESSES;
+const BUCKETS: u32 = MOST_THREADS;
 
 /// Why a schedule is not followed to its end. Its entries are numbered from 1.
 #[derive(Clone, Copy, PartialEq, Eq, Debug, Error)]

@@ -5,7 +5,7 @@ use buckets::Buckets;
 use futexcalls::{cmp_requeue, wait, wake};
 use std::alloc::Global;
 use std::marker::Model;
-use words::{Addr, MOST_PROCESSES, Mem};
+use words::{Addr, MOST_THREADS, Mem};
 
 // How many words there are.
 const WORDS: usize = 512;
@@ -48,7 +48,7 @@ impl Layers {
         }
         Ok(Layers {
             mem: Mem::new(alloc, WORDS)?,
-            buckets: Buckets::new(alloc, buckets, MOST_PROCESSES)?,
+            buckets: Buckets::new(alloc, buckets, MOST_THREADS)?,
         })
     }
 
@@ -136,7 +136,7 @@ impl Layers {
     }
 
     fn sleep(&mut self, t: u32, a: u32) -> Result<Answer, Failure> {
-        if t == 0 || t > MOST_PROCESSES || self.buckets.asleep(t).is_some() {
+        if t == 0 || t > MOST_THREADS || self.buckets.asleep(t).is_some() {
             return Err(Failure::Outside);
         }
         self.buckets.enqueue(t, Addr(a));
@@ -144,14 +144,14 @@ impl Layers {
     }
 
     fn asleep(&self, t: u32) -> Result<Answer, Failure> {
-        if t > MOST_PROCESSES {
+        if t > MOST_THREADS {
             return Err(Failure::Outside);
         }
         Ok(Answer::Place(self.buckets.asleep(t)))
     }
 
     fn drop_out(&mut self, t: u32) -> Result<Answer, Failure> {
-        if t > MOST_PROCESSES {
+        if t > MOST_THREADS {
             return Err(Failure::Outside);
         }
         self.buckets.drop_out(t);
@@ -162,7 +162,7 @@ impl Layers {
         let mut threads = self.buckets.nobody();
         for i in 0..self.buckets.sleepers(Addr(a)) {
             if let Some(t) = self.buckets.sleeper(Addr(a), i)
-                && threads.len() < MOST_PROCESSES as usize
+                && threads.len() < MOST_THREADS as usize
             {
                 threads.push(t);
             }
@@ -171,7 +171,7 @@ impl Layers {
     }
 
     fn wait(&mut self, t: u32, a: u32, expected: u32) -> Result<Answer, Failure> {
-        if t == 0 || t > MOST_PROCESSES || self.buckets.asleep(t).is_some() {
+        if t == 0 || t > MOST_THREADS || self.buckets.asleep(t).is_some() {
             return Err(Failure::Outside);
         }
         if a as usize >= WORDS {
@@ -208,7 +208,7 @@ impl Layers {
     }
 
     fn exit(&mut self, t: u32) -> Result<Answer, Failure> {
-        if t == 0 || t > MOST_PROCESSES {
+        if t == 0 || t > MOST_THREADS {
             return Err(Failure::Outside);
         }
         Ok(Answer::Steps(walk(&mut self.mem, &mut self.buckets, t)))

@@ -4,14 +4,14 @@ ghost use Rattle.buckets.specs.Sleepers.{thread_count};
 
 use buckets::Buckets;
 use robustexit::{ExitPhase, exit_step, first_phase};
-use words::{MOST_PROCESSES, Mem};
+use words::{MOST_THREADS, Mem};
 
 // More steps than any exit takes.
 const MOST_STEPS: u32 = 5000;
 
 /// Takes the steps of the exit of thread `t`, and answers how many they were.
 pub fn walk(mem: &mut Mem, buckets: &mut Buckets, t: u32) -> u32
-    requires thread { (0 < t) × (t ≤ MOST_PROCESSES) }
+    requires thread { (0 < t) × (t ≤ MOST_THREADS) }
     requires block { process_word t 5 < length mem.old }
     ensures words { length mem.new ≡ length mem.old }
     ensures threads { thread_count buckets.new ≡ thread_count buckets.old }

@@ -1,1 +1,2 @@
 pub mod LockWords
+pub mod Versions

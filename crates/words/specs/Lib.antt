@@ -4,3 +4,4 @@ pub mod Outcomes
 pub mod Process
 pub mod Signed
 pub mod Updates
+pub mod Versions

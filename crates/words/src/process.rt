@@ -1,5 +1,4 @@
 ghost use Rattle.std.specs.Prelude.{◌≡◌, ◌+◌, ◌-◌, ◌*◌, ◌<◌, ◌≤◌, ℕ};
-ghost use Rattle.words.specs.Limits.{most_processes, monitors_base};
 ghost use Rattle.words.specs.Process.{process_word, number_of};
 
 use crate::mem::Addr;
@@ -37,7 +36,4 @@ pub fn block_laws()
     ensures apart { (t u k j : ℕ) → 0 < t → 0 < u → k < 6 → j < 6
         → process_word t k ≡ process_word u j → (t ≡ u) × (k ≡ j) }
     ensures null { (t k : ℕ) → 0 < process_word t k }
-
-    // The words of the last process are followed by the monitors.
-    ensures base { process_word most_processes 5 + 1 ≡ monitors_base }
 {}

@@ -1,6 +1,6 @@
 -- What lies under the lock of a run with several workers.
 use Rattle.std.specs.Prelude.{ℕ, ◌≡◌, ◌≤◌, ◌+◌, length, Option, Some, None}
-use Rattle.words.specs.Limits.{most_processes}
+use Rattle.words.specs.Limits.{most_threads}
 use Rattle.isa.specs.Programs.{Program}
 use Rattle.machine.specs.States.{ConcreteState}
 use Rattle.runner.specs.declared.fault.RunFault.{RunFault}
@@ -27,7 +27,7 @@ HasCause p limit (Some fault) = CanFail p limit fault
 pub record IsSharedRun (p : Program) (limit given started : ℕ) (fault : Option RunFault) : Type 0 where
   pub cause : HasCause p limit fault
   pub parts : given ≡ started + 1
-  pub few : started ≤ most_processes
+  pub few : started ≤ most_threads
 
 -- what the workers have, and what the calling thread counted, stays as it was
 pub record KeepsWorkers (old new : SharedRunView) : Type 0 where

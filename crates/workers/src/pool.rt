@@ -1,5 +1,5 @@
 ghost use Rattle.std.specs.Prelude.{ℕ, ◌≡◌, ◌≤◌, true, false, is_some, None, IfSome};
-ghost use Rattle.words.specs.Limits.{most_processes};
+ghost use Rattle.words.specs.Limits.{most_threads};
 ghost use Rattle.machine.specs.ConcreteSteps.{can_move};
 ghost use Rattle.workers.specs.SharedRuns.{state_of};
 ghost use Rattle.workers.specs.Handed.{IsAfresh};
@@ -15,7 +15,7 @@ use std::hint::spin_loop;
 use std::sync::{Condvar, Mutex, MutexGuard, Wait};
 use std::thread;
 use std::thread::Threads;
-use words::{Gate, MOST_PROCESSES};
+use words::{Gate, MOST_THREADS};
 
 // How often a worker tries for the lock before it sleeps, and how long it lingers in between.
 const TRIALS: u32 = 200;
@@ -36,7 +36,7 @@ impl<J: RunName> Pool<J> {
     /// A pool without workers; parker number 0 is nobody's.
     pub fn new(alloc: Global, shared_run: SharedRun<J>) -> Result<Pool<J>, AllocError> {
         let mut parkers = Vec::new(alloc);
-        for _ in 0..=MOST_PROCESSES {
+        for _ in 0..=MOST_THREADS {
             parkers.push(CachePadded::new(Parker::new()))?;
         }
         Ok(Pool {
@@ -85,7 +85,7 @@ impl<J: RunName> Pool<J> {
 
     // The next thread without a worker, once it was made. None where nobody is left to make one.
     fn next_worker<R: Wait>(&self, rt: &R) -> Option<(u32, Share<J>)>
-        ensures { IfSome result (λ worker. (1 ≤ worker.0) × (worker.0 ≤ most_processes)
+        ensures { IfSome result (λ worker. (1 ≤ worker.0) × (worker.0 ≤ most_threads)
             × (worker.1 ≡ record { parts = 1; count = 0 })) }
     {
         let mut shared_run = self.made.wait_while(rt, self.lock(rt), |shared_run| {
@@ -202,7 +202,7 @@ impl<J: RunName> Pool<J> {
         if shared_run.fault().is_some() {
             return true;
         }
-        for t in 1..=MOST_PROCESSES {
+        for t in 1..=MOST_THREADS {
             if shared_run.can_move(t) && !self.is_refused(t) {
                 return false;
             }
@@ -218,7 +218,7 @@ impl<J: RunName> Pool<J> {
         if wake_reason.woken.is_empty() {
             return;
         }
-        for t in 1..=MOST_PROCESSES {
+        for t in 1..=MOST_THREADS {
             if wake_reason.woken.contains(t) {
                 self.call(t);
             }

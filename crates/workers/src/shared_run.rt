@@ -1,6 +1,6 @@
 ghost use Rattle.std.specs.Prelude.{◌≡◌, ◌≤◌, ◌<◌, ◌+◌, length, take, true, is_some, Some, None, IfSome, IfNone};
 ghost use Rattle.std.specs.Prelude.{◌⊎◌, MatchBool, unwrap_or};
-ghost use Rattle.words.specs.Limits.{most_processes};
+ghost use Rattle.words.specs.Limits.{most_threads};
 ghost use Rattle.machine.specs.ConcreteSteps.{can_move};
 ghost use Rattle.runner.specs.declared.fault.RunFault.TheVariants.{Memory};
 ghost use Rattle.workers.specs.SharedRuns.{HasCause, KeepsWorkers, StartsWorker, state_of};
@@ -88,7 +88,7 @@ impl<J: RunName> SharedRun<J> {
     pub fn lacks_worker(&self) -> bool
         ensures whole { MatchBool result (self.now.started < length (state_of self.now).threads)
             (length (state_of self.now).threads ≤ self.now.started) }
-        ensures few { result ≡ true → self.now.started < most_processes }
+        ensures few { result ≡ true → self.now.started < most_threads }
     {
         self.started < self.shared.machine().threads()
     }
@@ -96,7 +96,7 @@ impl<J: RunName> SharedRun<J> {
     /// The next thread without a worker, with a part of the count for it.
     pub fn next_worker(&mut self) -> Option<(u32, Share<J>)>
         ensures some { IfSome result (λ worker. StartsWorker self.old worker.0 worker.1 self.new) }
-        ensures few { IfSome result (λ worker. worker.0 ≤ most_processes) }
+        ensures few { IfSome result (λ worker. worker.0 ≤ most_threads) }
         ensures none { IfNone result ((self.new ≡ self.old)
             × ((is_some self.old.fault ≡ true)
             ⊎ (length (state_of self.old).threads ≤ self.old.started))) }

@@ -1,5 +1,5 @@
 use Rattle.std.proofs.Common.{◌≤◌}
-use Rattle.words.specs.Limits.{most_processes}
+use Rattle.words.specs.Limits.{most_threads}
 use Rattle.proof_commutation.specs.Deferring.{IsBehind}
 use Rattle.meaning.specs.States.{SourceState}
 use Rattle.proof_simulation.specs.Progress.{Progress}
@@ -11,7 +11,7 @@ use Rattle.log_simulation.proofs.recorder.Recorder.take_rest.Given as goal
 
 abbrev pub invariant-loop-before : goal.invariant-loop-before
 invariant-loop-before l = record {
-  caught_up : (p : Program) (g : Progress) (ahead : SourceState) → IsOf p l.fn.self → l.made ≤ most_processes
+  caught_up : (p : Program) (g : Progress) (ahead : SourceState) → IsOf p l.fn.self → l.made ≤ most_threads
       → Matches l.fn.self.follower g → CountsDeferred l.fn.self.deferred.items g.deferred
       → IsBehind p g.deferred g.source ahead
       → IsOf p l.self × Matches l.self.follower (progress_rest p l.before g)

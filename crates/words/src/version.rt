@@ -1,0 +1,43 @@
+ghost use Rattle.std.specs.Prelude.{◌≡◌, ◌≤◌, ◌+◌};
+ghost use Rattle.words.specs.Limits.{most_threads};
+ghost use Rattle.words.specs.Process.{process_word};
+ghost use Rattle.words.specs.Versions.{most_of, base_of};
+
+/// The version of an image, which says how many processes there can be, and so where the words of its monitors begin.
+#[derive(Clone, Copy, PartialEq, Eq, PartialOrd, Ord, Debug, Hash)]
+pub enum ImageVersion {
+    /// 64 processes, monitors from word 385.
+    One,
+    /// 1,000 processes, monitors from word 6,001.
+    Two,
+}
+
+impl ImageVersion {
+    /// The most processes of a program, and so the most threads of a machine.
+    pub fn most_processes(self) -> u32
+        ensures { result ≡ most_of self }
+    {
+        match self {
+            ImageVersion::One => 64,
+            ImageVersion::Two => 1000,
+        }
+    }
+
+    /// The first word of the monitors: the one behind the words of the last process.
+    #[tactic(auto, using(crate::proofs::Versions::most_few))]
+    pub fn monitors_base(self) -> u32
+        ensures { result ≡ base_of self }
+    {
+        1 + 6 * self.most_processes()
+    }
+}
+
+/// How many processes a version has at the least and at the most, and what follows their words.
+#[tactic(auto, using(crate::proofs::Versions::most_few, crate::proofs::Versions::most_some))]
+pub fn version_laws()
+    ensures few { (v : ImageVersion) → most_of v ≤ 1000 }
+    ensures some { (v : ImageVersion) → most_threads ≤ most_of v }
+
+    // The words of the last process are followed by the monitors.
+    ensures base { (v : ImageVersion) → process_word (most_of v) 5 + 1 ≡ base_of v }
+{}
