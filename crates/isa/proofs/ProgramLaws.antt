@@ -48,15 +48,15 @@ unfolding image_at
 image_takes bytes x fits e =
     let a = bind_ok (fixed_at magic BadMagic bytes) (λ marked. fixed_at version Version marked >>= λ versioned.
     monitors_at versioned >>= λ monitors. number_at monitors.1 >>= λ start. code_at start.1 >>= λ code. Ok
-    (record { monitors = monitors.0; start = start.0; code = code.0 }, code.1)) x e in
+    (record { version = One; monitors = monitors.0; start = start.0; code = code.0 }, code.1)) x e in
     let b = bind_ok (fixed_at version Version a.0) (λ versioned. monitors_at versioned >>= λ monitors. number_at
     monitors.1 >>= λ start. code_at start.1 >>= λ code. Ok
-    (record { monitors = monitors.0; start = start.0; code = code.0 }, code.1)) x a.2 in
+    (record { version = One; monitors = monitors.0; start = start.0; code = code.0 }, code.1)) x a.2 in
     let m = bind_ok (monitors_at b.0) (λ monitors. number_at monitors.1 >>= λ start. code_at start.1 >>= λ code. Ok
-    (record { monitors = monitors.0; start = start.0; code = code.0 }, code.1)) x b.2 in
+    (record { version = One; monitors = monitors.0; start = start.0; code = code.0 }, code.1)) x b.2 in
     let s = bind_ok (number_at m.0.1) (λ start. code_at start.1 >>= λ code. Ok
-    (record { monitors = m.0.0; start = start.0; code = code.0 }, code.1)) x m.2 in
-    let i = bind_ok (code_at s.0.1) (λ code. Ok (record { monitors = m.0.0; start = s.0.0; code = code.0 }, code.1))
+    (record { version = One; monitors = m.0.0; start = start.0; code = code.0 }, code.1)) x m.2 in
+    let i = bind_ok (code_at s.0.1) (λ code. Ok (record { version = One; monitors = m.0.0; start = s.0.0; code = code.0 }, code.1))
     x s.2 in
     let t0 = fixed_takes magic BadMagic bytes a.0 fits a.1 in
     let t1 = fixed_takes version Version a.0 b.0 t0.rest_fits b.1 in
@@ -69,7 +69,7 @@ image_takes bytes x fits e =
     let to4 = Takes-then bytes (magic ++ version ++ monitor_table m.0.0 ++ number s.0.0) s.0.1 (code_table i.0.0)
     i.0.1 to3 t4.0 in
     let few = monitors_bound b.0 m.0 m.1 in
-    is_read bytes (record { monitors = m.0.0; start = s.0.0; code = i.0.0 }, i.0.1) x i.2 to4
+    is_read bytes (record { version = One; monitors = m.0.0; start = s.0.0; code = i.0.0 }, i.0.1) x i.2 to4
     (record {
       few_monitors = few.0;
       few_members = few.1;

@@ -133,22 +133,23 @@ unfolding image_at
 image-stands bytes more =
     fixed-stands {A = Program} magic BadMagic bytes more (λ marked. fixed_at version Version marked >>= λ versioned.
     monitors_at versioned >>= λ monitors. number_at monitors.1 >>= λ start. code_at start.1 >>= λ code. Ok
-    (record { monitors = monitors.0; start = start.0; code = code.0 }, code.1))
+    (record { version = One; monitors = monitors.0; start = start.0; code = code.0 }, code.1))
     (λ marked after. fixed-stands {A = Program} version Version marked after (λ versioned. monitors_at versioned >>=
     λ monitors. number_at monitors.1 >>= λ start. code_at start.1 >>= λ code. Ok
-    (record { monitors = monitors.0; start = start.0; code = code.0 }, code.1)) behind-version)
+    (record { version = One; monitors = monitors.0; start = start.0; code = code.0 }, code.1)) behind-version)
   where
     behind-start : (monitors : List ℕ) (start : ℕ) → Stands {A = Program} (λ rest. code_at rest >>= λ code. Ok
-        (record { monitors = monitors; start = start; code = code.0 }, code.1))
+        (record { version = One; monitors = monitors; start = start; code = code.0 }, code.1))
     behind-start monitors start rest after = then-stands {B = Program} (code_at rest) (code_at (rest ++ after)) after
-        (λ code left. Ok (record { monitors = monitors; start = start; code = code }, left)) (code-stands rest after)
+        (λ code left. Ok (record { version = One; monitors = monitors; start = start; code = code }, left)) (code-stands rest after)
         (λ code left behind. refl)
 
     behind-monitors : (monitors : List ℕ) → Stands {A = Program} (λ rest. number_at rest >>= λ start. code_at start.1
-        >>= λ code. Ok (record { monitors = monitors; start = start.0; code = code.0 }, code.1))
+        >>= λ code. Ok (record { version = One; monitors = monitors; start = start.0; code = code.0 }, code.1))
     behind-monitors monitors rest after = then-stands {B = Program} (number_at rest) (number_at (rest ++ after))
         after (λ start left. code_at left >>= λ code. Ok (
           record {
+            version = One;
             monitors = monitors;
             start = start;
             code = code.0;
@@ -159,6 +160,7 @@ image-stands bytes more =
     behind-version : Stands {A = Program} (λ versioned. monitors_at versioned >>= λ monitors. number_at monitors.1
         >>= λ start. code_at start.1 >>= λ code. Ok (
           record {
+            version = One;
             monitors = monitors.0;
             start = start.0;
             code = code.0;
@@ -167,5 +169,5 @@ image-stands bytes more =
         ))
     behind-version versioned after = then-stands {B = Program} (monitors_at versioned)
         (monitors_at (versioned ++ after)) after (λ monitors left. number_at left >>= λ start. code_at start.1 >>=
-        λ code. Ok (record { monitors = monitors; start = start.0; code = code.0 }, code.1))
+        λ code. Ok (record { version = One; monitors = monitors; start = start.0; code = code.0 }, code.1))
         (monitors-stand versioned after) behind-monitors

@@ -1,6 +1,7 @@
 -- Reading an image from left to right, with the first fault that is met. A field is a value and the bytes after it.
 use Rattle.std.specs.Prelude.{◌≡◌, ◌≢◌, ℕ, zero, suc, ◌+◌, ◌-◌, ◌*◌, List, [], ◌∷◌, length, Option, Some, None}
 use Rattle.std.specs.Prelude.{Result, Ok, Err, Bool, true, false, nat_lt, ◌==◌, if◌then◌else◌}
+use Rattle.words.specs.declared.version.ImageVersion.TheVariants.{One}
 use Rattle.isa.specs.declared.fault.DecodeFault.{DecodeFault}
 use Rattle.isa.specs.declared.fault.DecodeFault.TheVariants.{BadMagic, Version, Short, BadInstr, BadTarget, Trailing}
 use Rattle.isa.specs.declared.fault.DecodeFault.TheVariants.{Limit, Memory}
@@ -109,7 +110,7 @@ image_at bytes = do
   monitors ← monitors_at versioned
   start ← number_at monitors.1
   code ← code_at start.1
-  Ok (record { monitors = monitors.0; start = start.0; code = code.0 }, code.1)
+  Ok (record { version = One; monitors = monitors.0; start = start.0; code = code.0 }, code.1)
 
 -- whether a place that an instruction names, if any, is one of so many; and whether all of them are
 abbrev pub leads_below : ℕ → Option ℕ → Bool

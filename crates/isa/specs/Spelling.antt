@@ -1,6 +1,7 @@
 -- The bytes of an image: its one spelling.
-use Rattle.std.specs.Prelude.{ℕ, ◌<◌, ◌^◌, List, [], ◌∷◌, ◌++◌, length}
+use Rattle.std.specs.Prelude.{ℕ, ◌≡◌, ◌<◌, ◌^◌, List, [], ◌∷◌, ◌++◌, length}
 use Rattle.std.specs.List.{flat_map, AllByRecursion}
+use Rattle.words.specs.declared.version.ImageVersion.TheVariants.{One}
 use Rattle.isa.specs.declared.instr.Instr.{Instr}
 use Rattle.isa.specs.Numbers.{number}
 use Rattle.isa.specs.Instructions.{operands}
@@ -43,7 +44,8 @@ spelling p = magic ++ version ++ monitor_table p.monitors ++ number p.start ++ c
 abbrev pub AreWords : List ℕ → Type 0
 AreWords ns = AllByRecursion (λ n. n < 2 ^ 32) ns
 
--- what has a spelling: a program within the limits, each operand of which is a word
+-- what has a spelling: a program of the first version within the limits, each operand of which is a word
 pub record IsSpelled (p : Program) : Type 0 where
+  pub first : p.version ≡ One
   pub within : IsProgram p
   pub words : AllByRecursion (λ i. AreWords (operands i)) p.code

@@ -1,5 +1,7 @@
 ghost use Rattle.std.specs.Prelude.{◌≡◌, ◌<◌, slice_get, IfSome, IfOk, length, OnSome};
 ghost use Rattle.std.specs.List.{AllByRecursion};
+ghost use Rattle.words.specs.declared.version.ImageVersion.TheVariants.{One};
+ghost use Rattle.words.specs.Versions.{most_of};
 ghost use Rattle.isa.specs.Instructions.{operands, IsInstruction, LeadsBelow};
 ghost use Rattle.isa.specs.Spelling.{AreWords, IsSpelled};
 ghost use Rattle.isa.specs.Limits.{most_instructions};
@@ -8,9 +10,10 @@ ghost use Rattle.isa.specs.Programs.{Program, IsProgram};
 use crate::instr::Instr;
 use std::alloc::{AllocError, Global};
 use std::marker::Model;
+use words::ImageVersion;
 
 /// The code of a program, where it begins, and how many member words each of its monitors has. Contracts see it as
-/// a `Program` that has a spelling: within the limits, each operand below 2^32.
+/// a `Program` that has a spelling: of the first version, within the limits, each operand below 2^32.
 #[derive(Drop)]
 pub struct Image {
     monitors: Vec<u32>,
@@ -19,14 +22,25 @@ pub struct Image {
 }
 
 impl Model for Image {
+    ghost use Rattle.words.specs.declared.version.ImageVersion.TheVariants.{One};
     ghost use Rattle.isa.specs.Programs.{Program};
     ghost use Rattle.isa.specs.Spelling.{IsSpelled};
 
     ghost Value = { Program };
 
-    ghost view = { λ i. record { monitors = i.monitors.items; start = i.start; code = i.code.items } };
+    ghost view = { λ i. record {
+      version = One;
+      monitors = i.monitors.items;
+      start = i.start;
+      code = i.code.items;
+    } };
 
-    ghost invariant = { λ i. IsSpelled (record { monitors = i.monitors.items; start = i.start; code = i.code.items }) };
+    ghost invariant = { λ i. IsSpelled (record {
+      version = One;
+      monitors = i.monitors.items;
+      start = i.start;
+      code = i.code.items;
+    }) };
 }
 
 // The operands of an instruction are words, as their types say. Nothing is done when it runs.
@@ -50,8 +64,8 @@ fn code_words(code: &[Instr])
 impl Image {
     /// The image of these parts, which are within the limits.
     pub fn new(monitors: Vec<u32>, start: u32, code: Vec<Instr>) -> Image
-        requires { IsProgram (record { monitors = monitors.items; start = start; code = code.items }) }
-        ensures { result ≡ record { monitors = monitors.items; start = start; code = code.items } }
+        requires { IsProgram (record { version = One; monitors = monitors.items; start = start; code = code.items }) }
+        ensures { result ≡ record { version = One; monitors = monitors.items; start = start; code = code.items } }
     {
         code_words(code.as_slice());
         Image {
@@ -59,6 +73,15 @@ impl Image {
             start,
             code,
         }
+    }
+
+    /// The version, which says how many processes there can be and where the words of the monitors begin. Contracts see
+    /// it in the program, and that it is the first.
+    pub fn version(&self) -> ImageVersion
+        ensures value { result ≡ self.now.version }
+        ensures first { result ≡ ImageVersion::One }
+    {
+        ImageVersion::One
     }
 
     /// The number of the first instruction of the first process.

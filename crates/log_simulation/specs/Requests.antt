@@ -12,9 +12,9 @@ use Rattle.protocol.specs.Word.{owner}
 abbrev pub visible_request : Program → Request → ℕ → Bool
 visible_request p (told.CompareSwap a expected new) v = (v == expected) && (owner expected == 0)
 visible_request p (told.Swap a new) v = (new == 0) || (v == 0)
-visible_request p (told.Load a) v = is_process_word 2 a.0 && (v == 0)
+visible_request p (told.Load a) v = is_process_word p 2 a.0 && (v == 0)
 visible_request p (told.Store a value) v =
-    not (is_process_word 0 a.0) && not (is_process_word 1 a.0) && not (is_link_word p a.0)
+    not (is_process_word p 0 a.0) && not (is_process_word p 1 a.0) && not (is_link_word p a.0)
 visible_request p (told.Wake a n) v = not (is_lock_word p a.0)
 visible_request p (told.Requeue from to wake moves expected) v = true
 visible_request p (told.Print number) v = true

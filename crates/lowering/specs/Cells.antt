@@ -1,8 +1,8 @@
 -- The words of a program's memory that have a meaning, and their addresses.
 use Rattle.std.specs.Prelude.{◌≡◌, ◌<◌, ◌≤◌, ◌+◌, ℕ, Some, slice_get}
 use Rattle.words.specs.declared.process.ProcessWord.{ProcessWord}
-use Rattle.words.specs.Limits.{most_threads}
 use Rattle.words.specs.Process.{process_word, number_of}
+use Rattle.words.specs.Versions.{most_of}
 use Rattle.program.specs.declared.kinds.MemberType.{MemberType}
 use Rattle.program.specs.declared.kinds.Member.{Member}
 use Rattle.program.specs.Trees.{Monitor, Program}
@@ -29,7 +29,7 @@ IsMonitor p m = (x : Monitor) × (slice_get p.monitors m ≡ Some x)
 
 -- the program has it
 abbrev pub IsCell : Program → Cell → Type 0
-IsCell p (OfProcess t word) = (0 < t) × (t ≤ most_threads)
+IsCell p (OfProcess t word) = (0 < t) × (t ≤ most_of p.version)
 IsCell p (Link m) = IsMonitor p m
 IsCell p (Lock m) = IsMonitor p m
 IsCell p (OfMember m k) =

@@ -73,6 +73,7 @@ marks_of p = map (λ i. i.mark) (marked_code p)
 -- the image of a program: it begins at the main part, which is the last piece
 abbrev pub code_of : Program → Image
 code_of p = record {
+  version = p.version;
   monitors = map (λ m. words_of m.members) p.monitors;
   start = start_of p (length p.procedures - 1);
   code = instructions (marked_code p);

@@ -46,8 +46,8 @@ Serves t (AskOr a v) s woken answer s' =
 Serves t (AskAdd a v) s woken answer s' =
     Lies s a × Quietly woken ((answer ≡ s.word a) × (s' ≡ with_word s a ((s.word a + v) % 4294967296)))
 Serves t (AskFork entry arguments has_room) s woken answer s' =
-    Quietly woken (((s.made ≡ most_threads) × (answer ≡ 0) × (s' ≡ s))
-    ⊎ ((s.made < most_threads) × (has_room ≡ true) × (answer ≡ suc s.made) × (s' ≡ with_child s entry arguments)))
+    Quietly woken (((s.made ≡ s.most) × (answer ≡ 0) × (s' ≡ s))
+    ⊎ ((s.made < s.most) × (has_room ≡ true) × (answer ≡ suc s.made) × (s' ≡ with_child s entry arguments)))
 Serves t (AskPrint number) s woken answer s' =
     Quietly woken ((answer ≡ 0) × (s' ≡ record s { output = s.output ++ signed_of number ∷ [] }))
 Serves t (AskWait a expected) s woken answer s' =
@@ -77,7 +77,7 @@ IsUnserved (AskSwap a v) s = Lies s a → ⊥
 IsUnserved (AskCompareSwap a expected new) s = Lies s a → ⊥
 IsUnserved (AskOr a v) s = Lies s a → ⊥
 IsUnserved (AskAdd a v) s = Lies s a → ⊥
-IsUnserved (AskFork entry arguments has_room) s = (s.made < most_threads) × (has_room ≡ true → ⊥)
+IsUnserved (AskFork entry arguments has_room) s = (s.made < s.most) × (has_room ≡ true → ⊥)
 IsUnserved (AskPrint number) s = ⊥
 IsUnserved (AskWait a expected) s = Lies s a → ⊥
 IsUnserved (AskWake a n) s = Lies s a → ⊥

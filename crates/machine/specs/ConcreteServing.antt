@@ -3,7 +3,6 @@
 use Rattle.std.specs.Prelude.{ℕ, suc, ◌+◌, ◌%◌, ◌++◌, ◌==◌, [], ◌∷◌, List, length, take, drop, Bool}
 use Rattle.std.specs.Prelude.{nat_lt, slice_index, slice_set, Option, Some, None, Result, Ok, Err, if◌then◌else◌}
 use Rattle.std.specs.Int.Bits.{bit_or}
-use Rattle.words.specs.Limits.{most_threads}
 use Rattle.words.specs.Process.{process_word}
 use Rattle.words.specs.Outcomes.{cause_number}
 use Rattle.words.specs.Signed.{signed_of}
@@ -83,7 +82,7 @@ within c a served = if nat_lt a (length c.words) then served else Err Broken
 -- a FORK, where so many threads were made
 abbrev pub fork_at : ℕ → Common → ℕ → List ℕ → Bool → Result Served StepFault
 fork_at made c entry arguments has_room =
-    if made == most_threads then gives 0 c (plain name.Fork 0)
+    if made == c.most then gives 0 c (plain name.Fork 0)
     else if has_room then Ok (record {
       answer = suc made;
       common = set_word c (process_word (suc made) 2) (suc made);

@@ -3,12 +3,14 @@ use Rattle.std.specs.Prelude.{ℕ, zero, suc, List, [], ◌∷◌, length, slice
 use Rattle.std.specs.Prelude.{Option, Some, None, ℤ}
 use Rattle.isa.specs.Programs.{Program, memory_size}
 use Rattle.words.specs.Process.{process_word}
+use Rattle.words.specs.Versions.{most_of}
 use Rattle.robustexit.specs.RobustExit.{put}
 use Rattle.locals.specs.Threads.{Thread, opening_thread}
 
--- what threads share: the words; who sleeps on each address, in the order of their arrival, and where each sleeps; and
--- the numbers printed
+-- what threads share: how many there can be; the words; who sleeps on each address, in the order of their arrival, and
+-- where each sleeps; and the numbers printed
 pub record Common : Type 0 where
+  pub most : ℕ
   pub words : List ℕ
   pub queue : ℕ → List ℕ
   pub asleep : ℕ → Option ℕ
@@ -19,9 +21,10 @@ pub record ConcreteState : Type 0 where
   pub common : Common
   pub threads : List Thread
 
--- a state: the word at each address below the size, how many threads were made, each of them, and where it sleeps, if
--- it does
+-- a state: how many threads there can be, the word at each address below the size, how many threads were made, each of
+-- them, and where it sleeps, if it does
 pub record State : Type 0 where
+  pub most : ℕ
   pub word : ℕ → ℕ
   pub size : ℕ
   pub made : ℕ
@@ -41,6 +44,7 @@ thread_of k t = thread_at k.threads t
 -- the abstract state that a concrete one stands for
 abbrev pub state_of : ConcreteState → State
 state_of k = record {
+  most = k.common.most;
   word = λ a. slice_index k.common.words a;
   size = length k.common.words;
   made = length k.threads;
@@ -53,6 +57,7 @@ state_of k = record {
 abbrev pub opening_concrete : Program → ConcreteState
 opening_concrete p = record {
   common = record {
+    most = most_of p.version;
     words = slice_set (replicate (memory_size p) 0) 3 1;
     queue = λ a. [];
     asleep = λ t. None;
@@ -64,6 +69,7 @@ opening_concrete p = record {
 -- the state in which a program begins: process 1 is made, and all words but its id are 0
 abbrev pub opening_state : Program → State
 opening_state p = record {
+  most = most_of p.version;
   word = put (λ a. 0) (process_word 1 2) 1;
   size = memory_size p;
   made = 1;

@@ -4,7 +4,9 @@ use Rattle.std.specs.Prelude.{None}
 use Rattle.words.specs.declared.mem.Addr.{Addr}
 use Rattle.isa.specs.Programs.{Program, memory_size}
 use Rattle.buckets.specs.Places.{Agree}
-use Rattle.words.specs.Limits.{most_threads, monitors_base}
+use Rattle.words.specs.declared.version.ImageVersion.{ImageVersion}
+use Rattle.words.specs.Limits.{most_threads}
+use Rattle.words.specs.Versions.{most_of, base_of}
 use Rattle.buckets.specs.Sleepers.{Sleepers, IsSound, queue, place_of, thread_count}
 use Rattle.machine.specs.declared.event.Event.{Event}
 use Rattle.machine.specs.declared.event.EventName.{EventName}
@@ -22,26 +24,31 @@ IsQuiet k = (t : ℕ) → can_move k t ≡ false
 abbrev pub AllEnded : ConcreteState → Type 0
 AllEnded k = (t : ℕ) → 0 < t → t ≤ length k.threads → has_ended (thread_of k t) ≡ true
 
--- what always holds of a concrete state: the memory has the program's size, there are some threads, as many as can be,
--- lists and places agree, and who sleeps is one of them
+-- what always holds of a concrete state: the memory has the program's size, there can be as many threads as its version
+-- says, which a machine can run, some were made and no more than that, lists and places agree, and who sleeps is one of
+-- them
 pub record IsWellFormed (p : Program) (k : ConcreteState) : Type 0 where
   pub sized : length k.common.words ≡ memory_size p
   pub some : 1 ≤ length k.threads
-  pub few : length k.threads ≤ most_threads
+  pub most : k.common.most ≡ most_of p.version
+  pub fits : k.common.most ≤ most_threads
+  pub few : length k.threads ≤ k.common.most
   pub agree : Agree k.common.queue k.common.asleep
   pub made : (t a : ℕ) → k.common.asleep t ≡ Some a → (1 ≤ t) × (t ≤ length k.threads)
 
--- what all threads share, of the words, the sleepers and the output
-abbrev pub common_of : List ℕ → Sleepers → List ℤ → Common
-common_of words sleepers output =
-    record { words = words; queue = queue sleepers; asleep = place_of sleepers; output = output }
+-- what all threads share, of how many there can be, the words, the sleepers and the output
+abbrev pub common_of : ℕ → List ℕ → Sleepers → List ℤ → Common
+common_of most words sleepers output =
+    record { most = most; words = words; queue = queue sleepers; asleep = place_of sleepers; output = output }
 
 -- a state of the machine, of its parts
-abbrev pub concrete_of : List ℕ → Sleepers → List Thread → List ℤ → ConcreteState
-concrete_of words sleepers threads output = record { common = common_of words sleepers output; threads = threads }
+abbrev pub concrete_of : ℕ → List ℕ → Sleepers → List Thread → List ℤ → ConcreteState
+concrete_of most words sleepers threads output =
+    record { common = common_of most words sleepers output; threads = threads }
 
--- what a `Common` stands for: the words, who sleeps, the numbers printed, and how many numbers there is room for in all
+-- what a `Common` stands for: how many threads there can be, the words, who sleeps, the numbers printed, and how many numbers there is room for in all
 pub record CommonView : Type 0 where
+  pub most : ℕ
   pub words : List ℕ
   pub sleepers : Sleepers
   pub output : List ℤ
@@ -49,21 +56,24 @@ pub record CommonView : Type 0 where
 
 -- what threads share, as a step sees it
 abbrev pub common : CommonView → Common
-common v = common_of v.words v.sleepers v.output
+common v = common_of v.most v.words v.sleepers v.output
 
 -- what a machine keeps, of what its threads share and of them
 abbrev pub parts_of : CommonView → List Thread → ConcreteState
 parts_of v threads = record { common = common v; threads = threads }
 
--- what always holds of it: the words of all threads are there, and who sleeps is one of them
-pub record IsCommon (words : List ℕ) (sleepers : Sleepers) : Type 0 where
-  pub wide : monitors_base ≤ length words
+-- what always holds of it: a machine can run all threads that there can be, their words are there, and who sleeps is one
+-- of them
+pub record IsCommon (most : ℕ) (words : List ℕ) (sleepers : Sleepers) : Type 0 where
+  pub fits : most ≤ most_threads
+  pub wide : 1 + 6 * most ≤ length words
   pub sound : IsSound sleepers
   pub places : thread_count sleepers ≡ most_threads
 
 -- the program that runs, the parts of its concrete state, and how many numbers can be printed without taking memory
 pub record View : Type 0 where
   pub program : Program
+  pub most : ℕ
   pub words : List ℕ
   pub sleepers : Sleepers
   pub threads : List Thread
@@ -72,12 +82,12 @@ pub record View : Type 0 where
 
 -- what a machine keeps
 abbrev pub concrete : View → ConcreteState
-concrete v = concrete_of v.words v.sleepers v.threads v.output
+concrete v = concrete_of v.most v.words v.sleepers v.threads v.output
 
 -- the address of a member word of a monitor: before it stand the words of processes, the link word, the lock word and
 -- the members of each earlier monitor, and the monitor's own link word and lock word
-abbrev pub variable_address : List ℕ → ℕ → ℕ → ℕ
-variable_address members monitor index = monitors_base + 2 * monitor + sum (take monitor members) + 2 + index
+abbrev pub variable_address : ImageVersion → List ℕ → ℕ → ℕ → ℕ
+variable_address version members monitor index = base_of version + 2 * monitor + sum (take monitor members) + 2 + index
 
 -- an address as a number
 abbrev pub address_of : Option Addr → Option ℕ

@@ -3,6 +3,7 @@ use Rattle.std.specs.Prelude.{ℕ, ◌-◌, ◌==◌, ℤ, pos, List, [], ◌∷
 use Rattle.words.specs.Updates.{put}
 use Rattle.program.specs.Trees.{Program}
 use Rattle.meaning.specs.Values.{Variables, with_variable}
+use Rattle.words.specs.Versions.{most_of}
 use Rattle.meaning.specs.Table.{Table, first_table}
 use Rattle.meaning.specs.Processes.{Process, begins, opening_frame}
 use Rattle.meaning.specs.Offers.{Effect, Nothing, Puts, Writes, Makes}
@@ -22,7 +23,7 @@ main_process p = begins (opening_frame p (length p.procedures - 1) []) []
 -- all variables are 0, FALSE or the empty handle, and the main process is all
 abbrev pub opening : Program → SourceState
 opening p = record {
-  table = first_table;
+  table = first_table (most_of p.version);
   variable = λ m n i. pos 0;
   process = λ q. if q == 1 then Some (main_process p) else None;
   printed = [];

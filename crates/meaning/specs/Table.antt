@@ -2,7 +2,6 @@
 -- allows (Lampson and Redell, sections 2 and 3).
 use Rattle.std.specs.Prelude.{ℕ, ◌+◌, ◌≡◌, ◌≤◌, ◌<◌, Bool, true, false, List, [], ◌∷◌, Option, Some, None, Contains}
 use Rattle.words.specs.Updates.{put}
-use Rattle.words.specs.Limits.{most_threads}
 use Rattle.program.specs.declared.kinds.Member.{Member}
 use Rattle.meaning.specs.Labels.{End, Label, Alone, Stores, Forks, FindsFull, Claims, FindsClaimed, Joins, Enters}
 use Rattle.meaning.specs.Labels.{Resumes, Exits, Waits, Notifies, Broadcasts, Abandons, Ends}
@@ -15,6 +14,8 @@ pub data Hold : Type 0 where
 
 -- what processes share of monitors, conditions and one another
 pub record Table : Type 0 where
+  -- how many processes there can be
+  pub most : ℕ
   -- of each monitor
   pub hold : ℕ → Hold
   -- the condition that each process waits on: so each condition has the set of processes that wait on it
@@ -54,8 +55,8 @@ pub record IsBroadcast (t : Table) (c : Member) (resumed : List ℕ) : Type 0 wh
 abbrev pub Allows : ℕ → Label → Table → Table → Type 0
 Allows p (Alone kind) t t' = t' ≡ t
 Allows p (Stores m) t t' = t' ≡ t
-Allows p (Forks child) t t' = (t.made < most_threads) × (child ≡ t.made + 1) × (t' ≡ record t { made = t.made + 1 })
-Allows p FindsFull t t' = (most_threads ≤ t.made) × (t' ≡ t)
+Allows p (Forks child) t t' = (t.made < t.most) × (child ≡ t.made + 1) × (t' ≡ record t { made = t.made + 1 })
+Allows p FindsFull t t' = (t.most ≤ t.made) × (t' ≡ t)
 Allows p (Claims child) t t' = (t.claimed child ≡ false) × (t' ≡ record t { claimed = put t.claimed child true })
 Allows p (FindsClaimed child) t t' = (t.claimed child ≡ true) × (t' ≡ t)
 Allows p (Joins child end) t t' = (t.over child ≡ Some end) × (t' ≡ t)
@@ -87,5 +88,12 @@ AllowsKill p notified resumed t t' =
     AreResumed t notified resumed × (t' ≡ record t { waits = put (without_waiters resumed t.waits) p None })
 
 -- nobody holds a monitor, waits, is claimed or over; the main process alone was made
-abbrev pub first_table : Table
-first_table = record { hold = λ m. Free; waits = λ p. None; claimed = λ p. false; made = 1; over = λ p. None }
+abbrev pub first_table : ℕ → Table
+first_table most = record {
+  most = most;
+  hold = λ m. Free;
+  waits = λ p. None;
+  claimed = λ p. false;
+  made = 1;
+  over = λ p. None;
+}

@@ -1,5 +1,6 @@
 -- Checked programs, without pointers.
 use Rattle.std.specs.Prelude.{ℕ, Bool, List, Option, ◌++◌}
+use Rattle.words.specs.declared.version.ImageVersion.{ImageVersion}
 use Rattle.program.specs.declared.kinds.ValueType.{ValueType}
 use Rattle.program.specs.declared.kinds.MemberType.{MemberType}
 use Rattle.program.specs.declared.kinds.Member.{Member as MemberOf}
@@ -83,8 +84,13 @@ pub record Procedure : Type 0 where
 abbrev pub slots : Procedure → List ValueType
 slots q = q.parameters ++ q.locals
 
--- a program: its monitors, and its procedures by the numbers of their pieces: for each monitor its procedures in order,
+-- a program: the version of its image, its monitors, and its procedures by the numbers of their pieces: for each monitor its procedures in order,
 -- then its RECOVER part; then the external procedures; then the main part
 pub record Program : Type 0 where
+  pub version : ImageVersion
   pub monitors : List Monitor
   pub procedures : List Procedure
+
+-- the same program for an image of another version
+abbrev pub as_version : ImageVersion → Program → Program
+as_version v p = record p { version = v }

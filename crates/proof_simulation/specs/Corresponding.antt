@@ -1,6 +1,8 @@
 -- A state of the machine, a world of the protocol and a state of the source that belong together.
 use Rattle.std.specs.Prelude.{ℕ, ◌≡◌, ◌<◌, ◌≤◌, ◌^◌, true, List, length}
+use Rattle.words.specs.declared.version.ImageVersion.{ImageVersion}
 use Rattle.words.specs.Signed.{word_of}
+use Rattle.words.specs.Versions.{most_of}
 use Rattle.isa.specs.Programs.{memory_size}
 use Rattle.machine.specs.States.{State}
 use Rattle.machine.specs.AbstractServing.{shared_of}
@@ -20,11 +22,11 @@ use Rattle.refinement.specs.Built.{build_of}
 use Rattle.proof_templates.specs.Layout.{place, valid}
 use Rattle.proof_simulation.specs.Standing.{StandsAt}
 
--- moves of the protocol lead to a world and its table
-pub record Reached (w : World) (T : Table) : Type 0 where
+-- moves of the protocol lead from the opening of an image of this version to a world and its table
+pub record Reached (version : ImageVersion) (w : World) (T : Table) : Type 0 where
   pub moves : List (ℕ × Move)
-  pub led : Leads opening_world moves w
-  pub table : T ≡ last_table opening_world first_table moves
+  pub led : Leads (opening_world version) moves w
+  pub table : T ≡ last_table (opening_world version) (first_table (most_of version)) moves
 
 -- a thread that hasn't begun its exit
 abbrev pub IsBefore : Point → Type 0
@@ -37,9 +39,10 @@ IsBefore p = Unit {0}
 -- after so many steps of the machine
 pub record Corresponds (p : Program) (w : WellFormed p) (steps : ℕ) (s : State) (c : SourceState) : Type 0 where
   pub world : World
-  pub reached : Reached world c.table
+  pub reached : Reached p.version world c.table
   pub shares : Shares (place p) (valid p) (shared_of s) world
   pub size : s.size ≡ memory_size (code_of p)
+  pub most : s.most ≡ most_of p.version
   pub made : s.made ≡ world.made
   pub output : s.output ≡ c.printed
   -- the words of the variables, and values that fit them

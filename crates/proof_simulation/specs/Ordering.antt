@@ -2,7 +2,7 @@
 use Rattle.std.specs.Prelude.{ℕ, zero, suc, ◌-◌, ◌%◌, ◌≡◌, ◌==◌, ◌&&◌, ◌||◌, not, nat_lt, Bool, true, false, List, []}
 use Rattle.std.specs.Prelude.{◌∷◌, length, Option, Some, None}
 use Rattle.words.specs.Updates.{put}
-use Rattle.words.specs.Limits.{monitors_base}
+use Rattle.words.specs.Versions.{base_of}
 use Rattle.robustexit.specs.declared.phase.ExitPhase.{ExitPhase}
 use Rattle.robustexit.specs.declared.phase.ExitPhase.TheVariants.{Entry, Pending, ClearId, LastWake, Ended}
 use Rattle.robustexit.specs.RobustExit.{Shared, ExitStep}
@@ -36,8 +36,8 @@ any_below zero test = false
 any_below (suc n) test = test n || any_below n test
 
 -- the address is that of the k-th word of a process: each has six of them, from 1 on, and the monitors lie behind them
-abbrev pub is_process_word : ℕ → ℕ → Bool
-is_process_word k a = nat_lt 0 a && (nat_lt a monitors_base && ((a - 1) % 6 == k))
+abbrev pub is_process_word : Program → ℕ → ℕ → Bool
+is_process_word p k a = nat_lt 0 a && (nat_lt a (base_of p.version) && ((a - 1) % 6 == k))
 
 -- the address is that of a monitor's link word, or of its lock word
 abbrev pub is_link_word : Program → ℕ → Bool
@@ -54,8 +54,8 @@ is_lock_word p a = any_below (length p.monitors) (λ m. lock_word_address p m ==
 abbrev pub completes : Program → Request → (answer : ℕ) → Bool
 completes p (AskCompareSwap a expected new) r = (r == expected) && (owner expected == 0)
 completes p (AskSwap a v) r = (v == 0) || (r == 0)
-completes p (AskLoad a) r = is_process_word 2 a && (r == 0)
-completes p (AskStore a v) r = not (is_process_word 0 a) && not (is_process_word 1 a) && not (is_link_word p a)
+completes p (AskLoad a) r = is_process_word p 2 a && (r == 0)
+completes p (AskStore a v) r = not (is_process_word p 0 a) && not (is_process_word p 1 a) && not (is_link_word p a)
 completes p (AskWake a n) r = not (is_lock_word p a)
 completes p (AskRequeue a b n m expected) r = true
 completes p (AskPrint number) r = true

@@ -1,6 +1,6 @@
 -- Where the words of the protocol lie in the memory of a program's image.
 use Rattle.std.specs.Prelude.{ℕ, Bool, true, false, ◌&&◌, nat_lt, nat_le, Option, Some, None, is_some, slice_get}
-use Rattle.words.specs.Limits.{most_threads}
+use Rattle.words.specs.Versions.{most_of}
 use Rattle.words.specs.Process.{process_word}
 use Rattle.program.specs.declared.kinds.MemberType.{MemberType}
 use Rattle.program.specs.declared.kinds.MemberType.TheVariants.{Variable, Condition, Array}
@@ -22,9 +22,9 @@ place p (ResultOf t) = process_word t 4
 place p (OutcomeOf t) = process_word t 5
 place p (SequenceOf c) = member_address p c
 
--- the number of a process
-abbrev pub is_process : ℕ → Bool
-is_process t = nat_lt 0 t && nat_le t most_threads
+-- the number of a process that the program can have
+abbrev pub is_process : Program → ℕ → Bool
+is_process p t = nat_lt 0 t && nat_le t (most_of p.version)
 
 -- whether the program has a monitor of this number
 abbrev pub is_monitor : Program → ℕ → Bool
@@ -41,10 +41,10 @@ is_condition (Some (Array n)) = false
 abbrev pub valid : Program → Cell → Bool
 valid p (LockOf m) = is_monitor p m
 valid p (LinkOf m) = is_monitor p m
-valid p (HeadOf t) = is_process t
-valid p (PendingOf t) = is_process t
-valid p (IdOf t) = is_process t
-valid p (ClaimOf t) = is_process t
-valid p (ResultOf t) = is_process t
-valid p (OutcomeOf t) = is_process t
+valid p (HeadOf t) = is_process p t
+valid p (PendingOf t) = is_process p t
+valid p (IdOf t) = is_process p t
+valid p (ClaimOf t) = is_process p t
+valid p (ResultOf t) = is_process p t
+valid p (OutcomeOf t) = is_process p t
 valid p (SequenceOf c) = is_condition (member_type p c)

@@ -4,6 +4,7 @@ use Rattle.std.specs.Prelude.{slice_get, Contains, ⊤}
 use Rattle.isa.specs.declared.instr.Instr.TheVariants.{Jump}
 use Rattle.isa.specs.Limits as isa
 use Rattle.proof_thread.specs.Deferrals.{MarkedImage, IsAt}
+use Rattle.words.specs.Versions.{most_of}
 use Rattle.program.specs.declared.kinds.ValueType.{ValueType}
 use Rattle.program.specs.declared.kinds.Role.TheVariants.{Main}
 use Rattle.program.specs.Trees.{Statement, Block, Done, Then, Procedure, Program, slots}
@@ -55,7 +56,7 @@ pub record IsFrame (p : Program) (height : ℕ → ℕ) (made width number : ℕ
     (l : Locals) : Type 0 where
   pub procedure : slice_get p.procedures number ≡ Some q
   pub role : f.role ≡ q.role
-  pub typed : HaveValues made (slots q) f.locals
+  pub typed : HaveValues (most_of p.version) made (slots q) f.locals
   pub holds : HoldValues l.values f.locals
   pub words : length l.values ≡ isa.most_locals
   pub few : length (slots q) ≤ most_locals

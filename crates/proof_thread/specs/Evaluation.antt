@@ -1,6 +1,7 @@
 -- What is promised of the code of an expression.
 use Rattle.std.specs.Prelude.{ℕ, ◌+◌, ◌*◌, ◌≡◌, ◌≤◌, ℤ, List, length, Some}
 use Rattle.proof_thread.specs.Deferrals.{MarkedImage}
+use Rattle.words.specs.Versions.{most_of}
 use Rattle.program.specs.declared.kinds.ValueType.{ValueType}
 use Rattle.program.specs.Trees.{Expression}
 use Rattle.program.specs.Scope.{Scope, own_monitor}
@@ -18,9 +19,9 @@ use Rattle.proof_thread.specs.Variables.{VariablesFit, ArraysAreLow}
 use Rattle.proof_thread.specs.Walks.{View, StandAt, Gives}
 
 -- what an evaluation gives has a type
-abbrev pub OfType : ℕ → ValueType → Evaluated → Type 0
-OfType made t (Value z) = HasValue made t z
-OfType made t (Fails fault) = Unit {0}
+abbrev pub OfType : ℕ → ℕ → ValueType → Evaluated → Type 0
+OfType most made t (Value z) = HasValue most made t z
+OfType most made t (Fails fault) = Unit {0}
 
 -- what is in view in a procedure
 abbrev pub view_in : Scope → Variables → View
@@ -29,7 +30,7 @@ view_in s v = record { program = s.program; own = own_monitor s.role; variables 
 -- what an expression is evaluated over: locals with values of their types, in the words of a frame; and the variables
 -- of the own monitor
 pub record IsEvaluated (made : ℕ) (s : Scope) (v : Variables) (values : List ℤ) (l : Locals) : Type 0 where
-  pub typed : HaveValues made s.locals values
+  pub typed : HaveValues (most_of s.program.version) made s.locals values
   pub holds : HoldValues l.values values
   pub fit : (m : ℕ) → own_monitor s.role ≡ Some m → VariablesFit made s.program m v
   pub low : ArraysAreLow s.program
@@ -43,4 +44,4 @@ pub record Evaluates (image : MarkedImage) (made t : ℕ) (s : Scope) (v : Varia
       → Gives image t (view_in s v) (2 * expression_tokens e) (Runs place operands l callers)
       (evaluate s.program v values e)
       (place + length (expression_code s.program e)) operands l callers
-  pub type : (e : Expression) (u : ValueType) → HasType s e u → OfType made u (evaluate s.program v values e)
+  pub type : (e : Expression) (u : ValueType) → HasType s e u → OfType (most_of s.program.version) made u (evaluate s.program v values e)

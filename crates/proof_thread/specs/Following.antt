@@ -4,6 +4,7 @@ use Rattle.words.specs.Signed.{word_of}
 use Rattle.words.specs.declared.outcome.Fault.TheVariants.{AbandonedMonitor}
 use Rattle.words.specs.declared.outcome.Cause.TheVariants.{Faulted}
 use Rattle.isa.specs.declared.instr.Instr.{Instr}
+use Rattle.words.specs.Versions.{most_of}
 use Rattle.program.specs.declared.kinds.ValueType.{ValueType}
 use Rattle.program.specs.declared.kinds.Role.TheVariants.{Entry, Recover}
 use Rattle.program.specs.Trees.{Procedure}
@@ -84,11 +85,11 @@ result_operands None = []
 result_operands (Some w) = w ∷ []
 
 -- the word that is left, if any, is that of the result z
-abbrev pub ShowsResult : ℕ → Option ValueType → Option ℕ → ℤ → Type 0
-ShowsResult made None None z = z ≡ pos 0
-ShowsResult made None (Some w) z = ⊥
-ShowsResult made (Some u) None z = ⊥
-ShowsResult made (Some u) (Some w) z = (w ≡ word_of z) × HasValue made u z
+abbrev pub ShowsResult : ℕ → ℕ → Option ValueType → Option ℕ → ℤ → Type 0
+ShowsResult most made None None z = z ≡ pos 0
+ShowsResult most made None (Some w) z = ⊥
+ShowsResult most made (Some u) None z = ⊥
+ShowsResult most made (Some u) (Some w) z = (w ≡ word_of z) × HasValue most made u z
 
 -- a thread at the return of an ENTRY procedure, which has given up its monitor
 pub record IsReturning (b : Build) (place : ℕ) (shown : Option ℕ) (fs : List MachineFrame) (z : ℤ)
@@ -98,7 +99,7 @@ pub record IsReturning (b : Build) (place : ℕ) (shown : Option ℕ) (fs : List
   pub monitor : ℕ
   pub role : procedure.role ≡ Entry monitor
   pub code : StandAt b.code place (return_code procedure.role procedure.result ∷ [])
-  pub result : ShowsResult b.made procedure.result shown z
+  pub result : ShowsResult (most_of b.program.version) b.made procedure.result shown z
   pub callers : CallersStand b number procedure fs cs
 
 -- the monitor whose variables a process may read and change next

@@ -1,5 +1,6 @@
 -- The variables of monitors: which there are, where they lie, and values that fit them.
 use Rattle.std.specs.Prelude.{ℕ, ℤ, ◌≡◌, ◌<◌, ◌≤◌, ◌+◌, Option, Some, None}
+use Rattle.words.specs.Versions.{most_of}
 use Rattle.program.specs.declared.kinds.ValueType.TheVariants.{Integer}
 use Rattle.program.specs.declared.kinds.MemberType.{MemberType}
 use Rattle.program.specs.declared.kinds.MemberType.TheVariants.{Variable, Condition, Array}
@@ -25,17 +26,17 @@ IsVariable p m i = HasIndex (member_type p m) i
 abbrev pub variable_address : Program → Member → ℕ → ℕ
 variable_address p m i = member_address p m + i
 
--- a value that a variable of this member can have, where so many processes were made
-abbrev pub ValueFits : ℕ → Option MemberType → ℤ → Type 0
-ValueFits made None z = ⊥
-ValueFits made (Some (Variable t)) z = HasValue made t z
-ValueFits made (Some Condition) z = ⊥
-ValueFits made (Some (Array n)) z = HasValue made Integer z
+-- a value that a variable of this member can have, where there can be so many processes and so many were made
+abbrev pub ValueFits : ℕ → ℕ → Option MemberType → ℤ → Type 0
+ValueFits most made None z = ⊥
+ValueFits most made (Some (Variable t)) z = HasValue most made t z
+ValueFits most made (Some Condition) z = ⊥
+ValueFits most made (Some (Array n)) z = HasValue most made Integer z
 
 -- all variables of a monitor have values that fit them
 abbrev pub VariablesFit : ℕ → Program → ℕ → Variables → Type 0
 VariablesFit made p monitor v = (m : Member) (i : ℕ) → m.monitor ≡ monitor → IsVariable p m i
-    → ValueFits made (member_type p m) (v monitor m.number i)
+    → ValueFits (most_of p.version) made (member_type p m) (v monitor m.number i)
 
 -- arrays are short, and end below the end of all addresses
 abbrev pub ArraysAreLow : Program → Type 0

@@ -1,6 +1,5 @@
 -- What each move finds in the world.
 use Rattle.std.specs.Prelude.{◌≡◌, ◌≢◌, ℕ, suc, ◌<◌, ◌≤◌, true, false, None, [], ◌∷◌, ◌⊎◌}
-use Rattle.words.specs.Limits.{most_threads}
 use Rattle.words.specs.Outcomes.{cause_number}
 use Rattle.words.specs.Signed.{signed_of}
 use Rattle.meaning.specs.Labels.{End, Ended, Aborted, Label, Alone, Stores}
@@ -77,8 +76,8 @@ Finds w t (PendPassed m end) = Passes w.rules.exit (w.lock m)
 Finds w t (LastWake end woken) = IsWake w.asleep (OnId t) 1 woken
 -- the thread that is made has the next number; its parent runs
 Finds w t (Fork parent) =
-    (t ≡ suc w.made) × (w.made < most_threads) × ((w.at parent).point ≡ Runs) × (w.asleep parent ≡ None)
-Finds w t ForkFull = most_threads ≤ w.made
+    (t ≡ suc w.made) × (w.made < w.most) × ((w.at parent).point ≡ Runs) × (w.asleep parent ≡ None)
+Finds w t ForkFull = w.most ≤ w.made
 -- a handle that isn't empty names a process that was made
 Finds w t (Claim q) = (0 < q) × (q ≤ w.made) × (w.claim q ≡ 0)
 Finds w t (ReadClaimed q) = (0 < q) × (q ≤ w.made) × (w.claim q ≢ 0)

@@ -3,6 +3,7 @@ use Rattle.std.specs.Prelude.{◌≡◌, ℕ, Some, None, List, [], ◌∷◌, �
 use Rattle.words.specs.Signed.{signed_of}
 use Rattle.meaning.specs.Labels.{Killed, Ended, Aborted, Label}
 use Rattle.meaning.specs.Table.{Table, Allows, first_table}
+use Rattle.words.specs.declared.version.ImageVersion.TheVariants.{One}
 use Rattle.protocol.specs.Word.{waiters, with_waiters}
 use Rattle.protocol.specs.Rules.{Rules}
 use Rattle.protocol.specs.Points.{Spot, ToEnter, ToExit, Unowned, LeaveWakes}
@@ -34,10 +35,11 @@ pub record WakeIsLost (w : World) (T : Table) : Type 0 where
 -- under these rules the moves can be made, one after another; the source allows what they carry; and at their end a
 -- wake is lost
 pub record LosesWake (rules : Rules) (ss : List (ℕ × Move)) : Type 0 where
-  pub leads : Leads (opening_under rules) ss (world_after (opening_under rules) ss)
-  pub permits : PermitsAll (events (opening_under rules) first_table ss) first_table
-      (last_table (opening_under rules) first_table ss)
-  pub lost : WakeIsLost (world_after (opening_under rules) ss) (last_table (opening_under rules) first_table ss)
+  pub leads : Leads (opening_under One rules) ss (world_after (opening_under One rules) ss)
+  pub permits : PermitsAll (events (opening_under One rules) (first_table 64) ss) (first_table 64)
+      (last_table (opening_under One rules) (first_table 64) ss)
+  pub lost : WakeIsLost (world_after (opening_under One rules) ss)
+      (last_table (opening_under One rules) (first_table 64) ss)
 
 -- moves of one thread
 abbrev pub by : ℕ → List Move → List (ℕ × Move)

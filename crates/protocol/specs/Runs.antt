@@ -1,5 +1,7 @@
 -- Runs of moves, what they carry in order, and what is owed to them.
 use Rattle.std.specs.Prelude.{◌≡◌, ℕ, ◌<◌, ◌≤◌, Bool, true, false, Some, None, List, [], ◌∷◌, ◌⊎◌, length}
+use Rattle.words.specs.declared.version.ImageVersion.{ImageVersion}
+use Rattle.words.specs.Versions.{most_of}
 use Rattle.program.specs.declared.kinds.Member.{Member}
 use Rattle.meaning.specs.Labels.{End, Label, Enters, Resumes, Joins}
 use Rattle.meaning.specs.Table.{Hold, Free, Abandoned, HeldBy, Table, first_table, Allows}
@@ -78,6 +80,7 @@ pub record Matches (rules : Rules) (w : World) (T : Table) : Type 0 where
   -- claimed, made, over
   pub claimed : (q : ℕ) → ClaimIs (T.claimed q) (w.claim q)
   pub made : T.made ≡ w.made
+  pub most : T.most ≡ w.most
   pub over : (q : ℕ) (end : End) → T.over q ≡ Some end → IsOver (w.at q).point end ×
       CarriesFinding end (w.outcome q) (w.result q)
   pub ended : (q : ℕ) (end : End) → IsOver (w.at q).point end → T.over q ≡ Some end
@@ -124,15 +127,15 @@ pub record LosesNoWake (w : World) (T : Table) : Type 0 where
       (t : ℕ) (s : Spot) → w.asleep t ≡ Some s → CannotAct w T t
   pub at_rest : ((t : ℕ) → CanStep w t → ⊥) → (t : ℕ) → CannotAct w T t
 
--- a run of moves is explained by the source
-pub record IsExplainedUnder (rules : Rules) (ss : List (ℕ × Move)) (w : World) : Type 0 where
-  pub permits : PermitsAll (events (opening_under rules) first_table ss) first_table
-      (last_table (opening_under rules) first_table ss)
-  pub matches : Matches rules w (last_table (opening_under rules) first_table ss)
-  pub waking : LosesNoWake w (last_table (opening_under rules) first_table ss)
+-- a run of moves from the opening world of an image of this version is explained by the source
+pub record IsExplainedUnder (version : ImageVersion) (rules : Rules) (ss : List (ℕ × Move)) (w : World) : Type 0 where
+  pub permits : PermitsAll (events (opening_under version rules) (first_table (most_of version)) ss)
+      (first_table (most_of version)) (last_table (opening_under version rules) (first_table (most_of version)) ss)
+  pub matches : Matches rules w (last_table (opening_under version rules) (first_table (most_of version)) ss)
+  pub waking : LosesNoWake w (last_table (opening_under version rules) (first_table (most_of version)) ss)
   -- a sequence number counts no more steps than were taken
   pub numbers : (c : Member) → w.sequence c ≤ length ss
 
 -- the same on this machine, with the templates' release
-abbrev pub IsExplainedByMoves : List (ℕ × Move) → World → Type 0
-IsExplainedByMoves ss w = IsExplainedUnder standard_rules ss w
+abbrev pub IsExplainedByMoves : ImageVersion → List (ℕ × Move) → World → Type 0
+IsExplainedByMoves version ss w = IsExplainedUnder version standard_rules ss w

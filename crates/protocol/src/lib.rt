@@ -3,6 +3,7 @@
 #![tactic(auto)]
 
 ghost use Rattle.std.specs.Prelude.{◌≡◌, ℕ, ◌<◌, ◌≤◌, Bool, List, None};
+ghost use Rattle.words.specs.declared.version.ImageVersion.{ImageVersion};
 ghost use Rattle.protocol.specs.Points.{Point};
 ghost use Rattle.protocol.specs.World.{World, opening_world, opening_under};
 ghost use Rattle.protocol.specs.Rules.{Rules, AreSafe, rules_of, WakesUnowned, ClearsWord, TidiesWaiters};
@@ -21,17 +22,19 @@ ghost use Rattle.protocol.specs.Cells.{Cell};
 ghost use Rattle.protocol.specs.Memory.{IsApart};
 ghost use Rattle.protocol.specs.Calls.{CallsFollow};
 
-/// Each run of moves is explained by the source: the labels that it carries, in order, are allowed one after another,
+/// For each version of an image: each run of moves is explained by the source: the labels that it carries, in order, are allowed one after another,
 /// to a table that is that of the last world, in which no wake was lost.
 pub fn no_wake_lost()
-    ensures { (ss : List (ℕ × Move)) (w : World) → Leads opening_world ss w
-        → IsExplainedByMoves ss w }
+    ensures { (version : ImageVersion) (ss : List (ℕ × Move)) (w : World)
+        → Leads (opening_world version) ss w
+        → IsExplainedByMoves version ss w }
 {}
 
 /// Where a run has come, each step of a thread inside a template is a move: what its point asks for, and the shared
 /// words answer, leads to the next point of the template.
 pub fn every_step_is_a_move()
-    ensures { (ss : List (ℕ × Move)) (w : World) → Leads opening_world ss w
+    ensures { (version : ImageVersion) (ss : List (ℕ × Move)) (w : World)
+        → Leads (opening_world version) ss w
         → (t : ℕ) (p : Point) (r : ℕ) (w' : World) →
         0 < t → t ≤ w.made → w.asleep t ≡ None → (w.at t).point ≡ p
         → Serves w t p (request t p) r w'
@@ -45,7 +48,8 @@ pub fn memory_follows()
 
 /// Where a run has come, a claim, a return and a fork of a thread that runs its own code are moves.
 pub fn every_start_is_a_move()
-    ensures { (ss : List (ℕ × Move)) (w : World) → Leads opening_world ss w → StartsMove w }
+    ensures { (version : ImageVersion) (ss : List (ℕ × Move)) (w : World)
+        → Leads (opening_world version) ss w → StartsMove w }
 {}
 
 /// The parts of lock words are those of the robust-futex ABI.
@@ -75,15 +79,16 @@ pub fn phases_follow()
 /// are safe: any release where an exit always wakes, and, where it wakes at unowned words alone (Linux), the release
 /// that keeps the waiters bit for good.
 pub fn no_wake_lost_under()
-    ensures { (rules : Rules) → AreSafe rules → (ss : List (ℕ × Move)) (w : World)
-        → Leads (opening_under rules) ss w
-        → IsExplainedUnder rules ss w }
+    ensures { (version : ImageVersion) (rules : Rules) → AreSafe rules
+        → (ss : List (ℕ × Move)) (w : World)
+        → Leads (opening_under version rules) ss w
+        → IsExplainedUnder version rules ss w }
 {}
 
 /// Under safe rules each step of a thread inside a template is a move.
 pub fn every_step_is_a_move_under()
-    ensures { (rules : Rules) → AreSafe rules
-        → (ss : List (ℕ × Move)) (w : World) → Leads (opening_under rules) ss w
+    ensures { (version : ImageVersion) (rules : Rules) → AreSafe rules
+        → (ss : List (ℕ × Move)) (w : World) → Leads (opening_under version rules) ss w
         → (t : ℕ) (p : Point) (r : ℕ) (w' : World) →
         0 < t → t ≤ w.made → w.asleep t ≡ None → (w.at t).point ≡ p
         → ServesUnder rules w t p (request_under t p) r w'
@@ -92,8 +97,9 @@ pub fn every_step_is_a_move_under()
 
 /// Under safe rules claims, returns and forks are moves.
 pub fn every_start_is_a_move_under()
-    ensures { (rules : Rules) → AreSafe rules → (ss : List (ℕ × Move)) (w : World)
-        → Leads (opening_under rules) ss w → StartsMove w }
+    ensures { (version : ImageVersion) (rules : Rules) → AreSafe rules
+        → (ss : List (ℕ × Move)) (w : World)
+        → Leads (opening_under version rules) ss w → StartsMove w }
 {}
 
 /// Under the other rules a wake is lost, by one kill. Where an exit wakes at unowned words alone, so does a release that

@@ -1,6 +1,5 @@
 -- The internal action that a process can take next: one that no other process sees.
 use Rattle.std.specs.Prelude.{ℕ, ◌≡◌, Option, Some, None, nat_le, if◌then◌else◌}
-use Rattle.words.specs.Limits.{most_threads}
 use Rattle.program.specs.Trees.{Program}
 use Rattle.meaning.specs.Labels.{Kind, Label, FindsFull, FindsClaimed, kind_of}
 use Rattle.meaning.specs.Offers.{Offer, Does, MakesOne, ClaimsOne, offer}
@@ -18,7 +17,7 @@ if_internal label = if is_internal label then Some (kind_of label) else None
 -- fault
 abbrev pub internal_kind : Offer → Table → Option Kind
 internal_kind (Does label effect after) T = if_internal label
-internal_kind (MakesOne child after full) T = if nat_le most_threads T.made then Some (kind_of FindsFull) else None
+internal_kind (MakesOne child after full) T = if nat_le T.most T.made then Some (kind_of FindsFull) else None
 internal_kind (ClaimsOne child after refused) T = if T.claimed child then Some (kind_of (FindsClaimed child)) else None
 internal_kind other T = None
 

@@ -5,6 +5,7 @@ use Rattle.std.specs.BTreeMap as map
 use Rattle.std.specs.BTreeMap.{BTreeMap}
 use Rattle.std.specs.BTreeSet as set
 use Rattle.std.specs.BTreeSet.{BTreeSet}
+use Rattle.words.specs.Versions.{most_of}
 use Rattle.program.specs.declared.kinds.Member.{Member}
 use Rattle.meaning.specs.Labels.{End}
 use Rattle.meaning.specs.Table.{Hold, Free, Abandoned, HeldBy, Table}
@@ -45,6 +46,7 @@ over_in over p = option_map end_of (map.get nat_cmp over p)
 -- the table
 abbrev pub table_of : TableOf → Table
 table_of t = record {
+  most = most_of t.version;
   hold = holds_in t.holds;
   waits = waits_in t.waits;
   claimed = claimed_in t.claimed;

@@ -36,7 +36,7 @@ procedure u q = record {
 
 -- the program of a unit
 abbrev pub resolved : UnitTree → Program
-resolved u = record { monitors = monitors_from u 0 u.monitors; procedures = map (procedure u) (pieces u) }
+resolved u = record { version = One; monitors = monitors_from u 0 u.monitors; procedures = map (procedure u) (pieces u) }
 
 -- what the things of a unit are called
 abbrev pub naming : UnitTree → Naming
