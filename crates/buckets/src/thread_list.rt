@@ -3,10 +3,9 @@ ghost use Rattle.std.specs.Prelude.{◌≡◌, ◌<◌, ◌≤◌, ◌==◌, [],
 use smallvec::SmallVec;
 use std::alloc::Global;
 use std::marker::Model;
-use words::MOST_THREADS;
 
 /// The most threads that buckets can be made for.
-pub const MOST_THREADS: usize = MOST_THREADS as usize;
+pub const MOST_THREADS: usize = words::MOST_THREADS as usize;
 
 /// A list of threads by their numbers, with room for all threads in the value itself: it never takes memory.
 /// Contracts see the list of the numbers.
