@@ -4,6 +4,8 @@ use Rattle.std.proofs.Common.{List, [], ◌∷◌, length, ◌⊎◌, inl, inr, 
 use Rattle.std.proofs.lemmas.Bool.{cond-false, cases_eq, false≢true, eq-eqb, ne_eqb, or_left, or_right, cond-true}
 use Rattle.program.specs.declared.kinds.Member.{Member}
 use Rattle.meaning.specs.Labels.{Killed, End, Aborted, Notifies, Broadcasts}
+use Rattle.words.specs.declared.version.ImageVersion.{ImageVersion}
+use Rattle.words.specs.Versions.{most_of}
 use Rattle.meaning.specs.Table.{HeldBy, Table, first_table}
 use Rattle.protocol.specs.Word.{owner, waiters}
 use Rattle.protocol.specs.Points.{ToExit, ToWait, Entry, NoEntry, Owned, Unowned, Point, Unmade, EnterPends}
@@ -817,12 +819,12 @@ covers rules w T t (LastWakes end) r w' same inv pos high a s d = record {
 }
 covers rules w T t p r w' same inv pos high a s d = absurd d
 
-pub every_step_under : (rules : Rules) → AreSafe rules → (ss : List (ℕ × Move)) (w : World)
-    → Leads (opening_under rules) ss w → (t : ℕ) (p : Point) (r : ℕ) (w' : World) → 0 < t → t ≤ w.made
+pub every_step_under : (version : ImageVersion) (rules : Rules) → AreSafe rules → (ss : List (ℕ × Move)) (w : World)
+    → Leads (opening_under version rules) ss w → (t : ℕ) (p : Point) (r : ℕ) (w' : World) → 0 < t → t ≤ w.made
     → w.asleep t ≡ None → (w.at t).point ≡ p → ServesUnder rules w t p (request_under t p) r w' → IsMoveUnder rules w t p r w'
-every_step_under rules safe ss w run t p r w' pos high a s d =
-    covers rules w (last_table (opening_under rules) first_table ss) t p r w' (rules_kept ss (opening_under rules) w run)
-    (good_under rules safe ss w run) pos high a s d
+every_step_under version rules safe ss w run t p r w' pos high a s d =
+    covers rules w (last_table (opening_under version rules) (first_table (most_of version)) ss) t p r w'
+    (rules_kept ss (opening_under version rules) w run) (good_under version rules safe ss w run) pos high a s d
 
 -- at the points of this machine's rules the two say the same
 served_plainly : (w : World) (t : ℕ) (p : Point) (r : ℕ) (w' : World) → Serves w t p (request t p) r w'
@@ -850,8 +852,8 @@ moves_plainly w t p r w' d h = record {
   carries = h.carries;
 }
 
-pub every_step_is_a_move : (ss : List (ℕ × Move)) (w : World) → Leads opening_world ss w
+pub every_step_is_a_move : (version : ImageVersion) (ss : List (ℕ × Move)) (w : World) → Leads (opening_world version) ss w
     → (t : ℕ) (p : Point) (r : ℕ) (w' : World) → 0 < t → t ≤ w.made → w.asleep t ≡ None → (w.at t).point ≡ p
     → Serves w t p (request t p) r w' → IsMove w t p r w'
-every_step_is_a_move ss w run t p r w' pos high a s d = moves_plainly w t p r w' d
-    (every_step_under standard_rules (inl refl) ss w run t p r w' pos high a s (served_plainly w t p r w' d))
+every_step_is_a_move version ss w run t p r w' pos high a s d = moves_plainly w t p r w' d
+    (every_step_under version standard_rules (inl refl) ss w run t p r w' pos high a s (served_plainly w t p r w' d))

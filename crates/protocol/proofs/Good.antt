@@ -33,11 +33,12 @@ pub record Good (w : World) (T : Table) : Type 0 where
   pub marked_locks : Marks w.lock w.at
   pub conds : Conds w.sequence w.asleep w.at T.waits
   pub joiners : Joiners w.id w.claim w.asleep w.at
-  pub threads : Threads w.made w.at
+  pub threads : Threads w.most w.made w.at
   pub ends : Ends w.outcome w.result w.at T.over
   pub claims : (q : ℕ) → ClaimIs (T.claimed q) (w.claim q)
   pub refusals : Refusals T.claimed w.at
   pub made : T.made ≡ w.made
+  pub most : T.most ≡ w.most
   -- by rules that lose no wake
   pub safe_rules : AreSafe w.rules
   pub styles : Styles w.rules.release w.at
@@ -140,7 +141,7 @@ mine_of w t m can e h = subst (λ y. holds y e ≡ true) (sym (stands_at w t m c
 
 -- a thread's number is below the owner's limit
 pub small : (w : World) (T : Table) (t : ℕ) → Good w T → t ≤ w.made → t < 1073741824
-small w T t inv h = omega (arith, inv.threads.few, h)
+small w T t inv h = omega (arith, inv.threads.few, inv.threads.bound, h)
 
 -- who sleeps on a condition stands before its monitor's lock
 stands_before : (p : Thread) (c : Member) (m : ℕ) → p.point ≡ TakeReads m (ToResume c) → may_sleep p m ≡ true

@@ -4,6 +4,9 @@ use Rattle.std.proofs.Common.{◌∷◌}
 use Rattle.std.proofs.Common.{inl, inr, refl, sym, ap, ◌∙◌, subst, arith}
 use Rattle.std.proofs.lemmas.Bool.{cases_eq, false≢true, eq-eqb, ne_eqb, or_left, or_right, cond-true}
 use Rattle.words.specs.Updates.{put}
+use Rattle.words.specs.declared.version.ImageVersion.{ImageVersion}
+use Rattle.words.specs.Versions.{most_of}
+use Rattle.words.proofs.Versions.{most_few, most_some}
 use Rattle.program.specs.declared.kinds.Member.{Member}
 use Rattle.meaning.specs.Labels.{Label, Alone, Stores, Waits}
 use Rattle.meaning.specs.Table.{Hold, Free, Abandoned, HeldBy, Table, first_table, Allows, IsNotified, IsBroadcast}
@@ -41,7 +44,7 @@ use Rattle.protocol.specs.Moves.{KeepWake, KeepAlone}
 use Rattle.protocol.proofs.KeptLocks.{kept_locks}
 use Rattle.protocol.proofs.KeptLists.{kept_chains, kept_pends, kept_homes, kept_fresh, kept_marks}
 use Rattle.protocol.proofs.KeptConds.{kept_conds, waiter_made, resuming}
-use Rattle.protocol.proofs.KeptEnds.{kept_joins, kept_threads, kept_ends, kept_claims, kept_refusals, kept_made}
+use Rattle.protocol.proofs.KeptEnds.{kept_joins, kept_threads, kept_ends, kept_claims, kept_refusals, kept_made, kept_most}
 use Rattle.protocol.proofs.KeptEnds.{claim_free, refused_claim, over_at}
 use Rattle.protocol.proofs.Good.{Good, known_at, chain_at, mine_at, head_in}
 
@@ -60,6 +63,7 @@ kept w T t m inv can = record {
   claims = kept_claims w T t m inv can;
   refusals = kept_refusals w T t m inv can;
   made = kept_made w T t m inv can;
+  most = kept_most w T t m inv can;
   safe_rules = kept_rules w T t m inv can;
   styles = kept_styles w T t m inv can;
   bits = kept_bits w T t m inv can;
@@ -227,8 +231,8 @@ permitted w T t (EntryWake e x end woken) inv can = (
 permitted w T t (PendAlone e end) inv can = (refl, holds_pending w T t e (PendAlone e end) inv can refl)
 permitted w T t (PendWake e end woken) inv can = (refl, holds_pending w T t e (PendWake e end woken) inv can refl)
 permitted w T t (ClearId end) inv can = (refl, tt)
-permitted w T t (Fork parent) inv can = ((rw inv.made can.finds.1, omega (arith, can.finds.0, inv.made), refl), tt)
-permitted w T t ForkFull inv can = ((rw inv.made can.finds, refl), tt)
+permitted w T t (Fork parent) inv can = ((rw inv.made (rw inv.most can.finds.1), omega (arith, can.finds.0, inv.made), refl), tt)
+permitted w T t ForkFull inv can = ((rw inv.made (rw inv.most can.finds), refl), tt)
 permitted w T t (Claim q) inv can = ((claim_free w T q inv can.finds.2, refl), tt)
 permitted w T t (ClaimTaken q) inv can = ((refused_claim w T t q inv can.stands, refl), tt)
 permitted w T t (IdGone q end) inv can = ((over_at w T q end inv can.finds.1, refl), tt)
@@ -255,9 +259,10 @@ opening_number t = elim (cases_eq t 1) [
       []).point ≡ true) (ne_eqb t 1 n) h))
 ]
 
-pub good_start : (rules : Rules) → AreSafe rules → Good (opening_under rules) first_table
+pub good_start : (version : ImageVersion) (rules : Rules) → AreSafe rules
+    → Good (opening_under version rules) (first_table (most_of version))
 unfolding holds helps may_sleep Knows stage joins goes is_made
-good_start rules safe = record {
+good_start version rules safe = record {
   locks = record {
     tie = λ e. tie_of_free 0 (owner-small 0 (omega arith)) (died-small 0 (omega arith));
     owned = λ e t h. absurd cc;
@@ -291,7 +296,7 @@ good_start rules safe = record {
         (λ h k. absurd cc) (λ h k. absurd cc) n;
   };
   joiners = record {
-    claimed = λ u q. opening_case (λ y. joins y q ≡ true → ((opening_under rules).claim q ≡ 1) × (0 < q))
+    claimed = λ u q. opening_case (λ y. joins y q ≡ true → ((opening_under version rules).claim q ≡ 1) × (0 < q))
         (λ h. absurd (false≢true h)) (λ h. absurd (false≢true h)) u;
     one = λ u v q. opening_case
         (λ y. joins y q ≡ true → joins (opening_thread v) q ≡ true → u ≡ v) (λ h k. absurd (false≢true h))
@@ -301,7 +306,8 @@ good_start rules safe = record {
     unended = λ u q h. absurd cc;
   };
   threads = record {
-    few = omega arith;
+    few = omega (arith, most_some version);
+    bound = most_few version;
     exist = λ t a b. let e : t ≡ 1 = omega (arith, a, b)
         in subst (λ y. is_made (opening_thread y) ≡ true) (sym e) refl;
     number = λ t. opening_number t;
@@ -317,6 +323,7 @@ good_start rules safe = record {
   claims = λ q. refl;
   refusals = record { refused = λ t. opening_case (λ y. RefusedAt (λ q. false) y.point) tt tt t };
   made = refl;
+  most = refl;
   safe_rules = safe;
   styles = record { style = λ t. opening_case (λ y. StyleAt rules.release y.point) tt tt t };
   bits = record { bit = λ k e u h. absurd cc };

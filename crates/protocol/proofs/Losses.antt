@@ -3,6 +3,7 @@ use Rattle.std.proofs.Common.{◌≡◌, ◌≢◌, ℕ, ◌<◌, ◌≤◌, Boo
 use Rattle.std.proofs.Common.{refl, sym, ap, ◌∙◌, subst, arith, if◌then◌else◌}
 use Rattle.std.proofs.lemmas.Bool.{false≢true, cases_eq, ne_eqb, ltb-true, and_parts}
 use Rattle.words.specs.Updates.{put}
+use Rattle.words.specs.declared.version.ImageVersion.TheVariants.{One}
 use Rattle.meaning.specs.Table.{Free, Table, enterable, first_table}
 use Rattle.meaning.specs.Labels.{Enters}
 use Rattle.protocol.specs.Word.{owner, waiters, with_waiters}
@@ -87,19 +88,19 @@ unmade u h g = subst (λ b. Goes (if b then thread_at Runs [] else thread_at Unm
 
 -- three threads were made; of each it is known that it can't move
 still : (rules : Rules) (ss : List (ℕ × Move)) → all_below 4 ss ≡ true
-    → (CanStep (world_after (opening_under rules) ss) 0 → ⊥) → (CanStep (world_after (opening_under rules) ss) 1 → ⊥)
-    → (CanStep (world_after (opening_under rules) ss) 2 → ⊥) → (CanStep (world_after (opening_under rules) ss) 3 → ⊥)
-    → (t : ℕ) → CanStep (world_after (opening_under rules) ss) t → ⊥
+    → (CanStep (world_after (opening_under One rules) ss) 0 → ⊥) → (CanStep (world_after (opening_under One rules) ss) 1 → ⊥)
+    → (CanStep (world_after (opening_under One rules) ss) 2 → ⊥) → (CanStep (world_after (opening_under One rules) ss) 3 → ⊥)
+    → (t : ℕ) → CanStep (world_after (opening_under One rules) ss) t → ⊥
 still rules ss below none one two three t h = elim (cases_eq t 0) [
-  | inl q ↦ none (subst (CanStep (world_after (opening_under rules) ss)) q h)
+  | inl q ↦ none (subst (CanStep (world_after (opening_under One rules) ss)) q h)
   | inr a ↦ elim (cases_eq t 1) [
-    | inl q ↦ one (subst (CanStep (world_after (opening_under rules) ss)) q h)
+    | inl q ↦ one (subst (CanStep (world_after (opening_under One rules) ss)) q h)
     | inr b ↦ elim (cases_eq t 2) [
-      | inl q ↦ two (subst (CanStep (world_after (opening_under rules) ss)) q h)
+      | inl q ↦ two (subst (CanStep (world_after (opening_under One rules) ss)) q h)
       | inr c ↦ elim (cases_eq t 3) [
-        | inl q ↦ three (subst (CanStep (world_after (opening_under rules) ss)) q h)
+        | inl q ↦ three (subst (CanStep (world_after (opening_under One rules) ss)) q h)
         | inr d ↦ unmade t (omega (arith, a, b, c, d)) (subst (λ (y : Thread). Goes y.point)
-            (untouched ss (opening_under rules) 4 t below (omega (arith, a, b, c, d))) h.1)
+            (untouched ss (opening_under One rules) 4 t below (omega (arith, a, b, c, d))) h.1)
       ]
     ]
   ]
@@ -124,7 +125,7 @@ Cleared = rules_of WakesUnowned ClearsWord
 abbrev Tidied : Rules
 Tidied = rules_of WakesUnowned TidiesWaiters
 
-cleared_made : AreMade (opening_under Cleared) first_table cleared_run
+cleared_made : AreMade (opening_under One Cleared) (first_table 64) cleared_run
 cleared_made =
     made tt refl refl (refl, omega arith, refl, refl) ((omega arith, refl, refl), tt)
     then made tt refl refl (refl, omega arith, refl, refl) ((omega arith, refl, refl), tt)
@@ -170,7 +171,7 @@ cleared_made =
     then made number_one refl refl (none_asleep _ _ _ (λ u h. waits_for_lock u 1 h)) refl
     then tt
 
-tidied_made : AreMade (opening_under Tidied) first_table tidied_run
+tidied_made : AreMade (opening_under One Tidied) (first_table 64) tidied_run
 tidied_made =
     made tt refl refl (refl, omega arith, refl, refl) ((omega arith, refl, refl), tt)
     then made tt refl refl (refl, omega arith, refl, refl) ((omega arith, refl, refl), tt)
@@ -254,8 +255,8 @@ tidied_made =
 
 pub cleared_loses : LosesWake Cleared cleared_run
 cleared_loses = record {
-  leads = all_lead (opening_under Cleared) first_table cleared_run cleared_made;
-  permits = all_permitted (opening_under Cleared) first_table cleared_run cleared_made;
+  leads = all_lead (opening_under One Cleared) (first_table 64) cleared_run cleared_made;
+  permits = all_permitted (opening_under One Cleared) (first_table 64) cleared_run cleared_made;
   lost = record {
     at_rest = still Cleared cleared_run refl (λ h. h.1) (λ h. h.1) (λ h. h.1) (λ h. let z = h.0 in absurd cc);
     sleeper = 3;
@@ -270,8 +271,8 @@ cleared_loses = record {
 
 pub tidied_loses : LosesWake Tidied tidied_run
 tidied_loses = record {
-  leads = all_lead (opening_under Tidied) first_table tidied_run tidied_made;
-  permits = all_permitted (opening_under Tidied) first_table tidied_run tidied_made;
+  leads = all_lead (opening_under One Tidied) (first_table 64) tidied_run tidied_made;
+  permits = all_permitted (opening_under One Tidied) (first_table 64) tidied_run tidied_made;
   lost = record {
     at_rest = still Tidied tidied_run refl (λ h. h.1) (λ h. h.1) (λ h. h.1) (λ h. let z = h.0 in absurd cc);
     sleeper = 3;

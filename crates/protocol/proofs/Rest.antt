@@ -2,6 +2,8 @@
 use Rattle.std.proofs.Common.{◌≡◌, ℕ, suc, Bool, true, false, ◌==◌, ◌||◌, Option, Some, None, List, [], ◌∷◌, ◌⊎◌, inl}
 use Rattle.std.proofs.Common.{inr, refl, sym, ap, ◌∙◌, subst, arith, ◌≤◌, ◌+◌}
 use Rattle.std.proofs.lemmas.Bool.{false≢true, eq-eqb, eqb-true, or_left, or_right, cases_Bool}
+use Rattle.words.specs.declared.version.ImageVersion.{ImageVersion}
+use Rattle.words.specs.Versions.{most_of}
 use Rattle.meaning.specs.Labels.{End, Label, Joins, Enters, Resumes}
 use Rattle.meaning.specs.Table.{Hold, Free, Abandoned, HeldBy, Table, first_table, Allows}
 use Rattle.protocol.specs.Word.{owner, owner_died_bit}
@@ -101,6 +103,7 @@ matches w T inv = record {
   waiter = λ t c h. waiter_made w T t c inv h;
   claimed = inv.claims;
   made = inv.made;
+  most = inv.most;
   over = λ q e h. let k = inv.ends.past q e h in (
     k,
     over_tells (w.at q).point e (w.outcome q) (w.result q) k
@@ -222,13 +225,15 @@ loses_none w T inv = record {
   ];
 }
 
-pub good_under : (rules : Rules) → AreSafe rules → (ss : List (ℕ × Move)) (w : World) → Leads (opening_under rules) ss w
-    → Good w (last_table (opening_under rules) first_table ss)
-good_under rules safe ss w run = (run_kept ss (opening_under rules) w first_table (good_start rules safe) run).1
+pub good_under : (version : ImageVersion) (rules : Rules) → AreSafe rules → (ss : List (ℕ × Move)) (w : World)
+    → Leads (opening_under version rules) ss w
+    → Good w (last_table (opening_under version rules) (first_table (most_of version)) ss)
+good_under version rules safe ss w run = (run_kept ss (opening_under version rules) w (first_table (most_of version))
+    (good_start version rules safe) run).1
 
-pub good_run : (ss : List (ℕ × Move)) (w : World) → Leads opening_world ss w
-    → Good w (last_table opening_world first_table ss)
-good_run ss w run = good_under standard_rules (inl refl) ss w run
+pub good_run : (version : ImageVersion) (ss : List (ℕ × Move)) (w : World) → Leads (opening_world version) ss w
+    → Good w (last_table (opening_world version) (first_table (most_of version)) ss)
+good_run version ss w run = good_under version standard_rules (inl refl) ss w run
 
 pub rules_kept : (ss : List (ℕ × Move)) (w w' : World) → Leads w ss w' → w'.rules ≡ w.rules
 rules_kept [] w w' run = ap (λ x. x.rules) run
@@ -250,18 +255,20 @@ all_raised : (ss : List (ℕ × Move)) (w w' : World) (d : Member) → Leads w s
 all_raised [] w w' d run = let e : w'.sequence d ≡ w.sequence d = ap (λ x. x.sequence d) run in omega (arith, e)
 all_raised (s ∷ ss) w w' d run = omega (arith, raised w s.0 s.1 d, all_raised ss (after w s.0 s.1) w' d run.1)
 
-pub safe_no_wake_lost : (rules : Rules) → AreSafe rules → (ss : List (ℕ × Move)) (w : World)
-    → Leads (opening_under rules) ss w → IsExplainedUnder rules ss w
-safe_no_wake_lost rules safe ss w run =
-    let k = run_kept ss (opening_under rules) w first_table (good_start rules safe) run in
+pub safe_no_wake_lost : (version : ImageVersion) (rules : Rules) → AreSafe rules → (ss : List (ℕ × Move)) (w : World)
+    → Leads (opening_under version rules) ss w → IsExplainedUnder version rules ss w
+safe_no_wake_lost version rules safe ss w run =
+    let k = run_kept ss (opening_under version rules) w (first_table (most_of version)) (good_start version rules safe)
+    run in
     record {
       permits = k.0;
-      matches = subst (λ (x : Rules). Matches x w (last_table (opening_under rules) first_table ss))
-          (rules_kept ss (opening_under rules) w run)
-          (matches w (last_table (opening_under rules) first_table ss) k.1);
-      waking = loses_none w (last_table (opening_under rules) first_table ss) k.1;
-      numbers = λ d. omega (arith, all_raised ss (opening_under rules) w d run);
+      matches = subst (λ (x : Rules). Matches x w (last_table (opening_under version rules) (first_table (most_of version)) ss))
+          (rules_kept ss (opening_under version rules) w run)
+          (matches w (last_table (opening_under version rules) (first_table (most_of version)) ss) k.1);
+      waking = loses_none w (last_table (opening_under version rules) (first_table (most_of version)) ss) k.1;
+      numbers = λ d. omega (arith, all_raised ss (opening_under version rules) w d run);
     }
 
-pub no_wake_lost : (ss : List (ℕ × Move)) (w : World) → Leads opening_world ss w → IsExplainedByMoves ss w
-no_wake_lost ss w run = safe_no_wake_lost standard_rules (inl refl) ss w run
+pub no_wake_lost : (version : ImageVersion) (ss : List (ℕ × Move)) (w : World) → Leads (opening_world version) ss w
+    → IsExplainedByMoves version ss w
+no_wake_lost version ss w run = safe_no_wake_lost version standard_rules (inl refl) ss w run
