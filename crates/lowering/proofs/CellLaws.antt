@@ -3,8 +3,8 @@ use Rattle.std.proofs.Common.{◌≡◌, ◌<◌, ◌≤◌, ◌+◌, ◌⊎◌,
 use Rattle.std.specs.Prelude.{slice_get, slice_index}
 use Rattle.words.specs.declared.process.ProcessWord.{ProcessWord}
 use Rattle.words.specs.declared.process.ProcessWord.TheVariants.{Head, Pending, Id, Claim, Result, Outcome}
-use Rattle.words.specs.Limits.{monitors_base}
 use Rattle.words.specs.Process.{number_of}
+use Rattle.words.specs.Versions.{base_of}
 use Rattle.program.specs.declared.kinds.Member.{Member}
 use Rattle.program.specs.Trees.{Monitor, Program}
 use Rattle.program.specs.WellFormed.{words_of}
@@ -23,7 +23,7 @@ number_below Outcome = omega arith
 -- a member's address by its monitor's link word
 member_at : (p : Program) (m : Member) (x : Monitor) → slice_get p.monitors m.monitor ≡ Some x
     → member_address p m ≡ slice_index (addresses_from (link_word p m.monitor + 2) x.members) m.number
-member_at p m x e = ap (λ l. address_in l m.number) (there monitors_base p.monitors m.monitor x e)
+member_at p m x e = ap (λ l. address_in l m.number) (there (base_of p.version) p.monitors m.monitor x e)
 
 -- the words of a monitor, in its span
 data Inside (p : Program) : Cell → ℕ → Type 0 where
@@ -51,7 +51,7 @@ member_inside p m k h = let b = member_bounds p m k h in inside m.monitor h.0 h.
 lower_monitor : (p : Program) (c d : Cell) (m n : ℕ) → Inside p c m → Inside p d n → m < n → address p c ≡ address p d
     → ⊥
 lower_monitor p c d m n (inside m' x ex lx hx) (inside n' y ey ly hy) lt e =
-    let h = links_apart monitors_base p.monitors m n x y ex ey lt in omega (arith, h, lx, hx, ly, hy, e)
+    let h = links_apart (base_of p.version) p.monitors m n x y ex ey lt in omega (arith, h, lx, hx, ly, hy, e)
 
 compared : (m n : ℕ) → (m < n) ⊎ ((m ≡ n) ⊎ (n < m))
 compared zero zero = inr (inl refl)
@@ -72,10 +72,11 @@ same_monitor p c d m n hc hd e =
           [ inl same ↦ same | inr gt ↦ absurd (lower_monitor p d c n m hd hc gt (sym e)) ]
     ]
 
-above : (p : Program) (c : Cell) (m : ℕ) → Inside p c m → monitors_base ≤ address p c
-above p c m (inside m' x ex low high) = let h = link_above monitors_base p.monitors m x ex in omega (arith, h, low)
+above : (p : Program) (c : Cell) (m : ℕ) → Inside p c m → base_of p.version ≤ address p c
+above p c m (inside m' x ex low high) = let h = link_above (base_of p.version) p.monitors m x ex in omega (arith, h, low)
 
-below : (p : Program) (t : ℕ) (w : ProcessWord) → IsCell p (OfProcess t w) → address p (OfProcess t w) < monitors_base
+below : (p : Program) (t : ℕ) (w : ProcessWord) → IsCell p (OfProcess t w)
+    → address p (OfProcess t w) < base_of p.version
 below p t w h = let a = h.0 in let b = h.1 in let k = number_below w in omega arith
 
 pub cell_above : (p : Program) (c : Cell) → IsCell p c → 0 < address p c
