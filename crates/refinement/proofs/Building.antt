@@ -2,6 +2,7 @@
 use Rattle.std.proofs.Common.{◌≡◌, ℕ, zero, suc, ◌<◌, ◌≤◌, List, [], ◌∷◌, ◌-◌, Option, Some, None, slice_get, refl}
 use Rattle.std.proofs.Common.{subst, arith, Contains}
 use Rattle.std.proofs.lemmas.List.Elements.{Contains-append_left, Contains-append_right}
+use Rattle.words.proofs.Versions.{most_few}
 use Rattle.program.specs.declared.kinds.MemberType.TheVariants.{Array}
 use Rattle.program.specs.Trees.{Statement, Assign, If, While, Call, Fork, Join, Return, Wait, Notify, Broadcast, Print}
 use Rattle.program.specs.Trees.{Abort, Block, Done, Then, Part, NoPart, SomePart, Monitor, Procedure, Program}
@@ -83,7 +84,8 @@ arrays_low p w m n is =
     let all = size p in
     let monitors = w.monitors in
     let words = w.words in
-    (few.1, omega (arith, last, all, monitors, words, few.0))
+    let processes = most_few p.version in
+    (few.1, omega (arith, last, all, monitors, words, processes, few.0))
 
 pub is_build : (p : Program) (w : WellFormed p) (made : ℕ) → IsBuild (build_of p w made)
 is_build p w made = record {
