@@ -84,8 +84,8 @@ pub record Procedure : Type 0 where
 abbrev pub slots : Procedure → List ValueType
 slots q = q.parameters ++ q.locals
 
--- a program: the version of its image, its monitors, and its procedures by the numbers of their pieces: for each monitor its procedures in order,
--- then its RECOVER part; then the external procedures; then the main part
+-- a program: the version of its image, its monitors, and its procedures by the numbers of their pieces: for each
+-- monitor its procedures in order, then its RECOVER part; then the external procedures; then the main part
 pub record Program : Type 0 where
   pub version : ImageVersion
   pub monitors : List Monitor

@@ -1,5 +1,6 @@
 -- The program that a unit is resolved to. A name that means nothing is read as some thing of number 0.
 use Rattle.std.specs.Prelude.{ℕ, ◌+◌, List, [], ◌∷◌, Option, Some, None, map, option_map, length}
+use Rattle.words.specs.declared.version.ImageVersion.TheVariants.{One}
 use Rattle.program.specs.Trees.{Monitor, Procedure, Program}
 use Rattle.program.specs.Names.{Naming}
 use Rattle.syntax.specs.Tree.{RecoverTree, MonitorTree, UnitTree}
@@ -34,9 +35,13 @@ procedure u q = record {
   body = block (record { unit = u; piece = q }) q.body.statements;
 }
 
--- the program of a unit
+-- the program of a unit, whose image has the first version
 abbrev pub resolved : UnitTree → Program
-resolved u = record { version = One; monitors = monitors_from u 0 u.monitors; procedures = map (procedure u) (pieces u) }
+resolved u = record {
+  version = One;
+  monitors = monitors_from u 0 u.monitors;
+  procedures = map (procedure u) (pieces u);
+}
 
 -- what the things of a unit are called
 abbrev pub naming : UnitTree → Naming
