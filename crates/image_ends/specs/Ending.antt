@@ -1,0 +1,20 @@
+-- A machine at whose end all processes are over.
+use Rattle.std.specs.Prelude.{ℕ, ◌≡◌, List, Some}
+use Rattle.machine.specs.States.{State}
+use Rattle.program.specs.Trees.{Program}
+use Rattle.meaning.specs.Labels.{Action}
+use Rattle.meaning.specs.Processes.{Process}
+use Rattle.meaning.specs.Runs.{IsRun}
+use Rattle.meaning.specs.States.{SourceState}
+use Rattle.proof_exploration.specs.Exploring.{IsOver}
+use Rattle.refinement.specs.Seen.{machine_end, source_end}
+
+-- the machine has printed what a run of the program prints, and its threads have the ends of the run's processes, all of
+-- which are over
+pub record AllOver (p : Program) (s : State) : Type 0 where
+  pub actions : List Action
+  pub source : SourceState
+  pub run : IsRun p actions source
+  pub output : s.output ≡ source.printed
+  pub ends : (q : ℕ) → machine_end s q ≡ source_end source q
+  pub over : (q : ℕ) (at : Process) → source.process q ≡ Some at → IsOver at
