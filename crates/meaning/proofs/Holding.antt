@@ -3,6 +3,7 @@ use Rattle.std.proofs.Common.{◌≡◌, ◌⊎◌, ℕ, ◌+◌, ◌-◌, Bool,
 use Rattle.std.proofs.Common.{if◌then◌else◌, refl, sym, ap, ◌∙◌, inl, inr, subst, arith}
 use Rattle.std.proofs.lemmas.Bool.{cases_eq, eq-eqb, ne_eqb}
 use Rattle.words.specs.Updates.{put}
+use Rattle.words.specs.Versions.{most_of}
 use Rattle.program.specs.declared.kinds.Member.{Member}
 use Rattle.program.specs.Trees.{Program}
 use Rattle.program.specs.WellFormed.{WellFormed}
@@ -350,7 +351,7 @@ led_keeps p wf s s' (a ∷ actions) led numbered all =
     (step_keeps p wf s a led.0 led.1 numbered all)
 
 -- nobody holds anything at the beginning
-fresh : (p : Program) (q : ℕ) → Stands p first_table q None
+fresh : (p : Program) (q : ℕ) → Stands p (first_table (most_of p.version)) q None
 fresh p q = record {
   fits = tt;
   held = λ m i. absurd i;
@@ -360,7 +361,7 @@ fresh p q = record {
 
 opening_stands : (p : Program) → WellFormed p → AllStand p (opening p)
 opening_stands p wf q = elim (cases_eq q 1) [
-  | inl e ↦ rw (eq-eqb q 1 e) (made_one p first_table q (main_process p) main (fresh p q))
+  | inl e ↦ rw (eq-eqb q 1 e) (made_one p (first_table (most_of p.version)) q (main_process p) main (fresh p q))
   | inr ne ↦ rw (ne_eqb q 1 ne) (fresh p q)
 ]
   where
