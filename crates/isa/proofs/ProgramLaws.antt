@@ -5,6 +5,7 @@ use Rattle.std.specs.List.{AllByRecursion}
 use Rattle.std.specs.Prelude.{IfOk, MatchResult}
 use Rattle.std.proofs.lemmas.Bool.{eqb-true}
 use Rattle.std.proofs.lemmas.List.{append-nil, nil_from_length}
+use Rattle.words.specs.declared.version.ImageVersion.TheVariants.{One}
 use Rattle.isa.specs.Limits.{most_monitors, most_member_words, most_instructions}
 use Rattle.isa.specs.declared.fault.DecodeFault.{DecodeFault}
 use Rattle.isa.specs.declared.fault.DecodeFault.TheVariants.{BadMagic, Version, Short, BadInstr, BadTarget, Trailing}
@@ -36,6 +37,7 @@ nothing_left bytes text rest parts none = sym (parts ∙ ap (λ (left : List ℕ
 
 -- what was read, but for the start and the targets
 record IsShort (p : Program) : Type 0 where
+  first : p.version ≡ One
   few_monitors : length p.monitors ≤ most_monitors
   few_members : sum p.monitors ≤ most_member_words
   short : length p.code ≤ most_instructions
@@ -71,6 +73,7 @@ image_takes bytes x fits e =
     let few = monitors_bound b.0 m.0 m.1 in
     is_read bytes (record { version = One; monitors = m.0.0; start = s.0.0; code = i.0.0 }, i.0.1) x i.2 to4
     (record {
+      first = refl;
       few_monitors = few.0;
       few_members = few.1;
       short = code_bound s.0.1 i.0 i.1;
@@ -101,7 +104,7 @@ program_takes bytes p fits e =
       targets = inside.1;
     } in
     subst (λ (q : Program). IsSpelled q × (spelling q ≡ bytes)) last.2
-    (record { within = within; words = t.1.words }, whole)
+    (record { first = t.1.first; within = within; words = t.1.words }, whole)
 
 pub image_again : (p : Program) (rest : List ℕ) → IsSpelled p → image_at (spelling p ++ rest) ≡ Ok (p, rest)
 unfolding image_at
@@ -124,7 +127,7 @@ image_again p rest is =
       monitors,
       start,
       code,
-    ) refl
+    ) (ap (λ v. Ok (record { version = v; monitors = p.monitors; start = p.start; code = p.code }, rest)) (sym is.first))
 
 pub program_again : (p : Program) → IsSpelled p → program_of (spelling p) ≡ Ok p
 unfolding program_of

@@ -1,7 +1,6 @@
 ghost use Rattle.std.specs.Prelude.{◌≡◌, ◌<◌, slice_get, IfSome, IfOk, length, OnSome};
 ghost use Rattle.std.specs.List.{AllByRecursion};
 ghost use Rattle.words.specs.declared.version.ImageVersion.TheVariants.{One};
-ghost use Rattle.words.specs.Versions.{most_of};
 ghost use Rattle.isa.specs.Instructions.{operands, IsInstruction, LeadsBelow};
 ghost use Rattle.isa.specs.Spelling.{AreWords, IsSpelled};
 ghost use Rattle.isa.specs.Limits.{most_instructions};
@@ -79,8 +78,10 @@ impl Image {
     /// it in the program, and that it is the first.
     pub fn version(&self) -> ImageVersion
         ensures value { result ≡ self.now.version }
-        ensures first { result ≡ ImageVersion::One }
+        ensures first { result ≡ One }
     {
+        // What always holds of an image is known where a field of it is used.
+        let _ = &self.monitors;
         ImageVersion::One
     }
 
