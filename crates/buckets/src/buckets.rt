@@ -9,11 +9,11 @@ ghost use Rattle.buckets.specs.BucketCount.{IsBucketCount};
 use crate::chain::{append, bucket_of, threads_on, unlink};
 use crate::node::{Chain, Node};
 use crate::sleeper::Sleeper;
-use crate::thread_list::{MOST_THREADS, ThreadList};
+use crate::thread_list::ThreadList;
 use slab::Slab;
 use std::alloc::{AllocError, Global};
 use std::marker::Model;
-use words::Addr;
+use words::{Addr, MOST_THREADS};
 
 /// The threads that sleep, in buckets: for each address a list of its sleepers, in the order in which they came to it.
 /// A thread stands in at most one list. Contracts read the list of an address by `queue`, and the address on which a

@@ -10,10 +10,10 @@ ghost use Rattle.buckets.specs.Chains.{node_at, row_of, IsChain, Once, IsFound, 
 
 use crate::node::{Chain, Node, NodeKey, Spot};
 use crate::sleeper::Sleeper;
-use crate::thread_list::{MOST_THREADS, ThreadList};
+use crate::thread_list::ThreadList;
 use slab::Slab;
 use std::alloc::Global;
-use words::Addr;
+use words::{Addr, MOST_THREADS};
 
 /// The bucket of an address, of `buckets` many.
 pub fn bucket_of(a: Addr, buckets: usize) -> usize

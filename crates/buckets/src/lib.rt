@@ -8,4 +8,4 @@ mod sleeper;
 mod thread_list;
 
 pub use buckets::Buckets;
-pub use thread_list::{MOST_THREADS, ThreadList};
+pub use thread_list::ThreadList;

@@ -3,15 +3,16 @@ ghost use Rattle.std.specs.Prelude.{◌≡◌, ◌<◌, ◌≤◌, ◌==◌, [],
 use smallvec::SmallVec;
 use std::alloc::Global;
 use std::marker::Model;
+use words::MOST_THREADS;
 
-/// The most threads that buckets can be made for.
-pub const MOST_THREADS: usize = words::MOST_THREADS as usize;
+// How many threads a list has room for.
+const ROOM: usize = MOST_THREADS as usize;
 
 /// A list of threads by their numbers, with room for all threads in the value itself: it never takes memory.
 /// Contracts see the list of the numbers.
 #[derive(Drop, Debug)]
 pub struct ThreadList {
-    threads: SmallVec<u32, MOST_THREADS>,
+    threads: SmallVec<u32, ROOM>,
 }
 
 impl Model for ThreadList {
