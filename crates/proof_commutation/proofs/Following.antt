@@ -1,10 +1,9 @@
 -- Each step of a run is possible in the state behind, where nothing waits of its process.
-use Rattle.std.proofs.Common.{◌≡◌, ◌≢◌, ℕ, ◌+◌, ◌≤◌, List, [], ◌∷◌, ◌++◌, Option, Some, None, refl, sym}
-use Rattle.std.proofs.Common.{ap, ◌∙◌, subst, arith, inl, inr, ◌⊎◌, true, Contains}
+use Rattle.std.proofs.Common.{◌≡◌, ◌≢◌, ℕ, ◌+◌, List, [], ◌∷◌, ◌++◌, Option, Some, None, refl, sym}
+use Rattle.std.proofs.Common.{ap, ◌∙◌, subst, arith, inl, inr, ◌⊎◌, Contains}
 use Rattle.std.proofs.lemmas.Bool.{cases_eq}
 use Rattle.words.specs.Updates.{put}
 use Rattle.program.specs.Trees.{Program}
-use Rattle.words.specs.Limits.{most_threads}
 use Rattle.program.specs.declared.kinds.Member.{Member}
 use Rattle.program.specs.WellFormed.{WellFormed}
 use Rattle.meaning.specs.Values.{Variables}
@@ -21,7 +20,7 @@ use Rattle.meaning.proofs.Holders.{held, holder, changes}
 use Rattle.proof_commutation.specs.Deferring.{LeadsDeferredAt, IsBehind}
 use Rattle.proof_commutation.proofs.Puts.{at_put2, put_other}
 use Rattle.proof_commutation.proofs.Waiting.{at_same}
-use Rattle.proof_commutation.proofs.Keeping.{Stays, at_still}
+use Rattle.proof_commutation.proofs.Keeping.{Stays, same_grows, at_still}
 use Rattle.proof_commutation.proofs.Behind.{act, made_next, goes_on}
 
 effect_keeps : (e : Effect) (f : ℕ → Option Process) (u n : ℕ)
@@ -70,13 +69,10 @@ pub no_zero : (p : Program) (s : SourceState) (actions : List Action) → Leads 
     → s.process 0 ≡ None
 no_zero p s actions led = zero_led p (opening p) s actions led refl
 
-stays_same : (u : ℕ) (v v' : Variables) (T T' : Table) → v' ≡ v → T'.hold ≡ T.hold → T'.made ≡ T.made
-    → T'.claimed ≡ T.claimed → Stays u v v' T T'
-stays_same u v v' T T' variables hold made claimed = record {
-  grows = record {
-    full = λ h. subst (λ n. most_threads ≤ n) (sym made) h;
-    claimed = λ child h. subst (λ f. f child ≡ true) (sym claimed) h;
-  };
+stays_same : (u : ℕ) (v v' : Variables) (T T' : Table) → v' ≡ v → T'.hold ≡ T.hold → T'.most ≡ T.most
+    → T'.made ≡ T.made → T'.claimed ≡ T.claimed → Stays u v v' T T'
+stays_same u v v' T T' variables hold most made claimed = record {
+  grows = same_grows T T' most made claimed;
   held = λ m h. subst (λ f. f m ≡ HeldBy u) (sym hold) h;
   same = λ m h n i. ap (λ x. x m n i) (sym variables);
 }
@@ -123,7 +119,8 @@ module _ (p : Program) (wf : WellFormed p) (actions : List Action) (c : SourceSt
           (sym x.processes)
           (at_still p u c.variable c'.variable c.table c'.table
           (stays_same u c.variable c'.variable c.table c'.table x.variables
-          (ap (λ T. T.hold) x.allows.1) (ap (λ T. T.made) x.allows.1) (ap (λ T. T.claimed) x.allows.1))
+          (ap (λ T. T.hold) x.allows.1) (ap (λ T. T.most) x.allows.1) (ap (λ T. T.made) x.allows.1)
+          (ap (λ T. T.claimed) x.allows.1))
           (deferred u) (a.process u) (c.process u) (b.processes u));
     },
   )
@@ -160,7 +157,8 @@ module _ (p : Program) (wf : WellFormed p) (actions : List Action) (c : SourceSt
           (λ e. subst (λ l. LeadsDeferredAt p u c'.variable c'.table l dying dying) (sym (ap deferred e ∙ empty)) refl)
           (λ o. at_still p u c.variable c'.variable c.table c'.table
           (stays_same u c.variable c'.variable c.table c'.table x.variables
-          (ap (λ T. T.hold) x.allows.1) (ap (λ T. T.made) x.allows.1) (ap (λ T. T.claimed) x.allows.1))
+          (ap (λ T. T.hold) x.allows.1) (ap (λ T. T.most) x.allows.1) (ap (λ T. T.made) x.allows.1)
+          (ap (λ T. T.claimed) x.allows.1))
           (deferred u) (a.process u) (c.process u) (b.processes u)));
     },
   )

@@ -2,7 +2,6 @@
 use Rattle.std.proofs.Common.{◌≡◌, ℕ, ◌+◌, ◌≤◌, true, List, [], ◌∷◌, Option, Some, None, refl, sym, ap}
 use Rattle.std.proofs.Common.{◌∙◌, subst, arith}
 use Rattle.std.proofs.lemmas.Bool.{false≢true}
-use Rattle.words.specs.Limits.{most_threads}
 use Rattle.program.specs.Trees.{Program}
 use Rattle.meaning.specs.Values.{Variables}
 use Rattle.meaning.specs.Labels.{Kind, Label, Alone, Stores, Forks, FindsFull, Claims, FindsClaimed, Joins, Enters}
@@ -14,39 +13,42 @@ use Rattle.proof_commutation.proofs.Puts.{at_put}
 
 -- the process table stays full, and what is claimed stays claimed
 pub record Grows (T T' : Table) : Type 0 where
-  pub full : most_threads ≤ T.made → most_threads ≤ T'.made
+  pub full : T.most ≤ T.made → T'.most ≤ T'.made
   pub claimed : (child : ℕ) → T.claimed child ≡ true → T'.claimed child ≡ true
 
-same_grows : (T T' : Table) → T'.made ≡ T.made → T'.claimed ≡ T.claimed → Grows T T'
-same_grows T T' made claimed = record {
-  full = λ h. subst (λ n. most_threads ≤ n) (sym made) h;
+pub same_grows : (T T' : Table) → T'.most ≡ T.most → T'.made ≡ T.made → T'.claimed ≡ T.claimed → Grows T T'
+same_grows T T' most made claimed = record {
+  full = λ h. subst (λ n. T'.most ≤ n) (sym made) (subst (λ n. n ≤ T.made) (sym most) h);
   claimed = λ child h. subst (λ f. f child ≡ true) (sym claimed) h;
 }
 
 pub grows : (t : ℕ) (label : Label) (T T' : Table) → Allows t label T T' → Grows T T'
 grows t (Forks child) T T' a = record {
-  full = λ h. subst (λ X. most_threads ≤ X.made) (sym a.2)
-      (let more : most_threads ≤ T.made + 1 = omega (arith, h) in more);
+  full = λ h. subst (λ X. X.most ≤ X.made) (sym a.2) (let more : T.most ≤ T.made + 1 = omega (arith, h) in more);
   claimed = λ other h. subst (λ X. X.claimed other ≡ true) (sym a.2) h;
 }
 grows t (Claims child) T T' a = record {
-  full = λ h. subst (λ X. most_threads ≤ X.made) (sym a.1) h;
+  full = λ h. subst (λ X. X.most ≤ X.made) (sym a.1) h;
   claimed = λ other h. subst (λ X. X.claimed other ≡ true) (sym a.1)
       (at_put T.claimed child true other (λ b. b ≡ true) (λ e. refl) (λ o. h));
 }
-grows t (Alone kind) T T' a = same_grows T T' (ap (λ X. X.made) a) (ap (λ X. X.claimed) a)
-grows t (Stores m) T T' a = same_grows T T' (ap (λ X. X.made) a) (ap (λ X. X.claimed) a)
-grows t FindsFull T T' a = same_grows T T' (ap (λ X. X.made) a.1) (ap (λ X. X.claimed) a.1)
-grows t (FindsClaimed child) T T' a = same_grows T T' (ap (λ X. X.made) a.1) (ap (λ X. X.claimed) a.1)
-grows t (Joins child end) T T' a = same_grows T T' (ap (λ X. X.made) a.1) (ap (λ X. X.claimed) a.1)
-grows t (Enters m w) T T' a = same_grows T T' (ap (λ X. X.made) a.1) (ap (λ X. X.claimed) a.1)
-grows t (Resumes m w) T T' a = same_grows T T' (ap (λ X. X.made) a.2) (ap (λ X. X.claimed) a.2)
-grows t (Exits m) T T' a = same_grows T T' (ap (λ X. X.made) a) (ap (λ X. X.claimed) a)
-grows t (Waits c) T T' a = same_grows T T' (ap (λ X. X.made) a) (ap (λ X. X.claimed) a)
-grows t (Notifies c resumed) T T' a = same_grows T T' (ap (λ X. X.made) a.1) (ap (λ X. X.claimed) a.1)
-grows t (Broadcasts c resumed) T T' a = same_grows T T' (ap (λ X. X.made) a.1) (ap (λ X. X.claimed) a.1)
-grows t (Abandons m) T T' a = same_grows T T' (ap (λ X. X.made) a) (ap (λ X. X.claimed) a)
-grows t (Ends end) T T' a = same_grows T T' (ap (λ X. X.made) a) (ap (λ X. X.claimed) a)
+grows t (Alone kind) T T' a = same_grows T T' (ap (λ X. X.most) a) (ap (λ X. X.made) a) (ap (λ X. X.claimed) a)
+grows t (Stores m) T T' a = same_grows T T' (ap (λ X. X.most) a) (ap (λ X. X.made) a) (ap (λ X. X.claimed) a)
+grows t FindsFull T T' a = same_grows T T' (ap (λ X. X.most) a.1) (ap (λ X. X.made) a.1) (ap (λ X. X.claimed) a.1)
+grows t (FindsClaimed child) T T' a =
+    same_grows T T' (ap (λ X. X.most) a.1) (ap (λ X. X.made) a.1) (ap (λ X. X.claimed) a.1)
+grows t (Joins child end) T T' a =
+    same_grows T T' (ap (λ X. X.most) a.1) (ap (λ X. X.made) a.1) (ap (λ X. X.claimed) a.1)
+grows t (Enters m w) T T' a = same_grows T T' (ap (λ X. X.most) a.1) (ap (λ X. X.made) a.1) (ap (λ X. X.claimed) a.1)
+grows t (Resumes m w) T T' a = same_grows T T' (ap (λ X. X.most) a.2) (ap (λ X. X.made) a.2) (ap (λ X. X.claimed) a.2)
+grows t (Exits m) T T' a = same_grows T T' (ap (λ X. X.most) a) (ap (λ X. X.made) a) (ap (λ X. X.claimed) a)
+grows t (Waits c) T T' a = same_grows T T' (ap (λ X. X.most) a) (ap (λ X. X.made) a) (ap (λ X. X.claimed) a)
+grows t (Notifies c resumed) T T' a =
+    same_grows T T' (ap (λ X. X.most) a.1) (ap (λ X. X.made) a.1) (ap (λ X. X.claimed) a.1)
+grows t (Broadcasts c resumed) T T' a =
+    same_grows T T' (ap (λ X. X.most) a.1) (ap (λ X. X.made) a.1) (ap (λ X. X.claimed) a.1)
+grows t (Abandons m) T T' a = same_grows T T' (ap (λ X. X.most) a) (ap (λ X. X.made) a) (ap (λ X. X.claimed) a)
+grows t (Ends end) T T' a = same_grows T T' (ap (λ X. X.most) a) (ap (λ X. X.made) a) (ap (λ X. X.claimed) a)
 
 internal_allowed : (u : ℕ) (label : Label) (T T' : Table) → is_internal label ≡ true → Grows T T' → Allows u label T T
     → Allows u label T' T'
