@@ -4,6 +4,7 @@ use Rattle.std.proofs.Common.{Option, Some, None, refl, ap, sym, ◌∙◌, subs
 use Rattle.std.proofs.lemmas.Bool.{eq-eqb, eqb-true, false≢true, or_left, or_right}
 use Rattle.words.specs.Updates.{put}
 use Rattle.words.specs.Signed.{word_of, signed_of}
+use Rattle.words.specs.Versions.{most_of}
 use Rattle.proof_thread.specs.Deferrals.{MarkedImage, mark_of, deferred_by_mark}
 use Rattle.locals.specs.Threads.{Thread}
 use Rattle.locals.specs.Looks.{Look, Goes, Asks, AskLoad, AskStore, AskPrint, look}
@@ -149,6 +150,7 @@ module _ (p : Program) (w : WellFormed p) (steps : ℕ) (s : State) (c : SourceS
         reached = k.reached;
         shares = k.shares;
         size = refl;
+        most = refl;
         made = k.made;
         more = omega arith;
         output = k.output;
@@ -179,7 +181,7 @@ module _ (p : Program) (w : WellFormed p) (steps : ℕ) (s : State) (c : SourceS
   module _ (number : (0 < t) × (t ≤ k.world.made)) (awake : k.world.asleep t ≡ None) (q : Process)
       (proc : c.process t ≡ Some q) (point : (k.world.at t).point ≡ Runs) (list : (k.world.at t).list ≡ holds q) where
     inv : Good k.world c.table
-    inv = reached_good k.world c.table k.reached
+    inv = reached_good p.version k.world c.table k.reached
 
     -- a thread on its way to what its process does next
     pub works_step : (x : Thread) (left : ℕ) → left ≤ most_steps b + template_steps
@@ -220,7 +222,7 @@ module _ (p : Program) (w : WellFormed p) (steps : ℕ) (s : State) (c : SourceS
     pub does : (mid : State) (label : Label) (effect : Effect) (y : Thread) (r : Process)
         → TakesUp (offer p c.variable q) label effect r → IsAlone (k.world.at t) label → IsOwn (kind_of label)
         → processes_after effect c.process ≡ c.process → holds r ≡ holds q → Stands b t y r → mid.size ≡ s.size
-        → mid.made ≡ s.made → mid.thread ≡ s.thread → mid.output ≡ printed_after effect c.printed
+        → mid.most ≡ s.most → mid.made ≡ s.made → mid.thread ≡ s.thread → mid.output ≡ printed_after effect c.printed
         → Shares (place p) (valid p) (shared_of mid) k.world
         → ((m : Member) (i : ℕ) → IsVariable p m i → mid.word (variable_address p m i)
         ≡ word_of (variables_after effect c.variable m.monitor m.number i))
@@ -230,7 +232,7 @@ module _ (p : Program) (w : WellFormed p) (steps : ℕ) (s : State) (c : SourceS
         → Places p (with_thread mid t y) t c (state_after c t effect r c.table) done deferral (stages k.world t) Works
         (kind_of label ∷ [])
         → s' ≡ with_thread mid t y → Next p w steps s' t done deferral pauses n c (stages k.world)
-    does mid label effect y r takes alone mine others kept stands size made thread output shares variables fit same
+    does mid label effect y r takes alone mine others kept stands size most made thread output shares variables fit same
         places
         e =
         let c' = state_after c t effect r c.table in
@@ -241,10 +243,11 @@ module _ (p : Program) (w : WellFormed p) (steps : ℕ) (s : State) (c : SourceS
         let w' = go_list k.world t Runs l in
         let can = own_move label alone in
         let m = moved p w steps s c k t (with_thread mid t y) c' y r Runs l w' (record {
-          reached = subst (λ (i : List ℕ). Reached (go_list k.world t Runs i) c.table) is
-              (reached_on k.world c.table t (Own label) k.reached can);
+          reached = subst (λ (i : List ℕ). Reached p.version (go_list k.world t Runs i) c.table) is
+              (reached_on p.version k.world c.table t (Own label) k.reached can);
           shares = shares_at (place p) (valid p) (shared_of mid) k.world _ k.world.made shares;
           size = size;
+          most = most;
           made = made ∙ k.made;
           more = omega arith;
           output = output;
@@ -296,8 +299,8 @@ module _ (p : Program) (w : WellFormed p) (steps : ℕ) (s : State) (c : SourceS
           subst (λ (l : Look). StepsSo p done deferral (mark_of (marks_of p) x) s t woken l s') h moves in
           let takes = takes_up (Alone kind) Nothing r o in
           does s (Alone kind) Nothing y r takes tt (own_kind kind mine) refl
-          (held_of (holds q) r (work.keeps (Alone kind) Nothing r tt takes)) stands refl refl refl k.output k.shares
-          k.variables k.fit (λ u m d i j e. refl)
+          (held_of (holds q) r (work.keeps (Alone kind) Nothing r tt takes)) stands refl refl refl refl k.output
+          k.shares k.variables k.fit (λ u m d i j e. refl)
           (waits _ _ (Alone kind) g.2 (g.3 ∙ mark) (ap stage_of point) (no_fault (mark_of
           (marks_of p) x) kind mark) proc
           (may_defer p w steps s c k t q r (Alone kind) list work.steady
@@ -312,14 +315,14 @@ module _ (p : Program) (w : WellFormed p) (steps : ℕ) (s : State) (c : SourceS
           let z = signed_of v in
           let takes = takes_up (Alone (L.Print z)) (Writes z) r o in
           does (record s { output = s.output ++ z ∷ [] }) (Alone (L.Print z)) (Writes z) (go g.0) r takes tt tt refl
-          (held_of (holds q) r (work.keeps (Alone (L.Print z)) (Writes z) r tt takes)) (stands g.0) refl refl refl
+          (held_of (holds q) r (work.keeps (Alone (L.Print z)) (Writes z) r tt takes)) (stands g.0) refl refl refl refl
           (ap (λ (zs : List ℤ). zs ++ z ∷ []) k.output) k.shares k.variables k.fit (λ u m d i j e. refl)
           (acts _ _ (Alone (L.Print z)) (Writes z) c.table g.4 refl refl proc takes refl tt
           (λ m j i other. refl) tt refl)
           (g.3 ∙ ap (λ (m : State). with_thread m t (go g.0)) g.2.1.1)
 
       module _ (m : Member) (i : ℕ) (z : ℤ) (first : HasFirst q m.monitor) (is : IsVariable p m i)
-          (fits : ValueFits k.world.made (member_type p m) z) where
+          (fits : ValueFits (most_of p.version) k.world.made (member_type p m) z) where
         abbrev changed : Variables
         changed = with_variable c.variable m.monitor m.number i z
 
@@ -355,9 +358,11 @@ module _ (p : Program) (w : WellFormed p) (steps : ℕ) (s : State) (c : SourceS
             same_address a e f = λ h. variable_address p (record { monitor = a h; number = e h }) (f h)
 
         stored_fit : (d : ℕ) → VariablesFit k.world.made p d changed
-        stored_fit d e j home there = variable_at (λ (v : ℤ). ValueFits k.world.made (member_type p e) v) c.variable
+        stored_fit d e j home there = variable_at
+            (λ (v : ℤ). ValueFits (most_of p.version) k.world.made (member_type p e) v) c.variable
             m.monitor m.number i z d e.number j
-            (λ a f g. subst (λ (h : Member). ValueFits k.world.made (member_type p h) z) (sym (same_member a f)) fits)
+            (λ a f g. subst (λ (h : Member). ValueFits (most_of p.version) k.world.made (member_type p h) z)
+            (sym (same_member a f)) fits)
             (λ no. k.fit d e j home there)
           where
             same_member : d ≡ m.monitor → e.number ≡ m.number → e ≡ m
@@ -384,7 +389,8 @@ module _ (p : Program) (w : WellFormed p) (steps : ℕ) (s : State) (c : SourceS
             let mine = holder p w steps s c k t m.monitor listed in
             let takes = takes_up (Stores m.monitor) effect r o in
             does (with_word s a (word_of z)) (Stores m.monitor) effect (go g.0) r takes listed tt refl
-            (held_of (holds q) r (work.keeps (Stores m.monitor) effect r tt takes)) (stands g.0) refl refl refl k.output
+            (held_of (holds q) r (work.keeps (Stores m.monitor) effect r tt takes)) (stands g.0) refl refl refl refl
+            k.output
             stored_shares stored_words stored_fit stored_same
             (acts _ _ (Stores m.monitor) effect c.table (g.4 ∙ variable_stored p m i
             (word_of z) g.0 is) refl refl proc takes refl

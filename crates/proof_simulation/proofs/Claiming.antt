@@ -6,6 +6,7 @@ use Rattle.std.proofs.lemmas.Bool.{cases_eq, ne_eqb}
 use Rattle.words.specs.Updates.{put}
 use Rattle.words.specs.Process.{process_word}
 use Rattle.words.specs.declared.outcome.Fault.TheVariants.{HandleNotJoinable}
+use Rattle.words.specs.Versions.{most_of}
 use Rattle.locals.specs.Threads.{Thread, Dies as Dies'}
 use Rattle.locals.specs.Looks.{Look, Asks, AskSwap, look}
 use Rattle.machine.specs.States.{State, with_thread, with_word}
@@ -50,13 +51,14 @@ use Rattle.proof_thread.specs.Deferrals.{mark_of}
 module _ (p : Program) (w : WellFormed p) (steps : ℕ) (s : State) (c : SourceState) (k : Corresponds p w steps s c)
     (t : ℕ) (woken : List ℕ) (done : Bool) (deferral : Option Kind) (pauses : Bool) (s' : State) (n : ℕ) (number :
     (0 < t) × (t ≤ k.world.made))
-    (few : k.world.made ≤ 64) (awake : k.world.asleep t ≡ None) (q : Process) (proc : c.process t ≡ Some q)
+    (few : k.world.made ≤ most_of p.version) (awake : k.world.asleep t ≡ None) (q : Process)
+    (proc : c.process t ≡ Some q)
     (point : (k.world.at t).point ≡ Runs) (list : (k.world.at t).list ≡ holds q) where
   abbrev b : Build
   b = build_of p w k.world.made
 
   inv : Good k.world c.table
-  inv = reached_good k.world c.table k.reached
+  inv = reached_good p.version k.world c.table k.reached
 
   -- a move to another point, over these words, with these actions
   reaches : (move : Move) (f : ℕ → Option Process) (kinds : List Kind) (mid : State) (w2 : World) (y : Thread)
@@ -81,9 +83,11 @@ module _ (p : Program) (w : WellFormed p) (steps : ℕ) (s : State) (c : SourceS
       let is : after k.world t move ≡ w' =
       comes ∙ ap (λ (i : List ℕ). go_list w2 t pt i) (ap (λ (f : ℕ → Place). (f t).list) at ∙ listed) in
       let m = moved p w steps s c k t (with_thread mid t y) c' y r pt l w' (record {
-        reached = subst (λ (x : World). Reached x T) is (reached_on k.world c.table t move k.reached can);
+        reached = subst (λ (x : World). Reached p.version x T) is
+            (reached_on p.version k.world c.table t move k.reached can);
         shares = shares_at (place p) (valid p) (shared_of mid) w2 _ w2.made shares;
         size = keeps.size;
+        most = keeps.most;
         made = keeps.made ∙ k.made ∙ sym made;
         more = omega (arith, made);
         output = keeps.output ∙ k.output;
@@ -153,8 +157,8 @@ module _ (p : Program) (w : WellFormed p) (steps : ℕ) (s : State) (c : SourceS
         g : StepsSo p done deferral (mark_of (marks_of p) x) s t woken (Asks (AskSwap (process_word child 3) 1) go') s'
         g = subst (λ (l : Look). StepsSo p done deferral (mark_of (marks_of p) x) s t woken l s') h moves
 
-        valid_child : is_process child ≡ true
-        valid_child = number_is child some (omega (arith, below, few))
+        valid_child : is_process p child ≡ true
+        valid_child = number_is p child some (omega (arith, below, few))
 
         mid : State
         mid = with_word s (process_word child 3) 1
@@ -174,6 +178,7 @@ module _ (p : Program) (w : WellFormed p) (steps : ℕ) (s : State) (c : SourceS
         keeps : Keeps p s (with_word s (process_word child 3) 1)
         keeps = record {
           size = refl;
+          most = refl;
           made = refl;
           output = refl;
           thread = refl;

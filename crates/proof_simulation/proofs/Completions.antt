@@ -6,6 +6,7 @@ use Rattle.std.specs.Prelude.{not, is_some, nat_lt}
 use Rattle.std.proofs.lemmas.Bool.{cases_eq, cases_Bool, eq-eqb, eqb-true, ne_eqb, lt-ltb, ltb-true, or_left, or_right}
 use Rattle.std.proofs.lemmas.Nat.{mod-mul-add, div-add-mod'}
 use Rattle.words.specs.Process.{process_word}
+use Rattle.words.specs.Versions.{most_of, base_of}
 use Rattle.locals.specs.Looks.{Request, Look, Goes, Asks, Leaves, Breaks, Rests, AskLoad, AskStore}
 use Rattle.machine.specs.States.{State}
 use Rattle.machine.specs.Runs.{Moves}
@@ -56,21 +57,23 @@ found_below (suc k) test n l h = elim (cases_eq n k) [
 ]
 
 -- the words of the processes that there can be are found as such
-found_word : (k t : ℕ) → k < 6 → 0 < t → t ≤ 64 → is_process_word k (process_word t k) ≡ true
-found_word k t low some few =
+found_word : (p : Program) (k t : ℕ) → k < 6 → 0 < t → t ≤ most_of p.version
+    → is_process_word p k (process_word t k) ≡ true
+found_word p k t low some few =
     let before : process_word t k - 1 ≡ (t - 1) * 6 + k = omega (arith, some) in
     let above : 0 < process_word t k = omega (arith, some) in
-    let below : process_word t k < 385 = omega (arith, some, few, low) in
-    rw (lt-ltb 0 (process_word t k) above, lt-ltb (process_word t k) 385 below)
+    let below : process_word t k < base_of p.version = omega (arith, some, few, low) in
+    rw (lt-ltb 0 (process_word t k) above, lt-ltb (process_word t k) (base_of p.version) below)
     (eq-eqb ((process_word t k - 1) % 6) k (ap (λ i. i % 6) before ∙ mod-mul-add (t - 1) 6 k low))
 
 -- and no others
-word_is : (k a : ℕ) → is_process_word k a ≡ true → (n : ℕ) × (n < 64) × (process_word (suc n) k ≡ a)
-word_is k a h =
+word_is : (p : Program) (k a : ℕ) → is_process_word p k a ≡ true
+    → (n : ℕ) × (n < most_of p.version) × (process_word (suc n) k ≡ a)
+word_is p k a h =
     let above = ltb-true 0 a (and_first (nat_lt 0 a) _ h) in
     let rest = and_second (nat_lt 0 a) _ h in
-    let below = ltb-true a 385 (and_first (nat_lt a 385) _ rest) in
-    let left = eqb-true ((a - 1) % 6) k (and_second (nat_lt a 385) _ rest) in
+    let below = ltb-true a (base_of p.version) (and_first (nat_lt a (base_of p.version)) _ rest) in
+    let left = eqb-true ((a - 1) % 6) k (and_second (nat_lt a (base_of p.version)) _ rest) in
     let whole = div-add-mod' (a - 1) 6 in
     ((a - 1) / 6, omega (arith, above, below, whole), omega (arith, above, whole, left))
   where
@@ -82,9 +85,10 @@ word_is k a h =
     and_second true y h = h
     and_second false y h = absurd cc
 
-no_word : (k a : ℕ) → ((n : ℕ) → n < 64 → process_word (suc n) k ≡ a → ⊥) → is_process_word k a ≡ false
-no_word k a none = elim (cases_Bool (is_process_word k a)) [
-  | inl h ↦ let w = word_is k a h in absurd (none w.0 w.1 w.2)
+no_word : (p : Program) (k a : ℕ) → ((n : ℕ) → n < most_of p.version → process_word (suc n) k ≡ a → ⊥)
+    → is_process_word p k a ≡ false
+no_word p k a none = elim (cases_Bool (is_process_word p k a)) [
+  | inl h ↦ let w = word_is p k a h in absurd (none w.0 w.1 w.2)
   | inr h ↦ h
 ]
 
@@ -184,14 +188,14 @@ listed_at w T t pt inv point = subst (λ (i : Point). Listed i (w.at t).list) po
 
 -- the words of processes, and of monitors
 module _ (p : Program) where
-  numbered : (n : ℕ) → n < 64 → valid p (IdOf (suc n)) ≡ true
-  numbered n l = number_is (suc n) (omega arith) (omega (arith, l))
+  numbered : (n : ℕ) → n < most_of p.version → valid p (IdOf (suc n)) ≡ true
+  numbered n l = number_is p (suc n) (omega arith) (omega (arith, l))
 
-  not_id : (x : Cell) → valid p x ≡ true → ((n : ℕ) → IdOf (suc n) ≡ x → ⊥) → is_process_word 2 (place p x) ≡ false
-  not_id x h other = no_word 2 (place p x) (λ n l e. other n (apart p (IdOf (suc n)) x (numbered n l) h e))
+  not_id : (x : Cell) → valid p x ≡ true → ((n : ℕ) → IdOf (suc n) ≡ x → ⊥) → is_process_word p 2 (place p x) ≡ false
+  not_id x h other = no_word p 2 (place p x) (λ n l e. other n (apart p (IdOf (suc n)) x (numbered n l) h e))
 
-  is_word : (k q : ℕ) → k < 6 → valid p (IdOf q) ≡ true → is_process_word k (process_word q k) ≡ true
-  is_word k q low h = let within = is_number q h in found_word k q low within.0 within.1
+  is_word : (k q : ℕ) → k < 6 → valid p (IdOf q) ≡ true → is_process_word p k (process_word q k) ≡ true
+  is_word k q low h = let within = is_number p q h in found_word p k q low within.0 within.1
 
   is_link : (m : ℕ) → valid p (LinkOf m) ≡ true → is_link_word p (place p (LinkOf m)) ≡ true
   is_link m h = found_below (length p.monitors) (λ i. place p (LinkOf i) == place p (LinkOf m)) m (monitor_below p m h)
@@ -210,7 +214,7 @@ module _ (p : Program) where
   pub variable_loaded : (m : Member) (i a r : ℕ) → IsVariable p m i → a ≡ variable_address p m i
       → completes p (AskLoad a) r ≡ false
   variable_loaded m i a r is there =
-      let no : is_process_word 2 a ≡ false = no_word 2 a
+      let no : is_process_word p 2 a ≡ false = no_word p 2 a
       (λ n l e. variable_apart p m i (IdOf (suc n)) is (numbered n l) (sym (e ∙ there))) in
       ap (λ b. b && (r == 0)) no
 
@@ -218,9 +222,9 @@ module _ (p : Program) where
   pub variable_stored : (m : Member) (i v r : ℕ) → IsVariable p m i
       → completes p (AskStore (variable_address p m i) v) r ≡ true
   variable_stored m i v r is =
-      let head = no_word 0 (variable_address p m i)
+      let head = no_word p 0 (variable_address p m i)
       (λ n l e. variable_apart p m i (HeadOf (suc n)) is (numbered n l) (sym e)) in
-      let pending = no_word 1 (variable_address p m i)
+      let pending = no_word p 1 (variable_address p m i)
       (λ n l e. variable_apart p m i (PendingOf (suc n)) is (numbered n l) (sym e)) in
       let link = none_below (length p.monitors) (λ n. place p (LinkOf n) == variable_address p m i)
       (λ n l. ne_eqb (place p (LinkOf n)) (variable_address p m i)
@@ -280,7 +284,7 @@ module _ (p : Program) where
       both_yes (r == v) (owner v == 0) (eq-eqb (owner v) 0 listed.1) ∙ either (r == v) _
   points w T t (GotReads m v) r w' e l mine listed may ok asks same = loaded (HeadOf t) _ ok (λ n e. cc)
   points w T t (GotLinks m v h) r w' e l mine listed may ok asks same = rw (is_link m ok)
-      (third_no (not (is_process_word 0 (place p (LinkOf m)))) (not (is_process_word 1 (place p (LinkOf m)))))
+      (third_no (not (is_process_word p 0 (place p (LinkOf m)))) (not (is_process_word p 1 (place p (LinkOf m)))))
   points w T t (GotHeads m v) r w' e l mine listed may ok asks same = rw (is_word 0 t (omega arith) mine) refl
   points w T t (GotUnpends m v) r w' e l mine listed may ok asks same =
       rw (is_word 1 t (omega arith) mine) (second_no _ _)

@@ -61,7 +61,7 @@ stands_open b t x q (fails m f cs walk is) end h = cc
 module _ (p : Program) (w : WellFormed p) (steps : ℕ) (s : State) (c : SourceState) (k : Corresponds p w steps s c)
     (t : ℕ) where
   inv : Good k.world c.table
-  inv = reached_good k.world c.table k.reached
+  inv = reached_good p.version k.world c.table k.reached
 
   -- a thread holds the monitors of its robust list
   pub holder : (m : ℕ) → mem m (k.world.at t).list ≡ true → c.table.hold m ≡ HeldBy t

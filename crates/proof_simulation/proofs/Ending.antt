@@ -9,6 +9,7 @@ use Rattle.words.specs.declared.outcome.Fault.TheVariants.{HandleNotJoinable}
 use Rattle.words.specs.Outcomes.{fault_number}
 use Rattle.words.specs.Process.{process_word}
 use Rattle.words.specs.Signed.{signed_of}
+use Rattle.words.specs.Versions.{most_of}
 use Rattle.robustexit.specs.declared.phase.ExitPhase.{ExitPhase}
 use Rattle.robustexit.specs.Phases.{next_entry}
 use Rattle.locals.specs.Threads.{Thread, Exits, Dies as Dies'}
@@ -72,7 +73,7 @@ walks_left b v t w (suc m) end ms phase is short ends = omega arith
 module _ (p : Program) (w : WellFormed p) (steps : ℕ) (s : State) (c : SourceState) (k : Corresponds p w steps s c)
     (t : ℕ) (woken : List ℕ) (done : Bool) (deferral : Option Kind) (pauses : Bool) (s' : State) (n : ℕ) (number :
     (0 < t) × (t ≤ k.world.made))
-    (few : k.world.made ≤ 64) (awake : k.world.asleep t ≡ None) where
+    (few : k.world.made ≤ most_of p.version) (awake : k.world.asleep t ≡ None) where
   abbrev b : Build
   b = build_of p w k.world.made
 
@@ -87,10 +88,10 @@ module _ (p : Program) (w : WellFormed p) (steps : ℕ) (s : State) (c : SourceS
   phase = next_entry (entry_address (place p) first) 0
 
   inv : Good k.world c.table
-  inv = reached_good k.world c.table k.reached
+  inv = reached_good p.version k.world c.table k.reached
 
-  valid_t : is_process t ≡ true
-  valid_t = number_is t number.0 (omega (arith, number.1, few))
+  valid_t : is_process p t ≡ true
+  valid_t = number_is p t number.0 (omega (arith, number.1, few))
 
   head_word : s.word (process_word t 0) ≡ entry_address (place p) first
   head_word = k.shares.words.word (HeadOf t) valid_t
@@ -103,8 +104,9 @@ module _ (p : Program) (w : WellFormed p) (steps : ℕ) (s : State) (c : SourceS
   -- the exit begins, over these words
   begins_exit : (end : End) (mid : State) (w2 : World) (f : ℕ → Option Process) (kinds : List Kind)
       → IsEnding end l → Chain k.world.link first l
-      → Reached (go_list w2 t (Walks first NoEntry end) l) c.table
-      → Shares (place p) (valid p) (shared_of mid) w2 → mid.size ≡ s.size → mid.made ≡ w2.made
+      → Reached p.version (go_list w2 t (Walks first NoEntry end) l) c.table
+      → Shares (place p) (valid p) (shared_of mid) w2 → mid.size ≡ s.size → mid.most ≡ s.most
+      → mid.made ≡ w2.made
       → w2.made ≡ k.world.made → mid.output ≡ s.output → mid.thread ≡ s.thread
       → ((m : Member) (i : ℕ) → IsVariable p m i
       → mid.word (variable_address p m i) ≡ s.word (variable_address p m i))
@@ -114,7 +116,8 @@ module _ (p : Program) (w : WellFormed p) (steps : ℕ) (s : State) (c : SourceS
       → Places p s' t c (record c { process = f }) done deferral (stages k.world t) W.Leaves kinds
       → IsSome kinds ⊎ (3 < n)
       → s' ≡ with_thread mid t (Exits phase) → Next p w steps s' t done deferral pauses n c (stages k.world)
-  begins_exit end mid w2 f kinds ends chain reached shares size made same_made output thread words at results others
+  begins_exit end mid w2 f kinds ends chain reached shares size most made same_made output thread words at results
+      others
       numbers ps own leads places paced same =
       let pt = Walks first NoEntry end in
       let at_entry = first_phase p w k.world t NoEntry end (λ m h. k.lists t m h) chain in
@@ -128,6 +131,7 @@ module _ (p : Program) (w : WellFormed p) (steps : ℕ) (s : State) (c : SourceS
         reached = reached;
         shares = shares_at (place p) (valid p) (shared_of mid) w2 _ w2.made shares;
         size = size;
+        most = most;
         made = made;
         more = omega (arith, same_made);
         output = output ∙ k.output;
@@ -179,7 +183,8 @@ module _ (p : Program) (w : WellFormed p) (steps : ℕ) (s : State) (c : SourceS
 
   -- a fault is written, and the exit begins; threads stand as `at` says before that
   by_fault : (fault : Fault) (at : ℕ → Place) (f : ℕ → Option Process) (kinds : List Kind)
-      → Reached (record k.world { at = at }) c.table → (at t).point ≡ Dies (Faulted fault) NoEntry → (at t).list ≡ l
+      → Reached p.version (record k.world { at = at }) c.table → (at t).point ≡ Dies (Faulted fault) NoEntry
+      → (at t).list ≡ l
       → ((y : Place) → put at t y ≡ put k.world.at t y) → Chain k.world.link first l
       → Puts c.process f t (Some (Dying (Faulted fault) l)) → AreOwn kinds
       → Leads p c (map (act t) kinds) (record c { process = f })
@@ -199,9 +204,9 @@ module _ (p : Program) (w : WellFormed p) (steps : ℕ) (s : State) (c : SourceS
       ap (λ (h : List ℕ). go_list (record w1 { outcome = put k.world.outcome t v }) t pt h) list
       ∙ ap (λ (h : ℕ → Place). record k.world { outcome = put k.world.outcome t v; at = h }) (same (thread_at pt l)) in
       begins_exit end (with_outcome s t v) w2 f kinds tt chain
-      (subst (λ (x : World). Reached x c.table) is (reached_on w1 c.table t m reached can))
+      (subst (λ (x : World). Reached p.version x c.table) is (reached_on p.version w1 c.table t m reached can))
       (shares_stored (place p) (valid p) (apart p) (shared_of s) k.world (OutcomeOf t) v valid_t k.shares)
-      refl k.made refl refl refl (λ d i h. other_word s.word v d i h) refl k.words
+      refl refl k.made refl refl refl (λ d i h. other_word s.word v d i h) refl k.words
       (λ u o. refl) refl ps own leads places paced
       (g.3 ∙ ap (λ (x : State). with_thread x t (first_exit g.0)) g.2.1.1
       ∙ ap (λ a. with_thread (with_outcome s t v) t (first_exit a)) (g.2.1.0 ∙ head_word))
@@ -219,7 +224,7 @@ module _ (p : Program) (w : WellFormed p) (steps : ℕ) (s : State) (c : SourceS
   -- a thread that meets a fault, as its process does by this action
   fault_met : (q : Process) (fault : Fault) (label : Label) (x : Thread) → c.process t ≡ Some q → l ≡ holds q
       → IsSteady p q c.variable → x ≡ Dies' (Faulted fault) → stages k.world t ≡ W.Works → Chain k.world.link first l
-      → Reached (go_list k.world t (Dies (Faulted fault) NoEntry) l) c.table
+      → Reached p.version (go_list k.world t (Dies (Faulted fault) NoEntry) l) c.table
       → kind_of label ≡ L.Fails fault → is_internal label ≡ true
       → TakesUp (offer p c.variable q) label Nothing (Dying (Faulted fault) l) → Allows t label c.table c.table
       → StepsSo p done deferral (mark_of (marks_of p) x) s t woken (look (code_of p) t x) s'
@@ -255,7 +260,8 @@ module _ (p : Program) (w : WellFormed p) (steps : ℕ) (s : State) (c : SourceS
       let o' : offer p c.variable q ≡ ClaimsOne child joining r =
       o ∙ ap (λ (i : List ℕ). ClaimsOne child joining (Dying (Faulted HandleNotJoinable) i)) (sym list) in
       fault_met q HandleNotJoinable (FindsClaimed child) x proc list steady e (ap stage_of point)
-      (refused_chain k.world c.table t child inv point) (reached_on k.world c.table t move k.reached can) refl refl
+      (refused_chain k.world c.table t child inv point) (reached_on p.version k.world c.table t move k.reached can)
+      refl refl
       (subst (λ (i : Offer). TakesUp i (FindsClaimed child) Nothing r) (sym o') (inr (refl, refl, refl)))
       (permitted k.world c.table t move inv can).0 moves
 
@@ -289,6 +295,10 @@ module _ (p : Program) (w : WellFormed p) (steps : ℕ) (s : State) (c : SourceS
   returned_size : (r : Option ℕ) → (returned_state r).size ≡ s.size
   returned_size None = refl
   returned_size (Some v) = refl
+
+  returned_most : (r : Option ℕ) → (returned_state r).most ≡ s.most
+  returned_most None = refl
+  returned_most (Some v) = refl
 
   returned_made : (r : Option ℕ) → (returned_state r).made ≡ s.made
   returned_made None = refl
@@ -324,7 +334,7 @@ module _ (p : Program) (w : WellFormed p) (steps : ℕ) (s : State) (c : SourceS
   -- the first procedure returns, and the exit begins; threads stand as `at` says before that
   by_return : (mark : Option Mark) (r : Option ℕ) (at : ℕ → Place) (f : ℕ → Option Process) (kinds : List Kind)
       → IsResult r → l ≡ []
-      → Reached (record k.world { at = at }) c.table → (at t).point ≡ Runs → (at t).list ≡ l
+      → Reached p.version (record k.world { at = at }) c.table → (at t).point ≡ Runs → (at t).list ≡ l
       → ((y : Place) → put at t y ≡ put k.world.at t y) → (k.world.at t).point ≡ Runs
       → Puts c.process f t (Some (Leaving (left_value r))) → AreOwn kinds
       → Leads p c (map (act t) kinds) (record c { process = f })
@@ -345,8 +355,9 @@ module _ (p : Program) (w : WellFormed p) (steps : ℕ) (s : State) (c : SourceS
       ∙ ap (λ (h : End). go_list (record w2 { at = at }) t (Walks first NoEntry h) l) (result_end r blank)
       ∙ ap (λ (h : ℕ → Place). record w2 { at = h }) (same (thread_at pt l)) in
       begins_exit end (returned_state r) w2 f kinds none (running_chain k.world c.table t inv point)
-      (subst (λ (x : World). Reached x c.table) is (reached_on w1 c.table t m reached can))
-      (returned_shares r) (returned_size r) (returned_made r ∙ k.made) refl (returned_output r) (returned_thread r)
+      (subst (λ (x : World). Reached p.version x c.table) is (reached_on p.version w1 c.table t m reached can))
+      (returned_shares r) (returned_size r) (returned_most r) (returned_made r ∙ k.made) refl (returned_output r)
+      (returned_thread r)
       (λ d i h. returned_words r d i h) refl (result_fits r fits)
       (λ u o. put_other k.world.result t (result_after r (k.world.result t)) u o) refl ps own leads places paced
       (return_moves mark r g)
@@ -396,7 +407,8 @@ module _ (p : Program) (w : WellFormed p) (steps : ℕ) (s : State) (c : SourceS
         let o' : offer p c.variable q ≡ Does (Alone (L.Fails fault)) Nothing r =
         o ∙ ap (λ (i : List ℕ). Does (Alone (L.Fails fault)) Nothing (Dying (Faulted fault) i)) (sym list) in
         fault_met q fault (Alone (L.Fails fault)) x proc list work.steady e (ap stage_of point)
-        (running_chain k.world c.table t inv point) (reached_on k.world c.table t move k.reached can) refl refl
+        (running_chain k.world c.table t inv point) (reached_on p.version k.world c.table t move k.reached can) refl
+        refl
         (takes_up (Alone (L.Fails fault)) r o') refl moves
 
     -- a thread whose process leaves with this step
@@ -415,7 +427,7 @@ module _ (p : Program) (w : WellFormed p) (steps : ℕ) (s : State) (c : SourceS
         let z = thread_at Runs l in
         by_return (mark_of (marks_of p) x) r (put k.world.at t z) (put c.process t (Some after'))
         (L.Return ∷ []) fits none
-        (reached_on k.world c.table t move k.reached can)
+        (reached_on p.version k.world c.table t move k.reached can)
         (ap (λ (i : Place). i.point) (put_same k.world.at t z))
         (ap (λ (i : Place). i.list) (put_same k.world.at t z)) (λ y. put_put k.world.at t z y) point
         (put_puts c.process t (Some after')) (tt, tt) (

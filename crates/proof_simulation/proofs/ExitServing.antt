@@ -5,6 +5,7 @@ use Rattle.std.proofs.Common.{sym, ap, ◌∙◌, subst, arith}
 use Rattle.std.specs.Prelude.{nat_le}
 use Rattle.std.proofs.lemmas.Bool.{cases_Bool, cond-true, cond-false, or_left, or_right, eq-eqb}
 use Rattle.words.specs.Process.{process_word}
+use Rattle.words.specs.Versions.{most_of}
 use Rattle.isa.specs.Programs.{memory_size}
 use Rattle.robustexit.specs.RobustExit.{Shared, EntryStep, IsPending, IsForeign, IsOwned, PendingStep}
 use Rattle.robustexit.specs.RobustExit.{NoEntry as NoEntry', ExitStep}
@@ -179,13 +180,13 @@ next_there p w T t (LastWakes end) is good point lists = tt
 next_there p w T t pt is good point lists = absurd is
 
 module _ (p : Program) (fits : WellFormed p) (s : State) (w : World) (T : Table) (t : ℕ)
-    (shares : Shares (place p) (valid p) (shared_of s) w) (good : Good w T) (some : 0 < t) (few : t ≤ 64)
+    (shares : Shares (place p) (valid p) (shared_of s) w) (good : Good w T) (some : 0 < t) (few : t ≤ most_of p.version)
     (size : s.size ≡ memory_size (code_of p)) where
   lay : IsLayout (place p) (valid p) s.size
   lay = subst (λ (n : ℕ). IsLayout (place p) (valid p) n) (sym size) (is_layout p fits)
 
   valid_t : valid p (PendingOf t) ≡ true
-  valid_t = number_is t some few
+  valid_t = number_is p t some few
 
   -- the walk is short
   is_short : (pt : Point) (phase : ExitPhase) → IsExit pt → PhaseIs (place p) (valid p) pt phase
@@ -286,6 +287,7 @@ module _ (p : Program) (fits : WellFormed p) (s : State) (w : World) (T : Table)
           shares = f.shares;
           keeps = record {
             size = refl;
+            most = refl;
             made = refl;
             output = refl;
             thread = refl;

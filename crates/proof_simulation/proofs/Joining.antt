@@ -44,6 +44,7 @@ use Rattle.proof_templates.specs.Asking.{machine_request, machine_answer, templa
 use Rattle.proof_templates.specs.Templates.{ActsSo}
 use Rattle.protocol.specs.Carries.{Event, Acts}
 use Rattle.words.specs.Updates.{put}
+use Rattle.words.specs.Versions.{most_of}
 use Rattle.proof_templates.proofs.Layouts.{number_is}
 use Rattle.proof_simulation.specs.Ordering.{StepsSo, completes}
 use Rattle.proof_simulation.specs.Standing.{StandsAt, works, reads, sleeps, learns, takes, IsLast, IsChild}
@@ -93,7 +94,8 @@ no a b x y h = cond-false (a == b) x y (ne_eqb a b h)
 module _ (p : Program) (w : WellFormed p) (steps : ℕ) (s : State) (c : SourceState) (k : Corresponds p w steps s c)
     (t : ℕ) (woken : List ℕ) (done : Bool) (deferral : Option Kind) (pauses : Bool) (s' : State) (n : ℕ) (number :
     (0 < t) × (t ≤ k.world.made))
-    (few : k.world.made ≤ 64) (awake : k.world.asleep t ≡ None) (paused : pauses ≡ is_paused s' t) (child : ℕ)
+    (few : k.world.made ≤ most_of p.version) (awake : k.world.asleep t ≡ None) (paused : pauses ≡ is_paused s' t)
+    (child : ℕ)
     (into : Option ℕ) (part : Part) (f : Frame) (cs : List Caller)
     (is : IsChild (build_of p w k.world.made) child f cs)
     (j : Awaits (build_of p w k.world.made) t child into part f cs)
@@ -105,10 +107,10 @@ module _ (p : Program) (w : WellFormed p) (steps : ℕ) (s : State) (c : SourceS
   l = (k.world.at t).list
 
   inv : Good k.world c.table
-  inv = reached_good k.world c.table k.reached
+  inv = reached_good p.version k.world c.table k.reached
 
-  valid_child : is_process child ≡ true
-  valid_child = let made = is.made in number_is child is.some (omega (arith, made, few))
+  valid_child : is_process p child ≡ true
+  valid_child = let made = is.made in number_is p child is.some (omega (arith, made, few))
 
   -- a request of a point of the JOIN, as it is served
   module _ (pt : Point) (q : Process) (x : Thread) (asks : Request) (go : ℕ → Thread)
@@ -172,7 +174,7 @@ module _ (p : Program) (w : WellFormed p) (steps : ℕ) (s : State) (c : SourceS
           → done ≡ is_some (source_event k.world c.table t pt sv.reply sv.after e)
       shown seen e may = seen ∙ ap (λ a. completes p asks a) sv.told
           ∙ point_completes p k.world c.table t pt sv.reply sv.after e (k.world.at t).list asks
-          (number_is t number.0 (omega (arith, number.1, few)))
+          (number_is p t number.0 (omega (arith, number.1, few)))
           (listed_at k.world c.table t pt inv point) may askable same
 
       went : done ≡ completes p asks answer → deferral ≡ deferred_by_request (mark_of (marks_of p) x) asks answer

@@ -2,6 +2,7 @@
 use Rattle.std.proofs.Common.{Option, ◌≡◌, ℕ, zero, suc, ◌+◌, ◌<◌, ◌≤◌, Bool, List, [], ◌∷◌, length, Some, None, refl}
 use Rattle.std.proofs.Common.{ap, sym}
 use Rattle.std.proofs.Common.{◌∙◌, subst, arith}
+use Rattle.words.specs.Versions.{most_of}
 use Rattle.robustexit.specs.declared.phase.ExitPhase.{ExitPhase}
 use Rattle.robustexit.specs.declared.phase.ExitPhase.TheVariants.{ClearId, LastWake, Ended as Ended'}
 use Rattle.locals.specs.Threads.{Exits}
@@ -49,9 +50,9 @@ ending_offer p v (Aborted cause) = refl
 module _ (p : Program) (w : WellFormed p) (steps : ℕ) (s : State) (c : SourceState) (k : Corresponds p w steps s c)
     (t : ℕ) (woken : List ℕ) (done : Bool) (deferral : Option Kind) (pauses : Bool) (s' : State) (n : ℕ) (number :
     (0 < t) × (t ≤ k.world.made))
-    (few : k.world.made ≤ 64) (awake : k.world.asleep t ≡ None) where
+    (few : k.world.made ≤ most_of p.version) (awake : k.world.asleep t ≡ None) where
   inv : Good k.world c.table
-  inv = reached_good k.world c.table k.reached
+  inv = reached_good p.version k.world c.table k.reached
 
   abbrev l : List ℕ
   l = (k.world.at t).list

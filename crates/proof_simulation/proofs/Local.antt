@@ -69,6 +69,7 @@ module _ (p : Program) (w : WellFormed p) (steps : ℕ) (s : State) (c : SourceS
         reached = k.reached;
         shares = k.shares;
         size = refl;
+        most = refl;
         made = k.made;
         more = omega arith;
         output = k.output;

@@ -5,8 +5,8 @@ use Rattle.std.proofs.Common.{ap, sym, ◌∙◌, subst, arith, inl, inr}
 use Rattle.std.proofs.lemmas.Bool.{cases_eq, false≢true, ne_eqb}
 use Rattle.std.specs.Prelude.{not, ◌==◌}
 use Rattle.words.specs.Updates.{put}
-use Rattle.words.specs.Limits.{most_threads}
 use Rattle.words.specs.Process.{process_word}
+use Rattle.words.specs.Versions.{most_of}
 use Rattle.words.specs.declared.outcome.Fault.TheVariants.{ProcessTableFull}
 use Rattle.locals.specs.Threads.{Thread, Dies as Dies', opening_thread}
 use Rattle.locals.specs.Looks.{Look, Asks, AskFork, look}
@@ -48,7 +48,7 @@ use Rattle.proof_simulation.proofs.Acting.{held_of}
 use Rattle.proof_simulation.proofs.Templating.{works_on}
 use Rattle.proof_simulation.proofs.Standings.{stand_moves}
 use Rattle.proof_simulation.proofs.Sourcing.{action, state_after}
-use Rattle.proof_simulation.proofs.Worlds.{reached_on, reached_good, shares_at, shares_stored}
+use Rattle.proof_simulation.proofs.Worlds.{reached_on, reached_good, reached_most, shares_at, shares_stored}
 use Rattle.proof_simulation.specs.Deferred.{Stage, stages, stage_of, Works}
 use Rattle.proof_thread.specs.Deferrals.{mark_of}
 use Rattle.std.specs.Prelude.{if◌then◌else◌}
@@ -56,12 +56,17 @@ use Rattle.std.specs.Prelude.{if◌then◌else◌}
 module _ (p : Program) (w : WellFormed p) (steps : ℕ) (s : State) (c : SourceState) (k : Corresponds p w steps s c)
     (t : ℕ) (woken : List ℕ) (done : Bool) (deferral : Option Kind) (pauses : Bool) (s' : State) (n : ℕ) (number :
     (0 < t) × (t ≤ k.world.made))
-    (few : k.world.made ≤ 64) (awake : k.world.asleep t ≡ None) (q : Process) (proc : c.process t ≡ Some q)
+    (few : k.world.made ≤ most_of p.version) (awake : k.world.asleep t ≡ None) (q : Process)
+    (proc : c.process t ≡ Some q)
     (point : (k.world.at t).point ≡ Runs) (list : (k.world.at t).list ≡ holds q) where
+  -- how many there can be
+  all : k.world.most ≡ most_of p.version
+  all = reached_most p.version k.world c.table k.reached
+
   -- no more can be made
   pub full_step : (go' : ℕ → Thread) (child : Process) (later : ℕ → Process) → go' 0 ≡ Dies' (Faulted ProcessTableFull)
       → offer p c.variable q ≡ MakesOne child later (Dying (Faulted ProcessTableFull) (holds q))
-      → most_threads ≤ k.world.made → done ≡ false → deferral ≡ Some (L.Fails ProcessTableFull)
+      → k.world.most ≤ k.world.made → done ≡ false → deferral ≡ Some (L.Fails ProcessTableFull)
       → IsSteady p q c.variable → s' ≡ with_thread s t (go' 0)
       → Next p w steps s' t done deferral pauses n c (stages k.world)
   full_step go' child later full o many none fails steady same =
@@ -76,14 +81,16 @@ module _ (p : Program) (w : WellFormed p) (steps : ℕ) (s : State) (c : SourceS
       (subst (λ (y : Thread). StandsAt (build_of p w k.world.made) c.variable t (Some y)
       (Some (Dying (Faulted ProcessTableFull) (holds q))) (Dies (Faulted ProcessTableFull) NoEntry) (holds q))
       (sym full) (faults ProcessTableFull))
-      k.shares (record { size = refl; made = refl; output = refl; thread = refl; variables = λ m i is. refl })
+      k.shares
+      (record { size = refl; most = refl; made = refl; output = refl; thread = refl; variables = λ m i is. refl })
       refl refl refl refl
       (waits _ _ FindsFull none fails (ap stage_of point) refl proc
       (may_defer p w steps s c k t q _ FindsFull list steady refl takes
-      ((permitted k.world c.table t ForkFull (reached_good k.world c.table k.reached) can).0) (λ end h. cc)) refl) same
+      ((permitted k.world c.table t ForkFull (reached_good p.version k.world c.table k.reached) can).0)
+      (λ end h. cc)) refl) same
 
   module _ (child : Process) (later : ℕ → Process) (go' : ℕ → Thread) (entry : ℕ) (arguments : List ℕ)
-      (work : IsAtWork p q c.variable) (more : k.world.made < 64)
+      (work : IsAtWork p q c.variable) (more : k.world.made < k.world.most)
       (o : offer p c.variable q ≡ MakesOne child later (Dying (Faulted ProcessTableFull) (holds q)))
       (empty : holds child ≡ [])
       (mine : Stands (build_of p w (suc k.world.made)) t (go' (suc k.world.made)) (later (suc k.world.made)))
@@ -92,7 +99,7 @@ module _ (p : Program) (w : WellFormed p) (steps : ℕ) (s : State) (c : SourceS
     made = suc k.world.made
 
     can_fork : Can k.world made (Fork t)
-    can_fork = (every_start_is_a_move k.reached.moves k.world k.reached.led).forks t
+    can_fork = (every_start_is_a_move p.version k.reached.moves k.world k.reached.led).forks t
         (record { number = number; awake = awake; stands = point }) more
 
     takes : TakesUp (offer p c.variable q) (Forks made) (Makes made child) (later made)
@@ -115,11 +122,12 @@ module _ (p : Program) (w : WellFormed p) (steps : ℕ) (s : State) (c : SourceS
     differs : made ≢ t
     differs e = omega (arith, number.1, e)
 
-    valid_made : is_process made ≡ true
-    valid_made = number_is made (omega arith) (omega (arith, more))
+    valid_made : is_process p made ≡ true
+    valid_made = number_is p made (omega arith) (omega (arith, more, all))
 
     fits : (m : ℕ) → VariablesFit made p m c.variable
-    fits m d i home there = fitting_grows k.world.made made (omega arith) _ _ (k.fit m d i home there)
+    fits m d i home there =
+        fitting_grows (most_of p.version) k.world.made made (omega arith) _ _ (k.fit m d i home there)
 
     abbrev Here : ℕ → Option Thread → Option Process → Place → Type 0
     Here u x r z = StandsAt (build_of p w made) c.variable u x r z.point z.list
@@ -179,11 +187,12 @@ module _ (p : Program) (w : WellFormed p) (steps : ℕ) (s : State) (c : SourceS
           after = c1;
           ties = record {
             world = w1;
-            reached = reached_on k.world c.table made (Fork t) k.reached can_fork;
+            reached = reached_on p.version k.world c.table made (Fork t) k.reached can_fork;
             shares = shares_at (place p) (valid p) _ (write k.world (IdOf made) made) _ made
                 (shares_stored (place p) (valid p) (apart p) (shared_of s) k.world
                 (IdOf made) made valid_made k.shares);
             size = k.size;
+            most = k.most;
             made = refl;
             output = k.output;
             variables = λ m i h. put_other s.word (process_word made 2) made (variable_address p m i)
@@ -206,7 +215,7 @@ module _ (p : Program) (w : WellFormed p) (steps : ℕ) (s : State) (c : SourceS
             c1,
             action p c t q (later made) (Forks made) (Makes made child) (table_after k.world c.table made (Fork t))
                 proc takes (permitted k.world c.table made (Fork t)
-                (reached_good k.world c.table k.reached) can_fork).0,
+                (reached_good p.version k.world c.table k.reached) can_fork).0,
             refl,
           );
           stage = Works;
@@ -218,7 +227,8 @@ module _ (p : Program) (w : WellFormed p) (steps : ℕ) (s : State) (c : SourceS
               (λ i. ap (stages k.world) i ∙ ap stage_of point) (λ i. refl));
           places = acts _ _ (Forks made) (Makes made child) (table_after k.world c.table made
               (Fork t)) is refl refl proc takes
-              ((permitted k.world c.table made (Fork t) (reached_good k.world c.table k.reached) can_fork).0) tt
+              ((permitted k.world c.table made (Fork t) (reached_good p.version k.world c.table k.reached) can_fork).0)
+              tt
               (λ m j i other. refl) tt refl;
           paced = λ z. inl tt;
         })
@@ -228,7 +238,7 @@ module _ (p : Program) (w : WellFormed p) (steps : ℕ) (s : State) (c : SourceS
       (x : Thread) → IsAtWork p q c.variable → look (code_of p) t x ≡ Asks (AskFork entry arguments true) go'
       → go' 0 ≡ Dies' (Faulted ProcessTableFull)
       → offer p c.variable q ≡ MakesOne child later (Dying (Faulted ProcessTableFull) (holds q)) → holds child ≡ []
-      → ((m : ℕ) → k.world.made ≤ suc m → suc m ≤ most_threads
+      → ((m : ℕ) → k.world.made ≤ suc m → suc m ≤ most_of p.version
       → Stands (build_of p w (suc m)) t (go' (suc m)) (later (suc m)))
       → ((m u : ℕ) → k.world.made ≤ m → Stands (build_of p w m) u (opening_thread entry arguments) child)
       → StepsSo p done deferral (mark_of (marks_of p) x) s t woken (look (code_of p) t x) s'
@@ -239,12 +249,14 @@ module _ (p : Program) (w : WellFormed p) (steps : ℕ) (s : State) (c : SourceS
       by_answer : StepsSo p done deferral (mark_of (marks_of p) x) s t woken (Asks
           (AskFork entry arguments true) go') s' → Next p w steps s' t done deferral pauses n c (stages k.world)
       by_answer (answer, mid, (nobody, inl (many, is, same)), e, d, f) =
-          full_step go' child later full o (omega (arith, many, k.made)) (d ∙ ap (λ (a : ℕ). not (a == 0)) is)
+          full_step go' child later full o (omega (arith, many, k.made, k.most, all))
+          (d ∙ ap (λ (a : ℕ). not (a == 0)) is)
           (f ∙ ap (λ (a : ℕ). if a == 0 then Some (L.Fails ProcessTableFull) else None) is) work.steady
           (e ∙ ap (λ (m : State). with_thread m t (go' answer)) same ∙ ap (λ a. with_thread s t (go' a)) is)
       by_answer (answer, mid, (nobody, inr (less, room, is, same)), e, d, f) =
-          forked child later go' entry arguments work (omega (arith, less, k.made)) o empty
-          (mine k.world.made (omega arith) (omega (arith, less, k.made))) (its (suc k.world.made) (suc k.world.made)
+          forked child later go' entry arguments work (omega (arith, less, k.made, k.most, all)) o empty
+          (mine k.world.made (omega arith) (omega (arith, less, k.made, k.most)))
+          (its (suc k.world.made) (suc k.world.made)
           (omega arith)) (d ∙ ap (λ (a : ℕ). not (a == 0)) is ∙ ap not (ne_eqb (suc s.made) 0 (λ i. absurd cc)))
           (e ∙ ap (λ (m : State). with_thread m t (go' answer)) same
           ∙ ap (λ a. with_thread (record s {

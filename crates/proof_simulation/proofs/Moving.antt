@@ -96,9 +96,10 @@ module _ (p : Program) (w : WellFormed p) where
   -- what is to be shown for the next states to belong together, where thread t has stepped from a point to another
   pub record Follow (steps : ℕ) (s : State) (c : SourceState) (k : Corresponds p w steps s c) (t : ℕ) (s' : State)
       (c' : SourceState) (y : Thread) (q : Process) (pt : Point) (l : List ℕ) (w' : World) : Type 0 where
-    pub reached : Reached w' c'.table
+    pub reached : Reached p.version w' c'.table
     pub shares : Shares (place p) (valid p) (shared_of s') w'
     pub size : s'.size ≡ s.size
+    pub most : s'.most ≡ s.most
     pub made : s'.made ≡ w'.made
     pub more : k.world.made ≤ w'.made
     pub output : s'.output ≡ c'.printed
@@ -160,6 +161,7 @@ module _ (p : Program) (w : WellFormed p) where
         reached = f.reached;
         shares = f.shares;
         size = f.size ∙ k.size;
+        most = f.most ∙ k.most;
         made = f.made;
         output = f.output;
         variables = f.variables;

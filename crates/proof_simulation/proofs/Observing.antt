@@ -8,6 +8,7 @@ use Rattle.words.specs.declared.outcome.Fault.TheVariants.{HandleNotJoinable, Pr
 use Rattle.words.specs.declared.outcome.Fault.TheVariants.{AbandonedMonitor, JoinedAborted}
 use Rattle.words.specs.Outcomes.{outcome_of, fault_number}
 use Rattle.words.specs.Process.{process_word}
+use Rattle.words.specs.Versions.{most_of}
 use Rattle.robustexit.specs.declared.phase.ExitPhase.{ExitPhase}
 use Rattle.robustexit.specs.declared.phase.ExitPhase.TheVariants.{Entry, Pending, ClearId, LastWake, Ended as Ended'}
 use Rattle.locals.specs.Threads.{Thread, Runs as Runs', Dies as Dies', Exits as Exits'}
@@ -70,7 +71,7 @@ use Rattle.proof_simulation.specs.Corresponding.{Corresponds}
 use Rattle.proof_simulation.specs.Serving.{IsAskable}
 use Rattle.proof_simulation.proofs.Points.{in_template}
 use Rattle.proof_simulation.proofs.Standings.{first_in}
-use Rattle.proof_simulation.proofs.Worlds.{reached_good}
+use Rattle.proof_simulation.proofs.Worlds.{reached_good, reached_most}
 
 -- a thread that goes or asks what can be served: it is neither at an end nor broken
 pub data IsBusy (p : Program) (s : State) (t : ℕ) (x : Thread) : Type 0 where
@@ -229,12 +230,13 @@ module _ (p : Program) (w : WellFormed p) (steps' : ℕ) (s : State) (c : Source
     (k : Corresponds p w steps' s c) where
   pub number_of : (t : ℕ) (x : Thread) → s.thread t ≡ Some x → (0 < t) × (t ≤ k.world.made)
   unfolding is_made
-  number_of t x e = (reached_good k.world c.table k.reached).threads.number t
+  number_of t x e = (reached_good p.version k.world c.table k.reached).threads.number t
       (made_at (build_of p w k.world.made) c.variable t (s.thread t) (c.process t) (k.world.at t).point
       (k.world.at t).list x (k.threads t) e)
 
-  pub few_made : k.world.made ≤ 64
-  few_made = (reached_good k.world c.table k.reached).threads.few
+  pub few_made : k.world.made ≤ most_of p.version
+  few_made = subst (λ (n : ℕ). k.world.made ≤ n) (reached_most p.version k.world c.table k.reached)
+      (reached_good p.version k.world c.table k.reached).threads.few
 
 -- a process whose thread comes to what it does isn't over
 completes_end : (b : Build) (t : ℕ) (v : Variables) (x : Thread) (q : Process) → Completes b t v x q
@@ -282,14 +284,14 @@ pub data Seen (p : Program) (s : State) (t : ℕ) : Option Thread → Option Pro
   rests : {end : End} → Seen p s t (Some (Exits' Ended')) (Some (Over end)) (HasEnded end)
 
 module _ (p : Program) (w : WellFormed p) (s : State) (size : s.size ≡ memory_size (code_of p)) (made : ℕ)
-    (few_all : made ≤ 64) (t : ℕ) where
+    (few_all : made ≤ most_of p.version) (t : ℕ) where
   abbrev b : Build
   b = build_of p w made
 
   lies : (a a' : ℕ) → a ≡ a' → a' < memory_size (code_of p) → (Lies s a → ⊥) → ⊥
   lies a a' e small h = h (subst (λ n. a < n) (sym size) (subst (λ x. x < memory_size (code_of p)) (sym e) small))
 
-  word_there : (u i : ℕ) → 0 < u → u ≤ 64 → i ≤ 5 → (Lies s (process_word u i) → ⊥) → ⊥
+  word_there : (u i : ℕ) → 0 < u → u ≤ most_of p.version → i ≤ 5 → (Lies s (process_word u i) → ⊥) → ⊥
   word_there u i some few less = lies (process_word u i) (process_word u i) refl (word_lies p u i some few less)
 
   child_there : (u i : ℕ) → 0 < u → u ≤ made → i ≤ 5 → (Lies s (process_word u i) → ⊥) → ⊥
@@ -330,7 +332,7 @@ module _ (p : Program) (w : WellFormed p) (s : State) (size : s.size ≡ memory_
   asked_fine (P.AskFault cause) q e ok = one_fine _ q e (λ z. z)
   asked_fine P.AskExitStep q e ok = absurd cc
 
-  module _ (some : 0 < t) (few : t ≤ 64) where
+  module _ (some : 0 < t) (few : t ≤ most_of p.version) where
     inside_busy : (u : Variables) (k : Template) (pt : Point) (y : Thread) → TemplateFits b u t k → pt ≢ Runs
         → StandsIn p t k pt y → IsBusy p s t y
     inside_busy u k pt y fits ne stands =
@@ -481,7 +483,7 @@ seen_fine p s t o q pt rests x e =
 module _ (p : Program) (w : WellFormed p) (taken' : ℕ) (s : State) (c : SourceState)
     (k : Corresponds p w taken' s c) where
   inv : Good k.world c.table
-  inv = reached_good k.world c.table k.reached
+  inv = reached_good p.version k.world c.table k.reached
 
   see : (t : ℕ) → (0 < t) × (t ≤ k.world.made) → Seen p s t (s.thread t) (c.process t) (k.world.at t).point
   see t number =
@@ -513,7 +515,7 @@ module _ (p : Program) (w : WellFormed p) (taken' : ℕ) (s : State) (c : Source
           let table = matches k.world c.table inv in
           let tell = (table.over t end (table.ended t end over)).1 in
           ap outcome_of (k.shares.words.word (OutcomeOf t)
-          (number_is t number.0 (omega (arith, number.1, few_made p w taken' s c k))))
+          (number_is p t number.0 (omega (arith, number.1, few_made p w taken' s c k))))
           ∙ told end (k.world.outcome t) (k.world.result t) tell
 
       by_thread : (o : Option Thread) → s.thread t ≡ o → machine_end s t ≡ source_end c t

@@ -5,6 +5,8 @@ use Rattle.std.proofs.lemmas.Bool.{eqb-true, false≢true}
 use Rattle.words.specs.Updates.{put}
 use Rattle.words.specs.Process.{process_word}
 use Rattle.words.specs.Signed.{word_of}
+use Rattle.words.specs.Versions.{most_of}
+use Rattle.words.proofs.Versions.{most_some}
 use Rattle.locals.specs.Threads.{Thread, opening_thread}
 use Rattle.machine.specs.States.{opening_state}
 use Rattle.program.specs.declared.kinds.Member.{Member}
@@ -36,7 +38,7 @@ use Rattle.proof_thread.proofs.Putting.{zero_value}
 use Rattle.refinement.specs.Built.{build_of}
 use Rattle.refinement.proofs.Building.{is_build}
 use Rattle.proof_templates.specs.Layout.{place, valid}
-use Rattle.proof_templates.proofs.Layouts.{apart}
+use Rattle.proof_templates.proofs.Layouts.{apart, number_is}
 use Rattle.proof_templates.proofs.Addresses.{variable_apart}
 use Rattle.proof_simulation.specs.Standing.{StandsAt, unmade}
 use Rattle.proof_simulation.specs.Corresponding.{Corresponds}
@@ -63,14 +65,14 @@ first_place b = cond b (thread_at Runs []) (thread_at Unmade [])
 abbrev nothing : Variables
 nothing = λ m n i. pos 0
 
-zero_fits : (made : ℕ) (o : Option MemberType) (i : ℕ) → HasIndex o i → ValueFits made o (pos 0)
-zero_fits made None i h = h
-zero_fits made (Some (Variable t)) i h = zero_value made t
-zero_fits made (Some Condition) i h = h
-zero_fits made (Some (Array n)) i h = zero_value made Integer
+zero_fits : (most made : ℕ) (o : Option MemberType) (i : ℕ) → HasIndex o i → ValueFits most made o (pos 0)
+zero_fits most made None i h = h
+zero_fits most made (Some (Variable t)) i h = zero_value most made t
+zero_fits most made (Some Condition) i h = h
+zero_fits most made (Some (Array n)) i h = zero_value most made Integer
 
 opening_fit : (p : Program) (made m : ℕ) → VariablesFit made p m nothing
-opening_fit p made m d i same is = zero_fits made (member_type p d) i is
+opening_fit p made m d i same is = zero_fits (most_of p.version) made (member_type p d) i is
 
 module _ (p : Program) (w : WellFormed p) where
   abbrev number : ℕ
@@ -92,7 +94,7 @@ module _ (p : Program) (w : WellFormed p) where
   main_stands : Stands (build_of p w 1) 1 first_thread (main_process p)
   main_stands =
       let stands = begins_at (build_of p w 1) (is_build p w 1) 1 number w.main [] [] [] w.is_last
-      (subst (λ ts. HaveValues 1 ts []) (sym fits.1) tt) (is_first (inl (w.is_main, fits.2))) in
+      (subst (λ ts. HaveValues (most_of p.version) 1 ts []) (sym fits.1) tt) (is_first (inl (w.is_main, fits.2))) in
       let opens = opens_main ∙ sym (begins_main ([] ++ zeros w.main.locals) w.main w.is_main) in
       subst (λ (q : Process). Stands (build_of p w 1) 1 first_thread q) (sym opens) stands
 
@@ -108,17 +110,22 @@ module _ (p : Program) (w : WellFormed p) where
       (works_on p w 1 nothing 1 first_thread first_thread (main_process p) (λ m. opening_fit p 1 m)
       (record { count = 0; few = omega arith; walk = stays }) main_stands).0
 
+  first_process : valid p (IdOf 1) ≡ true
+  first_process = number_is p 1 (omega arith) (omega (arith, most_some p.version))
+
   -- all words are 0, but the main process's id
   first_word : (a : Cell) → valid p a ≡ true
-      → put (λ x. 0) (process_word 1 2) 1 (place p a) ≡ stored_value (place p) a (cell opening_world a)
+      → put (λ x. 0) (process_word 1 2) 1 (place p a) ≡ stored_value (place p) a (cell (opening_world p.version) a)
   first_word a ok = at_put (λ x. 0) (process_word 1 2) 1 (place p a)
-      (λ v. v ≡ stored_value (place p) a (cell opening_world a)) (λ e. same a (apart p a (IdOf 1) ok refl e))
+      (λ v. v ≡ stored_value (place p) a (cell (opening_world p.version) a))
+      (λ e. same a (apart p a (IdOf 1) ok first_process e))
       (λ o. other a o)
     where
-      same : (a : Cell) → a ≡ IdOf 1 → 1 ≡ stored_value (place p) a (cell opening_world a)
-      same a e = subst (λ (b : Cell). 1 ≡ stored_value (place p) b (cell opening_world b)) (sym e) refl
+      same : (a : Cell) → a ≡ IdOf 1 → 1 ≡ stored_value (place p) a (cell (opening_world p.version) a)
+      same a e = subst (λ (b : Cell). 1 ≡ stored_value (place p) b (cell (opening_world p.version) b)) (sym e) refl
 
-      other : (a : Cell) → (place p a ≡ process_word 1 2 → ⊥) → 0 ≡ stored_value (place p) a (cell opening_world a)
+      other : (a : Cell) → (place p a ≡ process_word 1 2 → ⊥)
+          → 0 ≡ stored_value (place p) a (cell (opening_world p.version) a)
       other (LockOf m) o = refl
       other (LinkOf m) o = refl
       other (HeadOf t) o = refl
@@ -136,11 +143,11 @@ module _ (p : Program) (w : WellFormed p) where
   first_variable : (m : Member) (i : ℕ) → IsVariable p m i
       → put (λ x. 0) (process_word 1 2) 1 (variable_address p m i) ≡ word_of (pos 0)
   first_variable m i is = at_put (λ x. 0) (process_word 1 2) 1 (variable_address p m i) (λ v. v ≡ word_of (pos 0))
-      (λ e. absurd (variable_apart p m i (IdOf 1) is refl e)) (λ o. refl)
+      (λ e. absurd (variable_apart p m i (IdOf 1) is first_process e)) (λ o. refl)
 
   pub opens : Corresponds p w 0 (opening_state (code_of p)) (opening p)
   opens = record {
-    world = opening_world;
+    world = opening_world p.version;
     reached = record { moves = []; led = refl; table = refl };
     shares = record {
       words = record { word = first_word };
@@ -148,6 +155,7 @@ module _ (p : Program) (w : WellFormed p) where
       spots = λ u x e. absurd cc;
     };
     size = refl;
+    most = refl;
     made = refl;
     output = refl;
     variables = first_variable;

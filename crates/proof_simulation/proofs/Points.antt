@@ -1,6 +1,7 @@
 -- What the points of a template say of its thread.
 use Rattle.std.proofs.Common.{◌≡◌, ◌≢◌, ℕ, ◌+◌, ◌<◌, true, List, length, Option, Some, None, refl, sym, subst}
 use Rattle.std.specs.Prelude.{◌≤◌, is_some, slice_get}
+use Rattle.words.specs.Versions.{most_of}
 use Rattle.program.specs.declared.kinds.Member.{Member}
 use Rattle.program.specs.declared.kinds.MemberType.TheVariants.{Condition}
 use Rattle.program.specs.Trees.{Monitor, Program}
@@ -29,9 +30,9 @@ record Taking (p : Program) (t m : ℕ) (pt : Point) : Type 0 where
   askable : IsAskable p (request t pt)
   got : (n v : ℕ) → pt ≡ GotHeads n v → n ≡ m
 
-module _ (p : Program) (t : ℕ) (some : 0 < t) (few : t ≤ 64) where
-  mine : is_process t ≡ true
-  mine = number_is t some few
+module _ (p : Program) (t : ℕ) (some : 0 < t) (few : t ≤ most_of p.version) where
+  mine : is_process p t ≡ true
+  mine = number_is p t some few
 
   taking : (m : ℕ) (k : Purpose) (first : ℕ) (values : List ℕ) (fs : List MachineFrame) (pt : Point) (x : Thread)
       → is_monitor p m ≡ true → pt ≢ Runs → Takes p t m k first values fs pt x → Taking p t m pt

@@ -3,6 +3,7 @@
 use Rattle.std.proofs.Common.{◌≡◌, ℕ, zero, suc, ◌<◌, true, false, List, Option, Some, None, refl, ap, sym, ◌∙◌, subst}
 use Rattle.std.proofs.Common.{arith, inl, inr, ◌⊎◌}
 use Rattle.std.specs.Prelude.{is_some, slice_get, length}
+use Rattle.words.specs.declared.version.ImageVersion.{ImageVersion}
 use Rattle.robustexit.specs.declared.phase.ExitPhase.{ExitPhase}
 use Rattle.robustexit.specs.declared.phase.ExitPhase.TheVariants.{Entry, Pending, ClearId, LastWake, Ended as Ended'}
 use Rattle.locals.specs.declared.frame.Locals.{Locals}
@@ -50,8 +51,9 @@ use Rattle.proof_simulation.specs.Corresponding.{Reached, Corresponds}
 use Rattle.proof_simulation.proofs.Worlds.{reached_good}
 use Rattle.proof_simulation.proofs.Observing.{not_ended, number_of, few_made}
 
-loses_none : (w : World) (T : Table) → Reached w T → LosesNoWake w T
-loses_none w T r = subst (λ (x : Table). LosesNoWake w x) (sym r.table) (no_wake_lost r.moves w r.led).waking
+loses_none : (version : ImageVersion) (w : World) (T : Table) → Reached version w T → LosesNoWake w T
+loses_none version w T r = subst (λ (x : Table). LosesNoWake w x) (sym r.table)
+    (no_wake_lost version r.moves w r.led).waking
 
 same_process : {x y : Process} → Some y ≡ Some x → y ≡ x
 same_process e = cc
@@ -269,7 +271,7 @@ module _ (p : Program) (w : WellFormed p) (steps : ℕ) (s : State) (c : SourceS
 
   pub at_rest : ((t : ℕ) → CanStep s t → ⊥) → (q : ℕ) → CanMove p c q → ⊥
   at_rest still q can =
-      (loses_none k.world c.table k.reached).at_rest moves q can.moves.label can.after.table (next_of q can)
+      (loses_none p.version k.world c.table k.reached).at_rest moves q can.moves.label can.after.table (next_of q can)
       can.moves.allows
     where
       moves : (t : ℕ) → CanStep' k.world t → ⊥
@@ -286,7 +288,7 @@ module _ (p : Program) (w : WellFormed p) (steps : ℕ) (s : State) (c : SourceS
       → Sleeps s t → CanMove p c t → ⊥
   sleepers others t h can =
       let spot = asleep_spot (place p) (s.asleep t) (k.world.asleep t) h.0 (k.shares.sleeps t) h.1 in
-      (loses_none k.world c.table k.reached).sleepers calm t spot.0 spot.1 can.moves.label can.after.table
+      (loses_none p.version k.world c.table k.reached).sleepers calm t spot.0 spot.1 can.moves.label can.after.table
       (next_of t can) can.moves.allows
     where
       by_state : (u : ℕ) (x : Thread) → s.thread u ≡ Some x → k.world.asleep u ≡ None
@@ -298,12 +300,12 @@ module _ (p : Program) (w : WellFormed p) (steps : ℕ) (s : State) (c : SourceS
           let y = not_ended p w steps s c k u g in cc (over, ap has_ended y.1 ∙ y.2))
       by_state u x there awake (inr (inr free)) =
           let number = number_of p w steps s c k u x there in
-          let valid' = number_is u number.0 (omega (arith, number.1, few_made p w steps s c k)) in
+          let valid' = number_is p u number.0 (omega (arith, number.1, few_made p w steps s c k)) in
           let word : stored_value (place p) (PendingOf u) (k.world.pending u) ≡ 0 =
           sym (k.shares.words.word (PendingOf u) valid') ∙ free.5 in
           outside p w k.world.made c.variable u (k.world.pending u) (s.thread u) (c.process u) (k.world.at u).point
           (k.world.at u).list (k.threads u) (λ e. exiting_runs (s.thread u) e free.0 free.1 free.2 free.3 free.4)
-          ((reached_good k.world c.table k.reached).pends.pend u) word
+          ((reached_good p.version k.world c.table k.reached).pends.pend u) word
 
       calm : (u : ℕ) → k.world.asleep u ≡ None → IsOutside (k.world.at u).point (k.world.pending u)
       calm u awake = by_thread (s.thread u) refl

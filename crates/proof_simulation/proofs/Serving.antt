@@ -5,6 +5,7 @@ use Rattle.std.specs.Int.Bits.{bit_or}
 use Rattle.std.proofs.lemmas.Bool.{cases_eq, eq-eqb, ne_eqb, cond-true, cond-false}
 use Rattle.words.specs.Outcomes.{cause_number}
 use Rattle.words.specs.Updates.{put}
+use Rattle.words.specs.Versions.{most_of}
 use Rattle.buckets.specs.Places.{with_place}
 use Rattle.futexcalls.specs.FutexCalls.{IsChoice, Requeues}
 use Rattle.locals.specs.Looks as M
@@ -171,7 +172,7 @@ module _ (p : Program) (s : State) (w : World) (t : ℕ) (pt : Point)
     serves = h;
     told = same;
     shares = shares;
-    keeps = record { size = refl; made = refl; output = refl; thread = refl; variables = λ m i g. refl };
+    keeps = record { size = refl; most = refl; made = refl; output = refl; thread = refl; variables = λ m i g. refl };
     made = refl;
     at = refl;
     result = refl;
@@ -191,6 +192,7 @@ module _ (p : Program) (s : State) (w : World) (t : ℕ) (pt : Point)
         shares = shares_stored p s w a v ok shares;
         keeps = record {
           size = refl;
+          most = refl;
           made = refl;
           output = refl;
           thread = refl;
@@ -216,7 +218,8 @@ module _ (p : Program) (s : State) (w : World) (t : ℕ) (pt : Point)
         serves = h;
         told = same;
         shares = sh;
-        keeps = record { size = refl; made = refl; output = refl; thread = refl; variables = λ m i g. refl };
+        keeps =
+            record { size = refl; most = refl; made = refl; output = refl; thread = refl; variables = λ m i g. refl };
         made = refl;
         at = refl;
         result = refl;
@@ -317,7 +320,7 @@ module _ (p : Program) (s : State) (w : World) (t : ℕ) (pt : Point)
         (record { woken = one.woken; wake = one.wake; awake = refl }) refl
 
     -- sleepers are processes, and so there are few of them
-    requeues : ((u : ℕ) (c : Member) → w.asleep u ≡ Some (OnSequence c) → u ≤ 64) → (c : Member) (v : ℕ)
+    requeues : ((u : ℕ) (c : Member) → w.asleep u ≡ Some (OnSequence c) → u ≤ 1000) → (c : Member) (v : ℕ)
         → valid p (SequenceOf c) ≡ true → valid p (LockOf c.monitor) ≡ true
         → A.Serves t (M.AskRequeue (place p (SequenceOf c)) (place p (LockOf c.monitor)) 0 everyone v) s woken
         answer mid
@@ -344,7 +347,7 @@ module _ (p : Program) (s : State) (w : World) (t : ℕ) (pt : Point)
             let choice : IsChoice s.asleep (place p (SequenceOf c)) everyone moved =
             subst (λ us. IsChoice (with_place s.asleep us None) (place p (SequenceOf c)) everyone moved) nobody
             (g.moves.choice differ) in
-            let less = short 65 moved (distinct moved choice.distinct) (λ u e.
+            let less = short 1001 moved (distinct moved choice.distinct) (λ u e.
             let spot = spot_at (place p) (valid p) (OnSequence c) (w.asleep u) (apart p) ok
             (λ y z. shares.spots u y z)
             (sym (shares.sleeps u) ∙ choice.slept u (names-mem moved u ∙ e)) in
@@ -352,10 +355,10 @@ module _ (p : Program) (s : State) (w : World) (t : ℕ) (pt : Point)
             omega (arith, small)) in
             omega (arith, less)
 
-    faults : (cause : Cause) → 0 < t → t ≤ 64
+    faults : (cause : Cause) → 0 < t → t ≤ most_of p.version
         → A.Serves t (M.AskFault cause) s woken answer mid → IsAnswered p s mid w t pt (AskFault cause) answer
     faults cause some few h =
-        let ok = number_is t some few in
+        let ok = number_is p t some few in
         stored mid (AskFault cause) answer (w.head t) (OutcomeOf t) (cause_number cause) ok tt
         h.1.1 (refl, refl)
         (h.1.0 ∙ shares.words.word (HeadOf t) ok)
@@ -386,9 +389,9 @@ usual t pt = tt
 
 -- what the machine answers to a usual request, by the request alone
 answered : (p : Program) (s : State) (w : World) (t : ℕ) (pt : Point) (r : Request) (asks : M.Request) (woken : List ℕ)
-    (answer : ℕ) (mid : State) → Shares (place p) (valid p) (shared_of s) w → 0 < t → t ≤ 64
-    → ((c : Member) → w.sequence c + 1 < 4294967296)
-    → ((u : ℕ) (c : Member) → w.asleep u ≡ Some (OnSequence c) → u ≤ 64)
+    (answer : ℕ) (mid : State) → Shares (place p) (valid p) (shared_of s) w → 0 < t
+    → t ≤ most_of p.version → ((c : Member) → w.sequence c + 1 < 4294967296)
+    → ((u : ℕ) (c : Member) → w.asleep u ≡ Some (OnSequence c) → u ≤ 1000)
     → IsUsual r → IsAskable p r → machine_request p r ≡ Some asks → A.Serves t asks s woken answer mid
     → IsAnswered p s mid w t pt r answer
 answered p s w t pt r asks woken answer mid shares some few low sleepers = by_request r
@@ -426,17 +429,19 @@ answered p s w t pt r asks woken answer mid shares some few low sleepers = by_re
     by_request AskExitStep usual ok e h = absurd cc
 
 -- who sleeps on a condition is a process
-sleeper_few : (w : World) (T : Table) → Good w T → (u : ℕ) (c : Member) → w.asleep u ≡ Some (OnSequence c) → u ≤ 64
+sleeper_few : (w : World) (T : Table) → Good w T → (u : ℕ) (c : Member) → w.asleep u ≡ Some (OnSequence c)
+    → u ≤ 1000
 sleeper_few w T good u c e =
     let m = matches w T good in
     let number = m.waiter u c (m.sleeper u c e) in
     let few = good.threads.few in
-    omega (arith, number.1, few)
+    let bound = good.threads.bound in
+    omega (arith, number.1, few, bound)
 
 -- and so to the request of a thread's point
 pub served : (p : Program) (s : State) (w : World) (T : Table) (t : ℕ) (pt : Point) (asks : M.Request) (woken : List ℕ)
-    (answer : ℕ) (mid : State) → Shares (place p) (valid p) (shared_of s) w → Good w T → 0 < t → t ≤ 64
-    → ((c : Member) → w.sequence c + 1 < 4294967296) → IsAskable p (request t pt)
+    (answer : ℕ) (mid : State) → Shares (place p) (valid p) (shared_of s) w → Good w T → 0 < t
+    → t ≤ most_of p.version → ((c : Member) → w.sequence c + 1 < 4294967296) → IsAskable p (request t pt)
     → machine_request p (request t pt) ≡ Some asks
     → A.Serves t asks s woken answer mid → IsServed p s mid w t pt answer
 served p s w T t pt asks woken answer mid shares good some few low ok e h =

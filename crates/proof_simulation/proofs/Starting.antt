@@ -3,6 +3,7 @@ use Rattle.std.proofs.Common.{◌≡◌, ◌≢◌, ℕ, suc, ◌+◌, ◌<◌, 
 use Rattle.std.proofs.Common.{ap, sym, ◌∙◌, subst, arith, inl, inr, ◌⊎◌}
 use Rattle.std.proofs.lemmas.Bool.{cases_eq}
 use Rattle.words.specs.Updates.{put}
+use Rattle.words.specs.Versions.{most_of}
 use Rattle.locals.specs.Threads.{Thread}
 use Rattle.locals.specs.Looks.{Goes, look}
 use Rattle.machine.specs.States.{State}
@@ -46,7 +47,7 @@ use Rattle.proof_simulation.specs.Deferred as W
 module _ (p : Program) (w : WellFormed p) (steps : ℕ) (s : State) (c : SourceState) (k : Corresponds p w steps s c)
     (t : ℕ) (woken : List ℕ) (done : Bool) (deferral : Option Kind) (pauses : Bool) (s' : State) (n : ℕ) (number :
     (0 < t) × (t ≤ k.world.made))
-    (few : k.world.made ≤ 64) (awake : k.world.asleep t ≡ None) (paused : pauses ≡ is_paused s' t) where
+    (few : k.world.made ≤ most_of p.version) (awake : k.world.asleep t ≡ None) (paused : pauses ≡ is_paused s' t) where
   -- a thread on the way to the request of its point
   pub inside_any : (kind : Template) (u : Variables) (pt : Point) (left : ℕ) (x y : Thread) → left ≤ template_steps
       → StepsWithin (build_of p w k.world.made) t left x y → TemplateFits (build_of p w k.world.made) u t kind
@@ -94,7 +95,8 @@ before_of (Notifies c base l fs before after ms) = before
 before_of (Broadcasts c base l fs before after ms) = before
 
 module _ (p : Program) (w : WellFormed p) (steps : ℕ) (s : State) (c : SourceState) (k : Corresponds p w steps s c)
-    (t : ℕ) (number : (0 < t) × (t ≤ k.world.made)) (few : k.world.made ≤ 64) (awake : k.world.asleep t ≡ None)
+    (t : ℕ) (number : (0 < t) × (t ≤ k.world.made)) (few : k.world.made ≤ most_of p.version)
+    (awake : k.world.asleep t ≡ None)
     (point : (k.world.at t).point ≡ Runs) where
   abbrev b : Build
   b = build_of p w k.world.made
@@ -247,11 +249,12 @@ module _ (p : Program) (w : WellFormed p) (steps : ℕ) (s : State) (c : SourceS
     started : Corresponds p w steps s c
     started = record {
       world = world;
-      reached = subst (λ (x : World). Reached x c.table) st.done
-          (subst (λ (T : Table). Reached (after k.world t st.move) T) st.table
-          (reached_on k.world c.table t st.move k.reached st.can));
+      reached = subst (λ (x : World). Reached p.version x c.table) st.done
+          (subst (λ (T : Table). Reached p.version (after k.world t st.move) T) st.table
+          (reached_on p.version k.world c.table t st.move k.reached st.can));
       shares = shares_at (place p) (valid p) (shared_of s) k.world _ k.world.made k.shares;
       size = k.size;
+      most = k.most;
       made = k.made;
       output = k.output;
       variables = k.variables;

@@ -136,10 +136,11 @@ module _ (p : Program) (w : WellFormed p) (steps : ℕ) (s : State) (c : SourceS
         → steps_left (build_of p w served.after.made) c.variable t (on e) stands < n
 
   inv : Good k.world c.table
-  inv = reached_good k.world c.table k.reached
+  inv = reached_good p.version k.world c.table k.reached
 
   is_move : IsMove k.world t pt served.reply served.after
-  is_move = every_step_is_a_move k.reached.moves k.world k.reached.led t pt served.reply served.after number.0 number.1
+  is_move = every_step_is_a_move p.version k.reached.moves k.world k.reached.led t pt served.reply served.after
+      number.0 number.1
       awake point served.serves
 
   abbrev end : End
@@ -148,9 +149,9 @@ module _ (p : Program) (w : WellFormed p) (steps : ℕ) (s : State) (c : SourceS
   abbrev table : Table
   table = table_after k.world c.table t is_move.move
 
-  arrived : Reached (on end) table
-  arrived = subst (λ (x : World). Reached x table) is_move.done
-      (reached_on k.world c.table t is_move.move k.reached is_move.can)
+  arrived : Reached p.version (on end) table
+  arrived = subst (λ (x : World). Reached p.version x table) is_move.done
+      (reached_on p.version k.world c.table t is_move.move k.reached is_move.can)
 
   permits : PermitsMove (event end) c.table table
   permits = subst (λ (e : Option Event). PermitsMove e c.table table) (is_move.carries c.table)
@@ -162,10 +163,11 @@ module _ (p : Program) (w : WellFormed p) (steps : ℕ) (s : State) (c : SourceS
       → ((m : ℕ) → mem m list ≡ true → m < length p.monitors) → (IsBefore (to end) → k.world.result t ≡ 0)
       → Follow p w steps s c k t s' c' y process (to end) list (on end)
   follow c' process is v o ps stands listed blank = record {
-    reached = subst (λ (T : Table). Reached (on end) T) (sym is) arrived;
+    reached = subst (λ (T : Table). Reached p.version (on end) T) (sym is) arrived;
     shares = subst (λ (x : State). Shares (place p) (valid p) (shared_of x) (on end)) (sym same)
         (shares_at (place p) (valid p) (shared_of mid) served.after _ served.after.made served.shares);
     size = ap (λ (x : State). x.size) same ∙ served.keeps.size;
+    most = ap (λ (x : State). x.most) same ∙ served.keeps.most;
     made = ap (λ (x : State). x.made) same ∙ served.keeps.made ∙ k.made ∙ sym served.made;
     more = omega (arith, served.made);
     output = ap (λ (x : State). x.output) same ∙ served.keeps.output ∙ k.output ∙ sym o;

@@ -10,6 +10,7 @@ use Rattle.program.specs.WellFormed.{WellFormed}
 use Rattle.lowering.specs.Pieces.{code_of, marks_of}
 use Rattle.proof_thread.specs.Deferrals.{last_mark, deferred_by_mark, mark_of}
 use Rattle.words.specs.declared.outcome.Fault.TheVariants.{HandleNotJoinable}
+use Rattle.words.specs.Versions.{most_of}
 use Rattle.meaning.specs.Labels.{Kind, Faulted}
 use Rattle.meaning.specs.Processes.{Process, Dying, holds}
 use Rattle.meaning.specs.States.{SourceState}
@@ -46,7 +47,7 @@ same_thread e = cc
 module _ (p : Program) (w : WellFormed p) (steps : ℕ) (s : State) (c : SourceState) (k : Corresponds p w steps s c)
     (t : ℕ) (woken : List ℕ) (done : Bool) (deferral : Option Kind) (pauses : Bool) (s' : State) (n : ℕ) (number :
     (0 < t) × (t ≤ k.world.made))
-    (few : k.world.made ≤ 64) (awake : k.world.asleep t ≡ None) (paused : pauses ≡ is_paused s' t) where
+    (few : k.world.made ≤ most_of p.version) (awake : k.world.asleep t ≡ None) (paused : pauses ≡ is_paused s' t) where
   abbrev b : Build
   b = build_of p w k.world.made
 

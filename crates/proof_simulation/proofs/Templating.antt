@@ -3,6 +3,7 @@ use Rattle.std.proofs.Common.{◌≡◌, ◌≢◌, ℕ, suc, ◌+◌, ◌<◌, 
 use Rattle.std.proofs.Common.{Some, None, refl, ap, sym, ◌∙◌, subst, arith, inl, inr}
 use Rattle.std.specs.Prelude.{◌||◌, is_some}
 use Rattle.std.proofs.lemmas.Bool.{or_right, cases_eq, ne_eqb}
+use Rattle.words.specs.Versions.{most_of}
 use Rattle.locals.specs.Threads.{Thread}
 use Rattle.locals.specs.Looks.{Look, Asks, look}
 use Rattle.machine.specs.States.{State, with_thread}
@@ -127,12 +128,12 @@ awake_at at a (Some x) e h = absurd (cc (e, h))
 module _ (p : Program) (w : WellFormed p) (steps : ℕ) (s : State) (c : SourceState) (k : Corresponds p w steps s c)
     (t : ℕ) (woken : List ℕ) (done : Bool) (deferral : Option Kind) (pauses : Bool) (s' : State) (n : ℕ) (number :
     (0 < t) × (t ≤ k.world.made))
-    (few : k.world.made ≤ 64) (awake : k.world.asleep t ≡ None) (paused : pauses ≡ is_paused s' t) where
+    (few : k.world.made ≤ most_of p.version) (awake : k.world.asleep t ≡ None) (paused : pauses ≡ is_paused s' t) where
   abbrev b : Build
   b = build_of p w k.world.made
 
   inv : Good k.world c.table
-  inv = reached_good k.world c.table k.reached
+  inv = reached_good p.version k.world c.table k.reached
 
   module _ (kind : Template) (u : Variables) (pt : Point) (x : Thread) (fits : TemplateFits b u t kind)
       (same : SameBefore kind pt u c.variable) (ne : pt ≢ Runs) (stands : StandsIn p t kind pt x)
@@ -234,7 +235,7 @@ module _ (p : Program) (w : WellFormed p) (steps : ℕ) (s : State) (c : SourceS
           → done ≡ is_some (source_event k.world c.table t pt sv.reply sv.after e)
       shown e may = seen ∙ ap (λ a. completes p goes.asks a) sv.told
           ∙ point_completes p k.world c.table t pt sv.reply sv.after e (k.world.at t).list goes.asks
-          (number_is t number.0 (omega (arith, number.1, few))) (listed_at k.world c.table t pt inv point) may
+          (number_is p t number.0 (omega (arith, number.1, few))) (listed_at k.world c.table t pt inv point) may
           within.askable goes.same
 
       answered : Next p w steps s' t done deferral pauses n c (stages k.world)

@@ -166,7 +166,7 @@ module _ (p : Program) (w : WellFormed p) where
       by_thread None e = unmade (s.thread n) (c.process n) (k.world.at n).point (k.world.at n).list (k.threads n) e
       by_thread (Some x) e =
           let number = number_of p w steps s c k n x e in
-          let made = (reached_good k.world c.table k.reached).made in
+          let made = (reached_good p.version k.world c.table k.reached).made in
           absurd (omega (arith, number.1, made))
 
   -- a step of the machine, which is none that others learn of, or is one; and what waits behind it

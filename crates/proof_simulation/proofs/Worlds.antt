@@ -1,6 +1,8 @@
 -- Worlds that moves lead to, and the memories that hold their words.
 use Rattle.std.proofs.Common.{◌≡◌, ℕ, Bool, true, Option, List, [], ◌∷◌, ◌++◌, refl, ap, sym, ◌∙◌, subst}
 use Rattle.words.specs.Updates.{put}
+use Rattle.words.specs.declared.version.ImageVersion.{ImageVersion}
+use Rattle.words.specs.Versions.{most_of}
 use Rattle.meaning.specs.Table.{Table, first_table}
 use Rattle.protocol.specs.Points.{Spot, Thread as Place}
 use Rattle.protocol.specs.World.{World, opening_world}
@@ -13,7 +15,7 @@ use Rattle.protocol.specs.Cells.{SequenceOf, cell, write}
 use Rattle.protocol.specs.Exits.{Shares, sleep_address}
 use Rattle.protocol.specs.Memory.{Agrees, stored_value, IsApart}
 use Rattle.protocol.proofs.Good.{Good}
-use Rattle.protocol.proofs.Rest.{good_run}
+use Rattle.protocol.proofs.Rest.{good_run, most_kept}
 use Rattle.robustexit.specs.RobustExit.{Shared}
 use Rattle.proof_simulation.specs.Corresponding.{Reached}
 use Rattle.protocol.proofs.Sleeps.{at_put, put_same, put_other}
@@ -30,17 +32,20 @@ table_on : (ss : List (ℕ × Move)) (w w' : World) (T : Table) (t : ℕ) (m : M
 table_on [] w w' T t m run = ap (λ (x : World). table_after x T t m) (sym run)
 table_on (s ∷ ss) w w' T t m run = table_on ss (after w s.0 s.1) w' (table_after w T s.0 s.1) t m run.1
 
-pub reached_on : (w : World) (T : Table) (t : ℕ) (m : Move) → Reached w T → Can w t m
-    → Reached (after w t m) (table_after w T t m)
-reached_on w T t m r can = record {
+pub reached_on : (version : ImageVersion) (w : World) (T : Table) (t : ℕ) (m : Move) → Reached version w T → Can w t m
+    → Reached version (after w t m) (table_after w T t m)
+reached_on version w T t m r can = record {
   moves = r.moves ++ (t, m) ∷ [];
-  led = leads_on r.moves opening_world w t m r.led can;
-  table = ap (λ (x : Table). table_after w x t m) r.table ∙ sym (table_on r.moves opening_world w first_table t m
-      r.led);
+  led = leads_on r.moves (opening_world version) w t m r.led can;
+  table = ap (λ (x : Table). table_after w x t m) r.table
+      ∙ sym (table_on r.moves (opening_world version) w (first_table (most_of version)) t m r.led);
 }
 
-pub reached_good : (w : World) (T : Table) → Reached w T → Good w T
-reached_good w T r = subst (λ (x : Table). Good w x) (sym r.table) (good_run r.moves w r.led)
+pub reached_good : (version : ImageVersion) (w : World) (T : Table) → Reached version w T → Good w T
+reached_good version w T r = subst (λ (x : Table). Good w x) (sym r.table) (good_run version r.moves w r.led)
+
+pub reached_most : (version : ImageVersion) (w : World) (T : Table) → Reached version w T → w.most ≡ most_of version
+reached_most version w T r = most_kept r.moves (opening_world version) w r.led
 
 -- where threads stand, and how many there are, is no word
 same_cells : (w : World) (at : ℕ → Place) (made : ℕ) (asleep : ℕ → Option Spot) (a : Cell)

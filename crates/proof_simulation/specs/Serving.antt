@@ -33,6 +33,7 @@ IsAskable p AskExitStep = Unit {0}
 -- what stays as it was
 pub record Keeps (p : Program) (s mid : State) : Type 0 where
   pub size : mid.size ≡ s.size
+  pub most : mid.most ≡ s.most
   pub made : mid.made ≡ s.made
   pub output : mid.output ≡ s.output
   pub thread : mid.thread ≡ s.thread

@@ -852,7 +852,8 @@ moves_plainly w t p r w' d h = record {
   carries = h.carries;
 }
 
-pub every_step_is_a_move : (version : ImageVersion) (ss : List (ℕ × Move)) (w : World) → Leads (opening_world version) ss w
+pub every_step_is_a_move : (version : ImageVersion) (ss : List (ℕ × Move)) (w : World)
+    → Leads (opening_world version) ss w
     → (t : ℕ) (p : Point) (r : ℕ) (w' : World) → 0 < t → t ≤ w.made → w.asleep t ≡ None → (w.at t).point ≡ p
     → Serves w t p (request t p) r w' → IsMove w t p r w'
 every_step_is_a_move version ss w run t p r w' pos high a s d = moves_plainly w t p r w' d

@@ -44,8 +44,8 @@ use Rattle.protocol.specs.Moves.{KeepWake, KeepAlone}
 use Rattle.protocol.proofs.KeptLocks.{kept_locks}
 use Rattle.protocol.proofs.KeptLists.{kept_chains, kept_pends, kept_homes, kept_fresh, kept_marks}
 use Rattle.protocol.proofs.KeptConds.{kept_conds, waiter_made, resuming}
-use Rattle.protocol.proofs.KeptEnds.{kept_joins, kept_threads, kept_ends, kept_claims, kept_refusals, kept_made, kept_most}
-use Rattle.protocol.proofs.KeptEnds.{claim_free, refused_claim, over_at}
+use Rattle.protocol.proofs.KeptEnds.{kept_joins, kept_threads, kept_ends, kept_claims, kept_refusals, kept_made}
+use Rattle.protocol.proofs.KeptEnds.{kept_most, claim_free, refused_claim, over_at}
 use Rattle.protocol.proofs.Good.{Good, known_at, chain_at, mine_at, head_in}
 
 pub kept : (w : World) (T : Table) (t : ℕ) (m : Move) → Good w T → Can w t m → Good (after w t m) (table_after w T t m)
@@ -231,7 +231,8 @@ permitted w T t (EntryWake e x end woken) inv can = (
 permitted w T t (PendAlone e end) inv can = (refl, holds_pending w T t e (PendAlone e end) inv can refl)
 permitted w T t (PendWake e end woken) inv can = (refl, holds_pending w T t e (PendWake e end woken) inv can refl)
 permitted w T t (ClearId end) inv can = (refl, tt)
-permitted w T t (Fork parent) inv can = ((rw inv.made (rw inv.most can.finds.1), omega (arith, can.finds.0, inv.made), refl), tt)
+permitted w T t (Fork parent) inv can =
+    ((rw inv.made (rw inv.most can.finds.1), omega (arith, can.finds.0, inv.made), refl), tt)
 permitted w T t ForkFull inv can = ((rw inv.made (rw inv.most can.finds), refl), tt)
 permitted w T t (Claim q) inv can = ((claim_free w T q inv can.finds.2, refl), tt)
 permitted w T t (ClaimTaken q) inv can = ((refused_claim w T t q inv can.stands, refl), tt)

@@ -88,8 +88,10 @@ unmade u h g = subst (λ b. Goes (if b then thread_at Runs [] else thread_at Unm
 
 -- three threads were made; of each it is known that it can't move
 still : (rules : Rules) (ss : List (ℕ × Move)) → all_below 4 ss ≡ true
-    → (CanStep (world_after (opening_under One rules) ss) 0 → ⊥) → (CanStep (world_after (opening_under One rules) ss) 1 → ⊥)
-    → (CanStep (world_after (opening_under One rules) ss) 2 → ⊥) → (CanStep (world_after (opening_under One rules) ss) 3 → ⊥)
+    → (CanStep (world_after (opening_under One rules) ss) 0 → ⊥)
+    → (CanStep (world_after (opening_under One rules) ss) 1 → ⊥)
+    → (CanStep (world_after (opening_under One rules) ss) 2 → ⊥)
+    → (CanStep (world_after (opening_under One rules) ss) 3 → ⊥)
     → (t : ℕ) → CanStep (world_after (opening_under One rules) ss) t → ⊥
 still rules ss below none one two three t h = elim (cases_eq t 0) [
   | inl q ↦ none (subst (CanStep (world_after (opening_under One rules) ss)) q h)

@@ -235,12 +235,21 @@ pub good_run : (version : ImageVersion) (ss : List (ℕ × Move)) (w : World) �
     → Good w (last_table (opening_world version) (first_table (most_of version)) ss)
 good_run version ss w run = good_under version standard_rules (inl refl) ss w run
 
+-- moves don't change the rules
 pub rules_kept : (ss : List (ℕ × Move)) (w w' : World) → Leads w ss w' → w'.rules ≡ w.rules
 rules_kept [] w w' run = ap (λ x. x.rules) run
 rules_kept (s ∷ ss) w w' run = rules_kept ss (after w s.0 s.1) w' run.1 ∙ same_rules w s.0 s.1 where
   same_rules : (w : World) (t : ℕ) (m : Move) → (after w t m).rules ≡ w.rules
   same_rules w t (AddSeq c) = refl
   same_rules w t m = refl
+
+-- nor how many threads there can be
+pub most_kept : (ss : List (ℕ × Move)) (w w' : World) → Leads w ss w' → w'.most ≡ w.most
+most_kept [] w w' run = ap (λ x. x.most) run
+most_kept (s ∷ ss) w w' run = most_kept ss (after w s.0 s.1) w' run.1 ∙ same_most w s.0 s.1 where
+  same_most : (w : World) (t : ℕ) (m : Move) → (after w t m).most ≡ w.most
+  same_most w t (AddSeq c) = refl
+  same_most w t m = refl
 
 -- a sequence number is raised at most once by a move
 raised : (w : World) (t : ℕ) (m : Move) (d : Member) → (after w t m).sequence d ≤ suc (w.sequence d)
@@ -262,7 +271,8 @@ safe_no_wake_lost version rules safe ss w run =
     run in
     record {
       permits = k.0;
-      matches = subst (λ (x : Rules). Matches x w (last_table (opening_under version rules) (first_table (most_of version)) ss))
+      matches = subst
+          (λ (x : Rules). Matches x w (last_table (opening_under version rules) (first_table (most_of version)) ss))
           (rules_kept ss (opening_under version rules) w run)
           (matches w (last_table (opening_under version rules) (first_table (most_of version)) ss) k.1);
       waking = loses_none w (last_table (opening_under version rules) (first_table (most_of version)) ss) k.1;

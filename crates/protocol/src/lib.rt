@@ -22,8 +22,8 @@ ghost use Rattle.protocol.specs.Cells.{Cell};
 ghost use Rattle.protocol.specs.Memory.{IsApart};
 ghost use Rattle.protocol.specs.Calls.{CallsFollow};
 
-/// For each version of an image: each run of moves is explained by the source: the labels that it carries, in order, are
-/// allowed one after another, to a table that is that of the last world, in which no wake was lost.
+/// For each version of an image: each run of moves is explained by the source: the labels that it carries, in order,
+/// are allowed one after another, to a table that is that of the last world, in which no wake was lost.
 pub fn no_wake_lost()
     ensures { (version : ImageVersion) (ss : List (ℕ × Move)) (w : World)
         → Leads (opening_world version) ss w

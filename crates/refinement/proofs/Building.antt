@@ -89,6 +89,7 @@ arrays_low p w m n is =
 
 pub is_build : (p : Program) (w : WellFormed p) (made : ℕ) → IsBuild (build_of p w made)
 is_build p w made = record {
+  version = refl;
   role = λ n q there. (w.procedures n q there).role;
   recovers = w.recovers;
   low = arrays_low p w;
