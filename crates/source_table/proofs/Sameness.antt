@@ -1,8 +1,6 @@
 -- What `==` says of the parts of a table.
-use Rattle.std.proofs.Common.{◌≡◌, ◌&&◌, ◌==◌, ◌∷◌, List, [], Bool, true, false, refl, ap, arith, rules}
-use Rattle.std.proofs.lemmas.Grind.{common_steps}
+use Rattle.std.proofs.Common.{◌≡◌, ◌&&◌, ◌==◌, ◌∷◌, List, [], Bool, true, false, refl, ap, rules}
 use Rattle.std.proofs.lemmas.Bool.Decides.{Decides-eqb, Decides-int_eq}
-use Rattle.std.specs.Bool.{Decides}
 use Rattle.std.specs.Cmp.Lexicographic.{pointwise}
 use Rattle.words.specs.declared.outcome.Fault.{Fault}
 use Rattle.words.specs.contracts.outcome.FaultPartialEq as fault
@@ -11,6 +9,9 @@ use Rattle.words.specs.declared.outcome.Cause.TheVariants.{Faulted, Killed}
 use Rattle.source_offers.specs.declared.process.End.{End}
 use Rattle.source_offers.specs.declared.process.End.TheVariants.{Ended, Aborted}
 use Rattle.words.specs.contracts.outcome.CausePartialEq as cause
+use Rattle.words.specs.declared.version.ImageVersion.{ImageVersion}
+use Rattle.words.specs.contracts.version.ImageVersionPartialEq as version
+use Rattle.words.specs.Versions.{most_of}
 use Rattle.source_offers.specs.contracts.process.EndPartialEq as end
 use Rattle.source_table.specs.declared.table.Hold.{Hold}
 use Rattle.source_table.specs.declared.table.Hold.TheVariants.{Free, Abandoned, HeldBy}
@@ -21,8 +22,7 @@ use Rattle.source_table.specs.contracts.table.TablePartialEq as table
 use Rattle.source_table.specs.Tables.{table_of, or_free}
 use Rattle.source_offers.specs.Stages.{end_of}
 use Rattle.program.specs.contracts.kinds.MemberPartialEq as member
-use Rattle.std.specs.BTreeMap.{BTreeMap, is_at}
-use Rattle.std.specs.BTreeSet.{BTreeSet}
+use Rattle.std.specs.BTreeMap.{is_at}
 use Rattle.std.specs.List.{list_any}
 use Rattle.std.specs.Map.{lookup}
 use Rattle.std.specs.Ordering.{nat_cmp}
@@ -59,6 +59,9 @@ same_end (Ended y) (Aborted z) e = absurd (cc)
 same_end (Aborted y) (Ended z) e = absurd (cc)
 same_end (Aborted y) (Aborted z) e = ap Aborted (same_cause y z e)
 
+same_version : (a b : ImageVersion) → version.TheImpl.ghosts.eq a b ≡ true → a ≡ b
+same_version a b e = search rules
+
 pub same_hold : (a b : Hold) → hold.TheImpl.ghosts.eq a b ≡ true → a ≡ b
 same_hold Free Free e = refl
 same_hold Free Abandoned e = absurd (cc)
@@ -84,16 +87,19 @@ same_entries {X} E exact xs ys e = pointwise_same (λ (p q : ℕ × X). (p.0 == 
 
 pub same_table : (s t : TableOf) → table.TheImpl.ghosts.eq s t ≡ true → table_of s ≡ table_of t
 same_table s t e =
-    let h = and_true _ _ e in
+    let v = and_true _ _ e in
+    let h = and_true _ _ v.1 in
     let w = and_true _ _ h.1 in
     let l = and_true _ _ w.1 in
     let m = and_true _ _ l.1 in
+    let version = same_version s.version t.version v.0 in
     let holds = same_entries hold.TheImpl.ghosts.eq same_hold s.holds.entries t.holds.entries h.0 in
     let waits = same_entries member.TheImpl.ghosts.eq (λ a b. (decides_member a b).0) s.waits.entries t.waits.entries w.0 in
     let claimed = pointwise_same _ (λ (a b : ℕ). (Decides-eqb a b).0) s.claimed.keys t.claimed.keys l.0 in
     let made = (Decides-eqb s.made t.made).0 m.0 in
     let over = same_entries end.TheImpl.ghosts.eq same_end s.over.entries t.over.entries m.1 in
     λ i. record {
+      most = most_of (version i);
       hold = λ n. or_free (lookup (is_at (nat_cmp n)) (holds i));
       waits = λ q. lookup (is_at (nat_cmp q)) (waits i);
       claimed = λ q. list_any (is_at (nat_cmp q)) (claimed i);

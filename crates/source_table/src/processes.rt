@@ -6,7 +6,6 @@ ghost use Rattle.source_offers.specs.Stages.{end_of};
 use crate::table::Table;
 use source_offers::End;
 use std::alloc::AllocError;
-use words::MOST_THREADS;
 
 impl Table {
     ghost use Rattle.source_table.specs.Tables.{table_of};
@@ -17,7 +16,7 @@ impl Table {
             (Allows p FindsFull (table_of self.old) (table_of self.new))
             (λ child. Allows p (Forks child) (table_of self.old) (table_of self.new)) }
     {
-        if self.made >= u64::from(MOST_THREADS) {
+        if self.made >= self.most() {
             return None;
         }
         self.made += 1;

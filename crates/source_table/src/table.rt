@@ -1,4 +1,5 @@
 ghost use Rattle.std.specs.Prelude.{◌≡◌, IfOk, option_map, true};
+ghost use Rattle.words.specs.Versions.{most_of};
 ghost use Rattle.meaning.specs.Table.{first_table};
 ghost use Rattle.source_offers.specs.Stages.{end_of};
 
@@ -6,6 +7,7 @@ use program::Member;
 use source_offers::End;
 use std::alloc::{AllocError, Global};
 use std::collections::{BTreeMap, BTreeSet};
+use words::ImageVersion;
 
 /// Whether a monitor is free.
 #[derive(Clone, Copy, PartialEq, Eq, Debug)]
@@ -21,6 +23,8 @@ pub enum Hold {
 /// Monitors, conditions and the process table. `table_of` makes it the table of the meaning.
 #[derive(PartialEq, Drop)]
 pub struct Table {
+    // Says how many processes there can be.
+    pub(crate) version: ImageVersion,
     // Of each monitor that was entered once; every other is free.
     pub(crate) holds: BTreeMap<u32, Hold>,
     // The condition of each process that waits.
@@ -36,17 +40,25 @@ pub struct Table {
 impl Table {
     ghost use Rattle.source_table.specs.Tables.{hold_of, table_of};
 
-    /// The table as it begins.
-    pub fn new(alloc: Global) -> Table
-        ensures { table_of result ≡ first_table }
+    /// The table as it begins, for an image of this version.
+    pub fn new(alloc: Global, version: ImageVersion) -> Table
+        ensures { table_of result ≡ first_table (most_of version) }
     {
         Table {
+            version,
             holds: BTreeMap::new(alloc),
             waits: BTreeMap::new(alloc),
             claimed: BTreeSet::new(alloc),
             made: 1,
             over: BTreeMap::new(alloc),
         }
+    }
+
+    /// How many processes there can be.
+    pub fn most(&self) -> u64
+        ensures { result ≡ (table_of self.now).most }
+    {
+        u64::from(self.version.most_processes())
     }
 
     /// Who holds a monitor.
@@ -86,11 +98,13 @@ impl Table {
     {
         self.over.get(&process).copied()
     }
+
     /// The same table once more.
     pub fn copy(&self) -> Result<Table, AllocError>
         ensures { IfOk result (λ t. table_of t ≡ table_of self.now) }
     {
         Ok(Table {
+            version: self.version,
             holds: self.holds.clone()?,
             waits: self.waits.clone()?,
             claimed: self.claimed.clone()?,
