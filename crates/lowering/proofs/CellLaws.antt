@@ -73,7 +73,8 @@ same_monitor p c d m n hc hd e =
     ]
 
 above : (p : Program) (c : Cell) (m : ℕ) → Inside p c m → base_of p.version ≤ address p c
-above p c m (inside m' x ex low high) = let h = link_above (base_of p.version) p.monitors m x ex in omega (arith, h, low)
+above p c m (inside m' x ex low high) =
+    let h = link_above (base_of p.version) p.monitors m x ex in omega (arith, h, low)
 
 below : (p : Program) (t : ℕ) (w : ProcessWord) → IsCell p (OfProcess t w)
     → address p (OfProcess t w) < base_of p.version

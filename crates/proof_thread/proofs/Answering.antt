@@ -22,7 +22,7 @@ use Rattle.meaning.specs.Processes.{Frame, Caller, Process, Before, Leaving, goe
 use Rattle.meaning.specs.Offers.{offer, with_value, return_value, answers}
 use Rattle.proof_thread.specs.Evaluation.{OfType}
 use Rattle.proof_thread.specs.Walks.{StandAt}
-use Rattle.proof_thread.specs.Following.{Build, ShowsResult}
+use Rattle.proof_thread.specs.Following.{Build, most_made, ShowsResult}
 use Rattle.proof_thread.specs.Completing.{Proceeds}
 use Rattle.proof_thread.specs.Builds.{IsBuild}
 use Rattle.proof_thread.proofs.Walking.{front_stands, back_stands}
@@ -66,7 +66,7 @@ module _ (b : Build) (is : IsBuild b) (t : ℕ) (v : Variables) (place : ℕ) (l
       let at : place + 0 ≡ place = omega arith in
       proceeds_wider b t v 1 (steps_of (Return None)) x pending (omega arith)
       (leaves_at b t v None place l fs c.number procedure cs (pos 0) pending hands c.callers
-      (subst (λ (k : Option ValueType). ShowsResult b.made k None (pos 0)) (sym same) refl)
+      (subst (λ (k : Option ValueType). ShowsResult (most_made b) b.made k None (pos 0)) (sym same) refl)
       (subst (λ k. StandAt b.code place (ending_code (setting_of b.program b.starts procedure) k)) at code) o refl)
   value_returns None (Some u) e same hands fit code space o = absurd fit
   value_returns (Some y) None e same hands fit code space o = absurd fit
@@ -81,8 +81,9 @@ module _ (b : Build) (is : IsBuild b) (t : ℕ) (v : Variables) (place : ℕ) (l
       pending o
       refl give
       (λ z is_z o'. leaves_at b t v (Some (word_of z)) end l fs c.number procedure cs z pending hands c.callers
-      (subst (λ (k : Option ValueType). ShowsResult b.made k (Some (word_of z)) z) (sym same)
-      (refl, subst (OfType b.made u) is_z (ev.type y u fit))) (back_stands b.code place first last code) o' refl))
+      (subst (λ (k : Option ValueType). ShowsResult (most_made b) b.made k (Some (word_of z)) z) (sym same)
+      (refl, subst (OfType (most_made b) b.made u) is_z (ev.type y u fit)))
+      (back_stands b.code place first last code) o' refl))
 
   hands_over : HandsOver procedure.role → Proceeds b t v (steps_of (Return value)) x (goes_on entered f cs)
   hands_over hands =

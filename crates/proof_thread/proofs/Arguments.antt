@@ -4,6 +4,7 @@ use Rattle.std.proofs.Common.{Some, slice_get, refl, ap, sym, ◌∙◌, subst, 
 use Rattle.std.specs.Prelude.{slice_index, slice_set, replicate}
 use Rattle.words.specs.Signed.{word_of}
 use Rattle.words.specs.declared.outcome.Cause.TheVariants.{Faulted}
+use Rattle.words.specs.Versions.{most_of}
 use Rattle.isa.specs.declared.instr.Instr.TheVariants.{SetLocal}
 use Rattle.isa.specs.declared.slot.Slot.TheVariants.{Local as Slot'}
 use Rattle.proof_thread.specs.Deferrals.{MarkedImage, deferred_by_mark}
@@ -44,17 +45,21 @@ GivesAll p t view n x (Values zs) place operands l fs = WalksWithin p t view n x
     (Runs place (stacked zs operands) l fs)
 GivesAll p t view n x (FailsAll fault) place operands l fs = WalksWithin p t view n x (Dies (Faulted fault))
 
-abbrev pub HaveAll : ℕ → List ValueType → EvaluatedAll → Type 0
-HaveAll made ts (Values zs) = HaveValues made ts zs
-HaveAll made ts (FailsAll fault) = Unit {0}
+abbrev pub HaveAll : ℕ → ℕ → List ValueType → EvaluatedAll → Type 0
+HaveAll most made ts (Values zs) = HaveValues most made ts zs
+HaveAll most made ts (FailsAll fault) = Unit {0}
 
 module _ (image : MarkedImage) (made t : ℕ) (s : Scope) (v : Variables) (values : List ℤ) (l : Locals)
     (ev : Evaluates image made t s v values l) where
+  -- how many processes there can be
+  abbrev limit : ℕ
+  limit = most_of s.program.version
+
   -- what is in view there
   abbrev view : View
   view = view_in s v
 
-  pub arguments_typed : (es : List Expression) (ts : List ValueType) → ArgumentsFit s es ts → HaveAll made ts
+  pub arguments_typed : (es : List Expression) (ts : List ValueType) → ArgumentsFit s es ts → HaveAll limit made ts
       (evaluate_all s.program v values es)
   arguments_typed [] [] h = tt
   arguments_typed [] (u ∷ ts) h = absurd h
@@ -62,8 +67,8 @@ module _ (image : MarkedImage) (made t : ℕ) (s : Scope) (v : Variables) (value
   arguments_typed (e ∷ es) (u ∷ ts) h = both (evaluate s.program v values e) (evaluate_all s.program v values es)
       (ev.type e u h.0) (arguments_typed es ts h.1)
     where
-      both : (a : Evaluated) (as' : EvaluatedAll) → OfType made u a → HaveAll made ts as'
-          → HaveAll made (u ∷ ts) (put_first a as')
+      both : (a : Evaluated) (as' : EvaluatedAll) → OfType limit made u a → HaveAll limit made ts as'
+          → HaveAll limit made (u ∷ ts) (put_first a as')
       both (Value z) (Values zs) k m = (k, m)
       both (Value z) (FailsAll fault) k m = tt
       both (Fails fault) (Values zs) k m = tt
@@ -213,22 +218,23 @@ get_cases (x ∷ zs) ys (suc i) z h = up (get_cases zs ys i z h)
     up (inl (a, c)) = inl (omega (arith, a), c)
     up (inr (j, a, c)) = inr (j, omega (arith, a), c)
 
-pub locals_typed : (made : ℕ) → (ts us : List ValueType) (zs : List ℤ) → HaveValues made ts zs
-    → HaveValues made (ts ++ us) (zs ++ zeros us)
-locals_typed made [] us [] h = all_zeros us
+pub locals_typed : (most made : ℕ) → (ts us : List ValueType) (zs : List ℤ) → HaveValues most made ts zs
+    → HaveValues most made (ts ++ us) (zs ++ zeros us)
+locals_typed most made [] us [] h = all_zeros us
   where
-    all_zeros : (us : List ValueType) → HaveValues made us (zeros us)
+    all_zeros : (us : List ValueType) → HaveValues most made us (zeros us)
     all_zeros [] = tt
-    all_zeros (u ∷ us) = (zero_value made u, all_zeros us)
-locals_typed made [] us (z ∷ zs) h = absurd h
-locals_typed made (t ∷ ts) us [] h = absurd h
-locals_typed made (t ∷ ts) us (z ∷ zs) h = (h.0, locals_typed made ts us zs h.1)
+    all_zeros (u ∷ us) = (zero_value most made u, all_zeros us)
+locals_typed most made [] us (z ∷ zs) h = absurd h
+locals_typed most made (t ∷ ts) us [] h = absurd h
+locals_typed most made (t ∷ ts) us (z ∷ zs) h = (h.0, locals_typed most made ts us zs h.1)
 
-pub values_length : (made : ℕ) → (ts : List ValueType) (zs : List ℤ) → HaveValues made ts zs → length zs ≡ length ts
-values_length made [] [] h = refl
-values_length made [] (z ∷ zs) h = absurd h
-values_length made (t ∷ ts) [] h = absurd h
-values_length made (t ∷ ts) (z ∷ zs) h = ap suc (values_length made ts zs h.1)
+pub values_length : (most made : ℕ) → (ts : List ValueType) (zs : List ℤ) → HaveValues most made ts zs
+    → length zs ≡ length ts
+values_length most made [] [] h = refl
+values_length most made [] (z ∷ zs) h = absurd h
+values_length most made (t ∷ ts) [] h = absurd h
+values_length most made (t ∷ ts) (z ∷ zs) h = ap suc (values_length most made ts zs h.1)
 
 -- the locals of a procedure that begins
 pub opening_holds : (zs : List ℤ) (us : List ValueType) → length zs ≤ 64 → HoldValues

@@ -7,6 +7,7 @@ use Rattle.words.specs.declared.process.ProcessWord.{ProcessWord}
 use Rattle.words.specs.declared.process.ProcessWord.TheVariants.{Id, Claim, Result, Outcome}
 use Rattle.words.specs.declared.outcome.Fault.TheVariants.{HandleNotJoinable}
 use Rattle.words.specs.Process.{process_word, number_of}
+use Rattle.words.specs.Versions.{most_of}
 use Rattle.words.specs.declared.outcome.Cause.TheVariants.{Faulted}
 use Rattle.isa.specs.declared.instr.Instr.{Instr}
 use Rattle.isa.specs.declared.instr.Instr.TheVariants.{ProcessAddress}
@@ -33,14 +34,14 @@ stand_index p place (x ∷ xs) zero k i h e same =
 stand_index p place (x ∷ xs) (suc n) k i h e same = stand_index p (place + 1) xs n k i h.1 e (omega (arith, same))
 
 -- the address of a word of a process that there can be
-address_step : (t place h : ℕ) (word : ProcessWord) (rest : List ℕ) (l : Locals) (fs : List MachineFrame) → 0 < h
-    → h ≤ 64
-    → at_place place l fs (effect t (ProcessAddress word) (h ∷ rest) l)
+address_step : (most t place h : ℕ) (word : ProcessWord) (rest : List ℕ) (l : Locals) (fs : List MachineFrame) → 0 < h
+    → h ≤ most
+    → at_place place l fs (effect most t (ProcessAddress word) (h ∷ rest) l)
     ≡ Goes (Runs (place + 1) (process_word h (number_of word) ∷ rest) l fs)
-address_step t place h word rest l fs some few =
-    ap (λ k. if_so (k && nat_le h 64) (Goes (Runs (place + 1) (process_word h (number_of word) ∷ rest) l fs)))
+address_step most t place h word rest l fs some few =
+    ap (λ k. if_so (k && nat_le h most) (Goes (Runs (place + 1) (process_word h (number_of word) ∷ rest) l fs)))
     (le-leb 1 h (omega (arith, some)))
-    ∙ ap (λ k. if_so k (Goes (Runs (place + 1) (process_word h (number_of word) ∷ rest) l fs))) (le-leb h 64 few)
+    ∙ ap (λ k. if_so k (Goes (Runs (place + 1) (process_word h (number_of word) ∷ rest) l fs))) (le-leb h most few)
 
 module _ (p : MarkedImage) (t : ℕ) (view : View) (base : ℕ) (into : Option ℕ)
     (code : StandAt p base (rebase_all base (join_code into))) (l : Locals) (fs : List MachineFrame) where
@@ -50,7 +51,7 @@ module _ (p : MarkedImage) (t : ℕ) (view : View) (base : ℕ) (into : Option �
   -- one step of the template
   pub step : (n m place : ℕ) (i : Instr) (operands operands' : List ℕ)
       → slice_get (rebase_all base (join_code into)) n ≡ Some (plain i)
-      → at_place (base + n) l fs (effect t i operands l) ≡ Goes (Runs place operands' l fs)
+      → at_place (base + n) l fs (effect (most_of p.image.version) t i operands l) ≡ Goes (Runs place operands' l fs)
       → place ≡ base + m → WalksWithin p t view 1 (Runs (base + n) operands l fs) (Runs (base + m) operands' l
       fs)
   step n m place i operands operands' e h same =
@@ -65,7 +66,7 @@ module _ (p : MarkedImage) (t : ℕ) (view : View) (base : ℕ) (into : Option �
   pub stay : (x : Thread) → WalksWithin p t view 0 x x
   stay x = record { count = 0; few = omega arith; walk = stays }
 
-  module _ (some : 0 < l.scratch) (few : l.scratch ≤ 64) where
+  module _ (some : 0 < l.scratch) (few : l.scratch ≤ most_of p.image.version) where
     abbrev pub reads : Thread
     reads = at 11 (process_word l.scratch 2 ∷ [])
 
@@ -87,8 +88,8 @@ module _ (p : MarkedImage) (t : ℕ) (view : View) (base : ℕ) (into : Option �
         → WalksWithin p t view 1 (at n (l.scratch ∷ rest)) (at m (process_word l.scratch (number_of word) ∷
         rest))
     address n m i word rest e is same = step n m (base + n + 1) i (l.scratch ∷ rest) _ e
-        (ap (λ (k : Instr). at_place (base + n) l fs (effect t k (l.scratch ∷ rest) l)) is
-        ∙ address_step t (base + n) l.scratch word rest l fs some few) same
+        (ap (λ (k : Instr). at_place (base + n) l fs (effect (most_of p.image.version) t k (l.scratch ∷ rest) l)) is
+        ∙ address_step (most_of p.image.version) t (base + n) l.scratch word rest l fs some few) same
 
     to_read : WalksWithin p t view 2 (at 9 []) reads
     to_read = next 1 _ _ _ (step 9 10 _ _ [] (l.scratch ∷ []) refl refl (omega arith))

@@ -19,7 +19,7 @@ use Rattle.meaning.specs.Values.{local_value, or_zero}
 use Rattle.meaning.specs.Processes.{Frame, Caller, goes_on, begins, begins_by, zeros}
 use Rattle.proof_thread.specs.Typed.{HaveValues, HoldValues}
 use Rattle.proof_thread.specs.Walks.{StandAt, empty_view}
-use Rattle.proof_thread.specs.Following.{Build, CallersStand, Implements, finishes, IsFrame, Running, Stands}
+use Rattle.proof_thread.specs.Following.{Build, most_made, CallersStand, Implements, finishes, IsFrame, Running, Stands}
 use Rattle.proof_thread.specs.Following.{StepsWithin}
 use Rattle.proof_thread.specs.Following.{runs, enters, recovery_in}
 use Rattle.proof_thread.specs.Builds.{IsBuild}
@@ -55,14 +55,15 @@ pub record HasBegun (b : Build) (t n : ℕ) (q : Procedure) (zs : List ℤ) (fs 
 
 module _ (b : Build) (is : IsBuild b) (t : ℕ) where
   pub has_begun : (n : ℕ) (q : Procedure) (zs : List ℤ) (fs : List MachineFrame)
-      → slice_get b.program.procedures n ≡ Some q → HaveValues b.made q.parameters zs → HasBegun b t n q zs fs
+      → slice_get b.program.procedures n ≡ Some q → HaveValues (most_made b) b.made q.parameters zs
+      → HasBegun b t n q zs fs
   has_begun n q zs fs there typed =
       let p = b.program in
       let c = setting_of p b.starts q in
       let start = b.starts n in
       let count = length q.parameters in
       let first = parameters_code count in
-      let same : length zs ≡ count = values_length b.made q.parameters zs typed in
+      let same : length zs ≡ count = values_length (most_made b) b.made q.parameters zs typed in
       let few = is.parameters n q there in
       let laid = is.laid n q there in
       let at1 = start + length first in
@@ -91,7 +92,7 @@ module _ (b : Build) (is : IsBuild b) (t : ℕ) where
         frame = record {
           procedure = there;
           role = refl;
-          typed = locals_typed b.made q.parameters q.locals zs typed;
+          typed = locals_typed (most_made b) b.made q.parameters q.locals zs typed;
           holds = subst (λ k. HoldsFrom k zs q.locals) same (opening_holds zs q.locals (omega (arith, same, few)));
           words = set_all_length count (local_value zs) fresh;
           few = is.locals n q there;
@@ -125,7 +126,8 @@ module _ (b : Build) (is : IsBuild b) (t : ℕ) where
 
   -- a procedure with its arguments on the operands stands for its beginning
   pub begins_at : (n : ℕ) (q : Procedure) (zs : List ℤ) (fs : List MachineFrame) (cs : List Caller)
-      → slice_get b.program.procedures n ≡ Some q → HaveValues b.made q.parameters zs → CallersStand b n q fs cs
+      → slice_get b.program.procedures n ≡ Some q → HaveValues (most_made b) b.made q.parameters zs
+      → CallersStand b n q fs cs
       → Stands b t (Runs (b.starts n) (stacked zs []) fresh fs) (begins (frame_at q (zs ++ zeros q.locals) q.body) cs)
   begins_at n q zs fs cs there typed callers = by_role q.role refl
     where

@@ -24,7 +24,7 @@ use Rattle.meaning.specs.Processes.{Caller, Process, Before, goes_on, begins, op
 use Rattle.meaning.specs.Offers.{Does, Nothing, offer, with_values}
 use Rattle.proof_thread.specs.Typed.{HaveValues}
 use Rattle.proof_thread.specs.Walks.{StandAt, WalksWithin}
-use Rattle.proof_thread.specs.Following.{Build, CallersStand, is_called, Implements, taking_code}
+use Rattle.proof_thread.specs.Following.{Build, most_made, CallersStand, is_called, Implements, taking_code}
 use Rattle.proof_thread.specs.Completing.{Proceeds}
 use Rattle.proof_thread.specs.Completing as F
 use Rattle.proof_thread.specs.Builds.{IsBuild}
@@ -138,7 +138,7 @@ module _ (b : Build) (is : IsBuild b) (t : ℕ) (v : Variables) (place : ℕ) (l
       by_values : (zs : EvaluatedAll) → evaluate_all b.program v values es ≡ zs → GivesAll b.code t
           (view_at b procedure v)
           (2 * arguments_tokens es) x (evaluate_all b.program v values es) end [] l fs
-          → HaveAll b.made callee.parameters
+          → HaveAll (most_made b) b.made callee.parameters
           (evaluate_all b.program v values es)
           → Proceeds b t v (2 * arguments_tokens es + 0) x pending
       by_values (Values zs) same g typed =
@@ -146,7 +146,8 @@ module _ (b : Build) (is : IsBuild b) (t : ℕ) (v : Variables) (place : ℕ) (l
           (Runs end (stacked zs []) l fs) =
           subst (λ (k : EvaluatedAll). GivesAll b.code t (view_at b procedure v)
           (2 * arguments_tokens es) x k end [] l fs) same g in
-          let have : HaveValues b.made callee.parameters zs = subst (HaveAll b.made callee.parameters) same typed in
+          let have : HaveValues (most_made b) b.made callee.parameters zs =
+          subst (HaveAll (most_made b) b.made callee.parameters) same typed in
           let low = chain b is c.number procedure fs cs c.sound.fits.0 c.callers in
           let step = look_here b.code t (view_at b procedure v) end (Call' (b.starts qn)) (stacked zs []) l fs takes.0
           ∙ ap

@@ -21,7 +21,8 @@ use Rattle.proof_thread.specs.Typed.{HaveValues, HoldValues}
 use Rattle.proof_thread.specs.Variables.{ArraysAreLow}
 use Rattle.proof_thread.specs.Evaluation.{Evaluates}
 use Rattle.proof_thread.specs.Walks.{View, WalksWithin, Gives, stays}
-use Rattle.proof_thread.specs.Following.{Build, IsSound, AreSound, CallersStand, Implements, Running, StepsWithin}
+use Rattle.proof_thread.specs.Following.{Build, most_made, IsSound, AreSound, CallersStand, Implements, Running}
+use Rattle.proof_thread.specs.Following.{StepsWithin}
 use Rattle.proof_thread.specs.Following.{Stands}
 use Rattle.proof_thread.specs.Following.{runs}
 use Rattle.proof_thread.specs.Completing.{Proceeds, view_of}
@@ -90,7 +91,7 @@ pub record Context (b : Build) (t : ℕ) (v : Variables) (place : ℕ) (l : Loca
     (values : List ℤ) (s : Statement) (rest : Block) (procedure : Procedure) (cs : List Caller) : Type 0 where
   pub number : ℕ
   pub is_there : slice_get b.program.procedures number ≡ Some procedure
-  pub typed : HaveValues b.made (slots procedure) values
+  pub typed : HaveValues (most_made b) b.made (slots procedure) values
   pub holds : HoldValues l.values values
   pub words : length l.values ≡ 64
   pub few : length (slots procedure) ≤ 64
@@ -100,6 +101,7 @@ pub record Context (b : Build) (t : ℕ) (v : Variables) (place : ℕ) (l : Loca
   pub callers : CallersStand b number procedure fs cs
   pub evaluates : Evaluates b.code b.made t (scope_of b.program procedure) v values l
   pub low : ArraysAreLow b.program
+  pub version : b.code.image.version ≡ b.program.version
 
 -- the frame of a procedure with these values and this rest
 abbrev pub frame_at : Procedure → List ℤ → Block → Frame
@@ -118,7 +120,8 @@ module _ (b : Build) (t : ℕ) (fs : List MachineFrame) (procedure : Procedure) 
     (is_there : slice_get b.program.procedures number ≡ Some procedure) (few_slots : length (slots procedure) ≤ 64)
     (callers : CallersStand b number procedure fs cs) where
   -- it runs with these values and this rest, in these locals
-  pub runs_at : (l : Locals) (values : List ℤ) (rest : Block) (place jumps : ℕ) → HaveValues b.made (slots procedure)
+  pub runs_at : (l : Locals) (values : List ℤ) (rest : Block) (place jumps : ℕ)
+      → HaveValues (most_made b) b.made (slots procedure)
       values → HoldValues l.values values → length l.values ≡ 64
       → AreSound b.height b.width number (scope_of b.program procedure) rest → jumps ≤ b.most
       → Implements b.code (setting_of b.program b.starts procedure) b.most jumps place rest
@@ -142,7 +145,8 @@ module _ (b : Build) (t : ℕ) (fs : List MachineFrame) (procedure : Procedure) 
   }
 
   -- a thread comes to where it goes on with these values and this rest
-  pub stands_by : (x : Thread) (l : Locals) (values : List ℤ) (rest : Block) (place jumps : ℕ) → HaveValues b.made
+  pub stands_by : (x : Thread) (l : Locals) (values : List ℤ) (rest : Block) (place jumps : ℕ)
+      → HaveValues (most_made b) b.made
       (slots procedure) values → HoldValues l.values values → length l.values ≡ 64
       → AreSound b.height b.width number (scope_of b.program procedure) rest → jumps ≤ b.most
       → Implements b.code (setting_of b.program b.starts procedure) b.most jumps place rest
@@ -158,7 +162,7 @@ module _ (b : Build) (t : ℕ) (v : Variables) (place : ℕ) (l : Locals) (fs : 
   is_before k entered = before_next procedure.role s rest entered (frame_at procedure values (Then s rest)) cs k
 
   -- the thread goes on with these values and this rest
-  pub stands_on : (l' : Locals) (values' : List ℤ) (rest' : Block) (place' jumps : ℕ) → HaveValues b.made
+  pub stands_on : (l' : Locals) (values' : List ℤ) (rest' : Block) (place' jumps : ℕ) → HaveValues (most_made b) b.made
       (slots procedure) values' → HoldValues l'.values values' → length l'.values ≡ 64
       → AreSound b.height b.width c.number (scope_of b.program procedure) rest' → jumps ≤ b.most
       → Implements b.code (setting_of b.program b.starts procedure) b.most jumps place' rest'

@@ -8,6 +8,7 @@ use Rattle.std.proofs.lemmas.Bool.{ltb-true}
 use Rattle.words.specs.declared.outcome.Fault.TheVariants.{IndexOutOfRange}
 use Rattle.words.specs.Signed.{word_of}
 use Rattle.words.specs.declared.outcome.Cause.TheVariants.{Faulted}
+use Rattle.words.specs.Versions.{most_of}
 use Rattle.isa.specs.declared.slot.Slot.TheVariants.{Local as Slot'}
 use Rattle.isa.specs.declared.instr.Instr.TheVariants.{Push, GetLocal, Load, Operate, Index}
 use Rattle.proof_thread.specs.Deferrals.{MarkedImage, IsAt, deferred_by_mark}
@@ -42,25 +43,26 @@ use Rattle.proof_thread.proofs.Walking.{front_stands, back_stands, wider, one_st
 use Rattle.proof_thread.proofs.Walking.{and_gives, shown_gives, look_here, push_step, and_typed}
 
 -- a local of a type has a value of it
-pub local_typed : (made : ℕ) → (ts : List ValueType) (zs : List ℤ) (slot : ℕ) (t : ValueType) → HaveValues made ts zs
-    → slice_get ts slot ≡ Some t → (z : ℤ) × (slice_get zs slot ≡ Some z) × HasValue made t z
-local_typed made [] zs slot t h e = absurd cc
-local_typed made (u ∷ ts) [] slot t h e = absurd h
-local_typed made (u ∷ ts) (z ∷ zs) zero t h e = (
+pub local_typed : (most made : ℕ) → (ts : List ValueType) (zs : List ℤ) (slot : ℕ) (t : ValueType)
+    → HaveValues most made ts zs
+    → slice_get ts slot ≡ Some t → (z : ℤ) × (slice_get zs slot ≡ Some z) × HasValue most made t z
+local_typed most made [] zs slot t h e = absurd cc
+local_typed most made (u ∷ ts) [] slot t h e = absurd h
+local_typed most made (u ∷ ts) (z ∷ zs) zero t h e = (
   z,
   refl,
   let same : u ≡ t = cc in subst
-      (λ (k : ValueType). HasValue made k z) same h.0,
+      (λ (k : ValueType). HasValue most made k z) same h.0,
 )
-local_typed made (u ∷ ts) (z ∷ zs) (suc slot) t h e = local_typed made ts zs slot t h.1 e
+local_typed most made (u ∷ ts) (z ∷ zs) (suc slot) t h e = local_typed most made ts zs slot t h.1 e
 
-index_typed : (made : ℕ) → (size : ℕ) (t : ValueType) (k : ℕ → Evaluated) (z : ℤ) → ((i : ℕ) → i < size
-    → OfType made t (k i))
-    → OfType made t (at_index (index_in size z) k)
-index_typed made size t k (negsuc n) h = tt
-index_typed made size t k (pos i) h = by_test (nat_lt i size) refl
+index_typed : (most made : ℕ) → (size : ℕ) (t : ValueType) (k : ℕ → Evaluated) (z : ℤ) → ((i : ℕ) → i < size
+    → OfType most made t (k i))
+    → OfType most made t (at_index (index_in size z) k)
+index_typed most made size t k (negsuc n) h = tt
+index_typed most made size t k (pos i) h = by_test (nat_lt i size) refl
   where
-    by_test : (b : Bool) → nat_lt i size ≡ b → OfType made t (at_index (if b then Some i else None) k)
+    by_test : (b : Bool) → nat_lt i size ≡ b → OfType most made t (at_index (if b then Some i else None) k)
     by_test true e = h i (ltb-true i size e)
     by_test false e = tt
 
@@ -161,38 +163,46 @@ pub element_variable : (p : Program) (a : MemberOf) (n i : ℕ) → member_type 
 element_variable p a n i e lt = subst (λ (o : Option MemberType). HasIndex o i) (sym e) lt
 
 module _ (image : MarkedImage) (made t : ℕ) (s : Scope) (vars : Variables) (values : List ℤ)
-    (locals_typed : HaveValues made s.locals values)
+    (locals_typed : HaveValues (most_of s.program.version) made s.locals values)
     (fit : (m : ℕ) → own_monitor s.role ≡ Some m → VariablesFit made s.program m vars)
     (low : ArraysAreLow s.program) where
+  -- how many processes there can be
+  abbrev limit : ℕ
+  limit = most_of s.program.version
+
   -- what is in view there
   abbrev view : View
   view = view_in s vars
 
   pub expression_typed : (e : Expression) (u : ValueType) → HasType s e u
-      → OfType made u (evaluate s.program vars values e)
-  expression_typed (Constant n) u h = subst (λ (k : ValueType). HasValue made k (pos n)) (sym h.1) (small_fits n h.0)
-  expression_typed (Truth b) u h = subst (λ (k : ValueType). HasValue made k (v.truth b)) (sym h) (truth_typed made b)
-  expression_typed (Local slot) u h = let x = local_typed made s.locals values slot u locals_typed h in subst
-      (λ (o : Option ℤ). HasValue made u (or_zero o)) (sym x.1) x.2
+      → OfType limit made u (evaluate s.program vars values e)
+  expression_typed (Constant n) u h =
+      subst (λ (k : ValueType). HasValue limit made k (pos n)) (sym h.1) (small_fits n h.0)
+  expression_typed (Truth b) u h =
+      subst (λ (k : ValueType). HasValue limit made k (v.truth b)) (sym h) (truth_typed limit made b)
+  expression_typed (Local slot) u h = let x = local_typed limit made s.locals values slot u locals_typed h in subst
+      (λ (o : Option ℤ). HasValue limit made u (or_zero o)) (sym x.1) x.2
   expression_typed (Member m) u h =
-      subst (λ (o : Option MemberType). ValueFits made o (vars m.monitor m.number 0)) h.1
+      subst (λ (o : Option MemberType). ValueFits limit made o (vars m.monitor m.number 0)) h.1
       (fit m.monitor h.0 m 0 refl (single_variable s.program m u h.1))
   expression_typed (Element a e) u h =
-      subst (λ (k : ValueType). OfType made k (evaluate s.program vars values (Element a e))) (sym h.2)
-      (and_typed made Integer Integer (evaluate s.program vars values e) _ (expression_typed e Integer h.1) (λ z k.
-      index_typed made (array_size s.program a) Integer _ z (λ i lt.
-      subst (λ (o : Option MemberType). ValueFits made o (vars a.monitor a.number i)) h.0.2
+      subst (λ (k : ValueType). OfType limit made k (evaluate s.program vars values (Element a e))) (sym h.2)
+      (and_typed limit made Integer Integer (evaluate s.program vars values e) _ (expression_typed e Integer h.1) (λ z k.
+      index_typed limit made (array_size s.program a) Integer _ z (λ i lt.
+      subst (λ (o : Option MemberType). ValueFits limit made o (vars a.monitor a.number i)) h.0.2
       (fit a.monitor h.0.0 a i refl
       (element_variable s.program a h.0.1 i h.0.2 (subst (λ n. i < n) (ap size_in h.0.2) lt))))))
   expression_typed (Unary op e) u h =
-      subst (λ (k : ValueType). OfType made k (evaluate s.program vars values (Unary op e))) (sym h.1)
-      (and_typed made (unary_type op) (unary_type op) (evaluate s.program vars values e) (unary op)
-      (expression_typed e (unary_type op) h.0) (λ z k. unary_typed made op z))
+      subst (λ (k : ValueType). OfType limit made k (evaluate s.program vars values (Unary op e))) (sym h.1)
+      (and_typed limit made (unary_type op) (unary_type op) (evaluate s.program vars values e) (unary op)
+      (expression_typed e (unary_type op) h.0) (λ z k. unary_typed limit made op z))
   expression_typed (Both op l r) u h =
-      subst (λ (k : ValueType). OfType made k (evaluate s.program vars values (Both op l r))) (sym h.4)
-      (and_typed made h.0 (result_type op) (evaluate s.program vars values l) _ (expression_typed l h.0 h.2) (λ a ha.
-      and_typed made h.0 (result_type op) (evaluate s.program vars values r) (both op a) (expression_typed r h.0 h.3)
-      (λ b hb. both_typed made op h.0 a b h.1 ha hb)))
+      subst (λ (k : ValueType). OfType limit made k (evaluate s.program vars values (Both op l r))) (sym h.4)
+      (and_typed limit made h.0 (result_type op) (evaluate s.program vars values l) _ (expression_typed l h.0 h.2)
+      (λ a ha.
+      and_typed limit made h.0 (result_type op) (evaluate s.program vars values r) (both op a)
+      (expression_typed r h.0 h.3)
+      (λ b hb. both_typed s.program.version made op h.0 a b h.1 ha hb)))
 
   -- a word that holds a value is pushed
   pushes : (place : ℕ) (operands : List ℕ) (l : Locals) (fs : List Frame) (w : ℕ) (z : ℤ) → w ≡ word_of z
@@ -263,7 +273,7 @@ module _ (image : MarkedImage) (made t : ℕ) (s : Scope) (vars : Variables) (va
       let look = look_here image t view place (GetLocal (Slot' slot)) operands l fs code.0 in
       let step = push_step image t view place (slice_index l.values slot) operands l fs look
       (omega (arith, fits)) in
-      let x = local_typed made s.locals values slot u locals_typed h in
+      let x = local_typed limit made s.locals values slot u locals_typed h in
       pushes place operands l fs (slice_index l.values slot) (local_value values slot)
       (held slot x.0 x.1 ∙ ap (λ (o : Option ℤ). word_of (or_zero o)) (sym x.1)) step (ap deferred_by_mark code.0.1)
   expression_gives (Member m) u place operands l fs h held code fits =
@@ -290,7 +300,7 @@ module _ (image : MarkedImage) (made t : ℕ) (s : Scope) (vars : Variables) (va
       (evaluate p vars values (Element a e)) _ operands l fs (omega arith)
       (gives_at (2 * expression_tokens e + 2) (Runs place operands l fs) (place + length ce + 1 + 1) _ operands l fs
       (evaluate p vars values (Element a e)) len
-      (and_gives image t view made Integer (2 * expression_tokens e) 2 (Runs place operands l fs)
+      (and_gives image t view limit made Integer (2 * expression_tokens e) 2 (Runs place operands l fs)
       (evaluate p vars values e) _ _ operands _ operands l fs
       (expression_gives e Integer place operands l fs h.1 held (front_stands image place ce _ code) fits)
       (expression_typed e Integer h.1)
@@ -308,13 +318,14 @@ module _ (image : MarkedImage) (made t : ℕ) (s : Scope) (vars : Variables) (va
       (evaluate p vars values (Unary op e)) _ operands l fs (omega arith)
       (gives_at (2 * expression_tokens e + 1) (Runs place operands l fs) (place + length ce + 1) _ operands l fs
       (evaluate p vars values (Unary op e)) len
-      (and_gives image t view made (unary_type op) (2 * expression_tokens e) 1 (Runs place operands l fs)
+      (and_gives image t view limit made (unary_type op) (2 * expression_tokens e) 1 (Runs place operands l fs)
       (evaluate p vars values e) (unary op) _ operands _ operands l fs
       (expression_gives e (unary_type op) place operands l fs h.0 held (front_stands image place ce _ code) fits)
       (expression_typed e (unary_type op) h.0)
       (λ z k. shown_gives image t view _ (unary op z) (place + length ce) operands l fs
       (look_here image t view (place + length ce) (unary_code op) (word_of z ∷ operands) l fs tail.0
-      ∙ unary_shown made t op z operands (place + length ce) l fs k) (ap deferred_by_mark tail.0.1))))
+      ∙ unary_shown s.program.version made (most_of image.image.version) t op z operands (place + length ce) l fs k)
+      (ap deferred_by_mark tail.0.1))))
   expression_gives (Both op a b) u place operands l fs h held code fits =
       let p = s.program in
       let ca = expression_code p a in
@@ -331,11 +342,11 @@ module _ (image : MarkedImage) (made t : ℕ) (s : Scope) (vars : Variables) (va
       (2 * expression_tokens (Both op a b)) _ (evaluate p vars values (Both op a b)) _ operands l fs (omega arith)
       (gives_at (2 * expression_tokens a + (2 * expression_tokens b + 1)) (Runs place operands l fs)
       (place + length ca + length cb + 1) _ operands l fs (evaluate p vars values (Both op a b)) len
-      (and_gives image t view made h.0 (2 * expression_tokens a) (2 * expression_tokens b + 1)
+      (and_gives image t view limit made h.0 (2 * expression_tokens a) (2 * expression_tokens b + 1)
       (Runs place operands l fs) (evaluate p vars values a) _ _ operands _ operands l fs
       (expression_gives a h.0 place operands l fs h.2 held (front_stands image place ca _ code) (omega (arith, fits)))
       (expression_typed a h.0 h.2)
-      (λ y k. and_gives image t view made h.0 (2 * expression_tokens b) 1
+      (λ y k. and_gives image t view limit made h.0 (2 * expression_tokens b) 1
       (Runs (place + length ca) (word_of y ∷ operands) l fs) (evaluate p vars values b) (both op y) _
       (word_of y ∷ operands) _ operands l fs
       (expression_gives b h.0 (place + length ca) (word_of y ∷ operands) l fs h.3 held
@@ -343,7 +354,7 @@ module _ (image : MarkedImage) (made t : ℕ) (s : Scope) (vars : Variables) (va
       (expression_typed b h.0 h.3)
       (λ z k'. shown_gives image t view _ (both op y z) (place + length ca + length cb) operands l fs
       (look_here image t view (place + length ca + length cb) (Operate (operation op))
-      (word_of z ∷ word_of y ∷ operands) l fs last.0 ∙ both_shown made op h.0 y z operands
+      (word_of z ∷ word_of y ∷ operands) l fs last.0 ∙ both_shown s.program.version made op h.0 y z operands
       (place + length ca + length cb) l fs h.1 k k') (ap deferred_by_mark last.0.1)))))
 
 pub expressions_evaluate : (image : MarkedImage) (made t : ℕ) (s : Scope) (v : Variables) (values : List ℤ) (l : Locals)

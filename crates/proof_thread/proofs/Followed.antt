@@ -146,6 +146,7 @@ module _ (b : Build) (is : IsBuild b) (t : ℕ) (v : Variables) where
           low = is.low;
         });
         low = is.low;
+        version = is.version;
       }))
   rest_proceeds Done place l fs values q cs entered number f code callers fit ordinary = by_role q.role refl
     where

@@ -4,7 +4,6 @@ use Rattle.std.proofs.Common.{refl, ap, ◌∙◌, subst, arith, length-append, 
 use Rattle.std.specs.Prelude.{slice_set}
 use Rattle.std.proofs.Math.Seq.{take-length, drop-length}
 use Rattle.std.proofs.lemmas.Bool.{le-leb}
-use Rattle.words.specs.Limits.{most_threads}
 use Rattle.words.specs.declared.outcome.Fault.TheVariants.{ProcessTableFull}
 use Rattle.isa.specs.declared.instr.Instr.TheVariants.{Fork as Fork', SetLocal}
 use Rattle.isa.specs.declared.slot.Slot.TheVariants.{Local as Slot'}
@@ -28,7 +27,7 @@ use Rattle.meaning.specs.Processes as P
 use Rattle.meaning.specs.Offers.{MakesOne, offer, with_values, dies}
 use Rattle.proof_thread.specs.Typed.{HaveValues}
 use Rattle.proof_thread.specs.Walks.{StandAt, WalksWithin, empty_view}
-use Rattle.proof_thread.specs.Following.{Build, with_made, is_first, Stands, Implements}
+use Rattle.proof_thread.specs.Following.{Build, most_made, with_made, is_first, Stands, Implements}
 use Rattle.proof_thread.specs.Completing.{Proceeds}
 use Rattle.proof_thread.specs.Completing as F
 use Rattle.proof_thread.specs.Builds.{IsBuild}
@@ -108,7 +107,7 @@ module _ (b : Build) (is : IsBuild b) (t : ℕ) (v : Variables) (place : ℕ) (l
       len = omega (arith, length-append (arguments_code b.program es) (fork_code (b.starts qn) (length es) into))
 
       -- with the number of the child in its local
-      mine : (n : ℕ) → b.made ≤ suc n → suc n ≤ most_threads
+      mine : (n : ℕ) → b.made ≤ suc n → suc n ≤ most_made b
           → Stands (with_made b (suc n)) t (go (suc n)) (after (suc n))
       mine n more few =
           let made = suc n in
@@ -117,8 +116,8 @@ module _ (b : Build) (is : IsBuild b) (t : ℕ) (v : Variables) (place : ℕ) (l
           stands_by (with_made b made) t fs procedure cs c.number c.is_there c.few
           (callers_grow b made more c.number procedure fs cs c.callers) (go made) l' (slice_set values into (pos made))
           rest (end + 1 + 1) c.head.jumps
-          (put_typed made (slots procedure) values into _ (pos made)
-          (values_grow b.made made more (slots procedure) values c.typed) c.sound.fits.5
+          (put_typed (most_made b) made (slots procedure) values into _ (pos made)
+          (values_grow (most_made b) b.made made more (slots procedure) values c.typed) c.sound.fits.5
           (made, refl, omega arith, few))
           (put_holds l.values values into (pos made) c.holds (omega (arith, within, c.few, c.words)))
           (put_length l.values into made ∙ c.words) c.later (omega (arith, c.head.few, c.head.deep))
@@ -132,7 +131,7 @@ module _ (b : Build) (is : IsBuild b) (t : ℕ) (v : Variables) (place : ℕ) (l
       by_values : (zs : EvaluatedAll) → evaluate_all b.program v values es ≡ zs → GivesAll b.code t
           (view_at b procedure v)
           (2 * arguments_tokens es) x (evaluate_all b.program v values es) end [] l fs
-          → HaveAll b.made callee.parameters
+          → HaveAll (most_made b) b.made callee.parameters
           (evaluate_all b.program v values es)
           → Proceeds b t v (2 * arguments_tokens es + 0) x pending
       by_values (Values zs) same g typed =
@@ -140,13 +139,14 @@ module _ (b : Build) (is : IsBuild b) (t : ℕ) (v : Variables) (place : ℕ) (l
           (Runs end (stacked zs []) l fs) =
           subst (λ (k : EvaluatedAll). GivesAll b.code t (view_at b procedure v)
           (2 * arguments_tokens es) x k end [] l fs) same g in
-          let have : HaveValues b.made callee.parameters zs = subst (HaveAll b.made callee.parameters) same typed in
+          let have : HaveValues (most_made b) b.made callee.parameters zs =
+          subst (HaveAll (most_made b) b.made callee.parameters) same typed in
           let child = begins (frame_at callee (zs ++ zeros callee.locals) callee.body) [] in
           let opened : begins (opening_frame b.program qn zs) [] ≡ child =
           ap (λ (k : Option Procedure). begins (frame_of k zs) []) c.sound.fits.2 in
           let count : length es ≡ length (stacked zs []) =
           let fit = fit_length (scope_of b.program procedure) es callee.parameters c.sound.fits.4 in
-          let filled = values_length b.made callee.parameters zs have in
+          let filled = values_length (most_made b) b.made callee.parameters zs have in
           omega (arith, fit, filled, stacked_length zs []) in
           let full = dies ProcessTableFull (frame_at procedure values rest) cs in
           let o : offer b.program v pending ≡ MakesOne child after full =
@@ -159,7 +159,7 @@ module _ (b : Build) (is : IsBuild b) (t : ℕ) (v : Variables) (place : ℕ) (l
           (at_once b t v place l fs values rest procedure cs entered (Runs end (stacked zs []) l fs) pending
           (F.forks (b.starts qn) (stacked zs []) go look refl o mine
           (λ n u more. begins_at (with_made b n) (build_grows b n is) u qn callee zs [] [] c.sound.fits.2
-          (values_grow b.made n more callee.parameters zs have) (is_first (inr c.sound.fits.3)))
+          (values_grow (most_made b) b.made n more callee.parameters zs have) (is_first (inr c.sound.fits.3)))
           (first_holds b _)))
       by_values (FailsAll fault) same g typed =
           let walk : WalksWithin b.code t (view_at b procedure v) (2 * arguments_tokens es) x (Dies (Faulted fault)) = subst

@@ -15,7 +15,8 @@ use Rattle.meaning.specs.Processes.{Frame, Caller, Process}
 use Rattle.meaning.specs.Offers.{offer}
 use Rattle.proof_thread.specs.Typed.{HasValue, HaveValues}
 use Rattle.proof_thread.specs.Variables.{ValueFits, SameIn}
-use Rattle.proof_thread.specs.Following.{Build, with_made, IsFrame, StandsBehind, CallersStand, is_first, is_called}
+use Rattle.proof_thread.specs.Following.{Build, most_made, with_made, IsFrame, StandsBehind, CallersStand, is_first}
+use Rattle.proof_thread.specs.Following.{is_called}
 use Rattle.proof_thread.specs.Following.{is_recovery, Running, IsEntering, IsReturning, ShowsResult, Stands, runs}
 use Rattle.proof_thread.specs.Following.{enters}
 use Rattle.proof_thread.specs.Following.{returns, fails, own_of}
@@ -24,34 +25,37 @@ use Rattle.proof_thread.specs.Completing as F
 use Rattle.proof_thread.specs.Builds.{IsBuild}
 use Rattle.proof_thread.proofs.Walking.{same_within}
 
-pub value_grows : (m n : ℕ) → m ≤ n → (t : ValueType) (z : ℤ) → HasValue m t z → HasValue n t z
-value_grows m n le Integer z h = h
-value_grows m n le Boolean z h = h
-value_grows m n le Handle z h = (h.0, h.1, omega (arith, le, h.2), h.3)
+pub value_grows : (most m n : ℕ) → m ≤ n → (t : ValueType) (z : ℤ) → HasValue most m t z → HasValue most n t z
+value_grows most m n le Integer z h = h
+value_grows most m n le Boolean z h = h
+value_grows most m n le Handle z h = (h.0, h.1, omega (arith, le, h.2), h.3)
 
-pub values_grow : (m n : ℕ) → m ≤ n → (ts : List ValueType) (zs : List ℤ) → HaveValues m ts zs → HaveValues n ts zs
-values_grow m n le [] [] h = tt
-values_grow m n le [] (z ∷ zs) h = absurd h
-values_grow m n le (t ∷ ts) [] h = absurd h
-values_grow m n le (t ∷ ts) (z ∷ zs) h = (value_grows m n le t z h.0, values_grow m n le ts zs h.1)
+pub values_grow : (most m n : ℕ) → m ≤ n → (ts : List ValueType) (zs : List ℤ) → HaveValues most m ts zs
+    → HaveValues most n ts zs
+values_grow most m n le [] [] h = tt
+values_grow most m n le [] (z ∷ zs) h = absurd h
+values_grow most m n le (t ∷ ts) [] h = absurd h
+values_grow most m n le (t ∷ ts) (z ∷ zs) h = (value_grows most m n le t z h.0, values_grow most m n le ts zs h.1)
 
 -- a variable's value
-pub fitting_grows : (m n : ℕ) → m ≤ n → (t : Option MemberType) (z : ℤ) → ValueFits m t z → ValueFits n t z
-fitting_grows m n le None z h = h
-fitting_grows m n le (Some (Variable t)) z h = value_grows m n le t z h
-fitting_grows m n le (Some Condition) z h = h
-fitting_grows m n le (Some (Array k)) z h = h
+pub fitting_grows : (most m n : ℕ) → m ≤ n → (t : Option MemberType) (z : ℤ) → ValueFits most m t z
+    → ValueFits most n t z
+fitting_grows most m n le None z h = h
+fitting_grows most m n le (Some (Variable t)) z h = value_grows most m n le t z h
+fitting_grows most m n le (Some Condition) z h = h
+fitting_grows most m n le (Some (Array k)) z h = h
 
-shown_grows : (m n : ℕ) → m ≤ n → (t : Option ValueType) (shown : Option ℕ) (z : ℤ) → ShowsResult m t shown z
-    → ShowsResult n t shown z
-shown_grows m n le None None z h = h
-shown_grows m n le None (Some w) z h = h
-shown_grows m n le (Some u) None z h = h
-shown_grows m n le (Some u) (Some w) z h = (h.0, value_grows m n le u z h.1)
+shown_grows : (most m n : ℕ) → m ≤ n → (t : Option ValueType) (shown : Option ℕ) (z : ℤ) → ShowsResult most m t shown z
+    → ShowsResult most n t shown z
+shown_grows most m n le None None z h = h
+shown_grows most m n le None (Some w) z h = h
+shown_grows most m n le (Some u) None z h = h
+shown_grows most m n le (Some u) (Some w) z h = (h.0, value_grows most m n le u z h.1)
 
 -- the same code for more processes
 pub build_grows : (b : Build) (n : ℕ) → IsBuild b → IsBuild (with_made b n)
 build_grows b n is = record {
+  version = is.version;
   role = is.role;
   recovers = is.recovers;
   low = is.low;
@@ -69,7 +73,7 @@ module _ (b : Build) (n : ℕ) (le : b.made ≤ n) where
   frame_grows number q f l h = record {
     procedure = h.procedure;
     role = h.role;
-    typed = values_grow b.made n le _ f.locals h.typed;
+    typed = values_grow (most_made b) b.made n le _ f.locals h.typed;
     holds = h.holds;
     words = h.words;
     few = h.few;
@@ -131,7 +135,7 @@ module _ (b : Build) (n : ℕ) (le : b.made ≤ n) where
     monitor = h.monitor;
     role = h.role;
     code = h.code;
-    result = shown_grows b.made n le _ shown z h.result;
+    result = shown_grows (most_made b) b.made n le _ shown z h.result;
     callers = callers_grow h.number h.procedure fs cs h.callers;
   }
 
@@ -186,7 +190,8 @@ module _ (b : Build) (n : ℕ) (le : b.made ≤ n) where
     completes_grow v x q (F.acts {y = y} {r = r} kind own h n o s) = F.acts kind own h n o (stands_grow y r s)
     completes_grow v x q (F.prints {r = r} w go h o s) = F.prints w go h o (λ a. stands_grow (go a) r (s a))
     completes_grow v x q (F.stores {r = r} m i z go own first is fits h o s) =
-        F.stores m i z go own first is (fitting_grows b.made n le _ z fits) h o (λ a. stands_grow (go a) r (s a))
+        F.stores m i z go own first is (fitting_grows (most_made b) b.made n le _ z fits) h o (λ a. stands_grow
+            (go a) r (s a))
     completes_grow v x q (F.returns h n o) = F.returns h n o
     completes_grow v x q (F.leaves r k h n o) = F.leaves r k h n o
     completes_grow v x q (F.forks entry arguments go h e o mine child none) =

@@ -27,7 +27,7 @@ use Rattle.meaning.specs.Processes.{Frame, Caller, Process, Before, goes_on, wit
 use Rattle.meaning.specs.Offers.{offer, claims}
 use Rattle.proof_thread.specs.Evaluation.{OfType}
 use Rattle.proof_thread.specs.Walks.{StandAt, WalksWithin, empty_view}
-use Rattle.proof_thread.specs.Following.{Build, Implements, follows, Stands, part_nesting}
+use Rattle.proof_thread.specs.Following.{Build, most_made, Implements, follows, Stands, part_nesting}
 use Rattle.proof_thread.specs.Completing.{GoesAborted, Awaits, Proceeds, join_steps}
 use Rattle.proof_thread.specs.Completing as F
 use Rattle.proof_thread.proofs.Words.{signed_fits}
@@ -41,6 +41,7 @@ use Rattle.proof_thread.proofs.Awaiting as J
 use Rattle.std.proofs.lemmas.Int.{of_z-to_z}
 use Rattle.std.specs.Int.{w32}
 use Rattle.words.specs.declared.outcome.Cause.TheVariants.{Faulted}
+use Rattle.words.specs.Versions.{most_of}
 use Rattle.program.specs.Measures.{part_calls, part_room, most_room}
 use Rattle.proof_thread.specs.Deferrals.{IsAt, deferred_by_mark}
 
@@ -126,7 +127,8 @@ module _ (b : Build) (t : ℕ) (v : Variables) (place : ℕ) (l : Locals)
           let l' = with_local (kept child) (Slot' slot) (word_of (signed_of w)) in
           stands_by b t fs procedure cs c.number c.is_there c.few c.callers _ l'
           (slice_set values slot (signed_of w)) rest (base + 29) (suc c.head.jumps)
-          (put_typed b.made (slots procedure) values slot Integer (signed_of w) c.typed fit (signed_fits w lt))
+          (put_typed (most_made b) b.made (slots procedure) values slot Integer (signed_of w) c.typed fit
+          (signed_fits w lt))
           (put_holds l.values values slot (signed_of w) c.holds (omega (arith, within, c.few, c.words)))
           (put_length l.values slot (word_of (signed_of w)) ∙ c.words) c.later few jumped
           (wider b.code t (empty_view b.program) 1 16 _ _ (omega arith) (one_step b.code t (empty_view b.program) _ _
@@ -162,7 +164,8 @@ module _ (b : Build) (t : ℕ) (v : Variables) (place : ℕ) (l : Locals)
   -- a request of the template
   asks : (child n m : ℕ) (i : Marked) (operands : List ℕ) (request : Request)
       → slice_get (rebase_all base (join_code into)) n ≡ Some i
-      → at_place (base + n) (kept child) fs (effect t i.instruction operands (kept child))
+      → at_place (base + n) (kept child) fs (effect (most_of b.code.image.version) t i.instruction operands
+      (kept child))
       ≡ Asks request (λ k. Runs (base + n + 1) (k ∷ []) (kept child) fs) → base + n + 1 ≡ base + m
       → look b.code.image t (Runs (base + n) operands (kept child) fs)
       ≡ Asks request (λ k. Runs (base + m) (k ∷ []) (kept child) fs)
@@ -181,7 +184,7 @@ module _ (b : Build) (t : ℕ) (v : Variables) (place : ℕ) (l : Locals)
       (look_here b.code t (view_at b procedure v) base (SetLocal Template) (word_of z ∷ []) l fs here
       ∙ ap (λ (k : ℤ). Goes (Runs (base + 1) [] (kept (word_of k)) fs)) is) (ap deferred_by_mark here.1)
 
-  awaits : (child : ℕ) → 0 < child → child ≤ 64 → Awaits b t child into part f cs
+  awaits : (child : ℕ) → 0 < child → child ≤ most_of b.code.image.version → Awaits b t child into part f cs
   awaits child some few =
       let code : StandAt b.code aborts after_code =
       let at : base + 29 + 1 ≡ aborts = omega arith in subst (λ n. StandAt b.code n after_code) at behind.1 in
@@ -222,7 +225,8 @@ module _ (b : Build) (t : ℕ) (v : Variables) (place : ℕ) (l : Locals)
   pending = Before entered (frame_at procedure values (Then (Join e into part) rest)) cs
 
   -- from the handle on
-  by_handle : (n : ℕ) (z : ℤ) → z ≡ pos n → n ≤ b.made → n ≤ 64 → offer b.program v pending ≡ claims z into part f cs
+  by_handle : (n : ℕ) (z : ℤ) → z ≡ pos n → n ≤ b.made → n ≤ most_made b
+      → offer b.program v pending ≡ claims z into part f cs
       → Proceeds b t v 6 (Runs base (word_of z ∷ []) l fs) pending
   unfolding awaits
   by_handle zero z is made few o =
@@ -245,6 +249,8 @@ module _ (b : Build) (t : ℕ) (v : Variables) (place : ℕ) (l : Locals)
   by_handle (suc n) z is made few o =
       let child = suc n in
       let some : 0 < child = omega arith in
+      let below : child ≤ most_of b.code.image.version =
+      subst (λ version. child ≤ most_of version) (sym c.version) few in
       let walk : WalksWithin b.code t (view_at b procedure v) 6 (Runs base (word_of z ∷ []) l fs)
       (Runs (base + 6) (1 ∷ process_word child 3 ∷ []) (kept child) fs) =
       J.next b.code t (view_at b procedure v) base into template (kept child) fs 5 _ _ _ (keeps child z is)
@@ -254,17 +260,17 @@ module _ (b : Build) (t : ℕ) (v : Variables) (place : ℕ) (l : Locals)
       (J.next b.code t (view_at b procedure v) base into template (kept child) fs 3 _ _ _
       (J.step b.code t (view_at b procedure v) base into template (kept child) fs 2 3 _ _ (child ∷ []) [] refl refl
       (omega arith))
-      (J.to_claim b.code t (view_at b procedure v) base into template (kept child) fs some few))) in
+      (J.to_claim b.code t (view_at b procedure v) base into template (kept child) fs some below))) in
       proceeds_on b t v 6 0 _ _ pending walk
       (at_once b t v place l fs values rest procedure cs entered _ pending
       (F.claims child (λ k. Runs (base + 7) (k ∷ []) (kept child) fs) some made few
       (asks child 6 7 _ (1 ∷ process_word child 3 ∷ []) _ refl refl (omega arith))
       (o ∙ ap (λ (k : ℤ). claims k into part f cs) is)
-      (awaits child some few)
+      (awaits child some below)
       (wider b.code t (empty_view b.program) 3 join_steps _ _ (omega arith)
-      (J.claimed b.code t (empty_view b.program) base into template (kept child) fs some few))
+      (J.claimed b.code t (empty_view b.program) base into template (kept child) fs some below))
       (λ k. wider b.code t (empty_view b.program) 2 join_steps _ _ (omega arith)
-      (J.refused b.code t (empty_view b.program) base into template (kept child) fs some few k))))
+      (J.refused b.code t (empty_view b.program) base into template (kept child) fs some below k))))
 
   pub join_proceeds : Proceeds b t v (2 * statement_tokens (Join e into part) + 2) (Runs place [] l fs)
       (goes_on entered (frame_at procedure values (Then (Join e into part) rest)) cs)
@@ -281,6 +287,7 @@ module _ (b : Build) (t : ℕ) (v : Variables) (place : ℕ) (l : Locals)
       (evaluate b.program v values e) base [] l fs f cs _ pending refl
       refl give
       (λ z same o.
-      let typed : OfType b.made Handle (Value z) = subst (OfType b.made Handle) same (ev.type e Handle
+      let typed : OfType (most_made b) b.made Handle (Value z) =
+      subst (OfType (most_made b) b.made Handle) same (ev.type e Handle
       c.sound.fits.1) in
       by_handle typed.0 z typed.1 typed.2 typed.3 o)))

@@ -24,7 +24,7 @@ use Rattle.meaning.specs.Processes.{Frame, Caller, Process, Before, Returning, L
 use Rattle.meaning.specs.Processes.{monitor_of_role, callers_monitors}
 use Rattle.meaning.specs.Offers.{Does, Nothing, offer, answers}
 use Rattle.proof_thread.specs.Walks.{StandAt}
-use Rattle.proof_thread.specs.Following.{Build, CallersStand, ShowsResult, result_operands, returns}
+use Rattle.proof_thread.specs.Following.{Build, most_made, CallersStand, ShowsResult, result_operands, returns}
 use Rattle.proof_thread.specs.Completing.{Proceeds}
 use Rattle.proof_thread.specs.Completing as F
 use Rattle.proof_thread.specs.Builds.{IsBuild}
@@ -55,7 +55,7 @@ module _ (b : Build) (t : ℕ) (v : Variables) where
   -- an ENTRY procedure stands before its EXIT
   exits_at : (m : ℕ) (shown : Option ℕ) (place : ℕ) (l : Locals) (fs : List MachineFrame) (number : ℕ) (q : Procedure)
       (cs : List Caller) (z : ℤ) (r : Process)
-      → q.role ≡ Entry m → CallersStand b number q fs cs → ShowsResult b.made q.result shown z
+      → q.role ≡ Entry m → CallersStand b number q fs cs → ShowsResult (most_made b) b.made q.result shown z
       → StandAt b.code place (ending_code (setting_of b.program b.starts q) place)
       → offer b.program v r ≡ Does (Exits m) Nothing (Returning z cs) → holds r ≡ m ∷ callers_monitors cs
       → Proceeds b t v 0 (Runs place (result_operands shown) l fs) r
@@ -82,7 +82,7 @@ module _ (b : Build) (t : ℕ) (v : Variables) where
   -- with the result on the operands, the procedure leaves
   pub leaves_at : (shown : Option ℕ) (place : ℕ) (l : Locals) (fs : List MachineFrame) (number : ℕ) (q : Procedure)
       (cs : List Caller) (z : ℤ) (r : Process)
-      → HandsOver q.role → CallersStand b number q fs cs → ShowsResult b.made q.result shown z
+      → HandsOver q.role → CallersStand b number q fs cs → ShowsResult (most_made b) b.made q.result shown z
       → StandAt b.code place (ending_code (setting_of b.program b.starts q) place)
       → offer b.program v r ≡ answers q.role z cs → holds r ≡ monitor_of_role q.role (callers_monitors cs)
       → Proceeds b t v 1 (Runs place (result_operands shown) l fs) r
@@ -141,7 +141,8 @@ module _ (b : Build) (t : ℕ) (v : Variables) where
           ap (λ (k : Option ValueType). place + length (default_code k)) e ∙ omega arith in
           proceeds_wider b t v 1 2 _ pending (omega arith)
           (leaves_at None place l fs number q cs (pos 0) pending hands callers
-          (subst (λ (k : Option ValueType). ShowsResult b.made k None (pos 0)) (sym e) refl) (moved place at) refl refl)
+          (subst (λ (k : Option ValueType). ShowsResult (most_made b) b.made k None (pos 0)) (sym e) refl)
+          (moved place at) refl refl)
       by_result (Some u) e =
           let at : place + length (default_code q.result) ≡ place + 1 =
           ap (λ (k : Option ValueType). place + length (default_code k)) e in
@@ -152,7 +153,8 @@ module _ (b : Build) (t : ℕ) (v : Variables) where
           (ap deferred_by_mark here.0.1) in
           proceeds_on b t v 1 1 _ _ pending step
           (leaves_at (Some 0) (place + 1) l fs number q cs (pos 0) pending hands callers
-          (subst (λ (k : Option ValueType). ShowsResult b.made k (Some 0) (pos 0)) (sym e) (refl, zero_value b.made u))
+          (subst (λ (k : Option ValueType). ShowsResult (most_made b) b.made k (Some 0) (pos 0)) (sym e)
+          (refl, zero_value (most_made b) b.made u))
           (moved (place + 1) at) refl refl)
 
   -- at the end of the main part, or at its RETURN

@@ -9,7 +9,10 @@ use Rattle.std.proofs.lemmas.Int.{to_z-of_z, rem_below, fits_signed_from_abs}
 use Rattle.std.proofs.lemmas.Bool.Decides.{Decides-int_eq, Decides-eqb}
 use Rattle.std.proofs.lemmas.Bool.{eqb-true, ltb-true}
 use Rattle.words.specs.declared.outcome.Fault.TheVariants.{DivisionByZero, ResultOutOfRange}
+use Rattle.words.specs.declared.version.ImageVersion.{ImageVersion}
 use Rattle.words.specs.Signed.{signed_of, word_of}
+use Rattle.words.specs.Versions.{most_of}
+use Rattle.words.proofs.Versions.{most_few}
 use Rattle.words.specs.declared.outcome.Cause.TheVariants.{Faulted}
 use Rattle.isa.specs.declared.operator.Operator.TheVariants.{BitAnd, BitOr}
 use Rattle.program.specs.declared.kinds.ValueType.{ValueType}
@@ -63,11 +66,14 @@ pub small_fits : (n : ℕ) → n < 2 ^ 31 → FitsSigned w32 (pos n)
 small_fits n h = search rules
 
 -- a value of any type fits a word
-pub value_fits : (made : ℕ) → (t : ValueType) (z : ℤ) → HasValue made t z → FitsSigned w32 z
-value_fits made Integer z h = h
-value_fits made Boolean z (inl e) = subst (FitsSigned w32) (sym e) (small_fits 0 (omega arith))
-value_fits made Boolean z (inr e) = subst (FitsSigned w32) (sym e) (small_fits 1 (omega arith))
-value_fits made Process z h = subst (FitsSigned w32) (sym h.1) (small_fits h.0 (omega (arith, h.2)))
+pub value_fits : (version : ImageVersion) (made : ℕ) → (t : ValueType) (z : ℤ) → HasValue (most_of version) made t z
+    → FitsSigned w32 z
+value_fits version made Integer z h = h
+value_fits version made Boolean z (inl e) = subst (FitsSigned w32) (sym e) (small_fits 0 (omega arith))
+value_fits version made Boolean z (inr e) = subst (FitsSigned w32) (sym e) (small_fits 1 (omega arith))
+value_fits version made Process z h =
+    let few = most_few version in
+    subst (FitsSigned w32) (sym h.1) (small_fits h.0 (omega (arith, h.3, few)))
 
 pub word_injective : (x y : ℤ) → FitsSigned w32 x → FitsSigned w32 y → word_of x ≡ word_of y → x ≡ y
 word_injective x y hx hy e = sym (back x hx) ∙ ap signed_of e ∙ back y hy
@@ -100,21 +106,23 @@ zero_fits = small_fits 0 (omega arith)
 pub zero_word : (x : ℤ) → FitsSigned w32 x → (word_of x == 0) ≡ int_eq x (pos 0)
 zero_word x h = equal_words x (pos 0) h zero_fits
 
-and_shown : (made : ℕ) → (a b : ℤ) (rest : List ℕ) (place : ℕ) (l : Locals) (fs : List Frame) → HasValue made Boolean a
-    → HasValue made Boolean b → at_place place l fs (operator_effect BitAnd (word_of a) (word_of b) rest) ≡ shown
+and_shown : (most made : ℕ) → (a b : ℤ) (rest : List ℕ) (place : ℕ) (l : Locals) (fs : List Frame)
+    → HasValue most made Boolean a
+    → HasValue most made Boolean b → at_place place l fs (operator_effect BitAnd (word_of a) (word_of b) rest) ≡ shown
     (both And a b) rest place l fs
-and_shown made a b rest place l fs (inl x) (inl y) = rw x refl
-and_shown made a b rest place l fs (inl x) (inr y) = rw x refl
-and_shown made a b rest place l fs (inr x) (inl y) = rw (x, y) refl
-and_shown made a b rest place l fs (inr x) (inr y) = rw (x, y) refl
+and_shown most made a b rest place l fs (inl x) (inl y) = rw x refl
+and_shown most made a b rest place l fs (inl x) (inr y) = rw x refl
+and_shown most made a b rest place l fs (inr x) (inl y) = rw (x, y) refl
+and_shown most made a b rest place l fs (inr x) (inr y) = rw (x, y) refl
 
-or_shown : (made : ℕ) → (a b : ℤ) (rest : List ℕ) (place : ℕ) (l : Locals) (fs : List Frame) → HasValue made Boolean a
-    → HasValue made Boolean b → at_place place l fs (operator_effect BitOr (word_of a) (word_of b) rest) ≡ shown
+or_shown : (most made : ℕ) → (a b : ℤ) (rest : List ℕ) (place : ℕ) (l : Locals) (fs : List Frame)
+    → HasValue most made Boolean a
+    → HasValue most made Boolean b → at_place place l fs (operator_effect BitOr (word_of a) (word_of b) rest) ≡ shown
     (both Or a b) rest place l fs
-or_shown made a b rest place l fs (inl x) (inl y) = rw (x, y) refl
-or_shown made a b rest place l fs (inl x) (inr y) = rw (x, y) refl
-or_shown made a b rest place l fs (inr x) (inl y) = rw (x, y) refl
-or_shown made a b rest place l fs (inr x) (inr y) = rw (x, y) refl
+or_shown most made a b rest place l fs (inl x) (inl y) = rw (x, y) refl
+or_shown most made a b rest place l fs (inl x) (inr y) = rw (x, y) refl
+or_shown most made a b rest place l fs (inr x) (inl y) = rw (x, y) refl
+or_shown most made a b rest place l fs (inr x) (inr y) = rw (x, y) refl
 
 divides_by : (b : Bool) (e : Look) (a d : ℤ) (quotient : Evaluated) (rest : List ℕ) (place : ℕ) (l : Locals)
     (fs : List Frame) → b ≡ int_eq d (pos 0) → e ≡ shown quotient rest place l fs → or_dies
@@ -131,80 +139,85 @@ rem_fits a d hd some = let b = rem_below a d some in let c = abs_fits d hd in fi
     (omega (arith, b, c))
 
 -- an operator on the words of two values of a type that it takes
-pub both_shown : (made : ℕ) → (op : Operator) (t : ValueType) (a b : ℤ) (rest : List ℕ) (place : ℕ) (l : Locals) (fs
-    : List Frame)
-    → Takes op t → HasValue made t a → HasValue made t b → at_place place l fs
-    (operator_effect (operation op) (word_of a) (word_of b) rest) ≡ shown (both op a b) rest place l fs
-both_shown made Add t a b rest place l fs k ha hb = rw (
-  back a (value_fits made t a ha),
-  back b (value_fits made t b
+pub both_shown : (version : ImageVersion) (made : ℕ) → (op : Operator) (t : ValueType) (a b : ℤ) (rest : List ℕ)
+    (place : ℕ) (l : Locals) (fs : List Frame) → Takes op t → HasValue (most_of version) made t a
+    → HasValue (most_of version) made t b
+    → at_place place l fs (operator_effect (operation op) (word_of a) (word_of b) rest) ≡ shown (both op a b) rest place l
+    fs
+both_shown version made Add t a b rest place l fs k ha hb = rw (
+  back a (value_fits version made t a ha),
+  back b (value_fits version made t b
       hb),
 )
     (integer_shown (a +ℤ b) rest place l fs)
-both_shown made Subtract t a b rest place l fs k ha hb = rw (
-  back a (value_fits made t a ha),
-  back b (value_fits made
+both_shown version made Subtract t a b rest place l fs k ha hb = rw (
+  back a (value_fits version made t a ha),
+  back b (value_fits version made
       t b hb),
 )
     (integer_shown (a -ℤ b) rest place l fs)
-both_shown made Multiply t a b rest place l fs k ha hb = rw (
-  back a (value_fits made t a ha),
-  back b (value_fits made
+both_shown version made Multiply t a b rest place l fs k ha hb = rw (
+  back a (value_fits version made t a ha),
+  back b (value_fits version made
       t b hb),
 )
     (integer_shown (a *ℤ b) rest place l fs)
-both_shown made Divide t a b rest place l fs k ha hb =
-    rw (back a (value_fits made t a ha), back b (value_fits made t b hb))
-    (divides_by (word_of b == 0) _ a b (integer (int_div a b)) rest place l fs (zero_word b (value_fits made t b hb))
+both_shown version made Divide t a b rest place l fs k ha hb =
+    rw (back a (value_fits version made t a ha), back b (value_fits version made t b hb))
+    (divides_by (word_of b == 0) _ a b (integer (int_div a b)) rest place l fs (zero_word b
+    (value_fits version made t b hb))
     (integer_shown (int_div a b) rest place l fs))
-both_shown made Modulo t a b rest place l fs k ha hb =
-    rw (back a (value_fits made t a ha), back b (value_fits made t b hb))
-    (divides_by (word_of b == 0) _ a b (Value (int_rem a b)) rest place l fs (zero_word b (value_fits made t b hb))
+both_shown version made Modulo t a b rest place l fs k ha hb =
+    rw (back a (value_fits version made t a ha), back b (value_fits version made t b hb))
+    (divides_by (word_of b == 0) _ a b (Value (int_rem a b)) rest place l fs (zero_word b
+    (value_fits version made t b hb))
     refl)
-both_shown made Equal t a b rest place l fs k ha hb = rw (equal_words a b (value_fits made t a ha) (value_fits made t
+both_shown version made Equal t a b rest place l fs k ha hb =
+    rw (equal_words a b (value_fits version made t a ha) (value_fits version made t
     b hb))
     (truth_shown (int_eq a b) rest place l fs)
-both_shown made NotEqual t a b rest place l fs k ha hb = rw (equal_words a b (value_fits made t a ha) (value_fits
-    made t b hb))
+both_shown version made NotEqual t a b rest place l fs k ha hb =
+    rw (equal_words a b (value_fits version made t a ha) (value_fits
+    version made t b hb))
     (truth_shown (not (int_eq a b)) rest place l fs)
-both_shown made Less t a b rest place l fs k ha hb = rw (
-  back a (value_fits made t a ha),
-  back b (value_fits made t b
+both_shown version made Less t a b rest place l fs k ha hb = rw (
+  back a (value_fits version made t a ha),
+  back b (value_fits version made t b
       hb),
 )
     (truth_shown (int_lt a b) rest place l fs)
-both_shown made LessEqual t a b rest place l fs k ha hb = rw (
-  back a (value_fits made t a ha),
+both_shown version made LessEqual t a b rest place l fs k ha hb = rw (
+  back a (value_fits version made t a ha),
   back b (value_fits
-      made t b hb),
+      version made t b hb),
 )
     (truth_shown (int_le a b) rest place l fs)
-both_shown made Greater t a b rest place l fs k ha hb = rw (
-  back a (value_fits made t a ha),
-  back b (value_fits made
+both_shown version made Greater t a b rest place l fs k ha hb = rw (
+  back a (value_fits version made t a ha),
+  back b (value_fits version made
       t b hb),
 )
     (truth_shown (int_lt b a) rest place l fs)
-both_shown made GreaterEqual t a b rest place l fs k ha hb = rw (
-  back a (value_fits made t a ha),
+both_shown version made GreaterEqual t a b rest place l fs k ha hb = rw (
+  back a (value_fits version made t a ha),
   back b (value_fits
-      made t b hb),
+      version made t b hb),
 )
     (truth_shown (int_le b a) rest place l fs)
-both_shown made And t a b rest place l fs k ha hb = and_shown made a b rest place l fs (subst
-    (λ u. HasValue made u a) k ha)
-    (subst (λ u. HasValue made u b) k hb)
-both_shown made Or t a b rest place l fs k ha hb = or_shown made a b rest place l fs (subst
-    (λ u. HasValue made u a) k ha)
-    (subst (λ u. HasValue made u b) k hb)
+both_shown version made And t a b rest place l fs k ha hb = and_shown (most_of version) made a b rest place l fs (subst
+    (λ u. HasValue (most_of version) made u a) k ha)
+    (subst (λ u. HasValue (most_of version) made u b) k hb)
+both_shown version made Or t a b rest place l fs k ha hb = or_shown (most_of version) made a b rest place l fs (subst
+    (λ u. HasValue (most_of version) made u a) k ha)
+    (subst (λ u. HasValue (most_of version) made u b) k hb)
 
 -- a minus before the word of a value, and a NOT
-pub unary_shown : (made : ℕ) → (t : ℕ) (op : UnaryOperator) (a : ℤ) (rest : List ℕ) (place : ℕ) (l : Locals) (fs :
-    List Frame)
-    → HasValue made (unary_type op) a → at_place place l fs (effect t (unary_code op) (word_of a ∷ rest) l) ≡ shown
-    (unary op a) rest place l fs
-unary_shown made t NegateOf a rest place l fs h = rw (back a h) (integer_shown (neg_ℤ a) rest place l fs)
-unary_shown made t NotOf a rest place l fs h = rw (zero_word a (value_fits made Boolean a h))
+pub unary_shown : (version : ImageVersion) (made most t : ℕ) (op : UnaryOperator) (a : ℤ) (rest : List ℕ) (place : ℕ)
+    (l : Locals) (fs : List Frame) → HasValue (most_of version) made (unary_type op) a
+    → at_place place l fs (effect most t (unary_code op) (word_of a ∷ rest) l) ≡ shown (unary op a) rest place l fs
+unary_shown version made most t NegateOf a rest place l fs h =
+    rw (back a h) (integer_shown (neg_ℤ a) rest place l fs)
+unary_shown version made most t NotOf a rest place l fs h = rw (zero_word a (value_fits version made Boolean a h))
     (not_shown (int_eq a (pos 0)) rest place l fs)
   where
     not_shown : (b : Bool) (rest : List ℕ) (place : ℕ) (l : Locals) (fs : List Frame) → at_place place l fs
@@ -219,50 +232,51 @@ in_range_fits (negsuc n) h = let e = ltb-true n 2147483648 h in negative_fits n 
     negative_fits : (n : ℕ) → n < 2 ^ 31 → FitsSigned w32 (negsuc n)
     negative_fits n h = search rules
 
-pub integer_typed : (made : ℕ) → (z : ℤ) → OfType made Integer (integer z)
-integer_typed made z = by_test (is_integer z) refl
+pub integer_typed : (most made : ℕ) → (z : ℤ) → OfType most made Integer (integer z)
+integer_typed most made z = by_test (is_integer z) refl
   where
-    by_test : (b : Bool) → is_integer z ≡ b → OfType made Integer (if b then Value z else Fails ResultOutOfRange)
+    by_test : (b : Bool) → is_integer z ≡ b → OfType most made Integer (if b then Value z else Fails ResultOutOfRange)
     by_test true h = in_range_fits z h
     by_test false h = tt
 
-pub truth_typed : (made : ℕ) → (b : Bool) → HasValue made Boolean (v.truth b)
-truth_typed made true = inr refl
-truth_typed made false = inl refl
+pub truth_typed : (most made : ℕ) → (b : Bool) → HasValue most made Boolean (v.truth b)
+truth_typed most made true = inr refl
+truth_typed most made false = inl refl
 
 positive : (d : ℤ) → int_eq d (pos 0) ≡ false → 0 < unsigned_abs d
 positive (pos zero) h = absurd cc
 positive (pos (suc n)) h = omega arith
 positive (negsuc n) h = omega arith
 
-divided_typed : (made : ℕ) → (a d : ℤ) (quotient : Evaluated) → (0 < unsigned_abs d
-    → OfType made Integer quotient) → OfType made Integer
+divided_typed : (most made : ℕ) → (a d : ℤ) (quotient : Evaluated) → (0 < unsigned_abs d
+    → OfType most made Integer quotient) → OfType most made Integer
     (quotient_or_fault a d quotient)
-divided_typed made a d quotient h = by_test (int_eq d (pos 0)) refl
+divided_typed most made a d quotient h = by_test (int_eq d (pos 0)) refl
   where
-    by_test : (b : Bool) → int_eq d (pos 0) ≡ b → OfType made Integer (if not b then quotient else Fails DivisionByZero)
+    by_test : (b : Bool) → int_eq d (pos 0) ≡ b
+        → OfType most made Integer (if not b then quotient else Fails DivisionByZero)
     by_test true e = tt
     by_test false e = h (positive d e)
 
-pub both_typed : (made : ℕ) → (op : Operator) (t : ValueType) (a b : ℤ) → Takes op t → HasValue made t a
-    → HasValue made t b → OfType made
-    (result_type op) (both op a b)
-both_typed made Add t a b k ha hb = integer_typed made (a +ℤ b)
-both_typed made Subtract t a b k ha hb = integer_typed made (a -ℤ b)
-both_typed made Multiply t a b k ha hb = integer_typed made (a *ℤ b)
-both_typed made Divide t a b k ha hb = divided_typed made a b (integer (int_div a b))
-    (λ _. integer_typed made (int_div a b))
-both_typed made Modulo t a b k ha hb = divided_typed made a b (Value (int_rem a b))
-    (λ some. rem_fits a b (value_fits made t b hb) some)
-both_typed made Equal t a b k ha hb = truth_typed made (int_eq a b)
-both_typed made NotEqual t a b k ha hb = truth_typed made (not (int_eq a b))
-both_typed made Less t a b k ha hb = truth_typed made (int_lt a b)
-both_typed made LessEqual t a b k ha hb = truth_typed made (int_le a b)
-both_typed made Greater t a b k ha hb = truth_typed made (int_lt b a)
-both_typed made GreaterEqual t a b k ha hb = truth_typed made (int_le b a)
-both_typed made And t a b k ha hb = truth_typed made (is_true a && is_true b)
-both_typed made Or t a b k ha hb = truth_typed made (is_true a || is_true b)
+pub both_typed : (version : ImageVersion) (made : ℕ) → (op : Operator) (t : ValueType) (a b : ℤ) → Takes op t
+    → HasValue (most_of version) made t a → HasValue (most_of version) made t b
+    → OfType (most_of version) made (result_type op) (both op a b)
+both_typed version made Add t a b k ha hb = integer_typed (most_of version) made (a +ℤ b)
+both_typed version made Subtract t a b k ha hb = integer_typed (most_of version) made (a -ℤ b)
+both_typed version made Multiply t a b k ha hb = integer_typed (most_of version) made (a *ℤ b)
+both_typed version made Divide t a b k ha hb = divided_typed (most_of version) made a b (integer (int_div a b))
+    (λ _. integer_typed (most_of version) made (int_div a b))
+both_typed version made Modulo t a b k ha hb = divided_typed (most_of version) made a b (Value (int_rem a b))
+    (λ some. rem_fits a b (value_fits version made t b hb) some)
+both_typed version made Equal t a b k ha hb = truth_typed (most_of version) made (int_eq a b)
+both_typed version made NotEqual t a b k ha hb = truth_typed (most_of version) made (not (int_eq a b))
+both_typed version made Less t a b k ha hb = truth_typed (most_of version) made (int_lt a b)
+both_typed version made LessEqual t a b k ha hb = truth_typed (most_of version) made (int_le a b)
+both_typed version made Greater t a b k ha hb = truth_typed (most_of version) made (int_lt b a)
+both_typed version made GreaterEqual t a b k ha hb = truth_typed (most_of version) made (int_le b a)
+both_typed version made And t a b k ha hb = truth_typed (most_of version) made (is_true a && is_true b)
+both_typed version made Or t a b k ha hb = truth_typed (most_of version) made (is_true a || is_true b)
 
-pub unary_typed : (made : ℕ) → (op : UnaryOperator) (a : ℤ) → OfType made (unary_type op) (unary op a)
-unary_typed made NegateOf a = integer_typed made (neg_ℤ a)
-unary_typed made NotOf a = truth_typed made (not (is_true a))
+pub unary_typed : (most made : ℕ) → (op : UnaryOperator) (a : ℤ) → OfType most made (unary_type op) (unary op a)
+unary_typed most made NegateOf a = integer_typed most made (neg_ℤ a)
+unary_typed most made NotOf a = truth_typed most made (not (is_true a))

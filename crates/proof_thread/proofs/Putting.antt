@@ -13,14 +13,14 @@ slot_below (t ∷ ts) zero u h = omega arith
 slot_below (t ∷ ts) (suc slot) u h = let r = slot_below ts slot u h in omega (arith, r)
 
 -- a value of a local's type put into it
-pub put_typed : (made : ℕ) → (ts : List ValueType) (zs : List ℤ) (slot : ℕ) (u : ValueType) (z : ℤ)
-    → HaveValues made ts zs
-    → slice_get ts slot ≡ Some u → HasValue made u z → HaveValues made ts (slice_set zs slot z)
-put_typed made [] zs slot u z h e k = absurd cc
-put_typed made (t ∷ ts) [] slot u z h e k = absurd h
-put_typed made (t ∷ ts) (y ∷ zs) zero u z h e k = let same : t ≡ u = cc in
-    (subst (λ (w : ValueType). HasValue made w z) (sym same) k, h.1)
-put_typed made (t ∷ ts) (y ∷ zs) (suc slot) u z h e k = (h.0, put_typed made ts zs slot u z h.1 e k)
+pub put_typed : (most made : ℕ) → (ts : List ValueType) (zs : List ℤ) (slot : ℕ) (u : ValueType) (z : ℤ)
+    → HaveValues most made ts zs
+    → slice_get ts slot ≡ Some u → HasValue most made u z → HaveValues most made ts (slice_set zs slot z)
+put_typed most made [] zs slot u z h e k = absurd cc
+put_typed most made (t ∷ ts) [] slot u z h e k = absurd h
+put_typed most made (t ∷ ts) (y ∷ zs) zero u z h e k = let same : t ≡ u = cc in
+    (subst (λ (w : ValueType). HasValue most made w z) (sym same) k, h.1)
+put_typed most made (t ∷ ts) (y ∷ zs) (suc slot) u z h e k = (h.0, put_typed most made ts zs slot u z h.1 e k)
 
 pub put_length : (ws : List ℕ) (slot w : ℕ) → length (slice_set ws slot w) ≡ length ws
 put_length ws slot w = search rules
@@ -61,7 +61,7 @@ put_holds ws zs slot z h lt i y e = by_place (set_get zs slot i z y e)
     by_place (inr (other, held)) = set_other ws slot (word_of z) i other ∙ h i y held
 
 -- 0, FALSE and the empty handle are values of every type
-pub zero_value : (made : ℕ) → (t : ValueType) → HasValue made t (pos 0)
-zero_value made Integer = search rules
-zero_value made Boolean = inl refl
-zero_value made Process = (0, refl, omega arith, omega arith)
+pub zero_value : (most made : ℕ) → (t : ValueType) → HasValue most made t (pos 0)
+zero_value most made Integer = search rules
+zero_value most made Boolean = inl refl
+zero_value most made Process = (0, refl, omega arith, omega arith)

@@ -21,7 +21,8 @@ use Rattle.locals.specs.Looks.{Goes, if_so, look}
 use Rattle.meaning.specs.Processes.{Frame, Caller, goes_on, frame_of, zeros, recovers_by}
 use Rattle.proof_thread.specs.Typed.{HaveValues}
 use Rattle.proof_thread.specs.Walks.{empty_view}
-use Rattle.proof_thread.specs.Following.{Build, CallersStand, is_first, is_called, is_recovery, Implements, IsFrame}
+use Rattle.proof_thread.specs.Following.{Build, most_made, CallersStand, is_first, is_called, is_recovery, Implements}
+use Rattle.proof_thread.specs.Following.{IsFrame}
 use Rattle.proof_thread.specs.Following.{StandsBehind, Stands, runs, fails, recovery_in}
 use Rattle.proof_thread.specs.Completing.{GoesOn, with_scratch}
 use Rattle.proof_thread.specs.Builds.{IsBuild}
@@ -120,8 +121,8 @@ module _ (b : Build) (is : IsBuild b) (t : ℕ) (m place : ℕ) (l : Locals) (fs
       (one_step b.code t (empty_view b.program) _ _ step (ap deferred_by_mark at.1)) begun.walk))
       (in_body b is t r q [] (back ∷ fs) (caller ∷ cs) begun stand (recover_enters b q m part.2)) opened
     where
-      no_values : (ts : List ValueType) → ts ≡ [] → HaveValues b.made ts []
-      no_values ts e = subst (λ (us : List ValueType). HaveValues b.made us []) (sym e) tt
+      no_values : (ts : List ValueType) → ts ≡ [] → HaveValues (most_made b) b.made ts []
+      no_values ts e = subst (λ (us : List ValueType). HaveValues (most_made b) b.made us []) (sym e) tt
 
   pub goes_on_here : GoesOn b t m place l fs f cs
   goes_on_here = record {

@@ -24,7 +24,7 @@ use Rattle.meaning.specs.Processes.{Frame, Caller, Process, Leaving, goes_on, ha
 use Rattle.meaning.specs.Offers.{Does, Nothing, offer}
 use Rattle.proof_thread.specs.Typed.{HasValue}
 use Rattle.proof_thread.specs.Walks.{WalksWithin, stays}
-use Rattle.proof_thread.specs.Following.{Build, CallersStand, is_first, is_called, is_recovery, StandsBehind}
+use Rattle.proof_thread.specs.Following.{Build, most_made, CallersStand, is_first, is_called, is_recovery, StandsBehind}
 use Rattle.proof_thread.specs.Following.{Implements}
 use Rattle.proof_thread.specs.Following.{IsFrame, Stands, runs, taking_code, ShowsResult, result_operands}
 use Rattle.proof_thread.specs.Completing.{Completes, Proceeds, view_of}
@@ -118,7 +118,7 @@ module _ (b : Build) (t : ℕ) (v : Variables) where
   -- a result is taken by the caller
   returns_value : (u : ValueType) (m : MachineFrame) (fs : List MachineFrame) (n : ℕ) (caller : Procedure)
       (into : Option ℕ) (f : Frame) (cs : List Caller) (z : ℤ) (r : Process)
-      → ResultFits (scope_of b.program caller) into (Some u) → HasValue b.made u z
+      → ResultFits (scope_of b.program caller) into (Some u) → HasValue (most_made b) b.made u z
       → StandsBehind b m (record { into = into; frame = f }) n caller (taking_code into (Some u))
       → CallersStand b n caller fs cs
       → offer b.program v r ≡ Does (Alone L.Return) Nothing (hands_over z (record { into = into; frame = f } ∷ cs))
@@ -136,7 +136,7 @@ module _ (b : Build) (t : ℕ) (v : Variables) where
       record {
         procedure = h.procedure;
         role = h.role;
-        typed = put_typed b.made (slots caller) f.locals slot u z h.typed fit typed;
+        typed = put_typed (most_made b) b.made (slots caller) f.locals slot u z h.typed fit typed;
         holds = put_holds m.locals.values f.locals slot z h.holds (omega (arith, within, h.few, h.words));
         words = put_length m.locals.values slot (word_of z) ∙ h.words;
         few = h.few;
@@ -151,7 +151,7 @@ module _ (b : Build) (t : ℕ) (v : Variables) where
   pub called_returns : (result : Option ValueType) (shown : Option ℕ) (place : ℕ) (l : Locals)
       (fs : List MachineFrame) (number : ℕ) (q : Procedure) (cs : List Caller) (z : ℤ) (r : Process)
       → IsNoRecover q.role → HandsOver q.role → q.result ≡ result → CallersStand b number q fs cs
-      → ShowsResult b.made result shown z
+      → ShowsResult (most_made b) b.made result shown z
       → IsAt b.code place (return_code q.role result)
       → offer b.program v r ≡ Does (Alone L.Return) Nothing (hands_over z cs)
       → Proceeds b t v 1 (Runs place (result_operands shown) l fs) r
@@ -164,7 +164,7 @@ module _ (b : Build) (t : ℕ) (v : Variables) where
       (ap last_mark ret.1) (o ∙ ap (λ (y : ℤ). Does (Alone L.Return) Nothing (Leaving y)) is)))
   called_returns (Some u) (Some w) place l [] number q [] z r role hands same (is_first h) is code o =
       let ret = value_return b place q.role u hands code in
-      let fits = value_fits b.made u z is.1 in
+      let fits = value_fits b.program.version b.made u z is.1 in
       let operands : result_operands (Some (word_of z)) ≡ result_operands (Some w) =
       ap (λ k. result_operands (Some k)) (sym is.0) in
       proceeds_wider b t v 0 1 _ r (omega arith)

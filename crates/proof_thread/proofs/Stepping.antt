@@ -24,7 +24,7 @@ use Rattle.meaning.specs.Offers.{Does, Writes}
 use Rattle.proof_thread.specs.Evaluation.{OfType}
 use Rattle.proof_thread.specs.Deferrals.{deferred_by_mark}
 use Rattle.proof_thread.specs.Walks.{stays}
-use Rattle.proof_thread.specs.Following.{Build, Implements, Stands}
+use Rattle.proof_thread.specs.Following.{Build, most_made, Implements, Stands}
 use Rattle.proof_thread.specs.Completing.{Completes, Proceeds}
 use Rattle.proof_thread.specs.Completing as F
 use Rattle.proof_thread.proofs.Operators.{back}
@@ -83,7 +83,8 @@ module _ (b : Build) (t : ℕ) (v : Variables) (place : ℕ) (l : Locals) (fs : 
       (frame_at procedure values rest) cs _ (q s) refl
       refl give
       (λ z same o.
-      let typed : OfType b.made Integer (Value z) = subst (OfType b.made Integer) same (ev.type e Integer fits) in
+      let typed : OfType (most_made b) b.made Integer (Value z) =
+      subst (OfType (most_made b) b.made Integer) same (ev.type e Integer fits) in
       let signed = back z typed in
       at_once (Runs end (word_of z ∷ []) l fs) (q s)
       (F.prints (word_of z) (λ a. Runs (end + 1) [] l fs) (look_here b.code t (view_at b procedure v) end Print'
@@ -125,13 +126,14 @@ module _ (b : Build) (t : ℕ) (v : Variables) (place : ℕ) (l : Locals) (fs : 
       (frame_at procedure values rest) cs _ (q s) refl
       refl give
       (λ z same o.
-      let typed : OfType b.made u (Value z) = subst (OfType b.made u) same (ev.type e u fits) in
+      let typed : OfType (most_made b) b.made u (Value z) =
+      subst (OfType (most_made b) b.made u) same (ev.type e u fits) in
       let within = slot_below (slots procedure) slot u is_local in
       let after : Stands b t (Runs (end + 1) [] (with_local l (Slot' slot) (word_of z)) fs)
       (goes_on None (frame_at procedure (slice_set values slot z) rest) cs) =
       stands_on b t v place l fs values s rest procedure cs c (with_local l (Slot' slot) (word_of z))
       (slice_set values slot z) rest (end + 1) c.head.jumps
-      (put_typed b.made (slots procedure) values slot u z c.typed is_local typed)
+      (put_typed (most_made b) b.made (slots procedure) values slot u z c.typed is_local typed)
       (put_holds l.values values slot z c.holds (omega (arith, within, c.few, c.words)))
       (put_length l.values slot (word_of z) ∙ c.words) c.later
       (omega (arith, c.head.few, c.head.deep)) (subst (λ n. Implements b.code

@@ -33,7 +33,7 @@ use Rattle.proof_thread.specs.Variables.{IsVariable, variable_address, ValueFits
 use Rattle.proof_thread.specs.Evaluation.{OfType}
 use Rattle.proof_thread.specs.Deferrals.{deferred_by_mark}
 use Rattle.proof_thread.specs.Walks.{StandAt}
-use Rattle.proof_thread.specs.Following.{Build, Implements, Stands}
+use Rattle.proof_thread.specs.Following.{Build, most_made, Implements, Stands}
 use Rattle.proof_thread.specs.Completing.{Proceeds}
 use Rattle.proof_thread.specs.Completing as F
 use Rattle.proof_thread.proofs.Walking.{front_stands, back_stands, one_step, look_here, push_step, wider}
@@ -65,7 +65,7 @@ module _ (b : Build) (t : ℕ) (v : Variables) (place : ℕ) (l : Locals) (fs : 
   stores_value : (s : Statement) → Context b t v place l fs values s rest procedure cs → (m : Member) (i a : ℕ)
       (u : ValueType) (e : Expression) (start jumps : ℕ) → a ≡ variable_address b.program m i
       → own_monitor procedure.role ≡ Some m.monitor → IsVariable b.program m i
-      → ((z : ℤ) → HasValue b.made u z → ValueFits b.made (member_type b.program m) z)
+      → ((z : ℤ) → HasValue (most_made b) b.made u z → ValueFits (most_made b) b.made (member_type b.program m) z)
       → HasType (scope_of b.program procedure) e u
       → StandAt b.code start (expression_code b.program e ++ store_code)
       → room e + 1 ≤ 512 → jumps ≤ b.most
@@ -85,7 +85,8 @@ module _ (b : Build) (t : ℕ) (v : Variables) (place : ℕ) (l : Locals) (fs : 
       with_evaluation b t v (2 * expression_tokens e) 0 (Runs start (a ∷ []) l fs) (evaluate p v values e) end (a ∷ [])
       l fs f cs (put m i) (process s) o refl give
       (λ z same o'.
-      let value : OfType b.made u (Value z) = subst (OfType b.made u) same (c.evaluates.type e u typed) in
+      let value : OfType (most_made b) b.made u (Value z) =
+      subst (OfType (most_made b) b.made u) same (c.evaluates.type e u typed) in
       let seen = look_here b.code t (view_at b procedure v) end Store (word_of z ∷ a ∷ []) l fs last.0 in
       at_once b t v place l fs values rest procedure cs entered (Runs end (word_of z ∷ a ∷ []) l fs) (process s)
       (F.stores m i z (λ answer. Runs (end + 1) [] l fs) own
@@ -116,7 +117,7 @@ module _ (b : Build) (t : ℕ) (v : Variables) (place : ℕ) (l : Locals) (fs : 
       (omega arith)
       (proceeds_on b t v 1 (2 * expression_tokens e + 0) x (Runs (place + 1) (a ∷ []) l fs) (process s) step
       (stores_value s c m 0 a u e (place + 1) c.head.jumps (omega arith) own (single_variable p m u is_member)
-      (λ z h. subst (λ (o : Option MemberType). ValueFits b.made o z) (sym is_member) h)
+      (λ z h. subst (λ (o : Option MemberType). ValueFits (most_made b) b.made o z) (sym is_member) h)
       c.sound.fits.2 c.head.here.1 (omega (arith, c.sound.room)) (omega (arith, c.head.few, c.head.deep)) more refl))
 
   -- where the index leads: to the element's address, or to the fault
@@ -142,8 +143,8 @@ module _ (b : Build) (t : ℕ) (v : Variables) (place : ℕ) (l : Locals) (fs : 
       (process s) step.1
       (stores_value s c a k (member_address b.program a + k) u e (end + 1) c.head.jumps refl own
       (element_variable b.program a n k is_array below)
-      (λ z h. subst (λ (o : Option MemberType). ValueFits b.made o z) (sym is_array)
-      (subst (λ (w : ValueType). HasValue b.made w z) integer h))
+      (λ z h. subst (λ (o : Option MemberType). ValueFits (most_made b) b.made o z) (sym is_array)
+      (subst (λ (w : ValueType). HasValue (most_made b) b.made w z) integer h))
       typed code space (omega (arith, c.head.few, c.head.deep)) more offered)
 
   pub element_proceeds : (a : Member) (i e : Expression)
@@ -180,8 +181,8 @@ module _ (b : Build) (t : ℕ) (v : Variables) (place : ℕ) (l : Locals) (fs : 
       (with_evaluation b t v (2 * expression_tokens i) (1 + (2 * expression_tokens e + 0)) x (evaluate p v values i) end
       [] l fs f cs _ (process s) refl refl give
       (λ z same o.
-      let value : OfType b.made Integer (Value z) =
-      subst (OfType b.made Integer) same (c.evaluates.type i Integer is_index) in
+      let value : OfType (most_made b) b.made Integer (Value z) =
+      subst (OfType (most_made b) b.made Integer) same (c.evaluates.type i Integer is_index) in
       element_stores s c a n u e end is_array own integer fits tail.1 (omega (arith, c.sound.room)) more
       (index_in size z) (Runs end (word_of z ∷ []) l fs)
       (index_steps b.code t (view_at b procedure v) base size (omega (arith, same_size, array.0))

@@ -30,7 +30,7 @@ use Rattle.proof_thread.specs.Typed.{HasValue}
 use Rattle.proof_thread.specs.Evaluation.{OfType}
 use Rattle.proof_thread.specs.Deferrals.{deferred_by_mark}
 use Rattle.proof_thread.specs.Walks.{StandAt}
-use Rattle.proof_thread.specs.Following.{Build, Implements, states, follows, Stands}
+use Rattle.proof_thread.specs.Following.{Build, most_made, Implements, states, follows, Stands}
 use Rattle.proof_thread.specs.Completing.{Completes, Proceeds}
 use Rattle.proof_thread.specs.Completing as F
 use Rattle.proof_thread.proofs.Walking.{front_stands, back_stands, look_here}
@@ -74,7 +74,8 @@ module _ (b : Build) (t : ℕ) (v : Variables) (place : ℕ) (l : Locals) (fs : 
       (frame_at procedure values rest) cs _ (pending s) o
       refl give
       (λ z same o'.
-      let typed : OfType b.made Boolean (Value z) = subst (OfType b.made Boolean) same (ev.type e Boolean fits) in
+      let typed : OfType (most_made b) b.made Boolean (Value z) =
+      subst (OfType (most_made b) b.made Boolean) same (ev.type e Boolean fits) in
       at_once b t v place l fs values rest procedure cs entered (Runs end (word_of z ∷ []) l fs) (pending s)
       (by_value z (look_here b.code t (view_at b procedure v) end (JumpIfZero target) (word_of z ∷ []) l fs last.0)
       (ap deferred_by_mark last.0.1) o'
@@ -85,7 +86,7 @@ module _ (b : Build) (t : ℕ) (v : Variables) (place : ℕ) (l : Locals) (fs : 
           (place + length (expression_code b.program e) + 1)) [] l fs)
           → deferred_by_mark (slice_get b.code.marks (place + length (expression_code b.program e))) ≡ Some L.Test
           → offer b.program v (pending s) ≡ Does (Alone L.Test) Nothing (at_rest (go (is_true z)))
-          → HasValue b.made Boolean z
+          → HasValue (most_made b) b.made Boolean z
           → Completes b t v (Runs (place + length (expression_code b.program e)) (word_of z ∷ []) l fs)
           (pending s)
       by_value z h m k (inl is_zero) = F.acts L.Test tt

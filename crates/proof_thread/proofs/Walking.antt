@@ -3,6 +3,7 @@ use Rattle.std.proofs.Common.{◌≡◌, ℕ, ◌+◌, ◌<◌, ◌≤◌, List,
 use Rattle.std.proofs.Common.{◌∙◌, subst, arith, ℤ, lt-ltb}
 use Rattle.words.specs.Signed.{word_of}
 use Rattle.words.specs.declared.outcome.Cause.TheVariants.{Faulted}
+use Rattle.words.specs.Versions.{most_of}
 use Rattle.isa.specs.declared.instr.Instr.{Instr}
 use Rattle.proof_thread.specs.Deferrals.{MarkedImage, IsAt, mark_of, deferred_by_mark}
 use Rattle.lowering.specs.declared.mark.Mark.{Mark}
@@ -74,14 +75,16 @@ module _ (p : MarkedImage) (t : ℕ) (s : View) where
   walk_gives n m x y (Fails fault) place operands l fs w g = within_on n m x y _ w g
 
   -- what a value leads to
-  pub and_gives : (made : ℕ) → (u : ValueType) (n m : ℕ) (x : Thread) (e : Evaluated) (go : ℤ → Evaluated) (place1 : ℕ)
+  pub and_gives : (most made : ℕ) → (u : ValueType) (n m : ℕ) (x : Thread) (e : Evaluated) (go : ℤ
+      → Evaluated) (place1 : ℕ)
       (operands1 : List ℕ) (place : ℕ) (operands : List ℕ) (l : Locals) (fs : List Frame)
-      → Gives p t s n x e place1 operands1 l fs → OfType made u e →
-      ((z : ℤ) → HasValue made u z → Gives p t s m (Runs place1 (word_of z ∷ operands1) l fs)
+      → Gives p t s n x e place1 operands1 l fs → OfType most made u e →
+      ((z : ℤ) → HasValue most made u z → Gives p t s m (Runs place1 (word_of z ∷ operands1) l fs)
       (go z) place operands l fs) → Gives p t s (n + m) x (and_then e go) place operands l fs
-  and_gives made u n m x (Value z) go place1 operands1 place operands l fs g h k = walk_gives n m x _
+  and_gives most made u n m x (Value z) go place1 operands1 place operands l fs g h k = walk_gives n m x _
       (go z) place operands l fs g (k z h)
-  and_gives made u n m x (Fails fault) go place1 operands1 place operands l fs g h k = wider n (n + m) x (Dies (Faulted fault))
+  and_gives most made u n m x (Fails fault) go place1 operands1 place operands l fs g h k =
+      wider n (n + m) x (Dies (Faulted fault))
       (omega arith) g
 
   -- one instruction that shows an evaluation
@@ -94,7 +97,7 @@ module _ (p : MarkedImage) (t : ℕ) (s : View) where
   -- what the look at a place is, by its instruction
   pub look_here : {mark : Mark} (place : ℕ) (i : Instr) (operands : List ℕ) (l : Locals) (fs : List Frame)
       → IsAt p place (with_mark mark i) → look p.image t (Runs place operands l fs) ≡ at_place place l fs
-      (effect t i operands l)
+      (effect (most_of p.image.version) t i operands l)
   look_here place i operands l fs h = rw (h.0) refl
 
   -- a word is pushed where there is room
@@ -104,10 +107,10 @@ module _ (p : MarkedImage) (t : ℕ) (s : View) where
   push_step place v operands l fs h room =
       h ∙ ap (λ b. if_so b (Goes (Runs (place + 1) (v ∷ operands) l fs))) (lt-ltb (length operands) 512 room)
 
-pub and_typed : (made : ℕ) → (u t : ValueType) (e : Evaluated) (go : ℤ → Evaluated) → OfType made u e →
-    ((z : ℤ) → HasValue made u z → OfType made t (go z)) → OfType made t (and_then e go)
-and_typed made u t (Value z) go h k = k z h
-and_typed made u t (Fails fault) go h k = tt
+pub and_typed : (most made : ℕ) → (u t : ValueType) (e : Evaluated) (go : ℤ → Evaluated) → OfType most made u e →
+    ((z : ℤ) → HasValue most made u z → OfType most made t (go z)) → OfType most made t (and_then e go)
+and_typed most made u t (Value z) go h k = k z h
+and_typed most made u t (Fails fault) go h k = tt
 
 -- a walk that reads nothing is one in any view
 seen_walk : (p : MarkedImage) (t : ℕ) (source : Source) (s : View) → {n : ℕ} {x y : Thread}

@@ -79,6 +79,10 @@ pub record Build : Type 0 where
   pub width : ℕ
   pub made : ℕ
 
+-- how many processes can be made
+abbrev pub most_made : Build → ℕ
+most_made b = most_of b.program.version
+
 -- the same code, where so many processes were made
 abbrev pub with_made : Build → ℕ → Build
 with_made b made = record b { made = made }

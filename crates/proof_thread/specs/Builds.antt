@@ -15,8 +15,10 @@ use Rattle.proof_thread.specs.Walks.{StandAt}
 use Rattle.proof_thread.specs.Following.{Build, AreSound, own_of, Stands, block_nesting}
 use Rattle.proof_thread.specs.Completing.{Proceeds, HasFirst}
 
--- each procedure fits its role and calls lower procedures alone; its code stands where its piece begins
+-- the image has the program's version; each procedure fits its role and calls lower procedures alone; its code stands
+-- where its piece begins
 pub record IsBuild (b : Build) : Type 0 where
+  pub version : b.code.image.version ≡ b.program.version
   pub role : (n : ℕ) (q : Procedure) → slice_get b.program.procedures n ≡ Some q → RoleFits b.program n q q.role
   pub recovers : (m r : ℕ) → recover_of b.program m ≡ Some r
       → (q : Procedure) × (slice_get b.program.procedures r ≡ Some q) × (q.role ≡ Recover m)

@@ -2,7 +2,6 @@
 -- do.
 use Rattle.std.specs.Prelude.{ℕ, suc, ◌+◌, ◌≡◌, ◌<◌, ◌≤◌, pos, ℤ, List, [], ◌∷◌, length, Option, Some, None}
 use Rattle.std.specs.Prelude.{true}
-use Rattle.words.specs.Versions.{most_of}
 use Rattle.words.specs.Process.{process_word}
 use Rattle.words.specs.Signed.{signed_of, word_of}
 use Rattle.words.specs.declared.outcome.Fault.{Fault}
@@ -29,7 +28,8 @@ use Rattle.meaning.specs.Offers.{Does, MakesOne, ClaimsOne, NotifiesSome, Notifi
 use Rattle.proof_thread.specs.Variables.{IsVariable, variable_address, ValueFits}
 use Rattle.proof_thread.specs.Deferrals.{mark_of, deferred_by_mark, last_mark}
 use Rattle.proof_thread.specs.Walks.{View, StandAt, WalksWithin}
-use Rattle.proof_thread.specs.Following.{Build, with_made, recovery_in, result_operands, own_of, StepsWithin, Stands}
+use Rattle.proof_thread.specs.Following.{Build, most_made, with_made, recovery_in, result_operands, own_of}
+use Rattle.proof_thread.specs.Following.{StepsWithin, Stands}
 pub use Rattle.proof_thread.specs.Awaiting.{IsOwn, IsInternal, return_request, left_value, IsResult, join_steps}
 pub use Rattle.proof_thread.specs.Awaiting.{GoesAborted}
 pub use Rattle.proof_thread.specs.Awaiting.{Awaits}
@@ -62,7 +62,7 @@ pub data Completes (b : Build) (t : ℕ) (v : Variables) (x : Thread) (q : Proce
       → ((answer : ℕ) → Stands b t (go answer) r) → Completes b t v x q
   stores : {r : Process} (m : Member) (i : ℕ) (z : ℤ) (go : ℕ → Thread) → own_of q ≡ Some m.monitor
       → HasFirst q m.monitor
-      → IsVariable b.program m i → ValueFits (most_of b.program.version) b.made (member_type b.program m) z
+      → IsVariable b.program m i → ValueFits (most_made b) b.made (member_type b.program m) z
       → look b.code.image t x ≡ Asks (AskStore (variable_address b.program m i) (word_of z)) go
       → offer b.program v q ≡ Does (Stores m.monitor) (Puts m.monitor m.number i z) r
       → ((answer : ℕ) → Stands b t (go answer) r) → Completes b t v x q
@@ -75,12 +75,12 @@ pub data Completes (b : Build) (t : ℕ) (v : Variables) (x : Thread) (q : Proce
   forks : {child : Process} {after : ℕ → Process} (entry : ℕ) (arguments : List ℕ) (go : ℕ → Thread)
       → look b.code.image t x ≡ Asks (AskFork entry arguments true) go → go 0 ≡ Dies (Faulted ProcessTableFull)
       → offer b.program v q ≡ MakesOne child after (Dying (Faulted ProcessTableFull) (holds q))
-      → ((n : ℕ) → b.made ≤ suc n → suc n ≤ most_of b.program.version
+      → ((n : ℕ) → b.made ≤ suc n → suc n ≤ most_made b
       → Stands (with_made b (suc n)) t (go (suc n)) (after (suc n)))
       → ((n u : ℕ) → b.made ≤ n → Stands (with_made b n) u (opening_thread entry arguments) child)
       → holds child ≡ [] → Completes b t v x q
   claims : {into : Option ℕ} {part : Part} {f : Frame} {callers : List Caller} (child : ℕ) (go : ℕ → Thread)
-      → 0 < child → child ≤ b.made → child ≤ most_of b.program.version
+      → 0 < child → child ≤ b.made → child ≤ most_made b
       → look b.code.image t x ≡ Asks (AskSwap (process_word child 3) 1) go
       → offer b.program v q ≡ ClaimsOne child (Joining child into part f callers)
       (Dying (Faulted HandleNotJoinable) (holds q))

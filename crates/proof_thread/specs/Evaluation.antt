@@ -44,4 +44,5 @@ pub record Evaluates (image : MarkedImage) (made t : ℕ) (s : Scope) (v : Varia
       → Gives image t (view_in s v) (2 * expression_tokens e) (Runs place operands l callers)
       (evaluate s.program v values e)
       (place + length (expression_code s.program e)) operands l callers
-  pub type : (e : Expression) (u : ValueType) → HasType s e u → OfType (most_of s.program.version) made u (evaluate s.program v values e)
+  pub type : (e : Expression) (u : ValueType) → HasType s e u
+      → OfType (most_of s.program.version) made u (evaluate s.program v values e)

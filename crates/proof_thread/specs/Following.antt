@@ -4,7 +4,6 @@ use Rattle.words.specs.Signed.{word_of}
 use Rattle.words.specs.declared.outcome.Fault.TheVariants.{AbandonedMonitor}
 use Rattle.words.specs.declared.outcome.Cause.TheVariants.{Faulted}
 use Rattle.isa.specs.declared.instr.Instr.{Instr}
-use Rattle.words.specs.Versions.{most_of}
 use Rattle.program.specs.declared.kinds.ValueType.{ValueType}
 use Rattle.program.specs.declared.kinds.Role.TheVariants.{Entry, Recover}
 use Rattle.program.specs.Trees.{Procedure}
@@ -26,7 +25,7 @@ use Rattle.proof_thread.specs.Walks.{StandAt}
 pub use Rattle.proof_thread.specs.Shapes.{nesting, block_nesting, part_nesting}
 pub use Rattle.proof_thread.specs.Bodies.{Implements, finishes, states, follows, IsSound, AreSound, IsFrame}
 pub use Rattle.proof_thread.specs.Bodies.{taking_code}
-pub use Rattle.proof_thread.specs.Bodies.{Build, with_made, StepsWithin, IsFirst}
+pub use Rattle.proof_thread.specs.Bodies.{Build, most_made, with_made, StepsWithin, IsFirst}
 
 -- a machine's frame stands for a caller's: behind its call comes this code, and then what is left of its body
 pub record StandsBehind (b : Build) (m : MachineFrame) (c : Caller) (number : ℕ) (q : Procedure)
@@ -99,7 +98,7 @@ pub record IsReturning (b : Build) (place : ℕ) (shown : Option ℕ) (fs : List
   pub monitor : ℕ
   pub role : procedure.role ≡ Entry monitor
   pub code : StandAt b.code place (return_code procedure.role procedure.result ∷ [])
-  pub result : ShowsResult (most_of b.program.version) b.made procedure.result shown z
+  pub result : ShowsResult (most_made b) b.made procedure.result shown z
   pub callers : CallersStand b number procedure fs cs
 
 -- the monitor whose variables a process may read and change next

@@ -5,8 +5,8 @@ use Rattle.words.specs.Signed.{word_of}
 use Rattle.program.specs.declared.kinds.ValueType.{ValueType}
 use Rattle.program.specs.declared.kinds.ValueType.TheVariants.{Integer, Boolean, Process}
 
--- an INTEGER fits a word, a BOOLEAN is 0 or 1, a handle is 0 or the number of a process, of which there can be so many and
--- so many were made
+-- an INTEGER fits a word, a BOOLEAN is 0 or 1, a handle is 0 or the number of a process, of which there can be so
+-- many, and of which so many were made
 abbrev pub HasValue : ℕ → ℕ → ValueType → ℤ → Type 0
 HasValue most made Integer z = FitsSigned w32 z
 HasValue most made Boolean z = (z ≡ pos 0) ⊎ (z ≡ pos 1)
