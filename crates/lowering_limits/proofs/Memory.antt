@@ -4,8 +4,8 @@ use Rattle.std.proofs.Common.{length, arith}
 use Rattle.std.specs.Prelude.{slice_get, slice_index}
 use Rattle.words.specs.declared.process.ProcessWord.{ProcessWord}
 use Rattle.words.specs.declared.process.ProcessWord.TheVariants.{Head, Pending, Id, Claim, Result, Outcome}
-use Rattle.words.specs.Limits.{monitors_base}
 use Rattle.words.specs.Process.{number_of}
+use Rattle.words.specs.Versions.{base_of}
 use Rattle.isa.specs.Programs.{memory_size}
 use Rattle.program.specs.Trees.{Monitor, Program}
 use Rattle.program.specs.WellFormed.{words_of, all_words}
@@ -36,7 +36,7 @@ number_below Result = omega arith
 number_below Outcome = omega arith
 
 module _ (p : Program) where
-  pub size : memory_size (code_of p) ≡ monitors_base + 2 * length p.monitors + all_words p.monitors
+  pub size : memory_size (code_of p) ≡ base_of p.version + 2 * length p.monitors + all_words p.monitors
   size =
       let n = length_monitors p.monitors in
       let s = sum_words p.monitors in omega (arith, n, s)
@@ -44,7 +44,7 @@ module _ (p : Program) where
   monitor_ends : (m : ℕ) (x : Monitor) → slice_get p.monitors m ≡ Some x
       → link_word p m + 2 + words_of x.members ≤ memory_size (code_of p)
   monitor_ends m x e =
-      let h = ends_before monitors_base p.monitors m x e in
+      let h = ends_before (base_of p.version) p.monitors m x e in
       let s = size in omega (arith, h, s)
 
   pub inside : (c : Cell) → IsCell p c → address p c < memory_size (code_of p)
@@ -58,6 +58,6 @@ module _ (p : Program) where
   inside (OfMember m k) h =
       let e = monitor_ends m.monitor h.0 h.2 in
       let at : member_address p m ≡ slice_index (addresses_from (link_word p m.monitor + 2) h.0.members) m.number =
-      ap (λ l. address_in l m.number) (there monitors_base p.monitors m.monitor h.0 h.2) in
+      ap (λ l. address_in l m.number) (there (base_of p.version) p.monitors m.monitor h.0 h.2) in
       let high = member_below (link_word p m.monitor + 2) h.0.members m.number h.1 h.3 in
       let few = h.4 in omega (arith, e, at, high, few)
