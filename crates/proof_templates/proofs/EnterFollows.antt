@@ -4,6 +4,7 @@ use Rattle.std.proofs.Common.{Option, Some, None, refl, sym, ◌∙◌, subst, a
 use Rattle.std.specs.Prelude.{if◌then◌else◌}
 use Rattle.std.proofs.lemmas.Bool.{ne_eqb}
 use Rattle.words.specs.Process.{process_word}
+use Rattle.words.specs.Versions.{most_of}
 use Rattle.locals.specs.declared.frame.Locals.{Locals}
 use Rattle.locals.specs.declared.frame.Frame.{Frame as MachineFrame}
 use Rattle.locals.specs.Threads.{Thread, Runs as Runs'}
@@ -33,7 +34,8 @@ use Rattle.proof_templates.proofs.Entering.{enters_follow, taking}
 use Rattle.proof_templates.proofs.Taken.{entry_alone, taken_free, taken_abandoned, taken_holds, follows_by}
 
 module _ (b : Build) (vs : Variables) (t m base : ℕ) (l : Locals) (fs : List MachineFrame) (f : Frame)
-    (cs : List Caller) (is : IsBuild b) (some : 0 < t) (few : t ≤ 64) (fits : EnterFits b t m base l fs f cs) where
+    (cs : List Caller) (is : IsBuild b) (some : 0 < t) (few : t ≤ most_of b.code.image.version)
+    (fits : EnterFits b t m base l fs f cs) where
   abbrev k : Template
   k = Enters m base l fs f cs
 

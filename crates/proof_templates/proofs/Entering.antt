@@ -5,6 +5,7 @@ use Rattle.std.specs.Prelude.{if◌then◌else◌}
 use Rattle.std.proofs.lemmas.Bool.{ne_eqb}
 use Rattle.words.specs.declared.process.ProcessWord.TheVariants.{Pending}
 use Rattle.words.specs.Process.{process_word}
+use Rattle.words.specs.Versions.{most_of}
 use Rattle.isa.specs.declared.instr.Instr.{Instr}
 use Rattle.proof_thread.specs.Deferrals.{deferred_by_mark, MarkedImage}
 use Rattle.locals.specs.declared.frame.Locals.{Locals}
@@ -29,7 +30,7 @@ use Rattle.proof_templates.proofs.Locking.{takes_follow, to_list, again, address
 
 module _ (p : Program) (image : MarkedImage) (t m base : ℕ) (recover : Instr) (l : Locals) (fs : List Frame)
     (code : StandAt image base (rebase_all base (enter_code m (link_word p m) recover))) (some : 0 < t)
-    (few : t ≤ 64) where
+    (few : t ≤ most_of image.image.version) where
   abbrev link : ℕ
   link = link_word p m
 
@@ -56,7 +57,8 @@ module _ (p : Program) (image : MarkedImage) (t m base : ℕ) (recover : Instr) 
 
   step : (i j place : ℕ) (x : Instr) (operands operands' : List ℕ) (k k' : Locals)
       → slice_get first_part i ≡ Some (plain x)
-      → at_place (base + i) k fs (effect t x operands k) ≡ Goes (Runs' place operands' k' fs)
+      → at_place (base + i) k fs (effect (most_of image.image.version) t x operands k) ≡ Goes
+      (Runs' place operands' k' fs)
       → place ≡ base + j → Go 1 (at i operands k) (at j operands' k')
   step i j place x operands operands' k k' e h same =
       let here = stand_index image base first_part i (base + i) (plain x) trying e refl in
@@ -70,7 +72,7 @@ module _ (p : Program) (image : MarkedImage) (t m base : ℕ) (recover : Instr) 
 
   asks : (i j : ℕ) (x : Marked) (operands : List ℕ) (after : ℕ → List ℕ) (request : Request)
       → slice_get first_part i ≡ Some x
-      → at_place (base + i) l fs (effect t x.instruction operands l) ≡ Asks request
+      → at_place (base + i) l fs (effect (most_of image.image.version) t x.instruction operands l) ≡ Asks request
       (λ r. Runs' (base + i + 1) (after r) l fs)
       → base + i + 1 ≡ base + j → look image.image t (at i operands l) ≡ Asks request (λ r. at j (after r) l)
   asks i j x operands after request e h same =
@@ -184,5 +186,6 @@ module _ (p : Program) (image : MarkedImage) (t m base : ℕ) (recover : Instr) 
       (wider image t (empty_view p) 3 template_steps _ _ (omega arith)
       (then_go 2 _ _ _ (step 0 1 _ _ [] (t ∷ []) l l refl refl (omega arith))
       (then_go 1 _ _ _ (step 1 2 _ _ (t ∷ []) (process_word t 1 ∷ []) l l refl
-      (address_step t (base + 1) t Pending [] l.values l.scratch fs some few) (omega arith))
+      (address_step (most_of image.image.version) t (base + 1) t Pending [] l.values l.scratch fs some few)
+      (omega arith))
       (step 2 3 _ _ (process_word t 1 ∷ []) _ l l refl refl (omega arith)))))

@@ -2,6 +2,7 @@
 use Rattle.std.proofs.Common.{inl, inr, ◌≡◌, ◌≢◌, ℕ, ◌<◌, ◌≤◌, ◌==◌, Bool, true, false, List, Option, refl, sym, subst}
 use Rattle.std.proofs.Common.{ℤ}
 use Rattle.std.specs.Prelude.{if◌then◌else◌}
+use Rattle.words.specs.Versions.{most_of}
 use Rattle.locals.specs.declared.frame.Locals.{Locals}
 use Rattle.locals.specs.declared.frame.Frame.{Frame as MachineFrame}
 use Rattle.locals.specs.Threads.{Thread}
@@ -20,7 +21,7 @@ use Rattle.proof_templates.proofs.Exiting.{exits_follow}
 use Rattle.proof_templates.proofs.Taken.{follows_by}
 
 module _ (b : Build) (vs : Variables) (t m base : ℕ) (shown : Option ℕ) (l : Locals) (fs : List MachineFrame)
-    (before : Process) (value : ℤ) (cs : List Caller) (some : 0 < t) (few : t ≤ 64)
+    (before : Process) (value : ℤ) (cs : List Caller) (some : 0 < t) (few : t ≤ most_of b.code.image.version)
     (fits : ExitFits b vs t m base shown l fs before value cs) where
   abbrev k : Template
   k = Exits m base shown l fs before value cs

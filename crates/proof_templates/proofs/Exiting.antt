@@ -7,6 +7,7 @@ use Rattle.std.proofs.lemmas.Bool.{ne_eqb}
 use Rattle.words.specs.declared.process.ProcessWord.{ProcessWord}
 use Rattle.words.specs.declared.process.ProcessWord.TheVariants.{Head, Pending}
 use Rattle.words.specs.Process.{process_word, number_of}
+use Rattle.words.specs.Versions.{most_of}
 use Rattle.isa.specs.declared.instr.Instr.{Instr}
 use Rattle.isa.specs.declared.instr.Instr.TheVariants.{ProcessAddress}
 use Rattle.proof_thread.specs.Deferrals.{deferred_by_mark, MarkedImage}
@@ -36,7 +37,8 @@ room_beneath None = omega arith
 room_beneath (Some w) = omega arith
 
 module _ (p : Program) (image : MarkedImage) (t m base : ℕ) (shown : Option ℕ) (l : Locals) (fs : List Frame)
-    (code : StandAt image base (rebase_all base (exit_code m (link_word p m)))) (some : 0 < t) (few : t ≤ 64) where
+    (code : StandAt image base (rebase_all base (exit_code m (link_word p m)))) (some : 0 < t)
+    (few : t ≤ most_of image.image.version) where
   abbrev link : ℕ
   link = link_word p m
 
@@ -56,7 +58,8 @@ module _ (p : Program) (image : MarkedImage) (t m base : ℕ) (shown : Option �
   at i operands = Runs' (base + i) operands l fs
 
   looks : (i : ℕ) (x : Marked) (operands : List ℕ) → slice_get segment i ≡ Some x
-      → look image.image t (at i operands) ≡ at_place (base + i) l fs (effect t x.instruction operands l)
+      → look image.image t (at i operands) ≡ at_place (base + i) l fs (effect
+      (most_of image.image.version) t x.instruction operands l)
   looks i x operands e =
       look_here image t (empty_view p) (base + i) x.instruction operands l fs
       (stand_index image base segment i (base + i) x code e refl)
@@ -66,7 +69,8 @@ module _ (p : Program) (image : MarkedImage) (t m base : ℕ) (shown : Option �
   internal i x e = ap deferred_by_mark (stand_index image base segment i (base + i) (plain x) code e refl).1
 
   step : (i j place : ℕ) (x : Instr) (operands operands' : List ℕ) → slice_get segment i ≡ Some (plain x)
-      → at_place (base + i) l fs (effect t x operands l) ≡ Goes (Runs' place operands' l fs)
+      → at_place (base + i) l fs (effect (most_of image.image.version) t x operands l) ≡ Goes
+      (Runs' place operands' l fs)
       → place ≡ base + j → Go 1 (at i operands) (at j operands')
   step i j place x operands operands' e h same =
       one_step image t (empty_view p) _ _
@@ -74,7 +78,8 @@ module _ (p : Program) (image : MarkedImage) (t m base : ℕ) (shown : Option �
 
   -- a word is pushed: there is room for it
   push : (i j word : ℕ) (x : Instr) (operands : List ℕ) → slice_get segment i ≡ Some (plain x)
-      → effect t x operands l ≡ push_effect word operands → length operands < 512 → base + i + 1 ≡ base + j
+      → effect (most_of image.image.version) t x operands l ≡ push_effect word operands → length operands < 512
+      → base + i + 1 ≡ base + j
       → Go 1 (at i operands) (at j (word ∷ operands))
   push i j word x operands e is room same =
       one_step image t (empty_view p) _ _
@@ -87,11 +92,12 @@ module _ (p : Program) (image : MarkedImage) (t m base : ℕ) (shown : Option �
       → x ≡ ProcessAddress word → base + i + 1 ≡ base + j
       → Go 1 (at i (t ∷ rest)) (at j (process_word t (number_of word) ∷ rest))
   address i j x word e is same = step i j (base + i + 1) x (t ∷ rest) _ e
-      (ap (λ (n : Instr). at_place (base + i) l fs (effect t n (t ∷ rest) l)) is
-      ∙ ap (λ k. if_so (k && nat_le t 64) (Goes (Runs' (base + i + 1) (process_word t (number_of word) ∷ rest) l fs)))
+      (ap (λ (n : Instr). at_place (base + i) l fs (effect (most_of image.image.version) t n (t ∷ rest) l)) is
+      ∙ ap (λ k. if_so (k && nat_le t (most_of image.image.version)) (Goes (Runs' (base + i + 1) (process_word t
+      (number_of word) ∷ rest) l fs)))
       (le-leb 1 t (omega (arith, some)))
-      ∙ ap (λ k. if_so k (Goes (Runs' (base + i + 1) (process_word t (number_of word) ∷ rest) l fs))) (le-leb t 64
-      few)) same
+      ∙ ap (λ k. if_so k (Goes (Runs' (base + i + 1) (process_word t (number_of word) ∷ rest) l fs))) (le-leb t
+      (most_of image.image.version) few)) same
 
   then_go : (n : ℕ) (x y z : Thread) → Go 1 x y → Go n y z → Go (suc n) x z
   then_go n x y z v w = wider image t (empty_view p) (1 + n) (suc n) x z (omega arith)
@@ -102,7 +108,7 @@ module _ (p : Program) (image : MarkedImage) (t m base : ℕ) (shown : Option �
 
   asks : (i j : ℕ) (x : Marked) (operands : List ℕ) (after : ℕ → List ℕ) (request : Request)
       → slice_get segment i ≡ Some x
-      → at_place (base + i) l fs (effect t x.instruction operands l)
+      → at_place (base + i) l fs (effect (most_of image.image.version) t x.instruction operands l)
       ≡ Asks request (λ r. Runs' (base + i + 1) (after r) l fs)
       → base + i + 1 ≡ base + j → look image.image t (at i operands) ≡ Asks request (λ r. at j (after r))
   asks i j x operands after request e h same =

@@ -4,6 +4,8 @@ use Rattle.std.proofs.Common.{None, slice_get, refl, ap, sym, ◌∙◌, subst, 
 use Rattle.std.specs.Prelude.{◌&&◌, is_some, nat_le}
 use Rattle.words.specs.declared.process.ProcessWord.TheVariants.{Head, Pending, Id, Claim, Result, Outcome}
 use Rattle.words.specs.Process.{process_word}
+use Rattle.words.specs.Versions.{most_of}
+use Rattle.words.proofs.Versions.{most_few}
 use Rattle.isa.specs.Programs.{memory_size}
 use Rattle.program.specs.declared.kinds.MemberType.{MemberType}
 use Rattle.program.specs.declared.kinds.MemberType.TheVariants.{Variable, Condition, Array}
@@ -68,8 +70,8 @@ same_place p (OutcomeOf t) = refl
 same_place p (SequenceOf c) = omega arith
 
 -- the number of a process
-pub is_number : (u : ℕ) → is_process u ≡ true → (0 < u) × (u ≤ 64)
-is_number u h = (ltb-true 0 u (first_holds _ _ h), leb-true u 64 (second_holds _ _ h))
+pub is_number : (p : Program) (u : ℕ) → is_process p u ≡ true → (0 < u) × (u ≤ most_of p.version)
+is_number p u h = (ltb-true 0 u (first_holds _ _ h), leb-true u (most_of p.version) (second_holds _ _ h))
   where
     first_holds : (a b : Bool) → (a && b) ≡ true → a ≡ true
     first_holds true b h = refl
@@ -79,8 +81,9 @@ is_number u h = (ltb-true 0 u (first_holds _ _ h), leb-true u 64 (second_holds _
     second_holds true b h = h
     second_holds false b h = absurd cc
 
-pub number_is : (u : ℕ) → 0 < u → u ≤ 64 → is_process u ≡ true
-number_is u some few = ap (λ b. b && nat_le u 64) (lt-ltb 0 u some) ∙ le-leb u 64 few
+pub number_is : (p : Program) (u : ℕ) → 0 < u → u ≤ most_of p.version → is_process p u ≡ true
+number_is p u some few =
+    ap (λ b. b && nat_le u (most_of p.version)) (lt-ltb 0 u some) ∙ le-leb u (most_of p.version) few
 
 monitor_there : (o : Option Monitor) → is_some o ≡ true → (x : Monitor) × (o ≡ Some x)
 monitor_there None h = absurd cc
@@ -100,12 +103,12 @@ condition_there (Some x) n h = (x, refl, by_type (slice_get x.members n) h)
 pub is_cell : (p : Program) (a : Cell) → valid p a ≡ true → IsCell p (in_code a)
 is_cell p (LockOf m) h = monitor_there (slice_get p.monitors m) h
 is_cell p (LinkOf m) h = monitor_there (slice_get p.monitors m) h
-is_cell p (HeadOf t) h = is_number t h
-is_cell p (PendingOf t) h = is_number t h
-is_cell p (IdOf t) h = is_number t h
-is_cell p (ClaimOf t) h = is_number t h
-is_cell p (ResultOf t) h = is_number t h
-is_cell p (OutcomeOf t) h = is_number t h
+is_cell p (HeadOf t) h = is_number p t h
+is_cell p (PendingOf t) h = is_number p t h
+is_cell p (IdOf t) h = is_number p t h
+is_cell p (ClaimOf t) h = is_number p t h
+is_cell p (ResultOf t) h = is_number p t h
+is_cell p (OutcomeOf t) h = is_number p t h
 is_cell p (SequenceOf c) h =
     let x = condition_there (slice_get p.monitors c.monitor) c.number h in (x.0, Condition, x.1, x.2, omega arith)
 
@@ -117,8 +120,9 @@ apart p a b ha hb e =
     sym (there_and_back a) ∙ ap in_protocol same ∙ there_and_back b
 
 -- the words of processes lie in the memory
-pub word_lies : (p : Program) (u k : ℕ) → 0 < u → u ≤ 64 → k ≤ 5 → process_word u k < memory_size (code_of p)
-word_lies p u k some few less = omega (arith, some, few, less)
+pub word_lies : (p : Program) (u k : ℕ) → 0 < u → u ≤ most_of p.version → k ≤ 5
+    → process_word u k < memory_size (code_of p)
+word_lies p u k some few less = let s = size p in omega (arith, some, few, less, s)
 
 -- which words there are
 pub monitor_valid : (p : Program) (m : ℕ) → m < length p.monitors → is_monitor p m ≡ true
@@ -147,8 +151,9 @@ valid_lies p a h = subst (λ n. n < memory_size (code_of p)) (same_place p a) (i
 memory_small : (p : Program) → WellFormed p → memory_size (code_of p) < 2 ^ 32
 memory_small p w =
     let s = size p in
+    let most = most_few p.version in
     let few = w.monitors in
-    let words = w.words in omega (arith, s, few, words)
+    let words = w.words in omega (arith, s, most, few, words)
 
 -- the places are those of a layout
 pub is_layout : (p : Program) → WellFormed p → IsLayout (place p) (valid p) (memory_size (code_of p))

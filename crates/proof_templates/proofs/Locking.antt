@@ -7,6 +7,7 @@ use Rattle.std.proofs.lemmas.Bool.{ne_eqb}
 use Rattle.words.specs.declared.process.ProcessWord.{ProcessWord}
 use Rattle.words.specs.declared.process.ProcessWord.TheVariants.{Head, Pending}
 use Rattle.words.specs.Process.{process_word, number_of}
+use Rattle.words.specs.Versions.{most_of}
 use Rattle.isa.specs.declared.instr.Instr.{Instr}
 use Rattle.isa.specs.declared.instr.Instr.TheVariants.{ProcessAddress}
 use Rattle.proof_thread.specs.Deferrals.{deferred_by_mark, MarkedImage}
@@ -32,25 +33,25 @@ use Rattle.proof_templates.specs.Locking.{recovers}
 use Rattle.proof_templates.specs.Locking.{template_locals}
 use Rattle.protocol.specs.Memory.{entry_address}
 
-pub address_step : (t place h : ℕ) (word : ProcessWord) (rest : List ℕ) (values : List ℕ) (s : ℕ) (fs : List Frame)
+pub address_step : (most t place h : ℕ) (word : ProcessWord) (rest : List ℕ) (values : List ℕ) (s : ℕ) (fs : List Frame)
     → 0 < h
-    → h ≤ 64 → at_place place (template_locals values s) fs
-    (effect t (ProcessAddress word) (h ∷ rest) (template_locals values s))
+    → h ≤ most → at_place place (template_locals values s) fs
+    (effect most t (ProcessAddress word) (h ∷ rest) (template_locals values s))
     ≡ Goes (Runs' (place + 1) (process_word h (number_of word) ∷ rest) (template_locals values s) fs)
-address_step t place h word rest values s fs some few =
-    ap (λ k. if_so (k && nat_le h 64)
+address_step most t place h word rest values s fs some few =
+    ap (λ k. if_so (k && nat_le h most)
     (Goes (Runs' (place + 1) (process_word h (number_of word) ∷ rest) (template_locals values
     s) fs)))
     (le-leb 1 h (omega (arith, some)))
     ∙ ap (λ k. if_so k (Goes (Runs' (place + 1) (process_word h (number_of word) ∷ rest)
     (template_locals values s) fs)))
-    (le-leb h 64 few)
+    (le-leb h most few)
 
 module _ (p : Program) (image : MarkedImage) (t m : ℕ) (k : Purpose) (mark : Mark) (recover : Instr) (base a : ℕ)
     (values : List ℕ) (fs : List Frame)
     (code : StandAt image (base + a) (rebase_all base (take_at mark (link_word p m) a ++ got_at (link_word p m) recover
     (a + 32))))
-    (some : 0 < t) (few : t ≤ 64) where
+    (some : 0 < t) (few : t ≤ most_of image.image.version) where
   abbrev first : ℕ
   first = base + a
 
@@ -70,7 +71,8 @@ module _ (p : Program) (image : MarkedImage) (t m : ℕ) (k : Purpose) (mark : M
   Go n x y = WalksWithin image t (empty_view p) n x y
 
   step : (i j : ℕ) (x : Instr) (operands operands' : List ℕ) (s s' place : ℕ) → slice_get segment i ≡ Some (plain x)
-      → at_place (first + i) (template_locals values s) fs (effect t x operands (template_locals values s))
+      → at_place (first + i) (template_locals values s) fs (effect (most_of image.image.version) t x operands
+      (template_locals values s))
       ≡ Goes (Runs' place operands' (template_locals values s') fs) → place ≡ first + j
       → Go 1 (at i operands s) (at j operands' s')
   step i j x operands operands' s s' place e h same =
@@ -84,8 +86,8 @@ module _ (p : Program) (image : MarkedImage) (t m : ℕ) (k : Purpose) (mark : M
       → Go 1 (at i (t ∷ rest) s) (at j (process_word t (number_of word) ∷ rest) s)
   address i j x word rest s e is same = step i j x (t ∷ rest) _ s s (first + i + 1) e
       (ap (λ (n : Instr). at_place (first + i) (template_locals values s) fs
-      (effect t n (t ∷ rest) (template_locals values s))) is
-      ∙ address_step t (first + i) t word rest values s fs some few) same
+      (effect (most_of image.image.version) t n (t ∷ rest) (template_locals values s))) is
+      ∙ address_step (most_of image.image.version) t (first + i) t word rest values s fs some few) same
 
   then_go : (n : ℕ) (x y z : Thread) → Go 1 x y → Go n y z → Go (suc n) x z
   then_go n x y z v w = wider image t (empty_view p) (1 + n) (suc n) x z (omega arith)
@@ -97,7 +99,8 @@ module _ (p : Program) (image : MarkedImage) (t m : ℕ) (k : Purpose) (mark : M
 
   asks : (i j : ℕ) (x : Marked) (operands : List ℕ) (s : ℕ) (after : ℕ → List ℕ) (request : Request)
       → slice_get segment i ≡ Some x
-      → at_place (first + i) (template_locals values s) fs (effect t x.instruction operands (template_locals values s))
+      → at_place (first + i) (template_locals values s) fs (effect
+      (most_of image.image.version) t x.instruction operands (template_locals values s))
       ≡ Asks request (λ r. Runs' (first + i + 1) (after r) (template_locals values s) fs) → first + i + 1 ≡ first + j
       → look image.image t (at i operands s) ≡ Asks request (λ r. at j (after r) s)
   asks i j x operands s after request e h same =

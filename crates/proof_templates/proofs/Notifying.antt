@@ -1,5 +1,6 @@
 -- The templates of NOTIFY and BROADCAST go through their points.
 use Rattle.std.proofs.Common.{◌≡◌, ℕ, suc, ◌+◌, ◌≤◌, List, [], ◌∷◌, Some, slice_get, refl, ap, ◌∙◌, subst, arith}
+use Rattle.words.specs.Versions.{most_of}
 use Rattle.proof_thread.specs.Deferrals.{deferred_by_mark, MarkedImage}
 use Rattle.locals.specs.declared.frame.Locals.{Locals}
 use Rattle.locals.specs.declared.frame.Frame.{Frame}
@@ -27,7 +28,8 @@ module _ (p : Program) (image : MarkedImage) (t base : ℕ) (l : Locals) (fs : L
   Go n x y = WalksWithin image t (empty_view p) n x y
 
   step : (i j place : ℕ) (x : Instr) (operands operands' : List ℕ) → slice_get segment i ≡ Some (plain x)
-      → at_place (base + i) l fs (effect t x operands l) ≡ Goes (Runs' place operands' l fs)
+      → at_place (base + i) l fs (effect (most_of image.image.version) t x operands l) ≡ Goes
+      (Runs' place operands' l fs)
       → place ≡ base + j → Go 1 (Runs' (base + i) operands l fs) (Runs' (base + j) operands' l fs)
   step i j place x operands operands' e h same =
       let here = stand_index image base segment i (base + i) (plain x) code e refl in
@@ -43,7 +45,7 @@ module _ (p : Program) (image : MarkedImage) (t base : ℕ) (l : Locals) (fs : L
 
   asks : (i j : ℕ) (x : Marked) (operands : List ℕ) (after : ℕ → List ℕ) (request : Request)
       → slice_get segment i ≡ Some x
-      → at_place (base + i) l fs (effect t x.instruction operands l)
+      → at_place (base + i) l fs (effect (most_of image.image.version) t x.instruction operands l)
       ≡ Asks request (λ r. Runs' (base + i + 1) (after r) l fs) → base + i + 1 ≡ base + j
       → look image.image t (Runs' (base + i) operands l fs) ≡ Asks request (λ r. Runs' (base + j) (after r) l fs)
   asks i j x operands after request e h same =

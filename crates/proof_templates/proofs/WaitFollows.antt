@@ -3,6 +3,7 @@ use Rattle.std.proofs.Common.{inl, inr, ◌≡◌, ◌≢◌, ℕ, zero, suc, �
 use Rattle.std.proofs.Common.{Option, Some, None, refl, sym, ◌∙◌, subst, arith}
 use Rattle.std.specs.Prelude.{if◌then◌else◌}
 use Rattle.words.specs.Process.{process_word}
+use Rattle.words.specs.Versions.{most_of}
 use Rattle.program.specs.declared.kinds.Member.{Member}
 use Rattle.locals.specs.declared.frame.Locals.{Locals}
 use Rattle.locals.specs.declared.frame.Frame.{Frame as MachineFrame}
@@ -32,7 +33,8 @@ use Rattle.proof_templates.proofs.Waiting.{waits_follow, taking}
 use Rattle.proof_templates.proofs.Taken.{owned_alone, taken_free, taken_abandoned, taken_holds, follows_by}
 
 module _ (b : Build) (vs : Variables) (t : ℕ) (c : Member) (base : ℕ) (l : Locals) (fs : List MachineFrame)
-    (before : Process) (f : Frame) (cs : List Caller) (ms : List ℕ) (is : IsBuild b) (some : 0 < t) (few : t ≤ 64)
+    (before : Process) (f : Frame) (cs : List Caller) (ms : List ℕ) (is : IsBuild b) (some : 0 < t)
+    (few : t ≤ most_of b.code.image.version)
     (fits : WaitFits b vs t c base l fs before f cs ms) where
   abbrev k : Template
   k = Waits c base l fs before f cs ms

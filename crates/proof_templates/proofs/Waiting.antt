@@ -7,6 +7,7 @@ use Rattle.std.proofs.lemmas.Bool.{ne_eqb}
 use Rattle.words.specs.declared.process.ProcessWord.{ProcessWord}
 use Rattle.words.specs.declared.process.ProcessWord.TheVariants.{Head, Pending}
 use Rattle.words.specs.Process.{process_word, number_of}
+use Rattle.words.specs.Versions.{most_of}
 use Rattle.isa.specs.declared.instr.Instr.{Instr}
 use Rattle.isa.specs.declared.instr.Instr.TheVariants.{ProcessAddress}
 use Rattle.proof_thread.specs.Deferrals.{deferred_by_mark, MarkedImage}
@@ -37,7 +38,7 @@ use Rattle.proof_templates.proofs.Locking as T
 
 module _ (p : Program) (image : MarkedImage) (t base : ℕ) (c : Member) (recover : Instr) (l : Locals) (fs : List Frame)
     (code : StandAt image base (rebase_all base (wait_code c (link_word p c.monitor) (member_address p c) recover)))
-    (some : 0 < t) (few : t ≤ 64) where
+    (some : 0 < t) (few : t ≤ most_of image.image.version) where
   abbrev link : ℕ
   link = link_word p c.monitor
 
@@ -67,7 +68,8 @@ module _ (p : Program) (image : MarkedImage) (t base : ℕ) (c : Member) (recove
   at i operands = Runs' (base + i) operands l fs
 
   step : (i j place : ℕ) (x : Instr) (operands operands' : List ℕ) → slice_get segment i ≡ Some (plain x)
-      → at_place (base + i) l fs (effect t x operands l) ≡ Goes (Runs' place operands' l fs)
+      → at_place (base + i) l fs (effect (most_of image.image.version) t x operands l) ≡ Goes
+      (Runs' place operands' l fs)
       → place ≡ base + j → Go 1 (at i operands) (at j operands')
   step i j place x operands operands' e h same =
       let here = stand_index image base segment i (base + i) (plain x) sleeping e refl in
@@ -79,11 +81,12 @@ module _ (p : Program) (image : MarkedImage) (t base : ℕ) (c : Member) (recove
       → x ≡ ProcessAddress word → base + i + 1 ≡ base + j
       → Go 1 (at i (t ∷ rest)) (at j (process_word t (number_of word) ∷ rest))
   address i j x word rest e is same = step i j (base + i + 1) x (t ∷ rest) _ e
-      (ap (λ (n : Instr). at_place (base + i) l fs (effect t n (t ∷ rest) l)) is
-      ∙ ap (λ k. if_so (k && nat_le t 64) (Goes (Runs' (base + i + 1) (process_word t (number_of word) ∷ rest) l fs)))
+      (ap (λ (n : Instr). at_place (base + i) l fs (effect (most_of image.image.version) t n (t ∷ rest) l)) is
+      ∙ ap (λ k. if_so (k && nat_le t (most_of image.image.version)) (Goes (Runs' (base + i + 1) (process_word t
+      (number_of word) ∷ rest) l fs)))
       (le-leb 1 t (omega (arith, some)))
-      ∙ ap (λ k. if_so k (Goes (Runs' (base + i + 1) (process_word t (number_of word) ∷ rest) l fs))) (le-leb t 64
-      few)) same
+      ∙ ap (λ k. if_so k (Goes (Runs' (base + i + 1) (process_word t (number_of word) ∷ rest) l fs))) (le-leb t
+      (most_of image.image.version) few)) same
 
   then_go : (n : ℕ) (x y z : Thread) → Go 1 x y → Go n y z → Go (suc n) x z
   then_go n x y z v w = wider image t (empty_view p) (1 + n) (suc n) x z (omega arith)
@@ -94,7 +97,7 @@ module _ (p : Program) (image : MarkedImage) (t base : ℕ) (c : Member) (recove
 
   asks : (i j : ℕ) (x : Marked) (operands : List ℕ) (after : ℕ → List ℕ) (request : Request)
       → slice_get segment i ≡ Some x
-      → at_place (base + i) l fs (effect t x.instruction operands l)
+      → at_place (base + i) l fs (effect (most_of image.image.version) t x.instruction operands l)
       ≡ Asks request (λ r. Runs' (base + i + 1) (after r) l fs)
       → base + i + 1 ≡ base + j → look image.image t (at i operands) ≡ Asks request (λ r. at j (after r))
   asks i j x operands after request e h same =

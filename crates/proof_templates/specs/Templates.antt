@@ -62,10 +62,12 @@ pub record Begins (b : Build) (t : ℕ) (held : Bool) (k : Template) : Type 0 wh
 
 -- inside each template a thread goes through the protocol's points, and its process with it
 abbrev pub TemplatesFollow : Type 0
-TemplatesFollow = (b : Build) (v : Variables) (t : ℕ) (k : Template) → IsBuild b → 0 < t → t ≤ most_of b.program.version
+TemplatesFollow = (b : Build) (v : Variables) (t : ℕ) (k : Template) → IsBuild b → 0 < t
+    → t ≤ most_of b.code.image.version
     → TemplateFits b v t k → (pt : Point) (x : Thread) → pt ≢ Runs → StandsIn b.program t k pt x → Follows b v t k pt x
 
 -- where the code of a template begins, the thread stands at its first point
 abbrev pub TemplatesBegin : Type 0
-TemplatesBegin = (b : Build) (v : Variables) (t : ℕ) (held : Bool) (k : Template) → 0 < t → t ≤ most_of b.program.version
+TemplatesBegin = (b : Build) (v : Variables) (t : ℕ) (held : Bool) (k : Template) → 0 < t
+    → t ≤ most_of b.code.image.version
     → TemplateFits b v t k → Begins b t held k
