@@ -129,7 +129,7 @@ only_broken made t (AskSwap a v) c = only_within _ _ (only_ok _)
 only_broken made t (AskCompareSwap a expected new) c = only_within _ _ (only_ok _)
 only_broken made t (AskOr a v) c = only_within _ _ (only_ok _)
 only_broken made t (AskAdd a v) c = only_within _ _ (only_ok _)
-only_broken made t (AskFork entry arguments has_room) c = only_fork (made == 64) has_room _ _
+only_broken made t (AskFork entry arguments has_room) c = only_fork (made == c.most) has_room _ _
 only_broken made t (AskPrint number) c = only_ok _
 only_broken made t (AskWait a expected) c = only_within _ _ (only_either _ _ _)
 only_broken made t (AskWake a n) c = only_within _ _ (only_ok _)

@@ -1,7 +1,6 @@
 -- Where a run meets a step that may not be, local steps of one thread lead there from where the log leads.
 use Rattle.std.proofs.Common.{◌≡◌, ◌<◌, ◌-◌, ℕ, Some, subst, sym, ◌∙◌, refl, length-set}
 use Rattle.std.proofs.lemmas.Bool.{eq-eqb}
-use Rattle.words.specs.Limits.{most_threads}
 use Rattle.words.specs.Updates.{put}
 use Rattle.locals.specs.Threads.{Thread}
 use Rattle.locals.specs.Looks.{Request, AskLoad, AskStore, AskSwap, AskCompareSwap, AskOr, AskAdd, AskFork, AskPrint}
@@ -21,43 +20,44 @@ use Rattle.runner.proofs.Unrolling.{breaks_by, holds, kept_put}
 out_there : (s s' : State) (a : ℕ) → s'.size ≡ s.size → (Lies s a → ⊥) → Lies s' a → ⊥
 out_there s s' a same out lies = out (subst (λ (n : ℕ). a < n) same lies)
 
--- what can't be served depends on the memory's size and on how many threads were made alone
-unserved_there : (r : Request) (s s' : State) → s'.size ≡ s.size → s'.made ≡ s.made → IsUnserved r s
-    → IsUnserved r s'
-unserved_there (AskLoad a) s s' size made h = out_there s s' a size h
-unserved_there (AskStore a v) s s' size made h = out_there s s' a size h
-unserved_there (AskSwap a v) s s' size made h = out_there s s' a size h
-unserved_there (AskCompareSwap a expected new) s s' size made h = out_there s s' a size h
-unserved_there (AskOr a v) s s' size made h = out_there s s' a size h
-unserved_there (AskAdd a v) s s' size made h = out_there s s' a size h
-unserved_there (AskFork entry arguments has_room) s s' size made h =
-    (subst (λ (n : ℕ). n < most_threads) (sym made) h.0, h.1)
-unserved_there (AskPrint number) s s' size made h = h
-unserved_there (AskWait a expected) s s' size made h = out_there s s' a size h
-unserved_there (AskWake a n) s s' size made h = out_there s s' a size h
-unserved_there (AskRequeue a b n m expected) s s' size made h =
+-- what can't be served depends on the memory's size, on how many threads were made and on how many there can be alone
+unserved_there : (r : Request) (s s' : State) → s'.size ≡ s.size → s'.made ≡ s.made → s'.most ≡ s.most
+    → IsUnserved r s → IsUnserved r s'
+unserved_there (AskLoad a) s s' size made most h = out_there s s' a size h
+unserved_there (AskStore a v) s s' size made most h = out_there s s' a size h
+unserved_there (AskSwap a v) s s' size made most h = out_there s s' a size h
+unserved_there (AskCompareSwap a expected new) s s' size made most h = out_there s s' a size h
+unserved_there (AskOr a v) s s' size made most h = out_there s s' a size h
+unserved_there (AskAdd a v) s s' size made most h = out_there s s' a size h
+unserved_there (AskFork entry arguments has_room) s s' size made most h =
+    (subst (λ (n : ℕ). s'.made < n) (sym most) (subst (λ (n : ℕ). n < s.most) (sym made) h.0), h.1)
+unserved_there (AskPrint number) s s' size made most h = h
+unserved_there (AskWait a expected) s s' size made most h = out_there s s' a size h
+unserved_there (AskWake a n) s s' size made most h = out_there s s' a size h
+unserved_there (AskRequeue a b n m expected) s s' size made most h =
     λ lies. h (subst (λ (k : ℕ). a < k) size lies.0, subst (λ (k : ℕ). b < k) size lies.1)
-unserved_there AskReturn s s' size made h = h
-unserved_there (AskReturnValue v) s s' size made h = h
-unserved_there (AskFault cause) s s' size made h = h
+unserved_there AskReturn s s' size made most h = h
+unserved_there (AskReturnValue v) s s' size made most h = h
+unserved_there (AskFault cause) s s' size made most h = h
 
-broken_there : (l : Look) (s s' : State) → s'.size ≡ s.size → s'.made ≡ s.made → IsBroken s l → IsBroken s' l
-broken_there (Goes x) s s' size made h = h
-broken_there (Asks request go) s s' size made h = unserved_there request s s' size made h
-broken_there (Leaves phase) s s' size made h = h
-broken_there Breaks s s' size made h = h
-broken_there Rests s s' size made h = h
+broken_there : (l : Look) (s s' : State) → s'.size ≡ s.size → s'.made ≡ s.made → s'.most ≡ s.most → IsBroken s l
+    → IsBroken s' l
+broken_there (Goes x) s s' size made most h = h
+broken_there (Asks request go) s s' size made most h = unserved_there request s s' size made most h
+broken_there (Leaves phase) s s' size made most h = h
+broken_there Breaks s s' size made most h = h
+broken_there Rests s s' size made most h = h
 
 put_there : {A : Type 0} → (f : ℕ → A) (t : ℕ) (x : A) → put f t x t ≡ x
 put_there f t x = rw (eq-eqb t t refl) refl
 
 pub locally_so : LocallySo
-locally_so p limit m =
+locally_so p limit m fits =
     let k = m.concrete in
     let t = m.thread in
     let there = put_thread k t m.here in
     let u = up k t m.moves in
-    let kept = kept_put p k t m.here (holds p m.log k m.legal) in
+    let kept = kept_put p k t m.here (holds p m.log k fits m.legal) in
     let gives = breaks_by there (step_of p there t) (local_step p t m.here) m.breaks in
     let n = (breaks_so p there t kept).0 gives in
     let same : Some m.here ≡ Some n.thread = sym (thread_at-put k.threads t m.origin m.here m.stands) ∙ n.stands in
@@ -71,6 +71,6 @@ locally_so p limit m =
         stands = put_there (state_of k).thread t (Some m.here);
         awake = u.awake;
         breaks = broken_there (look p t m.here) (state_of there) s' refl (sym (length-set k.threads (t - 1) m.here))
-            breaks;
+            refl breaks;
       },
     )

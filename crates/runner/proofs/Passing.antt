@@ -106,12 +106,13 @@ fork_stays true false room x x' y y' full h = absurd (cc (full refl))
 fork_stays false false true x x' y y' full h = fine_ok y'
 fork_stays false false false x x' y y' full h = h
 
-full_by : (made made' : ℕ) → (made ≡ 64 → made' ≡ 64) → (made == 64) ≡ true → (made' == 64) ≡ true
-full_by made made' full e = eq-eqb made' 64 (full (eqb-true made 64 e))
+full_by : (made made' most most' : ℕ) → (made ≡ most → made' ≡ most') → (made == most) ≡ true
+    → (made' == most') ≡ true
+full_by made made' most most' full e = eq-eqb made' most' (full (eqb-true made most e))
 
 -- a request that could be served can be, whatever other threads did since
 serve_stays : (made made' t : ℕ) (r : Request) (c d : Common) → length c.words ≡ length d.words
-    → (made ≡ 64 → made' ≡ 64) → Fine (serve made t r c) → Fine (serve made' t r d)
+    → (made ≡ c.most → made' ≡ d.most) → Fine (serve made t r c) → Fine (serve made' t r d)
 serve_stays made made' t (AskLoad a) c d e full h =
     within_stays a (length c.words) (length d.words) _ _ e (λ _. fine_ok _) h
 serve_stays made made' t (AskStore a v) c d e full h =
@@ -125,7 +126,7 @@ serve_stays made made' t (AskOr a v) c d e full h =
 serve_stays made made' t (AskAdd a v) c d e full h =
     within_stays a (length c.words) (length d.words) _ _ e (λ _. fine_ok _) h
 serve_stays made made' t (AskFork entry arguments has_room) c d e full h =
-    fork_stays (made == 64) (made' == 64) has_room _ _ _ _ (full_by made made' full) h
+    fork_stays (made == c.most) (made' == d.most) has_room _ _ _ _ (full_by made made' c.most d.most full) h
 serve_stays made made' t (AskPrint number) c d e full h = fine_ok _
 serve_stays made made' t (AskWait a expected) c d e full h =
     within_stays a (length c.words) (length d.words) _ _ e (λ _. either _ _ _) h
@@ -149,7 +150,7 @@ fine_went go (Ok r) h = fine_ok r
 fine_went go (Err fault) h = absurd cc
 
 fault_stays : (made made' t : ℕ) (c d : Common) (l : Look) → length c.words ≡ length d.words
-    → (made ≡ 64 → made' ≡ 64) → None ≡ fault_of (thread_step made t c l) → None ≡ fault_of (thread_step made' t d l)
+    → (made ≡ c.most → made' ≡ d.most) → None ≡ fault_of (thread_step made t c l) → None ≡ fault_of (thread_step made' t d l)
 fault_stays made made' t c d (Goes x) e full h = refl
 fault_stays made made' t c d (Asks request go) e full h =
     went_fine go (serve made' t request d)
@@ -203,7 +204,8 @@ entry_stays p k k' t u count event concrete a other moves e =
     (sym (step_there p k u e.origin e.here is.awake e.stands)) ∙ e.gives) in
     let awake = a.beside.awake u other is.awake in
     let stands = a.beside.stay u e.origin other e.stands in
-    let full : made ≡ 64 → length k'.threads ≡ 64 = λ h. omega (arith, a.beside.made, a.concrete.few) in
+    let full : made ≡ k.common.most → length k'.threads ≡ k'.common.most = λ h.
+    omega (arith, h, a.beside.made, a.concrete.few, a.concrete.most, concrete.most) in
     let free = fault_stays made (length k'.threads) u k.common k'.common (look p u e.here) (concrete.sized
     ∙ sym a.concrete.sized) full m.free in
     let r = comes_in p k' u e.origin e.here awake stands free in (

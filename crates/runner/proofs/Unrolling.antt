@@ -1,9 +1,11 @@
 -- A legal log, unrolled into the steps of a run of the machine itself, and so into those of a run of the relation.
-use Rattle.std.proofs.Common.{◌≡◌, ℕ, zero, suc, ◌+◌, ◌-◌, List, [], ◌∷◌, ◌++◌, length, Option, Some, None}
+use Rattle.std.proofs.Common.{◌≡◌, ◌≤◌, ℕ, zero, suc, ◌+◌, ◌-◌, List, [], ◌∷◌, ◌++◌, length, Option, Some, None}
 use Rattle.std.proofs.Common.{Result, Ok, Err, slice_get, slice_set, replicate, map, refl, ap, sym, ◌∙◌, arith}
 use Rattle.std.proofs.Common.{subst, length-append, length-set}
 use Rattle.std.proofs.lemmas.List.{length-replicate, length-map, replicate_more}
 use Rattle.std.proofs.lemmas.List.Sums.{sum_by-cons}
+use Rattle.words.specs.Limits.{most_threads}
+use Rattle.words.specs.Versions.{most_of}
 use Rattle.isa.specs.Programs.{Program}
 use Rattle.locals.specs.Threads.{Thread}
 use Rattle.locals.specs.Looks.{Look, Goes, Asks, Leaves, Breaks, Rests, look}
@@ -76,6 +78,8 @@ pub kept_put : (p : Program) (k : ConcreteState) (t : ℕ) (x : Thread) → IsWe
 kept_put p k t x concrete =
     let many = length-set k.threads (t - 1) x in
     record {
+      most = concrete.most;
+      fits = concrete.fits;
       sized = concrete.sized;
       some = omega (arith, concrete.some, many);
       few = omega (arith, concrete.few, many);
@@ -164,14 +168,14 @@ as_many : (run : List Step) (steps : List EventStep) → map label_of run ≡ ma
 as_many run steps same = sym (length-map run label_of) ∙ ap length same ∙ length-map steps event_label
 
 -- what is kept where a log leads always holds
-pub holds : (p : Program) (log : List Entry) (k : ConcreteState) → Runs p (opening_concrete p) log k
-    → IsWellFormed p k
-holds p log k runs = (run_of p (opening_concrete p) k (steps_of log) (opens_so p).1
+pub holds : (p : Program) (log : List Entry) (k : ConcreteState) → most_of p.version ≤ most_threads
+    → Runs p (opening_concrete p) log k → IsWellFormed p k
+holds p log k fits runs = (run_of p (opening_concrete p) k (steps_of log) ((opens_so p).1 fits)
     (steps_so p (opening_concrete p) k log runs)).concrete
 
 pub runs_so : RunsSo
-runs_so p log k runs =
-    let r = fronts_run_so p k (steps_of log) (steps_so p (opening_concrete p) k log runs) in
+runs_so p log k fits runs =
+    let r = fronts_run_so p k (steps_of log) fits (steps_so p (opening_concrete p) k log runs) in
     (r.0, r.1, as_many r.0 (steps_of log) r.2 ∙ many log, r.2)
 
 -- a piece that may not come in stands before a step that may not be
@@ -183,7 +187,7 @@ breaks_by there (Ok x) None h = absurd cc
 breaks_by there (Err f) None h = let e : f ≡ step.Broken = cc in ap Err e
 
 pub meets_so : MeetsSo
-meets_so p limit m =
+meets_so p limit m fits =
     let u = up m.concrete m.thread m.moves in
     let there = put_thread m.concrete m.thread m.here in
     let more = replicate m.count (local_step_of m.thread) in
@@ -191,8 +195,8 @@ meets_so p limit m =
     let runs = run_on p (opening_concrete p) m.concrete there (steps_of m.log) more
     (steps_so p (opening_concrete p) m.concrete m.log m.legal)
     (locals_lead p m.concrete m.thread m.count m.origin m.here u.awake m.stands m.goes) in
-    let r = fronts_run_so p there all runs in
-    let concrete = kept_put p m.concrete m.thread m.here (holds p m.log m.concrete m.legal) in
+    let r = fronts_run_so p there all fits runs in
+    let concrete = kept_put p m.concrete m.thread m.here (holds p m.log m.concrete fits m.legal) in
     let broken = breaks_by there (step_of p there m.thread) (local_step p m.thread m.here) m.breaks in
     let long : length r.0 ≡ cost m.log + m.count =
     omega (

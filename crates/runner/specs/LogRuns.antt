@@ -1,5 +1,7 @@
 -- A legal log is a run of the machine, step by step, and each run of the machine itself is a log's.
-use Rattle.std.specs.Prelude.{◌≡◌, ◌+◌, ◌++◌, ℕ, List, [], ◌∷◌, length, map, replicate, Option, Some, None}
+use Rattle.std.specs.Prelude.{◌≡◌, ◌≤◌, ◌+◌, ◌++◌, ℕ, List, [], ◌∷◌, length, map, replicate, Option, Some, None}
+use Rattle.words.specs.Limits.{most_threads}
+use Rattle.words.specs.Versions.{most_of}
 use Rattle.isa.specs.Programs.{Program}
 use Rattle.machine.specs.declared.event.Entry.{Entry}
 use Rattle.machine.specs.declared.event.Event.{Event}
@@ -35,18 +37,20 @@ LogsSo =
     (p : Program) (k k' : ConcreteState) (steps : List EventStep) → FrontRun p k steps k'
     → (log : List Entry) × Runs p k log k' × (steps_of log ≡ steps)
 
--- a run of the relation, of as many steps as the log costs, which are the log's own, leads to where the log leads
+-- where a machine can run all threads that there can be, a run of the relation, of as many steps as the log costs, which
+-- are the log's own, leads to where the log leads
 abbrev pub RunsSo : Type 0
 RunsSo =
-    (p : Program) (log : List Entry) (k : ConcreteState) → Runs p (opening_concrete p) log k
+    (p : Program) (log : List Entry) (k : ConcreteState) → most_of p.version ≤ most_threads
+    → Runs p (opening_concrete p) log k
     → (steps : List Step) × MachineRun p steps (state_of k) × (length steps ≡ cost log)
     × (map label_of steps ≡ map event_label (steps_of log))
 
--- a run of the log's steps and of the local steps of the thread behind it leads to where the thread's next step may
+-- there a run of the log's steps and of the local steps of the thread behind it leads to where the thread's next step may
 -- not be
 abbrev pub MeetsSo : Type 0
 MeetsSo =
-    (p : Program) (limit : ℕ) (m : MeetsBroken p limit)
+    (p : Program) (limit : ℕ) (m : MeetsBroken p limit) → most_of p.version ≤ most_threads
     → (steps : List Step) × (s : State)
     × MachineRun p steps s × (length steps ≡ cost m.log + m.count) × NextIsBroken p s m.thread
     × (map label_of steps ≡ map event_label (steps_of m.log ++ replicate m.count (local_step_of m.thread)))
@@ -55,6 +59,6 @@ MeetsSo =
 -- step may not be
 abbrev pub LocallySo : Type 0
 LocallySo =
-    (p : Program) (limit : ℕ) (m : MeetsBroken p limit)
+    (p : Program) (limit : ℕ) (m : MeetsBroken p limit) → most_of p.version ≤ most_threads
     → (m.concrete.common.asleep m.thread ≡ None)
     × NextIsBroken p (with_thread (state_of m.concrete) m.thread m.here) m.thread

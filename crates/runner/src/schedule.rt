@@ -11,10 +11,7 @@ use isa::Image;
 use machine::{Entry, Machine, StepFault};
 use std::alloc::{AllocError, Global};
 use thiserror::Error;
-use words::MOST_THREADS;
-
-// How many buckets its sleepers are kept in: one for each thread that there can be.
-const BUCKETS: u32 = MOST_THREADS;
+use words::BUCKETS;
 
 /// Why a schedule is not followed to its end. Its entries are numbered from 1.
 #[derive(Clone, Copy, PartialEq, Eq, Debug, Error)]

@@ -25,10 +25,7 @@ use std::alloc::{AllocError, Global};
 use std::marker::{Model, PhantomData};
 use std::sync::ledger;
 use std::sync::ledger::{Blank, Book};
-use words::{MOST_LOCAL_STEPS, MOST_THREADS};
-
-// How many buckets its sleepers are kept in: one for each thread that there can be.
-const BUCKETS: u32 = MOST_THREADS;
+use words::{BUCKETS, MOST_LOCAL_STEPS};
 
 /// The machine of run `J` and its log. Its type keeps that the log is legal for the run's program, that the machine is
 /// where the log leads, that the log's cost is within the run's limit, and that all shares together have counted each
