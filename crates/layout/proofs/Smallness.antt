@@ -6,7 +6,8 @@ use Rattle.program.specs.Views.{monitor_of}
 use Rattle.std.proofs.lemmas.List.Sums.{sum_by-cons}
 use Rattle.std.proofs.lemmas.Option.{slice_get-map, slice_get_past}
 use Rattle.std.specs.Option.{option_map}
-use Rattle.words.specs.Limits.{monitors_base}
+use Rattle.words.specs.declared.version.ImageVersion.TheVariants.{One}
+use Rattle.words.specs.Versions.{base_of}
 use Rattle.program.specs.Trees.{Monitor, Program}
 use Rattle.program.specs.WellFormed.{WellFormed, words_of, all_words}
 use Rattle.lowering.specs.Layout.{MonitorLayout, monitors_from, link_in, link_at}
@@ -25,14 +26,14 @@ words_from base (m ∷ ms) =
     ∙ ap (λ n. words_of m.members + n) (words_from (base + 2 + words_of m.members) ms)
 
 pub small_monitors : (p : Program) (pieces : ℕ) → WellFormed p
-    → IsSmall (record { monitors = monitors_from monitors_base p.monitors; pieces = pieces })
+    → IsSmall (record { version = One; monitors = monitors_from (base_of One) p.monitors; pieces = pieces })
 small_monitors p pieces w = record {
-  few_monitors = let h = length_from monitors_base p.monitors in let k = w.monitors in omega arith;
-  few_words = let h = words_from monitors_base p.monitors in let k = w.words in omega arith;
+  few_monitors = let h = length_from (base_of One) p.monitors in let k = w.monitors in omega arith;
+  few_words = let h = words_from (base_of One) p.monitors in let k = w.words in omega arith;
 }
 
 pub no_link : (places : List MonitorPlace) (pieces m : ℕ) → length places ≤ m
-    → link_at (record { monitors = map view_of places; pieces = pieces }) m ≡ 0
+    → link_at (record { version = One; monitors = map view_of places; pieces = pieces }) m ≡ 0
 no_link places pieces m past =
     ap link_in (slice_get-map view_of places m ∙ ap (option_map view_of) (slice_get_past places m past))
 

@@ -1,4 +1,5 @@
 ghost use Rattle.std.specs.Prelude.{◌≡◌, ◌<◌, ◌+◌, ◌*◌, ◌^◌, IfOk, IfErr, map};
+ghost use Rattle.words.specs.declared.version.ImageVersion.TheVariants.{One};
 ghost use Rattle.scanner.specs.Refusals.{out_of_memory};
 ghost use Rattle.program.specs.Names.{said_by};
 ghost use Rattle.program.specs.Views.{monitor_of};
@@ -11,10 +12,10 @@ use program::{Checked, Member, MemberType, Monitor};
 use scanner::Refusal;
 use std::alloc::{AllocError, Global};
 use std::marker::Model;
-use words::MONITORS_BASE;
+use words::ImageVersion;
 
-/// The addresses of the monitors' words, and how many pieces of code there are. Contracts see it as a `Layout` of a
-/// few monitors with a few words.
+/// The addresses of the monitors' words, and how many pieces of code there are. Contracts see it as a `Layout` of the
+/// first version, of a few monitors with a few words.
 #[derive(Drop)]
 pub struct Layout {
     monitors: Vec<MonitorPlace>,
@@ -23,14 +24,19 @@ pub struct Layout {
 
 impl Model for Layout {
     ghost use Rattle.std.specs.Prelude.{map};
+    ghost use Rattle.words.specs.declared.version.ImageVersion.TheVariants.{One};
     ghost use Rattle.lowering.specs.Layout as layouts;
     ghost use Rattle.layout.specs.Views.{view_of, IsSmall};
 
     ghost Value = { layouts.Layout };
 
-    ghost view = { λ l. record { monitors = map view_of l.monitors.items; pieces = l.pieces } };
+    ghost view = { λ l. record { version = One; monitors = map view_of l.monitors.items; pieces = l.pieces } };
 
-    ghost invariant = { λ l. IsSmall (record { monitors = map view_of l.monitors.items; pieces = l.pieces }) };
+    ghost invariant = { λ l. IsSmall (record {
+      version = One;
+      monitors = map view_of l.monitors.items;
+      pieces = l.pieces;
+    }) };
 }
 
 impl Layout {
@@ -65,9 +71,10 @@ impl Layout {
         self.pieces
     }
 
-    /// How many member words each monitor has.
+    /// How many member words each monitor has, for an image of the first version.
     pub fn words(&self, alloc: Global) -> Result<Vec<u32>, AllocError>
-        ensures { IfOk result (λ v. v.items ≡ layouts.words_in self.now) }
+        ensures words { IfOk result (λ v. v.items ≡ layouts.words_in self.now) }
+        ensures first { self.now.version ≡ One }
     {
         let mut words = Vec::new(alloc);
         let monitors = &self.monitors;
@@ -114,7 +121,7 @@ pub fn place(alloc: Global, checked: &Checked) -> Result<Layout, Refusal>
 {
     let program = checked.program();
     let mut monitors = Vec::new(alloc);
-    let mut base = MONITORS_BASE;
+    let mut base = ImageVersion::One.monitors_base();
     for monitor in &program.monitors {
         let place = place_monitor(alloc, base, monitor)?;
         base = base + 2 + place.words;

@@ -1,5 +1,6 @@
 -- Where the words of the monitors lie in memory: for each in order its link word, its lock word and its members.
 use Rattle.std.specs.Prelude.{ℕ, ◌+◌, List, [], ◌∷◌, length, map, slice_get, slice_index, Option, Some, None}
+use Rattle.words.specs.declared.version.ImageVersion.{ImageVersion}
 use Rattle.words.specs.Versions.{base_of}
 use Rattle.program.specs.declared.kinds.MemberType.{MemberType}
 use Rattle.program.specs.declared.kinds.Member.{Member}
@@ -13,8 +14,9 @@ pub record MonitorLayout : Type 0 where
   pub members : List ℕ
   pub words : ℕ
 
--- the monitors of a program, and how many pieces of code it has
+-- the version of the image, the monitors of a program, and how many pieces of code it has
 pub record Layout : Type 0 where
+  pub version : ImageVersion
   pub monitors : List MonitorLayout
   pub pieces : ℕ
 
@@ -35,7 +37,11 @@ monitors_from base (m ∷ ms) = monitor_layout base m ∷ monitors_from (base + 
 
 -- the layout of a program
 abbrev pub layout_of : Program → Layout
-layout_of p = record { monitors = monitors_from (base_of p.version) p.monitors; pieces = length p.procedures }
+layout_of p = record {
+  version = p.version;
+  monitors = monitors_from (base_of p.version) p.monitors;
+  pieces = length p.procedures;
+}
 
 -- the link word's address, 0 where there is no such monitor
 abbrev pub link_in : Option MonitorLayout → ℕ

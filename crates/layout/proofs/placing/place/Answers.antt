@@ -1,5 +1,6 @@
 use Rattle.std.proofs.Common.{◌≡◌, ◌≤◌, length, map, sym}
-use Rattle.words.specs.Limits.{monitors_base}
+use Rattle.words.specs.declared.version.ImageVersion.TheVariants.{One}
+use Rattle.words.specs.Versions.{base_of}
 use Rattle.program.specs.Views.{program_of, monitor_of}
 use Rattle.program.specs.WellFormed.{WellFormed}
 use Rattle.lowering.specs.Layout.{monitors_from}
@@ -13,7 +14,7 @@ invariant_of-result c =
     let past : length program.monitors.items ≤ c.loop-monitor.monitor-index =
     rw (sym c.deref-monitor-items.ensures.value) c.loop-monitor-test.false in
     let all : map view_of c.loop-monitor.monitors.items
-    ≡ monitors_from monitors_base (map monitor_of program.monitors.items) =
+    ≡ monitors_from (base_of One) (map monitor_of program.monitors.items) =
     all_placed _ _ c.loop-monitor.base c.loop-monitor.monitor-index program.monitors.items past
     c.loop-monitor.invariant.placed in
     let formed : WellFormed (program_of program) =
