@@ -4,6 +4,7 @@ use Rattle.std.proofs.Common.{length, arith}
 use Rattle.std.specs.Prelude.{nat_le, ◌&&◌, slice_index, sum}
 use Rattle.std.specs.List.{AllByRecursion}
 use Rattle.std.proofs.lemmas.Bool.{leb-true}
+use Rattle.words.specs.declared.version.ImageVersion.TheVariants.{One}
 use Rattle.isa.specs.Instructions.{LeadsBelow}
 use Rattle.isa.specs.Limits.{most_monitors, most_member_words, most_instructions}
 use Rattle.isa.specs.Programs.{IsProgram}
@@ -56,7 +57,8 @@ module _ (l : Layout) (ps : List Piece) where
 -- what is within the limits
 pub is_program : (ms : List ℕ) (s t : ℕ) (code : List Instr)
     → (nat_le (length ms) most_monitors && nat_le (sum ms) most_member_words) ≡ true → t ≤ most_instructions
-    → t ≡ length code → s < t → all_fit t code ≡ true → IsProgram (record { monitors = ms; start = s; code = code })
+    → t ≡ length code → s < t → all_fit t code ≡ true → IsProgram
+    (record { version = One; monitors = ms; start = s; code = code })
 is_program ms s t code few short e within fit =
     let h = ands (nat_le (length ms) most_monitors) (nat_le (sum ms) most_member_words) few in record {
       few_monitors = leb-true (length ms) most_monitors h.0;

@@ -18,7 +18,7 @@ use Rattle.lowering.specs.Layout.{Layout, layout_of, monitors_from}
 use Rattle.lowering.specs.Pieces.{unlinked_code, piece_code, pieces_code, starts_from, start_of, marked_code, code_of}
 use Rattle.lowering.proofs.Linking.{unlinked_moves}
 use Rattle.lowering.proofs.LengthLaws.{piece_same}
-use Rattle.words.specs.Limits.{monitors_base}
+use Rattle.words.specs.Versions.{base_of}
 use Rattle.codegen.specs.declared.code_piece.CodePiece.{CodePiece}
 use Rattle.codegen.specs.Generated.{Piece, piece_of, unlinked_from, unlinked_pieces}
 use Rattle.linker.specs.Failures.{FailsWhere, RefusesLinking}
@@ -79,9 +79,10 @@ program_linked p =
     ∙ ap instructions (code_same p (start_of p) 0 0 p.procedures) in
     let begin : begins ps (length ps - 1) ≡ start_of p (length p.procedures - 1) =
     ap (λ l. slice_index l (length ps - 1)) places ∙ ap (λ n. start_of p (n - 1)) (pieces_length p 0 p.procedures) in
-    let g : List ℕ → ℕ → List Instr → Image = λ m s is. record { monitors = m; start = s; code = is } in
+    let g : List ℕ → ℕ → List Instr → Image =
+    λ m s is. record { version = p.version; monitors = m; start = s; code = is } in
     ap (λ m. g m (begins ps (length ps - 1)) (instructions (code_from (begins ps) 0 ps)))
-    (words_same monitors_base p.monitors)
+    (words_same (base_of p.version) p.monitors)
     ∙ ap (λ s. g (code_of p).monitors s (instructions (code_from (begins ps) 0 ps))) begin
     ∙ ap (g (code_of p).monitors (code_of p).start) code
 

@@ -43,9 +43,10 @@ abbrev pub code_from : (ℕ → ℕ) → ℕ → List Piece → List Marked
 code_from starts place [] = []
 code_from starts place (x ∷ xs) = linked_code starts place x.code ++ code_from starts (place + length x.code) xs
 
--- the image of pieces in their order; it begins where the last one begins
+-- the image of pieces in their order, of the version of the layout; it begins where the last one begins
 abbrev pub image_of : Layout → List Piece → Image
 image_of l pieces = record {
+  version = l.version;
   monitors = words_in l;
   start = begins pieces (length pieces - 1);
   code = instructions (code_from (begins pieces) 0 pieces);

@@ -1,5 +1,6 @@
 use Rattle.std.proofs.Common.{◌≡◌, ◌<◌, List, ℕ, false, map, length, sym, ap, ◌∙◌, inr, arith}
 use Rattle.std.specs.Prelude.{slice_index, nat_le, sum, ◌&&◌}
+use Rattle.words.specs.declared.version.ImageVersion.{ImageVersion}
 use Rattle.isa.specs.Limits.{most_instructions, most_monitors, most_member_words}
 use Rattle.isa.specs.Programs.{Program, IsProgram}
 use Rattle.isa.specs.declared.instr.Instr.{Instr}
@@ -61,8 +62,12 @@ returns c =
     let starts' = c.as_slice-3.ensures.value ∙ c.in_ok-starts.ensures in
     let code = c.in_ok-code.ensures.0 ∙ linked_by ps c.as_slice-3.result.now starts' in
     let begin = begins_at ps c.as_slice.result.now c.last_of-start.result starts c.last_of-start.ensures in
-    let f : List ℕ → ℕ → List Instr → Program = λ m s is. record { monitors = m; start = s; code = is } in
+    let f : ImageVersion → List ℕ → ℕ → List Instr → Program =
+    λ v m s is. record { version = v; monitors = m; start = s; code = is } in
+    let made = image_of c.args.layout.now ps in
     c.new.ensures
-    ∙ ap (λ m. f m c.last_of-start.result c.in_ok-code.code.items) c.in_ok-monitors.ensures
-    ∙ ap (λ s. f (image_of c.args.layout.now ps).monitors s c.in_ok-code.code.items) begin
-    ∙ ap (f (image_of c.args.layout.now ps).monitors (image_of c.args.layout.now ps).start) code
+    ∙ ap (λ v. f v c.in_ok-monitors.monitors.items c.last_of-start.result c.in_ok-code.code.items)
+    (sym c.in_ok-monitors.ensures.first)
+    ∙ ap (λ m. f made.version m c.last_of-start.result c.in_ok-code.code.items) c.in_ok-monitors.ensures.words
+    ∙ ap (λ s. f made.version made.monitors s c.in_ok-code.code.items) begin
+    ∙ ap (f made.version made.monitors made.start) code
