@@ -27,6 +27,7 @@ use Rattle.machine.specs.declared.event.EventName.TheVariants as name
 use Rattle.machine.specs.ConcreteServing.{front, wake_front, event_of}
 use Rattle.machine.specs.ConcreteExits.{Left, leave, leave_entry, leave_pending, abandon, abandon_wakes}
 use Rattle.machine.specs.RequestMeanings.{name_at, value_at}
+use Rattle.words.specs.Limits.{most_threads}
 use Rattle.machine.specs.Views.{common_of}
 use Rattle.machine.proofs.Queues.{one_list, no_list}
 use Rattle.machine.proofs.Leaving.{entry_so, entry_test}
@@ -73,7 +74,7 @@ idle_is ws ws' s s' o a woken idle takes long =
     let words : ws' ≡ ws = same_words ws ws' long (ap (λ (x : Shared). x.word) idle.same) in
     let places : place_of s' ≡ place_of s = ap (λ (x : Shared). x.asleep) idle.same in
     let queues : queue s' ≡ queue s = stays_list s s' a woken takes idle.nobody in
-    λ i. record { words = words i; queue = queues i; asleep = places i; output = o }
+    λ i. record { most = most_threads; words = words i; queue = queues i; asleep = places i; output = o }
 
 no_threads : (xs : List ℕ) → length xs ≤ 0 → xs ≡ []
 no_threads [] h = refl
@@ -98,7 +99,7 @@ marks_if ws ws' s s' o t l woken ok gone takes long inside true is =
     ∙ ap (λ xs. with_place (place_of s) xs None) one in
     record {
       common = cond-true _ _ _ is
-          ∙ (λ i. record { words = sym words i; queue = sym queues i; asleep = sym places i; output = o });
+          ∙ (λ i. record { most = most_threads; words = sym words i; queue = sym queues i; asleep = sym places i; output = o });
       woke = cond-true _ _ _ is ∙ sym one;
     }
 marks_if ws ws' s s' o t l woken ok gone takes long inside false is =
@@ -110,7 +111,7 @@ marks_if ws ws' s s' o t l woken ok gone takes long inside false is =
     let places : place_of s' ≡ place_of s = wakes.awake ∙ ap (λ xs. with_place (place_of s) xs None) none in
     record {
       common = cond-false _ _ _ is
-          ∙ (λ i. record { words = sym words i; queue = sym queues i; asleep = sym places i; output = o });
+          ∙ (λ i. record { most = most_threads; words = sym words i; queue = sym queues i; asleep = sym places i; output = o });
       woke = cond-false _ _ _ is ∙ sym none;
     }
 
@@ -137,7 +138,7 @@ one_woken ws ws' s s' o a woken ok wakes takes long =
     let places : place_of s' ≡ with_place (place_of s) (take 1 (queue s a)) None = wakes.wakes.awake
     ∙ ap (λ xs. with_place (place_of s) xs None) one in
     record {
-      common = λ i. record { words = sym words i; queue = sym queues i; asleep = sym places i; output = o };
+      common = λ i. record { most = most_threads; words = sym words i; queue = sym queues i; asleep = sym places i; output = o };
       woke = sym one;
     }
 
@@ -224,7 +225,7 @@ left_is ws ws' s s' o t ClearId next woken ok block r takes long =
     let queues : queue s' ≡ queue s = stays_list s s' (process_word t 2) woken takes r.0 in
     let places : place_of s' ≡ place_of s = ap (λ (x : Shared). x.asleep) r.1 in
     λ i. record {
-      common = record { words = sym words i; queue = sym queues i; asleep = sym places i; output = o };
+      common = record { most = most_threads; words = sym words i; queue = sym queues i; asleep = sym places i; output = o };
       next = sym r.2 i;
       event = event_of name.Clear 0 (sym r.0 i) [];
     }

@@ -76,7 +76,7 @@ pub forks : (p : Program) (k k' : ConcreteState) (t : ℕ) (e : Event) (y : Thre
     (arguments : List ℕ) (has_room : Bool) → IsWellFormed p k → thread_of k t ≡ Some y → HasPlace k t
     → on_machine k t (go_on_with go (fork_at (length k.threads) k.common entry arguments has_room)) ≡ Ok (k', e)
     → Steps p k k' t e (Asks (AskFork entry arguments has_room) go)
-forks p k k' t e y go entry arguments has_room concrete stands place h = elim (cases_eq (length k.threads) 64) [
+forks p k k' t e y go entry arguments has_room concrete stands place h = elim (cases_eq (length k.threads) k.common.most) [
   | inl full ↦ stays p k k' t e (plain name.Fork 0) y (AskFork entry arguments has_room) go 0 concrete stands refl
       (refl, inl (full, refl, refl))
       (ap (λ o. on_machine k t (go_on_with go o)) (sym (cond-true _ _ _ (eq-eqb _ _ full))) ∙ h)
@@ -92,17 +92,18 @@ forks p k k' t e y go entry arguments has_room concrete stands place h = elim (c
       let k'-is : k' ≡ record { common = c; threads = threads } = ap (λ (q : ConcreteState × Event). q.0) (sym is) in
       let long : length threads ≡ child = length-append (slice_set k.threads (t - 1) x) (made_one ∷ [])
       ∙ omega (arith, length-set k.threads (t - 1) x) in
-      let few : length k.threads < 64 = omega (arith, concrete.few, ne) in
-      let lies : process_word child 2 < length k.common.words = omega (arith, concrete.sized, few) in
+      let few : length k.threads < k.common.most = omega (arith, concrete.few, ne) in
+      let lies : process_word child 2 < length k.common.words = omega (arith, concrete.sized, concrete.most, few) in
       let size : length (slice_set k.common.words (process_word child 2) child) ≡ length k.common.words =
       length-set k.common.words (process_word child 2) child in
-      let holds : Holds (memory_size p) child c =
+      let holds : Holds p child c =
       holds-set _ _ k.common (process_word child 2) child
       (holds-more _ _ child k.common (omega arith) (holds-concrete p k concrete)) in
       let word : (b : ℕ) → slice_index c.words b ≡ put (λ d. slice_index k.common.words d)
       (process_word child 2) child b = words_put k.common.words (process_word child 2) child lies in
       let state : state_of (record { common = c; threads = threads })
       ≡ with_thread (with_child (state_of k) entry arguments) t x = λ i. record {
+        most = k.common.most;
         word = λ b. word b i;
         size = size i;
         made = long i;
@@ -121,6 +122,8 @@ forks p k k' t e y go entry arguments has_room concrete stands place h = elim (c
           ap state_of k'-is ∙ state,
         );
         concrete = rw k'-is (record {
+          most = concrete.most;
+          fits = concrete.fits;
           sized = holds.sized;
           some = omega (arith, long);
           few = omega (arith, long, few);

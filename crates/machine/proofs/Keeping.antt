@@ -4,6 +4,7 @@ use Rattle.std.proofs.Common.{ap, ◌∙◌, arith, inl, inr, length-set}
 use Rattle.std.specs.Prelude.{ℤ}
 use Rattle.std.specs.List.{IsDistinct}
 use Rattle.std.proofs.lemmas.Bool.{cases_eq, cases_Bool, or_cases, eqb-true, cond-true, cond-false, eq-eqb, ne_eqb}
+use Rattle.words.specs.Versions.{most_of}
 use Rattle.isa.specs.Programs.{Program, memory_size}
 use Rattle.locals.specs.Threads.{Thread}
 use Rattle.buckets.specs.Places.{names, with_place, Agree}
@@ -16,29 +17,31 @@ use Rattle.machine.specs.Views.{IsWellFormed}
 use Rattle.machine.proofs.Placing.{put-there}
 use Rattle.machine.proofs.Sleeping.{placed, unplaced, agree-woken, agree-arrived}
 
--- of a memory of this size and so many threads
-pub record Holds (size n : ℕ) (c : Common) : Type 0 where
-  pub sized : length c.words ≡ size
+-- of the memory of a program and so many threads
+pub record Holds (p : Program) (n : ℕ) (c : Common) : Type 0 where
+  pub most : c.most ≡ most_of p.version
+  pub sized : length c.words ≡ memory_size p
   pub agree : Agree c.queue c.asleep
   pub made : (t a : ℕ) → c.asleep t ≡ Some a → (1 ≤ t) × (t ≤ n)
 
 pub holds-concrete : (p : Program) (k : ConcreteState) → IsWellFormed p k
-    → Holds (memory_size p) (length k.threads) k.common
-holds-concrete p k concrete = record { sized = concrete.sized; agree = concrete.agree; made = concrete.made }
+    → Holds p (length k.threads) k.common
+holds-concrete p k concrete = record { most = concrete.most; sized = concrete.sized; agree = concrete.agree; made = concrete.made }
 
-pub holds-more : (size n m : ℕ) (c : Common) → n ≤ m → Holds size n c → Holds size m c
-holds-more size n m c le h =
-    record { sized = h.sized; agree = h.agree; made = λ t a e. let r = h.made t a e in (r.0, omega (arith, r.1)) }
+pub holds-more : (p : Program) (n m : ℕ) (c : Common) → n ≤ m → Holds p n c → Holds p m c
+holds-more p n m c le h =
+    record { most = h.most; sized = h.sized; agree = h.agree; made = λ t a e. let r = h.made t a e in (r.0, omega (arith, r.1)) }
 
-pub holds-set : (size n : ℕ) (c : Common) (a v : ℕ) → Holds size n c → Holds size n (set_word c a v)
-holds-set size n c a v h = record { sized = length-set c.words a v ∙ h.sized; agree = h.agree; made = h.made }
+pub holds-set : (p : Program) (n : ℕ) (c : Common) (a v : ℕ) → Holds p n c → Holds p n (set_word c a v)
+holds-set p n c a v h = record { most = h.most; sized = length-set c.words a v ∙ h.sized; agree = h.agree; made = h.made }
 
-pub holds-printed : (size n : ℕ) (c : Common) (output : List ℤ) → Holds size n c
-    → Holds size n (record c { output = output })
-holds-printed size n c output h = record { sized = h.sized; agree = h.agree; made = h.made }
+pub holds-printed : (p : Program) (n : ℕ) (c : Common) (output : List ℤ) → Holds p n c
+    → Holds p n (record c { output = output })
+holds-printed p n c output h = record { most = h.most; sized = h.sized; agree = h.agree; made = h.made }
 
-pub holds-woke : (size n : ℕ) (c : Common) (a m : ℕ) → Holds size n c → Holds size n (wake_front c a m)
-holds-woke size n c a m h = record {
+pub holds-woke : (p : Program) (n : ℕ) (c : Common) (a m : ℕ) → Holds p n c → Holds p n (wake_front c a m)
+holds-woke p n c a m h = record {
+  most = h.most;
   sized = h.sized;
   agree = agree-woken c.queue c.asleep a m h.agree;
   made = λ t b e. elim (cases_Bool (names (front c a m) t)) [
@@ -48,10 +51,11 @@ holds-woke size n c a m h = record {
 }
 
 -- threads that were made, of which none sleeps, come to an address
-pub holds-arrived : (size n : ℕ) (c : Common) (b : ℕ) (xs : List ℕ) → IsDistinct eqb xs
-    → ((t : ℕ) → names xs t ≡ true → (c.asleep t ≡ None) × ((1 ≤ t) × (t ≤ n))) → Holds size n c
-    → Holds size n (record c { queue = put c.queue b (c.queue b ++ xs); asleep = with_place c.asleep xs (Some b) })
-holds-arrived size n c b xs d free h = record {
+pub holds-arrived : (p : Program) (n : ℕ) (c : Common) (b : ℕ) (xs : List ℕ) → IsDistinct eqb xs
+    → ((t : ℕ) → names xs t ≡ true → (c.asleep t ≡ None) × ((1 ≤ t) × (t ≤ n))) → Holds p n c
+    → Holds p n (record c { queue = put c.queue b (c.queue b ++ xs); asleep = with_place c.asleep xs (Some b) })
+holds-arrived p n c b xs d free h = record {
+  most = h.most;
   sized = h.sized;
   agree = agree-arrived c.queue c.asleep b xs d (λ t y. (free t y).0) h.agree;
   made = λ t a e. elim (cases_Bool (names xs t)) [
@@ -60,10 +64,10 @@ holds-arrived size n c b xs d free h = record {
   ];
 }
 
-pub holds-slept : (size n : ℕ) (c : Common) (t a : ℕ) → 1 ≤ t → t ≤ n → c.asleep t ≡ None → Holds size n c
-    → Holds size n (sleep_on c t a)
+pub holds-slept : (p : Program) (n : ℕ) (c : Common) (t a : ℕ) → 1 ≤ t → t ≤ n → c.asleep t ≡ None → Holds p n c
+    → Holds p n (sleep_on c t a)
 unfolding IsDistinct
-holds-slept size n c t a some few free h =
+holds-slept p n c t a some few free h =
     holds-arrived size n c a (t ∷ []) (one t) (λ u y. let e : t ≡ u = sym (eqb-true u t (only u y)) in
     (ap c.asleep (sym e) ∙ free, (omega (arith, e), omega (arith, e)))) h where
       one : (u : ℕ) → IsDistinct eqb (u ∷ [])
@@ -73,13 +77,13 @@ holds-slept size n c t a some few free h =
       only u y = elim (or_cases (eqb u t) false y) [ inl e ↦ e | inr f ↦ absurd cc ]
 
 -- the front of a goes to the end of b
-pub holds-moved : (size n : ℕ) (c : Common) (a b m : ℕ) → Holds size n c → Holds size n (move_front c a b m)
-holds-moved size n c a b m h = elim (cases_eq a b) [
+pub holds-moved : (p : Program) (n : ℕ) (c : Common) (a b m : ℕ) → Holds p n c → Holds p n (move_front c a b m)
+holds-moved p n c a b m h = elim (cases_eq a b) [
   | inl e ↦ let is : move_front c a b m ≡ c = cond-true _ _ _ (eq-eqb a b e) in rw is h
   | inr ne ↦
       let woke : Common = wake_front c a m in
       let xs : List ℕ = front c a m in
-      let late : Holds size n (record woke {
+      let late : Holds p n (record woke {
         queue = put woke.queue b (woke.queue b ++ xs);
         asleep =
             with_place woke.asleep xs (Some b);
@@ -103,7 +107,15 @@ holds-moved size n c a b m h = elim (cases_eq a b) [
 
 -- a state of the machine after a step of thread t, with a thread more where it made one
 pub keeps : (p : Program) (k : ConcreteState) (c : Common) (threads : List Thread) → IsWellFormed p k
-    → length k.threads ≤ length threads → length threads ≤ 64 → Holds (memory_size p) (length threads) c
+    → length k.threads ≤ length threads → length threads ≤ c.most → Holds p (length threads) c
     → IsWellFormed p (record { common = c; threads = threads })
 keeps p k c threads concrete more few h =
-    record { sized = h.sized; some = omega (arith, concrete.some); few = few; agree = h.agree; made = h.made }
+    record {
+      most = h.most;
+      fits = omega (arith, h.most, concrete.most, concrete.fits);
+      sized = h.sized;
+      some = omega (arith, concrete.some);
+      few = few;
+      agree = h.agree;
+      made = h.made;
+    }

@@ -32,9 +32,10 @@ inside x y h = cc
 
 -- a state after the words, the sleepers, the output and one thread changed
 pub state_is : (k : ConcreteState) (t : ℕ) (x y : Thread) (c : Common) (w : ℕ → ℕ) → thread_of k t ≡ Some y
-    → ((b : ℕ) → slice_index c.words b ≡ w b) → length c.words ≡ length k.common.words
-    → state_of (record { common = c; threads = slice_set k.threads (t - 1) x })
+    → ((b : ℕ) → slice_index c.words b ≡ w b) → c.most ≡ k.common.most
+    → length c.words ≡ length k.common.words → state_of (record { common = c; threads = slice_set k.threads (t - 1) x })
     ≡ record {
+      most = k.common.most;
       word = w;
       size = length k.common.words;
       made = length k.threads;
@@ -43,7 +44,8 @@ pub state_is : (k : ConcreteState) (t : ℕ) (x y : Thread) (c : Common) (w : �
       asleep = c.asleep;
       output = c.output;
     }
-state_is k t x y c w stands word same = λ i. record {
+state_is k t x y c w stands word most same = λ i. record {
+  most = most i;
   word = λ b. word b i;
   size = same i;
   made = length-set k.threads (t - 1) x i;
@@ -55,6 +57,7 @@ state_is k t x y c w stands word same = λ i. record {
 pub record Lands (p : Program) (k k' : ConcreteState) (t : ℕ) (e ev : Event) (x : Thread) (c : Common)
     (w : ℕ → ℕ) : Type 0 where
   pub state : state_of k' ≡ record {
+    most = k.common.most;
     word = w;
     size = length k.common.words;
     made = length k.threads;
@@ -67,7 +70,7 @@ pub record Lands (p : Program) (k k' : ConcreteState) (t : ℕ) (e ev : Event) (
   pub concrete : IsWellFormed p k'
 
 pub lands : (p : Program) (k k' : ConcreteState) (t : ℕ) (e ev : Event) (x y : Thread) (c : Common) (w : ℕ → ℕ)
-    → IsWellFormed p k → thread_of k t ≡ Some y → Holds (memory_size p) (length k.threads) c
+    → IsWellFormed p k → thread_of k t ≡ Some y → Holds p (length k.threads) c
     → ((b : ℕ) → slice_index c.words b ≡ w b)
     → (let R : Type 0 = Result (ConcreteState × Event) StepFault in
     (let a : R = Ok (record { common = c; threads = slice_set k.threads (t - 1) x }, ev) in a)
@@ -78,12 +81,15 @@ lands p k k' t e ev x y c w concrete stands holds word h =
     ap (λ (q : ConcreteState × Event). q.0) (sym is) in
     let long : length (slice_set k.threads (t - 1) x) ≡ length k.threads = length-set k.threads (t - 1) x in
     record {
-      state = ap state_of k'-is ∙ state_is k t x y c w stands word (holds.sized ∙ sym concrete.sized);
+      state = ap state_of k'-is ∙ state_is k t x y c w stands word
+          (holds.most ∙ sym concrete.most) (holds.sized ∙ sym concrete.sized);
       event = ap (λ (q : ConcreteState × Event). q.1.woken) (sym is);
       concrete = rw k'-is (record {
+        most = holds.most;
+        fits = omega (arith, holds.most, concrete.most, concrete.fits);
         sized = holds.sized;
         some = omega (arith, long, concrete.some);
-        few = omega (arith, long, concrete.few);
+        few = omega (arith, long, concrete.few, holds.most, concrete.most);
         agree = holds.agree;
         made = λ u a g. let r = holds.made u a g in (r.0, omega (arith, long, r.1));
       });
@@ -100,4 +106,4 @@ pub has_place : (p : Program) (k : ConcreteState) (t : ℕ) (y : Thread) → IsW
 has_place p k zero y concrete stands = absurd cc
 has_place p k (suc t) y concrete stands =
     let few : t < length k.threads = slice_get_within k.threads t y stands in
-    record { some = omega arith; few = omega arith; words = omega (arith, concrete.sized, concrete.few) }
+    record { some = omega arith; few = omega arith; words = omega (arith, concrete.sized, concrete.few, concrete.most) }

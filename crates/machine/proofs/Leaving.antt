@@ -30,7 +30,7 @@ pub record Leaving (p : Program) (k : ConcreteState) (t : ℕ) (phase : ExitPhas
   pub set : l.event.woken ≡ set_of woken
   pub word : ℕ → ℕ
   pub words : (b : ℕ) → slice_index l.common.words b ≡ word b
-  pub holds : Holds (memory_size p) (length k.threads) l.common
+  pub holds : Holds p (length k.threads) l.common
   pub output : l.common.output ≡ k.common.output
   pub step : ExitStep (length k.common.words) t phase (shared_of (state_of k)) woken
       (record { word = word; asleep = l.common.asleep }) l.next
@@ -77,7 +77,7 @@ abandoned_if c l w = cond w (wake_front (set_word c l (lock_word 0 true w)) l 1)
 record Abandoning (p : Program) (k : ConcreteState) (t l : ℕ) (c : Common) (woken : List ℕ) : Type 0 where
   pub word : ℕ → ℕ
   pub words : (b : ℕ) → slice_index c.words b ≡ word b
-  pub holds : Holds (memory_size p) (length k.threads) c
+  pub holds : Holds p (length k.threads) c
   pub output : c.output ≡ k.common.output
   pub step : Abandons t l (shared_of (state_of k)) woken (record { word = word; asleep = c.asleep })
 
@@ -121,7 +121,7 @@ abandoning p k t l concrete inside owned =
     abandoning_if p k t l concrete inside owned (waiters_of (load k.common l)) refl
 
 -- nothing changes
-idle : (p : Program) (k : ConcreteState) → IsWellFormed p k → Holds (memory_size p) (length k.threads) k.common
+idle : (p : Program) (k : ConcreteState) → IsWellFormed p k → Holds p (length k.threads) k.common
 idle p k concrete = holds-concrete p k concrete
 
 at_entry : (p : Program) (k : ConcreteState) (t e seen : ℕ) → IsWellFormed p k → HasPlace k t → (b : Bool)

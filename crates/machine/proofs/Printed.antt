@@ -73,7 +73,7 @@ served made t (AskCompareSwap a expected new) c =
 served made t (AskOr a v) c = prints_if c _ _ _ (prints_ok c _ (still _)) (prints_err c _)
 served made t (AskAdd a v) c = prints_if c _ _ _ (prints_ok c _ (still _)) (prints_err c _)
 served made t (AskFork entry arguments has_room) c =
-    prints_if c (eqb made 64) _ _ (prints_ok c _ (still _))
+    prints_if c (eqb made c.most) _ _ (prints_ok c _ (still _))
     (prints_if c has_room _ _ (prints_ok c _ (still _)) (prints_err c Broken))
 served made t (AskPrint number) c = prints_ok c _ (length-append c.output (signed_of number ∷ []))
 served made t (AskWait a expected) c =

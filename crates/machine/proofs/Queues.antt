@@ -19,6 +19,7 @@ use Rattle.machine.specs.declared.event.Event.{Event}
 use Rattle.machine.specs.declared.event.EventName.TheVariants as name
 use Rattle.machine.specs.ConcreteServing.{wake_front, sleep_on, move_front, moves_of, front, within, requeue_to}
 use Rattle.machine.specs.ConcreteServing.{gives, event_of}
+use Rattle.words.specs.Limits.{most_threads}
 use Rattle.machine.specs.Views.{common_of}
 use Rattle.machine.proofs.Placing.{by_place, put-here, put-there}
 use Rattle.machine.proofs.Sleeping.{names-drop}
@@ -41,8 +42,9 @@ no_list s s' a here others =
     ])
 
 pub common_is : (ws : List ℕ) (s s' : Sleepers) (o : List ℤ) (q : ℕ → List ℕ) (p : ℕ → Option ℕ) → queue s' ≡ q
-    → place_of s' ≡ p → common_of ws s' o ≡ record { words = ws; queue = q; asleep = p; output = o }
-common_is ws s s' o q p queues places = λ i. record { words = ws; queue = queues i; asleep = places i; output = o }
+    → place_of s' ≡ p → common_of ws s' o ≡ record { most = most_threads; words = ws; queue = q; asleep = p; output = o }
+common_is ws s s' o q p queues places = λ i.
+    record { most = most_threads; words = ws; queue = queues i; asleep = places i; output = o }
 
 pub slept_is : (ws : List ℕ) (s s' : Sleepers) (o : List ℤ) (t a : ℕ) → queue s' a ≡ queue s a ++ t ∷ []
     → ((b : ℕ) → b ≢ a → queue s' b ≡ queue s b) → place_of s' ≡ with_place (place_of s) (t ∷ []) (Some a)

@@ -18,9 +18,9 @@ use Rattle.machine.specs.ConcreteSteps.{go_on_with, on_machine, thread_step, ste
 use Rattle.machine.specs.Determined.{BreaksSo, RefusesSo, MovesSo}
 use Rattle.machine.proofs.Stepping.{IsOfCode, look_code}
 
--- a request is refused with nothing but Broken, and exactly so; where so many threads were made
-record Refuses (made : ℕ) (r : Result Served StepFault) (A : Type 0) : Type 0 where
-  pub so : made ≤ 64 → r ≡ Err Broken → A
+-- a request is refused with nothing but Broken, and exactly so; where there can be so many threads, and so many were made
+record Refuses (most made : ℕ) (r : Result Served StepFault) (A : Type 0) : Type 0 where
+  pub so : made ≤ most → r ≡ Err Broken → A
   pub back : A → r ≡ Err Broken
   pub other : r ≡ Err CannotMove → ⊥
 
@@ -33,63 +33,63 @@ both_served true x y f h = absurd cc
 both_served false x y f h = absurd cc
 
 -- where it is always served
-always : (m : ℕ) (r : Result Served StepFault) → ((f : StepFault) → r ≡ Err f → ⊥) → Refuses m r ⊥
-always m r h = record { so = λ few. h Broken; back = λ a. absurd a; other = h CannotMove }
+always : (most m : ℕ) (r : Result Served StepFault) → ((f : StepFault) → r ≡ Err f → ⊥) → Refuses most m r ⊥
+always most m r h = record { so = λ few. h Broken; back = λ a. absurd a; other = h CannotMove }
 
 -- where it is served in the memory
-inside : (m a n : ℕ) (b : Bool) → ltb a n ≡ b → (r : Result Served StepFault) → ((f : StepFault) → r ≡ Err f → ⊥)
-    → Refuses m (cond b r (Err Broken)) (a < n → ⊥)
-inside m a n true is r h =
+inside : (most m a n : ℕ) (b : Bool) → ltb a n ≡ b → (r : Result Served StepFault) → ((f : StepFault) → r ≡ Err f → ⊥)
+    → Refuses most m (cond b r (Err Broken)) (a < n → ⊥)
+inside most m a n true is r h =
     record { so = λ few e. absurd (h Broken e); back = λ out. absurd (out (ltb-true a n is)); other = h CannotMove }
-inside m a n false is r h =
+inside most m a n false is r h =
     record { so = λ few e l. both_ways (ltb a n) is (lt-ltb a n l); back = λ out. refl; other = λ e. absurd cc }
 
-both_inside : (m a b n : ℕ) (x y : Bool) → ltb a n ≡ x → ltb b n ≡ y → (r : Result Served StepFault)
+both_inside : (most m a b n : ℕ) (x y : Bool) → ltb a n ≡ x → ltb b n ≡ y → (r : Result Served StepFault)
     → ((f : StepFault) → r ≡ Err f → ⊥)
-    → Refuses m (cond x (cond y r (Err Broken)) (Err Broken)) (((a < n) × (b < n)) → ⊥)
-both_inside m a b n true true is is' r h =
+    → Refuses most m (cond x (cond y r (Err Broken)) (Err Broken)) (((a < n) × (b < n)) → ⊥)
+both_inside most m a b n true true is is' r h =
     record {
       so = λ few e. absurd (h Broken e);
       back = λ out. absurd (out (ltb-true a n is, ltb-true b n is'));
       other = h CannotMove;
     }
-both_inside m a b n true false is is' r h =
+both_inside most m a b n true false is is' r h =
     record { so = λ few e l. both_ways (ltb b n) is' (lt-ltb b n l.1); back = λ out. refl; other = λ e. absurd cc }
-both_inside m a b n false y is is' r h =
+both_inside most m a b n false y is is' r h =
     record { so = λ few e l. both_ways (ltb a n) is (lt-ltb a n l.0); back = λ out. refl; other = λ e. absurd cc }
 
-forks_if : (made : ℕ) (full room : Bool) → eqb made 64 ≡ full → (x y : Served)
-    → Refuses made (cond full (Ok x) (cond room (Ok y) (Err Broken))) ((made < 64) × (room ≡ true → ⊥))
-forks_if made true room is x y =
+forks_if : (most made : ℕ) (full room : Bool) → eqb made most ≡ full → (x y : Served)
+    → Refuses most made (cond full (Ok x) (cond room (Ok y) (Err Broken))) ((made < most) × (room ≡ true → ⊥))
+forks_if most made true room is x y =
     record {
       so = λ few e. absurd cc;
       back =
-          λ a. absurd (let e = eqb-true made 64 is in let l = a.0 in omega (arith, e, l));
+          λ a. absurd (let e = eqb-true made most is in let l = a.0 in omega (arith, e, l));
       other = λ e. absurd cc;
     }
-forks_if made false true is x y =
+forks_if most made false true is x y =
     record { so = λ few e. absurd cc; back = λ a. absurd (a.1 refl); other = λ e. absurd cc }
-forks_if made false false is x y =
-    let ne : made ≢ 64 = λ e. both_ways (eqb made 64) is (eq-eqb made 64 e) in
+forks_if most made false false is x y =
+    let ne : made ≢ most = λ e. both_ways (eqb made most) is (eq-eqb made most e) in
     record { so = λ few e. (omega (arith, few, ne), λ q. absurd cc); back = λ a. refl; other = λ e. absurd cc }
 
 refuses : (k : ConcreteState) (t : ℕ) (request : Request)
-    → Refuses (length k.threads) (serve (length k.threads) t request k.common) (IsUnserved request (state_of k))
-refuses k t (AskLoad a) = inside _ a _ _ refl _ (λ f. served_is _ f)
-refuses k t (AskStore a v) = inside _ a _ _ refl _ (λ f. served_is _ f)
-refuses k t (AskSwap a v) = inside _ a _ _ refl _ (λ f. served_is _ f)
-refuses k t (AskCompareSwap a expected new) = inside _ a _ _ refl _ (λ f. served_is _ f)
-refuses k t (AskOr a v) = inside _ a _ _ refl _ (λ f. served_is _ f)
-refuses k t (AskAdd a v) = inside _ a _ _ refl _ (λ f. served_is _ f)
+    → Refuses k.common.most (length k.threads) (serve (length k.threads) t request k.common) (IsUnserved request (state_of k))
+refuses k t (AskLoad a) = inside _ _ a _ _ refl _ (λ f. served_is _ f)
+refuses k t (AskStore a v) = inside _ _ a _ _ refl _ (λ f. served_is _ f)
+refuses k t (AskSwap a v) = inside _ _ a _ _ refl _ (λ f. served_is _ f)
+refuses k t (AskCompareSwap a expected new) = inside _ _ a _ _ refl _ (λ f. served_is _ f)
+refuses k t (AskOr a v) = inside _ _ a _ _ refl _ (λ f. served_is _ f)
+refuses k t (AskAdd a v) = inside _ _ a _ _ refl _ (λ f. served_is _ f)
 refuses k t (AskFork entry arguments has_room) =
-    forks_if (length k.threads) (eqb (length k.threads) 64) has_room refl _ _
-refuses k t (AskPrint number) = always _ _ (λ f. served_is _ f)
-refuses k t (AskWait a expected) = inside _ a _ _ refl _ (λ f. both_served _ _ _ f)
-refuses k t (AskWake a n) = inside _ a _ _ refl _ (λ f. served_is _ f)
-refuses k t (AskRequeue a b n m expected) = both_inside _ a b _ _ _ refl refl _ (λ f. both_served _ _ _ f)
-refuses k t AskReturn = always _ _ (λ f. served_is _ f)
-refuses k t (AskReturnValue v) = always _ _ (λ f. served_is _ f)
-refuses k t (AskFault cause) = always _ _ (λ f. served_is _ f)
+    forks_if k.common.most (length k.threads) (eqb (length k.threads) k.common.most) has_room refl _ _
+refuses k t (AskPrint number) = always _ _ _ (λ f. served_is _ f)
+refuses k t (AskWait a expected) = inside _ _ a _ _ refl _ (λ f. both_served _ _ _ f)
+refuses k t (AskWake a n) = inside _ _ a _ _ refl _ (λ f. served_is _ f)
+refuses k t (AskRequeue a b n m expected) = both_inside _ _ a b _ _ _ refl refl _ (λ f. both_served _ _ _ f)
+refuses k t AskReturn = always _ _ _ (λ f. served_is _ f)
+refuses k t (AskReturnValue v) = always _ _ _ (λ f. served_is _ f)
+refuses k t (AskFault cause) = always _ _ _ (λ f. served_is _ f)
 
 -- what the step of a thread comes to, by what came of its request
 err_of : (k : ConcreteState) (t : ℕ) (go : ℕ → Thread) (r : Result Served StepFault) (f : StepFault)
@@ -97,7 +97,7 @@ err_of : (k : ConcreteState) (t : ℕ) (go : ℕ → Thread) (r : Result Served 
 err_of k t go (Ok x) f h = absurd cc
 err_of k t go (Err g) f h = let e : g ≡ f = cc in ap (λ x. Err x) e
 
-look_breaks : (k : ConcreteState) (t : ℕ) (l : Look) → length k.threads ≤ 64
+look_breaks : (k : ConcreteState) (t : ℕ) (l : Look) → length k.threads ≤ k.common.most
     → on_machine k t (thread_step (length k.threads) t k.common l) ≡ Err Broken → IsBroken (state_of k) l
 look_breaks k t (Goes x) few h = absurd cc
 look_breaks k t (Asks request go) few h = (refuses k t request).so few (err_of k t go _ Broken h)
@@ -105,7 +105,7 @@ look_breaks k t (Leaves phase) few h = absurd cc
 look_breaks k t Breaks few h = tt
 look_breaks k t Rests few h = absurd cc
 
-breaks_look : (k : ConcreteState) (t : ℕ) (l : Look) → length k.threads ≤ 64 → IsBroken (state_of k) l
+breaks_look : (k : ConcreteState) (t : ℕ) (l : Look) → length k.threads ≤ k.common.most → IsBroken (state_of k) l
     → on_machine k t (thread_step (length k.threads) t k.common l) ≡ Err Broken
 breaks_look k t (Goes x) few h = absurd h
 breaks_look k t (Asks request go) few h = ap (λ r. on_machine k t (go_on_with go r)) ((refuses k t request).back h)
@@ -113,14 +113,14 @@ breaks_look k t (Leaves phase) few h = absurd h
 breaks_look k t Breaks few h = refl
 breaks_look k t Rests few h = absurd h
 
-awake_breaks : (p : Program) (k : ConcreteState) (t : ℕ) (x : Thread) (o : Option ℕ) → length k.threads ≤ 64
+awake_breaks : (p : Program) (k : ConcreteState) (t : ℕ) (x : Thread) (o : Option ℕ) → length k.threads ≤ k.common.most
     → thread_of k t ≡ Some x → k.common.asleep t ≡ o → step_awake p k t x o ≡ Err Broken
     → NextIsBroken p (state_of k) t
 awake_breaks p k t x None few stands awake h =
     record { thread = x; stands = stands; awake = awake; breaks = look_breaks k t (look p t x) few h }
 awake_breaks p k t x (Some a) few stands awake h = absurd cc
 
-thread_breaks : (p : Program) (k : ConcreteState) (t : ℕ) (o : Option Thread) → length k.threads ≤ 64
+thread_breaks : (p : Program) (k : ConcreteState) (t : ℕ) (o : Option Thread) → length k.threads ≤ k.common.most
     → thread_of k t ≡ o → step_thread p k t o ≡ Err Broken → NextIsBroken p (state_of k) t
 thread_breaks p k t None few stands h = absurd cc
 thread_breaks p k t (Some x) few stands h = awake_breaks p k t x (k.common.asleep t) few stands refl h

@@ -51,7 +51,7 @@ opens k t go false r q h = absurd cc
 -- a request that wakes nobody and changes no sleepers
 quiet : (p : Program) (k k' : ConcreteState) (t : ℕ) (e ev : Event) (y : Thread) (request : Request)
     (go : ℕ → Thread) (answer : ℕ) (c : Common) (w : ℕ → ℕ) → IsWellFormed p k → thread_of k t ≡ Some y
-    → Holds (memory_size p) (length k.threads) c → ((b : ℕ) → slice_index c.words b ≡ w b)
+    → Holds p (length k.threads) c → ((b : ℕ) → slice_index c.words b ≡ w b)
     → c.asleep ≡ k.common.asleep
     → ev.woken ≡ (plain name.Local 0).woken
     → Serves t request (state_of k) [] answer (record (state_of k) { word = w; output = c.output })

@@ -4,6 +4,8 @@ use Rattle.std.proofs.Common.{Some, None, Ok, slice_set, replicate, refl, ◌∙
 use Rattle.std.specs.Prelude.{slice_index}
 use Rattle.std.specs.List.{IsDistinct}
 use Rattle.std.proofs.lemmas.List.{length-replicate}
+use Rattle.words.specs.Versions.{most_of}
+use Rattle.words.proofs.Versions.{most_some}
 use Rattle.isa.specs.Programs.{Program, memory_size}
 use Rattle.isa.specs.declared.instr.Instr.{Instr}
 use Rattle.words.specs.declared.outcome.Fault.{Fault}
@@ -194,6 +196,7 @@ agree_opening = record { stands = λ t a h. absurd cc; sleeps = λ t a h. absurd
 pub opens_so : OpensSo
 opens_so p = (
   (λ i. record {
+    most = most_of p.version;
     word = λ b. opening_words (memory_size p) (omega arith) b i;
     size = opening_size (memory_size p) i;
     made = 1;
@@ -201,10 +204,12 @@ opens_so p = (
     asleep = λ t. None;
     output = [];
   }),
-  record {
+  λ fits. record {
+    most = refl;
+    fits = fits;
     sized = opening_size (memory_size p);
     some = omega arith;
-    few = omega arith;
+    few = let some = most_some p.version in omega (arith, some);
     agree = agree_opening;
     made = λ t a h. absurd cc;
   },

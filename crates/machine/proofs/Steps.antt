@@ -211,11 +211,11 @@ fork_step t c (Leaves phase) x made answer room r asks h = absurd asks
 fork_step t c Breaks x made answer room r asks h = absurd asks
 fork_step t c Rests x made answer room r asks h = absurd asks
 
-pub fork_full : (made t : ℕ) (c : Common) (l : Look) (x : Thread) (room : Bool) → AsksFork l room → made ≡ 64
+pub fork_full : (made t : ℕ) (c : Common) (l : Look) (x : Thread) (room : Bool) → AsksFork l room → made ≡ c.most
     → thread_step made t c l ≡ Ok
     (record { common = c; thread = after_answer l 0 x; child = None; event = plain name.Fork 0 })
 fork_full made t c l x room asks full = fork_step t c l x made 0 room _ asks (λ entry arguments go is.
-    ap (go_on_with go) (cond-true _ _ _ (eq-eqb made 64 full))
+    ap (go_on_with go) (cond-true _ _ _ (eq-eqb made c.most full))
     ∙ (λ i. Ok (record {
       common = c;
       thread = after_answer (sym is i) 0 x;
@@ -224,12 +224,12 @@ fork_full made t c l x room asks full = fork_step t c l x made 0 room _ asks (λ
           plain name.Fork 0;
     })))
 
-pub fork_no_room : (made t : ℕ) (c : Common) (l : Look) (x : Thread) (room : Bool) → AsksFork l room → made ≢ 64
+pub fork_no_room : (made t : ℕ) (c : Common) (l : Look) (x : Thread) (room : Bool) → AsksFork l room → made ≢ c.most
     → room ≡ false → thread_step made t c l ≡ Err Broken
 fork_no_room made t c l x room asks ne none = fork_step t c l x made 0 room _ asks (λ entry arguments go is.
-    ap (go_on_with go) (cond-false _ _ _ (ne_eqb made 64 ne) ∙ cond-false _ _ _ none))
+    ap (go_on_with go) (cond-false _ _ _ (ne_eqb made c.most ne) ∙ cond-false _ _ _ none))
 
-pub fork_made : (made t number : ℕ) (c : Common) (l : Look) (x : Thread) (room : Bool) → AsksFork l room → made ≢ 64
+pub fork_made : (made t number : ℕ) (c : Common) (l : Look) (x : Thread) (room : Bool) → AsksFork l room → made ≢ c.most
     → room ≡ true → number ≡ made + 1
     → thread_step made t c l ≡ Ok
     (record {
@@ -242,7 +242,7 @@ pub fork_made : (made t number : ℕ) (c : Common) (l : Look) (x : Thread) (room
 fork_made made t number c l x room asks ne some is_number =
     let same : suc made ≡ number = omega (arith, is_number) in
     fork_step t c l x made number room _ asks (λ entry arguments go is.
-    ap (go_on_with go) (cond-false _ _ _ (ne_eqb made 64 ne) ∙ cond-true _ _ _ some)
+    ap (go_on_with go) (cond-false _ _ _ (ne_eqb made c.most ne) ∙ cond-true _ _ _ some)
     ∙ (λ i. Ok (record {
       common = set_word c (process_word (same i) 2) (same i);
       thread =
@@ -338,10 +338,10 @@ fault_went go (Ok x) = refl
 fault_went go (Err f) = refl
 
 pub fork_fault : (made t : ℕ) (c : Common) (l : Look) (room : Bool) → AsksFork l room
-    → fault_of (thread_step made t c l) ≡ (if room || (made == 64) then None else Some Broken)
+    → fault_of (thread_step made t c l) ≡ (if room || (made == c.most) then None else Some Broken)
 fork_fault made t c (Asks (AskFork entry arguments has_room) go) room asks =
-    fault_went go _ ∙ fork_fault_if (made == 64) has_room _ _
-    ∙ ap (λ (b : Bool). if b || (made == 64) then None else Some Broken) asks
+    fault_went go _ ∙ fork_fault_if (made == c.most) has_room _ _
+    ∙ ap (λ (b : Bool). if b || (made == c.most) then None else Some Broken) asks
 fork_fault made t c (Asks request go) room asks = absurd asks
 fork_fault made t c (Goes y) room asks = absurd asks
 fork_fault made t c (Leaves phase) room asks = absurd asks

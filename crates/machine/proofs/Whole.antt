@@ -4,6 +4,8 @@ use Rattle.std.proofs.Common.{length, get_or, Some, None, Result, Ok, Err, slice
 use Rattle.std.proofs.Common.{sym, ap, ◌∙◌, arith}
 use Rattle.std.specs.Prelude.{IfOk, OnErr}
 use Rattle.std.proofs.Math.Path.{fun_ext}
+use Rattle.words.specs.declared.version.ImageVersion.TheVariants.{One}
+use Rattle.words.specs.Versions.{most_of}
 use Rattle.isa.specs.Programs.{Program, memory_size}
 use Rattle.buckets.specs.Sleepers.{Sleepers, queue, place_of}
 use Rattle.locals.specs.Threads.{Thread, opening_thread}
@@ -43,8 +45,17 @@ kept_after p k k' t (Err f) concrete done same = rw same concrete
 pub opened : (p : Program) (words : List ℕ) (s : Sleepers) (threads : List Thread)
     → words ≡ slice_set (replicate (memory_size p) 0) 3 1 → ((a : ℕ) → queue s a ≡ [])
     → ((t : ℕ) → place_of s t ≡ None) → threads ≡ opening_thread p.start [] ∷ []
-    → concrete_of words s threads [] ≡ opening_concrete p
-opened p words s threads w q a t =
+    → p.version ≡ One → concrete_of words s threads [] ≡ opening_concrete p
+opened p words s threads w q a t v =
     let queues : queue s ≡ (λ b. []) = fun_ext q in
     let places : place_of s ≡ (λ u. None) = fun_ext a in
-    λ i. record { common = record { words = w i; queue = queues i; asleep = places i; output = [] }; threads = t i }
+    λ i. record {
+      common = record {
+        most = most_of (sym v i);
+        words = w i;
+        queue = queues i;
+        asleep = places i;
+        output = [];
+      };
+      threads = t i;
+    }

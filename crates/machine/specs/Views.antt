@@ -36,19 +36,17 @@ pub record IsWellFormed (p : Program) (k : ConcreteState) : Type 0 where
   pub agree : Agree k.common.queue k.common.asleep
   pub made : (t a : ℕ) → k.common.asleep t ≡ Some a → (1 ≤ t) × (t ≤ length k.threads)
 
--- what all threads share, of how many there can be, the words, the sleepers and the output
-abbrev pub common_of : ℕ → List ℕ → Sleepers → List ℤ → Common
-common_of most words sleepers output =
-    record { most = most; words = words; queue = queue sleepers; asleep = place_of sleepers; output = output }
+-- what all threads share, of the words, the sleepers and the output: there can be as many as a machine runs
+abbrev pub common_of : List ℕ → Sleepers → List ℤ → Common
+common_of words sleepers output =
+    record { most = most_threads; words = words; queue = queue sleepers; asleep = place_of sleepers; output = output }
 
 -- a state of the machine, of its parts
-abbrev pub concrete_of : ℕ → List ℕ → Sleepers → List Thread → List ℤ → ConcreteState
-concrete_of most words sleepers threads output =
-    record { common = common_of most words sleepers output; threads = threads }
+abbrev pub concrete_of : List ℕ → Sleepers → List Thread → List ℤ → ConcreteState
+concrete_of words sleepers threads output = record { common = common_of words sleepers output; threads = threads }
 
--- what a `Common` stands for: how many threads there can be, the words, who sleeps, the numbers printed, and how many numbers there is room for in all
+-- what a `Common` stands for: the words, who sleeps, the numbers printed, and how many numbers there is room for in all
 pub record CommonView : Type 0 where
-  pub most : ℕ
   pub words : List ℕ
   pub sleepers : Sleepers
   pub output : List ℤ
@@ -56,24 +54,21 @@ pub record CommonView : Type 0 where
 
 -- what threads share, as a step sees it
 abbrev pub common : CommonView → Common
-common v = common_of v.most v.words v.sleepers v.output
+common v = common_of v.words v.sleepers v.output
 
 -- what a machine keeps, of what its threads share and of them
 abbrev pub parts_of : CommonView → List Thread → ConcreteState
 parts_of v threads = record { common = common v; threads = threads }
 
--- what always holds of it: a machine can run all threads that there can be, their words are there, and who sleeps is one
--- of them
-pub record IsCommon (most : ℕ) (words : List ℕ) (sleepers : Sleepers) : Type 0 where
-  pub fits : most ≤ most_threads
-  pub wide : 1 + 6 * most ≤ length words
+-- what always holds of it: the words of all threads are there, and who sleeps is one of them
+pub record IsCommon (words : List ℕ) (sleepers : Sleepers) : Type 0 where
+  pub wide : 1 + 6 * most_threads ≤ length words
   pub sound : IsSound sleepers
   pub places : thread_count sleepers ≡ most_threads
 
 -- the program that runs, the parts of its concrete state, and how many numbers can be printed without taking memory
 pub record View : Type 0 where
   pub program : Program
-  pub most : ℕ
   pub words : List ℕ
   pub sleepers : Sleepers
   pub threads : List Thread
@@ -82,7 +77,7 @@ pub record View : Type 0 where
 
 -- what a machine keeps
 abbrev pub concrete : View → ConcreteState
-concrete v = concrete_of v.most v.words v.sleepers v.threads v.output
+concrete v = concrete_of v.words v.sleepers v.threads v.output
 
 -- the address of a member word of a monitor: before it stand the words of processes, the link word, the lock word and
 -- the members of each earlier monitor, and the monitor's own link word and lock word

@@ -1,6 +1,6 @@
 //! The exits of threads.
-ghost use Rattle.std.specs.Prelude.{◌≡◌, ◌≢◌, ◌≤◌, length};
-ghost use Rattle.words.specs.Limits.{monitors_base};
+ghost use Rattle.std.specs.Prelude.{◌≡◌, ◌≢◌, ◌+◌, ◌*◌, ◌≤◌, length};
+ghost use Rattle.words.specs.Limits.{most_threads};
 ghost use Rattle.machine.specs.ThreadSets.{IsThread};
 ghost use Rattle.machine.specs.ConcreteExits.{leave};
 ghost use Rattle.machine.specs.RequestMeanings.{value_at, name_at};
@@ -14,7 +14,7 @@ use words::{Mem, ProcessWord, block};
 // The address that an event of this phase names, or 0.
 fn address_at(words: &Mem, t: u32, phase: ExitPhase) -> u32
     requires thread { IsThread t }
-    requires words { monitors_base ≤ length words.now }
+    requires words { 1 + 6 * most_threads ≤ length words.now }
     ensures { result ≡ value_at t phase words.now }
 {
     match phase {

@@ -20,4 +20,4 @@ pub use event::{Entry, Event, EventName, StepFault};
 pub use laws::steps_are_machine_steps;
 pub use machine::Machine;
 pub use thread_set::{ThreadSet, thread_set_laws};
-pub use words::MOST_THREADS as MOST_THREADS;
+pub use words::MOST_THREADS;

@@ -170,7 +170,8 @@ impl Machine {
         requires index { index < slice_index self.now.program.monitors monitor }
         ensures { result
             ≡ (state_of (concrete self.now)).word
-            (variable_address self.now.program.monitors monitor index) }
+            (variable_address self.now.program.version self.now.program.monitors
+            monitor index) }
     {
         self.common.word(variable(&self.image, monitor, index))
     }

@@ -1,5 +1,6 @@
 ghost use Rattle.std.specs.Prelude.{◌≡◌, ◌^◌, sum, ◌≤◌, ◌<◌, Some, None, Ok, Err, IfOk, IfErr, OnErr, [], ◌∷◌};
 ghost use Rattle.std.specs.Prelude.{length, replicate, slice_index, slice_set, vec_len, vec_capacity};
+ghost use Rattle.words.specs.declared.version.ImageVersion.TheVariants.{One};
 ghost use Rattle.words.specs.Limits.{most_threads};
 ghost use Rattle.isa.specs.Programs.{memory_size};
 ghost use Rattle.locals.specs.Threads.{Thread, opening_thread};
@@ -16,7 +17,7 @@ use crate::thread_step::{take_exit, take_fork, take_local, take_request};
 use isa::Image;
 use locals::{Local, NextStep, opening_local};
 use std::alloc::{AllocError, Global};
-use words::{Addr, MONITORS_BASE, MOST_THREADS, Mem, ProcessWord, block};
+use words::{Addr, MOST_THREADS, Mem, ProcessWord, block};
 
 fn total(numbers: &[u32]) -> u32
     requires { sum numbers.now < 2 ^ 32 }
@@ -29,7 +30,8 @@ fn total(numbers: &[u32]) -> u32
 pub fn memory_len(image: &Image) -> usize
     ensures value { result ≡ memory_size image.now }
 {
-    MONITORS_BASE as usize + 2 * image.monitors().len() + total(image.monitors()) as usize
+    let base = image.version().monitors_base() as usize;
+    base + 2 * image.monitors().len() + total(image.monitors()) as usize
 }
 
 /// The words at the start of an image: all 0, but for the id word of the first process, which is its number.
@@ -46,6 +48,7 @@ pub fn opening_threads(alloc: Global, image: &Image) -> Result<Vec<Local>, Alloc
     ensures threads { IfOk result (λ threads. threads.items
         ≡ opening_thread image.now.start [] ∷ []) }
     ensures space { IfOk result (λ threads. most_threads ≤ vec_capacity threads) }
+    ensures first { image.now.version ≡ One }
 {
     let mut threads = Vec::with_capacity(alloc, MOST_THREADS as usize)?;
     threads.push_reserved(opening_local(image.start(), &[]));
@@ -57,11 +60,11 @@ pub fn opening_threads(alloc: Global, image: &Image) -> Result<Vec<Local>, Alloc
 pub fn variable(image: &Image, monitor: u32, index: u32) -> Addr
     requires monitor { monitor < length image.now.monitors }
     requires index { index < slice_index image.now.monitors monitor }
-    ensures address { result.0 ≡ variable_address image.now.monitors monitor index }
+    ensures address { result.0 ≡ variable_address image.now.version image.now.monitors monitor index }
     ensures within { result.0 < memory_size image.now }
 {
     let members = total(&image.monitors()[..monitor as usize]);
-    Addr(MONITORS_BASE + 2 * monitor + members + 2 + index)
+    Addr(image.version().monitors_base() + 2 * monitor + members + 2 + index)
 }
 
 /// One step of thread `t`, which was made and is awake, on the parts of a machine.
