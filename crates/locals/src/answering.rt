@@ -1,5 +1,6 @@
 //! How an activation goes on with the answer to what it asked for.
 ghost use Rattle.std.specs.Prelude.{◌≡◌, ◌<◌, ◌∷◌, ℕ, Some, None, slice_get, MatchOption};
+ghost use Rattle.words.specs.Versions.{most_of};
 ghost use Rattle.isa.specs.Limits.{most_instructions};
 ghost use Rattle.isa.specs.declared.instr.Instr.TheVariants.{Fork, Store, Print};
 ghost use Rattle.locals.specs.Looks.{Request as RequestOf, Asking, return_look, on_one, on_two, on_three, on_five};
@@ -10,27 +11,30 @@ use crate::activation::Activation;
 use crate::progress::Answered;
 use isa::{Image, Instr};
 use robustexit::phase_at;
-use words::Fault;
+use words::{Fault, ImageVersion};
 
 impl Activation {
     /// Goes on with the answer to the request that it makes, if it makes one.
     pub fn go_on(&mut self, image: &Image, t: u32, answer: u32) -> Answered
-        requires { CanBeAnswered (looks t (slice_get image.now.code self.old.place) self.old) answer }
+        requires { CanBeAnswered
+            (looks (most_of image.now.version) t (slice_get image.now.code self.old.place) self.old)
+            answer }
         ensures { Follows result
-            (after_answer (looks t (slice_get image.now.code self.old.place) self.old) answer
-            (running self.old)) self.new }
+            (after_answer
+            (looks (most_of image.now.version) t (slice_get image.now.code self.old.place) self.old)
+            answer (running self.old)) self.new }
     {
         match image.at(self.place) {
-            Some(instr) => self.answer(instr, t, answer),
+            Some(instr) => self.answer(instr, image.version(), t, answer),
             None => Answered::GoesOn,
         }
     }
 
-    fn answer(&mut self, instr: Instr, t: u32, answer: u32) -> Answered
+    fn answer(&mut self, instr: Instr, version: ImageVersion, t: u32, answer: u32) -> Answered
         requires place { self.old.place < most_instructions }
-        requires fits { CanBeAnswered (looks t (Some instr) self.old) answer }
+        requires fits { CanBeAnswered (looks (most_of version) t (Some instr) self.old) answer }
         ensures { Follows result
-            (after_answer (looks t (Some instr) self.old) answer (running self.old)) self.new }
+            (after_answer (looks (most_of version) t (Some instr) self.old) answer (running self.old)) self.new }
     {
         match instr {
             Instr::Load => self.replace_one(answer),
@@ -118,7 +122,7 @@ impl Activation {
     fn stored(&mut self) -> Answered
         requires { self.old.place < most_instructions }
         ensures { (answer : ℕ) → Follows result
-            (after_answer (looks 0 (Some Store) self.old) answer (running self.old)) self.new }
+            (after_answer (looks 0 0 (Some Store) self.old) answer (running self.old)) self.new }
     {
         if self.operands.pop_two().is_some() {
             self.place += 1;
@@ -129,7 +133,7 @@ impl Activation {
     fn printed(&mut self) -> Answered
         requires { self.old.place < most_instructions }
         ensures { (answer : ℕ) → Follows result
-            (after_answer (looks 0 (Some Print) self.old) answer (running self.old)) self.new }
+            (after_answer (looks 0 0 (Some Print) self.old) answer (running self.old)) self.new }
     {
         if self.operands.pop().is_some() {
             self.place += 1;
@@ -139,9 +143,9 @@ impl Activation {
 
     fn answer_fork(&mut self, entry: u32, count: u32, answer: u32) -> Answered
         requires place { self.old.place < most_instructions }
-        requires fits { CanBeAnswered (looks 0 (Some (Fork entry count)) self.old) answer }
+        requires fits { CanBeAnswered (looks 0 0 (Some (Fork entry count)) self.old) answer }
         ensures { Follows result
-            (after_answer (looks 0 (Some (Fork entry count)) self.old) answer (running self.old))
+            (after_answer (looks 0 0 (Some (Fork entry count)) self.old) answer (running self.old))
             self.new }
     {
         let count = count as usize;
@@ -172,7 +176,8 @@ impl Activation {
 
     /// The thread that it forks, where that is what it asks for.
     pub fn child(&self, image: &Image, t: u32) -> Option<Activation>
-        ensures { let look = looks t (slice_get image.now.code self.now.place) self.now in
+        ensures { let look = looks (most_of image.now.version) t
+            (slice_get image.now.code self.now.place) self.now in
             MatchOption result (fork_child look ≡ None)
             (λ child. fork_child look ≡ Some (running child)) }
     {

@@ -1,5 +1,6 @@
 //! What the next step of an activation is, and what it asks the shared part of the machine for.
 ghost use Rattle.std.specs.Prelude.{◌≡◌, ◌∷◌, ℕ, List, Some, slice_get};
+ghost use Rattle.words.specs.Versions.{most_of};
 ghost use Rattle.isa.specs.declared.instr.Instr.TheVariants.{Fork, RetValue};
 ghost use Rattle.locals.specs.declared.request.NextStep.TheVariants as next;
 ghost use Rattle.locals.specs.Threads.{Locals as LocalsOf, Frame as FrameOf};
@@ -10,21 +11,22 @@ ghost use Rattle.locals.specs.Views.{shared_where, local_where, looks, IsRequest
 use crate::activation::{Activation, MOST_OPERANDS};
 use crate::request::{NextStep, Request};
 use isa::{Image, Instr};
-use words::{Addr, MOST_THREADS};
+use words::{Addr, ImageVersion};
 
 impl Activation {
     /// What the next step of thread `t` is.
     pub fn next_step(&self, image: &Image, t: u32) -> NextStep
-        ensures { result ≡ next_step_of (looks t (slice_get image.now.code self.now.place) self.now) }
+        ensures { result ≡ next_step_of
+            (looks (most_of image.now.version) t (slice_get image.now.code self.now.place) self.now) }
     {
         match image.at(self.place) {
-            Some(instr) => self.next(instr, t),
+            Some(instr) => self.next(instr, image.version(), t),
             None => NextStep::Broken,
         }
     }
 
-    fn next(&self, instr: Instr, t: u32) -> NextStep
-        ensures { result ≡ next_step_of (looks t (Some instr) self.now) }
+    fn next(&self, instr: Instr, version: ImageVersion, t: u32) -> NextStep
+        ensures { result ≡ next_step_of (looks (most_of version) t (Some instr) self.now) }
     {
         match instr {
             Instr::Push(_) | Instr::GetLocal(_) | Instr::OwnNumber => local_where(
@@ -44,7 +46,7 @@ impl Activation {
                 None => NextStep::Broken,
             },
             Instr::ProcessAddress(_) => match self.operands.top() {
-                Some(1..=MOST_THREADS) => NextStep::Local,
+                Some(h) if (1..=version.most_processes()).contains(&h) => NextStep::Local,
                 Some(_) | None => NextStep::Broken,
             },
             Instr::Jump(_) | Instr::Raise(_) => NextStep::Local,
@@ -78,7 +80,7 @@ impl Activation {
     }
 
     fn leaving_with_value(&self) -> NextStep
-        ensures { result ≡ next_step_of (looks 0 (Some RetValue) self.now) }
+        ensures { result ≡ next_step_of (looks 0 0 (Some RetValue) self.now) }
     {
         match self.operands.top() {
             Some(value) => self.leaving(Request::ReturnValue(value)),
@@ -88,7 +90,7 @@ impl Activation {
 
     // A new thread takes its arguments before the answer comes.
     fn forking(&self, entry: u32, count: u32) -> NextStep
-        ensures { result ≡ next_step_of (looks 0 (Some (Fork entry count)) self.now) }
+        ensures { result ≡ next_step_of (looks 0 0 (Some (Fork entry count)) self.now) }
     {
         let operands = self.operands.len();
         if (count as usize) > operands {
@@ -103,7 +105,7 @@ impl Activation {
 
     fn asking(&self, instr: Instr) -> NextStep
         requires { IsRequest instr }
-        ensures { (t : ℕ) → result ≡ next_step_of (looks t (Some instr) self.now) }
+        ensures { (most t : ℕ) → result ≡ next_step_of (looks most t (Some instr) self.now) }
     {
         match self.request(instr) {
             Some(request) => NextStep::Shared(request),
@@ -114,7 +116,8 @@ impl Activation {
     // What the instruction asks for with the operands that it takes, where there are so many.
     fn request(&self, instr: Instr) -> Option<Request>
         requires { IsRequest instr }
-        ensures { (t : ℕ) → next_step_of (looks t (Some instr) self.now) ≡ shared_where result }
+        ensures { (most t : ℕ) → next_step_of (looks most t (Some instr) self.now)
+            ≡ shared_where result }
     {
         match instr {
             Instr::Load => Some(Request::Load(Addr(self.operands.top()?))),
@@ -148,8 +151,8 @@ impl Activation {
 // The request of an instruction that takes an address and a number.
 fn request_of_two(instr: Instr, address: Addr, number: u32) -> Request
     requires { TakesTwo instr }
-    ensures { (t place : ℕ) (rest : List ℕ) (locals : LocalsOf) (callers : List FrameOf)
-        → next_step_of (look_at t (Some instr) place (number ∷ address.0 ∷ rest) locals callers)
+    ensures { (most t place : ℕ) (rest : List ℕ) (locals : LocalsOf) (callers : List FrameOf)
+        → next_step_of (look_at most t (Some instr) place (number ∷ address.0 ∷ rest) locals callers)
         ≡ shared_where (Some result) }
 {
     match instr {

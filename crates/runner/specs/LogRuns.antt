@@ -37,8 +37,8 @@ LogsSo =
     (p : Program) (k k' : ConcreteState) (steps : List EventStep) → FrontRun p k steps k'
     → (log : List Entry) × Runs p k log k' × (steps_of log ≡ steps)
 
--- where a machine can run all threads that there can be, a run of the relation, of as many steps as the log costs, which
--- are the log's own, leads to where the log leads
+-- where a machine can run all threads that there can be, a run of the relation, of as many steps as the log costs,
+-- which are the log's own, leads to where the log leads
 abbrev pub RunsSo : Type 0
 RunsSo =
     (p : Program) (log : List Entry) (k : ConcreteState) → most_of p.version ≤ most_threads
@@ -46,8 +46,8 @@ RunsSo =
     → (steps : List Step) × MachineRun p steps (state_of k) × (length steps ≡ cost log)
     × (map label_of steps ≡ map event_label (steps_of log))
 
--- there a run of the log's steps and of the local steps of the thread behind it leads to where the thread's next step may
--- not be
+-- there a run of the log's steps and of the local steps of the thread behind it leads to where the thread's next step
+-- may not be
 abbrev pub MeetsSo : Type 0
 MeetsSo =
     (p : Program) (limit : ℕ) (m : MeetsBroken p limit) → most_of p.version ≤ most_threads

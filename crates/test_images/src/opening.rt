@@ -5,6 +5,7 @@ use isa::Image;
 use machine::Machine;
 use std::alloc::Global;
 use std::io;
+use words::BUCKETS;
 
 // The numbers that the machine makes room for.
 const ROOM: usize = 2;
@@ -12,7 +13,7 @@ const ROOM: usize = 2;
 /// Prints what the machine of an image has at the start: its threads, whether it has the room that was made, and the
 /// words of the monitors' members.
 pub fn show_opening<R: Print>(rt: &R, alloc: Global, image: &Image) -> Result<(), Failure> {
-    let mut machine = Machine::new(alloc, image, 64)?;
+    let mut machine = Machine::new(alloc, image, BUCKETS)?;
     machine.make_room(ROOM)?;
     Ok(show_machine(rt, image, &machine)?)
 }

@@ -6,7 +6,7 @@ use machine::Machine;
 use std::alloc::{AllocError, Global};
 use std::io;
 use std::str::SplitWhitespace;
-use words::Addr;
+use words::{Addr, BUCKETS};
 
 // How a run may end, and how many did.
 #[derive(Drop)]
@@ -101,7 +101,7 @@ fn note<R: Print>(rt: &R, seed: u32, outcome: &str, allowed: &mut [Allowed]) -> 
 
 // Runs an image by the schedule of a seed, within a limit of steps.
 fn run_schedule(alloc: Global, image: &Image, limit: u32, seed: u32) -> Result<Machine, Failure> {
-    let mut machine = Machine::new(alloc, image, 64)?;
+    let mut machine = Machine::new(alloc, image, BUCKETS)?;
     let mut schedule = Schedule::new(seed);
     for _ in 0..limit {
         machine.make_room(1)?;

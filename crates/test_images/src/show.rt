@@ -1,4 +1,4 @@
-use machine::{Entry, EventName, Machine, ThreadSet};
+use machine::{Entry, EventName, MOST_THREADS, Machine, ThreadSet};
 use runner::Report;
 use std::io;
 use words::{Cause, Outcome};
@@ -58,7 +58,7 @@ fn show_log<R: Print>(rt: &R, log: &[Entry]) -> io::Result<()> {
 
 // The threads of a set, each on a line.
 fn show_set<R: Print>(rt: &R, what: &str, set: ThreadSet) -> io::Result<()> {
-    for before in 0..64 {
+    for before in 0..MOST_THREADS {
         let thread = before + 1;
         if set.contains(thread) {
             println!(rt; "    {what} {thread}")?;

@@ -22,9 +22,7 @@ use crate::layers::Layers;
 use crate::threads::{show_answered, show_code};
 use crate::tokens::{show_blanks, show_spelled, show_tokens};
 use std::io;
-
-// How many buckets there are at the start.
-const BUCKETS: u32 = 64;
+use words::BUCKETS;
 
 fn main(rt: HostRuntime) -> io::Result<()> {
     match Layers::new(rt.alloc(), BUCKETS) {

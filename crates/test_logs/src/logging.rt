@@ -6,7 +6,7 @@ use isa::Image;
 use machine::{Entry, Machine, StepFault};
 use std::alloc::{AllocError, Global};
 use test_schedules::{SORTS, Sequence, draw_mover};
-use words::MOST_THREADS;
+use words::BUCKETS;
 
 // Takes local steps of a thread, so many at most, and where these are fewer the shared step that comes next.
 fn take_turn(machine: &mut Machine, thread: u32, most: u32) -> Result<Entry, StepFault>
@@ -36,7 +36,7 @@ pub fn log_of(
     seed: u32,
     most: u32,
 ) -> Result<Vec<Entry>, AllocError> {
-    let mut machine = Machine::new(alloc, image, MOST_THREADS)?;
+    let mut machine = Machine::new(alloc, image, BUCKETS)?;
     let mut sequence = Sequence::new(seed);
     let mask = !(u32::MAX << (seed % SORTS));
     let mut log = Vec::new(alloc);
