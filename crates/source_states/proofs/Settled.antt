@@ -2,7 +2,6 @@
 use Rattle.std.proofs.Common.{◌≡◌, ◌⊎◌, ℕ, Bool, true, false, Option, Some, None, refl, ap, sym, ◌∙◌, subst, inl, inr}
 use Rattle.std.proofs.lemmas.Bool.{false≢true, le-leb, lt-leb, leb-true}
 use Rattle.std.specs.Prelude.{if◌then◌else◌, is_some, nat_le}
-use Rattle.words.specs.Limits.{most_threads}
 use Rattle.words.specs.Updates.{put}
 use Rattle.words.specs.declared.outcome.Fault.TheVariants.{HandleNotJoinable, ProcessTableFull}
 use Rattle.program.specs.Trees.{Program}
@@ -40,10 +39,10 @@ module _ (n : ℕ) (T T' : Table) (label : Label) (effect : Effect) (after : Pro
   found (Takes k free abandoned) is takes allows = taking k is.0 takes.0 is.1 ∙ ap if_internal (sym takes.1)
   found (MakesOne child k full) is (inl made) allows =
       let here = subst (λ i. Allows n i T T') made.1 allows in
-      other (nat_le most_threads T.made) _ _ (lt-leb most_threads T.made here.0) ∙ ap if_internal (sym made.1)
+      other (nat_le T.most T.made) _ _ (lt-leb T.most T.made here.0) ∙ ap if_internal (sym made.1)
   found (MakesOne child k full) is (inr none) allows =
       let here = subst (λ i. Allows n i T T') none.0 allows in
-      chosen (nat_le most_threads T.made) _ _ (le-leb most_threads T.made here.0) ∙ ap if_internal (sym none.0)
+      chosen (nat_le T.most T.made) _ _ (le-leb T.most T.made here.0) ∙ ap if_internal (sym none.0)
   found (ClaimsOne child q refused) is (inl free) allows =
       let here = subst (λ i. Allows n i T T') free.0 allows in
       other (T.claimed child) _ _ here.0 ∙ ap if_internal (sym free.0)
@@ -91,7 +90,7 @@ module _ (p : Program) (s s' : SourceState) (n : ℕ) (before : Process) (stands
       → IsInternalTaken p n (Some (Fails ProcessTableFull)) s s'
   full child q after offers is = (
     ap (internal_from p s) stands ∙ ap (λ o. internal_kind o s.table) (sym offers)
-        ∙ chosen (nat_le most_threads s.table.made) _ _ none,
+        ∙ chosen (nat_le s.table.most s.table.made) _ _ none,
     inl (record {
       before = before;
       after = after;
@@ -100,15 +99,15 @@ module _ (p : Program) (s s' : SourceState) (n : ℕ) (before : Process) (stands
       stands = stands;
       acts = subst (λ o. TakesUp o FindsFull Nothing after) offers (inr (refl, refl, refl));
       named = refl;
-      allows = (leb-true most_threads s.table.made none, ap (λ (x : SourceState). x.table) is);
+      allows = (leb-true s.table.most s.table.made none, ap (λ (x : SourceState). x.table) is);
       variables = ap (λ (x : SourceState). x.variable) is;
       printed = ap (λ (x : SourceState). x.printed) is;
       processes = ap (λ (x : SourceState). x.process) is;
     }),
   )
     where
-      none : nat_le most_threads s.table.made ≡ true
-      none = if_some (nat_le most_threads s.table.made) (kind_of FindsFull)
+      none : nat_le s.table.most s.table.made ≡ true
+      none = if_some (nat_le s.table.most s.table.made) (kind_of FindsFull)
           (ap (λ o. is_some (internal_kind o s.table)) offers ∙ some)
 
   -- one that would claim a child, where that was claimed before, faults

@@ -16,7 +16,7 @@ use program::Program;
 use source_offers::{Ahead, Offer, Offered, Process, look_ahead, next_offer};
 use source_table::Table;
 use std::alloc::{AllocError, Global};
-use words::{Cause, Fault, MOST_THREADS};
+use words::{Cause, Fault};
 
 // Whether what comes next is internal by this table.
 fn is_internal(table: &Table, ahead: Ahead) -> bool
@@ -26,7 +26,7 @@ fn is_internal(table: &Table, ahead: Ahead) -> bool
     match ahead {
         Ahead::Internal => true,
         Ahead::Visible => false,
-        Ahead::Makes => table.made() >= u64::from(MOST_THREADS),
+        Ahead::Makes => table.made() >= table.most(),
         Ahead::Claims(child) => table.claimed(child),
     }
 }

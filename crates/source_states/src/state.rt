@@ -13,6 +13,7 @@ use source_offers::{End, Frame, Place, Process, Stage, Variables};
 use source_table::{Hold, Table};
 use std::alloc::{AllocError, Global};
 use std::collections::BTreeMap;
+use words::ImageVersion;
 
 /// A state of a source program. `state_of` makes it a state of the meaning.
 #[derive(Drop)]
@@ -58,7 +59,7 @@ impl<'a> SourceState<'a> {
         let mut processes = BTreeMap::new(alloc);
         let _none = processes.insert(1, main)?;
         Ok(SourceState {
-            table: Table::new(alloc),
+            table: Table::new(alloc, ImageVersion::One),
             variables: Variables::new(alloc),
             processes,
             printed: Vec::new(alloc),
@@ -148,6 +149,13 @@ impl<'a> SourceState<'a> {
         ensures { option_map end_of result ≡ (state_of self.now).table.over process }
     {
         self.table.over(process)
+    }
+
+    /// How many processes there can be.
+    pub fn most(&self) -> u64
+        ensures { result ≡ (state_of self.now).table.most }
+    {
+        self.table.most()
     }
 
     /// How many processes were made.

@@ -1,6 +1,7 @@
 use Rattle.std.proofs.Common.{refl, ap, sym, ◌∙◌, arith, w64, pos, ℕ, None, Some, ◌≡◌}
 use Rattle.std.proofs.lemmas.Int.{ints, to_z_pos}
 use Rattle.std.proofs.lemmas.Result.{IfOk-weaker}
+use Rattle.words.proofs.Versions.{most_few}
 use Rattle.words.specs.Updates.{put}
 use Rattle.words.specs.declared.outcome.Fault.TheVariants.{ProcessTableFull}
 use Rattle.meaning.specs.Labels.{Fork}
@@ -40,7 +41,8 @@ returns-then-named-made c =
 
 pub overflow_cast-made : goal.overflow_cast-made
 overflow_cast-made c =
-    let h = c.in-Some.ensures 0 in let below = h.0 in let is = h.1 in omega (arith, ints)
+    let h = c.in-Some.ensures 0 in let below = h.0 in let is = h.1 in
+    let few = most_few c.args.self.now.table.version in omega (arith, ints, few)
 
 pub returns : goal.returns
 returns c =
@@ -61,4 +63,5 @@ returns c =
     }) c.into_inner.ensures)
     (c.go_on.ensures ∙ ap (λ f. goes_on None f (callers_of c.args.process.callers.items)) (c.put.ensures.frame
     ∙ ap (λ z. with_local (frame_of c.args.process.frame) c.args.into z)
-    (let h = c.in-Some.ensures 0 in let below = h.0 in let is = h.1 in to_z_pos w64 c.in-Some.made (omega arith)))))
+    (let h = c.in-Some.ensures 0 in let below = h.0 in let is = h.1 in
+    let few = most_few c.args.self.now.table.version in to_z_pos w64 c.in-Some.made (omega (arith, few))))))
