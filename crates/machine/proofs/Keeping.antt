@@ -26,11 +26,17 @@ pub record Holds (p : Program) (n : ℕ) (c : Common) : Type 0 where
 
 pub holds-concrete : (p : Program) (k : ConcreteState) → IsWellFormed p k
     → Holds p (length k.threads) k.common
-holds-concrete p k concrete = record { most = concrete.most; sized = concrete.sized; agree = concrete.agree; made = concrete.made }
+holds-concrete p k concrete =
+    record { most = concrete.most; sized = concrete.sized; agree = concrete.agree; made = concrete.made }
 
 pub holds-more : (p : Program) (n m : ℕ) (c : Common) → n ≤ m → Holds p n c → Holds p m c
 holds-more p n m c le h =
-    record { most = h.most; sized = h.sized; agree = h.agree; made = λ t a e. let r = h.made t a e in (r.0, omega (arith, r.1)) }
+    record {
+      most = h.most;
+      sized = h.sized;
+      agree = h.agree;
+      made = λ t a e. let r = h.made t a e in (r.0, omega (arith, r.1));
+    }
 
 pub holds-set : (p : Program) (n : ℕ) (c : Common) (a v : ℕ) → Holds p n c → Holds p n (set_word c a v)
 holds-set p n c a v h = record { most = h.most; sized = length-set c.words a v ∙ h.sized; agree = h.agree; made = h.made }
@@ -68,7 +74,7 @@ pub holds-slept : (p : Program) (n : ℕ) (c : Common) (t a : ℕ) → 1 ≤ t �
     → Holds p n (sleep_on c t a)
 unfolding IsDistinct
 holds-slept p n c t a some few free h =
-    holds-arrived size n c a (t ∷ []) (one t) (λ u y. let e : t ≡ u = sym (eqb-true u t (only u y)) in
+    holds-arrived p n c a (t ∷ []) (one t) (λ u y. let e : t ≡ u = sym (eqb-true u t (only u y)) in
     (ap c.asleep (sym e) ∙ free, (omega (arith, e), omega (arith, e)))) h where
       one : (u : ℕ) → IsDistinct eqb (u ∷ [])
       one u = (tt, tt)
@@ -88,9 +94,9 @@ holds-moved p n c a b m h = elim (cases_eq a b) [
         asleep =
             with_place woke.asleep xs (Some b);
       }) =
-      holds-arrived size n woke b xs (IsDistinct-take m (c.queue a) (h.agree.distinct a))
+      holds-arrived p n woke b xs (IsDistinct-take m (c.queue a) (h.agree.distinct a))
       (λ t y. (placed c.asleep xs None t y, h.made t a (h.agree.sleeps t a (names-take m t (c.queue a) y))))
-      (holds-woke size n c a m h) in
+      (holds-woke p n c a m h) in
       let was : woke.queue b ≡ c.queue b = put-there c.queue a (drop m (c.queue a)) b (λ q. ne (sym q)) in
       let places : with_place woke.asleep xs (Some b) ≡ with_place c.asleep xs (Some b) =
       with_place-again c.asleep xs None (Some b) in

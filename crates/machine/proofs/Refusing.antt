@@ -142,7 +142,7 @@ code_rests Rests h e = absurd h
 
 rests_ended : (p : Program) (t : ℕ) (x : Thread) → look p t x ≡ Rests → has_ended (Some x) ≡ true
 rests_ended p t (Runs place operands locals callers) e =
-    absurd (code_rests _ (look_code t _ place operands locals callers) e)
+    absurd (code_rests _ (look_code _ t _ place operands locals callers) e)
 rests_ended p t (Dies cause) e = absurd cc
 rests_ended p t (Exits (Entry a seen)) e = absurd cc
 rests_ended p t (Exits Pending) e = absurd cc

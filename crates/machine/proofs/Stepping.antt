@@ -78,10 +78,11 @@ place_code place locals callers Misses = tt
 place_code place locals callers (Guards test e) = if_so_code test _ (place_code place locals callers e)
 place_code place locals callers (Checks test fault e) = or_dies_code test fault _ (place_code place locals callers e)
 
-pub look_code : (t : ℕ) (i : Option Instr) (place : ℕ) (operands : List ℕ) (locals : Locals) (callers : List Frame)
-    → IsOfCode (look_at t i place operands locals callers)
-look_code t None place operands locals callers = tt
-look_code t (Some i) place operands locals callers = place_code place locals callers (effect t i operands locals)
+pub look_code : (most t : ℕ) (i : Option Instr) (place : ℕ) (operands : List ℕ) (locals : Locals) (callers : List Frame)
+    → IsOfCode (look_at most t i place operands locals callers)
+look_code most t None place operands locals callers = tt
+look_code most t (Some i) place operands locals callers =
+    place_code place locals callers (effect most t i operands locals)
 
 next_of_code : (l : Look) → IsOfCode l → IsNext l
 next_of_code (Goes x) h = tt
@@ -91,7 +92,7 @@ next_of_code Breaks h = tt
 next_of_code Rests h = tt
 
 pub is_next : (p : Program) (t : ℕ) (x : Thread) → IsNext (look p t x)
-is_next p t (Runs place operands locals callers) = next_of_code _ (look_code t _ place operands locals callers)
+is_next p t (Runs place operands locals callers) = next_of_code _ (look_code _ t _ place operands locals callers)
 is_next p t (Dies cause) = tt
 is_next p t (Exits (Entry e seen)) = tt
 is_next p t (Exits Pending) = tt
@@ -193,11 +194,14 @@ agree_opening : Agree (λ a. []) (λ t. None)
 unfolding IsDistinct
 agree_opening = record { stands = λ t a h. absurd cc; sleeps = λ t a h. absurd cc; distinct = λ a. tt }
 
+wide : (p : Program) → 3 < memory_size p
+wide p = let some = most_some p.version in omega (arith, some)
+
 pub opens_so : OpensSo
 opens_so p = (
   (λ i. record {
     most = most_of p.version;
-    word = λ b. opening_words (memory_size p) (omega arith) b i;
+    word = λ b. opening_words (memory_size p) (wide p) b i;
     size = opening_size (memory_size p) i;
     made = 1;
     thread = λ u. one_thread (opening_thread p.start []) u i;

@@ -50,8 +50,9 @@ pub fn opening_threads(alloc: Global, image: &Image) -> Result<Vec<Local>, Alloc
     ensures space { IfOk result (λ threads. most_threads ≤ vec_capacity threads) }
     ensures first { image.now.version ≡ One }
 {
+    let start = image.start();
     let mut threads = Vec::with_capacity(alloc, MOST_THREADS as usize)?;
-    threads.push_reserved(opening_local(image.start(), &[]));
+    threads.push_reserved(opening_local(start, &[]));
     Ok(threads)
 }
 
