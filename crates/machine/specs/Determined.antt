@@ -5,7 +5,7 @@ use Rattle.machine.specs.declared.event.Event.{Event}
 use Rattle.machine.specs.declared.event.StepFault.TheVariants.{CannotMove, Broken}
 use Rattle.machine.specs.ThreadSets.{set_of}
 use Rattle.machine.specs.States.{ConcreteState, opening_concrete, opening_state, state_of}
-use Rattle.machine.specs.Runs.{IsStep, CanStep, NextIsBroken, is_paused}
+use Rattle.machine.specs.Runs.{Own, IsStep, CanStep, NextIsBroken, is_paused}
 use Rattle.machine.specs.ConcreteSteps.{step_of, can_move}
 use Rattle.machine.specs.Views.{IsWellFormed}
 
@@ -18,7 +18,7 @@ abbrev pub StepsSo : Type 0
 StepsSo =
     (p : Program) (k k' : ConcreteState) (t : ℕ) (e : Event) → IsWellFormed p k → step_of p k t ≡ Ok (k', e)
     → (woken : List ℕ) × (e.woken ≡ set_of woken)
-    × IsStep p (state_of k) (record { thread = t; woken = woken; pauses = is_paused (state_of k') t }) (state_of k')
+    × IsStep p (state_of k) (record { thread = t; woken = woken; pauses = is_paused (state_of k') t; doing = Own }) (state_of k')
     × IsWellFormed p k'
 
 -- a step is Broken exactly where the thread's next step may not be

@@ -86,7 +86,7 @@ monitor_there : (o : Option Monitor) → is_some o ≡ true → (x : Monitor) ×
 monitor_there None h = absurd cc
 monitor_there (Some x) h = (x, refl)
 
-condition_there : (o : Option Monitor) (n : ℕ) → is_condition (member_in o n) ≡ true
+pub condition_there : (o : Option Monitor) (n : ℕ) → is_condition (member_in o n) ≡ true
     → (x : Monitor) × (o ≡ Some x) × (slice_get x.members n ≡ Some Condition)
 condition_there None n h = absurd cc
 condition_there (Some x) n h = (x, refl, by_type (slice_get x.members n) h)
