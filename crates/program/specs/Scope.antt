@@ -1,5 +1,5 @@
 -- Where an expression or a statement stands, and what its names name there.
-use Rattle.std.specs.Prelude.{ℕ, List, slice_get, Option, Some, None, ◌≡◌}
+use Rattle.std.specs.Prelude.{ℕ, Bool, true, false, List, slice_get, Option, Some, None, ◌≡◌}
 use Rattle.program.specs.declared.kinds.ValueType.{ValueType}
 use Rattle.program.specs.declared.kinds.MemberType.{MemberType}
 use Rattle.program.specs.declared.kinds.MemberType.TheVariants.{Variable, Condition, Array}
@@ -35,6 +35,13 @@ member_in (Some monitor) number = slice_get monitor.members number
 -- the type of a member of a monitor
 abbrev pub member_type : Program → MemberOf → Option MemberType
 member_type p m = member_in (slice_get p.monitors m.monitor) m.number
+
+-- whether a member's type is that of a condition
+abbrev pub is_condition : Option MemberType → Bool
+is_condition None = false
+is_condition (Some (Variable t)) = false
+is_condition (Some Condition) = true
+is_condition (Some (Array n)) = false
 
 -- the length of an array, 0 for what is none
 abbrev pub size_in : Option MemberType → ℕ

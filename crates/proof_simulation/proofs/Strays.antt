@@ -7,7 +7,7 @@ use Rattle.words.specs.Updates.{put}
 use Rattle.machine.specs.States.{State, with_sleepers}
 use Rattle.machine.specs.AbstractServing.{shared_of}
 use Rattle.program.specs.declared.kinds.Member.{Member}
-use Rattle.program.specs.Scope.{member_type}
+use Rattle.program.specs.Scope.{member_type, is_condition}
 use Rattle.program.specs.Trees.{Monitor, Program}
 use Rattle.program.specs.WellFormed.{WellFormed}
 use Rattle.lowering.specs.Layout.{member_address}
@@ -27,12 +27,10 @@ use Rattle.protocol.proofs.Roles.{may_sleep, point_sleeps}
 use Rattle.protocol.proofs.Joins.{joins, point_joins}
 use Rattle.protocol.proofs.Processes.{is_made, point_made}
 use Rattle.protocol.proofs.Sleeps.{at_put, put_same, put_other}
-use Rattle.proof_templates.specs.Layout.{place, valid, is_condition}
+use Rattle.proof_templates.specs.Layout.{place, valid}
 use Rattle.proof_templates.proofs.Layouts.{apart, condition_there}
-use Rattle.program.specs.declared.kinds.MemberType.{MemberType}
-use Rattle.program.specs.declared.kinds.MemberType.TheVariants.{Variable, Condition, Array}
+use Rattle.program.specs.declared.kinds.MemberType.TheVariants.{Condition}
 use Rattle.refinement.specs.Outside.{any_below, member_count, is_word_of, is_condition_word}
-use Rattle.refinement.specs.Outside as O
 use Rattle.proof_simulation.specs.Corresponding.{Corresponds, Reached}
 use Rattle.proof_simulation.specs.Ordering.{act}
 use Rattle.proof_simulation.specs.Deferred.{stage_of, stages, Works}
@@ -171,12 +169,6 @@ none_below : (k : ℕ) (test : ℕ → Bool) → ((n : ℕ) → test n ≡ false
 none_below zero test h = refl
 none_below (suc k) test h = ap (λ b. b || any_below k test) (h k) ∙ none_below k test h
 
-one_condition : (o : Option MemberType) → O.is_condition o ≡ is_condition o
-one_condition None = refl
-one_condition (Some (Variable t)) = refl
-one_condition (Some Condition) = refl
-one_condition (Some (Array n)) = refl
-
 index_below : {A : Type 0} (xs : List A) (n : ℕ) (x : A) → slice_get xs n ≡ Some x → n < length xs
 index_below [] n x h = absurd cc
 index_below (y ∷ xs) zero x h = omega arith
@@ -192,10 +184,10 @@ module _ (p : Program) (a : ℕ) where
       each d = by_valid (is_condition (member_type p d)) refl
         where
           by_valid : (b : Bool) → is_condition (member_type p d) ≡ b → is_word_of p a d ≡ false
-          by_valid true e = ap (λ b. O.is_condition (member_type p d) && b)
+          by_valid true e = ap (λ b. is_condition (member_type p d) && b)
               (ne_eqb (member_address p d) a (λ i. other d e (sym i)))
-              ∙ and_second (O.is_condition (member_type p d)) false refl
-          by_valid false e = ap (λ b. b && (member_address p d == a)) (one_condition (member_type p d) ∙ e)
+              ∙ and_second (is_condition (member_type p d)) false refl
+          by_valid false e = ap (λ b. b && (member_address p d == a)) e
 
   word_of_some : (d : Member) → valid p (SequenceOf d) ≡ true → a ≡ place p (SequenceOf d)
       → is_condition_word p a ≡ true
@@ -205,7 +197,7 @@ module _ (p : Program) (a : ℕ) where
       (found_below (member_count (slice_get p.monitors d.monitor)) _ d.number
       (subst (λ (o : Option Monitor). d.number < member_count o) (sym x.1)
       (index_below x.0.members d.number Condition x.2))
-      (ap (λ b. b && (member_address p d == a)) (one_condition (member_type p d) ∙ ok)
+      (ap (λ b. b && (member_address p d == a)) ok
       ∙ eq-eqb (member_address p d) a (sym is)))
 
   word_told : (x : Spot) → valid p (cell_of x) ≡ true → a ≡ place p (cell_of x)

@@ -9,7 +9,7 @@ use Rattle.program.specs.declared.kinds.MemberType.{MemberType}
 use Rattle.program.specs.declared.kinds.MemberType.TheVariants.{Variable, Condition, Array}
 use Rattle.program.specs.Trees.{Monitor, Program}
 use Rattle.program.specs.declared.kinds.Member.{Member}
-use Rattle.program.specs.Scope.{member_in, member_type}
+use Rattle.program.specs.Scope.{member_in, member_type, is_condition}
 use Rattle.program.specs.WellFormed.{WellFormed}
 use Rattle.lowering.specs.Cells.{Cell as CodeCell, OfProcess, Link, Lock, OfMember, address, IsCell}
 use Rattle.lowering.specs.Pieces.{code_of}
@@ -19,7 +19,7 @@ use Rattle.protocol.specs.Cells.{Cell, LockOf, LinkOf, HeadOf, PendingOf, IdOf, 
 use Rattle.protocol.specs.Cells.{SequenceOf}
 use Rattle.protocol.specs.Memory.{IsApart}
 use Rattle.protocol.specs.Exits.{IsLayout}
-use Rattle.proof_templates.specs.Layout.{place, valid, is_process, is_monitor, is_condition}
+use Rattle.proof_templates.specs.Layout.{place, valid, is_process, is_monitor}
 use Rattle.std.proofs.lemmas.Bool.{ltb-true, leb-true}
 
 -- a word of the protocol as a word of the program, and back

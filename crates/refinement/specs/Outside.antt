@@ -2,10 +2,8 @@
 use Rattle.std.specs.Prelude.{ℕ, zero, suc, ◌==◌, ◌&&◌, ◌||◌, Bool, true, false, List, length, map, filter, Option, Some}
 use Rattle.std.specs.Prelude.{None, slice_get}
 use Rattle.machine.specs.Runs.{Doing, Own, Strayed, Step}
-use Rattle.program.specs.declared.kinds.MemberType.{MemberType}
-use Rattle.program.specs.declared.kinds.MemberType.TheVariants.{Variable, Condition, Array}
 use Rattle.program.specs.declared.kinds.Member.{Member}
-use Rattle.program.specs.Scope.{member_type}
+use Rattle.program.specs.Scope.{member_type, is_condition}
 use Rattle.program.specs.Trees.{Monitor, Program}
 use Rattle.lowering.specs.Layout.{member_address}
 
@@ -13,13 +11,6 @@ use Rattle.lowering.specs.Layout.{member_address}
 abbrev pub any_below : ℕ → (ℕ → Bool) → Bool
 any_below zero test = false
 any_below (suc n) test = test n || any_below n test
-
--- whether a member's type is that of a condition
-abbrev pub is_condition : Option MemberType → Bool
-is_condition None = false
-is_condition (Some (Variable t)) = false
-is_condition (Some Condition) = true
-is_condition (Some (Array n)) = false
 
 -- how many members a monitor has
 abbrev pub member_count : Option Monitor → ℕ
