@@ -1,12 +1,13 @@
 -- The machine's own steps are steps of the relation.
-use Rattle.std.specs.Prelude.{ℕ, ◌≡◌, ◌↔◌, List, true, Ok, Err}
+use Rattle.std.specs.Prelude.{ℕ, ◌≡◌, ◌↔◌, List, [], ◌∷◌, true, false, None, Ok, Err}
 use Rattle.isa.specs.Programs.{Program}
 use Rattle.machine.specs.declared.event.Event.{Event}
 use Rattle.machine.specs.declared.event.StepFault.TheVariants.{CannotMove, Broken}
 use Rattle.machine.specs.ThreadSets.{set_of}
 use Rattle.machine.specs.States.{ConcreteState, opening_concrete, opening_state, state_of}
-use Rattle.machine.specs.Runs.{Own, IsStep, CanStep, NextIsBroken, is_paused}
+use Rattle.machine.specs.Runs.{Own, Strayed, IsStep, CanStep, NextIsBroken, is_paused}
 use Rattle.machine.specs.ConcreteSteps.{step_of, can_move}
+use Rattle.machine.specs.ConcreteOutside.{stray_of}
 use Rattle.machine.specs.Views.{IsWellFormed}
 
 -- the concrete state at the start stands for the opening state
@@ -34,3 +35,14 @@ RefusesSo = (p : Program) (k : ConcreteState) (t : ℕ)
 -- a thread can move exactly where it can step
 abbrev pub MovesSo : Type 0
 MovesSo = (k : ConcreteState) (t : ℕ) → (can_move k t ≡ true) ↔ CanStep (state_of k) t
+
+-- a wake from outside is one of the relation, of a thread that slept at the address that the event tells
+abbrev pub StraysSo : Type 0
+StraysSo = (p : Program) (k k' : ConcreteState) (t : ℕ) (e : Event) → IsWellFormed p k → stray_of k t ≡ Ok (k', e)
+    → (e.woken ≡ set_of (t ∷ []))
+    × IsStep p (state_of k) (record { thread = t; woken = t ∷ []; pauses = false; doing = Strayed e.value })
+    (state_of k') × IsWellFormed p k'
+
+-- it is refused exactly where the thread doesn't sleep
+abbrev pub StrayRefusedSo : Type 0
+StrayRefusedSo = (k : ConcreteState) (t : ℕ) → (stray_of k t ≡ Err CannotMove) ↔ ((state_of k).asleep t ≡ None)
