@@ -10,7 +10,7 @@ use Rattle.machine.specs.declared.event.Entry.{Entry}
 use Rattle.machine.specs.declared.event.Event.{Event}
 use Rattle.machine.specs.declared.event.EventName.TheVariants as name
 use Rattle.machine.specs.FrontRuns.{EventStep, Label, label_of, event_label}
-use Rattle.machine.specs.Runs.{Step, is_paused}
+use Rattle.machine.specs.Runs.{Own, Step, is_paused}
 use Rattle.machine.specs.ThreadSets.{set_of}
 use Rattle.machine.specs.declared.thread_set.ThreadSet.{ThreadSet}
 use Rattle.runner.specs.LogRuns.{local_step_of, shared_step_of}
@@ -87,7 +87,7 @@ module _ (p : Program) where
       visible p k k' t event done d.0 action here_mark (look (code_of p) t here) (state_of k') gives so in
       let told : action ≡ deferred_by_step here_mark (look (code_of p) t here) event.value =
       deferral p k k' t event done d.0 action here_mark (look (code_of p) t here) (state_of k') gives so in
-      let l : Step = record { thread = t; woken = d.0; pauses = is_paused (state_of k') t } in
+      let l : Step = record { thread = t; woken = d.0; pauses = is_paused (state_of k') t; doing = Own } in
       let on = goes_on_by p (opening_progress p) h.steps (opening_state (code_of p)) (state_of k) h.run l (state_of k')
       st in
       record {
@@ -121,7 +121,7 @@ module _ (p : Program) where
       let shown : done ≡ is_visible p (look (code_of p) t here) event.value =
       visible p k k' t event done d.0 action (mark_of (marks_of p) here) (look (code_of p) t here)
       (state_of k') gives so in
-      let l : Step = record { thread = t; woken = d.0; pauses = is_paused (state_of k') t } in
+      let l : Step = record { thread = t; woken = d.0; pauses = is_paused (state_of k') t; doing = Own } in
       let many = as_many h.steps n h.labels in
       let r = subst (λ (i : Progress). IsReached p w (length h.steps) (state_of k) i) h.comes
       (reached p w h.steps (state_of k) h.run (omega (arith, many, short))) in

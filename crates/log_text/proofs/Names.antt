@@ -6,7 +6,7 @@ use Rattle.words.specs.Signed.{signed_of}
 use Rattle.machine.specs.declared.event.EventName.{EventName}
 use Rattle.machine.specs.declared.event.EventName.TheVariants.{Local, Load, Store, Swap, CompareSwap, FetchOr, FetchAdd}
 use Rattle.machine.specs.declared.event.EventName.TheVariants.{Fork, Print, Wait, Wake, Requeue, Ret, RetValue, Die}
-use Rattle.machine.specs.declared.event.EventName.TheVariants.{Entry, Pending, Clear, Last}
+use Rattle.machine.specs.declared.event.EventName.TheVariants.{Entry, Pending, Clear, Last, Stray}
 use Rattle.log_text.specs.LogLines.{name_text}
 use Rattle.log_text.specs.Places.{place_of}
 use Rattle.std.proofs.lemmas.Bool.{ltb-true}
@@ -40,7 +40,8 @@ named n =
     (cond (n == packed 0 (codes "ENTRY")) Entry
     (cond (n == packed 0 (codes "PENDING")) Pending
     (cond (n == packed 0 (codes "CLEAR")) Clear
-    (cond (n == packed 0 (codes "LAST")) Last Local)))))))))))))))))
+    (cond (n == packed 0 (codes "LAST")) Last
+    (cond (n == packed 0 (codes "STRAY")) Stray Local))))))))))))))))))
 
 back : (name : EventName) → named (word_number name) ≡ name
 unfolding named word_number packed
@@ -63,6 +64,7 @@ back Entry = refl
 back Pending = refl
 back Clear = refl
 back Last = refl
+back Stray = refl
 
 pub name_once : (a b : EventName) → name_text a ≡ name_text b → a ≡ b
 unfolding word_number
@@ -87,7 +89,8 @@ at_place n =
     (cond (n == 14) Entry
     (cond (n == 15) Pending
     (cond (n == 16) Clear
-    (cond (n == 17) Last Local)))))))))))))))))
+    (cond (n == 17) Last
+    (cond (n == 18) Stray Local))))))))))))))))))
 
 placed : (name : EventName) → at_place (place_of name) ≡ name
 unfolding at_place
@@ -110,11 +113,12 @@ placed Entry = refl
 placed Pending = refl
 placed Clear = refl
 placed Last = refl
+placed Stray = refl
 
 pub place_once : (a b : EventName) → place_of a ≡ place_of b → a ≡ b
 place_once a b same = sym (placed a) ∙ ap at_place same ∙ placed b
 
-pub no_place : (name : EventName) → 18 ≤ place_of name → Local ≡ name
+pub no_place : (name : EventName) → 19 ≤ place_of name → Local ≡ name
 no_place Local past = refl
 no_place _ past = absurd (omega (arith, past))
 
@@ -153,3 +157,4 @@ plain_name Entry = plain_by (codes "ENTRY") refl
 plain_name Pending = plain_by (codes "PENDING") refl
 plain_name Clear = plain_by (codes "CLEAR") refl
 plain_name Last = plain_by (codes "LAST") refl
+plain_name Stray = plain_by (codes "STRAY") refl

@@ -13,7 +13,7 @@ use memchr::memchr;
 use words::word;
 
 // How many names of shared steps there are.
-const NAMES: u32 = 18;
+const NAMES: u32 = 19;
 
 /// A text in two parts.
 #[derive(Clone, Copy, Drop)]
@@ -104,7 +104,7 @@ pub fn name_called(text: &[u8]) -> EventName
 
 // The names of shared steps in the order in which they are tried.
 fn name_at(place: u32) -> EventName
-    requires { place < 18 }
+    requires { place < 19 }
     ensures { place_of result ≡ place }
 {
     match place {
@@ -125,7 +125,8 @@ fn name_at(place: u32) -> EventName
         14 => EventName::Entry,
         15 => EventName::Pending,
         16 => EventName::Clear,
-        _ => EventName::Last,
+        17 => EventName::Last,
+        _ => EventName::Stray,
     }
 }
 

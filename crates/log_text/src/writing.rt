@@ -97,5 +97,6 @@ pub fn name_of(name: EventName) -> &'static str
         EventName::Pending => "PENDING",
         EventName::Clear => "CLEAR",
         EventName::Last => "LAST",
+        EventName::Stray => "STRAY",
     }
 }

@@ -2,7 +2,7 @@
 use Rattle.std.proofs.Common.{◌≡◌, List, [], ◌∷◌, map, refl, ap, sym, subst}
 use Rattle.isa.specs.Programs.{Program}
 use Rattle.machine.specs.States.{State, ConcreteState, opening_concrete, state_of}
-use Rattle.machine.specs.Runs.{Step, GoesBy, is_paused}
+use Rattle.machine.specs.Runs.{Own, Step, GoesBy, is_paused}
 use Rattle.machine.specs.FrontRuns.{EventStep, FrontRun, FrontsRunSo, label_of, event_label}
 use Rattle.machine.specs.Views.{IsWellFormed}
 use Rattle.machine.proofs.Stepping.{opens_so, steps_so}
@@ -25,7 +25,7 @@ run_of p k k' [] concrete same = record {
 run_of p k k' (s ∷ steps) concrete runs =
     let r = steps_so p k runs.0 s.thread s.event concrete runs.1 in
     let rest = run_of p runs.0 k' steps r.3 runs.2 in record {
-      run = record { thread = s.thread; woken = r.0; pauses = is_paused (state_of runs.0) s.thread } ∷ rest.run;
+      run = record { thread = s.thread; woken = r.0; pauses = is_paused (state_of runs.0) s.thread; doing = Own } ∷ rest.run;
       goes = (state_of runs.0, r.2, rest.goes);
       same = λ i. record { thread = s.thread; woken = sym r.1 i } ∷ rest.same i;
       concrete = rest.concrete;

@@ -15,4 +15,5 @@ pub mod Steps
 pub mod Members
 pub mod Printed
 pub mod Whole
+pub mod Outside
 pub mod FrontRuns

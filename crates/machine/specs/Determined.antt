@@ -1,5 +1,5 @@
 -- The machine's own steps are steps of the relation.
-use Rattle.std.specs.Prelude.{ℕ, ◌≡◌, ◌≤◌, ◌↔◌, List, true, Ok, Err}
+use Rattle.std.specs.Prelude.{ℕ, ◌≡◌, ◌≤◌, ◌↔◌, List, [], ◌∷◌, true, false, None, Ok, Err}
 use Rattle.words.specs.Limits.{most_threads}
 use Rattle.words.specs.Versions.{most_of}
 use Rattle.isa.specs.Programs.{Program}
@@ -7,8 +7,9 @@ use Rattle.machine.specs.declared.event.Event.{Event}
 use Rattle.machine.specs.declared.event.StepFault.TheVariants.{CannotMove, Broken}
 use Rattle.machine.specs.ThreadSets.{set_of}
 use Rattle.machine.specs.States.{ConcreteState, opening_concrete, opening_state, state_of}
-use Rattle.machine.specs.Runs.{IsStep, CanStep, NextIsBroken, is_paused}
+use Rattle.machine.specs.Runs.{Own, Strayed, IsStep, CanStep, NextIsBroken, is_paused}
 use Rattle.machine.specs.ConcreteSteps.{step_of, can_move}
+use Rattle.machine.specs.ConcreteOutside.{stray_of}
 use Rattle.machine.specs.Views.{IsWellFormed}
 
 -- the concrete state at the start stands for the opening state, and where a machine can run all threads that there can be,
@@ -22,7 +23,8 @@ abbrev pub StepsSo : Type 0
 StepsSo =
     (p : Program) (k k' : ConcreteState) (t : ℕ) (e : Event) → IsWellFormed p k → step_of p k t ≡ Ok (k', e)
     → (woken : List ℕ) × (e.woken ≡ set_of woken)
-    × IsStep p (state_of k) (record { thread = t; woken = woken; pauses = is_paused (state_of k') t }) (state_of k')
+    × IsStep p (state_of k)
+    (record { thread = t; woken = woken; pauses = is_paused (state_of k') t; doing = Own }) (state_of k')
     × IsWellFormed p k'
 
 -- a step is Broken exactly where the thread's next step may not be
@@ -38,3 +40,14 @@ RefusesSo = (p : Program) (k : ConcreteState) (t : ℕ)
 -- a thread can move exactly where it can step
 abbrev pub MovesSo : Type 0
 MovesSo = (k : ConcreteState) (t : ℕ) → (can_move k t ≡ true) ↔ CanStep (state_of k) t
+
+-- a wake from outside is one of the relation, of a thread that slept at the address that the event tells
+abbrev pub StraysSo : Type 0
+StraysSo = (p : Program) (k k' : ConcreteState) (t : ℕ) (e : Event) → IsWellFormed p k → stray_of k t ≡ Ok (k', e)
+    → (e.woken ≡ set_of (t ∷ []))
+    × IsStep p (state_of k) (record { thread = t; woken = t ∷ []; pauses = false; doing = Strayed e.value })
+    (state_of k') × IsWellFormed p k'
+
+-- it is refused exactly where the thread doesn't sleep
+abbrev pub StrayRefusedSo : Type 0
+StrayRefusedSo = (k : ConcreteState) (t : ℕ) → (stray_of k t ≡ Err CannotMove) ↔ ((state_of k).asleep t ≡ None)

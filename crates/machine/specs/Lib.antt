@@ -5,6 +5,7 @@ pub mod Runs
 pub mod ConcreteServing
 pub mod ConcreteExits
 pub mod ConcreteSteps
+pub mod ConcreteOutside
 pub mod FrontRuns
 pub mod RequestMeanings
 pub mod Views

@@ -6,14 +6,27 @@ use Rattle.robustexit.specs.declared.phase.ExitPhase.TheVariants.{Ended}
 use Rattle.robustexit.specs.RobustExit.{Shared, ExitStep}
 use Rattle.locals.specs.Threads.{Thread, Runs, Dies, Exits}
 use Rattle.locals.specs.Looks.{Look, Goes, Asks, Leaves, Breaks, Rests, look}
-use Rattle.machine.specs.States.{State, opening_state, with_thread}
+use Rattle.words.specs.Updates.{put}
+use Rattle.machine.specs.States.{State, opening_state, with_thread, with_sleepers}
 use Rattle.machine.specs.AbstractServing.{Serves, IsUnserved, shared_of, with_shared}
 
--- a step, by its thread and the sleepers that it woke; and whether the thread then sleeps or has ended
+-- what a step is: one that its thread takes, or a wake from outside that nobody called for, of a thread that slept at
+-- this address
+pub data Doing : Type 0 where
+  Own : Doing
+  Strayed : (address : ℕ) → Doing
+
+-- whether a step is one of its thread's own
+abbrev pub is_own : Doing → Bool
+is_own Own = true
+is_own (Strayed a) = false
+
+-- a step, by its thread and the sleepers that it woke; whether the thread then sleeps or has ended; and what it is
 pub record Step : Type 0 where
   pub thread : ℕ
   pub woken : List ℕ
   pub pauses : Bool
+  pub doing : Doing
 
 -- whether a thread's exit is over
 abbrev pub has_ended : Option Thread → Bool
@@ -39,12 +52,28 @@ Moves s t woken Breaks s' = ⊥
 Moves s t woken Rests s' = ⊥
 
 -- one step of a thread that was made and doesn't sleep
-pub record IsStep (p : Program) (s : State) (step : Step) (s' : State) : Type 0 where
+pub record IsOwnStep (p : Program) (s : State) (step : Step) (s' : State) : Type 0 where
   pub thread : Thread
   pub stands : s.thread step.thread ≡ Some thread
   pub awake : s.asleep step.thread ≡ None
   pub moves : Moves s step.thread step.woken (look p step.thread thread) s'
   pub pauses : step.pauses ≡ is_paused s' step.thread
+
+-- a wake from outside of a thread that sleeps
+pub record IsStrayStep (a : ℕ) (s : State) (step : Step) (s' : State) : Type 0 where
+  pub sleeps : s.asleep step.thread ≡ Some a
+  pub woken : step.woken ≡ step.thread ∷ []
+  pub after : s' ≡ with_sleepers s (put s.asleep step.thread None)
+  pub pauses : step.pauses ≡ false
+
+-- a step, by what it is
+abbrev pub IsDone : Program → State → Step → State → Doing → Type 0
+IsDone p s step s' Own = IsOwnStep p s step s'
+IsDone p s step s' (Strayed a) = IsStrayStep a s step s'
+
+-- one step of the machine
+abbrev pub IsStep : Program → State → Step → State → Type 0
+IsStep p s step s' = IsDone p s step s' step.doing
 
 -- steps from a state to another, one after another
 abbrev pub GoesBy : Program → State → List Step → State → Type 0

@@ -110,6 +110,7 @@ printed_by_name name.Entry = 0
 printed_by_name name.Pending = 0
 printed_by_name name.Clear = 0
 printed_by_name name.Last = 0
+printed_by_name name.Stray = 0
 
 -- how many numbers an event printed
 abbrev pub printed_by : Event → ℕ

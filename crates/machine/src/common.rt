@@ -4,7 +4,8 @@ ghost use Rattle.words.specs.Limits.{most_threads};
 ghost use Rattle.isa.specs.Programs.{memory_size};
 ghost use Rattle.buckets.specs.BucketCount.{IsBucketCount};
 ghost use Rattle.buckets.specs.Sleepers.{queue, place_of};
-ghost use Rattle.machine.specs.Views.{address_of};
+ghost use Rattle.machine.specs.Views.{address_of, common};
+ghost use Rattle.machine.specs.ConcreteOutside.{drop_sleeper};
 
 use crate::parts::opening_words;
 use buckets::Buckets;
@@ -94,6 +95,15 @@ impl Common {
         ensures { address_of result ≡ place_of self.now.sleepers t }
     {
         self.buckets.asleep(t)
+    }
+
+    /// Takes thread `t` out of its list, if it sleeps: it is awake then.
+    pub fn drop_sleeper(&mut self, t: u32)
+        requires { t ≤ most_processes }
+        ensures dropped { common self.new ≡ drop_sleeper (common self.old) t }
+        ensures capacity { self.new.capacity ≡ self.old.capacity }
+    {
+        self.buckets.drop_out(t)
     }
 
     /// The numbers that were printed.

@@ -47,6 +47,8 @@ pub enum EventName {
     Clear,
     /// The step of an exit that wakes one sleeper on the id word: how many were woken.
     Last,
+    /// A wake from outside, which nobody called for: the address at which the thread slept.
+    Stray,
 }
 
 /// What one step of a thread did that others can see.

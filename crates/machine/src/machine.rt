@@ -9,12 +9,13 @@ ghost use Rattle.locals.specs.Steps.{local_step};
 ghost use Rattle.machine.specs.States.{thread_of, state_of, opening_concrete};
 ghost use Rattle.machine.specs.Runs.{has_ended};
 ghost use Rattle.machine.specs.ConcreteSteps.{step_of, can_move, fault_at};
+ghost use Rattle.machine.specs.ConcreteOutside.{stray_of};
 ghost use Rattle.machine.specs.LocalRuns.{RunsOn};
 ghost use Rattle.machine.specs.Views.{concrete, AllEnded, IsQuiet, variable_address, address_of, printed_by};
 ghost use Rattle.machine.specs.Views.{IsWellFormed};
 
 use crate::common::Common;
-use crate::event::{Event, StepFault};
+use crate::event::{Event, EventName, StepFault};
 use crate::parts::{opening_threads, step_parts, variable};
 use isa::Image;
 use locals::Local;
@@ -261,5 +262,24 @@ impl Machine {
             threads,
         } = self;
         step_parts(image, common, threads, t)
+    }
+
+    /// Wakes thread `t` though nobody called for it, as the kernel may (futex(2): "spurious wake-up"). It is a step that
+    /// no thread takes.
+    ///
+    /// Refuses with `CannotMove` where there is no such thread or it doesn't sleep; then nothing has changed.
+    pub fn stray(&mut self, t: u32) -> Result<Event, StepFault>
+        ensures done { IfOk result (λ e. stray_of (concrete self.old) t ≡ Ok (concrete self.new, e)) }
+        ensures room { IfOk result (λ e. self.new.room ≡ self.old.room) }
+        ensures err { IfErr result (λ f. (stray_of (concrete self.old) t ≡ Err f)
+            × (self.new ≡ self.old)) }
+        ensures program { self.new.program ≡ self.old.program }
+        ensures holds { IsWellFormed self.new.program (concrete self.new) }
+    {
+        let Some(place) = self.asleep(t) else {
+            return Err(StepFault::CannotMove);
+        };
+        self.common.drop_sleeper(t);
+        Ok(Event::with_threads(EventName::Stray, place.0, &[t], &[]))
     }
 }

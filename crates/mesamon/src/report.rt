@@ -178,6 +178,7 @@ fn name_of(name: EventName) -> &'static str
         EventName::Pending => "PENDING",
         EventName::Clear => "CLEAR",
         EventName::Last => "LAST",
+        EventName::Stray => "STRAY",
     }
 }
 

@@ -7,10 +7,14 @@ use Rattle.std.proofs.lemmas.Bool.{cases_eq, eq-eqb, ne_eqb}
 use Rattle.words.specs.Updates.{put}
 use Rattle.locals.specs.Looks.{look}
 use Rattle.machine.specs.States.{State}
-use Rattle.machine.specs.Runs.{Step, GoesBy}
+use Rattle.machine.specs.Runs.{Doing, Own, Strayed, Step, IsDone, GoesBy}
+use Rattle.program.specs.declared.kinds.Member.{Member}
+use Rattle.proof_thread.specs.Completing.{IsOwn}
+use Rattle.refinement.specs.Outside.{is_condition_word}
+use Rattle.proof_simulation.specs.Strays.{stray_kinds}
 use Rattle.program.specs.Trees.{Program}
 use Rattle.lowering.specs.Pieces.{code_of, marks_of}
-use Rattle.meaning.specs.Labels.{Kind, Action, kind_of}
+use Rattle.meaning.specs.Labels.{Kind, Stray, Action, kind_of}
 use Rattle.meaning.specs.States.{SourceState}
 use Rattle.proof_thread.specs.Deferrals.{mark_of, deferred_by_step}
 use Rattle.protocol.proofs.Sleeps.{put_same, put_other}
@@ -18,8 +22,8 @@ use Rattle.refinement.specs.Pace.{is_action_of}
 use Rattle.proof_simulation.specs.Progress.{answer_in, visible_step}
 use Rattle.proof_simulation.specs.Ordering.{Places, act}
 use Rattle.proof_simulation.specs.Ordering as P
-use Rattle.proof_simulation.specs.Deferred.{Stage, Agrees, is_failing, has_failed, deferred_then}
-use Rattle.proof_simulation.proofs.Paces.{count_by-cons}
+use Rattle.proof_simulation.specs.Deferred.{AreOwn, Stage, Agrees, is_failing, has_failed, deferred_then}
+use Rattle.proof_simulation.proofs.Paces.{count_by-cons, own_action}
 use Rattle.proof_simulation.proofs.Tracking.{stays_agreed, and_false, failed_first, more_deferred}
 
 abbrev pub count : ℕ → List Action → ℕ
@@ -39,16 +43,29 @@ abbrev pub behind : Bool → Option Kind → List Kind → List Kind
 behind true deferral ks = []
 behind false deferral ks = deferred_then deferral ks
 
+-- how many actions of its process a step takes, and what waits behind it
+abbrev pub done_count : (p : Program) → (s s' : State) → (l : Step) → (d : Doing) → IsDone (code_of p) s l s' d
+    → List Kind → ℕ
+done_count p s s' l Own st ks =
+    let looks = look (code_of p) l.thread st.thread in
+    let answer = answer_in s s' l.thread l.woken looks st.moves in
+    step_count (visible_step p looks answer) (deferred_by_step (mark_of (marks_of p) st.thread) looks answer) ks
+done_count p s s' l (Strayed a) st ks = 0
+
+abbrev pub done_behind : (p : Program) → (s s' : State) → (l : Step) → (d : Doing) → IsDone (code_of p) s l s' d
+    → List Kind → List Kind
+done_behind p s s' l Own st ks =
+    let looks = look (code_of p) l.thread st.thread in
+    let answer = answer_in s s' l.thread l.woken looks st.moves in
+    behind (visible_step p looks answer) (deferred_by_step (mark_of (marks_of p) st.thread) looks answer) ks
+done_behind p s s' l (Strayed a) st ks = if is_condition_word p a then [] else ks
+
 abbrev pub counts : (p : Program) → (ℕ → List Kind) → (steps : List Step) → (s s' : State)
     → GoesBy (code_of p) s steps s' → ℕ → ℕ
 counts p deferred [] s s' run t = 0
 counts p deferred (l ∷ ls) s s' run t =
-    let looks = look (code_of p) l.thread run.1.thread in
-    let answer = answer_in s run.0 l.thread l.woken looks run.1.moves in
-    let deferral = deferred_by_step (mark_of (marks_of p) run.1.thread) looks answer in
-    let done = visible_step p looks answer in
-    of_one l.thread t (step_count done deferral (deferred l.thread))
-    + counts p (put deferred l.thread (behind done deferral (deferred l.thread))) ls run.0 s' run.2 t
+    of_one l.thread t (done_count p s run.0 l l.doing run.1 (deferred l.thread))
+    + counts p (put deferred l.thread (done_behind p s run.0 l l.doing run.1 (deferred l.thread))) ls run.0 s' run.2 t
 
 abbrev none : Bool → ℕ
 none b = if b then 0 else 0
@@ -57,18 +74,29 @@ of_zero : (b : Bool) → none b ≡ 0
 of_zero true = refl
 of_zero false = refl
 
+pub of_none : (u t : ℕ) → of_one u t 0 ≡ 0
+of_none u t = of_zero (u == t)
+
 of_more : (b : Bool) (n : ℕ) → cond b 1 0 + (if b then n else 0) ≡ (if b then suc n else 0)
 of_more true n = omega arith
 of_more false n = refl
 
-pub count_map : (u t : ℕ) (ks : List Kind) → count t (map (act u) ks) ≡ of_one u t (length ks)
-count_map u t [] = sym (of_zero (u == t))
-count_map u t (k ∷ ks) = count_by-cons (is_action_of t) (act u k) (map (act u) ks)
-    ∙ ap (λ n. cond (u == t) 1 0 + n) (count_map u t ks) ∙ of_more (u == t) (length ks)
+pub count_map : (u t : ℕ) (ks : List Kind) → AreOwn ks → count t (map (act u) ks) ≡ of_one u t (length ks)
+count_map u t [] own = sym (of_zero (u == t))
+count_map u t (k ∷ ks) own = count_by-cons (is_action_of t) (act u k) (map (act u) ks)
+    ∙ ap (λ b. cond b 1 0 + count t (map (act u) ks)) (own_action u t k own.0)
+    ∙ ap (λ n. cond (u == t) 1 0 + n) (count_map u t ks own.1) ∙ of_more (u == t) (length ks)
 
-pub count_one : (u t : ℕ) (k : Kind) (actions : List Action)
+-- an action from outside counts for nobody
+pub count_stray : (u t : ℕ) (o : Option Member) → count t (map (act u) (stray_kinds o)) ≡ 0
+count_stray u t None = refl
+count_stray u t (Some c) = count_by-cons (is_action_of t) (act u (Stray c)) []
+    ∙ ap (λ b. cond b 1 0 + count t []) (and_false (u == t))
+
+pub count_one : (u t : ℕ) (k : Kind) (actions : List Action) → IsOwn k
     → count t (act u k ∷ actions) ≡ of_one u t 1 + count t actions
-count_one u t k actions = count_by-cons (is_action_of t) (act u k) actions ∙ by_test (u == t)
+count_one u t k actions own = count_by-cons (is_action_of t) (act u k) actions
+    ∙ ap (λ b. cond b 1 0 + count t actions) (own_action u t k own) ∙ by_test (u == t)
   where
     by_test : (b : Bool) → cond b 1 0 + count t actions ≡ (if b then 1 else 0) + count t actions
     by_test true = refl

@@ -1,11 +1,11 @@
 -- The run that explains, by the machine's steps, is one.
-use Rattle.std.proofs.Common.{◌≡◌, ℕ, suc, ◌+◌, ◌<◌, Bool, true, false, List, [], ◌∷◌, length, refl, ap, Option}
+use Rattle.std.proofs.Common.{◌≡◌, ℕ, suc, ◌+◌, ◌<◌, Bool, true, false, List, [], ◌∷◌, length, refl, ap, Option, Some, None, append-nil, append_assoc}
 use Rattle.std.proofs.Common.{sym, ◌∙◌, subst, arith}
-use Rattle.std.specs.Prelude.{◌^◌, ◌++◌}
+use Rattle.std.specs.Prelude.{◌^◌, ◌++◌, is_some, if◌then◌else◌}
 use Rattle.words.specs.Updates.{put}
 use Rattle.locals.specs.Looks.{look, Look}
-use Rattle.machine.specs.States.{State, opening_state}
-use Rattle.machine.specs.Runs.{Step, GoesBy, MachineRun, IsStep}
+use Rattle.machine.specs.States.{State, opening_state, with_sleepers}
+use Rattle.machine.specs.Runs.{Doing, Own, Strayed, Step, GoesBy, MachineRun, IsStep, IsOwnStep, IsStrayStep, IsDone}
 use Rattle.program.specs.Trees.{Program}
 use Rattle.program.specs.WellFormed.{WellFormed}
 use Rattle.lowering.specs.Pieces.{code_of, marks_of}
@@ -21,30 +21,37 @@ use Rattle.proof_simulation.specs.Next.{after_next, next_kinds, next_visible, of
 use Rattle.proof_simulation.specs.Next.{internal_next}
 use Rattle.proof_simulation.specs.Ordering.{act}
 use Rattle.proof_simulation.specs.Progress.{answer_in, visible_step, Progress, progress, progress_by, progress_step}
-use Rattle.proof_simulation.specs.Progress.{progress_taken}
+use Rattle.proof_simulation.specs.Progress.{progress_taken, progress_own, progress_done, progress_stray}
+use Rattle.program.specs.declared.kinds.Member.{Member}
+use Rattle.meaning.specs.Table.{Table}
+use Rattle.proof_thread.specs.Completing.{IsOwn}
+use Rattle.refinement.specs.Outside.{is_condition_word, stray_threads}
+use Rattle.proof_simulation.specs.Strays.{stray_condition, stray_kinds, after_stray}
+use Rattle.proof_simulation.proofs.Strays.{strayed}
 use Rattle.proof_simulation.specs.Progress.{opening_progress}
-use Rattle.proof_simulation.specs.Tracking.{CanTake, Tracks, HasDeferred}
+use Rattle.proof_simulation.specs.Tracking.{CanTake, Tracks, TracksStray, HasDeferred}
 use Rattle.proof_simulation.specs.Deferred.{deferred_then, Stage, Agrees, AreOwn}
 use Rattle.proof_simulation.proofs.Completions.{steps_so}
 use Rattle.proof_simulation.proofs.Nexts.{catches_up_behind, visible_is, visible_so}
-use Rattle.proof_simulation.proofs.Finishing.{finishes, finishes_counted, finishes_own, own_of, own_both}
+use Rattle.proof_simulation.proofs.Finishing.{finishes, finishes_counted, finishes_own}
 use Rattle.proof_simulation.proofs.Local.{put_again}
 use Rattle.proof_simulation.proofs.Sourcing.{action}
-use Rattle.proof_simulation.proofs.Tracking.{opens_deferred, tracks_deferred, catches_up_deferred}
+use Rattle.proof_simulation.proofs.Tracking.{tracks_stray, opens_deferred, tracks_deferred, catches_up_deferred}
 use Rattle.proof_simulation.proofs.Tracking.{takes_visible_deferred, takes_visible_own}
-use Rattle.proof_simulation.proofs.Whole.{AllOwn, leads_on, come, most, few, own_kinds, none_from_outside}
+use Rattle.proof_simulation.proofs.Whole.{AllOwn, leads_on, come, most, few, own_kinds, own_none, none_from_outside}
+use Rattle.proof_simulation.proofs.Whole.{processes_append, threads_append, strays_of, one_stray, stray_told}
 use Rattle.proof_simulation.proofs.Worlds.{put_put}
 use Rattle.proof_simulation.proofs.Observing.{ends, sound}
 use Rattle.proof_simulation.proofs.Resting.{at_rest, sleepers}
 use Rattle.proof_simulation.proofs.Paces.{count_by-append, keeps_pace}
-use Rattle.proof_simulation.proofs.Counting.{count, counts, count_map, count_one, of_one, step_count, behind}
-use Rattle.proof_simulation.proofs.Counting.{length_waits}
+use Rattle.proof_simulation.proofs.Counting.{count, counts, count_map, count_one, count_stray, of_none, done_count}
+use Rattle.proof_simulation.proofs.Counting.{done_behind, of_one, step_count, behind, length_waits}
 use Rattle.proof_simulation.proofs.Counting.{length_taken}
 use Rattle.proof_simulation.proofs.Opening.{opens, opens_calm}
 use Rattle.proof_simulation.proofs.Bounds.{left_short}
 use Rattle.proof_simulation.proofs.Moving.{left_of}
 use Rattle.refinement.specs.Pace.{is_action_of, stretch_length}
-use Rattle.refinement.specs.Refines.{Explained, is_stray_kind, is_kill_kind}
+use Rattle.refinement.specs.Refines.{Explained, processes_of, is_stray_kind, is_kill_kind}
 
 -- a run of the machine goes on by a step
 pub goes_on_by : (p : Program) (g : Progress) (ls : List Step) (s mid : State) (run : GoesBy (code_of p) s ls mid)
@@ -73,18 +80,17 @@ module _ (p : Program) (w : WellFormed p) where
         (more.1.0, more.1.1 ∙ ap (λ (f : ℕ → List Kind). put f t []) next.1 ∙ put_put o.deferred t ks []),
       )
 
-  -- the source behind some steps: also, all its actions are of processes' own
-  pub record Reaches (taken : ℕ) (s : State) (g : Progress) : Type 0 where
-    pub is : IsReached p w taken s g
-    pub own : AllOwn g.actions
-
   -- as many actions of each process more, taken or waiting
+  abbrev pub SameOutside : Progress → Progress → Type 0
+  SameOutside g g' = (test : Kind → Bool) → ((k : Kind) → IsOwn k → test k ≡ false)
+      → processes_of test g'.actions ≡ processes_of test g.actions
+
   abbrev pub Adds : Progress → Progress → (ℕ → ℕ) → Type 0
   Adds g g' more = (t : ℕ) → count t g'.actions + length (g'.deferred t)
       ≡ count t g.actions + length (g.deferred t) + more t
 
   module _ (taken : ℕ) (s : State) (g : Progress) (r : IsReached p w taken s g) (l : Step) (s' : State)
-      (st : IsStep (code_of p) s l s') (short : taken + 1 < 2 ^ 32) where
+      (st : IsOwnStep (code_of p) s l s') (short : taken + 1 < 2 ^ 32) where
     abbrev t : ℕ
     t = l.thread
 
@@ -128,7 +134,7 @@ module _ (p : Program) (w : WellFormed p) where
 
     by_visible : (b : Bool) → visible_step p looks answer ≡ b
         → IsReached p w (suc taken) s' (progress_step p b deferral s' t g)
-        × (AllOwn g.actions → AllOwn (progress_step p b deferral s' t g).actions)
+        × SameOutside g (progress_step p b deferral s' t g)
         × Adds g (progress_step p b deferral s' t g) (λ u. of_one t u (step_count b deferral (g.deferred t)))
     by_visible false e =
         let n = on.0 e in (
@@ -137,11 +143,12 @@ module _ (p : Program) (w : WellFormed p) where
             tracks = n.0;
             waits = n.1 ∙ ap (λ (f : ℕ → List Kind). put f t (deferred_then deferral (f t))) r.waits;
           },
-          λ h. h,
+          λ test none. refl,
           λ u. let long = length_waits g.deferred t u deferral in omega (arith, long),
         )
     by_visible true e =
         let ks = g.deferred t in
+        let own : AreOwn ks = subst (λ (f : ℕ → List Kind). AreOwn (f t)) r.waits (r.tracks.own t) in
         let o = owes e in
         let paying = pay_all (suc taken) s' t ks g.source o.0 in
         let a = take_deferred p t ks g.source in
@@ -166,24 +173,29 @@ module _ (p : Program) (w : WellFormed p) where
             tracks = next.0;
             waits = next.1 ∙ paying.1.1 ∙ ap (λ (f : ℕ → List Kind). put f t []) o.1;
           },
-          λ h. own_both (g.actions ++ actions_of t ks) (actions_of t (next_kinds (next_visible p s' t a)))
-              (own_both g.actions (actions_of t ks) h (own_of t ks
-              (subst (λ (f : ℕ → List Kind). AreOwn (f t)) r.waits (r.tracks.own t))))
-              (subst (λ (l : List Action). AllOwn l) (sym name)
-              (takes_visible_own p w (suc taken) s' t a paying.1.0, tt)),
+          λ test none. processes_append test (g.actions ++ actions_of t ks) (actions_of t (next_kinds
+              (next_visible p s' t a)))
+              ∙ ap (λ (i : List ℕ). processes_of test (g.actions ++ actions_of t ks) ++ i)
+              (ap (processes_of test) name ∙ own_none test none t (kind ∷ []) (
+                takes_visible_own p w (suc taken) s' t a
+                    paying.1.0,
+                tt,
+              )) ∙ append-nil _
+              ∙ processes_append test g.actions (actions_of t ks)
+              ∙ ap (λ (i : List ℕ). processes_of test g.actions ++ i) (own_none test none t ks own) ∙ append-nil _,
           λ u.
               let all = count_by-append (is_action_of u) (g.actions ++ actions_of t ks)
               (actions_of t (next_kinds (next_visible p s' t a))) in
               let both = count_by-append (is_action_of u) g.actions (actions_of t ks) in
-              let first = count_map t u ks in
-              let one = ap (count u) name ∙ count_one t u kind [] in
+              let first = count_map t u ks own in
+              let one = ap (count u) name ∙ count_one t u kind [] (takes_visible_own p w (suc taken) s' t a paying.1.0) in
               let none = length_taken g.deferred t u in
               omega (arith, all, both, first, one, none),
         )
 
-    step_so : IsReached p w (suc taken) s' (progress_taken p s s' l st g)
-        × (AllOwn g.actions → AllOwn (progress_taken p s s' l st g).actions)
-        × Adds g (progress_taken p s s' l st g)
+    step_so : IsReached p w (suc taken) s' (progress_own p s s' l st g)
+        × SameOutside g (progress_own p s s' l st g)
+        × Adds g (progress_own p s s' l st g)
         (λ u. of_one t u (step_count (visible_step p looks answer) deferral (g.deferred t)))
     step_so = by_visible (visible_step p looks answer) refl
 
@@ -192,62 +204,172 @@ module _ (p : Program) (w : WellFormed p) where
   deferred_behind true k s u g = refl
   deferred_behind false k s u g = refl
 
-  pub reaches_by : (steps : List Step) (taken : ℕ) (s s' : State) (g : Progress) → Reaches taken s g
+  -- what belongs to the source behind one step
+  pub record Reaches (taken : ℕ) (s : State) (g : Progress) (l : Step) (s' : State) (d : Doing)
+      (st : IsDone (code_of p) s l s' d) : Type 0 where
+    pub is : IsReached p w (suc taken) s' (progress_done p s s' l d st g)
+    pub strays : processes_of is_stray_kind (progress_done p s s' l d st g).actions
+        ≡ processes_of is_stray_kind g.actions ++ strays_of p l d
+    pub kills : processes_of is_kill_kind (progress_done p s s' l d st g).actions ≡ processes_of is_kill_kind g.actions
+    pub adds : Adds g (progress_done p s s' l d st g)
+        (λ u. of_one l.thread u (done_count p s s' l d st (g.deferred l.thread)))
+    pub waits : (progress_done p s s' l d st g).deferred
+        ≡ put g.deferred l.thread (done_behind p s s' l d st (g.deferred l.thread))
+
+  -- a wake from outside
+  module _ (taken : ℕ) (s : State) (g : Progress) (r : IsReached p w taken s g) (l : Step) (s' : State) (a : ℕ)
+      (st : IsStrayStep a s l s') where
+    abbrev woken : State
+    woken = with_sleepers s (put s.asleep l.thread None)
+
+    -- with the condition that the process waits on no longer, if it has one
+    abbrev Strays : Option Member → Type 0
+    Strays o = IsReached p w (suc taken) woken (progress_stray p o l.thread g)
+        × (processes_of is_stray_kind (progress_stray p o l.thread g).actions
+        ≡ processes_of is_stray_kind g.actions ++ strays_of p l (Strayed a))
+        × (processes_of is_kill_kind (progress_stray p o l.thread g).actions ≡ processes_of is_kill_kind g.actions)
+        × Adds g (progress_stray p o l.thread g) (λ u. of_one l.thread u 0)
+        × ((progress_stray p o l.thread g).deferred
+        ≡ put g.deferred l.thread (if is_condition_word p a then [] else g.deferred l.thread))
+
+    by_tracks : (o : Option Member) → is_condition_word p a ≡ is_some o
+        → TracksStray p w taken s l.thread g.source g.deferred o → Strays o
+    by_tracks None e n = (
+      record { run = r.run; tracks = n.0; waits = n.1 },
+      sym (append-nil (processes_of is_stray_kind g.actions))
+          ∙ ap (λ (i : List ℕ). processes_of is_stray_kind g.actions ++ i)
+          (sym (ap (λ b. if b then l.thread ∷ [] else []) e)),
+      refl,
+      λ u. let none = of_none l.thread u in omega (arith, none),
+      put_again g.deferred l.thread (g.deferred l.thread) refl
+          ∙ ap (λ b. put g.deferred l.thread (if b then [] else g.deferred l.thread)) (sym e),
+    )
+    by_tracks (Some c) e n =
+        let t = l.thread in
+        let ks = g.deferred t in
+        let own : AreOwn ks = subst (λ (f : ℕ → List Kind). AreOwn (f t)) r.waits (r.tracks.own t) in
+        let a' = take_deferred p t ks g.source in
+        let caught_up_run : IsRun p (g.actions ++ actions_of t ks) a' =
+        leads_on p (opening p) g.source a' g.actions (actions_of t ks) r.run n.0 in
+        let all : (test : Kind → Bool) → ((k : Kind) → IsOwn k → test k ≡ false)
+        → processes_of test ((g.actions ++ actions_of t ks) ++ actions_of t (stray_kinds (Some c)))
+        ≡ processes_of test g.actions ++ processes_of test (actions_of t (stray_kinds (Some c))) =
+        λ test none. processes_append test (g.actions ++ actions_of t ks) (actions_of t (stray_kinds (Some c)))
+        ∙ ap (λ (i : List ℕ). i ++ processes_of test (actions_of t (stray_kinds (Some c))))
+        (processes_append test g.actions (actions_of t ks)
+        ∙ ap (λ (i : List ℕ). processes_of test g.actions ++ i) (own_none test none t ks own) ∙ append-nil _) in (
+          record {
+            run = leads_on p (opening p) a' (after_stray t (Some c) a') (g.actions ++ actions_of t ks)
+                (actions_of t (stray_kinds (Some c))) caught_up_run (after_stray t (Some c) a', n.1, refl);
+            tracks = n.2;
+            waits = n.3;
+          },
+          all is_stray_kind (λ i h. (own_kinds i h).0)
+              ∙ ap (λ (i : List ℕ). processes_of is_stray_kind g.actions ++ i) (stray_told p t a (Some c) l refl e),
+          all is_kill_kind (λ i h. (own_kinds i h).1) ∙ append-nil _,
+          λ u.
+              let whole = count_by-append (is_action_of u) (g.actions ++ actions_of t ks)
+              (actions_of t (stray_kinds (Some c))) in
+              let both = count_by-append (is_action_of u) g.actions (actions_of t ks) in
+              let first = count_map t u ks own in
+              let last = count_stray t u (Some c) in
+              let none = length_taken g.deferred t u in
+              let zero = of_none t u in
+              omega (arith, whole, both, first, last, none, zero),
+          ap (λ b. put g.deferred t (if b then [] else g.deferred t)) (sym e),
+        )
+
+    strays_so : Reaches taken s g l s' (Strayed a) st
+    strays_so =
+        let o = stray_condition p a (g.source.table.waits l.thread) in
+        let n = tracks_stray p w taken s g.source r.tracks l.thread a st.sleeps in
+        let m = subst (λ (f : ℕ → List Kind). TracksStray p w taken s l.thread g.source f o) r.waits n in
+        let ahead = r.tracks.ahead in
+        let word = (strayed p w taken s ahead r.tracks.ties l.thread a st.sleeps).word in
+        let here : is_condition_word p a ≡ is_some o = word
+        ∙ ap (λ (T : Table). is_some (stray_condition p a (T.waits l.thread))) (sym r.tracks.behind.table) in
+        let x = by_tracks o here m in
+        subst (λ (y : State). (i : IsStrayStep a s l y) → Reaches taken s g l y (Strayed a) i) (sym st.after)
+        (λ i. record { is = x.0; strays = x.1; kills = x.2; adds = x.3; waits = x.4 }) st
+
+  reaches : (taken : ℕ) (s : State) (g : Progress) → IsReached p w taken s g → (l : Step) (s' : State) (d : Doing)
+      (st : IsDone (code_of p) s l s' d) → taken + 1 < 2 ^ 32 → Reaches taken s g l s' d st
+  reaches taken s g r l s' Own st short =
+      let x = step_so taken s g r l s' st short in
+      let looks = look (code_of p) l.thread st.thread in
+      let answer = answer_in s s' l.thread l.woken looks st.moves in
+      record {
+        is = x.0;
+        strays = x.1 is_stray_kind (λ i h. (own_kinds i h).0) ∙ sym (append-nil _);
+        kills = x.1 is_kill_kind (λ i h. (own_kinds i h).1);
+        adds = x.2;
+        waits = deferred_behind (visible_step p looks answer) (deferred_by_step (mark_of (marks_of p) st.thread) looks answer) s'
+            l.thread g;
+      }
+  reaches taken s g r l s' (Strayed a) st short = strays_so taken s g r l s' a st
+
+  pub reaches_by : (steps : List Step) (taken : ℕ) (s s' : State) (g : Progress) → IsReached p w taken s g
       → (run : GoesBy (code_of p) s steps s') → taken + length steps < 2 ^ 32
-      → Reaches (taken + length steps) s' (progress_by p g steps s s' run)
+      → IsReached p w (taken + length steps) s' (progress_by p g steps s s' run)
+      × (processes_of is_stray_kind (progress_by p g steps s s' run).actions
+      ≡ processes_of is_stray_kind g.actions ++ stray_threads p steps)
+      × (processes_of is_kill_kind (progress_by p g steps s s' run).actions ≡ processes_of is_kill_kind g.actions)
       × Adds g (progress_by p g steps s s' run) (λ t. counts p g.deferred steps s s' run t)
   reaches_by [] taken s s' g r run short =
       let same : taken ≡ taken + 0 = omega arith in (
-        subst (λ n. Reaches n s' g) same (subst (λ (x : State). Reaches taken x g) run r),
+        subst (λ n. IsReached p w n s' g) same (subst (λ (x : State). IsReached p w taken x g) run r),
+        sym (append-nil (processes_of is_stray_kind g.actions)),
+        refl,
         λ t. omega arith,
       )
   reaches_by (l ∷ ls) taken s s' g r run short =
-      let looks = look (code_of p) l.thread run.1.thread in
-      let answer = answer_in s run.0 l.thread l.woken looks run.1.moves in
-      let deferral = deferred_by_step (mark_of (marks_of p) run.1.thread) looks answer in
-      let visible = visible_step p looks answer in
-      let first = step_so taken s g r.is l run.0 run.1 (omega (arith, short)) in
+      let first = reaches taken s g r l run.0 l.doing run.1 (omega (arith, short)) in
       let there = progress_taken p s run.0 l run.1 g in
-      let more = reaches_by ls (suc taken) run.0 s' there
-      (record { is = first.0; own = first.1 r.own }) run.2 (omega (arith, short)) in
+      let more = reaches_by ls (suc taken) run.0 s' there first.is run.2 (omega (arith, short)) in
       let total : suc taken + length ls ≡ taken + suc (length ls) = omega arith in (
-        subst (λ n. Reaches n s' (progress_by p there ls run.0 s' run.2)) total more.0,
+        subst (λ n. IsReached p w n s' (progress_by p there ls run.0 s' run.2)) total more.0,
+        more.1 ∙ ap (λ (i : List ℕ). i ++ stray_threads p ls) first.strays
+            ∙ append_assoc (processes_of is_stray_kind g.actions) (strays_of p l l.doing) (stray_threads p ls)
+            ∙ ap (λ (i : List ℕ). processes_of is_stray_kind g.actions ++ i)
+            (ap (λ (i : List ℕ). i ++ stray_threads p ls) (sym (one_stray p l)) ∙ sym (threads_append p (l ∷ []) ls)),
+        more.2 ∙ first.kills,
         λ t.
-            let one = first.2 t in
+            let one = first.adds t in
             let rest = subst (λ (f : ℕ → List Kind). count t (progress_by p there ls run.0 s' run.2).actions
             + length ((progress_by p there ls run.0 s' run.2).deferred t)
             ≡ count t there.actions + length (there.deferred t) + counts p f ls run.0 s' run.2 t)
-            (deferred_behind visible deferral run.0 l.thread g) (more.1 t) in
+            first.waits (more.3 t) in
             omega (arith, one, rest),
       )
 
-  pub opens_reached : Reaches 0 (opening_state (code_of p)) (opening_progress p)
-  opens_reached = let o = opens_deferred p w in
-      record { is = record { run = refl; tracks = o.0; waits = o.1 }; own = tt }
+  pub opens_reached : IsReached p w 0 (opening_state (code_of p)) (opening_progress p)
+  opens_reached = let o = opens_deferred p w in record { run = refl; tracks = o.0; waits = o.1 }
 
   module _ (steps : List Step) (s : State) (run : MachineRun (code_of p) steps s) (short : length steps < 2 ^ 32) where
     abbrev g : Progress
     g = progress p steps s run
 
-    whole : Reaches (0 + length steps) s g × Adds (opening_progress p) g
-        (λ t. counts p (λ u. []) steps (opening_state (code_of p)) s run t)
+    whole : IsReached p w (0 + length steps) s g
+        × (processes_of is_stray_kind g.actions ≡ [] ++ stray_threads p steps)
+        × (processes_of is_kill_kind g.actions ≡ [])
+        × Adds (opening_progress p) g (λ t. counts p (λ u. []) steps (opening_state (code_of p)) s run t)
     whole = reaches_by steps 0 (opening_state (code_of p)) s (opening_progress p) opens_reached run
         (omega (arith, short))
 
     pub reached : IsReached p w (length steps) s (progress p steps s run)
     reached =
         let same : 0 + length steps ≡ length steps = omega arith in
-        subst (λ n. IsReached p w n s g) same whole.0.is
+        subst (λ n. IsReached p w n s g) same whole.0
 
     pub explained_so : (e : Explained p (code_of p) steps s) × (e.actions ≡ explanation p steps s run)
     explained_so =
-        let r = whole.0.is.tracks in
+        let r = whole.0.tracks in
         let done = finishes p w (0 + length steps) s g.source r in
         let n = 0 + length steps in
         let source = done.0 in
         let k : Corresponds p w n s source = done.2 in
         let up : actions_up_to s.made r.deferred ≡ actions_up_to s.made g.deferred =
-        ap (λ (f : ℕ → List Kind). actions_up_to s.made f) whole.0.is.waits in
+        ap (λ (f : ℕ → List Kind). actions_up_to s.made f) whole.0.waits in
         let rest : Leads p g.source (actions_up_to s.made g.deferred) source =
         subst (λ (l : List Action). Leads p g.source l source) up done.1 in
         let start = opens p w in
@@ -255,14 +377,14 @@ module _ (p : Program) (w : WellFormed p) where
         let pace = keeps_pace (most p w) (stretch_length p) (left_of p w start) (left_of p w c.ties) steps c.actions
         (left_short p w 0) (few p w 0 (opening_state (code_of p)) (opening p) start) c.trail in
         let actions = explanation p steps s run in
-        let all_own : AllOwn actions = own_both g.actions (actions_up_to s.made g.deferred) whole.0.own
-        (subst (λ (l : List Action). AllOwn l) up (finishes_own p w n s g.source r)) in (
+        let last = actions_up_to s.made g.deferred in
+        let last_own : AllOwn last = subst (λ (l : List Action). AllOwn l) up (finishes_own p w n s g.source r) in (
           record {
             sound = sound p w n s source k;
             actions = actions;
             source = source;
             run = leads_on p (opening p) g.source source g.actions
-                (actions_up_to s.made g.deferred) whole.0.is.run rest;
+                (actions_up_to s.made g.deferred) whole.0.run rest;
             output = k.output;
             variables = k.variables;
             ends = ends p w n s source k;
@@ -272,13 +394,17 @@ module _ (p : Program) (w : WellFormed p) where
                 let less = pace t parts e in
                 let first = c.counted (λ t. [])
                 (λ u. subst (λ (x : Stage). Agrees x false) (sym (opens_calm p w u)) refl) t in
-                let second = whole.1 t in
+                let second = whole.3 t in
                 let both = count_by-append (is_action_of t) g.actions (actions_up_to s.made g.deferred) in
                 let last = subst (λ (f : ℕ → List Kind). count t (actions_up_to s.made f) ≡ length (f t))
-                whole.0.is.waits (finishes_counted p w n s g.source r t) in
+                whole.0.waits (finishes_counted p w n s g.source r t) in
                 omega (arith, less, first, second, both, last);
-            strays = none_from_outside is_stray_kind (λ i h. (own_kinds i h).0) actions all_own;
-            kills = none_from_outside is_kill_kind (λ i h. (own_kinds i h).1) actions all_own;
+            strays = processes_append is_stray_kind g.actions last
+                ∙ ap (λ (i : List ℕ). processes_of is_stray_kind g.actions ++ i)
+                (none_from_outside is_stray_kind (λ i h. (own_kinds i h).0) last last_own) ∙ append-nil _ ∙ whole.1;
+            kills = processes_append is_kill_kind g.actions last
+                ∙ ap (λ (i : List ℕ). processes_of is_kill_kind g.actions ++ i)
+                (none_from_outside is_kill_kind (λ i h. (own_kinds i h).1) last last_own) ∙ append-nil _ ∙ whole.2;
           },
           refl,
         )

@@ -75,15 +75,15 @@ catch_up_all p (suc n) w a c b =
     )
 
 -- as many as wait
-up_counted : (n : ℕ) (w : ℕ → List Kind) (t : ℕ)
+up_counted : (n : ℕ) (w : ℕ → List Kind) (t : ℕ) → ((u : ℕ) → AreOwn (w u))
     → count t (actions_up_to n w) + length (emptied n w t) ≡ length (w t)
-up_counted zero w t = omega arith
-up_counted (suc n) w t =
+up_counted zero w t own = omega arith
+up_counted (suc n) w t own =
     let both = count_by-append (is_action_of t) (actions_up_to n w) (actions_of (suc n) (w (suc n))) in
-    let last = count_map (suc n) t (w (suc n)) in
+    let last = count_map (suc n) t (w (suc n)) (own (suc n)) in
     let taken = length_taken (emptied n w) (suc n) t in
     let same = ap (λ (i : List Kind). of_one (suc n) t (length i)) (emptied_above n w (suc n) (omega arith)) in
-    let before = up_counted n w t in
+    let before = up_counted n w t own in
     omega (arith, both, last, taken, same, before)
 
 -- and a process's own, as they are
@@ -164,7 +164,7 @@ module _ (p : Program) (w : WellFormed p) (steps : ℕ) (s : State) (a : SourceS
 
   pub finishes_counted : (t : ℕ) → count t (actions_up_to s.made r.deferred) ≡ length (r.deferred t)
   finishes_counted t =
-      let all = up_counted s.made r.deferred t in
+      let all = up_counted s.made r.deferred t r.own in
       let none = ap (λ (i : List Kind). length i) (empty t) in
       omega (arith, all, none)
 

@@ -30,6 +30,7 @@ pub mod Joining
 pub mod Making
 pub mod Stepping
 pub mod Whole
+pub mod Strays
 pub mod Tracking
 pub mod Counting
 pub mod Finishing

@@ -5,17 +5,20 @@ use Rattle.std.specs.Prelude.{count_by, map}
 use Rattle.std.specs.List.{flat_map, list_all}
 use Rattle.std.proofs.lemmas.Bool.{eqb-true, eq-eqb}
 use Rattle.std.proofs.lemmas.List.Sums.{sum_by-cons, sum_by-append}
-use Rattle.machine.specs.Runs.{Step}
+use Rattle.machine.specs.Runs.{Step, is_own}
 use Rattle.meaning.specs.Labels.{Kind, Action}
-use Rattle.refinement.specs.Pace.{is_stretch, goes_on, is_action_of, KeepsPace}
+use Rattle.meaning.specs.Labels as L
+use Rattle.proof_thread.specs.Completing.{IsOwn}
+use Rattle.refinement.specs.Pace.{is_stretch, goes_on, is_action_of, is_own_kind, KeepsPace}
 use Rattle.proof_simulation.proofs.Sourcing.{act}
-use Rattle.proof_simulation.proofs.Moving.{IsSome}
+use Rattle.proof_simulation.proofs.Moving.{IsSome, AreOwn}
 
 -- steps with the actions that they stand for, from how many steps each thread has left to how many it has then
 pub data Trail (most : ℕ) : (ℕ → ℕ) → List Step → List Action → (ℕ → ℕ) → Type 0 where
   rests : {f : ℕ → ℕ} → Trail most f [] [] f
   goes : {f h : ℕ → ℕ} {ls : List Step} {as' : List Action} (g : ℕ → ℕ) (l : Step) (kinds : List Kind)
-      → (l.pauses ≡ false → IsSome kinds ⊎ (g l.thread < f l.thread)) → ((u : ℕ) → g u ≤ most)
+      → (l.pauses ≡ false → is_own l.doing ≡ true → AreOwn kinds × (IsSome kinds ⊎ (g l.thread < f l.thread)))
+      → ((u : ℕ) → g u ≤ most)
       → Trail most g ls as' h → Trail most f (l ∷ ls) (map (act l.thread) kinds ++ as') h
 
 -- a trail in two parts
@@ -80,13 +83,25 @@ counted : (b : Bool) → b ≡ true → ◌≡◌ {A = ℕ} (cond b 1 0) 1
 counted true e = refl
 counted false e = absurd cc
 
+pub own_kind : (k : Kind) → IsOwn k → is_own_kind k ≡ true
+own_kind (L.Stray c) h = absurd h
+own_kind (L.Kill r last) h = absurd h
+own_kind k h = refl
+
+pub own_action : (u t : ℕ) (k : Kind) → IsOwn k → is_action_of t (act u k) ≡ (u == t)
+own_action u t k h = ap (λ b. (u == t) && b) (own_kind k h) ∙ and_true (u == t)
+  where
+    and_true : (b : Bool) → (b && true) ≡ b
+    and_true true = refl
+    and_true false = refl
+
 -- actions of a thread's step are its process's
-some_counted : (t : ℕ) (kinds : List Kind) (as' : List Action) → IsSome kinds
+some_counted : (t : ℕ) (kinds : List Kind) (as' : List Action) → AreOwn kinds → IsSome kinds
     → 1 ≤ count_by (is_action_of t) (map (act t) kinds ++ as')
-some_counted t [] as' h = absurd h
-some_counted t (k ∷ ks) as' h =
+some_counted t [] as' own h = absurd h
+some_counted t (k ∷ ks) as' own h =
     let a = count_by-cons (is_action_of t) (act t k) (map (act t) ks ++ as') in
-    let one = counted (t == t) (eq-eqb t t refl) in
+    let one = counted (is_action_of t (act t k)) (own_action t t k own.0 ∙ eq-eqb t t refl) in
     omega (arith, a, one)
 
 -- so many steps of one thread, without a pause, hold an action or take as many from what was left
@@ -96,19 +111,21 @@ stretch_acts : (most t : ℕ) (f : ℕ → ℕ) (xs : List Step) (as' : List Act
 stretch_acts most t f [] as' h all rests = inr (omega arith)
 stretch_acts most t f (x ∷ xs) as' h all (goes {as' = bs} g l kinds paced less more) =
     let this = first_holds (goes_on t l) (list_all (goes_on t) xs) all in
-    let mine = eqb-true l.thread t (first_holds (l.thread == t) (not l.pauses) this) in
-    let awake = not_true l.pauses (second_holds (l.thread == t) (not l.pauses) this) in
-    both mine (paced awake) (stretch_acts most t g xs bs h (second_holds (goes_on t l) (list_all (goes_on t) xs) all)
+    let mine = eqb-true l.thread t (first_holds (l.thread == t) (not l.pauses && is_own l.doing) this) in
+    let going = second_holds (l.thread == t) (not l.pauses && is_own l.doing) this in
+    let awake = not_true l.pauses (first_holds (not l.pauses) (is_own l.doing) going) in
+    let so = paced awake (second_holds (not l.pauses) (is_own l.doing) going) in
+    both mine so.0 so.1 (stretch_acts most t g xs bs h (second_holds (goes_on t l) (list_all (goes_on t) xs) all)
     more)
   where
-    both : l.thread ≡ t → IsSome kinds ⊎ (g l.thread < f l.thread)
+    both : l.thread ≡ t → AreOwn kinds → IsSome kinds ⊎ (g l.thread < f l.thread)
         → (1 ≤ count_by (is_action_of t) bs) ⊎ (length xs + h t ≤ g t)
         → (1 ≤ count_by (is_action_of t) (map (act l.thread) kinds ++ bs)) ⊎ (length (l ∷ xs) + h t ≤ f t)
-    both mine (inl some) r = inl (subst (λ u. 1 ≤ count_by (is_action_of t) (map (act u) kinds ++ bs)) (sym mine)
-        (some_counted t kinds bs some))
-    both mine (inr fewer) (inl r) =
+    both mine own (inl some) r = inl (subst (λ u. 1 ≤ count_by (is_action_of t) (map (act u) kinds ++ bs)) (sym mine)
+        (some_counted t kinds bs own some))
+    both mine own (inr fewer) (inl r) =
         let c = count_by-append (is_action_of t) (map (act l.thread) kinds) bs in inl (omega (arith, c, r))
-    both mine (inr fewer) (inr r) =
+    both mine own (inr fewer) (inr r) =
         let now : g t < f t = subst (λ u. g u < f u) mine fewer in inr (omega (arith, now, r))
 
 pub keeps_pace : (most k : ℕ) (f h : ℕ → ℕ) (steps : List Step) (as' : List Action) → most < k

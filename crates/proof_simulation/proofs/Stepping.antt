@@ -4,7 +4,7 @@ use Rattle.std.proofs.Common.{◌∙◌, subst, arith, inl, inr, ◌⊎◌}
 use Rattle.locals.specs.Threads.{Thread, Dies as Dies'}
 use Rattle.locals.specs.Looks.{Goes, look}
 use Rattle.machine.specs.States.{State}
-use Rattle.machine.specs.Runs.{Step, IsStep, is_paused}
+use Rattle.machine.specs.Runs.{Step, IsOwnStep, is_paused}
 use Rattle.program.specs.Trees.{Program}
 use Rattle.program.specs.WellFormed.{WellFormed}
 use Rattle.lowering.specs.Pieces.{code_of, marks_of}
@@ -269,7 +269,7 @@ module _ (p : Program) (w : WellFormed p) (steps : ℕ) (s : State) (c : SourceS
       (code_of p) t v) s') (same_thread e) moves)
 
 pub next : (p : Program) (w : WellFormed p) (steps : ℕ) (s : State) (c : SourceState) (k : Corresponds p w steps s c)
-    (l : Step) (s' : State) (st : IsStep (code_of p) s l s') (done : Bool) (deferral : Option Kind)
+    (l : Step) (s' : State) (st : IsOwnStep (code_of p) s l s') (done : Bool) (deferral : Option Kind)
     → StepsSo p done deferral (mark_of (marks_of p) st.thread) s l.thread l.woken
     (look (code_of p) l.thread st.thread) s'
     → IsLow k.world.sequence (look (code_of p) l.thread st.thread)

@@ -6,8 +6,14 @@ use Rattle.std.specs.Prelude.{◌^◌, ◌++◌, ◌↔◌}
 use Rattle.words.specs.Updates.{put}
 use Rattle.locals.specs.Looks.{look}
 use Rattle.locals.specs.Threads.{Thread}
-use Rattle.machine.specs.States.{State, opening_state}
-use Rattle.machine.specs.Runs.{Step, IsStep}
+use Rattle.machine.specs.States.{State, opening_state, with_sleepers}
+use Rattle.proof_commutation.proofs.Keeping.{at_still}
+use Rattle.proof_simulation.specs.Next.{take_deferred}
+use Rattle.proof_simulation.specs.Strays.{stray_condition, after_stray}
+use Rattle.proof_simulation.specs.Tracking.{TracksStray}
+use Rattle.proof_simulation.proofs.Nexts.{caught_up_behind}
+use Rattle.proof_simulation.proofs.Strays.{Strayed, strayed}
+use Rattle.machine.specs.Runs.{Step, IsOwnStep}
 use Rattle.program.specs.Trees.{Program}
 use Rattle.program.specs.WellFormed.{WellFormed}
 use Rattle.lowering.specs.Pieces.{marks_of, code_of}
@@ -171,7 +177,7 @@ module _ (p : Program) (w : WellFormed p) where
 
   -- a step of the machine, which is none that others learn of, or is one; and what waits behind it
   pub tracks_deferred : (steps : ℕ) (s : State) (a : SourceState) (r : Tracks p w steps s a) (l : Step) (s' : State)
-      (st : IsStep (code_of p) s l s') (done : Bool) (deferral : Option Kind)
+      (st : IsOwnStep (code_of p) s l s') (done : Bool) (deferral : Option Kind)
       → StepsSo p done deferral (mark_of (marks_of p) st.thread) s l.thread l.woken
       (look (code_of p) l.thread st.thread) s'
       → steps + 1 < 2 ^ 32
@@ -300,8 +306,90 @@ module _ (p : Program) (w : WellFormed p) where
                 ),
           )
 
+  -- a wake from outside
+  pub tracks_stray : (steps : ℕ) (s : State) (a : SourceState) (r : Tracks p w steps s a) (t address : ℕ)
+      → s.asleep t ≡ Some address
+      → TracksStray p w steps s t a r.deferred (stray_condition p address (a.table.waits t))
+  tracks_stray steps s a r t address sleeps =
+      subst (λ (T : Table). TracksStray p w steps s t a r.deferred (stray_condition p address (T.waits t)))
+      (sym r.behind.table) (by_condition (stray_condition p address (r.ahead.table.waits t)) refl)
+    where
+      c : SourceState
+      c = r.ahead
+
+      n : Strayed p w steps s r.ahead r.ties t address
+      n = strayed p w steps s r.ahead r.ties t address sleeps
+
+      Tied : Option Member → Type 0
+      Tied o = (x : Corresponds p w (suc steps) (with_sleepers s (put s.asleep t None)) (after_stray t o r.ahead))
+          × ((u : ℕ) → stages x.world u ≡ stages r.ties.world u)
+
+      tied : (o : Option Member) → stray_condition p address (r.ahead.table.waits t) ≡ o → Tied o
+      tied o e = subst Tied e (n.ties, n.staged)
+
+      agrees : (o : Option Member) (x : Tied o) (u : ℕ) (failed : Bool)
+          → Agrees (stages r.ties.world u) failed → Agrees (stages x.0.world u) failed
+      agrees o x u failed h = subst (λ (i : Stage). Agrees i failed) (sym (x.1 u)) h
+
+      by_condition : (o : Option Member) → stray_condition p address (r.ahead.table.waits t) ≡ o
+          → TracksStray p w steps s t a r.deferred o
+      by_condition None e =
+          let x = tied None e in (
+            record {
+              deferred = r.deferred;
+              ahead = r.ahead;
+              ties = x.0;
+              behind = r.behind;
+              few = λ u. let less = r.few u in omega (arith, less);
+              agrees = λ u. agrees None x u (has_failed (r.deferred u)) (r.agrees u);
+              own = r.own;
+            },
+            refl,
+          )
+      by_condition (Some d) e =
+          let x = tied (Some d) e in
+          let caught_up = caught_up_behind p t r.deferred a r.ahead (r.deferred t) r.behind refl in
+          let b = caught_up.1 in
+          let there = take_deferred p t (r.deferred t) a in (
+            caught_up.0,
+            inr (inl (
+              d,
+              refl,
+              record {
+                allows = (ap (λ (T : Table). T.waits t) b.table ∙ n.waits d e, refl);
+                variables = refl;
+                printed = refl;
+                processes = refl;
+              },
+            )),
+            record {
+              deferred = put r.deferred t [];
+              ahead = after_stray t (Some d) r.ahead;
+              ties = x.0;
+              behind = record {
+                table = ap (λ (T : Table). record T { waits = put T.waits t None }) b.table;
+                variables = b.variables;
+                printed = b.printed;
+                processes = λ u. at_still p u r.ahead.variable r.ahead.variable r.ahead.table
+                    (after_stray t (Some d) r.ahead).table (record {
+                      grows = record { full = λ h. h; claimed = λ child h. h };
+                      held = λ m h. h;
+                      same = λ m h i j. refl;
+                    }) (put r.deferred t [] u) (there.process u) (r.ahead.process u) (b.processes u);
+              };
+              few = λ u. at_put r.deferred t [] u (λ (i : List Kind). length i ≤ suc steps) (λ e. omega arith)
+                  (λ o. let less = r.few u in omega (arith, less));
+              agrees = λ u. agrees (Some d) x u (has_failed (put r.deferred t [] u))
+                  (at_put r.deferred t [] u (λ (i : List Kind). Agrees (stages r.ties.world u) (has_failed i))
+                  (λ e. subst (λ (i : Stage). Agrees i false) (sym (ap (stages r.ties.world) e ∙ n.works)) refl)
+                  (λ o. r.agrees u));
+              own = λ u. at_put r.deferred t [] u (λ (i : List Kind). AreOwn i) (λ e. tt) (λ o. r.own u);
+            },
+            refl,
+          )
+
   pub tracks : (steps : ℕ) (s : State) (a : SourceState) → Tracks p w steps s a → (l : Step) (s' : State)
-      (st : IsStep (code_of p) s l s') (done : Bool)
+      (st : IsOwnStep (code_of p) s l s') (done : Bool)
       → MovesSo p done s l.thread l.woken (look (code_of p) l.thread st.thread) s' → steps + 1 < 2 ^ 32
       → (done ≡ false → Tracks p w (suc steps) s' a)
       × (done ≡ true → (ks : List Kind) × HasDeferred p w (suc steps) s' l.thread a ks)

@@ -1,12 +1,13 @@
 -- Each run of the machine on the code of a program is explained by a run of the program.
-use Rattle.std.proofs.Common.{◌≡◌, ℕ, zero, suc, ◌+◌, ◌<◌, ◌≤◌, Bool, false, List, [], ◌∷◌, ◌++◌, length, refl, sym}
+use Rattle.std.proofs.Common.{◌≡◌, ◌⊎◌, ℕ, zero, suc, ◌+◌, ◌<◌, ◌≤◌, Bool, true, false, List, [], ◌∷◌, ◌++◌, length, refl, sym}
 use Rattle.std.proofs.Common.{subst, arith, Option, Some, None, ◌∙◌}
-use Rattle.std.specs.Prelude.{map, ◌^◌}
+use Rattle.std.specs.Prelude.{map, filter, is_some, if◌then◌else◌, ◌^◌}
 use Rattle.locals.specs.Threads.{Thread}
 use Rattle.locals.specs.Looks.{Look, Goes, Asks, Leaves, Breaks, Rests, look}
 use Rattle.locals.specs.Steps.{local_next, and_step, local_after}
 use Rattle.machine.specs.States.{State, opening_state, with_thread}
-use Rattle.machine.specs.Runs.{Step, GoesBy, MachineRun, IsStep, Moves, NextIsBroken, is_paused}
+use Rattle.machine.specs.Runs.{Doing, Own, Strayed, is_own, Step, GoesBy, MachineRun, IsOwnStep, IsStrayStep, IsDone}
+use Rattle.machine.specs.Runs.{Moves, NextIsBroken, is_paused}
 use Rattle.program.specs.Trees.{Program}
 use Rattle.program.specs.WellFormed.{WellFormed}
 use Rattle.lowering.specs.Pieces.{marks_of, code_of}
@@ -24,7 +25,7 @@ use Rattle.proof_simulation.specs.Ranks.{most_left}
 use Rattle.proof_simulation.proofs.Sourcing.{act}
 use Rattle.proof_simulation.proofs.Worlds.{put_put}
 use Rattle.proof_simulation.proofs.Local.{put_again}
-use Rattle.proof_simulation.proofs.Moving.{AreOwn, left_of}
+use Rattle.proof_simulation.proofs.Moving.{AreOwn, IsSome, left_of}
 use Rattle.proof_simulation.proofs.Completions.{told_deferral, told_apart}
 use Rattle.proof_simulation.proofs.Stepping.{next}
 use Rattle.proof_simulation.proofs.Bounds.{left_few, left_short}
@@ -33,13 +34,22 @@ use Rattle.proof_simulation.proofs.Opening.{opens}
 use Rattle.proof_simulation.proofs.Observing.{sound, ends}
 use Rattle.proof_simulation.proofs.Resting.{at_rest, sleepers}
 use Rattle.proof_thread.specs.Deferrals.{mark_of}
-use Rattle.proof_simulation.specs.Deferred.{Stage, stages, Agrees, has_failed}
+use Rattle.proof_simulation.specs.Deferred.{Stage, Works, stages, Agrees, has_failed}
 use Rattle.proof_simulation.specs.Progress.{answer_in, visible_step}
 use Rattle.proof_thread.specs.Deferrals.{deferred_by_step}
 use Rattle.proof_simulation.proofs.Completions.{steps_so}
 use Rattle.proof_simulation.proofs.Tracking.{agrees_next}
 use Rattle.proof_simulation.proofs.Paces.{count_by-append}
-use Rattle.proof_simulation.proofs.Counting.{count, counts, count_map, of_one, step_count, behind, placed_count}
+use Rattle.proof_simulation.proofs.Counting.{count, counts, count_map, count_stray, of_one, of_none, done_count, done_behind}
+use Rattle.proof_simulation.proofs.Counting.{placed_count}
+use Rattle.proof_simulation.specs.Strays.{stray_condition, stray_kinds, after_stray}
+use Rattle.proof_simulation.proofs.Strays.{strayed}
+use Rattle.proof_simulation.proofs.Strays.{Strayed as Strayed'}
+use Rattle.refinement.specs.Outside.{is_condition_word, is_condition_stray, stray_threads}
+use Rattle.std.proofs.lemmas.List.Elements.{filter-append}
+use Rattle.std.proofs.lemmas.List.{map-append}
+use Rattle.std.proofs.lemmas.Bool.{false≢true}
+use Rattle.program.specs.declared.kinds.Member.{Member}
 use Rattle.refinement.specs.Pace.{is_action_of}
 use Rattle.meaning.specs.Labels.{Kind}
 use Rattle.protocol.proofs.Sleeps.{put_other}
@@ -65,6 +75,51 @@ own_kinds (L.Stray c) h = absurd h
 own_kinds (L.Kill r last) h = absurd h
 own_kinds k h = (refl, refl)
 
+-- the processes of two lists of actions; and of steps
+pub processes_append : (test : Kind → Bool) (xs ys : List Action)
+    → processes_of test (xs ++ ys) ≡ processes_of test xs ++ processes_of test ys
+processes_append test xs ys =
+    ap (λ (l : List Action). map (λ a. a.process) l) (filter-append (λ a. test a.kind) xs ys)
+    ∙ map-append (λ (a : Action). a.process) (filter (λ a. test a.kind) xs) (filter (λ a. test a.kind) ys)
+
+pub threads_append : (p : Program) (xs ys : List Step)
+    → stray_threads p (xs ++ ys) ≡ stray_threads p xs ++ stray_threads p ys
+threads_append p xs ys =
+    ap (λ (l : List Step). map (λ x. x.thread) l) (filter-append (λ x. is_condition_stray p x.doing) xs ys)
+    ∙ map-append (λ (x : Step). x.thread) (filter (λ x. is_condition_stray p x.doing) xs)
+    (filter (λ x. is_condition_stray p x.doing) ys)
+
+-- the strays of one step
+abbrev pub strays_of : Program → Step → Doing → List ℕ
+strays_of p l d = if is_condition_stray p d then l.thread ∷ [] else []
+
+pub one_stray : (p : Program) (l : Step) → stray_threads p (l ∷ []) ≡ strays_of p l l.doing
+one_stray p l = by_test (is_condition_stray p l.doing) refl
+  where
+    by_test : (b : Bool) → is_condition_stray p l.doing ≡ b → stray_threads p (l ∷ []) ≡ strays_of p l l.doing
+    by_test true e = rw e refl
+    by_test false e = rw e refl
+
+-- what a stray is to the source
+pub stray_told : (p : Program) (t a : ℕ) (o : Option Member) (l : Step) → l.thread ≡ t
+    → is_condition_word p a ≡ is_some o
+    → processes_of is_stray_kind (map (act t) (stray_kinds o)) ≡ strays_of p l (Strayed a)
+stray_told p t a None l here e = sym (ap (λ b. if b then l.thread ∷ [] else []) e)
+stray_told p t a (Some c) l here e = ap (λ u. u ∷ []) (sym here) ∙ sym (ap (λ b. if b then l.thread ∷ [] else []) e)
+
+pub stray_kills : (t : ℕ) (o : Option Member) → processes_of is_kill_kind (map (act t) (stray_kinds o)) ≡ []
+stray_kills t None = refl
+stray_kills t (Some c) = refl
+
+pub own_none : (test : Kind → Bool) → ((k : Kind) → IsOwn k → test k ≡ false) → (t : ℕ) (ks : List Kind) → AreOwn ks
+    → processes_of test (map (act t) ks) ≡ []
+own_none test none t [] h = refl
+own_none test none t (k ∷ ks) h = rw (none k h.0) (own_none test none t ks h.1)
+
+failed_if : (b : Bool) (ks : List Kind) → has_failed ks ≡ false → has_failed (if b then [] else ks) ≡ false
+failed_if true ks h = refl
+failed_if false ks h = h
+
 pub none_from_outside : (test : Kind → Bool) → ((k : Kind) → IsOwn k → test k ≡ false) → (as' : List Action)
     → AllOwn as'
     → processes_of test as' ≡ []
@@ -86,6 +141,72 @@ module _ (p : Program) (w : WellFormed p) where
   pub few : (steps : ℕ) (s : State) (c : SourceState) (k : Corresponds p w steps s c) (u : ℕ) → left_of p w k u ≤ most
   few steps s c k u = left_few (build_of p w k.world.made) c.variable u k.world (k.threads u)
 
+  -- what belongs to the state behind one step
+  pub record StepCome (taken : ℕ) (s : State) (c : SourceState) (k : Corresponds p w taken s c) (l : Step) (s' : State)
+      (d : Doing) (st : IsDone (code_of p) s l s' d) : Type 0 where
+    pub after : SourceState
+    pub ties : Corresponds p w (suc taken) s' after
+    pub kinds : List Kind
+    pub leads : Leads p c (map (act l.thread) kinds) after
+    pub paced : l.pauses ≡ false → is_own d ≡ true
+        → AreOwn kinds × (IsSome kinds ⊎ (left_of p w ties l.thread < left_of p w k l.thread))
+    pub stage : Stage
+    pub staged : (u : ℕ) → stages ties.world u ≡ put (stages k.world) l.thread stage u
+    pub counted : (ks : List Kind) → Agrees (stages k.world l.thread) (has_failed ks)
+        → ((u : ℕ) → count u (map (act l.thread) kinds) ≡ of_one l.thread u (done_count p s s' l d st ks))
+        × Agrees stage (has_failed (done_behind p s s' l d st ks))
+    pub strays : processes_of is_stray_kind (map (act l.thread) kinds) ≡ strays_of p l d
+    pub kills : processes_of is_kill_kind (map (act l.thread) kinds) ≡ []
+
+  step_come : (taken : ℕ) (s : State) (c : SourceState) (k : Corresponds p w taken s c) (l : Step) (s' : State)
+      (d : Doing) (st : IsDone (code_of p) s l s' d) → taken + 1 < 2 ^ 32 → StepCome taken s c k l s' d st
+  step_come taken s c k l s' Own st short =
+      let looks = look (code_of p) l.thread st.thread in
+      let mark = mark_of (marks_of p) st.thread in
+      let answer = answer_in s s' l.thread l.woken looks st.moves in
+      let done = visible_step p looks answer in
+      let deferral = deferred_by_step mark looks answer in
+      let n = next p w taken s c k l s' st done deferral (steps_so p mark s s' l.thread l.woken looks st.moves)
+      (λ request go e d. let few = k.numbers d in omega (arith, few, short)) in
+      record {
+        after = n.after;
+        ties = n.ties;
+        kinds = n.kinds;
+        leads = n.leads;
+        paced = λ awake own. (n.own, n.paced awake);
+        stage = n.stage;
+        staged = n.staged;
+        counted = λ ks agrees.
+            let one = placed_count p s' l.thread c n.after done deferral (stages k.world l.thread) n.stage n.kinds ks
+            n.places agrees in
+            (λ u. count_map l.thread u n.kinds n.own ∙ ap (λ i. of_one l.thread u i) one.0, one.1);
+        strays = own_none is_stray_kind (λ i h. (own_kinds i h).0) l.thread n.kinds n.own;
+        kills = own_none is_kill_kind (λ i h. (own_kinds i h).1) l.thread n.kinds n.own;
+      }
+  step_come taken s c k l s' (Strayed a) st short =
+      subst (λ (x : State). (i : IsStrayStep a s l x) → StepCome taken s c k l x (Strayed a) i) (sym st.after)
+      (λ i. record {
+        after = after_stray l.thread o c;
+        ties = n.ties;
+        kinds = stray_kinds o;
+        leads = n.leads;
+        paced = λ awake own. absurd (false≢true own);
+        stage = Works;
+        staged = λ u. n.staged u ∙ ap (λ (f : ℕ → Stage). f u) (put_again (stages k.world) l.thread Works n.works);
+        counted = λ ks agrees. (
+          λ u. count_stray l.thread u o ∙ sym (of_none l.thread u),
+          failed_if (is_condition_word p a) ks (subst (λ (x : Stage). Agrees x (has_failed ks)) n.works agrees),
+        );
+        strays = stray_told p l.thread a o l refl n.word;
+        kills = stray_kills l.thread o;
+      }) st
+    where
+      o : Option Member
+      o = stray_condition p a (c.table.waits l.thread)
+
+      n : Strayed' p w taken s c k l.thread a
+      n = strayed p w taken s c k l.thread a st.sleeps
+
   -- what belongs to the state that a run of the machine comes to
   pub record Come (s : State) (c : SourceState) (left : ℕ → ℕ) (was : ℕ → Stage) (steps : List Step) (s' : State)
       (number : (ℕ → List Kind) → ℕ → ℕ) : Type 0 where
@@ -93,9 +214,10 @@ module _ (p : Program) (w : WellFormed p) where
     pub source : SourceState
     pub ties : Corresponds p w taken s' source
     pub actions : List Action
-    pub own : AllOwn actions
     pub leads : Leads p c actions source
     pub trail : Trail most left steps actions (left_of p w ties)
+    pub strays : processes_of is_stray_kind actions ≡ stray_threads p steps
+    pub kills : processes_of is_kill_kind actions ≡ []
     -- as many as the code's marks tell
     pub counted : (deferred : ℕ → List Kind) → ((u : ℕ) → Agrees (was u) (has_failed (deferred u))) → (t : ℕ)
         → count t actions ≡ number deferred t
@@ -109,46 +231,40 @@ module _ (p : Program) (w : WellFormed p) where
         source = c;
         ties = k;
         actions = [];
-        own = tt;
         leads = refl;
         trail = rests;
+        strays = refl;
+        kills = refl;
         counted = λ deferred agrees t. refl;
       })
   come taken s c k (l ∷ ls) s' short run =
-      let looks = look (code_of p) l.thread run.1.thread in
-      let mark = mark_of (marks_of p) run.1.thread in
-      let answer = answer_in s run.0 l.thread l.woken looks run.1.moves in
-      let n = next p w taken s c k l run.0 run.1 (visible_step p looks answer) (deferred_by_step mark looks answer)
-      (steps_so p mark s run.0 l.thread l.woken looks run.1.moves)
-      (λ request go e d. let few = k.numbers d in omega (arith, few, short)) in
+      let n = step_come taken s c k l run.0 l.doing run.1 (omega (arith, short)) in
       let r = come (suc taken) run.0 n.after n.ties ls s' (omega (arith, short)) run.2 in
+      let first = map (act l.thread) n.kinds in
       record {
         taken = r.taken;
         source = r.source;
         ties = r.ties;
-        actions = map (act l.thread) n.kinds ++ r.actions;
-        own = all_own l.thread n.kinds r.actions n.own r.own;
-        leads = leads_on p c n.after r.source (map (act l.thread) n.kinds) r.actions n.leads r.leads;
+        actions = first ++ r.actions;
+        leads = leads_on p c n.after r.source first r.actions n.leads r.leads;
         trail = goes (left_of p w n.ties) l n.kinds n.paced (few (suc taken) run.0 n.after n.ties) r.trail;
+        strays = processes_append is_stray_kind first r.actions
+            ∙ ap (λ (i : List ℕ). i ++ processes_of is_stray_kind r.actions) (n.strays ∙ sym (one_stray p l))
+            ∙ ap (λ (i : List ℕ). stray_threads p (l ∷ []) ++ i) r.strays ∙ sym (threads_append p (l ∷ []) ls);
+        kills = processes_append is_kill_kind first r.actions
+            ∙ ap (λ (i : List ℕ). i ++ processes_of is_kill_kind r.actions) n.kills ∙ r.kills;
         counted = λ deferred agrees t.
             let ks = deferred l.thread in
-            let d = visible_step p looks answer in
-            let deferral = deferred_by_step mark looks answer in
-            let one = placed_count p run.0 l.thread c n.after d deferral
-            (stages k.world l.thread) n.stage n.kinds ks n.places
-            (agrees l.thread) in
+            let after = done_behind p s run.0 l l.doing run.1 ks in
+            let one = n.counted ks (agrees l.thread) in
             let later = agrees_next (stages k.world) n.stage l.thread
-            (λ u. has_failed (put deferred l.thread (behind d deferral ks) u)) (stages n.ties.world) n.staged
+            (λ u. has_failed (put deferred l.thread after u)) (stages n.ties.world) n.staged
             (λ u o. subst (λ (i : List Kind). Agrees (stages k.world u) (has_failed i))
-            (sym (put_other deferred l.thread (behind d deferral ks) u o)) (agrees u))
-            (subst (λ (i : List Kind). Agrees n.stage (has_failed i)) (sym (put_same deferred l.thread
-            (behind d deferral ks)))
-            one.1) in
-            count_by-append (is_action_of t) (map (act l.thread) n.kinds) r.actions
-            ∙ ap (λ i. i + count t r.actions)
-            (count_map l.thread t n.kinds ∙ ap (λ i. of_one l.thread t i) one.0)
-            ∙ ap (λ i. of_one l.thread t (step_count d deferral ks) + i)
-            (r.counted (put deferred l.thread (behind d deferral ks)) later t);
+            (sym (put_other deferred l.thread after u o)) (agrees u))
+            (subst (λ (i : List Kind). Agrees n.stage (has_failed i)) (sym (put_same deferred l.thread after)) one.1) in
+            count_by-append (is_action_of t) first r.actions ∙ ap (λ i. i + count t r.actions) (one.0 t)
+            ∙ ap (λ i. of_one l.thread t (done_count p s run.0 l l.doing run.1 ks) + i)
+            (r.counted (put deferred l.thread after) later t);
       }
 
   -- what belongs to the state in which a thread stands elsewhere, to where it came by local steps
@@ -163,7 +279,7 @@ module _ (p : Program) (w : WellFormed p) where
   goes_on s t m y awake h r =
       let mid = with_thread s t m in
       let after = with_thread mid t y in
-      let step : IsStep (code_of p) mid (record { thread = t; woken = []; pauses = is_paused after t }) after = record {
+      let step : IsOwnStep (code_of p) mid (record { thread = t; woken = []; pauses = is_paused after t; doing = Own }) after = record {
         thread = m;
         stands = put_same s.thread t (Some m);
         awake = awake;
@@ -172,7 +288,8 @@ module _ (p : Program) (w : WellFormed p) where
       } in
       let so = told_apart p mid t [] (look (code_of p) t m) after step.moves in
       let deferral = told_deferral p so.0 (mark_of (marks_of p) m) mid t [] (look (code_of p) t m) after so.1 in
-      let n = next p w r.taken mid r.source r.ties (record { thread = t; woken = []; pauses = is_paused after t }) after
+      let n = next p w r.taken mid r.source r.ties (record { thread = t; woken = []; pauses = is_paused after t; doing = Own })
+      after
       step so.0 deferral.0 deferral.1 (λ request go e d. absurd (cc (h, e))) in
       record {
         taken = suc r.taken;
@@ -215,8 +332,8 @@ module _ (p : Program) (w : WellFormed p) where
         sleepers = sleepers p w r.taken s r.source r.ties;
         pace = keeps_pace most (stretch_length p) (left_of p w k) (left_of p w r.ties) steps r.actions
             (left_short p w 0) (few 0 (opening_state (code_of p)) (opening p) k) r.trail;
-        strays = none_from_outside is_stray_kind (λ i h. (own_kinds i h).0) r.actions r.own;
-        kills = none_from_outside is_kill_kind (λ i h. (own_kinds i h).1) r.actions r.own;
+        strays = r.strays;
+        kills = r.kills;
       }
 
   fine_locally : (steps : List Step) (s : State) → MachineRun (code_of p) steps s → length steps < 2 ^ 32

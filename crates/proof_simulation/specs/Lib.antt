@@ -8,3 +8,4 @@ pub mod Next
 pub mod Progress
 pub mod Explaining
 pub mod Serving
+pub mod Strays

@@ -1,5 +1,5 @@
 -- Where the actions of the source stand among the steps of the machine.
-use Rattle.std.specs.Prelude.{ℕ, zero, suc, ◌-◌, ◌%◌, ◌≡◌, ◌==◌, ◌&&◌, ◌||◌, not, nat_lt, Bool, true, false, List, []}
+use Rattle.std.specs.Prelude.{ℕ, suc, ◌-◌, ◌%◌, ◌≡◌, ◌==◌, ◌&&◌, ◌||◌, not, nat_lt, Bool, true, false, List, []}
 use Rattle.std.specs.Prelude.{◌∷◌, length, Option, Some, None}
 use Rattle.words.specs.Updates.{put}
 use Rattle.words.specs.Versions.{base_of}
@@ -27,13 +27,9 @@ use Rattle.words.specs.declared.outcome.Fault.{Fault}
 use Rattle.lowering.specs.declared.mark.Mark.{Mark}
 use Rattle.proof_thread.specs.Deferrals.{deferred_by_mark, deferred_by_request}
 use Rattle.meaning.specs.Labels.{Fails}
+pub use Rattle.refinement.specs.Outside.{any_below}
 use Rattle.proof_simulation.specs.Deferred.{Stage, Works, Meets, Agrees, Stays, is_failing}
 use Rattle.proof_simulation.specs.Deferred as W
-
--- the test holds of a number below this one
-abbrev pub any_below : ℕ → (ℕ → Bool) → Bool
-any_below zero test = false
-any_below (suc n) test = test n || any_below n test
 
 -- the address is that of the k-th word of a process: each has six of them, from 1 on, and the monitors lie behind them
 abbrev pub is_process_word : Program → ℕ → ℕ → Bool

@@ -1,9 +1,11 @@
 -- How far the source has come behind some steps of the machine, as a function of the steps.
-use Rattle.std.specs.Prelude.{ℕ, Bool, true, false, List, [], ◌∷◌, ◌++◌, Option}
+use Rattle.std.specs.Prelude.{ℕ, Bool, true, false, List, [], ◌∷◌, ◌++◌, Option, Some, None}
+use Rattle.program.specs.declared.kinds.Member.{Member}
+use Rattle.proof_simulation.specs.Strays.{stray_condition, stray_kinds, after_stray}
 use Rattle.words.specs.Updates.{put}
 use Rattle.locals.specs.Looks.{Look, Goes, Asks, Leaves, Breaks, Rests, look}
 use Rattle.machine.specs.States.{State, opening_state}
-use Rattle.machine.specs.Runs.{Step, Moves, IsStep, GoesBy, MachineRun}
+use Rattle.machine.specs.Runs.{Doing, Own, Strayed, Step, Moves, IsOwnStep, IsDone, IsStep, GoesBy, MachineRun}
 use Rattle.program.specs.Trees.{Program}
 use Rattle.lowering.specs.Pieces.{code_of, marks_of}
 use Rattle.meaning.specs.Labels.{Kind, Action}
@@ -59,14 +61,37 @@ abbrev pub progress_step : Program → (visible : Bool) → (deferral : Option K
 progress_step p true deferral s t g = progress_next p s t (progress_caught_up p t g)
 progress_step p false deferral s t g = record g { deferred = put g.deferred t (deferred_then deferral (g.deferred t)) }
 
--- behind a step of the machine
-abbrev pub progress_taken : (p : Program) → (s s' : State) → (l : Step) → IsStep (code_of p) s l s'
+-- behind a wake from outside, by the condition that process t waited on, if its thread slept on that one's word: what
+-- waits of the process is taken, and then it waits on the condition no longer
+abbrev pub progress_stray : Program → Option Member → (t : ℕ) → Progress → Progress
+progress_stray p None t g = g
+progress_stray p (Some c) t g =
+    let caught_up = progress_caught_up p t g in
+    record caught_up {
+      actions = caught_up.actions ++ actions_of t (stray_kinds (Some c));
+      source = after_stray t (Some c) caught_up.source;
+    }
+
+-- behind a step of thread t
+abbrev pub progress_own : (p : Program) → (s s' : State) → (l : Step) → IsOwnStep (code_of p) s l s'
     → Progress → Progress
-progress_taken p s s' l st g =
+progress_own p s s' l st g =
     let looks = look (code_of p) l.thread st.thread in
     let answer = answer_in s s' l.thread l.woken looks st.moves in
     let deferral = deferred_by_step (mark_of (marks_of p) st.thread) looks answer in
     progress_step p (visible_step p looks answer) deferral s' l.thread g
+
+-- behind a step of the machine, by what it is
+abbrev pub progress_done : (p : Program) → (s s' : State) → (l : Step) → (d : Doing)
+    → IsDone (code_of p) s l s' d → Progress → Progress
+progress_done p s s' l Own st g = progress_own p s s' l st g
+progress_done p s s' l (Strayed a) st g =
+    progress_stray p (stray_condition p a (g.source.table.waits l.thread)) l.thread g
+
+-- behind a step of the machine
+abbrev pub progress_taken : (p : Program) → (s s' : State) → (l : Step) → IsStep (code_of p) s l s'
+    → Progress → Progress
+progress_taken p s s' l st g = progress_done p s s' l l.doing st g
 
 -- behind several steps of the machine
 abbrev pub progress_by : (p : Program) → Progress → (steps : List Step) → (s s' : State)

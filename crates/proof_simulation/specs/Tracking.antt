@@ -1,10 +1,16 @@
 -- The source behind the machine: what its processes have done that is visible, while internal actions are still
 -- deferred.
-use Rattle.std.specs.Prelude.{ℕ, ◌+◌, ◌≡◌, ◌≤◌, false, List, length, Some, None}
-use Rattle.machine.specs.States.{State}
+use Rattle.std.specs.Prelude.{ℕ, suc, ◌+◌, ◌≡◌, ◌≤◌, false, List, [], length, Option, Some, None}
+use Rattle.words.specs.Updates.{put}
+use Rattle.program.specs.declared.kinds.Member.{Member}
+use Rattle.machine.specs.States.{State, with_sleepers}
 use Rattle.program.specs.Trees.{Program}
 use Rattle.program.specs.WellFormed.{WellFormed}
-use Rattle.meaning.specs.Labels.{Kind, Label}
+use Rattle.meaning.specs.Labels.{Kind, Stray, Label}
+use Rattle.meaning.specs.Runs.{Leads, IsStep as IsSourceStep}
+use Rattle.proof_commutation.specs.Placed.{actions_of}
+use Rattle.proof_simulation.specs.Next.{take_deferred}
+use Rattle.proof_simulation.specs.Strays.{after_stray}
 use Rattle.meaning.specs.Table.{Table, Allows}
 use Rattle.meaning.specs.Processes.{Process}
 use Rattle.meaning.specs.Offers.{Effect, offer, TakesUp}
@@ -12,7 +18,7 @@ use Rattle.meaning.specs.States.{SourceState, variables_after}
 use Rattle.proof_commutation.specs.Deferring.{is_internal, IsBehind}
 use Rattle.protocol.specs.Carries.{IsByHolder}
 use Rattle.proof_simulation.specs.Corresponding.{Corresponds}
-use Rattle.proof_simulation.specs.Ordering.{KeepsOthers, Resumes, state_after}
+use Rattle.proof_simulation.specs.Ordering.{KeepsOthers, Resumes, act, state_after}
 use Rattle.proof_thread.specs.Completing.{IsOwn}
 use Rattle.proof_simulation.specs.Deferred.{Agrees, AreOwn, has_failed, stages}
 use Rattle.meaning.specs.Labels.{kind_of}
@@ -37,6 +43,19 @@ pub record Tracks (p : Program) (w : WellFormed p) (steps : ℕ) (s : State) (a 
   pub few : (t : ℕ) → length (deferred t) ≤ steps
   pub agrees : (t : ℕ) → Agrees (stages ties.world t) (has_failed (deferred t))
   pub own : (t : ℕ) → AreOwn (deferred t)
+
+-- behind a wake of thread t from outside: the source tracks the machine as before, or where the thread slept on the
+-- word of a condition that its process waited on, what is deferred of the process is taken, and then it waits no longer
+abbrev pub TracksStray : (p : Program) (w : WellFormed p) (steps : ℕ) (s : State) (t : ℕ) (a : SourceState)
+    → (ℕ → List Kind) → Option Member → Type 0
+TracksStray p w steps s t a deferred None =
+    (n : Tracks p w (suc steps) (with_sleepers s (put s.asleep t None)) a) × (n.deferred ≡ deferred)
+TracksStray p w steps s t a deferred (Some c) =
+    let caught_up = take_deferred p t (deferred t) a in
+    Leads p a (actions_of t (deferred t)) caught_up
+    × IsSourceStep p caught_up (act t (Stray c)) (after_stray t (Some c) caught_up)
+    × (n : Tracks p w (suc steps) (with_sleepers s (put s.asleep t None)) (after_stray t (Some c) caught_up))
+    × (n.deferred ≡ put deferred t [])
 
 -- a step of thread t led to a state of the machine, and was a visible action of its process. First come the deferred
 -- actions of the process, and then that

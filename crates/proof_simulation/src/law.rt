@@ -1,9 +1,9 @@
-ghost use Rattle.std.specs.Prelude.{◌≡◌, ◌+◌, ◌<◌, ◌^◌, ◌∷◌, [], ℕ, suc, Bool, true, false, List, Option, length};
+ghost use Rattle.std.specs.Prelude.{◌≡◌, ◌+◌, ◌<◌, ◌^◌, ◌∷◌, [], ℕ, suc, Bool, true, false, List, Option, Some, length};
 ghost use Rattle.lowering.specs.Pieces.{code_of, marks_of};
 ghost use Rattle.proof_commutation.specs.Deferring.{is_internal};
 ghost use Rattle.proof_thread.specs.Variables.{IsVariable, variable_address};
 ghost use Rattle.locals.specs.Looks.{look};
-ghost use Rattle.machine.specs.Runs.{IsStep, MachineRun, Step};
+ghost use Rattle.machine.specs.Runs.{IsOwnStep, MachineRun, Step};
 ghost use Rattle.machine.specs.States.{State, opening_state};
 ghost use Rattle.meaning.specs.Labels.{Kind, Label, kind_of};
 ghost use Rattle.meaning.specs.Runs.{IsStep as IsSourceStep, Leads};
@@ -16,7 +16,8 @@ ghost use Rattle.proof_thread.specs.Deferrals.{mark_of};
 ghost use Rattle.proof_simulation.specs.Explaining.{IsDue, IsReached, explanation};
 ghost use Rattle.proof_simulation.specs.Progress.{Progress, answer_in, visible_step, progress};
 ghost use Rattle.words.specs.Updates.{put};
-ghost use Rattle.proof_simulation.specs.Tracking.{CanTake, HasDeferred, Tracks};
+ghost use Rattle.proof_simulation.specs.Tracking.{CanTake, HasDeferred, Tracks, TracksStray};
+ghost use Rattle.proof_simulation.specs.Strays.{stray_condition};
 ghost use Rattle.program.specs.Trees.{Program};
 ghost use Rattle.program.specs.WellFormed.{WellFormed};
 ghost use Rattle.program.specs.declared.kinds.Member.{Member};
@@ -43,7 +44,7 @@ pub fn source_follows()
         → Tracks p w 0 (opening_state (code_of p)) (opening p) }
     ensures tracks { (p : Program) (w : WellFormed p) (steps : ℕ) (s : State) (a : SourceState)
         → Tracks p w steps s a
-        → (l : Step) (s' : State) (st : IsStep (code_of p) s l s') (done : Bool)
+        → (l : Step) (s' : State) (st : IsOwnStep (code_of p) s l s') (done : Bool)
         → MovesSo p done s l.thread l.woken (look (code_of p) l.thread st.thread) s'
         → steps + 1 < 2 ^ 32
         → (done ≡ false → Tracks p w (suc steps) s' a)
@@ -80,7 +81,7 @@ pub fn source_waits()
         → (o : Tracks p w 0 (opening_state (code_of p)) (opening p)) × (o.deferred ≡ (λ t. [])) }
     ensures waits { (p : Program) (w : WellFormed p) (steps : ℕ) (s : State) (a : SourceState)
         (r : Tracks p w steps s a)
-        (l : Step) (s' : State) (st : IsStep (code_of p) s l s') (done : Bool)
+        (l : Step) (s' : State) (st : IsOwnStep (code_of p) s l s') (done : Bool)
         (deferral : Option Kind)
         → StepsSo p done deferral (mark_of (marks_of p) st.thread) s l.thread l.woken
         (look (code_of p) l.thread st.thread) s'
@@ -102,6 +103,9 @@ pub fn source_waits()
         × Resumes p s a.table label
         × ((a' : SourceState) → IsSourceStep p a (act t (kind_of label)) a'
         → (n : Tracks p w steps s a') × (n.deferred ≡ o.deferred)) }
+    ensures strays { (p : Program) (w : WellFormed p) (steps : ℕ) (s : State) (a : SourceState)
+        (r : Tracks p w steps s a) (t address : ℕ) → s.asleep t ≡ Some address
+        → TracksStray p w steps s t a r.deferred (stray_condition p address (a.table.waits t)) }
     ensures finishes { (p : Program) (w : WellFormed p) (steps : ℕ) (s : State) (a : SourceState)
         (r : Tracks p w steps s a)
         → (source : SourceState) × Leads p a (actions_up_to s.made r.deferred) source
@@ -120,7 +124,7 @@ pub fn run_explains()
         → length steps < 2 ^ 32 → IsReached p w (length steps) s (progress p steps s run) }
     ensures due { (p : Program) (w : WellFormed p) (steps : ℕ) (s : State) (g : Progress)
         → IsReached p w steps s g
-        → (l : Step) (s' : State) (st : IsStep (code_of p) s l s') → steps + 1 < 2 ^ 32
+        → (l : Step) (s' : State) (st : IsOwnStep (code_of p) s l s') → steps + 1 < 2 ^ 32
         → visible_step p (look (code_of p) l.thread st.thread) (answer_in s s' l.thread l.woken
         (look (code_of p) l.thread st.thread) st.moves) ≡ true → IsDue p s' l.thread g }
     ensures explained { (p : Program) → WellFormed p → (steps : List Step) (s : State)

@@ -7,6 +7,7 @@ use Rattle.program.specs.declared.kinds.MemberType.{MemberType}
 use Rattle.program.specs.declared.kinds.MemberType.TheVariants.{Variable, Condition, Array}
 use Rattle.program.specs.Trees.{Monitor, Program}
 use Rattle.program.specs.Scope.{member_in, member_type}
+use Rattle.proof_thread.specs.Variables.{is_condition}
 use Rattle.program.specs.WellFormed.{member_words}
 use Rattle.lowering.specs.Cells.{OfMember, address, IsCell}
 use Rattle.lowering.specs.Cells as C
@@ -16,7 +17,7 @@ use Rattle.lowering_limits.proofs.Memory.{inside}
 use Rattle.protocol.specs.Cells.{Cell, LockOf, LinkOf, HeadOf, PendingOf, IdOf, ClaimOf, ResultOf, OutcomeOf}
 use Rattle.protocol.specs.Cells.{SequenceOf}
 use Rattle.proof_thread.specs.Variables.{HasIndex, IsVariable, variable_address}
-use Rattle.proof_templates.specs.Layout.{place, valid, is_condition}
+use Rattle.proof_templates.specs.Layout.{place, valid}
 use Rattle.proof_templates.proofs.Layouts.{in_code, same_place, is_cell}
 
 -- a variable is a word of its member

@@ -12,6 +12,7 @@ use Rattle.program.specs.declared.kinds.MemberType.TheVariants.{Variable, Condit
 use Rattle.program.specs.Trees.{Monitor, Program}
 use Rattle.program.specs.declared.kinds.Member.{Member}
 use Rattle.program.specs.Scope.{member_in, member_type}
+use Rattle.proof_thread.specs.Variables.{is_condition}
 use Rattle.program.specs.WellFormed.{WellFormed}
 use Rattle.lowering.specs.Cells.{Cell as CodeCell, OfProcess, Link, Lock, OfMember, address, IsCell}
 use Rattle.lowering.specs.Pieces.{code_of}
@@ -21,7 +22,7 @@ use Rattle.protocol.specs.Cells.{Cell, LockOf, LinkOf, HeadOf, PendingOf, IdOf, 
 use Rattle.protocol.specs.Cells.{SequenceOf}
 use Rattle.protocol.specs.Memory.{IsApart}
 use Rattle.protocol.specs.Exits.{IsLayout}
-use Rattle.proof_templates.specs.Layout.{place, valid, is_process, is_monitor, is_condition}
+use Rattle.proof_templates.specs.Layout.{place, valid, is_process, is_monitor}
 use Rattle.std.proofs.lemmas.Bool.{ltb-true, leb-true}
 
 -- a word of the protocol as a word of the program, and back
@@ -89,7 +90,7 @@ monitor_there : (o : Option Monitor) → is_some o ≡ true → (x : Monitor) ×
 monitor_there None h = absurd cc
 monitor_there (Some x) h = (x, refl)
 
-condition_there : (o : Option Monitor) (n : ℕ) → is_condition (member_in o n) ≡ true
+pub condition_there : (o : Option Monitor) (n : ℕ) → is_condition (member_in o n) ≡ true
     → (x : Monitor) × (o ≡ Some x) × (slice_get x.members n ≡ Some Condition)
 condition_there None n h = absurd cc
 condition_there (Some x) n h = (x, refl, by_type (slice_get x.members n) h)

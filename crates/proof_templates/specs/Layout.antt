@@ -2,10 +2,9 @@
 use Rattle.std.specs.Prelude.{ℕ, Bool, true, false, ◌&&◌, nat_lt, nat_le, Option, Some, None, is_some, slice_get}
 use Rattle.words.specs.Versions.{most_of}
 use Rattle.words.specs.Process.{process_word}
-use Rattle.program.specs.declared.kinds.MemberType.{MemberType}
-use Rattle.program.specs.declared.kinds.MemberType.TheVariants.{Variable, Condition, Array}
 use Rattle.program.specs.Trees.{Program}
 use Rattle.program.specs.Scope.{member_type}
+use Rattle.proof_thread.specs.Variables.{is_condition}
 use Rattle.lowering.specs.Layout.{link_word, lock_word_address, member_address}
 use Rattle.protocol.specs.Cells.{Cell, LockOf, LinkOf, HeadOf, PendingOf, IdOf, ClaimOf, ResultOf, OutcomeOf}
 use Rattle.protocol.specs.Cells.{SequenceOf}
@@ -29,13 +28,6 @@ is_process p t = nat_lt 0 t && nat_le t (most_of p.version)
 -- whether the program has a monitor of this number
 abbrev pub is_monitor : Program → ℕ → Bool
 is_monitor p m = is_some (slice_get p.monitors m)
-
--- whether a member's type is that of a condition
-abbrev pub is_condition : Option MemberType → Bool
-is_condition None = false
-is_condition (Some (Variable t)) = false
-is_condition (Some Condition) = true
-is_condition (Some (Array n)) = false
 
 -- the program has the word
 abbrev pub valid : Program → Cell → Bool

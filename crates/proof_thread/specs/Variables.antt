@@ -1,5 +1,5 @@
 -- The variables of monitors: which there are, where they lie, and values that fit them.
-use Rattle.std.specs.Prelude.{ℕ, ℤ, ◌≡◌, ◌<◌, ◌≤◌, ◌+◌, Option, Some, None}
+use Rattle.std.specs.Prelude.{ℕ, ℤ, ◌≡◌, ◌<◌, ◌≤◌, ◌+◌, Bool, true, false, Option, Some, None}
 use Rattle.words.specs.Versions.{most_of}
 use Rattle.program.specs.declared.kinds.ValueType.TheVariants.{Integer}
 use Rattle.program.specs.declared.kinds.MemberType.{MemberType}
@@ -10,6 +10,13 @@ use Rattle.program.specs.Scope.{member_type}
 use Rattle.lowering.specs.Layout.{member_address}
 use Rattle.meaning.specs.Values.{Variables}
 use Rattle.proof_thread.specs.Typed.{HasValue}
+
+-- whether a member's type is that of a condition
+abbrev pub is_condition : Option MemberType → Bool
+is_condition None = false
+is_condition (Some (Variable t)) = false
+is_condition (Some Condition) = true
+is_condition (Some (Array n)) = false
 
 -- the member has a variable of this index: 0 where it is no array; a condition has none
 abbrev pub HasIndex : Option MemberType → ℕ → Type 0

@@ -16,6 +16,7 @@ use Rattle.meaning.specs.States.{SourceState}
 use Rattle.meaning.specs.Runs.{IsRun, CanMove}
 use Rattle.proof_thread.specs.Variables.{variable_address, IsVariable}
 use Rattle.refinement.specs.Seen.{machine_end, source_end}
+use Rattle.refinement.specs.Outside.{stray_threads}
 use Rattle.refinement.specs.Pace.{KeepsPace, stretch_length}
 
 -- the thread sleeps
@@ -46,10 +47,6 @@ is_kill_kind other = false
 abbrev pub processes_of : (Kind → Bool) → List Action → List ℕ
 processes_of test actions = map (λ a. a.process) (filter (λ a. test a.kind) actions)
 
--- the same among the machine's steps: this machine makes none
-abbrev pub stray_threads : List Step → List ℕ
-stray_threads steps = []
-
 -- the threads that were killed in these steps of the machine, which kills none
 abbrev pub killed_threads : List Step → List ℕ
 killed_threads steps = []
@@ -74,7 +71,7 @@ pub record Explained (p : Program) (image : Image) (steps : List Step) (s : Stat
   -- the source goes on with the machine
   pub pace : KeepsPace (stretch_length p) steps actions
   -- what came from outside is the same, in order
-  pub strays : processes_of is_stray_kind actions ≡ stray_threads steps
+  pub strays : processes_of is_stray_kind actions ≡ stray_threads p steps
   pub kills : processes_of is_kill_kind actions ≡ killed_threads steps
 
 -- each run of the machine on the image, of fewer than 2^32 steps, is explained by a run of the program; and a thread

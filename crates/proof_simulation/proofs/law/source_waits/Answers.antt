@@ -1,4 +1,4 @@
-use Rattle.proof_simulation.proofs.Tracking.{opens_deferred, tracks_deferred, catches_up_deferred}
+use Rattle.proof_simulation.proofs.Tracking.{opens_deferred, tracks_deferred, tracks_stray, catches_up_deferred}
 use Rattle.proof_simulation.proofs.Tracking.{takes_visible_deferred}
 use Rattle.proof_simulation.proofs.Finishing.{finishes}
 use Rattle.proof_simulation.proofs.law.source_waits.Goals as goal
@@ -14,6 +14,9 @@ returns-clause-catches_up c = catches_up_deferred
 
 pub returns-clause-takes_visible : goal.returns-clause-takes_visible
 returns-clause-takes_visible c = takes_visible_deferred
+
+pub returns-clause-strays : goal.returns-clause-strays
+returns-clause-strays c = tracks_stray
 
 pub returns-clause-finishes : goal.returns-clause-finishes
 returns-clause-finishes c = finishes
