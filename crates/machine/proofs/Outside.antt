@@ -102,6 +102,8 @@ slept s t v a h = elim (cases_eq v t) [
 pub keeps_dropped : (p : Program) (k : ConcreteState) (t : ℕ) → IsWellFormed p k
     → IsWellFormed p (record { common = drop_sleeper k.common t; threads = k.threads })
 keeps_dropped p k t concrete = record {
+  most = concrete.most;
+  fits = concrete.fits;
   sized = concrete.sized;
   some = concrete.some;
   few = concrete.few;
@@ -112,7 +114,7 @@ keeps_dropped p k t concrete = record {
 -- who sleeps is a thread
 pub is_sleeper : (p : Program) (k : ConcreteState) (t a : ℕ) → IsWellFormed p k → k.common.asleep t ≡ Some a
     → IsThread t
-is_sleeper p k t a concrete at = let r = concrete.made t a at in (r.0, omega (arith, r.1, concrete.few))
+is_sleeper p k t a concrete at = let r = concrete.made t a at in (r.0, omega (arith, r.1, concrete.few, concrete.fits))
 
 with_one : (s : ℕ → Option ℕ) (t : ℕ) → with_place s (t ∷ []) None ≡ put s t None
 with_one s t = fun_ext (λ v. by_place s t None v _ (awake_then s t v) (as_before s t v))

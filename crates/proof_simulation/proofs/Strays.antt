@@ -7,7 +7,8 @@ use Rattle.words.specs.Updates.{put}
 use Rattle.machine.specs.States.{State, with_sleepers}
 use Rattle.machine.specs.AbstractServing.{shared_of}
 use Rattle.program.specs.declared.kinds.Member.{Member}
-use Rattle.program.specs.Scope.{member_type, is_condition}
+use Rattle.program.specs.Scope.{member_type}
+use Rattle.proof_thread.specs.Variables.{is_condition}
 use Rattle.program.specs.Trees.{Monitor, Program}
 use Rattle.program.specs.WellFormed.{WellFormed}
 use Rattle.lowering.specs.Layout.{member_address}
@@ -281,11 +282,11 @@ module _ (p : Program) (w : WellFormed p) where
       number : (0 < t) × (t ≤ k.world.made)
       number = good.threads.number t (made_asleep (k.world.at t).point (at_sleep k.world c.table t x good there))
 
-      reached : Reached (woken_world k.world t) (after_stray t o c).table
+      reached : Reached p.version (woken_world k.world t) (after_stray t o c).table
       reached =
-          subst (λ (i : Option Member). Reached (woken_world k.world t) (after_stray t i c).table) (sym so)
-          (subst (λ (T : Table). Reached (woken_world k.world t) T) (stray_table k.world t x c)
-          (subst (λ (v : World). Reached v (table_after k.world c.table t (stray_move x (k.world.at t).point)))
+          subst (λ (i : Option Member). Reached p.version (woken_world k.world t) (after_stray t i c).table) (sym so)
+          (subst (λ (T : Table). Reached p.version (woken_world k.world t) T) (stray_table k.world t x c)
+          (subst (λ (v : World). Reached p.version v (table_after k.world c.table t (stray_move x (k.world.at t).point)))
           (stray_after k.world t x)
           (reached_on k.world c.table t (stray_move x (k.world.at t).point) k.reached
           (stray_can k.world t x number there))))
@@ -306,7 +307,7 @@ module _ (p : Program) (w : WellFormed p) where
       Tied i = (x : Corresponds p w (suc steps) (with_sleepers s (put s.asleep t None)) (after_stray t i c))
           × ((u : ℕ) → stages x.world u ≡ stages k.world u)
 
-      tied : (i : Option Member) → Reached (woken_world k.world t) (after_stray t i c).table → Tied i
+      tied : (i : Option Member) → Reached p.version (woken_world k.world t) (after_stray t i c).table → Tied i
       tied None r = (
         record {
           world = woken_world k.world t;
