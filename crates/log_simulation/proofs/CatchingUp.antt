@@ -43,7 +43,7 @@ module _ (p : Program) (a : SourceState) (t : ℕ) (o : Offer) (q : Process) (la
 
   pub visible_here : (s : State) (resumed : List ℕ) → is_internal label ≡ false → Resumes p s a.table label
       → ((c : Member) → resumed_only o ≡ Some c → resumed ≡ awake_waiters p s a.table c)
-      → visible_kind o a.table.made resumed ≡ Some (kind_of label)
+      → visible_kind o a.table.most a.table.made resumed ≡ Some (kind_of label)
   visible_here s resumed visible who waiters = visible_found p q t a.table can.table label can.effect can.after s o
       resumed
       takes can.allows visible who waiters

@@ -3,7 +3,6 @@ use Rattle.std.proofs.Common.{◌≡◌, ℕ, Bool, true, false, List, Some, ref
 use Rattle.std.proofs.Common.{sym, ◌∙◌, subst, inl, inr}
 use Rattle.std.proofs.lemmas.Bool.{false≢true, lt-ltb}
 use Rattle.std.specs.Prelude.{if◌then◌else◌, nat_lt}
-use Rattle.words.specs.Limits.{most_threads}
 use Rattle.machine.specs.States.{State}
 use Rattle.program.specs.declared.kinds.Member.{Member}
 use Rattle.program.specs.Trees.{Program}
@@ -32,12 +31,12 @@ module _ (p : Program) (q : ProcessOf) (t : ℕ) (T T' : Table) (label : L.Label
   pub visible_found : (s : State) (o : Offer) (resumed : List ℕ) → TakesUp (offer_of p o q) label effect after
       → Allows t label T T' → is_internal label ≡ false → Resumes' p s T label
       → ((c : Member) → resumed_only o ≡ Some c → resumed ≡ awake_waiters p s T c)
-      → visible_kind o T.made resumed ≡ Some (kind_of label)
+      → visible_kind o T.most T.made resumed ≡ Some (kind_of label)
   visible_found s (Own Rests) resumed takes allows visible who waiters = absurd takes
   visible_found s (Own (Does l e)) resumed takes allows visible who waiters = ap (λ i. Some (kind_of i)) (sym takes.0)
   visible_found s (Own (Makes child into)) resumed (inl made) allows visible who waiters =
       let here = subst (λ i. Allows t i T T') made.1 allows in
-      chosen (nat_lt T.made most_threads) _ _ (lt-ltb T.made most_threads here.0)
+      chosen (nat_lt T.made T.most) _ _ (lt-ltb T.made T.most here.0)
       ∙ ap (λ n. Some (L.Fork n)) (sym here.1) ∙ ap (λ i. Some (kind_of i)) (sym made.1)
   visible_found s (Own (Makes child into)) resumed (inr full) allows visible who waiters =
       absurd (false≢true (sym visible ∙ ap is_internal full.0))

@@ -109,7 +109,10 @@ module _ (p : Program) (events : List EventStep) (k k' : ConcreteState) (e : Ent
 pub within_most : (p : Program) (events : List EventStep) (k : ConcreteState) (g : Progress) (t : ℕ) (o : Thread)
     → ComesTo p events k g → thread_of k t ≡ Some o → t ≤ most_threads
 within_most p events k g t o comes stands =
-    let made = within_made k.threads t o stands in let few = comes.kept.few in omega (arith, made, few)
+    let made = within_made k.threads t o stands in
+    let few = comes.kept.few in
+    let fits = comes.kept.fits in
+    omega (arith, made, few, fits)
 
 -- a log has as many steps as it costs
 pub cost_steps : (p : Program) (log : List Entry) (k : ConcreteState)

@@ -4,7 +4,6 @@ use Rattle.std.proofs.Common.{Option, Some, None, Result, Ok, Err, refl, ap, sym
 use Rattle.std.proofs.Common.{lt-ltb}
 use Rattle.std.specs.Prelude.{◌-◌, nat_lt, if◌then◌else◌}
 use Rattle.std.proofs.lemmas.Bool.{eq-eqb, ne_eqb}
-use Rattle.words.specs.Limits.{most_threads}
 use Rattle.words.specs.Process.{process_word}
 use Rattle.locals.specs.Threads.{Thread, opening_thread}
 use Rattle.locals.specs.Looks.{Request, AskLoad, AskSwap, AskCompareSwap, AskFork, Look, Goes, Asks, Leaves, Breaks}
@@ -85,11 +84,11 @@ module _ (p : Program) (k k' : ConcreteState) (t : ℕ) (event : Event) (done : 
       → Serves t (AskFork entry arguments room) s woken answer mid → Gives (Asks (AskFork entry arguments room) go)
       → event.value ≡ answer
   by_fork go entry arguments room answer mid (none, inl (full, is, same)) h =
-      (by_room go entry arguments (length k.threads == most_threads) room h).0
-      (eq-eqb (length k.threads) most_threads full) ∙ sym is
+      (by_room go entry arguments (length k.threads == k.common.most) room h).0
+      (eq-eqb (length k.threads) k.common.most full) ∙ sym is
   by_fork go entry arguments room answer mid (none, inr (less, has, is, same)) h =
-      (by_room go entry arguments (length k.threads == most_threads) room h).1
-      (ne_eqb (length k.threads) most_threads (λ e. absurd (omega (arith, less, e)))) ∙ sym is
+      (by_room go entry arguments (length k.threads == k.common.most) room h).1
+      (ne_eqb (length k.threads) k.common.most (λ e. absurd (omega (arith, less, e)))) ∙ sym is
 
   -- what a request shows is told by the value of its event
   by_request : (request : Request) (go : ℕ → Thread) (answer : ℕ) (mid : State) → Serves t request s woken answer mid

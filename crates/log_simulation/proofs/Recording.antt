@@ -4,6 +4,7 @@ use Rattle.std.proofs.Common.{refl, ap, sym, ◌∙◌, arith, subst}
 use Rattle.std.specs.Prelude.{◌^◌, ◌++◌, MatchBool, map}
 use Rattle.std.proofs.lemmas.List.{append-nil, append_assoc, length-map}
 use Rattle.words.specs.Updates.{put}
+use Rattle.words.specs.declared.version.ImageVersion.{ImageVersion}
 use Rattle.locals.specs.Threads.{Thread}
 use Rattle.locals.specs.Looks.{look}
 use Rattle.locals.specs.Steps.{local_after}
@@ -79,14 +80,15 @@ still_of p r r' of checked layout marks places = record {
 
 -- what is heard of a step
 pub is_visible_so : (p : Program) (f : Follower) (image : Image) (t : ℕ) (here : Thread) (step : NextStep) (v : ℕ)
-    (b : Bool)
-    → said_by f.checked.now ≡ p → f.layout ≡ layout_of p → image ≡ code_of p
+    (b : Bool) (version : ImageVersion) → version ≡ image.version → said_by f.checked.now ≡ p → f.layout ≡ layout_of p → image ≡ code_of p
     → step ≡ next_step_of (look image t here)
-    → (f.layout ≡ layout_of (said_by f.checked.now) → b ≡ visible_step (said_by f.checked.now) step v)
+    → (version ≡ (said_by f.checked.now).version → f.layout ≡ layout_of (said_by f.checked.now)
+    → b ≡ visible_step (said_by f.checked.now) step v)
     → is_visible p (look (code_of p) t here) v ≡ b
-is_visible_so p f image t here step v b program layout own is is_visible =
+is_visible_so p f image t here step v b version same program layout own is is_visible =
     let told : b ≡ visible_step p step v =
-    subst (λ q. f.layout ≡ layout_of q → b ≡ visible_step q step v) program is_visible layout in
+    subst (λ (q : Program). version ≡ q.version → f.layout ≡ layout_of q → b ≡ visible_step q step v) program
+    is_visible (same ∙ ap (λ (i : Image). i.version) own) layout in
     let there : step ≡ next_step_of (look (code_of p) t here) =
     is ∙ ap (λ i. next_step_of (look i t here)) own in
     sym (told ∙ ap (λ s. visible_step p s v) there ∙ visible_so p (look (code_of p) t here) v)

@@ -6,7 +6,6 @@ ghost use Rattle.log_simulation.specs.Choosing.{visible_kind, visible_own, resum
 use program::Member;
 use source_offers::{Offer, Offered};
 use source_states::{ActionKind, SourceState, named};
-use words::MOST_THREADS;
 
 /// The condition that a process with this offer notifies or broadcasts.
 pub fn notified(offer: &Offer) -> Option<Member>
@@ -20,16 +19,14 @@ pub fn notified(offer: &Offer) -> Option<Member>
     }
 }
 
-// The visible action of what a process does for itself, where so many processes were made.
-fn visible_alone(offered: &Offered, made: u64, resumed: Vec<u64>) -> Option<ActionKind>
-    ensures { option_map kind_of result ≡ visible_own offered.now made resumed.items }
+// The visible action of what a process does for itself, where there can be so many processes and so many were made.
+fn visible_alone(offered: &Offered, most: u64, made: u64, resumed: Vec<u64>) -> Option<ActionKind>
+    ensures { option_map kind_of result ≡ visible_own offered.now most made resumed.items }
 {
     match offered {
         Offered::Rests => None,
         Offered::Does(label, _) => Some(named(*label)),
-        Offered::Makes(_, _) if made < u64::from(MOST_THREADS) => Some(ActionKind::Fork(
-            made + 1,
-        )),
+        Offered::Makes(_, _) if made < most => Some(ActionKind::Fork(made + 1)),
         Offered::Makes(_, _) => None,
         Offered::Claims { child, .. } => Some(ActionKind::Claim(*child)),
         Offered::NotifiesSome(condition) => Some(ActionKind::Notify(*condition, resumed)),
@@ -39,11 +36,11 @@ fn visible_alone(offered: &Offered, made: u64, resumed: Vec<u64>) -> Option<Acti
 
 /// The visible action of a process with this offer; a notify or a broadcast resumes these.
 pub fn visible_action(offer: &Offer, state: &SourceState, resumed: Vec<u64>) -> Option<ActionKind>
-    ensures { option_map kind_of result
-        ≡ visible_kind offer.now (state_of state.now).table.made resumed.items }
+    ensures { let table = (state_of state.now).table in
+        option_map kind_of result ≡ visible_kind offer.now table.most table.made resumed.items }
 {
     match offer {
-        Offer::Own(offered) => visible_alone(offered, state.made(), resumed),
+        Offer::Own(offered) => visible_alone(offered, state.most(), state.made(), resumed),
         Offer::Enters(monitor) => Some(ActionKind::Enter(*monitor)),
         Offer::Resumes(monitor) => Some(ActionKind::Resume(*monitor)),
         Offer::Joins { child, .. } => Some(ActionKind::Join(*child)),

@@ -25,7 +25,7 @@ use program::{Checked, Member};
 use source_offers::Offer;
 use source_states::{Action, ActionKind, SourceState};
 use std::alloc::{AllocError, Global};
-use words::Addr;
+use words::{Addr, ImageVersion};
 
 /// A run of the source that follows a run of the machine: where it led, and its actions.
 #[derive(Drop)]
@@ -66,13 +66,14 @@ impl<'a> Follower<'a> {
     }
 
     /// Whether the step of a thread that comes to this, with this value in its event, is a visible action of its
-    /// process.
-    pub fn is_visible(&self, step: NextStep, value: u32) -> bool
-        ensures { self.now.layout ≡ layout_of (said_by self.now.checked.now)
+    /// process, in the program's image of this version.
+    pub fn is_visible(&self, version: ImageVersion, step: NextStep, value: u32) -> bool
+        ensures { version ≡ (said_by self.now.checked.now).version
+            → self.now.layout ≡ layout_of (said_by self.now.checked.now)
             → result ≡ visible_step (said_by self.now.checked.now) step value }
     {
         let monitors = self.checked.program().monitors.len() as u32;
-        is_visible(&self.layout, monitors, step, value)
+        is_visible(version, &self.layout, monitors, step, value)
     }
 
     // Takes an action, if it is possible; else nothing is known of the state.

@@ -195,7 +195,7 @@ impl<'a> Recorder<'a> {
             return Ok(());
         }
         let step = here.next_step(image, t);
-        if self.follower.is_visible(step, event.value) {
+        if self.follower.is_visible(image.version(), step, event.value) {
             let count = self.take_deferred(t);
             self.is_whole = self.follower.follow(machine, t, count)?;
         } else {

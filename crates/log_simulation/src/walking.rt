@@ -15,10 +15,7 @@ use locals::Local;
 use machine::{Entry, Event, Machine};
 use robustexit::ExitPhase;
 use std::alloc::{AllocError, Global};
-use words::MOST_THREADS;
-
-// How many buckets its sleepers are kept in: one for each thread that there can be.
-const BUCKETS: u32 = MOST_THREADS;
+use words::BUCKETS;
 
 // Takes the shared step of thread `t`; false where it isn't this event.
 fn take_shared(machine: &mut Machine, t: u32, event: Event) -> bool

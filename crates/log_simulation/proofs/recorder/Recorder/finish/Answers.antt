@@ -10,10 +10,11 @@ pub returns : goal.returns
 returns c = λ p events w along whole.
     let k = concrete c.args.machine.now in
     let few = along.comes.kept.few in
+    let fits = along.comes.kept.fits in
     finishes p w events k c.args.self c.take_rest.new.self.follower
     (map action_of c.into_actions.result.items) along whole
     (λ g ahead matches waits behind.
     subst (λ (n : ℕ). Matches c.take_rest.new.self.follower (progress_rest p n g)) c.threads.ensures.value
     (c.in_ok-take_rest.ensures p g ahead along.of_program
-    (let made = c.threads.ensures.value in omega (arith, few, made)) matches waits behind))
+    (let made = c.threads.ensures.value in omega (arith, few, fits, made)) matches waits behind))
     (ap (λ i. map action_of i) c.into_actions.ensures)

@@ -38,7 +38,7 @@ returns-in_ok-self c = λ p n g own of less tells due.
     let steps : taken.steps ≡ n + 1 =
     ap (λ r. r.steps) c.take_deferred-count.ensures.kept ∙ (omega (arith, d.2, was)) in
     let is = is_visible_so p counted.follower c.args.image.now t here c.next_step-step.result v c.is_visible.result
-    (ap (λ (x : Follower). said_by x.checked.now) first ∙ of.program)
+    c.version.result c.version.ensures.value (ap (λ (x : Follower). said_by x.checked.now) first ∙ of.program)
     (ap (λ (x : Follower). x.layout) first ∙ of.layout)
     own c.next_step-step.ensures c.is_visible.ensures ∙ c.if-is_visible.true in
     let waits = subst (λ (w : List Deferred). CountsDeferred w g.deferred)
@@ -80,7 +80,7 @@ returns-else-is_visible c = λ p n g own of less tells due.
     let follower = ap (λ r. r.follower) c.delay.ensures.kept ∙ first in
     let marks = ap (λ r. r.marks) c.count.ensures.kept in
     let is = is_visible_so p counted.follower c.args.image.now t here c.next_step-step.result v c.is_visible.result
-    (ap (λ (x : Follower). said_by x.checked.now) first ∙ of.program)
+    c.version.result c.version.ensures.value (ap (λ (x : Follower). said_by x.checked.now) first ∙ of.program)
     (ap (λ (x : Follower). x.layout) first ∙ of.layout)
     own c.next_step-step.ensures c.is_visible.ensures ∙ c.if-is_visible.false in
     let deferral = deferral_told p c.args.image.now t v here counted.marks.items c.mark_at-mark.result
