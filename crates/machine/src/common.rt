@@ -99,7 +99,7 @@ impl Common {
 
     /// Takes thread `t` out of its list, if it sleeps: it is awake then.
     pub fn drop_sleeper(&mut self, t: u32)
-        requires { t ≤ most_processes }
+        requires { t ≤ most_threads }
         ensures dropped { common self.new ≡ drop_sleeper (common self.old) t }
         ensures capacity { self.new.capacity ≡ self.old.capacity }
     {

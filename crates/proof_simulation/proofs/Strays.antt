@@ -250,7 +250,7 @@ module _ (p : Program) (w : WellFormed p) where
   }
     where
       good : Good k.world c.table
-      good = reached_good k.world c.table k.reached
+      good = reached_good p.version k.world c.table k.reached
 
       found : (y : Spot) × (k.world.asleep t ≡ Some y) × (a ≡ place p (cell_of y))
       found = spot_of p (s.asleep t) (k.world.asleep t) a (k.shares.sleeps t) sleeps
@@ -288,7 +288,7 @@ module _ (p : Program) (w : WellFormed p) where
           (subst (λ (T : Table). Reached p.version (woken_world k.world t) T) (stray_table k.world t x c)
           (subst (λ (v : World). Reached p.version v (table_after k.world c.table t (stray_move x (k.world.at t).point)))
           (stray_after k.world t x)
-          (reached_on k.world c.table t (stray_move x (k.world.at t).point) k.reached
+          (reached_on p.version k.world c.table t (stray_move x (k.world.at t).point) k.reached
           (stray_can k.world t x number there))))
 
       shares : Shares (place p) (valid p) (shared_of (with_sleepers s (put s.asleep t None))) (woken_world k.world t)
@@ -314,6 +314,7 @@ module _ (p : Program) (w : WellFormed p) where
           reached = r;
           shares = shares;
           size = k.size;
+          most = k.most;
           made = k.made;
           output = k.output;
           variables = k.variables;
@@ -332,6 +333,7 @@ module _ (p : Program) (w : WellFormed p) where
           reached = r;
           shares = shares;
           size = k.size;
+          most = k.most;
           made = k.made;
           output = k.output;
           variables = k.variables;
