@@ -11,6 +11,7 @@ use Rattle.meaning.specs.Labels.{Aborted, Action, Ended, Kill, Kind, Stray}
 use Rattle.meaning.specs.Processes.{Over, Process}
 use Rattle.meaning.specs.States.{SourceState}
 use Rattle.proof_exploration.specs.Exploring.{AreOwn, HasAborted, IsFromOutside, IsOver, IsStuck}
+use Rattle.refinement.specs.Outside.{stray_threads}
 use Rattle.refinement.specs.Refines.{Explained, Refines, is_kill_kind, is_stray_kind, processes_of}
 use Rattle.refinement.specs.Seen.{machine_end, process_end}
 use Rattle.source_search.specs.Found.{LeadsNowhere}
@@ -52,12 +53,12 @@ has_aborted s q cause (Some (Over (Ended z))) is e = absurd (cc)
 has_aborted s q cause (Some other) is e = absurd (cc)
 
 module _ (p : Program) (image : Image) (steps : List Step) (s : State) (refines : Refines p image)
-    (run : MachineRun image steps s) (few : length steps < 2 ^ 32) where
+    (run : MachineRun image steps s) (few : length steps < 2 ^ 32) (calm : stray_threads p steps ≡ []) where
   explained : Explained p image steps s
   explained = refines.follows steps s run few
 
   own : AreOwn explained.actions
-  own = are_own explained.actions explained.strays explained.kills
+  own = are_own explained.actions (explained.strays ∙ calm) explained.kills
 
   pub all_over : LeadsNowhere p (IsStuck p) → ((t : ℕ) → CanStep s t → ⊥) → AllOver p s
   all_over nowhere rests = record {
