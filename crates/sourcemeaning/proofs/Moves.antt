@@ -2,7 +2,6 @@
 use Rattle.std.proofs.Common.{if◌then◌else◌, ◌≡◌, ◌⊎◌, ◌↔◌, ◌<◌, ◌≤◌, ◌+◌, ℕ, Bool, true, false, MatchBool, List, []}
 use Rattle.std.proofs.Common.{Option, Some, None, Contains, refl, sym, ◌∙◌, subst, inl, inr, arith}
 use Rattle.std.specs.Prelude.{IsSome}
-use Rattle.words.specs.Limits.{most_threads}
 use Rattle.words.specs.Updates.{put}
 use Rattle.program.specs.declared.kinds.Member.{Member}
 use Rattle.program.specs.Trees.{Program}
@@ -40,7 +39,7 @@ free_label n t (Notifies c resumed) h = absurd h
 free_label n t (Broadcasts c resumed) h = absurd h
 
 made_or_full : (n : ℕ) (t : Table) (q : Process) (after : ℕ → Process) (full : Process)
-    → (t.made < most_threads) ⊎ (most_threads ≤ t.made) → CanBeTakenUp n t (MakesOne q after full)
+    → (t.made < t.most) ⊎ (t.most ≤ t.made) → CanBeTakenUp n t (MakesOne q after full)
 made_or_full n t q after full (inl h) = record {
   label = Forks (t.made + 1);
   effect = Makes (t.made + 1) q;
@@ -95,7 +94,7 @@ free_moves n t (Does l e q) has h = record {
   allows = (free_label n t l h).1;
 }
 free_moves n t (Takes l free abandoned) has h = absurd h
-free_moves n t (MakesOne q after full) has h = made_or_full n t q after full (below_or_not t.made most_threads)
+free_moves n t (MakesOne q after full) has h = made_or_full n t q after full (below_or_not t.made t.most)
 free_moves n t (ClaimsOne child after refused) has h = claimed_or_not n t child after refused (t.claimed child) refl
 free_moves n t (JoinsOne child after) has h = absurd h
 free_moves n t (NotifiesSome c q) has h = record {
