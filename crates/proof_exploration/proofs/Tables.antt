@@ -6,7 +6,6 @@ use Rattle.std.proofs.Common.{refl, sym, ap, ◌∙◌, subst, arith, inl, inr, 
 use Rattle.std.specs.Prelude.{⊤}
 use Rattle.std.proofs.lemmas.Bool.{cases_eq}
 use Rattle.words.specs.Updates.{put}
-use Rattle.words.specs.Limits.{most_threads}
 use Rattle.program.specs.declared.kinds.Member.{Member}
 use Rattle.meaning.specs.Labels.{End, Label, Alone, Stores, Forks, FindsFull, Claims, FindsClaimed, Joins, Enters}
 use Rattle.meaning.specs.Labels.{Resumes, Exits, Waits, Notifies, Broadcasts, Abandons, Ends}
@@ -53,6 +52,7 @@ over_after t (Some end) o = put o t (Some end)
 
 abbrev pub table_after : ℕ → Label → Table → Table
 table_after t l T = record {
+  most = T.most;
   hold = hold_after t (change_of l) T.hold;
   waits = waits_after t (wait_change l) T.waits;
   claimed = claimed_after l T.claimed;
@@ -62,8 +62,8 @@ table_after t l T = record {
 
 -- what an action needs of the table
 abbrev pub Guard : ℕ → Label → Table → Type 0
-Guard p (Forks child) t = (t.made < most_threads) × (child ≡ t.made + 1)
-Guard p FindsFull t = most_threads ≤ t.made
+Guard p (Forks child) t = (t.made < t.most) × (child ≡ t.made + 1)
+Guard p FindsFull t = t.most ≤ t.made
 Guard p (Claims child) t = t.claimed child ≡ false
 Guard p (FindsClaimed child) t = t.claimed child ≡ true
 Guard p (Joins child end) t = t.over child ≡ Some end
@@ -399,6 +399,7 @@ module _ (t u : ℕ) (l k : Label) (T : Table) (o : t ≢ u) (calm : IsCalm l) (
   -- both orders lead to one table
   pub table_swap : table_after u k (table_after t l T) ≡ table_after t l (table_after u k T)
   table_swap = λ i. record {
+    most = T.most;
     hold = λ m. hold_swap t u (change_of l) (change_of k) T.hold m o (calm_untaken l calm) (change_fits t l T g f)
         (change_fits u k T h e) i;
     waits = λ q. waits_swap t u (wait_change l) (wait_change k) T q o (wait_fits t l T g f) (wait_fits u k T h e) i;
@@ -469,8 +470,8 @@ stays_calm t u l (Notifies c qs) T o calm g f h e = notified_kept u t c qs l T (
 stays_calm t u l (Broadcasts c qs) T o calm g f h e = broadcast_kept u t c qs l T (o_sym t u o) e g f h
 stays_calm t u l (Forks child) T o calm g f h e =
     let made : made_after l T.made ≡ T.made = calm_made l T.made calm in
-    (subst (λ n. n < most_threads) (sym made) h.0, subst (λ n. child ≡ n + 1) (sym made) h.1)
-stays_calm t u l FindsFull T o calm g f h e = subst (λ n. most_threads ≤ n) (sym (calm_made l T.made calm)) h
+    (subst (λ n. n < T.most) (sym made) h.0, subst (λ n. child ≡ n + 1) (sym made) h.1)
+stays_calm t u l FindsFull T o calm g f h e = subst (λ n. T.most ≤ n) (sym (calm_made l T.made calm)) h
 stays_calm t u l (Claims child) T o calm g f h e = ap (λ c. c child) (calm_claimed l T.claimed calm) ∙ h
 stays_calm t u l (FindsClaimed child) T o calm g f h e = ap (λ c. c child) (calm_claimed l T.claimed calm) ∙ h
 stays_calm t u l (Enters m w) T o calm g f h e =

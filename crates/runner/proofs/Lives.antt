@@ -66,13 +66,14 @@ going_at place locals callers Misses = tt
 going_at place locals callers (Guards test e) = going_if test _ (going_at place locals callers e)
 going_at place locals callers (Checks test fault e) = going_or test fault _ (going_at place locals callers e)
 
-going_look : (t : ℕ) (i : Option Instr) (place : ℕ) (operands : List ℕ) (locals : Locals) (callers : List Frame)
-    → IsGoing (look_at t i place operands locals callers)
-going_look t None place operands locals callers = tt
-going_look t (Some i) place operands locals callers = going_at place locals callers (effect t i operands locals)
+going_look : (most t : ℕ) (i : Option Instr) (place : ℕ) (operands : List ℕ) (locals : Locals)
+    (callers : List Frame) → IsGoing (look_at most t i place operands locals callers)
+going_look most t None place operands locals callers = tt
+going_look most t (Some i) place operands locals callers =
+    going_at place locals callers (effect most t i operands locals)
 
 going : (p : Program) (t : ℕ) (x : Thread) → has_ended (Some x) ≡ false → IsGoing (look p t x)
-going p t (Runs place operands locals callers) h = going_look t _ place operands locals callers
+going p t (Runs place operands locals callers) h = going_look _ t _ place operands locals callers
 going p t (Dies cause) h = tt
 going p t (Exits (Entry e seen)) h = tt
 going p t (Exits Pending) h = tt

@@ -2,7 +2,7 @@ ghost use Rattle.words.specs.Limits.{most_threads};
 ghost use Rattle.std.specs.Prelude.{suc, ◌≡◌, ◌+◌, ◌<◌, ◌≤◌, length, slice_get, true, Some, IfErr, MatchBool, MatchOption, OnOk};
 ghost use Rattle.std.specs.List.{All};
 ghost use Rattle.machine.specs.ConcreteSteps.{can_move};
-ghost use Rattle.machine.specs.Views.{concrete};
+ghost use Rattle.machine.specs.Views.{concrete, IsWellFormed};
 ghost use Rattle.runner.specs.Reports.{CanFail};
 ghost use Rattle.runner.specs.Rounds.{Idle, IsDrawn, IsPickable, NoneLeft};
 ghost use Rattle.runner.specs.Views.{log_state};
@@ -42,8 +42,9 @@ pub fn run_drawn<J: RunName>(
 // that at the number modulo how many they are. None where there is none, and then no number is drawn.
 fn draw_thread(machine: &Machine, refused: &[bool], generator: &mut SplitMix64) -> Option<u32>
     requires room { length refused.now ≡ suc most_threads }
-    ensures { MatchOption result (NoneLeft (concrete machine.now) refused.now)
+    ensures drawn { MatchOption result (NoneLeft (concrete machine.now) refused.now)
         (λ t. IsDrawn (concrete machine.now) refused.now t) }
+    ensures kept { IsWellFormed machine.now.program (concrete machine.now) }
 {
     let mut movers: ArrayVec<u32, 64> = ArrayVec::new();
     for before in 0..machine.threads() {

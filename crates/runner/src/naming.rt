@@ -14,8 +14,9 @@ pub trait RunName: Ledger {
 
 impl RunName for Brand {
     ghost use Rattle.std.specs.Prelude.{[]};
+    ghost use Rattle.words.specs.declared.version.ImageVersion.TheVariants.{One};
 
-    ghost program = { record { monitors = []; start = 0; code = [] } };
+    ghost program = { record { version = One; monitors = []; start = 0; code = [] } };
 
     ghost limit = { 0 };
 }

@@ -1,6 +1,7 @@
 ghost use Rattle.words.specs.Limits.{most_threads};
 ghost use Rattle.std.specs.Prelude.{suc, ◌≡◌, ◌≤◌, ◌<◌, length, slice_set, true, false, IfOk, IfErr, OnOk};
 ghost use Rattle.machine.specs.ConcreteSteps.{can_move};
+ghost use Rattle.machine.specs.Views.{IsWellFormed};
 ghost use Rattle.runner.specs.Logs.{cost};
 ghost use Rattle.runner.specs.Reports.{CanFail, PassesLimit};
 ghost use Rattle.runner.specs.Rounds.{AllPast, Idle, IsPickable};
@@ -88,6 +89,7 @@ pub(crate) fn make_entry<J: RunName, G: Gate>(
     requires image { image.now ≡ J.program }
     requires room { length refused.old ≡ suc most_threads }
     requires thread { (0 < t) × (t ≤ most_threads) }
+    requires kept { IsWellFormed J.program (log_state shared.old).concrete }
     requires past { AllPast J.program J.limit (log_state shared.old) refused.old }
     ensures past { OnOk result (AllPast J.program J.limit (log_state shared.new) refused.new) }
     ensures made { IfOk result (λ made. made ≡ true → (cost shared.old.log < cost shared.new.log)
@@ -123,6 +125,7 @@ fn try_entry<J: RunName, G: Gate>(
     requires image { image.now ≡ J.program }
     requires room { length refused.old ≡ suc most_threads }
     requires thread { (0 < t) × (t ≤ most_threads) }
+    requires kept { IsWellFormed J.program (log_state shared.old).concrete }
     requires past { AllPast J.program J.limit (log_state shared.old) refused.old }
     ensures past { OnOk result (AllPast J.program J.limit (log_state shared.new) refused.new) }
     ensures made { IfOk result (λ made. made ≡ true → (cost shared.old.log < cost shared.new.log)

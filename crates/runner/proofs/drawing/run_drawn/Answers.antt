@@ -13,7 +13,7 @@ loop-t-init g c = none_past g.J.RunName.program g.J.RunName.limit (log_state c.a
 pub loop-t-smaller : goal.loop-t-smaller
 loop-t-smaller g c =
     let e = c.in_ok-make_entry.ensures in
-    let drawn = c.in-Some.ensures.0 in
+    let drawn = c.in-Some.ensures.drawn.0 in
     draws_end g.J.RunName.limit (cost c.loop-t.shared.log) (cost c.make_entry.new.shared.log)
     c.in_ok-make_entry.field-0 c.loop-t.refused c.make_entry.new.refused c.in-Some.t drawn.1 e.made
     (λ n. ap (λ (h : LogState). cost h.log) (e.none n).0) e.kept

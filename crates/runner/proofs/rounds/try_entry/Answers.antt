@@ -5,7 +5,6 @@ use Rattle.runner.specs.Views.{LogState, log_state}
 use Rattle.runner.specs.Entries.{RefusesEntry}
 use Rattle.runner.specs.Rounds.{AllPast}
 use Rattle.runner.proofs.Passing.{all_past, one_past, passes}
-use Rattle.runner.proofs.Unrolling.{holds}
 use Rattle.runner.proofs.rounds.try_entry.Goals as goal
 
 pub returns-in-Ok-clause-past : goal.returns-in-Ok-clause-past
@@ -14,7 +13,7 @@ returns-in-Ok-clause-past g c =
     slice_get-get_or c.args.refused.now c.args.t false (omega arith) ∙ ap Some c.if-refused-t.false in
     all_past g.J.RunName.program g.J.RunName.limit (log_state c.args.shared.now)
     (log_state c.step.new.self) c.args.t c.run-piece.result c.args.refused.now
-    (holds _ _ _ c.piece.ensures.legal) c.in-Ok.ensures.ok.0 free c.requires.past
+    c.requires.kept c.in-Ok.ensures.ok.0 free c.requires.past
 
 pub returns-in-Err-Limit-clause-past : goal.returns-in-Err-Limit-clause-past
 returns-in-Err-Limit-clause-past g c =
