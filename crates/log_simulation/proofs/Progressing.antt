@@ -2,7 +2,9 @@
 use Rattle.std.proofs.Common.{◌≡◌, ℕ, zero, suc, ◌+◌, ◌<◌, true, List, [], ◌∷◌, Option, Some, None, Ok, refl, ap}
 use Rattle.std.proofs.Common.{sym, ◌∙◌, subst, arith, length, length-set, length-append}
 use Rattle.std.specs.Prelude.{◌^◌, ◌-◌, ◌++◌}
+use Rattle.words.specs.Limits.{most_threads}
 use Rattle.words.specs.Updates.{put}
+use Rattle.words.specs.Versions.{most_of}
 use Rattle.locals.specs.Threads.{Thread}
 use Rattle.locals.specs.Looks.{Look, Goes, look}
 use Rattle.locals.specs.Steps.{local_after, and_step}
@@ -247,7 +249,7 @@ module _ (p : Program) where
         (thread_at-put k.threads e.thread enters.origin enters.here enters.stands) ends.1 (gives_so event ends.1) is_so
         (omega (arith, short, long, locals_long))
 
-  pub opens_so : ComesTo p [] (opening_concrete (code_of p)) (opening_progress p)
-  opens_so =
+  pub opens_so : most_of p.version ≤ most_threads → ComesTo p [] (opening_concrete (code_of p)) (opening_progress p)
+  opens_so fits =
       let o = opens_state (code_of p) in
-      record { kept = o.1; steps = []; run = sym o.0; labels = refl; comes = refl }
+      record { kept = o.1 fits; steps = []; run = sym o.0; labels = refl; comes = refl }

@@ -80,8 +80,8 @@ still_of p r r' of checked layout marks places = record {
 
 -- what is heard of a step
 pub is_visible_so : (p : Program) (f : Follower) (image : Image) (t : ℕ) (here : Thread) (step : NextStep) (v : ℕ)
-    (b : Bool) (version : ImageVersion) → version ≡ image.version → said_by f.checked.now ≡ p → f.layout ≡ layout_of p → image ≡ code_of p
-    → step ≡ next_step_of (look image t here)
+    (b : Bool) (version : ImageVersion) → version ≡ image.version → said_by f.checked.now ≡ p → f.layout ≡ layout_of p
+    → image ≡ code_of p → step ≡ next_step_of (look image t here)
     → (version ≡ (said_by f.checked.now).version → f.layout ≡ layout_of (said_by f.checked.now)
     → b ≡ visible_step (said_by f.checked.now) step v)
     → is_visible p (look (code_of p) t here) v ≡ b

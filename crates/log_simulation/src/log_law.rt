@@ -1,3 +1,5 @@
+ghost use Rattle.words.specs.Limits.{most_threads};
+ghost use Rattle.words.specs.Versions.{most_of};
 ghost use Rattle.lowering.specs.Pieces.{code_of};
 ghost use Rattle.locals.specs.Looks.{look};
 ghost use Rattle.machine.specs.States.{ConcreteState, opening_concrete, state_of};
@@ -9,7 +11,7 @@ ghost use Rattle.program.specs.Trees.{Program};
 ghost use Rattle.program.specs.WellFormed.{WellFormed};
 ghost use Rattle.machine.specs.FrontRuns.{EventStep};
 ghost use Rattle.runner.specs.Logs.{Enters};
-ghost use Rattle.std.specs.Prelude.{[], ◌≡◌, ◌+◌, ◌++◌, ◌<◌, ◌^◌, List, Some, length, true};
+ghost use Rattle.std.specs.Prelude.{[], ◌≡◌, ◌+◌, ◌++◌, ◌<◌, ◌≤◌, ◌^◌, List, Some, length, true};
 ghost use Rattle.log_simulation.specs.Entries.{ComesTo, entry_steps, is_visible, progress_entry, progress_locally};
 
 /// What the source has come to behind a legal log of a program's code is a function of the log, entry by entry: each
@@ -17,7 +19,8 @@ ghost use Rattle.log_simulation.specs.Entries.{ComesTo, entry_steps, is_visible,
 /// it completes one, to what is deferred; behind a visible step, by the request that the thread makes and the value of
 /// its event, all that was deferred of its process and the action itself are taken, which are possible.
 pub fn progress_follows_logs()
-    ensures opens { (p : Program) → ComesTo p [] (opening_concrete (code_of p)) (opening_progress p) }
+    ensures opens { (p : Program) → most_of p.version ≤ most_threads
+        → ComesTo p [] (opening_concrete (code_of p)) (opening_progress p) }
     ensures entries { (p : Program) (events : List EventStep) (k k' : ConcreteState) (e : Entry)
         (g : Progress)
         → ComesTo p events k g

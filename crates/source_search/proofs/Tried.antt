@@ -5,7 +5,6 @@ use Rattle.std.proofs.lemmas.Option.{IfSome_then}
 use Rattle.std.proofs.lemmas.Result.{IfOk-weaker}
 use Rattle.std.specs.Global.{Global}
 use Rattle.std.specs.Prelude.{option_map, IfOk, IfSome, Result, Vec}
-use Rattle.words.specs.Limits.{most_threads}
 use Rattle.words.specs.declared.outcome.Fault.TheVariants.{HandleNotJoinable, ProcessTableFull}
 use Rattle.program.specs.declared.kinds.Member.{Member}
 use Rattle.program.specs.Trees.{Program}
@@ -57,14 +56,14 @@ name_tried r n o t kind named answer =
 pub does_named : (n : ℕ) (l : Label) (e : Effect) (q : Process) (t : Table) → HasName n (Does l e q) t (kind_of l)
 does_named n l e q t label effect after t' takes allows = ap kind_of takes.0
 
-pub full_named : (n : ℕ) (child : Process) (go : ℕ → Process) (full : Process) (t : Table) → most_threads ≤ t.made
+pub full_named : (n : ℕ) (child : Process) (go : ℕ → Process) (full : Process) (t : Table) → t.most ≤ t.made
     → HasName n (MakesOne child go full) t (Fails ProcessTableFull)
 full_named n child go full t is label effect after t' (inl x) allows =
     let allowed : Allows n (Forks x.0) t t' = subst (λ l. Allows n l t t') x.1 allows in
     absurd (omega (arith, is, allowed.0))
 full_named n child go full t is label effect after t' (inr x) allows = ap kind_of x.0
 
-pub makes_named : (n : ℕ) (child : Process) (go : ℕ → Process) (full : Process) (t : Table) → t.made < most_threads
+pub makes_named : (n : ℕ) (child : Process) (go : ℕ → Process) (full : Process) (t : Table) → t.made < t.most
     → HasName n (MakesOne child go full) t (Fork (t.made + 1))
 makes_named n child go full t is label effect after t' (inl x) allows =
     let allowed : Allows n (Forks x.0) t t' = subst (λ l. Allows n l t t') x.1 allows in

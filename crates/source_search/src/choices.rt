@@ -16,7 +16,7 @@ use program::{Checked, Member};
 use source_offers::{Offer, Offered};
 use source_states::{Action, ActionKind, SourceState, named};
 use std::alloc::{AllocError, Global};
-use words::{Fault, MOST_THREADS};
+use words::Fault;
 
 // One action.
 fn one(alloc: Global, process: u64, kind: ActionKind) -> Result<Option<Vec<Action>>, AllocError>
@@ -107,7 +107,7 @@ fn forks(
         (map action_of v.items))) }
 {
     let made = state.made();
-    if made >= u64::from(MOST_THREADS) {
+    if made >= state.most() {
         return one(alloc, process, ActionKind::Fails(Fault::ProcessTableFull));
     }
     one(alloc, process, ActionKind::Fork(made + 1))

@@ -1,5 +1,4 @@
 use Rattle.std.proofs.Common.{◌+◌, ◌<◌, ◌≤◌, ℕ, List, arith}
-use Rattle.words.specs.Limits.{most_threads}
 use Rattle.words.specs.declared.outcome.Fault.TheVariants.{ProcessTableFull}
 use Rattle.meaning.specs.Labels.{Action, Fails, Fork}
 use Rattle.meaning.specs.Offers.{MakesOne}
@@ -12,7 +11,7 @@ use Rattle.source_search.proofs.choices.forks.Goals as goal
 pub returns-then-made-from : goal.returns-then-made-from
 returns-then-made-from c =
     let t = (state_of c.args.state.now).table in
-    let full : most_threads ≤ t.made = omega (arith, c.if-made-from.true, c.made-made.ensures, c.from.ensures) in
+    let full : t.most ≤ t.made = omega (arith, c.if-made-from.true, c.made-made.ensures, c.from.ensures) in
     all_tried c.one.result c.args.process (Fails ProcessTableFull)
     (λ (actions : List Action). (child : Process) (after : ℕ → Process) (refused : Process)
     → AllTakeUp c.args.process (MakesOne child after refused) t actions)
@@ -22,7 +21,7 @@ returns-then-made-from c =
 pub returns : goal.returns
 returns c =
     let t = (state_of c.args.state.now).table in
-    let room : t.made < most_threads = omega (arith, c.if-made-from.false, c.made-made.ensures, c.from.ensures) in
+    let room : t.made < t.most = omega (arith, c.if-made-from.false, c.made-made.ensures, c.from.ensures) in
     all_tried c.one-2.result c.args.process (Fork (t.made + 1))
     (λ (actions : List Action). (child : Process) (after : ℕ → Process) (refused : Process)
     → AllTakeUp c.args.process (MakesOne child after refused) t actions)

@@ -16,7 +16,7 @@ returns c =
         places = c.in_ok-nothing.ensures.0;
       };
       source = opening_progress p;
-      comes = opens_so p;
+      comes = opens_so p (omega arith);
       told = record {
         few = omega arith;
         counted = refl;
