@@ -114,7 +114,7 @@ fn place_monitor(alloc: Global, base: u32, monitor: &Monitor) -> Result<MonitorP
     })
 }
 
-/// Where the words of a program's monitors lie, in an image of the first version.
+/// Where the words of a program's monitors lie.
 pub fn place(alloc: Global, checked: &Checked) -> Result<Layout, Refusal>
     ensures layout { IfOk result (λ l. l ≡ layouts.layout_of (said_by checked.now)) }
     ensures refusal { IfErr result (λ e. e ≡ out_of_memory) }

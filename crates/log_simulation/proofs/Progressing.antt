@@ -1,7 +1,7 @@
 -- What the source has come to behind the entries of a log.
 use Rattle.std.proofs.Common.{◌≡◌, ℕ, zero, suc, ◌+◌, ◌<◌, true, List, [], ◌∷◌, Option, Some, None, Ok, refl, ap}
 use Rattle.std.proofs.Common.{sym, ◌∙◌, subst, arith, length, length-set, length-append}
-use Rattle.std.specs.Prelude.{◌^◌, ◌-◌, ◌++◌}
+use Rattle.std.specs.Prelude.{◌^◌, ◌-◌, ◌++◌, ◌≤◌}
 use Rattle.words.specs.Limits.{most_threads}
 use Rattle.words.specs.Updates.{put}
 use Rattle.words.specs.Versions.{most_of}
