@@ -58,8 +58,8 @@ image_takes bytes x fits e =
     (record { version = One; monitors = monitors.0; start = start.0; code = code.0 }, code.1)) x b.2 in
     let s = bind_ok (number_at m.0.1) (λ start. code_at start.1 >>= λ code. Ok
     (record { version = One; monitors = m.0.0; start = start.0; code = code.0 }, code.1)) x m.2 in
-    let i = bind_ok (code_at s.0.1) (λ code. Ok
-    (record { version = One; monitors = m.0.0; start = s.0.0; code = code.0 }, code.1)) x s.2 in
+    let i = bind_ok (code_at s.0.1) (λ code. Ok (record { version = One; monitors = m.0.0; start = s.0.0; code = code.0 }, code.1))
+    x s.2 in
     let t0 = fixed_takes magic BadMagic bytes a.0 fits a.1 in
     let t1 = fixed_takes version Version a.0 b.0 t0.rest_fits b.1 in
     let t2 = monitors_take b.0 m.0 t1.rest_fits m.1 in
@@ -127,8 +127,7 @@ image_again p rest is =
       monitors,
       start,
       code,
-    )
-    (ap (λ v. Ok (record { version = v; monitors = p.monitors; start = p.start; code = p.code }, rest)) (sym is.first))
+    ) (ap (λ v. Ok (record { version = v; monitors = p.monitors; start = p.start; code = p.code }, rest)) (sym is.first))
 
 pub program_again : (p : Program) → IsSpelled p → program_of (spelling p) ≡ Ok p
 unfolding program_of

@@ -142,8 +142,8 @@ image-stands bytes more =
     behind-start : (monitors : List ℕ) (start : ℕ) → Stands {A = Program} (λ rest. code_at rest >>= λ code. Ok
         (record { version = One; monitors = monitors; start = start; code = code.0 }, code.1))
     behind-start monitors start rest after = then-stands {B = Program} (code_at rest) (code_at (rest ++ after)) after
-        (λ code left. Ok (record { version = One; monitors = monitors; start = start; code = code }, left))
-        (code-stands rest after) (λ code left behind. refl)
+        (λ code left. Ok (record { version = One; monitors = monitors; start = start; code = code }, left)) (code-stands rest after)
+        (λ code left behind. refl)
 
     behind-monitors : (monitors : List ℕ) → Stands {A = Program} (λ rest. number_at rest >>= λ start. code_at start.1
         >>= λ code. Ok (record { version = One; monitors = monitors; start = start.0; code = code.0 }, code.1))
