@@ -191,7 +191,7 @@ module _ (b : Build) (n : ℕ) (le : b.made ≤ n) where
     completes_grow v x q (F.prints {r = r} w go h o s) = F.prints w go h o (λ a. stands_grow (go a) r (s a))
     completes_grow v x q (F.stores {r = r} m i z go own first is fits h o s) =
         F.stores m i z go own first is (fitting_grows (most_made b) b.made n le _ z fits) h o (λ a. stands_grow
-            (go a) r (s a))
+        (go a) r (s a))
     completes_grow v x q (F.returns h n o) = F.returns h n o
     completes_grow v x q (F.leaves r k h n o) = F.leaves r k h n o
     completes_grow v x q (F.forks entry arguments go h e o mine child none) =
