@@ -4,11 +4,13 @@ use Rattle.std.proofs.Common.{ap, sym, ◌∙◌, arith, subst, length-append}
 use Rattle.std.specs.Prelude.{◌^◌, ◌++◌, replicate}
 use Rattle.std.proofs.lemmas.List.{length-replicate}
 use Rattle.words.specs.Limits.{most_threads}
+use Rattle.words.specs.Versions.{most_of}
 use Rattle.locals.specs.Threads.{Thread}
 use Rattle.locals.specs.Looks.{look}
 use Rattle.locals.specs.Steps.{local_after}
 use Rattle.machine.specs.FrontRuns.{EventStep}
 use Rattle.machine.specs.States.{ConcreteState, opening_concrete, state_of as machine_state, thread_of}
+use Rattle.machine.specs.Views.{IsWellFormed}
 use Rattle.machine.specs.declared.event.Entry.{Entry}
 use Rattle.machine.specs.declared.event.Event.{Event}
 use Rattle.runner.specs.LogRuns.{local_step_of, shared_step_of, steps_of}
@@ -114,11 +116,15 @@ within_most p events k g t o comes stands =
     let fits = comes.kept.fits in
     omega (arith, made, few, fits)
 
+-- a machine that came somewhere can run all threads that there can be
+pub can_run : (p : Program) (k : ConcreteState) → IsWellFormed (code_of p) k → most_of p.version ≤ most_threads
+can_run p k kept = subst (λ n. n ≤ most_threads) kept.most kept.fits
+
 -- a log has as many steps as it costs
-pub cost_steps : (p : Program) (log : List Entry) (k : ConcreteState)
+pub cost_steps : (p : Program) (log : List Entry) (k : ConcreteState) → most_of p.version ≤ most_threads
     → Runs (code_of p) (opening_concrete (code_of p)) log k → cost log ≡ length (steps_of log)
-cost_steps p log k runs =
-    let r = runs_so (code_of p) log k runs in
+cost_steps p log k fits runs =
+    let r = runs_so (code_of p) log k fits runs in
     let many = as_many p r.0 (steps_of log) r.3 in
     let count = r.2 in
     omega (arith, many, count)

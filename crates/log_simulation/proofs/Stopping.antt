@@ -18,7 +18,7 @@ use Rattle.log_simulation.specs.Entries.{entry_steps}
 use Rattle.log_simulation.specs.Explanations.{IsNoLog, LeadsTo, StopsAt}
 use Rattle.log_simulation.specs.Recording.{IsAlong, IsWhole, Records}
 use Rattle.log_simulation.specs.declared.recorder.Recorder.{Recorder}
-use Rattle.log_simulation.proofs.Keeping.{cost_steps}
+use Rattle.log_simulation.proofs.Keeping.{can_run, cost_steps}
 use Rattle.log_simulation.proofs.Records.{when_true}
 
 -- the steps of entries after entries
@@ -63,7 +63,7 @@ pub few_steps : (p : Program) (log : List Entry) (k : ConcreteState) (r : Record
     → cost log < 2 ^ 32
 few_steps p log k r w =
     let few = (when_true _ _ r.is_whole w.along.told w.whole).few in
-    let many = cost_steps p log k w.legal in
+    let many = cost_steps p log k (can_run p k w.along.comes.kept) w.legal in
     omega (arith, few, many)
 
 -- where nothing was recorded, all of it was
@@ -97,7 +97,7 @@ module _ (p : Program) (log : List Entry) (i number : ℕ) (d : Entry) (inside :
   pub stops_long : (new : ConcreteState) → Enters (code_of p) k (get_or log i d) new
       → 2 ^ 32 ≤ length (steps_of (take i log) ++ entry_steps (get_or log i d)) → StopsAt (code_of p) log number
   stops_long new enters over = stops_by (λ end leads.
-      let many = cost_steps p (take (i + 1) log) new
+      let many = cost_steps p (take (i + 1) log) new (can_run p k whole.along.comes.kept)
       (leads_next log i d inside (code_of p) k whole.legal new enters) in
       let steps = ap length (steps_next log i d inside) in
       omega (arith, over, many, steps))

@@ -8,10 +8,10 @@ use Rattle.source_search.specs.Choices.{AllTakeUp}
 use Rattle.source_search.proofs.Tried.{all_tried, full_named, makes_named, one_tried}
 use Rattle.source_search.proofs.choices.forks.Goals as goal
 
-pub returns-then-made-from : goal.returns-then-made-from
-returns-then-made-from c =
+pub returns-then-made-most : goal.returns-then-made-most
+returns-then-made-most c =
     let t = (state_of c.args.state.now).table in
-    let full : t.most ≤ t.made = omega (arith, c.if-made-from.true, c.made-made.ensures, c.from.ensures) in
+    let full : t.most ≤ t.made = omega (arith, c.if-made-most.true, c.made-made.ensures, c.most.ensures) in
     all_tried c.one.result c.args.process (Fails ProcessTableFull)
     (λ (actions : List Action). (child : Process) (after : ℕ → Process) (refused : Process)
     → AllTakeUp c.args.process (MakesOne child after refused) t actions)
@@ -21,7 +21,7 @@ returns-then-made-from c =
 pub returns : goal.returns
 returns c =
     let t = (state_of c.args.state.now).table in
-    let room : t.made < t.most = omega (arith, c.if-made-from.false, c.made-made.ensures, c.from.ensures) in
+    let room : t.made < t.most = omega (arith, c.if-made-most.false, c.made-made.ensures, c.most.ensures) in
     all_tried c.one-2.result c.args.process (Fork (t.made + 1))
     (λ (actions : List Action). (child : Process) (after : ℕ → Process) (refused : Process)
     → AllTakeUp c.args.process (MakesOne child after refused) t actions)
