@@ -1,6 +1,7 @@
 pub mod RunsExplained
 mod Endings
 mod Explanations
+mod Explored
 mod Failing
 mod Lines
 mod Replays

@@ -12,7 +12,7 @@ use crate::report::write_bytes;
 use crate::status::Status;
 use actionlines::action_lines;
 use chart::chart;
-use compiler::compile_checked;
+use compiler::{compile_checked, text_laws};
 use program::{Checked, Names};
 use scanner::Refusal;
 use source_search::{Exploration, explore};
@@ -32,7 +32,8 @@ pub struct ExploredText<'a> {
 }
 
 /// Searches all runs of the program of a source text, keeping at most so many states: for one that gets stuck, and for
-/// one in which a process aborts. Where the search was complete and found none, there is none.
+/// one in which a process aborts. Where the search was complete and found none, there is none, and so no schedule of the
+/// text's image hangs, or has a thread that aborts (but for wakes from outside).
 ///
 /// # Errors
 ///
@@ -45,6 +46,7 @@ pub fn explore_source<'a>(
     ensures { MatchResult result (λ explored. IsExploredText text.now explored)
         (λ e. (e ≡ out_of_memory) ⊎ RefusesText text.now e) }
 {
+    text_laws();
     let (checked, _lowered) = compile_checked(alloc, text)?;
     let exploration = explore_checked(alloc, &checked, most_states)?;
     Ok(ExploredText {
