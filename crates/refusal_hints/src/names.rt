@@ -1,0 +1,115 @@
+// What helps with a name that isn't declared, or that is declared twice.
+
+use crate::declarations::{Declaration, Sort};
+use crate::lexeme::append_keyword;
+use crate::lines::append_shown;
+use crate::sought::{Sought, Wanted, sought_at};
+use crate::spot::Spot;
+use std::alloc::{AllocError, Global};
+
+/// Appends where and as what a name is declared.
+pub(crate) fn append_declaration(
+    alloc: Global,
+    out: &mut String,
+    declaration: &Declaration<'_>,
+) -> Result<(), AllocError> {
+    append_shown(out, declaration.name.text)?;
+    let place = declaration.name.place;
+    write!(out, " is declared at {}:{} as ", place.line, place.column)?;
+    match declaration.sort {
+        Sort::Monitor(_) => out.push_str("a monitor\n"),
+        Sort::Procedure(_) => out.push_str("a procedure\n"),
+        Sort::Variable(word) => {
+            append_keyword(alloc, out, word)?;
+            out.push_str("\n")
+        }
+    }
+}
+
+// What isn't found.
+fn absence(wanted: Wanted) -> &'static str {
+    match wanted {
+        Wanted::Variable => "no variable in reach is called ",
+        Wanted::Monitor => "no monitor is called ",
+        Wanted::Procedure => "no procedure in reach is called ",
+        Wanted::ProcedureOf => "the monitor has no procedure that is called ",
+    }
+}
+
+// The first declaration of a name.
+fn first_of<'a>(declarations: &[Declaration<'a>], name: &[u8]) -> Option<Declaration<'a>> {
+    declarations
+        .iter()
+        .find(|declaration| declaration.name.text == name)
+        .copied()
+}
+
+// Appends what a name may be meant to be: one within reach that is like it, and one that is written so out of reach.
+fn append_meant(
+    alloc: Global,
+    out: &mut String,
+    declarations: &[Declaration<'_>],
+    sought: Sought,
+    name: &[u8],
+) -> Result<(), AllocError> {
+    if let Some(alike) = sought.find_alike(alloc, declarations, name)? {
+        out.push_str("like it: ")?;
+        append_declaration(alloc, out, &alike)?;
+    }
+    if let Some(other) = first_of(declarations, name) {
+        out.push_str("out of reach: ")?;
+        append_declaration(alloc, out, &other)?;
+    }
+    Ok(())
+}
+
+/// Appends what helps with a name that isn't found.
+pub(crate) fn append_unknown(
+    alloc: Global,
+    out: &mut String,
+    declarations: &[Declaration<'_>],
+    spot: &Spot<'_, '_>,
+) -> Result<(), AllocError> {
+    let name = spot.token(0).text;
+    let sought = sought_at(declarations, spot);
+    out.push_str(absence(sought.wanted))?;
+    append_shown(out, name)?;
+    out.push_str("\n")?;
+    append_meant(alloc, out, declarations, sought, name)
+}
+
+/// Appends where the name at a place is declared for the first time in its scope.
+pub(crate) fn append_redeclared(
+    alloc: Global,
+    out: &mut String,
+    declarations: &[Declaration<'_>],
+    spot: &Spot<'_, '_>,
+) -> Result<(), AllocError> {
+    let token = spot.token(0);
+    let here = declarations
+        .iter()
+        .find(|declaration| declaration.name.place == token.place);
+    let Some(here) = here else {
+        return Ok(());
+    };
+    let first = declarations.iter().find(|other| other.scope == here.scope
+        && other.name.text == token.text);
+    match first {
+        Some(first) => append_declaration(alloc, out, first),
+        None => Ok(()),
+    }
+}
+
+/// Appends where and as what the name at a place is declared, if one stands there that is found.
+pub(crate) fn append_found(
+    alloc: Global,
+    out: &mut String,
+    declarations: &[Declaration<'_>],
+    spot: &Spot<'_, '_>,
+) -> Result<(), AllocError> {
+    let sought = sought_at(declarations, spot);
+    match sought.find(declarations, spot.token(0).text) {
+        Some(found) => append_declaration(alloc, out, &found),
+        None => Ok(()),
+    }
+}
