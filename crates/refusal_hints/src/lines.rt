@@ -35,6 +35,7 @@ fn append_line(out: &mut String, said: &[u8]) -> Result<(), AllocError>
 }
 
 /// The lines of a text, as hints.
+#[tactic(auto, using(crate::proofs::Joined::no_lines, crate::proofs::Joined::one_more))]
 pub(crate) fn hint_lines(alloc: Global, text: &[u8]) -> Result<String, AllocError>
     ensures { IfOk result (λ s. AreHintLines (string_bytes s)) }
 {

@@ -60,7 +60,7 @@ fn end_slip(spot: &Spot<'_, '_>) -> Option<&'static str> {
     if spot.takes_word(Keyword::Main) {
         return Some("there is an END too many, or MAIN is missing");
     }
-    None
+    keyword_slip(spot)
 }
 
 fn type_slip(spot: &Spot<'_, '_>) -> Option<&'static str> {
