@@ -1,5 +1,6 @@
 // What helps with a text that the grammar takes, and the rules of names, types and places don't.
 
+use crate::chains::append_chain;
 use crate::declarations::declarations_of;
 use crate::names::{append_found, append_redeclared, append_unknown};
 use crate::places::wrong_place_slip;
@@ -33,7 +34,10 @@ pub(crate) fn append_checked(
             append_found(alloc, out, declarations, spot)?;
             writeln!(out, "{REENTRY}")
         }
-        RefusalKind::Recursion => writeln!(out, "{RECURSION}"),
+        RefusalKind::Recursion => {
+            writeln!(out, "{RECURSION}")?;
+            append_chain(alloc, out, declarations, tokens, spot)
+        }
         _ => Ok(()),
     }
 }

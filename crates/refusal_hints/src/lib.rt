@@ -3,6 +3,7 @@
 
 mod behind;
 mod byte_slips;
+mod chains;
 mod checked;
 mod declarations;
 mod excerpt;

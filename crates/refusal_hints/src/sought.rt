@@ -35,8 +35,8 @@ fn wanted_at(spot: &Spot<'_, '_>) -> Wanted {
     }
 }
 
-// The number of the monitor of this name, or 0.
-fn monitor_of(declarations: &[Declaration<'_>], name: &[u8]) -> u32 {
+/// The number of the monitor of this name, or 0.
+pub(crate) fn monitor_of(declarations: &[Declaration<'_>], name: &[u8]) -> u32 {
     for declaration in declarations {
         if let Sort::Monitor(number) = declaration.sort {
             if declaration.name.text == name {
