@@ -54,11 +54,11 @@ fn append_slip(alloc: Global, out: &mut String, spot: &Spot<'_, '_>) -> Result<(
 }
 
 /// Appends what may stand behind the tokens before a place, and what the slip may be of those from there on.
-pub(crate) fn append_expected(
+pub(crate) fn append_expected<'t, 'a>(
     alloc: Global,
     out: &mut String,
-    before: &[Token],
-    from: &[Token],
+    before: &'t [Token<'a>],
+    from: &'t [Token<'a>],
 ) -> Result<(), AllocError> {
     let accepted = accepted_behind(alloc, before)?;
     let spot = Spot {

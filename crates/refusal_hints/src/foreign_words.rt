@@ -5,9 +5,12 @@ use crate::spot::Spot;
 use scanner::{Keyword, Kind, RefusalKind, Sign, Token, scan};
 use std::alloc::{AllocError, Global};
 
-// The keyword that a name would be in capitals.
-fn keyword_in_capitals(alloc: Global, name: &[u8]) -> Result<Option<Keyword>, AllocError> {
-    let capitals = name.to_ascii_uppercase(alloc)?;
+// The keyword that a token would be in capitals, if it is a name.
+fn keyword_in_capitals(alloc: Global, token: Token<'_>) -> Result<Option<Keyword>, AllocError> {
+    if token.kind != Kind::Name {
+        return Ok(None);
+    }
+    let capitals = token.text.to_ascii_uppercase(alloc)?;
     let tokens = match scan(alloc, capitals.as_slice()) {
         Ok(tokens) => tokens,
         Err(refusal) if refusal.kind == RefusalKind::Memory => return Err(AllocError),
@@ -27,14 +30,10 @@ fn keyword_in_capitals(alloc: Global, name: &[u8]) -> Result<Option<Keyword>, Al
 
 // The keyword that a name in small letters is meant to be: what stands at the place, or else just before it.
 fn small_keyword(alloc: Global, spot: &Spot<'_, '_>) -> Result<Option<Keyword>, AllocError> {
-    for token in [spot.token(0), spot.token_back(1)] {
-        if token.kind == Kind::Name {
-            if let Some(word) = keyword_in_capitals(alloc, token.text)? {
-                return Ok(Some(word));
-            }
-        }
+    match keyword_in_capitals(alloc, spot.token(0))? {
+        Some(word) => Ok(Some(word)),
+        None => keyword_in_capitals(alloc, spot.token_back(1)),
     }
-    Ok(None)
 }
 
 /// Appends that a keyword is written in capitals, where one at the place or before it isn't, and says whether it did.

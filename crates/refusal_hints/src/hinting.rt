@@ -61,6 +61,14 @@ fn append_at_place(
     }
 }
 
+// Lines without the line feed that ends the last of them.
+fn without_last_feed(lines: &[u8]) -> &[u8] {
+    match lines {
+        [front @ .., b'\n'] => front,
+        whole => whole,
+    }
+}
+
 // All that is said, as lines.
 fn said_of(alloc: Global, file: &str, text: &[u8], refusal: Refusal) -> Result<String, AllocError> {
     let mut out = String::new(alloc);
@@ -92,6 +100,5 @@ pub fn hints_of(
     ensures { IfOk result (λ s. AreHintLines (string_bytes s)) }
 {
     let said = said_of(alloc, file, text, *refusal)?;
-    let said = said.as_bytes();
-    hint_lines(alloc, said.strip_suffix(b"\n").unwrap_or(said))
+    hint_lines(alloc, without_last_feed(said.as_bytes()))
 }

@@ -23,10 +23,11 @@ const NESTING: &str =
 
 // The limit that a declared name is past.
 fn limit_of_name(spot: &Spot<'_, '_>) -> &'static str {
+    let scope = walk_over(spot.before).scope;
     match spot.back(1) {
         Lexeme::Word(Keyword::Monitor) => "a program has at most 64 monitors",
         Lexeme::Word(Keyword::Procedure) => PROCEDURE,
-        Lexeme::Word(Keyword::Var) if walk_over(spot.before).scope.body == 0 => MEMBER,
+        Lexeme::Word(Keyword::Var) if scope.body == 0 => MEMBER,
         Lexeme::Word(Keyword::Var) => LOCAL,
         _ => PARAMETER,
     }

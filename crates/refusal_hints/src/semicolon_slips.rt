@@ -67,7 +67,9 @@ pub(crate) fn lacks_semicolon(spot: &Spot<'_, '_>) -> bool {
     if !spot.takes_sign(Sign::Semicolon) {
         return false;
     }
-    let next_line = spot.token_back(1).place.line < spot.token(0).place.line;
+    let last = spot.token_back(1);
+    let here = spot.token(0);
+    let next_line = last.place.line < here.place.line;
     match spot.here() {
         Lexeme::Name | Lexeme::Finish if next_line => true,
         here => wants_semicolon_before(here, spot.ahead(1)),

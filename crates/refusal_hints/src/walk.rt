@@ -53,7 +53,8 @@ fn accepted_by(alloc: Global, stack: &[Symbol]) -> Result<Vec<Lexeme>, AllocErro
     if last.is_none() {
         found.push(Lexeme::Finish)?;
     }
-    for symbol in stack.get(last.unwrap_or(0)..).unwrap_or(&[]) {
+    let visible = stack.get(last.unwrap_or(0)..).unwrap_or(stack);
+    for symbol in visible {
         symbol.append_firsts(&mut found)?;
     }
     Ok(found)
