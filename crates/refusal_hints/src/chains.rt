@@ -28,16 +28,33 @@ struct Link<'a> {
     next: Option<usize>,
 }
 
+// The body of a procedure, or 0.
+fn body_of(sort: Sort) -> u32 {
+    match sort {
+        Sort::Procedure(body) => body,
+        _ => 0,
+    }
+}
+
 // The body of the procedure that is called by this name there, or 0.
 fn body_called(declarations: &[Declaration<'_>], sought: Sought, name: &[u8]) -> u32 {
     match sought.find(declarations, name) {
-        Some(
-            Declaration {
-                sort: Sort::Procedure(body),
-                ..
-            },
-        ) => body,
-        _ => 0,
+        Some(found) => body_of(found.sort),
+        None => 0,
+    }
+}
+
+// The call in a body of what this name finds.
+fn call_to<'a>(
+    declarations: &[Declaration<'_>],
+    caller: u32,
+    sought: Sought,
+    name: Token<'a>,
+) -> Call<'a> {
+    Call {
+        caller,
+        called: body_called(declarations, sought, name.text),
+        name,
     }
 }
 
@@ -49,22 +66,20 @@ fn call_at<'a>(
     behind: Kind,
     last: Token<'a>,
 ) -> Call<'a> {
-    let (name, sought) = if behind == Kind::Sign(Sign::Dot) {
-        let scope = Scope {
-            monitor: monitor_of(declarations, name.text),
-            body: 0,
-        };
-        let wanted = Wanted::ProcedureOf;
-        (last, Sought { wanted, scope })
-    } else {
+    if behind != Kind::Sign(Sign::Dot) {
         let wanted = Wanted::Procedure;
-        (name, Sought { wanted, scope })
-    };
-    Call {
-        caller: scope.body,
-        called: body_called(declarations, sought, name.text),
-        name,
+        return call_to(declarations, scope.body, Sought { wanted, scope }, name);
     }
+    let wanted = Wanted::ProcedureOf;
+    let monitor = Scope {
+        monitor: monitor_of(declarations, name.text),
+        body: 0,
+    };
+    let sought = Sought {
+        wanted,
+        scope: monitor,
+    };
+    call_to(declarations, scope.body, sought, last)
 }
 
 // The calls of a text.
@@ -95,7 +110,8 @@ fn link_callers<'a>(
     next: Option<usize>,
 ) -> Result<(), AllocError> {
     for call in calls {
-        let is_new = !links.iter().any(|link| link.call.caller == call.caller);
+        let caller = call.caller;
+        let is_new = !links.iter().any(|link| link.call.caller == caller);
         if call.called == called && is_new {
             links.push(Link { call: *call, next })?;
         }
@@ -111,9 +127,10 @@ fn link_back<'a>(
 ) -> Result<Option<usize>, AllocError> {
     link_callers(links, calls, body, None)?;
     for index in 0..calls.len() {
-        let Some(link) = links.get(index).copied() else {
+        let Some(link) = links.get(index) else {
             return Ok(None);
         };
+        let link = *link;
         if link.call.caller == body {
             return Ok(Some(index));
         }
@@ -149,18 +166,13 @@ pub(crate) fn append_chain(
     let declared = declarations
         .iter()
         .find(|declaration| declaration.name.place == place);
-    let Some(
-        Declaration {
-            sort: Sort::Procedure(body),
-            ..
-        },
-    ) = declared
-    else {
-        return Ok(());
+    let body = match declared {
+        Some(declared) => body_of(declared.sort),
+        None => return Ok(()),
     };
     let calls = calls_of(alloc, declarations, tokens)?;
     let mut links = Vec::new(alloc);
-    match link_back(&mut links, calls.as_slice(), *body)? {
+    match link_back(&mut links, calls.as_slice(), body)? {
         Some(first) => append_links(out, links.as_slice(), first),
         None => Ok(()),
     }

@@ -16,14 +16,11 @@ fn keyword_in_capitals(alloc: Global, token: Token<'_>) -> Result<Option<Keyword
         Err(refusal) if refusal.kind == RefusalKind::Memory => return Err(AllocError),
         Err(_) => return Ok(None),
     };
-    match tokens.as_slice() {
-        [
-            Token {
-                kind: Kind::Keyword(word),
-                ..
-            },
-            ..
-        ] => Ok(Some(*word)),
+    let [first, ..] = tokens.as_slice() else {
+        return Ok(None);
+    };
+    match first.kind {
+        Kind::Keyword(word) => Ok(Some(word)),
         _ => Ok(None),
     }
 }

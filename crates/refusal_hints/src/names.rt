@@ -3,6 +3,7 @@
 use crate::declarations::{Declaration, Sort};
 use crate::lexeme::append_keyword;
 use crate::lines::append_shown;
+use crate::scopes::Scope;
 use crate::sought::{Sought, Wanted, sought_at};
 use crate::spot::Spot;
 use std::alloc::{AllocError, Global};
@@ -78,6 +79,23 @@ pub(crate) fn append_unknown(
     append_meant(alloc, out, declarations, sought, name)
 }
 
+// Appends the first declaration of a name in a scope.
+fn append_first_of_scope(
+    alloc: Global,
+    out: &mut String,
+    declarations: &[Declaration<'_>],
+    scope: Scope,
+    name: &[u8],
+) -> Result<(), AllocError> {
+    for declaration in declarations {
+        let other = declaration.scope;
+        if other == scope && declaration.name.text == name {
+            return append_declaration(alloc, out, declaration);
+        }
+    }
+    Ok(())
+}
+
 /// Appends where the name at a place is declared for the first time in its scope.
 pub(crate) fn append_redeclared(
     alloc: Global,
@@ -89,13 +107,8 @@ pub(crate) fn append_redeclared(
     let here = declarations
         .iter()
         .find(|declaration| declaration.name.place == token.place);
-    let Some(here) = here else {
-        return Ok(());
-    };
-    let first = declarations.iter().find(|other| other.scope == here.scope
-        && other.name.text == token.text);
-    match first {
-        Some(first) => append_declaration(alloc, out, first),
+    match here {
+        Some(here) => append_first_of_scope(alloc, out, declarations, here.scope, token.text),
         None => Ok(()),
     }
 }

@@ -18,21 +18,27 @@ pub(crate) fn tokens_around<'t, 'a>(
 ) -> (&'t [Token<'a>], &'t [Token<'a>]) {
     match tokens.iter().position(|token| token.place == place) {
         Some(index) => tokens.split_at(index),
-        None => (tokens, &[]),
+        None => tokens.split_at(tokens.len()),
     }
 }
 
 impl<'a> Spot<'_, 'a> {
     /// The token so many behind the one at the place, which is 0. Behind the last there is an end.
     pub(crate) fn token(&self, ahead: usize) -> Token<'a> {
-        token_or_end(self.from.get(ahead))
+        match self.from.get(ahead) {
+            Some(token) => *token,
+            None => end_of_text(),
+        }
     }
 
     /// The token so many before the place, the nearest of which is 1. Before the first there is an end.
     pub(crate) fn token_back(&self, back: usize) -> Token<'a> {
-        match self.before.len().checked_sub(back) {
-            Some(index) => token_or_end(self.before.get(index)),
-            None => token_or_end(None),
+        let Some(index) = self.before.len().checked_sub(back) else {
+            return end_of_text();
+        };
+        match self.before.get(index) {
+            Some(token) => *token,
+            None => end_of_text(),
         }
     }
 
@@ -72,14 +78,11 @@ impl<'a> Spot<'_, 'a> {
     }
 }
 
-// A token, or the end of a text.
-fn token_or_end<'a>(token: Option<&Token<'a>>) -> Token<'a> {
-    match token {
-        Some(token) => *token,
-        None => Token {
-            kind: Kind::End,
-            text: &[],
-            place: Place::START,
-        },
+// The end of a text, for where no token stands.
+fn end_of_text<'a>() -> Token<'a> {
+    Token {
+        kind: Kind::End,
+        text: &[],
+        place: Place::START,
     }
 }
