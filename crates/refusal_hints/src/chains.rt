@@ -2,6 +2,7 @@
 
 use crate::declarations::{Declaration, Sort};
 use crate::lines::append_shown;
+use crate::names::declared_at;
 use crate::scopes::{Scope, Walk};
 use crate::sought::{Sought, Wanted, monitor_of};
 use crate::spot::Spot;
@@ -162,11 +163,8 @@ pub(crate) fn append_chain(
     tokens: &[Token],
     spot: &Spot<'_, '_>,
 ) -> Result<(), AllocError> {
-    let place = spot.token(0).place;
-    let declared = declarations
-        .iter()
-        .find(|declaration| declaration.name.place == place);
-    let body = match declared {
+    let token = spot.token(0);
+    let body = match declared_at(declarations, token.place) {
         Some(declared) => body_of(declared.sort),
         None => return Ok(()),
     };

@@ -6,6 +6,7 @@ use crate::lines::append_shown;
 use crate::scopes::Scope;
 use crate::sought::{Sought, Wanted, sought_at};
 use crate::spot::Spot;
+use scanner::Place;
 use std::alloc::{AllocError, Global};
 
 /// Appends where and as what a name is declared.
@@ -79,6 +80,20 @@ pub(crate) fn append_unknown(
     append_meant(alloc, out, declarations, sought, name)
 }
 
+/// The declaration whose name stands at a place.
+pub(crate) fn declared_at<'a>(
+    declarations: &[Declaration<'a>],
+    place: Place,
+) -> Option<Declaration<'a>> {
+    for declaration in declarations {
+        let at = declaration.name.place;
+        if at == place {
+            return Some(*declaration);
+        }
+    }
+    None
+}
+
 // Appends the first declaration of a name in a scope.
 fn append_first_of_scope(
     alloc: Global,
@@ -104,10 +119,7 @@ pub(crate) fn append_redeclared(
     spot: &Spot<'_, '_>,
 ) -> Result<(), AllocError> {
     let token = spot.token(0);
-    let here = declarations
-        .iter()
-        .find(|declaration| declaration.name.place == token.place);
-    match here {
+    match declared_at(declarations, token.place) {
         Some(here) => append_first_of_scope(alloc, out, declarations, here.scope, token.text),
         None => Ok(()),
     }
