@@ -13,7 +13,7 @@ use Rattle.source_search.specs.Found.{LeadsNowhere, LeadsTo}
 use Rattle.source_search.specs.declared.runs.Exploration.{Exploration}
 use Rattle.actionlines.specs.Lines.{line}
 use Rattle.compiler.specs.Accepts.{AcceptsText}
-use Rattle.mesamon.specs.Accounts.{line_feed}
+use Rattle.log_text.specs.LogLines.{line_feed}
 use Rattle.mesamon.specs.declared.exploring.ExploredText.{ExploredText}
 use Rattle.mesamon.specs.declared.status.Status.{Status}
 use Rattle.mesamon.specs.declared.status.Status.TheVariants.{Done, Stuck, Limit}

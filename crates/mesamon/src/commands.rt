@@ -1,5 +1,5 @@
 ghost use Rattle.std.specs.Prelude.{◌≡◌, ◌≤◌, ◌⊎◌, List, IfOk, OnOk};
-ghost use Rattle.std.specs.Io.KnownBytes.{Appends};
+ghost use Rattle.devices.specs.Writing.{HasAll};
 ghost use Rattle.compiler.specs.Compiles.{IsCompiled};
 ghost use Rattle.mesamon.specs.Commands.{HasChecked, HasCompiled, HasDone, HasEnded, HasListed};
 
@@ -7,11 +7,12 @@ use crate::explaining::explain_file;
 use crate::exploring::explore_file;
 use crate::failure::Failure;
 use crate::files::{bytes_of, put_bytes};
-use crate::report::{write_image_line, write_text};
+use crate::lines::{line_of_image, write_text};
 use crate::running::{exec_file, replay_file, run_file};
 use crate::status::Status;
 use commandline::{Job, read_job};
 use compiler::{check_text, compile, compile_checked, compile_with};
+use devices::Counted;
 use emit::emit;
 use isa::{Image, decode, encode, list_lines};
 use scanner::Refusal;
@@ -36,20 +37,20 @@ use words::OpenGate;
 pub fn perform<R: Files + AllocGlobal + Threads + Wait + Sync, O: Write, E: Write>(
     rt: &R,
     words: &[&str],
-    output: &mut O,
-    errors: &mut E,
+    output: &mut Counted<O>,
+    errors: &mut Counted<E>,
 ) -> u8
     ensures known { result ≤ 6 }
     ensures done { result ≡ 0 → HasCompiled
-        (Appends (O.contents output.old) (O.contents output.new))
-        ⊎ (HasListed (Appends (O.contents output.old) (O.contents output.new))
-        ⊎ (HasEnded (Appends (O.contents output.old) (O.contents output.new))
-        (Appends (E.contents errors.old) (E.contents errors.new)) Status.Done
-        ⊎ HasChecked (Appends (O.contents output.old) (O.contents output.new)))) }
-    ensures stuck { result ≡ 3 → HasEnded (Appends (O.contents output.old) (O.contents output.new))
-        (Appends (E.contents errors.old) (E.contents errors.new)) Status.Stuck }
-    ensures limit { result ≡ 4 → HasEnded (Appends (O.contents output.old) (O.contents output.new))
-        (Appends (E.contents errors.old) (E.contents errors.new)) Status.Limit }
+        (HasAll O.contents output.old output.new)
+        ⊎ (HasListed (HasAll O.contents output.old output.new)
+        ⊎ (HasEnded (HasAll O.contents output.old output.new)
+        (HasAll E.contents errors.old errors.new) Status.Done
+        ⊎ HasChecked (HasAll O.contents output.old output.new))) }
+    ensures stuck { result ≡ 3 → HasEnded (HasAll O.contents output.old output.new)
+        (HasAll E.contents errors.old errors.new) Status.Stuck }
+    ensures limit { result ≡ 4 → HasEnded (HasAll O.contents output.old output.new)
+        (HasAll E.contents errors.old errors.new) Status.Limit }
 {
     match do_job(rt, words, output, errors) {
         Ok(status) => status.code(),
@@ -61,7 +62,7 @@ pub fn perform<R: Files + AllocGlobal + Threads + Wait + Sync, O: Write, E: Writ
 }
 
 // Writes what is to be said of a failure.
-fn tell<E: Write>(errors: &mut E, failure: &Failure<'_>) -> io::Result<()> {
+fn tell<E: Write>(errors: &mut Counted<E>, failure: &Failure<'_>) -> io::Result<()> {
     match failure {
         Failure::Usage(text) => write!(errors, "{text}"),
         Failure::Output => Ok(()),
@@ -72,11 +73,11 @@ fn tell<E: Write>(errors: &mut E, failure: &Failure<'_>) -> io::Result<()> {
 fn do_job<'a, R: Files + AllocGlobal + Threads + Wait + Sync, O: Write, E: Write>(
     rt: &R,
     words: &'a [&'a str],
-    output: &mut O,
-    errors: &mut E,
+    output: &mut Counted<O>,
+    errors: &mut Counted<E>,
 ) -> Result<Status, Failure<'a>>
-    ensures { IfOk result (λ s. HasDone (Appends (O.contents output.old) (O.contents output.new))
-        (Appends (E.contents errors.old) (E.contents errors.new)) s) }
+    ensures { IfOk result (λ s. HasDone (HasAll O.contents output.old output.new)
+        (HasAll E.contents errors.old errors.new) s) }
 {
     match read_job(rt.alloc(), words)? {
         Job::Check { file } => check_file(rt, file, output),
@@ -99,11 +100,11 @@ fn do_job<'a, R: Files + AllocGlobal + Threads + Wait + Sync, O: Write, E: Write
 fn check_file<'a, R: Files + AllocGlobal, O: Write>(
     rt: &R,
     file: &'a str,
-    output: &mut O,
+    output: &mut Counted<O>,
 ) -> Result<Status, Failure<'a>>
     ensures done { IfOk result (λ s. s ≡ Status.Done) }
     ensures wrote { OnOk result
-        (HasChecked (Appends (O.contents output.old) (O.contents output.new))) }
+        (HasChecked (HasAll O.contents output.old output.new)) }
 {
     let text = bytes_of(rt, file)?;
     check_text(rt.alloc(), text.as_slice())?;
@@ -117,19 +118,20 @@ fn compile_file<'a, R: Files + AllocGlobal + Threads + Wait + Sync, O: Write>(
     file: &'a str,
     out: &'a str,
     workers: u32,
-    output: &mut O,
+    output: &mut Counted<O>,
 ) -> Result<Status, Failure<'a>>
     requires { (1 ≤ workers) × (workers ≤ 64) }
     ensures done { IfOk result (λ s. s ≡ Status.Done) }
     ensures wrote { OnOk result
-        (HasCompiled (Appends (O.contents output.old) (O.contents output.new))) }
+        (HasCompiled (HasAll O.contents output.old output.new)) }
 {
     let text = bytes_of(rt, file)?;
     let image = image_by(rt, text.as_slice(), workers)?;
     let bytes = encode(rt.alloc(), &image)?;
-    put_bytes(rt, out, bytes.as_slice())?;
     let count = image.code().len();
-    write_image_line(output, count)?;
+    let line = line_of_image(rt.alloc(), count)?;
+    put_bytes(rt, out, bytes.as_slice())?;
+    write_text(output, line.as_str())?;
     Ok(Status::Done)
 }
 
@@ -154,11 +156,11 @@ fn emit_file<'a, R: Files + AllocGlobal, O: Write>(
     rt: &R,
     file: &'a str,
     out: &'a str,
-    output: &mut O,
+    output: &mut Counted<O>,
 ) -> Result<Status, Failure<'a>>
     ensures done { IfOk result (λ s. s ≡ Status.Done) }
     ensures wrote { OnOk result
-        (HasChecked (Appends (O.contents output.old) (O.contents output.new))) }
+        (HasChecked (HasAll O.contents output.old output.new)) }
 {
     let text = bytes_of(rt, file)?;
     let (checked, _) = compile_checked(rt.alloc(), text.as_slice())?;
@@ -172,11 +174,11 @@ fn emit_file<'a, R: Files + AllocGlobal, O: Write>(
 fn list_file<'a, R: Files + AllocGlobal, O: Write>(
     rt: &R,
     file: &'a str,
-    output: &mut O,
+    output: &mut Counted<O>,
 ) -> Result<Status, Failure<'a>>
     ensures done { IfOk result (λ s. s ≡ Status.Done) }
     ensures wrote { OnOk result
-        (HasListed (Appends (O.contents output.old) (O.contents output.new))) }
+        (HasListed (HasAll O.contents output.old output.new)) }
 {
     let bytes = bytes_of(rt, file)?;
     let image = decode(rt.alloc(), bytes.as_slice())?;

@@ -1,5 +1,5 @@
 ghost use Rattle.std.specs.Prelude.{◌≡◌, ◌++◌, ◌⊎◌, IfOk, MatchResult, OnOk, string_bytes};
-ghost use Rattle.std.specs.Io.KnownBytes.{Appends};
+ghost use Rattle.devices.specs.Writing.{HasAll};
 ghost use Rattle.scanner.specs.Refusals.{out_of_memory};
 ghost use Rattle.program.specs.Names.{naming_of, said_by};
 ghost use Rattle.compiler.specs.Accepts.{RefusesText};
@@ -8,11 +8,11 @@ ghost use Rattle.mesamon.specs.Exploring.{HasExplored, IsExploredText, IsFoundOf
 
 use crate::failure::Failure;
 use crate::files::{bytes_of, put_bytes};
-use crate::report::write_bytes;
 use crate::status::Status;
 use actionlines::action_lines;
 use chart::chart;
 use compiler::compile_checked;
+use devices::{Counted, write_bytes};
 use program::{Checked, Names};
 use scanner::Refusal;
 use source_search::{Exploration, explore};
@@ -71,10 +71,10 @@ pub fn explore_file<'a, R: Files + AllocGlobal, O: Write>(
     file: &'a str,
     most_states: u32,
     out: Option<&'a str>,
-    output: &mut O,
+    output: &mut Counted<O>,
 ) -> Result<Status, Failure<'a>>
     ensures { IfOk result
-        (λ s. HasExplored (Appends (O.contents output.old) (O.contents output.new)) s) }
+        (λ s. HasExplored (HasAll O.contents output.old output.new) s) }
 {
     let text = bytes_of(rt, file)?;
     let explored = explore_source(rt.alloc(), text.as_slice(), most_states as usize)?;

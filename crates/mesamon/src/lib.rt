@@ -7,8 +7,8 @@ mod explaining;
 mod exploring;
 mod failure;
 mod files;
+mod lines;
 mod replaying;
-mod report;
 mod running;
 mod schedule;
 mod showing;
@@ -19,6 +19,7 @@ mod status;
 pub use commandline::{ExplainedBy, Job, Order, ReplayedBy, RunOptions, WordsFault, read_job};
 pub use commands::perform;
 pub use compiler::{check_text, compile, compile_checked, compile_with};
+pub use devices::Counted;
 pub use explained_run::{
     ExplainSourceFault, ExplainedRun, explain_by_seed, explain_schedule, explain_source,
 };
