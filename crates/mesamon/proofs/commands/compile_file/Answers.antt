@@ -7,5 +7,5 @@ returns-clause-wrote g c = record {
   image = _;
   compiled = c.in_ok-image.ensures;
   wrote =
-      rw (← c.code-count.ensures.value, ← c.in_ok-line.ensures) (search rules);
+      rw (← c.code-count.ensures.value) (search rules);
 }
