@@ -26,21 +26,21 @@ all_digits n small = decimal_by_steps (λ n ds. Digits ds) one_digit digit_more 
 
 digits_once : (xs ys r s : List ℕ) → Digits xs → Digits ys → NoDigit r → NoDigit s → xs ++ r ≡ ys ++ s
     → (xs ≡ ys) × (r ≡ s)
-digits_once [] [] r s d d' no no' e = (refl, e)
-digits_once [] (y ∷ ys) r s d d' no no' e = let f : IsDigit y → ⊥ = subst NoDigit e no in absurd (f d'.0)
-digits_once (x ∷ xs) [] r s d d' no no' e = let f : IsDigit x → ⊥ = subst NoDigit (sym e) no' in absurd (f d.0)
-digits_once (x ∷ xs) (y ∷ ys) r s d d' no no' e =
+digits_once [] [] r s d d' non non' e = (refl, e)
+digits_once [] (y ∷ ys) r s d d' non non' e = let f : IsDigit y → ⊥ = subst NoDigit e non in absurd (f d'.0)
+digits_once (x ∷ xs) [] r s d d' non non' e = let f : IsDigit x → ⊥ = subst NoDigit (sym e) non' in absurd (f d.0)
+digits_once (x ∷ xs) (y ∷ ys) r s d d' non non' e =
     let head : x ≡ y = ap (λ l. get_or l 0 0) e in
-    let rest = digits_once xs ys r s d.1 d'.1 no no' (ap (drop 1) e) in
+    let rest = digits_once xs ys r s d.1 d'.1 non non' (ap (drop 1) e) in
     ((λ i. head i ∷ rest.0 i), rest.1)
 
 -- digits go on where no digit follows the others
 digits_front : (xs ys r s : List ℕ) → Digits xs → NoDigit s → xs ++ r ≡ ys ++ s → (ds : List ℕ) × (ys ≡ xs ++ ds)
-digits_front [] ys r s d no e = (ys, refl)
-digits_front (x ∷ xs) [] r s d no e = let f : IsDigit x → ⊥ = subst NoDigit (sym e) no in absurd (f d.0)
-digits_front (x ∷ xs) (y ∷ ys) r s d no e =
+digits_front [] ys r s d non e = (ys, refl)
+digits_front (x ∷ xs) [] r s d non e = let f : IsDigit x → ⊥ = subst NoDigit (sym e) non in absurd (f d.0)
+digits_front (x ∷ xs) (y ∷ ys) r s d non e =
     let head : y ≡ x = sym (ap (λ l. get_or l 0 0) e) in
-    let rest = digits_front xs ys r s d.1 no (ap (drop 1) e) in
+    let rest = digits_front xs ys r s d.1 non (ap (drop 1) e) in
     (rest.0, (λ i. head i ∷ rest.1 i))
 
 -- the number that digits write, behind those of a number
@@ -72,20 +72,20 @@ value_decimal n small = decimal_by_steps (λ n ds. value 0 ds ≡ n) value_one v
 -- a number is written in one way
 pub number_once : (m n : ℕ) (r s : List ℕ) → m < 2 ^ 32 → n < 2 ^ 32 → NoDigit r → NoDigit s
     → decimal m ++ r ≡ decimal n ++ s → (m ≡ n) × (r ≡ s)
-number_once m n r s small small' no no' e =
+number_once m n r s small small' non non' e =
     let both = digits_once (decimal m) (decimal n) r s (all_digits m (omega (arith, small)))
-    (all_digits n (omega (arith, small'))) no no' e in
+    (all_digits n (omega (arith, small'))) non non' e in
     (decimal_injective m n (omega (arith, small)) (omega (arith, small')) both.0, both.1)
 
 some_digit : (ds s : List ℕ) → 0 < length ds → Digits ds → NoDigit (ds ++ s) → ⊥
-some_digit [] s some d no = absurd (omega (arith, some))
-some_digit (x ∷ ds) s some d no = no d.0
+some_digit [] s some d non = absurd (omega (arith, some))
+some_digit (x ∷ ds) s some d non = non d.0
 
 -- and begins by a digit
 pub digit_there : (n : ℕ) (text s : List ℕ) → n < 2 ^ 32 → NoDigit text → text ≡ decimal n ++ s → ⊥
-digit_there n text s small no is =
+digit_there n text s small non is =
     some_digit (decimal n) s (decimal_nonempty n (omega (arith, small))) (all_digits n (omega (arith, small)))
-    (subst NoDigit is no)
+    (subst NoDigit is non)
 
 pub digit_first : (d : ℕ) (text after : List ℕ) → IsDigit d → text ≡ d ∷ after → text ≡ decimal (d - 48) ++ after
 digit_first d text after digit is =
@@ -112,12 +112,12 @@ grown v d text rest after some small digit is more =
 -- no digit follows the zero in front
 pub zero_first : (v d n : ℕ) (text rest after s : List ℕ) → v ≡ 0 → IsDigit d → text ≡ decimal v ++ rest
     → rest ≡ d ∷ after → n < 2 ^ 32 → NoDigit s → text ≡ decimal n ++ s → ⊥
-zero_first v d n text rest after s none digit is more small no is' =
+zero_first v d n text rest after s none digit is more small non is' =
     let zero_is : decimal 0 ≡ 48 ∷ [] = decimal_digit 0 (omega arith) in
     let whole : 48 ∷ (d ∷ after) ≡ decimal n ++ s =
     ap (λ (z : List ℕ). z ++ (d ∷ after)) (sym zero_is) ∙ ap (λ (k : ℕ). decimal k ++ (d ∷ after)) (sym none)
     ∙ ap (λ (r : List ℕ). decimal v ++ r) (sym more) ∙ sym is ∙ is' in
-    let front = digits_front (48 ∷ (d ∷ [])) (decimal n) after s ((omega arith, omega arith), (digit, tt)) no whole in
+    let front = digits_front (48 ∷ (d ∷ [])) (decimal n) after s ((omega arith, omega arith), (digit, tt)) non whole in
     elim (cases_lt 0 n) [
       | inl some ↦
           let first = first_decimal n some (omega (arith, small)) in
@@ -125,7 +125,7 @@ zero_first v d n text rest after s none digit is more small no is' =
           absurd (omega (arith, first, is_zero))
       | inr least ↦
           let same : 0 ≡ n = omega (arith, least) in
-          let l : length (48 ∷ []) ≡ length (48 ∷ (d ∷ front.0)) =
+          let l : 1 ≡ length (d ∷ (d ∷ front.0)) =
           ap length (sym zero_is ∙ ap decimal same ∙ front.1) in
           absurd (omega (arith, l))
     ]
@@ -133,12 +133,12 @@ zero_first v d n text rest after s none digit is more small no is' =
 -- and no digit with which the number has more than 32 bits
 pub too_big : (v d n : ℕ) (text rest after s : List ℕ) → v < 2 ^ 32 → IsDigit d → 2 ^ 32 ≤ v * 10 + (d - 48)
     → text ≡ decimal v ++ rest → rest ≡ d ∷ after → n < 2 ^ 32 → NoDigit s → text ≡ decimal n ++ s → ⊥
-too_big v d n text rest after s small digit big is more small' no is' =
+too_big v d n text rest after s small digit big is more small' non is' =
     let all : Digits (decimal v ++ (d ∷ [])) =
     digits_append (decimal v) (d ∷ []) (all_digits v (omega (arith, small))) (digit, tt) in
     let whole : (decimal v ++ (d ∷ [])) ++ after ≡ decimal n ++ s =
     append_assoc (decimal v) (d ∷ []) after ∙ ap (λ (r : List ℕ). decimal v ++ r) (sym more) ∙ sym is ∙ is' in
-    let front = digits_front (decimal v ++ (d ∷ [])) (decimal n) after s all no whole in
+    let front = digits_front (decimal v ++ (d ∷ [])) (decimal n) after s all non whole in
     let own : value 0 (decimal n) ≡ n = value_decimal n (omega (arith, small')) in
     let before : value 0 (decimal v) ≡ v = value_decimal v (omega (arith, small)) in
     let sum : value 0 (decimal n) ≡ value (value 0 (decimal v) * 10 + (d - 48)) front.0 =

@@ -19,7 +19,7 @@ use Rattle.log_text.proofs.Digits.{number_once}
 use Rattle.log_text.proofs.Members.{set_of_members}
 use Rattle.log_text.proofs.Names.{name_once, plain_name}
 use Rattle.log_text.proofs.Numerals.{value_once}
-use Rattle.log_text.proofs.Rising.{members_of, members_rise, no_digit_numbers, no_digit_space, not_there}
+use Rattle.log_text.proofs.Rising.{bits_small, members_of, members_rise, no_digit_numbers, no_digit_space, not_there}
 
 -- what is cut off is the word, and the rest follows
 field : (text a r w s : List ℕ) → text ≡ a ++ r → NoByte 32 a → AtByte 32 r → Plain w → AtByte 32 s → text ≡ w ++ s
@@ -86,8 +86,8 @@ no_event None a r value name is step called other behind never =
     other (name_once name Local (sym called ∙ is.0))
 no_event (Some e) a r value name is step called other behind never =
     never e step (record {
-      name = name_once e.name name (sym is.0 ∙ called);
-      text = ap (drop 1) (sym behind ∙ is.1);
+      called = name_once e.name name (sym is.0 ∙ called);
+      spelled = ap (drop 1) (sym behind ∙ is.1);
     })
 
 pub turn_text : (text a r value : List ℕ) (name : EventName) → text ≡ a ++ r → a ≡ name_text name → name ≡ Local
@@ -100,9 +100,9 @@ turn_text text a r value name whole called local behind is =
 pub event_there : (text a r value : List ℕ) (name : EventName) (e : Event) → text ≡ a ++ r → a ≡ name_text name
     → r ≡ 32 ∷ value → EndsEvent name value e → text ≡ event_text e
 event_there text a r value name e whole called behind ends =
-    let word : a ≡ name_text e.name = called ∙ ap name_text (sym ends.name) in
+    let word : a ≡ name_text e.name = called ∙ ap name_text (sym ends.called) in
     let rest : r ≡ 32 ∷ (value_text e.name e.value ++ sets_text e) =
-    behind ∙ ap (λ (v : List ℕ). 32 ∷ v) ends.text in
+    behind ∙ ap (λ (v : List ℕ). 32 ∷ v) ends.spelled in
     whole ∙ (λ i. word i ++ rest i)
     ∙ sym (event_parts (name_text e.name) (value_text e.name e.value) (set_text (codes " woke") e.woken)
     (set_text (codes " moved") e.moved))
@@ -115,7 +115,7 @@ no_digit_sets (m ∷ ms) ns =
     no_digit_space (codes "woke" ++ numbers_text (m ∷ ms) ++ list_text (codes " moved") ns)
 
 no_word : (x : ℕ) (word more : List ℕ) → [] ≡ (x ∷ word) ++ more → ⊥
-no_word x word more e = let l : length [] ≡ length ((x ∷ word) ++ more) = ap length e in absurd (omega (arith, l))
+no_word x word more e = let l : 0 ≡ length ((x ∷ word) ++ more) = ap length e in absurd (omega (arith, l))
 
 pub after_last : AfterSet (codes " moved") []
 after_last = record { number = tt; other = λ more e. no_word 32 (codes "moved") more e }
@@ -148,6 +148,13 @@ row_text word text behind rest set whole row =
     whole ∙ ap (λ (z : List ℕ). word ++ z) row.whole ∙ sym (append_assoc word (numbers_text row.threads) rest)
     ∙ ap (λ (z : List ℕ). z ++ rest) (sym written)
 
+pub row_small : (text rest : List ℕ) (set : ThreadSet) → IsRow text set rest → set.bits < 2 ^ 64
+row_small text rest set row =
+    subst (λ (s : ThreadSet). s.bits < 2 ^ 64) (sym row.made) (bits_small 0 row.threads row.rises)
+
+pub none_small : (set : ThreadSet) → set ≡ set_of [] → set.bits < 2 ^ 64
+none_small set is = subst (λ (s : ThreadSet). s.bits < 2 ^ 64) (sym is) (omega arith)
+
 pub empty_text : (word text : List ℕ) (set : ThreadSet) → set ≡ set_of [] → text ≡ set_text word set ++ text
 empty_text word text set is =
     let none : members set 64 ≡ [] = ap (λ (s : ThreadSet). members s 64) is ∙ members_of [] tt in
@@ -160,25 +167,25 @@ none_written word set is =
 -- no set is written in two ways
 numbers_once : (low low' : ℕ) (ms ns r s : List ℕ) → Rises low ms → Rises low' ns → NoNumber r → NoNumber s
     → numbers_text ms ++ r ≡ numbers_text ns ++ s → (ms ≡ ns) × (r ≡ s)
-numbers_once low low' [] [] r s p q no no' e = (refl, e)
-numbers_once low low' [] (n ∷ ns) r s p q no no' e =
+numbers_once low low' [] [] r s p q non non' e = (refl, e)
+numbers_once low low' [] (n ∷ ns) r s p q non non' e =
     let few = q.1 in
     absurd (not_there n r (numbers_text ns ++ s) (omega (arith, few))
-    (e ∙ append_assoc (32 ∷ decimal n) (numbers_text ns) s) no)
-numbers_once low low' (m ∷ ms) [] r s p q no no' e =
+    (e ∙ append_assoc (32 ∷ decimal n) (numbers_text ns) s) non)
+numbers_once low low' (m ∷ ms) [] r s p q non non' e =
     let few = p.1 in
     absurd (not_there m s (numbers_text ms ++ r) (omega (arith, few))
-    (sym e ∙ append_assoc (32 ∷ decimal m) (numbers_text ms) r) no')
-numbers_once low low' (m ∷ ms) (n ∷ ns) r s p q no no' e =
+    (sym e ∙ append_assoc (32 ∷ decimal m) (numbers_text ms) r) non')
+numbers_once low low' (m ∷ ms) (n ∷ ns) r s p q non non' e =
     let few = p.1 in
     let few' = q.1 in
     let rest : decimal m ++ (numbers_text ms ++ r) ≡ decimal n ++ (numbers_text ns ++ s) =
     ap (drop 1) (sym (append_assoc (32 ∷ decimal m) (numbers_text ms) r) ∙ e
     ∙ append_assoc (32 ∷ decimal n) (numbers_text ns) s) in
     let both = number_once m n (numbers_text ms ++ r) (numbers_text ns ++ s) (omega (arith, few)) (omega (arith, few'))
-    (no_digit_numbers ms r no) (no_digit_numbers ns s no') rest in
+    (no_digit_numbers ms r non) (no_digit_numbers ns s non') rest in
     let head = both.0 in
-    let tail = numbers_once m n ms ns r s p.2 q.2 no no' both.1 in
+    let tail = numbers_once m n ms ns r s p.2 q.2 non non' both.1 in
     ((λ i. head i ∷ tail.0 i), tail.1)
 
 lists_once : (word ms ns r s : List ℕ) → Rises 0 ms → Rises 0 ns → AfterSet word r → AfterSet word s
@@ -274,7 +281,7 @@ line_is line after_thread after_local step e t l s is =
 
 pub value_is : (name : EventName) (text : List ℕ) (e : Event) → EndsEvent name text e
     → text ≡ value_text name e.value ++ sets_text e
-value_is name text e ends = ends.text ∙ ap (λ (n : EventName). value_text n e.value ++ sets_text e) ends.name
+value_is name text e ends = ends.spelled ∙ ap (λ (n : EventName). value_text n e.value ++ sets_text e) ends.called
 
 no_length : (xs : List ℕ) → length xs ≡ 0 → xs ≡ []
 no_length [] is = refl

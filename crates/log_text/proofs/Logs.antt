@@ -135,7 +135,7 @@ sized_more log log' e all one grows =
 -- no text is the lines of two logs
 no_lines : (e : Entry) (later : List ℕ) → [] ≡ entry_line e ++ later → ⊥
 no_lines e later is =
-    let l : length [] ≡ length ((entry_text e ++ (10 ∷ [])) ++ later) = ap length is in
+    let l : 0 ≡ length ((entry_text e ++ (10 ∷ [])) ++ later) = ap length is in
     let sum = length-append (entry_text e ++ (10 ∷ [])) later in
     let end = length-append (entry_text e) (10 ∷ []) in
     absurd (omega (arith, l, sum, end))

@@ -82,25 +82,25 @@ no_sign_there v text rest small none is = elim (cases_lt v (2 ^ 31)) [
 -- a printed word is shown in one way
 shown_once : (v w : ℕ) (r s : List ℕ) → v < 2 ^ 32 → w < 2 ^ 32 → NoDigit r → NoDigit s
     → value_text Print v ++ r ≡ value_text Print w ++ s → (v ≡ w) × (r ≡ s)
-shown_once v w r s small small' no no' is = elim (cases_lt v (2 ^ 31)) [
+shown_once v w r s small small' non non' is = elim (cases_lt v (2 ^ 31)) [
   | inl low ↦
       let text : value_text Print v ++ r ≡ decimal v ++ r = ap (λ (z : List ℕ). z ++ r) (shown_low v low) in
       let other = no_sign_there w (decimal v ++ r) s small' (λ xs e. no_sign v xs r small (sym e)) (sym text ∙ is) in
-      number_once v w r s small small' no no' other.1
+      number_once v w r s small small' non non' other.1
   | inr high ↦
       let text : value_text Print v ++ r ≡ 45 ∷ (decimal (2 ^ 32 - v) ++ r) =
       ap (λ (z : List ℕ). z ++ r) (shown_high v high small) in
       let other = past_sign w (value_text Print v ++ r) (decimal (2 ^ 32 - v) ++ r) s small' text is in
       let high' = other.0 in
-      let both = number_once (2 ^ 32 - v) (2 ^ 32 - w) r s (omega (arith, high)) (omega (arith, high')) no no' other.1 in
+      let both = number_once (2 ^ 32 - v) (2 ^ 32 - w) r s (omega (arith, high)) (omega (arith, high')) non non' other.1 in
       let same = both.0 in
       (omega (arith, same, small, small'), both.1)
 ]
 
 pub value_once : (name : EventName) (v w : ℕ) (r s : List ℕ) → v < 2 ^ 32 → w < 2 ^ 32 → NoDigit r → NoDigit s
     → value_text name v ++ r ≡ value_text name w ++ s → (v ≡ w) × (r ≡ s)
-value_once Print v w r s small small' no no' is = shown_once v w r s small small' no no' is
-value_once _ v w r s small small' no no' is = number_once v w r s small small' no no' is
+value_once Print v w r s small small' non non' is = shown_once v w r s small small' non non' is
+value_once _ v w r s small small' non non' is = number_once v w r s small small' non non' is
 
 -- a value that isn't printed is shown as it is
 pub written_so : (name : EventName) (v : ℕ) → (name ≡ Print → ⊥) → value_text name v ≡ decimal v

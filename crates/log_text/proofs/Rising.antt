@@ -43,7 +43,7 @@ rising_threads low (t ∷ ts) rises =
     let above = rises.0 in
     All-cons IsThread t ts (omega (arith, above), rises.1) (rising_threads t ts rises.2)
 
-bits_small : (low : ℕ) (ts : List ℕ) → Rises low ts → bits_of ts < 2 ^ 64
+pub bits_small : (low : ℕ) (ts : List ℕ) → Rises low ts → bits_of ts < 2 ^ 64
 bits_small low [] rises = omega arith
 bits_small low (t ∷ ts) rises =
     let above = rises.0 in
@@ -129,9 +129,12 @@ members_row set (suc n) few =
     let within = before.1 in
     elim (cases_Bool (has set (suc n))) [
       | inl has_it ↦
-          subst (Row (suc n)) (sym (more set n true has_it))
-          (suc n, omega arith, rises_more 0 before.0 (suc n) (members set n) before.2 before.3 (omega (arith, within)) few,
-          ends_more 0 (suc n) (members set n))
+          subst (Row (suc n)) (sym (more set n true has_it)) (
+            suc n,
+            omega arith,
+            rises_more 0 before.0 (suc n) (members set n) before.2 before.3 (omega (arith, within)) few,
+            ends_more 0 (suc n) (members set n),
+          )
       | inr lacks ↦
           subst (Row (suc n)) (sym (more set n false lacks ∙ append-nil (members set n)))
           (before.0, omega (arith, within), before.2, before.3)
@@ -151,17 +154,17 @@ pub no_digit_space : (xs : List ℕ) → NoDigit (32 ∷ xs)
 no_digit_space xs d = let low = d.0 in absurd (omega (arith, low))
 
 pub no_digit : (xs : List ℕ) → NoNumber xs → NoDigit xs
-no_digit [] no = tt
-no_digit (x ∷ xs) no = no.0
+no_digit [] non = tt
+no_digit (x ∷ xs) non = non.0
 
 pub no_digit_numbers : (ns end : List ℕ) → NoNumber end → NoDigit (numbers_text ns ++ end)
-no_digit_numbers [] end no = no_digit end no
-no_digit_numbers (n ∷ ns) end no = no_digit_space (decimal n ++ numbers_text ns ++ end)
+no_digit_numbers [] end non = no_digit end non
+no_digit_numbers (n ∷ ns) end non = no_digit_space (decimal n ++ numbers_text ns ++ end)
 
 pub not_there : (u : ℕ) (text after : List ℕ) → u < 2 ^ 32 → text ≡ 32 ∷ (decimal u ++ after) → NoNumber text → ⊥
-not_there u text after small is no =
-    let no' : NoNumber (32 ∷ (decimal u ++ after)) = subst NoNumber is no in
-    digit_there u (decimal u ++ after) after small (no'.1 refl) refl
+not_there u text after small is non =
+    let non' : NoNumber (32 ∷ (decimal u ++ after)) = subst NoNumber is non in
+    digit_there u (decimal u ++ after) after small (non'.1 refl) refl
 
 -- threads that were read, the last of them, and those that are still to come
 abbrev pub ReadsOn : List ℕ → List ℕ → ℕ → List ℕ → Type 0

@@ -28,8 +28,8 @@ pub record IsSized (e : Entry) : Type 0 where
 
 -- an event of this name, whose text ends so behind the name and a space
 pub record EndsEvent (name : EventName) (text : List ℕ) (e : Event) : Type 0 where
-  pub name : e.name ≡ name
-  pub text : text ≡ value_text e.name e.value ++ (set_text (codes " woke") e.woken ++ set_text (codes " moved") e.moved)
+  pub called : e.name ≡ name
+  pub spelled : text ≡ value_text e.name e.value ++ (set_text (codes " woke") e.woken ++ set_text (codes " moved") e.moved)
 
 -- the text is just the lines of these entries
 pub record IsLogText (text : List ℕ) (log : List Entry) : Type 0 where

@@ -12,6 +12,7 @@ use machine::{MOST_THREADS, ThreadSet};
 /// The set that stands behind this word at the front of a text, and what follows it; the empty set, and the text, where
 /// the word isn't there. None where no rising threads stand behind the word.
 pub fn set_after<'a>(text: &'a [u8], word: &[u8]) -> Option<(ThreadSet, &'a [u8])>
+    ensures small { IfSome result (λ p. p.0.bits < 2 ^ 64) }
     ensures read { IfSome result (λ p. text.now ≡ set_text word.now p.0 ++ p.1.now) }
     ensures reads { (set : Set) (rest : List ℕ) → set.bits < 2 ^ 64 → AfterSet word.now rest
         → text.now ≡ set_text word.now set ++ rest

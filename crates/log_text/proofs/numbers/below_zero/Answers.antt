@@ -20,9 +20,11 @@ pub returns-clause-read : goal.returns-clause-read
 returns-clause-read c =
     let some = c.if-size-eq0.false in
     let low = c.if-less-gt-GREATEST_SIGNED.false in
-    let same : c.in-Some.size ≡ 2 ^ 32 - (4294967295 - (c.in-Some.size - 1)) = omega (arith, some, low) in
-    (omega (arith, some, low), omega (arith, some, low),
-    c.in-Some.ensures.read ∙ ap (λ (n : ℕ). decimal n ++ c.in-Some.after.now) same)
+    let same : c.in-Some.size ≡ 2 ^ 32 - (4294967295 - (c.in-Some.size - 1)) = omega (arith, some, low) in (
+      omega (arith, some, low),
+      omega (arith, some, low),
+      c.in-Some.ensures.read ∙ ap (λ (n : ℕ). decimal n ++ c.in-Some.after.now) same,
+    )
 
 pub returns-clause-reads : goal.returns-clause-reads
 returns-clause-reads c = λ v rest high small none is.

@@ -3,10 +3,17 @@ use Rattle.std.proofs.lemmas.List.{append_cancel_left}
 use Rattle.std.proofs.lemmas.Option.{IfSome_then}
 use Rattle.machine.specs.ThreadSets.{set_of}
 use Rattle.log_text.specs.LogLines.{members, numbers_text}
-use Rattle.log_text.proofs.Entries.{empty_text, row_text, set_cases, still}
+use Rattle.log_text.proofs.Entries.{empty_text, none_small, row_small, row_text, set_cases, still}
 use Rattle.log_text.proofs.Members.{set_of_members}
 use Rattle.log_text.proofs.Rising.{members_rise}
 use Rattle.log_text.proofs.sets.set_after.Goals as goal
+
+pub returns-in-Some-clause-small : goal.returns-in-Some-clause-small
+returns-in-Some-clause-small c =
+    IfSome_then c.threads_of.result c.threads_of.ensures.read (λ p row. row_small c.in-Some.threads.now p.1.now p.0 row)
+
+pub returns-in-None-clause-small : goal.returns-in-None-clause-small
+returns-in-None-clause-small c = none_small c.new.result c.new.ensures
 
 pub returns-in-Some-clause-read : goal.returns-in-Some-clause-read
 returns-in-Some-clause-read c =
