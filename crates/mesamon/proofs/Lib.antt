@@ -2,6 +2,7 @@ pub mod RunsExplained
 mod Endings
 mod Explanations
 mod Failing
+mod Fitting
 mod Lines
 mod Replays
 mod SourceLogs

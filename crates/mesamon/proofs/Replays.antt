@@ -28,6 +28,7 @@ use Rattle.runner.specs.declared.schedule.ScheduleFault.TheVariants as follow
 use Rattle.mesamon.specs.Replaying.{IsLeftSchedule, IsNoRefusal, IsRefusedReplay, IsReplayOfText}
 use Rattle.mesamon.specs.declared.replaying.ReplayFault.{ReplayFault}
 use Rattle.mesamon.specs.declared.replaying.ReplayFault.TheVariants.{Refused, BadEntry, Memory}
+use Rattle.mesamon.proofs.Fitting.{fits_of}
 
 -- entries of one step cost as many steps as there are
 ones_cost : (log : List Entry) → All IsOneStep log → cost log ≡ length log
@@ -72,7 +73,7 @@ replay_explained text image schedule r c f =
     let refines : Refines c.program (code_of c.program) = subst (λ (p : Program). Refines c.program p) c.code
     c.refines in
     let (steps, run, count, same) = runs_so (code_of c.program) r.log.items (concrete r.last)
-    followed.follows.legal in
+    (fits_of text image c) followed.follows.legal in
     let single = followed.follows.single in
     let total = ones_cost r.log.items single in
     let many : length r.log.items ≡ length schedule =
@@ -96,7 +97,8 @@ sound_at text image schedule number c (inl memory) = absurd memory
 sound_at text image schedule number c (inr (before, k, t, comes, refuses)) =
     let refines : Refines c.program (code_of c.program) = subst (λ (p : Program). Refines c.program p) c.code
     c.refines in
-    let (steps, run, count, same) = runs_so (code_of c.program) comes.log k comes.follows.legal in
+    let fits = fits_of text image c in
+    let (steps, run, count, same) = runs_so (code_of c.program) comes.log k fits comes.follows.legal in
     let total = ones_cost comes.log comes.follows.single in
     let many : length comes.log ≡ min before (length schedule) =
     sym (length-map comes.log (λ (e : Entry). e.thread)) ∙ ap length comes.follows.threads
@@ -104,7 +106,7 @@ sound_at text image schedule number c (inr (before, k, t, comes, refuses)) =
     let below = comes.few in
     let few : length steps < 2 ^ 32 = omega (arith, count, total, many, below) in
     (refines.follows steps (state_of k) run few).sound t ((breaks_so (code_of c.program) k t
-    (holds (code_of c.program) comes.log k comes.follows.legal)).0 refuses.3)
+    (holds (code_of c.program) comes.log k fits comes.follows.legal)).0 refuses.3)
 
 -- by no schedule compiled code meets a step that may not be
 pub replay_sound : (text : List ℕ) (image : Program) (schedule : List ℕ) (number : ℕ) → IsCompiled text image

@@ -16,6 +16,7 @@ use Rattle.runner.specs.Reports.{IsReport, CanFail, MeetsBroken}
 use Rattle.simulation.specs.ExplainedLog.{IsExplainedLog}
 use Rattle.compiler.specs.Compiles.{IsCompiled}
 use Rattle.mesamon.specs.Running.{IsFailedRun, IsRunOfText}
+use Rattle.mesamon.proofs.Fitting.{fits_of}
 
 pub run_explained : RunsSo → (text : List ℕ) (image : Program) (limit : ℕ) (r : Report) → IsCompiled text image
     → limit < 2 ^ 32 → IsReport image limit r → IsRunOfText text limit r
@@ -23,7 +24,8 @@ run_explained runs text image limit r c below report =
     let reported : IsReport (code_of c.program) limit r = subst (λ (p : Program). IsReport p limit r) c.code report in
     let refines : Refines c.program (code_of c.program) = subst (λ (p : Program). Refines c.program p) c.code
     c.refines in
-    let (steps, run, count, same) = runs (code_of c.program) r.log.items (concrete r.last) reported.legal in
+    let (steps, run, count, same) = runs (code_of c.program) r.log.items (concrete r.last) (fits_of text image c)
+    reported.legal in
     let within = reported.within in
     let few : length steps < 2 ^ 32 = omega arith in
     record {
@@ -51,10 +53,11 @@ run_sound runs locally text image limit Broken c fails below e =
     let m : MeetsBroken (code_of c.program) limit = subst (λ (p : Program). MeetsBroken p limit) c.code fails in
     let refines : Refines c.program (code_of c.program) = subst (λ (p : Program). Refines c.program p) c.code
     c.refines in
-    let (steps, run, count, same) = runs (code_of c.program) m.log m.concrete m.legal in
+    let fits = fits_of text image c in
+    let (steps, run, count, same) = runs (code_of c.program) m.log m.concrete fits m.legal in
     let within = m.within in
     let few : length steps < 2 ^ 32 = omega arith in
-    let (awake, broken) = locally (code_of c.program) limit m in
+    let (awake, broken) = locally (code_of c.program) limit m fits in
     refines.locally steps (state_of m.concrete) run few m.thread m.count m.origin m.here m.stands awake m.goes broken
 run_sound runs locally text image limit Memory c fails below e = absurd cc
 run_sound runs locally text image limit Stray c fails below e = absurd cc

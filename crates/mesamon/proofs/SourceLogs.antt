@@ -20,6 +20,7 @@ use Rattle.mesamon.specs.SourceLog.{FollowsNot, IsOfLog, IsRefusedLog, IsReplayO
 use Rattle.mesamon.specs.SourceLog.{IsUnfollowedLog, StopsLog}
 use Rattle.mesamon.specs.declared.source_log.SourceLogFault.{SourceLogFault}
 use Rattle.mesamon.specs.declared.source_log.SourceLogFault.TheVariants.{Refused, Line, Entry as Entry', Memory}
+use Rattle.mesamon.proofs.Fitting.{fits_of}
 
 -- a fault that is passed on is the same
 pub passes_on : {T : Type 0} (r : Result T SourceLogFault) (e : SourceLogFault) (P : SourceLogFault → Type 0)
@@ -90,7 +91,7 @@ followed_log text lines image entries slice r c reads same f =
     (subst (λ (i : Image). IsFollowedLog i slice r) c.code f) in
     let refines : Refines c.program (code_of c.program) = subst (λ (i : Image). Refines c.program i) c.code c.refines in
     let (steps, run, count, labels) = runs_so (code_of c.program) r.log.items (concrete r.last)
-    followed.follows.legal in
+    (fits_of text image c) followed.follows.legal in
     let below = followed.follows.few in
     let few : length steps < 2 ^ 32 = omega (arith, count, below) in
     record {
