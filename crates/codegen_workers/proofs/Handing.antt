@@ -1,10 +1,9 @@
 -- Workers hand in, one after the other.
 use Rattle.std.proofs.Common.{◌≡◌, ◌<◌, ◌+◌, ◌∙◌, ℕ, zero, suc, List, [], ◌∷◌, Option, None, Result, Ok, Vec, length, map}
-use Rattle.std.proofs.Common.{replicate, sym, ap, subst, arith, false, Err, inl, inr, ◌++◌, ◌⊎◌, ◌≤◌, get_or}
-use Rattle.std.proofs.lemmas.Bool.{cases_lt}
-use Rattle.std.proofs.lemmas.List.{get_or_append_left, get_or_at}
-use Rattle.std.specs.Prelude.{slice_index_or, IfOk, IfErr}
+use Rattle.std.proofs.Common.{replicate, sym, ap, subst, arith, false, Err, inl, inr, ◌++◌}
+use Rattle.std.specs.Prelude.{IfOk, IfErr}
 use Rattle.std.specs.Global.{Global}
+use Rattle.std.specs.declared.thread.PromisedHandle.{PromisedHandle}
 use Rattle.scanner.specs.declared.refusal.Refusal.{Refusal}
 use Rattle.scanner.specs.Refusals.{out_of_memory}
 use Rattle.program.specs.declared.unit.Program.{Program as ProgramOf}
@@ -15,7 +14,8 @@ use Rattle.codegen.specs.declared.code_piece.CodePiece.{CodePiece}
 use Rattle.codegen.specs.Generated.{piece_of, unlinked_pieces, RefusesPieces}
 use Rattle.linker.specs.Collecting.{collected, has_gap}
 use Rattle.codegen_workers.specs.Arrivals.{all_added, handed_in, AreFree}
-use Rattle.codegen_workers.specs.Shares.{share_of, AreShares, IsShare}
+use Rattle.codegen_workers.specs.Handles.{IsHandleOf}
+use Rattle.codegen_workers.specs.Shares.{share_of, AreShares, EachFrom, IsShare}
 use Rattle.codegen_workers.specs.declared.share.ShareOf.{ShareOf}
 use Rattle.codegen_workers.proofs.Places.{all_handed_in, none_handed_in, share_arrives}
 
@@ -68,34 +68,29 @@ module _ (p : Program) (workers : ℕ) (slots : List (Option (List Marked))) (co
       made = here.1;
     }
 
--- what each of them made, one after the other
-pub each_made : (p : Program) (workers first : ℕ) (all : List Made)
-    → ((k : ℕ) (d : Made) → k < length all → IsShare p workers (first + k) (slice_index_or all k d))
-    → AreShares p workers first all
-each_made p workers first [] each = tt
-each_made p workers first (made ∷ rest) each =
-    let zero_is : first + 0 ≡ first = omega arith in (
-      subst (λ n. IsShare p workers n made) zero_is (each 0 made (omega arith)),
-      each_made p workers (first + 1) rest (λ k d lt.
-          let same : first + suc k ≡ first + 1 + k = omega arith in
-          subst (λ n. IsShare p workers n (slice_index_or rest k d)) same (each (suc k) d (omega (arith, lt)))),
-    )
-
--- the promise is that of a worker
-pub record IsHandleOf (program : ProgramOf) (workers worker : ℕ) (share : ShareOf) : Type 0 where
-  pub program_is : share.program.now ≡ program
-  pub workers_are : share.workers ≡ workers
-  pub worker_is : share.worker ≡ worker
-
--- what keeps it is what the worker makes
-pub kept_share : (program : ProgramOf) (workers worker : ℕ) (share : ShareOf) (made : Made)
-    → IsHandleOf program workers worker share
-    → IsShare (program_of share.program.now) share.workers share.worker made
+-- what keeps the promise is what the worker makes
+pub kept_share : (program : ProgramOf) (workers worker : ℕ) (handle : PromisedHandle Made ShareOf) (made : Made)
+    → IsHandleOf program workers worker handle
+    → IsShare (program_of handle.promise.program.now) handle.promise.workers handle.promise.worker made
     → IsShare (program_of program) workers worker made
-kept_share program workers worker share made is kept =
+kept_share program workers worker handle made is kept =
+    let share = handle.promise in
     subst (λ t. IsShare (program_of t) workers worker made) is.program_is
     (subst (λ n. IsShare (program_of share.program.now) n worker made) is.workers_are
     (subst (λ n. IsShare (program_of share.program.now) share.workers n made) is.worker_is kept))
+
+-- one more behind them
+one_behind : {X : Type 0} (P : ℕ → X → Type 0) (n : ℕ) (xs : List X) (x : X) → EachFrom P n xs → P (n + length xs) x
+    → EachFrom P n (xs ++ x ∷ [])
+one_behind P n [] x each last = let same : n + 0 ≡ n = omega arith in (subst (λ k. P k x) same last, tt)
+one_behind P n (y ∷ ys) x each last =
+    let same : n + suc (length ys) ≡ n + 1 + length ys = omega arith in
+    (each.0, one_behind P (n + 1) ys x each.1 (subst (λ k. P k x) same last))
+
+pub one_more : {X : Type 0} (P : ℕ → X → Type 0) (n m : ℕ) (xs all : List X) (x : X) → all ≡ xs ++ x ∷ []
+    → m ≡ n + length xs → EachFrom P n xs → P m x → EachFrom P n all
+one_more P n m xs all x is place each last =
+    subst (λ l. EachFrom P n l) (sym is) (one_behind P n xs x each (subst (λ k. P k x) place last))
 
 -- once all have handed in, the pieces are those of the program
 module _ (p : Program) (workers : ℕ) (slots : List (Option (List Marked))) (some : 0 < workers)
@@ -111,17 +106,3 @@ module _ (p : Program) (workers : ℕ) (slots : List (Option (List Marked))) (so
         → IfErr made (λ e. RefusesPieces p e)
     memory_alone (Ok pieces) h = tt
     memory_alone (Err e) h = inl (h (ap (λ s. has_gap s) all ∙ (all_handed_in p workers some).0))
-
--- what is said of each and of one more is said of all
-pub one_more : {X : Type 0} (xs : List X) (x : X) (P : ℕ → X → Type 0) (n : ℕ) → length xs ≡ n
-    → ((k : ℕ) (d : X) → k < n → P k (get_or xs k d)) → P n x
-    → (k : ℕ) (d : X) → k < n + 1 → P k (get_or (xs ++ x ∷ []) k d)
-one_more {X} xs x P n len each last k d lt = by_case (cases_lt k n)
-  where
-    by_case : (k < n) ⊎ (n ≤ k) → P k (get_or (xs ++ x ∷ []) k d)
-    by_case (inl below) =
-        subst (λ y. P k y) (sym (get_or_append_left xs (x ∷ []) d k (omega (arith, len, below)))) (each k d below)
-    by_case (inr above) =
-        let same : n ≡ k = omega (arith, lt, above) in
-        subst (λ m. P m (get_or (xs ++ x ∷ []) m d)) same
-        (subst (λ y. P n y) (sym (get_or_at xs x [] d n len)) last)

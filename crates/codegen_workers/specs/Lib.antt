@@ -1,3 +1,4 @@
 pub mod Limits
 pub mod Shares
+pub mod Handles
 pub mod Arrivals

@@ -19,7 +19,11 @@ abbrev pub IsShare : Program → ℕ → ℕ → Result (Vec CodePiece Global) R
 IsShare p workers worker made =
     MatchResult made (λ pieces. map piece_of pieces.items ≡ share_of p workers worker) (λ e. RefusesPieces p e)
 
+-- it holds of each of these and its number, where the first has this number
+abbrev pub EachFrom : {X : Type 0} → (ℕ → X → Type 0) → ℕ → List X → Type 0
+EachFrom P n [] = Unit {0}
+EachFrom P n (x ∷ xs) = P n x × EachFrom P (n + 1) xs
+
 -- what the workers from this one on have made, one after the other
 abbrev pub AreShares : Program → ℕ → ℕ → List (Result (Vec CodePiece Global) Refusal) → Type 0
-AreShares p workers worker [] = Unit {0}
-AreShares p workers worker (made ∷ rest) = IsShare p workers worker made × AreShares p workers (worker + 1) rest
+AreShares p workers = EachFrom (IsShare p workers)

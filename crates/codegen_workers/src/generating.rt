@@ -18,8 +18,8 @@ use words::Gate;
 /// The most workers that make the code of one program.
 pub const MOST_WORKERS: u32 = 64;
 
-/// The pieces of a program, as `codegen::generate` gives them, made by this many workers, from 1 to 64, each a thread
-/// of its own. One tree is lent to all of them.
+/// The pieces of a program, as `codegen::generate` gives them, made by this many workers, from 1 to 64. One tree is lent
+/// to all of them. Worker 1 is the calling thread, each other a thread of its own.
 ///
 /// Piece `j`, from 0, belongs to worker `1 + j MOD workers`. A worker passes the gate by its number before each of its
 /// pieces; one without pieces passes no gate. The calling thread waits until all workers have ended.

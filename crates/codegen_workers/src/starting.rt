@@ -1,6 +1,7 @@
-ghost use Rattle.std.specs.Prelude.{◌≡◌, ◌<◌, IfOk, vec_len};
+ghost use Rattle.std.specs.Prelude.{◌≡◌, ◌<◌, ◌≤◌, IfOk, vec_len};
 ghost use Rattle.program.specs.Views.{program_of};
 ghost use Rattle.lowering.specs.Layout.{layout_of};
+ghost use Rattle.codegen_workers.specs.Handles.{AreHandles};
 ghost use Rattle.codegen_workers.specs.Shares.{AreShares, IsShare};
 
 use crate::share::{ShareOf, generate_share};
@@ -48,7 +49,40 @@ fn start_worker<'s, E, G: Gate>(
     Ok(handle)
 }
 
-// What so many workers of this scope make, each in a thread of its own.
+// Starts the workers behind the first, as far as they can be started.
+fn start_others<'s, E, G: Gate>(
+    scope: &Scope<'s, E>,
+    alloc: Global,
+    program: &'s Program,
+    layout: &'s Layout,
+    workers: u32,
+    gate: &'s G,
+) -> Result<Vec<PromisedHandle<Result<Vec<CodePiece>, Refusal>, ShareOf<'s>>>, AllocError>
+    requires laid_out { layout.now ≡ layout_of (program_of program.now) }
+    requires workers { 1 ≤ workers }
+    ensures count { IfOk result (λ handles. vec_len handles < workers) }
+    ensures each { IfOk result (λ handles. AreHandles program.now workers 1 handles.items) }
+{
+    // There is room before the first is started, so that no handle can be lost.
+    let mut handles = Vec::with_capacity(alloc, workers as usize - 1)?;
+    for worker in 1..workers {
+        let share = ShareOf {
+            program,
+            workers,
+            worker,
+        };
+        let Ok(handle) = start_worker(scope, alloc, share, layout, gate) else {
+            return Ok(handles);
+        };
+        let Ok(()) = handles.push(handle) else {
+            unreachable!()
+        };
+    }
+    Ok(handles)
+}
+
+// What so many workers make, the first of which is the calling thread, and the others threads of this scope. All that
+// were started have been joined when it returns.
 fn run_in<'s, E, R: Threads, G: Gate>(
     rt: &R,
     scope: &Scope<'s, E>,
@@ -58,23 +92,34 @@ fn run_in<'s, E, R: Threads, G: Gate>(
     workers: u32,
     gate: &'s G,
 ) -> Result<Vec<Result<Vec<CodePiece>, Refusal>>, AllocError>
-    requires { layout.now ≡ layout_of (program_of program.now) }
+    requires laid_out { layout.now ≡ layout_of (program_of program.now) }
+    requires workers { 1 ≤ workers }
     ensures { IfOk result (λ made. (vec_len made ≡ workers)
         × AreShares (program_of program.now) workers 0 made.items) }
 {
-    let mut handles = Vec::with_capacity(alloc, workers as usize)?;
-    for worker in 0..workers {
-        let share = ShareOf {
-            program,
-            workers,
-            worker,
+    let mut made = Vec::with_capacity(alloc, workers as usize)?;
+    let handles = start_others(scope, alloc, program, layout, workers, gate)?;
+    let share = ShareOf {
+        program,
+        workers,
+        worker: 0,
+    };
+    let Ok(()) = made.push(generate_share(alloc, share, layout, gate)) else {
+        unreachable!()
+    };
+    for handle in handles {
+        let Ok(()) = made.push(handle.join(rt)) else {
+            unreachable!()
         };
-        handles.push(start_worker(scope, alloc, share, layout, gate)?)?;
     }
-    Ok(thread::join_promised(rt, handles)?)
+    // One couldn't be started: what the others made is given back here.
+    if made.len() < workers as usize {
+        return Err(AllocError);
+    }
+    Ok(made)
 }
 
-// What so many workers make, each in a thread of its own. All have ended when it returns.
+// What so many workers make. All have ended when it returns.
 pub(crate) fn run_workers<R: Threads + Wait + Sync, G: Gate>(
     rt: &R,
     alloc: Global,
@@ -83,7 +128,8 @@ pub(crate) fn run_workers<R: Threads + Wait + Sync, G: Gate>(
     workers: u32,
     gate: &G,
 ) -> Result<Vec<Result<Vec<CodePiece>, Refusal>>, AllocError>
-    requires { layout.now ≡ layout_of (program_of program.now) }
+    requires laid_out { layout.now ≡ layout_of (program_of program.now) }
+    requires workers { 1 ≤ workers }
     ensures { IfOk result (λ made. (vec_len made ≡ workers)
         × AreShares (program_of program.now) workers 0 made.items) }
 {
@@ -91,7 +137,7 @@ pub(crate) fn run_workers<R: Threads + Wait + Sync, G: Gate>(
         thread::scope_env(),
         rt,
         |scope| -> Result<Vec<Result<Vec<CodePiece>, Refusal>>, AllocError>
-            requires { layout.now ≡ layout_of (program_of program.now) }
+            requires { (layout.now ≡ layout_of (program_of program.now)) × (1 ≤ workers) }
             ensures { IfOk result (λ made. (vec_len made ≡ workers)
                 × AreShares (program_of program.entry.now) workers 0 made.items) }
         { run_in(rt, scope, alloc, program, layout, workers, gate) },

@@ -93,7 +93,7 @@ pub enum Job<'a> {
 /// The job that the words of a command line ask for, those after the program's name.
 ///
 /// Words that are taken and ask for a job are refused for want of memory alone.
-pub fn read_job<'a>(alloc: Global, words: &'a [&'a str]) -> Result<Job<'a>, WordsFault>
+pub fn line<'a>(alloc: Global, words: &'a [&'a str]) -> Result<Job<'a>, WordsFault>
     ensures job { IfOk result (AsksFor (map (λ w. w.now) words.now)) }
     ensures only { (job : JobOf) → takes command_line (map (λ w. w.now) words.now) ≡ true
         → AsksFor (map (λ w. w.now) words.now) job → IfErr result (λ e. e ≡ WordsFault.Memory) }

@@ -10,5 +10,5 @@ mod sources;
 mod values;
 
 pub use fault::WordsFault;
-pub use job::{Job, read_job};
+pub use job::{Job, line};
 pub use options::{ExplainedBy, MOST_WORKERS, Order, ReplayedBy, RunOptions};

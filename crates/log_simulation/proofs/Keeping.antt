@@ -1,5 +1,5 @@
 -- A recorder keeps up with the entries of a log.
-use Rattle.std.proofs.Common.{◌≡◌, ◌+◌, ◌<◌, ◌≤◌, ℕ, List, [], length, Option, Some, None, true}
+use Rattle.std.proofs.Common.{◌≡◌, ◌+◌, ◌<◌, ◌≤◌, ℕ, List, [], length, Option, Some, None, Ok, true}
 use Rattle.std.proofs.Common.{ap, sym, ◌∙◌, arith, subst, length-append}
 use Rattle.std.specs.Prelude.{◌^◌, ◌++◌, replicate}
 use Rattle.std.proofs.lemmas.List.{length-replicate}
@@ -10,11 +10,13 @@ use Rattle.locals.specs.Looks.{look}
 use Rattle.locals.specs.Steps.{local_after}
 use Rattle.machine.specs.FrontRuns.{EventStep}
 use Rattle.machine.specs.States.{ConcreteState, opening_concrete, state_of as machine_state, thread_of}
+use Rattle.machine.specs.ConcreteOutside.{stray_of}
 use Rattle.machine.specs.Views.{IsWellFormed}
+use Rattle.machine.proofs.Outside.{is_sleeper, strays_so}
 use Rattle.machine.specs.declared.event.Entry.{Entry}
 use Rattle.machine.specs.declared.event.Event.{Event}
 use Rattle.runner.specs.LogRuns.{local_step_of, shared_step_of, steps_of}
-use Rattle.runner.specs.Logs.{Enters, Runs, cost}
+use Rattle.runner.specs.Logs.{EntersOwn, EntersOutside, Runs, cost}
 use Rattle.runner.proofs.Unrolling.{runs_so}
 use Rattle.lowering.specs.Pieces.{code_of}
 use Rattle.program.specs.Trees.{Program}
@@ -23,11 +25,11 @@ use Rattle.proof_simulation.specs.Explaining.{IsDue}
 use Rattle.proof_simulation.specs.Progress.{Progress}
 use Rattle.log_simulation.specs.Entries.{ComesTo, entry_steps, is_visible, progress_end, progress_entry}
 use Rattle.log_simulation.specs.Entries.{progress_locally}
-use Rattle.log_simulation.specs.Entries.{progress_shared}
-use Rattle.log_simulation.proofs.Progressing.{due_so, enters_so}
+use Rattle.log_simulation.specs.Entries.{progress_shared, progress_outside}
+use Rattle.log_simulation.proofs.Progressing.{due_so, enters_so, outside_so}
 use Rattle.log_simulation.specs.declared.recorder.Recorder.{Recorder}
 use Rattle.log_simulation.specs.Recording.{IsAlong, IsOf, RecordsUnlessLong}
-use Rattle.log_simulation.proofs.Entering.{here_once, within_made}
+use Rattle.runner.proofs.Once.{here_once, within_made}
 use Rattle.log_simulation.proofs.Recording.{as_many}
 
 -- a thread stands at one place
@@ -35,7 +37,7 @@ origin_once : (k : ConcreteState) (t : ℕ) (a b : Thread) → thread_of k t ≡
 origin_once k t a b x y = let e : Some a ≡ Some b = sym x ∙ y in cc
 
 module _ (p : Program) (events : List EventStep) (k k' : ConcreteState) (e : Entry) (o here : Thread)
-    (enters : Enters (code_of p) k e k') (stands : thread_of k e.thread ≡ Some o)
+    (enters : EntersOwn (code_of p) k e k') (stands : thread_of k e.thread ≡ Some o)
     (goes : local_after (code_of p) e.thread e.local o ≡ Some here) where
   same_origin : enters.origin ≡ o
   same_origin = origin_once k e.thread enters.origin o enters.stands stands
@@ -106,6 +108,31 @@ module _ (p : Program) (events : List EventStep) (k k' : ConcreteState) (e : Ent
             ++ shared_step_of e.thread x))) (progress_end p e.thread here x k' g) r') (sym is)
             (subst (λ n. RecordsUnlessLong n (progress_shared p e.thread here event.value k' g) r') (sym many) tells);
       }
+
+-- by a wake from outside
+pub keeps_outside : (p : Program) (events : List EventStep) (k k' : ConcreteState) (e : Entry)
+    (outside : EntersOutside k e k') (r r' : Recorder) (along : IsAlong p events k r) → IsOf p r'
+    → RecordsUnlessLong (length events + 1) (progress_outside p e.thread outside.event.value along.source) r'
+    → IsAlong p (events ++ entry_steps e) k' r'
+keeps_outside p events k k' e outside r r' along of tells =
+    let g = progress_outside p e.thread outside.event.value along.source in
+    let first = length-append events (entry_steps e) in
+    let second : length (entry_steps e) ≡ 1 =
+    (λ i. length (replicate (outside.alone i) (local_step_of e.thread) ++ shared_step_of e.thread (outside.is i))) in
+    let count : length events + 1 ≡ length (events ++ entry_steps e) = omega (arith, first, second) in
+    record {
+      of_program = of;
+      source = g;
+      comes = outside_so p events k k' e along.source along.comes outside;
+      told = subst (λ n. RecordsUnlessLong n g r') count tells;
+    }
+
+-- a thread that sleeps has a number that threads have
+pub sleeps_within : (p : Program) (events : List EventStep) (k k' : ConcreteState) (g : Progress) (t : ℕ) (event : Event)
+    → ComesTo p events k g → stray_of k t ≡ Ok (k', event) → t ≤ most_threads
+sleeps_within p events k k' g t event comes gives =
+    let sleeps = (strays_so (code_of p) k k' t event comes.kept gives).1.sleeps in
+    (is_sleeper (code_of p) k t event.value comes.kept sleeps).1
 
 -- a thread that stands somewhere has a number that threads have
 pub within_most : (p : Program) (events : List EventStep) (k : ConcreteState) (g : Progress) (t : ℕ) (o : Thread)

@@ -10,4 +10,5 @@ pub mod Recording
 pub mod Keeping
 pub mod LogSteps
 pub mod Progressing
+pub mod NoLog
 pub mod Stopping

@@ -1,6 +1,6 @@
 -- What the source has come to behind the entries of a log.
 use Rattle.std.proofs.Common.{◌≡◌, ℕ, zero, suc, ◌+◌, ◌<◌, true, List, [], ◌∷◌, Option, Some, None, Ok, refl, ap}
-use Rattle.std.proofs.Common.{sym, ◌∙◌, subst, arith, length, length-set, length-append}
+use Rattle.std.proofs.Common.{sym, ◌∙◌, subst, arith, length, length-set, length-append, false}
 use Rattle.std.specs.Prelude.{◌^◌, ◌-◌, ◌++◌, ◌≤◌}
 use Rattle.words.specs.Limits.{most_threads}
 use Rattle.words.specs.Updates.{put}
@@ -12,7 +12,7 @@ use Rattle.machine.specs.declared.event.Entry.{Entry}
 use Rattle.machine.specs.declared.event.Event.{Event}
 use Rattle.machine.specs.declared.event.EventName.TheVariants as name
 use Rattle.machine.specs.FrontRuns.{EventStep, Label, label_of, event_label}
-use Rattle.machine.specs.Runs.{Own, Step, is_paused}
+use Rattle.machine.specs.Runs.{Doing, Own, Strayed, Step, is_paused}
 use Rattle.machine.specs.ThreadSets.{set_of}
 use Rattle.machine.specs.declared.thread_set.ThreadSet.{ThreadSet}
 use Rattle.runner.specs.LogRuns.{local_step_of, shared_step_of}
@@ -23,16 +23,26 @@ use Rattle.machine.specs.ConcreteServing.{plain}
 use Rattle.machine.specs.ConcreteSteps.{thread_step, on_machine, step_of, put_thread}
 use Rattle.machine.proofs.Stepping.{opens_so as opens_state, steps_so}
 use Rattle.machine.proofs.Placing.{thread_at-put}
-use Rattle.runner.specs.Logs.{Enters, Ends}
+use Rattle.machine.specs.ConcreteOutside.{stray_of}
+use Rattle.machine.proofs.Outside.{strays_so, stray_told}
+use Rattle.machine.proofs.OwnEvents.{own_so}
+use Rattle.runner.specs.Logs.{EntersOwn, EntersOutside, Ends}
 use Rattle.runner.proofs.Handing.{IsUp, step_there, up}
 use Rattle.runner.proofs.Unrolling.{put_back}
 use Rattle.program.specs.Trees.{Program}
 use Rattle.program.specs.WellFormed.{WellFormed}
 use Rattle.lowering.specs.Pieces.{code_of, marks_of}
 use Rattle.proof_thread.specs.Deferrals.{mark_of, deferred_by_step}
-use Rattle.meaning.specs.Labels.{Kind}
+use Rattle.meaning.specs.Labels.{Kind, Stray}
+use Rattle.meaning.specs.Runs.{IsStep as IsSourceStep}
+use Rattle.program.specs.declared.kinds.Member.{Member}
+use Rattle.proof_commutation.specs.Deferring.{IsBehind}
 use Rattle.protocol.proofs.Sleeps.{put_same}
-use Rattle.proof_simulation.specs.Ordering.{StepsSo}
+use Rattle.proof_simulation.specs.Ordering.{StepsSo, act}
+use Rattle.proof_simulation.specs.Next.{take_deferred}
+use Rattle.proof_simulation.specs.Strays.{after_stray, stray_condition}
+use Rattle.proof_simulation.specs.Tracking.{TracksStray}
+use Rattle.proof_simulation.proofs.Tracking.{tracks_stray}
 use Rattle.proof_simulation.specs.Explaining.{IsDue, IsReached}
 use Rattle.proof_simulation.specs.Progress.{Progress, answer_in, visible_step, progress_step, opening_progress}
 use Rattle.proof_simulation.proofs.Completions.{steps_so as tells_so}
@@ -40,8 +50,9 @@ use Rattle.proof_simulation.proofs.Explaining.{goes_on_by, due, reached}
 use Rattle.proof_simulation.proofs.Local.{put_again}
 use Rattle.proof_simulation.proofs.Worlds.{put_put}
 use Rattle.log_simulation.specs.Entries.{is_visible, deferred_at, deferred_locally, progress_locally}
-use Rattle.log_simulation.specs.Entries.{progress_shared, progress_end}
+use Rattle.log_simulation.specs.Entries.{progress_shared, progress_end, progress_outside}
 use Rattle.log_simulation.specs.Entries.{entry_steps, progress_entry, ComesTo}
+use Rattle.log_simulation.specs.Going.{IsStrayDue}
 use Rattle.log_simulation.proofs.LogSteps.{visible, deferral, put_twice, goes_local, goes_by, same_thread}
 
 abbrev step_by : ℕ → Event → EventStep
@@ -58,10 +69,10 @@ labels_on : (run : List Step) (events : List EventStep) (l : Step) (e : EventSte
 labels_on run events l e same is = map_more label_of run (l ∷ []) ∙ ap (λ zs. zs ++ label_of l ∷ []) same
     ∙ ap (λ i. map event_label events ++ i ∷ []) is ∙ sym (map_more event_label events (e ∷ []))
 
-same_label : (t : ℕ) (woken : List ℕ) (set : ThreadSet) → set ≡ set_of woken
-    → (let a : Label = record { thread = t; woken = set_of woken } in a)
-    ≡ (let b : Label = record { thread = t; woken = set } in b)
-same_label t woken set is = ap (λ (x : ThreadSet). record { thread = t; woken = x }) (sym is)
+same_label : (t : ℕ) (woken : List ℕ) (set : ThreadSet) (d d' : Doing) → set ≡ set_of woken → d' ≡ d
+    → (let a : Label = record { thread = t; woken = set_of woken; doing = d } in a)
+    ≡ (let b : Label = record { thread = t; woken = set; doing = d' } in b)
+same_label t woken set d d' is done = λ i. record { thread = t; woken = sym is i; doing = sym done i }
 
 as_many : (run : List Step) (events : List EventStep) → map label_of run ≡ map event_label events
     → length run ≡ length events
@@ -96,7 +107,8 @@ module _ (p : Program) where
         kept = d.3;
         steps = h.steps ++ l ∷ [];
         run = on.0;
-        labels = labels_on h.steps n l (step_by t event) h.labels (same_label t d.0 event.woken d.1);
+        labels = labels_on h.steps n l (step_by t event) h.labels
+            (same_label t d.0 event.woken Own _ d.1 (own_so (code_of p) k k' t event takes));
         comes = on.1 ∙ ap (progress_step p done action (state_of k') t) h.comes
             ∙ ap (λ b. progress_step p b action (state_of k') t g) shown
             ∙ ap (λ (i : Option Kind). progress_step p (is_visible p (look (code_of p) t here) event.value) i
@@ -194,7 +206,7 @@ module _ (p : Program) where
           (told ∙ ap (λ (f : ℕ → List Kind). record g { deferred = f }) waits) on))
 
   module _ (n : List EventStep) (k k' : ConcreteState) (e : Entry) (g : Progress) (h : ComesTo p n k g)
-      (enters : Enters (code_of p) k e k') where
+      (enters : EntersOwn (code_of p) k e k') where
     abbrev there : ConcreteState
     there = put_thread k e.thread enters.here
 
@@ -248,6 +260,52 @@ module _ (p : Program) where
         (progress_locally p e.thread e.local enters.origin g) came
         (thread_at-put k.threads e.thread enters.origin enters.here enters.stands) ends.1 (gives_so event ends.1) is_so
         (omega (arith, short, long, locals_long))
+
+  -- a wake from outside
+  one_stray : (n : List EventStep) (k k' : ConcreteState) (t : ℕ) (event : Event) (g : Progress) → ComesTo p n k g
+      → stray_of k t ≡ Ok (k', event) → ComesTo p (n ++ step_by t event ∷ []) k' (progress_outside p t event.value g)
+  one_stray n k k' t event g h gives =
+      let d = strays_so (code_of p) k k' t event h.kept gives in
+      let l : Step = record { thread = t; woken = t ∷ []; pauses = false; doing = Strayed event.value } in
+      let on = goes_on_by p (opening_progress p) h.steps (opening_state (code_of p)) (state_of k) h.run l (state_of k')
+      d.1 in
+      record {
+        kept = d.2;
+        steps = h.steps ++ l ∷ [];
+        run = on.0;
+        labels = labels_on h.steps n l (step_by t event) h.labels
+            (same_label t (t ∷ []) event.woken (Strayed event.value) _ d.0 (stray_told k k' t event gives));
+        comes = on.1 ∙ ap (progress_outside p t event.value) h.comes;
+      }
+
+  module _ (n : List EventStep) (k k' : ConcreteState) (e : Entry) (g : Progress) (h : ComesTo p n k g)
+      (outside : EntersOutside k e k') where
+    pub outside_so : ComesTo p (n ++ entry_steps e) k' (progress_outside p e.thread outside.event.value g)
+    outside_so =
+        let g' = progress_outside p e.thread outside.event.value g in
+        subst (λ j. ComesTo p (n ++ (replicate j (local_step_of e.thread) ++ shared_step_of e.thread e.event)) k' g')
+        (sym outside.alone)
+        (subst (λ (o : Option Event). ComesTo p (n ++ shared_step_of e.thread o) k' g') (sym outside.is)
+        (one_stray n k k' e.thread outside.event g h outside.gives))
+
+    -- what is due of the process, where it waits on the condition
+    pub stray_due_so : WellFormed p → length n + 1 < 2 ^ 32 → (c : Member)
+        → stray_condition p outside.event.value (g.source.table.waits e.thread) ≡ Some c → IsStrayDue p e.thread c g
+    stray_due_so w short c is =
+        let t = e.thread in
+        let many = as_many h.steps n h.labels in
+        let r = subst (λ (i : Progress). IsReached p w (length h.steps) (state_of k) i) h.comes
+        (reached p w h.steps (state_of k) h.run (omega (arith, many, short))) in
+        let d = strays_so (code_of p) k k' t outside.event h.kept outside.gives in
+        let found = subst (λ (o : Option Member). TracksStray p w (length h.steps) (state_of k) t g.source
+        r.tracks.deferred o) is
+        (tracks_stray p w (length h.steps) (state_of k) g.source r.tracks t outside.event.value d.1.sleeps) in
+        record {
+          ahead = r.tracks.ahead;
+          behind = subst (λ (f : ℕ → List Kind). IsBehind p f g.source r.tracks.ahead) r.waits r.tracks.behind;
+          step = subst (λ (f : ℕ → List Kind). IsSourceStep p (take_deferred p t (f t) g.source) (act t (Stray c))
+              (after_stray t (Some c) (take_deferred p t (f t) g.source))) r.waits found.1;
+        }
 
   pub opens_so : most_of p.version ≤ most_threads → ComesTo p [] (opening_concrete (code_of p)) (opening_progress p)
   opens_so fits =

@@ -1,5 +1,5 @@
 -- A recorder records what the source comes to, step by step.
-use Rattle.std.proofs.Common.{◌≡◌, ◌+◌, ◌<◌, ◌≤◌, ℕ, zero, suc, Bool, true, false, List, [], length, Option, Some}
+use Rattle.std.proofs.Common.{◌≡◌, ◌+◌, ◌<◌, ◌≤◌, ℕ, zero, suc, Bool, true, false, List, [], length, Option, Some, None}
 use Rattle.std.proofs.Common.{refl, ap, sym, ◌∙◌, arith, subst}
 use Rattle.std.specs.Prelude.{◌^◌, ◌++◌, MatchBool, map}
 use Rattle.std.proofs.lemmas.List.{append-nil, append_assoc, length-map}
@@ -24,18 +24,23 @@ use Rattle.meaning.specs.Labels.{Kind, Action}
 use Rattle.meaning.specs.States.{SourceState}
 use Rattle.program.specs.Names.{said_by}
 use Rattle.program.specs.Trees.{Program}
+use Rattle.program.specs.declared.kinds.Member.{Member}
 use Rattle.program.specs.WellFormed.{WellFormed}
 use Rattle.protocol.proofs.Sleeps.{at_put, put_same, put_other}
 use Rattle.proof_simulation.specs.Explaining.{explanation, IsDue, IsReached}
-use Rattle.proof_simulation.specs.Progress.{Progress, progress_next, progress_caught_up, progress_step}
+use Rattle.proof_simulation.specs.Progress.{Progress, progress_next, progress_caught_up, progress_step, progress_stray}
 use Rattle.proof_simulation.specs.Deferred.{deferred_then}
 use Rattle.proof_simulation.proofs.Explaining.{explained_so, reached}
 use Rattle.proof_simulation.proofs.Nexts.{caught_up_behind}
 use Rattle.proof_simulation.proofs.Worlds.{put_put}
 use Rattle.source_states.specs.Actions.{action_of}
-use Rattle.log_simulation.specs.Entries.{is_visible, progress_locally, progress_shared, deferred_at, deferred_locally}
+use Rattle.source_states.specs.States.{state_of}
+use Rattle.proof_simulation.specs.Strays.{stray_condition}
+use Rattle.log_simulation.specs.declared.deferred.Deferred.{Deferred}
+use Rattle.log_simulation.specs.Entries.{is_visible, progress_locally, progress_outside, progress_shared, deferred_at}
+use Rattle.log_simulation.specs.Entries.{deferred_locally}
 use Rattle.log_simulation.specs.declared.follower.Follower.{Follower}
-use Rattle.log_simulation.specs.Going.{Follows, Matches, CatchesUp}
+use Rattle.log_simulation.specs.Going.{Follows, FollowsStray, IsStrayDue, Matches, CatchesUp}
 use Rattle.log_simulation.specs.Requests.{visible_step}
 use Rattle.log_simulation.proofs.Visible.{visible_so}
 use Rattle.log_simulation.specs.declared.recorder.Recorder.{Recorder}
@@ -150,6 +155,54 @@ module _ (p : Program) (n t v : ℕ) (here : Thread) (k : ConcreteState) (g : Pr
         waits = waits;
         bounded = bounded_put g.deferred t n 1 [] bounded (omega arith);
       })
+
+-- behind a wake from outside
+module _ (p : Program) (n t a : ℕ) (g : Progress) where
+  -- that is no action
+  pub unheard : (r last : Recorder) → Records n g r → stray_condition p a (g.source.table.waits t) ≡ None
+      → last.steps ≡ n + 1 → n + 1 < 2 ^ 32 → last.follower ≡ r.follower → last.deferred ≡ r.deferred
+      → Records (n + 1) (progress_outside p t a g) last
+  unheard r last h none steps few follower deferred =
+      subst (λ (o : Option Member). Records (n + 1) (progress_stray p o t g) last) (sym none) (record {
+        few = few;
+        counted = steps;
+        matches = subst (λ (f : Follower). Matches f g) (sym follower) h.matches;
+        waits = subst (λ (w : List Deferred). CountsDeferred w g.deferred) (sym (ap (λ v. v.items) deferred)) h.waits;
+        bounded = λ u. let less = h.bounded u in omega (arith, less);
+      })
+
+  -- by which the process waits no longer
+  pub stops_waiting : (c : Member) (r last : Recorder) → Records n g r
+      → stray_condition p a (g.source.table.waits t) ≡ Some c → last.steps ≡ n + 1 → n + 1 < 2 ^ 32
+      → Matches last.follower (progress_stray p (Some c) t g) → CountsDeferred last.deferred.items (put g.deferred t [])
+      → Records (n + 1) (progress_outside p t a g) last
+  stops_waiting c r last h is steps few matches waits =
+      subst (λ (o : Option Member). Records (n + 1) (progress_stray p o t g) last) (sym is) (record {
+        few = few;
+        counted = steps;
+        matches = matches;
+        waits = waits;
+        bounded = bounded_put g.deferred t n 1 [] h.bounded (omega arith);
+      })
+
+  -- the condition that the follower finds
+  pub condition_so : (f : Follower) (o : Option Member) → said_by f.checked.now ≡ p → f.layout ≡ layout_of p
+      → Matches f g
+      → (f.layout ≡ layout_of (said_by f.checked.now)
+      → o ≡ stray_condition (said_by f.checked.now) a ((state_of f.state).table.waits t))
+      → o ≡ stray_condition p a (g.source.table.waits t)
+  condition_so f o program layout matches finds =
+      subst (λ (q : Program). f.layout ≡ layout_of q → o ≡ stray_condition q a ((state_of f.state).table.waits t)) program
+      finds layout
+      ∙ ap (λ (x : SourceState). stray_condition p a (x.table.waits t)) matches.source
+
+-- the follower follows the wake of a process that waits
+pub follows_stray_due : (p : Program) (f f' : Follower) (t count : ℕ) (c : Member) (b : Bool) (g : Progress)
+    → said_by f.checked.now ≡ p → Matches f g → IsStrayDue p t c g → count ≡ length (g.deferred t)
+    → FollowsStray f t c count b f' → (b ≡ true) × Matches f' (progress_stray p (Some c) t g)
+follows_stray_due p f f' t count c b g program matches due many follows =
+    subst (λ q. IsStrayDue q t c g → (b ≡ true) × Matches f' (progress_stray q (Some c) t g)) program
+    (λ d. follows g matches (sym many) d) due
 
 -- the follower follows what is due
 pub follows_due : (p : Program) (f f' : Follower) (k : ConcreteState) (t count : ℕ) (b : Bool) (g : Progress)

@@ -1,15 +1,14 @@
 -- A log, entry by entry, as far as it is legal; and where it stops.
-use Rattle.std.proofs.Common.{◌≡◌, ℕ, ◌+◌, ◌<◌, ◌≤◌, ◌^◌, List, [], ◌∷◌, ◌++◌, take, drop, length, get_or, true, Bool}
+use Rattle.std.proofs.Common.{◌≡◌, ℕ, ◌+◌, ◌<◌, ◌≤◌, ◌^◌, List, [], ◌∷◌, ◌++◌, take, length, get_or, true, Bool}
 use Rattle.std.proofs.Common.{refl, ap, sym, ◌∙◌, arith, subst}
 use Rattle.std.specs.Prelude.{MatchBool}
-use Rattle.std.proofs.lemmas.List.{append_assoc, take_more, take-append-drop}
-use Rattle.std.proofs.lemmas.List.Sums.{sum_by-take-drop}
+use Rattle.std.proofs.lemmas.List.{append_assoc, take_more}
 use Rattle.isa.specs.Programs.{Program as Image}
 use Rattle.machine.specs.FrontRuns.{EventStep}
 use Rattle.machine.specs.States.{ConcreteState, opening_concrete}
 use Rattle.machine.specs.declared.event.Entry.{Entry}
 use Rattle.runner.specs.LogRuns.{steps_of}
-use Rattle.runner.specs.Logs.{Enters, cost, event_cost}
+use Rattle.runner.specs.Logs.{Enters, cost}
 use Rattle.runner.proofs.Going.{runs_more}
 use Rattle.runner.proofs.Once.{runs_once, runs_split}
 use Rattle.lowering.specs.Pieces.{code_of}
@@ -101,13 +100,3 @@ module _ (p : Program) (log : List Entry) (i number : ℕ) (d : Entry) (inside :
       (leads_next log i d inside (code_of p) k whole.legal new enters) in
       let steps = ap length (steps_next log i d inside) in
       omega (arith, over, many, steps))
-
--- a log that stops is none
-pub stops_none : (image : Image) (log : List Entry) (number : ℕ) → StopsAt image log number → IsNoLog image log
-stops_none image log number s k leads =
-    let cut = runs_split image (opening_concrete image) k (take number log) (drop number log)
-    (subst (λ es. LeadsTo image es k) (sym (take-append-drop number log)) leads) in
-    let over = s.stops cut.0 cut.1 in
-    let all : cost (take number log) + cost (drop number log) ≡ cost log =
-    sum_by-take-drop (λ (e : Entry). e.local + event_cost e.event) log number in
-    omega (arith, over, all)

@@ -17,7 +17,8 @@ use Rattle.lowering.specs.Pieces.{code_of, marks_of}
 use Rattle.proof_thread.specs.Deferrals.{mark_of, deferred_by_mark, deferred_by_step}
 use Rattle.meaning.specs.Labels.{Kind}
 use Rattle.proof_simulation.specs.Ordering.{completes, completes_exit}
-use Rattle.proof_simulation.specs.Progress.{Progress, progress, progress_step}
+use Rattle.proof_simulation.specs.Progress.{Progress, progress, progress_step, progress_stray}
+use Rattle.proof_simulation.specs.Strays.{stray_condition}
 use Rattle.proof_simulation.specs.Deferred.{deferred_then}
 
 -- whether the shared step of a thread that looks so, with this value in its event, is a visible action
@@ -58,6 +59,10 @@ progress_end p t here (Some event) k g = progress_shared p t here event.value k 
 abbrev pub progress_entry : Program → Entry → (there here : Thread) → ConcreteState → Progress → Progress
 progress_entry p e there here k g =
     progress_end p e.thread here e.event k (progress_locally p e.thread e.local there g)
+
+-- behind a wake of thread t from outside, which slept at this address
+abbrev pub progress_outside : Program → (t address : ℕ) → Progress → Progress
+progress_outside p t a g = progress_stray p (stray_condition p a (g.source.table.waits t)) t g
 
 -- the steps of an entry
 abbrev pub entry_steps : Entry → List EventStep

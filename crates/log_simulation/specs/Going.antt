@@ -1,14 +1,17 @@
 -- How far a follower has come, and where it comes to.
-use Rattle.std.specs.Prelude.{ℕ, ◌≡◌, Bool, true, false, [], ◌∷◌, ◌++◌, length, map}
+use Rattle.std.specs.Prelude.{ℕ, ◌≡◌, Bool, true, false, [], ◌∷◌, ◌++◌, length, map, Some}
 use Rattle.machine.specs.States.{State}
 use Rattle.program.specs.Names.{said_by}
+use Rattle.program.specs.Trees.{Program}
+use Rattle.program.specs.declared.kinds.Member.{Member}
 use Rattle.lowering.specs.Layout.{layout_of}
-use Rattle.meaning.specs.Labels.{Action, Label, kind_of}
+use Rattle.meaning.specs.Labels.{Action, Label, Stray, kind_of}
 use Rattle.meaning.specs.Runs.{IsStep}
 use Rattle.meaning.specs.States.{SourceState}
 use Rattle.proof_commutation.specs.Deferring.{is_internal, IsBehind}
 use Rattle.proof_simulation.specs.Ordering.{Resumes, act}
-use Rattle.proof_simulation.specs.Progress.{Progress, progress_caught_up, progress_next}
+use Rattle.proof_simulation.specs.Progress.{Progress, progress_caught_up, progress_next, progress_stray}
+use Rattle.proof_simulation.specs.Strays.{after_stray}
 use Rattle.proof_simulation.specs.Tracking.{CanTake}
 use Rattle.source_states.specs.Actions.{action_of}
 use Rattle.source_states.specs.States.{state_of}
@@ -51,3 +54,19 @@ Follows old s t count is_possible new =
     → let caught_up = progress_caught_up p t g in
     CanTake p caught_up.source t label → is_internal label ≡ false → Resumes p s caught_up.source.table label
     → (is_possible ≡ true) × Matches new (progress_next p s t caught_up)
+
+-- a wake of process t from outside, which waits on this condition: what is deferred of the process may be taken, and
+-- then it waits no longer
+pub record IsStrayDue (p : Program) (t : ℕ) (c : Member) (g : Progress) : Type 0 where
+  pub ahead : SourceState
+  pub behind : IsBehind p g.deferred g.source ahead
+  pub step :
+      let caught_up = (progress_caught_up p t g).source in
+      IsStep p caught_up (act t (Stray c)) (after_stray t (Some c) caught_up)
+
+-- where so many actions of process t are deferred, and it may stop waiting on the condition behind them, it does so
+abbrev pub FollowsStray : Follower → (t : ℕ) → Member → (count : ℕ) → (is_possible : Bool) → Follower → Type 0
+FollowsStray old t c count is_possible new =
+    let p = said_by old.checked.now in
+    (g : Progress) → Matches old g → length (g.deferred t) ≡ count → IsStrayDue p t c g
+    → (is_possible ≡ true) × Matches new (progress_stray p (Some c) t g)

@@ -1,11 +1,27 @@
 ghost use Rattle.std.specs.Prelude.{◌≡◌, option_map};
+ghost use Rattle.program.specs.Views.{program_of};
+ghost use Rattle.protocol.specs.Cells.{SequenceOf};
+ghost use Rattle.proof_templates.specs.Layout.{valid};
 ghost use Rattle.source_states.specs.Actions.{kind_of};
 ghost use Rattle.source_states.specs.States.{state_of};
 ghost use Rattle.log_simulation.specs.Choosing.{visible_kind, visible_own, resumed_only};
 
-use program::Member;
+use program::{Member, MemberType, Program};
 use source_offers::{Offer, Offered};
 use source_states::{ActionKind, SourceState, named};
+
+/// Whether a member is a condition of the program.
+pub fn is_condition(program: &Program, member: Member) -> bool
+    ensures { result ≡ valid (program_of program.now) (SequenceOf member) }
+{
+    let Some(monitor) = program.monitors.get(member.monitor as usize) else {
+        return false;
+    };
+    match monitor.members.get(member.number as usize) {
+        Some(MemberType::Condition) => true,
+        _ => false,
+    }
+}
 
 /// The condition that a process with this offer notifies or broadcasts.
 pub fn notified(offer: &Offer) -> Option<Member>

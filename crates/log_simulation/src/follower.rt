@@ -12,11 +12,12 @@ ghost use Rattle.proof_simulation.specs.Ordering.{Resumes, act, awake_waiters};
 ghost use Rattle.proof_simulation.specs.Progress.{opening_progress};
 ghost use Rattle.proof_simulation.specs.Tracking.{CanTake};
 ghost use Rattle.log_simulation.specs.Choosing.{resumed_only};
-ghost use Rattle.log_simulation.specs.Going.{Follows, Matches, CatchesUp, Takes, TakesInternal};
+ghost use Rattle.log_simulation.specs.Going.{Follows, FollowsStray, Matches, CatchesUp, Takes, TakesInternal};
+ghost use Rattle.proof_simulation.specs.Strays.{stray_condition};
 ghost use Rattle.log_simulation.specs.Requests.{visible_step};
 ghost use Rattle.log_simulation.specs.Waiting.{is_awake};
 
-use crate::choosing::{notified, visible_action};
+use crate::choosing::{is_condition, notified, visible_action};
 use crate::requests::is_visible;
 use layout::Layout;
 use locals::NextStep;
@@ -195,5 +196,38 @@ impl<'a> Follower<'a> {
             Some(kind) => self.take(t, kind),
             None => Ok(false),
         }
+    }
+    /// The condition that process `t` waits on, if its word has this address.
+    pub fn stray_condition(&self, t: u32, address: u32) -> Option<Member>
+        ensures { self.now.layout ≡ layout_of (said_by self.now.checked.now)
+            → result ≡ stray_condition (said_by self.now.checked.now) address
+            ((state_of self.now.state).table.waits t) }
+    {
+        let condition = self.state.waits(u64::from(t))?;
+        if is_condition(self.checked.program(), condition)
+            && self.layout.address(condition) == address
+        {
+            Some(condition)
+        } else {
+            None
+        }
+    }
+
+    /// Follows a wake of process `t` from outside, which waits on this condition: first come so many internal actions
+    /// of it, and then it waits no longer. False where one isn't there, or that isn't possible.
+    pub fn follow_stray(
+        &mut self,
+        t: u32,
+        condition: Member,
+        count: u32,
+    ) -> Result<bool, AllocError>
+        ensures follows { IfOk result (λ b. FollowsStray self.old t condition count b self.new) }
+        ensures kept { OnOk result ((self.new.checked ≡ self.old.checked)
+            × (self.new.layout ≡ self.old.layout)) }
+    {
+        if !self.catch_up(t, count)? {
+            return Ok(false);
+        }
+        self.take(t, ActionKind::Stray(condition))
     }
 }

@@ -7,29 +7,47 @@ ghost use Rattle.machine.specs.declared.event.Entry.{Entry};
 ghost use Rattle.machine.specs.declared.event.Event.{Event};
 ghost use Rattle.proof_simulation.specs.Explaining.{IsDue};
 ghost use Rattle.proof_simulation.specs.Progress.{Progress, opening_progress};
+ghost use Rattle.proof_simulation.specs.Strays.{stray_condition};
+ghost use Rattle.program.specs.declared.kinds.Member.{Member};
 ghost use Rattle.program.specs.Trees.{Program};
 ghost use Rattle.program.specs.WellFormed.{WellFormed};
 ghost use Rattle.machine.specs.FrontRuns.{EventStep};
-ghost use Rattle.runner.specs.Logs.{Enters};
+ghost use Rattle.runner.specs.Logs.{EntersOutside, EntersOwn};
 ghost use Rattle.std.specs.Prelude.{[], ◌≡◌, ◌+◌, ◌++◌, ◌<◌, ◌≤◌, ◌^◌, List, Some, length, true};
 ghost use Rattle.log_simulation.specs.Entries.{ComesTo, entry_steps, is_visible, progress_entry, progress_locally};
+ghost use Rattle.log_simulation.specs.Entries.{progress_outside};
+ghost use Rattle.log_simulation.specs.Going.{IsStrayDue};
 
 /// What the source has come to behind a legal log of a program's code is a function of the log, entry by entry: each
 /// local step, and each shared one that isn't visible, adds the action that it completes by the marks of the code, if
 /// it completes one, to what is deferred; behind a visible step, by the request that the thread makes and the value of
-/// its event, all that was deferred of its process and the action itself are taken, which are possible.
+/// its event, all that was deferred of its process and the action itself are taken, which are possible. Behind a wake
+/// from outside, of a thread that slept on the word of the condition that its process waits on, all that was deferred of
+/// the process is taken, and then it waits no longer, which is possible; behind another wake from outside, nothing is.
 pub fn progress_follows_logs()
     ensures opens { (p : Program) → most_of p.version ≤ most_threads
         → ComesTo p [] (opening_concrete (code_of p)) (opening_progress p) }
     ensures entries { (p : Program) (events : List EventStep) (k k' : ConcreteState) (e : Entry)
         (g : Progress)
         → ComesTo p events k g
-        → (enters : Enters (code_of p) k e k')
+        → (enters : EntersOwn (code_of p) k e k')
         → ComesTo p (events ++ entry_steps e) k' (progress_entry p e enters.origin enters.here k' g) }
+    ensures outside { (p : Program) (events : List EventStep) (k k' : ConcreteState) (e : Entry)
+        (g : Progress)
+        → ComesTo p events k g
+        → (outside : EntersOutside k e k')
+        → ComesTo p (events ++ entry_steps e) k' (progress_outside p e.thread outside.event.value g) }
+    ensures strays { (p : Program) (events : List EventStep) (k k' : ConcreteState) (e : Entry)
+        (g : Progress)
+        → ComesTo p events k g
+        → (outside : EntersOutside k e k') → WellFormed p → length events + 1 < 2 ^ 32
+        → (c : Member)
+        → stray_condition p outside.event.value (g.source.table.waits e.thread) ≡ Some c
+        → IsStrayDue p e.thread c g }
     ensures due { (p : Program) (events : List EventStep) (k k' : ConcreteState) (e : Entry)
         (g : Progress)
         → ComesTo p events k g
-        → (enters : Enters (code_of p) k e k') → WellFormed p → (event : Event)
+        → (enters : EntersOwn (code_of p) k e k') → WellFormed p → (event : Event)
         → e.event ≡ Some event
         → is_visible p (look (code_of p) e.thread enters.here) event.value ≡ true
         → length events + e.local + 1 < 2 ^ 32

@@ -16,12 +16,14 @@ ghost use Rattle.meaning.specs.States.{SourceState};
 ghost use Rattle.proof_simulation.specs.Explaining.{IsDue};
 ghost use Rattle.proof_simulation.specs.Progress.{Progress};
 ghost use Rattle.proof_simulation.specs.Deferred.{deferred_then};
+ghost use Rattle.proof_simulation.specs.Strays.{stray_condition};
 ghost use Rattle.program.specs.Names.{said_by};
 ghost use Rattle.program.specs.Trees.{Program};
+ghost use Rattle.program.specs.declared.kinds.Member.{Member};
 ghost use Rattle.program.specs.WellFormed.{WellFormed};
 ghost use Rattle.source_states.specs.Actions.{action_of};
-ghost use Rattle.log_simulation.specs.Entries.{is_visible, progress_locally, progress_shared};
-ghost use Rattle.log_simulation.specs.Going.{Matches};
+ghost use Rattle.log_simulation.specs.Entries.{is_visible, progress_locally, progress_outside, progress_shared};
+ghost use Rattle.log_simulation.specs.Going.{IsStrayDue, Matches};
 ghost use Rattle.log_simulation.specs.Explanations.{IsExplanationOf};
 ghost use Rattle.log_simulation.specs.Recording.{Counts, IsAlong, IsOf, RecordsUnlessLong, progress_rest};
 ghost use Rattle.log_simulation.specs.Deferred.{CountsDeferred, deferral_of};
@@ -202,6 +204,27 @@ impl<'a> Recorder<'a> {
             let mark = mark_at(self.marks.as_slice(), here);
             self.delay(t, at_step(mark, step, event.value));
         }
+        Ok(())
+    }
+
+    /// Takes in a wake of thread `t` from outside, which slept at this address. It is an action where its process waits
+    /// on the condition of that word.
+    pub fn take_stray(&mut self, t: u32, address: u32) -> Result<(), AllocError>
+        ensures { OnOk result ((p : Program) (n : ℕ) (g : Progress) → IsOf p self.old
+            → t ≤ most_threads → RecordsUnlessLong n g self.old
+            → (n + 1 < 2 ^ 32 → (c : Member)
+            → stray_condition p address (g.source.table.waits t) ≡ Some c → IsStrayDue p t c g)
+            → IsOf p self.new × RecordsUnlessLong (n + 1) (progress_outside p t address g) self.new) }
+    {
+        self.count(1);
+        if !self.is_whole {
+            return Ok(());
+        }
+        let Some(condition) = self.follower.stray_condition(t, address) else {
+            return Ok(());
+        };
+        let count = self.take_deferred(t);
+        self.is_whole = self.follower.follow_stray(t, condition, count)?;
         Ok(())
     }
 

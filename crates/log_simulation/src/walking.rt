@@ -1,18 +1,19 @@
-ghost use Rattle.std.specs.Prelude.{[], ◌≡◌, ◌<◌, ◌≤◌, false, true, IfOk, MatchBool, OnOk, Some, length};
+ghost use Rattle.std.specs.Prelude.{[], ◌≡◌, ◌<◌, ◌≤◌, false, true, IfOk, MatchBool, Ok, OnOk, Some, length};
 ghost use Rattle.lowering.specs.Pieces.{code_of};
 ghost use Rattle.locals.specs.Threads.{Thread};
 ghost use Rattle.machine.specs.States.{ConcreteState, opening_concrete, thread_of};
+ghost use Rattle.machine.specs.ConcreteOutside.{stray_of};
 ghost use Rattle.machine.specs.ConcreteSteps.{can_move};
 ghost use Rattle.machine.specs.Views.{concrete};
 ghost use Rattle.program.specs.Trees.{Program};
 ghost use Rattle.program.specs.WellFormed.{WellFormed};
-ghost use Rattle.runner.specs.Logs.{Ends, Enters};
+ghost use Rattle.runner.specs.Logs.{Ends, Enters, EntersOutside, EntersOwn, is_outside};
 ghost use Rattle.log_simulation.specs.Recording.{IsAlong, KeepsUp, WalksTo};
 
 use crate::recorder::Recorder;
 use isa::Image;
 use locals::Local;
-use machine::{Entry, Event, Machine};
+use machine::{Entry, Event, EventName, Machine};
 use robustexit::ExitPhase;
 use std::alloc::{AllocError, Global};
 use words::BUCKETS;
@@ -51,8 +52,8 @@ fn copy_mover(machine: &Machine, t: u32, here: &mut Local) -> bool
     true
 }
 
-// Takes an entry, and records it; false where the machine can't take it. What `here` holds is lost.
-fn go_through(
+// Takes an entry of a thread's own, and records it; false where the machine can't take it. What `here` holds is lost.
+fn go_own(
     image: &Image,
     machine: &mut Machine,
     recorder: &mut Recorder,
@@ -61,8 +62,8 @@ fn go_through(
 ) -> Result<bool, AllocError>
     requires program { machine.old.program ≡ image.now }
     ensures enters { IfOk result (λ b. MatchBool b
-        (Enters image.now (concrete machine.old) entry.now (concrete machine.new))
-        ((k : ConcreteState) → Enters image.now (concrete machine.old) entry.now k → ⊥)) }
+        (EntersOwn image.now (concrete machine.old) entry.now (concrete machine.new))
+        ((k : ConcreteState) → EntersOwn image.now (concrete machine.old) entry.now k → ⊥)) }
     ensures told { IfOk result (λ b. b ≡ true → (p : Program) → image.now ≡ code_of p
         → KeepsUp p (concrete machine.old) recorder.old entry.now (concrete machine.new)
         recorder.new) }
@@ -82,6 +83,79 @@ fn go_through(
     }
     recorder.take_shared_step(machine, t, here, image, event)?;
     Ok(true)
+}
+
+// Wakes thread `t` from outside; false where that isn't this event.
+fn take_outside(machine: &mut Machine, t: u32, event: Event) -> bool
+    ensures gives { MatchBool result
+        (stray_of (concrete machine.old) t ≡ Ok (concrete machine.new, event))
+        ((k : ConcreteState) → stray_of (concrete machine.old) t ≡ Ok (k, event) → ⊥) }
+    ensures program { machine.new.program ≡ machine.old.program }
+{
+    match machine.stray(t) {
+        Ok(stray) => stray == event,
+        Err(_) => false,
+    }
+}
+
+// Whether an entry is a wake from outside.
+fn is_outside(entry: &Entry) -> bool
+    ensures { result ≡ is_outside entry.now.event }
+{
+    match entry.event {
+        Some(event) => event.name == EventName::Stray,
+        None => false,
+    }
+}
+
+// Takes an entry that is a wake from outside, and records it; false where the machine can't take it.
+fn go_outside(
+    machine: &mut Machine,
+    recorder: &mut Recorder,
+    entry: &Entry,
+) -> Result<bool, AllocError>
+    ensures enters { IfOk result (λ b. MatchBool b
+        (EntersOutside (concrete machine.old) entry.now (concrete machine.new))
+        ((k : ConcreteState) → EntersOutside (concrete machine.old) entry.now k → ⊥)) }
+    ensures told { IfOk result (λ b. b ≡ true → (p : Program)
+        → KeepsUp p (concrete machine.old) recorder.old entry.now (concrete machine.new)
+        recorder.new) }
+    ensures program { OnOk result (machine.new.program ≡ machine.old.program) }
+{
+    let Some(event) = entry.event else {
+        return Ok(false);
+    };
+    if entry.local > 0 {
+        return Ok(false);
+    }
+    if !take_outside(machine, entry.thread, event) {
+        return Ok(false);
+    }
+    recorder.take_stray(entry.thread, event.value)?;
+    Ok(true)
+}
+
+// Takes an entry, and records it; false where the machine can't take it. What `here` holds is lost.
+fn go_through(
+    image: &Image,
+    machine: &mut Machine,
+    recorder: &mut Recorder,
+    here: &mut Local,
+    entry: &Entry,
+) -> Result<bool, AllocError>
+    requires program { machine.old.program ≡ image.now }
+    ensures enters { IfOk result (λ b. MatchBool b
+        (Enters image.now (concrete machine.old) entry.now (concrete machine.new))
+        ((k : ConcreteState) → Enters image.now (concrete machine.old) entry.now k → ⊥)) }
+    ensures told { IfOk result (λ b. b ≡ true → (p : Program) → image.now ≡ code_of p
+        → KeepsUp p (concrete machine.old) recorder.old entry.now (concrete machine.new)
+        recorder.new) }
+    ensures program { OnOk result (machine.new.program ≡ image.now) }
+{
+    if is_outside(entry) {
+        return go_outside(machine, recorder, entry);
+    }
+    go_own(image, machine, recorder, here, entry)
 }
 
 /// What a walk over a log came to.

@@ -1,7 +1,9 @@
 pub mod Cutting
+pub mod Digits
 pub mod Numerals
 pub mod Names
 pub mod Members
+pub mod Rising
 pub mod Entries
 pub mod Lines
 pub mod Logs

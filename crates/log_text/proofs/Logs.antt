@@ -1,8 +1,7 @@
 -- Lines of entries, and texts that have none.
 use Rattle.std.proofs.Common.{◌≡◌, ◌≢◌, ◌<◌, ◌≤◌, ◌+◌, ◌^◌, ℕ, zero, suc, List, [], ◌∷◌, ◌++◌, length, drop, codes}
 use Rattle.std.proofs.Common.{Bool, true, false, ◌==◌, if◌then◌else◌, Result, Ok, Err, is_ok, is_err}
-use Rattle.std.specs.Prelude.{MatchOption}
-use Rattle.std.proofs.Common.{Option, Some, None, refl, ap, sym, ◌∙◌, subst, arith, length-append, flat_map}
+use Rattle.std.proofs.Common.{Option, Some, None, refl, ap, sym, ◌∙◌, subst, arith, length-append}
 use Rattle.std.specs.List.{All}
 use Rattle.std.specs.Fmt.{decimal}
 use Rattle.std.proofs.lemmas.List.{append-nil, append_assoc}
@@ -14,8 +13,9 @@ use Rattle.machine.specs.declared.event.Event.{Event}
 use Rattle.log_text.specs.Cuts.{AtByte, NoByte}
 use Rattle.log_text.specs.LogLines.{entry_line, entry_text, event_text, list_text, log_lines, members, name_text}
 use Rattle.log_text.specs.LogLines.{numbers_text, set_text, step_text, value_text}
-use Rattle.log_text.specs.Spelled.{IsSharedEvent, IsSized, IsStep, NoLine}
+use Rattle.log_text.specs.Spelled.{IsBadLine, IsLogText, IsSharedEvent, IsSized, IsStep, LinesOnce, NoBadLine, NoLine}
 use Rattle.log_text.proofs.Cutting.{cut_once, none_append, none_of_plain}
+use Rattle.log_text.proofs.Entries.{entry_once}
 use Rattle.log_text.proofs.Members.{all_members}
 use Rattle.log_text.proofs.Names.{plain_name}
 use Rattle.log_text.proofs.Numerals.{plain_decimal, plain_value}
@@ -121,15 +121,6 @@ pub some_left : (n : ℕ) → false ≡ (n == 0) → 0 < n
 some_left zero e = absurd cc
 some_left (suc n) e = omega arith
 
-pub none_there : (A : Type 0) (B : Entry → Type 0) (o : Option Entry) → MatchOption o A B → o ≡ None → A
-none_there A B None h e = h
-none_there A B (Some x) h e = absurd cc
-
-pub some_there : (A : Type 0) (B : Entry → Type 0) (o : Option Entry) (x : Entry) → MatchOption o A B → o ≡ Some x
-    → B x
-some_there A B None x h e = absurd cc
-some_there A B (Some y) x h e = let same : y ≡ x = cc in subst B same h
-
 -- an entry that was pushed stands at the end
 pub pushed : {A E : Type 0} (r : Result A E) (b : Bool) (new old : List Entry) (e : Entry) → b ≡ is_err r → b ≡ false
     → new ≡ (if is_ok r then old ++ e ∷ [] else old) → new ≡ old ++ e ∷ []
@@ -140,3 +131,60 @@ pub sized_more : (log log' : List Entry) (e : Entry) → All IsSized log → IsS
     → All IsSized log'
 sized_more log log' e all one grows =
     subst (All IsSized) (sym grows) (All-append IsSized log (e ∷ []) all (All-cons IsSized e [] one (All-nil IsSized)))
+
+-- no text is the lines of two logs
+no_lines : (e : Entry) (later : List ℕ) → [] ≡ entry_line e ++ later → ⊥
+no_lines e later is =
+    let l : 0 ≡ length ((entry_text e ++ (10 ∷ [])) ++ later) = ap length is in
+    let sum = length-append (entry_text e ++ (10 ∷ [])) later in
+    let end = length-append (entry_text e) (10 ∷ []) in
+    absurd (omega (arith, l, sum, end))
+
+first_line : (a b : Entry) (r s : List ℕ) → IsSized a → IsSized b → entry_line a ++ r ≡ entry_line b ++ s
+    → (a ≡ b) × (r ≡ s)
+first_line a b r s is is' e =
+    let both = cut_once 10 (entry_text a) (entry_text b) (10 ∷ r) (10 ∷ s) (lined a is) (lined b is') refl refl
+    (sym (append_assoc (entry_text a) (10 ∷ []) r) ∙ e ∙ append_assoc (entry_text b) (10 ∷ []) s) in
+    (entry_once a b is is' both.0, ap (drop 1) both.1)
+
+same_logs : (a b : List Entry) → All IsSized a → All IsSized b → log_lines a ≡ log_lines b → a ≡ b
+same_logs [] [] all all' e = refl
+same_logs [] (y ∷ ys) all all' e = absurd (no_lines y (log_lines ys) e)
+same_logs (x ∷ xs) [] all all' e = absurd (no_lines x (log_lines xs) (sym e))
+same_logs (x ∷ xs) (y ∷ ys) all all' e =
+    let both = first_line x y (log_lines xs) (log_lines ys) (All-head IsSized x xs all) (All-head IsSized y ys all') e in
+    let head : x ≡ y = both.0 in
+    let tail : xs ≡ ys = same_logs xs ys (All-tail IsSized x xs all) (All-tail IsSized y ys all') both.1 in
+    λ i. head i ∷ tail i
+
+pub lines_once : LinesOnce
+lines_once text a b is is' = same_logs a b is.sized is'.sized (is.lines ∙ sym is'.lines)
+
+no_bad : (before log : List Entry) (rest : List ℕ) → All IsSized before → All IsSized log
+    → log_lines before ++ rest ≡ log_lines log → 0 < length rest → NoLine rest → ⊥
+no_bad [] [] rest all all' e more none =
+    let l : length rest ≡ 0 = ap length e in
+    absurd (omega (arith, l, more))
+no_bad [] (y ∷ ys) rest all all' e more none = none y (log_lines ys) (All-head IsSized y ys all') e
+no_bad (x ∷ xs) [] rest all all' e more none =
+    no_lines x (log_lines xs ++ rest) (sym e ∙ append_assoc (entry_line x) (log_lines xs) rest)
+no_bad (x ∷ xs) (y ∷ ys) rest all all' e more none =
+    let both = first_line x y (log_lines xs ++ rest) (log_lines ys) (All-head IsSized x xs all) (All-head IsSized y ys all')
+    (sym (append_assoc (entry_line x) (log_lines xs) rest) ∙ e) in
+    no_bad xs ys rest (All-tail IsSized x xs all) (All-tail IsSized y ys all') both.1 more none
+
+pub no_bad_line : NoBadLine
+no_bad_line text log number is bad =
+    no_bad bad.before log bad.rest bad.sized is.sized (sym bad.cut ∙ sym is.lines) bad.more bad.none
+
+no_length : (xs : List ℕ) → length xs ≡ 0 → xs ≡ []
+no_length [] is = refl
+no_length (x ∷ xs) is = absurd (omega (arith, is))
+
+-- a text that is read to its end
+pub read_back : (text rest : List ℕ) (log other : List Entry) → text ≡ log_lines log ++ rest → length rest ≡ 0
+    → All IsSized log → IsLogText text other → log ≡ other
+read_back text rest log other whole none all is =
+    let all_lines : log_lines log ≡ text =
+    sym (append-nil (log_lines log)) ∙ ap (λ (z : List ℕ). log_lines log ++ z) (sym (no_length rest none)) ∙ sym whole in
+    lines_once text log other (record { lines = all_lines; sized = all }) is

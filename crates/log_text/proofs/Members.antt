@@ -16,7 +16,7 @@ use Rattle.machine.specs.declared.thread_set.ThreadSet.{ThreadSet}
 use Rattle.log_text.specs.LogLines.{members}
 
 -- the members up to one number more
-more : (set : ThreadSet) (n : ℕ) (b : Bool) → has set (suc n) ≡ b
+pub more : (set : ThreadSet) (n : ℕ) (b : Bool) → has set (suc n) ≡ b
     → members set (suc n) ≡ members set n ++ (if b then suc n ∷ [] else [])
 more set n b is = ap (λ (h : Bool). members set n ++ (if h then suc n ∷ [] else [])) is
 
@@ -107,6 +107,3 @@ set_of_members set small =
 
 pub all_members : (set : ThreadSet) → All IsThread (members set 64)
 all_members set = (member_bits set 64).threads (omega arith)
-
-pub few_members : (set : ThreadSet) → length (members set 64) ≤ 64
-few_members set = (member_bits set 64).few

@@ -118,9 +118,27 @@ placed Stray = refl
 pub place_once : (a b : EventName) → place_of a ≡ place_of b → a ≡ b
 place_once a b same = sym (placed a) ∙ ap at_place same ∙ placed b
 
-pub no_place : (name : EventName) → 19 ≤ place_of name → Local ≡ name
-no_place Local past = refl
-no_place _ past = absurd (omega (arith, past))
+pub few_places : (name : EventName) → place_of name < 20
+few_places Local = omega arith
+few_places Load = omega arith
+few_places Store = omega arith
+few_places Swap = omega arith
+few_places CompareSwap = omega arith
+few_places FetchOr = omega arith
+few_places FetchAdd = omega arith
+few_places Fork = omega arith
+few_places Print = omega arith
+few_places Wait = omega arith
+few_places Wake = omega arith
+few_places Requeue = omega arith
+few_places Ret = omega arith
+few_places RetValue = omega arith
+few_places Die = omega arith
+few_places Entry = omega arith
+few_places Pending = omega arith
+few_places Clear = omega arith
+few_places Last = omega arith
+few_places Stray = omega arith
 
 all_above : List ℕ → Bool
 all_above [] = true

@@ -1,46 +1,34 @@
 -- The digits of numbers.
-use Rattle.std.proofs.Common.{◌≡◌, ◌<◌, ◌≤◌, ◌+◌, ◌/◌, ◌%◌, ◌^◌, ℕ, List, [], ◌∷◌, ◌++◌, length, get_or, arith}
-use Rattle.std.proofs.Common.{◌⊎◌, inl, inr, Result, refl, ap, sym, ◌∙◌, subst}
-use Rattle.std.specs.Result.{result_unwrap_or}
-use Rattle.std.specs.Str.{IsUtf8}
-use Rattle.std.specs.Str.Parse.{ParsesSigned, ParsesUnsigned}
-use Rattle.std.proofs.lemmas.Str.{IsUtf8-from_ascii}
+use Rattle.std.proofs.Common.{◌≡◌, ◌<◌, ◌≤◌, ◌+◌, ◌-◌, ◌/◌, ◌%◌, ◌^◌, ℕ, Bool, List, [], ◌∷◌, ◌++◌, drop}
+use Rattle.std.proofs.Common.{inl, inr, refl, ap, sym, ◌∙◌, arith}
 use Rattle.std.proofs.Common.{ℤ, pos, negsuc, suc}
 use Rattle.std.specs.Prelude.{FitsSigned}
 use Rattle.std.specs.Fmt.{decimal, signed_decimal}
-use Rattle.std.proofs.lemmas.Fmt.{IsAscii-decimal, IsAscii-signed, decimal_by_steps, parse-decimal, parse-signed_decimal}
+use Rattle.std.proofs.lemmas.Bool.{cases_lt, le-ltb}
+use Rattle.std.proofs.lemmas.Fmt.{decimal_by_steps}
+use Rattle.std.proofs.lemmas.Int.{to_z_pos}
 use Rattle.std.proofs.Math.Facts.{sfits_to_z}
 use Rattle.std.specs.Int.{w32}
 use Rattle.std.specs.Int.Signed.{mag}
 use Rattle.words.specs.Signed.{signed_of}
 use Rattle.machine.specs.declared.event.EventName.{EventName}
 use Rattle.machine.specs.declared.event.EventName.TheVariants.{Print}
+use mir.Val.{sel}
+use Rattle.log_text.specs.Cuts.{NoDigit}
 use Rattle.log_text.specs.LogLines.{value_text}
 use Rattle.log_text.proofs.Cutting.{Plain, plain_append}
+use Rattle.log_text.proofs.Digits.{digit_there, number_once}
 
-pub record IsDigits (ds : List ℕ) : Type 0 where
-  pub some : 0 < length ds
-  pub low : 48 ≤ get_or ds 0 0
-  pub high : get_or ds 0 0 ≤ 57
-  pub plain : Plain ds
+plain_one : (n : ℕ) → n < 10 → Plain ((48 + n) ∷ [])
+plain_one n less = (omega arith, tt)
 
-more : (n : ℕ) (ds : List ℕ) → 10 ≤ n → IsDigits ds → IsDigits (ds ++ ((48 + n % 10) ∷ []))
-more n [] big is = let some = is.some in absurd (omega (arith, some))
-more n (d ∷ ds) big is = record {
-  some = omega arith;
-  low = is.low;
-  high = is.high;
-  plain = plain_append (d ∷ ds) ((48 + n % 10) ∷ []) is.plain (omega arith, tt);
-}
-
-pub digits : (n : ℕ) → n < 2 ^ 64 → IsDigits (decimal n)
-digits n small = decimal_by_steps (λ n ds. IsDigits ds)
-    (λ n less. record { some = omega arith; low = omega arith; high = omega (arith, less); plain = (omega arith, tt) }) more n small
+plain_more : (n : ℕ) (ds : List ℕ) → 10 ≤ n → Plain ds → Plain (ds ++ ((48 + n % 10) ∷ []))
+plain_more n ds big is = plain_append ds ((48 + n % 10) ∷ []) is (omega arith, tt)
 
 pub plain_decimal : (n : ℕ) → n < 2 ^ 64 → Plain (decimal n)
-plain_decimal n small = (digits n small).plain
+plain_decimal n small = decimal_by_steps (λ n ds. Plain ds) plain_one plain_more n small
 
-pub signed_fits : (w : ℕ) → w < 2 ^ 32 → FitsSigned w32 (signed_of w)
+signed_fits : (w : ℕ) → w < 2 ^ 32 → FitsSigned w32 (signed_of w)
 signed_fits w h = sfits_to_z (record { fits = h })
 
 within : (z : ℤ) → FitsSigned w32 z → mag z < 2 ^ 63
@@ -54,39 +42,67 @@ pub plain_value : (name : EventName) (v : ℕ) → v < 2 ^ 32 → Plain (value_t
 plain_value Print v small = plain_signed (signed_of v) (within (signed_of v) (signed_fits v small))
 plain_value _ v small = plain_decimal v (omega (arith, small))
 
--- what begins by no digit is no number
-pub no_digits : (ds : List ℕ) (n : ℕ) → n < 2 ^ 32 → ds ≡ decimal n
-    → (ds ≡ []) ⊎ (get_or ds 0 0 < 48) ⊎ (57 < get_or ds 0 0) → ⊥
-no_digits ds n small is (inl empty) =
-    let d = (digits n (omega (arith, small))).some in
-    let e : length ds ≡ length (decimal n) = ap length is in
-    let z : length ds ≡ 0 = ap length empty in
-    absurd (omega (arith, d, e, z))
-no_digits ds n small is (inr (inl low)) =
-    let d = (digits n (omega (arith, small))).low in
-    let e : get_or ds 0 0 ≡ get_or (decimal n) 0 0 = ap (λ l. get_or l 0 0) is in
-    absurd (omega (arith, d, e, low))
-no_digits ds n small is (inr (inr high)) =
-    let d = (digits n (omega (arith, small))).high in
-    let e : get_or ds 0 0 ≡ get_or (decimal n) 0 0 = ap (λ l. get_or l 0 0) is in
-    absurd (omega (arith, d, e, high))
+-- a printed word below 2^31 is shown as it is, and one from there on as that less 2^32
+pub shown_low : (v : ℕ) → v < 2 ^ 31 → value_text Print v ≡ decimal v
+shown_low v low = ap signed_decimal (to_z_pos w32 v low)
 
--- what is parsed of the digits of a number
-pub read_decimal : {E : Type 0} (n : ℕ) (ds text : List ℕ) (r : Result ℕ E) (k : ℕ) → n < 2 ^ 32 → ds ≡ decimal n
-    → text ≡ ds → ParsesUnsigned 32 10 text r → k ≡ result_unwrap_or r 0 → k ≡ n
-read_decimal n ds text r k small is same parses gives =
-    gives ∙ ap (λ x. result_unwrap_or x 0)
-    (parse-decimal 32 n text r small (omega (arith, small)) (same ∙ is) parses)
+pub shown_high : (v : ℕ) → 2 ^ 31 ≤ v → v < 2 ^ 32 → value_text Print v ≡ 45 ∷ decimal (2 ^ 32 - v)
+shown_high v high small =
+    let negative : signed_of v ≡ negsuc (2 ^ 32 - suc v) =
+    ap (λ (b : Bool). sel b (pos v) (negsuc (2 ^ 32 - suc v))) (le-ltb v (2 ^ 31) high) in
+    let same : suc (2 ^ 32 - suc v) ≡ 2 ^ 32 - v = omega (arith, small) in
+    ap signed_decimal negative ∙ ap (λ (n : ℕ). 45 ∷ decimal n) same
 
-pub read_signed : {E : Type 0} (z : ℤ) (ds text : List ℕ) (r : Result ℤ E) (k : ℤ) → FitsSigned w32 z
-    → ds ≡ signed_decimal z → text ≡ ds → ParsesSigned w32 10 text r → k ≡ result_unwrap_or r (pos 0) → k ≡ z
-read_signed z ds text r k fits is same parses gives =
-    gives ∙ ap (λ x. result_unwrap_or x (pos 0))
-    (parse-signed_decimal w32 z text r fits (within z fits) (same ∙ is) parses)
+-- a sign is no digit
+no_sign : (n : ℕ) (xs r : List ℕ) → n < 2 ^ 32 → 45 ∷ xs ≡ decimal n ++ r → ⊥
+no_sign n xs r small is =
+    digit_there n (45 ∷ xs) r small (λ d. let low = d.0 in absurd (omega (arith, low))) is
 
-pub is_text : (n : ℕ) (ds : List ℕ) → n < 2 ^ 32 → ds ≡ decimal n → IsUtf8 ds
-is_text n ds small is = subst IsUtf8 (sym is) (IsUtf8-from_ascii (decimal n) (IsAscii-decimal n (omega (arith, small))))
+-- what is shown behind a sign
+pub past_sign : (v : ℕ) (text digits rest : List ℕ) → v < 2 ^ 32 → text ≡ 45 ∷ digits → text ≡ value_text Print v ++ rest
+    → (2 ^ 31 ≤ v) × (digits ≡ decimal (2 ^ 32 - v) ++ rest)
+past_sign v text digits rest small sign is = elim (cases_lt v (2 ^ 31)) [
+  | inl low ↦
+      absurd (no_sign v digits rest small (sym sign ∙ is ∙ ap (λ (z : List ℕ). z ++ rest) (shown_low v low)))
+  | inr high ↦ (
+    high,
+    ap (drop 1) (sym sign ∙ is ∙ ap (λ (z : List ℕ). z ++ rest) (shown_high v high small)),
+  )
+]
 
-pub is_signed_text : (z : ℤ) (ds : List ℕ) → FitsSigned w32 z → ds ≡ signed_decimal z → IsUtf8 ds
-is_signed_text z ds fits is = subst IsUtf8 (sym is)
-    (IsUtf8-from_ascii (signed_decimal z) (IsAscii-signed z (within z fits)))
+-- and what is shown without one
+pub no_sign_there : (v : ℕ) (text rest : List ℕ) → v < 2 ^ 32 → ((xs : List ℕ) → text ≡ 45 ∷ xs → ⊥)
+    → text ≡ value_text Print v ++ rest → (v < 2 ^ 31) × (text ≡ decimal v ++ rest)
+no_sign_there v text rest small none is = elim (cases_lt v (2 ^ 31)) [
+  | inl low ↦ (low, is ∙ ap (λ (z : List ℕ). z ++ rest) (shown_low v low))
+  | inr high ↦
+      absurd (none (decimal (2 ^ 32 - v) ++ rest) (is ∙ ap (λ (z : List ℕ). z ++ rest) (shown_high v high small)))
+]
+
+-- a printed word is shown in one way
+shown_once : (v w : ℕ) (r s : List ℕ) → v < 2 ^ 32 → w < 2 ^ 32 → NoDigit r → NoDigit s
+    → value_text Print v ++ r ≡ value_text Print w ++ s → (v ≡ w) × (r ≡ s)
+shown_once v w r s small small' non non' is = elim (cases_lt v (2 ^ 31)) [
+  | inl low ↦
+      let text : value_text Print v ++ r ≡ decimal v ++ r = ap (λ (z : List ℕ). z ++ r) (shown_low v low) in
+      let other = no_sign_there w (decimal v ++ r) s small' (λ xs e. no_sign v xs r small (sym e)) (sym text ∙ is) in
+      number_once v w r s small small' non non' other.1
+  | inr high ↦
+      let text : value_text Print v ++ r ≡ 45 ∷ (decimal (2 ^ 32 - v) ++ r) =
+      ap (λ (z : List ℕ). z ++ r) (shown_high v high small) in
+      let other = past_sign w (value_text Print v ++ r) (decimal (2 ^ 32 - v) ++ r) s small' text is in
+      let high' = other.0 in
+      let both = number_once (2 ^ 32 - v) (2 ^ 32 - w) r s (omega (arith, high)) (omega (arith, high')) non non' other.1 in
+      let same = both.0 in
+      (omega (arith, same, small, small'), both.1)
+]
+
+pub value_once : (name : EventName) (v w : ℕ) (r s : List ℕ) → v < 2 ^ 32 → w < 2 ^ 32 → NoDigit r → NoDigit s
+    → value_text name v ++ r ≡ value_text name w ++ s → (v ≡ w) × (r ≡ s)
+value_once Print v w r s small small' non non' is = shown_once v w r s small small' non non' is
+value_once _ v w r s small small' non non' is = number_once v w r s small small' non non' is
+
+-- a value that isn't printed is shown as it is
+pub written_so : (name : EventName) (v : ℕ) → (name ≡ Print → ⊥) → value_text name v ≡ decimal v
+written_so Print v other = absurd (other refl)
+written_so _ v other = refl

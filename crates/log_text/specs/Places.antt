@@ -5,7 +5,7 @@ use Rattle.machine.specs.declared.event.EventName.TheVariants.{Local, Load, Stor
 use Rattle.machine.specs.declared.event.EventName.TheVariants.{Fork, Print, Wait, Wake, Requeue, Ret, RetValue, Die}
 use Rattle.machine.specs.declared.event.EventName.TheVariants.{Entry, Pending, Clear, Last, Stray}
 
--- a name's place, from 0; Local has none among the steps
+-- a name's place, from 0; Local has the last
 abbrev pub place_of : EventName → ℕ
 place_of Local = 19
 place_of Load = 0

@@ -1,10 +1,11 @@
 -- Which logs have lines of their own, and what comes of a text that is to be lines of a log.
-use Rattle.std.specs.Prelude.{ℕ, ◌≡◌, ◌≢◌, ◌<◌, ◌+◌, ◌^◌, List, ◌++◌, length, Option, Some, None}
+use Rattle.std.specs.Prelude.{ℕ, ◌≡◌, ◌≢◌, ◌<◌, ◌+◌, ◌^◌, List, ◌++◌, length, Option, Some, None, codes}
 use Rattle.std.specs.List.{All}
 use Rattle.machine.specs.declared.event.Entry.{Entry}
 use Rattle.machine.specs.declared.event.Event.{Event}
+use Rattle.machine.specs.declared.event.EventName.{EventName}
 use Rattle.machine.specs.declared.event.EventName.TheVariants.{Local}
-use Rattle.log_text.specs.LogLines.{entry_line, log_lines}
+use Rattle.log_text.specs.LogLines.{entry_line, log_lines, set_text, value_text}
 use Rattle.log_text.specs.declared.reading.ReadLogFault.{ReadLogFault}
 use Rattle.log_text.specs.declared.reading.ReadLogFault.TheVariants.{Line, Memory}
 
@@ -24,6 +25,11 @@ pub record IsSized (e : Entry) : Type 0 where
   pub thread : e.thread < 2 ^ 32
   pub local : e.local < 2 ^ 32
   pub step : IsStep e.event
+
+-- an event of this name, whose text ends so behind the name and a space
+pub record EndsEvent (name : EventName) (text : List ℕ) (e : Event) : Type 0 where
+  pub called : e.name ≡ name
+  pub spelled : text ≡ value_text e.name e.value ++ (set_text (codes " woke") e.woken ++ set_text (codes " moved") e.moved)
 
 -- the text is just the lines of these entries
 pub record IsLogText (text : List ℕ) (log : List Entry) : Type 0 where
@@ -49,3 +55,11 @@ pub record IsBadLine (text : List ℕ) (number : ℕ) : Type 0 where
 abbrev pub RefusesLines : List ℕ → ReadLogFault → Type 0
 RefusesLines text (Line number) = IsBadLine text number
 RefusesLines text Memory = Unit {0}
+
+-- a text is the lines of one list of entries at most
+abbrev pub LinesOnce : Type 0
+LinesOnce = (text : List ℕ) (a b : List Entry) → IsLogText text a → IsLogText text b → a ≡ b
+
+-- where it is, no line of it is none of an entry
+abbrev pub NoBadLine : Type 0
+NoBadLine = (text : List ℕ) (log : List Entry) (number : ℕ) → IsLogText text log → IsBadLine text number → ⊥

@@ -1,12 +1,10 @@
-ghost use Rattle.std.specs.Prelude.{◌≡◌, ◌≢◌, MatchOption, MatchResult, IfOk};
+ghost use Rattle.std.specs.Prelude.{◌≡◌, List, MatchResult};
 ghost use Rattle.machine.specs.declared.event.Entry.{Entry as LogEntry};
-ghost use Rattle.log_text.specs.LogLines.{entry_text};
-ghost use Rattle.log_text.specs.Spelled.{IsLogText, IsSized, RefusesLines};
+ghost use Rattle.log_text.specs.Spelled.{IsLogText, RefusesLines};
 ghost use Rattle.log_text.specs.declared.reading.ReadLogFault.TheVariants.{Memory};
 
-use crate::fields::entry_of;
-use crate::parts::{are_same, cut, past_first};
-use crate::writing::append_entry;
+use crate::fields::read_line;
+use crate::parts::{cut, past_first};
 use machine::Entry;
 use std::alloc::{AllocError, Global};
 use thiserror::Error;
@@ -33,14 +31,14 @@ impl From<AllocError> for ReadLogFault {
 /// The entries of which a text has the lines, just as `append_log` writes them: each ends by a line feed, its parts stand
 /// apart by one space, numbers have no zeros in front, and the threads of a set rise. The empty text is the empty log.
 ///
-/// A line is read by its parts, and the entry written anew: so the text is just the lines of the entries that are
-/// answered.
+/// So each list of entries of the machine's size is read back from its lines, memory aside.
 pub fn read_log(alloc: Global, text: &[u8]) -> Result<Vec<Entry>, ReadLogFault>
-    ensures { MatchResult result (λ entries. IsLogText text.now entries.items)
+    ensures read { MatchResult result (λ entries. IsLogText text.now entries.items)
         (λ fault. RefusesLines text.now fault) }
+    ensures reads { (log : List LogEntry) → IsLogText text.now log
+        → MatchResult result (λ entries. entries.items ≡ log) (λ fault. fault ≡ Memory) }
 {
     let mut entries = Vec::new(alloc);
-    let mut spelled = String::new(alloc);
     let mut rest = text;
     let mut number: u64 = 0;
     while !rest.is_empty() {
@@ -49,7 +47,7 @@ pub fn read_log(alloc: Global, text: &[u8]) -> Result<Vec<Entry>, ReadLogFault>
         if line.rest.is_empty() {
             return Err(ReadLogFault::Line(number));
         }
-        let Some(entry) = read_line(&mut spelled, line.front)? else {
+        let Some(entry) = read_line(line.front) else {
             return Err(ReadLogFault::Line(number));
         };
         if entries.push(entry).is_err() {
@@ -58,20 +56,4 @@ pub fn read_log(alloc: Global, text: &[u8]) -> Result<Vec<Entry>, ReadLogFault>
         rest = past_first(line.rest);
     }
     Ok(entries)
-}
-
-// The entry of a line, without its end. What is in the string is lost.
-fn read_line(spelled: &mut String, line: &[u8]) -> Result<Option<Entry>, AllocError>
-    ensures { IfOk result (λ o. MatchOption o
-        ((e : LogEntry) → IsSized e → line.now ≢ entry_text e)
-        (λ e. IsSized e × (line.now ≡ entry_text e))) }
-{
-    let entry = entry_of(line);
-    spelled.clear();
-    append_entry(spelled, &entry)?;
-    if are_same(line, spelled.as_bytes()) {
-        Ok(Some(entry))
-    } else {
-        Ok(None)
-    }
 }

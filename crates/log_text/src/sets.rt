@@ -1,69 +1,57 @@
-ghost use Rattle.std.specs.Prelude.{◌≡◌, ◌<◌, ◌≤◌, ◌^◌, ◌++◌, ◌∷◌, ℕ, List, None, MatchBool, MatchOption, IfSome, length};
-ghost use Rattle.std.specs.List.{All};
-ghost use Rattle.std.specs.Fmt.{decimal};
-ghost use Rattle.machine.specs.ThreadSets.{IsThread, set_of};
+ghost use Rattle.std.specs.Prelude.{◌≡◌, ◌<◌, ◌≤◌, ◌^◌, ◌++◌, ◌⊎◌, ℕ, List, MatchBool, MatchOption, IfSome, length};
+ghost use Rattle.machine.specs.ThreadSets.{set_of};
 ghost use Rattle.machine.specs.declared.thread_set.ThreadSet.{ThreadSet as Set};
-ghost use Rattle.log_text.specs.Cuts.{AfterSet, AtByte, AtWord, NoByte};
+ghost use Rattle.log_text.specs.Cuts.{AfterSet, IsRow, NoNumber, Rises};
 ghost use Rattle.log_text.specs.LogLines.{numbers_text, set_text};
 
-use crate::parts::{are_same, cut, number_of, past_first};
+use crate::numbers::spaced_number;
+use crate::parts::past_word;
 use arrayvec::ArrayVec;
 use machine::{MOST_THREADS, ThreadSet};
 
-/// The set that stands behind a space and this word at the front of a text, and what follows it; the empty set, and the
-/// text, where the word isn't there.
-pub fn set_after<'a>(text: &'a [u8], word: &[u8]) -> (ThreadSet, &'a [u8])
-    requires word { NoByte 32 word.now × (0 < length word.now) }
-    ensures { (set : Set) (rest : List ℕ) → set.bits < 2 ^ 64 → AfterSet word.now rest
-        → text.now ≡ set_text (32 ∷ word.now) set ++ rest
-        → (result.0 ≡ set) × (result.1.now ≡ rest) }
+/// The set that stands behind this word at the front of a text, and what follows it; the empty set, and the text, where
+/// the word isn't there. None where no rising threads stand behind the word.
+pub fn set_after<'a>(text: &'a [u8], word: &[u8]) -> Option<(ThreadSet, &'a [u8])>
+    ensures small { IfSome result (λ p. p.0.bits < 2 ^ 64) }
+    ensures read { IfSome result (λ p. text.now ≡ set_text word.now p.0 ++ p.1.now) }
+    ensures reads { (set : Set) (rest : List ℕ) → set.bits < 2 ^ 64 → AfterSet word.now rest
+        → text.now ≡ set_text word.now set ++ rest
+        → MatchOption result ⊥ (λ p. (p.0 ≡ set) × (p.1.now ≡ rest)) }
 {
-    let first = cut(past_first(text), b' ');
-    if are_same(first.front, word) {
-        threads_of(first.rest)
-    } else {
-        (ThreadSet::new(), text)
+    match past_word(text, word) {
+        Some(threads) => threads_of(threads),
+        None => Some((ThreadSet::new(), text)),
     }
 }
 
-// The threads at the front of a text, each behind a space, and what follows them.
-fn threads_of(text: &[u8]) -> (ThreadSet, &[u8])
-    ensures { (ts : List ℕ) (rest : List ℕ) → All IsThread ts → length ts ≤ 64 → AtWord rest
+// The set of the rising threads at the front of a text, each behind a space, and what follows them; None where there is
+// none, or one that doesn't rise.
+fn threads_of(text: &[u8]) -> Option<(ThreadSet, &[u8])>
+    ensures read { IfSome result (λ p. IsRow text.now p.0 p.1.now) }
+    ensures reads { (ts : List ℕ) (rest : List ℕ) → Rises 0 ts → 0 < length ts → NoNumber rest
         → text.now ≡ numbers_text ts ++ rest
-        → (result.0 ≡ set_of ts) × (result.1.now ≡ rest) }
+        → MatchOption result ⊥ (λ p. (p.0 ≡ set_of ts) × (p.1.now ≡ rest)) }
 {
     let mut threads: ArrayVec<u32, 64> = ArrayVec::new();
+    let mut last = 0;
     let mut rest = text;
-    for _ in 0..MOST_THREADS {
-        match next_thread(rest) {
-            Some((t, after)) => {
-                threads.push(t);
-                rest = after;
-            }
-            None => return (ThreadSet::of(threads.as_slice()), rest),
+    'walk: while let Some((thread, after)) = spaced_number(rest) {
+        if !rises(last, thread) {
+            return None;
         }
+        threads.push(thread);
+        last = thread;
+        rest = after;
     }
-    (ThreadSet::of(threads.as_slice()), rest)
-}
-
-// The thread at the front of a text, behind a space, and what follows it.
-fn next_thread(text: &[u8]) -> Option<(u32, &[u8])>
-    ensures thread { IfSome result (λ p. IsThread p.0) }
-    ensures reads { (t : ℕ) (after : List ℕ) → IsThread t → AtByte 32 after
-        → text.now ≡ 32 ∷ decimal t ++ after
-        → MatchOption result ⊥ (λ p. (p.0 ≡ t) × (p.1.now ≡ after)) }
-    ensures none { AtWord text.now → result ≡ None }
-{
-    let word = cut(past_first(text), b' ');
-    let t = number_of(word.front);
-    if !is_thread(t) {
+    if last == 0 {
         return None;
     }
-    Some((t, word.rest))
+    Some((ThreadSet::of(threads.as_slice()), rest))
 }
 
-fn is_thread(t: u32) -> bool
-    ensures { MatchBool result (IsThread t) (IsThread t → ⊥) }
+// Whether this is the number of a thread above the last one.
+fn rises(last: u32, thread: u32) -> bool
+    ensures { MatchBool result ((last < thread) × (thread ≤ 64)) ((thread ≤ last) ⊎ (64 < thread)) }
 {
-    t > 0 && t <= MOST_THREADS
+    last < thread && thread <= MOST_THREADS
 }

@@ -1,9 +1,10 @@
-ghost use Rattle.std.specs.Prelude.{◌≡◌, ◌++◌, OnOk, string_bytes};
-ghost use Rattle.log_text.specs.LogLines.{entry_text, log_lines, name_text, set_text, step_text, value_text};
+ghost use Rattle.std.specs.Prelude.{◌≡◌, ◌++◌, OnOk, codes, string_bytes};
+ghost use Rattle.std.specs.Fmt.{decimal};
+ghost use Rattle.log_text.specs.LogLines.{entry_line, event_text, log_lines, name_text, set_text, value_text};
 
+use itoa::Buffer;
 use machine::{Entry, Event, EventName, MOST_THREADS, ThreadSet};
 use std::alloc::AllocError;
-use std::fmt::Write as _;
 use words::signed;
 
 /// Appends the lines of a log: of each entry its thread, its local steps, and what came then.
@@ -12,33 +13,35 @@ pub fn append_log(text: &mut String, log: &[Entry]) -> Result<(), AllocError>
 {
     for entry in log {
         append_entry(text, entry)?;
-        writeln!(text)?;
     }
     Ok(())
 }
 
-/// Appends the line of an entry, without its end.
-pub fn append_entry(text: &mut String, entry: &Entry) -> Result<(), AllocError>
-    ensures { OnOk result (string_bytes text.new ≡ string_bytes text.old ++ entry_text entry.now) }
+// Appends the line of an entry.
+fn append_entry(text: &mut String, entry: &Entry) -> Result<(), AllocError>
+    ensures { OnOk result (string_bytes text.new ≡ string_bytes text.old ++ entry_line entry.now) }
 {
-    let thread = entry.thread;
-    let local = entry.local;
-    write!(text, "{thread} {local} ")?;
-    append_step(text, entry.event)
+    append_number(text, entry.thread)?;
+    text.push_str(" ")?;
+    append_number(text, entry.local)?;
+    match entry.event {
+        Some(event) => append_event(text, event),
+        None => text.push_str(" TURN 0\n"),
+    }
 }
 
-// The shared step of an entry, and the threads that it woke and moved; none is a turn.
-fn append_step(text: &mut String, event: Option<Event>) -> Result<(), AllocError>
-    ensures { OnOk result (string_bytes text.new ≡ string_bytes text.old ++ step_text event) }
+// The end of the line of a shared step: its name, its value, and the threads that it woke and moved.
+fn append_event(text: &mut String, event: Event) -> Result<(), AllocError>
+    ensures { OnOk result (string_bytes text.new
+        ≡ string_bytes text.old ++ (codes " " ++ (event_text event ++ codes "\n"))) }
 {
-    let Some(event) = event else {
-        return write!(text, "TURN 0");
-    };
-    let name = name_of(event.name);
-    write!(text, "{name} ")?;
+    text.push_str(" ")?;
+    text.push_str(name_of(event.name))?;
+    text.push_str(" ")?;
     append_value(text, event)?;
     append_set(text, " woke", event.woken)?;
-    append_set(text, " moved", event.moved)
+    append_set(text, " moved", event.moved)?;
+    text.push_str("\n")
 }
 
 // A step's value: of a printed word the number that it stands for.
@@ -46,17 +49,41 @@ fn append_value(text: &mut String, event: Event) -> Result<(), AllocError>
     ensures { OnOk result (string_bytes text.new
         ≡ string_bytes text.old ++ value_text event.name event.value) }
 {
-    let value = event.value;
     if event.name == EventName::Print {
-        let number = signed(value);
-        write!(text, "{number}")
+        text.push_str(Buffer::new().format(signed(event.value)))
     } else {
-        write!(text, "{value}")
+        append_number(text, event.value)
     }
+}
+
+// A number in decimal digits.
+fn append_number(text: &mut String, number: u32) -> Result<(), AllocError>
+    ensures { OnOk result (string_bytes text.new ≡ string_bytes text.old ++ decimal number) }
+{
+    text.push_str(Buffer::new().format(number))
+}
+
+// A space and a number.
+fn append_spaced(text: &mut String, number: u32) -> Result<(), AllocError>
+    ensures { OnOk result (string_bytes text.new
+        ≡ string_bytes text.old ++ (codes " " ++ decimal number)) }
+{
+    text.push_str(" ")?;
+    append_number(text, number)
 }
 
 // The threads of a set by rising number, after a word, where there are any.
 fn append_set(text: &mut String, word: &str, set: ThreadSet) -> Result<(), AllocError>
+    ensures { OnOk result (string_bytes text.new ≡ string_bytes text.old ++ set_text word.now set) }
+{
+    if set.is_empty() {
+        return Ok(());
+    }
+    append_members(text, word, set)
+}
+
+// The same, where each number is tried.
+fn append_members(text: &mut String, word: &str, set: ThreadSet) -> Result<(), AllocError>
     ensures { OnOk result (string_bytes text.new ≡ string_bytes text.old ++ set_text word.now set) }
 {
     let mut any = false;
@@ -64,9 +91,9 @@ fn append_set(text: &mut String, word: &str, set: ThreadSet) -> Result<(), Alloc
         let thread = before + 1;
         if set.contains(thread) {
             if !any {
-                write!(text, "{word}")?;
+                text.push_str(word)?;
             }
-            write!(text, " {thread}")?;
+            append_spaced(text, thread)?;
             any = true;
         }
     }

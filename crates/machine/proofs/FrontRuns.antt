@@ -1,11 +1,13 @@
 -- Runs of the machine itself are runs of the relation.
-use Rattle.std.proofs.Common.{◌≡◌, List, [], ◌∷◌, map, refl, ap, sym, subst}
+use Rattle.std.proofs.Common.{◌≡◌, List, [], ◌∷◌, false, map, refl, ap, sym, subst, inl, inr}
 use Rattle.isa.specs.Programs.{Program}
 use Rattle.machine.specs.States.{State, ConcreteState, opening_concrete, state_of}
-use Rattle.machine.specs.Runs.{Own, Step, GoesBy, is_paused}
+use Rattle.machine.specs.Runs.{Own, Strayed, Step, GoesBy, is_paused}
 use Rattle.machine.specs.FrontRuns.{EventStep, FrontRun, FrontsRunSo, label_of, event_label}
 use Rattle.machine.specs.Views.{IsWellFormed}
 use Rattle.machine.proofs.Stepping.{opens_so, steps_so}
+use Rattle.machine.proofs.OwnEvents.{own_so}
+use Rattle.machine.proofs.Outside.{strays_so, stray_told}
 
 -- steps of the relation that are those of the machine itself
 pub record IsRunOf (p : Program) (k : ConcreteState) (steps : List EventStep) (k' : ConcreteState) : Type 0 where
@@ -22,14 +24,36 @@ run_of p k k' [] concrete same = record {
   same = refl;
   concrete = subst (λ (q : ConcreteState). IsWellFormed p q) same concrete;
 }
-run_of p k k' (s ∷ steps) concrete runs =
-    let r = steps_so p k runs.0 s.thread s.event concrete runs.1 in
-    let rest = run_of p runs.0 k' steps r.3 runs.2 in record {
-      run = record { thread = s.thread; woken = r.0; pauses = is_paused (state_of runs.0) s.thread; doing = Own } ∷ rest.run;
-      goes = (state_of runs.0, r.2, rest.goes);
-      same = λ i. record { thread = s.thread; woken = sym r.1 i } ∷ rest.same i;
-      concrete = rest.concrete;
-    }
+run_of p k k' (s ∷ steps) concrete runs = elim runs.1 [
+  | inl own ↦
+      let r = steps_so p k runs.0 s.thread s.event concrete own in
+      let rest = run_of p runs.0 k' steps r.3 runs.2 in
+      let told = own_so p k runs.0 s.thread s.event own in record {
+        run = record {
+          thread = s.thread;
+          woken = r.0;
+          pauses = is_paused (state_of runs.0) s.thread;
+          doing = Own;
+        } ∷ rest.run;
+        goes = (state_of runs.0, r.2, rest.goes);
+        same = λ i. record { thread = s.thread; woken = sym r.1 i; doing = sym told i } ∷ rest.same i;
+        concrete = rest.concrete;
+      }
+  | inr stray ↦
+      let r = strays_so p k runs.0 s.thread s.event concrete stray in
+      let rest = run_of p runs.0 k' steps r.2 runs.2 in
+      let told = stray_told k runs.0 s.thread s.event stray in record {
+        run = record {
+          thread = s.thread;
+          woken = s.thread ∷ [];
+          pauses = false;
+          doing = Strayed s.event.value;
+        } ∷ rest.run;
+        goes = (state_of runs.0, r.1, rest.goes);
+        same = λ i. record { thread = s.thread; woken = sym r.0 i; doing = sym told i } ∷ rest.same i;
+        concrete = rest.concrete;
+      }
+]
 
 pub fronts_run_so : FrontsRunSo
 fronts_run_so p k steps fits runs =

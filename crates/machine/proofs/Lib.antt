@@ -16,4 +16,5 @@ pub mod Members
 pub mod Printed
 pub mod Whole
 pub mod Outside
+pub mod OwnEvents
 pub mod FrontRuns

@@ -18,6 +18,7 @@ use Rattle.machine.specs.ConcreteOutside.{drop_sleeper, stray_at, stray_of}
 use Rattle.machine.specs.Runs.{Strayed, IsStep}
 use Rattle.machine.specs.Views.{IsWellFormed}
 use Rattle.machine.specs.Determined.{StraysSo, StrayRefusedSo}
+use Rattle.machine.specs.FrontRuns.{doing_of}
 use Rattle.machine.proofs.Placing.{by_place}
 use Rattle.machine.proofs.Sleeping.{placed, unplaced}
 use Rattle.machine.proofs.Landing.{inside}
@@ -158,3 +159,14 @@ stray_refused_so k t = by_place_of (k.common.asleep t) refl
       where
         never : stray_at k t (Some a) ≡ Err CannotMove → ⊥
         never h = absurd cc
+
+told_by : (k k' : ConcreteState) (t : ℕ) (e : Event) (o : Option ℕ) → stray_at k t o ≡ Ok (k', e)
+    → doing_of e.name e.value ≡ Strayed e.value
+told_by k k' t e None h = absurd cc
+told_by k k' t e (Some a) h =
+    subst (λ (q : ConcreteState × Event). doing_of q.1.name q.1.value ≡ Strayed q.1.value) (inside _ (k', e) h) refl
+
+-- the event of a wake from outside tells so
+pub stray_told : (k k' : ConcreteState) (t : ℕ) (e : Event) → stray_of k t ≡ Ok (k', e)
+    → doing_of e.name e.value ≡ Strayed e.value
+stray_told k k' t e h = told_by k k' t e (k.common.asleep t) h

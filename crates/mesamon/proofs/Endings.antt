@@ -6,7 +6,7 @@ use Rattle.std.specs.Io.KnownBytes.{Appends}
 use Rattle.mesamon.specs.declared.status.Status.{Status}
 use Rattle.mesamon.specs.declared.status.Status.TheVariants.{Done, Refused, Usage, Stuck, Limit, Memory, Failed}
 use Rattle.mesamon.specs.Statuses.{status_code}
-use Rattle.mesamon.specs.Accounts.{account, output_lines}
+use Rattle.account_text.specs.Accounts.{account, output_lines}
 use Rattle.isa.specs.Programs.{Program}
 use Rattle.isa.specs.Spelling.{IsSpelled, spelling}
 use Rattle.runner.specs.Reports.{IsReport}

@@ -1,8 +1,9 @@
 pub mod RunsExplained
 mod Endings
 mod Explanations
+mod Explored
 mod Failing
 mod Fitting
-mod Lines
+mod LegalLogs
 mod Replays
 mod SourceLogs

@@ -21,7 +21,8 @@ use Rattle.mesamon.specs.Explaining.{IsExplanation, IsExplanationOfText}
 use Rattle.mesamon.specs.Replaying.{IsReplayOfText}
 use Rattle.mesamon.specs.SourceLog.{IsExplanationOfLog, IsReplayOfLog}
 use Rattle.mesamon.specs.Exploring.{HasExplored}
-use Rattle.mesamon.specs.Accounts.{account, image_line, output_lines}
+use Rattle.account_text.specs.Accounts.{account, output_lines}
+use Rattle.mesamon.specs.ImageLine.{image_line}
 
 -- some text was checked, and it was told that it is a program
 pub record HasChecked (Wrote : List ℕ → Type 0) : Type 0 where

@@ -1,19 +1,27 @@
 -- What a search over all runs of a source text's program answers, and what is told of it.
-use Rattle.std.specs.Prelude.{ℕ, ◌≡◌, ◌++◌, Bool, true, false, IfSome, List, [], Option, Some, None, Vec, codes, map}
+use Rattle.std.specs.Prelude.{ℕ, ◌≡◌, ◌<◌, ◌^◌, ◌++◌, Bool, length, true, false, IfSome, List, [], Option, Some, None, Vec, codes, map}
 use Rattle.std.specs.Prelude.{is_some, if◌then◌else◌}
 use Rattle.std.specs.Fmt.{decimal}
 use Rattle.std.specs.Global.{Global}
 use Rattle.std.specs.List.{flat_map}
+use Rattle.words.specs.declared.outcome.Cause.{Cause}
+use Rattle.words.specs.declared.outcome.Outcome.TheVariants as outcome
+use Rattle.machine.specs.Runs.{CanStep, MachineRun, Step}
+use Rattle.machine.specs.States.{State}
 use Rattle.program.specs.Names.{Naming, said_by}
 use Rattle.program.specs.Trees.{Program}
+use Rattle.lowering.specs.Pieces.{code_of}
 use Rattle.proof_exploration.specs.Exploring.{HasAborted, IsStuck}
+use Rattle.refinement.specs.Outside.{stray_threads}
+use Rattle.refinement.specs.Seen.{machine_end}
+use Rattle.image_ends.specs.Ending.{AllOver}
 use Rattle.source_states.specs.declared.action.Action.{Action}
 use Rattle.source_states.specs.Actions.{action_of}
 use Rattle.source_search.specs.Found.{LeadsNowhere, LeadsTo}
 use Rattle.source_search.specs.declared.runs.Exploration.{Exploration}
 use Rattle.actionlines.specs.Lines.{line}
 use Rattle.compiler.specs.Accepts.{AcceptsText}
-use Rattle.mesamon.specs.Accounts.{line_feed}
+use Rattle.log_text.specs.LogLines.{line_feed}
 use Rattle.mesamon.specs.declared.exploring.ExploredText.{ExploredText}
 use Rattle.mesamon.specs.declared.status.Status.{Status}
 use Rattle.mesamon.specs.declared.status.Status.TheVariants.{Done, Stuck, Limit}
@@ -25,10 +33,22 @@ pub record IsFoundOf (p : Program) (e : Exploration) : Type 0 where
   pub never_stuck : e.complete ≡ true → e.stuck ≡ None → LeadsNowhere p (IsStuck p)
   pub never_aborted : e.complete ≡ true → e.aborted ≡ None → LeadsNowhere p HasAborted
 
--- the text's program, and what was found of it
+-- of each run of the program's image, under whatever schedule, of fewer than 2^32 steps, in which nobody who waits on a
+-- condition is woken from outside: where the search was complete and found no run that gets stuck, all processes are over
+-- wherever no thread can move; and where it found none that aborts, no thread has aborted
+pub record HoldsOfImage (p : Program) (e : Exploration) : Type 0 where
+  pub never_hangs : e.complete ≡ true → e.stuck ≡ None → (steps : List Step) (s : State)
+      → MachineRun (code_of p) steps s → length steps < 2 ^ 32 → stray_threads p steps ≡ []
+      → ((t : ℕ) → CanStep s t → ⊥) → AllOver p s
+  pub never_faults : e.complete ≡ true → e.aborted ≡ None → (steps : List Step) (s : State) (q : ℕ) (cause : Cause)
+      → MachineRun (code_of p) steps s → length steps < 2 ^ 32 → stray_threads p steps ≡ []
+      → machine_end s q ≡ Some (outcome.Aborted cause) → ⊥
+
+-- the text's program, what was found of it, and what that says of its image
 pub record IsExploredText (text : List ℕ) (r : ExploredText) : Type 0 where
   pub accepts : AcceptsText text (said_by r.checked)
   pub found : IsFoundOf (said_by r.checked) r.exploration
+  pub image : HoldsOfImage (said_by r.checked) r.exploration
 
 -- the line of how many states were kept
 abbrev pub states_line : ℕ → Bool → List ℕ

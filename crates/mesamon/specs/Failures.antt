@@ -4,6 +4,10 @@ use Rattle.std.specs.declared.io.ErrorKind.{ErrorKind}
 use Rattle.std.specs.declared.io.ErrorKind.TheVariants as io
 use Rattle.commandline.specs.declared.fault.WordsFault.{WordsFault}
 use Rattle.commandline.specs.declared.fault.WordsFault.TheVariants as words
+use Rattle.devices.specs.declared.reading.ReadFault.{ReadFault}
+use Rattle.devices.specs.declared.reading.ReadFault.TheVariants as read
+use Rattle.devices.specs.declared.report.WriteFault.{WriteFault}
+use Rattle.devices.specs.declared.report.WriteFault.TheVariants as write
 use Rattle.isa.specs.declared.fault.DecodeFault.{DecodeFault}
 use Rattle.isa.specs.declared.fault.DecodeFault.TheVariants as image
 use Rattle.scanner.specs.declared.refusal.Refusal.{Refusal}
@@ -41,6 +45,17 @@ status_of Memory = status.Memory
 -- an error of input or output is this failure, but for want of memory that of memory
 abbrev pub OfIo : ErrorKind → Failure → Failure → Type 0
 OfIo k other f = ((k ≡ io.OutOfMemory) × (f ≡ Memory)) ⊎ ((k ≢ io.OutOfMemory) × (f ≡ other))
+
+-- so is the fault of a read
+abbrev pub OfSource : ReadFault → Failure → Failure → Type 0
+OfSource read.Device other f = f ≡ other
+OfSource read.Memory other f = f ≡ Memory
+
+-- where what a run tells isn't written, it is the failure of output, but for want of memory
+abbrev pub OfReport : WriteFault → Failure → Type 0
+OfReport write.Output f = f ≡ Output
+OfReport write.Errors f = f ≡ Output
+OfReport write.Memory f = f ≡ Memory
 
 -- so is the fault of the words of a command line
 abbrev pub OfWords : WordsFault → Failure → Type 0

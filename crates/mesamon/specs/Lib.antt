@@ -5,6 +5,6 @@ pub mod SourceLog
 pub mod Asked
 pub mod Exploring
 pub mod Statuses
-pub mod Accounts
+pub mod ImageLine
 pub mod Failures
 pub mod Commands

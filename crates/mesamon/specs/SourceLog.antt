@@ -1,9 +1,9 @@
 -- What a log that comes from outside answers, as the text of its lines: explained, or run again.
-use Rattle.std.specs.Prelude.{◌≡◌, ◌⊎◌, ℕ, List, map}
+use Rattle.std.specs.Prelude.{◌≡◌, ◌<◌, ◌^◌, ◌⊎◌, ℕ, List, map}
 use Rattle.isa.specs.Programs.{Program as Image}
 use Rattle.machine.specs.declared.event.Entry.{Entry}
 use Rattle.machine.specs.Runs.{MachineRun, Step}
-use Rattle.machine.specs.States.{state_of}
+use Rattle.machine.specs.States.{ConcreteState, state_of}
 use Rattle.machine.specs.Views.{concrete}
 use Rattle.scanner.specs.Refusals.{out_of_memory}
 use Rattle.program.specs.Names.{said_by}
@@ -11,11 +11,13 @@ use Rattle.program.specs.Trees.{Program}
 use Rattle.lowering.specs.Pieces.{code_of}
 use Rattle.refinement.specs.Refines.{Explained}
 use Rattle.source_states.specs.Actions.{action_of}
+use Rattle.backend.specs.Refusals.{CodeFits}
 use Rattle.runner.specs.LogSchedules.{IsBadLogEntry, IsFollowedLog}
+use Rattle.runner.specs.Logs.{cost}
 use Rattle.runner.specs.Reports.{IsVerdict}
 use Rattle.runner.specs.declared.report.Report.{Report}
 use Rattle.log_text.specs.Spelled.{IsBadLine, IsLogText}
-use Rattle.simulation.specs.ExplainedLog.{IsExplainedLog, IsLast, StopsAt}
+use Rattle.simulation.specs.ExplainedLog.{IsExplainedLog, IsLast, LeadsTo, StopsAt}
 use Rattle.compiler.specs.Accepts.{AcceptsText, RefusesText}
 use Rattle.mesamon.specs.declared.explained_run.ExplainedRun.{ExplainedRun}
 use Rattle.mesamon.specs.declared.source_log.SourceLogFault.{SourceLogFault}
@@ -85,6 +87,23 @@ IsOfLog (Refused e) = e ≡ out_of_memory
 IsOfLog (Line number) = Unit {0}
 IsOfLog (Entry' number) = Unit {0}
 IsOfLog Memory = Unit {0}
+
+-- the text is a program's whose code fits, and the lines are those of a log of a run of it
+pub record LinesOfRun (text lines : List ℕ) : Type 0 where
+  pub program : Program
+  pub accepts : AcceptsText text program
+  pub fits : CodeFits program
+  pub entries : List Entry
+  pub reads : IsLogText lines entries
+  pub machine : ConcreteState
+  pub legal : LeadsTo (code_of program) entries machine
+  pub short : cost entries < 2 ^ 32
+
+-- there is no memory
+abbrev pub IsWantOfMemory : SourceLogFault → Type 0
+IsWantOfMemory (Refused e) = e ≡ out_of_memory
+IsWantOfMemory Memory = Unit {0}
+IsWantOfMemory fault = ⊥
 
 -- the report of the code of the text's program, run by the threads and counts of the log that the lines are, which a
 -- run of the program explains

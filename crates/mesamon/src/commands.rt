@@ -1,20 +1,19 @@
 ghost use Rattle.std.specs.Prelude.{◌≡◌, ◌≤◌, ◌⊎◌, List, IfOk, OnOk};
-ghost use Rattle.std.specs.Io.KnownBytes.{Appends};
-ghost use Rattle.compiler.specs.Compiles.{IsCompiled};
+ghost use Rattle.devices.specs.Writing.{HasAll};
 ghost use Rattle.mesamon.specs.Commands.{HasChecked, HasCompiled, HasDone, HasEnded, HasListed};
 
 use crate::explaining::explain_file;
 use crate::exploring::explore_file;
 use crate::failure::Failure;
 use crate::files::{bytes_of, put_bytes};
-use crate::report::{write_image_line, write_text};
+use crate::lines::{line_of_image, write_text};
 use crate::running::{exec_file, replay_file, run_file};
 use crate::status::Status;
-use commandline::{Job, read_job};
-use compiler::{check_text, compile, compile_checked, compile_with};
+use commandline::{Job, line};
+use compiler::{check_text, compile_checked, compile_with};
+use devices::Counted;
 use emit::emit;
-use isa::{Image, decode, encode, list_lines};
-use scanner::Refusal;
+use isa::{decode, encode, list_lines};
 use std::io;
 use std::io::Write;
 use std::rt::Files;
@@ -36,20 +35,20 @@ use words::OpenGate;
 pub fn perform<R: Files + AllocGlobal + Threads + Wait + Sync, O: Write, E: Write>(
     rt: &R,
     words: &[&str],
-    output: &mut O,
-    errors: &mut E,
+    output: &mut Counted<O>,
+    errors: &mut Counted<E>,
 ) -> u8
     ensures known { result ≤ 6 }
     ensures done { result ≡ 0 → HasCompiled
-        (Appends (O.contents output.old) (O.contents output.new))
-        ⊎ (HasListed (Appends (O.contents output.old) (O.contents output.new))
-        ⊎ (HasEnded (Appends (O.contents output.old) (O.contents output.new))
-        (Appends (E.contents errors.old) (E.contents errors.new)) Status.Done
-        ⊎ HasChecked (Appends (O.contents output.old) (O.contents output.new)))) }
-    ensures stuck { result ≡ 3 → HasEnded (Appends (O.contents output.old) (O.contents output.new))
-        (Appends (E.contents errors.old) (E.contents errors.new)) Status.Stuck }
-    ensures limit { result ≡ 4 → HasEnded (Appends (O.contents output.old) (O.contents output.new))
-        (Appends (E.contents errors.old) (E.contents errors.new)) Status.Limit }
+        (HasAll O.contents output.old output.new)
+        ⊎ (HasListed (HasAll O.contents output.old output.new)
+        ⊎ (HasEnded (HasAll O.contents output.old output.new)
+        (HasAll E.contents errors.old errors.new) Status.Done
+        ⊎ HasChecked (HasAll O.contents output.old output.new))) }
+    ensures stuck { result ≡ 3 → HasEnded (HasAll O.contents output.old output.new)
+        (HasAll E.contents errors.old errors.new) Status.Stuck }
+    ensures limit { result ≡ 4 → HasEnded (HasAll O.contents output.old output.new)
+        (HasAll E.contents errors.old errors.new) Status.Limit }
 {
     match do_job(rt, words, output, errors) {
         Ok(status) => status.code(),
@@ -61,7 +60,7 @@ pub fn perform<R: Files + AllocGlobal + Threads + Wait + Sync, O: Write, E: Writ
 }
 
 // Writes what is to be said of a failure.
-fn tell<E: Write>(errors: &mut E, failure: &Failure<'_>) -> io::Result<()> {
+fn tell<E: Write>(errors: &mut Counted<E>, failure: &Failure<'_>) -> io::Result<()> {
     match failure {
         Failure::Usage(text) => write!(errors, "{text}"),
         Failure::Output => Ok(()),
@@ -72,13 +71,13 @@ fn tell<E: Write>(errors: &mut E, failure: &Failure<'_>) -> io::Result<()> {
 fn do_job<'a, R: Files + AllocGlobal + Threads + Wait + Sync, O: Write, E: Write>(
     rt: &R,
     words: &'a [&'a str],
-    output: &mut O,
-    errors: &mut E,
+    output: &mut Counted<O>,
+    errors: &mut Counted<E>,
 ) -> Result<Status, Failure<'a>>
-    ensures { IfOk result (λ s. HasDone (Appends (O.contents output.old) (O.contents output.new))
-        (Appends (E.contents errors.old) (E.contents errors.new)) s) }
+    ensures { IfOk result (λ s. HasDone (HasAll O.contents output.old output.new)
+        (HasAll E.contents errors.old errors.new) s) }
 {
-    match read_job(rt.alloc(), words)? {
+    match line(rt.alloc(), words)? {
         Job::Check { file } => check_file(rt, file, output),
         Job::Compile { file, out, workers } => compile_file(rt, file, out, workers, output),
         Job::List { image } => list_file(rt, image, output),
@@ -99,11 +98,11 @@ fn do_job<'a, R: Files + AllocGlobal + Threads + Wait + Sync, O: Write, E: Write
 fn check_file<'a, R: Files + AllocGlobal, O: Write>(
     rt: &R,
     file: &'a str,
-    output: &mut O,
+    output: &mut Counted<O>,
 ) -> Result<Status, Failure<'a>>
     ensures done { IfOk result (λ s. s ≡ Status.Done) }
     ensures wrote { OnOk result
-        (HasChecked (Appends (O.contents output.old) (O.contents output.new))) }
+        (HasChecked (HasAll O.contents output.old output.new)) }
 {
     let text = bytes_of(rt, file)?;
     check_text(rt.alloc(), text.as_slice())?;
@@ -117,36 +116,21 @@ fn compile_file<'a, R: Files + AllocGlobal + Threads + Wait + Sync, O: Write>(
     file: &'a str,
     out: &'a str,
     workers: u32,
-    output: &mut O,
+    output: &mut Counted<O>,
 ) -> Result<Status, Failure<'a>>
     requires { (1 ≤ workers) × (workers ≤ 64) }
     ensures done { IfOk result (λ s. s ≡ Status.Done) }
     ensures wrote { OnOk result
-        (HasCompiled (Appends (O.contents output.old) (O.contents output.new))) }
+        (HasCompiled (HasAll O.contents output.old output.new)) }
 {
     let text = bytes_of(rt, file)?;
-    let image = image_by(rt, text.as_slice(), workers)?;
+    let image = compile_with(rt, rt.alloc(), text.as_slice(), workers, &OpenGate)?;
     let bytes = encode(rt.alloc(), &image)?;
-    put_bytes(rt, out, bytes.as_slice())?;
     let count = image.code().len();
-    write_image_line(output, count)?;
+    let line = line_of_image(rt.alloc(), count)?;
+    put_bytes(rt, out, bytes.as_slice())?;
+    write_text(output, line.as_str())?;
     Ok(Status::Done)
-}
-
-// The image of a text. A single worker is the calling thread.
-fn image_by<R: AllocGlobal + Threads + Wait + Sync>(
-    rt: &R,
-    text: &[u8],
-    workers: u32,
-) -> Result<Image, Refusal>
-    requires { (1 ≤ workers) × (workers ≤ 64) }
-    ensures { IfOk result (λ image. IsCompiled text.now image) }
-{
-    if workers == 1 {
-        compile(rt.alloc(), text)
-    } else {
-        compile_with(rt, rt.alloc(), text, workers, &OpenGate)
-    }
 }
 
 // Writes the program of a file as one in C to another.
@@ -154,11 +138,11 @@ fn emit_file<'a, R: Files + AllocGlobal, O: Write>(
     rt: &R,
     file: &'a str,
     out: &'a str,
-    output: &mut O,
+    output: &mut Counted<O>,
 ) -> Result<Status, Failure<'a>>
     ensures done { IfOk result (λ s. s ≡ Status.Done) }
     ensures wrote { OnOk result
-        (HasChecked (Appends (O.contents output.old) (O.contents output.new))) }
+        (HasChecked (HasAll O.contents output.old output.new)) }
 {
     let text = bytes_of(rt, file)?;
     let (checked, _) = compile_checked(rt.alloc(), text.as_slice())?;
@@ -172,11 +156,11 @@ fn emit_file<'a, R: Files + AllocGlobal, O: Write>(
 fn list_file<'a, R: Files + AllocGlobal, O: Write>(
     rt: &R,
     file: &'a str,
-    output: &mut O,
+    output: &mut Counted<O>,
 ) -> Result<Status, Failure<'a>>
     ensures done { IfOk result (λ s. s ≡ Status.Done) }
     ensures wrote { OnOk result
-        (HasListed (Appends (O.contents output.old) (O.contents output.new))) }
+        (HasListed (HasAll O.contents output.old output.new)) }
 {
     let bytes = bytes_of(rt, file)?;
     let image = decode(rt.alloc(), bytes.as_slice())?;

@@ -1,12 +1,11 @@
 ghost use Rattle.std.specs.Prelude.{IfOk};
-ghost use Rattle.std.specs.Io.KnownBytes.{Appends};
+ghost use Rattle.devices.specs.Writing.{HasAll};
 ghost use Rattle.mesamon.specs.Asked.{IsExplainedAs};
 ghost use Rattle.mesamon.specs.Commands.{HasExplained};
 
 use crate::explained_run::{ExplainedRun, explain_by_seed, explain_schedule, explain_source};
 use crate::failure::Failure;
 use crate::files::{bytes_of, put_bytes, whole_bytes_of};
-use crate::report::write_bytes;
 use crate::schedule::schedule_of;
 use crate::showing::status_of;
 use crate::source_log::explain_log_text;
@@ -14,6 +13,7 @@ use crate::status::Status;
 use actionlines::action_lines;
 use chart::chart;
 use commandline::ExplainedBy;
+use devices::{Counted, write_bytes};
 use std::io::Write;
 use std::rt::Files;
 
@@ -23,10 +23,10 @@ pub fn explain_file<'a, R: Files + AllocGlobal, O: Write>(
     file: &'a str,
     by: ExplainedBy<'a>,
     out: Option<&'a str>,
-    output: &mut O,
+    output: &mut Counted<O>,
 ) -> Result<Status, Failure<'a>>
     ensures { IfOk result
-        (λ s. HasExplained (Appends (O.contents output.old) (O.contents output.new)) s) }
+        (λ s. HasExplained (HasAll O.contents output.old output.new) s) }
 {
     let text = bytes_of(rt, file)?;
     let run = explain_text(rt, text.as_slice(), by)?;

@@ -1,5 +1,5 @@
 ghost use Rattle.std.specs.Prelude.{◌≡◌, ◌++◌, ◌⊎◌, IfOk, MatchResult, OnOk, string_bytes};
-ghost use Rattle.std.specs.Io.KnownBytes.{Appends};
+ghost use Rattle.devices.specs.Writing.{HasAll};
 ghost use Rattle.scanner.specs.Refusals.{out_of_memory};
 ghost use Rattle.program.specs.Names.{naming_of, said_by};
 ghost use Rattle.compiler.specs.Accepts.{RefusesText};
@@ -8,11 +8,11 @@ ghost use Rattle.mesamon.specs.Exploring.{HasExplored, IsExploredText, IsFoundOf
 
 use crate::failure::Failure;
 use crate::files::{bytes_of, put_bytes};
-use crate::report::write_bytes;
 use crate::status::Status;
 use actionlines::action_lines;
 use chart::chart;
-use compiler::compile_checked;
+use compiler::{compile_checked, text_laws};
+use devices::{Counted, write_bytes};
 use program::{Checked, Names};
 use scanner::Refusal;
 use source_search::{Exploration, explore};
@@ -32,7 +32,8 @@ pub struct ExploredText<'a> {
 }
 
 /// Searches all runs of the program of a source text, keeping at most so many states: for one that gets stuck, and for
-/// one in which a process aborts. Where the search was complete and found none, there is none.
+/// one in which a process aborts. Where the search was complete and found none, there is none, and so no schedule of the
+/// text's image hangs, or has a thread that aborts, as long as no wakes come from outside.
 ///
 /// # Errors
 ///
@@ -45,6 +46,7 @@ pub fn explore_source<'a>(
     ensures { MatchResult result (λ explored. IsExploredText text.now explored)
         (λ e. (e ≡ out_of_memory) ⊎ RefusesText text.now e) }
 {
+    text_laws();
     let (checked, _lowered) = compile_checked(alloc, text)?;
     let exploration = explore_checked(alloc, &checked, most_states)?;
     Ok(ExploredText {
@@ -71,10 +73,10 @@ pub fn explore_file<'a, R: Files + AllocGlobal, O: Write>(
     file: &'a str,
     most_states: u32,
     out: Option<&'a str>,
-    output: &mut O,
+    output: &mut Counted<O>,
 ) -> Result<Status, Failure<'a>>
     ensures { IfOk result
-        (λ s. HasExplored (Appends (O.contents output.old) (O.contents output.new)) s) }
+        (λ s. HasExplored (HasAll O.contents output.old output.new) s) }
 {
     let text = bytes_of(rt, file)?;
     let explored = explore_source(rt.alloc(), text.as_slice(), most_states as usize)?;

@@ -2,7 +2,7 @@ ghost use Rattle.std.specs.Prelude.{◌≡◌};
 ghost use Rattle.std.specs.IoError.{error_kind};
 ghost use Rattle.mesamon.specs.declared.failure.Failure.TheVariants.{Memory as memory, Output as output};
 ghost use Rattle.mesamon.specs.Failures.{status_of, OfExplain, OfFault, OfImage, OfIo, OfRefusal};
-ghost use Rattle.mesamon.specs.Failures.{OfReplay, OfRun, OfSourceLog, OfWords};
+ghost use Rattle.mesamon.specs.Failures.{OfReplay, OfReport, OfRun, OfSource, OfSourceLog, OfWords};
 
 use crate::explained_run::ExplainSourceFault;
 use crate::replaying::ReplayFault;
@@ -10,6 +10,7 @@ use crate::source_log::SourceLogFault;
 use crate::source_run::RunSourceFault;
 use crate::status::Status;
 use commandline::WordsFault;
+use devices::{ReadFault, WriteFault};
 use isa::DecodeFault;
 use runner::RunFault;
 use scanner::{Refusal, RefusalKind};
@@ -65,6 +66,16 @@ impl<'a> Failure<'a> {
             Failure::Memory
         } else {
             Failure::Read(name)
+        }
+    }
+
+    /// The failure of reading the bytes of a file.
+    pub fn of_source(name: &'a str, fault: ReadFault) -> Failure<'a>
+        ensures { OfSource fault (Failure.Read name.entry) result }
+    {
+        match fault {
+            ReadFault::Device => Failure::Read(name),
+            ReadFault::Memory => Failure::Memory,
         }
     }
 
@@ -191,16 +202,23 @@ impl From<SourceLogFault> for Failure<'_> {
     }
 }
 
-// The failure of writing output. A file's is named: `of_read`, `of_write`.
-impl From<io::Error> for Failure<'_> {
-    ghost from_gives = { λ error f. OfIo (error_kind error) output f };
+impl From<WriteFault> for Failure<'_> {
+    ghost from_gives = { OfReport };
 
-    fn from(error: io::Error) -> Self {
-        if error.kind() == io::ErrorKind::OutOfMemory {
-            Failure::Memory
-        } else {
-            Failure::Output
+    fn from(fault: WriteFault) -> Self {
+        match fault {
+            WriteFault::Output | WriteFault::Errors => Failure::Output,
+            WriteFault::Memory => Failure::Memory,
         }
+    }
+}
+
+// The failure of writing output, for which no memory is asked. A file's is named: `of_read`, `of_write`.
+impl From<io::Error> for Failure<'_> {
+    ghost from_gives = { λ _ f. f ≡ output };
+
+    fn from(_error: io::Error) -> Self {
+        Failure::Output
     }
 }
 

@@ -7,8 +7,8 @@ mod explaining;
 mod exploring;
 mod failure;
 mod files;
+mod lines;
 mod replaying;
-mod report;
 mod running;
 mod schedule;
 mod showing;
@@ -16,9 +16,10 @@ mod source_log;
 mod source_run;
 mod status;
 
-pub use commandline::{ExplainedBy, Job, Order, ReplayedBy, RunOptions, WordsFault, read_job};
+pub use commandline::{ExplainedBy, Job, Order, ReplayedBy, RunOptions, WordsFault, line};
 pub use commands::perform;
 pub use compiler::{check_text, compile, compile_checked, compile_with};
+pub use devices::Counted;
 pub use explained_run::{
     ExplainSourceFault, ExplainedRun, explain_by_seed, explain_schedule, explain_source,
 };

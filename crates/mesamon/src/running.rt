@@ -1,5 +1,5 @@
 ghost use Rattle.std.specs.Prelude.{◌≡◌, IfOk};
-ghost use Rattle.std.specs.Io.KnownBytes.{Appends};
+ghost use Rattle.devices.specs.Writing.{HasAll};
 ghost use Rattle.runner.specs.Reports.{IsReport};
 ghost use Rattle.mesamon.specs.Asked.{IsReplayedAs};
 ghost use Rattle.mesamon.specs.Commands.{HasExecuted, HasRun};
@@ -14,6 +14,7 @@ use crate::source_log::replay_log_text;
 use crate::source_run::{RunSourceFault, run_by_seed, run_in_order, run_source};
 use crate::status::Status;
 use commandline::{Order, ReplayedBy, RunOptions};
+use devices::Counted;
 use isa::{Image, decode};
 use runner::{Report, RunFault};
 use std::io::Write;
@@ -27,11 +28,11 @@ pub fn run_file<'a, R: Files + AllocGlobal + Threads + Wait + Sync, O: Write, E:
     rt: &R,
     file: &'a str,
     options: RunOptions<'a>,
-    output: &mut O,
-    errors: &mut E,
+    output: &mut Counted<O>,
+    errors: &mut Counted<E>,
 ) -> Result<Status, Failure<'a>>
-    ensures { IfOk result (λ s. HasRun (Appends (O.contents output.old) (O.contents output.new))
-        (Appends (E.contents errors.old) (E.contents errors.new)) s) }
+    ensures { IfOk result (λ s. HasRun (HasAll O.contents output.old output.new)
+        (HasAll E.contents errors.old errors.new) s) }
 {
     let text = bytes_of(rt, file)?;
     let report = run_text(rt, text.as_slice(), options.steps, options.order)?;
@@ -59,12 +60,12 @@ pub fn exec_file<'a, R: Files + AllocGlobal + Threads + Wait + Sync, O: Write, E
     rt: &R,
     file: &'a str,
     options: RunOptions<'a>,
-    output: &mut O,
-    errors: &mut E,
+    output: &mut Counted<O>,
+    errors: &mut Counted<E>,
 ) -> Result<Status, Failure<'a>>
     ensures { IfOk result
-        (λ s. HasExecuted (Appends (O.contents output.old) (O.contents output.new))
-        (Appends (E.contents errors.old) (E.contents errors.new)) s) }
+        (λ s. HasExecuted (HasAll O.contents output.old output.new)
+        (HasAll E.contents errors.old errors.new) s) }
 {
     let bytes = bytes_of(rt, file)?;
     let image = decode(rt.alloc(), bytes.as_slice())?;
@@ -94,11 +95,11 @@ pub fn replay_file<'a, R: Files + AllocGlobal, O: Write, E: Write>(
     file: &'a str,
     by: ReplayedBy<'a>,
     trace: bool,
-    output: &mut O,
-    errors: &mut E,
+    output: &mut Counted<O>,
+    errors: &mut Counted<E>,
 ) -> Result<Status, Failure<'a>>
-    ensures { IfOk result (λ s. HasRun (Appends (O.contents output.old) (O.contents output.new))
-        (Appends (E.contents errors.old) (E.contents errors.new)) s) }
+    ensures { IfOk result (λ s. HasRun (HasAll O.contents output.old output.new)
+        (HasAll E.contents errors.old errors.new) s) }
 {
     let text = bytes_of(rt, file)?;
     let report = replay_text(rt, text.as_slice(), by)?;

@@ -1,12 +1,13 @@
 ghost use Rattle.std.specs.Prelude.{◌≡◌, IfOk, OnOk};
-ghost use Rattle.std.specs.Io.KnownBytes.{Appends};
-ghost use Rattle.mesamon.specs.Accounts.{output_lines, account};
+ghost use Rattle.devices.specs.Writing.{HasAll};
+ghost use Rattle.account_text.specs.Accounts.{output_lines, account};
 ghost use Rattle.mesamon.specs.Commands.{status_of_verdict};
 
 use crate::failure::Failure;
 use crate::files::put_bytes;
-use crate::report::{append_log, write_account, write_output};
 use crate::status::Status;
+use devices::{Counted, ReportTexts};
+use log_text::append_log;
 use machine::Entry;
 use runner::{Report, Verdict};
 use std::io::Write;
@@ -22,27 +23,25 @@ pub struct Kept<'a> {
 }
 
 /// Writes what a run tells, its log's file first, and says how it ended. Each of the two devices gets all of its lines,
-/// also where the other failed.
+/// also where the other failed. All texts are made before the first is written.
 pub fn show<'a, R: Files + AllocGlobal, O: Write, E: Write>(
     rt: &R,
     report: &Report,
     kept: Kept<'a>,
-    output: &mut O,
-    errors: &mut E,
+    output: &mut Counted<O>,
+    errors: &mut Counted<E>,
 ) -> Result<Status, Failure<'a>>
     ensures ended { IfOk result (λ s. s ≡ status_of_verdict report.now.verdict) }
-    ensures output { OnOk result (Appends (O.contents output.old) (O.contents output.new)
+    ensures output { OnOk result (HasAll O.contents output.old output.new
         (output_lines report.now.output.items)) }
-    ensures errors { OnOk result (Appends (E.contents errors.old) (E.contents errors.new)
+    ensures errors { OnOk result (HasAll E.contents errors.old errors.new
         (account report.now kept.entry.trace)) }
 {
+    let texts = ReportTexts::new(rt.alloc(), report, kept.trace)?;
     if let Some(name) = kept.log {
         put_log(rt, name, report.log.as_slice())?;
     }
-    let printed = write_output(rt.alloc(), output, report.output.as_slice());
-    let told = write_account(rt.alloc(), errors, report, kept.trace);
-    printed?;
-    told?;
+    texts.write(output, errors)?;
     Ok(status_of(report.verdict))
 }
 

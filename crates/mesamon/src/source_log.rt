@@ -8,14 +8,15 @@ ghost use Rattle.runner.specs.LogSchedules.{IsFollowedLog};
 ghost use Rattle.compiler.specs.Accepts.{AcceptsText};
 ghost use Rattle.simulation.specs.ExplainedLog.{ExplainsEntries};
 ghost use Rattle.mesamon.specs.SourceLog.{FollowsNot, IsExplanationOfLog, IsOfLog, IsRefusedLog};
-ghost use Rattle.mesamon.specs.SourceLog.{IsReplayOfLog, IsUnfollowedLog, ReadsNot, StopsLog};
+ghost use Rattle.mesamon.specs.SourceLog.{IsReplayOfLog, IsUnfollowedLog, IsWantOfMemory, LinesOfRun};
+ghost use Rattle.mesamon.specs.SourceLog.{ReadsNot, StopsLog};
 ghost use Rattle.mesamon.specs.declared.source_log.SourceLogFault.TheVariants.{Refused, Memory};
 
 use crate::explained_run::ExplainedRun;
 use backend::Lowered;
-use compiler::{compile, compile_checked};
+use compiler::{compile, compile_checked, text_laws};
 use isa::Image;
-use log_text::{ReadLogFault, read_log};
+use log_text::{ReadLogFault, log_text_laws, read_log};
 use machine::Entry;
 use program::Checked;
 use runner::{FollowLogFault, Report, follow_log, report_of};
@@ -100,16 +101,8 @@ fn follow_entries(alloc: Global, image: &Image, entries: &[Entry]) -> Result<Rep
     }
 }
 
-/// Compiles a source text, and explains a log of its image, whose lines are given: whoever wrote them, they are tested
-/// and not trusted. The actions are the explanation of the run of the machine that the log is, and the report is that
-/// of the state that the log leads to; its verdict is Limit where some thread can still move.
-///
-/// # Errors
-///
-/// A text that `compile` refuses has the same refusal. Then comes the first line that is no entry's; then the first
-/// entry with which the log is none of the text's image: it isn't legal, or there are 2^32 steps or more with it.
-/// `Memory` may come at any point.
-pub fn explain_log_text<'a>(
+// Compiles a source text, and explains a log of its image, whose lines are given.
+fn explain_lines<'a>(
     alloc: Global,
     text: &'a [u8],
     lines: &[u8],
@@ -128,6 +121,32 @@ pub fn explain_log_text<'a>(
         report,
         actions: explained.actions,
     })
+}
+
+/// Compiles a source text, and explains a log of its image, whose lines are given: whoever wrote them, they are tested
+/// and not trusted. The actions are the explanation of the run of the machine that the log is, and the report is that
+/// of the state that the log leads to; its verdict is Limit where some thread can still move. Each log of a run of the
+/// image of fewer than 2^32 steps is explained, memory aside.
+///
+/// # Errors
+///
+/// A text that `compile` refuses has the same refusal. Then comes the first line that is no entry's; then the first
+/// entry with which the log is none of the text's image: it isn't legal, or there are 2^32 steps or more with it.
+/// `Memory` may come at any point.
+pub fn explain_log_text<'a>(
+    alloc: Global,
+    text: &'a [u8],
+    lines: &[u8],
+) -> Result<ExplainedRun<'a>, SourceLogFault>
+    ensures explained { IfOk result (λ run. IsExplanationOfLog text.now lines.now run) }
+    ensures fault { IfErr result (λ fault. IsRefusedLog text.now lines.now fault) }
+    ensures only { (p : Program) → AcceptsText text.now p → CodeFits p
+        → IfErr result (λ fault. IsOfLog fault) }
+    ensures legal { LinesOfRun text.now lines.now → IfErr result (λ fault. IsWantOfMemory fault) }
+{
+    text_laws();
+    log_text_laws();
+    explain_lines(alloc, text, lines)
 }
 
 /// Compiles a source text, and runs its image by the threads and counts of a log whose lines are given, as

@@ -1,7 +1,7 @@
 //! The program mesamon: it hands its words to `mesamon::perform`.
 #![tactic(auto)]
 
-use mesamon::{Status, perform};
+use mesamon::{Counted, Status, perform};
 use std::io::Write;
 use std::process::ExitCode;
 use std::rt::{Env, Files};
@@ -10,7 +10,9 @@ use std::thread::Threads;
 use std::{env, io};
 
 fn main(rt: HostRuntime) -> ExitCode {
-    match perform_words(&rt, &mut rt.stdout(), &mut rt.stderr()) {
+    let mut output = Counted::new(rt.stdout());
+    let mut errors = Counted::new(rt.stderr());
+    match perform_words(&rt, &mut output, &mut errors) {
         Ok(status) => ExitCode::from(status),
         Err(error) => ExitCode::from(refuse(&rt, &error).code()),
     }
@@ -19,8 +21,8 @@ fn main(rt: HostRuntime) -> ExitCode {
 // Does what the words of the command line ask for.
 fn perform_words<R: Env + Files + AllocGlobal + Threads + Wait + Sync, O: Write, E: Write>(
     rt: &R,
-    output: &mut O,
-    errors: &mut E,
+    output: &mut Counted<O>,
+    errors: &mut Counted<E>,
 ) -> io::Result<u8> {
     let words: Vec<String> = env::args(rt)?.skip(1).collect(rt.alloc())?;
     let texts: Vec<&str> = words.iter().map(|word| word.as_str()).collect(rt.alloc())?;

@@ -1,6 +1,6 @@
 -- A piece that came in is an entry of the log.
 use Rattle.std.proofs.Common.{◌≡◌, ℕ, ◌+◌, ◌≤◌, List, [], ◌∷◌, ◌++◌, true, Option, Some, None, Result, Ok, Err}
-use Rattle.std.proofs.Common.{is_some, refl, ap, sym, ◌∙◌, arith, subst}
+use Rattle.std.proofs.Common.{Bool, false, is_err, IfOk, is_some, refl, ap, sym, ◌∙◌, ◌≢◌, arith, subst, inl, inr}
 use Rattle.std.proofs.lemmas.List.Sums.{sum_by-append}
 use mir.Val.{bool_byte}
 use Rattle.isa.specs.Programs.{Program}
@@ -11,8 +11,9 @@ use Rattle.machine.specs.declared.event.Entry.{Entry}
 use Rattle.machine.specs.declared.event.StepFault.{StepFault}
 use Rattle.machine.specs.States.{ConcreteState, thread_of, opening_concrete}
 use Rattle.machine.specs.ConcreteSteps.{step_of, put_thread, can_move}
+use Rattle.machine.specs.ConcreteOutside.{stray_of}
 use Rattle.runner.specs.Views.{PieceView, LogState}
-use Rattle.runner.specs.Logs.{Runs, Enters, Ends, event_cost, cost}
+use Rattle.runner.specs.Logs.{Runs, Enters, EntersOwn, Ends, event_cost, cost}
 use Rattle.runner.specs.Entries.{entry_end, entry_end_by, IsFine}
 use Rattle.runner.specs.Legal.{IsLegal}
 use Rattle.runner.proofs.Going.{runs_more}
@@ -50,7 +51,7 @@ pub enters : (p : Program) (k new : ConcreteState) (t count : ℕ) (o here : Thr
     → thread_of k t ≡ Some o → can_move k t ≡ true → local_after p t count o ≡ Some here
     → entry_end p k t here ≡ Ok (new, event) → Enters p k (entry t count event) new
 enters p k new t count o here event stands moves goes gives =
-    record {
+    inl (record {
       origin = o;
       here = here;
       stands = stands;
@@ -58,7 +59,7 @@ enters p k new t count o here event stands moves goes gives =
       goes = goes;
       ends =
           ends p k new t here event gives;
-    }
+    })
 
 pub cost_more : (es : List Entry) (t n : ℕ) (e : Option Event)
     → cost (es ++ entry t n e ∷ []) ≡ cost es + (n + event_cost e)
@@ -108,14 +109,14 @@ cost_small (Some e) = omega arith
 pub keeps_entry : (p q q' q'' : Program) (limit : ℕ) (k k' new : ConcreteState) (log log' log'' : List Entry)
     (e : Entry) (steps limited extra : ℕ)
     → IsLegal p limit q k log steps limited → cost log + 257 ≤ limit → q' ≡ q → k' ≡ k → log' ≡ log
-    → q'' ≡ q' → Enters q' k' e new → e.local ≤ 256 → log'' ≡ log' ++ e ∷ [] → extra ≡ bool_byte (is_some e.event)
+    → q'' ≡ q' → EntersOwn q' k' e new → e.local ≤ 256 → log'' ≡ log' ++ e ∷ [] → extra ≡ bool_byte (is_some e.event)
     → IsLegal p limit q'' new log'' (steps + (e.local + extra)) limited
 keeps_entry p q q' q'' limit k k' new log log' log'' e steps limited extra legal room same there before same' one
     turn grows is_extra =
     let program : q' ≡ p = same ∙ legal.program in
-    let enters : Enters p k e new =
-    subst (λ (x : Program). Enters x k e new) program
-    (subst (λ (x : ConcreteState). Enters q' x e new) there one) in
+    let enters : EntersOwn p k e new =
+    subst (λ (x : Program). EntersOwn x k e new) program
+    (subst (λ (x : ConcreteState). EntersOwn q' x e new) there one) in
     let grown : log'' ≡ log ++ e ∷ [] = grows ∙ ap (λ (l : List Entry). l ++ e ∷ []) before in
     let all : cost log'' ≡ cost log + (e.local + event_cost e.event) = ap cost grown
     ∙ cost_more log e.thread e.local e.event in
@@ -123,8 +124,32 @@ keeps_entry p q q' q'' limit k k' new log log' log'' e steps limited extra legal
     record {
       program = same' ∙ program;
       legal = subst (λ (l : List Entry). Runs p (opening_concrete p) l new) (sym grown)
-          (runs_more p (opening_concrete p) k new log e legal.legal enters);
+          (runs_more p (opening_concrete p) k new log e legal.legal (inl enters));
       counted = omega (arith, legal.counted, all, last);
       limit_is = legal.limit_is;
       within = omega (arith, legal.counted, legal.limit_is, room, turn, last, cost_small e.event);
     }
+
+-- a wake from outside is one more of a legal log that isn't at its limit
+pub keeps_outside : (p q q' : Program) (limit : ℕ) (k new : ConcreteState) (log log' : List Entry) (t steps limited : ℕ)
+    (event : Event) → IsLegal p limit q k log steps limited → q' ≡ q → steps ≢ limited
+    → stray_of k t ≡ Ok (new, event) → log' ≡ log ++ entry t 0 (Some event) ∷ []
+    → IsLegal p limit q' new log' (steps + 1) limited
+keeps_outside p q q' limit k new log log' t steps limited event legal same room gives grows =
+    let one : Enters p k (entry t 0 (Some event)) new =
+    inr (record { event = event; alone = refl; is = refl; gives = gives }) in
+    let all : cost log' ≡ cost log + 1 = ap cost grows ∙ cost_more log t 0 (Some event) in
+    record {
+      program = same ∙ legal.program;
+      legal = subst (λ (l : List Entry). Runs p (opening_concrete p) l new) (sym grows)
+          (runs_more p (opening_concrete p) k new log (entry t 0 (Some event)) legal.legal one);
+      counted = omega (arith, legal.counted, all);
+      limit_is = legal.limit_is;
+      within = omega (arith, legal.within, room);
+    }
+
+-- what holds of an entry that came in
+pub entered : {A E : Type 0} (P Q : A → Type 0) (r : Result A E) (b : Bool) → b ≡ is_err r → b ≡ false → IfOk r P
+    → IfOk r Q → (x : A) × P x × Q x
+entered P Q (Ok x) b is fine one other = (x, one, other)
+entered P Q (Err e) b is fine one other = absurd cc

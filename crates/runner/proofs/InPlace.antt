@@ -10,7 +10,7 @@ use Rattle.machine.specs.States.{ConcreteState, thread_of}
 use Rattle.machine.specs.ConcreteSteps.{Stepped, on_machine, fault_of, step_of, put_thread, can_move}
 use Rattle.machine.proofs.Placing.{thread_at-put}
 use Rattle.runner.specs.Views.{PieceView, LogState}
-use Rattle.runner.specs.Logs.{Enters}
+use Rattle.runner.specs.Logs.{EntersOwn}
 use Rattle.runner.specs.Entries.{BreaksAfter}
 use Rattle.runner.proofs.Handing.{up, step_there}
 use Rattle.runner.proofs.Lives.{refuses_broken}
@@ -42,7 +42,7 @@ no_step (Some x) h = absurd cc
 pub enters_by : (p q : Program) (k mid new : ConcreteState) (t n : ℕ) (o here x : Thread) (e : Event)
     → can_move k t ≡ true → thread_of k t ≡ Some o → local_after p t n o ≡ Some here
     → q ≡ p → mid ≡ put_thread k t here → thread_of mid t ≡ Some x → false ≡ is_some (local_step q t x)
-    → step_of q mid t ≡ Ok (new, e) → Enters p k (entry t n (Some e)) new
+    → step_of q mid t ≡ Ok (new, e) → EntersOwn p k (entry t n (Some e)) new
 enters_by p q k mid new t n o here x e moves stands goes is there at shared steps =
     let same : Some x ≡ Some here = sym at ∙ ap (λ m. thread_of m t) there
     ∙ thread_at-put k.threads t o here stands in

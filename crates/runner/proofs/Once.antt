@@ -1,6 +1,6 @@
 -- An entry leads to one state, and can't be taken where its local steps end too early.
 use Rattle.std.proofs.Common.{◌≡◌, ◌<◌, ◌-◌, ◌+◌, ◌++◌, ℕ, zero, suc, List, [], ◌∷◌, Option, Some, None, refl, ap, sym}
-use Rattle.std.proofs.Common.{◌∙◌, ◌≤◌, arith, subst, length, length-set, slice_get, slice_set}
+use Rattle.std.proofs.Common.{◌∙◌, ◌≤◌, arith, subst, length, length-set, slice_get, slice_set, Result, Ok, Err, inl, inr}
 use Rattle.isa.specs.Programs.{Program}
 use Rattle.locals.specs.Threads.{Thread}
 use Rattle.locals.specs.Steps.{local_step, local_after, and_step}
@@ -9,7 +9,11 @@ use Rattle.machine.specs.declared.event.Entry.{Entry}
 use Rattle.machine.specs.States.{ConcreteState, thread_at, thread_of}
 use Rattle.machine.specs.ConcreteSteps.{put_thread}
 use Rattle.machine.proofs.Landing.{inside}
-use Rattle.runner.specs.Logs.{Ends, Enters, Runs}
+use Rattle.runner.specs.Logs.{Ends, Enters, EntersOwn, EntersOutside, Runs}
+use Rattle.machine.specs.declared.event.StepFault.{StepFault}
+use Rattle.machine.specs.declared.event.StepFault.TheVariants.{CannotMove}
+use Rattle.machine.specs.ConcreteOutside.{stray_at, stray_of}
+use Rattle.runner.proofs.Handing.{up}
 use Rattle.runner.proofs.Going.{after_sum}
 
 -- behind the last local step comes none
@@ -29,7 +33,10 @@ none_after p t m n o h goes none less =
 
 pub never_there : (p : Program) (k : ConcreteState) (e : Entry) (o : Thread) → thread_of k e.thread ≡ Some o
     → local_after p e.thread e.local o ≡ None → (new : ConcreteState) → Enters p k e new → ⊥
-never_there p k e o stands none new enters =
+never_there p k e o stands none new (inr outside) =
+    nothing_there o (local_after p e.thread e.local o)
+    (ap (λ (n : ℕ). local_after p e.thread n o) outside.alone) none
+never_there p k e o stands none new (inl enters) =
     let f : Some enters.origin ≡ Some o = sym enters.stands ∙ stands in
     let same : enters.origin ≡ o = cc in
     nothing_there enters.here (local_after p e.thread e.local enters.origin) enters.goes
@@ -57,18 +64,46 @@ ends_once p k a b t here None x y = x ∙ sym y
 ends_once p k a b t here (Some event) x y =
     ap (λ (q : ConcreteState × Event). q.0) (inside (a, event) (b, event) (sym x.1 ∙ y.1))
 
--- an entry leads to one state
-pub enters_once : (p : Program) (k a b : ConcreteState) (e : Entry) → Enters p k e a → Enters p k e b → a ≡ b
-enters_once p k a b e x y =
+-- an entry of a thread's own leads to one state
+own_once : (p : Program) (k a b : ConcreteState) (e : Entry) → EntersOwn p k e a → EntersOwn p k e b → a ≡ b
+own_once p k a b e x y =
     let same = here_once p k e.thread e.local x.origin x.here y.origin y.here x.stands x.goes y.stands y.goes in
     ends_once p (put_thread k e.thread x.here) a b e.thread x.here e.event x.ends
     (subst (λ (h : Thread). Ends p (put_thread k e.thread h) e.thread h e.event b) (sym same) y.ends)
+
+no_stray : (k : ConcreteState) (t : ℕ) (q : ConcreteState × Event) → k.common.asleep t ≡ None
+    → stray_of k t ≡ Ok q → ⊥
+no_stray k t q awake gives =
+    let refused : stray_of k t ≡ Err CannotMove = ap (stray_at k t) awake in
+    done_or_not q (sym gives ∙ refused)
+  where
+    done_or_not : (x : ConcreteState × Event)
+        → (let R : Type 0 = Result (ConcreteState × Event) StepFault in
+        (let a : R = Ok x in a) ≡ (let b : R = Err CannotMove in b)) → ⊥
+    done_or_not x h = cc
+
+-- a thread that can move isn't woken from outside
+pub apart : (p : Program) (k a b : ConcreteState) (e : Entry) → EntersOwn p k e a → EntersOutside k e b → ⊥
+apart p k a b e own outside =
+    no_stray k e.thread (b, outside.event) (up k e.thread own.moves).awake outside.gives
+
+outside_once : (k a b : ConcreteState) (e : Entry) → EntersOutside k e a → EntersOutside k e b → a ≡ b
+outside_once k a b e x y =
+    ap (λ (q : ConcreteState × Event). q.0) (inside (a, x.event) (b, y.event) (sym x.gives ∙ y.gives))
+
+-- an entry leads to one state
+pub enters_once : (p : Program) (k a b : ConcreteState) (e : Entry) → Enters p k e a → Enters p k e b → a ≡ b
+enters_once p k a b e (inl x) (inl y) = own_once p k a b e x y
+enters_once p k a b e (inl x) (inr y) = absurd (apart p k a b e x y)
+enters_once p k a b e (inr x) (inl y) = absurd (apart p k b a e y x)
+enters_once p k a b e (inr x) (inr y) = outside_once k a b e x y
 
 -- where the local steps end too early
 pub never_local : (p : Program) (k : ConcreteState) (e : Entry) (m : ℕ) (o h : Thread) → thread_of k e.thread ≡ Some o
     → local_after p e.thread m o ≡ Some h → local_step p e.thread h ≡ None → m < e.local
     → (new : ConcreteState) → Enters p k e new → ⊥
-never_local p k e m o h stands goes none less new enters =
+never_local p k e m o h stands goes none less new (inr outside) = absurd (omega (arith, less, outside.alone))
+never_local p k e m o h stands goes none less new (inl enters) =
     let f : Some enters.origin ≡ Some o = sym enters.stands ∙ stands in
     let same : enters.origin ≡ o = cc in
     no_more p e.thread m e.local o h enters.here goes none less

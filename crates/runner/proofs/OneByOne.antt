@@ -12,7 +12,8 @@ use Rattle.machine.specs.declared.event.StepFault.{StepFault}
 use Rattle.machine.specs.declared.event.StepFault.TheVariants.{CannotMove}
 use Rattle.machine.specs.States.{ConcreteState, thread_of}
 use Rattle.machine.specs.ConcreteSteps.{thread_step, on_machine, step_of, can_move}
-use Rattle.machine.specs.FrontRuns.{EventStep}
+use Rattle.machine.specs.ConcreteOutside.{stray_of}
+use Rattle.machine.specs.FrontRuns.{EventStep, FrontStep}
 use Rattle.runner.specs.Logs.{Enters}
 use Rattle.runner.specs.LogRuns.{LogsSo, local_step_of, shared_step_of}
 use Rattle.machine.proofs.Landing.{inside}
@@ -44,14 +45,14 @@ shared_entry : (p : Program) (k k' : ConcreteState) (s : EventStep) (x : Thread)
     → IsEntry p k s k'
 shared_entry p k k' s x stands moves shared gives = record {
   entry = record { thread = s.thread; local = 0; event = Some s.event };
-  enters = record {
+  enters = inl (record {
     origin = x;
     here = x;
     stands = stands;
     moves = moves;
     goes = refl;
     ends = (shared, ap (λ (q : ConcreteState). step_of p q s.thread) (put_back k s.thread x stands) ∙ gives);
-  };
+  });
   steps = refl;
 }
 
@@ -61,14 +62,14 @@ entry_by : (p : Program) (k k' : ConcreteState) (s : EventStep) (x : Thread) (l 
 entry_by p k k' s x (Goes y) is stands moves gives done =
     let same = inside _ (k', s.event) done in record {
       entry = record { thread = s.thread; local = 1; event = None };
-      enters = record {
+      enters = inl (record {
         origin = x;
         here = y;
         stands = stands;
         moves = moves;
         goes = ap local_next is;
         ends = ap (λ (q : ConcreteState × Event). q.0) (sym same);
-      };
+      });
       steps = λ i. record { thread = s.thread; event = (same i).1 } ∷ [];
     }
 entry_by p k k' s x (Asks request go) is stands moves gives done =
@@ -85,9 +86,22 @@ entry_of p k k' s gives =
     entry_by p k k' s d.thread (look p s.thread d.thread) refl d.stands
     (moved p k k' s.thread s.event gives) gives d.done
 
+-- a wake from outside is an entry of its own
+outside_entry : (p : Program) (k k' : ConcreteState) (s : EventStep) → stray_of k s.thread ≡ Ok (k', s.event)
+    → IsEntry p k s k'
+outside_entry p k k' s gives = record {
+  entry = record { thread = s.thread; local = 0; event = Some s.event };
+  enters = inr (record { event = s.event; alone = refl; is = refl; gives = gives });
+  steps = refl;
+}
+
+front_entry : (p : Program) (k k' : ConcreteState) (s : EventStep) → FrontStep p k s k' → IsEntry p k s k'
+front_entry p k k' s (inl own) = entry_of p k k' s own
+front_entry p k k' s (inr stray) = outside_entry p k k' s stray
+
 pub logs_so : LogsSo
 logs_so p k k' [] same = ([], same, refl)
 logs_so p k k' (s ∷ steps) runs =
-    let e = entry_of p k runs.0 s runs.1 in
+    let e = front_entry p k runs.0 s runs.1 in
     let rest = logs_so p runs.0 k' steps runs.2 in
     (e.entry ∷ rest.0, (runs.0, e.enters, rest.1), λ i. e.steps i ++ rest.2 i)

@@ -1,7 +1,7 @@
 -- Steps that are taken one by one, each an entry of its own.
 use Rattle.std.proofs.Common.{◌≡◌, ℕ, ◌+◌, ◌<◌, ◌≤◌, ◌^◌, List, [], ◌∷◌, ◌++◌, map, take, length}
 use Rattle.std.proofs.Common.{Bool, true, false, is_ok, is_err, if◌then◌else◌, Some, Result, Ok, Err}
-use Rattle.std.proofs.Common.{refl, ap, sym, ◌∙◌, subst, arith, get_or, inr}
+use Rattle.std.proofs.Common.{refl, ap, sym, ◌∙◌, subst, arith, get_or, inl, inr, None, not, Option}
 use Rattle.std.specs.List.{All}
 use Rattle.std.proofs.lemmas.List.{take_more, take_all}
 use Rattle.std.proofs.lemmas.List.Elements.{All-append, All-cons, All-nil}
@@ -10,6 +10,9 @@ use Rattle.isa.specs.Programs.{Program}
 use Rattle.locals.specs.Threads.{Thread}
 use Rattle.locals.specs.Steps.{local_after}
 use Rattle.machine.specs.declared.event.Entry.{Entry}
+use Rattle.machine.specs.declared.event.Event.{Event}
+use Rattle.machine.specs.Runs.{Doing, is_own}
+use Rattle.machine.proofs.OwnEvents.{own_so}
 use Rattle.machine.specs.declared.event.StepFault.{StepFault}
 use Rattle.machine.specs.declared.event.StepFault.TheVariants.{CannotMove, Broken}
 use Rattle.machine.specs.States.{ConcreteState, thread_of, opening_concrete}
@@ -18,7 +21,7 @@ use Rattle.machine.specs.Views.{View, concrete}
 use Rattle.machine.proofs.Refusing.{refuses_so, moves_so}
 use Rattle.runner.specs.declared.report.Report.{Report}
 use Rattle.runner.specs.declared.schedule.ScheduleFault.{ScheduleFault}
-use Rattle.runner.specs.Logs.{Enters}
+use Rattle.runner.specs.Logs.{EntersOwn, Ends, IsOwnEntry, is_outside}
 use Rattle.runner.specs.Reports.{IsVerdict}
 use Rattle.runner.specs.Schedules.{FailsAt, Follows, IsFollowed, IsOneStep, RefusesSchedule}
 use Rattle.runner.proofs.Going.{runs_more}
@@ -33,6 +36,20 @@ single_more : (log : List Entry) (e : Entry) → All IsOneStep log → IsOneStep
 single_more log e all one =
     All-append IsOneStep log (e ∷ []) all (All-cons IsOneStep e [] one (All-nil IsOneStep))
 
+own_more : (log : List Entry) (e : Entry) → All IsOwnEntry log → IsOwnEntry e → All IsOwnEntry (log ++ e ∷ [])
+own_more log e all one =
+    All-append IsOwnEntry log (e ∷ []) all (All-cons IsOwnEntry e [] one (All-nil IsOwnEntry))
+
+-- an entry of a thread's own doesn't tell of a wake from outside
+own_end : (p : Program) (k k' : ConcreteState) (t : ℕ) (here : Thread) (event : Option Event) → Ends p k t here event k'
+    → is_outside event ≡ false
+own_end p k k' t here None ends = refl
+own_end p k k' t here (Some event) ends = ap (λ (d : Doing). not (is_own d)) (own_so p k k' t event ends.1)
+
+pub own_entry : (p : Program) (k k' : ConcreteState) (e : Entry) → EntersOwn p k e k' → IsOwnEntry e
+own_entry p k k' e enters =
+    own_end p (put_thread k e.thread enters.here) k' e.thread enters.here e.event enters.ends
+
 -- an entry that was pushed stands at the end
 pub pushed : {A E : Type 0} (r : Result A E) (b : Bool) (new old : List Entry) (e : Entry) → b ≡ is_err r → b ≡ false
     → new ≡ (if is_ok r then old ++ e ∷ [] else old) → new ≡ old ++ e ∷ []
@@ -42,15 +59,16 @@ pushed (Err x) b new old e is ended items = absurd cc
 -- one entry more
 pub follows_more : (p q : Program) (schedule : List ℕ) (i t : ℕ) (log log' : List Entry) (k k' : ConcreteState)
     (e : Entry) → i < length schedule → get_or schedule i 0 ≡ t → q ≡ p → Follows p (take i schedule) log k
-    → Enters q k e k' → e.thread ≡ t → IsOneStep e → log' ≡ log ++ e ∷ [] → Follows p (take (i + 1) schedule) log' k'
+    → EntersOwn q k e k' → e.thread ≡ t → IsOneStep e → log' ≡ log ++ e ∷ [] → Follows p (take (i + 1) schedule) log' k'
 follows_more p q schedule i t log log' k k' e inside names same f enters is one grows =
-    let entered : Enters p k e k' = (let P : Program → Type 0 = λ z. Enters z k e k' in subst P same enters) in
+    let entered : EntersOwn p k e k' = (let P : Program → Type 0 = λ z. EntersOwn z k e k' in subst P same enters) in
     let next : take (i + 1) schedule ≡ take i schedule ++ e.thread ∷ [] =
     take_more schedule i 0 inside ∙ ap (λ (n : ℕ). take i schedule ++ n ∷ []) (names ∙ sym is) in
     let all : Follows p (take i schedule ++ e.thread ∷ []) (log ++ e ∷ []) k' = record {
-      legal = runs_more p (opening_concrete p) k k' log e f.legal entered;
+      legal = runs_more p (opening_concrete p) k k' log e f.legal (inl entered);
       threads = map_more log e ∙ ap (λ ts. ts ++ e.thread ∷ []) f.threads;
       single = single_more log e f.single one;
+      own = own_more log e f.own (own_entry p k k' e entered);
     } in
     subst (λ (ts : List ℕ). Follows p ts log' k') (sym next)
     (subst (λ (es : List Entry). Follows p (take i schedule ++ e.thread ∷ []) es k') (sym grows) all)

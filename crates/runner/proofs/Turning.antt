@@ -1,6 +1,7 @@
 -- Entries that are taken by the threads and counts of others, and those that can't be.
 use Rattle.std.proofs.Common.{◌≡◌, ℕ, ◌+◌, ◌<◌, ◌≤◌, ◌^◌, ◌⊎◌, List, [], ◌∷◌, ◌++◌, map, take, length, Bool, true, false}
-use Rattle.std.proofs.Common.{Option, Some, None, is_some, Result, is_ok, is_err, get_or, refl, ap, sym, ◌∙◌, subst, arith}
+use Rattle.std.proofs.Common.{Option, Some, None, is_some, Result, Ok, Err, is_ok, is_err, get_or, not, refl, ap, sym}
+use Rattle.std.proofs.Common.{◌∙◌, subst, arith, inl, inr}
 use Rattle.std.proofs.lemmas.List.{take_more, take_all, map-append}
 use Rattle.std.proofs.lemmas.List.Sums.{sum_by-append}
 use Rattle.std.proofs.lemmas.Option.{slice_get-get_or}
@@ -12,12 +13,17 @@ use Rattle.machine.specs.declared.event.Entry.{Entry}
 use Rattle.machine.specs.States.{ConcreteState, thread_of, opening_concrete}
 use Rattle.machine.specs.ConcreteSteps.{put_thread, can_move}
 use Rattle.machine.specs.Views.{View, concrete}
+use Rattle.machine.specs.Runs.{Doing, is_own}
+use Rattle.machine.specs.ConcreteOutside.{stray_of}
+use Rattle.machine.specs.declared.event.StepFault.{StepFault}
+use Rattle.machine.proofs.Outside.{stray_told}
+use Rattle.runner.proofs.Scheduling.{own_entry}
 use Rattle.machine.proofs.Placing.{thread_at-put}
 use Rattle.runner.specs.declared.log_schedule.FollowLogFault.{FollowLogFault}
 use Rattle.runner.specs.declared.log_schedule.FollowLogFault.TheVariants.{BadEntry}
 use Rattle.runner.specs.declared.report.Report.{Report}
 use Rattle.runner.specs.LogSchedules.{Turn, turn_of, FollowsLog, IsFollowedLog, CannotTake, IsBadLogEntry}
-use Rattle.runner.specs.Logs.{Runs, Enters, Ends, cost, event_cost}
+use Rattle.runner.specs.Logs.{Runs, Enters, EntersOwn, EntersOutside, Ends, cost, event_cost, is_outside}
 use Rattle.runner.specs.Reports.{IsVerdict}
 use Rattle.runner.proofs.Going.{runs_more}
 use Rattle.runner.proofs.Growing.{entry}
@@ -26,10 +32,42 @@ use Rattle.runner.proofs.Once.{here_once, never_local}
 true_or_false : (b : Bool) → b ≡ true → b ≡ false → ⊥
 true_or_false b is isn't = absurd cc
 
+-- an entry from outside tells so
+pub tells_outside : (k k' : ConcreteState) (e : Entry) → EntersOutside k e k' → is_outside e.event ≡ true
+tells_outside k k' e outside =
+    ap is_outside outside.is
+    ∙ ap (λ (d : Doing). not (is_own d)) (stray_told k k' e.thread outside.event outside.gives)
+
+-- an entry of a turn that isn't from outside is its thread's own
+own_of : (p : Program) (k k' : ConcreteState) (e : Entry) (turn : Turn) → turn_of e ≡ turn → turn.stray ≡ false
+    → Enters p k e k' → EntersOwn p k e k'
+own_of p k k' e turn is mine (inl enters) = enters
+own_of p k k' e turn is mine (inr outside) =
+    absurd (true_or_false (is_outside e.event) (tells_outside k k' e outside) (ap (λ (s : Turn). s.stray) is ∙ mine))
+
 -- a thread that can't move
-pub no_mover : (p : Program) (k : ConcreteState) (turn : Turn) → can_move k turn.thread ≡ false → CannotTake p k turn
-no_mover p k turn rests e k' is enters =
-    true_or_false (can_move k e.thread) enters.moves (ap (λ (s : Turn). can_move k s.thread) is ∙ rests)
+pub no_mover : (p : Program) (k : ConcreteState) (turn : Turn) → turn.stray ≡ false
+    → can_move k turn.thread ≡ false → CannotTake p k turn
+no_mover p k turn mine rests e k' is enters =
+    true_or_false (can_move k e.thread) (own_of p k k' e turn is mine enters).moves
+    (ap (λ (s : Turn). can_move k s.thread) is ∙ rests)
+
+-- a turn from outside, of a thread that doesn't sleep or with local steps
+pub no_outside : (p : Program) (k : ConcreteState) (turn : Turn) → turn.stray ≡ true
+    → ((0 < turn.local) ⊎ ((f : StepFault) × (stray_of k turn.thread ≡ Err f))) → CannotTake p k turn
+no_outside p k turn foreign why e k' is (inl own) =
+    true_or_false (is_outside e.event) (ap (λ (s : Turn). s.stray) is ∙ foreign) (own_entry p k k' e own)
+no_outside p k turn foreign (inl some) e k' is (inr outside) =
+    let n : e.local ≡ turn.local = ap (λ (s : Turn). s.local) is in
+    absurd (omega (arith, some, n, outside.alone))
+no_outside p k turn foreign (inr refused) e k' is (inr outside) =
+    let t : e.thread ≡ turn.thread = ap (λ (s : Turn). s.thread) is in
+    done_or_not (k', outside.event) refused.0 (sym outside.gives ∙ ap (stray_of k) t ∙ refused.1)
+  where
+    done_or_not : (x : ConcreteState × Event) (f : StepFault)
+        → (let R : Type 0 = Result (ConcreteState × Event) StepFault in
+        (let a : R = Ok x in a) ≡ (let b : R = Err f in b)) → ⊥
+    done_or_not x f h = cc
 
 -- fewer local steps
 pub too_few : (p : Program) (k : ConcreteState) (turn : Turn) (m : ℕ) (o h : Thread) → thread_of k turn.thread ≡ Some o
@@ -42,22 +80,26 @@ too_few p k turn m o h stands goes none less e k' is enters =
 
 -- no shared step behind the local ones
 pub no_shared : (p q : Program) (k mid : ConcreteState) (turn : Turn) (o h : Thread)
+    → turn.stray ≡ false
     → thread_of k turn.thread ≡ Some o → local_after p turn.thread turn.local o ≡ Some h → turn.shared ≡ true → q ≡ p
     → mid ≡ put_thread k turn.thread h
     → ((here : Thread) (event : Event) (k' : ConcreteState) → thread_of mid turn.thread ≡ Some here
     → Ends q mid turn.thread here (Some event) k' → ⊥)
     → CannotTake p k turn
-no_shared p q k mid turn o h stands goes shared own there never e k' is enters =
+no_shared p q k mid turn o h alone stands goes shared own there never e k' is enters =
     by e.event refl
   where
+    mine : EntersOwn p k e k'
+    mine = own_of p k k' e turn is alone enters
+
     t : e.thread ≡ turn.thread
     t = ap (λ (s : Turn). s.thread) is
 
     n : e.local ≡ turn.local
     n = ap (λ (s : Turn). s.local) is
 
-    same : enters.here ≡ h
-    same = here_once p k e.thread e.local enters.origin enters.here o h enters.stands enters.goes
+    same : mine.here ≡ h
+    same = here_once p k e.thread e.local mine.origin mine.here o h mine.stands mine.goes
         (ap (thread_of k) t ∙ stands)
         ((λ i. local_after p (t i) (n i) o) ∙ goes)
 
@@ -70,14 +112,14 @@ no_shared p q k mid turn o h stands goes shared own there never e k' is enters =
         (subst (λ (m : ConcreteState). Ends p m turn.thread h (Some event) k') (sym there)
         (subst (λ (u : ℕ). Ends p (put_thread k u h) u h (Some event) k') t
         (subst (λ (x : Thread). Ends p (put_thread k e.thread x) e.thread x (Some event) k') same
-        (subst (λ (v : Option Event). Ends p (put_thread k e.thread enters.here) e.thread enters.here v k') some
-        enters.ends)))))
+        (subst (λ (v : Option Event). Ends p (put_thread k e.thread mine.here) e.thread mine.here v k') some
+        mine.ends)))))
 
 -- local steps, and the shared step behind them
 pub takes_shared : (p q : Program) (k mid k' : ConcreteState) (t n : ℕ) (o h : Thread) (event : Event)
     → can_move k t ≡ true → thread_of k t ≡ Some o → local_after p t n o ≡ Some h → q ≡ p → mid ≡ put_thread k t h
     → ((here : Thread) → thread_of mid t ≡ Some here → Ends q mid t here (Some event) k')
-    → Enters p k (entry t n (Some event)) k'
+    → EntersOwn p k (entry t n (Some event)) k'
 takes_shared p q k mid k' t n o h event moves stands goes own there ends = record {
   origin = o;
   here = h;

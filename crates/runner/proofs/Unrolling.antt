@@ -1,7 +1,7 @@
 -- A legal log, unrolled into the steps of a run of the machine itself, and so into those of a run of the relation.
 use Rattle.std.proofs.Common.{◌≡◌, ◌≤◌, ℕ, zero, suc, ◌+◌, ◌-◌, List, [], ◌∷◌, ◌++◌, length, Option, Some, None}
 use Rattle.std.proofs.Common.{Result, Ok, Err, slice_get, slice_set, replicate, map, refl, ap, sym, ◌∙◌, arith}
-use Rattle.std.proofs.Common.{subst, length-append, length-set}
+use Rattle.std.proofs.Common.{subst, inl, inr, length-append, length-set}
 use Rattle.std.proofs.lemmas.List.{length-replicate, length-map, replicate_more}
 use Rattle.std.proofs.lemmas.List.Sums.{sum_by-cons}
 use Rattle.words.specs.Limits.{most_threads}
@@ -37,7 +37,7 @@ run_on p a b c (x ∷ xs) ys runs more = (runs.0, runs.1, run_on p runs.0 b c xs
 
 run_more : (p : Program) (a b c : ConcreteState) (xs : List EventStep) (s : EventStep) → FrontRun p a xs b
     → step_of p b s.thread ≡ Ok (c, s.event) → FrontRun p a (xs ++ s ∷ []) c
-run_more p a b c xs s runs gives = run_on p a b c xs (s ∷ []) runs (c, gives, refl)
+run_more p a b c xs s runs gives = run_on p a b c xs (s ∷ []) runs (c, inl gives, refl)
 
 -- a thread that is put where it is, and put twice
 set_back : {A : Type 0} → (xs : List A) (i : ℕ) (x : A) → slice_get xs i ≡ Some x → slice_set xs i x ≡ xs
@@ -120,12 +120,17 @@ locals_lead p k t (suc n) o here awake stands after =
 ends_lead : (p : Program) (there k' : ConcreteState) (t : ℕ) (here : Thread) (event : Option Event)
     → Ends p there t here event k' → FrontRun p there (shared_step_of t event) k'
 ends_lead p there k' t here None ends = sym ends
-ends_lead p there k' t here (Some event) ends = (k', ends.1, refl)
+ends_lead p there k' t here (Some event) ends = (k', inl ends.1, refl)
 
 -- an entry
 entry_leads : (p : Program) (k k' : ConcreteState) (e : Entry) → Enters p k e k'
     → FrontRun p k (replicate e.local (local_step_of e.thread) ++ shared_step_of e.thread e.event) k'
-entry_leads p k k' e enters =
+entry_leads p k k' e (inr outside) =
+    subst (λ (n : ℕ). FrontRun p k (replicate n (local_step_of e.thread) ++ shared_step_of e.thread e.event) k')
+    (sym outside.alone)
+    (subst (λ (o : Option Event). FrontRun p k (shared_step_of e.thread o) k') (sym outside.is)
+    (k', inr outside.gives, refl))
+entry_leads p k k' e (inl enters) =
     let u = up k e.thread enters.moves in
     let there = put_thread k e.thread enters.here in
     run_on p k there k' (replicate e.local (local_step_of e.thread)) (shared_step_of e.thread e.event)

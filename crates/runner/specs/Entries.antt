@@ -1,13 +1,14 @@
 -- What comes of a piece that is handed in.
-use Rattle.std.specs.Prelude.{ℕ, ◌≡◌, ◌+◌, ◌++◌, ◌≤◌, ◌<◌, [], ◌∷◌, true, false, Option, Some, None, Result, Ok, Err}
+use Rattle.std.specs.Prelude.{ℕ, ◌≡◌, ◌≢◌, ◌+◌, ◌++◌, ◌≤◌, ◌<◌, [], ◌∷◌, true, false, Option, Some, None, Result, Ok, Err}
 use Rattle.isa.specs.Programs.{Program}
 use Rattle.locals.specs.Threads.{Thread}
 use Rattle.locals.specs.Steps.{local_step, local_after}
 use Rattle.machine.specs.declared.event.Event.{Event}
 use Rattle.machine.specs.declared.event.StepFault.{StepFault}
 use Rattle.machine.specs.declared.event.StepFault.TheVariants as step
-use Rattle.machine.specs.States.{ConcreteState, thread_of}
+use Rattle.machine.specs.States.{ConcreteState, state_of, thread_of}
 use Rattle.machine.specs.ConcreteSteps.{step_of, put_thread, can_move}
+use Rattle.machine.specs.ConcreteOutside.{stray_of}
 use Rattle.runner.specs.declared.fault.RunFault.{RunFault}
 use Rattle.runner.specs.declared.fault.RunFault.TheVariants.{Stray, Limit, CannotMove, Broken, Memory}
 use Rattle.runner.specs.Views.{PieceView, LogState}
@@ -66,6 +67,21 @@ RefusesEntry p limit h t a Limit =
     × (concrete : ConcreteState) × (event : Option Event) × (entry_end p h.concrete t a.here ≡ Ok (concrete, event))
     × (limit < cost h.log + (a.count + event_cost event))
 RefusesEntry p limit h t a Memory = IsFine p limit h t a
+
+-- thread t was woken from outside: exactly one entry is new, with no local step and the event of the wake
+pub record TakesOutside (limit : ℕ) (old : LogState) (t : ℕ) (new : LogState) : Type 0 where
+  pub event : Event
+  pub gives : stray_of old.concrete t ≡ Ok (new.concrete, event)
+  pub log : new.log ≡ old.log ++ record { thread = t; local = 0; event = Some event } ∷ []
+  pub within : cost new.log ≤ limit
+
+-- why a wake from outside is refused: the thread doesn't sleep; the limit is reached; or there is no memory
+abbrev pub RefusesOutside : ℕ → LogState → ℕ → RunFault → Type 0
+RefusesOutside limit h t Stray = ⊥
+RefusesOutside limit h t CannotMove = (state_of h.concrete).asleep t ≡ None
+RefusesOutside limit h t Broken = ⊥
+RefusesOutside limit h t Limit = ((state_of h.concrete).asleep t ≢ None) × (cost h.log ≡ limit)
+RefusesOutside limit h t Memory = ((state_of h.concrete).asleep t ≢ None) × (cost h.log < limit)
 
 -- the piece that a thread goes on from
 abbrev pub Begins : ConcreteState → ℕ → PieceView → Type 0

@@ -8,17 +8,20 @@ use Rattle.machine.specs.Views.{concrete}
 use Rattle.runner.specs.declared.report.Report.{Report}
 use Rattle.runner.specs.declared.log_schedule.FollowLogFault.{FollowLogFault}
 use Rattle.runner.specs.declared.log_schedule.FollowLogFault.TheVariants.{BadEntry, Memory}
-use Rattle.runner.specs.Logs.{Runs, Enters, cost, event_cost}
+use Rattle.runner.specs.Logs.{Runs, Enters, cost, event_cost, is_outside}
 use Rattle.runner.specs.Reports.{IsVerdict}
 
--- what a schedule takes of an entry: its thread, its local steps, and whether a shared step comes then
+-- what a schedule takes of an entry: its thread, its local steps, whether a shared step comes then, and whether that
+-- comes from outside
 pub record Turn : Type 0 where
   pub thread : ℕ
   pub local : ℕ
   pub shared : Bool
+  pub stray : Bool
 
 abbrev pub turn_of : Entry → Turn
-turn_of e = record { thread = e.thread; local = e.local; shared = is_some e.event }
+turn_of e =
+    record { thread = e.thread; local = e.local; shared = is_some e.event; stray = is_outside e.event }
 
 -- the log is legal and leads there, by these turns in this order, and has fewer than 2^32 steps
 pub record FollowsLog (p : Program) (turns : List Turn) (log : List Entry) (k : ConcreteState) : Type 0 where

@@ -1,5 +1,5 @@
 -- Which logs are legal, where they lead, and what they cost.
-use Rattle.std.specs.Prelude.{ℕ, ◌≡◌, ◌+◌, List, [], ◌∷◌, true, Option, Some, None, Ok}
+use Rattle.std.specs.Prelude.{ℕ, ◌≡◌, ◌+◌, ◌⊎◌, List, [], ◌∷◌, Bool, true, false, not, Option, Some, None, Ok}
 use Rattle.std.specs.List.{sum_by}
 use Rattle.isa.specs.Programs.{Program}
 use Rattle.locals.specs.Threads.{Thread}
@@ -8,20 +8,43 @@ use Rattle.machine.specs.declared.event.Entry.{Entry}
 use Rattle.machine.specs.declared.event.Event.{Event}
 use Rattle.machine.specs.States.{ConcreteState, thread_of}
 use Rattle.machine.specs.ConcreteSteps.{step_of, put_thread, can_move}
+use Rattle.machine.specs.ConcreteOutside.{stray_of}
+use Rattle.machine.specs.FrontRuns.{doing_of}
+use Rattle.machine.specs.Runs.{is_own}
 
 -- the end of an entry: nothing more, or a shared step of the thread with this event
 abbrev pub Ends : Program → ConcreteState → ℕ → Thread → Option Event → ConcreteState → Type 0
 Ends p k t here None k' = k' ≡ k
 Ends p k t here (Some event) k' = (local_step p t here ≡ None) × (step_of p k t ≡ Ok (k', event))
 
--- the entry takes the machine from one state to another: the local steps of a thread that can move, and then its end
-pub record Enters (p : Program) (k : ConcreteState) (e : Entry) (k' : ConcreteState) : Type 0 where
+-- the entry is its thread's own: the local steps of a thread that can move, and then its end
+pub record EntersOwn (p : Program) (k : ConcreteState) (e : Entry) (k' : ConcreteState) : Type 0 where
   pub origin : Thread
   pub here : Thread
   pub stands : thread_of k e.thread ≡ Some origin
   pub moves : can_move k e.thread ≡ true
   pub goes : local_after p e.thread e.local origin ≡ Some here
   pub ends : Ends p (put_thread k e.thread here) e.thread here e.event k'
+
+-- the entry is a wake from outside of a thread that sleeps, with no local step before it
+pub record EntersOutside (k : ConcreteState) (e : Entry) (k' : ConcreteState) : Type 0 where
+  pub event : Event
+  pub alone : e.local ≡ 0
+  pub is : e.event ≡ Some event
+  pub gives : stray_of k e.thread ≡ Ok (k', event)
+
+-- the entry takes the machine from one state to another
+abbrev pub Enters : Program → ConcreteState → Entry → ConcreteState → Type 0
+Enters p k e k' = EntersOwn p k e k' ⊎ EntersOutside k e k'
+
+-- whether the step that ends an entry came from outside
+abbrev pub is_outside : Option Event → Bool
+is_outside None = false
+is_outside (Some event) = not (is_own (doing_of event.name event.value))
+
+-- the entry is its thread's own, by its event
+abbrev pub IsOwnEntry : Entry → Type 0
+IsOwnEntry e = is_outside e.event ≡ false
 
 -- the entries take the machine from one state to another, one after the other
 abbrev pub Runs : Program → ConcreteState → List Entry → ConcreteState → Type 0

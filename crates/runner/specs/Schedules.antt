@@ -11,7 +11,7 @@ use Rattle.machine.specs.Views.{concrete}
 use Rattle.runner.specs.declared.report.Report.{Report}
 use Rattle.runner.specs.declared.schedule.ScheduleFault.{ScheduleFault}
 use Rattle.runner.specs.declared.schedule.ScheduleFault.TheVariants.{BadEntry, Broken, Memory}
-use Rattle.runner.specs.Logs.{Runs, event_cost}
+use Rattle.runner.specs.Logs.{Runs, event_cost, IsOwnEntry}
 use Rattle.runner.specs.Reports.{IsVerdict}
 
 -- one local step, or one shared step
@@ -23,6 +23,7 @@ pub record Follows (p : Program) (schedule : List ℕ) (log : List Entry) (k : C
   pub legal : Runs p (opening_concrete p) log k
   pub threads : map (λ e. e.thread) log ≡ schedule
   pub single : All IsOneStep log
+  pub own : All IsOwnEntry log
 
 -- the report of a schedule that was followed to its end
 pub record IsFollowed (p : Program) (schedule : List ℕ) (r : Report) : Type 0 where

@@ -2,7 +2,7 @@ ghost use Rattle.words.specs.Limits.{most_local_steps};
 ghost use Rattle.std.specs.Prelude.{◌≡◌, ◌≤◌, ◌+◌, true, IfErr, OnOk};
 ghost use Rattle.machine.specs.ConcreteSteps.{can_move};
 ghost use Rattle.machine.specs.Views.{concrete};
-ghost use Rattle.runner.specs.Logs.{Enters, event_cost};
+ghost use Rattle.runner.specs.Logs.{EntersOwn, event_cost};
 ghost use Rattle.runner.specs.Entries.{BreaksAfter};
 
 use crate::fault::RunFault;
@@ -14,7 +14,7 @@ use words::MOST_LOCAL_STEPS;
 pub fn take_entry(machine: &mut Machine, t: u32) -> (Entry, Result<(), RunFault>)
     requires thread { can_move (concrete machine.old) t ≡ true }
     requires room { 1 ≤ machine.old.room }
-    ensures enters { Enters machine.old.program (concrete machine.old) result.0
+    ensures enters { EntersOwn machine.old.program (concrete machine.old) result.0
         (concrete machine.new) }
     ensures turn { result.0.local ≤ most_local_steps }
     ensures goes { OnOk result.1 (1 ≤ result.0.local + event_cost result.0.event) }

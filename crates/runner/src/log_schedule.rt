@@ -1,14 +1,14 @@
-ghost use Rattle.std.specs.Prelude.{◌≡◌, ◌≤◌, ◌<◌, ◌+◌, ◌^◌, length, Some, IfOk, IfErr, IfSome, IfNone};
+ghost use Rattle.std.specs.Prelude.{◌≡◌, ◌≤◌, ◌<◌, ◌+◌, ◌^◌, length, true, Some, IfOk, IfErr, IfSome, IfNone};
 ghost use Rattle.locals.specs.Threads.{Thread};
 ghost use Rattle.machine.specs.States.{ConcreteState, thread_of};
 ghost use Rattle.machine.specs.Views.{concrete};
-ghost use Rattle.runner.specs.Logs.{Ends, Enters, event_cost};
+ghost use Rattle.runner.specs.Logs.{Ends, Enters, event_cost, is_outside};
 ghost use Rattle.runner.specs.declared.log_schedule.FollowLogFault.TheVariants.{Memory};
 ghost use Rattle.runner.specs.LogSchedules.{CannotTake, FailsLogAt, IsFollowedLog, turn_of};
 
 use crate::report::{Report, report_of};
 use isa::Image;
-use machine::{Entry, Event, Machine};
+use machine::{Entry, Event, EventName, Machine};
 use std::alloc::{AllocError, Global};
 use thiserror::Error;
 use words::BUCKETS;
@@ -34,8 +34,8 @@ impl From<AllocError> for FollowLogFault {
 }
 
 /// Runs an image by a log, which is taken for a schedule: for each of its entries the same thread takes as many local
-/// steps, and then a shared step where the log's entry has one. Events are not compared, so the report's log may have
-/// other values.
+/// steps, and then a shared step where the log's entry has one; a wake from outside is one again. Events are not
+/// compared, so the report's log may have other values.
 ///
 /// The verdict is Limit where some thread can still move. The first entry that can't be taken so is refused.
 pub fn follow_log(alloc: Global, image: &Image, entries: &[Entry]) -> Result<Report, FollowLogFault>
@@ -81,6 +81,9 @@ fn take_turn(machine: &mut Machine, entry: &Entry) -> Option<Entry>
         (CannotTake machine.old.program (concrete machine.old) (turn_of entry.now)) }
     ensures program { machine.new.program ≡ machine.old.program }
 {
+    if is_outside(entry) {
+        return take_outside(machine, entry);
+    }
     let thread = entry.thread;
     let local = entry.local;
     if !machine.can_move(thread) {
@@ -104,6 +107,39 @@ fn take_turn(machine: &mut Machine, entry: &Entry) -> Option<Entry>
         local,
         event: None,
     })
+}
+
+// Whether an entry is a wake from outside.
+fn is_outside(entry: &Entry) -> bool
+    ensures { result ≡ is_outside entry.now.event }
+{
+    match entry.event {
+        Some(event) => event.name == EventName::Stray,
+        None => false,
+    }
+}
+
+// Takes a wake from outside of the thread of an entry; None where there is none.
+fn take_outside(machine: &mut Machine, entry: &Entry) -> Option<Entry>
+    requires outside { is_outside entry.now.event ≡ true }
+    ensures some { IfSome result
+        (λ e. Enters machine.old.program (concrete machine.old) e (concrete machine.new)
+        × (turn_of e ≡ turn_of entry.now)) }
+    ensures none { IfNone result
+        (CannotTake machine.old.program (concrete machine.old) (turn_of entry.now)) }
+    ensures program { machine.new.program ≡ machine.old.program }
+{
+    if entry.local > 0 {
+        return None;
+    }
+    match machine.stray(entry.thread) {
+        Ok(event) => Some(Entry {
+            thread: entry.thread,
+            local: 0,
+            event: Some(event),
+        }),
+        Err(_) => None,
+    }
 }
 
 // Takes the shared step that thread `t` stands before; None where it stands before none.

@@ -2,7 +2,7 @@ ghost use Rattle.std.specs.Prelude.{◌≡◌, ◌<◌, ◌≤◌, ◌^◌, true
 ghost use Rattle.machine.specs.declared.event.StepFault.TheVariants.{Broken};
 ghost use Rattle.machine.specs.ConcreteSteps.{step_of, can_move};
 ghost use Rattle.machine.specs.Views.{concrete};
-ghost use Rattle.runner.specs.Logs.{Enters};
+ghost use Rattle.runner.specs.Logs.{EntersOwn};
 ghost use Rattle.runner.specs.declared.schedule.ScheduleFault.TheVariants.{Memory};
 ghost use Rattle.runner.specs.Schedules.{FailsAt, IsFollowed, IsOneStep, RefusesSchedule};
 
@@ -59,7 +59,7 @@ pub fn follow(alloc: Global, image: &Image, schedule: &[u32]) -> Result<Report, 
 // Takes the step of the thread that the entry of this number names.
 fn take_turn(machine: &mut Machine, number: u64, t: u32) -> Result<Entry, ScheduleFault>
     ensures ok { IfOk result
-        (λ e. Enters machine.old.program (concrete machine.old) e (concrete machine.new)
+        (λ e. EntersOwn machine.old.program (concrete machine.old) e (concrete machine.new)
         × (e.thread ≡ t) × IsOneStep e × (number < 2 ^ 32)) }
     ensures err { IfErr result
         (λ fault. RefusesSchedule machine.old.program (concrete machine.old) number t fault) }
@@ -77,7 +77,7 @@ fn take_step(machine: &mut Machine, t: u32) -> Result<Entry, StepFault>
     requires thread { can_move (concrete machine.old) t ≡ true }
     requires room { 1 ≤ machine.old.room }
     ensures ok { IfOk result
-        (λ e. Enters machine.old.program (concrete machine.old) e (concrete machine.new)
+        (λ e. EntersOwn machine.old.program (concrete machine.old) e (concrete machine.new)
         × (e.thread ≡ t) × IsOneStep e) }
     ensures err { OnErr result (step_of machine.old.program (concrete machine.old) t ≡ Err Broken) }
     ensures program { machine.new.program ≡ machine.old.program }

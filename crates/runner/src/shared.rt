@@ -4,7 +4,7 @@ ghost use Rattle.std.specs.Prelude.{IfErr, OnOk, IfSome, IfNone, MatchBool, Matc
 ghost use Rattle.machine.specs.States.{thread_of, opening_concrete};
 ghost use Rattle.machine.specs.ConcreteSteps.{can_move};
 ghost use Rattle.runner.specs.Logs.{Runs, cost};
-ghost use Rattle.runner.specs.Entries.{Takes, RefusesEntry, IsFine, Stands};
+ghost use Rattle.runner.specs.Entries.{Takes, TakesOutside, RefusesEntry, RefusesOutside, IsFine, Stands};
 ghost use Rattle.runner.specs.Nexts.{IsNext};
 ghost use Rattle.runner.specs.Afters.{IsAfter};
 ghost use Rattle.runner.specs.Reports.{CanFail, MeetsBroken};
@@ -12,7 +12,7 @@ ghost use Rattle.runner.specs.declared.fault.RunFault;
 ghost use Rattle.machine.specs.Views.{concrete};
 ghost use Rattle.runner.specs.Views.{log_state};
 
-use crate::entering::{enter, make_room};
+use crate::entering::{enter, enter_outside, make_room};
 use crate::fault::RunFault;
 use crate::in_place::take_entry;
 use crate::naming::RunName;
@@ -265,6 +265,37 @@ impl<J: RunName> Shared<J> {
             return Err(RunFault::Memory);
         };
         self.steps += count + u32::from(event.is_some());
+        share.count_one(&mut self.book);
+        Ok(())
+    }
+
+    /// Wakes thread `t`, which sleeps, though no thread called for it: a step of no thread, and one entry of the log.
+    /// The share counts it.
+    ///
+    /// Refuses in this order: `CannotMove` where the thread doesn't sleep, `Limit`, `Memory`; then nothing has changed.
+    pub fn stray(&mut self, t: u32, share: &mut Share<J>) -> Result<(), RunFault>
+        ensures ok { OnOk result
+            (TakesOutside J.limit (log_state self.old) t (log_state self.new)) }
+        ensures counted { OnOk result (share.new
+            ≡ record share.old { count = share.old.count + 1 }) }
+        ensures err { IfErr result (λ fault. (log_state self.new ≡ log_state self.old)
+            × (share.new ≡ share.old)
+            × RefusesOutside J.limit (log_state self.old) t fault) }
+        ensures given { self.new.given ≡ self.old.given }
+        ensures legal { Runs J.program (opening_concrete J.program) self.new.log
+            (log_state self.new).concrete }
+        ensures within { cost self.new.log ≤ J.limit }
+    {
+        if self.machine.asleep(t).is_none() {
+            return Err(RunFault::CannotMove);
+        }
+        if self.steps == self.limit {
+            return Err(RunFault::Limit);
+        }
+        if enter_outside(&mut self.machine, &mut self.log, t).is_err() {
+            return Err(RunFault::Memory);
+        }
+        self.steps += 1;
         share.count_one(&mut self.book);
         Ok(())
     }

@@ -1,6 +1,9 @@
-use std::alloc::Global;
+use std::alloc::{AllocError, Global};
 use std::io;
 use std::io::Write;
+
+// For how many bytes a device has the memory from the start: what most commands write.
+const MADE: usize = 1 << 12;
 
 /// A device that takes so many bytes, and fails from then on.
 #[derive(Drop)]
@@ -13,13 +16,14 @@ pub struct Device {
 }
 
 impl Device {
-    /// A device with room for so many bytes, which took none yet.
-    pub fn new(alloc: Global, room: u32) -> Device {
-        Device {
-            room: room as usize,
-            taken: Vec::new(alloc),
+    /// A device with room for so many bytes, which took none yet. For the first of them it has the memory.
+    pub fn new(alloc: Global, room: u32) -> Result<Device, AllocError> {
+        let room = room as usize;
+        Ok(Device {
+            room,
+            taken: Vec::with_capacity(alloc, room.min(MADE))?,
             failures: 0,
-        }
+        })
     }
 }
 

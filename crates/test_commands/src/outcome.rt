@@ -1,7 +1,7 @@
 use crate::device::Device;
 use crate::fault::RowFault;
 use crate::row::Row;
-use mesamon::perform;
+use mesamon::{Counted, perform};
 use std::alloc::Global;
 use std::rt::Files;
 use std::sync::Wait;
@@ -84,9 +84,11 @@ impl Outcome {
             .iter()
             .map(|word| word.as_str())
             .collect(rt.alloc())?;
-        let mut output = Device::new(rt.alloc(), row.output_room);
-        let mut errors = Device::new(rt.alloc(), row.errors_room);
+        let mut output = Counted::new(Device::new(rt.alloc(), row.output_room)?);
+        let mut errors = Counted::new(Device::new(rt.alloc(), row.errors_room)?);
         let status = perform(rt, words.as_slice(), &mut output, &mut errors);
+        let output = output.into_inner();
+        let errors = errors.into_inner();
         Ok(Outcome {
             status,
             failures: output.failures.saturating_add(errors.failures),

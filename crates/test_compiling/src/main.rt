@@ -2,7 +2,7 @@
 //!
 //! ```text
 //! alike TEXT              the text is compiled by `compile`, and by 1, 2, 3, 7 and 64 workers
-//! meet TEXT               three workers compile the text; the first piece of each waits for the other two
+//! meet TEXT               three workers compile the text, ten times; the first piece of each waits for the other two
 //! alone TEXT              one worker compiles it through the same gate, where nobody else can come
 //! pieces COUNT NUMBER ..  empty pieces of these numbers are handed to a collector of so many
 //! times COUNT N TEXT      the code of the text's pieces is made so often, by N workers, or by `generate` where N is 0
@@ -28,9 +28,13 @@ use crate::handing::show_pieces;
 use crate::meeting::Meeting;
 use crate::repeating::repeat;
 use compiler::compile_with;
+use scanner::Refusal;
 use std::io;
 use std::sync::Wait;
 use std::thread::Threads;
+
+// How often three workers are to meet.
+const MEETINGS: u32 = 10;
 
 // How often a worker looks for the others at the gate.
 const TURNS: u32 = 10_000_000;
@@ -60,25 +64,48 @@ fn take_row<R: AllocGlobal + Print + Threads + Wait + Sync>(
     let (key, said) = row.split_once(' ').ok_or(Failure::Row)?;
     match key {
         "alike" => show_alike(rt, said),
-        "meet" => show_meeting(rt, said, 3, &Meeting::new(TURNS)),
-        "alone" => show_meeting(rt, said, 1, &Meeting::new(FEW_TURNS)),
+        "meet" => show_meetings(rt, said),
+        "alone" => show_alone(rt, said),
         "pieces" => show_pieces(rt, said),
         "times" => repeat(rt, said),
         _ => Err(Failure::Row),
     }
 }
 
-// Compiles a text by this many workers, and prints whether all three met at the gate.
-fn show_meeting<R: AllocGlobal + Print + Threads + Wait + Sync>(
+// Has three workers compile a text again and again, and prints how often all three met at the gate.
+fn show_meetings<R: AllocGlobal + Print + Threads + Wait + Sync>(
+    rt: &R,
+    text: &str,
+) -> Result<(), Failure> {
+    let mut held = 0;
+    for _ in 0..MEETINGS {
+        if meet(rt, text, 3, &Meeting::new(TURNS))? {
+            held += 1;
+        }
+    }
+    println!(rt; "met {held} times")?;
+    Ok(())
+}
+
+// Has one worker compile a text, and prints whether it met others.
+fn show_alone<R: AllocGlobal + Print + Threads + Wait + Sync>(
+    rt: &R,
+    text: &str,
+) -> Result<(), Failure> {
+    let held = meet(rt, text, 1, &Meeting::new(FEW_TURNS))?;
+    println!(rt; "met {held}")?;
+    Ok(())
+}
+
+// Compiles a text by this many workers, and answers whether all three met at the gate.
+fn meet<R: AllocGlobal + Threads + Wait + Sync>(
     rt: &R,
     text: &str,
     workers: u32,
     gate: &Meeting,
-) -> Result<(), Failure>
+) -> Result<bool, Refusal>
     requires { (1 ≤ workers) × (workers ≤ most_workers) }
 {
-    let _image = compile_with(rt, rt.alloc(), text.as_bytes(), workers, gate)?;
-    let held = gate.was_held();
-    println!(rt; "met {held}")?;
-    Ok(())
+    compile_with(rt, rt.alloc(), text.as_bytes(), workers, gate)?;
+    Ok(gate.was_held())
 }

@@ -3,11 +3,8 @@ use Rattle.std.proofs.lemmas.Bool.{cases_eq}
 use Rattle.machine.specs.declared.event.EventName.{EventName}
 use Rattle.log_text.specs.LogLines.{name_text}
 use Rattle.log_text.specs.Places.{place_of}
-use Rattle.log_text.proofs.Names.{name_once, no_place, place_once}
+use Rattle.log_text.proofs.Names.{few_places, place_once}
 use Rattle.log_text.proofs.parts.name_called.Goals as goal
-
-pub returns-then-is_called : goal.returns-then-is_called
-returns-then-is_called c = λ name is. name_once c.name_at-name.result name (sym c.if-is_called.ensures ∙ is)
 
 pub loop-place-preserved : goal.loop-place-preserved
 loop-place-preserved c = λ name is.
@@ -23,4 +20,5 @@ loop-place-preserved c = λ name is.
 pub returns : goal.returns
 returns c = λ name is.
     let past = c.loop-place.invariant name is in
-    no_place name (omega (arith, past))
+    let few = few_places name in
+    absurd (omega (arith, past, few))

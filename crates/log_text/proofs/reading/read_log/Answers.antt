@@ -1,11 +1,12 @@
 use Rattle.std.proofs.Common.{◌≡◌, ◌<◌, ◌+◌, ◌++◌, ◌∙◌, [], ◌∷◌, ap, length, length-append, arith, sym}
 use Rattle.std.proofs.lemmas.Bool.{eqb-true}
 use Rattle.log_text.specs.LogLines.{log_lines}
-use Rattle.log_text.proofs.Logs.{line_more, no_end, no_entry, none_there, pushed, sized_more, some_left, some_there}
+use Rattle.log_text.specs.Spelled.{IsBadLine}
+use Rattle.log_text.proofs.Logs.{line_more, no_bad_line, no_end, no_entry, pushed, read_back, sized_more, some_left}
 use Rattle.log_text.proofs.reading.read_log.Goals as goal
 
-pub returns-then-is_empty : goal.returns-then-is_empty
-returns-then-is_empty c =
+pub returns-then-is_empty-clause-read : goal.returns-then-is_empty-clause-read
+returns-then-is_empty-clause-read c =
     let l = c.loop-rest in
     let cut = c.cut-line.ensures in
     record {
@@ -19,8 +20,12 @@ returns-then-is_empty c =
           (eqb-true (length c.cut-line.result.rest.now) 0 (sym c.if-is_empty.ensures));
     }
 
-pub returns-in_default : goal.returns-in_default
-returns-in_default c =
+pub returns-then-is_empty-clause-reads : goal.returns-then-is_empty-clause-reads
+returns-then-is_empty-clause-reads c = λ log is.
+    absurd (no_bad_line c.args.text.now log (c.loop-rest.number + 1) is (returns-then-is_empty-clause-read c))
+
+pub returns-in_default-clause-read : goal.returns-in_default-clause-read
+returns-in_default-clause-read c =
     let l = c.loop-rest in
     let cut = c.cut-line.ensures in
     record {
@@ -31,14 +36,24 @@ returns-in_default c =
       counted = omega (arith, l.invariant.number);
       more = some_left (length l.rest.now) c.loop-rest-test.ensures;
       none = no_entry l.rest.now c.cut-line.result.front.now c.cut-line.result.rest.now cut.whole cut.front cut.rest
-          (none_there _ _ c.in_ok-entry.field-0 c.in_ok-entry.ensures c.in_default.is);
+          c.in_default.ensures;
     }
+
+pub returns-in_default-clause-reads : goal.returns-in_default-clause-reads
+returns-in_default-clause-reads c = λ log is.
+    absurd (no_bad_line c.args.text.now log (c.loop-rest.number + 1) is (returns-in_default-clause-read c))
+
+pub returns-clause-reads : goal.returns-clause-reads
+returns-clause-reads c = λ log is.
+    let l = c.loop-rest in
+    read_back c.args.text.now l.rest.now l.entries.items log l.invariant.cut
+    (eqb-true (length l.rest.now) 0 (sym c.loop-rest-test.ensures)) l.invariant.sized is
 
 pub loop-rest-preserved : goal.loop-rest-preserved
 loop-rest-preserved c =
     let l = c.loop-rest in
     let cut = c.cut-line.ensures in
-    let read = some_there _ _ c.in_ok-entry.field-0 c.in-Some.entry c.in_ok-entry.ensures c.in-Some.is in
+    let read = c.in-Some.ensures in
     let grows = pushed c.push.result c.is_err.result c.push.new.self.items l.entries.items c.in-Some.entry
     c.is_err.ensures.value c.if-is_err.false c.push.ensures.items in
     let many = ap length grows in

@@ -1,31 +1,41 @@
-use Rattle.std.proofs.Common.{◌≡◌, ◌∙◌, ap, sym, inl, inr}
+use Rattle.std.proofs.Common.{◌≡◌, ◌++◌, ◌∙◌, ap, inl, inr, sym}
+use Rattle.std.proofs.lemmas.List.{append_cancel_left}
+use Rattle.std.proofs.lemmas.Option.{IfSome_then}
 use Rattle.machine.specs.ThreadSets.{set_of}
-use Rattle.log_text.specs.LogLines.{members}
-use Rattle.log_text.proofs.Entries.{at_word, set_there}
-use Rattle.log_text.proofs.Members.{all_members, few_members, set_of_members}
+use Rattle.log_text.specs.LogLines.{members, numbers_text}
+use Rattle.log_text.proofs.Entries.{empty_text, none_small, row_small, row_text, set_cases, still}
+use Rattle.log_text.proofs.Members.{set_of_members}
+use Rattle.log_text.proofs.Rising.{members_rise}
 use Rattle.log_text.proofs.sets.set_after.Goals as goal
 
-pub returns-then-are_same : goal.returns-then-are_same
-returns-then-are_same c = λ set rest small after is.
-    let cut = c.cut-first.ensures in
-    let w = c.cut-first.result in
-    let there = set_there c.args.word.now c.args.text.now w.front.now w.rest.now (members set 64) rest
-    c.requires.word.1 c.requires.word.0 (sym c.past_first.ensures ∙ cut.whole) cut.front cut.rest after is in
-    elim there [
-      | inl none ↦ absurd (none.1 c.if-are_same.ensures)
+pub returns-in-Some-clause-small : goal.returns-in-Some-clause-small
+returns-in-Some-clause-small c =
+    IfSome_then c.threads_of.result c.threads_of.ensures.read (λ p row. row_small c.in-Some.threads.now p.1.now p.0 row)
+
+pub returns-in-None-clause-small : goal.returns-in-None-clause-small
+returns-in-None-clause-small c = none_small c.new.result c.new.ensures
+
+pub returns-in-Some-clause-read : goal.returns-in-Some-clause-read
+returns-in-Some-clause-read c =
+    IfSome_then c.threads_of.result c.threads_of.ensures.read
+    (λ p row. row_text c.args.word.now c.args.text.now c.in-Some.threads.now p.1.now p.0 c.in-Some.ensures row)
+
+pub returns-in-Some-clause-reads : goal.returns-in-Some-clause-reads
+returns-in-Some-clause-reads c = λ set rest small after is.
+    elim (set_cases c.args.word.now c.args.text.now (members set 64) rest is) [
+      | inl none ↦ absurd (after.other c.in-Some.threads.now (sym none.1 ∙ c.in-Some.ensures))
       | inr some ↦
-          let read = c.threads_of.ensures (members set 64) rest (all_members set) (few_members set)
-          (at_word c.args.word.now rest after) some.1 in
-          (read.0 ∙ set_of_members set small, read.1)
+          still c.threads_of.result _ _ (c.threads_of.ensures.reads (members set 64) rest (members_rise set) some.0
+          after.number (append_cancel_left c.args.word.now c.in-Some.threads.now (numbers_text (members set 64) ++ rest)
+          (sym c.in-Some.ensures ∙ some.1))) (λ p h. (h.0 ∙ set_of_members set small, h.1))
     ]
 
-pub returns-else-are_same : goal.returns-else-are_same
-returns-else-are_same c = λ set rest small after is.
-    let cut = c.cut-first.ensures in
-    let w = c.cut-first.result in
-    let there = set_there c.args.word.now c.args.text.now w.front.now w.rest.now (members set 64) rest
-    c.requires.word.1 c.requires.word.0 (sym c.past_first.ensures ∙ cut.whole) cut.front cut.rest after is in
-    elim there [
-      | inl none ↦ (c.new.ensures ∙ ap set_of (sym none.0) ∙ set_of_members set small, none.2)
-      | inr some ↦ absurd (c.if-are_same.ensures some.0)
+pub returns-in-None-clause-read : goal.returns-in-None-clause-read
+returns-in-None-clause-read c = empty_text c.args.word.now c.args.text.now c.new.result c.new.ensures
+
+pub returns-in-None-clause-reads : goal.returns-in-None-clause-reads
+returns-in-None-clause-reads c = λ set rest small after is.
+    elim (set_cases c.args.word.now c.args.text.now (members set 64) rest is) [
+      | inl none ↦ (c.new.ensures ∙ ap set_of (sym none.0) ∙ set_of_members set small, none.1)
+      | inr some ↦ absurd (c.in-None.ensures (numbers_text (members set 64) ++ rest) some.1)
     ]

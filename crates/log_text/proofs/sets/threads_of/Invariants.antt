@@ -1,12 +1,18 @@
-use Rattle.std.proofs.Common.{◌≡◌, length}
-use Rattle.std.specs.List.{All}
-use Rattle.machine.specs.ThreadSets.{IsThread}
-use Rattle.log_text.proofs.Entries.{ReadsOn}
+use Rattle.std.proofs.Common.{◌≡◌, ◌≤◌, ◌++◌, length}
+use Rattle.log_text.specs.Cuts.{Rises}
+use Rattle.log_text.specs.LogLines.{numbers_text}
+use Rattle.log_text.proofs.Rising.{Ends, ReadsOn}
 use Rattle.log_text.proofs.sets.threads_of.Given as goal
 
-abbrev pub invariant-loop : goal.invariant-loop
-invariant-loop l = record {
-  threads : All IsThread l.threads.items;
-  count : length l.threads.items ≡ l.counter;
-  reads : ReadsOn l.text l.threads.items l.rest;
+abbrev pub invariant-walk : goal.invariant-walk
+invariant-walk l = record {
+  rises : Rises 0 l.threads.items;
+  ends : Ends 0 l.threads.items l.last;
+  few : length l.threads.items ≤ l.last;
+  last : l.last ≤ 64;
+  whole : l.text ≡ numbers_text l.threads.items ++ l.rest;
+  on : ReadsOn l.text l.threads.items l.last l.rest;
 }
+
+abbrev pub decreases-walk : goal.decreases-walk
+decreases-walk l = length l.rest

@@ -1,9 +1,7 @@
-use Rattle.std.proofs.Common.{◌≡◌, ◌++◌, string_bytes, ap, ◌∙◌, arith}
-use Rattle.log_text.specs.LogLines.{list_text, members}
+use Rattle.std.proofs.Common.{string_bytes}
+use Rattle.log_text.proofs.Lines.{none_more}
 use Rattle.log_text.proofs.writing.append_set.Goals as goal
 
-pub returns : goal.returns
-returns c =
-    let all : c.loop-before.before ≡ 64 = omega arith in
-    c.loop-before.invariant.text ∙ ap (λ n. string_bytes c.args.text.now ++ list_text c.args.word.now
-    (members c.args.set n)) all
+pub returns-then-is_empty : goal.returns-then-is_empty
+returns-then-is_empty c =
+    none_more c.args.word.now (string_bytes c.args.text.now) c.args.set c.if-is_empty.ensures

@@ -1,10 +1,18 @@
-use Rattle.std.proofs.Common.{◌≡◌, ◌∙◌, ℕ, ap, sym, subst, arith, Some, true}
+use Rattle.std.proofs.Common.{◌≡◌, ◌∙◌, ℕ, ap, sym, subst, arith, inl, Some, true}
 use Rattle.locals.specs.Steps.{local_after}
 use Rattle.machine.specs.Views.{concrete}
 use Rattle.runner.specs.LogSchedules.{turn_of}
+use Rattle.runner.specs.Logs.{EntersOwn, is_outside}
+use Rattle.runner.proofs.Growing.{entry}
 use Rattle.runner.proofs.Once.{still_made}
-use Rattle.runner.proofs.Turning.{no_shared, takes_shared, too_few}
+use Rattle.runner.proofs.Scheduling.{own_entry}
+use Rattle.runner.proofs.Turning.{no_mover, no_shared, takes_shared, too_few}
 use Rattle.runner.proofs.log_schedule.take_turn.Goals as goal
+
+pub returns-then-not-can_move-clause-none : goal.returns-then-not-can_move-clause-none
+returns-then-not-can_move-clause-none c =
+    no_mover c.args.machine.now.program (concrete c.args.machine.now) (turn_of c.args.entry.now)
+    (sym c.is_outside.ensures ∙ c.if-is_outside.false) (sym c.can_move.ensures ∙ c.if-not-can_move.true)
 
 pub returns-then-run_local-local-clause-none : goal.returns-then-run_local-local-clause-none
 returns-then-run_local-local-clause-none c =
@@ -25,7 +33,8 @@ returns-in_default-clause-none c =
     let old = c.args.machine.now in
     let mid = c.run_local.new.self in
     let count : c.run_local.result ≡ c.args.entry.now.local = omega (arith, r.within, c.if-run_local-local.false) in
-    no_shared old.program mid.program (concrete old) (concrete mid) (turn_of c.args.entry.now) r.origin r.here r.stands
+    no_shared old.program mid.program (concrete old) (concrete mid) (turn_of c.args.entry.now) r.origin r.here
+    (sym c.is_outside.ensures ∙ c.if-is_outside.false) r.stands
     (subst (λ (n : ℕ). local_after old.program c.args.entry.now.thread n r.origin ≡ Some r.here) count r.goes)
     (sym c.is_some.ensures ∙ c.if-is_some.true) (ap (λ v. v.program) r.after) (ap concrete r.after)
     c.in_default.ensures.none
@@ -36,12 +45,22 @@ returns-then-is_some-clause-some c =
     let old = c.args.machine.now in
     let mid = c.run_local.new.self in
     let shared = sym c.is_some.ensures ∙ c.if-is_some.true in
-    let count : c.run_local.result ≡ c.args.entry.now.local = omega (arith, r.within, c.if-run_local-local.false) in (
-      takes_shared old.program mid.program (concrete old) (concrete mid)
-          (concrete c.take_shared.new.machine) c.args.entry.now.thread c.args.entry.now.local r.origin r.here
-          c.in-Some.event (sym c.can_move.ensures ∙ c.if-not-can_move.false) r.stands
-          (subst (λ (n : ℕ). local_after old.program c.args.entry.now.thread n r.origin ≡ Some r.here) count r.goes)
-          (ap (λ v. v.program) r.after)
-          (ap concrete r.after) c.in-Some.ensures.some,
-      λ i. record { thread = c.args.entry.now.thread; local = c.args.entry.now.local; shared = sym shared i },
+    let count : c.run_local.result ≡ c.args.entry.now.local = omega (arith, r.within, c.if-run_local-local.false) in
+    let event = c.in-Some.event in
+    let new = concrete c.take_shared.new.machine in
+    let one = entry c.args.entry.now.thread c.args.entry.now.local (Some event) in
+    let enters : EntersOwn old.program (concrete old) one new =
+    takes_shared old.program mid.program (concrete old) (concrete mid) new c.args.entry.now.thread
+    c.args.entry.now.local r.origin r.here event (sym c.can_move.ensures ∙ c.if-not-can_move.false) r.stands
+    (subst (λ (n : ℕ). local_after old.program c.args.entry.now.thread n r.origin ≡ Some r.here) count r.goes)
+    (ap (λ v. v.program) r.after) (ap concrete r.after) c.in-Some.ensures.some in
+    let told : is_outside (Some event) ≡ is_outside c.args.entry.now.event =
+    own_entry old.program (concrete old) new one enters ∙ sym (sym c.is_outside.ensures ∙ c.if-is_outside.false) in (
+      inl enters,
+      λ i. record {
+        thread = c.args.entry.now.thread;
+        local = c.args.entry.now.local;
+        shared = sym shared i;
+        stray = told i;
+      },
     )

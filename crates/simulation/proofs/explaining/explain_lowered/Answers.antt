@@ -1,7 +1,7 @@
 use Rattle.simulation.specs.ExplainedLog.{RefusesEntry}
 use Rattle.simulation.specs.declared.fault.LogFault.{LogFault}
 use Rattle.std.proofs.Common.{subst}
-use Rattle.log_simulation.proofs.Stopping.{stops_none}
+use Rattle.log_simulation.proofs.NoLog.{stops_none}
 use Rattle.simulation.proofs.explaining.explain_lowered.Goals as goal
 
 pub returns-in-Err-Entry : goal.returns-in-Err-Entry

@@ -7,7 +7,7 @@ use Rattle.protocol.proofs.Sleeps.{put_same}
 use Rattle.log_simulation.specs.declared.recorder.Recorder.{Recorder}
 use Rattle.log_simulation.specs.Recording.{Counts}
 use Rattle.log_simulation.specs.Deferred.{CountsDeferred}
-use Rattle.log_simulation.proofs.Entering.{none_after}
+use Rattle.runner.proofs.Once.{none_after}
 use Rattle.log_simulation.proofs.Recording.{local_more, locally, still_of, tells_on}
 use Rattle.log_simulation.proofs.Records.{few_deferred}
 use Rattle.log_simulation.proofs.recorder.Recorder.take_steps.Goals as goal

@@ -1,0 +1,4 @@
+pub mod Counting
+pub mod Reading
+pub mod Writing
+pub mod Reports

@@ -1,0 +1,14 @@
+//! What a program reads and writes, by calls each of which can fail.
+#![tactic(auto)]
+
+mod counted;
+mod files;
+mod reading;
+mod report;
+mod writing;
+
+pub use counted::Counted;
+pub use files::put_file;
+pub use reading::{ReadFault, read_source};
+pub use report::{ReportTexts, WriteFault, write_report};
+pub use writing::write_bytes;

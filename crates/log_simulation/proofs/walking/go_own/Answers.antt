@@ -1,0 +1,95 @@
+-- The entry is taken where its local steps are all there, and its shared step is the one behind them.
+use Rattle.std.proofs.Common.{rules, refl, ap, ◌+◌, ◌∙◌, ◌≡◌, subst, length, None, Some}
+use Rattle.lowering.specs.Pieces.{code_of}
+use Rattle.isa.specs.Programs.{Program as Image}
+use Rattle.locals.specs.Steps.{local_after}
+use Rattle.machine.specs.ConcreteSteps.{put_thread}
+use Rattle.machine.specs.States.{thread_of}
+use Rattle.machine.specs.Views.{concrete}
+use Rattle.log_simulation.specs.Entries.{progress_locally}
+use Rattle.runner.proofs.Once.{still_made}
+use Rattle.log_simulation.proofs.Entering.{enters_locally, enters_shared, never_shared, put_there}
+use Rattle.log_simulation.proofs.Keeping.{due_at, keeps_locally, keeps_shared, within_most}
+use Rattle.log_simulation.proofs.Records.{when_true, when_false}
+use Rattle.log_simulation.proofs.walking.go_own.Goals as goal
+
+pub returns-in_default-clause-told : goal.returns-in_default-clause-told
+returns-in_default-clause-told c = λ _ p own w events along.
+    let t = c.args.entry.now.thread in
+    let o = c.copy_mover.new.here in
+    let here = c.take_steps.new.here in
+    let k = concrete c.args.machine.now in
+    let k' = concrete c.copy_local.new.self in
+    let alone : c.args.entry.now.event ≡ None = search rules in
+    let goes = subst (λ (i : Image). local_after i t c.args.entry.now.local o ≡ Some here) own
+    c.if-not-take_steps.ensures.goes in
+    let there = ap concrete c.copy_local.ensures ∙ ap (λ x. put_thread x t here) c.in_ok-make_room.ensures.same.1 in
+    let enters = enters_locally (code_of p) k k' c.args.entry.now c.args.entry.now.local o here alone
+    c.if-not-copy_mover.ensures.0 c.if-not-copy_mover.ensures.1 refl goes there in
+    let told = c.take_steps.ensures.told c.if-not-take_steps.false p (length events) along.source own along.of_program
+    along.told in
+    keeps_locally p events k k' c.args.entry.now o here enters c.if-not-copy_mover.ensures.1 goes c.args.recorder.now
+    c.take_steps.new.self along alone told.0 told.1
+
+pub take_shared-requires-clause-thread : goal.take_shared-requires-clause-thread
+take_shared-requires-clause-thread c =
+    still_made c.make_room.new.self.threads c.copy_local.new.self.threads c.args.entry.now.thread c.copy_mover.new.here
+    c.take_steps.new.here
+    (ap (λ x. thread_of x c.args.entry.now.thread) c.in_ok-make_room.ensures.same.1
+    ∙ c.if-not-copy_mover.ensures.1) (ap (λ m. m.threads) c.copy_local.ensures)
+
+pub returns-then-not-take_shared-clause-enters : goal.returns-then-not-take_shared-clause-enters
+returns-then-not-take_shared-clause-enters c =
+    let t = c.args.entry.now.thread in
+    let here = c.take_steps.new.here in
+    let k = concrete c.args.machine.now in
+    let mid = concrete c.copy_local.new.self in
+    let there = ap concrete c.copy_local.ensures ∙ ap (λ x. put_thread x t here) c.in_ok-make_room.ensures.same.1 in
+    let stands = put_there k mid t c.copy_mover.new.here here c.if-not-copy_mover.ensures.1 there in
+    never_shared c.args.image.now c.copy_local.new.self.program k mid c.args.entry.now c.in-Some.event
+    c.args.entry.now.local c.copy_mover.new.here here c.in-Some.is c.if-not-copy_mover.ensures.1 refl
+    c.if-not-take_steps.ensures.goes there
+    (ap (λ m. m.program) c.copy_local.ensures ∙ c.in_ok-make_room.ensures.same.0 ∙ c.requires.program)
+    (when_false _ _ c.take_shared.result (c.take_shared.ensures.ends here stands) c.if-not-take_shared.true)
+
+pub returns-clause-enters : goal.returns-clause-enters
+returns-clause-enters c =
+    let t = c.args.entry.now.thread in
+    let here = c.take_steps.new.here in
+    let k = concrete c.args.machine.now in
+    let mid = concrete c.copy_local.new.self in
+    let there = ap concrete c.copy_local.ensures ∙ ap (λ x. put_thread x t here) c.in_ok-make_room.ensures.same.1 in
+    let stands = put_there k mid t c.copy_mover.new.here here c.if-not-copy_mover.ensures.1 there in
+    enters_shared c.args.image.now c.copy_local.new.self.program k mid (concrete c.take_shared.new.machine)
+    c.args.entry.now c.in-Some.event c.args.entry.now.local c.copy_mover.new.here here c.in-Some.is
+    c.if-not-copy_mover.ensures.0 c.if-not-copy_mover.ensures.1 refl c.if-not-take_steps.ensures.goes there
+    (ap (λ m. m.program) c.copy_local.ensures ∙ c.in_ok-make_room.ensures.same.0 ∙ c.requires.program)
+    (when_true _ _ c.take_shared.result (c.take_shared.ensures.ends here stands) c.if-not-take_shared.false)
+
+pub returns-clause-told : goal.returns-clause-told
+returns-clause-told c = λ _ p own w events along.
+    let t = c.args.entry.now.thread in
+    let o = c.copy_mover.new.here in
+    let here = c.take_steps.new.here in
+    let k = concrete c.args.machine.now in
+    let mid = concrete c.copy_local.new.self in
+    let new = concrete c.take_shared.new.machine in
+    let stood = c.if-not-copy_mover.ensures.1 in
+    let there = ap concrete c.copy_local.ensures ∙ ap (λ x. put_thread x t here) c.in_ok-make_room.ensures.same.1 in
+    let stands = put_there k mid t o here stood there in
+    let goes = subst (λ (i : Image). local_after i t c.args.entry.now.local o ≡ Some here) own
+    c.if-not-take_steps.ensures.goes in
+    let enters = enters_shared (code_of p) c.copy_local.new.self.program k mid new c.args.entry.now c.in-Some.event
+    c.args.entry.now.local o here c.in-Some.is c.if-not-copy_mover.ensures.0 stood refl goes there
+    (ap (λ m. m.program) c.copy_local.ensures ∙ c.in_ok-make_room.ensures.same.0 ∙ c.requires.program ∙ own)
+    (when_true _ _ c.take_shared.result (c.take_shared.ensures.ends here stands) c.if-not-take_shared.false) in
+    let told = c.take_steps.ensures.told c.if-not-take_steps.false p (length events) along.source own along.of_program
+    along.told in
+    let visible = c.in_ok-take_shared_step.ensures p (length events + c.args.entry.now.local)
+    (progress_locally p t c.args.entry.now.local o along.source) own told.0
+    (within_most p events k along.source t o along.comes stood) told.1
+    (λ is short. due_at p events k new c.args.entry.now o here enters stood goes along.source along.comes w
+    c.in-Some.event c.in-Some.is is short) in
+    keeps_shared p events k new c.args.entry.now o here enters stood goes c.args.recorder.now
+    c.take_shared_step.new.self along
+    c.in-Some.event c.in-Some.is visible.0 visible.1

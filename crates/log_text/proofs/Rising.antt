@@ -1,0 +1,257 @@
+-- Rising threads are the members of their set, and are read one by one.
+use Rattle.std.proofs.Common.{◌≡◌, ◌<◌, ◌≤◌, ◌+◌, ◌-◌, ◌^◌, ◌⊎◌, ℕ, zero, suc, List, [], ◌∷◌, ◌++◌, length}
+use Rattle.std.proofs.Common.{true, false, if◌then◌else◌, refl, ap, sym, ◌∙◌, subst, arith, inl, inr, max, length-append}
+use Rattle.std.specs.List.{All}
+use Rattle.std.specs.Fmt.{decimal}
+use Rattle.std.specs.Int.{bit_at}
+use Rattle.std.specs.Int.Bits.{bit_or}
+use Rattle.std.proofs.Math.Pow.{pow-lt}
+use Rattle.std.proofs.lemmas.Bool.{cases_eq, cases_lt, cases_Bool}
+use Rattle.std.proofs.lemmas.List.{append-nil, append_assoc}
+use Rattle.std.proofs.lemmas.List.Elements.{All-cons, All-nil}
+use Rattle.std.proofs.lemmas.Grind.{flat_map-append}
+use Rattle.std.proofs.lemmas.Nat.{or_lt}
+use Rattle.std.proofs.lemmas.Nat.Bits.{bit_at-zero, bit_at-lt, bit_at_or, bit_at-pow_same, bit_at-pow_other}
+use Rattle.machine.specs.ThreadSets.{bits_of, has, IsThread, set_of}
+use Rattle.machine.specs.declared.thread_set.ThreadSet.{ThreadSet}
+use Rattle.log_text.specs.Cuts.{IsDigit, NoDigit, NoNumber, Rises}
+use Rattle.log_text.specs.LogLines.{members, numbers_text}
+use Rattle.log_text.proofs.Digits.{digit_there}
+use Rattle.log_text.proofs.Members.{more, set_of_members}
+
+-- the last of rising threads is this, or there is none
+abbrev pub Ends : ℕ → List ℕ → ℕ → Type 0
+Ends low [] last = low ≡ last
+Ends low (t ∷ ts) last = Ends t ts last
+
+pub rises_more : (low last t : ℕ) (ts : List ℕ) → Rises low ts → Ends low ts last → last < t → t ≤ 64
+    → Rises low (ts ++ (t ∷ []))
+rises_more low last t [] rises ends less few = (omega (arith, ends, less), few, tt)
+rises_more low last t (u ∷ ts) rises ends less few = (rises.0, rises.1, rises_more u last t ts rises.2 ends less few)
+
+pub ends_more : (low t : ℕ) (ts : List ℕ) → Ends low (ts ++ (t ∷ [])) t
+ends_more low t [] = refl
+ends_more low t (u ∷ ts) = ends_more u t ts
+
+pub some_threads : (ts : List ℕ) (last : ℕ) → Ends 0 ts last → (last ≡ 0 → ⊥) → 0 < length ts
+some_threads [] last ends some = absurd (some (sym ends))
+some_threads (t ∷ ts) last ends some = omega arith
+
+pub rising_threads : (low : ℕ) (ts : List ℕ) → Rises low ts → All IsThread ts
+rising_threads low [] rises = All-nil IsThread
+rising_threads low (t ∷ ts) rises =
+    let above = rises.0 in
+    All-cons IsThread t ts (omega (arith, above), rises.1) (rising_threads t ts rises.2)
+
+pub bits_small : (low : ℕ) (ts : List ℕ) → Rises low ts → bits_of ts < 2 ^ 64
+bits_small low [] rises = omega arith
+bits_small low (t ∷ ts) rises =
+    let above = rises.0 in
+    let few = rises.1 in
+    or_lt 64 (2 ^ (t - 1)) (bits_of ts) (pow-lt {i = t - 1} {j = 64} (omega (arith, above, few))) (bits_small t ts rises.2)
+
+bits_low : (low i : ℕ) (ts : List ℕ) → Rises low ts → i < low → bit_at (bits_of ts) i ≡ 0
+bits_low low i [] rises less = bit_at-zero i
+bits_low low i (t ∷ ts) rises less =
+    let above = rises.0 in
+    let own : bit_at (2 ^ (t - 1)) i ≡ 0 =
+    bit_at-pow_other (t - 1) i (λ (e : i ≡ t - 1). absurd (omega (arith, e, above, less))) in
+    let rest : bit_at (bits_of ts) i ≡ 0 = bits_low t i ts rises.2 (omega (arith, above, less)) in
+    bit_at_or (2 ^ (t - 1)) (bits_of ts) i ∙ omega (arith, own, rest)
+
+bit_first : (t : ℕ) (ts : List ℕ) → bit_at (bits_of (t ∷ ts)) (t - 1) ≡ 1
+bit_first t ts =
+    let own = bit_at-pow_same (t - 1) in
+    let low = bit_at-lt (bits_of ts) (t - 1) in
+    bit_at_or (2 ^ (t - 1)) (bits_of ts) (t - 1) ∙ omega (arith, own, low)
+
+tail_same : (x : ℕ) (xs ys : List ℕ) → 0 < x → Rises x xs → Rises x ys
+    → ((i : ℕ) → bit_at (bits_of (x ∷ xs)) i ≡ bit_at (bits_of (x ∷ ys)) i) → (i : ℕ)
+    → bit_at (bits_of xs) i ≡ bit_at (bits_of ys) i
+tail_same x xs ys some p q same i = elim (cases_lt i x) [
+  | inl less ↦ bits_low x i xs p less ∙ sym (bits_low x i ys q less)
+  | inr past ↦
+      let own : bit_at (2 ^ (x - 1)) i ≡ 0 =
+      bit_at-pow_other (x - 1) i (λ (e : i ≡ x - 1). absurd (omega (arith, e, past, some))) in
+      let left = bit_at_or (2 ^ (x - 1)) (bits_of xs) i in
+      let right = bit_at_or (2 ^ (x - 1)) (bits_of ys) i in
+      let e : bit_at (bit_or (2 ^ (x - 1)) (bits_of xs)) i ≡ bit_at (bit_or (2 ^ (x - 1)) (bits_of ys)) i = same i in
+      omega (arith, own, left, right, e)
+]
+
+-- no two of them have the same bits
+apart : (x y : ℕ) (xs ys : List ℕ) → 0 < x → x < y → Rises x xs → y ≤ 64 → Rises y ys
+    → ((i : ℕ) → bit_at (bits_of (x ∷ xs)) i ≡ bit_at (bits_of (y ∷ ys)) i) → ⊥
+apart x y xs ys some less p few q same =
+    let one = bit_first x xs in
+    let none = bits_low x (x - 1) (y ∷ ys) (less, few, q) (omega (arith, some)) in
+    let e = same (x - 1) in
+    absurd (omega (arith, one, none, e))
+
+same_rising : (low : ℕ) (xs ys : List ℕ) → Rises low xs → Rises low ys
+    → ((i : ℕ) → bit_at (bits_of xs) i ≡ bit_at (bits_of ys) i) → xs ≡ ys
+same_rising low [] [] p q same = refl
+same_rising low [] (y ∷ ys) p q same =
+    let one = bit_first y ys in
+    let none = bit_at-zero (y - 1) in
+    let e = same (y - 1) in
+    absurd (omega (arith, one, none, e))
+same_rising low (x ∷ xs) [] p q same =
+    let one = bit_first x xs in
+    let none = bit_at-zero (x - 1) in
+    let e = same (x - 1) in
+    absurd (omega (arith, one, none, e))
+same_rising low (x ∷ xs) (y ∷ ys) p q same =
+    let above = p.0 in
+    let above' = q.0 in
+    let some : 0 < x = omega (arith, above) in
+    let some' : 0 < y = omega (arith, above') in
+    elim (cases_eq x y) [
+      | inl e ↦
+          let q' : Rises x ys = subst (λ (n : ℕ). Rises n ys) (sym e) q.2 in
+          let rest : xs ≡ ys = same_rising x xs ys p.2 q' (tail_same x xs ys some p.2 q'
+          (λ i. same i ∙ ap (λ (n : ℕ). bit_at (bits_of (n ∷ ys)) i) (sym e))) in
+          λ i. e i ∷ rest i
+      | inr other ↦ elim (cases_lt x y) [
+        | inl less ↦ absurd (apart x y xs ys some less p.2 q.1 q.2 same)
+        | inr past ↦ absurd (apart y x ys xs some' (omega (arith, other, past)) q.2 p.1 p.2 (λ i. sym (same i)))
+      ]
+    ]
+
+-- threads that rise to at most a number
+abbrev Row : ℕ → List ℕ → Type 0
+Row n ts = (last : ℕ) × (last ≤ n) × Rises 0 ts × Ends 0 ts last
+
+members_row : (set : ThreadSet) (n : ℕ) → n ≤ 64 → Row n (members set n)
+members_row set zero few = (0, omega arith, tt, refl)
+members_row set (suc n) few =
+    let before = members_row set n (omega (arith, few)) in
+    let within = before.1 in
+    elim (cases_Bool (has set (suc n))) [
+      | inl has_it ↦
+          subst (Row (suc n)) (sym (more set n true has_it)) (
+            suc n,
+            omega arith,
+            rises_more 0 before.0 (suc n) (members set n) before.2 before.3 (omega (arith, within)) few,
+            ends_more 0 (suc n) (members set n),
+          )
+      | inr lacks ↦
+          subst (Row (suc n)) (sym (more set n false lacks ∙ append-nil (members set n)))
+          (before.0, omega (arith, within), before.2, before.3)
+    ]
+
+pub members_rise : (set : ThreadSet) → Rises 0 (members set 64)
+members_rise set = (members_row set 64 (omega arith)).2
+
+pub members_of : (ts : List ℕ) → Rises 0 ts → members (set_of ts) 64 ≡ ts
+members_of ts rises =
+    let same : set_of (members (set_of ts) 64) ≡ set_of ts = set_of_members (set_of ts) (bits_small 0 ts rises) in
+    same_rising 0 (members (set_of ts) 64) ts (members_rise (set_of ts)) rises
+    (λ i. ap (λ (s : ThreadSet). bit_at s.bits i) same)
+
+-- what a space or a set begins by is no digit
+pub no_digit_space : (xs : List ℕ) → NoDigit (32 ∷ xs)
+no_digit_space xs d = let low = d.0 in absurd (omega (arith, low))
+
+pub no_digit : (xs : List ℕ) → NoNumber xs → NoDigit xs
+no_digit [] non = tt
+no_digit (x ∷ xs) non = non.0
+
+pub no_digit_numbers : (ns end : List ℕ) → NoNumber end → NoDigit (numbers_text ns ++ end)
+no_digit_numbers [] end non = no_digit end non
+no_digit_numbers (n ∷ ns) end non = no_digit_space (decimal n ++ numbers_text ns ++ end)
+
+pub not_there : (u : ℕ) (text after : List ℕ) → u < 2 ^ 32 → text ≡ 32 ∷ (decimal u ++ after) → NoNumber text → ⊥
+not_there u text after small is non =
+    let non' : NoNumber (32 ∷ (decimal u ++ after)) = subst NoNumber is non in
+    digit_there u (decimal u ++ after) after small (non'.1 refl) refl
+
+-- threads that were read, the last of them, and those that are still to come
+abbrev pub ReadsOn : List ℕ → List ℕ → ℕ → List ℕ → Type 0
+ReadsOn text read last rest =
+    (ts : List ℕ) (end : List ℕ) → Rises 0 ts → NoNumber end → text ≡ numbers_text ts ++ end
+    → (later : List ℕ) × (ts ≡ read ++ later) × (rest ≡ numbers_text later ++ end) × Rises last later
+
+pub reads_none : (text : List ℕ) → ReadsOn text [] 0 text
+reads_none text ts end rises none is = (ts, refl, is, rises)
+
+-- what a number behind a space gives
+abbrev pub GivesNumber : ℕ → List ℕ → List ℕ → Type 0
+GivesNumber t rest after =
+    (n : ℕ) (left : List ℕ) → n < 2 ^ 32 → NoDigit left → rest ≡ 32 ∷ (decimal n ++ left) → (t ≡ n) × (after ≡ left)
+
+module _ (text read rest after : List ℕ) (last t : ℕ) (next : GivesNumber t rest after) (small : t < 2 ^ 32)
+    (is : rest ≡ 32 ∷ (decimal t ++ after)) where
+  here : (u : ℕ) (later end : List ℕ) → NoNumber end → rest ≡ numbers_text (u ∷ later) ++ end → u ≤ 64
+      → (t ≡ u) × (after ≡ numbers_text later ++ end)
+  here u later end none more few =
+      next u (numbers_text later ++ end) (omega (arith, few)) (no_digit_numbers later end none)
+      (more ∙ append_assoc (32 ∷ decimal u) (numbers_text later) end)
+
+  goes_on : (ts end later : List ℕ) → NoNumber end → ts ≡ read ++ later → rest ≡ numbers_text later ++ end
+      → Rises last later → (later' : List ℕ) × (ts ≡ (read ++ (t ∷ [])) ++ later')
+      × (after ≡ numbers_text later' ++ end) × Rises t later'
+  goes_on ts end [] none sum more up = absurd (not_there t rest after small is (subst NoNumber (sym more) none))
+  goes_on ts end (u ∷ later) none sum more up =
+      let one = here u later end none more up.1 in (
+        later,
+        sum ∙ ap (λ (n : ℕ). read ++ (n ∷ later)) (sym one.0) ∙ sym (append_assoc read (t ∷ []) later),
+        one.1,
+        subst (λ (n : ℕ). Rises n later) (sym one.0) up.2,
+      )
+
+  pub reads_more : ReadsOn text read last rest → ReadsOn text (read ++ (t ∷ [])) t after
+  reads_more on ts end rises none whole =
+      let now = on ts end rises none whole in
+      goes_on ts end now.0 none now.1 now.2 now.3
+
+  falls : (ts end later : List ℕ) → (t ≤ last) ⊎ (64 < t) → NoNumber end → rest ≡ numbers_text later ++ end
+      → Rises last later → ⊥
+  falls ts end [] bad none more up = not_there t rest after small is (subst NoNumber (sym more) none)
+  falls ts end (u ∷ later) (inl low) none more up =
+      let one = (here u later end none more up.1).0 in
+      let above = up.0 in
+      absurd (omega (arith, one, above, low))
+  falls ts end (u ∷ later) (inr high) none more up =
+      let few = up.1 in
+      let one = (here u later end none more few).0 in
+      absurd (omega (arith, one, few, high))
+
+  -- a number that doesn't rise, or isn't a thread's
+  pub reads_not : (t ≤ last) ⊎ (64 < t) → ReadsOn text read last rest → (ts end : List ℕ) → Rises 0 ts → NoNumber end
+      → text ≡ numbers_text ts ++ end → ⊥
+  reads_not bad on ts end rises none whole =
+      let now = on ts end rises none whole in
+      falls ts end now.0 bad none now.2 now.3
+
+-- nothing is still to come where no number stands
+pub reads_all : (text read rest : List ℕ) (last : ℕ)
+    → ((n : ℕ) (left : List ℕ) → n < 2 ^ 32 → NoDigit left → rest ≡ 32 ∷ (decimal n ++ left) → ⊥)
+    → ReadsOn text read last rest → (ts end : List ℕ) → Rises 0 ts → NoNumber end → text ≡ numbers_text ts ++ end
+    → (ts ≡ read) × (rest ≡ end)
+reads_all text read rest last never on ts end rises none whole =
+    let now = on ts end rises none whole in by now.0 now.1 now.2 now.3
+  where
+    by : (later : List ℕ) → ts ≡ read ++ later → rest ≡ numbers_text later ++ end → Rises last later
+        → (ts ≡ read) × (rest ≡ end)
+    by [] sum more up = (sum ∙ append-nil read, more)
+    by (u ∷ later) sum more up =
+        let few = up.1 in
+        absurd (never u (numbers_text later ++ end) (omega (arith, few)) (no_digit_numbers later end none)
+        (more ∙ append_assoc (32 ∷ decimal u) (numbers_text later) end))
+
+-- one thread more, and the text behind it
+pub numbers_more : (text read read' rest after : List ℕ) (t : ℕ) → text ≡ numbers_text read ++ rest
+    → rest ≡ 32 ∷ (decimal t ++ after) → read' ≡ read ++ (t ∷ []) → text ≡ numbers_text read' ++ after
+numbers_more text read read' rest after t whole is grows =
+    let one : numbers_text read' ≡ numbers_text read ++ (32 ∷ decimal t) =
+    ap numbers_text grows ∙ flat_map-append (λ (n : ℕ). 32 ∷ decimal n) read (t ∷ [])
+    ∙ ap (λ (z : List ℕ). numbers_text read ++ z) (append-nil (32 ∷ decimal t)) in
+    whole ∙ ap (λ (z : List ℕ). numbers_text read ++ z) is
+    ∙ sym (append_assoc (numbers_text read) (32 ∷ decimal t) after) ∙ ap (λ (z : List ℕ). z ++ after) (sym one)
+
+pub shorter : (rest after : List ℕ) (t : ℕ) → rest ≡ 32 ∷ (decimal t ++ after) → length after < length rest
+shorter rest after t is =
+    let l : length rest ≡ length (32 ∷ (decimal t ++ after)) = ap length is in
+    let sum = length-append (decimal t) after in
+    omega (arith, l, sum)

@@ -1,0 +1,34 @@
+use Rattle.program.specs.Names.{said_by}
+use Rattle.mesamon.specs.SourceLog.{IsOfLog, IsRefusedLog}
+use Rattle.mesamon.specs.declared.source_log.SourceLogFault.TheVariants.{Memory}
+use Rattle.mesamon.proofs.RunsExplained.{of_code}
+use Rattle.mesamon.proofs.SourceLogs.{passes_on, reported, stopped}
+use Rattle.mesamon.proofs.source_log.explain_lines.Goals as goal
+
+pub returns-in_err-explained-clause-fault : goal.returns-in_err-explained-clause-fault
+returns-in_err-explained-clause-fault c =
+    let read = c.in_ok-checked.ensures.compiled in
+    passes_on c.from_residual-in_err-explained.result c.in_err-explained.field-0.0
+    (λ f. IsRefusedLog c.args.text.now c.args.lines.now f) c.from_residual-in_err-explained.ensures
+    (stopped c.args.text.now c.args.lines.now (said_by c.in_ok-checked.checked) c.in_ok-checked.lowered.image
+    c.in_ok-entries.entries.items _ read.accepts read.code.image c.in_ok-entries.ensures c.as_slice.ensures.value
+    c.in_err-explained.field-0.0 c.in_err-explained.ensures).0
+
+pub returns-in_err-report-clause-only : goal.returns-in_err-report-clause-only
+returns-in_err-report-clause-only c p accepts fits =
+    passes_on c.from_residual-in_err-report.result Memory IsOfLog c.from_residual-in_err-report.ensures tt
+
+pub returns-clause-explained : goal.returns-clause-explained
+returns-clause-explained c =
+    let p = said_by c.in_ok-checked.checked in
+    let read = c.in_ok-checked.ensures.compiled in
+    let e = c.in_ok-explained.ensures in
+    let report = c.in_ok-report.ensures in
+    record {
+      accepts = read.accepts;
+      entries = c.in_ok-entries.entries.items;
+      reads = c.in_ok-entries.ensures;
+      explained = of_code p c.in_ok-checked.lowered.image _ _ _ read.code.image c.as_slice.ensures.value e.explained;
+      report = reported p c.in_ok-checked.lowered.image _ _ c.in_ok-explained.explained.last c.in_ok-report.report
+          read.code.image c.as_slice.ensures.value e.last report.log report.last report.output report.verdict;
+    }

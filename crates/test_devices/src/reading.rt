@@ -1,0 +1,31 @@
+use crate::failure::Failure;
+use crate::faulty::{Faulty, Wrong};
+use devices::{Counted, read_source};
+
+/// Reads a text as a source from a reader of which each call in turn goes wrong, and prints what comes of it.
+pub fn show_reads<R: AllocGlobal + Print>(rt: &R, wrong: Wrong, text: &str) -> Result<(), Failure> {
+    for before in 0..text.len().saturating_add(2) {
+        show_read(rt, wrong, text, before)?;
+    }
+    Ok(())
+}
+
+fn show_read<R: AllocGlobal + Print>(
+    rt: &R,
+    wrong: Wrong,
+    text: &str,
+    before: usize,
+) -> Result<(), Failure> {
+    let device = Faulty::new(rt.alloc(), text.as_bytes(), Some(before), wrong)?;
+    let mut reader = Counted::new(device);
+    let outcome = read_source(rt.alloc(), &mut reader);
+    let failures = reader.failures();
+    match outcome {
+        Ok(bytes) => {
+            let bytes = String::from_utf8_lossy(rt.alloc(), bytes.as_slice())?;
+            println!(rt; "  {before}: read {bytes}, {failures} failed")?;
+        }
+        Err(fault) => println!(rt; "  {before}: {fault}, {failures} failed")?,
+    }
+    Ok(())
+}
