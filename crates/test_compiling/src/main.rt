@@ -72,18 +72,18 @@ fn take_row<R: AllocGlobal + Print + Threads + Wait + Sync>(
     }
 }
 
-// Has three workers compile a text again and again, and prints how often all three met at the gate.
+// Has three workers compile a text again and again, and prints whether all three met at the gate each time.
 fn show_meetings<R: AllocGlobal + Print + Threads + Wait + Sync>(
     rt: &R,
     text: &str,
 ) -> Result<(), Failure> {
-    let mut held = 0;
     for _ in 0..MEETINGS {
-        if meet(rt, text, 3, &Meeting::new(TURNS))? {
-            held += 1;
+        if !meet(rt, text, 3, &Meeting::new(TURNS))? {
+            println!(rt; "missed")?;
+            return Ok(());
         }
     }
-    println!(rt; "met {held} times")?;
+    println!(rt; "met {MEETINGS} times")?;
     Ok(())
 }
 
