@@ -13,11 +13,8 @@ use Rattle.machine.specs.declared.event.Entry.{Entry}
 use Rattle.machine.specs.States.{ConcreteState, thread_of, opening_concrete}
 use Rattle.machine.specs.ConcreteSteps.{put_thread, can_move}
 use Rattle.machine.specs.Views.{View, concrete}
-use Rattle.machine.specs.Runs.{Doing, is_own}
 use Rattle.machine.specs.ConcreteOutside.{stray_of}
 use Rattle.machine.specs.declared.event.StepFault.{StepFault}
-use Rattle.machine.proofs.Outside.{stray_told}
-use Rattle.runner.proofs.Scheduling.{own_entry}
 use Rattle.machine.proofs.Placing.{thread_at-put}
 use Rattle.runner.specs.declared.log_schedule.FollowLogFault.{FollowLogFault}
 use Rattle.runner.specs.declared.log_schedule.FollowLogFault.TheVariants.{BadEntry}
@@ -26,17 +23,12 @@ use Rattle.runner.specs.LogSchedules.{Shape, shape_of, FollowsLog, IsFollowedLog
 use Rattle.runner.specs.Logs.{Runs, Enters, EntersOwn, EntersOutside, Ends, cost, event_cost, is_outside}
 use Rattle.runner.specs.Reports.{IsVerdict}
 use Rattle.runner.proofs.Going.{runs_more}
+use Rattle.runner.proofs.Owning.{own_entry, tells_outside}
 use Rattle.runner.proofs.Growing.{entry}
 use Rattle.runner.proofs.Once.{here_once, never_local}
 
 true_or_false : (b : Bool) → b ≡ true → b ≡ false → ⊥
 true_or_false b is isn't = absurd cc
-
--- an entry from outside tells so
-pub tells_outside : (k k' : ConcreteState) (e : Entry) → EntersOutside k e k' → is_outside e.event ≡ true
-tells_outside k k' e outside =
-    ap is_outside outside.is
-    ∙ ap (λ (d : Doing). not (is_own d)) (stray_told k k' e.thread outside.event outside.gives)
 
 -- an entry of a shape that isn't from outside is its thread's own
 own_of : (p : Program) (k k' : ConcreteState) (e : Entry) (shape : Shape) → shape_of e ≡ shape → shape.stray ≡ false

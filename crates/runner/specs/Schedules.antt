@@ -1,5 +1,5 @@
 -- What comes of a schedule: a step of a thread or a wake from outside, and an entry of the log, for each of its turns.
-use Rattle.std.specs.Prelude.{ℕ, ◌≡◌, ◌≢◌, ◌+◌, ◌<◌, ◌≤◌, ◌^◌, ◌⊎◌, true, false, cond, List, length, map, take, slice_get}
+use Rattle.std.specs.Prelude.{ℕ, ◌≡◌, ◌+◌, ◌<◌, ◌≤◌, ◌^◌, ◌⊎◌, true, false, cond, List, length, map, take, slice_get}
 use Rattle.std.specs.Prelude.{Some, None, Err}
 use Rattle.std.specs.List.{All}
 use Rattle.isa.specs.Programs.{Program}
@@ -44,11 +44,6 @@ pub record ComesTo (p : Program) (schedule : List Turn) (before : ℕ) (k : Conc
   pub follows : Follows p (take before schedule) log k
   pub few : before < 2 ^ 32
   pub names : slice_get schedule before ≡ Some turn
-
--- there is such a turn there: its thread can move, or sleeps
-abbrev pub AllowsTurn : ConcreteState → Turn → Type 0
-AllowsTurn k (Step t) = can_move k t ≡ true
-AllowsTurn k (Stray t) = (state_of k).asleep t ≢ None
 
 -- there is no such turn there: its thread can't move, or doesn't sleep
 abbrev pub RefusesTurn : ConcreteState → Turn → Type 0

@@ -72,9 +72,12 @@ fn make_drawn<J: RunName>(
     ensures err { IfErr result (λ fault. CanFail J.program J.strays J.limit fault) }
 {
     match drawn {
-        Drawn::Mover(t) => make_entry(shared, refused, image, share, &OpenGate, t).map(|_| ()),
-        Drawn::Sleeper(t) => shared.stray(t, share),
+        Drawn::Mover(t) => {
+            make_entry(shared, refused, image, share, &OpenGate, t)?;
+        }
+        Drawn::Sleeper(t) => shared.stray(t, share)?,
     }
+    Ok(())
 }
 
 // Draws the next entry: where a wake from outside is due, that of a thread that sleeps; else that of a thread that can

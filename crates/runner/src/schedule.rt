@@ -1,11 +1,11 @@
-ghost use Rattle.std.specs.Prelude.{◌≡◌, ◌≢◌, ◌<◌, ◌≤◌, ◌^◌, true, None, IfOk, IfErr, OnErr, Err, MatchBool};
+ghost use Rattle.std.specs.Prelude.{◌≡◌, ◌<◌, ◌≤◌, ◌^◌, true, IfOk, IfErr, OnErr, Err};
 ghost use Rattle.machine.specs.declared.event.StepFault.TheVariants.{Broken};
-ghost use Rattle.machine.specs.States.{state_of};
 ghost use Rattle.machine.specs.ConcreteSteps.{step_of, can_move};
 ghost use Rattle.machine.specs.Views.{concrete};
-ghost use Rattle.runner.specs.Logs.{Enters, EntersOutside, EntersOwn};
+ghost use Rattle.runner.specs.Logs.{Enters, EntersOwn};
 ghost use Rattle.runner.specs.declared.schedule.ScheduleFault.TheVariants.{Memory};
-ghost use Rattle.runner.specs.Schedules.{AllowsTurn, FailsAt, IsFollowed, IsOneStep, RefusesSchedule, RefusesTurn, turn_of};
+ghost use Rattle.runner.specs.declared.schedule.Turn.TheVariants.{Step, Stray};
+ghost use Rattle.runner.specs.Schedules.{FailsAt, IsFollowed, IsOneStep, RefusesSchedule, turn_of};
 
 use crate::entering::wake_from_outside;
 use crate::report::{Report, report_of};
@@ -77,41 +77,50 @@ fn take_turn(machine: &mut Machine, number: u64, turn: Turn) -> Result<Entry, Sc
         (λ fault. RefusesSchedule machine.old.program (concrete machine.old) number turn fault) }
     ensures program { machine.new.program ≡ machine.old.program }
 {
-    if number > u64::from(u32::MAX) || !allows(machine, turn) {
+    if number > u64::from(u32::MAX) {
         return Err(ScheduleFault::BadEntry(number));
     }
     match turn {
-        Turn::Step(t) => {
-            machine.make_room(1)?;
-            take_step(machine, t).map_err(|_| ScheduleFault::Broken(number))
-        }
-        Turn::Stray(t) => Ok(take_stray(machine, t)),
+        Turn::Step(t) => take_own(machine, number, t),
+        Turn::Stray(t) => take_stray(machine, number, t),
     }
 }
 
-// Whether there is such a turn: its thread can move, or sleeps.
-fn allows(machine: &Machine, turn: Turn) -> bool
-    ensures { MatchBool result (AllowsTurn (concrete machine.now) turn)
-        (RefusesTurn (concrete machine.now) turn) }
-{
-    match turn {
-        Turn::Step(t) => machine.can_move(t),
-        Turn::Stray(t) => machine.asleep(t).is_some(),
-    }
-}
-
-// Wakes thread `t`, which sleeps, from outside, as an entry of its own.
-fn take_stray(machine: &mut Machine, t: u32) -> Entry
-    requires sleeps { (state_of (concrete machine.old)).asleep t ≢ None }
-    ensures enters { EntersOutside (concrete machine.old) result (concrete machine.new) }
-    ensures thread { result.thread ≡ t }
+// Takes a step of thread `t`, if it can move.
+fn take_own(machine: &mut Machine, number: u64, t: u32) -> Result<Entry, ScheduleFault>
+    requires few { number < 2 ^ 32 }
+    ensures ok { IfOk result
+        (λ e. Enters machine.old.program (concrete machine.old) e (concrete machine.new)
+        × (turn_of e ≡ Step t) × IsOneStep e) }
+    ensures err { IfErr result
+        (λ fault. RefusesSchedule machine.old.program (concrete machine.old) number (Step t) fault) }
     ensures program { machine.new.program ≡ machine.old.program }
 {
-    Entry {
+    if !machine.can_move(t) {
+        return Err(ScheduleFault::BadEntry(number));
+    }
+    machine.make_room(1)?;
+    take_step(machine, t).map_err(|_| ScheduleFault::Broken(number))
+}
+
+// Wakes thread `t` from outside, if it sleeps.
+fn take_stray(machine: &mut Machine, number: u64, t: u32) -> Result<Entry, ScheduleFault>
+    ensures ok { IfOk result
+        (λ e. Enters machine.old.program (concrete machine.old) e (concrete machine.new)
+        × (turn_of e ≡ Stray t) × IsOneStep e) }
+    ensures err { IfErr result
+        (λ fault. RefusesSchedule machine.old.program (concrete machine.old) number (Stray t) fault) }
+    ensures program { machine.new.program ≡ machine.old.program }
+{
+    if machine.asleep(t).is_none() {
+        return Err(ScheduleFault::BadEntry(number));
+    }
+    let event = wake_from_outside(machine, t);
+    Ok(Entry {
         thread: t,
         local: 0,
-        event: Some(wake_from_outside(machine, t)),
-    }
+        event: Some(event),
+    })
 }
 
 // Takes a step of thread `t`, which is an entry of its own. It is refused where the step may not be.

@@ -5,7 +5,7 @@ use Rattle.runner.specs.LogSchedules.{shape_of}
 use Rattle.runner.specs.Logs.{EntersOwn, is_outside}
 use Rattle.runner.proofs.Growing.{entry}
 use Rattle.runner.proofs.Once.{still_made}
-use Rattle.runner.proofs.Scheduling.{own_entry}
+use Rattle.runner.proofs.Owning.{own_entry}
 use Rattle.runner.proofs.Turning.{no_mover, no_shared, takes_shared, too_few}
 use Rattle.runner.proofs.log_schedule.take_turn.Goals as goal
 
