@@ -1,6 +1,6 @@
 -- What comes of an entry that was drawn: a run of such entries comes to its end.
 use Rattle.std.proofs.Common.{◌≡◌, ◌≤◌, ◌<◌, ◌+◌, ◌-◌, ◌++◌, ℕ, zero, suc, Bool, true, false, List, [], ◌∷◌}
-use Rattle.std.proofs.Common.{Some, slice_get, slice_set, refl, ap, arith, ◌∙◌}
+use Rattle.std.proofs.Common.{Some, Result, Ok, Err, OnOk, IfErr, slice_get, slice_set, refl, ap, arith, ◌∙◌}
 use Rattle.isa.specs.Programs.{Program}
 use Rattle.runner.specs.declared.fault.RunFault.{RunFault}
 use Rattle.runner.specs.declared.fault.RunFault.TheVariants.{Stray, CannotMove, Broken, Limit, Memory}
@@ -46,12 +46,23 @@ wake_ends limit old new t n takes =
     let within = takes.within in
     omega (arith, more, within)
 
--- where a thread sleeps and the limit leaves room, its wake is refused for want of memory alone
-pub wake_fails : (p : Program) (strays : Bool) (limit : ℕ) (h : LogState) (t : ℕ) (fault : RunFault)
+-- what comes of a thing that was done comes of it where it was done
+pub if_made : {T E P Q : Type 0} → (r : Result T E) → (P → Q) → OnOk r P → OnOk r Q
+if_made (Ok x) so h = so h
+if_made (Err e) so h = h
+
+fails_by : (p : Program) (strays : Bool) (limit : ℕ) (h : LogState) (t : ℕ) (fault : RunFault)
     → IsAsleep h.concrete t → cost h.log < limit → RefusesOutside limit h t fault → CanFail p strays limit fault
-wake_fails p strays limit h t Stray sleeps room refuses = refuses
-wake_fails p strays limit h t CannotMove sleeps room refuses = absurd (sleeps refuses)
-wake_fails p strays limit h t Broken sleeps room refuses = absurd refuses
-wake_fails p strays limit h t Limit sleeps room refuses =
+fails_by p strays limit h t Stray sleeps room refuses = refuses
+fails_by p strays limit h t CannotMove sleeps room refuses = absurd (sleeps refuses)
+fails_by p strays limit h t Broken sleeps room refuses = absurd refuses
+fails_by p strays limit h t Limit sleeps room refuses =
     let full = refuses.1 in absurd (omega (arith, full, room))
-wake_fails p strays limit h t Memory sleeps room refuses = tt
+fails_by p strays limit h t Memory sleeps room refuses = tt
+
+-- where a thread sleeps and the limit leaves room, its wake is refused for want of memory alone
+pub wake_fails : {T A B : Type 0} → (p : Program) (strays : Bool) (limit : ℕ) (h : LogState) (t : ℕ)
+    (r : Result T RunFault) → IsAsleep h.concrete t → cost h.log < limit
+    → IfErr r (λ fault. A × B × RefusesOutside limit h t fault) → IfErr r (λ fault. CanFail p strays limit fault)
+wake_fails p strays limit h t (Ok x) sleeps room refuses = refuses
+wake_fails p strays limit h t (Err fault) sleeps room refuses = fails_by p strays limit h t fault sleeps room refuses.2

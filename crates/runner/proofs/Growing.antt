@@ -73,8 +73,8 @@ pub same_event : (r : Result (ConcreteState × Option Event) StepFault) (k k' : 
     → r ≡ Ok (k, e) → r ≡ Ok (k', e') → e ≡ e'
 same_event r k k' e e' a b = ap (λ (q : ConcreteState × Option Event). q.1) (inside _ _ (sym a ∙ b))
 
-pub keeps : (p : Program) (strays : Bool) (q q' : Program) (limit : ℕ) (h : LogState) (log : List Entry) (new : ConcreteState) (a : PieceView)
-    (t steps limited extra : ℕ) (event : Option Event)
+pub keeps : (p : Program) (strays : Bool) (q q' : Program) (limit : ℕ) (h : LogState) (log : List Entry)
+    (new : ConcreteState) (a : PieceView) (t steps limited extra : ℕ) (event : Option Event)
     → q' ≡ q → IsLegal p strays limit q h.concrete h.log steps limited
     → local_after p a.thread a.count a.origin ≡ Some a.here
     → IsFine p limit h t a → entry_end q h.concrete t a.here ≡ Ok (new, event)
@@ -106,8 +106,8 @@ cost_small None = omega arith
 cost_small (Some e) = omega arith
 
 -- an entry is one more of a legal log, where the limit leaves room for any
-pub keeps_entry : (p : Program) (strays : Bool) (q q' q'' : Program) (limit : ℕ) (k k' new : ConcreteState) (log log' log'' : List Entry)
-    (e : Entry) (steps limited extra : ℕ)
+pub keeps_entry : (p : Program) (strays : Bool) (q q' q'' : Program) (limit : ℕ) (k k' new : ConcreteState)
+    (log log' log'' : List Entry) (e : Entry) (steps limited extra : ℕ)
     → IsLegal p strays limit q k log steps limited → cost log + 257 ≤ limit → q' ≡ q → k' ≡ k → log' ≡ log
     → q'' ≡ q' → EntersOwn q' k' e new → e.local ≤ 256 → log'' ≡ log' ++ e ∷ [] → extra ≡ bool_byte (is_some e.event)
     → IsLegal p strays limit q'' new log'' (steps + (e.local + extra)) limited

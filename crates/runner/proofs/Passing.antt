@@ -159,7 +159,8 @@ fine_went go (Ok r) h = fine_ok r
 fine_went go (Err fault) h = absurd cc
 
 fault_stays : (made made' t : ℕ) (c d : Common) (l : Look) → length c.words ≡ length d.words
-    → (made ≡ c.most → made' ≡ d.most) → None ≡ fault_of (thread_step made t c l) → None ≡ fault_of (thread_step made' t d l)
+    → (made ≡ c.most → made' ≡ d.most) → None ≡ fault_of (thread_step made t c l)
+    → None ≡ fault_of (thread_step made' t d l)
 fault_stays made made' t c d (Goes x) e full h = refl
 fault_stays made made' t c d (Asks request go) e full h =
     went_fine go (serve made' t request d)

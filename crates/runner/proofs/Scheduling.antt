@@ -1,6 +1,6 @@
 -- Steps that are taken one by one, each an entry of its own.
 use Rattle.std.proofs.Common.{◌≡◌, ℕ, ◌+◌, ◌<◌, ◌≤◌, ◌^◌, List, [], ◌∷◌, ◌++◌, map, take, length}
-use Rattle.std.proofs.Common.{Bool, true, false, is_ok, is_err, if◌then◌else◌, Some, Result, Ok, Err}
+use Rattle.std.proofs.Common.{Bool, true, false, is_ok, is_err, if◌then◌else◌, Some, Result, Ok, Err, IfOk, IfErr}
 use Rattle.std.proofs.Common.{refl, ap, sym, ◌∙◌, subst, arith, get_or, inl, inr, cond}
 use Rattle.std.specs.List.{All}
 use Rattle.std.proofs.lemmas.List.{take_more, take_all, map-append}
@@ -37,17 +37,35 @@ pub pushed : {A E : Type 0} (r : Result A E) (b : Bool) (new old : List Entry) (
 pushed (Ok x) b new old e is ended items = items
 pushed (Err x) b new old e is ended items = absurd cc
 
--- the turn of an entry, and what it has
-pub own_turn : (p : Program) (k k' : ConcreteState) (e : Entry) (t : ℕ) → EntersOwn p k e k' → e.thread ≡ t
+-- the turn that an entry was
+own_turn : (p : Program) (k k' : ConcreteState) (e : Entry) (t : ℕ) → EntersOwn p k e k' → e.thread ≡ t
     → turn_of e ≡ Step t
 own_turn p k k' e t enters is = λ i. cond (own_entry p k k' e enters i) (Stray (is i)) (Step (is i))
 
-pub outside_turn : (k k' : ConcreteState) (e : Entry) (t : ℕ) → EntersOutside k e k' → e.thread ≡ t
+outside_turn : (k k' : ConcreteState) (e : Entry) (t : ℕ) → EntersOutside k e k' → e.thread ≡ t
     → turn_of e ≡ Stray t
 outside_turn k k' e t outside is = λ i. cond (tells_outside k k' e outside i) (Stray (is i)) (Step (is i))
 
-pub outside_single : (k k' : ConcreteState) (e : Entry) → EntersOutside k e k' → IsOneStep e
-outside_single k k' e outside = omega (arith, outside.alone, ap event_cost outside.is)
+-- what was taken is an entry of this turn
+pub own_taken : (p : Program) (k k' : ConcreteState) (number t : ℕ) (turn : Turn) (r : Result Entry ScheduleFault)
+    → turn ≡ Step t → number < 2 ^ 32 → IfOk r (λ e. EntersOwn p k e k' × (e.thread ≡ t) × IsOneStep e)
+    → IfOk r (λ e. Enters p k e k' × (turn_of e ≡ turn) × IsOneStep e × (number < 2 ^ 32))
+own_taken p k k' number t turn (Ok e) is few h = (inl h.0, own_turn p k k' e t h.0 h.1 ∙ sym is, h.2, few)
+own_taken p k k' number t turn (Err f) is few h = h
+
+pub outside_taken : (p : Program) (k k' : ConcreteState) (number t : ℕ) (turn : Turn) (r : Result Entry ScheduleFault)
+    → turn ≡ Stray t → number < 2 ^ 32 → IfOk r (λ e. EntersOutside k e k' × (e.thread ≡ t))
+    → IfOk r (λ e. Enters p k e k' × (turn_of e ≡ turn) × IsOneStep e × (number < 2 ^ 32))
+outside_taken p k k' number t turn (Ok e) is few h =
+    (inr h.0, outside_turn k k' e t h.0 h.1 ∙ sym is, omega (arith, h.0.alone, ap event_cost h.0.is), few)
+outside_taken p k k' number t turn (Err f) is few h = h
+
+-- the turn is refused as the one that it is
+pub refused_so : (p : Program) (k : ConcreteState) (number : ℕ) (turn other : Turn) (r : Result Entry ScheduleFault)
+    → turn ≡ other → IfErr r (λ fault. RefusesSchedule p k number other fault)
+    → IfErr r (λ fault. RefusesSchedule p k number turn fault)
+refused_so p k number turn other r is h =
+    subst (λ (x : Turn). IfErr r (λ fault. RefusesSchedule p k number x fault)) (sym is) h
 
 -- one entry more
 pub follows_more : (p q : Program) (schedule : List Turn) (i : ℕ) (d turn : Turn) (log log' : List Entry)

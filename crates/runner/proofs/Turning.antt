@@ -1,6 +1,6 @@
 -- Entries that are taken by the threads and counts of others, and those that can't be.
-use Rattle.std.proofs.Common.{◌≡◌, ℕ, ◌+◌, ◌<◌, ◌≤◌, ◌^◌, ◌⊎◌, List, [], ◌∷◌, ◌++◌, map, take, length, Bool, true, false}
-use Rattle.std.proofs.Common.{Option, Some, None, is_some, Result, Ok, Err, is_ok, is_err, get_or, not, refl, ap, sym}
+use Rattle.std.proofs.Common.{◌≡◌, ℕ, ◌+◌, ◌<◌, ◌≤◌, ◌^◌, ◌⊎◌, List, [], ◌∷◌, ◌++◌, map, take, length, Bool, true}
+use Rattle.std.proofs.Common.{false, Option, Some, None, is_some, Result, Ok, Err, is_ok, is_err, get_or, not, refl, ap, sym}
 use Rattle.std.proofs.Common.{◌∙◌, subst, arith, inl, inr}
 use Rattle.std.proofs.lemmas.List.{take_more, take_all, map-append}
 use Rattle.std.proofs.lemmas.List.Sums.{sum_by-append}
@@ -62,8 +62,9 @@ no_outside p k shape foreign (inr refused) e k' is (inr outside) =
     done_or_not x f h = cc
 
 -- fewer local steps
-pub too_few : (p : Program) (k : ConcreteState) (shape : Shape) (m : ℕ) (o h : Thread) → thread_of k shape.thread ≡ Some o
-    → local_after p shape.thread m o ≡ Some h → local_step p shape.thread h ≡ None → m < shape.local → CannotTake p k shape
+pub too_few : (p : Program) (k : ConcreteState) (shape : Shape) (m : ℕ) (o h : Thread)
+    → thread_of k shape.thread ≡ Some o → local_after p shape.thread m o ≡ Some h
+    → local_step p shape.thread h ≡ None → m < shape.local → CannotTake p k shape
 too_few p k shape m o h stands goes none less e k' is enters =
     let t : e.thread ≡ shape.thread = ap (λ (s : Shape). s.thread) is in
     let n : e.local ≡ shape.local = ap (λ (s : Shape). s.local) is in
@@ -73,8 +74,8 @@ too_few p k shape m o h stands goes none less e k' is enters =
 -- no shared step behind the local ones
 pub no_shared : (p q : Program) (k mid : ConcreteState) (shape : Shape) (o h : Thread)
     → shape.stray ≡ false
-    → thread_of k shape.thread ≡ Some o → local_after p shape.thread shape.local o ≡ Some h → shape.shared ≡ true → q ≡ p
-    → mid ≡ put_thread k shape.thread h
+    → thread_of k shape.thread ≡ Some o → local_after p shape.thread shape.local o ≡ Some h → shape.shared ≡ true
+    → q ≡ p → mid ≡ put_thread k shape.thread h
     → ((here : Thread) (event : Event) (k' : ConcreteState) → thread_of mid shape.thread ≡ Some here
     → Ends q mid shape.thread here (Some event) k' → ⊥)
     → CannotTake p k shape
@@ -148,7 +149,8 @@ pub shapes_more : (p q : Program) (entries : List Entry) (i : ℕ) (d f : Entry)
     (k k' : ConcreteState) (e : Entry) → i < length entries → get_or entries i d ≡ f → q ≡ p
     → FollowsLog p (map shape_of (take i entries)) log k → Enters q k e k' → shape_of e ≡ shape_of f
     → log' ≡ log ++ e ∷ [] → cost log + (f.local + event_cost f.event) < 2 ^ 32
-    → FollowsLog p (map shape_of (take (i + 1) entries)) log' k' × (cost log' ≡ cost log + (f.local + event_cost f.event))
+    → FollowsLog p (map shape_of (take (i + 1) entries)) log' k'
+    × (cost log' ≡ cost log + (f.local + event_cost f.event))
 shapes_more p q entries i d f log log' k k' e inside names own follows enters is grows few =
     let entered : Enters p k e k' = subst (λ (z : Program). Enters z k e k') own enters in
     let next : take (i + 1) entries ≡ take i entries ++ f ∷ [] =

@@ -52,8 +52,8 @@ pub fn run_drawn<J: RunName>(
     Ok(())
 }
 
-// Makes the entry that was drawn, if the limit allows it. A thread whose entry would pass the limit is refused from then
-// on.
+// Makes the entry that was drawn, if the limit allows it. A thread whose entry would pass the limit is refused from
+// then on.
 fn make_drawn<J: RunName>(
     shared: &mut Shared<J>,
     refused: &mut [bool],
@@ -74,10 +74,10 @@ fn make_drawn<J: RunName>(
     match drawn {
         Drawn::Mover(t) => {
             make_entry(shared, refused, image, share, &OpenGate, t)?;
+            Ok(())
         }
-        Drawn::Sleeper(t) => shared.stray(t, share)?,
+        Drawn::Sleeper(t) => shared.stray(t, share),
     }
-    Ok(())
 }
 
 // Draws the next entry: where a wake from outside is due, that of a thread that sleeps; else that of a thread that can

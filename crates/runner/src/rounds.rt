@@ -76,8 +76,8 @@ fn run_round<J: RunName, G: Gate>(
     Ok(made)
 }
 
-/// Makes the next entry of thread `t`, if it can move and wasn't refused before. Says whether it did. A thread whose entry
-/// would pass the limit is refused from then on.
+/// Makes the next entry of thread `t`, if it can move and wasn't refused before. Says whether it did. A thread whose
+/// entry would pass the limit is refused from then on.
 pub(crate) fn make_entry<J: RunName, G: Gate>(
     shared: &mut Shared<J>,
     refused: &mut [bool],

@@ -2,7 +2,7 @@ ghost use Rattle.std.specs.Prelude.{◌≡◌, ◌<◌, ◌≤◌, ◌^◌, true
 ghost use Rattle.machine.specs.declared.event.StepFault.TheVariants.{Broken};
 ghost use Rattle.machine.specs.ConcreteSteps.{step_of, can_move};
 ghost use Rattle.machine.specs.Views.{concrete};
-ghost use Rattle.runner.specs.Logs.{Enters, EntersOwn};
+ghost use Rattle.runner.specs.Logs.{Enters, EntersOutside, EntersOwn};
 ghost use Rattle.runner.specs.declared.schedule.ScheduleFault.TheVariants.{Memory};
 ghost use Rattle.runner.specs.declared.schedule.Turn.TheVariants.{Step, Stray};
 ghost use Rattle.runner.specs.Schedules.{FailsAt, IsFollowed, IsOneStep, RefusesSchedule, turn_of};
@@ -90,8 +90,8 @@ fn take_turn(machine: &mut Machine, number: u64, turn: Turn) -> Result<Entry, Sc
 fn take_own(machine: &mut Machine, number: u64, t: u32) -> Result<Entry, ScheduleFault>
     requires few { number < 2 ^ 32 }
     ensures ok { IfOk result
-        (λ e. Enters machine.old.program (concrete machine.old) e (concrete machine.new)
-        × (turn_of e ≡ Step t) × IsOneStep e) }
+        (λ e. EntersOwn machine.old.program (concrete machine.old) e (concrete machine.new)
+        × (e.thread ≡ t) × IsOneStep e) }
     ensures err { IfErr result
         (λ fault. RefusesSchedule machine.old.program (concrete machine.old) number (Step t) fault) }
     ensures program { machine.new.program ≡ machine.old.program }
@@ -106,8 +106,7 @@ fn take_own(machine: &mut Machine, number: u64, t: u32) -> Result<Entry, Schedul
 // Wakes thread `t` from outside, if it sleeps.
 fn take_stray(machine: &mut Machine, number: u64, t: u32) -> Result<Entry, ScheduleFault>
     ensures ok { IfOk result
-        (λ e. Enters machine.old.program (concrete machine.old) e (concrete machine.new)
-        × (turn_of e ≡ Stray t) × IsOneStep e) }
+        (λ e. EntersOutside (concrete machine.old) e (concrete machine.new) × (e.thread ≡ t)) }
     ensures err { IfErr result
         (λ fault. RefusesSchedule machine.old.program (concrete machine.old) number (Stray t) fault) }
     ensures program { machine.new.program ≡ machine.old.program }

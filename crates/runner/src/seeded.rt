@@ -17,10 +17,10 @@ use std::sync::ledger::Blank;
 /// Runs an image on the calling thread, within a limit of steps, from 0 to 2^32 - 1, in an order that follows from a
 /// seed.
 ///
-/// Before each entry it draws the thread that makes it among those that can move: of those, by rising number, the one at
-/// the place, from 0, that SplitMix64's next number has modulo how many there are. One whose entry would pass the limit
-/// is passed over from then on, and then it draws anew. The run ends where there is no thread to be drawn. So the same
-/// seed gives the same log, on each machine.
+/// Before each entry it draws the thread that makes it among those that can move: of those, by rising number, the one
+/// at the place, from 0, that SplitMix64's next number has modulo how many there are. One whose entry would pass the
+/// limit is passed over from then on, and then it draws anew. The run ends where there is no thread to be drawn. So the
+/// same seed gives the same log, on each machine.
 ///
 /// Where `strays` is `Some(n)` with n from 1, some entries are wakes from outside, of a thread that sleeps. Each time
 /// that there is a thread to be drawn, the generator's next number comes first. Where that is a multiple of n, some

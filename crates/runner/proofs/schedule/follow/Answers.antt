@@ -12,8 +12,8 @@ returns-in_err-entry-clause-err c =
     let few : l.turn-index < 2 ^ 32 = omega (arith, l.invariant.number, l.invariant.few) in
     let next : l.number + 1 ≡ l.turn-index + 1 = omega (arith, l.invariant.number) in
     rw (p.1, p.2) (fails_at c.args.image.now l.machine.program c.args.schedule.now l.turn-index (l.number + 1)
-    (Step 0) _ l.log.items (concrete l.machine) _ c.loop-turn-test.true refl few next l.invariant.program l.invariant.follows
-    c.in_err-entry.ensures.err)
+    (Step 0) _ l.log.items (concrete l.machine) _ c.loop-turn-test.true refl few next l.invariant.program
+    l.invariant.follows c.in_err-entry.ensures.err)
 
 pub loop-turn-preserved : goal.loop-turn-preserved
 loop-turn-preserved c =
