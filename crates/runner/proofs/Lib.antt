@@ -1,6 +1,7 @@
 pub mod Going
 pub mod Handing
 pub mod Beside
+pub mod Owning
 pub mod Growing
 pub mod Unrolling
 pub mod OneByOne
