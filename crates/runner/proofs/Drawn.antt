@@ -61,8 +61,8 @@ fails_by p strays limit h t Limit sleeps room refuses =
 fails_by p strays limit h t Memory sleeps room refuses = tt
 
 -- where a thread sleeps and the limit leaves room, its wake is refused for want of memory alone
-pub wake_fails : {T A B : Type 0} → (p : Program) (strays : Bool) (limit : ℕ) (h : LogState) (t : ℕ)
+pub wake_fails : {T : Type 0} → (A B : Type 0) (p : Program) (strays : Bool) (limit : ℕ) (h : LogState) (t : ℕ)
     (r : Result T RunFault) → IsAsleep h.concrete t → cost h.log < limit
     → IfErr r (λ fault. A × B × RefusesOutside limit h t fault) → IfErr r (λ fault. CanFail p strays limit fault)
-wake_fails p strays limit h t (Ok x) sleeps room refuses = refuses
-wake_fails p strays limit h t (Err fault) sleeps room refuses = fails_by p strays limit h t fault sleeps room refuses.2
+wake_fails A B p strays limit h t (Ok x) sleeps room refuses = refuses
+wake_fails A B p strays limit h t (Err fault) sleeps room refuses = fails_by p strays limit h t fault sleeps room refuses.2

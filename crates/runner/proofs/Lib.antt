@@ -12,4 +12,5 @@ pub mod Scheduling
 pub mod Locally
 pub mod Once
 pub mod Drawn
+pub mod Reporting
 pub mod Turning

@@ -40,7 +40,14 @@ pub fn run_by_seed(
     ensures ok { IfOk result (λ report. IsReport image.now (is_some strays) limit report) }
     ensures err { IfErr result (λ fault. CanFail image.now (is_some strays) limit fault) }
 {
-    run_as::<Brand>(alloc, image, limit, Blank::new(u64::from(PARTS)), seed, strays)
+    run_as::<Brand>(
+        alloc,
+        image,
+        limit,
+        Blank::new(u64::from(PARTS)),
+        seed,
+        strays,
+    )
 }
 
 fn run_as<J: RunName>(

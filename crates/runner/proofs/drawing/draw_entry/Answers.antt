@@ -5,12 +5,12 @@ use Rattle.machine.specs.Views.{concrete}
 use Rattle.runner.specs.Rounds.{IsDrawn}
 use Rattle.runner.proofs.drawing.draw_entry.Goals as goal
 
-pub returns-then-Some-clause-drawn : goal.returns-then-Some-clause-drawn
-returns-then-Some-clause-drawn g c =
+pub returns-in-Some-clause-drawn : goal.returns-in-Some-clause-drawn
+returns-in-Some-clause-drawn g c =
     let e = c.in-Some.ensures in (sym c.requires.strays ∙ e.0, e.1, e.2)
 
 pub returns-clause-drawn : goal.returns-clause-drawn
 returns-clause-drawn g c =
     subst (λ (k : ConcreteState). IsDrawn k c.args.refused.now c.pick.result) c.machine.ensures.concrete
-    (All-contains (IsDrawn (concrete c.machine.result.now) c.args.refused.now) c.movers.result.items c.pick.result
-    c.movers.ensures.drawn c.pick.ensures)
+    (All-contains (IsDrawn (concrete c.machine.result.now) c.args.refused.now) c.movers-movers.result.items
+    c.pick.result c.movers-movers.ensures.drawn c.pick.ensures)

@@ -14,10 +14,10 @@ make_entry-requires-clause-thread g c =
     (Mover c.in-Mover.t) =
     subst (λ (d : Drawn). MayBeDrawn g.J.RunName.strays g.J.RunName.limit (log_state c.args.shared.now)
     c.args.refused.now d) c.in-Mover.is c.requires.drawn in
-    (drawn.1, drawn.2)
+    λ lifetimes within. (drawn.1, drawn.2)
 
-pub returns-in-Mover-clause-less : goal.returns-in-Mover-clause-less
-returns-in-Mover-clause-less g c =
+pub returns-in_ok-make_entry-in-Mover-clause-less : goal.returns-in_ok-make_entry-in-Mover-clause-less
+returns-in_ok-make_entry-in-Mover-clause-less g c =
     let e = c.in_ok-make_entry.ensures in
     let drawn : MayBeDrawn g.J.RunName.strays g.J.RunName.limit (log_state c.args.shared.now) c.args.refused.now
     (Mover c.in-Mover.t) =
@@ -26,14 +26,6 @@ returns-in-Mover-clause-less g c =
     draws_end g.J.RunName.limit (cost c.args.shared.now.log) (cost c.make_entry.new.shared.log)
     c.in_ok-make_entry.field-0 c.args.refused.now c.make_entry.new.refused c.in-Mover.t drawn.0.1 e.made
     (λ n. ap (λ (h : LogState). cost h.log) (e.none n).0) e.kept (λ n. e.passed n drawn.0)
-
-pub stray-requires-clause-strays : goal.stray-requires-clause-strays
-stray-requires-clause-strays g c =
-    let drawn : MayBeDrawn g.J.RunName.strays g.J.RunName.limit (log_state c.args.shared.now) c.args.refused.now
-    (Sleeper c.in-Sleeper.t) =
-    subst (λ (d : Drawn). MayBeDrawn g.J.RunName.strays g.J.RunName.limit (log_state c.args.shared.now)
-    c.args.refused.now d) c.in-Sleeper.is c.requires.drawn in
-    drawn.0
 
 pub returns-in-Sleeper-clause-past : goal.returns-in-Sleeper-clause-past
 returns-in-Sleeper-clause-past g c =
@@ -54,5 +46,5 @@ returns-in-Sleeper-clause-err g c =
     (Sleeper c.in-Sleeper.t) =
     subst (λ (d : Drawn). MayBeDrawn g.J.RunName.strays g.J.RunName.limit (log_state c.args.shared.now)
     c.args.refused.now d) c.in-Sleeper.is c.requires.drawn in
-    wake_fails g.J.RunName.program g.J.RunName.strays g.J.RunName.limit (log_state c.args.shared.now) c.in-Sleeper.t
+    wake_fails _ _ g.J.RunName.program g.J.RunName.strays g.J.RunName.limit (log_state c.args.shared.now) c.in-Sleeper.t
     c.stray.result drawn.1 drawn.2 c.stray.ensures.err
