@@ -1,9 +1,9 @@
 -- Where the words don't name what a run goes by, none is asked for.
-use Rattle.std.proofs.Common.{◌≡◌, ◌⊎◌, inl, inr, ◌||◌, ◌∙◌, Bool, true, false, ℕ, List, [], ◌∷◌, Option, None, codes, refl, sym}
-use Rattle.std.proofs.Common.{true≢false}
-use Rattle.clap.specs.Words.{Row, Text, first_of}
+use Rattle.std.proofs.Common.{◌≡◌, ◌⊎◌, inl, inr, ◌||◌, ◌∙◌, Bool, true, false, ℕ, List, [], ◌∷◌, Option, Some, None}
+use Rattle.std.proofs.Common.{codes, refl, sym, true≢false}
+use Rattle.clap.specs.Words.{Row, Text, first_of, one_of}
 use Rattle.commandline.specs.CommandLine.{IsExplainedBy, IsReplayedBy, ReadsOrder, ReadsSeed, ReadsSteps, ReadsStrays}
-use Rattle.commandline.specs.CommandLine.{has_any, is_written}
+use Rattle.commandline.specs.CommandLine.{IsNumberOf, has_any, is_written}
 use Rattle.commandline.specs.declared.options.ExplainedBy.{ExplainedBy}
 use Rattle.commandline.specs.declared.options.ExplainedBy.TheVariants.{Order as ByOrder, Seed as BySeed}
 use Rattle.commandline.specs.declared.options.ExplainedBy.TheVariants.{Schedule as BySchedule, Log as ByLog}
@@ -38,10 +38,11 @@ second_out : (a b : Text) (ids : List Text) (rows : List Row) → has_any (a ∷
     → is_written b rows ≡ false
 second_out a b ids rows h = first_out b ids rows (rest_out a (b ∷ ids) rows h)
 
--- arguments that are each left out are all left out
-pub all_out : (a : Text) (ids : List Text) (rows : List Row) → is_written a rows ≡ false → has_any ids rows ≡ false
-    → has_any (a ∷ ids) rows ≡ false
-all_out a ids rows first rest = rw (first, rest) refl
+-- where no number can be read for stray wakes that are asked for, none is asked for
+pub no_count : (rows : List Row) (s : Option ℕ) → is_written (codes "strays") rows ≡ true
+    → ((n : ℕ) → IsNumberOf (one_of (codes "strays") rows) 32 n → ⊥) → ReadsStrays rows s → ⊥
+no_count rows None written none h = clash _ written h
+no_count rows (Some n) written none h = none n h.1
 
 -- what stands beside a seed alone has no order where none stands
 pub no_strays : (rows : List Row) (o : Order) → is_written (codes "seed") rows ≡ false

@@ -7,7 +7,7 @@ use Rattle.commandline.specs.declared.job.Job.TheVariants.{Compile}
 
 of_rows : (rows : List Row) (file out : Bor (List ℕ)) (workers : ℕ) (hints : Bool)
     → IsCompileOf rows (Compile file out workers hints) → (1 ≤ workers) × (workers ≤ 64)
-of_rows rows file out workers hints (source, image, (reads, flag)) = (reads.1, reads.2)
+of_rows rows file out workers hints (source, image, reads, flag) = (reads.1, reads.2)
 
 of_command : (asked : Option (Text × List Row)) (file out : Bor (List ℕ)) (workers : ℕ) (hints : Bool)
     → IsAskedBy asked (Compile file out workers hints) → (1 ≤ workers) × (workers ≤ 64)

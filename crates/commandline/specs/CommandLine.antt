@@ -169,11 +169,11 @@ ReadsWorkers rows workers = IsNumberOf (one_of (codes "workers") rows) 32 worker
 abbrev pub ReadsSeed : List Row → ℕ → Type 0
 ReadsSeed rows seed = IsNumberOf (one_of (codes "seed") rows) 64 seed
 
--- the text that stands for `--strays` is this number, at least 1, where one stands
+-- the text that stands for `--strays` is this number, where one stands
 abbrev pub ReadsStrays : List Row → Option ℕ → Type 0
 ReadsStrays rows None = is_written (codes "strays") rows ≡ false
 ReadsStrays rows (Some strays) =
-    (is_written (codes "strays") rows ≡ true) × IsNumberOf (one_of (codes "strays") rows) 32 strays × (1 ≤ strays)
+    (is_written (codes "strays") rows ≡ true) × IsNumberOf (one_of (codes "strays") rows) 32 strays
 
 -- whether a flag stands
 abbrev pub ReadsFlag : Text → List Row → Bool → Type 0

@@ -12,7 +12,7 @@ pub enum Order {
     Seed {
         /// The seed.
         seed: u64,
-        /// That about one of so many entries is a stray wake, at least 1, where such are wanted.
+        /// How many entries come to one stray wake, about, where such are wanted.
         strays: Option<u32>,
     },
 }
@@ -58,7 +58,7 @@ pub enum ExplainedBy<'a> {
         steps: u32,
         /// The seed.
         seed: u64,
-        /// That about one of so many entries is a stray wake, at least 1, where such are wanted.
+        /// How many entries come to one stray wake, about, where such are wanted.
         strays: Option<u32>,
     },
     /// That by the schedule in the file of this name.

@@ -80,9 +80,6 @@ pub fn strays_of(matches: &ArgMatches<'_>) -> Option<Option<u32>>
         return Some(None);
     }
     let strays = number_of(matches, "strays")?;
-    if strays < 1 {
-        return None;
-    }
     Some(Some(strays))
 }
 

@@ -142,8 +142,11 @@ fn image_of<'a, R: AllocGlobal + Threads + Wait + Sync>(
     requires { (1 ≤ workers) × (workers ≤ 64) }
     ensures { IfOk result (λ image. IsCompiled text.now.bytes.now image) }
 {
-    compile_with(rt, rt.alloc(), text.bytes, workers, &OpenGate)
-        .map_err(|refusal| hinted(rt.alloc(), text, Failure::from(refusal)))
+    compile_with(rt, rt.alloc(), text.bytes, workers, &OpenGate).map_err(|refusal| hinted(
+        rt.alloc(),
+        text,
+        Failure::from(refusal),
+    ))
 }
 
 // The program of a text whose code fits.

@@ -69,12 +69,7 @@ enum Alone {
 }
 
 // Runs an image on the calling thread.
-fn run_alone(
-    alloc: Global,
-    image: &Image,
-    limit: u32,
-    order: Alone,
-) -> Result<Report, RunFault>
+fn run_alone(alloc: Global, image: &Image, limit: u32, order: Alone) -> Result<Report, RunFault>
     ensures ok { IfOk result (λ report. IsReport image.now (allows_strays order) limit report) }
     ensures err { IfErr result (λ fault. CanFail image.now (allows_strays order) limit fault) }
 {

@@ -110,8 +110,11 @@ fn explore_text<'a, 't>(
 ) -> Result<ExploredText<'t>, Failure<'a>>
     ensures { IfOk result (λ explored. IsExploredText text.now.bytes.now strays explored) }
 {
-    explore_source(alloc, text.bytes, most_states as usize, strays)
-        .map_err(|refusal| hinted(alloc, text, Failure::from(refusal)))
+    explore_source(alloc, text.bytes, most_states as usize, strays).map_err(|refusal| hinted(
+        alloc,
+        text,
+        Failure::from(refusal),
+    ))
 }
 
 // Draws the run that was found to a file: the stuck one, where there are two.

@@ -55,8 +55,11 @@ fn run_text<'a, R: AllocGlobal + Threads + Wait + Sync>(
 ) -> Result<Report, Failure<'a>>
     ensures { IfOk result (λ report. IsRunOfText text.now.bytes.now (has_strays order) steps report) }
 {
-    run_by(rt, text.bytes, steps, order)
-        .map_err(|fault| hinted(rt.alloc(), text, Failure::from(fault)))
+    run_by(rt, text.bytes, steps, order).map_err(|fault| hinted(
+        rt.alloc(),
+        text,
+        Failure::from(fault),
+    ))
 }
 
 fn run_by<R: AllocGlobal + Threads + Wait + Sync>(
