@@ -19,8 +19,10 @@ of_command (Some (name, rows)) file out workers hints (inr (inr (inr (inl (calle
 of_command (Some (name, rows)) file out workers hints (inr (inr (inr (inr (inl (called, h)))))) = absurd h
 of_command (Some (name, rows)) file out workers hints (inr (inr (inr (inr (inr (inl (called, h))))))) = absurd h
 of_command (Some (name, rows)) file out workers hints (inr (inr (inr (inr (inr (inr (inl (called, h)))))))) = absurd h
-of_command (Some (name, rows)) file out workers hints (inr (inr (inr (inr (inr (inr (inr (inl (called, h))))))))) = absurd h
-of_command (Some (name, rows)) file out workers hints (inr (inr (inr (inr (inr (inr (inr (inr (called, h))))))))) = absurd h
+of_command (Some (name, rows)) file out workers hints (inr (inr (inr (inr (inr (inr (inr (inl (called, h))))))))) =
+    absurd h
+of_command (Some (name, rows)) file out workers hints (inr (inr (inr (inr (inr (inr (inr (inr (called, h))))))))) =
+    absurd h
 
 pub compiling_workers : (words : List Text) (job : Job) (file out : Bor (List ℕ)) (workers : ℕ) (hints : Bool)
     → AsksFor words job → job ≡ Compile file out workers hints → (1 ≤ workers) × (workers ≤ 64)

@@ -133,8 +133,8 @@ pub replayed : (text : List ℕ) (image : Program) (schedule : List Turn) (r : R
 replayed text image schedule (Ok report) c h = replay_explained text image schedule report c h
 replayed text image schedule (Err fault) c h = tt
 
-pub left_of_text : (text : List ℕ) (image : Program) (schedule : List Turn) (fault : ReplayFault) → IsCompiled text image
-    → IsLeftSchedule image schedule fault → IsRefusedReplay text schedule fault
+pub left_of_text : (text : List ℕ) (image : Program) (schedule : List Turn) (fault : ReplayFault)
+    → IsCompiled text image → IsLeftSchedule image schedule fault → IsRefusedReplay text schedule fault
 left_of_text text image schedule (Refused e) c h = absurd h
 left_of_text text image schedule (BadEntry number) c h = record {
   program = c.program;

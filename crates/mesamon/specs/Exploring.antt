@@ -36,8 +36,8 @@ pub record IsFoundOf (p : Program) (strays : Bool) (e : Exploration) : Type 0 wh
 
 -- of each run of the program's image, under whatever schedule, of fewer than 2^32 steps, in which, where no stray wakes
 -- were searched, nobody who waits on a condition is woken from outside: where the search was complete and found no run
--- that gets stuck, all processes are over wherever no thread can move; and where it found none that aborts, no thread has
--- aborted
+-- that gets stuck, all processes are over wherever no thread can move; and where it found none that aborts, no thread
+-- has aborted
 pub record HoldsOfImage (p : Program) (strays : Bool) (e : Exploration) : Type 0 where
   pub never_hangs : e.complete ≡ true → e.stuck ≡ None → (steps : List Step) (s : State)
       → MachineRun (code_of p) steps s → length steps < 2 ^ 32 → (strays ≡ false → stray_threads p steps ≡ [])

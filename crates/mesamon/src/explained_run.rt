@@ -164,7 +164,7 @@ pub fn explain_source<'a>(
     explain_alone(alloc, text, limit, Alone::InOrder)
 }
 
-/// The same, with the run in the order that follows from a seed, and with stray wakes or without, as `run_by_seed` does.
+/// The same, with the run in the order that follows from a seed, with stray wakes or without, as `run_by_seed` does.
 ///
 /// # Errors
 ///

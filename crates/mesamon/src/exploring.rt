@@ -34,9 +34,10 @@ pub struct ExploredText<'a> {
 }
 
 /// Searches all runs of the program of a source text, keeping at most so many states: for one that gets stuck, and for
-/// one in which a process aborts. With strays, processes that wait on a condition are also woken by nobody. Where the
-/// search was complete and found none, there is none, and so no schedule of the text's image hangs, or has a thread that
-/// aborts: with strays whatever wakes come from outside, else as long as none do.
+/// one in which a process aborts. With strays, processes that wait on a condition are also woken by nobody.
+///
+/// Where the search was complete and found none, there is none, and so no schedule of the text's image hangs, or has a
+/// thread that aborts: with strays whatever wakes come from outside, else as long as none do.
 ///
 /// # Errors
 ///

@@ -16,8 +16,8 @@ pub struct SourceText<'a> {
     pub hints: bool,
 }
 
-/// The failure of a command on this source text: a refusal gets hints where they are wanted. Where there is no memory for
-/// them it stands alone.
+/// The failure of a command on this source text: a refusal gets hints where they are wanted. Where there is no memory
+/// for them it stands alone.
 pub fn hinted<'a>(alloc: Global, text: &SourceText<'_>, failure: Failure<'a>) -> Failure<'a>
     ensures status { status_of result ≡ status_of failure.entry }
     ensures unasked { text.now.hints ≡ false → result ≡ failure.entry }

@@ -33,7 +33,8 @@ fn turns_of(alloc: Global, text: &[u8]) -> Result<Vec<Turn>, AllocError> {
     Ok(turns)
 }
 
-// The turn of a word: the number of the thread that takes a step, or behind an `s` of the one that is woken from outside.
+// The turn of a word: the number of the thread that takes a step, or behind an `s` of the one that is woken from
+// outside.
 //
 // What is no number to 4294967295 names thread 0, which there never is, so that it is refused as the turn of a thread
 // that can't move, or doesn't sleep.
