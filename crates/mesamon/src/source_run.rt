@@ -46,8 +46,8 @@ impl From<RunFault> for RunSourceFault {
 /// does. The gate is passed before each entry of the log, with the number of its thread.
 ///
 /// Some run of the text's program explains the report: it has the same output and the same ends of processes, and
-/// where no thread can move, none of its processes can. No wake comes from outside. A text that `compile` refuses has the
-/// same refusal. The run's own fault is `Memory`, also where a worker can't be started: `Broken` comes of no text,
+/// where no thread can move, none of its processes can. No wake comes from outside. A text that `compile` refuses has
+/// the same refusal. The run's own fault is `Memory`, also where a worker can't be started: `Broken` comes of no text,
 /// whatever the limit. A run within the limit has fewer than 2^32 steps and is explained; and from where it leads no
 /// thread comes, by local steps of its own, to a step that may not be.
 pub fn run_source<R: Threads + Wait + Sync, G: Gate>(
@@ -88,8 +88,8 @@ pub fn run_in_order<G: Gate>(
     Ok(runner::run_in_order(alloc, &image, limit, gate)?)
 }
 
-/// The same on the calling thread, in the order that follows from a seed, as `runner::run_by_seed` does; with wakes from
-/// outside, of which one comes in about so many entries, where `strays` has a number.
+/// The same on the calling thread, in the order that follows from a seed, as `runner::run_by_seed` does; with wakes
+/// from outside, of which one comes in about so many entries, where `strays` has a number.
 pub fn run_by_seed(
     alloc: Global,
     text: &[u8],
