@@ -50,25 +50,27 @@ impl<'c, 'n> Recording<'c, 'n> {
     fn note(&mut self, action: &Action) -> Result<(), AllocError> {
         let tape = &mut self.tape;
         match action.kind {
-            ActionKind::Print(_)
-            | ActionKind::Fails(_)
-            | ActionKind::Stray(_)
-            | ActionKind::Abandon(_)
-            | ActionKind::Kill(_, _) => tape.begin_instant(action.process)?,
-            _ => return Ok(()),
-        }
-        match action.kind {
-            ActionKind::Print(number) => append_signed(&mut tape.out, "print ", number)?,
+            ActionKind::Print(number) => {
+                tape.begin_instant(action.process)?;
+                append_signed(&mut tape.out, "print ", number)?;
+            }
             ActionKind::Fails(fault) => {
+                tape.begin_instant(action.process)?;
                 append_signed(&mut tape.out, "fault ", i64::from(fault.number()))?;
             }
             ActionKind::Stray(condition) => {
+                tape.begin_instant(action.process)?;
                 append_condition(&mut tape.out, tape.names, "stray ", condition)?;
             }
             ActionKind::Abandon(monitor) => {
+                tape.begin_instant(action.process)?;
                 append_monitor(&mut tape.out, tape.names, "abandon ", monitor)?;
             }
-            _ => append_text(&mut tape.out, "kill")?,
+            ActionKind::Kill(_, _) => {
+                tape.begin_instant(action.process)?;
+                append_text(&mut tape.out, "kill")?;
+            }
+            _ => return Ok(()),
         }
         tape.end_instant()
     }
