@@ -7,6 +7,7 @@ mod explaining;
 mod exploring;
 mod failure;
 mod files;
+mod hinting;
 mod lines;
 mod replaying;
 mod running;

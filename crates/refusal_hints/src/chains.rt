@@ -1,0 +1,177 @@
+// The chain of calls by which a procedure comes back to itself.
+
+use crate::declarations::{Declaration, Sort};
+use crate::lines::append_shown;
+use crate::names::declared_at;
+use crate::scopes::{Scope, Walk};
+use crate::sought::{Sought, Wanted, monitor_of};
+use crate::spot::Spot;
+use scanner::{Keyword, Kind, Sign, Token};
+use std::alloc::{AllocError, Global};
+
+// How many calls are looked at, so that a long text takes little time, and how many of a chain are told.
+const MOST_CALLS: usize = 1000;
+
+const MOST_TOLD: usize = 16;
+
+// A call: in which body it stands, the body of the procedure that it calls, and that procedure's name there.
+#[derive(Clone, Copy)]
+struct Call<'a> {
+    caller: u32,
+    called: u32,
+    name: Token<'a>,
+}
+
+// A call by which a procedure is reached, and the link that goes on from there; the last one has none.
+#[derive(Clone, Copy)]
+struct Link<'a> {
+    call: Call<'a>,
+    next: Option<usize>,
+}
+
+// The body of a procedure, or 0.
+fn body_of(sort: Sort) -> u32 {
+    match sort {
+        Sort::Procedure(body) => body,
+        _ => 0,
+    }
+}
+
+// The body of the procedure that is called by this name there, or 0.
+fn body_called(declarations: &[Declaration<'_>], sought: Sought, name: &[u8]) -> u32 {
+    match sought.find(declarations, name) {
+        Some(found) => body_of(found.sort),
+        None => 0,
+    }
+}
+
+// The call in a body of what this name finds.
+fn call_to<'a>(
+    declarations: &[Declaration<'_>],
+    caller: u32,
+    sought: Sought,
+    name: Token<'a>,
+) -> Call<'a> {
+    Call {
+        caller,
+        called: body_called(declarations, sought, name.text),
+        name,
+    }
+}
+
+// The call behind the word CALL, in this scope.
+fn call_at<'a>(
+    declarations: &[Declaration<'_>],
+    scope: Scope,
+    name: Token<'a>,
+    behind: Kind,
+    last: Token<'a>,
+) -> Call<'a> {
+    if behind != Kind::Sign(Sign::Dot) {
+        let wanted = Wanted::Procedure;
+        return call_to(declarations, scope.body, Sought { wanted, scope }, name);
+    }
+    let wanted = Wanted::ProcedureOf;
+    let monitor = Scope {
+        monitor: monitor_of(declarations, name.text),
+        body: 0,
+    };
+    let sought = Sought {
+        wanted,
+        scope: monitor,
+    };
+    call_to(declarations, scope.body, sought, last)
+}
+
+// The calls of a text.
+fn calls_of<'a>(
+    alloc: Global,
+    declarations: &[Declaration<'_>],
+    tokens: &[Token<'a>],
+) -> Result<Vec<Call<'a>>, AllocError> {
+    let mut calls = Vec::new(alloc);
+    let mut walk = Walk::new();
+    for four in tokens.windows(4) {
+        let [before, name, behind, last] = four else {
+            continue;
+        };
+        walk.pass(before.kind);
+        if before.kind == Kind::Keyword(Keyword::Call) && calls.len() < MOST_CALLS {
+            calls.push(call_at(declarations, walk.scope, *name, behind.kind, *last))?;
+        }
+    }
+    Ok(calls)
+}
+
+// Adds a link for each body that calls this one and has none yet.
+fn link_callers<'a>(
+    links: &mut Vec<Link<'a>>,
+    calls: &[Call<'a>],
+    called: u32,
+    next: Option<usize>,
+) -> Result<(), AllocError> {
+    for call in calls {
+        let caller = call.caller;
+        let is_new = !links.iter().any(|link| link.call.caller == caller);
+        if call.called == called && is_new {
+            links.push(Link { call: *call, next })?;
+        }
+    }
+    Ok(())
+}
+
+// Adds links from the callers of a body back and back, up to one that stands in that body, and says which that is.
+fn link_back<'a>(
+    links: &mut Vec<Link<'a>>,
+    calls: &[Call<'a>],
+    body: u32,
+) -> Result<Option<usize>, AllocError> {
+    link_callers(links, calls, body, None)?;
+    for index in 0..calls.len() {
+        let Some(link) = links.get(index) else {
+            return Ok(None);
+        };
+        let link = *link;
+        if link.call.caller == body {
+            return Ok(Some(index));
+        }
+        link_callers(links, calls, link.call.caller, Some(index))?;
+    }
+    Ok(None)
+}
+
+// Appends the chain that begins with a link.
+fn append_links(out: &mut String, links: &[Link<'_>], first: usize) -> Result<(), AllocError> {
+    let mut at = Some(first);
+    for _ in 0..MOST_TOLD {
+        let Some(link) = at.and_then(|index| links.get(index)) else {
+            return Ok(());
+        };
+        append_shown(out, link.call.name.text)?;
+        let place = link.call.name.place;
+        writeln!(out, " is called at {}:{}", place.line, place.column)?;
+        at = link.next;
+    }
+    Ok(())
+}
+
+/// Appends the calls, in their order, that lead from the procedure whose declared name stands at a place back to it.
+pub(crate) fn append_chain(
+    alloc: Global,
+    out: &mut String,
+    declarations: &[Declaration<'_>],
+    tokens: &[Token],
+    spot: &Spot<'_, '_>,
+) -> Result<(), AllocError> {
+    let token = spot.token(0);
+    let body = match declared_at(declarations, token.place) {
+        Some(declared) => body_of(declared.sort),
+        None => return Ok(()),
+    };
+    let calls = calls_of(alloc, declarations, tokens)?;
+    let mut links = Vec::new(alloc);
+    match link_back(&mut links, calls.as_slice(), body)? {
+        Some(first) => append_links(out, links.as_slice(), first),
+        None => Ok(()),
+    }
+}

@@ -1,0 +1,71 @@
+// What helps where a token can't follow what stands before it.
+
+use crate::foreign_words::{append_small_keyword, foreign_slip};
+use crate::lexeme::{Lexeme, append_lexeme};
+use crate::semicolon_slips::{append_lacking, lacks_semicolon, semicolon_slip};
+use crate::sign_slips::sign_slip;
+use crate::spot::Spot;
+use crate::walk::accepted_behind;
+use crate::word_slips::{finish_slip, name_slip, word_slip};
+use scanner::{Sign, Token};
+use std::alloc::{AllocError, Global};
+
+// How many lexemes are listed.
+const MOST_LISTED: usize = 8;
+
+// Appends what may stand at a place.
+fn append_accepted(alloc: Global, out: &mut String, accepted: &[Lexeme]) -> Result<(), AllocError> {
+    out.push_str("here may stand:")?;
+    for lexeme in accepted.iter().take(MOST_LISTED) {
+        out.push_str(" ")?;
+        append_lexeme(alloc, out, *lexeme)?;
+    }
+    out.push_str(if accepted.len() > MOST_LISTED {
+        " ..\n"
+    } else {
+        "\n"
+    })
+}
+
+// What is said of the lexeme that can't stand at a place.
+fn slip_at(spot: &Spot<'_, '_>) -> Option<&'static str> {
+    match spot.here() {
+        Lexeme::Word(word) => word_slip(word, spot),
+        Lexeme::Mark(Sign::Semicolon) => semicolon_slip(spot),
+        Lexeme::Mark(sign) => sign_slip(sign, spot),
+        Lexeme::Name => name_slip(spot),
+        Lexeme::Number => None,
+        Lexeme::Finish => finish_slip(spot),
+    }
+}
+
+// Appends what is said of the slip that is likely, if one is.
+fn append_slip(alloc: Global, out: &mut String, spot: &Spot<'_, '_>) -> Result<(), AllocError> {
+    if append_small_keyword(alloc, out, spot)? {
+        return Ok(());
+    }
+    if lacks_semicolon(spot) {
+        return append_lacking(out, spot);
+    }
+    match foreign_slip(spot).or(slip_at(spot)) {
+        Some(slip) => writeln!(out, "{slip}"),
+        None => Ok(()),
+    }
+}
+
+/// Appends what may stand behind the tokens before a place, and what the slip may be of those from there on.
+pub(crate) fn append_expected<'t, 'a>(
+    alloc: Global,
+    out: &mut String,
+    before: &'t [Token<'a>],
+    from: &'t [Token<'a>],
+) -> Result<(), AllocError> {
+    let accepted = accepted_behind(alloc, before)?;
+    let spot = Spot {
+        before,
+        from,
+        accepted: accepted.as_slice(),
+    };
+    append_accepted(alloc, out, spot.accepted)?;
+    append_slip(alloc, out, &spot)
+}

@@ -1,0 +1,78 @@
+use crate::lines::append_shown;
+use scanner::{Keyword, Kind, Sign};
+use std::alloc::{AllocError, Global};
+
+/// A token as the grammar has it: without its bytes and its place.
+#[derive(Clone, Copy, PartialEq, Eq)]
+pub(crate) enum Lexeme {
+    Word(Keyword),
+    Mark(Sign),
+    Name,
+    Number,
+    /// The end of the text.
+    Finish,
+}
+
+impl Lexeme {
+    /// What a token is to the grammar.
+    pub(crate) fn of(kind: Kind) -> Lexeme {
+        match kind {
+            Kind::Keyword(word) => Lexeme::Word(word),
+            Kind::Sign(sign) => Lexeme::Mark(sign),
+            Kind::Name => Lexeme::Name,
+            Kind::Number(_) => Lexeme::Number,
+            Kind::End => Lexeme::Finish,
+        }
+    }
+}
+
+// How a sign is written.
+fn sign_text(sign: Sign) -> &'static str {
+    match sign {
+        Sign::Assign => ":=",
+        Sign::Colon => ":",
+        Sign::Semicolon => ";",
+        Sign::Comma => ",",
+        Sign::Dot => ".",
+        Sign::OpenParen => "(",
+        Sign::CloseParen => ")",
+        Sign::OpenBracket => "[",
+        Sign::CloseBracket => "]",
+        Sign::Equal => "=",
+        Sign::NotEqual => "#",
+        Sign::Less => "<",
+        Sign::LessEqual => "<=",
+        Sign::Greater => ">",
+        Sign::GreaterEqual => ">=",
+        Sign::Plus => "+",
+        Sign::Minus => "-",
+        Sign::Times => "*",
+        Sign::Divide => "/",
+    }
+}
+
+/// Appends how a keyword is written: as its variant is, in capitals.
+pub(crate) fn append_keyword(
+    alloc: Global,
+    out: &mut String,
+    word: Keyword,
+) -> Result<(), AllocError> {
+    let name = format!(in alloc; "{word:?}")?;
+    let name = name.as_str().to_ascii_uppercase(alloc)?;
+    append_shown(out, name.as_bytes())
+}
+
+/// Appends how a lexeme is written. What has no one spelling is in small letters, which no keyword is.
+pub(crate) fn append_lexeme(
+    alloc: Global,
+    out: &mut String,
+    lexeme: Lexeme,
+) -> Result<(), AllocError> {
+    match lexeme {
+        Lexeme::Word(word) => append_keyword(alloc, out, word),
+        Lexeme::Mark(sign) => out.push_str(sign_text(sign)),
+        Lexeme::Name => out.push_str("name"),
+        Lexeme::Number => out.push_str("number"),
+        Lexeme::Finish => out.push_str("end-of-text"),
+    }
+}

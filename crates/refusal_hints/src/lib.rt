@@ -1,0 +1,32 @@
+//! What helps a person with a refusal: lines that come behind the line of the refusal itself.
+#![tactic(auto)]
+
+mod behind;
+mod byte_slips;
+mod chains;
+mod checked;
+mod declarations;
+mod excerpt;
+mod expected;
+mod firsts;
+mod foreign_words;
+mod hinting;
+mod laws;
+mod lexeme;
+mod limits;
+mod lines;
+mod names;
+mod places;
+mod scopes;
+mod semicolon_slips;
+mod sign_slips;
+mod slip_texts;
+mod sought;
+mod spot;
+mod symbol;
+mod types;
+mod walk;
+mod word_slips;
+
+pub use hinting::hints_of;
+pub use laws::shown_laws;

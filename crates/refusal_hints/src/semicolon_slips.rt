@@ -1,0 +1,84 @@
+// What helps where a `;` stands that can't, and where one is missing.
+
+use crate::lexeme::Lexeme;
+use crate::slip_texts::LAST_END;
+use crate::spot::Spot;
+use scanner::{Keyword, Sign};
+use std::alloc::AllocError;
+
+/// What is said of a `;`.
+pub(crate) fn semicolon_slip(spot: &Spot<'_, '_>) -> Option<&'static str> {
+    if spot.takes_sign(Sign::Dot) && spot.back(1) == Lexeme::Word(Keyword::End) {
+        return Some(LAST_END);
+    }
+    if spot.takes_sign(Sign::OpenParen) && spot.back(1) == Lexeme::Name {
+        return Some("the parentheses are needed, also without parameters: p()");
+    }
+    if spot.takes_sign(Sign::Comma) {
+        return Some("parameters and arguments are separated by commas");
+    }
+    if spot.takes_word(Keyword::Into) {
+        return Some("FORK tells where the process is kept: FORK p(..) INTO h;");
+    }
+    if spot.takes_word(Keyword::If) {
+        return Some("a ; ends a statement or a declaration, and no other stands anywhere");
+    }
+    if spot.accepts(Lexeme::Number) {
+        return Some("an expression is missing");
+    }
+    None
+}
+
+// Whether a token begins or ends something that a `;` has to stand before.
+fn wants_semicolon_before(here: Lexeme, behind: Lexeme) -> bool {
+    match here {
+        Lexeme::Name => matches!(behind, Lexeme::Mark(Sign::Assign | Sign::OpenBracket)),
+        Lexeme::Word(word) => matches!(
+            word,
+            Keyword::End
+                | Keyword::Endif
+                | Keyword::Endloop
+                | Keyword::Else
+                | Keyword::Var
+                | Keyword::If
+                | Keyword::While
+                | Keyword::Call
+                | Keyword::Fork
+                | Keyword::Join
+                | Keyword::Return
+                | Keyword::Wait
+                | Keyword::Notify
+                | Keyword::Broadcast
+                | Keyword::Print
+                | Keyword::Abort
+                | Keyword::Entry
+                | Keyword::Internal
+                | Keyword::Procedure
+                | Keyword::Recover
+                | Keyword::Monitor
+                | Keyword::Main
+        ),
+        _ => false,
+    }
+}
+
+/// Whether a `;` is missing behind the token before.
+pub(crate) fn lacks_semicolon(spot: &Spot<'_, '_>) -> bool {
+    if !spot.takes_sign(Sign::Semicolon) {
+        return false;
+    }
+    let last = spot.token_back(1);
+    let here = spot.token(0);
+    let next_line = last.place.line < here.place.line;
+    match spot.here() {
+        Lexeme::Name | Lexeme::Finish if next_line => true,
+        here => wants_semicolon_before(here, spot.ahead(1)),
+    }
+}
+
+/// Appends where a `;` is missing: just behind the token before.
+pub(crate) fn append_lacking(out: &mut String, spot: &Spot<'_, '_>) -> Result<(), AllocError> {
+    let last = spot.token_back(1);
+    let column = (last.place.column as usize).saturating_add(last.text.len());
+    writeln!(out, "a ; is missing at {}:{column}", last.place.line)
+}
