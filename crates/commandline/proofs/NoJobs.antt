@@ -52,8 +52,8 @@ no_replay rows other missing h = h
 pub no_explain : (rows : List Row) (job : Job)
     → (first_of (codes "FILE") rows ≡ None) ⊎ ((e : ExplainedBy) → IsExplainedBy rows e → ⊥) → IsExplainOf rows job
     → ⊥
-no_explain rows (Explain file by chart hints) (inl none) h = no_value _ _ none h.0
-no_explain rows (Explain file by chart hints) (inr none) h = none by h.1
+no_explain rows (Explain file by chart timeline hints) (inl none) h = no_value _ _ none h.0
+no_explain rows (Explain file by chart timeline hints) (inr none) h = none by h.1
 no_explain rows other missing h = h
 
 pub no_emit : (rows : List Row) (job : Job)
@@ -64,6 +64,6 @@ no_emit rows other missing h = h
 
 pub no_explore : (rows : List Row) (job : Job)
     → (first_of (codes "FILE") rows ≡ None) ⊎ ((n : ℕ) → ReadsStates rows n → ⊥) → IsExploreOf rows job → ⊥
-no_explore rows (Explore file states strays chart hints) (inl none) h = no_value _ _ none h.0
-no_explore rows (Explore file states strays chart hints) (inr none) h = none states h.1
+no_explore rows (Explore file states strays chart timeline hints) (inl none) h = no_value _ _ none h.0
+no_explore rows (Explore file states strays chart timeline hints) (inr none) h = none states h.1
 no_explore rows other missing h = h

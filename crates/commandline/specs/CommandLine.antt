@@ -122,18 +122,21 @@ replay_command =
     with_rule (with_rule (with_rule (with_rule (with_rule (new_app (codes "replay")) (positional (codes "FILE")))
     (new_rule (codes "SCHEDULE"))) (flag (codes "trace"))) (valued (codes "log"))) (flag (codes "hints"))
 
--- `explain FILE [[--steps N] [--seed N [--strays N]] | --schedule SCHEDULE | --log LOG] [--chart OUT] [--hints]`
+-- `explain FILE [[--steps N] [--seed N [--strays N]] | --schedule SCHEDULE | --log LOG] [--chart OUT] [--timeline OUT]
+-- [--hints]`
 abbrev pub explain_command : App
 explain_command =
-    with_rule (with_rule (with_rule (with_rule (with_rule (with_rule (with_rule (with_rule (new_app (codes "explain"))
-    (positional (codes "FILE"))) steps_option) seed_option) strays_option) (valued (codes "schedule")))
-    (valued (codes "log"))) (valued (codes "chart"))) (flag (codes "hints"))
+    with_rule (with_rule (with_rule (with_rule (with_rule (with_rule (with_rule (with_rule (with_rule
+    (new_app (codes "explain")) (positional (codes "FILE"))) steps_option) seed_option) strays_option)
+    (valued (codes "schedule"))) (valued (codes "log"))) (valued (codes "chart"))) (valued (codes "timeline")))
+    (flag (codes "hints"))
 
--- `explore FILE [--states N] [--strays] [--chart OUT] [--hints]`
+-- `explore FILE [--states N] [--strays] [--chart OUT] [--timeline OUT] [--hints]`
 abbrev pub explore_command : App
 explore_command =
-    with_rule (with_rule (with_rule (with_rule (with_rule (new_app (codes "explore")) (positional (codes "FILE")))
-    states_option) (flag (codes "strays"))) (valued (codes "chart"))) (flag (codes "hints"))
+    with_rule (with_rule (with_rule (with_rule (with_rule (with_rule (new_app (codes "explore"))
+    (positional (codes "FILE"))) states_option) (flag (codes "strays"))) (valued (codes "chart")))
+    (valued (codes "timeline"))) (flag (codes "hints"))
 
 -- whether the words have this argument; its default, which they don't have, is no such
 abbrev pub is_of_words : Option ValueSource → Bool
@@ -273,9 +276,10 @@ AsksForReplay rows other = ⊥
 
 -- a job of explaining
 abbrev pub IsExplainOf : List Row → Job → Type 0
-IsExplainOf rows (Explain file by chart hints) =
+IsExplainOf rows (Explain file by chart timeline hints) =
     (first_of (codes "FILE") rows ≡ Some file.now) × IsExplainedBy rows by
-    × (first_of (codes "chart") rows ≡ option_map (λ out. out.now) chart) × ReadsFlag (codes "hints") rows hints
+    × (first_of (codes "chart") rows ≡ option_map (λ out. out.now) chart)
+    × (first_of (codes "timeline") rows ≡ option_map (λ out. out.now) timeline) × ReadsFlag (codes "hints") rows hints
 IsExplainOf rows other = ⊥
 
 -- a job of writing C
@@ -287,9 +291,10 @@ IsEmitOf rows other = ⊥
 
 -- a job of searching all runs
 abbrev pub IsExploreOf : List Row → Job → Type 0
-IsExploreOf rows (Explore file states strays chart hints) =
+IsExploreOf rows (Explore file states strays chart timeline hints) =
     (first_of (codes "FILE") rows ≡ Some file.now) × ReadsStates rows states × ReadsFlag (codes "strays") rows strays
-    × (first_of (codes "chart") rows ≡ option_map (λ out. out.now) chart) × ReadsFlag (codes "hints") rows hints
+    × (first_of (codes "chart") rows ≡ option_map (λ out. out.now) chart)
+    × (first_of (codes "timeline") rows ≡ option_map (λ out. out.now) timeline) × ReadsFlag (codes "hints") rows hints
 IsExploreOf rows other = ⊥
 
 -- the job that the command of a name asks for, with these values of its arguments

@@ -31,6 +31,9 @@ const HINTS: &str = "Shows hints behind a refusal of the source text";
 const STRAYS: &str =
     "Beside --seed: makes about one entry in N a stray wake, where a thread sleeps";
 
+// What the file of a timeline is.
+const TIMELINE: &str = "Where its trace events are written, for Perfetto or Chrome's tracing";
+
 // How many workers compile where no number stands.
 const WORKERS: &str = "1";
 
@@ -173,6 +176,7 @@ pub fn explain_command<'a>(alloc: Global) -> Result<Command<'a>, AllocError>
             "OUT",
             "Where the picture of the run is written",
         ))?
+        .arg(valued(alloc, "timeline", "OUT", TIMELINE))?
         .arg(flag(alloc, "hints", HINTS))
 }
 
@@ -202,6 +206,7 @@ fn explore_command<'a>(alloc: Global) -> Result<Command<'a>, AllocError>
             "OUT",
             "Where the picture of what is found is written",
         ))?
+        .arg(valued(alloc, "timeline", "OUT", TIMELINE))?
         .arg(flag(alloc, "hints", HINTS))
 }
 

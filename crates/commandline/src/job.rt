@@ -70,7 +70,7 @@ pub enum Job<'a> {
         /// Whether hints stand behind a refusal of the source text.
         hints: bool,
     },
-    /// Print the source actions that a run of the source text of a file is, and draw them where that is wanted.
+    /// Print the source actions that a run of the source text of a file is, and draw and time them where that is wanted.
     Explain {
         /// The name of the source text's file.
         file: &'a str,
@@ -78,6 +78,8 @@ pub enum Job<'a> {
         by: ExplainedBy<'a>,
         /// The name of the picture's file, where one is wanted.
         chart: Option<&'a str>,
+        /// The name of the timeline's file, where one is wanted.
+        timeline: Option<&'a str>,
         /// Whether hints stand behind a refusal of the source text.
         hints: bool,
     },
@@ -91,7 +93,7 @@ pub enum Job<'a> {
         hints: bool,
     },
     /// Search all runs of the source text of a file for one that gets stuck, and for one in which a process aborts; print
-    /// what is found, and draw it where that is wanted.
+    /// what is found, and draw and time it where that is wanted.
     Explore {
         /// The name of the source text's file.
         file: &'a str,
@@ -101,6 +103,8 @@ pub enum Job<'a> {
         strays: bool,
         /// The name of the picture's file, where one is wanted.
         chart: Option<&'a str>,
+        /// The name of the timeline's file, where one is wanted.
+        timeline: Option<&'a str>,
         /// Whether hints stand behind a refusal of the source text.
         hints: bool,
     },
@@ -253,11 +257,13 @@ fn explain_of<'a>(matches: &ArgMatches<'a>) -> Option<Job<'a>>
     let file = matches.get_str("FILE")?;
     let by = explained_by(matches)?;
     let chart = matches.get_str("chart");
+    let timeline = matches.get_str("timeline");
     let hints = matches.get_flag("hints");
     Some(Job::Explain {
         file,
         by,
         chart,
+        timeline,
         hints,
     })
 }
@@ -282,12 +288,14 @@ fn explore_of<'a>(matches: &ArgMatches<'a>) -> Option<Job<'a>>
     let states = states_of(matches)?;
     let strays = matches.get_flag("strays");
     let chart = matches.get_str("chart");
+    let timeline = matches.get_str("timeline");
     let hints = matches.get_flag("hints");
     Some(Job::Explore {
         file,
         states,
         strays,
         chart,
+        timeline,
         hints,
     })
 }

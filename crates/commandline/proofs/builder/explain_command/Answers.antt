@@ -22,13 +22,17 @@ returns-clause-app c =
     ∙ ap₂ with_rule fifth c.valued-2.ensures.rule in
     let seventh = c.in_ok-arg-7.ensures.shape c.valued-3.ensures.local
     ∙ ap₂ with_rule sixth c.valued-3.ensures.rule in
-    IfOk-weaker c.arg-8.result _ _ (λ r h. h.shape c.flag.ensures.local
-    ∙ ap₂ with_rule seventh c.flag.ensures.rule) c.arg-8.ensures
+    let eighth = c.in_ok-arg-8.ensures.shape c.valued-4.ensures.local
+    ∙ ap₂ with_rule seventh c.valued-4.ensures.rule in
+    IfOk-weaker c.arg-9.result _ _ (λ r h. h.shape c.flag.ensures.local
+    ∙ ap₂ with_rule eighth c.flag.ensures.rule) c.arg-9.ensures
 
 pub returns-clause-local : goal.returns-clause-local
-returns-clause-local c = IfOk-weaker c.arg-8.result _ _ (λ r h. rw (
+returns-clause-local c = IfOk-weaker c.arg-9.result _ _ (λ r h. rw (
   h.globals,
   c.flag.ensures.local,
+  c.in_ok-arg-8.ensures.globals,
+  c.valued-4.ensures.local,
   c.in_ok-arg-7.ensures.globals,
   c.valued-3.ensures.local,
   c.in_ok-arg-6.ensures.globals,
@@ -45,4 +49,4 @@ returns-clause-local c = IfOk-weaker c.arg-8.result _ _ (λ r h. rw (
   c.positional.ensures.local,
   c.about.ensures,
   c.new.ensures.local,
-) refl) c.arg-8.ensures
+) refl) c.arg-9.ensures

@@ -16,13 +16,17 @@ returns-clause-app c =
     ∙ ap₂ with_rule second c.flag.ensures.rule in
     let fourth = c.in_ok-arg-4.ensures.shape c.valued.ensures.local
     ∙ ap₂ with_rule third c.valued.ensures.rule in
-    IfOk-weaker c.arg-5.result _ _ (λ r h. h.shape c.flag-2.ensures.local
-    ∙ ap₂ with_rule fourth c.flag-2.ensures.rule) c.arg-5.ensures
+    let fifth = c.in_ok-arg-5.ensures.shape c.valued-2.ensures.local
+    ∙ ap₂ with_rule fourth c.valued-2.ensures.rule in
+    IfOk-weaker c.arg-6.result _ _ (λ r h. h.shape c.flag-2.ensures.local
+    ∙ ap₂ with_rule fifth c.flag-2.ensures.rule) c.arg-6.ensures
 
 pub returns-clause-local : goal.returns-clause-local
-returns-clause-local c = IfOk-weaker c.arg-5.result _ _ (λ r h. rw (
+returns-clause-local c = IfOk-weaker c.arg-6.result _ _ (λ r h. rw (
   h.globals,
   c.flag-2.ensures.local,
+  c.in_ok-arg-5.ensures.globals,
+  c.valued-2.ensures.local,
   c.in_ok-arg-4.ensures.globals,
   c.valued.ensures.local,
   c.in_ok-arg-3.ensures.globals,
@@ -33,4 +37,4 @@ returns-clause-local c = IfOk-weaker c.arg-5.result _ _ (λ r h. rw (
   c.positional.ensures.local,
   c.about.ensures,
   c.new.ensures.local,
-) refl) c.arg-5.ensures
+) refl) c.arg-6.ensures
