@@ -1,5 +1,5 @@
 -- What comes of an entry that was drawn: a run of such entries comes to its end.
-use Rattle.std.proofs.Common.{◌≡◌, ◌≤◌, ◌<◌, ◌+◌, ◌-◌, ◌++◌, ℕ, zero, suc, Bool, true, false, List, [], ◌∷◌}
+use Rattle.std.proofs.Common.{◌≡◌, ◌≤◌, ◌<◌, ◌+◌, ◌-◌, ℕ, zero, suc, Bool, true, false, List, [], ◌∷◌}
 use Rattle.std.proofs.Common.{Some, Result, Ok, Err, OnOk, IfErr, slice_get, slice_set, refl, ap, arith, ◌∙◌}
 use Rattle.isa.specs.Programs.{Program}
 use Rattle.runner.specs.declared.fault.RunFault.{RunFault}
@@ -65,4 +65,5 @@ pub wake_fails : {T : Type 0} → (A B : Type 0) (p : Program) (strays : Bool) (
     (r : Result T RunFault) → IsAsleep h.concrete t → cost h.log < limit
     → IfErr r (λ fault. A × B × RefusesOutside limit h t fault) → IfErr r (λ fault. CanFail p strays limit fault)
 wake_fails A B p strays limit h t (Ok x) sleeps room refuses = refuses
-wake_fails A B p strays limit h t (Err fault) sleeps room refuses = fails_by p strays limit h t fault sleeps room refuses.2
+wake_fails A B p strays limit h t (Err fault) sleeps room refuses =
+    fails_by p strays limit h t fault sleeps room refuses.2

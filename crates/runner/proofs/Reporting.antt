@@ -1,15 +1,14 @@
 -- What is told of a run whose threads can make no entry more.
-use Rattle.std.proofs.Common.{◌≡◌, ◌≤◌, ℕ, List, Bool, true, false, Result, Ok, Err, IfOk, MatchResult, is_ok, ap, sym, ◌∙◌}
+use Rattle.std.proofs.Common.{◌≡◌, ◌≤◌, ℕ, List, Bool, false, Result, Ok, Err, IfOk, MatchResult, is_ok, ap, sym, ◌∙◌}
 use Rattle.std.proofs.Common.{subst}
 use Rattle.std.specs.List.{All}
 use Rattle.isa.specs.Programs.{Program}
 use Rattle.machine.specs.declared.event.Entry.{Entry}
 use Rattle.machine.specs.States.{opening_concrete}
-use Rattle.machine.specs.ConcreteSteps.{can_move}
 use Rattle.machine.specs.Views.{View, concrete}
 use Rattle.runner.specs.declared.report.Report.{Report}
 use Rattle.runner.specs.Logs.{Runs, IsOwnEntry, cost}
-use Rattle.runner.specs.Reports.{IsReport, IsVerdict, PassesLimit}
+use Rattle.runner.specs.Reports.{IsReport, IsVerdict}
 use Rattle.runner.specs.Rounds.{Idle}
 use Rattle.runner.specs.Views.{LogState}
 

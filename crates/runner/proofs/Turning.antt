@@ -1,6 +1,6 @@
 -- Entries that are taken by the threads and counts of others, and those that can't be.
 use Rattle.std.proofs.Common.{◌≡◌, ℕ, ◌+◌, ◌<◌, ◌≤◌, ◌^◌, ◌⊎◌, List, [], ◌∷◌, ◌++◌, map, take, length, Bool, true}
-use Rattle.std.proofs.Common.{false, Option, Some, None, is_some, Result, Ok, Err, is_ok, is_err, get_or, not, refl, ap, sym}
+use Rattle.std.proofs.Common.{false, Option, Some, None, is_some, Result, Ok, Err, get_or, refl, ap, sym}
 use Rattle.std.proofs.Common.{◌∙◌, subst, arith, inl, inr}
 use Rattle.std.proofs.lemmas.List.{take_more, take_all, map-append}
 use Rattle.std.proofs.lemmas.List.Sums.{sum_by-append}
@@ -16,11 +16,9 @@ use Rattle.machine.specs.Views.{View, concrete}
 use Rattle.machine.specs.ConcreteOutside.{stray_of}
 use Rattle.machine.specs.declared.event.StepFault.{StepFault}
 use Rattle.machine.proofs.Placing.{thread_at-put}
-use Rattle.runner.specs.declared.log_schedule.FollowLogFault.{FollowLogFault}
-use Rattle.runner.specs.declared.log_schedule.FollowLogFault.TheVariants.{BadEntry}
 use Rattle.runner.specs.declared.report.Report.{Report}
 use Rattle.runner.specs.LogSchedules.{Shape, shape_of, FollowsLog, IsFollowedLog, CannotTake, IsBadLogEntry}
-use Rattle.runner.specs.Logs.{Runs, Enters, EntersOwn, EntersOutside, Ends, cost, event_cost, is_outside}
+use Rattle.runner.specs.Logs.{Runs, Enters, EntersOwn, Ends, cost, event_cost, is_outside}
 use Rattle.runner.specs.Reports.{IsVerdict}
 use Rattle.runner.proofs.Going.{runs_more}
 use Rattle.runner.proofs.Owning.{own_entry, tells_outside}

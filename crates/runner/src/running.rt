@@ -18,7 +18,7 @@ use words::Gate;
 ///
 /// It makes entries round after round. A round goes through the threads by rising number, those made in the round
 /// included, and makes one entry for each that can move; one whose entry would pass the limit is passed over from then
-/// on.
+/// on. No entry is a wake from outside.
 ///
 /// Refuses only with `Memory` and with `Broken`, where some legal log within the limit leads a thread, within a turn
 /// of local steps, to a step that may not be.

@@ -18,7 +18,7 @@ use words::Gate;
 ///
 /// A worker takes local steps by itself, and hands them in under one lock, with the shared step that comes next. The
 /// worker of a thread that sleeps parks until another's entry wakes its thread. One whose entry would pass the limit
-/// ends. The calling thread starts the workers, and returns when all have ended.
+/// ends. The calling thread starts the workers, and returns when all have ended. No entry is a wake from outside.
 ///
 /// Refuses only with `Memory`, also where a worker can't be started, and with `Broken`, where some legal log within the
 /// limit leads a thread, within a turn of local steps, to a step that may not be. Then all workers end before their

@@ -1,4 +1,5 @@
-use Rattle.std.proofs.Common.{ℕ, sym, ◌∙◌, subst}
+use Rattle.std.proofs.Common.{ℕ, List, sym, ◌∙◌, subst}
+use Rattle.std.specs.List.{Contains}
 use Rattle.std.proofs.lemmas.List.Elements.{All-contains}
 use Rattle.machine.specs.States.{ConcreteState}
 use Rattle.machine.specs.Views.{concrete}
@@ -13,4 +14,5 @@ pub returns-clause-drawn : goal.returns-clause-drawn
 returns-clause-drawn g c =
     subst (λ (k : ConcreteState). IsDrawn k c.args.refused.now c.pick.result) c.machine.ensures.concrete
     (All-contains (IsDrawn (concrete c.machine.result.now) c.args.refused.now) c.movers-movers.result.items
-    c.pick.result c.movers-movers.ensures.drawn c.pick.ensures)
+    c.pick.result c.movers-movers.ensures.drawn
+    (subst (λ (xs : List ℕ). Contains xs c.pick.result) c.deref.ensures.0 c.pick.ensures))

@@ -18,13 +18,13 @@ make_entry-requires-clause-thread g c =
 
 pub returns-in_ok-make_entry-in-Mover-clause-less : goal.returns-in_ok-make_entry-in-Mover-clause-less
 returns-in_ok-make_entry-in-Mover-clause-less g c =
-    let e = c.in_ok-make_entry.ensures in
+    let e = c.in_ok-make_entry-in-Mover.ensures in
     let drawn : MayBeDrawn g.J.RunName.strays g.J.RunName.limit (log_state c.args.shared.now) c.args.refused.now
     (Mover c.in-Mover.t) =
     subst (λ (d : Drawn). MayBeDrawn g.J.RunName.strays g.J.RunName.limit (log_state c.args.shared.now)
     c.args.refused.now d) c.in-Mover.is c.requires.drawn in
     draws_end g.J.RunName.limit (cost c.args.shared.now.log) (cost c.make_entry.new.shared.log)
-    c.in_ok-make_entry.field-0 c.args.refused.now c.make_entry.new.refused c.in-Mover.t drawn.0.1 e.made
+    c.in_ok-make_entry-in-Mover.field-0 c.args.refused.now c.make_entry.new.refused c.in-Mover.t drawn.0.1 e.made
     (λ n. ap (λ (h : LogState). cost h.log) (e.none n).0) e.kept (λ n. e.passed n drawn.0)
 
 pub returns-in-Sleeper-clause-past : goal.returns-in-Sleeper-clause-past

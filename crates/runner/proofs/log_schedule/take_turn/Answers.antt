@@ -1,4 +1,4 @@
-use Rattle.std.proofs.Common.{◌≡◌, ◌∙◌, ℕ, ap, sym, subst, arith, inl, Some, true}
+use Rattle.std.proofs.Common.{◌≡◌, ◌∙◌, ℕ, ap, sym, subst, arith, inl, Some}
 use Rattle.locals.specs.Steps.{local_after}
 use Rattle.machine.specs.Views.{concrete}
 use Rattle.runner.specs.LogSchedules.{shape_of}
