@@ -123,30 +123,30 @@ is_there p wf done s a s' run (inr (inr x)) = ap is_some x.3.stands
 -- then each run leads to what is kept, and to no end that the search hasn't found
 module _ (p : Program) (wf : WellFormed p) (strays : Bool) (first kept : List SourceState)
     (opens : IsKept first (opening p)) (longer : IsLonger first kept) (expanded : All (IsExpanded p strays kept) kept)
-    where
-  goes_to_kept : (actions done : List Action) (s e : SourceState) → Leads p (opening p) done s → IsKept kept s
-      → Leads p s actions e → AreFrom strays actions → IsKept kept e
-  goes_to_kept [] done s e run is led from = subst (IsKept kept) led is
-  goes_to_kept (a ∷ actions) done s e run is led from =
-      let expands : IsExpanded p strays kept s =
-      expanded_like p strays kept s is.0 (like_back is.0 s is.2)
-      (All-contains (IsExpanded p strays kept) kept is.0 expanded is.1) in
-      goes_to_kept actions (done ++ a ∷ []) led.0 e (leads_more p (opening p) s led.0 done a run led.1)
-      (expands a (is_there p wf done s a led.0 run led.1) from.0 led.0 led.1) led.2 from.1
+  where
+    goes_to_kept : (actions done : List Action) (s e : SourceState) → Leads p (opening p) done s → IsKept kept s
+        → Leads p s actions e → AreFrom strays actions → IsKept kept e
+    goes_to_kept [] done s e run is led from = subst (IsKept kept) led is
+    goes_to_kept (a ∷ actions) done s e run is led from =
+        let expands : IsExpanded p strays kept s =
+        expanded_like p strays kept s is.0 (like_back is.0 s is.2)
+        (All-contains (IsExpanded p strays kept) kept is.0 expanded is.1) in
+        goes_to_kept actions (done ++ a ∷ []) led.0 e (leads_more p (opening p) s led.0 done a run led.1)
+        (expands a (is_there p wf done s a led.0 run led.1) from.0 led.0 led.1) led.2 from.1
 
-  all_kept : (actions : List Action) (s : SourceState) → Leads p (opening p) actions s → AreFrom strays actions
-      → IsKept kept s
-  all_kept actions s led from =
-      goes_to_kept actions [] (opening p) s refl (kept_still first kept longer (opening p) opens) led from
+    all_kept : (actions : List Action) (s : SourceState) → Leads p (opening p) actions s → AreFrom strays actions
+        → IsKept kept s
+    all_kept actions s led from =
+        goes_to_kept actions [] (opening p) s refl (kept_still first kept longer (opening p) opens) led from
 
-  pub nowhere_stuck : (stuck : Option ℕ) → NoneIs (IsStuck p) kept stuck → stuck ≡ None
-      → LeadsNowhere p strays (IsStuck p)
-  nowhere_stuck stuck none e actions s run from bad =
-      let is : IsKept kept s = all_kept actions s run from in
-      All-contains (λ s. IsStuck p s → ⊥) kept is.0 (none e) is.1 (like_stuck p s is.0 (like_back is.0 s is.2) bad)
+    pub nowhere_stuck : (stuck : Option ℕ) → NoneIs (IsStuck p) kept stuck → stuck ≡ None
+        → LeadsNowhere p strays (IsStuck p)
+    nowhere_stuck stuck none e actions s run from bad =
+        let is : IsKept kept s = all_kept actions s run from in
+        All-contains (λ s. IsStuck p s → ⊥) kept is.0 (none e) is.1 (like_stuck p s is.0 (like_back is.0 s is.2) bad)
 
-  pub nowhere_aborted : (aborted : Option ℕ) → NoneIs HasAborted kept aborted → aborted ≡ None
-      → LeadsNowhere p strays HasAborted
-  nowhere_aborted aborted none e actions s run from bad =
-      let is : IsKept kept s = all_kept actions s run from in
-      All-contains (λ s. HasAborted s → ⊥) kept is.0 (none e) is.1 (like_aborted s is.0 (like_back is.0 s is.2) bad)
+    pub nowhere_aborted : (aborted : Option ℕ) → NoneIs HasAborted kept aborted → aborted ≡ None
+        → LeadsNowhere p strays HasAborted
+    nowhere_aborted aborted none e actions s run from bad =
+        let is : IsKept kept s = all_kept actions s run from in
+        All-contains (λ s. HasAborted s → ⊥) kept is.0 (none e) is.1 (like_aborted s is.0 (like_back is.0 s is.2) bad)

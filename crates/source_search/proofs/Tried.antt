@@ -216,19 +216,19 @@ with_strays p strays s n own actions are all stray kind s' from (inr (inr x)) =
     absurd (subst (IsFrom strays) x.2 from)
 
 module _ (p : Program) (strays : Bool) (s : SourceState) (n : ℕ) (own : List Action) (are : AreOwnChoices p s n own)
-    where
-  pub not_searched : strays ≡ false → AreChoices p strays s n own
-  not_searched e = with_strays p strays s n own own are (λ a i. i)
-      (λ c searched waits. absurd (let differ : true ≡ false = sym searched ∙ e in cc))
+  where
+    pub not_searched : strays ≡ false → AreChoices p strays s n own
+    not_searched e = with_strays p strays s n own own are (λ a i. i)
+        (λ c searched waits. absurd (let differ : true ≡ false = sym searched ∙ e in cc))
 
-  pub not_waiting : s.table.waits n ≡ None → AreChoices p strays s n own
-  not_waiting e = with_strays p strays s n own own are (λ a i. i)
-      (λ c searched waits. absurd (let differ : Some c ≡ None = sym waits ∙ e in cc))
+    pub not_waiting : s.table.waits n ≡ None → AreChoices p strays s n own
+    not_waiting e = with_strays p strays s n own own are (λ a i. i)
+        (λ c searched waits. absurd (let differ : Some c ≡ None = sym waits ∙ e in cc))
 
-  pub waiting : (c : Member) (actions : List Action) → s.table.waits n ≡ Some c → actions ≡ own ++ by n (Stray c) ∷ []
-      → AreChoices p strays s n actions
-  waiting c actions e is = with_strays p strays s n own actions are
-      (λ a i. subst (λ l. Contains l a) (sym is) (Contains-append_left own (by n (Stray c) ∷ []) a i))
-      (λ d searched waits. subst (λ l. Contains l (by n (Stray d))) (sym is)
-      (subst (λ x. Contains (own ++ by n (Stray c) ∷ []) (by n (Stray x))) (some_once c d (sym e ∙ waits))
-      (Contains-push own (by n (Stray c)))))
+    pub waiting : (c : Member) (actions : List Action) → s.table.waits n ≡ Some c → actions ≡ own ++ by n (Stray c) ∷ []
+        → AreChoices p strays s n actions
+    waiting c actions e is = with_strays p strays s n own actions are
+        (λ a i. subst (λ l. Contains l a) (sym is) (Contains-append_left own (by n (Stray c) ∷ []) a i))
+        (λ d searched waits. subst (λ l. Contains l (by n (Stray d))) (sym is)
+        (subst (λ x. Contains (own ++ by n (Stray c) ∷ []) (by n (Stray x))) (some_once c d (sym e ∙ waits))
+        (Contains-push own (by n (Stray c)))))
