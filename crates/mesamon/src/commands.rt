@@ -6,6 +6,7 @@ ghost use Rattle.compiler.specs.Accepts.{AcceptsText};
 ghost use Rattle.compiler.specs.Compiles.{IsCompiled};
 ghost use Rattle.mesamon.specs.Commands.{HasChecked, HasCompiled, HasDone, HasEnded, HasListed};
 
+use crate::drawing::Drawings;
 use crate::explaining::explain_file;
 use crate::exploring::explore_file;
 use crate::failure::Failure;
@@ -113,16 +114,21 @@ fn do_job<'a, R: Files + AllocGlobal + Threads + Wait + Sync, O: Write, E: Write
             file,
             by,
             chart,
+            timeline,
             hints,
-        } => explain_file(rt, file, by, chart, hints, output),
+        } => explain_file(rt, file, by, Drawings { chart, timeline }, hints, output),
         Job::Emit { file, out, hints } => emit_file(rt, file, out, hints, output),
         Job::Explore {
             file,
             states,
             strays,
             chart,
+            timeline,
             hints,
-        } => explore_file(rt, file, states, strays, chart, hints, output),
+        } => {
+            let drawings = Drawings { chart, timeline };
+            explore_file(rt, file, states, strays, drawings, hints, output)
+        }
     }
 }
 

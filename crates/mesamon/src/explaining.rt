@@ -3,27 +3,28 @@ ghost use Rattle.devices.specs.Writing.{HasAll};
 ghost use Rattle.mesamon.specs.Asked.{IsExplainedAs};
 ghost use Rattle.mesamon.specs.Commands.{HasExplained};
 
+use crate::drawing::Drawings;
 use crate::explained_run::{ExplainedRun, explain_by_seed, explain_schedule, explain_source};
 use crate::failure::Failure;
-use crate::files::{bytes_of, put_bytes, whole_bytes_of};
+use crate::files::{bytes_of, whole_bytes_of};
 use crate::hinting::{SourceText, hinted};
 use crate::schedule::schedule_of;
 use crate::showing::status_of;
 use crate::source_log::explain_log_text;
 use crate::status::Status;
 use actionlines::action_lines;
-use chart::chart;
 use commandline::ExplainedBy;
 use devices::{Counted, write_bytes};
 use std::io::Write;
 use std::rt::Files;
 
-/// Prints what a run of the source text of a file is in its source, and draws it to another file where one is named.
+/// Prints what a run of the source text of a file is in its source, and shows it in other files where they are
+/// named.
 pub fn explain_file<'a, R: Files + AllocGlobal, O: Write>(
     rt: &R,
     file: &'a str,
     by: ExplainedBy<'a>,
-    out: Option<&'a str>,
+    drawings: Drawings<'a>,
     hints: bool,
     output: &mut Counted<O>,
 ) -> Result<Status, Failure<'a>>
@@ -38,9 +39,7 @@ pub fn explain_file<'a, R: Files + AllocGlobal, O: Write>(
     };
     let run = explain_text(rt, &text, by)?;
     let lines = action_lines(rt.alloc(), run.checked.names(), run.actions.as_slice())?;
-    if let Some(out) = out {
-        put_chart(rt, out, &run)?;
-    }
+    drawings.put(rt, &run.checked, run.actions.as_slice())?;
     write_bytes(output, lines.as_slice())?;
     Ok(status_of(run.report.verdict))
 }
@@ -79,14 +78,4 @@ fn explain_by<'a, 't, R: Files + AllocGlobal>(
             Ok(explain_log_text(rt.alloc(), text, log.as_slice())?)
         }
     }
-}
-
-// Draws a run to a file.
-fn put_chart<'a, R: Files + AllocGlobal>(
-    rt: &R,
-    out: &'a str,
-    run: &ExplainedRun<'_>,
-) -> Result<(), Failure<'a>> {
-    let picture = chart(rt.alloc(), &run.checked, run.actions.as_slice())?;
-    put_bytes(rt, out, picture.as_slice())
 }

@@ -6,12 +6,12 @@ ghost use Rattle.compiler.specs.Accepts.{RefusesText};
 ghost use Rattle.mesamon.specs.Exploring.{end_lines, explored_lines, explored_status, states_line};
 ghost use Rattle.mesamon.specs.Exploring.{HasExplored, IsExploredText, IsFoundOf};
 
+use crate::drawing::Drawings;
 use crate::failure::Failure;
-use crate::files::{bytes_of, put_bytes};
+use crate::files::bytes_of;
 use crate::hinting::{SourceText, hinted};
 use crate::status::Status;
 use actionlines::action_lines;
-use chart::chart;
 use compiler::{compile_checked, text_laws};
 use devices::{Counted, write_bytes};
 use image_ends::image_laws;
@@ -73,14 +73,14 @@ fn explore_checked(
     explore(alloc, checked, most_states, strays)
 }
 
-/// Searches all runs of the source text of a file, with stray wakes or without, prints what is found, and draws it to
-/// another file where one is named and anything was found.
+/// Searches all runs of the source text of a file, with stray wakes or without, prints what is found, and shows it in
+/// other files where they are named and anything was found.
 pub fn explore_file<'a, R: Files + AllocGlobal, O: Write>(
     rt: &R,
     file: &'a str,
     most_states: u32,
     strays: bool,
-    out: Option<&'a str>,
+    drawings: Drawings<'a>,
     hints: bool,
     output: &mut Counted<O>,
 ) -> Result<Status, Failure<'a>>
@@ -95,9 +95,7 @@ pub fn explore_file<'a, R: Files + AllocGlobal, O: Write>(
     };
     let explored = explore_text(rt.alloc(), &text, most_states, strays)?;
     let lines = lines_of(rt.alloc(), &explored)?;
-    if let Some(out) = out {
-        put_found(rt, out, &explored)?;
-    }
+    put_found(rt, drawings, &explored)?;
     write_bytes(output, lines.as_slice())?;
     Ok(status_of_found(&explored.exploration))
 }
@@ -118,30 +116,20 @@ fn explore_text<'a, 't>(
     ))
 }
 
-// Draws the run that was found to a file: the stuck one, where there are two.
+// Shows the run that was found in files: the stuck one, where there are two.
 fn put_found<'a, R: Files + AllocGlobal>(
     rt: &R,
-    out: &'a str,
+    drawings: Drawings<'a>,
     explored: &ExploredText<'_>,
 ) -> Result<(), Failure<'a>> {
     let found = &explored.exploration;
     if let Some(actions) = &found.stuck {
-        return put_run(rt, out, &explored.checked, actions.as_slice());
+        return drawings.put(rt, &explored.checked, actions.as_slice());
     }
     match &found.aborted {
-        Some(actions) => put_run(rt, out, &explored.checked, actions.as_slice()),
+        Some(actions) => drawings.put(rt, &explored.checked, actions.as_slice()),
         None => Ok(()),
     }
-}
-
-fn put_run<'a, R: Files + AllocGlobal>(
-    rt: &R,
-    out: &'a str,
-    checked: &Checked<'_>,
-    actions: &[Action],
-) -> Result<(), Failure<'a>> {
-    let picture = chart(rt.alloc(), checked, actions)?;
-    put_bytes(rt, out, picture.as_slice())
 }
 
 // How a search ended.

@@ -2,6 +2,7 @@
 #![tactic(auto)]
 
 mod commands;
+mod drawing;
 mod explained_run;
 mod explaining;
 mod exploring;
