@@ -51,7 +51,8 @@ impl StrayForgery {
                 }
             }
         }
-        entries.push(forged)
+        entries.push(forged)?;
+        Ok(())
     }
 
     // The log up to its first wake from outside, which is forged.
