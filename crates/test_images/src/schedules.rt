@@ -143,10 +143,10 @@ fn run_schedule(
     let mut machine = Machine::new(alloc, image, BUCKETS)?;
     let mut schedule = Schedule::new(seed);
     for before in 0..bounds.limit {
-        machine.make_room(1)?;
         if bounds.wakes_at(before) && wake(&mut machine, &mut schedule)? {
             continue;
         }
+        machine.make_room(1)?;
         let Some(thread) = schedule.next(&machine) else {
             break;
         };

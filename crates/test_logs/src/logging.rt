@@ -67,12 +67,19 @@ fn wake(machine: &mut Machine, sequence: &mut Sequence) -> Option<Entry> {
     })
 }
 
-// The turn of a thread that is drawn among those that can move, of so many local steps at most; None where none can.
-fn draw_turn(machine: &mut Machine, sequence: &mut Sequence, mask: u32) -> Option<Entry>
-    requires room { 1 ≤ machine.old.room }
-{
-    let thread = draw_mover(machine, sequence)?;
-    take_turn(machine, thread, (sequence.draw() & mask) + 1).ok()
+// The turn of a thread that is drawn among those that can move, of one local step more than the mask has at most; None
+// where none can.
+fn draw_turn(
+    machine: &mut Machine,
+    sequence: &mut Sequence,
+    mask: u32,
+) -> Result<Option<Entry>, AllocError> {
+    machine.make_room(1)?;
+    let Some(thread) = draw_mover(machine, sequence) else {
+        return Ok(None);
+    };
+    let most = (sequence.draw() & mask).saturating_add(1);
+    Ok(take_turn(machine, thread, most).ok())
 }
 
 /// The log of an image's run by the schedule of a seed, with wakes from outside, as far as so many entries.
@@ -90,7 +97,6 @@ pub fn log_with_strays(
     let mask = !(u32::MAX << (seed % SORTS));
     let mut log = Vec::new(alloc);
     for before in 0..most {
-        machine.make_room(1)?;
         let stray = if before % STRAY == STRAY - 1 {
             wake(&mut machine, &mut sequence)
         } else {
@@ -98,7 +104,7 @@ pub fn log_with_strays(
         };
         let entry = match stray {
             Some(entry) => Some(entry),
-            None => draw_turn(&mut machine, &mut sequence, mask),
+            None => draw_turn(&mut machine, &mut sequence, mask)?,
         };
         let Some(entry) = entry else {
             break;
