@@ -12,7 +12,7 @@ pub enum Failure {
     /// Its text is refused.
     #[error("{0}")]
     Refused(Refusal),
-    /// The log is that of no run.
+    /// The image can't be run, or its log is that of no run.
     #[error("no run")]
     Run,
     /// The timeline is no text.

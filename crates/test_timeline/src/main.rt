@@ -1,8 +1,9 @@
 //! Checks the timelines of runs, and prints how many records of each kind they have. A row on standard input is
 //!
 //! ```text
-//! SEED COUNT | TEXT          a run by the schedule of a seed, of so many entries of its log at most
-//! show SEED COUNT | TEXT     the same, and the timeline is printed too
+//! SEED STEPS STRAYS | TEXT          a run in the order of a seed, of so many steps at most, in which about one
+//!                                   entry in so many is a stray wake, or none where that number is 0
+//! show SEED STEPS STRAYS | TEXT     the same, and the timeline is printed too
 //! ```
 //!
 //! with a source text on one line. Empty lines and lines that begin with `--` say nothing.
@@ -41,7 +42,7 @@ fn main(rt: HostRuntime) -> io::Result<()> {
 fn show<R: AllocGlobal + Print>(rt: &R, line: &str) -> Result<(), Failure> {
     let row = Row::of_line(line)?;
     let (checked, lowered) = compile_checked(rt.alloc(), row.text.as_bytes())?;
-    let actions = actions_of(rt.alloc(), &checked, &lowered.image, row.seed, row.most)?;
+    let actions = actions_of(rt.alloc(), &checked, &lowered.image, &row)?;
     let count = actions.len();
     let file = timeline(rt.alloc(), &checked, actions.as_slice())?;
     let file = str::from_utf8(file.as_slice()).map_err(|_| Failure::Text)?;

@@ -1,20 +1,22 @@
 use crate::failure::Failure;
 use isa::Image;
 use program::Checked;
+use runner::{RunFault, run_by_seed};
 use simulation::{ExplainFault, explain};
 use source_states::Action;
 use std::alloc::Global;
-use test_logs::log_of;
 
 /// A row on standard input.
 #[derive(Clone, Copy)]
 pub struct Row<'a> {
     /// Whether the timeline is printed.
     pub shown: bool,
-    /// The seed of the schedule.
-    pub seed: u32,
-    /// The most entries of the log.
-    pub most: u32,
+    /// The seed of the run's order.
+    pub seed: u64,
+    /// The most steps of the machine.
+    pub steps: u32,
+    /// One entry in about so many is a stray wake; 0 where none is.
+    pub strays: u32,
     /// The source text.
     pub text: &'a str,
 }
@@ -28,26 +30,31 @@ impl<'a> Row<'a> {
             Some(said) => (true, said),
             None => (false, said),
         };
-        let (seed, most) = said.split_once(' ').ok_or(Failure::Row)?;
+        let (seed, said) = said.split_once(' ').ok_or(Failure::Row)?;
+        let (steps, strays) = said.split_once(' ').ok_or(Failure::Row)?;
         Ok(Row {
             shown,
             seed: seed.parse().map_err(|_| Failure::Row)?,
-            most: most.parse().map_err(|_| Failure::Row)?,
+            steps: steps.parse().map_err(|_| Failure::Row)?,
+            strays: strays.parse().map_err(|_| Failure::Row)?,
             text,
         })
     }
 }
 
-/// The actions of a run of an image, which is that of a program.
+/// The actions of a row's run of an image, which is that of a program.
 pub fn actions_of(
     alloc: Global,
     checked: &Checked,
     image: &Image,
-    seed: u32,
-    most: u32,
+    row: &Row<'_>,
 ) -> Result<Vec<Action>, Failure> {
-    let log = log_of(alloc, image, seed, most)?;
-    match explain(alloc, checked, image, log.as_slice()) {
+    let report = match run_by_seed(alloc, image, row.steps, row.seed, Some(row.strays)) {
+        Ok(report) => report,
+        Err(RunFault::Memory) => return Err(Failure::Memory),
+        Err(_) => return Err(Failure::Run),
+    };
+    match explain(alloc, checked, image, report.log.as_slice()) {
         Ok(actions) => Ok(actions),
         Err(ExplainFault::Memory) => Err(Failure::Memory),
         Err(_) => Err(Failure::Run),
