@@ -5,7 +5,7 @@ pub returns-clause-wrote : goal.returns-clause-wrote
 returns-clause-wrote g c = record {
   text = _;
   image = _;
-  compiled = c.in_ok-image.ensures.accepted;
+  compiled = c.in_ok-image.ensures;
   wrote =
       rw (← c.code-count.ensures.value) (search rules);
 }
