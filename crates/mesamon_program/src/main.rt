@@ -1,4 +1,4 @@
-//! The program mesamon: it hands its words to `mesamon::perform`.
+//! The program mesamon: it hands its words to `mesamon::perform`, on a thread with a large stack.
 #![tactic(auto)]
 
 use mesamon::{Counted, Status, perform};
@@ -6,15 +6,35 @@ use std::io::Write;
 use std::process::ExitCode;
 use std::rt::{Env, Files};
 use std::sync::Wait;
-use std::thread::Threads;
+use std::thread::{Builder, Threads};
 use std::{env, io};
 
+// The stack of the thread that does the job, of which memory is taken as it is used. An expression is a tree as deep as
+// it has operators in a row, for which a text has room for half a million, and what goes over a tree calls itself.
+const STACK: usize = 1 << 30;
+
 fn main(rt: HostRuntime) -> ExitCode {
-    let mut output = Counted::new(rt.stdout());
-    let mut errors = Counted::new(rt.stderr());
-    match perform_words(&rt, &mut output, &mut errors) {
-        Ok(status) => ExitCode::from(status),
-        Err(error) => ExitCode::from(refuse(&rt, &error).code()),
+    let started = Builder::new()
+        .stack_size(STACK)
+        .spawn(&rt, move || do_job(&rt, rt.stdout(), rt.stderr()));
+    ExitCode::from(match started {
+        Ok(thread) => thread.join(&rt),
+        // Most texts need no more than the stack that there is.
+        Err(_) => do_job(&rt, rt.stdout(), rt.stderr()),
+    })
+}
+
+// Does the job, and answers the exit status.
+fn do_job<
+    R: Env + Files + Eprint + AllocGlobal + Threads + Wait + Sync,
+    O: Write + Drop,
+    E: Write + Drop,
+>(rt: &R, output: O, errors: E) -> u8 {
+    let mut output = Counted::new(output);
+    let mut errors = Counted::new(errors);
+    match perform_words(rt, &mut output, &mut errors) {
+        Ok(status) => status,
+        Err(error) => refuse(rt, &error).code(),
     }
 }
 
@@ -30,7 +50,7 @@ fn perform_words<R: Env + Files + AllocGlobal + Threads + Wait + Sync, O: Write,
 }
 
 // Says why there are no words: one of them is no UTF-8, or there was no memory for them.
-fn refuse(rt: &HostRuntime, error: &io::Error) -> Status {
+fn refuse(rt: &impl Eprint, error: &io::Error) -> Status {
     if error.kind() == io::ErrorKind::InvalidData {
         let _told = rt.eprintln("error: a word of the command line is not UTF-8");
         Status::Usage
