@@ -41,15 +41,26 @@ pub fn show_logs(rt: &HostRuntime, row: &str) -> Result<(), Failure> {
 pub fn show_strays(rt: &HostRuntime, row: &str) -> Result<(), Failure> {
     let row = row_of(row)?;
     let (checked, lowered) = compile_checked(rt.alloc(), row.text)?;
-    let subject = Subject {
-        alloc: rt.alloc(),
-        checked: &checked,
-        image: &lowered.image,
-        other: &lowered.image,
-    };
-    let trial = try_strays(&subject, row.count, row.most)?;
+    let trial = stray_trial_of(rt.alloc(), &checked, &lowered.image, row.count, row.most)?;
     show_stray_trial(rt, &trial)?;
     Ok(())
+}
+
+fn stray_trial_of(
+    alloc: Global,
+    checked: &Checked,
+    image: &Image,
+    count: u32,
+    most: u32,
+) -> Result<StrayTrial, Failure> {
+    let other = compile(alloc, OTHER)?;
+    let subject = Subject {
+        alloc,
+        checked,
+        image,
+        other: &other,
+    };
+    Ok(try_strays(&subject, count, most)?)
 }
 
 fn show_stray_trial(rt: &HostRuntime, trial: &StrayTrial) -> io::Result<()> {
