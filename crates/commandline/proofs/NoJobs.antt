@@ -14,15 +14,15 @@ use Rattle.commandline.specs.declared.job.Job.TheVariants.{Emit, Explore}
 use Rattle.commandline.proofs.Numbers.{no_value}
 
 pub no_check : (rows : List Row) (job : Job) → first_of (codes "FILE") rows ≡ None → IsCheckOf rows job → ⊥
-no_check rows (Check file) none h = no_value _ _ none h
+no_check rows (Check file hints) none h = no_value _ _ none h.0
 no_check rows other none h = h
 
 pub no_compile : (rows : List Row) (job : Job)
     → (first_of (codes "FILE") rows ≡ None) ⊎ ((first_of (codes "OUT") rows ≡ None)
     ⊎ ((n : ℕ) → ReadsWorkers rows n → ⊥)) → IsCompileOf rows job → ⊥
-no_compile rows (Compile file out workers) (inl none) h = no_value _ _ none h.0
-no_compile rows (Compile file out workers) (inr (inl none)) h = no_value _ _ none h.1
-no_compile rows (Compile file out workers) (inr (inr none)) h = none workers h.2
+no_compile rows (Compile file out workers hints) (inl none) h = no_value _ _ none h.0
+no_compile rows (Compile file out workers hints) (inr (inl none)) h = no_value _ _ none h.1
+no_compile rows (Compile file out workers hints) (inr (inr none)) h = none workers h.2
 no_compile rows other missing h = h
 
 pub no_list : (rows : List Row) (job : Job) → first_of (codes "IMAGE") rows ≡ None → IsListOf rows job → ⊥
@@ -31,8 +31,8 @@ no_list rows other none h = h
 
 pub no_run : (rows : List Row) (job : Job)
     → (first_of (codes "FILE") rows ≡ None) ⊎ ((o : RunOptions) → ReadsOptions rows o → ⊥) → AsksForRun rows job → ⊥
-no_run rows (Run file options) (inl none) h = no_value _ _ none h.0
-no_run rows (Run file options) (inr none) h = none options h.1
+no_run rows (Run file options hints) (inl none) h = no_value _ _ none h.0
+no_run rows (Run file options hints) (inr none) h = none options h.1
 no_run rows other missing h = h
 
 pub no_exec : (rows : List Row) (job : Job)
@@ -45,25 +45,25 @@ no_exec rows other missing h = h
 pub no_replay : (rows : List Row) (job : Job)
     → (first_of (codes "FILE") rows ≡ None) ⊎ ((r : ReplayedBy) → IsReplayedBy rows r → ⊥) → AsksForReplay rows job
     → ⊥
-no_replay rows (Replay file by trace) (inl none) h = no_value _ _ none h.0
-no_replay rows (Replay file by trace) (inr none) h = none by h.1
+no_replay rows (Replay file by trace hints) (inl none) h = no_value _ _ none h.0
+no_replay rows (Replay file by trace hints) (inr none) h = none by h.1
 no_replay rows other missing h = h
 
 pub no_explain : (rows : List Row) (job : Job)
     → (first_of (codes "FILE") rows ≡ None) ⊎ ((e : ExplainedBy) → IsExplainedBy rows e → ⊥) → IsExplainOf rows job
     → ⊥
-no_explain rows (Explain file by chart) (inl none) h = no_value _ _ none h.0
-no_explain rows (Explain file by chart) (inr none) h = none by h.1
+no_explain rows (Explain file by chart timeline hints) (inl none) h = no_value _ _ none h.0
+no_explain rows (Explain file by chart timeline hints) (inr none) h = none by h.1
 no_explain rows other missing h = h
 
 pub no_emit : (rows : List Row) (job : Job)
     → (first_of (codes "FILE") rows ≡ None) ⊎ (first_of (codes "OUT") rows ≡ None) → IsEmitOf rows job → ⊥
-no_emit rows (Emit file out) (inl none) h = no_value _ _ none h.0
-no_emit rows (Emit file out) (inr none) h = no_value _ _ none h.1
+no_emit rows (Emit file out hints) (inl none) h = no_value _ _ none h.0
+no_emit rows (Emit file out hints) (inr none) h = no_value _ _ none h.1
 no_emit rows other missing h = h
 
 pub no_explore : (rows : List Row) (job : Job)
     → (first_of (codes "FILE") rows ≡ None) ⊎ ((n : ℕ) → ReadsStates rows n → ⊥) → IsExploreOf rows job → ⊥
-no_explore rows (Explore file states chart) (inl none) h = no_value _ _ none h.0
-no_explore rows (Explore file states chart) (inr none) h = none states h.1
+no_explore rows (Explore file states strays chart timeline hints) (inl none) h = no_value _ _ none h.0
+no_explore rows (Explore file states strays chart timeline hints) (inr none) h = none states h.1
 no_explore rows other missing h = h

@@ -22,6 +22,9 @@ plain_explain = codes "explain" ∷ codes "a.mesa" ∷ []
 abbrev charted : List Text
 charted = codes "explain" ∷ codes "--chart" ∷ codes "a.svg" ∷ codes "a.mesa" ∷ []
 
+abbrev timed : List Text
+timed = codes "explore" ∷ codes "--timeline" ∷ codes "a.json" ∷ codes "a.mesa" ∷ []
+
 -- the command's name, and the text of an argument
 abbrev told : Text → List Text → Option (Text × Option Text)
 told id words = option_map (λ p. (p.0, one_of id p.1)) (subcommand_of command_line words)
@@ -61,6 +64,10 @@ explained_file_told = refl
 chart_told : told (codes "chart") charted ≡ Some (codes "explain", Some (codes "a.svg"))
 unfolding clap_on_literals
 chart_told = refl
+
+timeline_told : told (codes "timeline") timed ≡ Some (codes "explore", Some (codes "a.json"))
+unfolding clap_on_literals
+timeline_told = refl
 
 chart_left_out : told (codes "chart") plain_explain ≡ Some (codes "explain", None)
 unfolding clap_on_literals

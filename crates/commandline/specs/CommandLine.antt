@@ -65,67 +65,78 @@ seed_option = record (new_rule (codes "seed")) {
   parser = Some (Unsigned 0 18446744073709551615);
 }
 
+-- `--strays N`, from 1 to 4294967295
+abbrev pub strays_option : Rule
+strays_option = record (new_rule (codes "strays")) {
+  long = Some (codes "strays");
+  value_names = 1;
+  parser = Some (Unsigned 1 4294967295);
+}
+
 -- an option that has a value, of which no more is known
 abbrev pub valued : Text → Rule
 valued name = record (new_rule name) { long = Some name; value_names = 1 }
 
--- `--in-order`
-abbrev pub in_order_option : Rule
-in_order_option = record (new_rule (codes "in-order")) { long = Some (codes "in-order"); action = Some SetTrue }
+-- a flag: an option that stands or not
+abbrev pub flag : Text → Rule
+flag name = record (new_rule name) { long = Some name; action = Some SetTrue }
 
--- `--trace`
-abbrev pub trace_option : Rule
-trace_option = record (new_rule (codes "trace")) { long = Some (codes "trace"); action = Some SetTrue }
-
--- `[--steps N] [--in-order | --seed N] [--trace] [--log OUT]`
+-- `[--steps N] [--in-order | --seed N [--strays N]] [--trace] [--log OUT]`
 abbrev pub with_run_options : App → App
 with_run_options app =
-    with_rule (with_rule (with_rule (with_rule (with_rule app steps_option) in_order_option) seed_option) trace_option)
-    (valued (codes "log"))
+    with_rule (with_rule (with_rule (with_rule (with_rule (with_rule app steps_option) (flag (codes "in-order")))
+    seed_option) strays_option) (flag (codes "trace"))) (valued (codes "log"))
 
--- `compile FILE OUT [--workers N]`
+-- `compile FILE OUT [--workers N] [--hints]`
 abbrev pub compile_command : App
-compile_command = with_rule (with_rule (with_rule (new_app (codes "compile")) (positional (codes "FILE")))
-    (positional (codes "OUT"))) workers_option
+compile_command =
+    with_rule (with_rule (with_rule (with_rule (new_app (codes "compile")) (positional (codes "FILE")))
+    (positional (codes "OUT"))) workers_option) (flag (codes "hints"))
 
--- `emit FILE OUT`
+-- `emit FILE OUT [--hints]`
 abbrev pub emit_command : App
-emit_command = with_rule (with_rule (new_app (codes "emit")) (positional (codes "FILE"))) (positional (codes "OUT"))
+emit_command =
+    with_rule (with_rule (with_rule (new_app (codes "emit")) (positional (codes "FILE"))) (positional (codes "OUT")))
+    (flag (codes "hints"))
 
--- `check FILE`
+-- `check FILE [--hints]`
 abbrev pub check_command : App
-check_command = with_rule (new_app (codes "check")) (positional (codes "FILE"))
+check_command = with_rule (with_rule (new_app (codes "check")) (positional (codes "FILE"))) (flag (codes "hints"))
 
 -- `list IMAGE`
 abbrev pub list_command : App
 list_command = with_rule (new_app (codes "list")) (positional (codes "IMAGE"))
 
--- `run FILE [--steps N] [--in-order | --seed N] [--trace] [--log OUT]`
+-- `run FILE [--steps N] [--in-order | --seed N [--strays N]] [--trace] [--log OUT] [--hints]`
 abbrev pub run_command : App
-run_command = with_run_options (with_rule (new_app (codes "run")) (positional (codes "FILE")))
+run_command =
+    with_rule (with_run_options (with_rule (new_app (codes "run")) (positional (codes "FILE")))) (flag (codes "hints"))
 
--- `exec IMAGE [--steps N] [--in-order | --seed N] [--trace] [--log OUT]`
+-- `exec IMAGE [--steps N] [--in-order | --seed N [--strays N]] [--trace] [--log OUT]`
 abbrev pub exec_command : App
 exec_command = with_run_options (with_rule (new_app (codes "exec")) (positional (codes "IMAGE")))
 
--- `replay FILE (SCHEDULE [--log OUT] | --log LOG) [--trace]`
+-- `replay FILE (SCHEDULE [--log OUT] | --log LOG) [--trace] [--hints]`
 abbrev pub replay_command : App
 replay_command =
-    with_rule (with_rule (with_rule (with_rule (new_app (codes "replay")) (positional (codes "FILE")))
-    (new_rule (codes "SCHEDULE"))) trace_option) (valued (codes "log"))
+    with_rule (with_rule (with_rule (with_rule (with_rule (new_app (codes "replay")) (positional (codes "FILE")))
+    (new_rule (codes "SCHEDULE"))) (flag (codes "trace"))) (valued (codes "log"))) (flag (codes "hints"))
 
--- `explain FILE [[--steps N] [--seed N] | --schedule SCHEDULE | --log LOG] [--chart OUT]`
+-- `explain FILE [[--steps N] [--seed N [--strays N]] | --schedule SCHEDULE | --log LOG] [--chart OUT] [--timeline OUT]
+-- [--hints]`
 abbrev pub explain_command : App
 explain_command =
-    with_rule (with_rule (with_rule (with_rule (with_rule (with_rule (new_app (codes "explain"))
-    (positional (codes "FILE"))) steps_option) seed_option) (valued (codes "schedule"))) (valued (codes "log")))
-    (valued (codes "chart"))
+    with_rule (with_rule (with_rule (with_rule (with_rule (with_rule (with_rule (with_rule (with_rule
+    (new_app (codes "explain")) (positional (codes "FILE"))) steps_option) seed_option) strays_option)
+    (valued (codes "schedule"))) (valued (codes "log"))) (valued (codes "chart"))) (valued (codes "timeline")))
+    (flag (codes "hints"))
 
--- `explore FILE [--states N] [--chart OUT]`
+-- `explore FILE [--states N] [--strays] [--chart OUT] [--timeline OUT] [--hints]`
 abbrev pub explore_command : App
 explore_command =
-    with_rule (with_rule (with_rule (new_app (codes "explore")) (positional (codes "FILE"))) states_option)
-    (valued (codes "chart"))
+    with_rule (with_rule (with_rule (with_rule (with_rule (with_rule (new_app (codes "explore"))
+    (positional (codes "FILE"))) states_option) (flag (codes "strays"))) (valued (codes "chart")))
+    (valued (codes "timeline"))) (flag (codes "hints"))
 
 -- whether the words have this argument; its default, which they don't have, is no such
 abbrev pub is_of_words : Option ValueSource → Bool
@@ -161,11 +172,17 @@ ReadsWorkers rows workers = IsNumberOf (one_of (codes "workers") rows) 32 worker
 abbrev pub ReadsSeed : List Row → ℕ → Type 0
 ReadsSeed rows seed = IsNumberOf (one_of (codes "seed") rows) 64 seed
 
--- whether `--trace` stands
-abbrev pub ReadsTrace : List Row → Bool → Type 0
-ReadsTrace rows trace =
-    (one_of (codes "trace") rows ≡ Some (codes "true") → trace ≡ true)
-    × (one_of (codes "trace") rows ≡ Some (codes "false") → trace ≡ false)
+-- the text that stands for `--strays` is this number, where one stands
+abbrev pub ReadsStrays : List Row → Option ℕ → Type 0
+ReadsStrays rows None = is_written (codes "strays") rows ≡ false
+ReadsStrays rows (Some strays) =
+    (is_written (codes "strays") rows ≡ true) × IsNumberOf (one_of (codes "strays") rows) 32 strays
+
+-- whether a flag stands
+abbrev pub ReadsFlag : Text → List Row → Bool → Type 0
+ReadsFlag name rows stands =
+    (one_of name rows ≡ Some (codes "true") → stands ≡ true)
+    × (one_of name rows ≡ Some (codes "false") → stands ≡ false)
 
 -- `mesamon`, behind which one of its commands has to stand; the words hold no name of the program
 abbrev pub top_command : App
@@ -181,17 +198,20 @@ command_line =
     list_command.top) run_command.top) exec_command.top) replay_command.top) explain_command.top) emit_command.top)
     explore_command.top
 
--- who moves the threads of a run: a worker for each, or one worker in a fixed order or in that of a seed
+-- who moves the threads of a run: a worker for each, or one worker in a fixed order or in that of a seed, beside which
+-- alone stray wakes may be asked for
 abbrev pub ReadsOrder : List Row → Order → Type 0
-ReadsOrder rows Workers = has_any (codes "in-order" ∷ codes "seed" ∷ []) rows ≡ false
-ReadsOrder rows InOrder = (is_written (codes "in-order") rows ≡ true) × (is_written (codes "seed") rows ≡ false)
-ReadsOrder rows (Seed seed) =
+ReadsOrder rows Workers = has_any (codes "in-order" ∷ codes "seed" ∷ codes "strays" ∷ []) rows ≡ false
+ReadsOrder rows InOrder =
+    (is_written (codes "in-order") rows ≡ true) × (has_any (codes "seed" ∷ codes "strays" ∷ []) rows ≡ false)
+ReadsOrder rows (Seed seed strays) =
     (is_written (codes "in-order") rows ≡ false) × (is_written (codes "seed") rows ≡ true) × ReadsSeed rows seed
+    × ReadsStrays rows strays
 
 -- how a run goes, and what is kept of it
 abbrev pub ReadsOptions : List Row → RunOptions → Type 0
 ReadsOptions rows o =
-    ReadsSteps rows o.steps × ReadsOrder rows o.order × ReadsTrace rows o.trace
+    ReadsSteps rows o.steps × ReadsOrder rows o.order × ReadsFlag (codes "trace") rows o.trace
     × (first_of (codes "log") rows ≡ option_map (λ log. log.now) o.log)
 
 -- what a replay goes by: where a schedule stands, that one, and its log is kept; else a log
@@ -202,30 +222,33 @@ IsReplayedBy rows (ReplayedBySchedule schedule log) =
 IsReplayedBy rows (ReplayedByLog log) =
     (first_of (codes "SCHEDULE") rows ≡ None) × (first_of (codes "log") rows ≡ Some log.now)
 
--- which run is explained: it has one source, and a schedule or a log no limit of steps
+-- which run is explained: it has one source, and a schedule or a log no limit of steps; stray wakes stand beside a seed
+-- alone
 abbrev pub IsExplainedBy : List Row → ExplainedBy → Type 0
 IsExplainedBy rows (ExplainedByOrder steps) =
-    (has_any (codes "schedule" ∷ codes "log" ∷ codes "seed" ∷ []) rows ≡ false) × ReadsSteps rows steps
-IsExplainedBy rows (ExplainedBySeed steps seed) =
+    (has_any (codes "schedule" ∷ codes "log" ∷ codes "seed" ∷ codes "strays" ∷ []) rows ≡ false)
+    × ReadsSteps rows steps
+IsExplainedBy rows (ExplainedBySeed steps seed strays) =
     (has_any (codes "schedule" ∷ codes "log" ∷ []) rows ≡ false) × (is_written (codes "seed") rows ≡ true)
-    × ReadsSteps rows steps × ReadsSeed rows seed
+    × ReadsSteps rows steps × ReadsSeed rows seed × ReadsStrays rows strays
 IsExplainedBy rows (ExplainedBySchedule schedule) =
-    (has_any (codes "log" ∷ codes "seed" ∷ codes "steps" ∷ []) rows ≡ false)
+    (has_any (codes "log" ∷ codes "seed" ∷ codes "steps" ∷ codes "strays" ∷ []) rows ≡ false)
     × (is_written (codes "schedule") rows ≡ true) × (first_of (codes "schedule") rows ≡ Some schedule.now)
 IsExplainedBy rows (ExplainedByLog log) =
-    (has_any (codes "schedule" ∷ codes "seed" ∷ codes "steps" ∷ []) rows ≡ false)
+    (has_any (codes "schedule" ∷ codes "seed" ∷ codes "steps" ∷ codes "strays" ∷ []) rows ≡ false)
     × (is_written (codes "log") rows ≡ true) × (first_of (codes "log") rows ≡ Some log.now)
 
 -- a job of checking, from the values of its command's arguments
 abbrev pub IsCheckOf : List Row → Job → Type 0
-IsCheckOf rows (Check file) = first_of (codes "FILE") rows ≡ Some file.now
+IsCheckOf rows (Check file hints) =
+    (first_of (codes "FILE") rows ≡ Some file.now) × ReadsFlag (codes "hints") rows hints
 IsCheckOf rows other = ⊥
 
 -- a job of compiling
 abbrev pub IsCompileOf : List Row → Job → Type 0
-IsCompileOf rows (Compile file out workers) =
+IsCompileOf rows (Compile file out workers hints) =
     (first_of (codes "FILE") rows ≡ Some file.now) × (first_of (codes "OUT") rows ≡ Some out.now)
-    × ReadsWorkers rows workers
+    × ReadsWorkers rows workers × ReadsFlag (codes "hints") rows hints
 IsCompileOf rows other = ⊥
 
 -- a job of listing
@@ -235,7 +258,8 @@ IsListOf rows other = ⊥
 
 -- a job of running a source text
 abbrev pub AsksForRun : List Row → Job → Type 0
-AsksForRun rows (Run file options) = (first_of (codes "FILE") rows ≡ Some file.now) × ReadsOptions rows options
+AsksForRun rows (Run file options hints) =
+    (first_of (codes "FILE") rows ≡ Some file.now) × ReadsOptions rows options × ReadsFlag (codes "hints") rows hints
 AsksForRun rows other = ⊥
 
 -- a job of running an image
@@ -245,28 +269,32 @@ AsksForExec rows other = ⊥
 
 -- a job of running again
 abbrev pub AsksForReplay : List Row → Job → Type 0
-AsksForReplay rows (Replay file by trace) =
-    (first_of (codes "FILE") rows ≡ Some file.now) × IsReplayedBy rows by × ReadsTrace rows trace
+AsksForReplay rows (Replay file by trace hints) =
+    (first_of (codes "FILE") rows ≡ Some file.now) × IsReplayedBy rows by × ReadsFlag (codes "trace") rows trace
+    × ReadsFlag (codes "hints") rows hints
 AsksForReplay rows other = ⊥
 
 -- a job of explaining
 abbrev pub IsExplainOf : List Row → Job → Type 0
-IsExplainOf rows (Explain file by chart) =
+IsExplainOf rows (Explain file by chart timeline hints) =
     (first_of (codes "FILE") rows ≡ Some file.now) × IsExplainedBy rows by
     × (first_of (codes "chart") rows ≡ option_map (λ out. out.now) chart)
+    × (first_of (codes "timeline") rows ≡ option_map (λ out. out.now) timeline) × ReadsFlag (codes "hints") rows hints
 IsExplainOf rows other = ⊥
 
 -- a job of writing C
 abbrev pub IsEmitOf : List Row → Job → Type 0
-IsEmitOf rows (Emit file out) =
+IsEmitOf rows (Emit file out hints) =
     (first_of (codes "FILE") rows ≡ Some file.now) × (first_of (codes "OUT") rows ≡ Some out.now)
+    × ReadsFlag (codes "hints") rows hints
 IsEmitOf rows other = ⊥
 
 -- a job of searching all runs
 abbrev pub IsExploreOf : List Row → Job → Type 0
-IsExploreOf rows (Explore file states chart) =
-    (first_of (codes "FILE") rows ≡ Some file.now) × ReadsStates rows states
+IsExploreOf rows (Explore file states strays chart timeline hints) =
+    (first_of (codes "FILE") rows ≡ Some file.now) × ReadsStates rows states × ReadsFlag (codes "strays") rows strays
     × (first_of (codes "chart") rows ≡ option_map (λ out. out.now) chart)
+    × (first_of (codes "timeline") rows ≡ option_map (λ out. out.now) timeline) × ReadsFlag (codes "hints") rows hints
 IsExploreOf rows other = ⊥
 
 -- the job that the command of a name asks for, with these values of its arguments

@@ -18,6 +18,22 @@ const STATES: &str = "1000000";
 const REPLAY_LOG: &str =
     "Beside SCHEDULE, where the log is written; without it, the log that is followed";
 
+// What each flag is for.
+const IN_ORDER: &str = "Goes on one thread, in a fixed order";
+
+const TRACE: &str = "Shows each entry of the log on standard error";
+
+const ALL_STRAYS: &str = "Searches the runs with stray wakes too";
+
+const HINTS: &str = "Shows hints behind a refusal of the source text";
+
+// What the stray wakes of a run by a seed are.
+const STRAYS: &str =
+    "Beside --seed: makes about one entry in N a stray wake, where a thread sleeps";
+
+// What the file of a timeline is.
+const TIMELINE: &str = "Where its trace events are written, for Perfetto or Chrome's tracing";
+
 // How many workers compile where no number stands.
 const WORKERS: &str = "1";
 
@@ -65,7 +81,8 @@ fn check_command<'a>(alloc: Global) -> Result<Command<'a>, AllocError>
 {
     Command::new(alloc, "check")
         .about("Checks a source text")
-        .arg(positional(alloc, "FILE", "The source text"))
+        .arg(positional(alloc, "FILE", "The source text"))?
+        .arg(flag(alloc, "hints", HINTS))
 }
 
 fn compile_command<'a>(alloc: Global) -> Result<Command<'a>, AllocError>
@@ -76,7 +93,8 @@ fn compile_command<'a>(alloc: Global) -> Result<Command<'a>, AllocError>
         .about("Writes the image of a source text")
         .arg(positional(alloc, "FILE", "The source text"))?
         .arg(positional(alloc, "OUT", "Where the image is written"))?
-        .arg(workers_option(alloc))
+        .arg(workers_option(alloc))?
+        .arg(flag(alloc, "hints", HINTS))
 }
 
 fn list_command<'a>(alloc: Global) -> Result<Command<'a>, AllocError>
@@ -96,7 +114,7 @@ pub fn run_command<'a>(alloc: Global) -> Result<Command<'a>, AllocError>
     let command = Command::new(alloc, "run")
         .about("Runs a source text and prints its output")
         .arg(positional(alloc, "FILE", "The source text"))?;
-    with_run_options(alloc, command)
+    with_run_options(alloc, command)?.arg(flag(alloc, "hints", HINTS))
 }
 
 /// `exec`, without the command above it.
@@ -118,9 +136,10 @@ fn with_run_options<'a>(alloc: Global, command: Command<'a>) -> Result<Command<'
 {
     command
         .arg(steps_option(alloc))?
-        .arg(in_order_option(alloc))?
+        .arg(flag(alloc, "in-order", IN_ORDER))?
         .arg(seed_option(alloc))?
-        .arg(trace_option(alloc))?
+        .arg(strays_option(alloc))?
+        .arg(flag(alloc, "trace", TRACE))?
         .arg(valued(alloc, "log", "OUT", "Where the log is written"))
 }
 
@@ -133,8 +152,9 @@ pub fn replay_command<'a>(alloc: Global) -> Result<Command<'a>, AllocError>
         .about("Runs a source text by a schedule or a log and prints its output")
         .arg(positional(alloc, "FILE", "The source text"))?
         .arg(optional(alloc, "SCHEDULE", "The threads of its steps"))?
-        .arg(trace_option(alloc))?
-        .arg(valued(alloc, "log", "LOG", REPLAY_LOG))
+        .arg(flag(alloc, "trace", TRACE))?
+        .arg(valued(alloc, "log", "LOG", REPLAY_LOG))?
+        .arg(flag(alloc, "hints", HINTS))
 }
 
 /// `explain`, without the command above it.
@@ -147,6 +167,7 @@ pub fn explain_command<'a>(alloc: Global) -> Result<Command<'a>, AllocError>
         .arg(positional(alloc, "FILE", "The source text"))?
         .arg(steps_option(alloc))?
         .arg(seed_option(alloc))?
+        .arg(strays_option(alloc))?
         .arg(valued(alloc, "schedule", "SCHEDULE", "The threads of its steps"))?
         .arg(valued(alloc, "log", "LOG", "The log of the run"))?
         .arg(valued(
@@ -154,7 +175,9 @@ pub fn explain_command<'a>(alloc: Global) -> Result<Command<'a>, AllocError>
             "chart",
             "OUT",
             "Where the picture of the run is written",
-        ))
+        ))?
+        .arg(valued(alloc, "timeline", "OUT", TIMELINE))?
+        .arg(flag(alloc, "hints", HINTS))
 }
 
 fn emit_command<'a>(alloc: Global) -> Result<Command<'a>, AllocError>
@@ -164,7 +187,8 @@ fn emit_command<'a>(alloc: Global) -> Result<Command<'a>, AllocError>
     Command::new(alloc, "emit")
         .about("Writes a source text as a program in C")
         .arg(positional(alloc, "FILE", "The source text"))?
-        .arg(positional(alloc, "OUT", "Where the C file is written"))
+        .arg(positional(alloc, "OUT", "Where the C file is written"))?
+        .arg(flag(alloc, "hints", HINTS))
 }
 
 fn explore_command<'a>(alloc: Global) -> Result<Command<'a>, AllocError>
@@ -175,12 +199,15 @@ fn explore_command<'a>(alloc: Global) -> Result<Command<'a>, AllocError>
         .about("Searches all runs of a source text for one that gets stuck or aborts")
         .arg(positional(alloc, "FILE", "The source text"))?
         .arg(states_option(alloc))?
+        .arg(flag(alloc, "strays", ALL_STRAYS))?
         .arg(valued(
             alloc,
             "chart",
             "OUT",
             "Where the picture of what is found is written",
-        ))
+        ))?
+        .arg(valued(alloc, "timeline", "OUT", TIMELINE))?
+        .arg(flag(alloc, "hints", HINTS))
 }
 
 fn positional<'a>(alloc: Global, name: &'a str, help: &'a str) -> Arg<'a>
@@ -245,24 +272,26 @@ fn seed_option<'a>(alloc: Global) -> Arg<'a>
         .help("Goes on one thread, in the order that follows from N")
 }
 
-fn in_order_option<'a>(alloc: Global) -> Arg<'a>
-    ensures rule { rule_of result ≡ line.in_order_option }
+fn strays_option<'a>(alloc: Global) -> Arg<'a>
+    ensures rule { rule_of result ≡ line.strays_option }
     ensures local { result.global ≡ false }
 {
-    Arg::new(alloc, "in-order")
-        .long("in-order")
-        .action(ArgAction::SetTrue)
-        .help("Goes on one thread, in a fixed order")
+    Arg::new(alloc, "strays")
+        .long("strays")
+        .value_name("N")
+        .value_parser(ValueParser::unsigned(1, u32::MAX as u64))
+        .help(STRAYS)
 }
 
-fn trace_option<'a>(alloc: Global) -> Arg<'a>
-    ensures rule { rule_of result ≡ line.trace_option }
+// An option `--NAME`.
+fn flag<'a>(alloc: Global, name: &'a str, help: &'a str) -> Arg<'a>
+    ensures rule { rule_of result ≡ line.flag name.entry.now }
     ensures local { result.global ≡ false }
 {
-    Arg::new(alloc, "trace")
-        .long("trace")
+    Arg::new(alloc, name)
+        .long(name)
         .action(ArgAction::SetTrue)
-        .help("Shows each entry of the log on standard error")
+        .help(help)
 }
 
 // An option `--NAME VALUE`.

@@ -23,6 +23,8 @@ pub enum Job<'a> {
     Check {
         /// The name of the source text's file.
         file: &'a str,
+        /// Whether hints stand behind a refusal of the source text.
+        hints: bool,
     },
     /// Compile the source text of a file, and write the image to another.
     Compile {
@@ -32,6 +34,8 @@ pub enum Job<'a> {
         out: &'a str,
         /// How many workers make the code, from 1 to `MOST_WORKERS`.
         workers: u32,
+        /// Whether hints stand behind a refusal of the source text.
+        hints: bool,
     },
     /// Print the instructions of an image.
     List {
@@ -44,6 +48,8 @@ pub enum Job<'a> {
         file: &'a str,
         /// How it goes.
         options: RunOptions<'a>,
+        /// Whether hints stand behind a refusal of the source text.
+        hints: bool,
     },
     /// Run an image.
     Exec {
@@ -61,8 +67,10 @@ pub enum Job<'a> {
         by: ReplayedBy<'a>,
         /// Whether the log is shown.
         trace: bool,
+        /// Whether hints stand behind a refusal of the source text.
+        hints: bool,
     },
-    /// Print the source actions that a run of the source text of a file is, and draw them where that is wanted.
+    /// Print the source actions that a run of the source text of a file is, and draw and time them where that is wanted.
     Explain {
         /// The name of the source text's file.
         file: &'a str,
@@ -70,6 +78,10 @@ pub enum Job<'a> {
         by: ExplainedBy<'a>,
         /// The name of the picture's file, where one is wanted.
         chart: Option<&'a str>,
+        /// The name of the timeline's file, where one is wanted.
+        timeline: Option<&'a str>,
+        /// Whether hints stand behind a refusal of the source text.
+        hints: bool,
     },
     /// Write the program of a file as one in C.
     Emit {
@@ -77,16 +89,24 @@ pub enum Job<'a> {
         file: &'a str,
         /// The name of the C file.
         out: &'a str,
+        /// Whether hints stand behind a refusal of the source text.
+        hints: bool,
     },
     /// Search all runs of the source text of a file for one that gets stuck, and for one in which a process aborts; print
-    /// what is found, and draw it where that is wanted.
+    /// what is found, and draw and time it where that is wanted.
     Explore {
         /// The name of the source text's file.
         file: &'a str,
         /// The most states that are kept.
         states: u32,
+        /// Whether the runs with stray wakes are searched too.
+        strays: bool,
         /// The name of the picture's file, where one is wanted.
         chart: Option<&'a str>,
+        /// The name of the timeline's file, where one is wanted.
+        timeline: Option<&'a str>,
+        /// Whether hints stand behind a refusal of the source text.
+        hints: bool,
     },
 }
 
@@ -157,7 +177,8 @@ fn check_of<'a>(matches: &ArgMatches<'a>) -> Option<Job<'a>>
         → ⊥ }
 {
     let file = matches.get_str("FILE")?;
-    Some(Job::Check { file })
+    let hints = matches.get_flag("hints");
+    Some(Job::Check { file, hints })
 }
 
 fn compile_of<'a>(matches: &ArgMatches<'a>) -> Option<Job<'a>>
@@ -168,7 +189,13 @@ fn compile_of<'a>(matches: &ArgMatches<'a>) -> Option<Job<'a>>
     let file = matches.get_str("FILE")?;
     let out = matches.get_str("OUT")?;
     let workers = workers_of(matches)?;
-    Some(Job::Compile { file, out, workers })
+    let hints = matches.get_flag("hints");
+    Some(Job::Compile {
+        file,
+        out,
+        workers,
+        hints,
+    })
 }
 
 fn list_of<'a>(matches: &ArgMatches<'a>) -> Option<Job<'a>>
@@ -187,7 +214,12 @@ fn run_of<'a>(matches: &ArgMatches<'a>) -> Option<Job<'a>>
 {
     let file = matches.get_str("FILE")?;
     let options = options_of(matches)?;
-    Some(Job::Run { file, options })
+    let hints = matches.get_flag("hints");
+    Some(Job::Run {
+        file,
+        options,
+        hints,
+    })
 }
 
 fn exec_of<'a>(matches: &ArgMatches<'a>) -> Option<Job<'a>>
@@ -208,7 +240,13 @@ fn replay_of<'a>(matches: &ArgMatches<'a>) -> Option<Job<'a>>
     let file = matches.get_str("FILE")?;
     let by = replayed_by(matches)?;
     let trace = matches.get_flag("trace");
-    Some(Job::Replay { file, by, trace })
+    let hints = matches.get_flag("hints");
+    Some(Job::Replay {
+        file,
+        by,
+        trace,
+        hints,
+    })
 }
 
 fn explain_of<'a>(matches: &ArgMatches<'a>) -> Option<Job<'a>>
@@ -219,7 +257,15 @@ fn explain_of<'a>(matches: &ArgMatches<'a>) -> Option<Job<'a>>
     let file = matches.get_str("FILE")?;
     let by = explained_by(matches)?;
     let chart = matches.get_str("chart");
-    Some(Job::Explain { file, by, chart })
+    let timeline = matches.get_str("timeline");
+    let hints = matches.get_flag("hints");
+    Some(Job::Explain {
+        file,
+        by,
+        chart,
+        timeline,
+        hints,
+    })
 }
 
 fn emit_of<'a>(matches: &ArgMatches<'a>) -> Option<Job<'a>>
@@ -229,7 +275,8 @@ fn emit_of<'a>(matches: &ArgMatches<'a>) -> Option<Job<'a>>
 {
     let file = matches.get_str("FILE")?;
     let out = matches.get_str("OUT")?;
-    Some(Job::Emit { file, out })
+    let hints = matches.get_flag("hints");
+    Some(Job::Emit { file, out, hints })
 }
 
 fn explore_of<'a>(matches: &ArgMatches<'a>) -> Option<Job<'a>>
@@ -239,10 +286,16 @@ fn explore_of<'a>(matches: &ArgMatches<'a>) -> Option<Job<'a>>
 {
     let file = matches.get_str("FILE")?;
     let states = states_of(matches)?;
+    let strays = matches.get_flag("strays");
     let chart = matches.get_str("chart");
+    let timeline = matches.get_str("timeline");
+    let hints = matches.get_flag("hints");
     Some(Job::Explore {
         file,
         states,
+        strays,
         chart,
+        timeline,
+        hints,
     })
 }

@@ -8,8 +8,13 @@ pub enum Order {
     Workers,
     /// One worker, in a fixed order.
     InOrder,
-    /// One worker, in the order that follows from this seed.
-    Seed(u64),
+    /// One worker, in the order that follows from a seed.
+    Seed {
+        /// The seed.
+        seed: u64,
+        /// How many entries come to one stray wake, about, where such are wanted.
+        strays: Option<u32>,
+    },
 }
 
 /// How a run goes, and what is kept of it.
@@ -53,6 +58,8 @@ pub enum ExplainedBy<'a> {
         steps: u32,
         /// The seed.
         seed: u64,
+        /// How many entries come to one stray wake, about, where such are wanted.
+        strays: Option<u32>,
     },
     /// That by the schedule in the file of this name.
     Schedule(&'a str),

@@ -7,6 +7,9 @@ use std::alloc::{AllocError, Global};
 // What is said of an order in which a run can't go.
 const TWO_ORDERS: &str = "the argument '--seed <N>' cannot be used with '--in-order'";
 
+// What is said of stray wakes where no seed says when they come.
+const NO_SEED: &str = "the argument '--strays <N>' cannot be used without '--seed <N>'";
+
 // What is said of a replay by nothing.
 const NO_SCHEDULE: &str = "one of <SCHEDULE> and '--log <LOG>' has to be given";
 
@@ -23,26 +26,17 @@ fn told(
     command: &mut Command<'_>,
     matches: &ArgMatches<'_>,
 ) -> Result<Error, AllocError> {
-    let conflict = ErrorKind::ArgumentConflict;
-    let missing = ErrorKind::MissingRequiredArgument;
     let Some((name, inner)) = matches.subcommand() else {
         return command.error(ErrorKind::MissingSubcommand, "a command is missing");
     };
     match name {
-        "run" => told_by(run_command(alloc)?, "mesamon run", conflict, TWO_ORDERS),
-        "exec" => told_by(exec_command(alloc)?, "mesamon exec", conflict, TWO_ORDERS),
-        "replay" => told_by(
-            replay_command(alloc)?,
-            "mesamon replay",
-            missing,
-            NO_SCHEDULE,
-        ),
-        _ => told_by(
-            explain_command(alloc)?,
-            "mesamon explain",
-            conflict,
-            two_runs(inner),
-        ),
+        "run" => told_by(run_command(alloc)?, "mesamon run", no_order(inner)),
+        "exec" => told_by(exec_command(alloc)?, "mesamon exec", no_order(inner)),
+        "replay" => {
+            let why = (ErrorKind::MissingRequiredArgument, NO_SCHEDULE);
+            told_by(replay_command(alloc)?, "mesamon replay", why)
+        }
+        _ => told_by(explain_command(alloc)?, "mesamon explain", no_run(inner)),
     }
 }
 
@@ -50,16 +44,34 @@ fn told(
 fn told_by(
     command: Command<'_>,
     name: &str,
-    kind: ErrorKind,
-    message: &str,
+    (kind, message): (ErrorKind, &str),
 ) -> Result<Error, AllocError> {
     let mut command = command.bin_name(name)?;
     command.error(kind, message)
 }
 
+// Why the arguments of a run name no order.
+fn no_order(matches: &ArgMatches<'_>) -> (ErrorKind, &'static str) {
+    if is_written(matches, "seed") {
+        (ErrorKind::ArgumentConflict, TWO_ORDERS)
+    } else {
+        (ErrorKind::MissingRequiredArgument, NO_SEED)
+    }
+}
+
+// Why the arguments name no one run that can be explained.
+fn no_run(matches: &ArgMatches<'_>) -> (ErrorKind, &'static str) {
+    if is_written(matches, "schedule") || is_written(matches, "log") {
+        (ErrorKind::ArgumentConflict, two_runs(matches))
+    } else {
+        (ErrorKind::MissingRequiredArgument, NO_SEED)
+    }
+}
+
 // Which two arguments name no one run that can be explained.
 fn two_runs(matches: &ArgMatches<'_>) -> &'static str {
     let seed = is_written(matches, "seed");
+    let strays = is_written(matches, "strays");
     let schedule = is_written(matches, "schedule");
     let log = is_written(matches, "log");
     if schedule && log {
@@ -68,6 +80,10 @@ fn two_runs(matches: &ArgMatches<'_>) -> &'static str {
         "the argument '--seed <N>' cannot be used with '--schedule <SCHEDULE>'"
     } else if seed {
         "the argument '--seed <N>' cannot be used with '--log <LOG>'"
+    } else if strays && schedule {
+        "the argument '--strays <N>' cannot be used with '--schedule <SCHEDULE>'"
+    } else if strays {
+        "the argument '--strays <N>' cannot be used with '--log <LOG>'"
     } else if schedule {
         "the argument '--steps <N>' cannot be used with '--schedule <SCHEDULE>'"
     } else {

@@ -7,7 +7,7 @@ ghost use Rattle.commandline.specs.declared.options.ExplainedBy.{ExplainedBy as 
 ghost use Rattle.commandline.specs.declared.options.ReplayedBy.{ReplayedBy as Replayed};
 
 use crate::options::{ExplainedBy, ReplayedBy};
-use crate::values::{is_written, seed_of, steps_of};
+use crate::values::{is_written, seed_of, steps_of, strays_of};
 use clap::ArgMatches;
 
 /// What a replay goes by: a schedule, beside which a log is written, or else a log.
@@ -39,10 +39,14 @@ pub fn explained_by<'a>(matches: &ArgMatches<'a>) -> Option<ExplainedBy<'a>>
 }
 
 // Whether the words have one of these arguments.
-fn has_one(matches: &ArgMatches<'_>, a: &str, b: &str, c: &str) -> bool
-    ensures { result ≡ has_any (a.now ∷ b.now ∷ c.now ∷ []) (rows_of (found_of matches.now)) }
+fn has_one(matches: &ArgMatches<'_>, a: &str, b: &str, c: &str, d: &str) -> bool
+    ensures { result
+        ≡ has_any (a.now ∷ b.now ∷ c.now ∷ d.now ∷ []) (rows_of (found_of matches.now)) }
 {
-    is_written(matches, a) || is_written(matches, b) || is_written(matches, c)
+    is_written(matches, a)
+        || is_written(matches, b)
+        || is_written(matches, c)
+        || is_written(matches, d)
 }
 
 fn by_schedule<'a>(matches: &ArgMatches<'a>) -> Option<ExplainedBy<'a>>
@@ -51,7 +55,7 @@ fn by_schedule<'a>(matches: &ArgMatches<'a>) -> Option<ExplainedBy<'a>>
     ensures none { result ≡ None → (e : Explained)
         → IsExplainedBy (rows_of (found_of matches.now)) e → ⊥ }
 {
-    if has_one(matches, "log", "seed", "steps") {
+    if has_one(matches, "log", "seed", "steps", "strays") {
         return None;
     }
     let schedule = matches.get_str("schedule")?;
@@ -64,14 +68,14 @@ fn by_log<'a>(matches: &ArgMatches<'a>) -> Option<ExplainedBy<'a>>
     ensures none { result ≡ None → (e : Explained)
         → IsExplainedBy (rows_of (found_of matches.now)) e → ⊥ }
 {
-    if has_one(matches, "schedule", "seed", "steps") {
+    if has_one(matches, "schedule", "seed", "steps", "strays") {
         return None;
     }
     let log = matches.get_str("log")?;
     Some(ExplainedBy::Log(log))
 }
 
-// A run within a limit of steps.
+// A run within a limit of steps. Where no seed stands no stray wakes are asked for.
 fn by_steps<'a>(matches: &ArgMatches<'a>) -> Option<ExplainedBy<'a>>
     requires schedule { stands (codes "schedule") (rows_of (found_of matches.now)) ≡ false }
     requires log { stands (codes "log") (rows_of (found_of matches.now)) ≡ false }
@@ -81,8 +85,17 @@ fn by_steps<'a>(matches: &ArgMatches<'a>) -> Option<ExplainedBy<'a>>
 {
     let steps = steps_of(matches)?;
     if !is_written(matches, "seed") {
-        return Some(ExplainedBy::Order { steps });
+        return if is_written(matches, "strays") {
+            None
+        } else {
+            Some(ExplainedBy::Order { steps })
+        };
     }
     let seed = seed_of(matches)?;
-    Some(ExplainedBy::Seed { steps, seed })
+    let strays = strays_of(matches)?;
+    Some(ExplainedBy::Seed {
+        steps,
+        seed,
+        strays,
+    })
 }

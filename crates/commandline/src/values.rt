@@ -1,9 +1,9 @@
-ghost use Rattle.std.specs.Prelude.{IfSome, None, ℕ, ◌≡◌};
+ghost use Rattle.std.specs.Prelude.{IfSome, None, Option as OptionOf, ℕ, ◌≡◌};
 ghost use Rattle.clap.specs.Words.{found_of, one_of};
 ghost use Rattle.clap.specs.Walk.{rows_of};
 ghost use Rattle.commandline.specs.CommandLine as line;
 ghost use Rattle.commandline.specs.CommandLine.{IsNumberOf, ReadsOptions, ReadsOrder, ReadsSeed, ReadsSteps};
-ghost use Rattle.commandline.specs.CommandLine.{ReadsStates, ReadsWorkers};
+ghost use Rattle.commandline.specs.CommandLine.{ReadsStates, ReadsStrays, ReadsWorkers};
 ghost use Rattle.commandline.specs.declared.options.Order.{Order as OrderOf};
 ghost use Rattle.commandline.specs.declared.options.RunOptions.{RunOptions as OptionsOf};
 
@@ -70,23 +70,41 @@ pub fn seed_of(matches: &ArgMatches<'_>) -> Option<u64>
     matches.get_one::<u64>("seed")
 }
 
-// Who moves the threads of a run. A fixed order has no seed.
+/// How often a stray wake comes, where such are asked for.
+pub fn strays_of(matches: &ArgMatches<'_>) -> Option<Option<u32>>
+    ensures strays { IfSome result (ReadsStrays (rows_of (found_of matches.now))) }
+    ensures none { result ≡ None → (s : OptionOf ℕ)
+        → ReadsStrays (rows_of (found_of matches.now)) s → ⊥ }
+{
+    if !is_written(matches, "strays") {
+        return Some(None);
+    }
+    let strays = number_of(matches, "strays")?;
+    Some(Some(strays))
+}
+
+// Who moves the threads of a run. A fixed order has no seed, and where no seed stands no stray wakes are asked for.
 fn order_of(matches: &ArgMatches<'_>) -> Option<Order>
     ensures order { IfSome result (ReadsOrder (rows_of (found_of matches.now))) }
     ensures none { result ≡ None → (o : OrderOf) → ReadsOrder (rows_of (found_of matches.now)) o
         → ⊥ }
 {
-    if is_written(matches, "in-order") {
-        if is_written(matches, "seed") {
-            return None;
-        }
-        return Some(Order::InOrder);
+    let in_order = is_written(matches, "in-order");
+    if !is_written(matches, "seed") {
+        return if is_written(matches, "strays") {
+            None
+        } else if in_order {
+            Some(Order::InOrder)
+        } else {
+            Some(Order::Workers)
+        };
     }
-    if is_written(matches, "seed") {
-        let seed = seed_of(matches)?;
-        return Some(Order::Seed(seed));
+    if in_order {
+        return None;
     }
-    Some(Order::Workers)
+    let seed = seed_of(matches)?;
+    let strays = strays_of(matches)?;
+    Some(Order::Seed { seed, strays })
 }
 
 /// How a run goes, and what is kept of it.

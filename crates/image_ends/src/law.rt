@@ -1,4 +1,4 @@
-ghost use Rattle.std.specs.Prelude.{◌≡◌, ◌<◌, ◌^◌, ℕ, List, [], Some, length};
+ghost use Rattle.std.specs.Prelude.{◌≡◌, ◌<◌, ◌^◌, ℕ, Bool, List, [], Some, false, length};
 ghost use Rattle.words.specs.declared.outcome.Outcome.TheVariants.{Aborted};
 ghost use Rattle.isa.specs.Programs.{Program as Image};
 ghost use Rattle.machine.specs.Runs.{CanStep, MachineRun, Step};
@@ -12,17 +12,21 @@ ghost use Rattle.refinement.specs.Seen.{machine_end};
 ghost use Rattle.source_search.specs.Found.{LeadsNowhere};
 ghost use Rattle.image_ends.specs.Ending.{AllOver};
 
-/// Of each run of an image that refines a program, under whatever schedule, of fewer than 2^32 steps, in which nobody who
-/// waits on a condition is woken from outside: where no run of the program gets stuck, and no thread can move, each process
-/// of the run of the program that explains it is over; and where no process aborts in any run of the program, no thread
-/// has aborted.
+/// Of each run of an image that refines a program, under whatever schedule, of fewer than 2^32 steps: where no run of
+/// the program gets stuck, and no thread can move, each process of the run of the program that explains it is over; and
+/// where no process aborts in any run of the program, no thread has aborted. Where the runs of the program are those
+/// without stray wake-ups, this is said of the runs of the image in which nobody who waits on a condition is woken from
+/// outside.
 pub fn image_laws()
-    ensures never_hangs { (p : Program) (image : Image) (steps : List Step) (s : State)
-        → Refines p image → LeadsNowhere p (IsStuck p) → MachineRun image steps s
-        → length steps < 2 ^ 32 → stray_threads p steps ≡ [] → ((t : ℕ) → CanStep s t → ⊥) → AllOver p s }
-    ensures never_aborts { (p : Program) (image : Image) (steps : List Step) (s : State) (q : ℕ)
+    ensures never_hangs { (p : Program) (image : Image) (strays : Bool) (steps : List Step)
+        (s : State)
+        → Refines p image → LeadsNowhere p strays (IsStuck p) → MachineRun image steps s
+        → length steps < 2 ^ 32 → (strays ≡ false → stray_threads p steps ≡ [])
+        → ((t : ℕ) → CanStep s t → ⊥) → AllOver p s }
+    ensures never_aborts { (p : Program) (image : Image) (strays : Bool) (steps : List Step)
+        (s : State) (q : ℕ)
         (cause : Cause)
-        → Refines p image → LeadsNowhere p HasAborted → MachineRun image steps s
-        → length steps < 2 ^ 32 → stray_threads p steps ≡ []
+        → Refines p image → LeadsNowhere p strays HasAborted → MachineRun image steps s
+        → length steps < 2 ^ 32 → (strays ≡ false → stray_threads p steps ≡ [])
         → machine_end s q ≡ Some (Aborted cause) → ⊥ }
 {}

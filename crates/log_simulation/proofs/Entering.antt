@@ -12,8 +12,7 @@ use Rattle.machine.specs.ConcreteOutside.{stray_of}
 use Rattle.machine.proofs.Placing.{thread_at-put}
 use Rattle.runner.specs.Logs.{Ends, Enters, EntersOwn, EntersOutside, is_outside}
 use Rattle.runner.proofs.Once.{here_once}
-use Rattle.runner.proofs.Scheduling.{own_entry}
-use Rattle.runner.proofs.Turning.{tells_outside}
+use Rattle.runner.proofs.Owning.{own_entry, tells_outside}
 
 -- local steps alone
 pub enters_locally : (p : Program) (k mid : ConcreteState) (e : Entry) (n : ℕ) (o here : Thread) → e.event ≡ None

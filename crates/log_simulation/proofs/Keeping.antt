@@ -128,8 +128,8 @@ keeps_outside p events k k' e outside r r' along of tells =
     }
 
 -- a thread that sleeps has a number that threads have
-pub sleeps_within : (p : Program) (events : List EventStep) (k k' : ConcreteState) (g : Progress) (t : ℕ) (event : Event)
-    → ComesTo p events k g → stray_of k t ≡ Ok (k', event) → t ≤ most_threads
+pub sleeps_within : (p : Program) (events : List EventStep) (k k' : ConcreteState) (g : Progress) (t : ℕ)
+    (event : Event) → ComesTo p events k g → stray_of k t ≡ Ok (k', event) → t ≤ most_threads
 sleeps_within p events k k' g t event comes gives =
     let sleeps = (strays_so (code_of p) k k' t event comes.kept gives).1.sleeps in
     (is_sleeper (code_of p) k t event.value comes.kept sleeps).1

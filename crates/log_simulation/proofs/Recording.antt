@@ -192,8 +192,9 @@ module _ (p : Program) (n t a : ℕ) (g : Progress) where
       → o ≡ stray_condition (said_by f.checked.now) a ((state_of f.state).table.waits t))
       → o ≡ stray_condition p a (g.source.table.waits t)
   condition_so f o program layout matches finds =
-      subst (λ (q : Program). f.layout ≡ layout_of q → o ≡ stray_condition q a ((state_of f.state).table.waits t)) program
-      finds layout
+      subst
+      (λ (q : Program). f.layout ≡ layout_of q → o ≡ stray_condition q a ((state_of f.state).table.waits t))
+      program finds layout
       ∙ ap (λ (x : SourceState). stray_condition p a (x.table.waits t)) matches.source
 
 -- the follower follows the wake of a process that waits

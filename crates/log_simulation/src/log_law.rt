@@ -22,8 +22,9 @@ ghost use Rattle.log_simulation.specs.Going.{IsStrayDue};
 /// local step, and each shared one that isn't visible, adds the action that it completes by the marks of the code, if
 /// it completes one, to what is deferred; behind a visible step, by the request that the thread makes and the value of
 /// its event, all that was deferred of its process and the action itself are taken, which are possible. Behind a wake
-/// from outside, of a thread that slept on the word of the condition that its process waits on, all that was deferred of
-/// the process is taken, and then it waits no longer, which is possible; behind another wake from outside, nothing is.
+/// from outside, of a thread that slept on the word of the condition that its process waits on, all that was deferred
+/// of the process is taken, and then it waits no longer, which is possible; behind another wake from outside, nothing
+/// is.
 pub fn progress_follows_logs()
     ensures opens { (p : Program) → most_of p.version ≤ most_threads
         → ComesTo p [] (opening_concrete (code_of p)) (opening_progress p) }

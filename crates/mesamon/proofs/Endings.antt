@@ -64,15 +64,16 @@ has_run W E F text trace report (Ok s) run ended wrote told =
     record { text = text; trace = trace; report = report; run = run; ended = ended; wrote = wrote; told = told }
 has_run W E F text trace report (Err f) run ended wrote told = tt
 
-pub has_executed : (W E : List ℕ → Type 0) (F : Type 0) (bytes : List ℕ) (image : Program) (limit : ℕ) (trace : Bool)
-    (report : Report) (r : Result Status F) → IsSpelled image → spelling image ≡ bytes → IsReport image limit report
-    → IfOk r (λ s. s ≡ status_of_verdict report.verdict) → OnOk r (W (output_lines report.output.items))
-    → OnOk r (E (account report trace)) → IfOk r (HasExecuted W E)
-has_executed W E F bytes image limit trace report (Ok s) spelled is run ended wrote told = record {
+pub has_executed : (W E : List ℕ → Type 0) (F : Type 0) (bytes : List ℕ) (image : Program) (strays : Bool) (limit : ℕ)
+    (trace : Bool) (report : Report) (r : Result Status F) → IsSpelled image → spelling image ≡ bytes
+    → IsReport image strays limit report → IfOk r (λ s. s ≡ status_of_verdict report.verdict)
+    → OnOk r (W (output_lines report.output.items)) → OnOk r (E (account report trace)) → IfOk r (HasExecuted W E)
+has_executed W E F bytes image strays limit trace report (Ok s) spelled is run ended wrote told = record {
   bytes = bytes;
   image = image;
   spelled = spelled;
   is = is;
+  strays = strays;
   limit = limit;
   trace = trace;
   report = report;
@@ -81,7 +82,7 @@ has_executed W E F bytes image limit trace report (Ok s) spelled is run ended wr
   wrote = wrote;
   told = told;
 }
-has_executed W E F bytes image limit trace report (Err f) spelled is run ended wrote told = tt
+has_executed W E F bytes image strays limit trace report (Err f) spelled is run ended wrote told = tt
 
 -- a command that ran nothing was done
 pub done_by : (W E : List ℕ → Type 0) (F : Type 0) (A : Type 0) (r : Result Status F) → (A → HasDone W E Done)

@@ -1,5 +1,5 @@
 -- What was asked for is a run of the text.
-use Rattle.std.proofs.Common.{List, ℕ, inl, inr}
+use Rattle.std.proofs.Common.{List, ℕ, false, inl, inr, is_some}
 use Rattle.commandline.specs.declared.options.ExplainedBy.{ExplainedBy}
 use Rattle.commandline.specs.declared.options.ExplainedBy.TheVariants.{Order, Seed, Schedule, Log}
 use Rattle.commandline.specs.declared.options.ReplayedBy.{ReplayedBy}
@@ -11,8 +11,8 @@ use Rattle.mesamon.specs.declared.explained_run.ExplainedRun.{ExplainedRun}
 
 pub explained_so : (by : ExplainedBy) (text : List ℕ) (r : ExplainedRun) → IsExplainedAs by text r
     → IsExplained text r
-explained_so (Order steps) text r h = inl (steps, h)
-explained_so (Seed steps seed) text r h = inl (steps, h)
+explained_so (Order steps) text r h = inl (false, steps, h)
+explained_so (Seed steps seed strays) text r h = inl (is_some strays, steps, h)
 explained_so (Schedule name) text r h = inr (inl h)
 explained_so (Log name) text r h = inr (inr h)
 

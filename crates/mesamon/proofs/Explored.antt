@@ -1,21 +1,44 @@
 -- What a search says of a program's image.
-use Rattle.std.proofs.Common.{◌≡◌, ℕ, List, subst, sym}
+use Rattle.std.proofs.Common.{◌≡◌, ◌<◌, ◌^◌, ℕ, Bool, false, List, [], Some, length, subst, sym}
+use Rattle.words.specs.declared.outcome.Cause.{Cause}
+use Rattle.words.specs.declared.outcome.Outcome.TheVariants.{Aborted}
 use Rattle.isa.specs.Programs.{Program as Image}
+use Rattle.machine.specs.Runs.{CanStep, MachineRun, Step}
+use Rattle.machine.specs.States.{State}
 use Rattle.program.specs.Trees.{Program}
 use Rattle.lowering.specs.Pieces.{code_of}
+use Rattle.proof_exploration.specs.Exploring.{HasAborted, IsStuck}
+use Rattle.refinement.specs.Outside.{stray_threads}
 use Rattle.refinement.specs.Refines.{Refines}
-use Rattle.image_ends.proofs.Explaining.{all_over, none_aborted}
+use Rattle.refinement.specs.Seen.{machine_end}
+use Rattle.source_search.specs.Found.{LeadsNowhere}
+use Rattle.image_ends.specs.Ending.{AllOver}
 use Rattle.compiler.specs.Accepts.{AcceptsText}
 use Rattle.compiler.specs.Compiles.{IsCompiled}
 use Rattle.source_search.specs.declared.runs.Exploration.{Exploration}
 use Rattle.mesamon.specs.Exploring.{HoldsOfImage, IsFoundOf}
 
-pub holds_of_image : (p : Program) (e : Exploration) → Refines p (code_of p) → IsFoundOf p e → HoldsOfImage p e
-holds_of_image p e refines found = record {
+-- an image of a program no run of which gets stuck hangs nowhere
+abbrev NeverHangs : Type 0
+NeverHangs =
+    (p : Program) (image : Image) (strays : Bool) (steps : List Step) (s : State) → Refines p image
+    → LeadsNowhere p strays (IsStuck p) → MachineRun image steps s → length steps < 2 ^ 32
+    → (strays ≡ false → stray_threads p steps ≡ []) → ((t : ℕ) → CanStep s t → ⊥) → AllOver p s
+
+-- one of a program in no run of which a process aborts has no thread that does
+abbrev NeverAborts : Type 0
+NeverAborts =
+    (p : Program) (image : Image) (strays : Bool) (steps : List Step) (s : State) (q : ℕ) (cause : Cause)
+    → Refines p image → LeadsNowhere p strays HasAborted → MachineRun image steps s → length steps < 2 ^ 32
+    → (strays ≡ false → stray_threads p steps ≡ []) → machine_end s q ≡ Some (Aborted cause) → ⊥
+
+pub holds_of_image : NeverHangs → NeverAborts → (p : Program) (strays : Bool) (e : Exploration) → Refines p (code_of p)
+    → IsFoundOf p strays e → HoldsOfImage p strays e
+holds_of_image hangs aborts p strays e refines found = record {
   never_hangs = λ complete none steps s run few calm rests.
-      all_over p (code_of p) steps s refines run few calm (found.never_stuck complete none) rests;
+      hangs p (code_of p) strays steps s refines (found.never_stuck complete none) run few calm rests;
   never_faults = λ complete none steps s q cause run few calm h.
-      none_aborted p (code_of p) steps s refines run few calm (found.never_aborted complete none) q cause h;
+      aborts p (code_of p) strays steps s q cause refines (found.never_aborted complete none) run few calm h;
 }
 
 -- the image that a text is compiled to refines the text's one program

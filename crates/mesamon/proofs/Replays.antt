@@ -1,5 +1,5 @@
 -- A report of a run of compiled code by a schedule is explained by a run of the program.
-use Rattle.std.proofs.Common.{◌≡◌, ◌<◌, ◌+◌, ◌^◌, ◌++◌, ℕ, zero, suc, List, [], ◌∷◌, Option, Some, None}
+use Rattle.std.proofs.Common.{◌≡◌, ◌<◌, ◌+◌, ◌^◌, ◌++◌, ℕ, zero, suc, cond, not, List, [], ◌∷◌, Option, Some, None}
 use Rattle.std.proofs.Common.{Result, Ok, Err, IfOk, IfErr, MatchResult}
 use Rattle.std.proofs.Common.{inl, inr, length, map, min, replicate, refl, ap, ap₂, sym, ◌∙◌, subst, arith}
 use Rattle.std.specs.List.{All}
@@ -10,22 +10,24 @@ use Rattle.std.proofs.lemmas.List.Sums.{sum_by-cons}
 use Rattle.isa.specs.Programs.{Program}
 use Rattle.machine.specs.declared.event.Entry.{Entry}
 use Rattle.machine.specs.declared.event.Event.{Event}
-use Rattle.machine.specs.FrontRuns.{EventStep, Label, label_of, event_label}
-use Rattle.machine.specs.Runs.{Step}
+use Rattle.machine.specs.FrontRuns.{EventStep, Label, doing_of, label_of, event_label}
+use Rattle.machine.specs.Runs.{Doing, Own, Step, Strayed, is_own}
 use Rattle.machine.specs.States.{state_of}
 use Rattle.machine.specs.Views.{concrete}
 use Rattle.machine.proofs.Refusing.{breaks_so}
 use Rattle.lowering.specs.Pieces.{code_of}
 use Rattle.refinement.specs.Refines.{Refines}
-use Rattle.runner.specs.Logs.{cost, event_cost}
+use Rattle.runner.specs.Logs.{cost, event_cost, is_outside}
 use Rattle.runner.specs.LogRuns.{local_step_of, shared_step_of, steps_of}
-use Rattle.runner.specs.Schedules.{FailsAt, IsFollowed, IsOneStep}
+use Rattle.runner.specs.Schedules.{FailsAt, IsFollowed, IsOneStep, turn_of}
 use Rattle.runner.specs.declared.report.Report.{Report}
 use Rattle.runner.specs.declared.schedule.ScheduleFault.TheVariants.{Broken}
+use Rattle.runner.specs.declared.schedule.Turn.{Turn}
+use Rattle.runner.specs.declared.schedule.Turn.TheVariants as turn
 use Rattle.runner.proofs.Unrolling.{holds, runs_so}
 use Rattle.compiler.specs.Compiles.{IsCompiled}
 use Rattle.runner.specs.declared.schedule.ScheduleFault.TheVariants as follow
-use Rattle.mesamon.specs.Replaying.{IsLeftSchedule, IsNoRefusal, IsRefusedReplay, IsReplayOfText}
+use Rattle.mesamon.specs.Replaying.{IsLeftSchedule, IsNoRefusal, IsRefusedReplay, IsReplayOfText, step_turn, turn_by}
 use Rattle.mesamon.specs.declared.replaying.ReplayFault.{ReplayFault}
 use Rattle.mesamon.specs.declared.replaying.ReplayFault.TheVariants.{Refused, BadEntry, Memory}
 use Rattle.mesamon.proofs.Fitting.{fits_of}
@@ -40,32 +42,43 @@ ones_cost (e ∷ es) all =
     sum_by-cons (λ (x : Entry). x.local + event_cost x.event) e es in
     omega (arith, one, rest, more)
 
--- the step of an entry of one step is its thread's
-entry_thread : (t n : ℕ) (event : Option Event) → n + event_cost event ≡ 1
-    → map (λ (s : EventStep). s.thread) (replicate n (local_step_of t) ++ shared_step_of t event) ≡ t ∷ []
-entry_thread t zero None one = absurd cc
-entry_thread t zero (Some e) one = refl
-entry_thread t (suc zero) None one = refl
-entry_thread t (suc zero) (Some e) one = absurd (omega (arith, one))
-entry_thread t (suc (suc n)) event one = absurd (omega (arith, one))
+-- the turn that a step is, by its label
+abbrev label_turn : Label → Turn
+label_turn l = turn_by l.doing l.thread
 
-steps_threads : (log : List Entry) → All IsOneStep log
-    → map (λ (s : EventStep). s.thread) (steps_of log) ≡ map (λ (e : Entry). e.thread) log
-steps_threads [] all = refl
-steps_threads (e ∷ es) all =
-    map-append (λ (s : EventStep). s.thread) (replicate e.local (local_step_of e.thread)
-    ++ shared_step_of e.thread e.event) (steps_of es)
-    ∙ ap₂ (λ xs ys. xs ++ ys) (entry_thread e.thread e.local e.event (All-head IsOneStep e es all))
-    (steps_threads es (All-tail IsOneStep e es all))
+-- the turn that a step with an event is
+abbrev event_turn : EventStep → Turn
+event_turn s = label_turn (event_label s)
 
--- steps that are seen as others are the same threads'
-same_threads : (run : List Step) (steps : List EventStep) → map label_of run ≡ map event_label steps
-    → map (λ (s : Step). s.thread) run ≡ map (λ (s : EventStep). s.thread) steps
-same_threads run steps same =
-    sym (map-map (λ (l : Label). l.thread) label_of run) ∙ ap (map (λ (l : Label). l.thread)) same
-    ∙ map-map (λ (l : Label). l.thread) event_label steps
+-- what comes from outside is no own step
+outside_turn : (doing : Doing) (t : ℕ) → turn_by doing t ≡ cond (not (is_own doing)) (turn.Stray t) (turn.Step t)
+outside_turn Own t = refl
+outside_turn (Strayed a) t = refl
 
-pub replay_explained : (text : List ℕ) (image : Program) (schedule : List ℕ) (r : Report) → IsCompiled text image
+-- the step of an entry of one step is its turn
+entry_turn : (t n : ℕ) (event : Option Event) → n + event_cost event ≡ 1
+    → map event_turn (replicate n (local_step_of t) ++ shared_step_of t event)
+    ≡ cond (is_outside event) (turn.Stray t) (turn.Step t) ∷ []
+entry_turn t zero None one = absurd cc
+entry_turn t zero (Some e) one = ap (λ (x : Turn). x ∷ []) (outside_turn (doing_of e.name e.value) t)
+entry_turn t (suc zero) None one = refl
+entry_turn t (suc zero) (Some e) one = absurd (omega (arith, one))
+entry_turn t (suc (suc n)) event one = absurd (omega (arith, one))
+
+steps_turns : (log : List Entry) → All IsOneStep log → map event_turn (steps_of log) ≡ map turn_of log
+steps_turns [] all = refl
+steps_turns (e ∷ es) all =
+    map-append event_turn (replicate e.local (local_step_of e.thread) ++ shared_step_of e.thread e.event) (steps_of es)
+    ∙ ap₂ (λ xs ys. xs ++ ys) (entry_turn e.thread e.local e.event (All-head IsOneStep e es all))
+    (steps_turns es (All-tail IsOneStep e es all))
+
+-- steps that are seen as others are the same turns
+same_turns : (run : List Step) (steps : List EventStep) → map label_of run ≡ map event_label steps
+    → map step_turn run ≡ map event_turn steps
+same_turns run steps same =
+    sym (map-map label_turn label_of run) ∙ ap (map label_turn) same ∙ map-map label_turn event_label steps
+
+pub replay_explained : (text : List ℕ) (image : Program) (schedule : List Turn) (r : Report) → IsCompiled text image
     → IsFollowed image schedule r → IsReplayOfText text schedule r
 replay_explained text image schedule r c f =
     let followed : IsFollowed (code_of c.program) schedule r = subst (λ (p : Program). IsFollowed p schedule r) c.code
@@ -77,7 +90,7 @@ replay_explained text image schedule r c f =
     let single = followed.follows.single in
     let total = ones_cost r.log.items single in
     let many : length r.log.items ≡ length schedule =
-    sym (length-map r.log.items (λ (e : Entry). e.thread)) ∙ ap length followed.follows.threads in
+    sym (length-map r.log.items turn_of) ∙ ap length followed.follows.turns in
     let below = followed.few in
     let few : length steps < 2 ^ 32 = omega (arith, count, total, many, below) in
     record {
@@ -85,44 +98,43 @@ replay_explained text image schedule r c f =
       accepts = c.accepts;
       followed = followed;
       steps = steps;
-      threads = same_threads steps (steps_of r.log.items) same ∙ steps_threads r.log.items single
-          ∙ followed.follows.threads;
+      turns = same_turns steps (steps_of r.log.items) same ∙ steps_turns r.log.items single ∙ followed.follows.turns;
       machine_run = run;
       explained = refines.follows steps (state_of (concrete r.last)) run few;
     }
 
-sound_at : (text : List ℕ) (image : Program) (schedule : List ℕ) (number : ℕ) (c : IsCompiled text image)
+sound_at : (text : List ℕ) (image : Program) (schedule : List Turn) (number : ℕ) (c : IsCompiled text image)
     → FailsAt (code_of c.program) schedule (Broken number) → ⊥
 sound_at text image schedule number c (inl memory) = absurd memory
-sound_at text image schedule number c (inr (before, k, t, comes, refuses)) =
+sound_at text image schedule number c (inr (before, k, turn.Stray t, comes, refuses)) = absurd refuses.2
+sound_at text image schedule number c (inr (before, k, turn.Step t, comes, refuses)) =
     let refines : Refines c.program (code_of c.program) = subst (λ (p : Program). Refines c.program p) c.code
     c.refines in
     let fits = fits_of text image c in
     let (steps, run, count, same) = runs_so (code_of c.program) comes.log k fits comes.follows.legal in
     let total = ones_cost comes.log comes.follows.single in
     let many : length comes.log ≡ min before (length schedule) =
-    sym (length-map comes.log (λ (e : Entry). e.thread)) ∙ ap length comes.follows.threads
-    ∙ length-take before schedule in
+    sym (length-map comes.log turn_of) ∙ ap length comes.follows.turns ∙ length-take before schedule in
     let below = comes.few in
     let few : length steps < 2 ^ 32 = omega (arith, count, total, many, below) in
     (refines.follows steps (state_of k) run few).sound t ((breaks_so (code_of c.program) k t
-    (holds (code_of c.program) comes.log k fits comes.follows.legal)).0 refuses.3)
+    (holds (code_of c.program) comes.log k fits comes.follows.legal)).0 refuses.2.1)
 
 -- by no schedule compiled code meets a step that may not be
-pub replay_sound : (text : List ℕ) (image : Program) (schedule : List ℕ) (number : ℕ) → IsCompiled text image
+pub replay_sound : (text : List ℕ) (image : Program) (schedule : List Turn) (number : ℕ) → IsCompiled text image
     → FailsAt image schedule (Broken number) → ⊥
 replay_sound text image schedule number c fails =
     sound_at text image schedule number c (subst (λ (p : Program). FailsAt p schedule (Broken number)) c.code fails)
 
 -- what a run by a schedule of the image of a text answers, of the text
-pub replayed : (text : List ℕ) (image : Program) (schedule : List ℕ) (r : Result Report ReplayFault)
+pub replayed : (text : List ℕ) (image : Program) (schedule : List Turn) (r : Result Report ReplayFault)
     → IsCompiled text image → MatchResult r (IsFollowed image schedule) (IsLeftSchedule image schedule)
     → IfOk r (IsReplayOfText text schedule)
 replayed text image schedule (Ok report) c h = replay_explained text image schedule report c h
 replayed text image schedule (Err fault) c h = tt
 
-pub left_of_text : (text : List ℕ) (image : Program) (schedule : List ℕ) (fault : ReplayFault) → IsCompiled text image
-    → IsLeftSchedule image schedule fault → IsRefusedReplay text schedule fault
+pub left_of_text : (text : List ℕ) (image : Program) (schedule : List Turn) (fault : ReplayFault)
+    → IsCompiled text image → IsLeftSchedule image schedule fault → IsRefusedReplay text schedule fault
 left_of_text text image schedule (Refused e) c h = absurd h
 left_of_text text image schedule (BadEntry number) c h = record {
   program = c.program;
@@ -131,29 +143,29 @@ left_of_text text image schedule (BadEntry number) c h = record {
 }
 left_of_text text image schedule Memory c h = tt
 
-pub replay_left : (text : List ℕ) (image : Program) (schedule : List ℕ) (r : Result Report ReplayFault)
+pub replay_left : (text : List ℕ) (image : Program) (schedule : List Turn) (r : Result Report ReplayFault)
     → IsCompiled text image → MatchResult r (IsFollowed image schedule) (IsLeftSchedule image schedule)
     → IfErr r (IsRefusedReplay text schedule)
 replay_left text image schedule (Ok report) c h = tt
 replay_left text image schedule (Err fault) c h = left_of_text text image schedule fault c h
 
-pub keeps_no_refusal : (image : Program) (schedule : List ℕ) (fault : ReplayFault)
+pub keeps_no_refusal : (image : Program) (schedule : List Turn) (fault : ReplayFault)
     → IsLeftSchedule image schedule fault → IsNoRefusal fault
 keeps_no_refusal image schedule (Refused e) h = absurd h
 keeps_no_refusal image schedule (BadEntry number) h = tt
 keeps_no_refusal image schedule Memory h = tt
 
-pub replay_keeps : (image : Program) (schedule : List ℕ) (r : Result Report ReplayFault)
+pub replay_keeps : (image : Program) (schedule : List Turn) (r : Result Report ReplayFault)
     → MatchResult r (IsFollowed image schedule) (IsLeftSchedule image schedule) → IfErr r IsNoRefusal
 replay_keeps image schedule (Ok report) h = tt
 replay_keeps image schedule (Err fault) h = keeps_no_refusal image schedule fault h
 
 -- a log by a schedule has fewer than 2^32 steps
-pub followed_few : (image : Program) (schedule : List ℕ) (r : Report) → IsFollowed image schedule r
+pub followed_few : (image : Program) (schedule : List Turn) (r : Report) → IsFollowed image schedule r
     → cost r.log.items < 2 ^ 32
 followed_few image schedule r f =
     let total = ones_cost r.log.items f.follows.single in
     let many : length r.log.items ≡ length schedule =
-    sym (length-map r.log.items (λ (e : Entry). e.thread)) ∙ ap length f.follows.threads in
+    sym (length-map r.log.items turn_of) ∙ ap length f.follows.turns in
     let below = f.few in
     omega (arith, total, many, below)

@@ -1,23 +1,32 @@
 -- Which run of a text a command was asked for.
-use Rattle.std.specs.Prelude.{ℕ, List}
+use Rattle.std.specs.Prelude.{ℕ, Bool, false, List, is_some}
 use Rattle.commandline.specs.declared.options.ExplainedBy.{ExplainedBy}
 use Rattle.commandline.specs.declared.options.ExplainedBy.TheVariants.{Order, Seed, Schedule, Log}
+use Rattle.commandline.specs.declared.options.Order.{Order as OrderOf}
+use Rattle.commandline.specs.declared.options.Order.TheVariants.{Workers, InOrder, Seed as InSeed}
 use Rattle.commandline.specs.declared.options.ReplayedBy.{ReplayedBy}
 use Rattle.commandline.specs.declared.options.ReplayedBy.TheVariants.{Schedule as BySchedule, Log as ByLog}
 use Rattle.runner.specs.declared.report.Report.{Report}
+use Rattle.runner.specs.declared.schedule.Turn.{Turn}
 use Rattle.mesamon.specs.declared.explained_run.ExplainedRun.{ExplainedRun}
 use Rattle.mesamon.specs.Explaining.{IsExplanation, IsExplanationOfText}
 use Rattle.mesamon.specs.Replaying.{IsReplayOfText}
 use Rattle.mesamon.specs.SourceLog.{IsExplanationOfLog, IsReplayOfLog}
 
+-- whether stray wakes may come in a run in this order
+abbrev pub has_strays : OrderOf → Bool
+has_strays Workers = false
+has_strays InOrder = false
+has_strays (InSeed seed strays) = is_some strays
+
 -- the run that is explained, by what is named
 abbrev pub IsExplainedAs : ExplainedBy → List ℕ → ExplainedRun → Type 0
-IsExplainedAs (Order steps) text r = IsExplanationOfText text steps r
-IsExplainedAs (Seed steps seed) text r = IsExplanationOfText text steps r
-IsExplainedAs (Schedule name) text r = (schedule : List ℕ) × IsExplanation text (IsReplayOfText text schedule) r
+IsExplainedAs (Order steps) text r = IsExplanationOfText text false steps r
+IsExplainedAs (Seed steps seed strays) text r = IsExplanationOfText text (is_some strays) steps r
+IsExplainedAs (Schedule name) text r = (schedule : List Turn) × IsExplanation text (IsReplayOfText text schedule) r
 IsExplainedAs (Log name) text r = (lines : List ℕ) × IsExplanationOfLog text lines r
 
 -- the run again, by what is named
 abbrev pub IsReplayedAs : ReplayedBy → List ℕ → Report → Type 0
-IsReplayedAs (BySchedule name log) text r = (schedule : List ℕ) × IsReplayOfText text schedule r
+IsReplayedAs (BySchedule name log) text r = (schedule : List Turn) × IsReplayOfText text schedule r
 IsReplayedAs (ByLog name) text r = (lines : List ℕ) × IsReplayOfLog text lines r

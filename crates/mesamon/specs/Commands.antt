@@ -7,6 +7,7 @@ use Rattle.isa.specs.Lines.{lines}
 use Rattle.runner.specs.declared.report.Verdict.{Verdict}
 use Rattle.runner.specs.declared.report.Verdict.TheVariants as verdict
 use Rattle.runner.specs.declared.report.Report.{Report}
+use Rattle.runner.specs.declared.schedule.Turn.{Turn}
 use Rattle.runner.specs.Reports.{IsReport}
 use Rattle.mesamon.specs.declared.status.Status.{Status}
 use Rattle.mesamon.specs.declared.status.Status.TheVariants.{Done, Stuck, Limit}
@@ -52,10 +53,12 @@ status_of_verdict verdict.Done = Done
 status_of_verdict verdict.Stuck = Stuck
 status_of_verdict verdict.Limit = Limit
 
--- a report of a run of the text within some limit of steps, or by some schedule, or by the log that some text is
+-- a report of a run of the text within some limit of steps, with wakes from outside or without, or by some schedule, or
+-- by the log that some text is
 abbrev pub IsReportOf : List ℕ → Report → Type 0
 IsReportOf text report =
-    ((limit : ℕ) × IsRunOfText text limit report) ⊎ (((schedule : List ℕ) × IsReplayOfText text schedule report)
+    ((strays : Bool) × (limit : ℕ) × IsRunOfText text strays limit report)
+    ⊎ (((schedule : List Turn) × IsReplayOfText text schedule report)
     ⊎ ((lines : List ℕ) × IsReplayOfLog text lines report))
 
 -- some text was run, and its output and its account were written
@@ -68,16 +71,18 @@ pub record HasRun (Wrote WroteErrors : List ℕ → Type 0) (status : Status) : 
   pub wrote : Wrote (output_lines report.output.items)
   pub told : WroteErrors (account report trace)
 
--- some bytes spell an image that was run within some limit of steps, and its output and its account were written
+-- some bytes spell an image that was run within some limit of steps, with wakes from outside or without, and its output
+-- and its account were written
 pub record HasExecuted (Wrote WroteErrors : List ℕ → Type 0) (status : Status) : Type 0 where
   pub bytes : List ℕ
   pub image : Program
   pub spelled : IsSpelled image
   pub is : spelling image ≡ bytes
+  pub strays : Bool
   pub limit : ℕ
   pub trace : Bool
   pub report : Report
-  pub run : IsReport image limit report
+  pub run : IsReport image strays limit report
   pub ended : status ≡ status_of_verdict report.verdict
   pub wrote : Wrote (output_lines report.output.items)
   pub told : WroteErrors (account report trace)
@@ -86,12 +91,12 @@ pub record HasExecuted (Wrote WroteErrors : List ℕ → Type 0) (status : Statu
 abbrev pub explained_lines : ExplainedRun → List ℕ
 explained_lines r = flat_map (line r.checked.names) (map action_of r.actions.items)
 
--- the actions are those of a run of the text within some limit of steps or by some schedule, or of the log that some
--- lines are
+-- the actions are those of a run of the text within some limit of steps, with wakes from outside or without, or by some
+-- schedule, or of the log that some lines are
 abbrev pub IsExplained : List ℕ → ExplainedRun → Type 0
 IsExplained text r =
-    ((limit : ℕ) × IsExplanationOfText text limit r)
-    ⊎ (((schedule : List ℕ) × IsExplanation text (IsReplayOfText text schedule) r)
+    ((strays : Bool) × (limit : ℕ) × IsExplanationOfText text strays limit r)
+    ⊎ (((schedule : List Turn) × IsExplanation text (IsReplayOfText text schedule) r)
     ⊎ ((lines : List ℕ) × IsExplanationOfLog text lines r))
 
 -- some text was run and its run explained, or a log of it, and the lines of the actions were written

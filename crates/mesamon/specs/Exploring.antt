@@ -26,29 +26,31 @@ use Rattle.mesamon.specs.declared.exploring.ExploredText.{ExploredText}
 use Rattle.mesamon.specs.declared.status.Status.{Status}
 use Rattle.mesamon.specs.declared.status.Status.TheVariants.{Done, Stuck, Limit}
 
--- what was found of a program: runs with such an end; and where the search was complete and found none, there is none
-pub record IsFoundOf (p : Program) (e : Exploration) : Type 0 where
-  pub stuck : IfSome e.stuck (λ v. LeadsTo p (IsStuck p) v.items)
-  pub aborted : IfSome e.aborted (λ v. LeadsTo p HasAborted v.items)
-  pub never_stuck : e.complete ≡ true → e.stuck ≡ None → LeadsNowhere p (IsStuck p)
-  pub never_aborted : e.complete ≡ true → e.aborted ≡ None → LeadsNowhere p HasAborted
+-- what was found of a program, without stray wakes or with them: runs with such an end; and where the search was
+-- complete and found none, there is none
+pub record IsFoundOf (p : Program) (strays : Bool) (e : Exploration) : Type 0 where
+  pub stuck : IfSome e.stuck (λ v. LeadsTo p strays (IsStuck p) v.items)
+  pub aborted : IfSome e.aborted (λ v. LeadsTo p strays HasAborted v.items)
+  pub never_stuck : e.complete ≡ true → e.stuck ≡ None → LeadsNowhere p strays (IsStuck p)
+  pub never_aborted : e.complete ≡ true → e.aborted ≡ None → LeadsNowhere p strays HasAborted
 
--- of each run of the program's image, under whatever schedule, of fewer than 2^32 steps, in which nobody who waits on a
--- condition is woken from outside: where the search was complete and found no run that gets stuck, all processes are over
--- wherever no thread can move; and where it found none that aborts, no thread has aborted
-pub record HoldsOfImage (p : Program) (e : Exploration) : Type 0 where
+-- of each run of the program's image, under whatever schedule, of fewer than 2^32 steps, in which, where no stray wakes
+-- were searched, nobody who waits on a condition is woken from outside: where the search was complete and found no run
+-- that gets stuck, all processes are over wherever no thread can move; and where it found none that aborts, no thread
+-- has aborted
+pub record HoldsOfImage (p : Program) (strays : Bool) (e : Exploration) : Type 0 where
   pub never_hangs : e.complete ≡ true → e.stuck ≡ None → (steps : List Step) (s : State)
-      → MachineRun (code_of p) steps s → length steps < 2 ^ 32 → stray_threads p steps ≡ []
+      → MachineRun (code_of p) steps s → length steps < 2 ^ 32 → (strays ≡ false → stray_threads p steps ≡ [])
       → ((t : ℕ) → CanStep s t → ⊥) → AllOver p s
   pub never_faults : e.complete ≡ true → e.aborted ≡ None → (steps : List Step) (s : State) (q : ℕ) (cause : Cause)
-      → MachineRun (code_of p) steps s → length steps < 2 ^ 32 → stray_threads p steps ≡ []
+      → MachineRun (code_of p) steps s → length steps < 2 ^ 32 → (strays ≡ false → stray_threads p steps ≡ [])
       → machine_end s q ≡ Some (outcome.Aborted cause) → ⊥
 
 -- the text's program, what was found of it, and what that says of its image
-pub record IsExploredText (text : List ℕ) (r : ExploredText) : Type 0 where
+pub record IsExploredText (text : List ℕ) (strays : Bool) (r : ExploredText) : Type 0 where
   pub accepts : AcceptsText text (said_by r.checked)
-  pub found : IsFoundOf (said_by r.checked) r.exploration
-  pub image : HoldsOfImage (said_by r.checked) r.exploration
+  pub found : IsFoundOf (said_by r.checked) strays r.exploration
+  pub image : HoldsOfImage (said_by r.checked) strays r.exploration
 
 -- the line of how many states were kept
 abbrev pub states_line : ℕ → Bool → List ℕ
@@ -76,10 +78,11 @@ found_status false false = Limit
 abbrev pub explored_status : Exploration → Status
 explored_status e = found_status (is_some e.stuck) e.complete
 
--- all runs of some text were searched, and what was found was written
+-- all runs of some text were searched, without stray wakes or with them, and what was found was written
 pub record HasExplored (Wrote : List ℕ → Type 0) (status : Status) : Type 0 where
   pub text : List ℕ
+  pub strays : Bool
   pub explored_text : ExploredText
-  pub explored : IsExploredText text explored_text
+  pub explored : IsExploredText text strays explored_text
   pub ended : status ≡ explored_status explored_text.exploration
   pub wrote : Wrote (explored_lines explored_text)

@@ -1,5 +1,5 @@
 -- What a failure comes of, and the exit status that it has.
-use Rattle.std.specs.Prelude.{◌≡◌, ◌≢◌, ◌⊎◌}
+use Rattle.std.specs.Prelude.{◌≡◌, ◌≢◌, ◌⊎◌, None}
 use Rattle.std.specs.declared.io.ErrorKind.{ErrorKind}
 use Rattle.std.specs.declared.io.ErrorKind.TheVariants as io
 use Rattle.commandline.specs.declared.fault.WordsFault.{WordsFault}
@@ -33,7 +33,7 @@ abbrev pub status_of : Failure → Status
 status_of (Usage e) = status.Usage
 status_of (Read name) = status.Failed
 status_of (Write name) = status.Failed
-status_of (Refused e) = status.Refused
+status_of (Refused e hints) = status.Refused
 status_of (Image e) = status.Failed
 status_of (Run e) = status.Failed
 status_of (Schedule number) = status.Failed
@@ -62,9 +62,9 @@ abbrev pub OfWords : WordsFault → Failure → Type 0
 OfWords (words.Usage text) f = f ≡ Usage text
 OfWords words.Memory f = f ≡ Memory
 
--- and so is a refusal
+-- and so is a refusal, without hints
 abbrev pub OfRefusal : Refusal → Failure → Type 0
-OfRefusal e f = ((e.kind ≡ kind.Memory) × (f ≡ Memory)) ⊎ ((e.kind ≢ kind.Memory) × (f ≡ Refused e))
+OfRefusal e f = ((e.kind ≡ kind.Memory) × (f ≡ Memory)) ⊎ ((e.kind ≢ kind.Memory) × (f ≡ Refused e None))
 
 -- and so is the fault of an image
 abbrev pub OfImage : DecodeFault → Failure → Type 0

@@ -1,4 +1,5 @@
 pub mod Running
+pub mod Alone
 pub mod Replaying
 pub mod Explaining
 pub mod SourceLog

@@ -1,7 +1,7 @@
 -- What a run of a source text by a schedule answers.
 use Rattle.std.specs.Prelude.{◌≡◌, ◌⊎◌, ℕ, List, map}
 use Rattle.isa.specs.Programs.{Program as Image}
-use Rattle.machine.specs.Runs.{MachineRun, Step}
+use Rattle.machine.specs.Runs.{Doing, MachineRun, Own, Step, Strayed}
 use Rattle.machine.specs.States.{state_of}
 use Rattle.machine.specs.Views.{concrete}
 use Rattle.program.specs.Trees.{Program}
@@ -9,37 +9,48 @@ use Rattle.lowering.specs.Pieces.{code_of}
 use Rattle.refinement.specs.Refines.{Explained}
 use Rattle.runner.specs.declared.report.Report.{Report}
 use Rattle.runner.specs.declared.schedule.ScheduleFault.TheVariants as follow
+use Rattle.runner.specs.declared.schedule.Turn.{Turn}
+use Rattle.runner.specs.declared.schedule.Turn.TheVariants as turn
 use Rattle.runner.specs.Schedules.{FailsAt, IsFollowed}
 use Rattle.mesamon.specs.declared.replaying.ReplayFault.{ReplayFault}
 use Rattle.mesamon.specs.declared.replaying.ReplayFault.TheVariants.{Refused, BadEntry, Memory}
 use Rattle.compiler.specs.Accepts.{AcceptsText, RefusesText}
 use Rattle.scanner.specs.Refusals.{out_of_memory}
 
--- a report of the code of the text's program by a schedule: a run of the machine that has one step of each thread
--- named, in that order, which a run of the program explains
-pub record IsReplayOfText (text schedule : List ℕ) (report : Report) : Type 0 where
+-- the turn of a thread that takes a step, or is woken from outside
+abbrev pub turn_by : Doing → (thread : ℕ) → Turn
+turn_by Own thread = turn.Step thread
+turn_by (Strayed address) thread = turn.Stray thread
+
+-- the turn that a step of the machine is
+abbrev pub step_turn : Step → Turn
+step_turn s = turn_by s.doing s.thread
+
+-- a report of the code of the text's program by a schedule: a run of the machine that has one step for each turn, in
+-- that order, which a run of the program explains
+pub record IsReplayOfText (text : List ℕ) (schedule : List Turn) (report : Report) : Type 0 where
   pub program : Program
   pub accepts : AcceptsText text program
   pub followed : IsFollowed (code_of program) schedule report
   pub steps : List Step
-  pub threads : map (λ s. s.thread) steps ≡ schedule
+  pub turns : map step_turn steps ≡ schedule
   pub machine_run : MachineRun (code_of program) steps (state_of (concrete report.last))
   pub explained : Explained program (code_of program) steps (state_of (concrete report.last))
 
 -- why an image of a text isn't run by a schedule to its end: the first entry that is refused, or want of memory
-abbrev pub IsLeftSchedule : Image → List ℕ → ReplayFault → Type 0
+abbrev pub IsLeftSchedule : Image → List Turn → ReplayFault → Type 0
 IsLeftSchedule image schedule (Refused e) = ⊥
 IsLeftSchedule image schedule (BadEntry number) = FailsAt image schedule (follow.BadEntry number)
 IsLeftSchedule image schedule Memory = Unit {0}
 
 -- the entry of this number is the first that the code of the text's program refuses
-pub record IsBadEntry (text schedule : List ℕ) (number : ℕ) : Type 0 where
+pub record IsBadEntry (text : List ℕ) (schedule : List Turn) (number : ℕ) : Type 0 where
   pub program : Program
   pub accepts : AcceptsText text program
   pub fails : FailsAt (code_of program) schedule (follow.BadEntry number)
 
 -- the text's refusal, or the schedule's bad entry, or want of memory
-abbrev pub IsRefusedReplay : List ℕ → List ℕ → ReplayFault → Type 0
+abbrev pub IsRefusedReplay : List ℕ → List Turn → ReplayFault → Type 0
 IsRefusedReplay text schedule (Refused e) = (e ≡ out_of_memory) ⊎ RefusesText text e
 IsRefusedReplay text schedule (BadEntry number) = IsBadEntry text schedule number
 IsRefusedReplay text schedule Memory = Unit {0}

@@ -1,11 +1,17 @@
 ghost use Rattle.std.specs.Prelude.{◌≡◌, ◌≤◌, ◌⊎◌, List, IfOk, OnOk};
 ghost use Rattle.devices.specs.Writing.{HasAll};
+ghost use Rattle.program.specs.Names.{said_by};
+ghost use Rattle.program.specs.Trees.{Program};
+ghost use Rattle.compiler.specs.Accepts.{AcceptsText};
+ghost use Rattle.compiler.specs.Compiles.{IsCompiled};
 ghost use Rattle.mesamon.specs.Commands.{HasChecked, HasCompiled, HasDone, HasEnded, HasListed};
 
+use crate::drawing::Drawings;
 use crate::explaining::explain_file;
 use crate::exploring::explore_file;
 use crate::failure::Failure;
 use crate::files::{bytes_of, put_bytes};
+use crate::hinting::{SourceText, hinted};
 use crate::lines::{line_of_image, write_text};
 use crate::running::{exec_file, replay_file, run_file};
 use crate::status::Status;
@@ -13,7 +19,9 @@ use commandline::{Job, line};
 use compiler::{check_text, compile_checked, compile_with};
 use devices::Counted;
 use emit::emit;
-use isa::{decode, encode, list_lines};
+use isa::{Image, decode, encode, list_lines};
+use program::Checked;
+use std::alloc::Global;
 use std::io;
 use std::io::Write;
 use std::rt::Files;
@@ -64,6 +72,10 @@ fn tell<E: Write>(errors: &mut Counted<E>, failure: &Failure<'_>) -> io::Result<
     match failure {
         Failure::Usage(text) => write!(errors, "{text}"),
         Failure::Output => Ok(()),
+        Failure::Refused {
+            refusal,
+            hints: Some(hints),
+        } => write!(errors, "{refusal}\n{hints}"),
         other => writeln!(errors, "{other}"),
     }
 }
@@ -78,19 +90,78 @@ fn do_job<'a, R: Files + AllocGlobal + Threads + Wait + Sync, O: Write, E: Write
         (HasAll E.contents errors.old errors.new) s) }
 {
     match line(rt.alloc(), words)? {
-        Job::Check { file } => check_file(rt, file, output),
-        Job::Compile { file, out, workers } => compile_file(rt, file, out, workers, output),
+        Job::Check { file, hints } => check_file(rt, file, hints, output),
+        Job::Compile {
+            file,
+            out,
+            workers,
+            hints,
+        } => compile_file(rt, file, out, workers, hints, output),
         Job::List { image } => list_file(rt, image, output),
-        Job::Run { file, options } => run_file(rt, file, options, output, errors),
+        Job::Run {
+            file,
+            options,
+            hints,
+        } => run_file(rt, file, options, hints, output, errors),
         Job::Exec { image, options } => exec_file(rt, image, options, output, errors),
-        Job::Replay { file, by, trace } => replay_file(rt, file, by, trace, output, errors),
-        Job::Explain { file, by, chart } => explain_file(rt, file, by, chart, output),
-        Job::Emit { file, out } => emit_file(rt, file, out, output),
+        Job::Replay {
+            file,
+            by,
+            trace,
+            hints,
+        } => replay_file(rt, file, by, trace, hints, output, errors),
+        Job::Explain {
+            file,
+            by,
+            chart,
+            timeline,
+            hints,
+        } => explain_file(rt, file, by, Drawings { chart, timeline }, hints, output),
+        Job::Emit { file, out, hints } => emit_file(rt, file, out, hints, output),
         Job::Explore {
             file,
             states,
+            strays,
             chart,
-        } => explore_file(rt, file, states, chart, output),
+            timeline,
+            hints,
+        } => {
+            let drawings = Drawings { chart, timeline };
+            explore_file(rt, file, states, strays, drawings, hints, output)
+        }
+    }
+}
+
+// Checks a text; its refusal with hints where they are wanted, as below.
+fn check<'a>(alloc: Global, text: &SourceText<'_>) -> Result<(), Failure<'a>>
+    ensures { IfOk result (λ _. (p : Program) × AcceptsText text.now.bytes.now p) }
+{
+    check_text(alloc, text.bytes).map_err(|refusal| hinted(alloc, text, Failure::from(refusal)))
+}
+
+// The image of a text.
+fn image_of<'a, R: AllocGlobal + Threads + Wait + Sync>(
+    rt: &R,
+    text: &SourceText<'_>,
+    workers: u32,
+) -> Result<Image, Failure<'a>>
+    requires { (1 ≤ workers) × (workers ≤ 64) }
+    ensures { IfOk result (λ image. IsCompiled text.now.bytes.now image) }
+{
+    compile_with(rt, rt.alloc(), text.bytes, workers, &OpenGate).map_err(|refusal| hinted(
+        rt.alloc(),
+        text,
+        Failure::from(refusal),
+    ))
+}
+
+// The program of a text whose code fits.
+fn checked_of<'a, 't>(alloc: Global, text: &SourceText<'t>) -> Result<Checked<'t>, Failure<'a>>
+    ensures { IfOk result (λ checked. AcceptsText text.now.bytes.now (said_by checked)) }
+{
+    match compile_checked(alloc, text.bytes) {
+        Ok((checked, _)) => Ok(checked),
+        Err(refusal) => Err(hinted(alloc, text, Failure::from(refusal))),
     }
 }
 
@@ -98,14 +169,20 @@ fn do_job<'a, R: Files + AllocGlobal + Threads + Wait + Sync, O: Write, E: Write
 fn check_file<'a, R: Files + AllocGlobal, O: Write>(
     rt: &R,
     file: &'a str,
+    hints: bool,
     output: &mut Counted<O>,
 ) -> Result<Status, Failure<'a>>
     ensures done { IfOk result (λ s. s ≡ Status.Done) }
     ensures wrote { OnOk result
         (HasChecked (HasAll O.contents output.old output.new)) }
 {
-    let text = bytes_of(rt, file)?;
-    check_text(rt.alloc(), text.as_slice())?;
+    let bytes = bytes_of(rt, file)?;
+    let text = SourceText {
+        file,
+        bytes: bytes.as_slice(),
+        hints,
+    };
+    check(rt.alloc(), &text)?;
     write_text(output, "ok\n")?;
     Ok(Status::Done)
 }
@@ -116,6 +193,7 @@ fn compile_file<'a, R: Files + AllocGlobal + Threads + Wait + Sync, O: Write>(
     file: &'a str,
     out: &'a str,
     workers: u32,
+    hints: bool,
     output: &mut Counted<O>,
 ) -> Result<Status, Failure<'a>>
     requires { (1 ≤ workers) × (workers ≤ 64) }
@@ -123,8 +201,13 @@ fn compile_file<'a, R: Files + AllocGlobal + Threads + Wait + Sync, O: Write>(
     ensures wrote { OnOk result
         (HasCompiled (HasAll O.contents output.old output.new)) }
 {
-    let text = bytes_of(rt, file)?;
-    let image = compile_with(rt, rt.alloc(), text.as_slice(), workers, &OpenGate)?;
+    let source = bytes_of(rt, file)?;
+    let text = SourceText {
+        file,
+        bytes: source.as_slice(),
+        hints,
+    };
+    let image = image_of(rt, &text, workers)?;
     let bytes = encode(rt.alloc(), &image)?;
     let count = image.code().len();
     let line = line_of_image(rt.alloc(), count)?;
@@ -138,14 +221,20 @@ fn emit_file<'a, R: Files + AllocGlobal, O: Write>(
     rt: &R,
     file: &'a str,
     out: &'a str,
+    hints: bool,
     output: &mut Counted<O>,
 ) -> Result<Status, Failure<'a>>
     ensures done { IfOk result (λ s. s ≡ Status.Done) }
     ensures wrote { OnOk result
         (HasChecked (HasAll O.contents output.old output.new)) }
 {
-    let text = bytes_of(rt, file)?;
-    let (checked, _) = compile_checked(rt.alloc(), text.as_slice())?;
+    let bytes = bytes_of(rt, file)?;
+    let text = SourceText {
+        file,
+        bytes: bytes.as_slice(),
+        hints,
+    };
+    let checked = checked_of(rt.alloc(), &text)?;
     let lines = emit(rt.alloc(), &checked)?;
     put_bytes(rt, out, lines.as_slice())?;
     write_text(output, "ok\n")?;

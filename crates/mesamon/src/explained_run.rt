@@ -1,4 +1,4 @@
-ghost use Rattle.std.specs.Prelude.{◌≡◌, ◌<◌, ◌^◌, IfOk, IfErr, List, MatchResult, map, ℕ};
+ghost use Rattle.std.specs.Prelude.{◌≡◌, ◌<◌, ◌^◌, false, is_some, IfOk, IfErr, List, MatchResult, map, ℕ};
 ghost use Rattle.machine.specs.States.{ConcreteState};
 ghost use Rattle.program.specs.Names.{said_by};
 ghost use Rattle.program.specs.Trees.{Program};
@@ -10,6 +10,7 @@ ghost use Rattle.backend.specs.Lowered.{IsLowered};
 ghost use Rattle.backend.specs.Refusals.{CodeFits};
 ghost use Rattle.compiler.specs.Accepts.{AcceptsText};
 ghost use Rattle.compiler.specs.Compiles.{IsCompiled};
+ghost use Rattle.mesamon.specs.Alone.{allows_strays};
 ghost use Rattle.mesamon.specs.Explaining.{IsExplanation, IsExplanationOfText, IsRefusedExplanation, IsWantOfMemory};
 ghost use Rattle.mesamon.specs.Replaying.{IsReplayOfText, IsRefusedReplay, IsNoRefusal};
 ghost use Rattle.mesamon.specs.declared.explained_run.ExplainSourceFault.TheVariants.{Refused, Memory};
@@ -20,7 +21,7 @@ use compiler::compile_checked;
 use isa::Image;
 use machine::Entry;
 use program::Checked;
-use runner::{Report, RunFault, logs_are_machine_runs};
+use runner::{Report, RunFault, Turn, logs_are_machine_runs};
 use scanner::Refusal;
 use simulation::{ExplainFault, explain_lowered};
 use source_states::Action;
@@ -58,19 +59,23 @@ impl From<Refusal> for ExplainSourceFault {
     }
 }
 
-// Runs an image on the calling thread, in order or as a seed says.
-fn run_alone(
-    alloc: Global,
-    image: &Image,
-    limit: u32,
-    seed: Option<u64>,
-) -> Result<Report, RunFault>
-    ensures ok { IfOk result (λ report. IsReport image.now limit report) }
-    ensures err { IfErr result (λ fault. CanFail image.now limit fault) }
+// Who moves the threads of a run on the calling thread.
+#[derive(Clone, Copy, PartialEq, Eq, Debug)]
+enum Alone {
+    // A fixed order.
+    InOrder,
+    // The order that follows from a seed, with about one stray wake in so many entries, where such are wanted.
+    Seed { seed: u64, strays: Option<u32> },
+}
+
+// Runs an image on the calling thread.
+fn run_alone(alloc: Global, image: &Image, limit: u32, order: Alone) -> Result<Report, RunFault>
+    ensures ok { IfOk result (λ report. IsReport image.now (allows_strays order) limit report) }
+    ensures err { IfErr result (λ fault. CanFail image.now (allows_strays order) limit fault) }
 {
-    match seed {
-        Some(seed) => runner::run_by_seed(alloc, image, limit, seed),
-        None => runner::run_in_order(alloc, image, limit, &OpenGate),
+    match order {
+        Alone::Seed { seed, strays } => runner::run_by_seed(alloc, image, limit, seed, strays),
+        Alone::InOrder => runner::run_in_order(alloc, image, limit, &OpenGate),
     }
 }
 
@@ -79,14 +84,14 @@ fn run_image(
     alloc: Global,
     image: &Image,
     limit: u32,
-    seed: Option<u64>,
+    order: Alone,
 ) -> Result<Report, ExplainSourceFault>
     requires { (text : List ℕ) × IsCompiled text image.now }
-    ensures { MatchResult result (λ report. IsReport image.now limit report)
+    ensures { MatchResult result (λ report. IsReport image.now (allows_strays order) limit report)
         (λ fault. fault ≡ Memory) }
 {
     logs_are_machine_runs();
-    match run_alone(alloc, image, limit, seed) {
+    match run_alone(alloc, image, limit, order) {
         Ok(report) => Ok(report),
         Err(RunFault::Broken) => unreachable!(),
         Err(RunFault::Stray | RunFault::CannotMove | RunFault::Limit) => unreachable!(),
@@ -116,21 +121,22 @@ fn explain_run(
     }
 }
 
-// Compiles a source text, runs its image in order or as a seed says, and explains the log.
+// Compiles a source text, runs its image on the calling thread, and explains the log.
 fn explain_alone<'a>(
     alloc: Global,
     text: &'a [u8],
     limit: u32,
-    seed: Option<u64>,
+    order: Alone,
 ) -> Result<ExplainedRun<'a>, ExplainSourceFault>
-    ensures explained { IfOk result (λ run. IsExplanationOfText text.now limit run) }
+    ensures explained { IfOk result
+        (λ run. IsExplanationOfText text.now (allows_strays order) limit run) }
     ensures fault { IfErr result (λ fault. IsRefusedExplanation text.now fault) }
     ensures only { (p : Program) → AcceptsText text.now p → CodeFits p
         → IfErr result (λ fault. IsWantOfMemory fault) }
 {
     logs_are_machine_runs();
     let (checked, lowered) = compile_checked(alloc, text)?;
-    let report = run_image(alloc, &lowered.image, limit, seed)?;
+    let report = run_image(alloc, &lowered.image, limit, order)?;
     let actions = explain_run(alloc, &checked, lowered, report.log.as_slice())?;
     Ok(ExplainedRun {
         checked,
@@ -150,15 +156,15 @@ pub fn explain_source<'a>(
     text: &'a [u8],
     limit: u32,
 ) -> Result<ExplainedRun<'a>, ExplainSourceFault>
-    ensures explained { IfOk result (λ run. IsExplanationOfText text.now limit run) }
+    ensures explained { IfOk result (λ run. IsExplanationOfText text.now false limit run) }
     ensures fault { IfErr result (λ fault. IsRefusedExplanation text.now fault) }
     ensures only { (p : Program) → AcceptsText text.now p → CodeFits p
         → IfErr result (λ fault. IsWantOfMemory fault) }
 {
-    explain_alone(alloc, text, limit, None)
+    explain_alone(alloc, text, limit, Alone::InOrder)
 }
 
-/// The same, with the run in the order that follows from a seed, as `run_by_seed` does.
+/// The same, with the run in the order that follows from a seed, with stray wakes or without, as `run_by_seed` does.
 ///
 /// # Errors
 ///
@@ -168,13 +174,15 @@ pub fn explain_by_seed<'a>(
     text: &'a [u8],
     limit: u32,
     seed: u64,
+    strays: Option<u32>,
 ) -> Result<ExplainedRun<'a>, ExplainSourceFault>
-    ensures explained { IfOk result (λ run. IsExplanationOfText text.now limit run) }
+    ensures explained { IfOk result
+        (λ run. IsExplanationOfText text.now (is_some strays) limit run) }
     ensures fault { IfErr result (λ fault. IsRefusedExplanation text.now fault) }
     ensures only { (p : Program) → AcceptsText text.now p → CodeFits p
         → IfErr result (λ fault. IsWantOfMemory fault) }
 {
-    explain_alone(alloc, text, limit, Some(seed))
+    explain_alone(alloc, text, limit, Alone::Seed { seed, strays })
 }
 
 /// Compiles a source text, runs its image by a schedule as `replay` does, and explains the log.
@@ -185,7 +193,7 @@ pub fn explain_by_seed<'a>(
 pub fn explain_schedule<'a>(
     alloc: Global,
     text: &'a [u8],
-    schedule: &[u32],
+    schedule: &[Turn],
 ) -> Result<ExplainedRun<'a>, ReplayFault>
     ensures explained { IfOk result
         (λ run. IsExplanation text.now (IsReplayOfText text.now schedule.now) run) }

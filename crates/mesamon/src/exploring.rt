@@ -6,13 +6,15 @@ ghost use Rattle.compiler.specs.Accepts.{RefusesText};
 ghost use Rattle.mesamon.specs.Exploring.{end_lines, explored_lines, explored_status, states_line};
 ghost use Rattle.mesamon.specs.Exploring.{HasExplored, IsExploredText, IsFoundOf};
 
+use crate::drawing::Drawings;
 use crate::failure::Failure;
-use crate::files::{bytes_of, put_bytes};
+use crate::files::bytes_of;
+use crate::hinting::{SourceText, hinted};
 use crate::status::Status;
 use actionlines::action_lines;
-use chart::chart;
 use compiler::{compile_checked, text_laws};
 use devices::{Counted, write_bytes};
+use image_ends::image_laws;
 use program::{Checked, Names};
 use scanner::Refusal;
 use source_search::{Exploration, explore};
@@ -32,8 +34,10 @@ pub struct ExploredText<'a> {
 }
 
 /// Searches all runs of the program of a source text, keeping at most so many states: for one that gets stuck, and for
-/// one in which a process aborts. Where the search was complete and found none, there is none, and so no schedule of the
-/// text's image hangs, or has a thread that aborts, as long as no wakes come from outside.
+/// one in which a process aborts. With strays, processes that wait on a condition are also woken by nobody.
+///
+/// Where the search was complete and found none, there is none, and so no schedule of the text's image hangs, or has a
+/// thread that aborts: with strays whatever wakes come from outside, else as long as none do.
 ///
 /// # Errors
 ///
@@ -42,13 +46,15 @@ pub fn explore_source<'a>(
     alloc: Global,
     text: &'a [u8],
     most_states: usize,
+    strays: bool,
 ) -> Result<ExploredText<'a>, Refusal>
-    ensures { MatchResult result (λ explored. IsExploredText text.now explored)
+    ensures { MatchResult result (λ explored. IsExploredText text.now strays explored)
         (λ e. (e ≡ out_of_memory) ⊎ RefusesText text.now e) }
 {
     text_laws();
+    image_laws();
     let (checked, _lowered) = compile_checked(alloc, text)?;
-    let exploration = explore_checked(alloc, &checked, most_states)?;
+    let exploration = explore_checked(alloc, &checked, most_states, strays)?;
     Ok(ExploredText {
         checked,
         exploration,
@@ -60,58 +66,70 @@ fn explore_checked(
     alloc: Global,
     checked: &Checked,
     most_states: usize,
+    strays: bool,
 ) -> Result<Exploration, AllocError>
-    ensures { IfOk result (λ e. IsFoundOf (said_by checked.now) e) }
+    ensures { IfOk result (λ e. IsFoundOf (said_by checked.now) strays e) }
 {
-    explore(alloc, checked, most_states)
+    explore(alloc, checked, most_states, strays)
 }
 
-/// Searches all runs of the source text of a file, prints what is found, and draws it to another file where one is
-/// named and anything was found.
+/// Searches all runs of the source text of a file, with stray wakes or without, prints what is found, and shows it in
+/// other files where they are named and anything was found.
 pub fn explore_file<'a, R: Files + AllocGlobal, O: Write>(
     rt: &R,
     file: &'a str,
     most_states: u32,
-    out: Option<&'a str>,
+    strays: bool,
+    drawings: Drawings<'a>,
+    hints: bool,
     output: &mut Counted<O>,
 ) -> Result<Status, Failure<'a>>
     ensures { IfOk result
         (λ s. HasExplored (HasAll O.contents output.old output.new) s) }
 {
-    let text = bytes_of(rt, file)?;
-    let explored = explore_source(rt.alloc(), text.as_slice(), most_states as usize)?;
+    let bytes = bytes_of(rt, file)?;
+    let text = SourceText {
+        file,
+        bytes: bytes.as_slice(),
+        hints,
+    };
+    let explored = explore_text(rt.alloc(), &text, most_states, strays)?;
     let lines = lines_of(rt.alloc(), &explored)?;
-    if let Some(out) = out {
-        put_found(rt, out, &explored)?;
-    }
+    put_found(rt, drawings, &explored)?;
     write_bytes(output, lines.as_slice())?;
     Ok(status_of_found(&explored.exploration))
 }
 
-// Draws the run that was found to a file: the stuck one, where there are two.
+// Searches all runs of a text's program; its refusal with hints where they are wanted.
+fn explore_text<'a, 't>(
+    alloc: Global,
+    text: &SourceText<'t>,
+    most_states: u32,
+    strays: bool,
+) -> Result<ExploredText<'t>, Failure<'a>>
+    ensures { IfOk result (λ explored. IsExploredText text.now.bytes.now strays explored) }
+{
+    explore_source(alloc, text.bytes, most_states as usize, strays).map_err(|refusal| hinted(
+        alloc,
+        text,
+        Failure::from(refusal),
+    ))
+}
+
+// Shows the run that was found in files: the stuck one, where there are two.
 fn put_found<'a, R: Files + AllocGlobal>(
     rt: &R,
-    out: &'a str,
+    drawings: Drawings<'a>,
     explored: &ExploredText<'_>,
 ) -> Result<(), Failure<'a>> {
     let found = &explored.exploration;
     if let Some(actions) = &found.stuck {
-        return put_run(rt, out, &explored.checked, actions.as_slice());
+        return drawings.put(rt, &explored.checked, actions.as_slice());
     }
     match &found.aborted {
-        Some(actions) => put_run(rt, out, &explored.checked, actions.as_slice()),
+        Some(actions) => drawings.put(rt, &explored.checked, actions.as_slice()),
         None => Ok(()),
     }
-}
-
-fn put_run<'a, R: Files + AllocGlobal>(
-    rt: &R,
-    out: &'a str,
-    checked: &Checked<'_>,
-    actions: &[Action],
-) -> Result<(), Failure<'a>> {
-    let picture = chart(rt.alloc(), checked, actions)?;
-    put_bytes(rt, out, picture.as_slice())
 }
 
 // How a search ended.

@@ -31,8 +31,13 @@ pub enum Failure<'a> {
     #[error("cannot write {0}")]
     Write(&'a str),
     /// The source text was refused.
-    #[error("{0}")]
-    Refused(Refusal),
+    #[error("{refusal}")]
+    Refused {
+        /// Why.
+        refusal: Refusal,
+        /// The lines that come behind that of the refusal, where hints are wanted.
+        hints: Option<String>,
+    },
     /// The bytes are no image.
     #[error("{0}")]
     Image(DecodeFault),
@@ -96,7 +101,7 @@ impl<'a> Failure<'a> {
     {
         match self {
             Failure::Usage(_) => Status::Usage,
-            Failure::Refused(_) => Status::Refused,
+            Failure::Refused { .. } => Status::Refused,
             Failure::Memory => Status::Memory,
             Failure::Read(_)
             | Failure::Write(_)
@@ -128,7 +133,10 @@ impl From<Refusal> for Failure<'_> {
         if refusal.kind == RefusalKind::Memory {
             Failure::Memory
         } else {
-            Failure::Refused(refusal)
+            Failure::Refused {
+                refusal,
+                hints: None,
+            }
         }
     }
 }

@@ -2,11 +2,13 @@
 #![tactic(auto)]
 
 mod commands;
+mod drawing;
 mod explained_run;
 mod explaining;
 mod exploring;
 mod failure;
 mod files;
+mod hinting;
 mod lines;
 mod replaying;
 mod running;

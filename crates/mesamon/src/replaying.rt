@@ -9,7 +9,7 @@ ghost use Rattle.mesamon.specs.declared.replaying.ReplayFault.TheVariants.{Refus
 
 use compiler::compile;
 use isa::Image;
-use runner::{Report, ScheduleFault, follow};
+use runner::{Report, ScheduleFault, Turn, follow};
 use scanner::Refusal;
 use std::alloc::Global;
 use thiserror::Error;
@@ -20,8 +20,8 @@ pub enum ReplayFault {
     /// The text has no image.
     #[error("{0}")]
     Refused(Refusal),
-    /// The entry of the schedule that has this number, from 1, names a thread that can't move, or its number is past
-    /// 4294967295.
+    /// The entry of the schedule that has this number, from 1, is a step of a thread that can't move, or a stray wake
+    /// of one that doesn't sleep; or its number is past 4294967295.
     #[error("schedule entry {0}")]
     BadEntry(u64),
     /// There is no memory for the run.
@@ -41,7 +41,7 @@ impl From<Refusal> for ReplayFault {
 pub fn follow_compiled(
     alloc: Global,
     image: &Image,
-    schedule: &[u32],
+    schedule: &[Turn],
 ) -> Result<Report, ReplayFault>
     requires { (text : List ℕ) × IsCompiled text image.now }
     ensures { MatchResult result (λ report. IsFollowed image.now schedule.now report)
@@ -55,13 +55,14 @@ pub fn follow_compiled(
     }
 }
 
-/// Compiles a source text and runs its image by a schedule: for each of its numbers the thread of that number takes one
-/// step of the machine, local or shared, which is an entry of the log.
+/// Compiles a source text and runs its image by a schedule: at each of its turns a thread takes one step of the
+/// machine, local or shared, or a thread that sleeps is woken from outside. Each turn is an entry of the log.
 ///
 /// Some run of the text's program explains the report, as with `run_source`. The verdict is Limit where some thread can
-/// still move. A text that `compile` refuses has the same refusal; else the first entry whose thread can't move is
-/// refused. No step of a program's code may not be, so there is no other fault but want of memory.
-pub fn replay(alloc: Global, text: &[u8], schedule: &[u32]) -> Result<Report, ReplayFault>
+/// still move. A text that `compile` refuses has the same refusal; else the first turn of a thread that can't move, or
+/// that is to be woken and doesn't sleep, is refused. No step of a program's code may not be, so there is no other
+/// fault but want of memory.
+pub fn replay(alloc: Global, text: &[u8], schedule: &[Turn]) -> Result<Report, ReplayFault>
     ensures report { IfOk result (λ report. IsReplayOfText text.now schedule.now report) }
     ensures fault { IfErr result (λ fault. IsRefusedReplay text.now schedule.now fault) }
     ensures only { (p : Program) → AcceptsText text.now p → CodeFits p

@@ -1,12 +1,13 @@
 ghost use Rattle.std.specs.Prelude.{◌≡◌, IfOk};
 ghost use Rattle.devices.specs.Writing.{HasAll};
 ghost use Rattle.runner.specs.Reports.{IsReport};
-ghost use Rattle.mesamon.specs.Asked.{IsReplayedAs};
+ghost use Rattle.mesamon.specs.Asked.{IsReplayedAs, has_strays};
 ghost use Rattle.mesamon.specs.Commands.{HasExecuted, HasRun};
 ghost use Rattle.mesamon.specs.Running.{IsRunOfText};
 
 use crate::failure::Failure;
 use crate::files::{bytes_of, whole_bytes_of};
+use crate::hinting::{SourceText, hinted};
 use crate::replaying::replay;
 use crate::schedule::schedule_of;
 use crate::showing::{Kept, show};
@@ -28,30 +29,51 @@ pub fn run_file<'a, R: Files + AllocGlobal + Threads + Wait + Sync, O: Write, E:
     rt: &R,
     file: &'a str,
     options: RunOptions<'a>,
+    hints: bool,
     output: &mut Counted<O>,
     errors: &mut Counted<E>,
 ) -> Result<Status, Failure<'a>>
     ensures { IfOk result (λ s. HasRun (HasAll O.contents output.old output.new)
         (HasAll E.contents errors.old errors.new) s) }
 {
-    let text = bytes_of(rt, file)?;
-    let report = run_text(rt, text.as_slice(), options.steps, options.order)?;
+    let bytes = bytes_of(rt, file)?;
+    let text = SourceText {
+        file,
+        bytes: bytes.as_slice(),
+        hints,
+    };
+    let report = run_text(rt, &text, options.steps, options.order)?;
     show(rt, &report, kept_by(options), output, errors)
 }
 
-// Runs a text.
-fn run_text<R: AllocGlobal + Threads + Wait + Sync>(
+// Runs a text; its refusal with hints where they are wanted.
+fn run_text<'a, R: AllocGlobal + Threads + Wait + Sync>(
+    rt: &R,
+    text: &SourceText<'_>,
+    steps: u32,
+    order: Order,
+) -> Result<Report, Failure<'a>>
+    ensures { IfOk result (λ report. IsRunOfText text.now.bytes.now (has_strays order) steps report) }
+{
+    run_by(rt, text.bytes, steps, order).map_err(|fault| hinted(
+        rt.alloc(),
+        text,
+        Failure::from(fault),
+    ))
+}
+
+fn run_by<R: AllocGlobal + Threads + Wait + Sync>(
     rt: &R,
     text: &[u8],
     steps: u32,
     order: Order,
 ) -> Result<Report, RunSourceFault>
-    ensures { IfOk result (λ report. IsRunOfText text.now steps report) }
+    ensures { IfOk result (λ report. IsRunOfText text.now (has_strays order) steps report) }
 {
     match order {
         Order::Workers => run_source(rt, rt.alloc(), text, steps, &OpenGate),
         Order::InOrder => run_in_order(rt.alloc(), text, steps, &OpenGate),
-        Order::Seed(seed) => run_by_seed(rt.alloc(), text, steps, seed),
+        Order::Seed { seed, strays } => run_by_seed(rt.alloc(), text, steps, seed, strays),
     }
 }
 
@@ -80,12 +102,14 @@ fn run_image<R: AllocGlobal + Threads + Wait + Sync>(
     steps: u32,
     order: Order,
 ) -> Result<Report, RunFault>
-    ensures { IfOk result (λ report. IsReport image.now steps report) }
+    ensures { IfOk result (λ report. IsReport image.now (has_strays order) steps report) }
 {
     match order {
         Order::Workers => workers::run(rt, rt.alloc(), image, steps, &OpenGate),
         Order::InOrder => runner::run_in_order(rt.alloc(), image, steps, &OpenGate),
-        Order::Seed(seed) => runner::run_by_seed(rt.alloc(), image, steps, seed),
+        Order::Seed { seed, strays } => {
+            runner::run_by_seed(rt.alloc(), image, steps, seed, strays)
+        }
     }
 }
 
@@ -95,20 +119,36 @@ pub fn replay_file<'a, R: Files + AllocGlobal, O: Write, E: Write>(
     file: &'a str,
     by: ReplayedBy<'a>,
     trace: bool,
+    hints: bool,
     output: &mut Counted<O>,
     errors: &mut Counted<E>,
 ) -> Result<Status, Failure<'a>>
     ensures { IfOk result (λ s. HasRun (HasAll O.contents output.old output.new)
         (HasAll E.contents errors.old errors.new) s) }
 {
-    let text = bytes_of(rt, file)?;
-    let report = replay_text(rt, text.as_slice(), by)?;
+    let bytes = bytes_of(rt, file)?;
+    let text = SourceText {
+        file,
+        bytes: bytes.as_slice(),
+        hints,
+    };
+    let report = replay_text(rt, &text, by)?;
     let log = log_beside(by);
     show(rt, &report, Kept { trace, log }, output, errors)
 }
 
-// Runs a text by the schedule or the log of a file.
+// Runs a text by the schedule or the log of a file; its refusal with hints where they are wanted.
 fn replay_text<'a, R: Files + AllocGlobal>(
+    rt: &R,
+    text: &SourceText<'_>,
+    by: ReplayedBy<'a>,
+) -> Result<Report, Failure<'a>>
+    ensures { IfOk result (λ report. IsReplayedAs by.entry text.now.bytes.now report) }
+{
+    replay_by(rt, text.bytes, by).map_err(|failure| hinted(rt.alloc(), text, failure))
+}
+
+fn replay_by<'a, R: Files + AllocGlobal>(
     rt: &R,
     text: &[u8],
     by: ReplayedBy<'a>,
@@ -117,8 +157,8 @@ fn replay_text<'a, R: Files + AllocGlobal>(
 {
     match by {
         ReplayedBy::Schedule { schedule, .. } => {
-            let threads = schedule_of(rt, schedule)?;
-            Ok(replay(rt.alloc(), text, threads.as_slice())?)
+            let turns = schedule_of(rt, schedule)?;
+            Ok(replay(rt.alloc(), text, turns.as_slice())?)
         }
         ReplayedBy::Log(name) => {
             let log = whole_bytes_of(rt, name)?;

@@ -1,5 +1,6 @@
 use crate::failure::Failure;
 use crate::files::bytes_of;
+use runner::Turn;
 use scanner::MOST_BYTES;
 use std::alloc::{AllocError, Global};
 use std::rt::Files;
@@ -9,30 +10,39 @@ fn is_white_space(byte: u8) -> bool {
     matches!(byte, b' ' | b'\t' | b'\n' | b'\r')
 }
 
-/// The threads that the schedule of a file names.
+/// The turns of the schedule that a file has.
 pub fn schedule_of<'a, R: Files + AllocGlobal>(
     rt: &R,
     name: &'a str,
-) -> Result<Vec<u32>, Failure<'a>> {
+) -> Result<Vec<Turn>, Failure<'a>> {
     let bytes = bytes_of(rt, name)?;
     if bytes.len() > MOST_BYTES {
         return Err(Failure::Schedule(0));
     }
-    Ok(threads_of(rt.alloc(), bytes.as_slice())?)
+    Ok(turns_of(rt.alloc(), bytes.as_slice())?)
 }
 
-// The threads that a schedule's text names: decimal numbers between white space.
-//
-// What is no number to 4294967295 names thread 0, which there never is, so that it is refused as an entry of a thread
-/// that can't move.
-fn threads_of(alloc: Global, text: &[u8]) -> Result<Vec<u32>, AllocError> {
-    let mut threads = Vec::new(alloc);
+// The turns of a schedule's text: words between white space.
+fn turns_of(alloc: Global, text: &[u8]) -> Result<Vec<Turn>, AllocError> {
+    let mut turns = Vec::new(alloc);
     for word in text.split(|byte| is_white_space(*byte)) {
         if !word.is_empty() {
-            threads.push(thread_of(word))?;
+            turns.push(turn_of(word))?;
         }
     }
-    Ok(threads)
+    Ok(turns)
+}
+
+// The turn of a word: the number of the thread that takes a step, or behind an `s` of the one that is woken from
+// outside.
+//
+// What is no number to 4294967295 names thread 0, which there never is, so that it is refused as the turn of a thread
+// that can't move, or doesn't sleep.
+fn turn_of(word: &[u8]) -> Turn {
+    match word {
+        [b's', digits @ ..] => Turn::Stray(thread_of(digits)),
+        digits => Turn::Step(thread_of(digits)),
+    }
 }
 
 // The number that decimal digits write. Where they write none of 32 bits it is 0.

@@ -1,4 +1,4 @@
-ghost use Rattle.std.specs.Prelude.{◌≡◌, ◌≢◌, IfOk, IfErr};
+ghost use Rattle.std.specs.Prelude.{◌≡◌, ◌≢◌, false, is_some, IfOk, IfErr};
 ghost use Rattle.runner.specs.declared.fault.RunFault.TheVariants.{Broken};
 ghost use Rattle.program.specs.Trees.{Program};
 ghost use Rattle.backend.specs.Refusals.{CodeFits};
@@ -46,10 +46,10 @@ impl From<RunFault> for RunSourceFault {
 /// does. The gate is passed before each entry of the log, with the number of its thread.
 ///
 /// Some run of the text's program explains the report: it has the same output and the same ends of processes, and
-/// where no thread can move, none of its processes can. A text that `compile` refuses has the same refusal. The run's
-/// own fault is `Memory`, also where a worker can't be started: `Broken` comes of no text, whatever the limit. A run
-/// within the limit has fewer than 2^32 steps and is explained; and from where it leads no thread comes, by local steps
-/// of its own, to a step that may not be.
+/// where no thread can move, none of its processes can. No wake comes from outside. A text that `compile` refuses has
+/// the same refusal. The run's own fault is `Memory`, also where a worker can't be started: `Broken` comes of no text,
+/// whatever the limit. A run within the limit has fewer than 2^32 steps and is explained; and from where it leads no
+/// thread comes, by local steps of its own, to a step that may not be.
 pub fn run_source<R: Threads + Wait + Sync, G: Gate>(
     rt: &R,
     alloc: Global,
@@ -57,8 +57,8 @@ pub fn run_source<R: Threads + Wait + Sync, G: Gate>(
     limit: u32,
     gate: &G,
 ) -> Result<Report, RunSourceFault>
-    ensures report { IfOk result (λ report. IsRunOfText text.now limit report) }
-    ensures fault { IfErr result (λ fault. IsRefusedRun text.now limit fault) }
+    ensures report { IfOk result (λ report. IsRunOfText text.now false limit report) }
+    ensures fault { IfErr result (λ fault. IsRefusedRun text.now false limit fault) }
     ensures sound { IfErr result (λ fault. fault ≢ Run Broken) }
     ensures only { (p : Program) → AcceptsText text.now p → CodeFits p
         → IfErr result (λ fault. IsMemory fault) }
@@ -77,8 +77,8 @@ pub fn run_in_order<G: Gate>(
     limit: u32,
     gate: &G,
 ) -> Result<Report, RunSourceFault>
-    ensures report { IfOk result (λ report. IsRunOfText text.now limit report) }
-    ensures fault { IfErr result (λ fault. IsRefusedRun text.now limit fault) }
+    ensures report { IfOk result (λ report. IsRunOfText text.now false limit report) }
+    ensures fault { IfErr result (λ fault. IsRefusedRun text.now false limit fault) }
     ensures sound { IfErr result (λ fault. fault ≢ Run Broken) }
     ensures only { (p : Program) → AcceptsText text.now p → CodeFits p
         → IfErr result (λ fault. IsMemory fault) }
@@ -88,20 +88,22 @@ pub fn run_in_order<G: Gate>(
     Ok(runner::run_in_order(alloc, &image, limit, gate)?)
 }
 
-/// The same on the calling thread, in the order that follows from a seed, as `runner::run_by_seed` does.
+/// The same on the calling thread, in the order that follows from a seed, as `runner::run_by_seed` does; with wakes
+/// from outside, of which one comes in about so many entries, where `strays` has a number.
 pub fn run_by_seed(
     alloc: Global,
     text: &[u8],
     limit: u32,
     seed: u64,
+    strays: Option<u32>,
 ) -> Result<Report, RunSourceFault>
-    ensures report { IfOk result (λ report. IsRunOfText text.now limit report) }
-    ensures fault { IfErr result (λ fault. IsRefusedRun text.now limit fault) }
+    ensures report { IfOk result (λ report. IsRunOfText text.now (is_some strays) limit report) }
+    ensures fault { IfErr result (λ fault. IsRefusedRun text.now (is_some strays) limit fault) }
     ensures sound { IfErr result (λ fault. fault ≢ Run Broken) }
     ensures only { (p : Program) → AcceptsText text.now p → CodeFits p
         → IfErr result (λ fault. IsMemory fault) }
 {
     logs_are_machine_runs();
     let image = compile(alloc, text)?;
-    Ok(runner::run_by_seed(alloc, &image, limit, seed)?)
+    Ok(runner::run_by_seed(alloc, &image, limit, seed, strays)?)
 }

@@ -174,6 +174,12 @@ then_thread t s mid s' x b is = to t s (with_thread mid t x) s' is (record {
   made = b.made;
 })
 
+-- a wake of thread t from outside
+pub outside_beside : (t : ℕ) (s s' : State) → s' ≡ with_sleepers s (put s.asleep t None) → Beside t s s'
+outside_beside t s s' is =
+    to t s (with_sleepers s (put s.asleep t None)) s' is
+    (by_sleepers t s (put s.asleep t None) (λ u other h. at_other u t None (s.asleep u) other ∙ h))
+
 -- any step
 pub beside : (t : ℕ) (s : State) (woken : List ℕ) (l : Look) (s' : State) → IsNumbered s → Moves s t woken l s'
     → Beside t s s'

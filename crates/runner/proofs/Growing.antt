@@ -17,6 +17,7 @@ use Rattle.runner.specs.Logs.{Runs, Enters, EntersOwn, Ends, event_cost, cost}
 use Rattle.runner.specs.Entries.{entry_end, entry_end_by, IsFine}
 use Rattle.runner.specs.Legal.{IsLegal}
 use Rattle.runner.proofs.Going.{runs_more}
+use Rattle.runner.proofs.Owning.{none_said, own_more}
 
 abbrev pub entry : ℕ → ℕ → Option Event → Entry
 entry t n e = record { thread = t; local = n; event = e }
@@ -49,17 +50,15 @@ ends p k new t here event gives = ends_by p (put_thread k t here) t here new eve
 
 pub enters : (p : Program) (k new : ConcreteState) (t count : ℕ) (o here : Thread) (event : Option Event)
     → thread_of k t ≡ Some o → can_move k t ≡ true → local_after p t count o ≡ Some here
-    → entry_end p k t here ≡ Ok (new, event) → Enters p k (entry t count event) new
-enters p k new t count o here event stands moves goes gives =
-    inl (record {
-      origin = o;
-      here = here;
-      stands = stands;
-      moves = moves;
-      goes = goes;
-      ends =
-          ends p k new t here event gives;
-    })
+    → entry_end p k t here ≡ Ok (new, event) → EntersOwn p k (entry t count event) new
+enters p k new t count o here event stands moves goes gives = record {
+  origin = o;
+  here = here;
+  stands = stands;
+  moves = moves;
+  goes = goes;
+  ends = ends p k new t here event gives;
+}
 
 pub cost_more : (es : List Entry) (t n : ℕ) (e : Option Event)
     → cost (es ++ entry t n e ∷ []) ≡ cost es + (n + event_cost e)
@@ -74,14 +73,14 @@ pub same_event : (r : Result (ConcreteState × Option Event) StepFault) (k k' : 
     → r ≡ Ok (k, e) → r ≡ Ok (k', e') → e ≡ e'
 same_event r k k' e e' a b = ap (λ (q : ConcreteState × Option Event). q.1) (inside _ _ (sym a ∙ b))
 
-pub keeps : (p q q' : Program) (limit : ℕ) (h : LogState) (log : List Entry) (new : ConcreteState) (a : PieceView)
-    (t steps limited extra : ℕ) (event : Option Event)
-    → q' ≡ q → IsLegal p limit q h.concrete h.log steps limited
+pub keeps : (p : Program) (strays : Bool) (q q' : Program) (limit : ℕ) (h : LogState) (log : List Entry)
+    (new : ConcreteState) (a : PieceView) (t steps limited extra : ℕ) (event : Option Event)
+    → q' ≡ q → IsLegal p strays limit q h.concrete h.log steps limited
     → local_after p a.thread a.count a.origin ≡ Some a.here
     → IsFine p limit h t a → entry_end q h.concrete t a.here ≡ Ok (new, event)
     → log ≡ h.log ++ entry t a.count event ∷ [] → extra ≡ bool_byte (is_some event)
-    → IsLegal p limit q' new log (steps + (a.count + extra)) limited
-keeps p q q' limit h log new a t steps limited extra event is' legal goes fine gives grows is_extra =
+    → IsLegal p strays limit q' new log (steps + (a.count + extra)) limited
+keeps p strays q q' limit h log new a t steps limited extra event is' legal goes fine gives grows is_extra =
     let gives' : entry_end p h.concrete t a.here ≡ Ok (new, event) =
     ap (λ x. entry_end x h.concrete t a.here) (sym legal.program) ∙ gives in
     let goes' : local_after p t a.count a.origin ≡ Some a.here =
@@ -91,11 +90,12 @@ keeps p q q' limit h log new a t steps limited extra event is' legal goes fine g
     let all : cost log ≡ cost h.log + (a.count + event_cost event) = ap cost grows
     ∙ cost_more h.log t a.count event in
     let here : event_cost event ≡ extra = event_byte event ∙ sym is_extra in
-    let runs' = runs_more p (opening_concrete p) h.concrete new h.log (entry t a.count event) legal.legal
-    (enters p h.concrete new t a.count a.origin a.here event fine.stands.1 fine.moves goes' gives') in
+    let one = enters p h.concrete new t a.count a.origin a.here event fine.stands.1 fine.moves goes' gives' in
+    let runs' = runs_more p (opening_concrete p) h.concrete new h.log (entry t a.count event) legal.legal (inl one) in
     record {
       program = is' ∙ legal.program;
       legal = (let P : List Entry → Type 0 = λ l. Runs p (opening_concrete p) l new in subst P (sym grows) runs');
+      own = own_more p h.concrete new h.log log (entry t a.count event) strays one grows legal.own;
       counted = omega (arith, legal.counted);
       limit_is = legal.limit_is;
       within = omega (arith, fine.within, legal.counted, legal.limit_is);
@@ -106,12 +106,12 @@ cost_small None = omega arith
 cost_small (Some e) = omega arith
 
 -- an entry is one more of a legal log, where the limit leaves room for any
-pub keeps_entry : (p q q' q'' : Program) (limit : ℕ) (k k' new : ConcreteState) (log log' log'' : List Entry)
-    (e : Entry) (steps limited extra : ℕ)
-    → IsLegal p limit q k log steps limited → cost log + 257 ≤ limit → q' ≡ q → k' ≡ k → log' ≡ log
+pub keeps_entry : (p : Program) (strays : Bool) (q q' q'' : Program) (limit : ℕ) (k k' new : ConcreteState)
+    (log log' log'' : List Entry) (e : Entry) (steps limited extra : ℕ)
+    → IsLegal p strays limit q k log steps limited → cost log + 257 ≤ limit → q' ≡ q → k' ≡ k → log' ≡ log
     → q'' ≡ q' → EntersOwn q' k' e new → e.local ≤ 256 → log'' ≡ log' ++ e ∷ [] → extra ≡ bool_byte (is_some e.event)
-    → IsLegal p limit q'' new log'' (steps + (e.local + extra)) limited
-keeps_entry p q q' q'' limit k k' new log log' log'' e steps limited extra legal room same there before same' one
+    → IsLegal p strays limit q'' new log'' (steps + (e.local + extra)) limited
+keeps_entry p strays q q' q'' limit k k' new log log' log'' e steps limited extra legal room same there before same' one
     turn grows is_extra =
     let program : q' ≡ p = same ∙ legal.program in
     let enters : EntersOwn p k e new =
@@ -125,17 +125,19 @@ keeps_entry p q q' q'' limit k k' new log log' log'' e steps limited extra legal
       program = same' ∙ program;
       legal = subst (λ (l : List Entry). Runs p (opening_concrete p) l new) (sym grown)
           (runs_more p (opening_concrete p) k new log e legal.legal (inl enters));
+      own = own_more p k new log log'' e strays enters grown legal.own;
       counted = omega (arith, legal.counted, all, last);
       limit_is = legal.limit_is;
       within = omega (arith, legal.counted, legal.limit_is, room, turn, last, cost_small e.event);
     }
 
 -- a wake from outside is one more of a legal log that isn't at its limit
-pub keeps_outside : (p q q' : Program) (limit : ℕ) (k new : ConcreteState) (log log' : List Entry) (t steps limited : ℕ)
-    (event : Event) → IsLegal p limit q k log steps limited → q' ≡ q → steps ≢ limited
+pub keeps_outside : (p : Program) (strays : Bool) (q q' : Program) (limit : ℕ) (k new : ConcreteState)
+    (log log' : List Entry) (t steps limited : ℕ) (event : Event) → strays ≡ true
+    → IsLegal p strays limit q k log steps limited → q' ≡ q → steps ≢ limited
     → stray_of k t ≡ Ok (new, event) → log' ≡ log ++ entry t 0 (Some event) ∷ []
-    → IsLegal p limit q' new log' (steps + 1) limited
-keeps_outside p q q' limit k new log log' t steps limited event legal same room gives grows =
+    → IsLegal p strays limit q' new log' (steps + 1) limited
+keeps_outside p strays q q' limit k new log log' t steps limited event some legal same room gives grows =
     let one : Enters p k (entry t 0 (Some event)) new =
     inr (record { event = event; alone = refl; is = refl; gives = gives }) in
     let all : cost log' ≡ cost log + 1 = ap cost grows ∙ cost_more log t 0 (Some event) in
@@ -143,6 +145,7 @@ keeps_outside p q q' limit k new log log' t steps limited event legal same room 
       program = same ∙ legal.program;
       legal = subst (λ (l : List Entry). Runs p (opening_concrete p) l new) (sym grows)
           (runs_more p (opening_concrete p) k new log (entry t 0 (Some event)) legal.legal one);
+      own = λ none. none_said strays some none;
       counted = omega (arith, legal.counted, all);
       limit_is = legal.limit_is;
       within = omega (arith, legal.within, room);

@@ -1,6 +1,7 @@
 pub mod Going
 pub mod Handing
 pub mod Beside
+pub mod Owning
 pub mod Growing
 pub mod Unrolling
 pub mod OneByOne
@@ -11,4 +12,5 @@ pub mod Scheduling
 pub mod Locally
 pub mod Once
 pub mod Drawn
+pub mod Reporting
 pub mod Turning

@@ -1,6 +1,7 @@
 -- An entry leads to one state, and can't be taken where its local steps end too early.
 use Rattle.std.proofs.Common.{◌≡◌, ◌<◌, ◌-◌, ◌+◌, ◌++◌, ℕ, zero, suc, List, [], ◌∷◌, Option, Some, None, refl, ap, sym}
-use Rattle.std.proofs.Common.{◌∙◌, ◌≤◌, arith, subst, length, length-set, slice_get, slice_set, Result, Ok, Err, inl, inr}
+use Rattle.std.proofs.Common.{◌∙◌, ◌≤◌, arith, subst, length, length-set, slice_get, slice_set, Result, Ok, Err}
+use Rattle.std.proofs.Common.{inl, inr}
 use Rattle.isa.specs.Programs.{Program}
 use Rattle.locals.specs.Threads.{Thread}
 use Rattle.locals.specs.Steps.{local_step, local_after, and_step}
@@ -71,7 +72,8 @@ own_once p k a b e x y =
     ends_once p (put_thread k e.thread x.here) a b e.thread x.here e.event x.ends
     (subst (λ (h : Thread). Ends p (put_thread k e.thread h) e.thread h e.event b) (sym same) y.ends)
 
-no_stray : (k : ConcreteState) (t : ℕ) (q : ConcreteState × Event) → k.common.asleep t ≡ None
+-- a thread that is awake isn't woken from outside
+pub no_stray : (k : ConcreteState) (t : ℕ) (q : ConcreteState × Event) → k.common.asleep t ≡ None
     → stray_of k t ≡ Ok q → ⊥
 no_stray k t q awake gives =
     let refused : stray_of k t ≡ Err CannotMove = ap (stray_at k t) awake in
@@ -82,7 +84,7 @@ no_stray k t q awake gives =
         (let a : R = Ok x in a) ≡ (let b : R = Err CannotMove in b)) → ⊥
     done_or_not x h = cc
 
--- a thread that can move isn't woken from outside
+-- nor is one that can move
 pub apart : (p : Program) (k a b : ConcreteState) (e : Entry) → EntersOwn p k e a → EntersOutside k e b → ⊥
 apart p k a b e own outside =
     no_stray k e.thread (b, outside.event) (up k e.thread own.moves).awake outside.gives

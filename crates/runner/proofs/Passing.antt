@@ -18,18 +18,21 @@ use Rattle.machine.specs.States.{Common, ConcreteState, thread_of, state_of}
 use Rattle.machine.specs.ConcreteServing.{Served, serve, within, requeue_to, load}
 use Rattle.machine.specs.ConcreteSteps.{Stepped, go_on_with, thread_step, on_machine, fault_of, put_thread}
 use Rattle.machine.specs.ConcreteSteps.{can_move, thread_can_move}
+use Rattle.machine.specs.ConcreteOutside.{stray_of}
 use Rattle.machine.specs.Views.{IsWellFormed}
+use Rattle.machine.proofs.Outside.{strays_so}
 use Rattle.machine.proofs.Placing.{get_set_other, thread_at-other}
 use Rattle.runner.specs.declared.fault.RunFault.TheVariants.{Limit}
 use Rattle.runner.specs.Views.{PieceView, LogState}
 use Rattle.runner.specs.Logs.{Ends, event_cost, cost}
-use Rattle.runner.specs.Entries.{entry_end, entry_end_by, Takes, RefusesEntry}
+use Rattle.runner.specs.Entries.{entry_end, entry_end_by, Takes, TakesOutside, RefusesEntry}
 use Rattle.runner.specs.Reports.{IsNextEntry, PassesLimit}
 use Rattle.runner.specs.Rounds.{AllPast}
 use Rattle.machine.proofs.Stepping.{steps_so}
 use Rattle.runner.proofs.Handing.{step_there, comes_in, up}
 use Rattle.runner.proofs.Growing.{inside, cost_more, ends}
-use Rattle.runner.proofs.Beside.{Beside, beside}
+use Rattle.runner.proofs.Beside.{Beside, beside, outside_beside}
+use Rattle.runner.proofs.Once.{no_stray}
 use Rattle.runner.proofs.Unrolling.{kept_put}
 
 -- what an entry leaves to the other threads
@@ -75,6 +78,12 @@ apart : (p : Program) (k k' : ConcreteState) (t : ℕ) (o here : Thread) (event 
     → thread_of k t ≡ Some o → entry_end p k t here ≡ Ok (k', event) → Apart p k k' t
 apart p k k' t o here event concrete stands given =
     ends_apart p k k' t o here event concrete stands (ends p k k' t here event given)
+
+outside_apart : (p : Program) (k k' : ConcreteState) (t : ℕ) (event : Event) → IsWellFormed p k
+    → stray_of k t ≡ Ok (k', event) → Apart p k k' t
+outside_apart p k k' t event concrete gives =
+    let s = strays_so p k k' t event concrete gives in
+    record { beside = outside_beside t (state_of k) (state_of k') s.1.after; concrete = s.2 }
 
 -- no fault
 record Fine (r : Result Served StepFault) : Type 0 where
@@ -150,7 +159,8 @@ fine_went go (Ok r) h = fine_ok r
 fine_went go (Err fault) h = absurd cc
 
 fault_stays : (made made' t : ℕ) (c d : Common) (l : Look) → length c.words ≡ length d.words
-    → (made ≡ c.most → made' ≡ d.most) → None ≡ fault_of (thread_step made t c l) → None ≡ fault_of (thread_step made' t d l)
+    → (made ≡ c.most → made' ≡ d.most) → None ≡ fault_of (thread_step made t c l)
+    → None ≡ fault_of (thread_step made' t d l)
 fault_stays made made' t c d (Goes x) e full h = refl
 fault_stays made made' t c d (Asks request go) e full h =
     went_fine go (serve made' t request d)
@@ -247,6 +257,19 @@ all_past p limit old new t a refused concrete takes free past u is =
     let more : cost new.log ≡ cost old.log + (a.count + event_cost takes.event) = ap cost takes.log
     ∙ cost_more old.log t a.count takes.event in
     past_stays p limit old new t u concrete m other (omega arith) (past u is)
+
+-- a wake from outside
+pub wake_past : (p : Program) (limit : ℕ) (old new : LogState) (t : ℕ) (refused : List Bool)
+    → IsWellFormed p old.concrete → TakesOutside limit old t new → AllPast p limit old refused
+    → AllPast p limit new refused
+wake_past p limit old new t refused concrete takes past u is =
+    let m = outside_apart p old.concrete new.concrete t takes.event concrete takes.gives in
+    let awake = (up old.concrete u (past u is).0).awake in
+    let other : u ≢ t = λ e. no_stray old.concrete u (new.concrete, takes.event) awake
+    (ap (stray_of old.concrete) e ∙ takes.gives) in
+    let more : cost new.log ≡ cost old.log + (0 + event_cost (Some takes.event)) = ap cost takes.log
+    ∙ cost_more old.log t 0 (Some takes.event) in
+    past_stays p limit old new t u concrete m other (omega (arith, more)) (past u is)
 
 -- a thread that is refused now
 pub one_past : (p : Program) (limit : ℕ) (h : LogState) (t : ℕ) (refused : List Bool)

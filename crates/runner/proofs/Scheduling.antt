@@ -1,18 +1,15 @@
 -- Steps that are taken one by one, each an entry of its own.
-use Rattle.std.proofs.Common.{◌≡◌, ℕ, ◌+◌, ◌<◌, ◌≤◌, ◌^◌, List, [], ◌∷◌, ◌++◌, map, take, length}
-use Rattle.std.proofs.Common.{Bool, true, false, is_ok, is_err, if◌then◌else◌, Some, Result, Ok, Err}
-use Rattle.std.proofs.Common.{refl, ap, sym, ◌∙◌, subst, arith, get_or, inl, inr, None, not, Option}
+use Rattle.std.proofs.Common.{◌≡◌, ℕ, ◌+◌, ◌<◌, ◌≤◌, ◌^◌, List, [], ◌∷◌, ◌++◌, take, length}
+use Rattle.std.proofs.Common.{Bool, true, false, is_ok, is_err, if◌then◌else◌, Some, Result, Ok, Err, IfOk, IfErr}
+use Rattle.std.proofs.Common.{ap, sym, ◌∙◌, subst, arith, get_or, inl, inr, cond}
 use Rattle.std.specs.List.{All}
-use Rattle.std.proofs.lemmas.List.{take_more, take_all}
+use Rattle.std.proofs.lemmas.List.{take_more, take_all, map-append}
 use Rattle.std.proofs.lemmas.List.Elements.{All-append, All-cons, All-nil}
 use Rattle.std.proofs.lemmas.Option.{slice_get-get_or}
 use Rattle.isa.specs.Programs.{Program}
 use Rattle.locals.specs.Threads.{Thread}
 use Rattle.locals.specs.Steps.{local_after}
 use Rattle.machine.specs.declared.event.Entry.{Entry}
-use Rattle.machine.specs.declared.event.Event.{Event}
-use Rattle.machine.specs.Runs.{Doing, is_own}
-use Rattle.machine.proofs.OwnEvents.{own_so}
 use Rattle.machine.specs.declared.event.StepFault.{StepFault}
 use Rattle.machine.specs.declared.event.StepFault.TheVariants.{CannotMove, Broken}
 use Rattle.machine.specs.States.{ConcreteState, thread_of, opening_concrete}
@@ -21,34 +18,18 @@ use Rattle.machine.specs.Views.{View, concrete}
 use Rattle.machine.proofs.Refusing.{refuses_so, moves_so}
 use Rattle.runner.specs.declared.report.Report.{Report}
 use Rattle.runner.specs.declared.schedule.ScheduleFault.{ScheduleFault}
-use Rattle.runner.specs.Logs.{EntersOwn, Ends, IsOwnEntry, is_outside}
+use Rattle.runner.specs.declared.schedule.Turn.{Turn}
+use Rattle.runner.specs.declared.schedule.Turn.TheVariants.{Step, Stray}
+use Rattle.runner.specs.Logs.{Enters, EntersOutside, EntersOwn, event_cost}
 use Rattle.runner.specs.Reports.{IsVerdict}
-use Rattle.runner.specs.Schedules.{FailsAt, Follows, IsFollowed, IsOneStep, RefusesSchedule}
+use Rattle.runner.specs.Schedules.{FailsAt, Follows, IsFollowed, IsOneStep, RefusesSchedule, turn_of}
 use Rattle.runner.proofs.Going.{runs_more}
+use Rattle.runner.proofs.Owning.{own_entry, tells_outside}
 use Rattle.runner.proofs.Unrolling.{put_back}
-
-map_more : (log : List Entry) (e : Entry) → map (λ (x : Entry). x.thread) (log ++ e ∷ [])
-    ≡ map (λ (x : Entry). x.thread) log ++ e.thread ∷ []
-map_more [] e = refl
-map_more (x ∷ xs) e = ap (λ ts. x.thread ∷ ts) (map_more xs e)
 
 single_more : (log : List Entry) (e : Entry) → All IsOneStep log → IsOneStep e → All IsOneStep (log ++ e ∷ [])
 single_more log e all one =
     All-append IsOneStep log (e ∷ []) all (All-cons IsOneStep e [] one (All-nil IsOneStep))
-
-own_more : (log : List Entry) (e : Entry) → All IsOwnEntry log → IsOwnEntry e → All IsOwnEntry (log ++ e ∷ [])
-own_more log e all one =
-    All-append IsOwnEntry log (e ∷ []) all (All-cons IsOwnEntry e [] one (All-nil IsOwnEntry))
-
--- an entry of a thread's own doesn't tell of a wake from outside
-own_end : (p : Program) (k k' : ConcreteState) (t : ℕ) (here : Thread) (event : Option Event) → Ends p k t here event k'
-    → is_outside event ≡ false
-own_end p k k' t here None ends = refl
-own_end p k k' t here (Some event) ends = ap (λ (d : Doing). not (is_own d)) (own_so p k k' t event ends.1)
-
-pub own_entry : (p : Program) (k k' : ConcreteState) (e : Entry) → EntersOwn p k e k' → IsOwnEntry e
-own_entry p k k' e enters =
-    own_end p (put_thread k e.thread enters.here) k' e.thread enters.here e.event enters.ends
 
 -- an entry that was pushed stands at the end
 pub pushed : {A E : Type 0} (r : Result A E) (b : Bool) (new old : List Entry) (e : Entry) → b ≡ is_err r → b ≡ false
@@ -56,49 +37,80 @@ pub pushed : {A E : Type 0} (r : Result A E) (b : Bool) (new old : List Entry) (
 pushed (Ok x) b new old e is ended items = items
 pushed (Err x) b new old e is ended items = absurd cc
 
--- one entry more
-pub follows_more : (p q : Program) (schedule : List ℕ) (i t : ℕ) (log log' : List Entry) (k k' : ConcreteState)
-    (e : Entry) → i < length schedule → get_or schedule i 0 ≡ t → q ≡ p → Follows p (take i schedule) log k
-    → EntersOwn q k e k' → e.thread ≡ t → IsOneStep e → log' ≡ log ++ e ∷ [] → Follows p (take (i + 1) schedule) log' k'
-follows_more p q schedule i t log log' k k' e inside names same f enters is one grows =
-    let entered : EntersOwn p k e k' = (let P : Program → Type 0 = λ z. EntersOwn z k e k' in subst P same enters) in
-    let next : take (i + 1) schedule ≡ take i schedule ++ e.thread ∷ [] =
-    take_more schedule i 0 inside ∙ ap (λ (n : ℕ). take i schedule ++ n ∷ []) (names ∙ sym is) in
-    let all : Follows p (take i schedule ++ e.thread ∷ []) (log ++ e ∷ []) k' = record {
-      legal = runs_more p (opening_concrete p) k k' log e f.legal (inl entered);
-      threads = map_more log e ∙ ap (λ ts. ts ++ e.thread ∷ []) f.threads;
-      single = single_more log e f.single one;
-      own = own_more log e f.own (own_entry p k k' e entered);
-    } in
-    subst (λ (ts : List ℕ). Follows p ts log' k') (sym next)
-    (subst (λ (es : List Entry). Follows p (take i schedule ++ e.thread ∷ []) es k') (sym grows) all)
+-- the turn that an entry was
+own_turn : (p : Program) (k k' : ConcreteState) (e : Entry) (t : ℕ) → EntersOwn p k e k' → e.thread ≡ t
+    → turn_of e ≡ Step t
+own_turn p k k' e t enters is = λ i. cond (own_entry p k k' e enters i) (Stray (is i)) (Step (is i))
 
--- the entry that is refused
-pub fails_at : (p q : Program) (schedule : List ℕ) (i number t : ℕ) (log : List Entry) (k : ConcreteState)
-    (fault : ScheduleFault) → i < length schedule → get_or schedule i 0 ≡ t → i < 2 ^ 32 → number ≡ i + 1 → q ≡ p
-    → Follows p (take i schedule) log k → RefusesSchedule q k number t fault → FailsAt p schedule fault
-fails_at p q schedule i number t log k fault inside names few is same f refuses =
+outside_turn : (k k' : ConcreteState) (e : Entry) (t : ℕ) → EntersOutside k e k' → e.thread ≡ t
+    → turn_of e ≡ Stray t
+outside_turn k k' e t outside is = λ i. cond (tells_outside k k' e outside i) (Stray (is i)) (Step (is i))
+
+-- what was taken is an entry of this turn
+pub own_taken : (p : Program) (k k' : ConcreteState) (number t : ℕ) (turn : Turn) (r : Result Entry ScheduleFault)
+    → turn ≡ Step t → number < 2 ^ 32 → IfOk r (λ e. EntersOwn p k e k' × (e.thread ≡ t) × IsOneStep e)
+    → IfOk r (λ e. Enters p k e k' × (turn_of e ≡ turn) × IsOneStep e × (number < 2 ^ 32))
+own_taken p k k' number t turn (Ok e) is few h = (inl h.0, own_turn p k k' e t h.0 h.1 ∙ sym is, h.2, few)
+own_taken p k k' number t turn (Err f) is few h = h
+
+pub outside_taken : (p : Program) (k k' : ConcreteState) (number t : ℕ) (turn : Turn) (r : Result Entry ScheduleFault)
+    → turn ≡ Stray t → number < 2 ^ 32 → IfOk r (λ e. EntersOutside k e k' × (e.thread ≡ t))
+    → IfOk r (λ e. Enters p k e k' × (turn_of e ≡ turn) × IsOneStep e × (number < 2 ^ 32))
+outside_taken p k k' number t turn (Ok e) is few h =
+    (inr h.0, outside_turn k k' e t h.0 h.1 ∙ sym is, omega (arith, h.0.alone, ap event_cost h.0.is), few)
+outside_taken p k k' number t turn (Err f) is few h = h
+
+-- the turn is refused as the one that it is
+pub refused_so : (p : Program) (k : ConcreteState) (number : ℕ) (turn other : Turn) (r : Result Entry ScheduleFault)
+    → turn ≡ other → IfErr r (λ fault. RefusesSchedule p k number other fault)
+    → IfErr r (λ fault. RefusesSchedule p k number turn fault)
+refused_so p k number turn other r is h =
+    subst (λ (x : Turn). IfErr r (λ fault. RefusesSchedule p k number x fault)) (sym is) h
+
+-- one entry more
+pub follows_more : (p q : Program) (schedule : List Turn) (i : ℕ) (d turn : Turn) (log log' : List Entry)
+    (k k' : ConcreteState) (e : Entry) → i < length schedule → get_or schedule i d ≡ turn → q ≡ p
+    → Follows p (take i schedule) log k → Enters q k e k' → turn_of e ≡ turn → IsOneStep e → log' ≡ log ++ e ∷ []
+    → Follows p (take (i + 1) schedule) log' k'
+follows_more p q schedule i d turn log log' k k' e inside names same f enters is one grows =
+    let entered : Enters p k e k' = subst (λ (z : Program). Enters z k e k') same enters in
+    let next : take (i + 1) schedule ≡ take i schedule ++ turn_of e ∷ [] =
+    take_more schedule i d inside ∙ ap (λ (n : Turn). take i schedule ++ n ∷ []) (names ∙ sym is) in
+    let all : Follows p (take i schedule ++ turn_of e ∷ []) (log ++ e ∷ []) k' = record {
+      legal = runs_more p (opening_concrete p) k k' log e f.legal entered;
+      turns = map-append turn_of log (e ∷ []) ∙ ap (λ (ts : List Turn). ts ++ turn_of e ∷ []) f.turns;
+      single = single_more log e f.single one;
+    } in
+    subst (λ (ts : List Turn). Follows p ts log' k') (sym next)
+    (subst (λ (es : List Entry). Follows p (take i schedule ++ turn_of e ∷ []) es k') (sym grows) all)
+
+-- the turn that is refused
+pub fails_at : (p q : Program) (schedule : List Turn) (i number : ℕ) (d turn : Turn) (log : List Entry)
+    (k : ConcreteState) (fault : ScheduleFault) → i < length schedule → get_or schedule i d ≡ turn → i < 2 ^ 32
+    → number ≡ i + 1 → q ≡ p → Follows p (take i schedule) log k → RefusesSchedule q k number turn fault
+    → FailsAt p schedule fault
+fails_at p q schedule i number d turn log k fault inside names few is same f refuses =
     inr (
       i,
       k,
-      t,
+      turn,
       record {
         log = log;
         follows = f;
         few = few;
-        names = slice_get-get_or schedule i 0 inside ∙ ap (λ (n : ℕ). Some n) names;
+        names = slice_get-get_or schedule i d inside ∙ ap (λ (n : Turn). Some n) names;
       },
-      (let P : ℕ → Type 0 = λ n. RefusesSchedule p k n t fault in
-          subst P is (let Q : Program → Type 0 = λ z. RefusesSchedule z k number t fault in subst Q same refuses)),
+      (let P : ℕ → Type 0 = λ n. RefusesSchedule p k n turn fault in
+          subst P is (let Q : Program → Type 0 = λ z. RefusesSchedule z k number turn fault in subst Q same refuses)),
     )
 
 -- the report of a schedule that was followed to its end
-pub followed : (p : Program) (schedule : List ℕ) (i : ℕ) (log : List Entry) (last : View) (r : Report)
+pub followed : (p : Program) (schedule : List Turn) (i : ℕ) (log : List Entry) (last : View) (r : Report)
     → length schedule ≤ i → i ≤ length schedule → i < 2 ^ 32 → Follows p (take i schedule) log (concrete last)
     → last.program ≡ p → r.log.items ≡ log → r.last ≡ last → r.output.items ≡ last.output
     → IsVerdict (concrete last) r.verdict → IsFollowed p schedule r
 followed p schedule i log last r past inside few f program logged same output verdict =
-    let all : Follows p schedule log (concrete last) = subst (λ (ts : List ℕ). Follows p ts log (concrete last))
+    let all : Follows p schedule log (concrete last) = subst (λ (ts : List Turn). Follows p ts log (concrete last))
     (take_all i schedule past) f in
     let of_log : Follows p schedule r.log.items (concrete last) = subst
     (λ (es : List Entry). Follows p schedule es (concrete last)) (sym logged) all in

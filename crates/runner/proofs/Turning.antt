@@ -1,6 +1,6 @@
 -- Entries that are taken by the threads and counts of others, and those that can't be.
-use Rattle.std.proofs.Common.{◌≡◌, ℕ, ◌+◌, ◌<◌, ◌≤◌, ◌^◌, ◌⊎◌, List, [], ◌∷◌, ◌++◌, map, take, length, Bool, true, false}
-use Rattle.std.proofs.Common.{Option, Some, None, is_some, Result, Ok, Err, is_ok, is_err, get_or, not, refl, ap, sym}
+use Rattle.std.proofs.Common.{◌≡◌, ℕ, ◌+◌, ◌<◌, ◌≤◌, ◌^◌, ◌⊎◌, List, [], ◌∷◌, ◌++◌, map, take, length, Bool, true}
+use Rattle.std.proofs.Common.{false, Option, Some, None, is_some, Result, Ok, Err, get_or, refl, ap, sym}
 use Rattle.std.proofs.Common.{◌∙◌, subst, arith, inl, inr}
 use Rattle.std.proofs.lemmas.List.{take_more, take_all, map-append}
 use Rattle.std.proofs.lemmas.List.Sums.{sum_by-append}
@@ -13,55 +13,45 @@ use Rattle.machine.specs.declared.event.Entry.{Entry}
 use Rattle.machine.specs.States.{ConcreteState, thread_of, opening_concrete}
 use Rattle.machine.specs.ConcreteSteps.{put_thread, can_move}
 use Rattle.machine.specs.Views.{View, concrete}
-use Rattle.machine.specs.Runs.{Doing, is_own}
 use Rattle.machine.specs.ConcreteOutside.{stray_of}
 use Rattle.machine.specs.declared.event.StepFault.{StepFault}
-use Rattle.machine.proofs.Outside.{stray_told}
-use Rattle.runner.proofs.Scheduling.{own_entry}
 use Rattle.machine.proofs.Placing.{thread_at-put}
-use Rattle.runner.specs.declared.log_schedule.FollowLogFault.{FollowLogFault}
-use Rattle.runner.specs.declared.log_schedule.FollowLogFault.TheVariants.{BadEntry}
 use Rattle.runner.specs.declared.report.Report.{Report}
-use Rattle.runner.specs.LogSchedules.{Turn, turn_of, FollowsLog, IsFollowedLog, CannotTake, IsBadLogEntry}
-use Rattle.runner.specs.Logs.{Runs, Enters, EntersOwn, EntersOutside, Ends, cost, event_cost, is_outside}
+use Rattle.runner.specs.LogSchedules.{Shape, shape_of, FollowsLog, IsFollowedLog, CannotTake, IsBadLogEntry}
+use Rattle.runner.specs.Logs.{Runs, Enters, EntersOwn, Ends, cost, event_cost, is_outside}
 use Rattle.runner.specs.Reports.{IsVerdict}
 use Rattle.runner.proofs.Going.{runs_more}
+use Rattle.runner.proofs.Owning.{own_entry, tells_outside}
 use Rattle.runner.proofs.Growing.{entry}
 use Rattle.runner.proofs.Once.{here_once, never_local}
 
 true_or_false : (b : Bool) → b ≡ true → b ≡ false → ⊥
 true_or_false b is isn't = absurd cc
 
--- an entry from outside tells so
-pub tells_outside : (k k' : ConcreteState) (e : Entry) → EntersOutside k e k' → is_outside e.event ≡ true
-tells_outside k k' e outside =
-    ap is_outside outside.is
-    ∙ ap (λ (d : Doing). not (is_own d)) (stray_told k k' e.thread outside.event outside.gives)
-
--- an entry of a turn that isn't from outside is its thread's own
-own_of : (p : Program) (k k' : ConcreteState) (e : Entry) (turn : Turn) → turn_of e ≡ turn → turn.stray ≡ false
+-- an entry of a shape that isn't from outside is its thread's own
+own_of : (p : Program) (k k' : ConcreteState) (e : Entry) (shape : Shape) → shape_of e ≡ shape → shape.stray ≡ false
     → Enters p k e k' → EntersOwn p k e k'
-own_of p k k' e turn is mine (inl enters) = enters
-own_of p k k' e turn is mine (inr outside) =
-    absurd (true_or_false (is_outside e.event) (tells_outside k k' e outside) (ap (λ (s : Turn). s.stray) is ∙ mine))
+own_of p k k' e shape is mine (inl enters) = enters
+own_of p k k' e shape is mine (inr outside) =
+    absurd (true_or_false (is_outside e.event) (tells_outside k k' e outside) (ap (λ (s : Shape). s.stray) is ∙ mine))
 
 -- a thread that can't move
-pub no_mover : (p : Program) (k : ConcreteState) (turn : Turn) → turn.stray ≡ false
-    → can_move k turn.thread ≡ false → CannotTake p k turn
-no_mover p k turn mine rests e k' is enters =
-    true_or_false (can_move k e.thread) (own_of p k k' e turn is mine enters).moves
-    (ap (λ (s : Turn). can_move k s.thread) is ∙ rests)
+pub no_mover : (p : Program) (k : ConcreteState) (shape : Shape) → shape.stray ≡ false
+    → can_move k shape.thread ≡ false → CannotTake p k shape
+no_mover p k shape mine rests e k' is enters =
+    true_or_false (can_move k e.thread) (own_of p k k' e shape is mine enters).moves
+    (ap (λ (s : Shape). can_move k s.thread) is ∙ rests)
 
--- a turn from outside, of a thread that doesn't sleep or with local steps
-pub no_outside : (p : Program) (k : ConcreteState) (turn : Turn) → turn.stray ≡ true
-    → ((0 < turn.local) ⊎ ((f : StepFault) × (stray_of k turn.thread ≡ Err f))) → CannotTake p k turn
-no_outside p k turn foreign why e k' is (inl own) =
-    true_or_false (is_outside e.event) (ap (λ (s : Turn). s.stray) is ∙ foreign) (own_entry p k k' e own)
-no_outside p k turn foreign (inl some) e k' is (inr outside) =
-    let n : e.local ≡ turn.local = ap (λ (s : Turn). s.local) is in
+-- a shape from outside, of a thread that doesn't sleep or with local steps
+pub no_outside : (p : Program) (k : ConcreteState) (shape : Shape) → shape.stray ≡ true
+    → ((0 < shape.local) ⊎ ((f : StepFault) × (stray_of k shape.thread ≡ Err f))) → CannotTake p k shape
+no_outside p k shape foreign why e k' is (inl own) =
+    true_or_false (is_outside e.event) (ap (λ (s : Shape). s.stray) is ∙ foreign) (own_entry p k k' e own)
+no_outside p k shape foreign (inl some) e k' is (inr outside) =
+    let n : e.local ≡ shape.local = ap (λ (s : Shape). s.local) is in
     absurd (omega (arith, some, n, outside.alone))
-no_outside p k turn foreign (inr refused) e k' is (inr outside) =
-    let t : e.thread ≡ turn.thread = ap (λ (s : Turn). s.thread) is in
+no_outside p k shape foreign (inr refused) e k' is (inr outside) =
+    let t : e.thread ≡ shape.thread = ap (λ (s : Shape). s.thread) is in
     done_or_not (k', outside.event) refused.0 (sym outside.gives ∙ ap (stray_of k) t ∙ refused.1)
   where
     done_or_not : (x : ConcreteState × Event) (f : StepFault)
@@ -70,33 +60,34 @@ no_outside p k turn foreign (inr refused) e k' is (inr outside) =
     done_or_not x f h = cc
 
 -- fewer local steps
-pub too_few : (p : Program) (k : ConcreteState) (turn : Turn) (m : ℕ) (o h : Thread) → thread_of k turn.thread ≡ Some o
-    → local_after p turn.thread m o ≡ Some h → local_step p turn.thread h ≡ None → m < turn.local → CannotTake p k turn
-too_few p k turn m o h stands goes none less e k' is enters =
-    let t : e.thread ≡ turn.thread = ap (λ (s : Turn). s.thread) is in
-    let n : e.local ≡ turn.local = ap (λ (s : Turn). s.local) is in
+pub too_few : (p : Program) (k : ConcreteState) (shape : Shape) (m : ℕ) (o h : Thread)
+    → thread_of k shape.thread ≡ Some o → local_after p shape.thread m o ≡ Some h
+    → local_step p shape.thread h ≡ None → m < shape.local → CannotTake p k shape
+too_few p k shape m o h stands goes none less e k' is enters =
+    let t : e.thread ≡ shape.thread = ap (λ (s : Shape). s.thread) is in
+    let n : e.local ≡ shape.local = ap (λ (s : Shape). s.local) is in
     never_local p k e m o h (ap (thread_of k) t ∙ stands) (ap (λ u. local_after p u m o) t ∙ goes)
     (ap (λ u. local_step p u h) t ∙ none) (omega (arith, less, n)) k' enters
 
 -- no shared step behind the local ones
-pub no_shared : (p q : Program) (k mid : ConcreteState) (turn : Turn) (o h : Thread)
-    → turn.stray ≡ false
-    → thread_of k turn.thread ≡ Some o → local_after p turn.thread turn.local o ≡ Some h → turn.shared ≡ true → q ≡ p
-    → mid ≡ put_thread k turn.thread h
-    → ((here : Thread) (event : Event) (k' : ConcreteState) → thread_of mid turn.thread ≡ Some here
-    → Ends q mid turn.thread here (Some event) k' → ⊥)
-    → CannotTake p k turn
-no_shared p q k mid turn o h alone stands goes shared own there never e k' is enters =
+pub no_shared : (p q : Program) (k mid : ConcreteState) (shape : Shape) (o h : Thread)
+    → shape.stray ≡ false
+    → thread_of k shape.thread ≡ Some o → local_after p shape.thread shape.local o ≡ Some h → shape.shared ≡ true
+    → q ≡ p → mid ≡ put_thread k shape.thread h
+    → ((here : Thread) (event : Event) (k' : ConcreteState) → thread_of mid shape.thread ≡ Some here
+    → Ends q mid shape.thread here (Some event) k' → ⊥)
+    → CannotTake p k shape
+no_shared p q k mid shape o h alone stands goes shared own there never e k' is enters =
     by e.event refl
   where
     mine : EntersOwn p k e k'
-    mine = own_of p k k' e turn is alone enters
+    mine = own_of p k k' e shape is alone enters
 
-    t : e.thread ≡ turn.thread
-    t = ap (λ (s : Turn). s.thread) is
+    t : e.thread ≡ shape.thread
+    t = ap (λ (s : Shape). s.thread) is
 
-    n : e.local ≡ turn.local
-    n = ap (λ (s : Turn). s.local) is
+    n : e.local ≡ shape.local
+    n = ap (λ (s : Shape). s.local) is
 
     same : mine.here ≡ h
     same = here_once p k e.thread e.local mine.origin mine.here o h mine.stands mine.goes
@@ -104,12 +95,12 @@ no_shared p q k mid turn o h alone stands goes shared own there never e k' is en
         ((λ i. local_after p (t i) (n i) o) ∙ goes)
 
     by : (event : Option Event) → e.event ≡ event → ⊥
-    by None none = true_or_false (is_some e.event) (ap (λ (s : Turn). s.shared) is ∙ shared) (ap is_some none)
+    by None none = true_or_false (is_some e.event) (ap (λ (s : Shape). s.shared) is ∙ shared) (ap is_some none)
     by (Some event) some =
-        never h event k' (ap (λ (m : ConcreteState). thread_of m turn.thread) there
-        ∙ thread_at-put k.threads turn.thread o h stands)
-        (subst (λ (z : Program). Ends z mid turn.thread h (Some event) k') (sym own)
-        (subst (λ (m : ConcreteState). Ends p m turn.thread h (Some event) k') (sym there)
+        never h event k' (ap (λ (m : ConcreteState). thread_of m shape.thread) there
+        ∙ thread_at-put k.threads shape.thread o h stands)
+        (subst (λ (z : Program). Ends z mid shape.thread h (Some event) k') (sym own)
+        (subst (λ (m : ConcreteState). Ends p m shape.thread h (Some event) k') (sym there)
         (subst (λ (u : ℕ). Ends p (put_thread k u h) u h (Some event) k') t
         (subst (λ (x : Thread). Ends p (put_thread k e.thread x) e.thread x (Some event) k') same
         (subst (λ (v : Option Event). Ends p (put_thread k e.thread mine.here) e.thread mine.here v k') some
@@ -131,12 +122,12 @@ takes_shared p q k mid k' t n o h event moves stands goes own there ends = recor
       (ends h (ap (λ (m : ConcreteState). thread_of m t) there ∙ thread_at-put k.threads t o h stands)));
 }
 
--- entries of the same turn cost the same
-turn_cost : (e f : Entry) → turn_of e ≡ turn_of f
+-- entries of the same shape cost the same
+shape_cost : (e f : Entry) → shape_of e ≡ shape_of f
     → e.local + event_cost e.event ≡ f.local + event_cost f.event
-turn_cost e f is =
-    let n : e.local ≡ f.local = ap (λ (s : Turn). s.local) is in
-    let s : is_some e.event ≡ is_some f.event = ap (λ (s : Turn). s.shared) is in
+shape_cost e f is =
+    let n : e.local ≡ f.local = ap (λ (s : Shape). s.local) is in
+    let s : is_some e.event ≡ is_some f.event = ap (λ (s : Shape). s.shared) is in
     let c = events_cost e.event f.event s in
     omega (arith, n, c)
   where
@@ -152,33 +143,34 @@ cost_more log e =
     let h : cost (log ++ e ∷ []) ≡ cost log + cost (e ∷ []) =
     sum_by-append (λ (x : Entry). x.local + event_cost x.event) log (e ∷ []) in omega (arith, h)
 
-pub turns_more : (p q : Program) (entries : List Entry) (i : ℕ) (d f : Entry) (log log' : List Entry)
+pub shapes_more : (p q : Program) (entries : List Entry) (i : ℕ) (d f : Entry) (log log' : List Entry)
     (k k' : ConcreteState) (e : Entry) → i < length entries → get_or entries i d ≡ f → q ≡ p
-    → FollowsLog p (map turn_of (take i entries)) log k → Enters q k e k' → turn_of e ≡ turn_of f
+    → FollowsLog p (map shape_of (take i entries)) log k → Enters q k e k' → shape_of e ≡ shape_of f
     → log' ≡ log ++ e ∷ [] → cost log + (f.local + event_cost f.event) < 2 ^ 32
-    → FollowsLog p (map turn_of (take (i + 1) entries)) log' k' × (cost log' ≡ cost log + (f.local + event_cost f.event))
-turns_more p q entries i d f log log' k k' e inside names own follows enters is grows few =
+    → FollowsLog p (map shape_of (take (i + 1) entries)) log' k'
+    × (cost log' ≡ cost log + (f.local + event_cost f.event))
+shapes_more p q entries i d f log log' k k' e inside names own follows enters is grows few =
     let entered : Enters p k e k' = subst (λ (z : Program). Enters z k e k') own enters in
     let next : take (i + 1) entries ≡ take i entries ++ f ∷ [] =
     take_more entries i d inside ∙ ap (λ (x : Entry). take i entries ++ x ∷ []) names in
     let more : cost log' ≡ cost log + (e.local + event_cost e.event) = ap cost grows ∙ cost_more log e in
-    let turn = turn_cost e f is in (
+    let same_cost = shape_cost e f is in (
       record {
         legal = subst (λ (es : List Entry). Runs p (opening_concrete p) es k') (sym grows)
             (runs_more p (opening_concrete p) k k' log e follows.legal entered);
-        same = ap (map turn_of) grows ∙ map-append turn_of log (e ∷ [])
-            ∙ (λ j. follows.same j ++ is j ∷ []) ∙ sym (map-append turn_of (take i entries) (f ∷ []))
-            ∙ ap (map turn_of) (sym next);
-        few = omega (arith, more, turn, few);
+        same = ap (map shape_of) grows ∙ map-append shape_of log (e ∷ [])
+            ∙ (λ j. follows.same j ++ is j ∷ []) ∙ sym (map-append shape_of (take i entries) (f ∷ []))
+            ∙ ap (map shape_of) (sym next);
+        few = omega (arith, more, same_cost, few);
       },
-      omega (arith, more, turn),
+      omega (arith, more, same_cost),
     )
 
 -- the entry that can't be followed
 pub bad_entry : (p q : Program) (entries : List Entry) (i number : ℕ) (d f : Entry) (log : List Entry)
     (k : ConcreteState) → i < length entries → get_or entries i d ≡ f → number ≡ i + 1 → q ≡ p
-    → FollowsLog p (map turn_of (take i entries)) log k
-    → CannotTake q k (turn_of f) ⊎ (2 ^ 32 ≤ cost log + (f.local + event_cost f.event))
+    → FollowsLog p (map shape_of (take i entries)) log k
+    → CannotTake q k (shape_of f) ⊎ (2 ^ 32 ≤ cost log + (f.local + event_cost f.event))
     → IsBadLogEntry p entries number
 bad_entry p q entries i number d f log k inside names is own follows refuses = record {
   before = i;
@@ -188,22 +180,22 @@ bad_entry p q entries i number d f log k inside names is own follows refuses = r
   log = log;
   concrete = k;
   follows = follows;
-  refuses = subst (λ (z : Program). CannotTake z k (turn_of f)
+  refuses = subst (λ (z : Program). CannotTake z k (shape_of f)
       ⊎ (2 ^ 32 ≤ cost log + (f.local + event_cost f.event))) own refuses;
 }
 
 -- the report of a log that was followed to its end
 pub followed_log : (p : Program) (entries : List Entry) (i : ℕ) (log : List Entry) (last : View) (r : Report)
-    → length entries ≤ i → FollowsLog p (map turn_of (take i entries)) log (concrete last)
+    → length entries ≤ i → FollowsLog p (map shape_of (take i entries)) log (concrete last)
     → last.program ≡ p → r.log.items ≡ log → r.last ≡ last → r.output.items ≡ last.output
     → IsVerdict (concrete last) r.verdict → IsFollowedLog p entries r
 followed_log p entries i log last r past f program logged same output verdict =
-    let all : FollowsLog p (map turn_of entries) log (concrete last) =
-    subst (λ (es : List Entry). FollowsLog p (map turn_of es) log (concrete last)) (take_all i entries past) f in
-    let of_log : FollowsLog p (map turn_of entries) r.log.items (concrete last) =
-    subst (λ (es : List Entry). FollowsLog p (map turn_of entries) es (concrete last)) (sym logged) all in
+    let all : FollowsLog p (map shape_of entries) log (concrete last) =
+    subst (λ (es : List Entry). FollowsLog p (map shape_of es) log (concrete last)) (take_all i entries past) f in
+    let of_log : FollowsLog p (map shape_of entries) r.log.items (concrete last) =
+    subst (λ (es : List Entry). FollowsLog p (map shape_of entries) es (concrete last)) (sym logged) all in
     record {
-      follows = subst (λ (v : View). FollowsLog p (map turn_of entries) r.log.items (concrete v)) (sym same) of_log;
+      follows = subst (λ (v : View). FollowsLog p (map shape_of entries) r.log.items (concrete v)) (sym same) of_log;
       program = ap (λ (v : View). v.program) same ∙ program;
       output = output ∙ ap (λ (v : View). v.output) (sym same);
       verdict = subst (λ (v : View). IsVerdict (concrete v) r.verdict) (sym same) verdict;

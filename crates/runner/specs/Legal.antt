@@ -1,16 +1,18 @@
 -- What the types of the shared part of a run and of a share of its count keep.
-use Rattle.std.specs.Prelude.{ℕ, ◌≡◌, ◌≤◌, ◌<◌, ◌+◌, ◌*◌, ◌^◌, List, length}
+use Rattle.std.specs.Prelude.{ℕ, ◌≡◌, ◌≤◌, ◌<◌, ◌+◌, ◌*◌, ◌^◌, Bool, false, List, length}
+use Rattle.std.specs.List.{All}
 use Rattle.isa.specs.Programs.{Program}
 use Rattle.machine.specs.declared.event.Entry.{Entry}
 use Rattle.machine.specs.States.{ConcreteState, opening_concrete}
-use Rattle.runner.specs.Logs.{Runs, cost}
+use Rattle.runner.specs.Logs.{Runs, cost, IsOwnEntry}
 
--- the machine runs the program, the log is legal for it and leads to what the machine keeps, the steps are the log's
--- cost, and within the limit
-pub record IsLegal (p : Program) (limit : ℕ) (q : Program) (k : ConcreteState) (log : List Entry)
+-- the machine runs the program, the log is legal for it and leads to what the machine keeps, without wakes from outside
+-- where there may be none, the steps are the log's cost, and within the limit
+pub record IsLegal (p : Program) (strays : Bool) (limit : ℕ) (q : Program) (k : ConcreteState) (log : List Entry)
     (steps limited : ℕ) : Type 0 where
   pub program : q ≡ p
   pub legal : Runs p (opening_concrete p) log k
+  pub own : strays ≡ false → All IsOwnEntry log
   pub counted : steps ≡ cost log
   pub limit_is : limited ≡ limit
   pub within : steps ≤ limited

@@ -1,5 +1,5 @@
 -- A legal log is a run of the machine, step by step, and each run of the machine itself is a log's.
-use Rattle.std.specs.Prelude.{◌≡◌, ◌≤◌, ◌+◌, ◌++◌, ℕ, List, [], ◌∷◌, length, map, replicate, Option, Some, None}
+use Rattle.std.specs.Prelude.{◌≡◌, ◌≤◌, ◌+◌, ◌++◌, ℕ, Bool, List, [], ◌∷◌, length, map, replicate, Option, Some, None}
 use Rattle.words.specs.Limits.{most_threads}
 use Rattle.words.specs.Versions.{most_of}
 use Rattle.isa.specs.Programs.{Program}
@@ -50,7 +50,7 @@ RunsSo =
 -- may not be
 abbrev pub MeetsSo : Type 0
 MeetsSo =
-    (p : Program) (limit : ℕ) (m : MeetsBroken p limit) → most_of p.version ≤ most_threads
+    (p : Program) (strays : Bool) (limit : ℕ) (m : MeetsBroken p strays limit) → most_of p.version ≤ most_threads
     → (steps : List Step) × (s : State)
     × MachineRun p steps s × (length steps ≡ cost m.log + m.count) × NextIsBroken p s m.thread
     × (map label_of steps ≡ map event_label (steps_of m.log ++ replicate m.count (local_step_of m.thread)))
@@ -59,6 +59,6 @@ MeetsSo =
 -- step may not be
 abbrev pub LocallySo : Type 0
 LocallySo =
-    (p : Program) (limit : ℕ) (m : MeetsBroken p limit) → most_of p.version ≤ most_threads
+    (p : Program) (strays : Bool) (limit : ℕ) (m : MeetsBroken p strays limit) → most_of p.version ≤ most_threads
     → (m.concrete.common.asleep m.thread ≡ None)
     × NextIsBroken p (with_thread (state_of m.concrete) m.thread m.here) m.thread

@@ -11,34 +11,34 @@ use Rattle.runner.specs.declared.log_schedule.FollowLogFault.TheVariants.{BadEnt
 use Rattle.runner.specs.Logs.{Runs, Enters, cost, event_cost, is_outside}
 use Rattle.runner.specs.Reports.{IsVerdict}
 
--- what a schedule takes of an entry: its thread, its local steps, whether a shared step comes then, and whether that
--- comes from outside
-pub record Turn : Type 0 where
+-- the shape of an entry: its thread, its local steps, whether a shared step comes then, and whether that comes from
+-- outside
+pub record Shape : Type 0 where
   pub thread : ℕ
   pub local : ℕ
   pub shared : Bool
   pub stray : Bool
 
-abbrev pub turn_of : Entry → Turn
-turn_of e =
+abbrev pub shape_of : Entry → Shape
+shape_of e =
     record { thread = e.thread; local = e.local; shared = is_some e.event; stray = is_outside e.event }
 
--- the log is legal and leads there, by these turns in this order, and has fewer than 2^32 steps
-pub record FollowsLog (p : Program) (turns : List Turn) (log : List Entry) (k : ConcreteState) : Type 0 where
+-- the log is legal and leads there, by entries of these shapes in this order, and has fewer than 2^32 steps
+pub record FollowsLog (p : Program) (shapes : List Shape) (log : List Entry) (k : ConcreteState) : Type 0 where
   pub legal : Runs p (opening_concrete p) log k
-  pub same : map turn_of log ≡ turns
+  pub same : map shape_of log ≡ shapes
   pub few : cost log < 2 ^ 32
 
 -- the report of a log that was followed to its end
 pub record IsFollowedLog (p : Program) (entries : List Entry) (r : Report) : Type 0 where
-  pub follows : FollowsLog p (map turn_of entries) r.log.items (concrete r.last)
+  pub follows : FollowsLog p (map shape_of entries) r.log.items (concrete r.last)
   pub program : r.last.program ≡ p
   pub output : r.output.items ≡ (concrete r.last).common.output
   pub verdict : IsVerdict (concrete r.last) r.verdict
 
--- no entry of this turn can be taken there
-abbrev pub CannotTake : Program → ConcreteState → Turn → Type 0
-CannotTake p k turn = (e : Entry) (k' : ConcreteState) → turn_of e ≡ turn → Enters p k e k' → ⊥
+-- no entry of this shape can be taken there
+abbrev pub CannotTake : Program → ConcreteState → Shape → Type 0
+CannotTake p k shape = (e : Entry) (k' : ConcreteState) → shape_of e ≡ shape → Enters p k e k' → ⊥
 
 -- the entry of this number is the first that can't be followed: the entries before it lead to where it can't be taken,
 -- or with it there are 2^32 steps or more
@@ -49,8 +49,8 @@ pub record IsBadLogEntry (p : Program) (entries : List Entry) (number : ℕ) : T
   pub names : slice_get entries before ≡ Some entry
   pub log : List Entry
   pub concrete : ConcreteState
-  pub follows : FollowsLog p (map turn_of (take before entries)) log concrete
-  pub refuses : CannotTake p concrete (turn_of entry) ⊎ (2 ^ 32 ≤ cost log + (entry.local + event_cost entry.event))
+  pub follows : FollowsLog p (map shape_of (take before entries)) log concrete
+  pub refuses : CannotTake p concrete (shape_of entry) ⊎ (2 ^ 32 ≤ cost log + (entry.local + event_cost entry.event))
 
 -- why a log isn't followed to its end
 abbrev pub FailsLogAt : Program → List Entry → FollowLogFault → Type 0

@@ -1,9 +1,12 @@
 -- What the rounds of a run keep.
-use Rattle.std.specs.Prelude.{ℕ, ◌≡◌, ◌<◌, ◌≤◌, true, false, Bool, List, slice_get, Some}
+use Rattle.std.specs.Prelude.{ℕ, suc, ◌≡◌, ◌≢◌, ◌<◌, ◌≤◌, true, false, Bool, List, [], ◌∷◌, slice_get, Some, None}
 use Rattle.words.specs.Limits.{most_threads}
 use Rattle.isa.specs.Programs.{Program}
-use Rattle.machine.specs.States.{ConcreteState}
+use Rattle.machine.specs.States.{ConcreteState, state_of}
 use Rattle.machine.specs.ConcreteSteps.{can_move}
+use Rattle.runner.specs.declared.drawing.Drawn.{Drawn}
+use Rattle.runner.specs.declared.drawing.Drawn.TheVariants.{Mover, Sleeper}
+use Rattle.runner.specs.Logs.{cost}
 use Rattle.runner.specs.Views.{LogState}
 use Rattle.runner.specs.Reports.{PassesLimit}
 
@@ -24,6 +27,22 @@ IsPickable k refused t = (can_move k t ≡ true) × (slice_get refused t ≡ Som
 -- such a thread, by its number
 abbrev pub IsDrawn : ConcreteState → List Bool → ℕ → Type 0
 IsDrawn k refused t = IsPickable k refused t × (0 < t) × (t ≤ most_threads)
+
+-- a thread that sleeps
+abbrev pub IsAsleep : ConcreteState → ℕ → Type 0
+IsAsleep k t = (state_of k).asleep t ≢ None
+
+-- what may be drawn: a thread that can move and wasn't refused; or one that sleeps, where there may be wakes from
+-- outside and the limit leaves room for one
+abbrev pub MayBeDrawn : Bool → ℕ → LogState → List Bool → Drawn → Type 0
+MayBeDrawn strays limit h refused (Mover t) = IsDrawn h.concrete refused t
+MayBeDrawn strays limit h refused (Sleeper t) = (strays ≡ true) × IsAsleep h.concrete t × (cost h.log < limit)
+
+-- how many weren't refused
+abbrev pub unrefused : List Bool → ℕ
+unrefused [] = 0
+unrefused (true ∷ xs) = unrefused xs
+unrefused (false ∷ xs) = suc (unrefused xs)
 
 -- each thread that can move was refused
 abbrev pub NoneLeft : ConcreteState → List Bool → Type 0

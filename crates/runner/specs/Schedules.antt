@@ -1,51 +1,65 @@
--- What comes of a schedule: a step of a thread, and an entry of the log, for each of its numbers.
-use Rattle.std.specs.Prelude.{ℕ, ◌≡◌, ◌+◌, ◌<◌, ◌≤◌, ◌^◌, ◌⊎◌, true, false, List, length, map, take, slice_get, Some}
-use Rattle.std.specs.Prelude.{Err}
+-- What comes of a schedule: a step of a thread or a wake from outside, and an entry of the log, for each of its turns.
+use Rattle.std.specs.Prelude.{ℕ, ◌≡◌, ◌+◌, ◌<◌, ◌≤◌, ◌^◌, ◌⊎◌, true, false, cond, List, length, map, take, slice_get}
+use Rattle.std.specs.Prelude.{Some, None, Err}
 use Rattle.std.specs.List.{All}
 use Rattle.isa.specs.Programs.{Program}
 use Rattle.machine.specs.declared.event.Entry.{Entry}
 use Rattle.machine.specs.declared.event.StepFault.TheVariants as step
-use Rattle.machine.specs.States.{ConcreteState, opening_concrete}
+use Rattle.machine.specs.States.{ConcreteState, opening_concrete, state_of}
 use Rattle.machine.specs.ConcreteSteps.{step_of, can_move}
 use Rattle.machine.specs.Views.{concrete}
 use Rattle.runner.specs.declared.report.Report.{Report}
+use Rattle.runner.specs.declared.schedule.Turn.{Turn}
+use Rattle.runner.specs.declared.schedule.Turn.TheVariants.{Step, Stray}
 use Rattle.runner.specs.declared.schedule.ScheduleFault.{ScheduleFault}
 use Rattle.runner.specs.declared.schedule.ScheduleFault.TheVariants.{BadEntry, Broken, Memory}
-use Rattle.runner.specs.Logs.{Runs, event_cost, IsOwnEntry}
+use Rattle.runner.specs.Logs.{Runs, event_cost, is_outside}
 use Rattle.runner.specs.Reports.{IsVerdict}
 
 -- one local step, or one shared step
 abbrev pub IsOneStep : Entry → Type 0
 IsOneStep e = e.local + event_cost e.event ≡ 1
 
--- the log is legal and leads there, by one step of each thread named, in this order
-pub record Follows (p : Program) (schedule : List ℕ) (log : List Entry) (k : ConcreteState) : Type 0 where
+-- the turn that an entry was: a wake of its thread from outside, or a step of it
+abbrev pub turn_of : Entry → Turn
+turn_of e = cond (is_outside e.event) (Stray e.thread) (Step e.thread)
+
+-- the log is legal and leads there, by one step for each turn, in this order
+pub record Follows (p : Program) (schedule : List Turn) (log : List Entry) (k : ConcreteState) : Type 0 where
   pub legal : Runs p (opening_concrete p) log k
-  pub threads : map (λ e. e.thread) log ≡ schedule
+  pub turns : map turn_of log ≡ schedule
   pub single : All IsOneStep log
-  pub own : All IsOwnEntry log
 
 -- the report of a schedule that was followed to its end
-pub record IsFollowed (p : Program) (schedule : List ℕ) (r : Report) : Type 0 where
+pub record IsFollowed (p : Program) (schedule : List Turn) (r : Report) : Type 0 where
   pub follows : Follows p schedule r.log.items (concrete r.last)
   pub few : length schedule < 2 ^ 32
   pub program : r.last.program ≡ p
   pub output : r.output.items ≡ (concrete r.last).common.output
   pub verdict : IsVerdict (concrete r.last) r.verdict
 
--- the entries before this many and one lead there, and the next one names this thread
-pub record ComesTo (p : Program) (schedule : List ℕ) (before : ℕ) (k : ConcreteState) (t : ℕ) : Type 0 where
+-- the turns before this many and one lead there, and this is the next one
+pub record ComesTo (p : Program) (schedule : List Turn) (before : ℕ) (k : ConcreteState) (turn : Turn) : Type 0 where
   pub log : List Entry
   pub follows : Follows p (take before schedule) log k
   pub few : before < 2 ^ 32
-  pub names : slice_get schedule before ≡ Some t
+  pub names : slice_get schedule before ≡ Some turn
 
--- why the entry of a number, which names this thread, is refused
-abbrev pub RefusesSchedule : Program → ConcreteState → ℕ → ℕ → ScheduleFault → Type 0
-RefusesSchedule p k number t (BadEntry n) = (n ≡ number) × ((can_move k t ≡ false) ⊎ (2 ^ 32 ≤ number))
-RefusesSchedule p k number t (Broken n) =
-    (n ≡ number) × (number < 2 ^ 32) × (can_move k t ≡ true) × (step_of p k t ≡ Err step.Broken)
-RefusesSchedule p k number t Memory = Unit {0}
+-- there is no such turn there: its thread can't move, or doesn't sleep
+abbrev pub RefusesTurn : ConcreteState → Turn → Type 0
+RefusesTurn k (Step t) = can_move k t ≡ false
+RefusesTurn k (Stray t) = (state_of k).asleep t ≡ None
+
+-- the turn's step may not be
+abbrev pub BreaksTurn : Program → ConcreteState → Turn → Type 0
+BreaksTurn p k (Step t) = (can_move k t ≡ true) × (step_of p k t ≡ Err step.Broken)
+BreaksTurn p k (Stray t) = ⊥
+
+-- why the turn of a number is refused
+abbrev pub RefusesSchedule : Program → ConcreteState → ℕ → Turn → ScheduleFault → Type 0
+RefusesSchedule p k number turn (BadEntry n) = (n ≡ number) × (RefusesTurn k turn ⊎ (2 ^ 32 ≤ number))
+RefusesSchedule p k number turn (Broken n) = (n ≡ number) × (number < 2 ^ 32) × BreaksTurn p k turn
+RefusesSchedule p k number turn Memory = Unit {0}
 
 -- the fault is want of memory
 abbrev pub IsMemory : ScheduleFault → Type 0
@@ -53,8 +67,8 @@ IsMemory (BadEntry n) = ⊥
 IsMemory (Broken n) = ⊥
 IsMemory Memory = Unit {0}
 
--- why a schedule isn't followed to its end: want of memory, or its first entry that is refused; they count from 1
-abbrev pub FailsAt : Program → List ℕ → ScheduleFault → Type 0
+-- why a schedule isn't followed to its end: want of memory, or its first turn that is refused; they count from 1
+abbrev pub FailsAt : Program → List Turn → ScheduleFault → Type 0
 FailsAt p schedule fault =
-    IsMemory fault ⊎ ((before : ℕ) × (k : ConcreteState) × (t : ℕ) × ComesTo p schedule before k t
-    × RefusesSchedule p k (before + 1) t fault)
+    IsMemory fault ⊎ ((before : ℕ) × (k : ConcreteState) × (turn : Turn) × ComesTo p schedule before k turn
+    × RefusesSchedule p k (before + 1) turn fault)

@@ -1,10 +1,13 @@
 ghost use Rattle.words.specs.Limits.{most_threads};
-ghost use Rattle.std.specs.Prelude.{suc, ◌≡◌, ◌+◌, ◌<◌, ◌≤◌, length, slice_get, true, Some, IfErr, MatchBool, MatchOption, OnOk};
-ghost use Rattle.std.specs.List.{All};
+ghost use Rattle.std.specs.Prelude.{suc, ◌≡◌, ◌≢◌, ◌+◌, ◌-◌, ◌<◌, ◌≤◌, length, slice_get, true, Some, None};
+ghost use Rattle.std.specs.Prelude.{is_some, IfErr, IfSome, MatchBool, MatchOption, OnOk};
+ghost use Rattle.std.specs.List.{All, Contains};
+ghost use Rattle.machine.specs.States.{state_of};
 ghost use Rattle.machine.specs.ConcreteSteps.{can_move};
 ghost use Rattle.machine.specs.Views.{concrete, IsWellFormed};
+ghost use Rattle.runner.specs.Logs.{cost};
 ghost use Rattle.runner.specs.Reports.{CanFail};
-ghost use Rattle.runner.specs.Rounds.{Idle, IsDrawn, IsPickable, NoneLeft};
+ghost use Rattle.runner.specs.Rounds.{AllPast, Idle, IsAsleep, IsDrawn, IsPickable, MayBeDrawn, NoneLeft, unrefused};
 ghost use Rattle.runner.specs.Views.{log_state};
 
 use crate::fault::RunFault;
@@ -19,42 +22,139 @@ use rand_core::Rng;
 use rand_xoshiro::SplitMix64;
 use words::{MOST_THREADS, OpenGate};
 
-/// Makes entries until no thread can make one, each of a thread that is drawn anew among those that can move. A thread
-/// that was refused with `Limit` is passed over from then on.
+/// What was drawn to be the next entry.
+#[derive(Clone, Copy)]
+pub enum Drawn {
+    /// That of this thread, which can move.
+    Mover(u32),
+    /// A wake from outside of this thread, which sleeps.
+    Sleeper(u32),
+}
+
+/// Makes entries until no thread can make one, each of a thread that is drawn anew among those that can move, or, where
+/// `strays` says so, a wake from outside. A thread that was refused with `Limit` is passed over from then on.
 pub fn run_drawn<J: RunName>(
     shared: &mut Shared<J>,
     image: &Image,
     share: &mut Share<J>,
     generator: &mut SplitMix64,
+    strays: Option<u32>,
 ) -> Result<(), RunFault>
     requires image { image.now ≡ J.program }
+    requires strays { is_some strays ≡ J.strays }
     ensures ok { OnOk result (Idle J.program J.limit (log_state shared.new)) }
-    ensures err { IfErr result (λ fault. CanFail J.program J.limit fault) }
+    ensures err { IfErr result (λ fault. CanFail J.program J.strays J.limit fault) }
 {
     let mut refused = [false; MOST_THREADS as usize + 1];
-    while let Some(t) = draw_thread(shared.machine(), &refused, generator) {
-        make_entry(shared, &mut refused, image, share, &OpenGate, t)?;
+    while let Some(drawn) = draw_entry(shared, &refused, generator, strays) {
+        make_drawn(shared, &mut refused, image, share, drawn)?;
     }
     Ok(())
 }
 
-// The thread that the generator's next number picks, among those that can move and weren't refused, by rising number:
-// that at the number modulo how many they are. None where there is none, and then no number is drawn.
-fn draw_thread(machine: &Machine, refused: &[bool], generator: &mut SplitMix64) -> Option<u32>
+// Makes the entry that was drawn, if the limit allows it. A thread whose entry would pass the limit is refused from
+// then on.
+fn make_drawn<J: RunName>(
+    shared: &mut Shared<J>,
+    refused: &mut [bool],
+    image: &Image,
+    share: &mut Share<J>,
+    drawn: Drawn,
+) -> Result<(), RunFault>
+    requires image { image.now ≡ J.program }
+    requires room { length refused.old ≡ suc most_threads }
+    requires kept { IsWellFormed J.program (log_state shared.old).concrete }
+    requires drawn { MayBeDrawn J.strays J.limit (log_state shared.old) refused.old drawn }
+    requires past { AllPast J.program J.limit (log_state shared.old) refused.old }
+    ensures past { OnOk result (AllPast J.program J.limit (log_state shared.new) refused.new) }
+    ensures less { OnOk result ((J.limit - cost shared.new.log) + unrefused refused.new
+        < (J.limit - cost shared.old.log) + unrefused refused.old) }
+    ensures err { IfErr result (λ fault. CanFail J.program J.strays J.limit fault) }
+{
+    match drawn {
+        Drawn::Mover(t) => {
+            make_entry(shared, refused, image, share, &OpenGate, t)?;
+            Ok(())
+        }
+        Drawn::Sleeper(t) => shared.stray(t, share),
+    }
+}
+
+// Draws the next entry: where a wake from outside is due, that of a thread that sleeps; else that of a thread that can
+// move and wasn't refused. None where there is no thread of the latter, and then no number is drawn.
+fn draw_entry<J: RunName>(
+    shared: &Shared<J>,
+    refused: &[bool],
+    generator: &mut SplitMix64,
+    strays: Option<u32>,
+) -> Option<Drawn>
     requires room { length refused.now ≡ suc most_threads }
-    ensures drawn { MatchOption result (NoneLeft (concrete machine.now) refused.now)
-        (λ t. IsDrawn (concrete machine.now) refused.now t) }
+    requires strays { is_some strays ≡ J.strays }
+    ensures drawn { MatchOption result (NoneLeft (log_state shared.now).concrete refused.now)
+        (λ drawn. MayBeDrawn J.strays J.limit (log_state shared.now) refused.now drawn) }
+    ensures kept { IsWellFormed J.program (log_state shared.now).concrete }
+{
+    let movers = movers(shared.machine(), refused);
+    if movers.is_empty() {
+        return None;
+    }
+    if let Some(t) = draw_sleeper(shared, generator, strays) {
+        return Some(Drawn::Sleeper(t));
+    }
+    Some(Drawn::Mover(pick(&movers, generator)))
+}
+
+// Draws a thread that sleeps, where a wake from outside is due, some thread sleeps, and the limit leaves room.
+fn draw_sleeper<J: RunName>(
+    shared: &Shared<J>,
+    generator: &mut SplitMix64,
+    strays: Option<u32>,
+) -> Option<u32>
+    ensures { IfSome result (λ t. (is_some strays ≡ true) × IsAsleep (log_state shared.now).concrete t
+        × (cost shared.now.log < J.limit)) }
+{
+    if !is_due(strays, generator) || !shared.has_step_left() {
+        return None;
+    }
+    let sleepers = sleepers(shared.machine());
+    if sleepers.is_empty() {
+        return None;
+    }
+    Some(pick(&sleepers, generator))
+}
+
+// Whether a wake from outside is due: where the generator's next number is a multiple of that which `strays` has. No
+// number is drawn where it has none, or 0.
+fn is_due(strays: Option<u32>, generator: &mut SplitMix64) -> bool
+    ensures { result ≡ true → is_some strays ≡ true }
+{
+    match strays {
+        None | Some(0) => false,
+        Some(n) => generator.next_u64() % u64::from(n) == 0,
+    }
+}
+
+// The thread that the generator's next number picks: of these, that at the number modulo how many they are.
+fn pick(threads: &[u32], generator: &mut SplitMix64) -> u32
+    requires some { 0 < length threads.now }
+    ensures { Contains threads.now result }
+{
+    let place = generator.next_u64() % threads.len() as u64;
+    threads[place as usize]
+}
+
+// The threads that can move and weren't refused, by rising number.
+fn movers(machine: &Machine, refused: &[bool]) -> ArrayVec<u32, 64>
+    requires room { length refused.now ≡ suc most_threads }
+    ensures drawn { All (IsDrawn (concrete machine.now) refused.now) result.items }
+    ensures none { length result.items ≡ 0 → NoneLeft (concrete machine.now) refused.now }
     ensures kept { IsWellFormed machine.now.program (concrete machine.now) }
 {
     let mut movers: ArrayVec<u32, 64> = ArrayVec::new();
     for before in 0..machine.threads() {
         add_pickable(&mut movers, machine, refused, before + 1);
     }
-    if movers.is_empty() {
-        return None;
-    }
-    let place = generator.next_u64() % movers.len() as u64;
-    Some(movers[place as usize])
+    movers
 }
 
 // Adds thread `t`, if it can move and wasn't refused.
@@ -82,4 +182,27 @@ fn is_pickable(machine: &Machine, refused: &[bool], t: u32) -> bool
         (can_move (concrete machine.now) t ≡ true → slice_get refused.now t ≡ Some true) }
 {
     machine.can_move(t) && !refused[t as usize]
+}
+
+// The threads that sleep, by rising number.
+fn sleepers(machine: &Machine) -> ArrayVec<u32, 64>
+    ensures { All (IsAsleep (concrete machine.now)) result.items }
+{
+    let mut sleepers: ArrayVec<u32, 64> = ArrayVec::new();
+    for before in 0..machine.threads() {
+        add_sleeper(&mut sleepers, machine, before + 1);
+    }
+    sleepers
+}
+
+// Adds thread `t`, if it sleeps.
+fn add_sleeper(sleepers: &mut ArrayVec<u32, 64>, machine: &Machine, t: u32)
+    requires space { length sleepers.old.items < 64 }
+    ensures asleep { All (IsAsleep (concrete machine.now)) sleepers.old.items
+        → All (IsAsleep (concrete machine.now)) sleepers.new.items }
+    ensures few { length sleepers.new.items ≤ length sleepers.old.items + 1 }
+{
+    if machine.asleep(t).is_some() {
+        sleepers.push(t);
+    }
 }

@@ -96,8 +96,8 @@ fn hand_in(machine: &mut Machine, t: u32, here: &Local) -> Option<Event>
     }
 }
 
-// Wakes thread `t`, which sleeps, though no thread called for it.
-fn wake_from_outside(machine: &mut Machine, t: u32) -> Event
+/// Wakes thread `t`, which sleeps, though no thread called for it.
+pub fn wake_from_outside(machine: &mut Machine, t: u32) -> Event
     requires sleeps { (state_of (concrete machine.old)).asleep t ≢ None }
     ensures gives { stray_of (concrete machine.old) t ≡ Ok (concrete machine.new, result) }
     ensures program { machine.new.program ≡ machine.old.program }

@@ -27,7 +27,7 @@ pub use piece::Piece;
 pub use report::{Report, Verdict, report_of};
 pub use rounds::run_alone;
 pub use running::{finish, run_in_order};
-pub use schedule::{ScheduleFault, follow};
+pub use schedule::{ScheduleFault, Turn, follow};
 pub use seeded::run_by_seed;
 pub use share::{PARTS, Share};
 pub use shared::Shared;

@@ -4,7 +4,7 @@ ghost use Rattle.machine.specs.States.{ConcreteState, thread_of};
 ghost use Rattle.machine.specs.Views.{concrete};
 ghost use Rattle.runner.specs.Logs.{Ends, Enters, event_cost, is_outside};
 ghost use Rattle.runner.specs.declared.log_schedule.FollowLogFault.TheVariants.{Memory};
-ghost use Rattle.runner.specs.LogSchedules.{CannotTake, FailsLogAt, IsFollowedLog, turn_of};
+ghost use Rattle.runner.specs.LogSchedules.{CannotTake, FailsLogAt, IsFollowedLog, shape_of};
 
 use crate::report::{Report, report_of};
 use isa::Image;
@@ -76,9 +76,9 @@ fn take_turn(machine: &mut Machine, entry: &Entry) -> Option<Entry>
     requires room { 1 ≤ machine.old.room }
     ensures some { IfSome result
         (λ e. Enters machine.old.program (concrete machine.old) e (concrete machine.new)
-        × (turn_of e ≡ turn_of entry.now)) }
+        × (shape_of e ≡ shape_of entry.now)) }
     ensures none { IfNone result
-        (CannotTake machine.old.program (concrete machine.old) (turn_of entry.now)) }
+        (CannotTake machine.old.program (concrete machine.old) (shape_of entry.now)) }
     ensures program { machine.new.program ≡ machine.old.program }
 {
     if is_outside(entry) {
@@ -124,9 +124,9 @@ fn take_outside(machine: &mut Machine, entry: &Entry) -> Option<Entry>
     requires outside { is_outside entry.now.event ≡ true }
     ensures some { IfSome result
         (λ e. Enters machine.old.program (concrete machine.old) e (concrete machine.new)
-        × (turn_of e ≡ turn_of entry.now)) }
+        × (shape_of e ≡ shape_of entry.now)) }
     ensures none { IfNone result
-        (CannotTake machine.old.program (concrete machine.old) (turn_of entry.now)) }
+        (CannotTake machine.old.program (concrete machine.old) (shape_of entry.now)) }
     ensures program { machine.new.program ≡ machine.old.program }
 {
     if entry.local > 0 {

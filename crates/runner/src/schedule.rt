@@ -2,10 +2,12 @@ ghost use Rattle.std.specs.Prelude.{◌≡◌, ◌<◌, ◌≤◌, ◌^◌, true
 ghost use Rattle.machine.specs.declared.event.StepFault.TheVariants.{Broken};
 ghost use Rattle.machine.specs.ConcreteSteps.{step_of, can_move};
 ghost use Rattle.machine.specs.Views.{concrete};
-ghost use Rattle.runner.specs.Logs.{EntersOwn};
+ghost use Rattle.runner.specs.Logs.{Enters, EntersOutside, EntersOwn};
 ghost use Rattle.runner.specs.declared.schedule.ScheduleFault.TheVariants.{Memory};
-ghost use Rattle.runner.specs.Schedules.{FailsAt, IsFollowed, IsOneStep, RefusesSchedule};
+ghost use Rattle.runner.specs.declared.schedule.Turn.TheVariants.{Step, Stray};
+ghost use Rattle.runner.specs.Schedules.{FailsAt, IsFollowed, IsOneStep, RefusesSchedule, turn_of};
 
+use crate::entering::wake_from_outside;
 use crate::report::{Report, report_of};
 use isa::Image;
 use machine::{Entry, Machine, StepFault};
@@ -13,13 +15,23 @@ use std::alloc::{AllocError, Global};
 use thiserror::Error;
 use words::BUCKETS;
 
+/// One turn of a schedule.
+#[derive(Clone, Copy, PartialEq, Eq, Debug)]
+pub enum Turn {
+    /// The thread of this number takes one step, local or shared.
+    Step(u32),
+    /// The thread of this number, which sleeps, is woken from outside, though no thread called for it.
+    Stray(u32),
+}
+
 /// Why a schedule is not followed to its end. Its entries are numbered from 1.
 #[derive(Clone, Copy, PartialEq, Eq, Debug, Error)]
 pub enum ScheduleFault {
-    /// The entry of this number names a thread that can't move, or its number is past 4294967295.
+    /// The entry of this number is a step of a thread that can't move, or a wake from outside of one that doesn't
+    /// sleep; or its number is past 4294967295.
     #[error("schedule entry {0}")]
     BadEntry(u64),
-    /// The step of the thread that the entry of this number names may not be.
+    /// The step that the entry of this number is may not be.
     #[error("schedule entry {0}: fault 4")]
     Broken(u64),
     /// There is no memory for the run.
@@ -35,20 +47,20 @@ impl From<AllocError> for ScheduleFault {
     }
 }
 
-/// Runs an image by a schedule: for each of its numbers the thread of that number takes one step of the machine, local
-/// or shared, which is an entry of the log.
+/// Runs an image by a schedule: each of its turns is one step of the machine, and an entry of the log. A turn
+/// `Turn::Step` is a step of its thread, local or shared; a turn `Turn::Stray` is a wake of its thread from outside.
 ///
-/// The verdict is Limit where some thread can still move. The first entry whose thread can't take its step is refused.
-pub fn follow(alloc: Global, image: &Image, schedule: &[u32]) -> Result<Report, ScheduleFault>
+/// The verdict is Limit where some thread can still move. The first turn that can't be is refused.
+pub fn follow(alloc: Global, image: &Image, schedule: &[Turn]) -> Result<Report, ScheduleFault>
     ensures ok { IfOk result (λ report. IsFollowed image.now schedule.now report) }
     ensures err { IfErr result (λ fault. FailsAt image.now schedule.now fault) }
 {
     let mut machine = Machine::new(alloc, image, BUCKETS)?;
     let mut log = Vec::new(alloc);
     let mut number: u64 = 0;
-    for thread in schedule {
+    for turn in schedule {
         number += 1;
-        let entry = take_turn(&mut machine, number, *thread)?;
+        let entry = take_turn(&mut machine, number, *turn)?;
         if log.push(entry).is_err() {
             return Err(ScheduleFault::Memory);
         }
@@ -56,20 +68,58 @@ pub fn follow(alloc: Global, image: &Image, schedule: &[u32]) -> Result<Report, 
     Ok(report_of(alloc, log, machine)?)
 }
 
-// Takes the step of the thread that the entry of this number names.
-fn take_turn(machine: &mut Machine, number: u64, t: u32) -> Result<Entry, ScheduleFault>
+// Takes the turn of this number, which is an entry of its own.
+fn take_turn(machine: &mut Machine, number: u64, turn: Turn) -> Result<Entry, ScheduleFault>
     ensures ok { IfOk result
-        (λ e. EntersOwn machine.old.program (concrete machine.old) e (concrete machine.new)
-        × (e.thread ≡ t) × IsOneStep e × (number < 2 ^ 32)) }
+        (λ e. Enters machine.old.program (concrete machine.old) e (concrete machine.new)
+        × (turn_of e ≡ turn) × IsOneStep e × (number < 2 ^ 32)) }
     ensures err { IfErr result
-        (λ fault. RefusesSchedule machine.old.program (concrete machine.old) number t fault) }
+        (λ fault. RefusesSchedule machine.old.program (concrete machine.old) number turn fault) }
     ensures program { machine.new.program ≡ machine.old.program }
 {
-    if number > u64::from(u32::MAX) || !machine.can_move(t) {
+    if number > u64::from(u32::MAX) {
+        return Err(ScheduleFault::BadEntry(number));
+    }
+    match turn {
+        Turn::Step(t) => take_own(machine, number, t),
+        Turn::Stray(t) => take_stray(machine, number, t),
+    }
+}
+
+// Takes a step of thread `t`, if it can move.
+fn take_own(machine: &mut Machine, number: u64, t: u32) -> Result<Entry, ScheduleFault>
+    requires few { number < 2 ^ 32 }
+    ensures ok { IfOk result
+        (λ e. EntersOwn machine.old.program (concrete machine.old) e (concrete machine.new)
+        × (e.thread ≡ t) × IsOneStep e) }
+    ensures err { IfErr result
+        (λ fault. RefusesSchedule machine.old.program (concrete machine.old) number (Step t) fault) }
+    ensures program { machine.new.program ≡ machine.old.program }
+{
+    if !machine.can_move(t) {
         return Err(ScheduleFault::BadEntry(number));
     }
     machine.make_room(1)?;
     take_step(machine, t).map_err(|_| ScheduleFault::Broken(number))
+}
+
+// Wakes thread `t` from outside, if it sleeps.
+fn take_stray(machine: &mut Machine, number: u64, t: u32) -> Result<Entry, ScheduleFault>
+    ensures ok { IfOk result
+        (λ e. EntersOutside (concrete machine.old) e (concrete machine.new) × (e.thread ≡ t)) }
+    ensures err { IfErr result
+        (λ fault. RefusesSchedule machine.old.program (concrete machine.old) number (Stray t) fault) }
+    ensures program { machine.new.program ≡ machine.old.program }
+{
+    if machine.asleep(t).is_none() {
+        return Err(ScheduleFault::BadEntry(number));
+    }
+    let event = wake_from_outside(machine, t);
+    Ok(Entry {
+        thread: t,
+        local: 0,
+        event: Some(event),
+    })
 }
 
 // Takes a step of thread `t`, which is an entry of its own. It is refused where the step may not be.

@@ -3,7 +3,8 @@ ghost use Rattle.std.specs.Prelude.{suc, ◌≡◌, ◌≢◌, ◌≤◌, ◌<�
 ghost use Rattle.std.specs.Prelude.{IfErr, OnOk, IfSome, IfNone, MatchBool, MatchOption};
 ghost use Rattle.machine.specs.States.{thread_of, opening_concrete};
 ghost use Rattle.machine.specs.ConcreteSteps.{can_move};
-ghost use Rattle.runner.specs.Logs.{Runs, cost};
+ghost use Rattle.std.specs.List.{All};
+ghost use Rattle.runner.specs.Logs.{Runs, IsOwnEntry, cost};
 ghost use Rattle.runner.specs.Entries.{Takes, TakesOutside, RefusesEntry, RefusesOutside, IsFine, Stands};
 ghost use Rattle.runner.specs.Nexts.{IsNext};
 ghost use Rattle.runner.specs.Afters.{IsAfter};
@@ -27,9 +28,9 @@ use std::sync::ledger;
 use std::sync::ledger::{Blank, Book};
 use words::{BUCKETS, MOST_LOCAL_STEPS};
 
-/// The machine of run `J` and its log. Its type keeps that the log is legal for the run's program, that the machine is
-/// where the log leads, that the log's cost is within the run's limit, and that all shares together have counted each
-/// entry once.
+/// The machine of run `J` and its log. Its type keeps that the log is legal for the run's program, that it has no wakes
+/// from outside where the run's name rules them out, that the machine is where the log leads, that the log's cost is
+/// within the run's limit, and that all shares together have counted each entry once.
 #[derive(Drop)]
 pub struct Shared<J: RunName> {
     machine: Machine,
@@ -51,7 +52,7 @@ impl<J: RunName> Model for Shared<J> {
 
     ghost view = { λ s. record { log = s.log.items; machine = s.machine; given = s.given } };
 
-    ghost invariant = { λ s. IsLegal J.program J.limit s.machine.program
+    ghost invariant = { λ s. IsLegal J.program J.strays J.limit s.machine.program
         (concrete s.machine) s.log.items s.steps s.limit
         × IsCounted J.parts s.book.total s.rest.parts s.rest.amount s.given s.log.items };
 }
@@ -134,6 +135,7 @@ impl<J: RunName> Shared<J> {
         ensures value { result.now ≡ self.now.log }
         ensures legal { Runs J.program (opening_concrete J.program) self.now.log
             (log_state self.now).concrete }
+        ensures own { J.strays ≡ false → All IsOwnEntry self.now.log }
     {
         self.log.as_slice()
     }
@@ -153,6 +155,7 @@ impl<J: RunName> Shared<J> {
         ensures program { result.1.program ≡ J.program }
         ensures legal { Runs J.program (opening_concrete J.program) self.log
             (log_state self).concrete }
+        ensures own { J.strays ≡ false → All IsOwnEntry self.log }
         ensures within { cost self.log ≤ J.limit }
     {
         let Shared { log, machine, .. } = self;
@@ -200,7 +203,7 @@ impl<J: RunName> Shared<J> {
             × (share.new ≡ share.old)
             × RefusesEntry J.program J.limit (log_state self.old) t piece fault) }
         ensures broken { IfErr result (λ fault. fault ≡ RunFault.Broken
-            → MeetsBroken J.program J.limit) }
+            → MeetsBroken J.program J.strays J.limit) }
         ensures given { self.new.given ≡ self.old.given }
         ensures legal { Runs J.program (opening_concrete J.program) self.new.log
             (log_state self.new).concrete }
@@ -231,7 +234,7 @@ impl<J: RunName> Shared<J> {
             × (share.new ≡ share.old)
             × RefusesEntry J.program J.limit (log_state self.old) t piece.old fault) }
         ensures broken { IfErr result (λ fault. fault ≡ RunFault.Broken
-            → MeetsBroken J.program J.limit) }
+            → MeetsBroken J.program J.strays J.limit) }
         ensures given { self.new.given ≡ self.old.given }
         ensures legal { Runs J.program (opening_concrete J.program) self.new.log
             (log_state self.new).concrete }
@@ -251,7 +254,7 @@ impl<J: RunName> Shared<J> {
             × (share.new ≡ share.old)
             × RefusesEntry J.program J.limit (log_state self.old) t piece.now fault) }
         ensures broken { IfErr result (λ fault. fault ≡ RunFault.Broken
-            → MeetsBroken J.program J.limit) }
+            → MeetsBroken J.program J.strays J.limit) }
         ensures given { self.new.given ≡ self.old.given }
         ensures legal { Runs J.program (opening_concrete J.program) self.new.log
             (log_state self.new).concrete }
@@ -274,6 +277,7 @@ impl<J: RunName> Shared<J> {
     ///
     /// Refuses in this order: `CannotMove` where the thread doesn't sleep, `Limit`, `Memory`; then nothing has changed.
     pub fn stray(&mut self, t: u32, share: &mut Share<J>) -> Result<(), RunFault>
+        requires strays { J.strays ≡ true }
         ensures ok { OnOk result
             (TakesOutside J.limit (log_state self.old) t (log_state self.new)) }
         ensures counted { OnOk result (share.new
@@ -325,6 +329,13 @@ impl<J: RunName> Shared<J> {
         self.limit - self.steps > MOST_LOCAL_STEPS
     }
 
+    /// Whether the limit leaves room for one step more.
+    pub(crate) fn has_step_left(&self) -> bool
+        ensures { MatchBool result (cost self.now.log < J.limit) (cost self.now.log ≡ J.limit) }
+    {
+        self.steps < self.limit
+    }
+
     /// Takes the next entry of thread `t`, which can move, in its place on the machine, so that nothing is copied: its
     /// local steps until another step comes or its turn is over, and the shared step that it stands before, if any.
     ///
@@ -334,7 +345,7 @@ impl<J: RunName> Shared<J> {
         requires room { cost self.old.log + suc most_local_steps ≤ J.limit }
         ensures ok { OnOk result (cost self.old.log < cost self.new.log) }
         ensures given { self.new.given ≡ self.old.given }
-        ensures err { IfErr result (λ fault. CanFail J.program J.limit fault) }
+        ensures err { IfErr result (λ fault. CanFail J.program J.strays J.limit fault) }
         ensures within { cost self.new.log ≤ J.limit }
     {
         if make_room(&mut self.machine, &mut self.log).is_err() {

@@ -1,14 +1,15 @@
 -- States that are kept, and stay so while more is.
-use Rattle.std.proofs.Common.{◌≡◌, ◌<◌, ◌+◌, ◌↔◌, ℕ, List, [], ◌∷◌, ◌++◌, length, get_or, map, take, All, Contains, Some}
+use Rattle.std.proofs.Common.{◌≡◌, ◌<◌, ◌+◌, ◌↔◌, ℕ, Bool, List, [], ◌∷◌, ◌++◌, length, get_or, map, take, All}
+use Rattle.std.proofs.Common.{Contains, Some}
 use Rattle.std.proofs.Common.{slice_get, sym, ap, ◌∙◌, subst, append_assoc}
-use Rattle.std.specs.Prelude.{IsSome, is_some}
+use Rattle.std.specs.Prelude.{IsSome}
 use Rattle.std.proofs.lemmas.List.{append-nil, map_more, map_push}
 use Rattle.std.proofs.lemmas.List.Elements.{All-contains, All-more, All-push, All-weaker, Contains-append_left}
 use Rattle.std.proofs.lemmas.List.Elements.{Contains-get_or, Contains-push}
 use Rattle.std.proofs.lemmas.Option.{get_or_from_slice_get, slice_get_within}
 use Rattle.program.specs.Trees.{Program}
 use Rattle.meaning.specs.Labels.{Action}
-use Rattle.meaning.specs.Runs.{IsAction}
+use Rattle.meaning.specs.Runs.{IsStep}
 use Rattle.meaning.specs.States.{SourceState}
 use Rattle.proof_exploration.specs.Exploring.{IsLike}
 use Rattle.proof_exploration.specs.Searching.{IsKept}
@@ -78,29 +79,34 @@ module _ (kept kept' : List SourceState) (longer : IsLonger kept kept') where
       (All-weaker (LeadsToKept p kept s) (LeadsToKept p kept' s) (leads_still p s) (map action_of (take i actions)) all)
       leads)
 
-  pub followed_still : (p : Program) (s : SourceState) (n : ℕ) → IsFollowed p kept s n → IsFollowed p kept' s n
-  followed_still p s n leads kind s' x = kept_still s' (leads kind s' x)
+  pub followed_still : (p : Program) (strays : Bool) (s : SourceState) (n : ℕ) → IsFollowed p strays kept s n
+      → IsFollowed p strays kept' s n
+  followed_still p strays s n leads kind from s' x = kept_still s' (leads kind from s' x)
 
   -- one process more
-  pub followed_more : (p : Program) (s : SourceState) (ns : List ℕ) (i : ℕ) → i < length ns
-      → All (IsFollowed p kept s) (take i ns) → IsFollowed p kept' s (get_or ns i 0)
-      → All (IsFollowed p kept' s) (take (i + 1) ns)
-  followed_more p s ns i less all one =
-      All-more (IsFollowed p kept' s) ns i 0 less
-      (All-weaker (IsFollowed p kept s) (IsFollowed p kept' s) (followed_still p s) (take i ns) all) one
+  pub followed_more : (p : Program) (strays : Bool) (s : SourceState) (ns : List ℕ) (i : ℕ) → i < length ns
+      → All (IsFollowed p strays kept s) (take i ns) → IsFollowed p strays kept' s (get_or ns i 0)
+      → All (IsFollowed p strays kept' s) (take (i + 1) ns)
+  followed_more p strays s ns i less all one =
+      All-more (IsFollowed p strays kept' s) ns i 0 less
+      (All-weaker (IsFollowed p strays kept s) (IsFollowed p strays kept' s) (followed_still p strays s) (take i ns)
+      all) one
 
-  pub expanded_still : (p : Program) (s : SourceState) → IsExpanded p kept s → IsExpanded p kept' s
-  expanded_still p s leads a s' x = kept_still s' (leads a s' x)
+  pub expanded_still : (p : Program) (strays : Bool) (s : SourceState) → IsExpanded p strays kept s
+      → IsExpanded p strays kept' s
+  expanded_still p strays s leads a there from s' x = kept_still s' (leads a there from s' x)
 
 -- what a process may do was all tried
-pub all_followed : (p : Program) (kept : List SourceState) (s : SourceState) (n : ℕ) (actions : List Action)
-    → AreChoices p s n actions → All (LeadsToKept p kept s) actions → IsFollowed p kept s n
-all_followed p kept s n actions are all kind s' x =
-    let tried : (a : Action) × Contains actions a × IsAction p s a s' = are kind s' x in
+pub all_followed : (p : Program) (strays : Bool) (kept : List SourceState) (s : SourceState) (n : ℕ)
+    (actions : List Action) → AreChoices p strays s n actions → All (LeadsToKept p kept s) actions
+    → IsFollowed p strays kept s n
+all_followed p strays kept s n actions are all kind from s' x =
+    let tried : (a : Action) × Contains actions a × IsStep p s a s' = are kind s' from x in
     All-contains (LeadsToKept p kept s) actions tried.0 all tried.1 s' tried.2
 
 -- and that of each process that is there
-pub all_expanded : (p : Program) (kept : List SourceState) (s : SourceState) (ns : List ℕ)
-    → ((q : ℕ) → Contains ns q ↔ IsSome (s.process q)) → All (IsFollowed p kept s) ns → IsExpanded p kept s
-all_expanded p kept s ns there all a s' x =
-    All-contains (IsFollowed p kept s) ns a.process all ((there a.process).1 (ap is_some x.stands)) a.kind s' x
+pub all_expanded : (p : Program) (strays : Bool) (kept : List SourceState) (s : SourceState) (ns : List ℕ)
+    → ((q : ℕ) → Contains ns q ↔ IsSome (s.process q)) → All (IsFollowed p strays kept s) ns
+    → IsExpanded p strays kept s
+all_expanded p strays kept s ns is_there all a there from s' x =
+    All-contains (IsFollowed p strays kept s) ns a.process all ((is_there a.process).1 there) a.kind from s' x

@@ -1,48 +1,54 @@
 -- How far a search has come, and what it knows at its end.
-use Rattle.std.proofs.Common.{◌≡◌, ◌<◌, ◌≤◌, ◌+◌, ℕ, zero, List, [], length, get_or, take, All}
-use Rattle.std.proofs.Common.{Option, Some, None, slice_get, sym, ap, ◌∙◌, subst, arith, ltb, false}
+use Rattle.std.proofs.Common.{◌≡◌, ◌<◌, ◌≤◌, ◌+◌, ℕ, Bool, List, [], ◌∷◌, ◌++◌, length, get_or, take, All}
+use Rattle.std.proofs.Common.{Option, Some, None, slice_get, sym, refl, ap, ◌∙◌, subst, arith, ltb, false, inl, inr}
 use Rattle.std.proofs.lemmas.Bool.Decides.{nat_tests}
-use Rattle.std.specs.Prelude.{option_map}
+use Rattle.std.specs.Prelude.{IsSome, is_some, option_map}
 use Rattle.std.proofs.lemmas.List.{get_or_append_left, length-append, length-map, length-take, take-append-le, take_all}
 use Rattle.std.proofs.lemmas.List.Elements.{All-contains, All-more, All-weaker}
 use Rattle.std.proofs.lemmas.Option.{get_or_from_slice_get, slice_get-map, slice_get_within}
 use Rattle.program.specs.Trees.{Program}
 use Rattle.program.specs.WellFormed.{WellFormed}
+use Rattle.meaning.specs.Labels.{Action}
+use Rattle.meaning.specs.Processes.{Process}
+use Rattle.meaning.specs.Runs.{IsStep, Leads}
 use Rattle.meaning.specs.States.{SourceState, opening}
+use Rattle.meaning.proofs.Holding.{all_stand}
+use Rattle.meaning.proofs.Keeping.{OptionWaits}
+use Rattle.meaning.proofs.Led.{leads_more}
 use Rattle.proof_exploration.specs.Exploring.{HasAborted, IsStuck}
-use Rattle.proof_exploration.specs.Searching.{IsComplete, IsKept}
-use Rattle.proof_exploration.proofs.Alike.{like_aborted, like_stuck}
-use Rattle.proof_exploration.proofs.Representing.{own_leads}
-use Rattle.proof_exploration.proofs.Searching.{never_aborted, never_stuck}
+use Rattle.proof_exploration.specs.Searching.{IsKept}
+use Rattle.proof_exploration.proofs.Alike.{like_aborted, like_back, like_stuck}
 use Rattle.source_states.specs.States.{state_of}
 use Rattle.source_states.specs.declared.state.SourceState.{SourceState as StateOf}
-use Rattle.source_search.specs.Found.{LeadsNowhere}
+use Rattle.source_search.specs.Found.{AreFrom, LeadsNowhere}
 use Rattle.source_search.specs.Kept.{IsExpanded, IsLonger, NoneIs, states_in}
 use Rattle.source_search.proofs.Keeping.{expanded_still, kept_still, longer_none, longer_twice}
 use Rattle.source_search.proofs.Successors.{expanded_like, without_like}
 
 -- the kept states before this place are expanded, and none of them is an end that isn't noted
-pub record IsSoFar (p : Program) (first kept : List SourceState) (place : ℕ) (stuck aborted : Option ℕ) : Type 0 where
+pub record IsSoFar (p : Program) (strays : Bool) (first kept : List SourceState) (place : ℕ)
+    (stuck aborted : Option ℕ) : Type 0 where
   pub longer : IsLonger first kept
   pub within : place ≤ length kept
-  pub expanded : All (IsExpanded p kept) (take place kept)
+  pub expanded : All (IsExpanded p strays kept) (take place kept)
   pub never_stuck : NoneIs (IsStuck p) (take place kept) stuck
   pub never_aborted : NoneIs HasAborted (take place kept) aborted
 
 none_yet : {X : Type 0} (P : X → Type 0) (xs : List X) → All P (take 0 xs)
 none_yet P xs k d less = absurd (omega (arith, less, length-take 0 xs))
 
-pub at_first : (p : Program) (first : List SourceState) → IsSoFar p first first 0 None None
-at_first p first = record {
+pub at_first : (p : Program) (strays : Bool) (first : List SourceState) → IsSoFar p strays first first 0 None None
+at_first p strays first = record {
   longer = longer_none first;
   within = omega arith;
-  expanded = none_yet (IsExpanded p first) first;
+  expanded = none_yet (IsExpanded p strays first) first;
   never_stuck = λ e. none_yet (λ s. IsStuck p s → ⊥) first;
   never_aborted = λ e. none_yet (λ s. HasAborted s → ⊥) first;
 }
 
-module _ (p : Program) (first kept kept' : List SourceState) (place : ℕ) (stuck stuck' aborted aborted' : Option ℕ)
-    (so_far : IsSoFar p first kept place stuck aborted) (longer : IsLonger kept kept') (r c : SourceState)
+module _ (p : Program) (strays : Bool) (first kept kept' : List SourceState) (place : ℕ)
+    (stuck stuck' aborted aborted' : Option ℕ) (so_far : IsSoFar p strays first kept place stuck aborted)
+    (longer : IsLonger kept kept') (r c : SourceState)
     (here : slice_get kept place ≡ Some r) (same : c ≡ record r { printed = [] }) where
   less : place < length kept
   less = slice_get_within kept place r here
@@ -62,16 +68,16 @@ module _ (p : Program) (first kept kept' : List SourceState) (place : ℕ) (stuc
       All-more P kept' place r (omega (arith, less, long)) (subst (All P) (sym seen) all) (subst P (sym there) one)
 
   -- one state more was looked at and expanded
-  pub goes_on : IsExpanded p kept' c → (stuck' ≡ None → (stuck ≡ None) × (IsStuck p c → ⊥))
+  pub goes_on : IsExpanded p strays kept' c → (stuck' ≡ None → (stuck ≡ None) × (IsStuck p c → ⊥))
       → (aborted' ≡ None → (aborted ≡ None) × (HasAborted c → ⊥))
-      → IsSoFar p first kept' (place + 1) stuck' aborted'
+      → IsSoFar p strays first kept' (place + 1) stuck' aborted'
   goes_on expanded unstuck unaborted = record {
     longer = longer_twice first kept kept' so_far.longer longer;
     within = omega (arith, less, long);
-    expanded = one_more (IsExpanded p kept')
-        (All-weaker (IsExpanded p kept) (IsExpanded p kept') (expanded_still kept kept' longer p) (take place kept)
-        so_far.expanded)
-        (expanded_like p kept' r c same expanded);
+    expanded = one_more (IsExpanded p strays kept')
+        (All-weaker (IsExpanded p strays kept) (IsExpanded p strays kept') (expanded_still kept kept' longer p strays)
+        (take place kept) so_far.expanded)
+        (expanded_like p strays kept' r c (without_like r c same) expanded);
     never_stuck = λ e. one_more (λ s. IsStuck p s → ⊥) (so_far.never_stuck (unstuck e).0)
         (λ bad. (unstuck e).1 (like_stuck p r c (without_like r c same) bad));
     never_aborted = λ e. one_more (λ s. HasAborted s → ⊥) (so_far.never_aborted (unaborted e).0)
@@ -91,10 +97,10 @@ past states states' place same e =
     omega (arith, le, ap length same, length-map states state_of)
 
 -- all were looked at
-module _ (p : Program) (first kept : List SourceState) (place : ℕ) (stuck aborted : Option ℕ)
-    (so_far : IsSoFar p first kept place stuck aborted) (end : length kept ≤ place) where
-  pub all_expanded : All (IsExpanded p kept) kept
-  all_expanded = subst (All (IsExpanded p kept)) (take_all place kept end) so_far.expanded
+module _ (p : Program) (strays : Bool) (first kept : List SourceState) (place : ℕ) (stuck aborted : Option ℕ)
+    (so_far : IsSoFar p strays first kept place stuck aborted) (end : length kept ≤ place) where
+  pub all_expanded : All (IsExpanded p strays kept) kept
+  all_expanded = subst (All (IsExpanded p strays kept)) (take_all place kept end) so_far.expanded
 
   pub none_stuck : NoneIs (IsStuck p) kept stuck
   none_stuck = subst (λ l. NoneIs (IsStuck p) l stuck) (take_all place kept end) so_far.never_stuck
@@ -102,23 +108,45 @@ module _ (p : Program) (first kept : List SourceState) (place : ℕ) (stuck abor
   pub none_aborted : NoneIs HasAborted kept aborted
   none_aborted = subst (λ l. NoneIs HasAborted l aborted) (take_all place kept end) so_far.never_aborted
 
--- then a search is complete, and no run leads to what it hasn't found
-module _ (p : Program) (wf : WellFormed p) (first kept : List SourceState) (opens : IsKept first (opening p))
-    (longer : IsLonger first kept) (expanded : All (IsExpanded p kept) kept) where
-  complete : IsComplete p kept
-  complete = record {
-    opens = (zero, kept_still first kept longer (opening p) opens);
-    expanded = λ r is a s' x. (zero, All-contains (IsExpanded p kept) kept r expanded is a s' x);
-  }
+-- a process that does something, or to which something is done, was made
+is_there : (p : Program) → WellFormed p → (done : List Action) (s : SourceState) (a : Action) (s' : SourceState)
+    → Leads p (opening p) done s → IsStep p s a s' → IsSome (s.process a.process)
+is_there p wf done s a s' run (inl x) = ap is_some x.stands
+is_there p wf done s a s' run (inr (inl x)) =
+    waits (s.process a.process) ((all_stand p wf done s run a.process).waits x.0 x.2.allows.0)
+  where
+    waits : (o : Option Process) → OptionWaits x.0 o → IsSome o
+    waits None is = absurd is
+    waits (Some b) is = refl
+is_there p wf done s a s' run (inr (inr x)) = ap is_some x.3.stands
 
-  pub nowhere_stuck : (stuck : Option ℕ) → NoneIs (IsStuck p) kept stuck → stuck ≡ None
-      → LeadsNowhere p (IsStuck p)
-  nowhere_stuck stuck none e actions s run own bad =
-      never_stuck p kept wf complete (λ r is. All-contains (λ s. IsStuck p s → ⊥) kept r (none e) is) actions s
-      (own_leads p (opening p) s actions run own) bad
+-- then each run leads to what is kept, and to no end that the search hasn't found
+module _ (p : Program) (wf : WellFormed p) (strays : Bool) (first kept : List SourceState)
+    (opens : IsKept first (opening p)) (longer : IsLonger first kept) (expanded : All (IsExpanded p strays kept) kept)
+  where
+    goes_to_kept : (actions done : List Action) (s e : SourceState) → Leads p (opening p) done s → IsKept kept s
+        → Leads p s actions e → AreFrom strays actions → IsKept kept e
+    goes_to_kept [] done s e run is led from = subst (IsKept kept) led is
+    goes_to_kept (a ∷ actions) done s e run is led from =
+        let expands : IsExpanded p strays kept s =
+        expanded_like p strays kept s is.0 (like_back is.0 s is.2)
+        (All-contains (IsExpanded p strays kept) kept is.0 expanded is.1) in
+        goes_to_kept actions (done ++ a ∷ []) led.0 e (leads_more p (opening p) s led.0 done a run led.1)
+        (expands a (is_there p wf done s a led.0 run led.1) from.0 led.0 led.1) led.2 from.1
 
-  pub nowhere_aborted : (aborted : Option ℕ) → NoneIs HasAborted kept aborted → aborted ≡ None
-      → LeadsNowhere p HasAborted
-  nowhere_aborted aborted none e actions s run own bad =
-      never_aborted p kept wf complete (λ r is. All-contains (λ s. HasAborted s → ⊥) kept r (none e) is) actions s
-      (own_leads p (opening p) s actions run own) bad
+    all_kept : (actions : List Action) (s : SourceState) → Leads p (opening p) actions s → AreFrom strays actions
+        → IsKept kept s
+    all_kept actions s led from =
+        goes_to_kept actions [] (opening p) s refl (kept_still first kept longer (opening p) opens) led from
+
+    pub nowhere_stuck : (stuck : Option ℕ) → NoneIs (IsStuck p) kept stuck → stuck ≡ None
+        → LeadsNowhere p strays (IsStuck p)
+    nowhere_stuck stuck none e actions s run from bad =
+        let is : IsKept kept s = all_kept actions s run from in
+        All-contains (λ s. IsStuck p s → ⊥) kept is.0 (none e) is.1 (like_stuck p s is.0 (like_back is.0 s is.2) bad)
+
+    pub nowhere_aborted : (aborted : Option ℕ) → NoneIs HasAborted kept aborted → aborted ≡ None
+        → LeadsNowhere p strays HasAborted
+    nowhere_aborted aborted none e actions s run from bad =
+        let is : IsKept kept s = all_kept actions s run from in
+        All-contains (λ s. HasAborted s → ⊥) kept is.0 (none e) is.1 (like_aborted s is.0 (like_back is.0 s is.2) bad)

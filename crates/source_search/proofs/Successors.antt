@@ -1,12 +1,17 @@
 -- Where actions lead to from states that are alike.
-use Rattle.std.proofs.Common.{◌≡◌, ◌↔◌, ℕ, List, [], Option, Some, None, All, Contains, refl, sym, ap, ◌∙◌, inl}
+use Rattle.std.proofs.Common.{◌≡◌, ◌↔◌, ℕ, Bool, List, [], Option, Some, None, All, Contains, refl, sym, ap, ◌∙◌, inl}
+use Rattle.std.proofs.Common.{inr}
+use Rattle.std.proofs.Common.{subst}
 use Rattle.std.specs.Prelude.{IsSome, is_some}
 use Rattle.std.proofs.lemmas.List.Elements.{All-contains}
+use Rattle.words.specs.Updates.{put}
 use Rattle.program.specs.Trees.{Program}
-use Rattle.meaning.specs.Labels.{Action}
-use Rattle.meaning.specs.Processes.{Process}
-use Rattle.meaning.specs.Runs.{IsAction, IsStep}
+use Rattle.meaning.specs.Labels.{Action, Killed}
+use Rattle.meaning.specs.Offers.{offer}
+use Rattle.meaning.specs.Processes.{Dying, Process}
+use Rattle.meaning.specs.Runs.{IsKill, IsLeft, IsNotifying, IsStep}
 use Rattle.meaning.specs.States.{SourceState}
+use Rattle.meaning.specs.Table.{AllowsKill, AllowsStray}
 use Rattle.meaning.proofs.Unique.{step_once}
 use Rattle.proof_exploration.specs.Exploring.{IsLike}
 use Rattle.proof_exploration.specs.Searching.{IsKept}
@@ -21,16 +26,61 @@ without_like s c is = record {
   process = sym (ap (λ (x : SourceState). x.process) is);
 }
 
+-- an action leads to a state that is alike
+abbrev pub LeadsAlike : Program → SourceState → Action → SourceState → Type 0
+LeadsAlike p r a s' = (u : SourceState) × IsStep p r a u × IsLike s' u
+
+module _ (p : Program) (s r : SourceState) (like : IsLike s r) (a : Action) (s' : SourceState) where
+  kill_alike : (resumed : List ℕ) (last : Option ℕ) → IsKill p s a.process resumed last s'
+      → IsKill p r a.process resumed last (record s' { printed = r.printed })
+  kill_alike resumed last x = record {
+    before = x.before;
+    monitors = x.monitors;
+    notified = x.notified;
+    stands = ap (λ (f : ℕ → Option Process). f a.process) (sym like.process) ∙ x.stands;
+    killable = x.killable;
+    notifies = subst (λ v. IsNotifying (offer p v x.before) x.notified) like.variable x.notifies;
+    left = subst (λ v. IsLeft p v x.before last x.monitors) like.variable x.left;
+    allows = subst (λ T. AllowsKill a.process x.notified resumed T s'.table) like.table x.allows;
+    variables = x.variables ∙ like.variable;
+    printed = refl;
+    processes = x.processes ∙ ap (λ f. put f a.process (Some (Dying Killed x.monitors))) like.process;
+  }
+
+  -- what is possible in a state is so in one that is alike
+  pub step_alike : IsStep p s a s' → LeadsAlike p r a s'
+  step_alike (inl x) =
+      (printing p s r like a s' x, inl (like_action p s r like a s' x), like_after p s r like a s' x)
+  step_alike (inr (inl x)) = (
+    record s' { printed = r.printed },
+    inr (inl (
+      x.0,
+      x.1,
+      record {
+        allows = subst (λ T. AllowsStray a.process x.0 T s'.table) like.table x.2.allows;
+        variables = x.2.variables ∙ like.variable;
+        printed = refl;
+        processes = x.2.processes ∙ like.process;
+      },
+    )),
+    record { table = refl; variable = refl; process = refl },
+  )
+  step_alike (inr (inr x)) = (
+    record s' { printed = r.printed },
+    inr (inr (x.0, x.1, x.2, kill_alike x.0 x.1 x.3)),
+    record { table = refl; variable = refl; process = refl },
+  )
+
 module _ (p : Program) (s c : SourceState) (a : Action) (is : c ≡ record s { printed = [] }) where
-  like : IsLike s c
-  like = without_like s c is
+  pub not_next : ((u : SourceState) → IsStep p c a u → ⊥) → (s' : SourceState) → IsStep p s a s' → ⊥
+  not_next never s' x =
+      let led : LeadsAlike p c a s' = step_alike p s c (without_like s c is) a s' x in
+      never led.0 led.1
 
-  pub not_next : ((u : SourceState) → IsStep p c a u → ⊥) → (s' : SourceState) → IsAction p s a s' → ⊥
-  not_next never s' x = never (printing p s c like a s' x) (inl (like_action p s c like a s' x))
-
-  pub is_next : (n : SourceState) → IsStep p c a n → (s' : SourceState) → IsAction p s a s' → IsLike n s'
-  is_next n step s' x = like_back s' n (like_same s' (printing p s c like a s' x) n (like_after p s c like a s' x)
-      (step_once p a c (printing p s c like a s' x) n (inl (like_action p s c like a s' x)) step))
+  pub is_next : (n : SourceState) → IsStep p c a n → (s' : SourceState) → IsStep p s a s' → IsLike n s'
+  is_next n step s' x =
+      let led : LeadsAlike p c a s' = step_alike p s c (without_like s c is) a s' x in
+      like_back s' n (like_same s' led.0 n led.2 (step_once p a c led.0 n led.1 step))
 
 -- processes that stand at one place where either state has them
 pub same_everywhere : (s r : SourceState) (ns ms : List ℕ) → ((q : ℕ) → Contains ns q ↔ IsSome (s.process q))
@@ -46,14 +96,10 @@ same_everywhere s r ns ms in_s in_r first second = λ i q. at q (s.process q) (r
     at q None None e f = e ∙ sym f
 
 -- where all that follows the one is kept, all that follows the other is
-pub expanded_like : (p : Program) (kept : List SourceState) (s c : SourceState) → c ≡ record s { printed = [] }
-    → IsExpanded p kept c → IsExpanded p kept s
-expanded_like p kept s c is expanded a s' x =
-    let same : IsLike s c = without_like s c is in
-    let next : IsKept kept (printing p s c same a s' x) =
-    expanded a (printing p s c same a s' x) (like_action p s c same a s' x) in (
-      next.0,
-      next.1,
-      like_trans next.0 (printing p s c same a s' x) s' next.2
-          (like_back s' (printing p s c same a s' x) (like_after p s c same a s' x)),
-    )
+pub expanded_like : (p : Program) (strays : Bool) (kept : List SourceState) (s c : SourceState) → IsLike s c
+    → IsExpanded p strays kept c → IsExpanded p strays kept s
+expanded_like p strays kept s c like expanded a there from s' x =
+    let led : LeadsAlike p c a s' = step_alike p s c like a s' x in
+    let next : IsKept kept led.0 =
+    expanded a (subst (λ (f : ℕ → Option Process). IsSome (f a.process)) like.process there) from led.0 led.1 in
+    (next.0, next.1, like_trans next.0 led.0 s' next.2 (like_back s' led.0 led.2))

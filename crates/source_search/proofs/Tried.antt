@@ -1,6 +1,8 @@
 -- Actions that are tried in place of all that take up an offer.
-use Rattle.std.proofs.Common.{◌≡◌, ◌<◌, ◌≤◌, ◌+◌, ◌↔◌, ℕ, true, false, List, [], ◌∷◌, Option, Some, None, Contains}
+use Rattle.std.proofs.Common.{◌≡◌, ◌<◌, ◌≤◌, ◌+◌, ◌↔◌, ℕ, Bool, true, false, List, [], ◌∷◌, ◌++◌, Option, Some, None}
+use Rattle.std.proofs.Common.{Contains}
 use Rattle.std.proofs.Common.{refl, sym, ap, ◌∙◌, subst, arith, map, inl, inr, filter}
+use Rattle.std.proofs.lemmas.List.Elements.{Contains-append_left, Contains-push}
 use Rattle.std.proofs.lemmas.Option.{IfSome_then}
 use Rattle.std.proofs.lemmas.Result.{IfOk-weaker}
 use Rattle.std.specs.Global.{Global}
@@ -8,18 +10,21 @@ use Rattle.std.specs.Prelude.{option_map, IfOk, IfSome, Result, Vec}
 use Rattle.words.specs.declared.outcome.Fault.TheVariants.{HandleNotJoinable, ProcessTableFull}
 use Rattle.program.specs.declared.kinds.Member.{Member}
 use Rattle.program.specs.Trees.{Program}
-use Rattle.meaning.specs.Labels.{Action, End, Kind, Fork, Claim, Join, Fails, Enter, Resume, Notify, Broadcast, Label}
+use Rattle.meaning.specs.Labels.{Action, End, Kind, Stray, Fork, Claim, Join, Fails, Enter, Resume, Notify, Broadcast}
+use Rattle.meaning.specs.Labels.{Label}
 use Rattle.meaning.specs.Labels.{Forks, FindsFull, Claims, FindsClaimed, Enters, Resumes, Notifies, Broadcasts, kind_of}
 use Rattle.meaning.specs.Offers.{Effect, Offer, Does, Takes, MakesOne, ClaimsOne, JoinsOne}
 use Rattle.meaning.specs.Offers.{NotifiesSome, NotifiesAll, TakesUp, offer}
 use Rattle.meaning.specs.Processes.{Process}
+use Rattle.meaning.specs.Runs.{IsAction}
 use Rattle.meaning.specs.States.{SourceState}
 use Rattle.meaning.specs.Table.{Table, Allows}
 use Rattle.proof_exploration.specs.Exploring.{SameMembers}
 use Rattle.proof_exploration.proofs.Resuming.{without_same}
 use Rattle.source_states.specs.Actions.{action_of}
 use Rattle.source_states.specs.declared.action.Action.{Action as ActionOf}
-use Rattle.source_search.specs.Choices.{AllTakeUp, AreChoices, HasEachSet, IsTried, by}
+use Rattle.source_search.specs.Choices.{AllTakeUp, AreChoices, AreOwnChoices, HasEachSet, IsTried, by}
+use Rattle.source_search.specs.Found.{IsFrom}
 use Rattle.source_search.proofs.Subsets.{among, contains_map, is_one_of, one_of, passes, stays}
 
 -- all that takes up the offer has this name
@@ -160,7 +165,8 @@ some_once x y e = cc
 
 -- what takes up the offer of a process is what the process may do
 pub are_choices : (p : Program) (s : SourceState) (n : ℕ) (o : Offer) (actions : List Action)
-    → Some o ≡ option_map (offer p s.variable) (s.process n) → AllTakeUp n o s.table actions → AreChoices p s n actions
+    → Some o ≡ option_map (offer p s.variable) (s.process n) → AllTakeUp n o s.table actions
+    → AreOwnChoices p s n actions
 are_choices p s n o actions is all kind s' x = (
   by n (kind_of tried.label),
   tried.listed,
@@ -188,7 +194,41 @@ are_choices p s n o actions is all kind s' x = (
 
 -- who isn't there may do nothing
 pub absent_choices : (p : Program) (s : SourceState) (n : ℕ) (actions : List Action)
-    → None ≡ option_map (offer p s.variable) (s.process n) → AreChoices p s n actions
+    → None ≡ option_map (offer p s.variable) (s.process n) → AreOwnChoices p s n actions
 absent_choices p s n actions is kind s' x =
     absurd (let differ : None ≡ Some (offer p s.variable x.before) =
     is ∙ ap (option_map (offer p s.variable)) x.stands in cc)
+
+-- what the process may do of its own, and with strays its stray wake-up, where it waits
+with_strays : (p : Program) (strays : Bool) (s : SourceState) (n : ℕ) (own actions : List Action)
+    → AreOwnChoices p s n own → ((a : Action) → Contains own a → Contains actions a)
+    → ((c : Member) → strays ≡ true → s.table.waits n ≡ Some c → Contains actions (by n (Stray c)))
+    → AreChoices p strays s n actions
+with_strays p strays s n own actions are all stray kind s' from (inl x) =
+    let tried : (a : Action) × Contains own a × IsAction p s a s' = are kind s' x in
+    (tried.0, all tried.0 tried.1, inl tried.2)
+with_strays p strays s n own actions are all stray kind s' from (inr (inl x)) = (
+  by n (Stray x.0),
+  stray x.0 (subst (IsFrom strays) x.1 from) x.2.allows.0,
+  inr (inl (x.0, refl, x.2)),
+)
+with_strays p strays s n own actions are all stray kind s' from (inr (inr x)) =
+    absurd (subst (IsFrom strays) x.2 from)
+
+module _ (p : Program) (strays : Bool) (s : SourceState) (n : ℕ) (own : List Action) (are : AreOwnChoices p s n own)
+  where
+    pub not_searched : strays ≡ false → AreChoices p strays s n own
+    not_searched e = with_strays p strays s n own own are (λ a i. i)
+        (λ c searched waits. absurd (let differ : true ≡ false = sym searched ∙ e in cc))
+
+    pub not_waiting : s.table.waits n ≡ None → AreChoices p strays s n own
+    not_waiting e = with_strays p strays s n own own are (λ a i. i)
+        (λ c searched waits. absurd (let differ : Some c ≡ None = sym waits ∙ e in cc))
+
+    pub waiting : (c : Member) (actions : List Action) → s.table.waits n ≡ Some c → actions ≡ own ++ by n (Stray c) ∷ []
+        → AreChoices p strays s n actions
+    waiting c actions e is = with_strays p strays s n own actions are
+        (λ a i. subst (λ l. Contains l a) (sym is) (Contains-append_left own (by n (Stray c) ∷ []) a i))
+        (λ d searched waits. subst (λ l. Contains l (by n (Stray d))) (sym is)
+        (subst (λ x. Contains (own ++ by n (Stray c) ∷ []) (by n (Stray x))) (some_once c d (sym e ∙ waits))
+        (Contains-push own (by n (Stray c)))))

@@ -5,9 +5,10 @@ use Rattle.program.specs.Trees.{Program}
 use Rattle.meaning.specs.Labels.{Action, Kind, Label, kind_of}
 use Rattle.meaning.specs.Offers.{Effect, Offer, TakesUp}
 use Rattle.meaning.specs.Processes.{Process}
-use Rattle.meaning.specs.Runs.{IsAction}
+use Rattle.meaning.specs.Runs.{IsAction, IsStep}
 use Rattle.meaning.specs.States.{SourceState}
 use Rattle.meaning.specs.Table.{Table, Allows}
+use Rattle.source_search.specs.Found.{IsFrom}
 
 -- an action of this process
 abbrev pub by : ℕ → Kind → Action
@@ -28,9 +29,14 @@ AllTakeUp n o t actions = (label : Label) (effect : Effect) (after : Process) (t
     → TakesUp o label effect after → Allows n label t t' → IsTried n o t actions effect after t'
 
 -- whatever the process does of its own in this state, one of these actions leads to the same state
-abbrev pub AreChoices : Program → SourceState → ℕ → List Action → Type 0
-AreChoices p s n actions = (kind : Kind) (s' : SourceState) → IsAction p s (by n kind) s'
+abbrev pub AreOwnChoices : Program → SourceState → ℕ → List Action → Type 0
+AreOwnChoices p s n actions = (kind : Kind) (s' : SourceState) → IsAction p s (by n kind) s'
     → (a : Action) × Contains actions a × IsAction p s a s'
+
+-- whatever such an action of the process leads to from this state, one of these actions leads to the same
+abbrev pub AreChoices : Program → Bool → SourceState → ℕ → List Action → Type 0
+AreChoices p strays s n actions = (kind : Kind) (s' : SourceState) → IsFrom strays kind → IsStep p s (by n kind) s'
+    → (a : Action) × Contains actions a × IsStep p s a s'
 
 -- for each set, the numbers in it are one of the lists
 abbrev pub HasEachSet : List ℕ → List (List ℕ) → Type 0

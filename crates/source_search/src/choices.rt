@@ -9,7 +9,7 @@ ghost use Rattle.source_offers.specs.Offered.{offer_with};
 ghost use Rattle.source_offers.specs.declared.process.Process.{Process as ProcessOf};
 ghost use Rattle.source_states.specs.Actions.{action_of, kind_of};
 ghost use Rattle.source_states.specs.States.{state_of};
-ghost use Rattle.source_search.specs.Choices.{AllTakeUp, AreChoices, by, lists_in};
+ghost use Rattle.source_search.specs.Choices.{AllTakeUp, AreChoices, AreOwnChoices, by, lists_in};
 
 use crate::sets::sets;
 use program::{Checked, Member};
@@ -170,20 +170,63 @@ fn choices_of<'a>(
     }
 }
 
-/// What a process may do next: whatever it does, one of these is possible and leads to the same state. Of a notify
-/// there is one for each set of processes that it may resume. Not all of them are possible. None where there are too
-/// many.
-pub(crate) fn choices<'a>(
+// What a process may do next of its own.
+fn own_actions<'a>(
     alloc: Global,
     checked: &'a Checked,
     state: &SourceState<'a>,
     process: u64,
 ) -> Result<Option<Vec<Action>>, AllocError>
-    ensures { IfOk result (λ o. IfSome o (λ v. AreChoices (program_of checked.now.tree)
+    ensures { IfOk result (λ o. IfSome o (λ v. AreOwnChoices (program_of checked.now.tree)
         (state_of state.now) process (map action_of v.items))) }
 {
     let Some((offer, _)) = state.offered(alloc, checked, process)? else {
         return Ok(Some(Vec::new(alloc)));
     };
     choices_of(alloc, state, process, offer)
+}
+
+// What a process may do next of its own, and with `strays` its stray wake-up, where it waits.
+fn with_stray(
+    state: &SourceState,
+    process: u64,
+    strays: bool,
+    own: Vec<Action>,
+) -> Result<Vec<Action>, AllocError>
+    ensures { IfOk result (λ v. (p : ProgramOf)
+        → AreOwnChoices p (state_of state.now) process (map action_of own.items)
+        → AreChoices p strays (state_of state.now) process (map action_of v.items)) }
+{
+    if !strays {
+        return Ok(own);
+    }
+    let Some(condition) = state.waits(process) else {
+        return Ok(own);
+    };
+    let mut actions = own;
+    actions.push(Action {
+        process,
+        kind: ActionKind::Stray(condition),
+    })?;
+    Ok(actions)
+}
+
+/// What a process may do next, or with `strays` what may be done to it by a stray wake-up: whatever it is, one of these
+/// is possible and leads to the same state. Of a notify there is one for each set of processes that it may resume. Not
+/// all of them are possible. None where there are too many.
+pub(crate) fn choices<'a>(
+    alloc: Global,
+    checked: &'a Checked,
+    state: &SourceState<'a>,
+    process: u64,
+    strays: bool,
+) -> Result<Option<Vec<Action>>, AllocError>
+    ensures { IfOk result (λ o. IfSome o (λ v. AreChoices (program_of checked.now.tree) strays
+        (state_of state.now) process (map action_of v.items))) }
+{
+    let Some(own) = own_actions(alloc, checked, state, process)? else {
+        return Ok(None);
+    };
+    let actions = with_stray(state, process, strays, own)?;
+    Ok(Some(actions))
 }

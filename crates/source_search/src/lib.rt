@@ -6,7 +6,7 @@ mod digest;
 mod ends;
 mod kept;
 mod next;
-mod own;
+mod outside;
 mod replay;
 mod runs;
 mod search;

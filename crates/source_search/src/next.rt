@@ -1,6 +1,6 @@
 ghost use Rattle.std.specs.Prelude.{IfOk, MatchOption};
 ghost use Rattle.program.specs.Views.{program_of};
-ghost use Rattle.meaning.specs.Runs.{IsAction};
+ghost use Rattle.meaning.specs.Runs.{IsStep};
 ghost use Rattle.meaning.specs.States.{SourceState as SourceStateOf};
 ghost use Rattle.proof_exploration.specs.Exploring.{IsLike};
 ghost use Rattle.source_states.specs.Actions.{action_of};
@@ -10,7 +10,7 @@ use program::Checked;
 use source_states::{Action, SourceState};
 use std::alloc::{AllocError, Global};
 
-/// The state to which an action of a process's own leads, but for what was printed before; None where the action isn't
+/// The state to which an action leads, but for what was printed before; None where the action isn't
 /// possible.
 pub(crate) fn next_state<'a>(
     alloc: Global,
@@ -20,9 +20,9 @@ pub(crate) fn next_state<'a>(
 ) -> Result<Option<SourceState<'a>>, AllocError>
     ensures { IfOk result (λ o. MatchOption o
         ((s : SourceStateOf)
-        → IsAction (program_of checked.now.tree) (state_of state.now) (action_of action.now) s → ⊥)
+        → IsStep (program_of checked.now.tree) (state_of state.now) (action_of action.now) s → ⊥)
         (λ next. (s : SourceStateOf)
-        → IsAction (program_of checked.now.tree) (state_of state.now) (action_of action.now) s
+        → IsStep (program_of checked.now.tree) (state_of state.now) (action_of action.now) s
         → IsLike (state_of next) s)) }
 {
     let mut next = state.copy(alloc)?;

@@ -27,8 +27,9 @@ fn action_at<'a>(
     checked: &'a Checked,
     state: &SourceState<'a>,
     way: Way,
+    strays: bool,
 ) -> Result<Option<Action>, AllocError> {
-    match choices(alloc, checked, state, way.process)? {
+    match choices(alloc, checked, state, way.process, strays)? {
         None => Ok(None),
         Some(actions) => Ok(actions.into_iter().nth(way.choice)),
     }
@@ -40,12 +41,13 @@ pub(crate) fn actions_to(
     checked: &Checked,
     ways: &[Way],
     place: usize,
+    strays: bool,
 ) -> Result<Vec<Action>, AllocError> {
     let back = ways_back(alloc, ways, place)?;
     let mut actions = Vec::new(alloc);
     let mut state = SourceState::opening(alloc, checked)?;
     for way in back.as_slice().iter().rev() {
-        let Some(action) = action_at(alloc, checked, &state, *way)? else {
+        let Some(action) = action_at(alloc, checked, &state, *way, strays)? else {
             return Ok(actions);
         };
         if !state.advance(alloc, checked.program(), &action)? {

@@ -5,7 +5,7 @@ ghost use Rattle.source_search.specs.Found.{LeadsNowhere, LeadsTo};
 
 use crate::ends::{has_aborted, is_stuck};
 use crate::kept::{Kept, Way};
-use crate::own::are_own;
+use crate::outside::are_from;
 use crate::replay::actions_to;
 use crate::search::{Findings, search};
 use program::Checked;
@@ -25,12 +25,17 @@ pub struct Exploration {
     pub aborted: Option<Vec<Action>>,
 }
 
-// Whether these are a run of actions of processes' own, at whose end no process can move and not all are over.
-fn is_stuck_run(alloc: Global, checked: &Checked, actions: &[Action]) -> Result<bool, AllocError>
-    ensures { IfOk result (λ is. is ≡ true → LeadsTo (program_of checked.now.tree)
+// Whether these are a run of actions that are searched, at whose end no process can move and not all are over.
+fn is_stuck_run(
+    alloc: Global,
+    checked: &Checked,
+    actions: &[Action],
+    strays: bool,
+) -> Result<bool, AllocError>
+    ensures { IfOk result (λ is. is ≡ true → LeadsTo (program_of checked.now.tree) strays
         (IsStuck (program_of checked.now.tree)) actions.now) }
 {
-    if !are_own(actions) {
+    if !are_from(actions, strays) {
         return Ok(false);
     }
     let walked = accepts(alloc, checked, actions)?;
@@ -43,12 +48,17 @@ fn is_stuck_run(alloc: Global, checked: &Checked, actions: &[Action]) -> Result<
     }
 }
 
-// Whether these are a run of actions of processes' own, at whose end some process has aborted.
-fn is_aborted_run(alloc: Global, checked: &Checked, actions: &[Action]) -> Result<bool, AllocError>
+// Whether these are a run of actions that are searched, at whose end some process has aborted.
+fn is_aborted_run(
+    alloc: Global,
+    checked: &Checked,
+    actions: &[Action],
+    strays: bool,
+) -> Result<bool, AllocError>
     ensures { IfOk result (λ is. is ≡ true
-        → LeadsTo (program_of checked.now.tree) HasAborted actions.now) }
+        → LeadsTo (program_of checked.now.tree) strays HasAborted actions.now) }
 {
-    if !are_own(actions) {
+    if !are_from(actions, strays) {
         return Ok(false);
     }
     let walked = accepts(alloc, checked, actions)?;
@@ -67,16 +77,17 @@ fn stuck_run(
     checked: &Checked,
     ways: &[Way],
     place: Option<usize>,
+    strays: bool,
 ) -> Result<Option<Vec<Action>>, AllocError>
-    ensures { IfOk result (λ o. IfSome o (λ v. LeadsTo (program_of checked.now.tree)
+    ensures { IfOk result (λ o. IfSome o (λ v. LeadsTo (program_of checked.now.tree) strays
         (IsStuck (program_of checked.now.tree)) v.items)) }
 {
     let Some(place) = place else {
         return Ok(None);
     };
-    let actions = actions_to(alloc, checked, ways, place)?;
+    let actions = actions_to(alloc, checked, ways, place, strays)?;
     let listed = actions.as_slice();
-    if is_stuck_run(alloc, checked, listed)? {
+    if is_stuck_run(alloc, checked, listed, strays)? {
         return Ok(Some(actions));
     }
     Ok(None)
@@ -88,16 +99,17 @@ fn aborted_run(
     checked: &Checked,
     ways: &[Way],
     place: Option<usize>,
+    strays: bool,
 ) -> Result<Option<Vec<Action>>, AllocError>
     ensures { IfOk result (λ o. IfSome o
-        (λ v. LeadsTo (program_of checked.now.tree) HasAborted v.items)) }
+        (λ v. LeadsTo (program_of checked.now.tree) strays HasAborted v.items)) }
 {
     let Some(place) = place else {
         return Ok(None);
     };
-    let actions = actions_to(alloc, checked, ways, place)?;
+    let actions = actions_to(alloc, checked, ways, place, strays)?;
     let listed = actions.as_slice();
-    if is_aborted_run(alloc, checked, listed)? {
+    if is_aborted_run(alloc, checked, listed, strays)? {
         return Ok(Some(actions));
     }
     Ok(None)
@@ -128,22 +140,24 @@ fn is_complete(
         && is_told(findings.aborted, aborted)
 }
 
-/// Searches all runs of actions of a program's own processes, breadth first, keeping at most so many states: for one
-/// that gets stuck, and for one in which a process aborts. What is found is such a run, and no shorter one was come
-/// to. Where the search came to its end and none was found, there is none.
+/// Searches all runs of actions of a program's own processes, and with `strays` those too in which a process that waits
+/// resumes though nobody notified it; breadth first, keeping at most so many states: for one that gets stuck, and for
+/// one in which a process aborts. What is found is such a run, and no shorter one was come to. Where the search came to
+/// its end and none was found, there is none.
 pub fn explore(
     alloc: Global,
     checked: &Checked,
     most_states: usize,
+    strays: bool,
 ) -> Result<Exploration, AllocError>
-    ensures stuck { IfOk result (λ e. IfSome e.stuck (λ v. LeadsTo (program_of checked.now.tree)
+    ensures stuck { IfOk result (λ e. IfSome e.stuck (λ v. LeadsTo (program_of checked.now.tree) strays
         (IsStuck (program_of checked.now.tree)) v.items)) }
     ensures aborted { IfOk result (λ e. IfSome e.aborted
-        (λ v. LeadsTo (program_of checked.now.tree) HasAborted v.items)) }
+        (λ v. LeadsTo (program_of checked.now.tree) strays HasAborted v.items)) }
     ensures never_stuck { IfOk result (λ e. e.complete ≡ true → e.stuck ≡ None
-        → LeadsNowhere (program_of checked.now.tree) (IsStuck (program_of checked.now.tree))) }
+        → LeadsNowhere (program_of checked.now.tree) strays (IsStuck (program_of checked.now.tree))) }
     ensures never_aborted { IfOk result (λ e. e.complete ≡ true → e.aborted ≡ None
-        → LeadsNowhere (program_of checked.now.tree) HasAborted) }
+        → LeadsNowhere (program_of checked.now.tree) strays HasAborted) }
 {
     let _program = checked.program();
     let mut kept = Kept::new(alloc, most_states);
@@ -154,10 +168,10 @@ pub fn explore(
         choice: 0,
     };
     let opens = kept.keep(alloc, checked, opening, way)?;
-    let findings = search(alloc, checked, &mut kept, most_states)?;
+    let findings = search(alloc, checked, &mut kept, most_states, strays)?;
     let ways = kept.ways.as_slice();
-    let stuck = stuck_run(alloc, checked, ways, findings.stuck)?;
-    let aborted = aborted_run(alloc, checked, ways, findings.aborted)?;
+    let stuck = stuck_run(alloc, checked, ways, findings.stuck, strays)?;
+    let aborted = aborted_run(alloc, checked, ways, findings.aborted, strays)?;
     let complete = is_complete(opens, &findings, &stuck, &aborted);
     Ok(Exploration {
         states: kept.states.len(),

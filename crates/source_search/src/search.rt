@@ -115,14 +115,15 @@ impl<'a> Kept<'a> {
         state: &SourceState<'a>,
         before: usize,
         process: u64,
+        strays: bool,
     ) -> Result<bool, AllocError>
         ensures longer { OnOk result
             (IsLonger (states_in self.old.states.items) (states_in self.new.states.items)) }
         ensures kept { IfOk result (λ kept. kept ≡ true
-            → IsFollowed (program_of checked.now.tree) (states_in self.new.states.items)
+            → IsFollowed (program_of checked.now.tree) strays (states_in self.new.states.items)
             (state_of state.now) process) }
     {
-        let Some(actions) = choices(alloc, checked, state, process)? else {
+        let Some(actions) = choices(alloc, checked, state, process, strays)? else {
             return Ok(false);
         };
         let listed = actions.as_slice();
@@ -137,17 +138,18 @@ impl<'a> Kept<'a> {
         checked: &'a Checked,
         state: &SourceState<'a>,
         before: usize,
+        strays: bool,
     ) -> Result<bool, AllocError>
         ensures longer { OnOk result
             (IsLonger (states_in self.old.states.items) (states_in self.new.states.items)) }
         ensures kept { IfOk result (λ kept. kept ≡ true
-            → IsExpanded (program_of checked.now.tree) (states_in self.new.states.items)
+            → IsExpanded (program_of checked.now.tree) strays (states_in self.new.states.items)
             (state_of state.now)) }
     {
         let all = state.numbers(alloc)?;
         let numbers = all.as_slice();
         for number in numbers {
-            if !self.follow(alloc, checked, state, before, *number)? {
+            if !self.follow(alloc, checked, state, before, *number, strays)? {
                 return Ok(false);
             }
         }
@@ -161,11 +163,12 @@ pub(crate) fn search<'a>(
     checked: &'a Checked,
     kept: &mut Kept<'a>,
     most: usize,
+    strays: bool,
 ) -> Result<Findings, AllocError>
     ensures longer { OnOk result
         (IsLonger (states_in kept.old.states.items) (states_in kept.new.states.items)) }
     ensures expanded { IfOk result (λ f. f.complete ≡ true
-        → All (IsExpanded (program_of checked.now.tree) (states_in kept.new.states.items))
+        → All (IsExpanded (program_of checked.now.tree) strays (states_in kept.new.states.items))
         (states_in kept.new.states.items)) }
     ensures stuck { IfOk result (λ f. f.complete ≡ true
         → NoneIs (IsStuck (program_of checked.now.tree)) (states_in kept.new.states.items) f.stuck) }
@@ -184,7 +187,7 @@ pub(crate) fn search<'a>(
         };
         let state = found.copy(alloc)?;
         findings.look(alloc, checked, &state, place)?;
-        if !kept.expand(alloc, checked, &state, place)? {
+        if !kept.expand(alloc, checked, &state, place, strays)? {
             return Ok(findings);
         }
     }

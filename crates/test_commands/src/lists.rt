@@ -6,7 +6,7 @@ mod logs;
 mod runs;
 
 use crate::lists::failure::Failure;
-use crate::lists::logs::show_logs;
+use crate::lists::logs::{show_logs, show_strays};
 use crate::lists::runs::show_actions;
 use std::io;
 
@@ -16,6 +16,7 @@ pub fn take_line(rt: &HostRuntime, line: &str) -> io::Result<bool> {
     let shown = match key {
         "actions" => show_actions(rt, row),
         "logs" => show_logs(rt, row),
+        "strays" => show_strays(rt, row),
         _ => return Ok(false),
     };
     show_failure(rt, shown)?;

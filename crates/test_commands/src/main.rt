@@ -30,6 +30,7 @@
 //! ```text
 //! actions LIST | TEXT         a list of actions of the program of this text
 //! logs COUNT MOST | TEXT      so many logs of the program's image, each of so many entries at most
+//! strays COUNT MOST | TEXT    the same with wakes from outside of threads that sleep
 //! workers COUNT | TEXT        so many runs of the program on real workers
 //! ```
 //!
@@ -51,7 +52,9 @@
 //! printed; of any other it has the first action that isn't possible, from 1.
 //!
 //! Logs are explained, and forged ones too (`test_logs`): the line printed tells how many logs were explained by runs
-//! of the program, and how many were refused as another image's, or forged in each way.
+//! of the program, and how many were refused as another image's, or forged in each way. Of logs with wakes from outside
+//! it tells how many have one, and how many were refused with a local step before the first, with the first twice, and
+//! with nobody woken by it.
 //!
 //! Of runs on real workers the log is written and read again, and explained: the line printed tells how many of the
 //! explanations are runs of the program that print what was printed.

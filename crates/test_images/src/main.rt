@@ -10,6 +10,11 @@
 //! schedules COUNT ADDRESS .. OUTCOME ..
 //!                     step by step on the machine, by the schedules of the seeds 1 to COUNT, none of which may end
 //!                     otherwise than in one of these ways, with these words at the addresses
+//! strays COUNT ADDRESS .. OUTCOME ..
+//!                     the same, but each seventh step is a wake from outside of a thread that sleeps, where any does:
+//!                     the next draw, modulo how many sleep, is its place among these
+//! stray_by_hand       in rounds until no thread can move; then the second thread is woken from outside, and the rounds
+//!                     go on
 //! ```
 //!
 //! Empty lines and lines that begin with `#` say nothing.
@@ -37,13 +42,15 @@ mod outcome;
 mod schedule;
 mod schedules;
 mod show;
+mod stray_by_hand;
 
 use crate::by_hand::hand_in;
 use crate::failure::Failure;
 use crate::meeting::Meeting;
 use crate::opening::show_opening;
-use crate::schedules::run_schedules;
+use crate::schedules::{Outside, run_schedules};
 use crate::show::{show, show_end};
+use crate::stray_by_hand::run_with_stray;
 use isa::{Image, decode};
 use runner::{Report, run_in_order};
 use std::alloc::Global;
@@ -108,7 +115,9 @@ fn run_image<R: Threads + Wait + Sync + Print>(
         Some("workers_meet") => meet_workers(rt, alloc, image, limit, &Meeting::new(TURNS)),
         Some("alone_meet") => meet_alone(rt, alloc, image, limit, &Meeting::new(FEW_TURNS)),
         Some("by_hand") => hand_in(rt, alloc, image, limit),
-        Some("schedules") => run_schedules(rt, alloc, image, limit, words),
+        Some("schedules") => run_schedules(rt, alloc, image, limit, Outside::Nothing, words),
+        Some("strays") => run_schedules(rt, alloc, image, limit, Outside::Strays, words),
+        Some("stray_by_hand") => run_with_stray(rt, alloc, image, limit),
         Some(_) => Err(Failure::Row),
     }
 }

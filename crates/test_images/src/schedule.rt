@@ -1,5 +1,5 @@
 use machine::Machine;
-use test_schedules::{SORTS, Sequence, draw_mover};
+use test_schedules::{SORTS, Sequence, draw_mover, draw_sleeper};
 
 /// Which thread takes each next step, as it follows from a seed alone.
 #[derive(Drop)]
@@ -32,5 +32,10 @@ impl Schedule {
         self.thread = draw_mover(machine, &mut self.sequence)?;
         self.left = self.sequence.draw() & self.mask;
         Some(self.thread)
+    }
+
+    /// The thread that is woken from outside, if any sleeps.
+    pub fn next_sleeper(&mut self, machine: &Machine) -> Option<u32> {
+        draw_sleeper(machine, &mut self.sequence)
     }
 }

@@ -2,17 +2,43 @@ use crate::failure::Failure;
 use crate::outcome::outcome_of;
 use crate::schedule::Schedule;
 use isa::Image;
-use machine::Machine;
+use machine::{Machine, StepFault};
 use std::alloc::{AllocError, Global};
 use std::io;
 use std::str::SplitWhitespace;
 use words::{Addr, BUCKETS};
+
+/// Whether threads that sleep are woken from outside.
+#[derive(Clone, Copy, PartialEq, Eq, Debug)]
+pub enum Outside {
+    /// None is.
+    Nothing,
+    /// Each seventh step is the wake of one, where any sleeps.
+    Strays,
+}
+
+// Which step is a wake from outside: each of this number.
+const STRAY: u32 = 7;
 
 // How a run may end, and how many did.
 #[derive(Drop)]
 struct Allowed {
     outcome: String,
     runs: u32,
+}
+
+// How long a run may be, and what comes from outside.
+#[derive(Clone, Copy, Debug)]
+struct Bounds {
+    limit: u32,
+    outside: Outside,
+}
+
+impl Bounds {
+    // Whether the step behind so many is a wake from outside, if any thread sleeps.
+    fn wakes_at(self, before: u32) -> bool {
+        self.outside == Outside::Strays && before % STRAY == STRAY - 1
+    }
 }
 
 // What a row says of the ends of its runs: the words that are looked at, and the outcomes.
@@ -30,6 +56,7 @@ pub fn run_schedules<R: Print>(
     alloc: Global,
     image: &Image,
     limit: u32,
+    outside: Outside,
     mut words: SplitWhitespace,
 ) -> Result<(), Failure> {
     let count = words.next().ok_or(Failure::Row)?;
@@ -39,7 +66,14 @@ pub fn run_schedules<R: Print>(
         allowed: Vec::new(alloc),
     };
     take_words(alloc, &mut ends, words)?;
-    run_seeds(rt, alloc, image, limit, count, &mut ends)
+    run_seeds(
+        rt,
+        alloc,
+        image,
+        Bounds { limit, outside },
+        count,
+        &mut ends,
+    )
 }
 
 // Takes a word that tells of the ends: a number is an address, any other word an outcome.
@@ -66,13 +100,13 @@ fn run_seeds<R: Print>(
     rt: &R,
     alloc: Global,
     image: &Image,
-    limit: u32,
+    bounds: Bounds,
     count: u32,
     ends: &mut Ends,
 ) -> Result<(), Failure> {
     for before in 0..count {
         let seed = before + 1;
-        let outcome = outcome_by(alloc, image, limit, seed, ends.addresses.as_slice())?;
+        let outcome = outcome_by(alloc, image, bounds, seed, ends.addresses.as_slice())?;
         note(rt, seed, outcome.as_str(), ends.allowed.as_mut_slice())?;
     }
     show_allowed(rt, count, ends.allowed.as_slice())?;
@@ -83,11 +117,11 @@ fn run_seeds<R: Print>(
 fn outcome_by(
     alloc: Global,
     image: &Image,
-    limit: u32,
+    bounds: Bounds,
     seed: u32,
     addresses: &[Addr],
 ) -> Result<String, Failure> {
-    let machine = run_schedule(alloc, image, limit, seed)?;
+    let machine = run_schedule(alloc, image, bounds, seed)?;
     outcome_of(alloc, &machine, addresses)
 }
 
@@ -99,18 +133,35 @@ fn note<R: Print>(rt: &R, seed: u32, outcome: &str, allowed: &mut [Allowed]) -> 
     println!(rt; "  seed {seed}: {outcome}, which is not allowed")
 }
 
-// Runs an image by the schedule of a seed, within a limit of steps.
-fn run_schedule(alloc: Global, image: &Image, limit: u32, seed: u32) -> Result<Machine, Failure> {
+// Runs an image by the schedule of a seed.
+fn run_schedule(
+    alloc: Global,
+    image: &Image,
+    bounds: Bounds,
+    seed: u32,
+) -> Result<Machine, Failure> {
     let mut machine = Machine::new(alloc, image, BUCKETS)?;
     let mut schedule = Schedule::new(seed);
-    for _ in 0..limit {
+    for before in 0..bounds.limit {
         machine.make_room(1)?;
+        if bounds.wakes_at(before) && wake(&mut machine, &mut schedule)? {
+            continue;
+        }
         let Some(thread) = schedule.next(&machine) else {
             break;
         };
         machine.step(thread)?;
     }
     Ok(machine)
+}
+
+// Wakes a thread that sleeps from outside; false where none sleeps.
+fn wake(machine: &mut Machine, schedule: &mut Schedule) -> Result<bool, StepFault> {
+    let Some(thread) = schedule.next_sleeper(machine) else {
+        return Ok(false);
+    };
+    machine.stray(thread)?;
+    Ok(true)
 }
 
 // Whether an outcome is allowed; then it is counted.

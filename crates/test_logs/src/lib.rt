@@ -3,8 +3,10 @@
 
 mod forging;
 mod logging;
+mod outside;
 mod trial;
 
 pub use forging::Forgery;
-pub use logging::log_of;
+pub use logging::{log_of, log_with_strays};
+pub use outside::{StrayTrial, try_strays};
 pub use trial::{Subject, Trial, try_logs};

@@ -39,7 +39,7 @@ pub struct Subject<'a> {
 
 impl Subject<'_> {
     // Whether the explanation of a log is a run of the program.
-    fn is_run(&self, log: &[Entry]) -> Result<bool, AllocError> {
+    pub(crate) fn is_run(&self, log: &[Entry]) -> Result<bool, AllocError> {
         match explain(self.alloc, self.checked, self.image, log) {
             Ok(actions) => {
                 let end = accepts(self.alloc, self.checked, actions.as_slice())?;
@@ -51,7 +51,7 @@ impl Subject<'_> {
     }
 
     // Whether a log is refused so, of an image.
-    fn is_refused(
+    pub(crate) fn is_refused(
         &self,
         image: &Image,
         log: &[Entry],

@@ -5,5 +5,5 @@
 mod movers;
 mod sequence;
 
-pub use movers::draw_mover;
+pub use movers::{draw_mover, draw_sleeper};
 pub use sequence::{SORTS, Sequence};

@@ -1,5 +1,5 @@
 -- What lies under the lock of a run with several workers.
-use Rattle.std.specs.Prelude.{ℕ, ◌≡◌, ◌≤◌, ◌+◌, length, Option, Some, None}
+use Rattle.std.specs.Prelude.{ℕ, ◌≡◌, ◌≤◌, ◌+◌, Bool, length, Option, Some, None}
 use Rattle.words.specs.Limits.{most_threads}
 use Rattle.isa.specs.Programs.{Program}
 use Rattle.machine.specs.States.{ConcreteState}
@@ -19,13 +19,13 @@ abbrev pub state_of : SharedRunView → ConcreteState
 state_of d = (log_state d.shared).concrete
 
 -- a fault has its cause
-abbrev pub HasCause : Program → ℕ → Option RunFault → Type 0
-HasCause p limit None = Unit {0}
-HasCause p limit (Some fault) = CanFail p limit fault
+abbrev pub HasCause : Program → Bool → ℕ → Option RunFault → Type 0
+HasCause p strays limit None = Unit {0}
+HasCause p strays limit (Some fault) = CanFail p strays limit fault
 
 -- a fault has its cause, and each worker has one part of the count, as the calling thread has
-pub record IsSharedRun (p : Program) (limit given started : ℕ) (fault : Option RunFault) : Type 0 where
-  pub cause : HasCause p limit fault
+pub record IsSharedRun (p : Program) (strays : Bool) (limit given started : ℕ) (fault : Option RunFault) : Type 0 where
+  pub cause : HasCause p strays limit fault
   pub parts : given ≡ started + 1
   pub few : started ≤ most_threads
 

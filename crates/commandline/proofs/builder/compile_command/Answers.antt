@@ -12,12 +12,16 @@ returns-clause-app c =
     ∙ ap₂ with_rule new c.positional.ensures.rule in
     let second = c.in_ok-arg-2.ensures.shape c.positional-2.ensures.local
     ∙ ap₂ with_rule first c.positional-2.ensures.rule in
-    IfOk-weaker c.arg-3.result _ _ (λ r h. h.shape c.workers_option.ensures.local
-    ∙ ap₂ with_rule second c.workers_option.ensures.rule) c.arg-3.ensures
+    let third = c.in_ok-arg-3.ensures.shape c.workers_option.ensures.local
+    ∙ ap₂ with_rule second c.workers_option.ensures.rule in
+    IfOk-weaker c.arg-4.result _ _ (λ r h. h.shape c.flag.ensures.local
+    ∙ ap₂ with_rule third c.flag.ensures.rule) c.arg-4.ensures
 
 pub returns-clause-local : goal.returns-clause-local
-returns-clause-local c = IfOk-weaker c.arg-3.result _ _ (λ r h. rw (
+returns-clause-local c = IfOk-weaker c.arg-4.result _ _ (λ r h. rw (
   h.globals,
+  c.flag.ensures.local,
+  c.in_ok-arg-3.ensures.globals,
   c.workers_option.ensures.local,
   c.in_ok-arg-2.ensures.globals,
   c.positional-2.ensures.local,
@@ -25,4 +29,4 @@ returns-clause-local c = IfOk-weaker c.arg-3.result _ _ (λ r h. rw (
   c.positional.ensures.local,
   c.about.ensures,
   c.new.ensures.local,
-) refl) c.arg-3.ensures
+) refl) c.arg-4.ensures

@@ -14,21 +14,33 @@ returns-clause-app c =
     ∙ ap₂ with_rule first c.steps_option.ensures.rule in
     let third = c.in_ok-arg-3.ensures.shape c.seed_option.ensures.local
     ∙ ap₂ with_rule second c.seed_option.ensures.rule in
-    let fourth = c.in_ok-arg-4.ensures.shape c.valued.ensures.local
-    ∙ ap₂ with_rule third c.valued.ensures.rule in
-    let fifth = c.in_ok-arg-5.ensures.shape c.valued-2.ensures.local
-    ∙ ap₂ with_rule fourth c.valued-2.ensures.rule in
-    IfOk-weaker c.arg-6.result _ _ (λ r h. h.shape c.valued-3.ensures.local
-    ∙ ap₂ with_rule fifth c.valued-3.ensures.rule) c.arg-6.ensures
+    let fourth = c.in_ok-arg-4.ensures.shape c.strays_option.ensures.local
+    ∙ ap₂ with_rule third c.strays_option.ensures.rule in
+    let fifth = c.in_ok-arg-5.ensures.shape c.valued.ensures.local
+    ∙ ap₂ with_rule fourth c.valued.ensures.rule in
+    let sixth = c.in_ok-arg-6.ensures.shape c.valued-2.ensures.local
+    ∙ ap₂ with_rule fifth c.valued-2.ensures.rule in
+    let seventh = c.in_ok-arg-7.ensures.shape c.valued-3.ensures.local
+    ∙ ap₂ with_rule sixth c.valued-3.ensures.rule in
+    let eighth = c.in_ok-arg-8.ensures.shape c.valued-4.ensures.local
+    ∙ ap₂ with_rule seventh c.valued-4.ensures.rule in
+    IfOk-weaker c.arg-9.result _ _ (λ r h. h.shape c.flag.ensures.local
+    ∙ ap₂ with_rule eighth c.flag.ensures.rule) c.arg-9.ensures
 
 pub returns-clause-local : goal.returns-clause-local
-returns-clause-local c = IfOk-weaker c.arg-6.result _ _ (λ r h. rw (
+returns-clause-local c = IfOk-weaker c.arg-9.result _ _ (λ r h. rw (
   h.globals,
+  c.flag.ensures.local,
+  c.in_ok-arg-8.ensures.globals,
+  c.valued-4.ensures.local,
+  c.in_ok-arg-7.ensures.globals,
   c.valued-3.ensures.local,
-  c.in_ok-arg-5.ensures.globals,
+  c.in_ok-arg-6.ensures.globals,
   c.valued-2.ensures.local,
-  c.in_ok-arg-4.ensures.globals,
+  c.in_ok-arg-5.ensures.globals,
   c.valued.ensures.local,
+  c.in_ok-arg-4.ensures.globals,
+  c.strays_option.ensures.local,
   c.in_ok-arg-3.ensures.globals,
   c.seed_option.ensures.local,
   c.in_ok-arg-2.ensures.globals,
@@ -37,4 +49,4 @@ returns-clause-local c = IfOk-weaker c.arg-6.result _ _ (λ r h. rw (
   c.positional.ensures.local,
   c.about.ensures,
   c.new.ensures.local,
-) refl) c.arg-6.ensures
+) refl) c.arg-9.ensures

@@ -12,17 +12,29 @@ returns-clause-app c =
     ∙ ap₂ with_rule new c.positional.ensures.rule in
     let second = c.in_ok-arg-2.ensures.shape c.states_option.ensures.local
     ∙ ap₂ with_rule first c.states_option.ensures.rule in
-    IfOk-weaker c.arg-3.result _ _ (λ r h. h.shape c.valued.ensures.local
-    ∙ ap₂ with_rule second c.valued.ensures.rule) c.arg-3.ensures
+    let third = c.in_ok-arg-3.ensures.shape c.flag.ensures.local
+    ∙ ap₂ with_rule second c.flag.ensures.rule in
+    let fourth = c.in_ok-arg-4.ensures.shape c.valued.ensures.local
+    ∙ ap₂ with_rule third c.valued.ensures.rule in
+    let fifth = c.in_ok-arg-5.ensures.shape c.valued-2.ensures.local
+    ∙ ap₂ with_rule fourth c.valued-2.ensures.rule in
+    IfOk-weaker c.arg-6.result _ _ (λ r h. h.shape c.flag-2.ensures.local
+    ∙ ap₂ with_rule fifth c.flag-2.ensures.rule) c.arg-6.ensures
 
 pub returns-clause-local : goal.returns-clause-local
-returns-clause-local c = IfOk-weaker c.arg-3.result _ _ (λ r h. rw (
+returns-clause-local c = IfOk-weaker c.arg-6.result _ _ (λ r h. rw (
   h.globals,
+  c.flag-2.ensures.local,
+  c.in_ok-arg-5.ensures.globals,
+  c.valued-2.ensures.local,
+  c.in_ok-arg-4.ensures.globals,
   c.valued.ensures.local,
+  c.in_ok-arg-3.ensures.globals,
+  c.flag.ensures.local,
   c.in_ok-arg-2.ensures.globals,
   c.states_option.ensures.local,
   c.in_ok-arg.ensures.globals,
   c.positional.ensures.local,
   c.about.ensures,
   c.new.ensures.local,
-) refl) c.arg-3.ensures
+) refl) c.arg-6.ensures

@@ -12,21 +12,25 @@ returns-clause-app c =
     ∙ ap₂ with_rule new c.positional.ensures.rule in
     let second = c.in_ok-arg-2.ensures.shape c.optional.ensures.local
     ∙ ap₂ with_rule first c.optional.ensures.rule in
-    let third = c.in_ok-arg-3.ensures.shape c.trace_option.ensures.local
-    ∙ ap₂ with_rule second c.trace_option.ensures.rule in
-    IfOk-weaker c.arg-4.result _ _ (λ r h. h.shape c.valued.ensures.local
-    ∙ ap₂ with_rule third c.valued.ensures.rule) c.arg-4.ensures
+    let third = c.in_ok-arg-3.ensures.shape c.flag.ensures.local
+    ∙ ap₂ with_rule second c.flag.ensures.rule in
+    let fourth = c.in_ok-arg-4.ensures.shape c.valued.ensures.local
+    ∙ ap₂ with_rule third c.valued.ensures.rule in
+    IfOk-weaker c.arg-5.result _ _ (λ r h. h.shape c.flag-2.ensures.local
+    ∙ ap₂ with_rule fourth c.flag-2.ensures.rule) c.arg-5.ensures
 
 pub returns-clause-local : goal.returns-clause-local
-returns-clause-local c = IfOk-weaker c.arg-4.result _ _ (λ r h. rw (
+returns-clause-local c = IfOk-weaker c.arg-5.result _ _ (λ r h. rw (
   h.globals,
+  c.flag-2.ensures.local,
+  c.in_ok-arg-4.ensures.globals,
   c.valued.ensures.local,
   c.in_ok-arg-3.ensures.globals,
-  c.trace_option.ensures.local,
+  c.flag.ensures.local,
   c.in_ok-arg-2.ensures.globals,
   c.optional.ensures.local,
   c.in_ok-arg.ensures.globals,
   c.positional.ensures.local,
   c.about.ensures,
   c.new.ensures.local,
-) refl) c.arg-4.ensures
+) refl) c.arg-5.ensures

@@ -19,5 +19,13 @@ returns-clause-app c =
     ∙ c.new.ensures.app in
     let first = c.in_ok-command.ensures.shape c.positional.ensures.local
     ∙ ap₂ with_rule new c.positional.ensures.rule in
-    IfOk-weaker c.with_run_options.result _ _ (λ r h. h ∙ ap line.with_run_options first)
-    c.with_run_options.ensures.app
+    let second = c.in_ok-with_run_options.ensures.app ∙ ap line.with_run_options first in
+    IfOk-weaker c.arg-2.result _ _ (λ r h. h.shape c.flag.ensures.local
+    ∙ ap₂ with_rule second c.flag.ensures.rule) c.arg-2.ensures
+
+pub returns-clause-local : goal.returns-clause-local
+returns-clause-local c = IfOk-weaker c.arg-2.result _ _ (λ r h. rw (
+  h.globals,
+  c.flag.ensures.local,
+  c.in_ok-with_run_options.ensures.local,
+) refl) c.arg-2.ensures

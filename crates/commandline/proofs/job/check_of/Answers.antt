@@ -1,5 +1,5 @@
 use Rattle.std.proofs.Common.{rules, codes}
-use Rattle.clap.proofs.WalkLemmas.{first_value-rows}
+use Rattle.clap.proofs.WalkLemmas.{first_value-rows, one_text-rows}
 use Rattle.clap.specs.Words.{found_of}
 use Rattle.clap.specs.Walk.{rows_of}
 use Rattle.commandline.proofs.NoJobs.{no_check}
@@ -12,5 +12,7 @@ returns-in_err-file-clause-none c =
 
 pub returns-clause-job : goal.returns-clause-job
 returns-clause-job c =
-    let file = first_value-rows (found_of c.args.matches.now) (codes "FILE") in
-    search rules
+    let found = found_of c.args.matches.now in
+    let file = first_value-rows found (codes "FILE") in
+    let hints = one_text-rows found (codes "hints") in
+    (search rules, (search rules, search rules))

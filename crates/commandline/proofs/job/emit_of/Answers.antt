@@ -1,5 +1,5 @@
 use Rattle.std.proofs.Common.{rules, codes, inl, inr}
-use Rattle.clap.proofs.WalkLemmas.{first_value-rows}
+use Rattle.clap.proofs.WalkLemmas.{first_value-rows, one_text-rows}
 use Rattle.clap.specs.Words.{found_of}
 use Rattle.clap.specs.Walk.{rows_of}
 use Rattle.commandline.proofs.NoJobs.{no_emit}
@@ -17,6 +17,8 @@ returns-in_err-out-clause-none c =
 
 pub returns-clause-job : goal.returns-clause-job
 returns-clause-job c =
-    let file = first_value-rows (found_of c.args.matches.now) (codes "FILE") in
-    let out = first_value-rows (found_of c.args.matches.now) (codes "OUT") in
-    search rules
+    let found = found_of c.args.matches.now in
+    let file = first_value-rows found (codes "FILE") in
+    let out = first_value-rows found (codes "OUT") in
+    let hints = one_text-rows found (codes "hints") in
+    (search rules, search rules, (search rules, search rules))

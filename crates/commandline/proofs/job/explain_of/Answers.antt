@@ -1,5 +1,5 @@
 use Rattle.std.proofs.Common.{rules, codes, inl, inr, refl, sym, ◌∙◌}
-use Rattle.clap.proofs.WalkLemmas.{first_value-rows}
+use Rattle.clap.proofs.WalkLemmas.{first_value-rows, one_text-rows}
 use Rattle.clap.specs.Words.{found_of}
 use Rattle.clap.specs.Walk.{rows_of}
 use Rattle.commandline.proofs.NoJobs.{no_explain}
@@ -19,4 +19,11 @@ returns-clause-job c =
     let found = found_of c.args.matches.now in
     let file = first_value-rows found (codes "FILE") in
     let chart = first_value-rows found (codes "chart") in
-    (search rules, c.in_ok-by.ensures.by, sym chart ∙ sym c.get_str-chart.ensures)
+    let timeline = first_value-rows found (codes "timeline") in
+    let hints = one_text-rows found (codes "hints") in (
+      search rules,
+      c.in_ok-by.ensures.by,
+      sym chart ∙ sym c.get_str-chart.ensures,
+      sym timeline ∙ sym c.get_str-timeline.ensures,
+      (search rules, search rules),
+    )

@@ -19,4 +19,5 @@ returns-clause-job c =
     let found = found_of c.args.matches.now in
     let file = first_value-rows found (codes "FILE") in
     let trace = one_text-rows found (codes "trace") in
-    (search rules, c.in_ok-by.ensures.by, (search rules, search rules))
+    let hints = one_text-rows found (codes "hints") in
+    (search rules, c.in_ok-by.ensures.by, (search rules, search rules), (search rules, search rules))

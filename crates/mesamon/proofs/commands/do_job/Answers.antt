@@ -7,7 +7,7 @@ use Rattle.mesamon.proofs.commands.do_job.Goals as goal
 pub compile_file-requires-after_bounds : goal.compile_file-requires-after_bounds
 compile_file-requires-after_bounds g c κs within =
     compiling_workers (map (λ w. w.now) c.args.words.now) c.in_ok-file.field-0 c.in-Compile.file c.in-Compile.out c.in-Compile.workers
-    c.in_ok-file.ensures.job c.in-Compile.is
+    c.in-Compile.hints c.in_ok-file.ensures.job c.in-Compile.is
 
 pub returns-in-Check : goal.returns-in-Check
 returns-in-Check g c =

@@ -3,9 +3,9 @@ use Rattle.machine.specs.declared.event.Entry.{Entry}
 use Rattle.machine.specs.States.{ConcreteState}
 use Rattle.machine.specs.Views.{concrete}
 use Rattle.runner.specs.Logs.{Enters}
-use Rattle.runner.specs.LogSchedules.{CannotTake, turn_of}
+use Rattle.runner.specs.LogSchedules.{CannotTake, shape_of}
 use Rattle.runner.proofs.Scheduling.{pushed}
-use Rattle.runner.proofs.Turning.{bad_entry, followed_log, turns_more}
+use Rattle.runner.proofs.Turning.{bad_entry, followed_log, shapes_more}
 use Rattle.runner.proofs.log_schedule.follow_log.Goals as goal
 
 abbrev no_entry : Entry
@@ -20,7 +20,7 @@ returns-in_default-clause-err c =
     (concrete l.machine) c.loop-entry-test.true refl (omega (arith, l.invariant.number)) (same.0 ∙ l.invariant.program)
     l.invariant.follows
     (inl (subst (λ (k : ConcreteState). CannotTake room.program k
-    (turn_of (get_or c.args.entries.now l.entry-index no_entry))) same.1 c.in_default.ensures.none))
+    (shape_of (get_or c.args.entries.now l.entry-index no_entry))) same.1 c.in_default.ensures.none))
 
 pub loop-entry-preserved : goal.loop-entry-preserved
 loop-entry-preserved c =
@@ -29,7 +29,7 @@ loop-entry-preserved c =
     let room = c.make_room.new.self in
     let taken = c.in-Some.ensures.some in
     let value = c.steps_of.ensures.value in
-    let more = turns_more c.args.image.now room.program c.args.entries.now l.entry-index no_entry _ l.log.items
+    let more = shapes_more c.args.image.now room.program c.args.entries.now l.entry-index no_entry _ l.log.items
     c.push.new.self.items (concrete l.machine) (concrete c.take_turn.new.machine) c.in-Some.taken c.loop-entry-test.true
     refl (same.0 ∙ l.invariant.program) l.invariant.follows
     (subst (λ (k : ConcreteState). Enters room.program k c.in-Some.taken (concrete c.take_turn.new.machine)) same.1

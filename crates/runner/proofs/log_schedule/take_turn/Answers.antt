@@ -1,24 +1,24 @@
-use Rattle.std.proofs.Common.{◌≡◌, ◌∙◌, ℕ, ap, sym, subst, arith, inl, Some, true}
+use Rattle.std.proofs.Common.{◌≡◌, ◌∙◌, ℕ, ap, sym, subst, arith, inl, Some}
 use Rattle.locals.specs.Steps.{local_after}
 use Rattle.machine.specs.Views.{concrete}
-use Rattle.runner.specs.LogSchedules.{turn_of}
+use Rattle.runner.specs.LogSchedules.{shape_of}
 use Rattle.runner.specs.Logs.{EntersOwn, is_outside}
 use Rattle.runner.proofs.Growing.{entry}
 use Rattle.runner.proofs.Once.{still_made}
-use Rattle.runner.proofs.Scheduling.{own_entry}
+use Rattle.runner.proofs.Owning.{own_entry}
 use Rattle.runner.proofs.Turning.{no_mover, no_shared, takes_shared, too_few}
 use Rattle.runner.proofs.log_schedule.take_turn.Goals as goal
 
 pub returns-then-not-can_move-clause-none : goal.returns-then-not-can_move-clause-none
 returns-then-not-can_move-clause-none c =
-    no_mover c.args.machine.now.program (concrete c.args.machine.now) (turn_of c.args.entry.now)
+    no_mover c.args.machine.now.program (concrete c.args.machine.now) (shape_of c.args.entry.now)
     (sym c.is_outside.ensures ∙ c.if-is_outside.false) (sym c.can_move.ensures ∙ c.if-not-can_move.true)
 
 pub returns-then-run_local-local-clause-none : goal.returns-then-run_local-local-clause-none
 returns-then-run_local-local-clause-none c =
     let r = c.run_local.ensures in
     let old = c.args.machine.now in
-    too_few old.program (concrete old) (turn_of c.args.entry.now) c.run_local.result r.origin r.here r.stands r.goes
+    too_few old.program (concrete old) (shape_of c.args.entry.now) c.run_local.result r.origin r.here r.stands r.goes
     (r.whole c.if-run_local-local.true) c.if-run_local-local.true
 
 pub take_shared-requires-clause-thread : goal.take_shared-requires-clause-thread
@@ -33,7 +33,7 @@ returns-in_default-clause-none c =
     let old = c.args.machine.now in
     let mid = c.run_local.new.self in
     let count : c.run_local.result ≡ c.args.entry.now.local = omega (arith, r.within, c.if-run_local-local.false) in
-    no_shared old.program mid.program (concrete old) (concrete mid) (turn_of c.args.entry.now) r.origin r.here
+    no_shared old.program mid.program (concrete old) (concrete mid) (shape_of c.args.entry.now) r.origin r.here
     (sym c.is_outside.ensures ∙ c.if-is_outside.false) r.stands
     (subst (λ (n : ℕ). local_after old.program c.args.entry.now.thread n r.origin ≡ Some r.here) count r.goes)
     (sym c.is_some.ensures ∙ c.if-is_some.true) (ap (λ v. v.program) r.after) (ap concrete r.after)

@@ -1,27 +1,28 @@
 use Rattle.std.proofs.Common.{◌≡◌, ◌<◌, ◌+◌, ◌^◌, refl, ◌∙◌, arith}
 use Rattle.std.proofs.lemmas.Result.{err_from_is_err_and}
 use Rattle.machine.specs.Views.{concrete}
+use Rattle.runner.specs.declared.schedule.Turn.TheVariants.{Step}
 use Rattle.runner.proofs.Scheduling.{follows_more, fails_at, followed, pushed}
 use Rattle.runner.proofs.schedule.follow.Goals as goal
 
 pub returns-in_err-entry-clause-err : goal.returns-in_err-entry-clause-err
 returns-in_err-entry-clause-err c =
-    let l = c.loop-thread in
+    let l = c.loop-turn in
     let p = err_from_is_err_and c.from_residual-in_err-entry.result c.from_residual-in_err-entry.ensures.1 in
-    let few : l.thread-index < 2 ^ 32 = omega (arith, l.invariant.number, l.invariant.few) in
-    let next : l.number + 1 ≡ l.thread-index + 1 = omega (arith, l.invariant.number) in
-    rw (p.1, p.2) (fails_at c.args.image.now l.machine.program c.args.schedule.now l.thread-index (l.number + 1) _
-    l.log.items (concrete l.machine) _ c.loop-thread-test.true refl few next l.invariant.program l.invariant.follows
-    c.in_err-entry.ensures.err)
+    let few : l.turn-index < 2 ^ 32 = omega (arith, l.invariant.number, l.invariant.few) in
+    let next : l.number + 1 ≡ l.turn-index + 1 = omega (arith, l.invariant.number) in
+    rw (p.1, p.2) (fails_at c.args.image.now l.machine.program c.args.schedule.now l.turn-index (l.number + 1)
+    (Step 0) _ l.log.items (concrete l.machine) _ c.loop-turn-test.true refl few next l.invariant.program
+    l.invariant.follows c.in_err-entry.ensures.err)
 
-pub loop-thread-preserved : goal.loop-thread-preserved
-loop-thread-preserved c =
-    let l = c.loop-thread in
+pub loop-turn-preserved : goal.loop-turn-preserved
+loop-turn-preserved c =
+    let l = c.loop-turn in
     let ok = c.in_ok-entry.ensures.ok in
     record {
-      follows = follows_more c.args.image.now l.machine.program c.args.schedule.now l.thread-index _ l.log.items
+      follows = follows_more c.args.image.now l.machine.program c.args.schedule.now l.turn-index (Step 0) _ l.log.items
           c.push.new.self.items (concrete l.machine) (concrete c.take_turn.new.machine) c.in_ok-entry.entry
-          c.loop-thread-test.true refl l.invariant.program l.invariant.follows ok.0 ok.1 ok.2
+          c.loop-turn-test.true refl l.invariant.program l.invariant.follows ok.0 ok.1 ok.2
           (pushed c.push.result c.is_err.result c.push.new.self.items l.log.items c.in_ok-entry.entry
           c.is_err.ensures.value c.if-is_err.false c.push.ensures.items);
       number = omega (arith, l.invariant.number);
@@ -31,9 +32,9 @@ loop-thread-preserved c =
 
 pub returns-clause-ok : goal.returns-clause-ok
 returns-clause-ok c =
-    let l = c.loop-thread in
+    let l = c.loop-turn in
     let e = c.in_ok-report_of.ensures in
-    followed c.args.image.now c.args.schedule.now l.thread-index l.log.items l.machine c.in_ok-report_of.field-0
-    (omega (arith, c.loop-thread-test.false)) (omega (arith, l.auto.thread-index-end))
+    followed c.args.image.now c.args.schedule.now l.turn-index l.log.items l.machine c.in_ok-report_of.field-0
+    (omega (arith, c.loop-turn-test.false)) (omega (arith, l.auto.turn-index-end))
     (omega (arith, l.invariant.number, l.invariant.few)) l.invariant.follows l.invariant.program e.log e.last e.output
     e.verdict

@@ -3,10 +3,10 @@ use Rattle.machine.specs.Views.{concrete}
 use Rattle.runner.specs.Schedules.{Follows}
 use Rattle.runner.proofs.schedule.follow.Given as goal
 
-abbrev pub invariant-loop-thread : goal.invariant-loop-thread
-invariant-loop-thread l = record {
-  follows : Follows l.image (take l.thread-index l.schedule) l.log.items (concrete l.machine);
-  number : l.number ≡ l.thread-index;
+abbrev pub invariant-loop-turn : goal.invariant-loop-turn
+invariant-loop-turn l = record {
+  follows : Follows l.image (take l.turn-index l.schedule) l.log.items (concrete l.machine);
+  number : l.number ≡ l.turn-index;
   few : l.number < 2 ^ 32;
   program : l.machine.program ≡ l.image;
 }

@@ -7,7 +7,7 @@ use Rattle.source_search.proofs.runs.explore.Goals as goal
 
 pub returns-clause-never_stuck : goal.returns-clause-never_stuck
 returns-clause-never_stuck c = λ complete none.
-    nowhere_stuck (program_of c.args.checked.now.tree) c.program-program.ensures.well_formed
+    nowhere_stuck (program_of c.args.checked.now.tree) c.program-program.ensures.well_formed c.args.strays
     (states_in c.keep.new.self.states.items) (states_in c.search.new.kept.states.items)
     (subst (IsKept (states_in c.keep.new.self.states.items)) c.in_ok-opening.ensures
     (c.in_ok-opens.ensures.kept (c.is_complete-complete.ensures.opens complete)))
@@ -19,7 +19,7 @@ returns-clause-never_stuck c = λ complete none.
 
 pub returns-clause-never_aborted : goal.returns-clause-never_aborted
 returns-clause-never_aborted c = λ complete none.
-    nowhere_aborted (program_of c.args.checked.now.tree) c.program-program.ensures.well_formed
+    nowhere_aborted (program_of c.args.checked.now.tree) c.program-program.ensures.well_formed c.args.strays
     (states_in c.keep.new.self.states.items) (states_in c.search.new.kept.states.items)
     (subst (IsKept (states_in c.keep.new.self.states.items)) c.in_ok-opening.ensures
     (c.in_ok-opens.ensures.kept (c.is_complete-complete.ensures.opens complete)))

@@ -5,6 +5,6 @@ pub returns-in_ok-stuck-in-Some : goal.returns-in_ok-stuck-in-Some
 returns-in_ok-stuck-in-Some c = λ e. record {
   end = state_of c.in-Some.state;
   run = rw c.in-Some.is at c.in_ok-walked.ensures;
-  own = c.are_own.ensures c.if-not-are_own.false;
+  from = c.are_from.ensures c.if-not-are_from.false;
   is = rw e at c.in_ok-stuck-in-Some.ensures;
 }

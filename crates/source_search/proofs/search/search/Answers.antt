@@ -10,7 +10,7 @@ use Rattle.source_search.proofs.search.search.Goals as goal
 
 pub loop-place-init : goal.loop-place-init
 loop-place-init c = record {
-  so_far = at_first (program_of c.args.checked.now.tree) (states_in c.args.kept.now.states.items);
+  so_far = at_first (program_of c.args.checked.now.tree) c.args.strays (states_in c.args.kept.now.states.items);
   goes_on = refl;
 }
 
@@ -22,8 +22,8 @@ loop-place-preserved c =
     (slice_get_read c.deref.result.now (length c.deref.result.now) c.loop-place.place c.in-Some.found.now refl
     c.in-Some.ensures.lookup.3.0 c.in-Some.ensures.lookup.1) in
     record {
-      so_far = goes_on (program_of c.args.checked.now.tree) (states_in c.args.kept.now.states.items) (states_in states)
-          (states_in c.expand.new.self.states.items) c.loop-place.place c.loop-place.findings.stuck
+      so_far = goes_on (program_of c.args.checked.now.tree) c.args.strays (states_in c.args.kept.now.states.items)
+          (states_in states) (states_in c.expand.new.self.states.items) c.loop-place.place c.loop-place.findings.stuck
           c.look.new.self.stuck c.loop-place.findings.aborted c.look.new.self.aborted c.loop-place.invariant.so_far
           c.in_ok-expand.ensures.longer (state_of c.in-Some.found.now) (state_of c.in_ok-state.state)
           (state_at states c.loop-place.place c.in-Some.found.now here) c.in_ok-state.ensures
@@ -36,7 +36,7 @@ returns-in_default-clause-expanded c = λ e.
     let end : length (states_in c.loop-place.kept.states.items) ≤ c.loop-place.place =
     past c.loop-place.kept.states.items c.deref.result.now c.loop-place.place c.deref.ensures.value
     c.in_default.ensures.lookup.0 in
-    all_expanded (program_of c.args.checked.now.tree) (states_in c.args.kept.now.states.items)
+    all_expanded (program_of c.args.checked.now.tree) c.args.strays (states_in c.args.kept.now.states.items)
     (states_in c.loop-place.kept.states.items) c.loop-place.place c.loop-place.findings.stuck
     c.loop-place.findings.aborted c.loop-place.invariant.so_far end
 
@@ -45,7 +45,7 @@ returns-in_default-clause-stuck c = λ e.
     let end : length (states_in c.loop-place.kept.states.items) ≤ c.loop-place.place =
     past c.loop-place.kept.states.items c.deref.result.now c.loop-place.place c.deref.ensures.value
     c.in_default.ensures.lookup.0 in
-    none_stuck (program_of c.args.checked.now.tree) (states_in c.args.kept.now.states.items)
+    none_stuck (program_of c.args.checked.now.tree) c.args.strays (states_in c.args.kept.now.states.items)
     (states_in c.loop-place.kept.states.items) c.loop-place.place c.loop-place.findings.stuck
     c.loop-place.findings.aborted c.loop-place.invariant.so_far end
 
@@ -54,7 +54,7 @@ returns-in_default-clause-aborted c = λ e.
     let end : length (states_in c.loop-place.kept.states.items) ≤ c.loop-place.place =
     past c.loop-place.kept.states.items c.deref.result.now c.loop-place.place c.deref.ensures.value
     c.in_default.ensures.lookup.0 in
-    none_aborted (program_of c.args.checked.now.tree) (states_in c.args.kept.now.states.items)
+    none_aborted (program_of c.args.checked.now.tree) c.args.strays (states_in c.args.kept.now.states.items)
     (states_in c.loop-place.kept.states.items) c.loop-place.place c.loop-place.findings.stuck
     c.loop-place.findings.aborted c.loop-place.invariant.so_far end
 
@@ -69,7 +69,7 @@ returns-clause-expanded c = λ e.
       ap length c.as_slice-all.ensures.value,
       length-map c.loop-place.kept.states.items state_of,
     ) in
-    all_expanded (program_of c.args.checked.now.tree) (states_in c.args.kept.now.states.items)
+    all_expanded (program_of c.args.checked.now.tree) c.args.strays (states_in c.args.kept.now.states.items)
     (states_in c.loop-place.kept.states.items) c.loop-place.place c.loop-place.findings.stuck
     c.loop-place.findings.aborted c.loop-place.invariant.so_far end
 
@@ -84,7 +84,7 @@ returns-clause-stuck c = λ e.
       ap length c.as_slice-all.ensures.value,
       length-map c.loop-place.kept.states.items state_of,
     ) in
-    none_stuck (program_of c.args.checked.now.tree) (states_in c.args.kept.now.states.items)
+    none_stuck (program_of c.args.checked.now.tree) c.args.strays (states_in c.args.kept.now.states.items)
     (states_in c.loop-place.kept.states.items) c.loop-place.place c.loop-place.findings.stuck
     c.loop-place.findings.aborted c.loop-place.invariant.so_far end
 
@@ -99,6 +99,6 @@ returns-clause-aborted c = λ e.
       ap length c.as_slice-all.ensures.value,
       length-map c.loop-place.kept.states.items state_of,
     ) in
-    none_aborted (program_of c.args.checked.now.tree) (states_in c.args.kept.now.states.items)
+    none_aborted (program_of c.args.checked.now.tree) c.args.strays (states_in c.args.kept.now.states.items)
     (states_in c.loop-place.kept.states.items) c.loop-place.place c.loop-place.findings.stuck
     c.loop-place.findings.aborted c.loop-place.invariant.so_far end

@@ -12,9 +12,9 @@ invariant_of-self-2 g c =
     let took = entered _ _ e.result c.is_err.result c.is_err.ensures.value c.if-is_err.false e.ensures.gives
     e.ensures.log in
     let grows = ap length took.2 in (
-      keeps_outside g.J.RunName.program s.machine.program e.new.machine.program g.J.RunName.limit
+      keeps_outside g.J.RunName.program g.J.RunName.strays s.machine.program e.new.machine.program g.J.RunName.limit
           (concrete s.machine) (concrete e.new.machine) s.log.items e.new.log.items c.args.t s.steps s.limit took.0
-          c.self.invariant.0 e.ensures.program c.if-self.false took.1 took.2,
+          c.requires.strays c.self.invariant.0 e.ensures.program c.if-self.false took.1 took.2,
       record {
         total = omega (
           arith,
@@ -35,6 +35,6 @@ returns-clause-legal g c =
     let e = c.enter_outside in
     let took = entered _ _ e.result c.is_err.result c.is_err.ensures.value c.if-is_err.false e.ensures.gives
     e.ensures.log in
-    (keeps_outside g.J.RunName.program s.machine.program e.new.machine.program g.J.RunName.limit
+    (keeps_outside g.J.RunName.program g.J.RunName.strays s.machine.program e.new.machine.program g.J.RunName.limit
     (concrete s.machine) (concrete e.new.machine) s.log.items e.new.log.items c.args.t s.steps s.limit took.0
-    c.self.invariant.0 e.ensures.program c.if-self.false took.1 took.2).legal
+    c.requires.strays c.self.invariant.0 e.ensures.program c.if-self.false took.1 took.2).legal

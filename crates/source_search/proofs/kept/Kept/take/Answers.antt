@@ -1,6 +1,6 @@
 use Rattle.std.proofs.lemmas.Result.{IfOk-weaker}
 use Rattle.program.specs.Views.{program_of}
-use Rattle.meaning.specs.Runs.{IsAction}
+use Rattle.meaning.specs.Runs.{IsStep}
 use Rattle.meaning.specs.States.{SourceState}
 use Rattle.proof_exploration.specs.Exploring.{IsLike}
 use Rattle.source_states.specs.Actions.{action_of}
@@ -11,14 +11,14 @@ use Rattle.source_search.proofs.kept.Kept.take.Goals as goal
 
 pub returns-in-None-clause-kept : goal.returns-in-None-clause-kept
 returns-in-None-clause-kept c = λ e s' x.
-    let never : (s : SourceState) → IsAction (program_of c.args.checked.now.tree) (state_of c.args.state.now)
+    let never : (s : SourceState) → IsStep (program_of c.args.checked.now.tree) (state_of c.args.state.now)
     (action_of c.args.action.now) s → ⊥ =
     rw c.in-None.is at c.in_ok-found.ensures in
     absurd (never s' x)
 
 pub returns-in-Some : goal.returns-in-Some
 returns-in-Some c =
-    let next : (s : SourceState) → IsAction (program_of c.args.checked.now.tree) (state_of c.args.state.now)
+    let next : (s : SourceState) → IsStep (program_of c.args.checked.now.tree) (state_of c.args.state.now)
     (action_of c.args.action.now) s → IsLike (state_of c.in-Some.next) s =
     rw c.in-Some.is at c.in_ok-found.ensures in
     record {

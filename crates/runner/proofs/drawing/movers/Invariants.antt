@@ -3,7 +3,7 @@ use Rattle.std.specs.List.{All}
 use Rattle.machine.specs.ConcreteSteps.{can_move}
 use Rattle.machine.specs.Views.{concrete}
 use Rattle.runner.specs.Rounds.{IsDrawn}
-use Rattle.runner.proofs.drawing.draw_thread.Given as goal
+use Rattle.runner.proofs.drawing.movers.Given as goal
 
 abbrev pub invariant-loop-before : goal.invariant-loop-before
 invariant-loop-before l = record {

@@ -3,7 +3,7 @@ use Rattle.std.specs.Prelude.{ℕ, Some, true, slice_get}
 use Rattle.std.proofs.lemmas.Bool.{cases_eq}
 use Rattle.machine.specs.ConcreteSteps.{can_move}
 use Rattle.machine.specs.Views.{concrete}
-use Rattle.runner.proofs.drawing.draw_thread.Goals as goal
+use Rattle.runner.proofs.drawing.movers.Goals as goal
 
 pub loop-before-preserved : goal.loop-before-preserved
 loop-before-preserved c =
