@@ -16,15 +16,11 @@ const SCHEDULE: &str = "program.schedule";
 // How the error of a schedule that is refused begins.
 const REFUSED: &[u8] = b"schedule entry ";
 
-// What schedules are drawn from, each kind with its name; nothing for all bytes.
-const ALPHABETS: [(&str, &[&str]); 4] = [
-    ("any bytes", &[]),
-    (
-        "digits and blanks",
-        &["0", "1", "2", "3", "4", "5", "6", "7", "8", "9", " ", "\n"],
-    ),
-    ("two threads", &["1 ", "2 "]),
-    ("one thread", &["1 "]),
+// The bytes that schedules are drawn from, each kind with its name; none for all bytes.
+const ALPHABETS: [(&str, &[u8]); 3] = [
+    ("any bytes", b""),
+    ("digits and blanks", b"0123456789 \n"),
+    ("threads", b"1 2 1 "),
 ];
 
 // What came of schedules.
@@ -73,7 +69,7 @@ fn answers_to<R: Files + AllocGlobal + Threads + Wait + Sync>(
     rt: &R,
     times: u32,
     most: u32,
-    alphabet: &[&str],
+    alphabet: &[u8],
     draws: &mut Draws,
 ) -> Result<Answers, Failure> {
     let mut answers = Answers::new();
@@ -86,19 +82,18 @@ fn answers_to<R: Files + AllocGlobal + Threads + Wait + Sync>(
     Ok(answers)
 }
 
-// So many words, drawn from these; where there are none, bytes, drawn from all.
+// So many bytes, drawn from these; where there are none, from all.
 fn drawn(
     alloc: Global,
     len: usize,
-    alphabet: &[&str],
+    alphabet: &[u8],
     draws: &mut Draws,
 ) -> Result<Vec<u8>, AllocError> {
     let mut bytes = Vec::new(alloc);
     for _ in 0..len {
-        match alphabet.get(draws.below(alphabet.len())) {
-            Some(word) => bytes.extend_from_slice(word.as_bytes())?,
-            None => bytes.push(draws.byte())?,
-        }
+        let any = draws.byte();
+        let place = draws.below(alphabet.len());
+        bytes.push(alphabet.get(place).copied().unwrap_or(any))?;
     }
     Ok(bytes)
 }

@@ -6,8 +6,8 @@
 //!                                 of five ways, so often in each, and then explained: a byte of it becomes another one, a
 //!                                 line is left out, or stands twice, two lines are exchanged, a word of a line becomes a
 //!                                 number
-//! schedules TIMES SEED MOST TEXT  so many files, each of fewer than MOST bytes or words, and so many of each of four kinds,
-//!                                 are replayed as schedules of this text's program, by the command
+//! schedules TIMES SEED MOST TEXT  so many files of fewer than MOST bytes, of each of three kinds of bytes, are replayed
+//!                                 as schedules of this text's program, by the command
 //! ```
 //!
 //! What is drawn is drawn by a generator that begins with the seed (SplitMix64), so that each run draws the same.
