@@ -1,7 +1,8 @@
 ghost use Rattle.std.specs.Prelude.{◌≡◌, ◌≢◌, ◌≤◌, MatchBool, Some, None, is_some, length, reverse};
+ghost use Rattle.words.specs.declared.outcome.Cause.TheVariants.{Killed};
 ghost use Rattle.robustexit.specs.declared.phase.ExitPhase.TheVariants.{Ended};
 ghost use Rattle.locals.specs.Limits.{most_operands};
-ghost use Rattle.locals.specs.Threads.{Exits, opening_thread, place_in_code};
+ghost use Rattle.locals.specs.Threads.{Dies, Exits, is_dying, opening_thread, place_in_code};
 ghost use Rattle.locals.specs.Looks.{look};
 ghost use Rattle.locals.specs.Steps.{local_step};
 ghost use Rattle.locals.specs.Requests.{next_step_of, after_answer, fork_child, CanBeAnswered};
@@ -64,6 +65,20 @@ impl Local {
         ensures { self.new ≡ Exits phase }
     {
         self.stage = Stage::Exiting(phase);
+    }
+
+    /// Whether the thread has begun to die, or is past it.
+    pub fn is_dying(&self) -> bool
+        ensures { result ≡ is_dying self.now }
+    {
+        !matches!(&self.stage, Stage::Running(_))
+    }
+
+    /// Begins to die, killed from outside.
+    pub fn kill(&mut self)
+        ensures { self.new ≡ Dies Killed }
+    {
+        self.stage = Stage::Dying(Cause::Killed);
     }
 
     /// A copy. It takes time in proportion to the operands and frames in use.

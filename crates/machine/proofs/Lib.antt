@@ -16,5 +16,6 @@ pub mod Members
 pub mod Printed
 pub mod Whole
 pub mod Outside
+pub mod Killing
 pub mod OwnEvents
 pub mod FrontRuns

@@ -117,7 +117,7 @@ pub is_sleeper : (p : Program) (k : ConcreteState) (t a : ℕ) → IsWellFormed 
     → IsThread t
 is_sleeper p k t a concrete at = let r = concrete.made t a at in (r.0, omega (arith, r.1, concrete.few, concrete.fits))
 
-with_one : (s : ℕ → Option ℕ) (t : ℕ) → with_place s (t ∷ []) None ≡ put s t None
+pub with_one : (s : ℕ → Option ℕ) (t : ℕ) → with_place s (t ∷ []) None ≡ put s t None
 with_one s t = fun_ext (λ v. by_place s t None v _ (awake_then s t v) (as_before s t v))
 
 -- what a wake from outside is, and leaves

@@ -1,5 +1,5 @@
 -- The machine's own steps are steps of the relation.
-use Rattle.std.specs.Prelude.{ℕ, ◌≡◌, ◌≤◌, ◌↔◌, List, [], ◌∷◌, true, false, None, Ok, Err}
+use Rattle.std.specs.Prelude.{ℕ, ◌≡◌, ◌≤◌, ◌==◌, ◌↔◌, List, [], ◌∷◌, true, false, None, Ok, Err}
 use Rattle.words.specs.Limits.{most_threads}
 use Rattle.words.specs.Versions.{most_of}
 use Rattle.isa.specs.Programs.{Program}
@@ -7,9 +7,9 @@ use Rattle.machine.specs.declared.event.Event.{Event}
 use Rattle.machine.specs.declared.event.StepFault.TheVariants.{CannotMove, Broken}
 use Rattle.machine.specs.ThreadSets.{set_of}
 use Rattle.machine.specs.States.{ConcreteState, opening_concrete, opening_state, state_of}
-use Rattle.machine.specs.Runs.{Own, Strayed, IsStep, CanStep, NextIsBroken, is_paused}
+use Rattle.machine.specs.Runs.{Own, Strayed, Killed, IsStep, CanStep, NextIsBroken, is_paused}
 use Rattle.machine.specs.ConcreteSteps.{step_of, can_move}
-use Rattle.machine.specs.ConcreteOutside.{stray_of}
+use Rattle.machine.specs.ConcreteOutside.{stray_of, kill_of}
 use Rattle.machine.specs.Views.{IsWellFormed}
 
 -- the concrete state at the start stands for the opening state, and where a machine can run all threads that there can be,
@@ -51,3 +51,14 @@ StraysSo = (p : Program) (k k' : ConcreteState) (t : ℕ) (e : Event) → IsWell
 -- it is refused exactly where the thread doesn't sleep
 abbrev pub StrayRefusedSo : Type 0
 StrayRefusedSo = (k : ConcreteState) (t : ℕ) → (stray_of k t ≡ Err CannotMove) ↔ ((state_of k).asleep t ≡ None)
+
+-- a kill is one of the relation, by which the thread begins to die just where the event's value is 1
+abbrev pub KillsSo : Type 0
+KillsSo = (p : Program) (k k' : ConcreteState) (t : ℕ) (e : Event) → IsWellFormed p k → kill_of k t ≡ Ok (k', e)
+    → (e.woken ≡ set_of [])
+    × IsStep p (state_of k) (record { thread = t; woken = []; pauses = false; doing = Killed (e.value == 1) })
+    (state_of k') × IsWellFormed p k'
+
+-- it is refused exactly where no such thread was made
+abbrev pub KillRefusedSo : Type 0
+KillRefusedSo = (k : ConcreteState) (t : ℕ) → (kill_of k t ≡ Err CannotMove) ↔ ((state_of k).thread t ≡ None)

@@ -1,25 +1,28 @@
 -- The runs of the machine: any thread next, any choice of sleepers.
-use Rattle.std.specs.Prelude.{ℕ, ◌≡◌, List, [], ◌∷◌, Bool, true, false, Option, Some, None, is_some, ◌||◌}
+use Rattle.std.specs.Prelude.{ℕ, ◌≡◌, List, [], ◌∷◌, Bool, true, false, not, Option, Some, None, is_some, ◌||◌}
+use Rattle.words.specs.declared.outcome.Cause.TheVariants.{Killed as Killed'}
 use Rattle.isa.specs.Programs.{Program}
 use Rattle.robustexit.specs.declared.phase.ExitPhase.{ExitPhase}
 use Rattle.robustexit.specs.declared.phase.ExitPhase.TheVariants.{Ended}
 use Rattle.robustexit.specs.RobustExit.{Shared, ExitStep}
-use Rattle.locals.specs.Threads.{Thread, Runs, Dies, Exits}
+use Rattle.locals.specs.Threads.{Thread, Runs, Dies, Exits, is_dying}
 use Rattle.locals.specs.Looks.{Look, Goes, Asks, Leaves, Breaks, Rests, look}
 use Rattle.words.specs.Updates.{put}
 use Rattle.machine.specs.States.{State, opening_state, with_thread, with_sleepers}
 use Rattle.machine.specs.AbstractServing.{Serves, IsUnserved, shared_of, with_shared}
 
--- what a step is: one that its thread takes, or a wake from outside that nobody called for, of a thread that slept at
--- this address
+-- what a step is: one that its thread takes; or a wake from outside that nobody called for, of a thread that slept at
+-- this address; or a kill from outside, and whether the thread begins to die by it
 pub data Doing : Type 0 where
   Own : Doing
   Strayed : (address : ℕ) → Doing
+  Killed : (begins : Bool) → Doing
 
 -- whether a step is one of its thread's own
 abbrev pub is_own : Doing → Bool
 is_own Own = true
 is_own (Strayed a) = false
+is_own (Killed begins) = false
 
 -- a step, by its thread and the sleepers that it woke; whether the thread then sleeps or has ended; and what it is
 pub record Step : Type 0 where
@@ -66,10 +69,25 @@ pub record IsStrayStep (a : ℕ) (s : State) (step : Step) (s' : State) : Type 0
   pub after : s' ≡ with_sleepers s (put s.asleep step.thread None)
   pub pauses : step.pauses ≡ false
 
+-- the state behind a kill of thread t: where it begins to die by it, it has left its sleep; else nothing is changed
+abbrev pub killed_to : Bool → State → ℕ → State
+killed_to true s t = with_thread (with_sleepers s (put s.asleep t None)) t (Dies Killed')
+killed_to false s t = s
+
+-- a kill from outside of a thread that was made: one that is dying or has ended isn't changed, another begins to die
+pub record IsKillStep (begins : Bool) (s : State) (step : Step) (s' : State) : Type 0 where
+  pub thread : Thread
+  pub stands : s.thread step.thread ≡ Some thread
+  pub begins_so : begins ≡ not (is_dying thread)
+  pub woken : step.woken ≡ []
+  pub after : s' ≡ killed_to begins s step.thread
+  pub pauses : step.pauses ≡ false
+
 -- a step, by what it is
 abbrev pub IsDone : Program → State → Step → State → Doing → Type 0
 IsDone p s step s' Own = IsOwnStep p s step s'
 IsDone p s step s' (Strayed a) = IsStrayStep a s step s'
+IsDone p s step s' (Killed begins) = IsKillStep begins s step s'
 
 -- one step of the machine
 abbrev pub IsStep : Program → State → Step → State → Type 0

@@ -111,6 +111,7 @@ printed_by_name name.Pending = 0
 printed_by_name name.Clear = 0
 printed_by_name name.Last = 0
 printed_by_name name.Stray = 0
+printed_by_name name.Kill = 0
 
 -- how many numbers an event printed
 abbrev pub printed_by : Event → ℕ

@@ -49,6 +49,8 @@ pub enum EventName {
     Last,
     /// A wake from outside, which nobody called for: the address at which the thread slept.
     Stray,
+    /// A kill from outside: 1 where the thread begins to die by it, else 0.
+    Kill,
 }
 
 /// What one step of a thread did that others can see.

@@ -1,4 +1,4 @@
-ghost use Rattle.std.specs.Prelude.{◌≡◌, ◌≤◌, ◌<◌, ◌+◌, ℕ, length, slice_index, slice_set, ◌-◌};
+ghost use Rattle.std.specs.Prelude.{◌≡◌, ◌≢◌, ◌≤◌, ◌<◌, ◌+◌, ℕ, length, slice_index, slice_set, ◌-◌};
 ghost use Rattle.std.specs.Prelude.{true, false, Some, None, Ok, Err, IfOk, IfErr, OnOk, OnErr, MatchBool, is_some};
 ghost use Rattle.words.specs.Limits.{most_threads};
 ghost use Rattle.words.specs.Process.{process_word};
@@ -9,7 +9,7 @@ ghost use Rattle.locals.specs.Steps.{local_step};
 ghost use Rattle.machine.specs.States.{thread_of, state_of, opening_concrete};
 ghost use Rattle.machine.specs.Runs.{has_ended};
 ghost use Rattle.machine.specs.ConcreteSteps.{step_of, can_move, fault_at};
-ghost use Rattle.machine.specs.ConcreteOutside.{stray_of};
+ghost use Rattle.machine.specs.ConcreteOutside.{kill_of, stray_of};
 ghost use Rattle.machine.specs.LocalRuns.{RunsOn};
 ghost use Rattle.machine.specs.Views.{concrete, AllEnded, IsQuiet, variable_address, address_of, printed_by};
 ghost use Rattle.machine.specs.Views.{IsWellFormed};
@@ -109,6 +109,14 @@ impl Machine {
         ensures { result ≡ outcome_of ((state_of (concrete self.now)).word (process_word t 5)) }
     {
         Outcome::of_word(self.common.word(block(t, ProcessWord::Outcome)))
+    }
+
+    /// Whether thread `t` was made.
+    pub fn is_made(&self, t: u32) -> bool
+        ensures { MatchBool result (thread_of (concrete self.now) t ≢ None)
+            (thread_of (concrete self.now) t ≡ None) }
+    {
+        t > 0 && t as usize <= self.threads.len()
     }
 
     /// Whether thread `t` was made and has ended.
@@ -281,5 +289,30 @@ impl Machine {
         };
         self.common.drop_sleeper(t);
         Ok(Event::with_threads(EventName::Stray, place.0, &[t], &[]))
+    }
+
+    /// Kills thread `t`, wherever it stands, asleep or not. It is a step that no thread takes. The event's value is 1
+    /// where the thread begins to die by it; a thread that is dying, in its exit or has ended isn't changed, and the
+    /// value is 0. Which wakes it owed are made by its exit (robust-futex ABI).
+    ///
+    /// Refuses with `CannotMove` where there is no such thread; then nothing has changed.
+    pub fn kill(&mut self, t: u32) -> Result<Event, StepFault>
+        ensures done { IfOk result (λ e. kill_of (concrete self.old) t ≡ Ok (concrete self.new, e)) }
+        ensures unmade { OnErr result (thread_of (concrete self.old) t ≡ None) }
+        ensures room { IfOk result (λ e. self.new.room ≡ self.old.room) }
+        ensures err { IfErr result (λ f. (kill_of (concrete self.old) t ≡ Err f)
+            × (self.new ≡ self.old)) }
+        ensures program { self.new.program ≡ self.old.program }
+        ensures holds { IsWellFormed self.new.program (concrete self.new) }
+    {
+        if !self.is_made(t) {
+            return Err(StepFault::CannotMove);
+        }
+        if self.local(t).is_dying() {
+            return Ok(Event::new(EventName::Kill, 0));
+        }
+        self.common.drop_sleeper(t);
+        self.threads[t as usize - 1].kill();
+        Ok(Event::new(EventName::Kill, 1))
     }
 }

@@ -1,7 +1,7 @@
--- What comes from outside: wakes that nobody called for, of those who slept on the word of a condition.
+-- What comes from outside: wakes that nobody called for, of those who slept on the word of a condition; and kills.
 use Rattle.std.specs.Prelude.{ℕ, zero, suc, ◌==◌, ◌&&◌, ◌||◌, Bool, true, false, List, length, map, filter, Option, Some}
 use Rattle.std.specs.Prelude.{None, slice_get}
-use Rattle.machine.specs.Runs.{Doing, Own, Strayed, Step}
+use Rattle.machine.specs.Runs.{Doing, Own, Strayed, Killed, Step}
 use Rattle.program.specs.declared.kinds.Member.{Member}
 use Rattle.program.specs.Scope.{member_type}
 use Rattle.proof_thread.specs.Variables.{is_condition}
@@ -31,7 +31,18 @@ is_condition_word p a = any_below (length p.monitors) (λ m.
 abbrev pub is_condition_stray : Program → Doing → Bool
 is_condition_stray p Own = false
 is_condition_stray p (Strayed a) = is_condition_word p a
+is_condition_stray p (Killed begins) = false
 
 -- the threads of those among the machine's steps, in order
 abbrev pub stray_threads : Program → List Step → List ℕ
 stray_threads p steps = map (λ l. l.thread) (filter (λ l. is_condition_stray p l.doing) steps)
+
+-- a kill by which the thread begins to die
+abbrev pub is_kill : Doing → Bool
+is_kill Own = false
+is_kill (Strayed a) = false
+is_kill (Killed begins) = begins
+
+-- the threads that were killed in these steps of the machine, in order
+abbrev pub killed_threads : List Step → List ℕ
+killed_threads steps = map (λ l. l.thread) (filter (λ l. is_kill l.doing) steps)

@@ -16,7 +16,7 @@ use Rattle.meaning.specs.States.{SourceState}
 use Rattle.meaning.specs.Runs.{IsRun, CanMove}
 use Rattle.proof_thread.specs.Variables.{variable_address, IsVariable}
 use Rattle.refinement.specs.Seen.{machine_end, source_end}
-use Rattle.refinement.specs.Outside.{stray_threads}
+use Rattle.refinement.specs.Outside.{stray_threads, killed_threads}
 use Rattle.refinement.specs.Pace.{KeepsPace, stretch_length}
 
 -- the thread sleeps
@@ -46,10 +46,6 @@ is_kill_kind other = false
 -- the processes of the actions of some kinds, in their order
 abbrev pub processes_of : (Kind → Bool) → List Action → List ℕ
 processes_of test actions = map (λ a. a.process) (filter (λ a. test a.kind) actions)
-
--- the threads that were killed in these steps of the machine, which kills none
-abbrev pub killed_threads : List Step → List ℕ
-killed_threads steps = []
 
 -- one run of the source explains a run of the machine
 pub record Explained (p : Program) (image : Image) (steps : List Step) (s : State) : Type 0 where

@@ -2,6 +2,7 @@ use Rattle.machine.proofs.Stepping.{opens_so, steps_so}
 use Rattle.machine.proofs.Refusing.{breaks_so, refuses_so, moves_so}
 use Rattle.machine.proofs.FrontRuns.{fronts_run_so}
 use Rattle.machine.proofs.Outside.{strays_so, stray_refused_so}
+use Rattle.machine.proofs.Killing.{kills_so, kill_refused_so}
 use Rattle.machine.proofs.laws.steps_are_machine_steps.Goals as goal
 
 pub returns-clause-opening : goal.returns-clause-opening
@@ -24,6 +25,12 @@ returns-clause-stray c = strays_so
 
 pub returns-clause-no_stray : goal.returns-clause-no_stray
 returns-clause-no_stray c = stray_refused_so
+
+pub returns-clause-kill : goal.returns-clause-kill
+returns-clause-kill c = kills_so
+
+pub returns-clause-no_kill : goal.returns-clause-no_kill
+returns-clause-no_kill c = kill_refused_so
 
 pub returns-clause-runs : goal.returns-clause-runs
 returns-clause-runs c = fronts_run_so
