@@ -6,7 +6,7 @@ use Rattle.words.specs.Signed.{signed_of}
 use Rattle.machine.specs.declared.event.EventName.{EventName}
 use Rattle.machine.specs.declared.event.EventName.TheVariants.{Local, Load, Store, Swap, CompareSwap, FetchOr, FetchAdd}
 use Rattle.machine.specs.declared.event.EventName.TheVariants.{Fork, Print, Wait, Wake, Requeue, Ret, RetValue, Die}
-use Rattle.machine.specs.declared.event.EventName.TheVariants.{Entry, Pending, Clear, Last, Stray}
+use Rattle.machine.specs.declared.event.EventName.TheVariants.{Entry, Pending, Clear, Last, Stray, Kill}
 use Rattle.log_text.specs.LogLines.{name_text}
 use Rattle.log_text.specs.Places.{place_of}
 use Rattle.std.proofs.lemmas.Bool.{ltb-true}
@@ -41,7 +41,8 @@ named n =
     (cond (n == packed 0 (codes "PENDING")) Pending
     (cond (n == packed 0 (codes "CLEAR")) Clear
     (cond (n == packed 0 (codes "LAST")) Last
-    (cond (n == packed 0 (codes "STRAY")) Stray Local))))))))))))))))))
+    (cond (n == packed 0 (codes "STRAY")) Stray
+    (cond (n == packed 0 (codes "KILL")) Kill Local)))))))))))))))))))
 
 back : (name : EventName) → named (word_number name) ≡ name
 unfolding named word_number packed
@@ -65,6 +66,7 @@ back Pending = refl
 back Clear = refl
 back Last = refl
 back Stray = refl
+back Kill = refl
 
 pub name_once : (a b : EventName) → name_text a ≡ name_text b → a ≡ b
 unfolding word_number
@@ -90,7 +92,8 @@ at_place n =
     (cond (n == 15) Pending
     (cond (n == 16) Clear
     (cond (n == 17) Last
-    (cond (n == 18) Stray Local))))))))))))))))))
+    (cond (n == 18) Stray
+    (cond (n == 19) Kill Local)))))))))))))))))))
 
 placed : (name : EventName) → at_place (place_of name) ≡ name
 unfolding at_place
@@ -114,11 +117,12 @@ placed Pending = refl
 placed Clear = refl
 placed Last = refl
 placed Stray = refl
+placed Kill = refl
 
 pub place_once : (a b : EventName) → place_of a ≡ place_of b → a ≡ b
 place_once a b same = sym (placed a) ∙ ap at_place same ∙ placed b
 
-pub few_places : (name : EventName) → place_of name < 20
+pub few_places : (name : EventName) → place_of name < 21
 few_places Local = omega arith
 few_places Load = omega arith
 few_places Store = omega arith
@@ -139,6 +143,7 @@ few_places Pending = omega arith
 few_places Clear = omega arith
 few_places Last = omega arith
 few_places Stray = omega arith
+few_places Kill = omega arith
 
 all_above : List ℕ → Bool
 all_above [] = true
@@ -176,3 +181,4 @@ plain_name Pending = plain_by (codes "PENDING") refl
 plain_name Clear = plain_by (codes "CLEAR") refl
 plain_name Last = plain_by (codes "LAST") refl
 plain_name Stray = plain_by (codes "STRAY") refl
+plain_name Kill = plain_by (codes "KILL") refl

@@ -9,7 +9,7 @@ use Rattle.machine.specs.declared.event.Event.{Event}
 use Rattle.machine.specs.declared.event.EventName.{EventName}
 use Rattle.machine.specs.declared.event.EventName.TheVariants.{Local, Load, Store, Swap, CompareSwap, FetchOr, FetchAdd}
 use Rattle.machine.specs.declared.event.EventName.TheVariants.{Fork, Print, Wait, Wake, Requeue, Ret, RetValue, Die}
-use Rattle.machine.specs.declared.event.EventName.TheVariants.{Entry as Entry', Pending, Clear, Last, Stray}
+use Rattle.machine.specs.declared.event.EventName.TheVariants.{Entry as Entry', Pending, Clear, Last, Stray, Kill}
 use Rattle.machine.specs.ThreadSets.{has}
 use Rattle.machine.specs.declared.thread_set.ThreadSet.{ThreadSet}
 
@@ -39,6 +39,7 @@ name_text Pending = codes "PENDING"
 name_text Clear = codes "CLEAR"
 name_text Last = codes "LAST"
 name_text Stray = codes "STRAY"
+name_text Kill = codes "KILL"
 
 -- a printed word is shown as the number that it stands for
 abbrev pub value_text : EventName → ℕ → List ℕ

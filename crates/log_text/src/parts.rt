@@ -9,7 +9,7 @@ use machine::EventName;
 use memchr::memchr;
 
 // How many names of steps there are.
-const NAMES: u32 = 20;
+const NAMES: u32 = 21;
 
 /// A text in two parts.
 #[derive(Clone, Copy, Drop)]
@@ -103,7 +103,7 @@ pub fn name_called(text: &[u8]) -> Option<EventName>
 
 // The names of steps in the order in which they are tried.
 fn name_at(place: u32) -> EventName
-    requires { place < 20 }
+    requires { place < 21 }
     ensures { place_of result ≡ place }
 {
     match place {
@@ -126,6 +126,7 @@ fn name_at(place: u32) -> EventName
         16 => EventName::Clear,
         17 => EventName::Last,
         18 => EventName::Stray,
+        19 => EventName::Kill,
         _ => EventName::Local,
     }
 }

@@ -125,5 +125,6 @@ pub fn name_of(name: EventName) -> &'static str
         EventName::Clear => "CLEAR",
         EventName::Last => "LAST",
         EventName::Stray => "STRAY",
+        EventName::Kill => "KILL",
     }
 }

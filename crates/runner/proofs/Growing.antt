@@ -11,7 +11,7 @@ use Rattle.machine.specs.declared.event.Entry.{Entry}
 use Rattle.machine.specs.declared.event.StepFault.{StepFault}
 use Rattle.machine.specs.States.{ConcreteState, thread_of, opening_concrete}
 use Rattle.machine.specs.ConcreteSteps.{step_of, put_thread, can_move}
-use Rattle.machine.specs.ConcreteOutside.{stray_of}
+use Rattle.machine.specs.FrontRuns.{OutsideStep}
 use Rattle.runner.specs.Views.{PieceView, LogState}
 use Rattle.runner.specs.Logs.{Runs, Enters, EntersOwn, Ends, event_cost, cost}
 use Rattle.runner.specs.Entries.{entry_end, entry_end_by, IsFine}
@@ -131,11 +131,11 @@ keeps_entry p strays q q' q'' limit k k' new log log' log'' e steps limited extr
       within = omega (arith, legal.counted, legal.limit_is, room, turn, last, cost_small e.event);
     }
 
--- a wake from outside is one more of a legal log that isn't at its limit
+-- a wake or a kill from outside is one more of a legal log that isn't at its limit
 pub keeps_outside : (p : Program) (strays : Bool) (q q' : Program) (limit : ℕ) (k new : ConcreteState)
     (log log' : List Entry) (t steps limited : ℕ) (event : Event) → strays ≡ true
     → IsLegal p strays limit q k log steps limited → q' ≡ q → steps ≢ limited
-    → stray_of k t ≡ Ok (new, event) → log' ≡ log ++ entry t 0 (Some event) ∷ []
+    → OutsideStep k t event new → log' ≡ log ++ entry t 0 (Some event) ∷ []
     → IsLegal p strays limit q' new log' (steps + 1) limited
 keeps_outside p strays q q' limit k new log log' t steps limited event some legal same room gives grows =
     let one : Enters p k (entry t 0 (Some event)) new =

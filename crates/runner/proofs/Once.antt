@@ -1,6 +1,7 @@
 -- An entry leads to one state, and can't be taken where its local steps end too early.
 use Rattle.std.proofs.Common.{◌≡◌, ◌<◌, ◌-◌, ◌+◌, ◌++◌, ℕ, zero, suc, List, [], ◌∷◌, Option, Some, None, refl, ap, sym}
-use Rattle.std.proofs.Common.{◌∙◌, ◌≤◌, arith, subst, length, length-set, slice_get, slice_set, Result, Ok, Err}
+use Rattle.std.proofs.Common.{◌∙◌, ◌≤◌, arith, subst, length, length-set, slice_get, slice_set, Bool, true, false, Result}
+use Rattle.std.proofs.Common.{Ok, Err}
 use Rattle.std.proofs.Common.{inl, inr}
 use Rattle.isa.specs.Programs.{Program}
 use Rattle.locals.specs.Threads.{Thread}
@@ -10,11 +11,12 @@ use Rattle.machine.specs.declared.event.Entry.{Entry}
 use Rattle.machine.specs.States.{ConcreteState, thread_at, thread_of}
 use Rattle.machine.specs.ConcreteSteps.{put_thread}
 use Rattle.machine.proofs.Landing.{inside}
-use Rattle.runner.specs.Logs.{Ends, Enters, EntersOwn, EntersOutside, Runs}
+use Rattle.runner.specs.Logs.{Ends, Enters, EntersOwn, EntersOutside, Runs, is_outside}
 use Rattle.machine.specs.declared.event.StepFault.{StepFault}
 use Rattle.machine.specs.declared.event.StepFault.TheVariants.{CannotMove}
 use Rattle.machine.specs.ConcreteOutside.{stray_at, stray_of}
-use Rattle.runner.proofs.Handing.{up}
+use Rattle.machine.specs.FrontRuns.{OutsideStep}
+use Rattle.runner.proofs.Owning.{own_entry, tells_outside, wake_or_kill}
 use Rattle.runner.proofs.Going.{after_sum}
 
 -- behind the last local step comes none
@@ -84,14 +86,30 @@ no_stray k t q awake gives =
         (let a : R = Ok x in a) ≡ (let b : R = Err CannotMove in b)) → ⊥
     done_or_not x h = cc
 
--- nor is one that can move
+-- no entry of a thread's own comes from outside
 pub apart : (p : Program) (k a b : ConcreteState) (e : Entry) → EntersOwn p k e a → EntersOutside k e b → ⊥
 apart p k a b e own outside =
-    no_stray k e.thread (b, outside.event) (up k e.thread own.moves).awake outside.gives
+    true_or_false (is_outside e.event) (tells_outside k b e outside) (own_entry p k a e own)
+  where
+    true_or_false : (b : Bool) → b ≡ true → b ≡ false → ⊥
+    true_or_false b is isn't = absurd cc
+
+-- what comes from outside with one event leads to one state
+step_once : (k a b : ConcreteState) (t : ℕ) (event : Event) → OutsideStep k t event a → OutsideStep k t event b
+    → a ≡ b
+step_once k a b t event (inl x) (inl y) =
+    ap (λ (q : ConcreteState × Event). q.0) (inside (a, event) (b, event) (sym x ∙ y))
+step_once k a b t event (inl x) (inr y) = absurd (wake_or_kill k a b t event x y)
+step_once k a b t event (inr x) (inl y) = absurd (wake_or_kill k b a t event y x)
+step_once k a b t event (inr x) (inr y) =
+    ap (λ (q : ConcreteState × Event). q.0) (inside (a, event) (b, event) (sym x ∙ y))
 
 outside_once : (k a b : ConcreteState) (e : Entry) → EntersOutside k e a → EntersOutside k e b → a ≡ b
 outside_once k a b e x y =
-    ap (λ (q : ConcreteState × Event). q.0) (inside (a, x.event) (b, y.event) (sym x.gives ∙ y.gives))
+    let f : Some y.event ≡ Some x.event = sym y.is ∙ x.is in
+    let same : y.event ≡ x.event = cc in
+    step_once k a b e.thread x.event x.gives
+    (subst (λ (event : Event). OutsideStep k e.thread event b) same y.gives)
 
 -- an entry leads to one state
 pub enters_once : (p : Program) (k a b : ConcreteState) (e : Entry) → Enters p k e a → Enters p k e b → a ≡ b

@@ -12,8 +12,7 @@ use Rattle.machine.specs.declared.event.StepFault.{StepFault}
 use Rattle.machine.specs.declared.event.StepFault.TheVariants.{CannotMove}
 use Rattle.machine.specs.States.{ConcreteState, thread_of}
 use Rattle.machine.specs.ConcreteSteps.{thread_step, on_machine, step_of, can_move}
-use Rattle.machine.specs.ConcreteOutside.{stray_of}
-use Rattle.machine.specs.FrontRuns.{EventStep, FrontStep}
+use Rattle.machine.specs.FrontRuns.{OutsideStep, EventStep, FrontStep}
 use Rattle.runner.specs.Logs.{Enters}
 use Rattle.runner.specs.LogRuns.{LogsSo, local_step_of, shared_step_of}
 use Rattle.machine.proofs.Landing.{inside}
@@ -86,8 +85,8 @@ entry_of p k k' s gives =
     entry_by p k k' s d.thread (look p s.thread d.thread) refl d.stands
     (moved p k k' s.thread s.event gives) gives d.done
 
--- a wake from outside is an entry of its own
-outside_entry : (p : Program) (k k' : ConcreteState) (s : EventStep) → stray_of k s.thread ≡ Ok (k', s.event)
+-- a wake or a kill from outside is an entry of its own
+outside_entry : (p : Program) (k k' : ConcreteState) (s : EventStep) → OutsideStep k s.thread s.event k'
     → IsEntry p k s k'
 outside_entry p k k' s gives = record {
   entry = record { thread = s.thread; local = 0; event = Some s.event };
@@ -97,7 +96,7 @@ outside_entry p k k' s gives = record {
 
 front_entry : (p : Program) (k k' : ConcreteState) (s : EventStep) → FrontStep p k s k' → IsEntry p k s k'
 front_entry p k k' s (inl own) = entry_of p k k' s own
-front_entry p k k' s (inr stray) = outside_entry p k k' s stray
+front_entry p k k' s (inr outside) = outside_entry p k k' s outside
 
 pub logs_so : LogsSo
 logs_so p k k' [] same = ([], same, refl)

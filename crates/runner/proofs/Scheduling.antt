@@ -1,7 +1,7 @@
 -- Steps that are taken one by one, each an entry of its own.
 use Rattle.std.proofs.Common.{◌≡◌, ℕ, ◌+◌, ◌<◌, ◌≤◌, ◌^◌, List, [], ◌∷◌, ◌++◌, take, length}
 use Rattle.std.proofs.Common.{Bool, true, false, is_ok, is_err, if◌then◌else◌, Some, Result, Ok, Err, IfOk, IfErr}
-use Rattle.std.proofs.Common.{ap, sym, ◌∙◌, subst, arith, get_or, inl, inr, cond}
+use Rattle.std.proofs.Common.{Option, None, refl, ap, sym, ◌∙◌, subst, arith, get_or, inl, inr}
 use Rattle.std.specs.List.{All}
 use Rattle.std.proofs.lemmas.List.{take_more, take_all, map-append}
 use Rattle.std.proofs.lemmas.List.Elements.{All-append, All-cons, All-nil}
@@ -10,6 +10,12 @@ use Rattle.isa.specs.Programs.{Program}
 use Rattle.locals.specs.Threads.{Thread}
 use Rattle.locals.specs.Steps.{local_after}
 use Rattle.machine.specs.declared.event.Entry.{Entry}
+use Rattle.machine.specs.declared.event.Event.{Event}
+use Rattle.machine.specs.Runs.{Doing}
+use Rattle.machine.specs.ConcreteOutside.{kill_of, stray_of}
+use Rattle.machine.proofs.Outside.{stray_told}
+use Rattle.machine.proofs.Killing.{kill_told}
+use Rattle.machine.proofs.OwnEvents.{own_so}
 use Rattle.machine.specs.declared.event.StepFault.{StepFault}
 use Rattle.machine.specs.declared.event.StepFault.TheVariants.{CannotMove, Broken}
 use Rattle.machine.specs.States.{ConcreteState, thread_of, opening_concrete}
@@ -19,12 +25,12 @@ use Rattle.machine.proofs.Refusing.{refuses_so, moves_so}
 use Rattle.runner.specs.declared.report.Report.{Report}
 use Rattle.runner.specs.declared.schedule.ScheduleFault.{ScheduleFault}
 use Rattle.runner.specs.declared.schedule.Turn.{Turn}
-use Rattle.runner.specs.declared.schedule.Turn.TheVariants.{Step, Stray}
-use Rattle.runner.specs.Logs.{Enters, EntersOutside, EntersOwn, event_cost}
+use Rattle.runner.specs.declared.schedule.Turn.TheVariants.{Step, Stray, Kill}
+use Rattle.runner.specs.Logs.{Ends, Enters, EntersOutside, EntersOwn, event_cost}
 use Rattle.runner.specs.Reports.{IsVerdict}
-use Rattle.runner.specs.Schedules.{FailsAt, Follows, IsFollowed, IsOneStep, RefusesSchedule, turn_of}
+use Rattle.runner.specs.Schedules.{FailsAt, Follows, IsFollowed, IsOneStep, RefusesSchedule, turn_by, turn_by_event}
+use Rattle.runner.specs.Schedules.{turn_of}
 use Rattle.runner.proofs.Going.{runs_more}
-use Rattle.runner.proofs.Owning.{own_entry, tells_outside}
 use Rattle.runner.proofs.Unrolling.{put_back}
 
 single_more : (log : List Entry) (e : Entry) → All IsOneStep log → IsOneStep e → All IsOneStep (log ++ e ∷ [])
@@ -38,13 +44,15 @@ pushed (Ok x) b new old e is ended items = items
 pushed (Err x) b new old e is ended items = absurd cc
 
 -- the turn that an entry was
+own_end : (p : Program) (k k' : ConcreteState) (t : ℕ) (here : Thread) (event : Option Event) → Ends p k t here event k'
+    → turn_by_event event t ≡ Step t
+own_end p k k' t here None ends = refl
+own_end p k k' t here (Some event) ends = ap (λ (d : Doing). turn_by d t) (own_so p k k' t event ends.1)
+
 own_turn : (p : Program) (k k' : ConcreteState) (e : Entry) (t : ℕ) → EntersOwn p k e k' → e.thread ≡ t
     → turn_of e ≡ Step t
-own_turn p k k' e t enters is = λ i. cond (own_entry p k k' e enters i) (Stray (is i)) (Step (is i))
-
-outside_turn : (k k' : ConcreteState) (e : Entry) (t : ℕ) → EntersOutside k e k' → e.thread ≡ t
-    → turn_of e ≡ Stray t
-outside_turn k k' e t outside is = λ i. cond (tells_outside k k' e outside i) (Stray (is i)) (Step (is i))
+own_turn p k k' e t enters is =
+    own_end p (put_thread k e.thread enters.here) k' e.thread enters.here e.event enters.ends ∙ ap Step is
 
 -- what was taken is an entry of this turn
 pub own_taken : (p : Program) (k k' : ConcreteState) (number t : ℕ) (turn : Turn) (r : Result Entry ScheduleFault)
@@ -53,12 +61,21 @@ pub own_taken : (p : Program) (k k' : ConcreteState) (number t : ℕ) (turn : Tu
 own_taken p k k' number t turn (Ok e) is few h = (inl h.0, own_turn p k k' e t h.0 h.1 ∙ sym is, h.2, few)
 own_taken p k k' number t turn (Err f) is few h = h
 
-pub outside_taken : (p : Program) (k k' : ConcreteState) (number t : ℕ) (turn : Turn) (r : Result Entry ScheduleFault)
-    → turn ≡ Stray t → number < 2 ^ 32 → IfOk r (λ e. EntersOutside k e k' × (e.thread ≡ t))
+pub woken_turn : (k k' : ConcreteState) (t : ℕ) (event : Event) → stray_of k t ≡ Ok (k', event)
+    → turn_by_event (Some event) t ≡ Stray t
+woken_turn k k' t event gives = ap (λ (d : Doing). turn_by d t) (stray_told k k' t event gives)
+
+pub killed_turn : (k k' : ConcreteState) (t : ℕ) (event : Event) → kill_of k t ≡ Ok (k', event)
+    → turn_by_event (Some event) t ≡ Kill t
+killed_turn k k' t event gives = ap (λ (d : Doing). turn_by d t) (kill_told k k' t event gives)
+
+pub outside_taken : (p : Program) (k k' : ConcreteState) (number : ℕ) (turn other : Turn)
+    (r : Result Entry ScheduleFault) → turn ≡ other → number < 2 ^ 32
+    → IfOk r (λ e. EntersOutside k e k' × (turn_of e ≡ other))
     → IfOk r (λ e. Enters p k e k' × (turn_of e ≡ turn) × IsOneStep e × (number < 2 ^ 32))
-outside_taken p k k' number t turn (Ok e) is few h =
-    (inr h.0, outside_turn k k' e t h.0 h.1 ∙ sym is, omega (arith, h.0.alone, ap event_cost h.0.is), few)
-outside_taken p k k' number t turn (Err f) is few h = h
+outside_taken p k k' number turn other (Ok e) is few h =
+    (inr h.0, h.1 ∙ sym is, omega (arith, h.0.alone, ap event_cost h.0.is), few)
+outside_taken p k k' number turn other (Err f) is few h = h
 
 -- the turn is refused as the one that it is
 pub refused_so : (p : Program) (k : ConcreteState) (number : ℕ) (turn other : Turn) (r : Result Entry ScheduleFault)

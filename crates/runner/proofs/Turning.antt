@@ -13,12 +13,15 @@ use Rattle.machine.specs.declared.event.Entry.{Entry}
 use Rattle.machine.specs.States.{ConcreteState, thread_of, opening_concrete}
 use Rattle.machine.specs.ConcreteSteps.{put_thread, can_move}
 use Rattle.machine.specs.Views.{View, concrete}
-use Rattle.machine.specs.ConcreteOutside.{stray_of}
+use Rattle.machine.specs.ConcreteOutside.{kill_of, stray_of}
+use Rattle.machine.proofs.Outside.{stray_told}
+use Rattle.machine.proofs.Killing.{kill_told}
 use Rattle.machine.specs.declared.event.StepFault.{StepFault}
 use Rattle.machine.proofs.Placing.{thread_at-put}
 use Rattle.runner.specs.declared.report.Report.{Report}
 use Rattle.runner.specs.LogSchedules.{Shape, shape_of, FollowsLog, IsFollowedLog, CannotTake, IsBadLogEntry}
-use Rattle.runner.specs.Logs.{Runs, Enters, EntersOwn, Ends, cost, event_cost, is_outside}
+use Rattle.runner.specs.Logs.{Runs, Enters, EntersOwn, EntersOutside, Ends, cost, event_cost}
+use Rattle.runner.specs.Logs.{is_kill, is_killing, is_outside}
 use Rattle.runner.specs.Reports.{IsVerdict}
 use Rattle.runner.proofs.Going.{runs_more}
 use Rattle.runner.proofs.Owning.{own_entry, tells_outside}
@@ -29,35 +32,54 @@ true_or_false : (b : Bool) → b ≡ true → b ≡ false → ⊥
 true_or_false b is isn't = absurd cc
 
 -- an entry of a shape that isn't from outside is its thread's own
-own_of : (p : Program) (k k' : ConcreteState) (e : Entry) (shape : Shape) → shape_of e ≡ shape → shape.stray ≡ false
+own_of : (p : Program) (k k' : ConcreteState) (e : Entry) (shape : Shape) → shape_of e ≡ shape → shape.outside ≡ false
     → Enters p k e k' → EntersOwn p k e k'
 own_of p k k' e shape is mine (inl enters) = enters
 own_of p k k' e shape is mine (inr outside) =
-    absurd (true_or_false (is_outside e.event) (tells_outside k k' e outside) (ap (λ (s : Shape). s.stray) is ∙ mine))
+    absurd (true_or_false (is_outside e.event) (tells_outside k k' e outside) (ap (λ (s : Shape). s.outside) is ∙ mine))
 
 -- a thread that can't move
-pub no_mover : (p : Program) (k : ConcreteState) (shape : Shape) → shape.stray ≡ false
+pub no_mover : (p : Program) (k : ConcreteState) (shape : Shape) → shape.outside ≡ false
     → can_move k shape.thread ≡ false → CannotTake p k shape
 no_mover p k shape mine rests e k' is enters =
     true_or_false (can_move k e.thread) (own_of p k k' e shape is mine enters).moves
     (ap (λ (s : Shape). can_move k s.thread) is ∙ rests)
 
--- a shape from outside, of a thread that doesn't sleep or with local steps
-pub no_outside : (p : Program) (k : ConcreteState) (shape : Shape) → shape.stray ≡ true
-    → ((0 < shape.local) ⊎ ((f : StepFault) × (stray_of k shape.thread ≡ Err f))) → CannotTake p k shape
-no_outside p k shape foreign why e k' is (inl own) =
-    true_or_false (is_outside e.event) (ap (λ (s : Shape). s.stray) is ∙ foreign) (own_entry p k k' e own)
-no_outside p k shape foreign (inl some) e k' is (inr outside) =
+-- why an entry from outside can't be taken: it has local steps, or what it is is refused
+abbrev pub IsRefused : ConcreteState → Shape → Type 0
+IsRefused k shape = (0 < shape.local)
+    ⊎ ((shape.kill ≡ false) × (f : StepFault) × (stray_of k shape.thread ≡ Err f))
+    ⊎ ((shape.kill ≡ true) × (f : StepFault) × (kill_of k shape.thread ≡ Err f))
+
+done_or_not : (r : Result (ConcreteState × Event) StepFault) (x : ConcreteState × Event) (f : StepFault)
+    → r ≡ Ok x → r ≡ Err f → ⊥
+done_or_not r x f done refused = absurd cc
+
+-- an entry from outside of such a shape
+refused_outside : (k k' : ConcreteState) (e : Entry) (shape : Shape) → shape_of e ≡ shape → EntersOutside k e k'
+    → IsRefused k shape → ⊥
+refused_outside k k' e shape is outside (inl some) =
     let n : e.local ≡ shape.local = ap (λ (s : Shape). s.local) is in
     absurd (omega (arith, some, n, outside.alone))
-no_outside p k shape foreign (inr refused) e k' is (inr outside) =
-    let t : e.thread ≡ shape.thread = ap (λ (s : Shape). s.thread) is in
-    done_or_not (k', outside.event) refused.0 (sym outside.gives ∙ ap (stray_of k) t ∙ refused.1)
-  where
-    done_or_not : (x : ConcreteState × Event) (f : StepFault)
-        → (let R : Type 0 = Result (ConcreteState × Event) StepFault in
-        (let a : R = Ok x in a) ≡ (let b : R = Err f in b)) → ⊥
-    done_or_not x f h = cc
+refused_outside k k' e shape is outside (inr (inl refused)) = elim outside.gives [
+  | inl wakes ↦ done_or_not (stray_of k shape.thread) (k', outside.event) refused.1
+      (subst (λ (t : ℕ). stray_of k t ≡ Ok (k', outside.event)) (ap (λ (s : Shape). s.thread) is) wakes) refused.2
+  | inr kills ↦ true_or_false shape.kill (sym (ap (λ (s : Shape). s.kill) is) ∙ (ap is_kill outside.is
+      ∙ ap is_killing (kill_told k k' e.thread outside.event kills))) refused.0
+]
+refused_outside k k' e shape is outside (inr (inr refused)) = elim outside.gives [
+  | inl wakes ↦ true_or_false shape.kill refused.0 (sym (ap (λ (s : Shape). s.kill) is) ∙ (ap is_kill outside.is
+      ∙ ap is_killing (stray_told k k' e.thread outside.event wakes)))
+  | inr kills ↦ done_or_not (kill_of k shape.thread) (k', outside.event) refused.1
+      (subst (λ (t : ℕ). kill_of k t ≡ Ok (k', outside.event)) (ap (λ (s : Shape). s.thread) is) kills) refused.2
+]
+
+-- a shape from outside that is refused
+pub no_outside : (p : Program) (k : ConcreteState) (shape : Shape) → shape.outside ≡ true → IsRefused k shape
+    → CannotTake p k shape
+no_outside p k shape foreign why e k' is (inl own) =
+    true_or_false (is_outside e.event) (ap (λ (s : Shape). s.outside) is ∙ foreign) (own_entry p k k' e own)
+no_outside p k shape foreign why e k' is (inr outside) = refused_outside k k' e shape is outside why
 
 -- fewer local steps
 pub too_few : (p : Program) (k : ConcreteState) (shape : Shape) (m : ℕ) (o h : Thread)
@@ -71,7 +93,7 @@ too_few p k shape m o h stands goes none less e k' is enters =
 
 -- no shared step behind the local ones
 pub no_shared : (p q : Program) (k mid : ConcreteState) (shape : Shape) (o h : Thread)
-    → shape.stray ≡ false
+    → shape.outside ≡ false
     → thread_of k shape.thread ≡ Some o → local_after p shape.thread shape.local o ≡ Some h → shape.shared ≡ true
     → q ≡ p → mid ≡ put_thread k shape.thread h
     → ((here : Thread) (event : Event) (k' : ConcreteState) → thread_of mid shape.thread ≡ Some here

@@ -9,7 +9,7 @@ use Rattle.machine.specs.declared.event.StepFault.{StepFault}
 use Rattle.machine.specs.declared.event.StepFault.TheVariants as step
 use Rattle.machine.specs.States.{ConcreteState, state_of, thread_of}
 use Rattle.machine.specs.ConcreteSteps.{step_of, put_thread, can_move}
-use Rattle.machine.specs.ConcreteOutside.{stray_of}
+use Rattle.machine.specs.ConcreteOutside.{kill_of, stray_of}
 use Rattle.runner.specs.declared.fault.RunFault.{RunFault}
 use Rattle.runner.specs.declared.fault.RunFault.TheVariants.{Stray, Limit, CannotMove, Broken, Memory}
 use Rattle.runner.specs.Views.{PieceView, LogState}
@@ -83,6 +83,21 @@ RefusesOutside limit h t CannotMove = (state_of h.concrete).asleep t ≡ None
 RefusesOutside limit h t Broken = ⊥
 RefusesOutside limit h t Limit = ((state_of h.concrete).asleep t ≢ None) × (cost h.log ≡ limit)
 RefusesOutside limit h t Memory = ((state_of h.concrete).asleep t ≢ None) × (cost h.log < limit)
+
+-- thread t was killed: exactly one entry is new, with no local step and the event of the kill
+pub record TakesKill (limit : ℕ) (old : LogState) (t : ℕ) (new : LogState) : Type 0 where
+  pub event : Event
+  pub gives : kill_of old.concrete t ≡ Ok (new.concrete, event)
+  pub log : new.log ≡ old.log ++ record { thread = t; local = 0; event = Some event } ∷ []
+  pub within : cost new.log ≤ limit
+
+-- why a kill is refused: no such thread was made; the limit is reached; or there is no memory
+abbrev pub RefusesKill : ℕ → LogState → ℕ → RunFault → Type 0
+RefusesKill limit h t Stray = ⊥
+RefusesKill limit h t CannotMove = thread_of h.concrete t ≡ None
+RefusesKill limit h t Broken = ⊥
+RefusesKill limit h t Limit = (thread_of h.concrete t ≢ None) × (cost h.log ≡ limit)
+RefusesKill limit h t Memory = (thread_of h.concrete t ≢ None) × (cost h.log < limit)
 
 -- the piece that a thread goes on from
 abbrev pub Begins : ConcreteState → ℕ → PieceView → Type 0

@@ -8,20 +8,27 @@ use Rattle.machine.specs.Views.{concrete}
 use Rattle.runner.specs.declared.report.Report.{Report}
 use Rattle.runner.specs.declared.log_schedule.FollowLogFault.{FollowLogFault}
 use Rattle.runner.specs.declared.log_schedule.FollowLogFault.TheVariants.{BadEntry, Memory}
-use Rattle.runner.specs.Logs.{Runs, Enters, cost, event_cost, is_outside}
+use Rattle.runner.specs.Logs.{Runs, Enters, cost, event_cost, is_kill, is_outside}
 use Rattle.runner.specs.Reports.{IsVerdict}
 
--- the shape of an entry: its thread, its local steps, whether a shared step comes then, and whether that comes from
--- outside
+-- the shape of an entry: its thread, its local steps, whether a shared step comes then, whether that comes from
+-- outside, and whether it is a kill
 pub record Shape : Type 0 where
   pub thread : ℕ
   pub local : ℕ
   pub shared : Bool
-  pub stray : Bool
+  pub outside : Bool
+  pub kill : Bool
 
 abbrev pub shape_of : Entry → Shape
 shape_of e =
-    record { thread = e.thread; local = e.local; shared = is_some e.event; stray = is_outside e.event }
+    record {
+      thread = e.thread;
+      local = e.local;
+      shared = is_some e.event;
+      outside = is_outside e.event;
+      kill = is_kill e.event;
+    }
 
 -- the log is legal and leads there, by entries of these shapes in this order, and has fewer than 2^32 steps
 pub record FollowsLog (p : Program) (shapes : List Shape) (log : List Entry) (k : ConcreteState) : Type 0 where

@@ -8,9 +8,8 @@ use Rattle.machine.specs.declared.event.Entry.{Entry}
 use Rattle.machine.specs.declared.event.Event.{Event}
 use Rattle.machine.specs.States.{ConcreteState, thread_of}
 use Rattle.machine.specs.ConcreteSteps.{step_of, put_thread, can_move}
-use Rattle.machine.specs.ConcreteOutside.{stray_of}
-use Rattle.machine.specs.FrontRuns.{doing_of}
-use Rattle.machine.specs.Runs.{is_own}
+use Rattle.machine.specs.FrontRuns.{OutsideStep, doing_of}
+use Rattle.machine.specs.Runs.{Doing, Own, Strayed, Killed, is_own}
 
 -- the end of an entry: nothing more, or a shared step of the thread with this event
 abbrev pub Ends : Program → ConcreteState → ℕ → Thread → Option Event → ConcreteState → Type 0
@@ -26,12 +25,12 @@ pub record EntersOwn (p : Program) (k : ConcreteState) (e : Entry) (k' : Concret
   pub goes : local_after p e.thread e.local origin ≡ Some here
   pub ends : Ends p (put_thread k e.thread here) e.thread here e.event k'
 
--- the entry is a wake from outside of a thread that sleeps, with no local step before it
+-- the entry is a wake from outside of a thread that sleeps, or a kill of one that was made, with no local step before it
 pub record EntersOutside (k : ConcreteState) (e : Entry) (k' : ConcreteState) : Type 0 where
   pub event : Event
   pub alone : e.local ≡ 0
   pub is : e.event ≡ Some event
-  pub gives : stray_of k e.thread ≡ Ok (k', event)
+  pub gives : OutsideStep k e.thread event k'
 
 -- the entry takes the machine from one state to another
 abbrev pub Enters : Program → ConcreteState → Entry → ConcreteState → Type 0
@@ -41,6 +40,16 @@ Enters p k e k' = EntersOwn p k e k' ⊎ EntersOutside k e k'
 abbrev pub is_outside : Option Event → Bool
 is_outside None = false
 is_outside (Some event) = not (is_own (doing_of event.name event.value))
+
+-- whether it was a kill
+abbrev pub is_killing : Doing → Bool
+is_killing Own = false
+is_killing (Strayed a) = false
+is_killing (Killed begins) = true
+
+abbrev pub is_kill : Option Event → Bool
+is_kill None = false
+is_kill (Some event) = is_killing (doing_of event.name event.value)
 
 -- the entry is its thread's own, by its event
 abbrev pub IsOwnEntry : Entry → Type 0

@@ -1,28 +1,42 @@
--- What comes of a schedule: a step of a thread or a wake from outside, and an entry of the log, for each of its turns.
-use Rattle.std.specs.Prelude.{ℕ, ◌≡◌, ◌+◌, ◌<◌, ◌≤◌, ◌^◌, ◌⊎◌, true, false, cond, List, length, map, take, slice_get}
-use Rattle.std.specs.Prelude.{Some, None, Err}
+-- What comes of a schedule: a step of a thread, or a wake or a kill of it from outside, and an entry of the log, for
+-- each of its turns.
+use Rattle.std.specs.Prelude.{ℕ, ◌≡◌, ◌+◌, ◌<◌, ◌≤◌, ◌^◌, ◌⊎◌, true, false, List, length, map, take, slice_get}
+use Rattle.std.specs.Prelude.{Option, Some, None, Err}
 use Rattle.std.specs.List.{All}
 use Rattle.isa.specs.Programs.{Program}
 use Rattle.machine.specs.declared.event.Entry.{Entry}
+use Rattle.machine.specs.declared.event.Event.{Event}
+use Rattle.machine.specs.FrontRuns.{doing_of}
+use Rattle.machine.specs.Runs.{Doing, Own, Strayed, Killed}
 use Rattle.machine.specs.declared.event.StepFault.TheVariants as step
 use Rattle.machine.specs.States.{ConcreteState, opening_concrete, state_of}
 use Rattle.machine.specs.ConcreteSteps.{step_of, can_move}
 use Rattle.machine.specs.Views.{concrete}
 use Rattle.runner.specs.declared.report.Report.{Report}
 use Rattle.runner.specs.declared.schedule.Turn.{Turn}
-use Rattle.runner.specs.declared.schedule.Turn.TheVariants.{Step, Stray}
+use Rattle.runner.specs.declared.schedule.Turn.TheVariants.{Step, Stray, Kill}
 use Rattle.runner.specs.declared.schedule.ScheduleFault.{ScheduleFault}
 use Rattle.runner.specs.declared.schedule.ScheduleFault.TheVariants.{BadEntry, Broken, Memory}
-use Rattle.runner.specs.Logs.{Runs, event_cost, is_outside}
+use Rattle.runner.specs.Logs.{Runs, event_cost}
 use Rattle.runner.specs.Reports.{IsVerdict}
 
 -- one local step, or one shared step
 abbrev pub IsOneStep : Entry → Type 0
 IsOneStep e = e.local + event_cost e.event ≡ 1
 
--- the turn that an entry was: a wake of its thread from outside, or a step of it
+-- the turn of a thread by what the step was
+abbrev pub turn_by : Doing → ℕ → Turn
+turn_by Own t = Step t
+turn_by (Strayed a) t = Stray t
+turn_by (Killed begins) t = Kill t
+
+abbrev pub turn_by_event : Option Event → ℕ → Turn
+turn_by_event None t = Step t
+turn_by_event (Some event) t = turn_by (doing_of event.name event.value) t
+
+-- the turn that an entry was: a step of its thread, or a wake or a kill of it from outside
 abbrev pub turn_of : Entry → Turn
-turn_of e = cond (is_outside e.event) (Stray e.thread) (Step e.thread)
+turn_of e = turn_by_event e.event e.thread
 
 -- the log is legal and leads there, by one step for each turn, in this order
 pub record Follows (p : Program) (schedule : List Turn) (log : List Entry) (k : ConcreteState) : Type 0 where
@@ -45,15 +59,17 @@ pub record ComesTo (p : Program) (schedule : List Turn) (before : ℕ) (k : Conc
   pub few : before < 2 ^ 32
   pub names : slice_get schedule before ≡ Some turn
 
--- there is no such turn there: its thread can't move, or doesn't sleep
+-- there is no such turn there: its thread can't move, or doesn't sleep, or was never made
 abbrev pub RefusesTurn : ConcreteState → Turn → Type 0
 RefusesTurn k (Step t) = can_move k t ≡ false
 RefusesTurn k (Stray t) = (state_of k).asleep t ≡ None
+RefusesTurn k (Kill t) = (state_of k).thread t ≡ None
 
 -- the turn's step may not be
 abbrev pub BreaksTurn : Program → ConcreteState → Turn → Type 0
 BreaksTurn p k (Step t) = (can_move k t ≡ true) × (step_of p k t ≡ Err step.Broken)
 BreaksTurn p k (Stray t) = ⊥
+BreaksTurn p k (Kill t) = ⊥
 
 -- why the turn of a number is refused
 abbrev pub RefusesSchedule : Program → ConcreteState → ℕ → Turn → ScheduleFault → Type 0

@@ -1,8 +1,8 @@
 ghost use Rattle.std.specs.Prelude.{◌≡◌, ◌≢◌, ◌≤◌, ◌<◌, ◌++◌, ◌∷◌, [], true, None, Some, Ok, IfOk, OnOk, OnErr, IsOk};
 ghost use Rattle.std.specs.Prelude.{vec_len, vec_capacity};
-ghost use Rattle.machine.specs.States.{state_of};
+ghost use Rattle.machine.specs.States.{state_of, thread_of};
 ghost use Rattle.machine.specs.ConcreteSteps.{can_move};
-ghost use Rattle.machine.specs.ConcreteOutside.{stray_of};
+ghost use Rattle.machine.specs.ConcreteOutside.{kill_of, stray_of};
 ghost use Rattle.machine.specs.Views.{concrete};
 ghost use Rattle.runner.specs.Entries.{entry_end};
 
@@ -66,6 +66,28 @@ pub fn enter_outside(
     Ok(event)
 }
 
+/// Takes in a kill of thread `t`, which was made, from outside, as one entry of the log.
+pub fn enter_kill(machine: &mut Machine, log: &mut Vec<Entry>, t: u32) -> Result<Event, AllocError>
+    requires made { thread_of (concrete machine.old) t ≢ None }
+    ensures gives { IfOk result
+        (λ event. kill_of (concrete machine.old) t ≡ Ok (concrete machine.new, event)) }
+    ensures log { IfOk result
+        (λ event. log.new.items
+        ≡ log.old.items ++ record { thread = t; local = 0; event = Some event } ∷ []) }
+    ensures err { OnErr result ((concrete machine.new ≡ concrete machine.old)
+        × (log.new.items ≡ log.old.items)) }
+    ensures program { machine.new.program ≡ machine.old.program }
+{
+    make_room(machine, log)?;
+    let event = kill_from_outside(machine, t);
+    log.push_reserved(Entry {
+        thread: t,
+        local: 0,
+        event: Some(event),
+    });
+    Ok(event)
+}
+
 /// Makes room for one more entry, and for the number that it may print.
 pub fn make_room(machine: &mut Machine, log: &mut Vec<Entry>) -> Result<(), AllocError>
     ensures room { OnOk result ((1 ≤ machine.new.room) × (vec_len log.new < vec_capacity log.new)) }
@@ -103,6 +125,18 @@ pub fn wake_from_outside(machine: &mut Machine, t: u32) -> Event
     ensures program { machine.new.program ≡ machine.old.program }
 {
     match machine.stray(t) {
+        Ok(event) => event,
+        Err(_) => unreachable!(),
+    }
+}
+
+// Kills thread `t`, which was made, from outside.
+fn kill_from_outside(machine: &mut Machine, t: u32) -> Event
+    requires made { thread_of (concrete machine.old) t ≢ None }
+    ensures gives { kill_of (concrete machine.old) t ≡ Ok (concrete machine.new, result) }
+    ensures program { machine.new.program ≡ machine.old.program }
+{
+    match machine.kill(t) {
         Ok(event) => event,
         Err(_) => unreachable!(),
     }

@@ -2,7 +2,7 @@ ghost use Rattle.std.specs.Prelude.{◌≡◌, ◌≤◌, ◌<◌, ◌+◌, ◌^
 ghost use Rattle.locals.specs.Threads.{Thread};
 ghost use Rattle.machine.specs.States.{ConcreteState, thread_of};
 ghost use Rattle.machine.specs.Views.{concrete};
-ghost use Rattle.runner.specs.Logs.{Ends, Enters, event_cost, is_outside};
+ghost use Rattle.runner.specs.Logs.{Ends, Enters, event_cost, is_kill, is_outside};
 ghost use Rattle.runner.specs.declared.log_schedule.FollowLogFault.TheVariants.{Memory};
 ghost use Rattle.runner.specs.LogSchedules.{CannotTake, FailsLogAt, IsFollowedLog, shape_of};
 
@@ -34,8 +34,8 @@ impl From<AllocError> for FollowLogFault {
 }
 
 /// Runs an image by a log, which is taken for a schedule: for each of its entries the same thread takes as many local
-/// steps, and then a shared step where the log's entry has one; a wake from outside is one again. Events are not
-/// compared, so the report's log may have other values.
+/// steps, and then a shared step where the log's entry has one; a wake or a kill from outside is one again. Events
+/// are not compared, so the report's log may have other values.
 ///
 /// The verdict is Limit where some thread can still move. The first entry that can't be taken so is refused.
 pub fn follow_log(alloc: Global, image: &Image, entries: &[Entry]) -> Result<Report, FollowLogFault>
@@ -109,17 +109,27 @@ fn take_turn(machine: &mut Machine, entry: &Entry) -> Option<Entry>
     })
 }
 
-// Whether an entry is a wake from outside.
+// Whether an entry is a wake or a kill from outside.
 fn is_outside(entry: &Entry) -> bool
     ensures { result ≡ is_outside entry.now.event }
 {
     match entry.event {
-        Some(event) => event.name == EventName::Stray,
+        Some(event) => matches!(event.name, EventName::Stray | EventName::Kill),
         None => false,
     }
 }
 
-// Takes a wake from outside of the thread of an entry; None where there is none.
+// Whether an entry is a kill.
+fn is_kill(entry: &Entry) -> bool
+    ensures { result ≡ is_kill entry.now.event }
+{
+    match entry.event {
+        Some(event) => event.name == EventName::Kill,
+        None => false,
+    }
+}
+
+// Takes a wake or a kill from outside of the thread of an entry; None where there is none.
 fn take_outside(machine: &mut Machine, entry: &Entry) -> Option<Entry>
     requires outside { is_outside entry.now.event ≡ true }
     ensures some { IfSome result
@@ -132,13 +142,26 @@ fn take_outside(machine: &mut Machine, entry: &Entry) -> Option<Entry>
     if entry.local > 0 {
         return None;
     }
+    if is_kill(entry) {
+        return match machine.kill(entry.thread) {
+            Ok(event) => Some(alone(entry.thread, event)),
+            Err(_) => None,
+        };
+    }
     match machine.stray(entry.thread) {
-        Ok(event) => Some(Entry {
-            thread: entry.thread,
-            local: 0,
-            event: Some(event),
-        }),
+        Ok(event) => Some(alone(entry.thread, event)),
         Err(_) => None,
+    }
+}
+
+// An entry of this event alone.
+fn alone(thread: u32, event: Event) -> Entry
+    ensures { result ≡ record { thread = thread; local = 0; event = Some event } }
+{
+    Entry {
+        thread,
+        local: 0,
+        event: Some(event),
     }
 }
 

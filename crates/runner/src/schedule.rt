@@ -4,7 +4,7 @@ ghost use Rattle.machine.specs.ConcreteSteps.{step_of, can_move};
 ghost use Rattle.machine.specs.Views.{concrete};
 ghost use Rattle.runner.specs.Logs.{Enters, EntersOutside, EntersOwn};
 ghost use Rattle.runner.specs.declared.schedule.ScheduleFault.TheVariants.{Memory};
-ghost use Rattle.runner.specs.declared.schedule.Turn.TheVariants.{Step, Stray};
+ghost use Rattle.runner.specs.declared.schedule.Turn.TheVariants.{Step, Stray, Kill};
 ghost use Rattle.runner.specs.Schedules.{FailsAt, IsFollowed, IsOneStep, RefusesSchedule, turn_of};
 
 use crate::entering::wake_from_outside;
@@ -22,13 +22,15 @@ pub enum Turn {
     Step(u32),
     /// The thread of this number, which sleeps, is woken from outside, though no thread called for it.
     Stray(u32),
+    /// The thread of this number, which was made, is killed from outside, wherever it stands.
+    Kill(u32),
 }
 
 /// Why a schedule is not followed to its end. Its entries are numbered from 1.
 #[derive(Clone, Copy, PartialEq, Eq, Debug, Error)]
 pub enum ScheduleFault {
     /// The entry of this number is a step of a thread that can't move, or a wake from outside of one that doesn't
-    /// sleep; or its number is past 4294967295.
+    /// sleep, or a kill of one that was never made; or its number is past 4294967295.
     #[error("schedule entry {0}")]
     BadEntry(u64),
     /// The step that the entry of this number is may not be.
@@ -48,7 +50,8 @@ impl From<AllocError> for ScheduleFault {
 }
 
 /// Runs an image by a schedule: each of its turns is one step of the machine, and an entry of the log. A turn
-/// `Turn::Step` is a step of its thread, local or shared; a turn `Turn::Stray` is a wake of its thread from outside.
+/// `Turn::Step` is a step of its thread, local or shared; a turn `Turn::Stray` is a wake of its thread from outside, and
+/// a turn `Turn::Kill` a kill.
 ///
 /// The verdict is Limit where some thread can still move. The first turn that can't be is refused.
 pub fn follow(alloc: Global, image: &Image, schedule: &[Turn]) -> Result<Report, ScheduleFault>
@@ -83,6 +86,7 @@ fn take_turn(machine: &mut Machine, number: u64, turn: Turn) -> Result<Entry, Sc
     match turn {
         Turn::Step(t) => take_own(machine, number, t),
         Turn::Stray(t) => take_stray(machine, number, t),
+        Turn::Kill(t) => take_kill(machine, number, t),
     }
 }
 
@@ -106,7 +110,8 @@ fn take_own(machine: &mut Machine, number: u64, t: u32) -> Result<Entry, Schedul
 // Wakes thread `t` from outside, if it sleeps.
 fn take_stray(machine: &mut Machine, number: u64, t: u32) -> Result<Entry, ScheduleFault>
     ensures ok { IfOk result
-        (λ e. EntersOutside (concrete machine.old) e (concrete machine.new) × (e.thread ≡ t)) }
+        (λ e. EntersOutside (concrete machine.old) e (concrete machine.new)
+        × (turn_of e ≡ Stray t)) }
     ensures err { IfErr result
         (λ fault. RefusesSchedule machine.old.program (concrete machine.old) number (Stray t) fault) }
     ensures program { machine.new.program ≡ machine.old.program }
@@ -120,6 +125,26 @@ fn take_stray(machine: &mut Machine, number: u64, t: u32) -> Result<Entry, Sched
         local: 0,
         event: Some(event),
     })
+}
+
+// Kills thread `t` from outside, if it was made.
+fn take_kill(machine: &mut Machine, number: u64, t: u32) -> Result<Entry, ScheduleFault>
+    requires few { number < 2 ^ 32 }
+    ensures ok { IfOk result
+        (λ e. EntersOutside (concrete machine.old) e (concrete machine.new)
+        × (turn_of e ≡ Kill t)) }
+    ensures err { IfErr result
+        (λ fault. RefusesSchedule machine.old.program (concrete machine.old) number (Kill t) fault) }
+    ensures program { machine.new.program ≡ machine.old.program }
+{
+    match machine.kill(t) {
+        Ok(event) => Ok(Entry {
+            thread: t,
+            local: 0,
+            event: Some(event),
+        }),
+        Err(_) => Err(ScheduleFault::BadEntry(number)),
+    }
 }
 
 // Takes a step of thread `t`, which is an entry of its own. It is refused where the step may not be.

@@ -6,6 +6,7 @@ ghost use Rattle.machine.specs.ConcreteSteps.{can_move};
 ghost use Rattle.std.specs.List.{All};
 ghost use Rattle.runner.specs.Logs.{Runs, IsOwnEntry, cost};
 ghost use Rattle.runner.specs.Entries.{Takes, TakesOutside, RefusesEntry, RefusesOutside, IsFine, Stands};
+ghost use Rattle.runner.specs.Entries.{TakesKill, RefusesKill};
 ghost use Rattle.runner.specs.Nexts.{IsNext};
 ghost use Rattle.runner.specs.Afters.{IsAfter};
 ghost use Rattle.runner.specs.Reports.{CanFail, MeetsBroken};
@@ -13,7 +14,7 @@ ghost use Rattle.runner.specs.declared.fault.RunFault;
 ghost use Rattle.machine.specs.Views.{concrete};
 ghost use Rattle.runner.specs.Views.{log_state};
 
-use crate::entering::{enter, enter_outside, make_room};
+use crate::entering::{enter, enter_kill, enter_outside, make_room};
 use crate::fault::RunFault;
 use crate::in_place::take_entry;
 use crate::naming::RunName;
@@ -297,6 +298,38 @@ impl<J: RunName> Shared<J> {
             return Err(RunFault::Limit);
         }
         if enter_outside(&mut self.machine, &mut self.log, t).is_err() {
+            return Err(RunFault::Memory);
+        }
+        self.steps += 1;
+        share.count_one(&mut self.book);
+        Ok(())
+    }
+
+    /// Kills thread `t`, which was made, from outside: a step of no thread, and one entry of the log. The share counts
+    /// it. A thread that is dying, in its exit or has ended isn't changed; of another a piece that is out is refused as
+    /// `Stray` from then on, since the thread's state is another one.
+    ///
+    /// Refuses in this order: `CannotMove` where no such thread was made, `Limit`, `Memory`; then nothing has changed.
+    pub fn kill(&mut self, t: u32, share: &mut Share<J>) -> Result<(), RunFault>
+        requires strays { J.strays ≡ true }
+        ensures ok { OnOk result (TakesKill J.limit (log_state self.old) t (log_state self.new)) }
+        ensures counted { OnOk result (share.new
+            ≡ record share.old { count = share.old.count + 1 }) }
+        ensures err { IfErr result (λ fault. (log_state self.new ≡ log_state self.old)
+            × (share.new ≡ share.old)
+            × RefusesKill J.limit (log_state self.old) t fault) }
+        ensures given { self.new.given ≡ self.old.given }
+        ensures legal { Runs J.program (opening_concrete J.program) self.new.log
+            (log_state self.new).concrete }
+        ensures within { cost self.new.log ≤ J.limit }
+    {
+        if !self.machine.is_made(t) {
+            return Err(RunFault::CannotMove);
+        }
+        if self.limit == self.steps {
+            return Err(RunFault::Limit);
+        }
+        if enter_kill(&mut self.machine, &mut self.log, t).is_err() {
             return Err(RunFault::Memory);
         }
         self.steps += 1;

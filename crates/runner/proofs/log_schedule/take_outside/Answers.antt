@@ -1,4 +1,4 @@
-use Rattle.std.proofs.Common.{inl, inr}
+use Rattle.std.proofs.Common.{sym, ◌∙◌, inl, inr}
 use Rattle.machine.specs.Views.{concrete}
 use Rattle.runner.specs.LogSchedules.{shape_of}
 use Rattle.runner.proofs.Turning.{no_outside}
@@ -12,4 +12,4 @@ returns-then-entry-gt0-clause-none c =
 pub returns-in-Err-clause-none : goal.returns-in-Err-clause-none
 returns-in-Err-clause-none c =
     no_outside c.args.machine.now.program (concrete c.args.machine.now) (shape_of c.args.entry.now) c.requires.outside
-    (inr (c.in-Err.field-0, c.in-Err.ensures.err.0))
+    (inr (inr (sym c.is_kill.ensures ∙ c.if-is_kill.true, c.in-Err.field-0, c.in-Err.ensures.err.0)))

@@ -5,7 +5,7 @@ use Rattle.runner.specs.LogSchedules.{shape_of}
 use Rattle.runner.specs.Logs.{EntersOwn, is_outside}
 use Rattle.runner.proofs.Growing.{entry}
 use Rattle.runner.proofs.Once.{still_made}
-use Rattle.runner.proofs.Owning.{own_entry}
+use Rattle.runner.proofs.Owning.{calm_kill, own_entry}
 use Rattle.runner.proofs.Turning.{no_mover, no_shared, takes_shared, too_few}
 use Rattle.runner.proofs.log_schedule.take_turn.Goals as goal
 
@@ -54,13 +54,16 @@ returns-then-is_some-clause-some c =
     c.args.entry.now.local r.origin r.here event (sym c.can_move.ensures ∙ c.if-not-can_move.false) r.stands
     (subst (λ (n : ℕ). local_after old.program c.args.entry.now.thread n r.origin ≡ Some r.here) count r.goes)
     (ap (λ v. v.program) r.after) (ap concrete r.after) c.in-Some.ensures.some in
+    let calm = sym c.is_outside.ensures ∙ c.if-is_outside.false in
     let told : is_outside (Some event) ≡ is_outside c.args.entry.now.event =
-    own_entry old.program (concrete old) new one enters ∙ sym (sym c.is_outside.ensures ∙ c.if-is_outside.false) in (
+    own_entry old.program (concrete old) new one enters ∙ sym calm in (
       inl enters,
       λ i. record {
         thread = c.args.entry.now.thread;
         local = c.args.entry.now.local;
         shared = sym shared i;
-        stray = told i;
+        outside = told i;
+        kill = (calm_kill (Some event) (own_entry old.program (concrete old) new one enters)
+            ∙ sym (calm_kill c.args.entry.now.event calm)) i;
       },
     )

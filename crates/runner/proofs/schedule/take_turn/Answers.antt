@@ -12,8 +12,19 @@ returns-in-Step-clause-ok c =
 pub returns-in-Stray-clause-ok : goal.returns-in-Stray-clause-ok
 returns-in-Stray-clause-ok c =
     outside_taken c.args.machine.now.program (concrete c.args.machine.now) (concrete c.take_stray.new.machine)
-    c.args.number c.in-Stray.t c.args.turn c.take_stray.result c.in-Stray.is
+    c.args.number c.args.turn _ c.take_stray.result c.in-Stray.is
     (omega (arith, c.if-number-from.false, c.from.ensures)) c.take_stray.ensures.ok
+
+pub returns-in-Kill-clause-ok : goal.returns-in-Kill-clause-ok
+returns-in-Kill-clause-ok c =
+    outside_taken c.args.machine.now.program (concrete c.args.machine.now) (concrete c.take_kill.new.machine)
+    c.args.number c.args.turn _ c.take_kill.result c.in-Kill.is
+    (omega (arith, c.if-number-from.false, c.from.ensures)) c.take_kill.ensures.ok
+
+pub returns-in-Kill-clause-err : goal.returns-in-Kill-clause-err
+returns-in-Kill-clause-err c =
+    refused_so c.args.machine.now.program (concrete c.args.machine.now) c.args.number c.args.turn _
+    c.take_kill.result c.in-Kill.is c.take_kill.ensures.err
 
 pub returns-in-Step-clause-err : goal.returns-in-Step-clause-err
 returns-in-Step-clause-err c =

@@ -1,5 +1,5 @@
 -- The log has one entry more, which is the wake.
-use Rattle.std.proofs.Common.{[], ◌∷◌, Some, length, length-append, ap, arith}
+use Rattle.std.proofs.Common.{[], ◌∷◌, Some, length, length-append, ap, arith, inl}
 use Rattle.machine.specs.Views.{concrete}
 use Rattle.runner.proofs.Growing.{entered, entry, keeps_outside}
 use Rattle.runner.proofs.shared.Shared.stray.Goals as goal
@@ -14,7 +14,7 @@ invariant_of-self-2 g c =
     let grows = ap length took.2 in (
       keeps_outside g.J.RunName.program g.J.RunName.strays s.machine.program e.new.machine.program g.J.RunName.limit
           (concrete s.machine) (concrete e.new.machine) s.log.items e.new.log.items c.args.t s.steps s.limit took.0
-          c.requires.strays c.self.invariant.0 e.ensures.program c.if-self.false took.1 took.2,
+          c.requires.strays c.self.invariant.0 e.ensures.program c.if-self.false (inl took.1) took.2,
       record {
         total = omega (
           arith,
@@ -37,4 +37,4 @@ returns-clause-legal g c =
     e.ensures.log in
     (keeps_outside g.J.RunName.program g.J.RunName.strays s.machine.program e.new.machine.program g.J.RunName.limit
     (concrete s.machine) (concrete e.new.machine) s.log.items e.new.log.items c.args.t s.steps s.limit took.0
-    c.requires.strays c.self.invariant.0 e.ensures.program c.if-self.false took.1 took.2).legal
+    c.requires.strays c.self.invariant.0 e.ensures.program c.if-self.false (inl took.1) took.2).legal

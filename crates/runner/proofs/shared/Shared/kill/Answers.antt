@@ -1,0 +1,40 @@
+-- The log has one entry more, which is the kill.
+use Rattle.std.proofs.Common.{[], ◌∷◌, Some, length, length-append, ap, sym, arith, inr}
+use Rattle.machine.specs.Views.{concrete}
+use Rattle.runner.proofs.Growing.{entered, entry, keeps_outside}
+use Rattle.runner.proofs.shared.Shared.kill.Goals as goal
+
+pub invariant_of-self-2 : goal.invariant_of-self-2
+invariant_of-self-2 g c =
+    let s = c.self.inside in
+    let e = c.enter_kill in
+    let counted = c.self.invariant.1 in
+    let took = entered _ _ e.result c.is_err.result c.is_err.ensures.value c.if-is_err.false e.ensures.gives
+    e.ensures.log in
+    let grows = ap length took.2 in (
+      keeps_outside g.J.RunName.program g.J.RunName.strays s.machine.program e.new.machine.program g.J.RunName.limit
+          (concrete s.machine) (concrete e.new.machine) s.log.items e.new.log.items c.args.t s.steps s.limit took.0
+          c.requires.strays c.self.invariant.0 e.ensures.program (λ e. c.if-self.false (sym e)) (inr took.1) took.2,
+      record {
+        total = omega (
+          arith,
+          c.count_one.ensures.total,
+          counted.total,
+          grows,
+          length-append s.log.items (entry c.args.t 0 (Some took.0) ∷ []),
+        );
+        whole = counted.whole;
+        unused = counted.unused;
+        parts = counted.parts;
+      },
+    )
+
+pub returns-clause-legal : goal.returns-clause-legal
+returns-clause-legal g c =
+    let s = c.self.inside in
+    let e = c.enter_kill in
+    let took = entered _ _ e.result c.is_err.result c.is_err.ensures.value c.if-is_err.false e.ensures.gives
+    e.ensures.log in
+    (keeps_outside g.J.RunName.program g.J.RunName.strays s.machine.program e.new.machine.program g.J.RunName.limit
+    (concrete s.machine) (concrete e.new.machine) s.log.items e.new.log.items c.args.t s.steps s.limit took.0
+    c.requires.strays c.self.invariant.0 e.ensures.program (λ e. c.if-self.false (sym e)) (inr took.1) took.2).legal
