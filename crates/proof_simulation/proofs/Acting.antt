@@ -48,13 +48,14 @@ use Rattle.proof_simulation.specs.Corresponding.{Corresponds, IsBefore, Reached}
 use Rattle.proof_simulation.proofs.Sourcing.{action, state_after}
 use Rattle.proof_simulation.proofs.Standings.{first_in}
 use Rattle.proof_simulation.proofs.Worlds.{reached_on, reached_good, shares_at}
-use Rattle.proof_simulation.proofs.Moving.{Puts, put_puts, same_puts, HasNow, Next, moved}
+use Rattle.proof_simulation.proofs.Moving.{Puts, put_puts, same_puts, HasNow, Next, moved, raised_still, raised_none}
 use Rattle.proof_simulation.proofs.Completions.{variable_loaded, variable_stored}
 use Rattle.proof_simulation.proofs.Deferred.{own_kind, internal_kind, stands_open, holder, may_defer}
 use Rattle.proof_simulation.proofs.Templating.{works_on}
 use Rattle.lowering.specs.declared.mark.Mark.TheVariants.{AssignLocal, Test, Call, Return}
-use Rattle.proof_simulation.specs.Deferred.{stages, stage_of, is_failing, Works}
+use Rattle.proof_simulation.specs.Deferred.{stages, stage_of, is_failing, Works, notified_at, raised_at}
 use Rattle.lowering.specs.declared.mark.Mark.{Mark}
+use Rattle.std.specs.Prelude.{is_some}
 
 -- a thread is where it goes, takes a local step towards it, or loads a variable in view
 pub data FirstStep (image : MarkedImage) (t : ℕ) (s : View) (n : ℕ) (x z : Thread) : Type 0 where
@@ -127,22 +128,25 @@ has_now w u m (inr e) =
     or_right (mem m (w.at u).list) (own (entry_at (w.at u).point) m) (ap (λ y. own y m) e ∙ eq-eqb m m refl)
 
 module _ (p : Program) (w : WellFormed p) (steps : ℕ) (s : State) (c : SourceState) (k : Corresponds p w steps s c)
-    (t : ℕ) (woken : List ℕ) (done : Bool) (deferral : Option Kind) (pauses : Bool) (s' : State) (n : ℕ) where
+    (t : ℕ) (woken : List ℕ) (done raises : Bool) (deferral : Option Kind) (pauses : Bool) (s' : State) (n : ℕ) where
   abbrev b : Build
   b = build_of p w k.world.made
 
-  pub next_at : (mid : State) → s' ≡ mid → Next p w steps mid t done deferral pauses n c (stages k.world)
-      → Next p w steps s' t done deferral pauses n c (stages k.world)
+  pub next_at : (mid : State) → s' ≡ mid → Next p w steps mid t done raises deferral pauses n c (stages k.world)
+      (raised_at k.world)
+      → Next p w steps s' t done raises deferral pauses n c (stages k.world) (raised_at k.world)
   next_at mid same next =
-      subst (λ (x : State). Next p w steps x t done deferral pauses n c (stages k.world)) (sym same) next
+      subst (λ (x : State). Next p w steps x t done raises deferral pauses n c (stages k.world) (raised_at k.world))
+      (sym same) next
 
   -- a local step, and no move: a thread stands where it stood, with fewer steps left
-  pub remains : done ≡ false → deferral ≡ None → (y : Thread) (q : Process) (pt : Point) (l : List ℕ)
+  pub remains : done ≡ false → deferral ≡ None → raises ≡ false → (y : Thread) (q : Process) (pt : Point) (l : List ℕ)
       → c.process t ≡ Some q
       → (k.world.at t).point ≡ pt → (k.world.at t).list ≡ l → s' ≡ with_thread s t y
       → (stand : StandsAt b c.variable t (Some y) (Some q) pt l)
-      → steps_left b c.variable t k.world stand < n → Next p w steps s' t done deferral pauses n c (stages k.world)
-  remains none plain y q pt l proc point list same stand less =
+      → steps_left b c.variable t k.world stand < n
+      → Next p w steps s' t done raises deferral pauses n c (stages k.world) (raised_at k.world)
+  remains none plain low y q pt l proc point list same stand less =
       let here : k.world.at t ≡ thread_at pt l =
       ap (λ (i : Point). thread_at i (k.world.at t).list) point ∙ ap (λ (i : List ℕ). thread_at pt i) list in
       let at = put_here k.world.at t (thread_at pt l) here in
@@ -174,6 +178,9 @@ module _ (p : Program) (w : WellFormed p) (steps : ℕ) (s : State) (c : SourceS
         leads = refl;
         stage = stage_of pt;
         staged = m.staged;
+        raised = λ u. m.raised u ∙ ap (λ b. put (raised_at k.world) t b u)
+            (ap (λ (i : Point). is_some (notified_at i)) (sym point) ∙ raised_still done raises (raised_at k.world t)
+            none low);
         places = nothing none plain (inl (ap stage_of (sym point))) refl;
         paced = λ z. inr (subst (λ (i : ℕ). i < n) (sym m.is) less);
       })
@@ -186,31 +193,32 @@ module _ (p : Program) (w : WellFormed p) (steps : ℕ) (s : State) (c : SourceS
     -- a thread on its way to what its process does next
     pub works_step : (x : Thread) (left : ℕ) → left ≤ most_steps b + template_steps
         → (h : Proceeds b t c.variable left x q) → IsAtWork p q c.variable → left + before_template ≤ n
-        → StepsSo p done deferral (mark_of (marks_of p) x) s t woken (look (code_of p) t x) s'
-        → (x ≡ h.last) ⊎ Next p w steps s' t done deferral pauses n c (stages k.world)
+        → StepsSo p done raises deferral (mark_of (marks_of p) x) s t woken (look (code_of p) t x) s'
+        → (x ≡ h.last) ⊎ Next p w steps s' t done raises deferral pauses n c (stages k.world) (raised_at k.world)
     works_step x left few h work enough moves =
         by_step (first_step (marked_image p) t (view_of b q c.variable) left x h.last h.walk)
       where
-        on : done ≡ false → deferral ≡ None → (y : Thread) (m : ℕ) → suc m ≤ left
+        on : done ≡ false → deferral ≡ None → raises ≡ false → (y : Thread) (m : ℕ) → suc m ≤ left
             → WalksWithin (marked_image p) t (view_of b q c.variable) m y h.last
-            → s' ≡ with_thread s t y → Next p w steps s' t done deferral pauses n c (stages k.world)
-        on none plain y m less walk same = remains none plain y q Runs (holds q) proc point list same
+            → s' ≡ with_thread s t y
+            → Next p w steps s' t done raises deferral pauses n c (stages k.world) (raised_at k.world)
+        on none plain low y m less walk same = remains none plain low y q Runs (holds q) proc point list same
             (works m (omega (arith, less, few)) (record { last = h.last; walk = walk; completes = h.completes }) work)
             (omega (arith, less, enough))
 
         by_step : FirstStep (marked_image p) t (view_of b q c.variable) left x h.last
-            → (x ≡ h.last) ⊎ Next p w steps s' t done deferral pauses n c (stages k.world)
+            → (x ≡ h.last) ⊎ Next p w steps s' t done raises deferral pauses n c (stages k.world) (raised_at k.world)
         by_step (at_end e) = inl e
         by_step (goes_on y m e plain less walk) =
-            let g : StepsSo p done deferral (mark_of (marks_of p) x) s t woken (Goes y) s' =
-            subst (λ (l : Look). StepsSo p done deferral (mark_of (marks_of p) x) s t woken l s') e moves in
-            inr (on g.2 (g.3 ∙ plain) y m less walk g.1)
+            let g : StepsSo p done raises deferral (mark_of (marks_of p) x) s t woken (Goes y) s' =
+            subst (λ (l : Look). StepsSo p done raises deferral (mark_of (marks_of p) x) s t woken l s') e moves in
+            inr (on g.2 (g.3 ∙ plain) g.4 y m less walk g.1)
         by_step (loads_on a word go m e shown less walk) =
-            let g : StepsSo p done deferral (mark_of (marks_of p) x) s t woken (Asks (AskLoad a) go) s' =
-            subst (λ (l : Look). StepsSo p done deferral (mark_of (marks_of p) x) s t woken l s') e moves in
+            let g : StepsSo p done raises deferral (mark_of (marks_of p) x) s t woken (Asks (AskLoad a) go) s' =
+            subst (λ (l : Look). StepsSo p done raises deferral (mark_of (marks_of p) x) s t woken l s') e moves in
             let value : g.0 ≡ word =
             g.2.1.1.0 ∙ ap s.word shown.there ∙ k.variables shown.member shown.index shown.variable ∙ sym shown.shown in
-            inr (on (g.4 ∙ variable_loaded p shown.member shown.index a g.0 shown.variable shown.there) g.5
+            inr (on (g.4 ∙ variable_loaded p shown.member shown.index a g.0 shown.variable shown.there) g.5 g.6
             (go word) m less
             walk (g.3 ∙ ap (λ (i : State). with_thread i t (go g.0)) g.2.1.1.1
             ∙ ap (λ i. with_thread s t (go i)) value))
@@ -231,10 +239,10 @@ module _ (p : Program) (w : WellFormed p) (steps : ℕ) (s : State) (c : SourceS
         → c.variable m i j ≡ variables_after effect c.variable m i j)
         → Places p (with_thread mid t y) t c (state_after c t effect r c.table) done deferral (stages k.world t) Works
         (kind_of label ∷ [])
-        → s' ≡ with_thread mid t y → Next p w steps s' t done deferral pauses n c (stages k.world)
+        → raises ≡ false → s' ≡ with_thread mid t y
+        → Next p w steps s' t done raises deferral pauses n c (stages k.world) (raised_at k.world)
     does mid label effect y r takes alone mine others kept stands size most made thread output shares variables fit same
-        places
-        e =
+        places low e =
         let c' = state_after c t effect r c.table in
         let stand = works_on p w k.world.made c'.variable t y y r fit
         (record { count = 0; few = omega arith; walk = stays }) stands in
@@ -280,11 +288,13 @@ module _ (p : Program) (w : WellFormed p) (steps : ℕ) (s : State) (c : SourceS
           );
           stage = Works;
           staged = m.staged;
+          raised = λ u. m.raised u ∙ ap (λ b. put (raised_at k.world) t b u)
+              (raised_none done raises (raised_at k.world t) low (ap (λ (i : Point). is_some (notified_at i)) point));
           places = places;
           paced = λ z. inl tt;
         })
 
-    module _ (x : Thread) (work : IsAtWork p q c.variable) (moves : StepsSo p done deferral (mark_of
+    module _ (x : Thread) (work : IsAtWork p q c.variable) (moves : StepsSo p done raises deferral (mark_of
         (marks_of p) x) s t woken (look (code_of p) t x) s') where
       takes_up : (l : Label) (effect : Effect) (r : Process) → offer p c.variable q ≡ Does l effect r
           → TakesUp (offer p c.variable q) l effect r
@@ -293,10 +303,10 @@ module _ (p : Program) (w : WellFormed p) (steps : ℕ) (s : State) (c : SourceS
       pub acts_step : (kind : Kind) (y : Thread) (r : Process) → IsInternal kind → look (code_of p) t x ≡ Goes y
           → deferred_by_mark (mark_of (marks_of p) x) ≡ Some kind
           → offer p c.variable q ≡ Does (Alone kind) Nothing r → Stands b t y r
-          → Next p w steps s' t done deferral pauses n c (stages k.world)
+          → Next p w steps s' t done raises deferral pauses n c (stages k.world) (raised_at k.world)
       acts_step kind y r mine h mark o stands =
-          let g : StepsSo p done deferral (mark_of (marks_of p) x) s t woken (Goes y) s' =
-          subst (λ (l : Look). StepsSo p done deferral (mark_of (marks_of p) x) s t woken l s') h moves in
+          let g : StepsSo p done raises deferral (mark_of (marks_of p) x) s t woken (Goes y) s' =
+          subst (λ (l : Look). StepsSo p done raises deferral (mark_of (marks_of p) x) s t woken l s') h moves in
           let takes = takes_up (Alone kind) Nothing r o in
           does s (Alone kind) Nothing y r takes tt (own_kind kind mine) refl
           (held_of (holds q) r (work.keeps (Alone kind) Nothing r tt takes)) stands refl refl refl refl k.output
@@ -304,14 +314,15 @@ module _ (p : Program) (w : WellFormed p) (steps : ℕ) (s : State) (c : SourceS
           (waits _ _ (Alone kind) g.2 (g.3 ∙ mark) (ap stage_of point) (no_fault (mark_of
           (marks_of p) x) kind mark) proc
           (may_defer p w steps s c k t q r (Alone kind) list work.steady
-          (internal_kind kind mine) takes refl (stands_open b t y r stands)) refl) g.1
+          (internal_kind kind mine) takes refl (stands_open b t y r stands)) refl) g.4 g.1
 
       pub prints_step : (v : ℕ) (go : ℕ → Thread) (r : Process) → look (code_of p) t x ≡ Asks (AskPrint v) go
           → offer p c.variable q ≡ Does (Alone (L.Print (signed_of v))) (Writes (signed_of v)) r
-          → ((answer : ℕ) → Stands b t (go answer) r) → Next p w steps s' t done deferral pauses n c (stages k.world)
+          → ((answer : ℕ) → Stands b t (go answer) r)
+          → Next p w steps s' t done raises deferral pauses n c (stages k.world) (raised_at k.world)
       prints_step v go r h o stands =
-          let g : StepsSo p done deferral (mark_of (marks_of p) x) s t woken (Asks (AskPrint v) go) s' =
-          subst (λ (l : Look). StepsSo p done deferral (mark_of (marks_of p) x) s t woken l s') h moves in
+          let g : StepsSo p done raises deferral (mark_of (marks_of p) x) s t woken (Asks (AskPrint v) go) s' =
+          subst (λ (l : Look). StepsSo p done raises deferral (mark_of (marks_of p) x) s t woken l s') h moves in
           let z = signed_of v in
           let takes = takes_up (Alone (L.Print z)) (Writes z) r o in
           does (record s { output = s.output ++ z ∷ [] }) (Alone (L.Print z)) (Writes z) (go g.0) r takes tt tt refl
@@ -319,7 +330,7 @@ module _ (p : Program) (w : WellFormed p) (steps : ℕ) (s : State) (c : SourceS
           (ap (λ (zs : List ℤ). zs ++ z ∷ []) k.output) k.shares k.variables k.fit (λ u m d i j e. refl)
           (acts _ _ (Alone (L.Print z)) (Writes z) c.table g.4 refl refl proc takes refl tt
           (λ m j i other. refl) tt refl)
-          (g.3 ∙ ap (λ (m : State). with_thread m t (go g.0)) g.2.1.1)
+          g.6 (g.3 ∙ ap (λ (m : State). with_thread m t (go g.0)) g.2.1.1)
 
       module _ (m : Member) (i : ℕ) (z : ℤ) (first : HasFirst q m.monitor) (is : IsVariable p m i)
           (fits : ValueFits (most_of p.version) k.world.made (member_type p m) z) where
@@ -380,11 +391,13 @@ module _ (p : Program) (w : WellFormed p) (steps : ℕ) (s : State) (c : SourceS
         pub stores_step : (go : ℕ → Thread) (r : Process)
             → look (code_of p) t x ≡ Asks (AskStore (variable_address p m i) (word_of z)) go
             → offer p c.variable q ≡ Does (Stores m.monitor) (Puts' m.monitor m.number i z) r
-            → ((answer : ℕ) → Stands b t (go answer) r) → Next p w steps s' t done deferral pauses n c (stages k.world)
+            → ((answer : ℕ) → Stands b t (go answer) r)
+            → Next p w steps s' t done raises deferral pauses n c (stages k.world) (raised_at k.world)
         stores_step go r h o stands =
             let a = variable_address p m i in
-            let g : StepsSo p done deferral (mark_of (marks_of p) x) s t woken (Asks (AskStore a (word_of z)) go) s' =
-            subst (λ (l : Look). StepsSo p done deferral (mark_of (marks_of p) x) s t woken l s') h moves in
+            let g : StepsSo p done raises deferral (mark_of (marks_of p) x) s t woken (Asks (AskStore a (word_of z))
+            go) s' =
+            subst (λ (l : Look). StepsSo p done raises deferral (mark_of (marks_of p) x) s t woken l s') h moves in
             let effect = Puts' m.monitor m.number i z in
             let mine = holder p w steps s c k t m.monitor listed in
             let takes = takes_up (Stores m.monitor) effect r o in
@@ -396,4 +409,4 @@ module _ (p : Program) (w : WellFormed p) (steps : ℕ) (s : State) (c : SourceS
             (word_of z) g.0 is) refl refl proc takes refl
             mine (λ d j a other. variable_at (λ (v : ℤ). v ≡ c.variable d j a) c.variable m.monitor m.number i z d j a
             (λ e f h. absurd (other (ap c.table.hold e ∙ mine))) (λ no. refl)) tt refl)
-            (g.3 ∙ ap (λ (e : State). with_thread e t (go g.0)) g.2.1.1.1)
+            g.6 (g.3 ∙ ap (λ (e : State). with_thread e t (go g.0)) g.2.1.1.1)

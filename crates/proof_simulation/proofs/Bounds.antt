@@ -12,12 +12,13 @@ use Rattle.protocol.specs.Points.{GotHeads, GotUnpends, WaitReads, NotifyAdds, N
 use Rattle.protocol.specs.Points.{BroadcastMarks, BroadcastReads, BroadcastMoves, JoinReads, JoinSleeps, JoinLearns}
 use Rattle.protocol.specs.Points.{JoinTakes, LeavePends, LeaveReads, LeaveHeads, LeaveSwaps, LeaveWakes, HasLeft, Dies}
 use Rattle.protocol.specs.Points.{MeetsClaimed, LeaveLoads, LeaveKeeps, LeaveClears, Walks, ClearsId, LastWakes, HasEnded}
+use Rattle.protocol.specs.Served.{is_pending}
 use Rattle.protocol.specs.World.{World}
 use Rattle.proof_thread.specs.Following.{Build}
 use Rattle.refinement.specs.Built.{build_of}
 use Rattle.refinement.specs.Pace.{stretch_length}
-use Rattle.proof_simulation.specs.Standing.{StandsAt, unmade, works, returns, inside, faults, refused, reads, sleeps}
-use Rattle.proof_simulation.specs.Standing.{learns, takes, walks, clears, wakes, rests}
+use Rattle.proof_simulation.specs.Standing.{StandsAt, unmade, works, returns, inside, faults, killed, refused, reads}
+use Rattle.proof_simulation.specs.Standing.{sleeps, learns, takes, walks, clears, wakes, rests}
 use Rattle.proof_simulation.specs.Ranks.{rank, steps_left, more_steps, most_left}
 
 either_few : (b : Bool) (x y n : ℕ) → x ≤ n → y ≤ n → (if b then x else y) ≤ n
@@ -61,7 +62,7 @@ rank_few more w big (HasLeft m ToExit) = omega arith
 rank_few more w big (HasLeft m (ToWait c s)) = omega arith
 rank_few more w big (Dies cause x) = omega arith
 rank_few more w big (Walks zero x end) = omega arith
-rank_few more w big (Walks (suc m) x end) = omega arith
+rank_few more w big (Walks (suc m) x end) = either_few (is_pending x m) 4 1 _ (omega arith) (omega arith)
 rank_few more w big (ClearsId end) = omega arith
 rank_few more w big (LastWakes end) = omega arith
 rank_few more w big Unmade = omega arith
@@ -80,13 +81,15 @@ module _ (b : Build) (v : Variables) (t : ℕ) (w : World) where
   left_few (returns r fits h mark) = omega arith
   left_few (inside {pt = pt} left k u few walk fits same ne stands) = let r = at_most pt in omega (arith, few, r)
   left_few (faults fault) = omega arith
+  left_few (killed of) = omega arith
   left_few (refused left few h o s) = omega (arith, few)
   left_few (reads {child = child} left few c j h) = let r = at_most (JoinReads child) in omega (arith, few, r)
   left_few (sleeps left few c j h) = omega (arith, few)
   left_few (learns left few c j h) = omega (arith, few)
   left_few (takes left few c j h) = omega (arith, few)
-  left_few (walks {e = zero} phase is short end) = omega arith
-  left_few (walks {e = suc m} phase is short end) = omega arith
+  left_few (walks {e = zero} phase is short end of) = omega arith
+  left_few (walks {e = suc m} {x = x} phase is short end of) =
+      either_few (is_pending x m) 4 1 _ (omega arith) (omega arith)
   left_few clears = omega arith
   left_few wakes = omega arith
   left_few rests = omega arith

@@ -42,15 +42,16 @@ use Rattle.proof_simulation.specs.Standing.{StandsAt, IsAtWork, reads, refused a
 use Rattle.proof_simulation.specs.Ranks.{steps_left}
 use Rattle.proof_simulation.specs.Serving.{Keeps}
 use Rattle.proof_simulation.specs.Corresponding.{Reached, IsBefore, Corresponds}
-use Rattle.proof_simulation.proofs.Moving.{Puts, put_puts, same_puts, AreOwn, IsSome, Next, moved}
+use Rattle.proof_simulation.proofs.Moving.{Puts, put_puts, same_puts, AreOwn, IsSome, Next, moved, raised_none}
 use Rattle.proof_simulation.proofs.Sourcing.{act, action, state_after}
 use Rattle.proof_simulation.proofs.Worlds.{reached_on, reached_good, shares_at, shares_stored}
-use Rattle.proof_simulation.specs.Deferred.{stages, stage_of}
+use Rattle.proof_simulation.specs.Deferred.{stages, stage_of, notified_at, raised_then, raised_at}
+use Rattle.std.proofs.Common.{is_some, false}
 use Rattle.proof_thread.specs.Deferrals.{mark_of}
 
 module _ (p : Program) (w : WellFormed p) (steps : ℕ) (s : State) (c : SourceState) (k : Corresponds p w steps s c)
-    (t : ℕ) (woken : List ℕ) (done : Bool) (deferral : Option Kind) (pauses : Bool) (s' : State) (n : ℕ) (number :
-    (0 < t) × (t ≤ k.world.made))
+    (t : ℕ) (woken : List ℕ) (done raises : Bool) (deferral : Option Kind) (pauses : Bool) (s' : State) (n : ℕ)
+    (number : (0 < t) × (t ≤ k.world.made))
     (few : k.world.made ≤ most_of p.version) (awake : k.world.asleep t ≡ None) (q : Process)
     (proc : c.process t ≡ Some q)
     (point : (k.world.at t).point ≡ Runs) (list : (k.world.at t).list ≡ holds q) where
@@ -73,9 +74,11 @@ module _ (p : Program) (w : WellFormed p) (steps : ℕ) (s : State) (c : SourceS
         process = f;
       }) done deferral (stages k.world t) (stage_of pt) kinds
       → IsSome kinds ⊎ (steps_left (build_of p w w2.made) c.variable t (go_list w2 t pt l) stands < n)
-      → s' ≡ with_thread mid t y → Next p w steps s' t done deferral pauses n c (stages k.world)
+      → is_some (notified_at pt) ≡ raised_then done raises (raised_at k.world t)
+      → s' ≡ with_thread mid t y
+      → Next p w steps s' t done raises deferral pauses n c (stages k.world) (raised_at k.world)
   reaches move f kinds mid w2 y r pt l can comes has ps own leads stands shares keeps made at result sequence places
-      paced same =
+      paced has_raised same =
       let T = table_after k.world c.table t move in
       let c' = record c { table = T; process = f } in
       let w' = go_list w2 t pt l in
@@ -107,7 +110,8 @@ module _ (p : Program) (w : WellFormed p) (steps : ℕ) (s : State) (c : SourceS
             (λ o i. k.blank u i) h;
         numbers = λ d. omega (arith, k.numbers d, ap (λ (g : Member → ℕ). g d) sequence);
       }) in
-      subst (λ (x : State). Next p w steps x t done deferral pauses n c (stages k.world)) (sym same) (record {
+      subst (λ (x : State). Next p w steps x t done raises deferral pauses n c (stages k.world) (raised_at k.world))
+      (sym same) (record {
         after = c';
         ties = m.ties;
         kinds = kinds;
@@ -115,6 +119,7 @@ module _ (p : Program) (w : WellFormed p) (steps : ℕ) (s : State) (c : SourceS
         leads = leads;
         stage = stage_of pt;
         staged = m.staged;
+        raised = λ u. m.raised u ∙ ap (λ b. put (raised_at k.world) t b u) has_raised;
         places = places;
         paced = λ z. elim paced [ inl h ↦ inl h | inr h ↦ inr (omega (arith, m.is, h)) ];
       })
@@ -129,9 +134,11 @@ module _ (p : Program) (w : WellFormed p) (steps : ℕ) (s : State) (c : SourceS
       → Places p (with_thread mid t y) t c
       (state_after c t Nothing r (table_after k.world c.table t move)) done deferral
       (stages k.world t) (stage_of pt) (kind_of label ∷ [])
-      → s' ≡ with_thread mid t y → Next p w steps s' t done deferral pauses n c (stages k.world)
+      → is_some (notified_at pt) ≡ raised_then done raises (raised_at k.world t)
+      → s' ≡ with_thread mid t y
+      → Next p w steps s' t done raises deferral pauses n c (stages k.world) (raised_at k.world)
   starts move label mid w2 y r pt l can comes carries takes own has stands shares keeps made at result sequence places
-      same =
+      has_raised same =
       let T = table_after k.world c.table t move in
       let permits = subst (λ (e : Option Event). PermitsMove e c.table T) carries
       (permitted k.world c.table t move inv can) in
@@ -139,9 +146,9 @@ module _ (p : Program) (w : WellFormed p) (steps : ℕ) (s : State) (c : SourceS
       (put_puts c.process t (Some r)) (own, tt)
       (state_after c t Nothing r T, action p c t q r label Nothing T proc takes permits.0, refl)
       (subst (λ (a : ℕ). StandsAt (build_of p w a) c.variable t (Some y) (Some r) pt l) (sym made) stands)
-      shares keeps made at result sequence places (inl tt) same
+      shares keeps made at result sequence places (inl tt) has_raised same
 
-  module _ (x : Thread) (work : IsAtWork p q c.variable) (moves : StepsSo p done deferral (mark_of
+  module _ (x : Thread) (work : IsAtWork p q c.variable) (moves : StepsSo p done raises deferral (mark_of
       (marks_of p) x) s t woken (look (code_of p) t x) s') where
     pub claims_step : {into : Option ℕ} {part : Part} {f : Frame} {cs : List Caller} (child : ℕ) (go' : ℕ → Thread)
         → 0 < child → child ≤ k.world.made → join_steps + 5 < n
@@ -150,12 +157,16 @@ module _ (p : Program) (w : WellFormed p) (steps : ℕ) (s : State) (c : SourceS
         (Dying (Faulted HandleNotJoinable) (holds q)) → (j : Awaits b t child into part f cs)
         → StepsWithin b t join_steps (go' 0) j.reads
         → ((m : ℕ) → StepsWithin b t join_steps (go' (suc m)) (Dies' (Faulted HandleNotJoinable)))
-        → Next p w steps s' t done deferral pauses n c (stages k.world)
+        → Next p w steps s' t done raises deferral pauses n c (stages k.world) (raised_at k.world)
     claims_step {into = into} {part = part} {f = f} {cs = cs} child go' some below enough h o j free taken =
         elim (cases_eq (k.world.claim child) 0) [ inl z ↦ claimed z | inr z ↦ refused z ]
       where
-        g : StepsSo p done deferral (mark_of (marks_of p) x) s t woken (Asks (AskSwap (process_word child 3) 1) go') s'
-        g = subst (λ (l : Look). StepsSo p done deferral (mark_of (marks_of p) x) s t woken l s') h moves
+        g : StepsSo p done raises deferral (mark_of (marks_of p) x) s t woken (Asks (AskSwap (process_word child 3) 1)
+            go') s'
+        g = subst (λ (l : Look). StepsSo p done raises deferral (mark_of (marks_of p) x) s t woken l s') h moves
+
+        calm : false ≡ raised_then done raises (raised_at k.world t)
+        calm = raised_none done raises (raised_at k.world t) g.6 (ap (λ (i : Point). is_some (notified_at i)) point)
 
         valid_child : is_process p child ≡ true
         valid_child = number_is p child some (omega (arith, below, few))
@@ -196,7 +207,8 @@ module _ (p : Program) (w : WellFormed p) (steps : ℕ) (s : State) (c : SourceS
         not_free : k.world.claim child ≢ 0 → Can k.world t (ReadClaimed child)
         not_free z = record { number = number; awake = awake; stands = point; finds = (some, below, z) }
 
-        claimed : k.world.claim child ≡ 0 → Next p w steps s' t done deferral pauses n c (stages k.world)
+        claimed : k.world.claim child ≡ 0
+            → Next p w steps s' t done raises deferral pauses n c (stages k.world) (raised_at k.world)
         claimed z =
             let had = work.keeps (Claims child) Nothing (Joining child into part f cs) tt takes in
             starts (Claim child) (Claims child) (with_word s (process_word child 3) 1) (write k.world (ClaimOf child) 1)
@@ -206,12 +218,14 @@ module _ (p : Program) (w : WellFormed p) (steps : ℕ) (s : State) (c : SourceS
             shares keeps refl refl refl refl
             (acts _ _ (Claims child) Nothing _ (g.4 ∙ ap (λ (i : ℕ). i == 0) (answer ∙ z)) refl refl proc takes
             ((permitted k.world c.table t (Claim child) inv (free_to_claim z)).0) tt (λ m j i other. refl) tt refl)
-            (same 0 z)
+            calm (same 0 z)
 
-        refused : k.world.claim child ≢ 0 → Next p w steps s' t done deferral pauses n c (stages k.world)
+        refused : k.world.claim child ≢ 0
+            → Next p w steps s' t done raises deferral pauses n c (stages k.world) (raised_at k.world)
         refused z = by_word (k.world.claim child) refl
           where
-            by_word : (v : ℕ) → k.world.claim child ≡ v → Next p w steps s' t done deferral pauses n c (stages k.world)
+            by_word : (v : ℕ) → k.world.claim child ≡ v
+                → Next p w steps s' t done raises deferral pauses n c (stages k.world) (raised_at k.world)
             by_word zero e = absurd (z e)
             by_word (suc v) e =
                 reaches (ReadClaimed child) c.process [] (with_word s (process_word child 3) 1)
@@ -219,4 +233,4 @@ module _ (p : Program) (w : WellFormed p) (steps : ℕ) (s : State) (c : SourceS
                 (same_puts c.process t _ proc) tt refl (refused' join_steps (omega arith) (taken v) o work.steady)
                 shares keeps refl refl refl refl
                 (nothing (g.4 ∙ ap (λ (i : ℕ). i == 0) (answer ∙ e) ∙ ne_eqb (suc v) 0 (λ i. absurd cc)) g.5
-                (inl (ap stage_of (sym point))) refl) (inr (omega (arith, enough))) (same (suc v) e)
+                (inl (ap stage_of (sym point))) refl) (inr (omega (arith, enough))) calm (same (suc v) e)

@@ -12,13 +12,14 @@ use Rattle.machine.specs.States.{State}
 use Rattle.machine.specs.Runs.{Moves}
 use Rattle.program.specs.declared.kinds.Member.{Member}
 use Rattle.program.specs.Trees.{Program}
-use Rattle.meaning.specs.Labels.{Kind, End}
+use Rattle.meaning.specs.Labels.{Kind, End, Faulted, Killed}
 use Rattle.meaning.specs.Table.{Table}
-use Rattle.protocol.specs.Word.{waiters, owner}
+use Rattle.protocol.specs.Word.{waiters, owner, with_waiters}
 use Rattle.protocol.specs.Points.{LeaveSwaps, ToWait, Point, ToExit, EnterPends, EnterTries, ReenterPends, ReenterTries}
-use Rattle.protocol.specs.Points.{TakeReads}
+use Rattle.protocol.specs.Points.{TakeReads, TakeSleeps, JoinSleeps, ToEnter, ToReenter}
 use Rattle.protocol.specs.Points.{TakeMarks, TakeTries, GotReads, GotLinks, GotHeads, GotUnpends, WaitReads}
-use Rattle.protocol.specs.Points.{NotifyWakes, BroadcastReads}
+use Rattle.protocol.specs.Points.{NotifyAdds, NotifyWakes, BroadcastAdds, BroadcastReads}
+use Rattle.protocol.specs.Carries.{Event}
 use Rattle.protocol.specs.Points.{JoinReads, JoinLearns, JoinTakes, LeavePends, LeaveReads}
 use Rattle.protocol.specs.Points.{LeaveHeads, LeaveWakes, HasLeft, Dies, Walks, ClearsId, LastWakes}
 use Rattle.protocol.specs.Points.{Unmade, Runs, HasEnded}
@@ -36,10 +37,10 @@ use Rattle.proof_templates.specs.Asking.{machine_request, machine_answer}
 use Rattle.proof_templates.proofs.Addresses.{variable_apart}
 use Rattle.proof_templates.proofs.Layouts.{apart, number_is, is_number, monitor_valid, monitor_below}
 use Rattle.proof_simulation.specs.Ordering.{StepsSo, any_below, is_process_word, is_link_word, is_lock_word, completes}
-use Rattle.proof_simulation.specs.Ordering.{completes_exit}
+use Rattle.proof_simulation.specs.Ordering.{completes_exit, is_raise, raises_number}
 use Rattle.proof_simulation.specs.Ordering.{MovesSo}
 use Rattle.proof_simulation.specs.Serving.{IsAskable}
-use Rattle.proof_simulation.specs.Deferred.{Stage, stage_of, Agrees, Stays, Works}
+use Rattle.proof_simulation.specs.Deferred.{Stage, stage_of, Agrees, Stays, Works, notified_at, raised_then}
 use Rattle.lowering.specs.declared.mark.Mark.{Mark}
 use Rattle.proof_thread.specs.Deferrals.{deferred_by_mark, deferred_by_request}
 use Rattle.proof_simulation.specs.Progress.{answer_in, visible_step}
@@ -93,42 +94,42 @@ no_word p k a none = elim (cases_Bool (is_process_word p k a)) [
 ]
 
 -- what a step does, as it is an action or none
-pub plainly : (p : Program) (done : Bool) (deferral : Option Kind) (mark : Option Mark) (s : State) (t : ℕ)
-    (woken : List ℕ) (l : Look) (s' : State) → StepsSo p done deferral mark s t woken l s' → Moves s t woken l s'
-plainly p done deferral mark s t woken (Goes x) s' g = (g.0, g.1)
-plainly p done deferral mark s t woken (Asks request go) s' g = (g.0, g.1, g.2, g.3)
-plainly p done deferral mark s t woken (Leaves phase) s' g = (g.0, g.1, g.2, g.3)
-plainly p done deferral mark s t woken Breaks s' g = g
-plainly p done deferral mark s t woken Rests s' g = g
+pub plainly : (p : Program) (done raises : Bool) (deferral : Option Kind) (mark : Option Mark) (s : State) (t : ℕ)
+    (woken : List ℕ) (l : Look) (s' : State) → StepsSo p done raises deferral mark s t woken l s' → Moves s t woken l s'
+plainly p done raises deferral mark s t woken (Goes x) s' g = (g.0, g.1)
+plainly p done raises deferral mark s t woken (Asks request go) s' g = (g.0, g.1, g.2, g.3)
+plainly p done raises deferral mark s t woken (Leaves phase) s' g = (g.0, g.1, g.2, g.3)
+plainly p done raises deferral mark s t woken Breaks s' g = g
+plainly p done raises deferral mark s t woken Rests s' g = g
 
 -- and which of the two
 pub told_apart : (p : Program) (s : State) (t : ℕ) (woken : List ℕ) (l : Look) (s' : State) → Moves s t woken l s'
     → (done : Bool) × MovesSo p done s t woken l s'
 told_apart p s t woken (Goes x) s' g = (false, (g.0, g.1, refl))
 told_apart p s t woken (Asks request go) s' g = (completes p request g.0, (g.0, g.1, g.2, g.3, refl))
-told_apart p s t woken (Leaves phase) s' g = (completes_exit phase, (g.0, g.1, g.2, g.3, refl))
+told_apart p s t woken (Leaves phase) s' g = (completes_exit s.word t phase, (g.0, g.1, g.2, g.3, refl))
 told_apart p s t woken Breaks s' g = absurd g
 told_apart p s t woken Rests s' g = absurd g
 
 -- and the action that waits
 pub told_deferral : (p : Program) (done : Bool) (mark : Option Mark) (s : State) (t : ℕ) (woken : List ℕ) (l : Look)
     (s' : State) → MovesSo p done s t woken l s' → (deferral : Option Kind)
-    × StepsSo p done deferral mark s t woken l s'
-told_deferral p done mark s t woken (Goes x) s' g = (deferred_by_mark mark, (g.0, g.1, g.2, refl))
+    × StepsSo p done (raises_number l) deferral mark s t woken l s'
+told_deferral p done mark s t woken (Goes x) s' g = (deferred_by_mark mark, (g.0, g.1, g.2, refl, refl))
 told_deferral p done mark s t woken (Asks request go) s' g =
-    (deferred_by_request mark request g.0, (g.0, g.1, g.2, g.3, g.4, refl))
-told_deferral p done mark s t woken (Leaves phase) s' g = (None, (g.0, g.1, g.2, g.3, g.4, refl))
+    (deferred_by_request mark request g.0, (g.0, g.1, g.2, g.3, g.4, refl, refl))
+told_deferral p done mark s t woken (Leaves phase) s' g = (None, (g.0, g.1, g.2, g.3, g.4, refl, refl))
 told_deferral p done mark s t woken Breaks s' g = absurd g
 told_deferral p done mark s t woken Rests s' g = absurd g
 
 -- what a step does, with whether others learn of it and the action that waits
 pub steps_so : (p : Program) (mark : Option Mark) (s s' : State) (t : ℕ) (woken : List ℕ) (l : Look)
     (g : Moves s t woken l s')
-    → StepsSo p (visible_step p l (answer_in s s' t woken l g)) (deferred_by_step mark l
+    → StepsSo p (visible_step p s.word t l (answer_in s s' t woken l g)) (raises_number l) (deferred_by_step mark l
     (answer_in s s' t woken l g)) mark s t woken l s'
-steps_so p mark s s' t woken (Goes x) g = (g.0, g.1, refl, refl)
-steps_so p mark s s' t woken (Asks request go) g = (g.0, g.1, g.2, g.3, refl, refl)
-steps_so p mark s s' t woken (Leaves phase) g = (g.0, g.1, g.2, g.3, refl, refl)
+steps_so p mark s s' t woken (Goes x) g = (g.0, g.1, refl, refl, refl)
+steps_so p mark s s' t woken (Asks request go) g = (g.0, g.1, g.2, g.3, refl, refl, refl)
+steps_so p mark s s' t woken (Leaves phase) g = (g.0, g.1, g.2, g.3, refl, refl, refl)
 steps_so p mark s s' t woken Breaks g = absurd g
 steps_so p mark s s' t woken Rests g = absurd g
 
@@ -139,7 +140,8 @@ DeferralOf mark (Some q) r = deferred_by_request mark q r
 
 none_deferral : (p : Program) (mark : Option Mark) (t : ℕ) (pt : Point) (r : ℕ) → stage_of pt ≡ Works
     → DeferralOf mark (machine_request p (request t pt)) r ≡ None
-none_deferral p mark t (Dies cause x) r h = absurd cc
+none_deferral p mark t (Dies (Faulted fault) x) r h = absurd cc
+none_deferral p mark t (Dies Killed x) r h = absurd cc
 none_deferral p mark t (LeaveSwaps m ToExit) r h = refl
 none_deferral p mark t (LeaveSwaps m (ToWait c s)) r h = refl
 none_deferral p mark t (HasLeft m ToExit) r h = refl
@@ -150,6 +152,64 @@ pub point_deferral : (p : Program) (mark : Option Mark) (t : ℕ) (pt : Point) (
     → stage_of pt ≡ Works → machine_request p (request t pt) ≡ Some asks → deferred_by_request mark asks r ≡ None
 point_deferral p mark t pt r asks h same =
     sym (ap (λ (o : Option Request). DeferralOf mark o r) same) ∙ none_deferral p mark t pt r h
+
+-- where a number is raised
+abbrev pub raises_at : Point → Bool
+raises_at (NotifyAdds c) = true
+raises_at (BroadcastAdds c) = true
+raises_at pt = false
+
+abbrev RaiseOf : Option Request → Bool
+RaiseOf None = false
+RaiseOf (Some q) = is_raise q
+
+raise_of : (p : Program) (t : ℕ) (pt : Point) → RaiseOf (machine_request p (request t pt)) ≡ raises_at pt
+raise_of p t (HasLeft m ToExit) = refl
+raise_of p t (HasLeft m (ToWait c s)) = refl
+raise_of p t pt = refl
+
+-- a point's request raises one just there
+pub point_raises : (p : Program) (t : ℕ) (pt : Point) (asks : Request)
+    → machine_request p (request t pt) ≡ Some asks → is_raise asks ≡ raises_at pt
+point_raises p t pt asks same = sym (ap RaiseOf same) ∙ raise_of p t pt
+
+-- whether it is raised behind a step from a point, which carries an action or doesn't
+either_raised : (b : Bool) (x y : Point) (e : Option Event) → is_some (notified_at x) ≡ false
+    → is_some (notified_at y) ≡ false → is_some (notified_at (if b then x else y)) ≡ raised_then (is_some e) false false
+either_raised true x y None h g = h
+either_raised true x y (Some e) h g = h
+either_raised false x y None h g = g
+either_raised false x y (Some e) h g = g
+
+none_raised : (o : Option Event) → false ≡ raised_then (is_some o) false false
+none_raised None = refl
+none_raised (Some e) = refl
+
+pub next_raised : (w : World) (T : Table) (t : ℕ) (pt : Point) (r : ℕ) (w' : World) (e : End)
+    → is_some (notified_at (next w e pt r))
+    ≡ raised_then (is_some (source_event w T t pt r w' e)) (raises_at pt) (is_some (notified_at pt))
+next_raised w T t (EnterTries m) r w' e =
+    either_raised (r == 0) (GotReads m 0) (TakeReads m ToEnter) _ refl refl
+next_raised w T t (ReenterTries m) r w' e =
+    either_raised (r == 0) (GotReads m 0) (TakeReads m ToReenter) None refl refl
+next_raised w T t (TakeReads m k) r w' e =
+    either_raised (owner r == 0) (TakeTries m r k) (TakeMarks m r k) None refl refl
+next_raised w T t (TakeMarks m v k) r w' e =
+    either_raised (r == v) (TakeSleeps m (with_waiters v) k) (TakeReads m k) None refl refl
+next_raised w T t (TakeTries m v k) r w' e =
+    either_raised (r == v) (GotReads m v) (TakeReads m k) _ refl refl
+next_raised w T t (JoinReads q) r w' e =
+    either_raised (r == 0) (JoinLearns q e) (JoinSleeps q) _ refl refl
+next_raised w T t (JoinLearns q end) r w' e =
+    either_raised (r == 16) (JoinTakes q end) Runs None refl refl
+next_raised w T t (LeaveSwaps m k) r w' e =
+    either_raised (waiters r == 0) (HasLeft m k) (LeaveWakes m k) (source_event w T t (LeaveSwaps m k) r w' e)
+    refl refl
+next_raised w T t (HasLeft m ToExit) r w' e = refl
+next_raised w T t (HasLeft m (ToWait c s)) r w' e = refl
+next_raised w T t (Walks zero x end) r w' e = none_raised (source_event w T t (Walks zero x end) r w' e)
+next_raised w T t (Walks (suc m) x end) r w' e = none_raised (source_event w T t (Walks (suc m) x end) r w' e)
+next_raised w T t pt r w' e = refl
 
 -- a step from a point leads to no fault
 either_works : (b : Bool) (x y : Point) → stage_of x ≡ Works → stage_of y ≡ Works
@@ -168,7 +228,8 @@ next_stays w e (JoinLearns q end) r = inl (either_works (r == 16) _ _ refl refl)
 next_stays w e (LeaveSwaps m k) r = inl (either_works (waiters r == 0) _ _ refl refl)
 next_stays w e (HasLeft m ToExit) r = inl refl
 next_stays w e (HasLeft m (ToWait c s)) r = inl refl
-next_stays w e (Dies cause x) r = inr refl
+next_stays w e (Dies (Faulted fault) x) r = inr refl
+next_stays w e (Dies Killed x) r = inr refl
 next_stays w e (Walks zero x end) r = inl refl
 next_stays w e (Walks (suc m) x end) r = inl refl
 next_stays w e pt r = inl refl

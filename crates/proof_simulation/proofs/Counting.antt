@@ -7,14 +7,14 @@ use Rattle.std.proofs.lemmas.Bool.{cases_eq, eq-eqb, ne_eqb}
 use Rattle.words.specs.Updates.{put}
 use Rattle.locals.specs.Looks.{look}
 use Rattle.machine.specs.States.{State}
-use Rattle.machine.specs.Runs.{Doing, Own, Strayed, Step, IsDone, GoesBy}
+use Rattle.machine.specs.Runs.{Doing, Own, Strayed, Killed, Step, IsDone, GoesBy}
 use Rattle.program.specs.declared.kinds.Member.{Member}
 use Rattle.proof_thread.specs.Completing.{IsOwn}
 use Rattle.refinement.specs.Outside.{is_condition_word}
 use Rattle.proof_simulation.specs.Strays.{stray_kinds}
 use Rattle.program.specs.Trees.{Program}
 use Rattle.lowering.specs.Pieces.{code_of, marks_of}
-use Rattle.meaning.specs.Labels.{Kind, Stray, Action, kind_of}
+use Rattle.meaning.specs.Labels.{Kind, Stray, Kill, Action, kind_of}
 use Rattle.meaning.specs.States.{SourceState}
 use Rattle.proof_thread.specs.Deferrals.{mark_of, deferred_by_step}
 use Rattle.protocol.proofs.Sleeps.{put_same, put_other}
@@ -49,16 +49,20 @@ abbrev pub done_count : (p : Program) → (s s' : State) → (l : Step) → (d :
 done_count p s s' l Own st ks =
     let looks = look (code_of p) l.thread st.thread in
     let answer = answer_in s s' l.thread l.woken looks st.moves in
-    step_count (visible_step p looks answer) (deferred_by_step (mark_of (marks_of p) st.thread) looks answer) ks
+    step_count (visible_step p s.word l.thread looks answer) (deferred_by_step (mark_of (marks_of p) st.thread) looks
+    answer) ks
 done_count p s s' l (Strayed a) st ks = 0
+done_count p s s' l (Killed begins) st ks = 0
 
 abbrev pub done_behind : (p : Program) → (s s' : State) → (l : Step) → (d : Doing) → IsDone (code_of p) s l s' d
     → List Kind → List Kind
 done_behind p s s' l Own st ks =
     let looks = look (code_of p) l.thread st.thread in
     let answer = answer_in s s' l.thread l.woken looks st.moves in
-    behind (visible_step p looks answer) (deferred_by_step (mark_of (marks_of p) st.thread) looks answer) ks
+    behind (visible_step p s.word l.thread looks answer) (deferred_by_step (mark_of (marks_of p) st.thread) looks
+    answer) ks
 done_behind p s s' l (Strayed a) st ks = if is_condition_word p a then [] else ks
+done_behind p s s' l (Killed begins) st ks = if begins then [] else ks
 
 abbrev pub counts : (p : Program) → (ℕ → List Kind) → (steps : List Step) → (s s' : State)
     → GoesBy (code_of p) s steps s' → ℕ → ℕ
@@ -91,6 +95,10 @@ count_map u t (k ∷ ks) own = count_by-cons (is_action_of t) (act u k) (map (ac
 pub count_stray : (u t : ℕ) (o : Option Member) → count t (map (act u) (stray_kinds o)) ≡ 0
 count_stray u t None = refl
 count_stray u t (Some c) = count_by-cons (is_action_of t) (act u (Stray c)) []
+    ∙ ap (λ b. cond b 1 0 + count t []) (and_false (u == t))
+
+pub count_kill : (u t : ℕ) (resumed : List ℕ) (last : Option ℕ) → count t (act u (Kill resumed last) ∷ []) ≡ 0
+count_kill u t resumed last = count_by-cons (is_action_of t) (act u (Kill resumed last)) []
     ∙ ap (λ b. cond b 1 0 + count t []) (and_false (u == t))
 
 pub count_one : (u t : ℕ) (k : Kind) (actions : List Action) → IsOwn k

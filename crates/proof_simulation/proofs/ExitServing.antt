@@ -8,7 +8,7 @@ use Rattle.words.specs.Process.{process_word}
 use Rattle.words.specs.Versions.{most_of}
 use Rattle.isa.specs.Programs.{memory_size}
 use Rattle.robustexit.specs.RobustExit.{Shared, EntryStep, IsPending, IsForeign, IsOwned, PendingStep}
-use Rattle.robustexit.specs.RobustExit.{NoEntry as NoEntry', ExitStep}
+use Rattle.robustexit.specs.RobustExit.{NoEntry as NoEntry', ExitStep, Abandons}
 use Rattle.robustexit.specs.Phases.{next_entry}
 use Rattle.robustexit.specs.declared.phase.ExitPhase.{ExitPhase}
 use Rattle.robustexit.specs.declared.phase.ExitPhase.TheVariants.{Entry, Pending, ClearId, LastWake}
@@ -24,7 +24,8 @@ use Rattle.machine.specs.States.{State, with_thread}
 use Rattle.machine.specs.AbstractServing.{shared_of, with_shared}
 use Rattle.machine.specs.Runs.{Moves}
 use Rattle.protocol.specs.Word.{died_word}
-use Rattle.protocol.specs.Points.{Entry as PendingEntry, NoEntry, Spot, OnLock, OnId, Point, Walks, ClearsId, LastWakes}
+use Rattle.protocol.specs.Points.{Entry as PendingEntry, NoEntry, Owned, Unowned, entry_at, entry_word}
+use Rattle.protocol.specs.Points.{Spot, OnLock, OnId, Point, Walks, ClearsId, LastWakes}
 use Rattle.protocol.specs.Points.{Runs, MeetsClaimed, Dies}
 use Rattle.protocol.specs.World.{World, mem, tail}
 use Rattle.protocol.specs.Cells.{LockOf, LinkOf, PendingOf, IdOf, write}
@@ -44,13 +45,14 @@ use Rattle.proof_templates.specs.Layout.{place, valid}
 use Rattle.proof_templates.specs.Asking.{machine_answer}
 use Rattle.proof_templates.proofs.Layouts.{is_layout, number_is, monitor_valid}
 use Rattle.proof_templates.proofs.Addresses.{variable_apart}
+use Rattle.proof_simulation.specs.Killing.{IsOfProgram}
 use Rattle.proof_simulation.specs.Standing.{entries_seen}
 use Rattle.proof_simulation.specs.Serving.{IsServed}
 use Rattle.proof_simulation.proofs.Pigeons.{short}
 
--- a point of an exit with no pending entry
+-- a point of an exit
 abbrev pub IsExit : Point → Type 0
-IsExit (Walks e NoEntry end) = Unit {0}
+IsExit (Walks e x end) = Unit {0}
 IsExit (ClearsId end) = Unit {0}
 IsExit (LastWakes end) = Unit {0}
 IsExit pt = ⊥
@@ -92,14 +94,14 @@ abandoned_world w w' t m h = elim h.1 [
 ]
 
 exit_world : (w : World) (t : ℕ) (pt : Point) (w' : World) → IsExit pt → ExitDoes w t pt w' → IsExitWorld w w'
-exit_world w t (Walks zero NoEntry end) w' is h = elim h [
+exit_world w t (Walks zero x end) w' is h = elim h [
   | inl k ↦ subst (λ (y : World). IsExitWorld w y) (sym k.1) (same_world w)
   | inr k ↦ elim k.2 [
     | inl f ↦ waking_world w w w' (OnLock k.0) (same_world w) f.1
     | inr a ↦ abandoned_world w w' t k.0 a
   ]
 ]
-exit_world w t (Walks (suc m) NoEntry end) w' is h = elim h [
+exit_world w t (Walks (suc m) x end) w' is h = elim h [
   | inl k ↦ subst (λ (y : World). IsExitWorld w y) (sym k.1) (same_world w)
   | inr k ↦ elim k [
     | inl f ↦ subst (λ (y : World). IsExitWorld w y) (sym f.1) (same_world w)
@@ -113,13 +115,13 @@ exit_world w t pt w' is h = absurd is
 
 serves_exit : (w : World) (t : ℕ) (pt : Point) (w' : World) → IsExit pt → ExitDoes w t pt w'
     → Serves w t pt (request t pt) 0 w'
-serves_exit w t (Walks e NoEntry end) w' is h = (refl, h)
+serves_exit w t (Walks e x end) w' is h = (refl, h)
 serves_exit w t (ClearsId end) w' is h = (refl, h)
 serves_exit w t (LastWakes end) w' is h = (refl, h)
 serves_exit w t pt w' is h = absurd is
 
 told_exit : (p : Program) (t : ℕ) (pt : Point) → IsExit pt → 0 ≡ machine_answer p (request t pt) 0
-told_exit p t (Walks e NoEntry end) is = refl
+told_exit p t (Walks e x end) is = refl
 told_exit p t (ClearsId end) is = refl
 told_exit p t (LastWakes end) is = refl
 told_exit p t pt is = absurd is
@@ -136,45 +138,53 @@ seen_next e n = elim (cases_Bool ((e == 0) || nat_le 2048 n)) [
 ]
 
 -- ---- what the invariant says of an exit
--- no pending entry, where the walk goes on
-pends_there : (p : Program) (w : World) (T : Table) (t : ℕ) (pt : Point) → IsExit pt → Good w T
-    → (w.at t).point ≡ pt → PendingIsThere (valid p) w t pt
-pends_there p w T t (Walks e NoEntry end) is good point = λ m h.
-    let none : w.pending t ≡ 0 = subst (λ (q : Point). PendAt q (w.pending t)) point (good.pends.pend t) in
-    absurd (omega (arith, none, h))
-pends_there p w T t (ClearsId end) is good point = tt
-pends_there p w T t (LastWakes end) is good point = tt
-pends_there p w T t pt is good point = absurd is
+-- a pending entry is that of a monitor of the program
+entry_there : (p : Program) (n : ℕ) (x : PendingEntry) → IsOfProgram p x → n ≡ entry_word x → (m : ℕ) → n ≡ suc m
+    → valid p (LinkOf m) ≡ true
+entry_there p n NoEntry of e m is = absurd (omega (arith, e, is))
+entry_there p n (Owned i) of e m is =
+    let same : i ≡ m = omega (arith, e, is) in subst (λ u. valid p (LinkOf u) ≡ true) same (monitor_valid p i of)
+entry_there p n (Unowned i) of e m is =
+    let same : i ≡ m = omega (arith, e, is) in subst (λ u. valid p (LinkOf u) ≡ true) same (monitor_valid p i of)
 
-chain_here : (w : World) (T : Table) (t e : ℕ) (end : End) → Good w T → (w.at t).point ≡ Walks e NoEntry end
-    → Chain w.link e (w.at t).list
-chain_here w T t e end good point =
+pends_there : (p : Program) (w : World) (T : Table) (t : ℕ) (pt : Point) → IsExit pt → IsOfProgram p (entry_at pt)
+    → Good w T → (w.at t).point ≡ pt → PendingIsThere (valid p) w t pt
+pends_there p w T t (Walks e x end) is of good point =
+    entry_there p (w.pending t) x of (subst (λ (q : Point). PendAt q (w.pending t)) point (good.pends.pend t))
+pends_there p w T t (ClearsId end) is of good point = tt
+pends_there p w T t (LastWakes end) is of good point = tt
+pends_there p w T t pt is of good point = absurd is
+
+chain_here : (w : World) (T : Table) (t e : ℕ) (x : PendingEntry) (end : End) → Good w T
+    → (w.at t).point ≡ Walks e x end → Chain w.link e (w.at t).list
+chain_here w T t e x end good point =
     subst (λ (q : Point). ChainAt w.link (w.head t) q (w.at t).list) point (good.chains.chain t)
 
 -- the walk is at the first of the list, and behind its last where there is none
-pub first_listed : (w : World) (T : Table) (t m : ℕ) (end : End) → Good w T
-    → (w.at t).point ≡ Walks (suc m) NoEntry end → (w.at t).list ≡ m ∷ tail (w.at t).list
-first_listed w T t m end good point = (chain_some w.link m (w.at t).list (chain_here w T t (suc m) end good point)).0
+pub first_listed : (w : World) (T : Table) (t m : ℕ) (x : PendingEntry) (end : End) → Good w T
+    → (w.at t).point ≡ Walks (suc m) x end → (w.at t).list ≡ m ∷ tail (w.at t).list
+first_listed w T t m x end good point =
+    (chain_some w.link m (w.at t).list (chain_here w T t (suc m) x end good point)).0
 
-pub none_listed : (w : World) (T : Table) (t : ℕ) (end : End) → Good w T → (w.at t).point ≡ Walks 0 NoEntry end
-    → (w.at t).list ≡ []
-none_listed w T t end good point = chain_none w.link (w.at t).list (chain_here w T t 0 end good point)
+pub none_listed : (w : World) (T : Table) (t : ℕ) (x : PendingEntry) (end : End) → Good w T
+    → (w.at t).point ≡ Walks 0 x end → (w.at t).list ≡ []
+none_listed w T t x end good point = chain_none w.link (w.at t).list (chain_here w T t 0 x end good point)
 
 -- the next entry is of a monitor of the list
-next_listed : (w : World) (T : Table) (t m k : ℕ) (end : End) → Good w T → (w.at t).point ≡ Walks (suc m) NoEntry end
-    → w.link m ≡ suc k → mem k (w.at t).list ≡ true
-next_listed w T t m k end good point link =
-    let here = chain_some w.link m (w.at t).list (chain_here w T t (suc m) end good point) in
+pub next_listed : (w : World) (T : Table) (t m k : ℕ) (x : PendingEntry) (end : End) → Good w T
+    → (w.at t).point ≡ Walks (suc m) x end → w.link m ≡ suc k → mem k (tail (w.at t).list) ≡ true
+next_listed w T t m k x end good point link =
+    let here = chain_some w.link m (w.at t).list (chain_here w T t (suc m) x end good point) in
     let behind = chain_some w.link k (tail (w.at t).list)
     (subst (λ (a : ℕ). Chain w.link a (tail (w.at t).list)) link here.1) in
-    ap (mem k) (here.0 ∙ ap (λ (l : List ℕ). m ∷ l) behind.0)
-    ∙ or_right (k == m) (mem k (k ∷ tail (tail (w.at t).list))) (or_left (k == k) _ (eq-eqb k k refl))
+    ap (mem k) behind.0 ∙ or_left (k == k) _ (eq-eqb k k refl)
 
 next_there : (p : Program) (w : World) (T : Table) (t : ℕ) (pt : Point) → IsExit pt → Good w T → (w.at t).point ≡ pt
     → ((m : ℕ) → mem m (w.at t).list ≡ true → m < length p.monitors) → NextIsThere (valid p) w pt
-next_there p w T t (Walks zero NoEntry end) is good point lists = tt
-next_there p w T t (Walks (suc m) NoEntry end) is good point lists =
-    λ k h. monitor_valid p k (lists k (next_listed w T t m k end good point h))
+next_there p w T t (Walks zero x end) is good point lists = tt
+next_there p w T t (Walks (suc m) x end) is good point lists = λ k h. monitor_valid p k (lists k
+    (ap (mem k) (first_listed w T t m x end good point)
+    ∙ or_right (k == m) (mem k (tail (w.at t).list)) (next_listed w T t m k x end good point h)))
 next_there p w T t (ClearsId end) is good point lists = tt
 next_there p w T t (LastWakes end) is good point lists = tt
 next_there p w T t pt is good point lists = absurd is
@@ -191,8 +201,8 @@ module _ (p : Program) (fits : WellFormed p) (s : State) (w : World) (T : Table)
   -- the walk is short
   is_short : (pt : Point) (phase : ExitPhase) → IsExit pt → PhaseIs (place p) (valid p) pt phase
       → WalkIsShort pt phase (w.at t).list → IsShort phase
-  is_short (Walks zero NoEntry end) phase is at short = subst IsShort (sym at) tt
-  is_short (Walks (suc m) NoEntry end) phase is at short =
+  is_short (Walks zero x end) phase is at short = subst IsShort (sym at) tt
+  is_short (Walks (suc m) x end) phase is at short =
       let seen = ap entries_seen at.1.1 in subst IsShort (sym at.1.1) (omega (arith, short, seen))
   is_short (ClearsId end) phase is at short = subst IsShort (sym at) tt
   is_short (LastWakes end) phase is at short = subst IsShort (sym at) tt
@@ -203,11 +213,11 @@ module _ (p : Program) (fits : WellFormed p) (s : State) (w : World) (T : Table)
       → (w.at t).point ≡ pt → PhaseIs (place p) (valid p) pt phase → WalkIsShort pt phase (w.at t).list
       → ExitStep s.size t phase (shared_of s) woken after later → (end : End)
       → WalkIsShort (next w end pt 0) later (next_list pt (w.at t).list)
-  still_short (Walks zero NoEntry over) phase later woken after is point at short step end = tt
-  still_short (Walks (suc m) NoEntry over) phase later woken after is point at short step end =
+  still_short (Walks zero x over) phase later woken after is point at short step end = tt
+  still_short (Walks (suc m) x over) phase later woken after is point at short step end =
       let d = subst (λ (y : ExitPhase). ExitStep s.size t y (shared_of s) woken after later) at.1.1 step in
       let had = ap entries_seen at.1.1 in
-      let here = (chain_some w.link m (w.at t).list (chain_here w T t (suc m) over good point)).0 in
+      let here = (chain_some w.link m (w.at t).list (chain_here w T t (suc m) x over good point)).0 in
       let long = ap length here in
       elim d [
         | inl k ↦
@@ -233,48 +243,63 @@ module _ (p : Program) (fits : WellFormed p) (s : State) (w : World) (T : Table)
         ap (λ (f : ℕ → ℕ). f a) gone.marks
         ∙ put_other s.word (place p (LinkOf k) + 1) _ a (λ q. variable_apart p m i (LockOf k) there ok q)
 
-    in_pending : (e : ℕ) (woken : List ℕ) (after : Shared) → e ≡ 0 → PendingStep s.size t e (shared_of s) woken after
+    abandoned : (e k : ℕ) (woken : List ℕ) (after : Shared) → k < length p.monitors → e ≡ place p (LinkOf k)
+        → Abandons t (e + 1) (shared_of s) woken after → after.word a ≡ s.word a
+    abandoned e k woken after of is gone =
+        ap (λ (f : ℕ → ℕ). f a) gone.marks
+        ∙ put_other s.word (e + 1) _ a (λ q. variable_apart p m i (LockOf k) there (monitor_valid p k of)
+        (q ∙ ap (λ n. n + 1) is))
+
+    -- the pending entry is none, or that of a monitor of the program
+    in_pending : (e n : ℕ) (x : PendingEntry) (woken : List ℕ) (after : Shared) → IsOfProgram p x
+        → n ≡ entry_word x → e ≡ entry_address (place p) n → PendingStep s.size t e (shared_of s) woken after
         → after.word a ≡ s.word a
-    in_pending e woken after none (NoEntry' absent idle) = ap (λ (x : Shared). x.word a) idle.same
-    in_pending e woken after none (IsForeign ok h one) = absurd (omega (arith, ok.0, none))
-    in_pending e woken after none (IsOwned ok gone) = absurd (omega (arith, ok.0, none))
+    in_pending e n x woken after of is at (NoEntry' absent idle) = ap (λ (z : Shared). z.word a) idle.same
+    in_pending e n x woken after of is at (IsForeign ok h one) = ap (λ (f : ℕ → ℕ). f a) one.same
+    in_pending e n NoEntry woken after of is at (IsOwned ok gone) =
+        let none : e ≡ 0 = at ∙ ap (entry_address (place p)) is in absurd (omega (arith, ok.0, none))
+    in_pending e n (Owned m) woken after of is at (IsOwned ok gone) =
+        abandoned e m woken after of (at ∙ ap (entry_address (place p)) is) gone
+    in_pending e n (Unowned m) woken after of is at (IsOwned ok gone) =
+        abandoned e m woken after of (at ∙ ap (entry_address (place p)) is) gone
 
     variable_stays : (pt : Point) (phase later : ExitPhase) (woken : List ℕ) (after : Shared) → IsExit pt
-        → (w.at t).point ≡ pt → PhaseIs (place p) (valid p) pt phase
+        → IsOfProgram p (entry_at pt) → (w.at t).point ≡ pt → PhaseIs (place p) (valid p) pt phase
         → ExitStep s.size t phase (shared_of s) woken after later → after.word a ≡ s.word a
-    variable_stays (Walks zero NoEntry end) phase later woken after is point at step =
+    variable_stays (Walks zero x end) phase later woken after is of point at step =
         let d : ExitStep s.size t Pending (shared_of s) woken after later =
         subst (λ (y : ExitPhase). ExitStep s.size t y (shared_of s) woken after later) at step in
-        let none : w.pending t ≡ 0 = subst (λ (q : Point). PendAt q (w.pending t)) point (good.pends.pend t) in
-        in_pending (s.word (process_word t 1)) woken after
-        (shares.words.word (PendingOf t) valid_t ∙ ap (entry_address (place p)) none) d.0
-    variable_stays (Walks (suc k) NoEntry end) phase later woken after is point at step =
+        in_pending (s.word (process_word t 1)) (w.pending t) x woken after of
+        (subst (λ (q : Point). PendAt q (w.pending t)) point (good.pends.pend t))
+        (shares.words.word (PendingOf t) valid_t) d.0
+    variable_stays (Walks (suc k) x end) phase later woken after is of point at step =
         let d = subst (λ (y : ExitPhase). ExitStep s.size t y (shared_of s) woken after later) at.1.1 step in
         elim d [
           | inl g ↦ in_entry k woken after at.0 g.1
           | inr g ↦ absurd (g.0 (lay.entry k at.0))
         ]
-    variable_stays (ClearsId end) phase later woken after is point at step =
+    variable_stays (ClearsId end) phase later woken after is of point at step =
         let d : ExitStep s.size t ClearId (shared_of s) woken after later =
         subst (λ (y : ExitPhase). ExitStep s.size t y (shared_of s) woken after later) at step in
         ap (λ (x : Shared). x.word a) d.1
         ∙ put_other s.word (process_word t 2) 0 a (λ q. variable_apart p m i (IdOf t) there valid_t q)
-    variable_stays (LastWakes end) phase later woken after is point at step =
+    variable_stays (LastWakes end) phase later woken after is of point at step =
         let d : ExitStep s.size t LastWake (shared_of s) woken after later =
         subst (λ (y : ExitPhase). ExitStep s.size t y (shared_of s) woken after later) at step in
         ap (λ (f : ℕ → ℕ). f a) d.0.same
-    variable_stays pt phase later woken after is point at step = absurd is
+    variable_stays pt phase later woken after is of point at step = absurd is
 
   -- the step of an exit
-  pub leaves_on : (pt : Point) (phase : ExitPhase) (woken : List ℕ) (s' : State) → IsExit pt → (w.at t).point ≡ pt
+  pub leaves_on : (pt : Point) (phase : ExitPhase) (woken : List ℕ) (s' : State) → IsExit pt
+      → IsOfProgram p (entry_at pt) → (w.at t).point ≡ pt
       → ((m : ℕ) → mem m (w.at t).list ≡ true → m < length p.monitors) → PhaseIs (place p) (valid p) pt phase
       → WalkIsShort pt phase (w.at t).list → Moves s t woken (Leaves phase) s' → LeavesOn p s s' w t pt
-  leaves_on pt phase woken s' is point lists at short moves =
+  leaves_on pt phase woken s' is of point lists at short moves =
       let after : Shared = moves.0 in
       let later : ExitPhase = moves.1 in
       let step : ExitStep s.size t phase (shared_of s) woken after later = moves.2 in
       let f = exits_follow (place p) (valid p) s.size t w pt phase later (shared_of s) after woken lay shares valid_t
-      valid_t (pends_there p w T t pt is good point) at step in
+      valid_t (pends_there p w T t pt is of good point) at step in
       let k = exit_world w t pt f.world is f.does in
       record {
         mid = with_shared s after;
@@ -291,7 +316,7 @@ module _ (p : Program) (fits : WellFormed p) (s : State) (w : World) (T : Table)
             made = refl;
             output = refl;
             thread = refl;
-            variables = λ m i there. variable_stays m i there pt phase later woken after is point at step;
+            variables = λ m i there. variable_stays m i there pt phase later woken after is of point at step;
           };
           made = k.made;
           at = k.at;

@@ -1,15 +1,19 @@
 -- The run that explains, by the machine's steps, is one.
 use Rattle.std.proofs.Common.{◌≡◌, ℕ, suc, ◌+◌, ◌<◌, Bool, true, false, List, [], ◌∷◌, length, refl, ap, Option, Some, None, append-nil, append_assoc}
 use Rattle.std.proofs.Common.{sym, ◌∙◌, subst, arith}
-use Rattle.std.specs.Prelude.{◌^◌, ◌++◌, is_some, if◌then◌else◌}
+use Rattle.std.specs.Prelude.{◌^◌, ◌++◌, is_some, if◌then◌else◌, not}
+use Rattle.std.proofs.lemmas.Bool.{false≢true}
 use Rattle.words.specs.Updates.{put}
 use Rattle.locals.specs.Looks.{look, Look}
 use Rattle.machine.specs.States.{State, opening_state, with_sleepers}
-use Rattle.machine.specs.Runs.{Doing, Own, Strayed, Step, GoesBy, MachineRun, IsStep, IsOwnStep, IsStrayStep, IsDone}
+use Rattle.machine.specs.Runs.{Doing, Own, Strayed, Killed, Step, GoesBy, MachineRun, IsStep, IsOwnStep, IsStrayStep}
+use Rattle.machine.specs.Runs.{IsKillStep, IsDone, killed_to}
+use Rattle.locals.specs.Threads.{is_dying}
+use Rattle.protocol.specs.World.{World}
 use Rattle.program.specs.Trees.{Program}
 use Rattle.program.specs.WellFormed.{WellFormed}
 use Rattle.lowering.specs.Pieces.{code_of, marks_of}
-use Rattle.meaning.specs.Labels.{Kind, kind_of, Action}
+use Rattle.meaning.specs.Labels.{Kind, Kill, kind_of, Action}
 use Rattle.meaning.specs.Runs.{IsRun, Leads, IsStep as IsSourceStep}
 use Rattle.meaning.specs.States.{SourceState, opening}
 use Rattle.proof_commutation.specs.Placed.{actions_of, actions_up_to}
@@ -19,32 +23,36 @@ use Rattle.proof_simulation.specs.Explaining.{explanation, IsDue, IsReached}
 use Rattle.proof_commutation.specs.Deferring.{IsBehind}
 use Rattle.proof_simulation.specs.Next.{after_next, next_kinds, next_visible, offer_of_process, take_deferred}
 use Rattle.proof_simulation.specs.Next.{internal_next}
-use Rattle.proof_simulation.specs.Ordering.{act}
+use Rattle.proof_simulation.specs.Ordering.{act, raises_number}
+use Rattle.proof_simulation.specs.Kills.{killed_last, killed_resumed}
 use Rattle.proof_simulation.specs.Progress.{answer_in, visible_step, Progress, progress, progress_by, progress_step}
-use Rattle.proof_simulation.specs.Progress.{progress_taken, progress_own, progress_done, progress_stray}
+use Rattle.proof_simulation.specs.Progress.{progress_taken, progress_own, progress_done, progress_stray, progress_kill}
 use Rattle.program.specs.declared.kinds.Member.{Member}
 use Rattle.meaning.specs.Table.{Table}
 use Rattle.proof_thread.specs.Completing.{IsOwn}
-use Rattle.refinement.specs.Outside.{is_condition_word, stray_threads}
+use Rattle.refinement.specs.Outside.{is_condition_word, killed_threads, stray_threads}
 use Rattle.proof_simulation.specs.Strays.{stray_condition, stray_kinds, after_stray}
 use Rattle.proof_simulation.proofs.Strays.{strayed}
 use Rattle.proof_simulation.specs.Progress.{opening_progress}
-use Rattle.proof_simulation.specs.Tracking.{CanTake, Tracks, TracksStray, HasDeferred}
-use Rattle.proof_simulation.specs.Deferred.{deferred_then, Stage, Agrees, AreOwn}
+use Rattle.proof_simulation.specs.Tracking.{CanTake, Tracks, TracksStray, TracksKill, RaisedSo, HasDeferred}
+use Rattle.proof_simulation.specs.Deferred.{deferred_then, raised_at, raised_then, Stage, Agrees, AreOwn}
 use Rattle.proof_simulation.proofs.Completions.{steps_so}
 use Rattle.proof_simulation.proofs.Nexts.{catches_up_behind, visible_is, visible_so}
 use Rattle.proof_simulation.proofs.Finishing.{finishes, finishes_counted, finishes_own}
 use Rattle.proof_simulation.proofs.Local.{put_again}
 use Rattle.proof_simulation.proofs.Sourcing.{action}
-use Rattle.proof_simulation.proofs.Tracking.{tracks_stray, opens_deferred, tracks_deferred, catches_up_deferred}
+use Rattle.proof_simulation.proofs.Tracking.{tracks_stray, tracks_kill, tracks_later, opens_deferred, tracks_deferred}
+use Rattle.proof_simulation.proofs.Tracking.{catches_up_deferred}
 use Rattle.proof_simulation.proofs.Tracking.{takes_visible_deferred, takes_visible_own}
 use Rattle.proof_simulation.proofs.Whole.{AllOwn, leads_on, come, most, few, own_kinds, own_none, none_from_outside}
 use Rattle.proof_simulation.proofs.Whole.{processes_append, threads_append, strays_of, one_stray, stray_told}
+use Rattle.proof_simulation.proofs.Whole.{kills_append, kills_of, one_kill}
 use Rattle.proof_simulation.proofs.Worlds.{put_put}
 use Rattle.proof_simulation.proofs.Observing.{ends, sound}
 use Rattle.proof_simulation.proofs.Resting.{at_rest, sleepers}
 use Rattle.proof_simulation.proofs.Paces.{count_by-append, keeps_pace}
-use Rattle.proof_simulation.proofs.Counting.{count, counts, count_map, count_one, count_stray, of_none, done_count}
+use Rattle.proof_simulation.proofs.Counting.{count, counts, count_map, count_one, count_stray, count_kill, of_none}
+use Rattle.proof_simulation.proofs.Counting.{done_count}
 use Rattle.proof_simulation.proofs.Counting.{done_behind, of_one, step_count, behind, length_waits}
 use Rattle.proof_simulation.proofs.Counting.{length_taken}
 use Rattle.proof_simulation.proofs.Opening.{opens, opens_calm}
@@ -68,8 +76,9 @@ module _ (p : Program) (w : WellFormed p) where
   -- all that waits of a process is taken
   pay_all : (steps : ℕ) (s : State) (t : ℕ) (ks : List Kind) (a : SourceState) (o : HasDeferred p w steps s t a ks)
       → Leads p a (actions_of t ks) (take_deferred p t ks a)
-      × ((n : HasDeferred p w steps s t (take_deferred p t ks a) []) × (n.deferred ≡ put o.deferred t []))
-  pay_all steps s t [] a o = (refl, (o, put_again o.deferred t [] o.mine))
+      × ((n : HasDeferred p w steps s t (take_deferred p t ks a) []) × (n.deferred ≡ put o.deferred t [])
+      × ((u : ℕ) → raised_at n.ties.world u ≡ raised_at o.ties.world u))
+  pay_all steps s t [] a o = (refl, (o, put_again o.deferred t [] o.mine, λ u. refl))
   pay_all steps s t (k ∷ ks) a o =
       let catches_up = catches_up_deferred p w steps s t a k ks o in
       let step = (catches_up_behind p t o.deferred a o.now k ks o.behind o.mine).4 in
@@ -77,7 +86,11 @@ module _ (p : Program) (w : WellFormed p) where
       let next = catches_up.4 there step in
       let more = pay_all steps s t ks there next.0 in (
         (there, step, more.0),
-        (more.1.0, more.1.1 ∙ ap (λ (f : ℕ → List Kind). put f t []) next.1 ∙ put_put o.deferred t ks []),
+        (
+          more.1.0,
+          more.1.1 ∙ ap (λ (f : ℕ → List Kind). put f t []) next.1 ∙ put_put o.deferred t ks [],
+          λ u. more.1.2 u ∙ next.2 u,
+        ),
       )
 
   -- as many actions of each process more, taken or waiting
@@ -103,22 +116,39 @@ module _ (p : Program) (w : WellFormed p) where
     abbrev deferral : Option Kind
     deferral = deferred_by_step (mark_of (marks_of p) st.thread) looks answer
 
-    on : (visible_step p looks answer ≡ false → (n : Tracks p w (suc taken) s' g.source)
-        × (n.deferred ≡ put r.tracks.deferred t (deferred_then deferral (r.tracks.deferred t))))
-        × (visible_step p looks answer ≡ true → (o : HasDeferred p w (suc taken) s' t g.source (r.tracks.deferred t))
-        × (o.deferred ≡ r.tracks.deferred))
-    on = tracks_deferred p w taken s g.source r.tracks l s' st (visible_step p looks answer) deferral
+    -- whether the thread has raised a number then
+    abbrev has : Bool
+    has = raised_then (visible_step p s.word l.thread looks answer) (raises_number looks) (raised_at
+        r.tracks.ties.world t)
+
+    raised_so : (v : World) → RaisedSo r.tracks.ties.world v t has → (b : Bool)
+        → visible_step p s.word l.thread looks answer ≡ b → (u : ℕ)
+        → raised_at v u ≡ put g.raised t (raised_then b (raises_number looks) (g.raised t)) u
+    raised_so v h b e u = h u
+        ∙ ap (λ (f : ℕ → Bool). put f t (raised_then (visible_step p s.word l.thread looks answer) (raises_number looks)
+        (f t)) u) (λ i v. r.raises v i)
+        ∙ ap (λ x. put g.raised t (raised_then x (raises_number looks) (g.raised t)) u) e
+
+    on : (visible_step p s.word l.thread looks answer ≡ false → (n : Tracks p w (suc taken) s' g.source)
+        × (n.deferred ≡ put r.tracks.deferred t (deferred_then deferral (r.tracks.deferred t)))
+        × RaisedSo r.tracks.ties.world n.ties.world t has)
+        × (visible_step p s.word l.thread looks answer ≡ true
+        → (o : HasDeferred p w (suc taken) s' t g.source (r.tracks.deferred t))
+        × (o.deferred ≡ r.tracks.deferred) × RaisedSo r.tracks.ties.world o.ties.world t has)
+    on = tracks_deferred p w taken s g.source r.tracks l s' st (visible_step p s.word l.thread looks answer)
+        (raises_number looks) deferral
         (steps_so p (mark_of (marks_of p) st.thread) s s' l.thread l.woken looks st.moves) short
 
-    owes : visible_step p looks answer ≡ true
+    owes : visible_step p s.word l.thread looks answer ≡ true
         → (o : HasDeferred p w (suc taken) s' t g.source (g.deferred t)) × (o.deferred ≡ g.deferred)
+        × RaisedSo r.tracks.ties.world o.ties.world t has
     owes e =
         let o = on.1 e in
         let same = subst (λ (f : ℕ → List Kind). (i : HasDeferred p w (suc taken) s' t g.source (f t))
-        × (i.deferred ≡ r.tracks.deferred)) r.waits o in
-        (same.0, same.1 ∙ r.waits)
+        × (i.deferred ≡ r.tracks.deferred) × RaisedSo r.tracks.ties.world i.ties.world t has) r.waits o in
+        (same.0, same.1 ∙ r.waits, same.2)
 
-    pub due : visible_step p looks answer ≡ true → IsDue p s' t g
+    pub due : visible_step p s.word l.thread looks answer ≡ true → IsDue p s' t g
     due e =
         let o = owes e in
         let paying = pay_all (suc taken) s' t (g.deferred t) g.source o.0 in
@@ -132,16 +162,18 @@ module _ (p : Program) (w : WellFormed p) where
           resumes = last.3;
         }
 
-    by_visible : (b : Bool) → visible_step p looks answer ≡ b
-        → IsReached p w (suc taken) s' (progress_step p b deferral s' t g)
-        × SameOutside g (progress_step p b deferral s' t g)
-        × Adds g (progress_step p b deferral s' t g) (λ u. of_one t u (step_count b deferral (g.deferred t)))
+    by_visible : (b : Bool) → visible_step p s.word l.thread looks answer ≡ b
+        → IsReached p w (suc taken) s' (progress_step p b deferral (raises_number looks) s' t g)
+        × SameOutside g (progress_step p b deferral (raises_number looks) s' t g)
+        × Adds g (progress_step p b deferral (raises_number looks) s' t g) (λ u. of_one t u (step_count b deferral
+        (g.deferred t)))
     by_visible false e =
         let n = on.0 e in (
           record {
             run = r.run;
             tracks = n.0;
             waits = n.1 ∙ ap (λ (f : ℕ → List Kind). put f t (deferred_then deferral (f t))) r.waits;
+            raises = raised_so n.0.ties.world n.2 false e;
           },
           λ test none. refl,
           λ u. let long = length_waits g.deferred t u deferral in omega (arith, long),
@@ -172,6 +204,7 @@ module _ (p : Program) (w : WellFormed p) where
                 (actions_of t (next_kinds (next_visible p s' t a))) caught_up_run led;
             tracks = next.0;
             waits = next.1 ∙ paying.1.1 ∙ ap (λ (f : ℕ → List Kind). put f t []) o.1;
+            raises = λ u. next.2 u ∙ paying.1.2 u ∙ raised_so o.0.ties.world o.2 true e u;
           },
           λ test none. processes_append test (g.actions ++ actions_of t ks) (actions_of t (next_kinds
               (next_visible p s' t a)))
@@ -196,13 +229,13 @@ module _ (p : Program) (w : WellFormed p) where
     step_so : IsReached p w (suc taken) s' (progress_own p s s' l st g)
         × SameOutside g (progress_own p s s' l st g)
         × Adds g (progress_own p s s' l st g)
-        (λ u. of_one t u (step_count (visible_step p looks answer) deferral (g.deferred t)))
-    step_so = by_visible (visible_step p looks answer) refl
+        (λ u. of_one t u (step_count (visible_step p s.word l.thread looks answer) deferral (g.deferred t)))
+    step_so = by_visible (visible_step p s.word l.thread looks answer) refl
 
-  deferred_behind : (b : Bool) (k : Option Kind) (s : State) (u : ℕ) (g : Progress)
-      → (progress_step p b k s u g).deferred ≡ put g.deferred u (behind b k (g.deferred u))
-  deferred_behind true k s u g = refl
-  deferred_behind false k s u g = refl
+  deferred_behind : (b : Bool) (k : Option Kind) (raises : Bool) (s : State) (u : ℕ) (g : Progress)
+      → (progress_step p b k raises s u g).deferred ≡ put g.deferred u (behind b k (g.deferred u))
+  deferred_behind true k raises s u g = refl
+  deferred_behind false k raises s u g = refl
 
   -- what belongs to the source behind one step
   pub record Reaches (taken : ℕ) (s : State) (g : Progress) (l : Step) (s' : State) (d : Doing)
@@ -210,7 +243,8 @@ module _ (p : Program) (w : WellFormed p) where
     pub is : IsReached p w (suc taken) s' (progress_done p s s' l d st g)
     pub strays : processes_of is_stray_kind (progress_done p s s' l d st g).actions
         ≡ processes_of is_stray_kind g.actions ++ strays_of p l d
-    pub kills : processes_of is_kill_kind (progress_done p s s' l d st g).actions ≡ processes_of is_kill_kind g.actions
+    pub kills : processes_of is_kill_kind (progress_done p s s' l d st g).actions
+        ≡ processes_of is_kill_kind g.actions ++ kills_of l d
     pub adds : Adds g (progress_done p s s' l d st g)
         (λ u. of_one l.thread u (done_count p s s' l d st (g.deferred l.thread)))
     pub waits : (progress_done p s s' l d st g).deferred
@@ -233,9 +267,9 @@ module _ (p : Program) (w : WellFormed p) where
         ≡ put g.deferred l.thread (if is_condition_word p a then [] else g.deferred l.thread))
 
     by_tracks : (o : Option Member) → is_condition_word p a ≡ is_some o
-        → TracksStray p w taken s l.thread g.source g.deferred o → Strays o
+        → TracksStray p w taken s l.thread g.source g.deferred r.tracks.ties.world o → Strays o
     by_tracks None e n = (
-      record { run = r.run; tracks = n.0; waits = n.1 },
+      record { run = r.run; tracks = n.0; waits = n.1; raises = λ u. n.2 u ∙ r.raises u },
       sym (append-nil (processes_of is_stray_kind g.actions))
           ∙ ap (λ (i : List ℕ). processes_of is_stray_kind g.actions ++ i)
           (sym (ap (λ b. if b then l.thread ∷ [] else []) e)),
@@ -263,6 +297,7 @@ module _ (p : Program) (w : WellFormed p) where
                 (actions_of t (stray_kinds (Some c))) caught_up_run (after_stray t (Some c) a', n.1, refl);
             tracks = n.2;
             waits = n.3;
+            raises = λ u. n.4 u ∙ r.raises u;
           },
           all is_stray_kind (λ i h. (own_kinds i h).0)
               ∙ ap (λ (i : List ℕ). processes_of is_stray_kind g.actions ++ i) (stray_told p t a (Some c) l refl e),
@@ -283,14 +318,109 @@ module _ (p : Program) (w : WellFormed p) where
     strays_so =
         let o = stray_condition p a (g.source.table.waits l.thread) in
         let n = tracks_stray p w taken s g.source r.tracks l.thread a st.sleeps in
-        let m = subst (λ (f : ℕ → List Kind). TracksStray p w taken s l.thread g.source f o) r.waits n in
+        let m = subst (λ (f : ℕ → List Kind). TracksStray p w taken s l.thread g.source f
+        r.tracks.ties.world o) r.waits n in
         let ahead = r.tracks.ahead in
         let word = (strayed p w taken s ahead r.tracks.ties l.thread a st.sleeps).word in
         let here : is_condition_word p a ≡ is_some o = word
         ∙ ap (λ (T : Table). is_some (stray_condition p a (T.waits l.thread))) (sym r.tracks.behind.table) in
         let x = by_tracks o here m in
         subst (λ (y : State). (i : IsStrayStep a s l y) → Reaches taken s g l y (Strayed a) i) (sym st.after)
-        (λ i. record { is = x.0; strays = x.1; kills = x.2; adds = x.3; waits = x.4 }) st
+        (λ i. record { is = x.0; strays = x.1; kills = x.2 ∙ sym (append-nil _); adds = x.3; waits = x.4 }) st
+
+  -- a kill of a thread that isn't dying
+  module _ (taken : ℕ) (s : State) (g : Progress) (r : IsReached p w taken s g) (l : Step) (s' : State)
+      (st : IsKillStep true s l s') where
+    abbrev killed : State
+    killed = killed_to true s l.thread
+
+    not_so : (b : Bool) → true ≡ not b → b ≡ false
+    not_so true e = absurd (false≢true (sym e))
+    not_so false e = refl
+
+    -- the bit is that of the world
+    kill_tracked : TracksKill p w taken s l.thread g.source g.deferred (g.raised l.thread) r.tracks.ties.world
+    kill_tracked =
+        let n = tracks_kill p w taken s g.source r.tracks l.thread st.thread st.stands
+        (not_so (is_dying st.thread) st.begins_so) in
+        subst (λ b. TracksKill p w taken s l.thread g.source g.deferred b r.tracks.ties.world) (r.raises l.thread)
+        (subst (λ (f : ℕ → List Kind). TracksKill p w taken s l.thread g.source f
+        (raised_at r.tracks.ties.world l.thread) r.tracks.ties.world) r.waits n)
+
+    abbrev there : SourceState
+    there = take_deferred p l.thread (g.deferred l.thread) g.source
+
+    abbrev last : Option ℕ
+    last = killed_last p s.word l.thread
+
+    abbrev resumed : List ℕ
+    resumed = killed_resumed p killed there.table (g.raised l.thread)
+        (offer_of_process p there.variable (there.process l.thread))
+
+    abbrev g' : Progress
+    g' = progress_kill p s.word killed l.thread g
+
+    kill_reached : IsReached p w (suc taken) killed g'
+    kill_reached = record {
+      run = leads_on p (opening p) there g'.source (g.actions ++ actions_of l.thread (g.deferred l.thread))
+          (act l.thread (Kill resumed last) ∷ [])
+          (leads_on p (opening p) g.source there g.actions (actions_of l.thread (g.deferred l.thread)) r.run
+          kill_tracked.0) (g'.source, kill_tracked.1, refl);
+      tracks = kill_tracked.2;
+      waits = kill_tracked.3;
+      raises = λ u. kill_tracked.4 u
+          ∙ ap (λ (f : ℕ → Bool). put f l.thread false u) (λ i v. r.raises v i);
+    }
+
+    kill_all : (test : Kind → Bool) → ((k : Kind) → IsOwn k → test k ≡ false)
+        → processes_of test ((g.actions ++ actions_of l.thread (g.deferred l.thread))
+        ++ act l.thread (Kill resumed last) ∷ [])
+        ≡ processes_of test g.actions ++ processes_of test (act l.thread (Kill resumed last) ∷ [])
+    kill_all test none =
+        let ks = g.deferred l.thread in
+        let own : AreOwn ks = subst (λ (f : ℕ → List Kind). AreOwn (f l.thread)) r.waits (r.tracks.own l.thread) in
+        processes_append test (g.actions ++ actions_of l.thread ks) (act l.thread (Kill resumed last) ∷ [])
+        ∙ ap (λ (i : List ℕ). i ++ processes_of test (act l.thread (Kill resumed last) ∷ []))
+        (processes_append test g.actions (actions_of l.thread ks)
+        ∙ ap (λ (i : List ℕ). processes_of test g.actions ++ i) (own_none test none l.thread ks own) ∙ append-nil _)
+
+    kill_adds : Adds g g' (λ u. of_one l.thread u 0)
+    kill_adds u =
+        let t = l.thread in
+        let ks = g.deferred t in
+        let own : AreOwn ks = subst (λ (f : ℕ → List Kind). AreOwn (f t)) r.waits (r.tracks.own t) in
+        let whole = count_by-append (is_action_of u) (g.actions ++ actions_of t ks) (act t (Kill resumed last) ∷ []) in
+        let both = count_by-append (is_action_of u) g.actions (actions_of t ks) in
+        let first = count_map t u ks own in
+        let final = count_kill t u resumed last in
+        let none = length_taken g.deferred t u in
+        let zero = of_none t u in
+        omega (arith, whole, both, first, final, none, zero)
+
+    kills_so : Reaches taken s g l s' (Killed true) st
+    kills_so =
+        subst (λ (y : State). (i : IsKillStep true s l y) → Reaches taken s g l y (Killed true) i) (sym st.after)
+        (λ i. record {
+          is = kill_reached;
+          strays = kill_all is_stray_kind (λ i h. (own_kinds i h).0);
+          kills = kill_all is_kill_kind (λ i h. (own_kinds i h).1);
+          adds = kill_adds;
+          waits = refl;
+        }) st
+
+  -- one of a thread that is dying already
+  again_so : (taken : ℕ) (s : State) (g : Progress) (r : IsReached p w taken s g) (l : Step) (s' : State)
+      (st : IsKillStep false s l s') → Reaches taken s g l s' (Killed false) st
+  again_so taken s g r l s' st =
+      let n = tracks_later p w taken s g.source r.tracks in
+      subst (λ (y : State). (i : IsKillStep false s l y) → Reaches taken s g l y (Killed false) i) (sym st.after)
+      (λ i. record {
+        is = record { run = r.run; tracks = n.0; waits = n.1 ∙ r.waits; raises = λ u. n.2 u ∙ r.raises u };
+        strays = sym (append-nil _);
+        kills = sym (append-nil _);
+        adds = λ u. let none = of_none l.thread u in omega (arith, none);
+        waits = put_again g.deferred l.thread (g.deferred l.thread) refl;
+      }) st
 
   reaches : (taken : ℕ) (s : State) (g : Progress) → IsReached p w taken s g → (l : Step) (s' : State) (d : Doing)
       (st : IsDone (code_of p) s l s' d) → taken + 1 < 2 ^ 32 → Reaches taken s g l s' d st
@@ -301,25 +431,28 @@ module _ (p : Program) (w : WellFormed p) where
       record {
         is = x.0;
         strays = x.1 is_stray_kind (λ i h. (own_kinds i h).0) ∙ sym (append-nil _);
-        kills = x.1 is_kill_kind (λ i h. (own_kinds i h).1);
+        kills = x.1 is_kill_kind (λ i h. (own_kinds i h).1) ∙ sym (append-nil _);
         adds = x.2;
-        waits = deferred_behind (visible_step p looks answer) (deferred_by_step (mark_of (marks_of p) st.thread) looks answer) s'
-            l.thread g;
+        waits = deferred_behind (visible_step p s.word l.thread looks answer)
+            (deferred_by_step (mark_of (marks_of p) st.thread) looks answer) (raises_number looks) s' l.thread g;
       }
   reaches taken s g r l s' (Strayed a) st short = strays_so taken s g r l s' a st
+  reaches taken s g r l s' (Killed true) st short = kills_so taken s g r l s' st
+  reaches taken s g r l s' (Killed false) st short = again_so taken s g r l s' st
 
   pub reaches_by : (steps : List Step) (taken : ℕ) (s s' : State) (g : Progress) → IsReached p w taken s g
       → (run : GoesBy (code_of p) s steps s') → taken + length steps < 2 ^ 32
       → IsReached p w (taken + length steps) s' (progress_by p g steps s s' run)
       × (processes_of is_stray_kind (progress_by p g steps s s' run).actions
       ≡ processes_of is_stray_kind g.actions ++ stray_threads p steps)
-      × (processes_of is_kill_kind (progress_by p g steps s s' run).actions ≡ processes_of is_kill_kind g.actions)
+      × (processes_of is_kill_kind (progress_by p g steps s s' run).actions
+      ≡ processes_of is_kill_kind g.actions ++ killed_threads steps)
       × Adds g (progress_by p g steps s s' run) (λ t. counts p g.deferred steps s s' run t)
   reaches_by [] taken s s' g r run short =
       let same : taken ≡ taken + 0 = omega arith in (
         subst (λ n. IsReached p w n s' g) same (subst (λ (x : State). IsReached p w taken x g) run r),
         sym (append-nil (processes_of is_stray_kind g.actions)),
-        refl,
+        sym (append-nil (processes_of is_kill_kind g.actions)),
         λ t. omega arith,
       )
   reaches_by (l ∷ ls) taken s s' g r run short =
@@ -332,7 +465,10 @@ module _ (p : Program) (w : WellFormed p) where
             ∙ append_assoc (processes_of is_stray_kind g.actions) (strays_of p l l.doing) (stray_threads p ls)
             ∙ ap (λ (i : List ℕ). processes_of is_stray_kind g.actions ++ i)
             (ap (λ (i : List ℕ). i ++ stray_threads p ls) (sym (one_stray p l)) ∙ sym (threads_append p (l ∷ []) ls)),
-        more.2 ∙ first.kills,
+        more.2 ∙ ap (λ (i : List ℕ). i ++ killed_threads ls) first.kills
+            ∙ append_assoc (processes_of is_kill_kind g.actions) (kills_of l l.doing) (killed_threads ls)
+            ∙ ap (λ (i : List ℕ). processes_of is_kill_kind g.actions ++ i)
+            (ap (λ (i : List ℕ). i ++ killed_threads ls) (sym (one_kill l)) ∙ sym (kills_append (l ∷ []) ls)),
         λ t.
             let one = first.adds t in
             let rest = subst (λ (f : ℕ → List Kind). count t (progress_by p there ls run.0 s' run.2).actions
@@ -343,7 +479,8 @@ module _ (p : Program) (w : WellFormed p) where
       )
 
   pub opens_reached : IsReached p w 0 (opening_state (code_of p)) (opening_progress p)
-  opens_reached = let o = opens_deferred p w in record { run = refl; tracks = o.0; waits = o.1 }
+  opens_reached =
+      let o = opens_deferred p w in record { run = refl; tracks = o.0; waits = o.1; raises = λ u. o.2 u }
 
   module _ (steps : List Step) (s : State) (run : MachineRun (code_of p) steps s) (short : length steps < 2 ^ 32) where
     abbrev g : Progress
@@ -351,7 +488,7 @@ module _ (p : Program) (w : WellFormed p) where
 
     whole : IsReached p w (0 + length steps) s g
         × (processes_of is_stray_kind g.actions ≡ [] ++ stray_threads p steps)
-        × (processes_of is_kill_kind g.actions ≡ [])
+        × (processes_of is_kill_kind g.actions ≡ [] ++ killed_threads steps)
         × Adds (opening_progress p) g (λ t. counts p (λ u. []) steps (opening_state (code_of p)) s run t)
     whole = reaches_by steps 0 (opening_state (code_of p)) s (opening_progress p) opens_reached run
         (omega (arith, short))

@@ -46,13 +46,13 @@ use Rattle.protocol.specs.Carries.{Event, Acts}
 use Rattle.words.specs.Updates.{put}
 use Rattle.words.specs.Versions.{most_of}
 use Rattle.proof_templates.proofs.Layouts.{number_is}
-use Rattle.proof_simulation.specs.Ordering.{StepsSo, completes}
+use Rattle.proof_simulation.specs.Ordering.{StepsSo, completes, is_raise}
 use Rattle.proof_simulation.specs.Standing.{StandsAt, works, reads, sleeps, learns, takes, IsLast, IsChild}
 use Rattle.proof_simulation.specs.Ranks.{rank, steps_left, more_steps, before_template}
 use Rattle.proof_simulation.specs.Corresponding.{Corresponds, IsBefore}
 use Rattle.proof_simulation.specs.Serving.{IsServed, IsAskable}
 use Rattle.proof_simulation.proofs.Worlds.{reached_good}
-use Rattle.proof_simulation.proofs.Completions.{point_deferral, point_completes, listed_at}
+use Rattle.proof_simulation.proofs.Completions.{point_deferral, point_completes, point_raises, listed_at}
 use Rattle.proof_simulation.proofs.Resumed.{who_resumes}
 use Rattle.proof_simulation.proofs.Moving.{IsLow, Next}
 use Rattle.proof_simulation.proofs.Stepped.{Arrives, stepped}
@@ -60,7 +60,7 @@ use Rattle.proof_simulation.proofs.Serving.{served}
 use Rattle.proof_simulation.proofs.Templating.{awake_at, not_paused, works_on}
 use Rattle.proof_simulation.proofs.Keeping.{goes_on_keeps, faults_keep}
 use Rattle.proof_simulation.proofs.Acting.{held_of}
-use Rattle.proof_simulation.specs.Deferred.{Stage, stages, stage_of, Agrees, Works}
+use Rattle.proof_simulation.specs.Deferred.{Stage, stages, stage_of, Agrees, Works, raised_at}
 use Rattle.proof_thread.specs.Deferrals.{mark_of, deferred_by_request}
 
 cause_small : (cause : Cause) → cause_number cause ≢ 16
@@ -92,8 +92,8 @@ no : {A : Type 0} (a b : ℕ) (x y : A) → a ≢ b → (if a == b then x else y
 no a b x y h = cond-false (a == b) x y (ne_eqb a b h)
 
 module _ (p : Program) (w : WellFormed p) (steps : ℕ) (s : State) (c : SourceState) (k : Corresponds p w steps s c)
-    (t : ℕ) (woken : List ℕ) (done : Bool) (deferral : Option Kind) (pauses : Bool) (s' : State) (n : ℕ) (number :
-    (0 < t) × (t ≤ k.world.made))
+    (t : ℕ) (woken : List ℕ) (done raises : Bool) (deferral : Option Kind) (pauses : Bool) (s' : State) (n : ℕ)
+    (number : (0 < t) × (t ≤ k.world.made))
     (few : k.world.made ≤ most_of p.version) (awake : k.world.asleep t ≡ None) (paused : pauses ≡ is_paused s' t)
     (child : ℕ)
     (into : Option ℕ) (part : Part) (f : Frame) (cs : List Caller)
@@ -149,7 +149,8 @@ module _ (p : Program) (w : WellFormed p) (steps : ℕ) (s : State) (c : SourceS
           → steps_left (build_of p w made) c.variable t (go_list sv.after t to ms) stand < n)
 
       arrives : ((e : End) → Goes e) → (e : End) → MayAnswer pt sv.reply
-          → Arrives p w steps s c k t done deferral pauses s' mid n answer y q pt number awake proc point sv came e
+          → Arrives p w steps s c k t done raises deferral pauses s' mid n answer y q pt number awake proc point sv
+          came e
       arrives goes e may =
           let g = goes e in
           let mine : Fine e k.world.made g.thread g.process g.to l =
@@ -178,10 +179,12 @@ module _ (p : Program) (w : WellFormed p) (steps : ℕ) (s : State) (c : SourceS
           (listed_at k.world c.table t pt inv point) may askable same
 
       went : done ≡ completes p asks answer → deferral ≡ deferred_by_request (mark_of (marks_of p) x) asks answer
-          → ((e : End) → Goes e) → Next p w steps s' t done deferral pauses n c (stages k.world)
-      went seen told_of goes =
-          stepped p w steps s c k t done deferral pauses s' mid n answer y q pt number awake proc point sv came
+          → raises ≡ is_raise asks → ((e : End) → Goes e)
+          → Next p w steps s' t done raises deferral pauses n c (stages k.world) (raised_at k.world)
+      went seen told_of raise goes =
+          stepped p w steps s c k t done raises deferral pauses s' mid n answer y q pt number awake proc point sv came
           (told_of ∙ point_deferral p (mark_of (marks_of p) x) t pt answer asks working same)
+          (raise ∙ point_raises p t pt asks same)
           (subst (λ (i : Stage). Agrees i false) (sym working) refl)
           (shown seen)
           (λ e u label h. who_resumes p s' k.world c.table t pt sv.reply sv.after e u label
@@ -191,21 +194,21 @@ module _ (p : Program) (w : WellFormed p) (steps : ℕ) (s : State) (c : SourceS
     join_step : ((answer : ℕ) (mid : State) (sv : IsServed p s mid k.world t pt answer)
         (e' : s' ≡ with_thread mid t (go answer)) (e : End) → Goes answer mid sv e' e)
         → IsLow k.world.sequence (look (code_of p) t x)
-        → StepsSo p done deferral (mark_of (marks_of p) x) s t woken (look (code_of p) t x) s'
-        → Next p w steps s' t done deferral pauses n c (stages k.world)
+        → StepsSo p done raises deferral (mark_of (marks_of p) x) s t woken (look (code_of p) t x) s'
+        → Next p w steps s' t done raises deferral pauses n c (stages k.world) (raised_at k.world)
     join_step goes low moves =
-        let g : StepsSo p done deferral (mark_of (marks_of p) x) s t woken (Asks asks go) s' =
-        subst (λ (i : Look). StepsSo p done deferral (mark_of (marks_of p) x) s t woken i s') looks moves in
+        let g : StepsSo p done raises deferral (mark_of (marks_of p) x) s t woken (Asks asks go) s' =
+        subst (λ (i : Look). StepsSo p done raises deferral (mark_of (marks_of p) x) s t woken i s') looks moves in
         let sv = served p s k.world c.table t pt asks woken g.0 g.1 k.shares inv number.0
         (omega (arith, number.1, few)) (low asks go looks) askable same g.2 in
-        went g.0 g.1 sv g.3 g.4 g.5 (goes g.0 g.1 sv g.3)
+        went g.0 g.1 sv g.3 g.4 g.5 g.6 (goes g.0 g.1 sv g.3)
 
   -- the id word is read: the child is over, or the thread is to sleep
   pub read_step : (x : Thread) → x ≡ j.reads → c.process t ≡ Some (Joining child into part f cs)
       → (k.world.at t).point ≡ JoinReads child → rank (more_steps b) k.world (JoinReads child) ≤ n
       → IsLow k.world.sequence (look (code_of p) t x)
-      → StepsSo p done deferral (mark_of (marks_of p) x) s t woken (look (code_of p) t x) s'
-      → Next p w steps s' t done deferral pauses n c (stages k.world)
+      → StepsSo p done raises deferral (mark_of (marks_of p) x) s t woken (look (code_of p) t x) s'
+      → Next p w steps s' t done raises deferral pauses n c (stages k.world) (raised_at k.world)
   read_step x there proc point enough low moves =
       join_step (JoinReads child) (Joining child into part f cs) x (AskLoad (process_word child 2)) j.after_read proc
       point (ap (look (code_of p) t) there ∙ j.read) valid_child refl tt refl (λ o. refl) refl
@@ -247,8 +250,8 @@ module _ (p : Program) (w : WellFormed p) (steps : ℕ) (s : State) (c : SourceS
   pub sleep_step : (x : Thread) → x ≡ j.sleeps → c.process t ≡ Some (Joining child into part f cs)
       → (k.world.at t).point ≡ JoinSleeps child → 18 ≤ n
       → IsLow k.world.sequence (look (code_of p) t x)
-      → StepsSo p done deferral (mark_of (marks_of p) x) s t woken (look (code_of p) t x) s'
-      → Next p w steps s' t done deferral pauses n c (stages k.world)
+      → StepsSo p done raises deferral (mark_of (marks_of p) x) s t woken (look (code_of p) t x) s'
+      → Next p w steps s' t done raises deferral pauses n c (stages k.world) (raised_at k.world)
   sleep_step x there proc point enough low moves =
       join_step (JoinSleeps child) (Joining child into part f cs) x (AskWait (process_word child 2) child) j.after_sleep
       proc point (ap (look (code_of p) t) there ∙ j.sleep) valid_child refl tt refl (λ o. refl) refl
@@ -320,8 +323,8 @@ module _ (p : Program) (w : WellFormed p) (steps : ℕ) (s : State) (c : SourceS
   pub learn_step : (x : Thread) (end : End) → x ≡ j.learns → c.process t ≡ Some (after_join into part f cs end)
       → (k.world.at t).point ≡ JoinLearns child end → more_steps b + 34 ≤ n
       → IsLow k.world.sequence (look (code_of p) t x)
-      → StepsSo p done deferral (mark_of (marks_of p) x) s t woken (look (code_of p) t x) s'
-      → Next p w steps s' t done deferral pauses n c (stages k.world)
+      → StepsSo p done raises deferral (mark_of (marks_of p) x) s t woken (look (code_of p) t x) s'
+      → Next p w steps s' t done raises deferral pauses n c (stages k.world) (raised_at k.world)
   learn_step x (Ended z) there proc point enough low moves =
       let tell = tells (JoinLearns child (Ended z)) (Ended z) point (refl, refl) in
       join_step (JoinLearns child (Ended z)) (after_join into part f cs (Ended z)) x (AskLoad (process_word child 5))
@@ -368,8 +371,8 @@ module _ (p : Program) (w : WellFormed p) (steps : ℕ) (s : State) (c : SourceS
   pub take_step : (x : Thread) (z : ℤ) → x ≡ j.takes → c.process t ≡ Some (goes_on None (with_result into z f) cs)
       → (k.world.at t).point ≡ JoinTakes child (Ended z) → more_steps b + 17 ≤ n
       → IsLow k.world.sequence (look (code_of p) t x)
-      → StepsSo p done deferral (mark_of (marks_of p) x) s t woken (look (code_of p) t x) s'
-      → Next p w steps s' t done deferral pauses n c (stages k.world)
+      → StepsSo p done raises deferral (mark_of (marks_of p) x) s t woken (look (code_of p) t x) s'
+      → Next p w steps s' t done raises deferral pauses n c (stages k.world) (raised_at k.world)
   take_step x z there proc point enough low moves =
       let tell = tells (JoinTakes child (Ended z)) (Ended z) point (refl, refl) in
       let v = k.world.result child in

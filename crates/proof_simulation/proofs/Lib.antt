@@ -10,6 +10,7 @@ pub mod Stepped
 pub mod Pigeons
 pub mod Serving
 pub mod ExitServing
+pub mod ExitActions
 pub mod Ranking
 pub mod Points
 pub mod Offering
@@ -31,6 +32,8 @@ pub mod Making
 pub mod Stepping
 pub mod Whole
 pub mod Strays
+pub mod Kills
+pub mod KillSteps
 pub mod Tracking
 pub mod Counting
 pub mod Finishing

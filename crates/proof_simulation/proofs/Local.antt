@@ -21,8 +21,9 @@ use Rattle.proof_simulation.specs.Ordering.{StepsSo, nothing}
 use Rattle.proof_simulation.specs.Standing.{StandsAt}
 use Rattle.proof_simulation.specs.Ranks.{steps_left}
 use Rattle.proof_simulation.specs.Corresponding.{Corresponds, IsBefore}
-use Rattle.proof_simulation.proofs.Moving.{Next, put_puts, same_puts, moved}
-use Rattle.proof_simulation.specs.Deferred.{stages, stage_of}
+use Rattle.proof_simulation.proofs.Moving.{Next, put_puts, same_puts, moved, raised_still}
+use Rattle.proof_simulation.specs.Deferred.{stages, stage_of, notified_at, raised_at}
+use Rattle.std.specs.Prelude.{is_some}
 use Rattle.meaning.specs.Labels.{Kind}
 
 -- a change that changes nothing
@@ -50,18 +51,18 @@ first_step source image t n x z walk = by_walk walk.few walk.walk
     by_walk few (loads h r more) = let none = r.mine in absurd cc
 
 module _ (p : Program) (w : WellFormed p) (steps : ℕ) (s : State) (c : SourceState) (k : Corresponds p w steps s c)
-    (t : ℕ) (woken : List ℕ) (done : Bool) (deferral : Option Kind) (pauses : Bool) (s' : State) (n : ℕ) where
+    (t : ℕ) (woken : List ℕ) (done raises : Bool) (deferral : Option Kind) (pauses : Bool) (s' : State) (n : ℕ) where
   -- the thread stands for the same at another place of its code, with fewer steps left
   pub goes_local : (x y : Thread) (q : Process) (pt : Point) (l : List ℕ) → c.process t ≡ Some q
       → (k.world.at t).point ≡ pt → (k.world.at t).list ≡ l
       → (stand : StandsAt (build_of p w k.world.made) c.variable t (Some y) (Some q) pt l)
       → steps_left (build_of p w k.world.made) c.variable t k.world stand < n
       → look (code_of p) t x ≡ Goes y → deferred_by_mark (mark_of (marks_of p) x) ≡ None
-      → StepsSo p done deferral (mark_of (marks_of p) x) s t woken (look (code_of p) t x) s'
-      → Next p w steps s' t done deferral pauses n c (stages k.world)
+      → StepsSo p done raises deferral (mark_of (marks_of p) x) s t woken (look (code_of p) t x) s'
+      → Next p w steps s' t done raises deferral pauses n c (stages k.world) (raised_at k.world)
   goes_local x y q pt l proc point list stand less h plain moves =
-      let g : StepsSo p done deferral (mark_of (marks_of p) x) s t woken (Goes y) s' =
-      subst (λ (i : Look). StepsSo p done deferral (mark_of (marks_of p) x) s t woken i s') h moves in
+      let g : StepsSo p done raises deferral (mark_of (marks_of p) x) s t woken (Goes y) s' =
+      subst (λ (i : Look). StepsSo p done raises deferral (mark_of (marks_of p) x) s t woken i s') h moves in
       let at : k.world.at ≡ put k.world.at t (thread_at pt l) =
       put_again k.world.at t (thread_at pt l) (ap (λ (i : Point). thread_at i (k.world.at t).list) point
       ∙ ap (thread_at pt) list) in
@@ -85,7 +86,8 @@ module _ (p : Program) (w : WellFormed p) (steps : ℕ) (s : State) (c : SourceS
         blank = λ u h. k.blank u (subst (λ (f : ℕ → Place). IsBefore (f u).point) (sym at) h);
         numbers = λ d. let few = k.numbers d in omega (arith, few);
       }) in
-      subst (λ (x : State). Next p w steps x t done deferral pauses n c (stages k.world)) (sym g.1) (record {
+      subst (λ (x : State). Next p w steps x t done raises deferral pauses n c (stages k.world) (raised_at k.world))
+      (sym g.1) (record {
         after = c;
         ties = m.ties;
         kinds = [];
@@ -93,6 +95,9 @@ module _ (p : Program) (w : WellFormed p) (steps : ℕ) (s : State) (c : SourceS
         leads = refl;
         stage = stage_of pt;
         staged = m.staged;
+        raised = λ u. m.raised u ∙ ap (λ b. put (raised_at k.world) t b u)
+            (ap (λ (i : Point). is_some (notified_at i)) (sym point) ∙ raised_still done raises (raised_at k.world t)
+            g.2 g.4);
         places = nothing g.2 (g.3 ∙ plain) (inl (ap stage_of (sym point))) refl;
         paced = λ z. inr (subst (λ i. i < n) (sym m.is) less);
       })

@@ -3,7 +3,7 @@ use Rattle.std.proofs.Common.{◌≡◌, ◌≢◌, ℕ, suc, ◌<◌, ◌≤◌
 use Rattle.std.proofs.Common.{false}
 use Rattle.std.proofs.Common.{ap, sym, ◌∙◌, subst, arith, inl, inr}
 use Rattle.std.proofs.lemmas.Bool.{cases_eq, false≢true, ne_eqb}
-use Rattle.std.specs.Prelude.{not, ◌==◌}
+use Rattle.std.specs.Prelude.{not, ◌==◌, is_some}
 use Rattle.words.specs.Updates.{put}
 use Rattle.words.specs.Process.{process_word}
 use Rattle.words.specs.Versions.{most_of}
@@ -41,7 +41,7 @@ use Rattle.proof_templates.specs.Inside.{IsSteady}
 use Rattle.proof_simulation.specs.Ordering.{StepsSo, waits, acts}
 use Rattle.proof_simulation.specs.Standing.{StandsAt, IsAtWork, faults}
 use Rattle.proof_simulation.specs.Corresponding.{Corresponds, IsBefore}
-use Rattle.proof_simulation.proofs.Moving.{Next}
+use Rattle.proof_simulation.proofs.Moving.{Next, raised_none}
 use Rattle.proof_simulation.proofs.Claiming.{starts}
 use Rattle.proof_simulation.proofs.Deferred.{may_defer}
 use Rattle.proof_simulation.proofs.Acting.{held_of}
@@ -49,13 +49,13 @@ use Rattle.proof_simulation.proofs.Templating.{works_on}
 use Rattle.proof_simulation.proofs.Standings.{stand_moves}
 use Rattle.proof_simulation.proofs.Sourcing.{action, state_after}
 use Rattle.proof_simulation.proofs.Worlds.{reached_on, reached_good, reached_most, shares_at, shares_stored}
-use Rattle.proof_simulation.specs.Deferred.{Stage, stages, stage_of, Works}
+use Rattle.proof_simulation.specs.Deferred.{Stage, stages, stage_of, Works, notified_at, raised_then, raised_at}
 use Rattle.proof_thread.specs.Deferrals.{mark_of}
 use Rattle.std.specs.Prelude.{if◌then◌else◌}
 
 module _ (p : Program) (w : WellFormed p) (steps : ℕ) (s : State) (c : SourceState) (k : Corresponds p w steps s c)
-    (t : ℕ) (woken : List ℕ) (done : Bool) (deferral : Option Kind) (pauses : Bool) (s' : State) (n : ℕ) (number :
-    (0 < t) × (t ≤ k.world.made))
+    (t : ℕ) (woken : List ℕ) (done raises : Bool) (deferral : Option Kind) (pauses : Bool) (s' : State) (n : ℕ)
+    (number : (0 < t) × (t ≤ k.world.made))
     (few : k.world.made ≤ most_of p.version) (awake : k.world.asleep t ≡ None) (q : Process)
     (proc : c.process t ≡ Some q)
     (point : (k.world.at t).point ≡ Runs) (list : (k.world.at t).list ≡ holds q) where
@@ -63,18 +63,22 @@ module _ (p : Program) (w : WellFormed p) (steps : ℕ) (s : State) (c : SourceS
   all : k.world.most ≡ most_of p.version
   all = reached_most p.version k.world c.table k.reached
 
+  idle : raised_at k.world t ≡ false
+  idle = ap (λ (i : Point). is_some (notified_at i)) point
+
   -- no more can be made
   pub full_step : (go' : ℕ → Thread) (child : Process) (later : ℕ → Process) → go' 0 ≡ Dies' (Faulted ProcessTableFull)
       → offer p c.variable q ≡ MakesOne child later (Dying (Faulted ProcessTableFull) (holds q))
-      → k.world.most ≤ k.world.made → done ≡ false → deferral ≡ Some (L.Fails ProcessTableFull)
+      → k.world.most ≤ k.world.made → done ≡ false → raises ≡ false → deferral ≡ Some (L.Fails ProcessTableFull)
       → IsSteady p q c.variable → s' ≡ with_thread s t (go' 0)
-      → Next p w steps s' t done deferral pauses n c (stages k.world)
-  full_step go' child later full o many none fails steady same =
+      → Next p w steps s' t done raises deferral pauses n c (stages k.world) (raised_at k.world)
+  full_step go' child later full o many none low fails steady same =
       let can : Can k.world t ForkFull = record { number = number; awake = awake; stands = point; finds = many } in
       let takes : TakesUp (offer p c.variable q) FindsFull Nothing (Dying (Faulted ProcessTableFull) (holds q)) =
       subst (λ (i : Offer). TakesUp i FindsFull Nothing (Dying (Faulted ProcessTableFull) (holds q))) (sym o)
       (inr (refl, refl, refl)) in
-      starts p w steps s c k t woken done deferral pauses s' n number few awake q proc point list ForkFull FindsFull s
+      starts p w steps s c k t woken done raises deferral pauses s' n number few awake q proc point list ForkFull
+      FindsFull s
       k.world (go' 0)
       (Dying (Faulted ProcessTableFull) (holds q)) (Dies (Faulted ProcessTableFull) NoEntry) (holds q)
       can refl refl takes tt refl
@@ -87,7 +91,7 @@ module _ (p : Program) (w : WellFormed p) (steps : ℕ) (s : State) (c : SourceS
       (waits _ _ FindsFull none fails (ap stage_of point) refl proc
       (may_defer p w steps s c k t q _ FindsFull list steady refl takes
       ((permitted k.world c.table t ForkFull (reached_good p.version k.world c.table k.reached) can).0)
-      (λ end h. cc)) refl) same
+      (λ end h. cc)) refl) (raised_none done raises (raised_at k.world t) low idle) same
 
   module _ (child : Process) (later : ℕ → Process) (go' : ℕ → Thread) (entry : ℕ) (arguments : List ℕ)
       (work : IsAtWork p q c.variable) (more : k.world.made < k.world.most)
@@ -181,8 +185,17 @@ module _ (p : Program) (w : WellFormed p) (steps : ℕ) (s : State) (c : SourceS
       ]
     ]
 
-    pub forked : done ≡ true → s' ≡ grown → Next p w steps s' t done deferral pauses n c (stages k.world)
-    forked is same = subst (λ (x : State). Next p w steps x t done deferral pauses n c (stages k.world)) (sym same)
+    calm_done : (d r : Bool) (had : Bool) → d ≡ true → false ≡ raised_then d r had
+    calm_done true r had e = refl
+    calm_done false r had e = absurd cc
+
+    pub forked : done ≡ true → s' ≡ grown
+        → Next p w steps s' t done raises deferral pauses n c (stages k.world) (raised_at k.world)
+    forked is same =
+        let calm : false ≡ raised_then done raises (raised_at k.world t) =
+        calm_done done raises (raised_at k.world t) is in
+        subst (λ (x : State). Next p w steps x t done raises deferral pauses n c (stages k.world) (raised_at k.world))
+        (sym same)
         (record {
           after = c1;
           ties = record {
@@ -225,6 +238,15 @@ module _ (p : Program) (w : WellFormed p) (steps : ℕ) (s : State) (c : SourceS
               (λ i. sym (ap stage_of (ap (λ v. (k.world.at v).point) e ∙ can_fork.stands))))
               (λ e. at_put (stages k.world) t Works u (λ (x : Stage). stages k.world u ≡ x)
               (λ i. ap (stages k.world) i ∙ ap stage_of point) (λ i. refl));
+          raised = λ u. at_put k.world.at made (thread_at Runs []) u (λ (z : Place). is_some (notified_at z.point)
+              ≡ put (raised_at k.world) t (raised_then done raises (raised_at k.world t)) u)
+              (λ e. at_put (raised_at k.world) t (raised_then done raises (raised_at k.world t)) u (λ (x : Bool). false
+              ≡ x)
+              (λ i. calm)
+              (λ i. sym (ap (λ (i : Point). is_some (notified_at i)) (ap (λ v. (k.world.at v).point) e
+              ∙ can_fork.stands))))
+              (λ e. at_put (raised_at k.world) t (raised_then done raises (raised_at k.world t)) u
+              (λ (x : Bool). raised_at k.world u ≡ x) (λ i. ap (raised_at k.world) i ∙ idle ∙ calm) (λ i. refl));
           places = acts _ _ (Forks made) (Makes made child) (table_after k.world c.table made
               (Fork t)) is refl refl proc takes
               ((permitted k.world c.table made (Fork t) (reached_good p.version k.world c.table k.reached) can_fork).0)
@@ -241,19 +263,20 @@ module _ (p : Program) (w : WellFormed p) (steps : ℕ) (s : State) (c : SourceS
       → ((m : ℕ) → k.world.made ≤ suc m → suc m ≤ most_of p.version
       → Stands (build_of p w (suc m)) t (go' (suc m)) (later (suc m)))
       → ((m u : ℕ) → k.world.made ≤ m → Stands (build_of p w m) u (opening_thread entry arguments) child)
-      → StepsSo p done deferral (mark_of (marks_of p) x) s t woken (look (code_of p) t x) s'
-      → Next p w steps s' t done deferral pauses n c (stages k.world)
+      → StepsSo p done raises deferral (mark_of (marks_of p) x) s t woken (look (code_of p) t x) s'
+      → Next p w steps s' t done raises deferral pauses n c (stages k.world) (raised_at k.world)
   forks_step child later go' entry arguments x work h full o empty mine its moves =
-      by_answer (subst (λ (l : Look). StepsSo p done deferral (mark_of (marks_of p) x) s t woken l s') h moves)
+      by_answer (subst (λ (l : Look). StepsSo p done raises deferral (mark_of (marks_of p) x) s t woken l s') h moves)
     where
-      by_answer : StepsSo p done deferral (mark_of (marks_of p) x) s t woken (Asks
-          (AskFork entry arguments true) go') s' → Next p w steps s' t done deferral pauses n c (stages k.world)
-      by_answer (answer, mid, (nobody, inl (many, is, same)), e, d, f) =
+      by_answer : StepsSo p done raises deferral (mark_of (marks_of p) x) s t woken (Asks
+          (AskFork entry arguments true) go') s'
+          → Next p w steps s' t done raises deferral pauses n c (stages k.world) (raised_at k.world)
+      by_answer (answer, mid, (nobody, inl (many, is, same)), e, d, f, low) =
           full_step go' child later full o (omega (arith, many, k.made, k.most, all))
-          (d ∙ ap (λ (a : ℕ). not (a == 0)) is)
+          (d ∙ ap (λ (a : ℕ). not (a == 0)) is) low
           (f ∙ ap (λ (a : ℕ). if a == 0 then Some (L.Fails ProcessTableFull) else None) is) work.steady
           (e ∙ ap (λ (m : State). with_thread m t (go' answer)) same ∙ ap (λ a. with_thread s t (go' a)) is)
-      by_answer (answer, mid, (nobody, inr (less, room, is, same)), e, d, f) =
+      by_answer (answer, mid, (nobody, inr (less, room, is, same)), e, d, f, low) =
           forked child later go' entry arguments work (omega (arith, less, k.made, k.most, all)) o empty
           (mine k.world.made (omega arith) (omega (arith, less, k.made, k.most)))
           (its (suc k.world.made) (suc k.world.made)

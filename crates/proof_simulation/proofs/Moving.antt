@@ -30,8 +30,9 @@ use Rattle.proof_simulation.specs.Ranks.{steps_left}
 use Rattle.proof_simulation.specs.Corresponding.{Reached, IsBefore, Corresponds}
 use Rattle.proof_simulation.proofs.Sourcing.{act}
 use Rattle.proof_simulation.proofs.Standings.{stand_moves}
-use Rattle.proof_simulation.specs.Deferred.{Stage, stages, stage_of}
-use Rattle.std.specs.Prelude.{if◌then◌else◌, ◌==◌}
+use Rattle.proof_simulation.specs.Deferred.{Stage, stages, stage_of, notified_at, raised_at, raised_then}
+use Rattle.std.proofs.lemmas.Bool.{false≢true}
+use Rattle.std.specs.Prelude.{if◌then◌else◌, ◌==◌, is_some}
 
 -- a function with a value at a place, and the rest as before
 pub record Puts {A : Type 0} (f f' : ℕ → A) (t : ℕ) (v : A) : Type 0 where
@@ -57,6 +58,29 @@ IsSome (k ∷ ks) = Unit {0}
 abbrev pub HasNow : World → ℕ → ℕ → Type 0
 HasNow w u m = (mem m (w.at u).list ≡ true) ⊎ (entry_at (w.at u).point ≡ Owned m)
 
+-- whether threads have raised a number, where one is at another point
+pub put_raised : (at : ℕ → Place) (t : ℕ) (pt : Point) (l : List ℕ) (u : ℕ)
+    → is_some (notified_at (put at t (thread_at pt l) u).point)
+    ≡ put (λ v. is_some (notified_at (at v).point)) t (is_some (notified_at pt)) u
+put_raised at t pt l u = by_test (u == t)
+  where
+    by_test : (b : Bool) → is_some (notified_at (if b then thread_at pt l else at u).point)
+        ≡ (if b then is_some (notified_at pt) else is_some (notified_at (at u).point))
+    by_test true = refl
+    by_test false = refl
+
+-- a step that is neither visible nor raises a number
+pub raised_still : (done raises had : Bool) → done ≡ false → raises ≡ false → had ≡ raised_then done raises had
+raised_still true raises had e h = absurd (false≢true (sym e))
+raised_still false true had e h = absurd (false≢true (sym h))
+raised_still false false had e h = refl
+
+-- one that raises none, of a thread that hadn't
+pub raised_none : (done raises had : Bool) → raises ≡ false → had ≡ false → false ≡ raised_then done raises had
+raised_none true raises had e h = refl
+raised_none false true had e h = absurd (false≢true (sym e))
+raised_none false false had e h = sym h
+
 -- how far threads are, where one is at another point
 pub put_stage : (at : ℕ → Place) (t : ℕ) (pt : Point) (l : List ℕ) (u : ℕ)
     → stage_of (put at t (thread_at pt l) u).point ≡ put (λ v. stage_of (at v).point) t (stage_of pt) u
@@ -74,8 +98,8 @@ module _ (p : Program) (w : WellFormed p) where
 
   -- what belongs to the machine's state after a step of thread t: with the actions of its process, one at least where
   -- it doesn't pause and no fewer steps are left
-  pub record Next (steps : ℕ) (s' : State) (t : ℕ) (done : Bool) (deferral : Option Kind) (pauses : Bool) (n : ℕ)
-      (c : SourceState) (was : ℕ → Stage) : Type 0 where
+  pub record Next (steps : ℕ) (s' : State) (t : ℕ) (done raises : Bool) (deferral : Option Kind) (pauses : Bool) (n : ℕ)
+      (c : SourceState) (was : ℕ → Stage) (had : ℕ → Bool) : Type 0 where
     pub after : SourceState
     pub ties : Corresponds p w (suc steps) s' after
     pub kinds : List Kind
@@ -84,14 +108,17 @@ module _ (p : Program) (w : WellFormed p) where
     -- how far each thread is then
     pub stage : Stage
     pub staged : (u : ℕ) → stages ties.world u ≡ put was t stage u
+    -- and whether it has raised a number
+    pub raised : (u : ℕ) → raised_at ties.world u ≡ put had t (raised_then done raises (had t)) u
     pub places : Places p s' t c after done deferral (was t) stage kinds
     pub paced : pauses ≡ false → IsSome kinds ⊎ (left_of ties t < n)
 
   -- states that belong together, with how many steps thread t has left
-  pub record Tied (steps : ℕ) (s : State) (c : SourceState) (t n : ℕ) (now : ℕ → Stage) : Type 0 where
+  pub record Tied (steps : ℕ) (s : State) (c : SourceState) (t n : ℕ) (now : ℕ → Stage) (has : ℕ → Bool) : Type 0 where
     pub ties : Corresponds p w steps s c
     pub is : left_of ties t ≡ n
     pub staged : (u : ℕ) → stages ties.world u ≡ now u
+    pub raised : (u : ℕ) → raised_at ties.world u ≡ has u
 
   -- what is to be shown for the next states to belong together, where thread t has stepped from a point to another
   pub record Follow (steps : ℕ) (s : State) (c : SourceState) (k : Corresponds p w steps s c) (t : ℕ) (s' : State)
@@ -155,6 +182,7 @@ module _ (p : Program) (w : WellFormed p) where
         (elim (cases_eq u t) [ inl e ↦ mine u e | inr o ↦ other u o ])
 
     pub moved : Tied (suc steps) s' c' t now (put (stages k.world) t (stage_of pt))
+        (put (raised_at k.world) t (is_some (notified_at pt)))
     moved = record {
       ties = record {
         world = w';
@@ -176,4 +204,10 @@ module _ (p : Program) (w : WellFormed p) where
       };
       is = (here t).1 refl;
       staged = λ u. ap (λ (g : ℕ → Place). stage_of (g u).point) f.at ∙ put_stage k.world.at t pt l u;
+      raised = λ u. ap (λ (g : ℕ → Place). is_some (notified_at (g u).point)) f.at ∙ put_raised k.world.at t pt l u;
     }
+
+    -- so that it is told of the thread that stepped
+    pub moved_raised : (had : Bool) → is_some (notified_at pt) ≡ had → (u : ℕ)
+        → raised_at moved.ties.world u ≡ put (raised_at k.world) t had u
+    moved_raised had e u = moved.raised u ∙ ap (λ b. put (raised_at k.world) t b u) e

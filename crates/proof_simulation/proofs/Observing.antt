@@ -31,7 +31,8 @@ use Rattle.meaning.specs.Processes.{holds, callers_monitors}
 use Rattle.meaning.specs.Offers.{Rests, after_join, offer}
 use Rattle.meaning.specs.States.{SourceState}
 use Rattle.protocol.specs.Carries.{has_died}
-use Rattle.protocol.specs.Points.{NoEntry, Point, Unmade, Runs, Walks, LastWakes, HasEnded, GotReads, GotLinks}
+use Rattle.protocol.specs.Points.{Entry as PendingEntry, Point, Unmade, Runs, Walks, LastWakes, HasEnded, GotReads}
+use Rattle.protocol.specs.Points.{GotLinks}
 use Rattle.protocol.specs.Points.{GotHeads, GotUnpends, WaitReads, LeavePends, LeaveReads, LeaveHeads, LeaveSwaps}
 use Rattle.protocol.specs.World.{mem}
 use Rattle.protocol.specs.Cells.{Cell, SequenceOf, LockOf, OutcomeOf, cell_of}
@@ -65,6 +66,7 @@ use Rattle.proof_templates.proofs.Follows.{follows}
 use Rattle.proof_templates.proofs.Begins.{begins}
 use Rattle.proof_templates.proofs.Layouts.{valid_lies, word_lies, number_is}
 use Rattle.proof_templates.proofs.Addresses.{variable_lies}
+use Rattle.proof_simulation.specs.Killing.{last_of, left_of}
 use Rattle.proof_simulation.specs.Standing as S
 use Rattle.proof_simulation.specs.Standing.{StandsAt, ending}
 use Rattle.proof_simulation.specs.Corresponding.{Corresponds}
@@ -259,17 +261,17 @@ completes_end b t v x q (F.broadcasts c base is o has keeps e code after) =
     offers_end b.program v q (λ r. cc (r, o))
 
 -- a walk over a robust list is before the end
-walk_phase : (p : Program) (e : ℕ) (end : End) (phase : ExitPhase)
-    → PhaseIs (place p) (valid p) (Walks e NoEntry end) phase
+walk_phase : (p : Program) (e : ℕ) (x : PendingEntry) (end : End) (phase : ExitPhase)
+    → PhaseIs (place p) (valid p) (Walks e x end) phase
     → ((word : ℕ) → end_by word (Some (Exits' phase)) ≡ None) × (has_ended (Some (Exits' phase)) ≡ false)
-walk_phase p e end (Entry entry n) is = (λ word. refl, refl)
-walk_phase p e end Pending is = (λ word. refl, refl)
-walk_phase p zero end ClearId is = absurd cc
-walk_phase p (suc m) end ClearId is = absurd (cc is.1.1)
-walk_phase p zero end LastWake is = absurd cc
-walk_phase p (suc m) end LastWake is = absurd (cc is.1.1)
-walk_phase p zero end Ended' is = absurd cc
-walk_phase p (suc m) end Ended' is = absurd (cc is.1.1)
+walk_phase p e x end (Entry entry n) is = (λ word. refl, refl)
+walk_phase p e x end Pending is = (λ word. refl, refl)
+walk_phase p zero x end ClearId is = absurd cc
+walk_phase p (suc m) x end ClearId is = absurd (cc is.1.1)
+walk_phase p zero x end LastWake is = absurd cc
+walk_phase p (suc m) x end LastWake is = absurd (cc is.1.1)
+walk_phase p zero x end Ended' is = absurd cc
+walk_phase p (suc m) x end Ended' is = absurd (cc is.1.1)
 
 -- what is seen of a thread and its process
 pub data Seen (p : Program) (s : State) (t : ℕ) : Option Thread → Option Process → Point → Type 0 where
@@ -427,6 +429,7 @@ module _ (p : Program) (w : WellFormed p) (s : State) (size : s.size ≡ memory_
     seen v o q pt l listed (S.inside {x = x} {y = y} {pt = at} left k u few' walk fits same ne stands) =
         busy (steps_busy left x y walk (inside_busy u k at y fits ne stands)) (template_end b u t k at fits)
     seen v o q pt l listed (S.faults fault) = busy (asks _ _ refl (λ z. z)) refl
+    seen v o q pt l listed (S.killed of) = busy (asks _ _ refl (λ z. z)) refl
     seen v o q pt l listed (S.refused {x = x} {q = r} left few' k o' steady) =
         busy (steps_busy left x (Dies' (Faulted HandleNotJoinable)) k (asks _ _ refl (λ z. z)))
         (offers_end b.program v r (λ e. cc (e, o')))
@@ -442,8 +445,8 @@ module _ (p : Program) (w : WellFormed p) (s : State) (size : s.size ≡ memory_
         few' is j k) =
         busy (steps_busy left x j.takes k (asks _ _ j.result (child_there child 4 is.some is.made (omega arith))))
         (joined_end i y f cs (Ended z))
-    seen v o q pt l listed (S.walks {e = e} {end = end} {ms = ms} phase is short en) =
-        let g = walk_phase p e end phase is in exits g.0 g.1 (ending_end end ms)
+    seen v o q pt l listed (S.walks {e = e} {x = x} {end = end} {ms = ms} phase is short en of) =
+        let g = walk_phase p e x end phase is in exits g.0 g.1 (ending_end end (left_of (last_of x) ms))
     seen v o q pt l listed (S.clears {end = end} {ms = ms}) = exits (λ n. refl) refl (ending_end end [])
     seen v o q pt l listed S.wakes = wakes
     seen v o q pt l listed S.rests = rests

@@ -45,6 +45,8 @@ use Rattle.proof_simulation.specs.Corresponding.{Corresponds}
 use Rattle.proof_simulation.proofs.Templating.{works_on}
 use Rattle.proof_simulation.specs.Deferred.{stages, stage_of}
 use Rattle.proof_simulation.specs.Deferred as W
+use Rattle.proof_simulation.specs.Deferred.{notified_at, raised_at}
+use Rattle.std.specs.Prelude.{is_some}
 
 begins_main : (values : List ℤ) (q : Procedure) → q.role ≡ Main → begins
     (record { role = q.role; locals = values; rest = q.body }) [] ≡ goes_on None
@@ -183,6 +185,15 @@ module _ (p : Program) (w : WellFormed p) where
           by_test : (b : Bool) → mem m (first_place b).list ≡ true → ⊥
           by_test true g = false≢true g
           by_test false g = false≢true g
+
+-- no thread has raised a number at first
+pub opens_quiet : (p : Program) (w : WellFormed p) (u : ℕ) → raised_at (opens p w).world u ≡ false
+unfolding opens
+opens_quiet p w u = by_test (u == 1)
+  where
+    by_test : (b : Bool) → is_some (notified_at (first_place b).point) ≡ false
+    by_test true = refl
+    by_test false = refl
 
 -- each thread works at first
 pub opens_calm : (p : Program) (w : WellFormed p) (u : ℕ) → stages (opens p w).world u ≡ W.Works

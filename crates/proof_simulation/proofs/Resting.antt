@@ -25,8 +25,8 @@ use Rattle.meaning.specs.Processes.{Process}
 use Rattle.meaning.specs.Offers.{Effect, offer, TakesUp}
 use Rattle.meaning.specs.States.{SourceState}
 use Rattle.meaning.specs.Runs.{CanMove}
-use Rattle.protocol.specs.Points.{Purpose, ToEnter, ToReenter, ToResume, Spot, Point, Unmade, NoEntry, Walks, HasEnded}
-use Rattle.protocol.specs.Points.{entry_word, taking_entry}
+use Rattle.protocol.specs.Points.{Purpose, ToEnter, ToReenter, ToResume, Spot, Point, Unmade, Walks, HasEnded}
+use Rattle.protocol.specs.Points.{Entry as PendingEntry, NoEntry, Owned, Unowned, entry_word, taking_entry}
 use Rattle.protocol.specs.World.{World}
 use Rattle.protocol.specs.Cells.{Cell, LinkOf, PendingOf}
 use Rattle.protocol.specs.Memory.{entry_address, stored_value}
@@ -45,6 +45,7 @@ use Rattle.proof_templates.specs.Notifying as N
 use Rattle.proof_templates.specs.Inside.{Template, Enters, Exits, Waits, Notifies, Broadcasts, process_at, StandsIn}
 use Rattle.proof_templates.specs.Inside.{TemplateFits}
 use Rattle.proof_templates.proofs.Layouts.{number_is, monitor_valid, is_cell}
+use Rattle.proof_simulation.specs.Killing.{IsOfProgram}
 use Rattle.proof_simulation.specs.Standing as S
 use Rattle.proof_simulation.specs.Standing.{StandsAt}
 use Rattle.proof_simulation.specs.Corresponding.{Reached, Corresponds}
@@ -91,20 +92,20 @@ module _ (p : Program) (v : Variables) (t : ℕ) (before after : Process) (label
         let a = subst (λ (x : Process). Acts x) (sym (same_process e)) acts in (a.0, a.1)
     next_is o q pt l (S.sleeps left few c j h) e =
         let a = subst (λ (x : Process). Acts x) (sym (same_process e)) acts in (a.0, a.1)
-    next_is o q pt l (S.walks {e = zero} phase is short en) e = tt
-    next_is o q pt l (S.walks {e = suc m} phase is short en) e = tt
+    next_is o q pt l (S.walks {e = zero} phase is short en of) e = tt
+    next_is o q pt l (S.walks {e = suc m} phase is short en of) e = tt
     next_is o q pt l S.rests e = subst (λ (x : Process). Acts x) (sym (same_process e)) acts
     next_is o q pt l stand e = tt
 
 -- a thread that is awake and has ended, or runs code with the pending word 0, is outside
-no_walk_ended : (p : Program) (e : ℕ) (phase : ExitPhase) (end : _) → PhaseIs (place p) (valid p) (Walks e NoEntry end)
-    phase → has_ended (Some (Exits' phase)) ≡ true → ⊥
-no_walk_ended p e (Entry entry n) end is h = cc
-no_walk_ended p e Pending end is h = cc
-no_walk_ended p e ClearId end is h = cc
-no_walk_ended p e LastWake end is h = cc
-no_walk_ended p zero Ended' end is h = cc
-no_walk_ended p (suc m) Ended' end is h = cc is.1.1
+no_walk_ended : (p : Program) (e : ℕ) (x : PendingEntry) (phase : ExitPhase) (end : _)
+    → PhaseIs (place p) (valid p) (Walks e x end) phase → has_ended (Some (Exits' phase)) ≡ true → ⊥
+no_walk_ended p e x (Entry entry n) end is h = cc
+no_walk_ended p e x Pending end is h = cc
+no_walk_ended p e x ClearId end is h = cc
+no_walk_ended p e x LastWake end is h = cc
+no_walk_ended p zero x Ended' end is h = cc
+no_walk_ended p (suc m) x Ended' end is h = cc is.1.1
 
 -- a thread in its exit, and not at its end
 pub data IsExiting (o : Option Thread) : Type 0 where
@@ -117,13 +118,13 @@ exiting_runs : (o : Option Thread) → IsExiting o → (place : ℕ) (operands :
     (callers : List MachineFrame) → o ≡ Some (Runs' place operands locals callers) → ⊥
 exiting_runs o (exits phase e h) place operands locals callers g = cc (e, g)
 
-walk_exiting : (p : Program) (e : ℕ) (phase : ExitPhase) (end : _)
-    → PhaseIs (place p) (valid p) (Walks e NoEntry end) phase → IsExiting (Some (Exits' phase))
-walk_exiting p e (Entry entry n) end is = exits _ refl refl
-walk_exiting p e Pending end is = exits _ refl refl
-walk_exiting p e ClearId end is = exits _ refl refl
-walk_exiting p e LastWake end is = exits _ refl refl
-walk_exiting p e Ended' end is = absurd (no_walk_ended p e Ended' end is refl)
+walk_exiting : (p : Program) (e : ℕ) (x : PendingEntry) (phase : ExitPhase) (end : _)
+    → PhaseIs (place p) (valid p) (Walks e x end) phase → IsExiting (Some (Exits' phase))
+walk_exiting p e x (Entry entry n) end is = exits _ refl refl
+walk_exiting p e x Pending end is = exits _ refl refl
+walk_exiting p e x ClearId end is = exits _ refl refl
+walk_exiting p e x LastWake end is = exits _ refl refl
+walk_exiting p e x Ended' end is = absurd (no_walk_ended p e x Ended' end is refl)
 
 -- outside a lock's taking and giving up, for a pending word, unless the thread is in its exit
 outside_inside : (p : Program) (t : ℕ) (k : Template) (pt : Point) (x : Thread) (n : ℕ) → StandsIn p t k pt x → n ≡ 0
@@ -229,6 +230,15 @@ module _ (p : Program) (t n i : ℕ) (is : n ≡ suc i) where
   inside_entry b same u (Broadcasts c base l fs before after ms) pt x fits (N.BroadcastsAt.moves v) e = none e
   inside_entry b same u (Broadcasts c base l fs before after ms) pt x fits N.BroadcastsAt.goes e = none e
 
+-- and so is that of a killed thread
+killed_entry : (p : Program) (n : ℕ) (x : PendingEntry) → IsOfProgram p x → n ≡ entry_word x → (m : ℕ) → n ≡ suc m
+    → is_monitor p m ≡ true
+killed_entry p n NoEntry of e m is = absurd (omega (arith, e, is))
+killed_entry p n (Owned i) of e m is =
+    let same : i ≡ m = omega (arith, e, is) in subst (λ u. is_monitor p u ≡ true) same (monitor_valid p i of)
+killed_entry p n (Unowned i) of e m is =
+    let same : i ≡ m = omega (arith, e, is) in subst (λ u. is_monitor p u ≡ true) same (monitor_valid p i of)
+
 -- the address of such an entry isn't 0
 no_entry : (p : Program) (n : ℕ) → ((m : ℕ) → n ≡ suc m → is_monitor p m ≡ true) → entry_address (place p) n ≡ 0 → n ≡ 0
 no_entry p zero there e = refl
@@ -244,8 +254,9 @@ module _ (p : Program) (w : WellFormed p) (made : ℕ) (v : Variables) (t n : �
   outside o q pt l (S.inside {y = y} {pt = at} left k u few walk fits same ne stands) free e z =
       outside_inside p t k at y n stands
       (no_entry p n (λ m is. inside_entry p t n m is (build_of p w made) refl u k at y fits stands e) z)
-  outside o q pt l (S.walks {e = i} {end = end} phase is short en) free e z =
-      absurd (free (walk_exiting p i phase end is))
+  outside o q pt l (S.killed {x = x} of) free e z = no_entry p n (killed_entry p n x of e) z
+  outside o q pt l (S.walks {e = i} {x = x} {end = end} phase is short en of) free e z =
+      absurd (free (walk_exiting p i x phase end is))
   outside o q pt l S.clears free e z = absurd (free (exits ClearId refl refl))
   outside o q pt l S.wakes free e z = absurd (free (exits LastWake refl refl))
   outside o q pt l S.rests free e z = tt

@@ -74,7 +74,8 @@ module _ (p : Program) (s : State) (w : World) (T : Table) where
           differs apart' is = let yes = same-same c in
               let here = subst (λ (i : Member). same_member i c ≡ false) is apart' in absurd (cc (yes, here))
 
-  waiters : (c : Member) (asleep : ℕ → Option Spot) → s.made ≡ w.made → valid p (SequenceOf c) ≡ true
+  -- of those who wait on a condition, those are resumed who don't sleep on its word
+  pub waiters : (c : Member) (asleep : ℕ → Option Spot) → s.made ≡ w.made → valid p (SequenceOf c) ≡ true
       → ((u : ℕ) → s.asleep u ≡ sleep_address (place p) (asleep u))
       → ((u : ℕ) (x : Spot) → asleep u ≡ Some x → valid p (cell_of x) ≡ true)
       → resumed_by w T c asleep ≡ awake_waiters p s T c

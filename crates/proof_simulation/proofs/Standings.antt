@@ -20,8 +20,8 @@ use Rattle.proof_templates.specs.Locking as L
 use Rattle.proof_templates.specs.Inside.{Template, Enters, Exits, Waits, Notifies, Broadcasts, list_at, StandsIn}
 use Rattle.proof_templates.specs.Inside.{TemplateFits}
 use Rattle.proof_templates.specs.Inside.{IsSteady, IsBeforeRelease, SameBefore}
-use Rattle.proof_simulation.specs.Standing.{IsChild, StandsAt, unmade, works, returns, inside, faults, refused, reads}
-use Rattle.proof_simulation.specs.Standing.{sleeps, learns, takes, walks, clears, wakes, rests}
+use Rattle.proof_simulation.specs.Standing.{IsChild, StandsAt, unmade, works, returns, inside, faults, killed, refused}
+use Rattle.proof_simulation.specs.Standing.{reads, sleeps, learns, takes, walks, clears, wakes, rests}
 
 -- the first of a list is on it
 pub first_in : (m : ℕ) (ms l : List ℕ) → l ≡ m ∷ ms → mem m l ≡ true
@@ -183,6 +183,7 @@ module _ (b : Build) (made : ℕ) (le : b.made ≤ made) (v v' : Variables) (t :
   stand_moves x q pt l near (inside {y = y} {pt = at} left k u few walk fits same ne stands) =
       inside left k u few walk (fits_grows u k fits) (same_before u k at y fits stands near same) ne stands
   stand_moves x q pt l near (faults f) = faults f
+  stand_moves x q pt l near (killed of) = killed of
   stand_moves x q pt l near (refused {q = r} left few h o steady) =
       let same = own_same pt r near steady in
       refused left few h (steady.same v' same ∙ o) (steady_moves r steady same)
@@ -194,7 +195,7 @@ module _ (b : Build) (made : ℕ) (le : b.made ≤ made) (v v' : Variables) (t :
       learns left few (child_grows c f cs is) (awaits_grow b made le t c i p f cs j) h
   stand_moves x q pt l near (takes {child = c} {into = i} {part = p} {f = f} {cs = cs} left few is j h) =
       takes left few (child_grows c f cs is) (awaits_grow b made le t c i p f cs j) h
-  stand_moves x q pt l near (walks phase is short end) = walks phase is short end
+  stand_moves x q pt l near (walks phase is short end of) = walks phase is short end of
   stand_moves x q pt l near clears = clears
   stand_moves x q pt l near wakes = wakes
   stand_moves x q pt l near rests = rests

@@ -37,16 +37,17 @@ use Rattle.proof_simulation.specs.Standing.{StandsAt, inside}
 use Rattle.proof_simulation.specs.Ranks.{rank, more_steps, before_template}
 use Rattle.proof_simulation.specs.Corresponding.{Reached, Corresponds, IsBefore}
 use Rattle.proof_simulation.proofs.Worlds.{reached_on, shares_at}
-use Rattle.proof_simulation.proofs.Moving.{put_stage, IsLow, Next}
+use Rattle.proof_simulation.proofs.Moving.{put_stage, put_raised, IsLow, Next}
 use Rattle.proof_simulation.proofs.Local.{first_step, goes_local}
 use Rattle.proof_simulation.proofs.Templating.{inside_step}
-use Rattle.proof_simulation.specs.Deferred.{Stage, stages, stage_of}
+use Rattle.proof_simulation.specs.Deferred.{Stage, stages, stage_of, notified_at, raised_at}
+use Rattle.std.specs.Prelude.{is_some}
 use Rattle.meaning.specs.Labels.{Kind}
 use Rattle.proof_simulation.specs.Deferred as W
 
 module _ (p : Program) (w : WellFormed p) (steps : ℕ) (s : State) (c : SourceState) (k : Corresponds p w steps s c)
-    (t : ℕ) (woken : List ℕ) (done : Bool) (deferral : Option Kind) (pauses : Bool) (s' : State) (n : ℕ) (number :
-    (0 < t) × (t ≤ k.world.made))
+    (t : ℕ) (woken : List ℕ) (done raises : Bool) (deferral : Option Kind) (pauses : Bool) (s' : State) (n : ℕ)
+    (number : (0 < t) × (t ≤ k.world.made))
     (few : k.world.made ≤ most_of p.version) (awake : k.world.asleep t ≡ None) (paused : pauses ≡ is_paused s' t) where
   -- a thread on the way to the request of its point
   pub inside_any : (kind : Template) (u : Variables) (pt : Point) (left : ℕ) (x y : Thread) → left ≤ template_steps
@@ -55,24 +56,25 @@ module _ (p : Program) (w : WellFormed p) (steps : ℕ) (s : State) (c : SourceS
       → c.process t ≡ Some (process_at p kind pt) → (k.world.at t).point ≡ pt
       → (k.world.at t).list ≡ list_at kind pt → left + rank (more_steps (build_of p w k.world.made)) k.world pt ≤ n
       → IsLow k.world.sequence (look (code_of p) t x)
-      → StepsSo p done deferral (mark_of (marks_of p) x) s t woken (look (code_of p) t x) s'
-      → Next p w steps s' t done deferral pauses n c (stages k.world)
+      → StepsSo p done raises deferral (mark_of (marks_of p) x) s t woken (look (code_of p) t x) s'
+      → Next p w steps s' t done raises deferral pauses n c (stages k.world) (raised_at k.world)
   inside_any kind u pt left x y small walk fits same ne stands proc point list enough low moves =
       by_step (first_step p (marked_image p) t left x y walk)
     where
       by_step : (x ≡ y) ⊎ ((z : Thread) × (m : ℕ) × (look (code_of p) t x ≡ Goes z)
           × (deferred_by_mark (mark_of (marks_of p) x) ≡ None) × (suc m ≤ left)
           × StepsWithin (build_of p w k.world.made) t m z y)
-          → Next p w steps s' t done deferral pauses n c (stages k.world)
+          → Next p w steps s' t done raises deferral pauses n c (stages k.world) (raised_at k.world)
       by_step (inl e) =
-          inside_step p w steps s c k t woken done deferral pauses s' n number few awake paused kind u pt y fits same ne
+          inside_step p w steps s c k t woken done raises deferral pauses s' n number few awake paused kind u pt y fits
+          same ne
           stands
           proc point list (omega (arith, enough))
           (subst (λ (z : Thread). IsLow k.world.sequence (look (code_of p) t z)) e low)
-          (subst (λ (z : Thread). StepsSo p done deferral (mark_of (marks_of p) z) s t woken (look
+          (subst (λ (z : Thread). StepsSo p done raises deferral (mark_of (marks_of p) z) s t woken (look
           (code_of p) t z) s') e moves)
       by_step (inr (z, m, h, plain, le, more)) =
-          goes_local p w steps s c k t woken done deferral pauses s' n x z (process_at p kind pt) pt
+          goes_local p w steps s c k t woken done raises deferral pauses s' n x z (process_at p kind pt) pt
           (list_at kind pt) proc point list
           (inside m kind u (omega (arith, le, small)) more fits same ne stands) (omega
           (arith, le, enough)) h plain moves
@@ -85,6 +87,15 @@ first_works held (Exits m base shown l fs before z cs) = refl
 first_works held (Waits c base l fs before f cs ms) = refl
 first_works held (Notifies c base l fs before after ms) = refl
 first_works held (Broadcasts c base l fs before after ms) = refl
+
+-- and hasn't raised a number
+first_quiet : (held : Bool) (kind : Template) → is_some (notified_at (first_point held kind)) ≡ false
+first_quiet true (Enters m base l fs f cs) = refl
+first_quiet false (Enters m base l fs f cs) = refl
+first_quiet held (Exits m base shown l fs before z cs) = refl
+first_quiet held (Waits c base l fs before f cs ms) = refl
+first_quiet held (Notifies c base l fs before after ms) = refl
+first_quiet held (Broadcasts c base l fs before after ms) = refl
 
 -- the process before a template
 abbrev pub before_of : Template → Process
@@ -278,34 +289,47 @@ module _ (p : Program) (w : WellFormed p) (steps : ℕ) (s : State) (c : SourceS
             ∙ at_put (stages k.world) t (stage_of pt) u (λ (y : Stage). y ≡ stages k.world u)
             (λ e. first_works held kind ∙ ap stage_of (sym point) ∙ ap (stages k.world) (sym e)) (λ o. refl)
 
-    start_step : (low : IsLow k.world.sequence (look (code_of p) t x)) (woken : List ℕ) (done : Bool)
+    same_raised : raised_at world ≡ raised_at k.world
+    same_raised = λ i u. each u i
+      where
+        each : (u : ℕ) → raised_at world u ≡ raised_at k.world u
+        each u = put_raised k.world.at t pt (k.world.at t).list u
+            ∙ at_put (raised_at k.world) t (is_some (notified_at pt)) u (λ (y : Bool). y ≡ raised_at k.world u)
+            (λ e. first_quiet held kind ∙ ap (λ (i : Point). is_some (notified_at i)) (sym point)
+            ∙ ap (raised_at k.world) (sym e)) (λ o. refl)
+
+    start_step : (low : IsLow k.world.sequence (look (code_of p) t x)) (woken : List ℕ) (done raises : Bool)
         (deferral : Option Kind) (pauses : Bool) (s' : State)
         (n : ℕ) → pauses ≡ is_paused s' t → before_template ≤ n
-        → StepsSo p done deferral (mark_of (marks_of p) x) s t woken (look (code_of p) t x) s'
-        → Next p w steps s' t done deferral pauses n c (stages k.world)
+        → StepsSo p done raises deferral (mark_of (marks_of p) x) s t woken (look (code_of p) t x) s'
+        → Next p w steps s' t done raises deferral pauses n c (stages k.world) (raised_at k.world)
     unfolding started
-    start_step low woken done deferral pauses s' n paused enough moves =
+    start_step low woken done raises deferral pauses s' n paused enough moves =
         let placed : world.at t ≡ thread_at pt (k.world.at t).list =
         put_same k.world.at t (thread_at pt (k.world.at t).list) in
         let ranked = st.ranked in
-        subst (λ (was : ℕ → Stage). Next p w steps s' t done deferral pauses n c was) same_stages
-        (inside_any p w steps s c started t woken done deferral pauses s' n number few awake paused kind c.variable pt
+        subst (λ (had : ℕ → Bool). Next p w steps s' t done raises deferral pauses n c (stages k.world) had) same_raised
+        (subst (λ (was : ℕ → Stage). Next p w steps s' t done raises deferral pauses n c was (raised_at world))
+        same_stages
+        (inside_any p w steps s c started t woken done raises deferral pauses s' n number few awake paused kind
+        c.variable pt
         template_steps x bg.thread (omega arith)
         (subst (λ (z : Thread). StepsWithin b t template_steps z bg.thread) (sym is) bg.walk) fits st.same st.ne
         bg.stands now (ap (λ (z : Place). z.point) placed) (ap (λ (z : Place). z.list) placed ∙ st.list)
-        (omega (arith, ranked, enough)) low moves)
+        (omega (arith, ranked, enough)) low moves))
 
   -- a thread before a template that does what its process offers
   pub template_step : (kind : Template) (x : Thread) → TemplateFits b c.variable t kind → s.thread t ≡ Some x
       → c.process t ≡ Some (before_of kind) → (k.world.at t).list ≡ holds (before_of kind) → x ≡ first_thread kind
-      → (low : IsLow k.world.sequence (look (code_of p) t x)) (woken : List ℕ) (done : Bool) (deferral : Option Kind)
+      → (low : IsLow k.world.sequence (look (code_of p) t x)) (woken : List ℕ) (done raises : Bool) (deferral : Option
+      Kind)
       (pauses : Bool) (s' : State) (n : ℕ)
       → pauses ≡ is_paused s' t → before_template ≤ n
-      → StepsSo p done deferral (mark_of (marks_of p) x) s t woken (look (code_of p) t x) s'
-      → Next p w steps s' t done deferral pauses n c (stages k.world)
-  template_step kind x fits thread proc list is low woken done deferral pauses s' n paused enough moves =
+      → StepsSo p done raises deferral (mark_of (marks_of p) x) s t woken (look (code_of p) t x) s'
+      → Next p w steps s' t done raises deferral pauses n c (stages k.world) (raised_at k.world)
+  template_step kind x fits thread proc list is low woken done raises deferral pauses s' n paused enough moves =
       let st = starts kind fits list in
       start_step kind x fits thread proc st.0 st.1
       (begins b c.variable t st.0 kind number.0 (omega
-      (arith, number.1, few)) fits) is low woken done deferral pauses s' n paused
+      (arith, number.1, few)) fits) is low woken done raises deferral pauses s' n paused
       enough moves

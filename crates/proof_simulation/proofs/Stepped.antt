@@ -45,9 +45,9 @@ use Rattle.proof_simulation.specs.Corresponding.{Reached, IsBefore, Corresponds}
 use Rattle.proof_simulation.specs.Serving.{IsServed}
 use Rattle.proof_simulation.proofs.Sourcing.{action, state_after}
 use Rattle.proof_simulation.proofs.Worlds.{reached_on, reached_good, shares_at}
-use Rattle.proof_simulation.proofs.Moving.{Puts, put_puts, same_puts, Next, Follow, moved}
-use Rattle.proof_simulation.proofs.Completions.{next_stays, next_calm}
-use Rattle.proof_simulation.specs.Deferred.{Stage, stages, stage_of, Agrees, Stays}
+use Rattle.proof_simulation.proofs.Moving.{Puts, put_puts, same_puts, Next, Follow, moved, moved_raised}
+use Rattle.proof_simulation.proofs.Completions.{next_stays, next_calm, next_raised, raises_at}
+use Rattle.proof_simulation.specs.Deferred.{Stage, stages, stage_of, Agrees, Stays, notified_at, raised_then, raised_at}
 
 -- an action of a process's own that others learn of
 abbrev IsVisible : Label → Type 0
@@ -104,7 +104,7 @@ carried_loud : (w : World) (T : Table) (t : ℕ) (pt : Point) (r : ℕ) (w' : Wo
 carried_loud w T t pt r w' e u label h = (carried_visible w T t pt r w' e u label h).1
 
 module _ (p : Program) (w : WellFormed p) (steps : ℕ) (s : State) (c : SourceState) (k : Corresponds p w steps s c)
-    (t : ℕ) (done : Bool) (deferral : Option Kind) (pauses : Bool) (s' mid : State) (n answer : ℕ) (y : Thread)
+    (t : ℕ) (done raises : Bool) (deferral : Option Kind) (pauses : Bool) (s' mid : State) (n answer : ℕ) (y : Thread)
     (q : Process) (pt : Point)
     (number : (0 < t) × (t ≤ k.world.made)) (awake : k.world.asleep t ≡ None) (proc : c.process t ≡ Some q)
     (point : (k.world.at t).point ≡ pt) (served : IsServed p s mid k.world t pt answer)
@@ -191,12 +191,13 @@ module _ (p : Program) (w : WellFormed p) (steps : ℕ) (s : State) (c : SourceS
   }
 
   -- whether it carries an action is what is seen of it
-  pub stepped : deferral ≡ None → Agrees (stage_of pt) false → ((e : End) → MayAnswer pt served.reply
+  pub stepped : deferral ≡ None → raises ≡ raises_at pt → Agrees (stage_of pt) false → ((e : End)
+      → MayAnswer pt served.reply
       → done ≡ is_some (event e))
       → ((e : End) (u : ℕ) (label : Label) → event e ≡ Some (Acts u label) → Resumes p s' c.table label)
       → ((e : End) → MayAnswer pt served.reply → Arrives e)
-      → Next p w steps s' t done deferral pauses n c (stages k.world)
-  stepped plain calm shown resumes arrives =
+      → Next p w steps s' t done raises deferral pauses n c (stages k.world) (raised_at k.world)
+  stepped plain raise calm shown resumes arrives =
       let a = arrives end is_move.possible in
       by_event (event end) refl permits a.acts
     where
@@ -206,13 +207,18 @@ module _ (p : Program) (w : WellFormed p) (steps : ℕ) (s : State) (c : SourceS
       seen : done ≡ is_some (event end)
       seen = shown end is_move.possible
 
+      has_raised : is_some (notified_at (to end)) ≡ raised_then done raises (raised_at k.world t)
+      has_raised = next_raised k.world c.table t pt served.reply served.after end
+          ∙ ap (λ b. raised_then b (raises_at pt) (is_some (notified_at pt))) (sym seen)
+          ∙ ap (λ b. raised_then done b (is_some (notified_at pt))) (sym raise)
+          ∙ ap (λ (i : Point). raised_then done raises (is_some (notified_at i))) (sym point)
+
       internal : event end ≡ None → table ≡ c.table → a.process ≡ q
-          → Next p w steps s' t done deferral pauses n c (stages k.world)
+          → Next p w steps s' t done raises deferral pauses n c (stages k.world) (raised_at k.world)
       internal none is stays =
-          let m = moved p w steps s c k t s' c y a.process (to end) list (on end)
-          (follow c a.process (sym is) refl refl (same_puts c.process t _ (proc ∙ ap Some (sym stays))) a.stands
-          a.listed
-          a.blank) in
+          let f = follow c a.process (sym is) refl refl (same_puts c.process t _ (proc ∙ ap Some (sym stays))) a.stands
+          a.listed a.blank in
+          let m = moved p w steps s c k t s' c y a.process (to end) list (on end) f in
           record {
             after = c;
             ties = m.ties;
@@ -221,6 +227,8 @@ module _ (p : Program) (w : WellFormed p) (steps : ℕ) (s : State) (c : SourceS
             leads = refl;
             stage = stage_of (to end);
             staged = m.staged;
+            raised = moved_raised p w steps s c k t s' c y a.process (to end) list (on end) f
+                (raised_then done raises (raised_at k.world t)) has_raised;
             places = P.nothing (seen ∙ ap (λ (e : Option Event). is_some e) none) plain
                 (subst (λ (i : Stage). Stays i (stage_of (to end))) (ap stage_of (sym point))
                 (next_stays k.world end pt served.reply)) refl;
@@ -230,11 +238,12 @@ module _ (p : Program) (w : WellFormed p) (steps : ℕ) (s : State) (c : SourceS
       acting : (u : ℕ) (label : Label) → event end ≡ Some (Acts u label) → Allows t label c.table table
           → IsByHolder t label c.table
           → TakesUp (offer p c.variable q) label Nothing a.process
-          → Next p w steps s' t done deferral pauses n c (stages k.world)
+          → Next p w steps s' t done raises deferral pauses n c (stages k.world) (raised_at k.world)
       acting u label e allows held takes =
           let c1 = state_after c t Nothing a.process table in
-          let m = moved p w steps s c k t s' c1 y a.process (to end) list (on end)
-          (follow c1 a.process refl refl refl (put_puts c.process t (Some a.process)) a.stands a.listed a.blank) in
+          let f = follow c1 a.process refl refl refl (put_puts c.process t (Some a.process)) a.stands a.listed
+          a.blank in
+          let m = moved p w steps s c k t s' c1 y a.process (to end) list (on end) f in
           record {
             after = c1;
             ties = m.ties;
@@ -243,6 +252,8 @@ module _ (p : Program) (w : WellFormed p) (steps : ℕ) (s : State) (c : SourceS
             leads = (c1, action p c t q a.process label Nothing table proc takes allows, refl);
             stage = stage_of (to end);
             staged = m.staged;
+            raised = moved_raised p w steps s c k t s' c1 y a.process (to end) list (on end) f
+                (raised_then done raises (raised_at k.world t)) has_raised;
             places = P.acts _ _ label Nothing table (seen ∙ ap (λ (i : Option Event). is_some i) e)
                 (next_calm k.world end pt served.reply calm)
                 (carried_loud k.world c.table t pt served.reply served.after end u label e) proc takes allows held
@@ -251,7 +262,7 @@ module _ (p : Program) (w : WellFormed p) (steps : ℕ) (s : State) (c : SourceS
           }
 
       by_event : (e : Option Event) → event end ≡ e → PermitsMove e c.table table → ActsSo p c.variable t e q a.process
-          → Next p w steps s' t done deferral pauses n c (stages k.world)
+          → Next p w steps s' t done raises deferral pauses n c (stages k.world) (raised_at k.world)
       by_event None h is stays = internal h is stays
       by_event (Some (Acts u label)) h allows acts =
           acting u label h (subst (λ i. Allows i label c.table table) acts.0 allows.0)

@@ -34,7 +34,7 @@ use Rattle.program.specs.declared.kinds.MemberType.TheVariants.{Condition}
 use Rattle.refinement.specs.Outside.{any_below, member_count, is_word_of, is_condition_word}
 use Rattle.proof_simulation.specs.Corresponding.{Corresponds, Reached}
 use Rattle.proof_simulation.specs.Ordering.{act}
-use Rattle.proof_simulation.specs.Deferred.{stage_of, stages, Works}
+use Rattle.proof_simulation.specs.Deferred.{stage_of, stages, raised_at, Works}
 use Rattle.proof_simulation.specs.Strays.{stray_condition, stray_kinds, after_stray}
 use Rattle.proof_simulation.proofs.Local.{put_again}
 use Rattle.proof_simulation.proofs.Worlds.{reached_on, reached_good, agrees_at}
@@ -170,7 +170,7 @@ none_below : (k : ℕ) (test : ℕ → Bool) → ((n : ℕ) → test n ≡ false
 none_below zero test h = refl
 none_below (suc k) test h = ap (λ b. b || any_below k test) (h k) ∙ none_below k test h
 
-index_below : {A : Type 0} (xs : List A) (n : ℕ) (x : A) → slice_get xs n ≡ Some x → n < length xs
+pub index_below : {A : Type 0} (xs : List A) (n : ℕ) (x : A) → slice_get xs n ≡ Some x → n < length xs
 index_below [] n x h = absurd cc
 index_below (y ∷ xs) zero x h = omega arith
 index_below (y ∷ xs) (suc n) x h = let less = index_below xs n x h in omega (arith, less)
@@ -233,6 +233,7 @@ module _ (p : Program) (w : WellFormed p) where
         (after_stray t (stray_condition p a (c.table.waits t)) c)
     pub waits : (d : Member) → stray_condition p a (c.table.waits t) ≡ Some d → c.table.waits t ≡ Some d
     pub staged : (u : ℕ) → stages ties.world u ≡ stages k.world u
+    pub raised : (u : ℕ) → raised_at ties.world u ≡ raised_at k.world u
     pub works : stages k.world t ≡ Works
     pub leads : Leads p c (map (act t) (stray_kinds (stray_condition p a (c.table.waits t))))
         (after_stray t (stray_condition p a (c.table.waits t)) c)
@@ -245,6 +246,7 @@ module _ (p : Program) (w : WellFormed p) where
     ties = (tied o reached).0;
     waits = waits_so;
     staged = (tied o reached).1;
+    raised = (tied o reached).2;
     works = works_asleep (k.world.at t).point (at_sleep k.world c.table t x good there);
     leads = stray_leads p t c o waits_so;
   }
@@ -305,7 +307,7 @@ module _ (p : Program) (w : WellFormed p) where
 
       Tied : Option Member → Type 0
       Tied i = (x : Corresponds p w (suc steps) (with_sleepers s (put s.asleep t None)) (after_stray t i c))
-          × ((u : ℕ) → stages x.world u ≡ stages k.world u)
+          × ((u : ℕ) → stages x.world u ≡ stages k.world u) × ((u : ℕ) → raised_at x.world u ≡ raised_at k.world u)
 
       tied : (i : Option Member) → Reached p.version (woken_world k.world t) (after_stray t i c).table → Tied i
       tied None r = (
@@ -326,6 +328,7 @@ module _ (p : Program) (w : WellFormed p) where
           numbers = λ d. let few = k.numbers d in omega (arith, few);
         },
         λ u. refl,
+        λ u. refl,
       )
       tied (Some i) r = (
         record {
@@ -344,5 +347,6 @@ module _ (p : Program) (w : WellFormed p) where
           blank = k.blank;
           numbers = λ d. let few = k.numbers d in omega (arith, few);
         },
+        λ u. refl,
         λ u. refl,
       )

@@ -40,7 +40,7 @@ use Rattle.proof_templates.specs.Asking.{machine_answer, template_steps}
 use Rattle.proof_templates.specs.Inside.{Template, process_at, list_at, StandsIn, TemplateFits, SameBefore, IsSteady}
 use Rattle.proof_templates.specs.Templates.{Follows, StandsOn}
 use Rattle.proof_templates.proofs.Follows.{follows}
-use Rattle.proof_simulation.specs.Ordering.{StepsSo, completes}
+use Rattle.proof_simulation.specs.Ordering.{StepsSo, completes, is_raise}
 use Rattle.proof_simulation.specs.Standing.{IsAtWork, StandsAt, works, inside}
 use Rattle.proof_simulation.specs.Ranks.{rank, steps_left, more_steps, before_template}
 use Rattle.proof_simulation.specs.Corresponding.{Corresponds, IsBefore}
@@ -48,7 +48,7 @@ use Rattle.proof_simulation.specs.Serving.{IsServed}
 use Rattle.proof_simulation.proofs.Keeping.{kept_monitors}
 use Rattle.proof_simulation.proofs.Worlds.{reached_good}
 use Rattle.proof_templates.proofs.Layouts.{number_is}
-use Rattle.proof_simulation.proofs.Completions.{point_deferral, point_completes, listed_at}
+use Rattle.proof_simulation.proofs.Completions.{point_deferral, point_completes, point_raises, listed_at}
 use Rattle.proof_simulation.proofs.Resumed.{who_resumes}
 use Rattle.proof_simulation.proofs.Moving.{IsLow, Next}
 use Rattle.proof_simulation.proofs.Stepped.{Arrives, stepped}
@@ -56,7 +56,7 @@ use Rattle.proof_simulation.proofs.Serving.{served}
 use Rattle.proof_simulation.proofs.Ranking.{IsTemplate, rank_falls, rank_ends}
 use Rattle.proof_simulation.proofs.Points.{InTemplate, in_template}
 use Rattle.proof_simulation.proofs.Offering.{acts_now, same_next}
-use Rattle.proof_simulation.specs.Deferred.{Stage, stages, stage_of, Agrees}
+use Rattle.proof_simulation.specs.Deferred.{Stage, stages, stage_of, Agrees, raised_at}
 use Rattle.proof_thread.specs.Deferrals.{mark_of, deferred_by_request}
 use Rattle.proof_simulation.specs.Deferred as W
 
@@ -126,8 +126,8 @@ awake_at at a None e h = refl
 awake_at at a (Some x) e h = absurd (cc (e, h))
 
 module _ (p : Program) (w : WellFormed p) (steps : ℕ) (s : State) (c : SourceState) (k : Corresponds p w steps s c)
-    (t : ℕ) (woken : List ℕ) (done : Bool) (deferral : Option Kind) (pauses : Bool) (s' : State) (n : ℕ) (number :
-    (0 < t) × (t ≤ k.world.made))
+    (t : ℕ) (woken : List ℕ) (done raises : Bool) (deferral : Option Kind) (pauses : Bool) (s' : State) (n : ℕ)
+    (number : (0 < t) × (t ≤ k.world.made))
     (few : k.world.made ≤ most_of p.version) (awake : k.world.asleep t ≡ None) (paused : pauses ≡ is_paused s' t) where
   abbrev b : Build
   b = build_of p w k.world.made
@@ -147,7 +147,8 @@ module _ (p : Program) (w : WellFormed p) (steps : ℕ) (s : State) (c : SourceS
 
     module _ (answer : ℕ) (mid : State) (sv : IsServed p s mid k.world t pt answer)
         (e' : s' ≡ with_thread mid t (goes.go answer)) (seen : done ≡ completes p goes.asks answer)
-        (told_of : deferral ≡ deferred_by_request (mark_of (marks_of p) x) goes.asks answer) where
+        (told_of : deferral ≡ deferred_by_request (mark_of (marks_of p) x) goes.asks answer)
+        (raise : raises ≡ is_raise goes.asks) where
       abbrev y : Thread
       y = goes.go (machine_answer p (request t pt) sv.reply)
 
@@ -155,7 +156,7 @@ module _ (p : Program) (w : WellFormed p) (steps : ℕ) (s : State) (c : SourceS
       came = e' ∙ ap (λ a. with_thread mid t (goes.go a)) sv.told
 
       abbrev Arrives' : End → Type 0
-      Arrives' e = Arrives p w steps s c k t done deferral pauses s' mid n answer y
+      Arrives' e = Arrives p w steps s c k t done raises deferral pauses s' mid n answer y
           (process_at p kind pt) pt number awake proc
           point sv
           came e
@@ -238,23 +239,24 @@ module _ (p : Program) (w : WellFormed p) (steps : ℕ) (s : State) (c : SourceS
           (number_is p t number.0 (omega (arith, number.1, few))) (listed_at k.world c.table t pt inv point) may
           within.askable goes.same
 
-      answered : Next p w steps s' t done deferral pauses n c (stages k.world)
-      answered = stepped p w steps s c k t done deferral pauses s' mid n answer y
+      answered : Next p w steps s' t done raises deferral pauses n c (stages k.world) (raised_at k.world)
+      answered = stepped p w steps s c k t done raises deferral pauses s' mid n answer y
           (process_at p kind pt) pt number awake proc point sv
           came
           (told_of ∙ point_deferral p (mark_of (marks_of p) x) t pt answer goes.asks
           (template_works pt within.template) goes.same)
+          (raise ∙ point_raises p t pt goes.asks goes.same)
           (subst (λ (i : Stage). Agrees i false) (sym (template_works pt within.template)) refl)
           shown (λ e u label h. who_resumes p s' k.world c.table t pt sv.reply sv.after e u label
           (ap (λ (x : State). x.made) came ∙ sv.keeps.made ∙ k.made)
           (λ v. ap (λ (x : State). x.asleep v) came ∙ sv.shares.sleeps v) sv.shares.spots within.askable h) arrives
 
     pub inside_step : IsLow k.world.sequence (look (code_of p) t x)
-        → StepsSo p done deferral (mark_of (marks_of p) x) s t woken (look (code_of p) t x) s'
-        → Next p w steps s' t done deferral pauses n c (stages k.world)
+        → StepsSo p done raises deferral (mark_of (marks_of p) x) s t woken (look (code_of p) t x) s'
+        → Next p w steps s' t done raises deferral pauses n c (stages k.world) (raised_at k.world)
     inside_step low moves =
-        let g : StepsSo p done deferral (mark_of (marks_of p) x) s t woken (Asks goes.asks goes.go) s' =
-        subst (λ (l : Look). StepsSo p done deferral (mark_of (marks_of p) x) s t woken l s') goes.look
+        let g : StepsSo p done raises deferral (mark_of (marks_of p) x) s t woken (Asks goes.asks goes.go) s' =
+        subst (λ (l : Look). StepsSo p done raises deferral (mark_of (marks_of p) x) s t woken l s') goes.look
         moves in
         answered g.0 g.1 (served p s k.world c.table t pt goes.asks woken g.0 g.1 k.shares inv number.0
-        (omega (arith, number.1, few)) (low goes.asks goes.go goes.look) within.askable goes.same g.2) g.3 g.4 g.5
+        (omega (arith, number.1, few)) (low goes.asks goes.go goes.look) within.askable goes.same g.2) g.3 g.4 g.5 g.6

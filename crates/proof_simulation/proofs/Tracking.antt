@@ -10,7 +10,22 @@ use Rattle.machine.specs.States.{State, opening_state, with_sleepers}
 use Rattle.proof_commutation.proofs.Keeping.{at_still}
 use Rattle.proof_simulation.specs.Next.{take_deferred}
 use Rattle.proof_simulation.specs.Strays.{stray_condition, after_stray}
-use Rattle.proof_simulation.specs.Tracking.{TracksStray}
+use Rattle.proof_simulation.specs.Tracking.{TracksStray, TracksKill, RaisedSo}
+use Rattle.locals.specs.Threads.{is_dying}
+use Rattle.machine.specs.Runs.{killed_to}
+use Rattle.meaning.specs.Labels.{Killed}
+use Rattle.meaning.specs.Processes.{Dying}
+use Rattle.meaning.specs.Runs.{Leads}
+use Rattle.meaning.specs.Table.{without_waiters}
+use Rattle.proof_commutation.specs.Placed.{actions_of}
+use Rattle.proof_commutation.proofs.Waiting.{at_equal}
+use Rattle.protocol.specs.World.{World}
+use Rattle.proof_simulation.specs.Killing as Killing
+use Rattle.proof_simulation.specs.Kills.{killed_last, killed_resumed, held_by, after_kill}
+use Rattle.proof_simulation.specs.Next.{offer_of_process}
+use Rattle.proof_simulation.specs.Ordering.{raises_number}
+use Rattle.proof_simulation.specs.Deferred.{Leaves, raised_at, raised_then}
+use Rattle.proof_simulation.proofs.KillSteps.{killed_ties, killed_staged, killed_raised, killed_step}
 use Rattle.proof_simulation.proofs.Nexts.{caught_up_behind}
 use Rattle.proof_simulation.proofs.Strays.{Strayed, strayed}
 use Rattle.machine.specs.Runs.{Step, IsOwnStep}
@@ -46,7 +61,7 @@ use Rattle.proof_simulation.specs.Tracking.{CanTake, Tracks, HasDeferred}
 use Rattle.proof_simulation.proofs.Moving.{Next, left_of}
 use Rattle.proof_simulation.proofs.Observing.{number_of, ends}
 use Rattle.proof_simulation.proofs.Stepping.{next}
-use Rattle.proof_simulation.proofs.Opening.{opens_calm, opens}
+use Rattle.proof_simulation.proofs.Opening.{opens_calm, opens_quiet, opens}
 use Rattle.proof_simulation.proofs.Worlds.{reached_good}
 use Rattle.words.specs.declared.outcome.Fault.{Fault}
 use Rattle.proof_simulation.proofs.Local.{put_again}
@@ -152,8 +167,9 @@ module _ (p : Program) (w : WellFormed p) where
   }
 
   pub opens_deferred : (o : Tracks p w 0 (opening_state (code_of p)) (opening p)) × (o.deferred ≡ (λ t. []))
+      × ((u : ℕ) → raised_at o.ties.world u ≡ false)
   unfolding opens_tracking
-  opens_deferred = (opens_tracking, refl)
+  opens_deferred = (opens_tracking, refl, opens_quiet p w)
 
   -- no process has the next number
   fresh : (steps : ℕ) (s : State) (c : SourceState) → Corresponds p w steps s c
@@ -177,15 +193,18 @@ module _ (p : Program) (w : WellFormed p) where
 
   -- a step of the machine, which is none that others learn of, or is one; and what waits behind it
   pub tracks_deferred : (steps : ℕ) (s : State) (a : SourceState) (r : Tracks p w steps s a) (l : Step) (s' : State)
-      (st : IsOwnStep (code_of p) s l s') (done : Bool) (deferral : Option Kind)
-      → StepsSo p done deferral (mark_of (marks_of p) st.thread) s l.thread l.woken
+      (st : IsOwnStep (code_of p) s l s') (done raises : Bool)
+      (deferral : Option Kind)
+      → StepsSo p done raises deferral (mark_of (marks_of p) st.thread) s l.thread l.woken
       (look (code_of p) l.thread st.thread) s'
       → steps + 1 < 2 ^ 32
       → (done ≡ false → (n : Tracks p w (suc steps) s' a)
-      × (n.deferred ≡ put r.deferred l.thread (deferred_then deferral (r.deferred l.thread))))
+      × (n.deferred ≡ put r.deferred l.thread (deferred_then deferral (r.deferred l.thread)))
+      × RaisedSo r.ties.world n.ties.world l.thread (raised_then done raises (raised_at r.ties.world l.thread)))
       × (done ≡ true → (o : HasDeferred p w (suc steps) s' l.thread a (r.deferred l.thread))
-      × (o.deferred ≡ r.deferred))
-  tracks_deferred steps s a r l s' st done deferral moves short = by_places n.kinds n.places n.own
+      × (o.deferred ≡ r.deferred)
+      × RaisedSo r.ties.world o.ties.world l.thread (raised_then done raises (raised_at r.ties.world l.thread)))
+  tracks_deferred steps s a r l s' st done raises deferral moves short = by_places n.kinds n.places n.own
     where
       c : SourceState
       c = r.ahead
@@ -196,13 +215,18 @@ module _ (p : Program) (w : WellFormed p) where
       ks : List Kind
       ks = r.deferred l.thread
 
-      n : Next p w steps s' l.thread done deferral l.pauses (left_of p w r.ties l.thread) r.ahead (stages r.ties.world)
-      n = next p w steps s r.ahead r.ties l s' st done deferral moves
+      n : Next p w steps s' l.thread done raises deferral l.pauses (left_of p w r.ties l.thread) r.ahead
+          (stages r.ties.world) (raised_at r.ties.world)
+      n = next p w steps s r.ahead r.ties l s' st done raises deferral moves
           (λ request go e d. let few = r.ties.numbers d in omega (arith, few, short))
+
+      Raised : World → Type 0
+      Raised w' = RaisedSo r.ties.world w' t (raised_then done raises (raised_at r.ties.world t))
 
       -- nothing is one more that waits
       still : n.after ≡ c → deferred_then deferral ks ≡ ks → Agrees n.stage (has_failed ks)
           → (x : Tracks p w (suc steps) s' a) × (x.deferred ≡ put r.deferred t (deferred_then deferral ks))
+          × Raised x.ties.world
       still same none here = (
         record {
           deferred = r.deferred;
@@ -215,6 +239,7 @@ module _ (p : Program) (w : WellFormed p) where
           own = r.own;
         },
         put_again r.deferred t ks refl ∙ ap (λ (i : List Kind). put r.deferred t i) (sym none),
+        n.raised,
       )
 
       met : (x : Stage) (failed : Bool) → x ≡ Meets → Agrees x failed → failed ≡ true
@@ -226,8 +251,9 @@ module _ (p : Program) (w : WellFormed p) where
       by_places : (kinds : List Kind) → Places p s' t c n.after done deferral (stages r.ties.world t) n.stage kinds
           → AreOwn kinds
           → (done ≡ false → (x : Tracks p w (suc steps) s' a)
-          × (x.deferred ≡ put r.deferred t (deferred_then deferral ks)))
-          × (done ≡ true → (o : HasDeferred p w (suc steps) s' t a ks) × (o.deferred ≡ r.deferred))
+          × (x.deferred ≡ put r.deferred t (deferred_then deferral ks)) × Raised x.ties.world)
+          × (done ≡ true → (o : HasDeferred p w (suc steps) s' t a ks) × (o.deferred ≡ r.deferred)
+          × Raised o.ties.world)
       by_places kinds (P.nothing none plain stays same) own = (
         λ e. still same (ap (λ (i : Option Kind). deferred_then i ks) plain)
             (stays_agreed (stages r.ties.world t) n.stage (has_failed ks) stays (r.agrees t)),
@@ -266,6 +292,7 @@ module _ (p : Program) (w : WellFormed p) where
               },
               ap (λ (i : List Kind). put r.deferred t i)
                   (sym (ap (λ (i : Option Kind). deferred_then i ks) told ∙ more_deferred ks k first)),
+              n.raised,
             ),
             λ e. absurd (false≢true (sym none ∙ e)),
           )
@@ -274,7 +301,8 @@ module _ (p : Program) (w : WellFormed p) where
             λ e. absurd (false≢true (sym e ∙ is)),
             λ e.
                 let tied = subst (λ (x : SourceState). (k : Corresponds p w (suc steps) s' x)
-                × ((u : ℕ) → stages k.world u ≡ put (stages r.ties.world) t n.stage u)) same (n.ties, n.staged) in (
+                × ((u : ℕ) → stages k.world u ≡ put (stages r.ties.world) t n.stage u) × Raised k.world) same
+                (n.ties, n.staged, n.raised) in (
                   record {
                     deferred = r.deferred;
                     now = c;
@@ -303,15 +331,16 @@ module _ (p : Program) (w : WellFormed p) where
                     mine_own = own.0;
                   },
                   refl,
+                  tied.2,
                 ),
           )
 
   -- a wake from outside
   pub tracks_stray : (steps : ℕ) (s : State) (a : SourceState) (r : Tracks p w steps s a) (t address : ℕ)
       → s.asleep t ≡ Some address
-      → TracksStray p w steps s t a r.deferred (stray_condition p address (a.table.waits t))
+      → TracksStray p w steps s t a r.deferred r.ties.world (stray_condition p address (a.table.waits t))
   tracks_stray steps s a r t address sleeps =
-      subst (λ (T : Table). TracksStray p w steps s t a r.deferred (stray_condition p address (T.waits t)))
+      subst (λ (T : Table). TracksStray p w steps s t a r.deferred r.ties.world (stray_condition p address (T.waits t)))
       (sym r.behind.table) (by_condition (stray_condition p address (r.ahead.table.waits t)) refl)
     where
       c : SourceState
@@ -323,16 +352,17 @@ module _ (p : Program) (w : WellFormed p) where
       Tied : Option Member → Type 0
       Tied o = (x : Corresponds p w (suc steps) (with_sleepers s (put s.asleep t None)) (after_stray t o r.ahead))
           × ((u : ℕ) → stages x.world u ≡ stages r.ties.world u)
+          × ((u : ℕ) → raised_at x.world u ≡ raised_at r.ties.world u)
 
       tied : (o : Option Member) → stray_condition p address (r.ahead.table.waits t) ≡ o → Tied o
-      tied o e = subst Tied e (n.ties, n.staged)
+      tied o e = subst Tied e (n.ties, n.staged, n.raised)
 
       agrees : (o : Option Member) (x : Tied o) (u : ℕ) (failed : Bool)
           → Agrees (stages r.ties.world u) failed → Agrees (stages x.0.world u) failed
       agrees o x u failed h = subst (λ (i : Stage). Agrees i failed) (sym (x.1 u)) h
 
       by_condition : (o : Option Member) → stray_condition p address (r.ahead.table.waits t) ≡ o
-          → TracksStray p w steps s t a r.deferred o
+          → TracksStray p w steps s t a r.deferred r.ties.world o
       by_condition None e =
           let x = tied None e in (
             record {
@@ -345,6 +375,7 @@ module _ (p : Program) (w : WellFormed p) where
               own = r.own;
             },
             refl,
+            x.2,
           )
       by_condition (Some d) e =
           let x = tied (Some d) e in
@@ -386,7 +417,157 @@ module _ (p : Program) (w : WellFormed p) where
               own = λ u. at_put r.deferred t [] u (λ (i : List Kind). AreOwn i) (λ e. tt) (λ o. r.own u);
             },
             refl,
+            x.2,
           )
+
+  -- a kill of a thread that isn't dying
+  pub tracks_kill : (steps : ℕ) (s : State) (a : SourceState) (r : Tracks p w steps s a) (t : ℕ) (x : Thread)
+      → s.thread t ≡ Some x → is_dying x ≡ false → TracksKill p w steps s t a r.deferred
+      (raised_at r.ties.world t) r.ties.world
+  tracks_kill steps s a r t x thread alive = (caught_up.0, step, tracked.0, tracked.1, tracked.2)
+    where
+      c : SourceState
+      c = r.ahead
+
+      there : SourceState
+      there = take_deferred p t (r.deferred t) a
+
+      caught_up : Leads p a (actions_of t (r.deferred t)) there × IsBehind p (put r.deferred t []) there c
+      caught_up = caught_up_behind p t r.deferred a c (r.deferred t) r.behind refl
+
+      b : IsBehind p (put r.deferred t []) there c
+      b = caught_up.1
+
+      process : there.process t ≡ c.process t
+      process = at_equal p t c.variable c.table (there.process t) (c.process t)
+          (subst (λ (ks : List Kind). LeadsDeferredAt p t c.variable c.table ks (there.process t) (c.process t))
+          (put_same r.deferred t []) (b.processes t))
+
+      last : Option ℕ
+      last = killed_last p s.word t
+
+      -- who is resumed, by the table, the variables and the process
+      by : Table → Variables → Option Process → List ℕ
+      by T v q = killed_resumed p (killed_to true s t) T (raised_at r.ties.world t) (offer_of_process p v q)
+
+      resumed : List ℕ
+      resumed = by c.table c.variable (c.process t)
+
+      mine : List ℕ
+      mine = by there.table there.variable (there.process t)
+
+      same : resumed ≡ mine
+      same = ap (λ (T : Table). by T c.variable (c.process t)) (sym b.table)
+          ∙ ap (λ (v : Variables). by there.table v (c.process t)) (sym b.variables)
+          ∙ ap (λ (q : Option Process). by there.table there.variable q) (sym process)
+
+      step : IsSourceStep p there (act t (L.Kill mine last)) (after_kill t mine last there)
+      step = subst (λ (i : List ℕ). IsSourceStep p there (act t (L.Kill i last)) (after_kill t i last there)) same
+          (killed_step p w steps s c r.ties t x thread alive there b.table b.variables process)
+
+      dead : Option Process
+      dead = Some (Dying Killed (Killing.left_of last (held_by (c.process t))))
+
+      here : (u : ℕ) → LeadsDeferredAt p u c.variable (after_kill t resumed last c).table (put r.deferred t [] u)
+          (put there.process t (Some (Dying Killed (Killing.left_of last (held_by (there.process t))))) u)
+          (put c.process t dead u)
+      here u = elim (cases_eq u t) [
+        | inl e ↦ subst (λ v. LeadsDeferredAt p v c.variable (after_kill t resumed last c).table (put r.deferred t [] v)
+            (put there.process t (Some (Dying Killed (Killing.left_of last (held_by (there.process t))))) v)
+            (put c.process t dead v)) (sym e)
+            (rw (
+              put_same r.deferred t [],
+              put_same there.process t (Some (Dying Killed (Killing.left_of last (held_by (there.process t))))),
+              put_same c.process t dead,
+            ) (ap (λ (q : Option Process). Dying Killed (Killing.left_of last (held_by q))) process))
+        | inr o ↦
+            rw (
+              put_other there.process t (Some (Dying Killed (Killing.left_of last (held_by (there.process t))))) u o,
+              put_other c.process t dead u o,
+            ) (at_still p u c.variable c.variable c.table (after_kill t resumed last c).table (record {
+              grows = record { full = λ h. h; claimed = λ child h. h };
+              held = λ m h. h;
+              same = λ m h i j. refl;
+            }) (put r.deferred t [] u) (there.process u) (c.process u) (b.processes u))
+      ]
+
+      behind : IsBehind p (put r.deferred t []) (after_kill t mine last there) (after_kill t resumed last c)
+      behind = subst (λ (i : List ℕ). IsBehind p (put r.deferred t []) (after_kill t i last there)
+          (after_kill t resumed last c)) same (record {
+            table = ap (λ (T : Table). record T { waits = put (without_waiters resumed T.waits) t None }) b.table;
+            variables = b.variables;
+            printed = b.printed;
+            processes = here;
+          })
+
+      ties : Corresponds p w (suc steps) (killed_to true s t) (after_kill t resumed last c)
+      ties = killed_ties p w steps s c r.ties t x thread alive
+
+      staged : (u : ℕ) → stages ties.world u ≡ put (stages r.ties.world) t Leaves u
+      staged = killed_staged p w steps s c r.ties t x thread alive
+
+      tracked : (n : Tracks p w (suc steps) (killed_to true s t) (after_kill t mine last there))
+          × (n.deferred ≡ put r.deferred t []) × RaisedSo r.ties.world n.ties.world t false
+      tracked = (
+        record {
+          deferred = put r.deferred t [];
+          ahead = after_kill t resumed last c;
+          ties = ties;
+          behind = behind;
+          few = λ u. at_put r.deferred t [] u (λ (i : List Kind). length i ≤ suc steps) (λ e. omega arith)
+              (λ o. let less = r.few u in omega (arith, less));
+          agrees = agrees_next (stages r.ties.world) Leaves t (λ u. has_failed (put r.deferred t [] u))
+              (stages ties.world) staged
+              (λ u o. subst (λ (i : List Kind). Agrees (stages r.ties.world u) (has_failed i))
+              (sym (put_other r.deferred t [] u o)) (r.agrees u)) tt;
+          own = λ u. at_put r.deferred t [] u (λ (i : List Kind). AreOwn i) (λ e. tt) (λ o. r.own u);
+        },
+        refl,
+        killed_raised p w steps s c r.ties t x thread alive,
+      )
+
+  -- a step that changes nothing
+  pub ties_later : (steps : ℕ) (s : State) (c : SourceState) → Corresponds p w steps s c
+      → Corresponds p w (suc steps) s c
+  ties_later steps s c k = record {
+    world = k.world;
+    reached = k.reached;
+    shares = k.shares;
+    size = k.size;
+    most = k.most;
+    made = k.made;
+    output = k.output;
+    variables = k.variables;
+    fit = k.fit;
+    threads = k.threads;
+    lists = k.lists;
+    words = k.words;
+    blank = k.blank;
+    numbers = λ d. let less = k.numbers d in omega (arith, less);
+  }
+
+  pub later_staged : (steps : ℕ) (s : State) (c : SourceState) (k : Corresponds p w steps s c) (u : ℕ)
+      → stages (ties_later steps s c k).world u ≡ stages k.world u
+  unfolding ties_later
+  later_staged steps s c k u = refl
+
+  pub tracks_later : (steps : ℕ) (s : State) (a : SourceState) (r : Tracks p w steps s a)
+      → (n : Tracks p w (suc steps) s a) × (n.deferred ≡ r.deferred)
+      × ((u : ℕ) → raised_at n.ties.world u ≡ raised_at r.ties.world u)
+  unfolding ties_later
+  tracks_later steps s a r = (
+    record {
+      deferred = r.deferred;
+      ahead = r.ahead;
+      ties = ties_later steps s r.ahead r.ties;
+      behind = r.behind;
+      few = λ u. let less = r.few u in omega (arith, less);
+      agrees = r.agrees;
+      own = r.own;
+    },
+    refl,
+    λ u. refl,
+  )
 
   pub tracks : (steps : ℕ) (s : State) (a : SourceState) → Tracks p w steps s a → (l : Step) (s' : State)
       (st : IsOwnStep (code_of p) s l s') (done : Bool)
@@ -396,7 +577,8 @@ module _ (p : Program) (w : WellFormed p) where
   tracks steps s a r l s' st done moves short =
       let deferral = told_deferral p done (mark_of (marks_of p) st.thread) s l.thread l.woken
       (look (code_of p) l.thread st.thread) s' moves in
-      let on = tracks_deferred steps s a r l s' st done deferral.0 deferral.1 short in
+      let looks = look (code_of p) l.thread st.thread in
+      let on = tracks_deferred steps s a r l s' st done (raises_number looks) deferral.0 deferral.1 short in
       (λ e. (on.0 e).0, λ e. (r.deferred l.thread, (on.1 e).0))
 
   module _ (steps : ℕ) (s : State) (t : ℕ) (a : SourceState) where
@@ -404,7 +586,8 @@ module _ (p : Program) (w : WellFormed p) where
     pub catches_up_deferred : (k : Kind) (ks : List Kind) (o : HasDeferred p w steps s t a (k ∷ ks))
         → (label : Label) × (k ≡ kind_of label) × (is_internal label ≡ true) × CanTake p a t label
         × ((a' : SourceState) → IsSourceStep p a (act t k) a'
-        → (n : HasDeferred p w steps s t a' ks) × (n.deferred ≡ put o.deferred t ks))
+        → (n : HasDeferred p w steps s t a' ks) × (n.deferred ≡ put o.deferred t ks)
+        × ((u : ℕ) → raised_at n.ties.world u ≡ raised_at o.ties.world u))
     catches_up_deferred k ks o = (
       f.label,
       f.named,
@@ -451,6 +634,7 @@ module _ (p : Program) (w : WellFormed p) where
               mine_own = o.mine_own;
             },
             refl,
+            λ u. refl,
           ),
     )
       where
@@ -463,7 +647,8 @@ module _ (p : Program) (w : WellFormed p) where
     pub takes_visible_deferred : (o : HasDeferred p w steps s t a [])
         → (label : Label) × (is_internal label ≡ false) × CanTake p a t label × Resumes' p s a.table label
         × ((a' : SourceState) → IsSourceStep p a (act t (kind_of label)) a'
-        → (n : Tracks p w steps s a') × (n.deferred ≡ o.deferred))
+        → (n : Tracks p w steps s a') × (n.deferred ≡ o.deferred)
+        × ((u : ℕ) → raised_at n.ties.world u ≡ raised_at o.ties.world u))
     takes_visible_deferred o = (
       o.label,
       o.visible,
@@ -514,6 +699,7 @@ module _ (p : Program) (w : WellFormed p) where
               own = o.own;
             },
             refl,
+            λ u. refl,
           ),
     )
 

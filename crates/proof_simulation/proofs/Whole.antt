@@ -1,12 +1,13 @@
 -- Each run of the machine on the code of a program is explained by a run of the program.
 use Rattle.std.proofs.Common.{◌≡◌, ◌⊎◌, ℕ, zero, suc, ◌+◌, ◌<◌, ◌≤◌, Bool, true, false, List, [], ◌∷◌, ◌++◌, length, refl, sym}
 use Rattle.std.proofs.Common.{subst, arith, Option, Some, None, ◌∙◌}
-use Rattle.std.specs.Prelude.{map, filter, is_some, if◌then◌else◌, ◌^◌}
-use Rattle.locals.specs.Threads.{Thread}
+use Rattle.std.specs.Prelude.{map, filter, is_some, if◌then◌else◌, ◌^◌, not}
+use Rattle.locals.specs.Threads.{Thread, is_dying}
 use Rattle.locals.specs.Looks.{Look, Goes, Asks, Leaves, Breaks, Rests, look}
 use Rattle.locals.specs.Steps.{local_next, and_step, local_after}
 use Rattle.machine.specs.States.{State, opening_state, with_thread}
-use Rattle.machine.specs.Runs.{Doing, Own, Strayed, is_own, Step, GoesBy, MachineRun, IsOwnStep, IsStrayStep, IsDone}
+use Rattle.machine.specs.Runs.{Doing, Own, Strayed, Killed, is_own, Step, GoesBy, MachineRun, IsOwnStep, IsStrayStep}
+use Rattle.machine.specs.Runs.{IsKillStep, IsDone, killed_to}
 use Rattle.machine.specs.Runs.{Moves, NextIsBroken, is_paused}
 use Rattle.program.specs.Trees.{Program}
 use Rattle.program.specs.WellFormed.{WellFormed}
@@ -34,18 +35,23 @@ use Rattle.proof_simulation.proofs.Opening.{opens}
 use Rattle.proof_simulation.proofs.Observing.{sound, ends}
 use Rattle.proof_simulation.proofs.Resting.{at_rest, sleepers}
 use Rattle.proof_thread.specs.Deferrals.{mark_of}
-use Rattle.proof_simulation.specs.Deferred.{Stage, Works, stages, Agrees, has_failed}
+use Rattle.proof_simulation.specs.Deferred.{Stage, Works, Leaves as Leaves', stages, raised_at, Agrees, has_failed}
 use Rattle.proof_simulation.specs.Progress.{answer_in, visible_step}
 use Rattle.proof_thread.specs.Deferrals.{deferred_by_step}
 use Rattle.proof_simulation.proofs.Completions.{steps_so}
-use Rattle.proof_simulation.proofs.Tracking.{agrees_next}
+use Rattle.proof_simulation.proofs.Tracking.{agrees_next, ties_later, later_staged}
+use Rattle.proof_simulation.proofs.KillSteps.{killed_ties, killed_staged, killed_step}
+use Rattle.proof_simulation.specs.Kills.{killed_last, killed_resumed, after_kill}
+use Rattle.proof_simulation.specs.Next.{offer_of_process}
+use Rattle.proof_simulation.specs.Ordering.{raises_number}
 use Rattle.proof_simulation.proofs.Paces.{count_by-append}
-use Rattle.proof_simulation.proofs.Counting.{count, counts, count_map, count_stray, of_one, of_none, done_count, done_behind}
+use Rattle.proof_simulation.proofs.Counting.{count, counts, count_map, count_stray, count_kill, of_one, of_none}
+use Rattle.proof_simulation.proofs.Counting.{done_count, done_behind}
 use Rattle.proof_simulation.proofs.Counting.{placed_count}
 use Rattle.proof_simulation.specs.Strays.{stray_condition, stray_kinds, after_stray}
 use Rattle.proof_simulation.proofs.Strays.{strayed}
 use Rattle.proof_simulation.proofs.Strays.{Strayed as Strayed'}
-use Rattle.refinement.specs.Outside.{is_condition_word, is_condition_stray, stray_threads}
+use Rattle.refinement.specs.Outside.{is_condition_word, is_condition_stray, is_kill, killed_threads, stray_threads}
 use Rattle.std.proofs.lemmas.List.Elements.{filter-append}
 use Rattle.std.proofs.lemmas.List.{map-append}
 use Rattle.std.proofs.lemmas.Bool.{false≢true}
@@ -88,6 +94,22 @@ threads_append p xs ys =
     ap (λ (l : List Step). map (λ x. x.thread) l) (filter-append (λ x. is_condition_stray p x.doing) xs ys)
     ∙ map-append (λ (x : Step). x.thread) (filter (λ x. is_condition_stray p x.doing) xs)
     (filter (λ x. is_condition_stray p x.doing) ys)
+
+pub kills_append : (xs ys : List Step) → killed_threads (xs ++ ys) ≡ killed_threads xs ++ killed_threads ys
+kills_append xs ys =
+    ap (λ (l : List Step). map (λ x. x.thread) l) (filter-append (λ x. is_kill x.doing) xs ys)
+    ∙ map-append (λ (x : Step). x.thread) (filter (λ x. is_kill x.doing) xs) (filter (λ x. is_kill x.doing) ys)
+
+-- the kills of one step
+abbrev pub kills_of : Step → Doing → List ℕ
+kills_of l d = if is_kill d then l.thread ∷ [] else []
+
+pub one_kill : (l : Step) → killed_threads (l ∷ []) ≡ kills_of l l.doing
+one_kill l = by_test (is_kill l.doing) refl
+  where
+    by_test : (b : Bool) → is_kill l.doing ≡ b → killed_threads (l ∷ []) ≡ kills_of l l.doing
+    by_test true e = rw e refl
+    by_test false e = rw e refl
 
 -- the strays of one step
 abbrev pub strays_of : Program → Step → Doing → List ℕ
@@ -156,7 +178,7 @@ module _ (p : Program) (w : WellFormed p) where
         → ((u : ℕ) → count u (map (act l.thread) kinds) ≡ of_one l.thread u (done_count p s s' l d st ks))
         × Agrees stage (has_failed (done_behind p s s' l d st ks))
     pub strays : processes_of is_stray_kind (map (act l.thread) kinds) ≡ strays_of p l d
-    pub kills : processes_of is_kill_kind (map (act l.thread) kinds) ≡ []
+    pub kills : processes_of is_kill_kind (map (act l.thread) kinds) ≡ kills_of l d
 
   step_come : (taken : ℕ) (s : State) (c : SourceState) (k : Corresponds p w taken s c) (l : Step) (s' : State)
       (d : Doing) (st : IsDone (code_of p) s l s' d) → taken + 1 < 2 ^ 32 → StepCome taken s c k l s' d st
@@ -164,9 +186,10 @@ module _ (p : Program) (w : WellFormed p) where
       let looks = look (code_of p) l.thread st.thread in
       let mark = mark_of (marks_of p) st.thread in
       let answer = answer_in s s' l.thread l.woken looks st.moves in
-      let done = visible_step p looks answer in
+      let done = visible_step p s.word l.thread looks answer in
       let deferral = deferred_by_step mark looks answer in
-      let n = next p w taken s c k l s' st done deferral (steps_so p mark s s' l.thread l.woken looks st.moves)
+      let n = next p w taken s c k l s' st done (raises_number looks) deferral (steps_so p mark s s' l.thread l.woken
+      looks st.moves)
       (λ request go e d. let few = k.numbers d in omega (arith, few, short)) in
       record {
         after = n.after;
@@ -206,6 +229,56 @@ module _ (p : Program) (w : WellFormed p) where
 
       n : Strayed' p w taken s c k l.thread a
       n = strayed p w taken s c k l.thread a st.sleeps
+  step_come taken s c k l s' (Killed true) st short =
+      subst (λ (x : State). (i : IsKillStep true s l x) → StepCome taken s c k l x (Killed true) i) (sym st.after)
+      (λ i. record {
+        after = after_kill t resumed last c;
+        ties = killed_ties p w taken s c k t st.thread st.stands alive;
+        kinds = L.Kill resumed last ∷ [];
+        leads = (
+          after_kill t resumed last c,
+          killed_step p w taken s c k t st.thread st.stands alive c refl refl refl,
+          refl,
+        );
+        paced = λ awake own. absurd (false≢true own);
+        stage = Leaves';
+        staged = killed_staged p w taken s c k t st.thread st.stands alive;
+        counted = λ ks agrees. (λ u. count_kill t u resumed last ∙ sym (of_none t u), tt);
+        strays = refl;
+        kills = refl;
+      }) st
+    where
+      t : ℕ
+      t = l.thread
+
+      not_so : (b : Bool) → true ≡ not b → b ≡ false
+      not_so true e = absurd (false≢true (sym e))
+      not_so false e = refl
+
+      alive : is_dying st.thread ≡ false
+      alive = not_so (is_dying st.thread) st.begins_so
+
+      last : Option ℕ
+      last = killed_last p s.word t
+
+      resumed : List ℕ
+      resumed = killed_resumed p (killed_to true s t) c.table (raised_at k.world t)
+          (offer_of_process p c.variable (c.process t))
+  step_come taken s c k l s' (Killed false) st short =
+      subst (λ (x : State). (i : IsKillStep false s l x) → StepCome taken s c k l x (Killed false) i) (sym st.after)
+      (λ i. record {
+        after = c;
+        ties = ties_later p w taken s c k;
+        kinds = [];
+        leads = refl;
+        paced = λ awake own. absurd (false≢true own);
+        stage = stages k.world l.thread;
+        staged = λ u. later_staged p w taken s c k u
+            ∙ ap (λ (f : ℕ → Stage). f u) (put_again (stages k.world) l.thread (stages k.world l.thread) refl);
+        counted = λ ks agrees. (λ u. sym (of_none l.thread u), agrees);
+        strays = refl;
+        kills = refl;
+      }) st
 
   -- what belongs to the state that a run of the machine comes to
   pub record Come (s : State) (c : SourceState) (left : ℕ → ℕ) (was : ℕ → Stage) (steps : List Step) (s' : State)
@@ -217,7 +290,7 @@ module _ (p : Program) (w : WellFormed p) where
     pub leads : Leads p c actions source
     pub trail : Trail most left steps actions (left_of p w ties)
     pub strays : processes_of is_stray_kind actions ≡ stray_threads p steps
-    pub kills : processes_of is_kill_kind actions ≡ []
+    pub kills : processes_of is_kill_kind actions ≡ killed_threads steps
     -- as many as the code's marks tell
     pub counted : (deferred : ℕ → List Kind) → ((u : ℕ) → Agrees (was u) (has_failed (deferred u))) → (t : ℕ)
         → count t actions ≡ number deferred t
@@ -252,7 +325,8 @@ module _ (p : Program) (w : WellFormed p) where
             ∙ ap (λ (i : List ℕ). i ++ processes_of is_stray_kind r.actions) (n.strays ∙ sym (one_stray p l))
             ∙ ap (λ (i : List ℕ). stray_threads p (l ∷ []) ++ i) r.strays ∙ sym (threads_append p (l ∷ []) ls);
         kills = processes_append is_kill_kind first r.actions
-            ∙ ap (λ (i : List ℕ). i ++ processes_of is_kill_kind r.actions) n.kills ∙ r.kills;
+            ∙ ap (λ (i : List ℕ). i ++ processes_of is_kill_kind r.actions) (n.kills ∙ sym (one_kill l))
+            ∙ ap (λ (i : List ℕ). killed_threads (l ∷ []) ++ i) r.kills ∙ sym (kills_append (l ∷ []) ls);
         counted = λ deferred agrees t.
             let ks = deferred l.thread in
             let after = done_behind p s run.0 l l.doing run.1 ks in
@@ -290,7 +364,7 @@ module _ (p : Program) (w : WellFormed p) where
       let deferral = told_deferral p so.0 (mark_of (marks_of p) m) mid t [] (look (code_of p) t m) after so.1 in
       let n = next p w r.taken mid r.source r.ties (record { thread = t; woken = []; pauses = is_paused after t; doing = Own })
       after
-      step so.0 deferral.0 deferral.1 (λ request go e d. absurd (cc (h, e))) in
+      step so.0 (raises_number (look (code_of p) t m)) deferral.0 deferral.1 (λ request go e d. absurd (cc (h, e))) in
       record {
         taken = suc r.taken;
         source = n.after;

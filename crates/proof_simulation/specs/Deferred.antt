@@ -1,8 +1,10 @@
 -- What is deferred of a process behind each step of its thread, and how far the thread is that has met a fault.
 use Rattle.std.specs.Prelude.{ℕ, ◌≡◌, ◌⊎◌, ◌&&◌, ◌||◌, Bool, true, false, List, [], ◌∷◌, ◌++◌, Option, Some, None}
-use Rattle.std.specs.Prelude.{if◌then◌else◌}
-use Rattle.meaning.specs.Labels.{Kind, Fails}
-use Rattle.protocol.specs.Points.{Point, Dies, Walks, ClearsId, LastWakes, HasEnded}
+use Rattle.std.specs.Prelude.{if◌then◌else◌, is_some}
+use Rattle.meaning.specs.Labels.{Kind, Fails, Faulted, Killed}
+use Rattle.program.specs.declared.kinds.Member.{Member}
+use Rattle.protocol.specs.Points.{Point, NotifyWakes, BroadcastMarks, BroadcastReads, BroadcastMoves}
+use Rattle.protocol.specs.Points.{Dies, Walks, ClearsId, LastWakes, HasEnded}
 use Rattle.protocol.specs.World.{World}
 use Rattle.proof_thread.specs.Completing.{IsOwn}
 
@@ -33,9 +35,10 @@ pub data Stage : Type 0 where
   Meets : Stage
   Leaves : Stage
 
--- how far a thread is that stands at this point of the protocol
+-- how far a thread is that stands at this point of the protocol; one that is killed leaves at once
 abbrev pub stage_of : Point → Stage
-stage_of (Dies cause x) = Meets
+stage_of (Dies (Faulted fault) x) = Meets
+stage_of (Dies Killed x) = Leaves
 stage_of (Walks e x end) = Leaves
 stage_of (ClearsId end) = Leaves
 stage_of (LastWakes end) = Leaves
@@ -45,6 +48,23 @@ stage_of pt = Works
 -- the same of each thread of a world
 abbrev pub stages : World → ℕ → Stage
 stages w u = stage_of (w.at u).point
+
+-- the condition whose number a thread at this point has raised, and whose sleepers it hasn't woken or moved yet
+abbrev pub notified_at : Point → Option Member
+notified_at (NotifyWakes c) = Some c
+notified_at (BroadcastMarks c) = Some c
+notified_at (BroadcastReads c) = Some c
+notified_at (BroadcastMoves c s) = Some c
+notified_at pt = None
+
+-- whether there is one, of each thread of a world
+abbrev pub raised_at : World → ℕ → Bool
+raised_at w u = is_some (notified_at (w.at u).point)
+
+-- the same of a thread behind its step, which is visible, or raises a number, or neither
+abbrev pub raised_then : (visible raises had : Bool) → Bool
+raised_then true raises had = false
+raised_then false raises had = raises || had
 
 -- a fault is deferred of a process whose thread has met it, and none of one whose thread works
 abbrev pub Agrees : Stage → Bool → Type 0

@@ -11,6 +11,7 @@ use Rattle.meaning.specs.Runs.{IsRun}
 use Rattle.meaning.specs.States.{SourceState}
 use Rattle.proof_commutation.specs.Deferring.{IsBehind, is_internal}
 use Rattle.proof_commutation.specs.Placed.{actions_up_to}
+use Rattle.proof_simulation.specs.Deferred.{raised_at}
 use Rattle.proof_simulation.specs.Ordering.{Resumes}
 use Rattle.proof_simulation.specs.Progress.{Progress, progress, progress_caught_up}
 use Rattle.proof_simulation.specs.Tracking.{CanTake, Tracks}
@@ -24,6 +25,7 @@ pub record IsReached (p : Program) (w : WellFormed p) (steps : ℕ) (s : State) 
   pub run : IsRun p g.actions g.source
   pub tracks : Tracks p w steps s g.source
   pub waits : tracks.deferred ≡ g.deferred
+  pub raises : (u : ℕ) → raised_at tracks.ties.world u ≡ g.raised u
 
 -- a visible step of process t led to this state of the machine: what is deferred of the process may be taken, and then
 -- a visible action of it

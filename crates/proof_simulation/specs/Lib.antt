@@ -1,10 +1,12 @@
 pub mod Deferred
 pub mod Ordering
+pub mod Killing
 pub mod Standing
 pub mod Ranks
 pub mod Corresponding
 pub mod Tracking
 pub mod Next
+pub mod Kills
 pub mod Progress
 pub mod Explaining
 pub mod Serving

@@ -1,6 +1,7 @@
 -- Where the actions of the source stand among the steps of the machine.
-use Rattle.std.specs.Prelude.{ℕ, suc, ◌-◌, ◌%◌, ◌≡◌, ◌==◌, ◌&&◌, ◌||◌, not, nat_lt, Bool, true, false, List, []}
+use Rattle.std.specs.Prelude.{ℕ, ◌+◌, ◌-◌, ◌%◌, ◌≡◌, ◌==◌, ◌&&◌, ◌||◌, not, nat_lt, Bool, true, false, List, []}
 use Rattle.std.specs.Prelude.{◌∷◌, length, Option, Some, None}
+use Rattle.words.specs.Process.{process_word}
 use Rattle.words.specs.Updates.{put}
 use Rattle.words.specs.Versions.{base_of}
 use Rattle.robustexit.specs.declared.phase.ExitPhase.{ExitPhase}
@@ -8,7 +9,7 @@ use Rattle.robustexit.specs.declared.phase.ExitPhase.TheVariants.{Entry, Pending
 use Rattle.robustexit.specs.RobustExit.{Shared, ExitStep}
 use Rattle.locals.specs.Threads.{Exits}
 use Rattle.locals.specs.Looks.{Request, Look, Goes, Asks, Leaves, Breaks, Rests, AskLoad, AskStore, AskSwap}
-use Rattle.locals.specs.Looks.{AskCompareSwap, AskFork, AskPrint, AskWake, AskRequeue}
+use Rattle.locals.specs.Looks.{AskAdd, AskCompareSwap, AskFork, AskPrint, AskWake, AskRequeue}
 use Rattle.machine.specs.States.{State, with_thread}
 use Rattle.machine.specs.AbstractServing.{Serves, shared_of, with_shared}
 use Rattle.program.specs.Trees.{Program}
@@ -58,13 +59,24 @@ completes p (AskPrint number) r = true
 completes p (AskFork entry arguments has_room) r = not (r == 0)
 completes p request r = false
 
--- whether a step of an exit is one: a monitor is abandoned, or the id word cleared
-abbrev pub completes_exit : ExitPhase → Bool
-completes_exit (Entry entry seen) = true
-completes_exit Pending = false
-completes_exit ClearId = true
-completes_exit LastWake = false
-completes_exit Ended = false
+-- whether a step of an exit of thread t is one, by the words before it: a monitor is abandoned, at its entry or, where
+-- it is the pending one and the thread owns it, at the end of the walk; or the id word is cleared
+abbrev pub completes_exit : (word : ℕ → ℕ) → ℕ → ExitPhase → Bool
+completes_exit word t (Entry entry seen) = not (word (process_word t 1) == entry.0)
+completes_exit word t Pending =
+    not (word (process_word t 1) == 0) && (owner (word (word (process_word t 1) + 1)) == t)
+completes_exit word t ClearId = true
+completes_exit word t LastWake = false
+completes_exit word t Ended = false
+
+-- whether a request raises the number of a condition's word, which is all that is added to; and a step that looks so
+abbrev pub is_raise : Request → Bool
+is_raise (AskAdd a v) = true
+is_raise request = false
+
+abbrev pub raises_number : Look → Bool
+raises_number (Asks request go) = is_raise request
+raises_number other = false
 
 -- what a thread that looks so does in one step, and whether that is a visible action
 abbrev pub MovesSo : Program → Bool → State → ℕ → List ℕ → Look → State → Type 0
@@ -74,22 +86,25 @@ MovesSo p done s t woken (Asks request go) s' =
     × (done ≡ completes p request answer)
 MovesSo p done s t woken (Leaves phase) s' =
     (after : Shared) × (next : ExitPhase) × ExitStep s.size t phase (shared_of s) woken after next
-    × (s' ≡ with_thread (with_shared s after) t (Exits next)) × (done ≡ completes_exit phase)
+    × (s' ≡ with_thread (with_shared s after) t (Exits next)) × (done ≡ completes_exit s.word t phase)
 MovesSo p done s t woken Breaks s' = ⊥
 MovesSo p done s t woken Rests s' = ⊥
 
--- the same, with the action that is deferred, if the step of a thread at this mark has one
-abbrev pub StepsSo : Program → Bool → Option Kind → Option Mark → State → ℕ → List ℕ → Look → State → Type 0
-StepsSo p done deferral mark s t woken (Goes x) s' =
-    (woken ≡ []) × (s' ≡ with_thread s t x) × (done ≡ false) × (deferral ≡ deferred_by_mark mark)
-StepsSo p done deferral mark s t woken (Asks request go) s' =
+-- the same, with whether it raises a number, and the action that is deferred, if the step of a thread at this mark has
+-- one
+abbrev pub StepsSo : Program → Bool → Bool → Option Kind → Option Mark → State → ℕ → List ℕ → Look → State → Type 0
+StepsSo p done raises deferral mark s t woken (Goes x) s' =
+    (woken ≡ []) × (s' ≡ with_thread s t x) × (done ≡ false) × (deferral ≡ deferred_by_mark mark) × (raises ≡ false)
+StepsSo p done raises deferral mark s t woken (Asks request go) s' =
     (answer : ℕ) × (mid : State) × Serves t request s woken answer mid × (s' ≡ with_thread mid t (go answer))
     × (done ≡ completes p request answer) × (deferral ≡ deferred_by_request mark request answer)
-StepsSo p done deferral mark s t woken (Leaves phase) s' =
+    × (raises ≡ is_raise request)
+StepsSo p done raises deferral mark s t woken (Leaves phase) s' =
     (after : Shared) × (next : ExitPhase) × ExitStep s.size t phase (shared_of s) woken after next
-    × (s' ≡ with_thread (with_shared s after) t (Exits next)) × (done ≡ completes_exit phase) × (deferral ≡ None)
-StepsSo p done deferral mark s t woken Breaks s' = ⊥
-StepsSo p done deferral mark s t woken Rests s' = ⊥
+    × (s' ≡ with_thread (with_shared s after) t (Exits next)) × (done ≡ completes_exit s.word t phase)
+    × (deferral ≡ None) × (raises ≡ false)
+StepsSo p done raises deferral mark s t woken Breaks s' = ⊥
+StepsSo p done raises deferral mark s t woken Rests s' = ⊥
 
 -- an action of process t
 abbrev pub act : ℕ → Kind → Action

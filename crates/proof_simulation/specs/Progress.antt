@@ -5,16 +5,17 @@ use Rattle.proof_simulation.specs.Strays.{stray_condition, stray_kinds, after_st
 use Rattle.words.specs.Updates.{put}
 use Rattle.locals.specs.Looks.{Look, Goes, Asks, Leaves, Breaks, Rests, look}
 use Rattle.machine.specs.States.{State, opening_state}
-use Rattle.machine.specs.Runs.{Doing, Own, Strayed, Step, Moves, IsOwnStep, IsDone, IsStep, GoesBy, MachineRun}
+use Rattle.machine.specs.Runs.{Doing, Own, Strayed, Killed, Step, Moves, IsOwnStep, IsDone, IsStep, GoesBy, MachineRun}
 use Rattle.program.specs.Trees.{Program}
 use Rattle.lowering.specs.Pieces.{code_of, marks_of}
-use Rattle.meaning.specs.Labels.{Kind, Action}
+use Rattle.meaning.specs.Labels.{Kind, Kill, Action}
 use Rattle.meaning.specs.States.{SourceState, opening}
 use Rattle.proof_commutation.specs.Placed.{actions_of}
 use Rattle.proof_thread.specs.Deferrals.{mark_of, deferred_by_step}
-use Rattle.proof_simulation.specs.Next.{after_next, next_kinds, next_visible, take_deferred}
-use Rattle.proof_simulation.specs.Ordering.{completes, completes_exit}
-use Rattle.proof_simulation.specs.Deferred.{deferred_then}
+use Rattle.proof_simulation.specs.Kills.{killed_last, killed_resumed, after_kill}
+use Rattle.proof_simulation.specs.Next.{after_next, next_kinds, next_visible, offer_of_process, take_deferred}
+use Rattle.proof_simulation.specs.Ordering.{act, completes, completes_exit, raises_number}
+use Rattle.proof_simulation.specs.Deferred.{deferred_then, raised_then}
 
 -- the answer to what a step asks
 abbrev pub answer_in : (s s' : State) (t : ℕ) (woken : List ℕ) (l : Look) → Moves s t woken l s' → ℕ
@@ -24,24 +25,25 @@ answer_in s s' t woken (Leaves phase) g = 0
 answer_in s s' t woken Breaks g = 0
 answer_in s s' t woken Rests g = 0
 
--- whether a step that looks so is visible
-abbrev pub visible_step : Program → Look → (answer : ℕ) → Bool
-visible_step p (Goes x) r = false
-visible_step p (Asks request go) r = completes p request r
-visible_step p (Leaves phase) r = completes_exit phase
-visible_step p Breaks r = false
-visible_step p Rests r = false
+-- whether a step of thread t that looks so is visible, by the words before it
+abbrev pub visible_step : Program → (word : ℕ → ℕ) → ℕ → Look → (answer : ℕ) → Bool
+visible_step p word t (Goes x) r = false
+visible_step p word t (Asks request go) r = completes p request r
+visible_step p word t (Leaves phase) r = completes_exit word t phase
+visible_step p word t Breaks r = false
+visible_step p word t Rests r = false
 
 -- a run of the source behind some steps of the machine: its actions, where they lead, and what is still deferred of
--- each process
+-- each process; and which threads have raised the number of a condition's word, and not yet woken who slept on it
 pub record Progress : Type 0 where
   pub actions : List Action
   pub source : SourceState
   pub deferred : ℕ → List Kind
+  pub raised : ℕ → Bool
 
 -- what is deferred of process t is taken
 abbrev pub progress_caught_up : Program → (t : ℕ) → Progress → Progress
-progress_caught_up p t g = record {
+progress_caught_up p t g = record g {
   actions = g.actions ++ actions_of t (g.deferred t);
   source = take_deferred p t (g.deferred t) g.source;
   deferred = put g.deferred t [];
@@ -56,10 +58,16 @@ progress_next p s t g =
       source = after_next t next g.source;
     }
 
--- behind a visible step of process t; behind another, one more may be deferred
-abbrev pub progress_step : Program → (visible : Bool) → (deferral : Option Kind) → State → (t : ℕ) → Progress → Progress
-progress_step p true deferral s t g = progress_next p s t (progress_caught_up p t g)
-progress_step p false deferral s t g = record g { deferred = put g.deferred t (deferred_then deferral (g.deferred t)) }
+-- behind a visible step of process t; behind another, one more may be deferred, or its thread has raised a number
+abbrev pub progress_step : Program → (visible : Bool) → (deferral : Option Kind) → (raises : Bool) → State → (t : ℕ)
+    → Progress → Progress
+progress_step p true deferral raises s t g =
+    let next = progress_next p s t (progress_caught_up p t g) in
+    record next { raised = put g.raised t (raised_then true raises (g.raised t)) }
+progress_step p false deferral raises s t g = record g {
+  deferred = put g.deferred t (deferred_then deferral (g.deferred t));
+  raised = put g.raised t (raised_then false raises (g.raised t));
+}
 
 -- behind a wake from outside, by the condition that process t waited on, if its thread slept on that one's word: what
 -- waits of the process is taken, and then it waits on the condition no longer
@@ -72,6 +80,20 @@ progress_stray p (Some c) t g =
       source = after_stray t (Some c) caught_up.source;
     }
 
+-- behind a kill of thread t, with these words before it, which led to this state of the machine: what is deferred of
+-- the process is taken, and then it is killed
+abbrev pub progress_kill : Program → (word : ℕ → ℕ) → State → (t : ℕ) → Progress → Progress
+progress_kill p word s t g =
+    let caught_up = progress_caught_up p t g in
+    let a = caught_up.source in
+    let resumed = killed_resumed p s a.table (g.raised t) (offer_of_process p a.variable (a.process t)) in
+    let last = killed_last p word t in
+    record caught_up {
+      actions = caught_up.actions ++ act t (Kill resumed last) ∷ [];
+      source = after_kill t resumed last a;
+      raised = put g.raised t false;
+    }
+
 -- behind a step of thread t
 abbrev pub progress_own : (p : Program) → (s s' : State) → (l : Step) → IsOwnStep (code_of p) s l s'
     → Progress → Progress
@@ -79,7 +101,7 @@ progress_own p s s' l st g =
     let looks = look (code_of p) l.thread st.thread in
     let answer = answer_in s s' l.thread l.woken looks st.moves in
     let deferral = deferred_by_step (mark_of (marks_of p) st.thread) looks answer in
-    progress_step p (visible_step p looks answer) deferral s' l.thread g
+    progress_step p (visible_step p s.word l.thread looks answer) deferral (raises_number looks) s' l.thread g
 
 -- behind a step of the machine, by what it is
 abbrev pub progress_done : (p : Program) → (s s' : State) → (l : Step) → (d : Doing)
@@ -87,6 +109,8 @@ abbrev pub progress_done : (p : Program) → (s s' : State) → (l : Step) → (
 progress_done p s s' l Own st g = progress_own p s s' l st g
 progress_done p s s' l (Strayed a) st g =
     progress_stray p (stray_condition p a (g.source.table.waits l.thread)) l.thread g
+progress_done p s s' l (Killed true) st g = progress_kill p s.word s' l.thread g
+progress_done p s s' l (Killed false) st g = g
 
 -- behind a step of the machine
 abbrev pub progress_taken : (p : Program) → (s s' : State) → (l : Step) → IsStep (code_of p) s l s'
@@ -101,7 +125,7 @@ progress_by p g (l ∷ ls) s s' run = progress_by p (progress_taken p s run.0 l 
 
 -- before the first step
 abbrev pub opening_progress : Program → Progress
-opening_progress p = record { actions = []; source = opening p; deferred = λ t. [] }
+opening_progress p = record { actions = []; source = opening p; deferred = λ t. []; raised = λ t. false }
 
 -- of a run from the opening state
 abbrev pub progress : (p : Program) (steps : List Step) (s : State) → MachineRun (code_of p) steps s → Progress

@@ -9,11 +9,12 @@ use Rattle.protocol.specs.Points.{TakeMarks, TakeSleeps, TakeTries, GotReads, Go
 use Rattle.protocol.specs.Points.{NotifyAdds, NotifyWakes, BroadcastAdds, BroadcastMarks, BroadcastReads}
 use Rattle.protocol.specs.Points.{BroadcastMoves, JoinReads, JoinSleeps, JoinLearns, JoinTakes, LeavePends, LeaveReads}
 use Rattle.protocol.specs.Points.{LeaveHeads, LeaveSwaps, LeaveWakes, HasLeft, Dies, Walks, ClearsId, LastWakes}
+use Rattle.protocol.specs.Served.{is_pending}
 use Rattle.protocol.specs.World.{World}
 use Rattle.proof_thread.specs.Following.{Build}
 use Rattle.proof_thread.specs.Builds.{most_steps}
-use Rattle.proof_simulation.specs.Standing.{StandsAt, unmade, works, returns, inside, faults, refused, reads, sleeps}
-use Rattle.proof_simulation.specs.Standing.{learns, takes, walks, clears, wakes, rests}
+use Rattle.proof_simulation.specs.Standing.{StandsAt, unmade, works, returns, inside, faults, killed, refused, reads}
+use Rattle.proof_simulation.specs.Standing.{sleeps, learns, takes, walks, clears, wakes, rests}
 
 -- from its own code to the first request of the longest template
 abbrev pub before_template : ℕ
@@ -55,7 +56,7 @@ rank more w (HasLeft m ToExit) = more + 17
 rank more w (HasLeft m (ToWait c s)) = 52
 rank more w (Dies cause x) = 5
 rank more w (Walks zero x end) = 3
-rank more w (Walks (suc m) x end) = 1
+rank more w (Walks (suc m) x end) = if is_pending x m then 4 else 1
 rank more w (ClearsId end) = 2
 rank more w (LastWakes end) = 1
 rank more w pt = 0
@@ -72,13 +73,14 @@ steps_left b v t w (works left few h s) = left + before_template
 steps_left b v t w (returns r fits h mark) = 5
 steps_left b v t w (inside {pt = pt} left k u few walk fits same ne stands) = left + rank (more_steps b) w pt
 steps_left b v t w (faults fault) = 5
+steps_left b v t w (killed of) = 5
 steps_left b v t w (refused left few h o s) = left + 5
 steps_left b v t w (reads {child = child} left few c j h) = left + rank (more_steps b) w (JoinReads child)
 steps_left b v t w (sleeps left few c j h) = left + 18
 steps_left b v t w (learns left few c j h) = left + (more_steps b + 34)
 steps_left b v t w (takes left few c j h) = left + (more_steps b + 17)
-steps_left b v t w (walks {e = zero} phase is short end) = 3
-steps_left b v t w (walks {e = suc m} phase is short end) = 1
+steps_left b v t w (walks {e = zero} phase is short end of) = 3
+steps_left b v t w (walks {e = suc m} {x = x} phase is short end of) = if is_pending x m then 4 else 1
 steps_left b v t w clears = 2
 steps_left b v t w wakes = 1
 steps_left b v t w rests = 0

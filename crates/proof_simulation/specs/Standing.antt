@@ -10,13 +10,13 @@ use Rattle.program.specs.Trees.{Program, Part}
 use Rattle.locals.specs.Threads.{Thread, Dies as Dies', Exits}
 use Rattle.locals.specs.Looks.{Asks, look, first_exit}
 use Rattle.meaning.specs.Values.{Variables}
-use Rattle.meaning.specs.Labels.{End, Ended, Aborted, Faulted, Label, Enters, Resumes, Exits as Exits', Waits, Abandons}
-use Rattle.meaning.specs.Labels.{Ends}
+use Rattle.meaning.specs.Labels.{End, Ended, Aborted, Faulted, Killed, Label, Enters, Resumes, Exits as Exits', Waits}
+use Rattle.meaning.specs.Labels.{Abandons, Ends}
 use Rattle.meaning.specs.Processes.{Frame, Caller, Process, Joining, Dying, Leaving, Over, goes_on, with_result, holds}
 use Rattle.meaning.specs.Processes.{all_monitors}
 use Rattle.meaning.specs.Offers.{Effect, ClaimsOne, after_join, offer, TakesUp}
-use Rattle.protocol.specs.Points.{NoEntry, Point, Unmade, Runs, JoinReads, JoinSleeps, JoinLearns, JoinTakes}
-use Rattle.protocol.specs.Points.{MeetsClaimed, Dies, Walks, ClearsId, LastWakes, HasEnded}
+use Rattle.protocol.specs.Points.{Entry as PendingEntry, NoEntry, Point, Unmade, Runs, JoinReads, JoinSleeps}
+use Rattle.protocol.specs.Points.{JoinLearns, JoinTakes, MeetsClaimed, Dies, Walks, ClearsId, LastWakes, HasEnded}
 use Rattle.protocol.specs.Exits.{PhaseIs}
 use Rattle.proof_thread.specs.Deferrals.{mark_of, last_mark}
 use Rattle.proof_thread.specs.Following.{Build, StepsWithin}
@@ -25,6 +25,7 @@ use Rattle.proof_thread.specs.Builds.{most_steps}
 use Rattle.proof_templates.specs.Layout.{place, valid}
 use Rattle.proof_templates.specs.Asking.{template_steps}
 use Rattle.proof_templates.specs.Inside.{Template, process_at, list_at, StandsIn, TemplateFits, SameBefore, IsSteady}
+use Rattle.proof_simulation.specs.Killing.{IsOfProgram, last_of, left_of}
 
 -- a process that ends next, or once it has abandoned the monitors that it holds
 abbrev pub ending : End → List ℕ → Process
@@ -88,6 +89,9 @@ pub data StandsAt (b : Build) (v : Variables) (t : ℕ) : Option Thread → Opti
   -- at a fault that it met in the source already
   faults : {ms : List ℕ} (fault : Fault)
       → StandsAt b v t (Some (Dies' (Faulted fault))) (Some (Dying (Faulted fault) ms)) (Dies (Faulted fault) NoEntry) ms
+  -- killed, before the first step of its exit
+  killed : {x : PendingEntry} {ms : List ℕ} → IsOfProgram b.program x
+      → StandsAt b v t (Some (Dies' Killed)) (Some (Dying Killed (left_of (last_of x) ms))) (Dies Killed x) ms
   -- refused a process that was claimed before: on the way to the fault, which the source still has before it
   refused : {child : ℕ} {x : Thread} {q joining : Process} (left : ℕ) → left ≤ join_steps
       → StepsWithin b t left x (Dies' (Faulted HandleNotJoinable))
@@ -112,10 +116,11 @@ pub data StandsAt (b : Build) (v : Variables) (t : ℕ) : Option Thread → Opti
       → StandsAt b v t (Some x) (Some (goes_on None (with_result into z f) cs)) (JoinTakes child (Ended z))
       (all_monitors f cs)
   -- in its exit: at an entry of its robust list, or behind the last; and then
-  walks : {e : ℕ} {end : End} {ms : List ℕ} (phase : ExitPhase)
-      → PhaseIs (place b.program) (valid b.program) (Walks e NoEntry end) phase
+  walks : {e : ℕ} {x : PendingEntry} {end : End} {ms : List ℕ} (phase : ExitPhase)
+      → PhaseIs (place b.program) (valid b.program) (Walks e x end) phase
       → entries_seen phase + length ms ≤ most_monitors
-      → IsEnding end ms → StandsAt b v t (Some (Exits phase)) (Some (ending end ms)) (Walks e NoEntry end) ms
+      → IsEnding end (left_of (last_of x) ms) → IsOfProgram b.program x
+      → StandsAt b v t (Some (Exits phase)) (Some (ending end (left_of (last_of x) ms))) (Walks e x end) ms
   clears : {end : End} {ms : List ℕ} → StandsAt b v t (Some (Exits ClearId)) (Some (ending end [])) (ClearsId end) ms
   wakes : {end : End} {ms : List ℕ} → StandsAt b v t (Some (Exits LastWake)) (Some (Over end)) (LastWakes end) ms
   rests : {end : End} {ms : List ℕ} → StandsAt b v t (Some (Exits Ended')) (Some (Over end)) (HasEnded end) ms

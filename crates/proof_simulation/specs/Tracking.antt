@@ -1,15 +1,17 @@
 -- The source behind the machine: what its processes have done that is visible, while internal actions are still
 -- deferred.
-use Rattle.std.specs.Prelude.{ℕ, suc, ◌+◌, ◌≡◌, ◌≤◌, false, List, [], length, Option, Some, None}
+use Rattle.std.specs.Prelude.{ℕ, suc, ◌+◌, ◌≡◌, ◌≤◌, Bool, true, false, List, [], length, Option, Some, None}
 use Rattle.words.specs.Updates.{put}
 use Rattle.program.specs.declared.kinds.Member.{Member}
 use Rattle.machine.specs.States.{State, with_sleepers}
+use Rattle.machine.specs.Runs.{killed_to}
 use Rattle.program.specs.Trees.{Program}
 use Rattle.program.specs.WellFormed.{WellFormed}
-use Rattle.meaning.specs.Labels.{Kind, Stray, Label}
+use Rattle.meaning.specs.Labels.{Kind, Stray, Kill, Label}
 use Rattle.meaning.specs.Runs.{Leads, IsStep as IsSourceStep}
 use Rattle.proof_commutation.specs.Placed.{actions_of}
-use Rattle.proof_simulation.specs.Next.{take_deferred}
+use Rattle.proof_simulation.specs.Kills.{killed_last, killed_resumed, after_kill}
+use Rattle.proof_simulation.specs.Next.{offer_of_process, take_deferred}
 use Rattle.proof_simulation.specs.Strays.{after_stray}
 use Rattle.meaning.specs.Table.{Table, Allows}
 use Rattle.meaning.specs.Processes.{Process}
@@ -17,11 +19,16 @@ use Rattle.meaning.specs.Offers.{Effect, offer, TakesUp}
 use Rattle.meaning.specs.States.{SourceState, variables_after}
 use Rattle.proof_commutation.specs.Deferring.{is_internal, IsBehind}
 use Rattle.protocol.specs.Carries.{IsByHolder}
+use Rattle.protocol.specs.World.{World}
 use Rattle.proof_simulation.specs.Corresponding.{Corresponds}
 use Rattle.proof_simulation.specs.Ordering.{KeepsOthers, Resumes, act, state_after}
 use Rattle.proof_thread.specs.Completing.{IsOwn}
-use Rattle.proof_simulation.specs.Deferred.{Agrees, AreOwn, has_failed, stages}
+use Rattle.proof_simulation.specs.Deferred.{Agrees, AreOwn, has_failed, stages, raised_at}
 use Rattle.meaning.specs.Labels.{kind_of}
+
+-- whether each thread has raised a number, from a world to the next, where that changed for thread t at most
+abbrev pub RaisedSo : World → World → ℕ → Bool → Type 0
+RaisedSo w w' t has = (u : ℕ) → raised_at w' u ≡ put (raised_at w) t has u
 
 -- a process can take an action of this label
 pub record CanTake (p : Program) (a : SourceState) (t : ℕ) (label : Label) : Type 0 where
@@ -47,15 +54,30 @@ pub record Tracks (p : Program) (w : WellFormed p) (steps : ℕ) (s : State) (a 
 -- behind a wake of thread t from outside: the source tracks the machine as before, or where the thread slept on the
 -- word of a condition that its process waited on, what is deferred of the process is taken, and then it waits no longer
 abbrev pub TracksStray : (p : Program) (w : WellFormed p) (steps : ℕ) (s : State) (t : ℕ) (a : SourceState)
-    → (ℕ → List Kind) → Option Member → Type 0
-TracksStray p w steps s t a deferred None =
+    → (ℕ → List Kind) → World → Option Member → Type 0
+TracksStray p w steps s t a deferred was None =
     (n : Tracks p w (suc steps) (with_sleepers s (put s.asleep t None)) a) × (n.deferred ≡ deferred)
-TracksStray p w steps s t a deferred (Some c) =
+    × ((u : ℕ) → raised_at n.ties.world u ≡ raised_at was u)
+TracksStray p w steps s t a deferred was (Some c) =
     let caught_up = take_deferred p t (deferred t) a in
     Leads p a (actions_of t (deferred t)) caught_up
     × IsSourceStep p caught_up (act t (Stray c)) (after_stray t (Some c) caught_up)
     × (n : Tracks p w (suc steps) (with_sleepers s (put s.asleep t None)) (after_stray t (Some c) caught_up))
-    × (n.deferred ≡ put deferred t [])
+    × (n.deferred ≡ put deferred t []) × ((u : ℕ) → raised_at n.ties.world u ≡ raised_at was u)
+
+-- behind a kill of thread t, which wasn't dying: what is deferred of the process is taken, and then it is killed, with
+-- those whom it has resumed, and the monitor that it abandons last
+abbrev pub TracksKill : (p : Program) (w : WellFormed p) (steps : ℕ) (s : State) (t : ℕ) (a : SourceState)
+    → (ℕ → List Kind) → (raised : Bool) → World → Type 0
+TracksKill p w steps s t a deferred raised was =
+    let caught_up = take_deferred p t (deferred t) a in
+    let o = offer_of_process p caught_up.variable (caught_up.process t) in
+    let resumed = killed_resumed p (killed_to true s t) caught_up.table raised o in
+    let last = killed_last p s.word t in
+    let after = after_kill t resumed last caught_up in
+    Leads p a (actions_of t (deferred t)) caught_up × IsSourceStep p caught_up (act t (Kill resumed last)) after
+    × (n : Tracks p w (suc steps) (killed_to true s t) after) × (n.deferred ≡ put deferred t [])
+    × RaisedSo was n.ties.world t false
 
 -- a step of thread t led to a state of the machine, and was a visible action of its process. First come the deferred
 -- actions of the process, and then that

@@ -3,20 +3,21 @@ ghost use Rattle.lowering.specs.Pieces.{code_of, marks_of};
 ghost use Rattle.proof_commutation.specs.Deferring.{is_internal};
 ghost use Rattle.proof_thread.specs.Variables.{IsVariable, variable_address};
 ghost use Rattle.locals.specs.Looks.{look};
+ghost use Rattle.locals.specs.Threads.{Thread, is_dying};
 ghost use Rattle.machine.specs.Runs.{IsOwnStep, MachineRun, Step};
 ghost use Rattle.machine.specs.States.{State, opening_state};
 ghost use Rattle.meaning.specs.Labels.{Kind, Label, kind_of};
 ghost use Rattle.meaning.specs.Runs.{IsStep as IsSourceStep, Leads};
 ghost use Rattle.meaning.specs.States.{SourceState, opening};
 ghost use Rattle.proof_simulation.specs.Ordering.{MovesSo, Resumes, StepsSo, act};
-ghost use Rattle.proof_simulation.specs.Deferred.{deferred_then};
+ghost use Rattle.proof_simulation.specs.Deferred.{deferred_then, raised_at, raised_then};
 ghost use Rattle.proof_simulation.specs.Corresponding.{Corresponds};
 ghost use Rattle.proof_commutation.specs.Placed.{actions_up_to};
 ghost use Rattle.proof_thread.specs.Deferrals.{mark_of};
 ghost use Rattle.proof_simulation.specs.Explaining.{IsDue, IsReached, explanation};
 ghost use Rattle.proof_simulation.specs.Progress.{Progress, answer_in, visible_step, progress};
 ghost use Rattle.words.specs.Updates.{put};
-ghost use Rattle.proof_simulation.specs.Tracking.{CanTake, HasDeferred, Tracks, TracksStray};
+ghost use Rattle.proof_simulation.specs.Tracking.{CanTake, HasDeferred, RaisedSo, Tracks, TracksKill, TracksStray};
 ghost use Rattle.proof_simulation.specs.Strays.{stray_condition};
 ghost use Rattle.program.specs.Trees.{Program};
 ghost use Rattle.program.specs.WellFormed.{WellFormed};
@@ -28,7 +29,7 @@ ghost use Rattle.words.specs.Signed.{word_of};
 /// The code of each checked program refines it, in the whole language: locals, expressions, IF, WHILE, procedures with
 /// arguments and results, PRINT, ABORT, faults, FORK, and JOIN with INTO and ABORTED; monitors with ENTRY and INTERNAL
 /// procedures, nested calls and re-entry; WAIT, NOTIFY and BROADCAST; abandoned monitors and RECOVER parts; over every
-/// schedule of the machine.
+/// schedule of the machine, with wakes that nobody called for, and kills between any two steps.
 pub fn code_refines()
     ensures { (p : Program) → WellFormed p → Refines p (code_of p) }
 {}
@@ -74,38 +75,52 @@ pub fn source_follows()
 /// one more deferred action just where the step has one (`StepsSo` says which steps have, and which action, by the
 /// mark at which the thread stands, the request and its answer): an assignment of a local, a test, a call, a return, a
 /// fault, which is deferred once. Behind a visible one, all that is deferred of the process is taken first, in order,
-/// and then nothing is deferred of it. At any time all that is deferred may be taken, by rising number of process, and
-/// then the source is where the machine is.
+/// and then nothing is deferred of it. At a kill of a thread that isn't dying, too, and then the process can be killed:
+/// if the thread has raised the number of a condition's word and woken nobody yet, it resumes those who wait on the
+/// condition and don't sleep on its word; and it abandons the monitor that was pending last, if the thread owns it. At
+/// any time all that is deferred may be taken, by rising number of process, and then the source is where the machine
+/// is.
 pub fn source_waits()
     ensures opens { (p : Program) (w : WellFormed p)
-        → (o : Tracks p w 0 (opening_state (code_of p)) (opening p)) × (o.deferred ≡ (λ t. [])) }
+        → (o : Tracks p w 0 (opening_state (code_of p)) (opening p)) × (o.deferred ≡ (λ t. []))
+        × ((u : ℕ) → raised_at o.ties.world u ≡ false) }
     ensures waits { (p : Program) (w : WellFormed p) (steps : ℕ) (s : State) (a : SourceState)
         (r : Tracks p w steps s a)
-        (l : Step) (s' : State) (st : IsOwnStep (code_of p) s l s') (done : Bool)
+        (l : Step) (s' : State) (st : IsOwnStep (code_of p) s l s') (done raises : Bool)
         (deferral : Option Kind)
-        → StepsSo p done deferral (mark_of (marks_of p) st.thread) s l.thread l.woken
+        → StepsSo p done raises deferral (mark_of (marks_of p) st.thread) s l.thread l.woken
         (look (code_of p) l.thread st.thread) s'
         → steps + 1 < 2 ^ 32
         → (done ≡ false → (n : Tracks p w (suc steps) s' a)
-        × (n.deferred ≡ put r.deferred l.thread (deferred_then deferral (r.deferred l.thread))))
+        × (n.deferred ≡ put r.deferred l.thread (deferred_then deferral (r.deferred l.thread)))
+        × RaisedSo r.ties.world n.ties.world l.thread
+        (raised_then done raises (raised_at r.ties.world l.thread)))
         × (done ≡ true → (o : HasDeferred p w (suc steps) s' l.thread a (r.deferred l.thread))
-        × (o.deferred ≡ r.deferred)) }
+        × (o.deferred ≡ r.deferred)
+        × RaisedSo r.ties.world o.ties.world l.thread
+        (raised_then done raises (raised_at r.ties.world l.thread))) }
     ensures catches_up { (p : Program) (w : WellFormed p) (steps : ℕ) (s : State) (t : ℕ)
         (a : SourceState) (k : Kind)
         (ks : List Kind) (o : HasDeferred p w steps s t a (k ∷ ks))
         → (label : Label) × (k ≡ kind_of label) × (is_internal label ≡ true) × CanTake p a t label
         × ((a' : SourceState) → IsSourceStep p a (act t k) a'
-        → (n : HasDeferred p w steps s t a' ks) × (n.deferred ≡ put o.deferred t ks)) }
+        → (n : HasDeferred p w steps s t a' ks) × (n.deferred ≡ put o.deferred t ks)
+        × ((u : ℕ) → raised_at n.ties.world u ≡ raised_at o.ties.world u)) }
     ensures takes_visible { (p : Program) (w : WellFormed p) (steps : ℕ) (s : State) (t : ℕ)
         (a : SourceState)
         (o : HasDeferred p w steps s t a [])
         → (label : Label) × (is_internal label ≡ false) × CanTake p a t label
         × Resumes p s a.table label
         × ((a' : SourceState) → IsSourceStep p a (act t (kind_of label)) a'
-        → (n : Tracks p w steps s a') × (n.deferred ≡ o.deferred)) }
+        → (n : Tracks p w steps s a') × (n.deferred ≡ o.deferred)
+        × ((u : ℕ) → raised_at n.ties.world u ≡ raised_at o.ties.world u)) }
     ensures strays { (p : Program) (w : WellFormed p) (steps : ℕ) (s : State) (a : SourceState)
         (r : Tracks p w steps s a) (t address : ℕ) → s.asleep t ≡ Some address
-        → TracksStray p w steps s t a r.deferred (stray_condition p address (a.table.waits t)) }
+        → TracksStray p w steps s t a r.deferred r.ties.world
+        (stray_condition p address (a.table.waits t)) }
+    ensures kills { (p : Program) (w : WellFormed p) (steps : ℕ) (s : State) (a : SourceState)
+        (r : Tracks p w steps s a) (t : ℕ) (x : Thread) → s.thread t ≡ Some x → is_dying x ≡ false
+        → TracksKill p w steps s t a r.deferred (raised_at r.ties.world t) r.ties.world }
     ensures finishes { (p : Program) (w : WellFormed p) (steps : ℕ) (s : State) (a : SourceState)
         (r : Tracks p w steps s a)
         → (source : SourceState) × Leads p a (actions_up_to s.made r.deferred) source
@@ -125,8 +140,9 @@ pub fn run_explains()
     ensures due { (p : Program) (w : WellFormed p) (steps : ℕ) (s : State) (g : Progress)
         → IsReached p w steps s g
         → (l : Step) (s' : State) (st : IsOwnStep (code_of p) s l s') → steps + 1 < 2 ^ 32
-        → visible_step p (look (code_of p) l.thread st.thread) (answer_in s s' l.thread l.woken
-        (look (code_of p) l.thread st.thread) st.moves) ≡ true → IsDue p s' l.thread g }
+        → visible_step p s.word l.thread (look (code_of p) l.thread st.thread)
+        (answer_in s s' l.thread l.woken (look (code_of p) l.thread st.thread) st.moves) ≡ true
+        → IsDue p s' l.thread g }
     ensures explained { (p : Program) → WellFormed p → (steps : List Step) (s : State)
         (run : MachineRun (code_of p) steps s)
         → length steps < 2 ^ 32

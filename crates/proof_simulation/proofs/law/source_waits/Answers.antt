@@ -1,4 +1,4 @@
-use Rattle.proof_simulation.proofs.Tracking.{opens_deferred, tracks_deferred, tracks_stray, catches_up_deferred}
+use Rattle.proof_simulation.proofs.Tracking.{opens_deferred, tracks_deferred, tracks_stray, tracks_kill, catches_up_deferred}
 use Rattle.proof_simulation.proofs.Tracking.{takes_visible_deferred}
 use Rattle.proof_simulation.proofs.Finishing.{finishes}
 use Rattle.proof_simulation.proofs.law.source_waits.Goals as goal
@@ -17,6 +17,9 @@ returns-clause-takes_visible c = takes_visible_deferred
 
 pub returns-clause-strays : goal.returns-clause-strays
 returns-clause-strays c = tracks_stray
+
+pub returns-clause-kills : goal.returns-clause-kills
+returns-clause-kills c = tracks_kill
 
 pub returns-clause-finishes : goal.returns-clause-finishes
 returns-clause-finishes c = finishes
