@@ -54,14 +54,15 @@ none_some k e = absurd cc
 pub same_kind : (k l : Kind) → Some k ≡ Some l → k ≡ l
 same_kind k l e = cc
 
-abbrev so_far : List Action → SourceState → (ℕ → List Kind) → Progress
-so_far actions source deferred = record { actions = actions; source = source; deferred = deferred }
+abbrev so_far : List Action → SourceState → (ℕ → List Kind) → (ℕ → Bool) → Progress
+so_far actions source deferred raised =
+    record { actions = actions; source = source; deferred = deferred; raised = raised }
 
-same_progress : (a b : List Action) (s u : SourceState) (w v : ℕ → List Kind) → a ≡ b → s ≡ u → w ≡ v
-    → so_far a s w ≡ so_far b u v
-same_progress a b s u w v actions source deferred =
-    ap (λ i. so_far i s w) actions ∙ ap (λ i. so_far b i w) source
-    ∙ ap (λ (i : ℕ → List Kind). so_far b u i) deferred
+same_progress : (a b : List Action) (s u : SourceState) (w v : ℕ → List Kind) (raised : ℕ → Bool) → a ≡ b → s ≡ u
+    → w ≡ v → so_far a s w raised ≡ so_far b u v raised
+same_progress a b s u w v raised actions source deferred =
+    ap (λ i. so_far i s w raised) actions ∙ ap (λ i. so_far b i w raised) source
+    ∙ ap (λ (i : ℕ → List Kind). so_far b u i raised) deferred
 
 nothing_more : {A : Type 0} (l : List A) → l ≡ l ++ []
 nothing_more [] = refl
@@ -128,7 +129,7 @@ module _ (p : Program) (t : ℕ) (g : Progress) (ahead : SourceState) (count tak
                   let before : length (w t) ≡ length ks + 1 = ap length mine ∙ omega arith in
                   let one : length (put w t ks t) ≡ length ks = ap length (put_same w t ks) in
                   omega (arith, before, one, paying.left);
-              rest = same_progress _ _ _ _ _ _
+              rest = same_progress _ _ _ _ _ _ _
                   (ap (λ l. (actions ++ act t k ∷ []) ++ actions_of t l) (put_same w t ks)
                   ∙ append_assoc actions (act t k ∷ []) (actions_of t ks)
                   ∙ sym (ap (λ l. actions ++ actions_of t l) mine))

@@ -1,5 +1,6 @@
--- Entries of a thread's own that the machine takes, those that it can't, and wakes from outside.
-use Rattle.std.proofs.Common.{◌≡◌, ℕ, Bool, true, false, Option, Some, None, Ok, sym, ◌∙◌, ap, subst, inl, inr}
+-- Entries of a thread's own that the machine takes, those that it can't, and what comes from outside.
+use Rattle.std.proofs.Common.{◌≡◌, ℕ, Bool, true, false, Option, Some, None, Ok, refl, sym, ◌∙◌, ap, subst, inl, inr}
+use Rattle.std.proofs.Common.{◌==◌}
 use Rattle.std.specs.Prelude.{MatchBool}
 use Rattle.isa.specs.Programs.{Program}
 use Rattle.locals.specs.Threads.{Thread}
@@ -8,7 +9,13 @@ use Rattle.machine.specs.declared.event.Event.{Event}
 use Rattle.machine.specs.declared.event.Entry.{Entry}
 use Rattle.machine.specs.States.{ConcreteState, thread_of}
 use Rattle.machine.specs.ConcreteSteps.{put_thread, can_move}
-use Rattle.machine.specs.ConcreteOutside.{stray_of}
+use Rattle.machine.specs.ConcreteOutside.{kill_of, stray_of}
+use Rattle.machine.specs.FrontRuns.{OutsideStep, doing_of}
+use Rattle.machine.specs.Runs.{Strayed, Killed}
+use Rattle.machine.specs.declared.event.EventName.{EventName}
+use Rattle.machine.specs.declared.event.EventName.TheVariants as name
+use Rattle.machine.proofs.Killing.{kill_told}
+use Rattle.machine.proofs.Outside.{stray_told}
 use Rattle.machine.proofs.Placing.{thread_at-put}
 use Rattle.runner.specs.Logs.{Ends, Enters, EntersOwn, EntersOutside, is_outside}
 use Rattle.runner.proofs.Once.{here_once}
@@ -91,21 +98,52 @@ by_outside p k new e false foreign never = λ mid enters. either mid enters
     either mid (inl own) = absurd (true_or_false (is_outside e.event) foreign (own_entry p k mid e own))
     either mid (inr outside) = never mid outside
 
--- a wake from outside, or none, of a thread with this event
-pub outside_by : (k new : ConcreteState) (e : Entry) (event : Event) (b : Bool) → e.event ≡ Some event → e.local ≡ 0
+-- a step from outside, of a thread with this event
+outside_named : (k mid : ConcreteState) (e : Entry) (event : Event) → e.event ≡ Some event → EntersOutside k e mid
+    → OutsideStep k e.thread event mid
+outside_named k mid e event is outside =
+    let both : Some outside.event ≡ Some event = sym outside.is ∙ is in
+    let same : outside.event ≡ event = cc in
+    subst (λ (x : Event). OutsideStep k e.thread x mid) same outside.gives
+
+named_kill : (n : EventName) (v : ℕ) (b : Bool) → doing_of n v ≡ Killed b → n ≡ name.Kill
+named_kill name.Kill v b e = refl
+named_kill n v b e = absurd cc
+
+named_stray : (v a : ℕ) → doing_of name.Kill v ≡ Strayed a → ⊥
+named_stray v a e = cc
+
+-- a wake, or none, of a thread with this event
+pub stray_by : (k new : ConcreteState) (e : Entry) (event : Event) (b : Bool) → e.event ≡ Some event → e.local ≡ 0
+    → (event.name ≡ name.Kill → ⊥)
     → MatchBool b (stray_of k e.thread ≡ Ok (new, event))
     ((mid : ConcreteState) → stray_of k e.thread ≡ Ok (mid, event) → ⊥)
     → MatchBool b (EntersOutside k e new) ((mid : ConcreteState) → EntersOutside k e mid → ⊥)
-outside_by k new e event true is alone gives = record { event = event; alone = alone; is = is; gives = gives }
-outside_by k new e event false is alone never = λ mid outside. never mid (named mid outside)
+stray_by k new e event true is alone other gives =
+    record { event = event; alone = alone; is = is; gives = inl gives }
+stray_by k new e event false is alone other never = λ mid outside. by_step mid (outside_named k mid e event is outside)
   where
-    named : (mid : ConcreteState) → (outside : EntersOutside k e mid) → stray_of k e.thread ≡ Ok (mid, event)
-    named mid outside =
-        let both : Some outside.event ≡ Some event = sym outside.is ∙ is in
-        let same : outside.event ≡ event = cc in
-        outside.gives ∙ ap (λ (x : Event). Ok (mid, x)) same
+    by_step : (mid : ConcreteState) → OutsideStep k e.thread event mid → ⊥
+    by_step mid (inl gives) = never mid gives
+    by_step mid (inr gives) =
+        other (named_kill event.name event.value (event.value == 1) (kill_told k mid e.thread event gives))
 
--- without an event there is no wake
+-- a kill, or none, of a thread with this event
+pub kill_by : (k new : ConcreteState) (e : Entry) (event : Event) (b : Bool) → e.event ≡ Some event → e.local ≡ 0
+    → event.name ≡ name.Kill
+    → MatchBool b (kill_of k e.thread ≡ Ok (new, event))
+    ((mid : ConcreteState) → kill_of k e.thread ≡ Ok (mid, event) → ⊥)
+    → MatchBool b (EntersOutside k e new) ((mid : ConcreteState) → EntersOutside k e mid → ⊥)
+kill_by k new e event true is alone named gives =
+    record { event = event; alone = alone; is = is; gives = inr gives }
+kill_by k new e event false is alone named never = λ mid outside. by_step mid (outside_named k mid e event is outside)
+  where
+    by_step : (mid : ConcreteState) → OutsideStep k e.thread event mid → ⊥
+    by_step mid (inl gives) = named_stray event.value event.value
+        (sym (ap (λ (n : EventName). doing_of n event.value) named) ∙ stray_told k mid e.thread event gives)
+    by_step mid (inr gives) = never mid gives
+
+-- without an event nothing came from outside
 pub no_event : (k new : ConcreteState) (e : Entry) → e.event ≡ None → EntersOutside k e new → ⊥
 no_event k new e none outside =
     let both : Some outside.event ≡ None = sym outside.is ∙ none in absurd cc

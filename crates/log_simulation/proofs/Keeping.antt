@@ -1,5 +1,5 @@
 -- A recorder keeps up with the entries of a log.
-use Rattle.std.proofs.Common.{◌≡◌, ◌+◌, ◌<◌, ◌≤◌, ℕ, List, [], length, Option, Some, None, Ok, true}
+use Rattle.std.proofs.Common.{◌≡◌, ◌+◌, ◌<◌, ◌≤◌, ℕ, zero, suc, List, [], ◌∷◌, length, Option, Some, None, Ok, true}
 use Rattle.std.proofs.Common.{ap, sym, ◌∙◌, arith, subst, length-append}
 use Rattle.std.specs.Prelude.{◌^◌, ◌++◌, replicate}
 use Rattle.std.proofs.lemmas.List.{length-replicate}
@@ -10,25 +10,28 @@ use Rattle.locals.specs.Looks.{look}
 use Rattle.locals.specs.Steps.{local_after}
 use Rattle.machine.specs.FrontRuns.{EventStep}
 use Rattle.machine.specs.States.{ConcreteState, opening_concrete, state_of as machine_state, thread_of}
-use Rattle.machine.specs.ConcreteOutside.{stray_of}
+use Rattle.machine.specs.ConcreteOutside.{kill_of, stray_of}
+use Rattle.machine.proofs.Killing.{kills_so}
 use Rattle.machine.specs.Views.{IsWellFormed}
 use Rattle.machine.proofs.Outside.{is_sleeper, strays_so}
 use Rattle.machine.specs.declared.event.Entry.{Entry}
 use Rattle.machine.specs.declared.event.Event.{Event}
 use Rattle.runner.specs.LogRuns.{local_step_of, shared_step_of, steps_of}
-use Rattle.runner.specs.Logs.{EntersOwn, EntersOutside, Runs, cost}
+use Rattle.runner.specs.Logs.{EntersOwn, Runs, cost}
 use Rattle.runner.proofs.Unrolling.{runs_so}
 use Rattle.lowering.specs.Pieces.{code_of}
 use Rattle.program.specs.Trees.{Program}
 use Rattle.program.specs.WellFormed.{WellFormed}
+use Rattle.words.proofs.Versions.{most_few}
+use Rattle.lowering_limits.proofs.Memory.{size}
 use Rattle.proof_simulation.specs.Explaining.{IsDue}
 use Rattle.proof_simulation.specs.Progress.{Progress}
 use Rattle.log_simulation.specs.Entries.{ComesTo, entry_steps, is_visible, progress_end, progress_entry}
 use Rattle.log_simulation.specs.Entries.{progress_locally}
-use Rattle.log_simulation.specs.Entries.{progress_shared, progress_outside}
-use Rattle.log_simulation.proofs.Progressing.{due_so, enters_so, outside_so}
+use Rattle.log_simulation.specs.Entries.{progress_shared}
+use Rattle.log_simulation.proofs.Progressing.{due_so, enters_so}
 use Rattle.log_simulation.specs.declared.recorder.Recorder.{Recorder}
-use Rattle.log_simulation.specs.Recording.{IsAlong, IsOf, RecordsUnlessLong}
+use Rattle.log_simulation.specs.Recording.{IsAlong, IsAlongStep, IsOf, KeepsUp, RecordsUnlessLong}
 use Rattle.runner.proofs.Once.{here_once, within_made}
 use Rattle.log_simulation.proofs.Recording.{as_many}
 
@@ -47,21 +50,22 @@ module _ (p : Program) (events : List EventStep) (k k' : ConcreteState) (e : Ent
       goes
 
   comes_at : (g : Progress) → ComesTo p events k g
-      → ComesTo p (events ++ entry_steps e) k' (progress_entry p e o here k' g)
+      → ComesTo p (events ++ entry_steps e) k' (progress_entry p e o here (machine_state k).word k' g)
   comes_at g comes =
-      subst (λ (x : Thread). ComesTo p (events ++ entry_steps e) k' (progress_entry p e x here k' g)) same_origin
+      subst (λ (x : Thread). ComesTo p (events ++ entry_steps e) k' (progress_entry p e x here (machine_state k).word k' g)) same_origin
       (subst (λ (x : Thread). ComesTo p (events ++ entry_steps e) k'
-      (progress_entry p e enters.origin x k' g)) same_here
+      (progress_entry p e enters.origin x (machine_state k).word k' g)) same_here
       (enters_so p events k k' e g comes enters))
 
   -- what is due of a shared step
   pub due_at : (g : Progress) → ComesTo p events k g → WellFormed p → (event : Event) → e.event ≡ Some event
-      → is_visible p (look (code_of p) e.thread here) event.value ≡ true → length events + e.local + 1 < 2 ^ 32
+      → is_visible p (machine_state k).word e.thread (look (code_of p) e.thread here) event.value ≡ true
+      → length events + e.local + 1 < 2 ^ 32
       → IsDue p (machine_state k') e.thread (progress_locally p e.thread e.local o g)
   due_at g comes w event is visible short =
       subst (λ (x : Thread). IsDue p (machine_state k') e.thread (progress_locally p e.thread e.local x g)) same_origin
       (due_so p events k k' e g comes enters w event is
-      (ap (λ (x : Thread). is_visible p (look (code_of p) e.thread x) event.value) same_here ∙ visible) short)
+      (ap (λ (x : Thread). is_visible p (machine_state k).word e.thread (look (code_of p) e.thread x) event.value) same_here ∙ visible) short)
 
   shared_many : (event : Option Event) → length (events ++ (replicate e.local (local_step_of e.thread)
       ++ shared_step_of e.thread event))
@@ -83,49 +87,73 @@ module _ (p : Program) (events : List EventStep) (k k' : ConcreteState) (e : Ent
       omega (arith, many) in
       record {
         of_program = of;
-        source = progress_entry p e o here k' along.source;
+        source = progress_entry p e o here (machine_state k).word k' along.source;
         comes = comes_at along.source along.comes;
         told = subst (λ (x : Option Event). RecordsUnlessLong
             (length (events ++ (replicate e.local (local_step_of e.thread)
-            ++ shared_step_of e.thread x))) (progress_end p e.thread here x k' g) r') (sym alone)
+            ++ shared_step_of e.thread x))) (progress_end p e.thread here (machine_state k).word x k' g) r') (sym alone)
             (subst (λ n. RecordsUnlessLong n g r') count tells);
       }
 
   -- and a shared one behind them
   pub keeps_shared : (r r' : Recorder) (along : IsAlong p events k r) (event : Event) → e.event ≡ Some event → IsOf p r'
       → RecordsUnlessLong (length events + e.local + 1)
-      (progress_shared p e.thread here event.value k' (progress_locally p e.thread e.local o along.source)) r'
+      (progress_shared p e.thread here (machine_state k).word event.value k' (progress_locally p e.thread e.local o along.source)) r'
       → IsAlong p (events ++ entry_steps e) k' r'
   keeps_shared r r' along event is of tells =
       let g = progress_locally p e.thread e.local o along.source in
       let many = shared_many (Some event) in
       record {
         of_program = of;
-        source = progress_entry p e o here k' along.source;
+        source = progress_entry p e o here (machine_state k).word k' along.source;
         comes = comes_at along.source along.comes;
         told = subst (λ (x : Option Event). RecordsUnlessLong
             (length (events ++ (replicate e.local (local_step_of e.thread)
-            ++ shared_step_of e.thread x))) (progress_end p e.thread here x k' g) r') (sym is)
-            (subst (λ n. RecordsUnlessLong n (progress_shared p e.thread here event.value k' g) r') (sym many) tells);
+            ++ shared_step_of e.thread x))) (progress_end p e.thread here (machine_state k).word x k' g) r') (sym is)
+            (subst (λ n. RecordsUnlessLong n (progress_shared p e.thread here (machine_state k).word event.value k' g) r') (sym many) tells);
       }
 
--- by a wake from outside
-pub keeps_outside : (p : Program) (events : List EventStep) (k k' : ConcreteState) (e : Entry)
-    (outside : EntersOutside k e k') (r r' : Recorder) (along : IsAlong p events k r) → IsOf p r'
-    → RecordsUnlessLong (length events + 1) (progress_outside p e.thread outside.event.value along.source) r'
-    → IsAlong p (events ++ entry_steps e) k' r'
-keeps_outside p events k k' e outside r r' along of tells =
-    let g = progress_outside p e.thread outside.event.value along.source in
-    let first = length-append events (entry_steps e) in
-    let second : length (entry_steps e) ≡ 1 =
-    (λ i. length (replicate (outside.alone i) (local_step_of e.thread) ++ shared_step_of e.thread (outside.is i))) in
-    let count : length events + 1 ≡ length (events ++ entry_steps e) = omega (arith, first, second) in
+-- by a step from outside
+pub keeps_outside : (p : Program) (events : List EventStep) (k k' : ConcreteState) (t : ℕ) (event : Event)
+    (g : Progress) (r r' : Recorder) → IsAlong p events k r → IsOf p r'
+    → ComesTo p (events ++ record { thread = t; event = event } ∷ []) k' g
+    → RecordsUnlessLong (length events + 1) g r'
+    → IsAlong p (events ++ record { thread = t; event = event } ∷ []) k' r'
+keeps_outside p events k k' t event g r r' along of comes tells =
+    let step : EventStep = record { thread = t; event = event } in
+    let long = length-append events (step ∷ []) in
+    let count : length events + 1 ≡ length (events ++ step ∷ []) = omega (arith, long) in
     record {
       of_program = of;
       source = g;
-      comes = outside_so p events k k' e along.source along.comes outside;
+      comes = comes;
       told = subst (λ n. RecordsUnlessLong n g r') count tells;
     }
+
+-- the entry of such a step
+pub keeps_entry : (p : Program) (k k' : ConcreteState) (e : Entry) (event : Event) (r r' : Recorder)
+    → e.local ≡ 0 → e.event ≡ Some event → IsAlongStep p k r e.thread event k' r' → KeepsUp p k r e k' r'
+keeps_entry p k k' e event r r' alone is told w events along =
+    subst (λ j. IsAlong p (events ++ (replicate j (local_step_of e.thread) ++ shared_step_of e.thread e.event)) k' r')
+    (sym alone)
+    (subst (λ (o : Option Event). IsAlong p (events ++ shared_step_of e.thread o) k' r') (sym is) (told w events along))
+
+-- there are fewer words than numbers of words
+pub few_words : (p : Program) (events : List EventStep) (k : ConcreteState) (g : Progress) → WellFormed p
+    → ComesTo p events k g → length k.common.words < 2 ^ 32
+few_words p events k g w comes =
+    let sized = comes.kept.sized in
+    let s = size p in
+    let most = most_few p.version in
+    let few = w.monitors in
+    let words = w.words in omega (arith, sized, s, most, few, words)
+
+-- a thread that is killed was made
+pub made_killed : (p : Program) (events : List EventStep) (k k' : ConcreteState) (g : Progress) (t : ℕ)
+    (event : Event) → ComesTo p events k g → kill_of k t ≡ Ok (k', event)
+    → (x : Thread) × (thread_of k t ≡ Some x)
+made_killed p events k k' g t event comes gives =
+    let step = (kills_so (code_of p) k k' t event comes.kept gives).1 in (step.thread, step.stands)
 
 -- a thread that sleeps has a number that threads have
 pub sleeps_within : (p : Program) (events : List EventStep) (k k' : ConcreteState) (g : Progress) (t : ℕ)
@@ -142,6 +170,10 @@ within_most p events k g t o comes stands =
     let few = comes.kept.few in
     let fits = comes.kept.fits in
     omega (arith, made, few, fits)
+
+pub some_thread : (k : ConcreteState) (t : ℕ) (o : Thread) → thread_of k t ≡ Some o → 0 < t
+some_thread k zero o stands = absurd cc
+some_thread k (suc t) o stands = omega arith
 
 -- a machine that came somewhere can run all threads that there can be
 pub can_run : (p : Program) (k : ConcreteState) → IsWellFormed (code_of p) k → most_of p.version ≤ most_threads

@@ -3,6 +3,7 @@ pub mod CatchingUp
 pub mod Waiting
 pub mod Below
 pub mod Visible
+pub mod Pending
 pub mod Taking
 pub mod Entering
 pub mod Records

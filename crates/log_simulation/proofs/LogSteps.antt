@@ -51,7 +51,7 @@ abbrev value_of : Result (ConcreteState × Event) StepFault → ℕ
 value_of (Ok r) = r.1.value
 value_of (Err fault) = 0
 
-module _ (p : Program) (k k' : ConcreteState) (t : ℕ) (event : Event) (done : Bool) (woken : List ℕ) where
+module _ (p : Program) (k k' : ConcreteState) (t : ℕ) (event : Event) (done raises : Bool) (woken : List ℕ) where
   abbrev s : State
   s = state_of k
 
@@ -109,8 +109,8 @@ module _ (p : Program) (k k' : ConcreteState) (t : ℕ) (event : Event) (done : 
   by_request request go answer mid serves h is = is
 
   module _ (action : Option Kind) (mark : Option Mark) where
-    pub visible : (l : Look) (s' : State) → Gives l → StepsSo p done action mark s t woken l s'
-        → done ≡ is_visible p l event.value
+    pub visible : (l : Look) (s' : State) → Gives l → StepsSo p done raises action mark s t woken l s'
+        → done ≡ is_visible p s.word t l event.value
     visible (Goes x) s' h g = g.2
     visible (Asks request go) s' h g = by_request request go g.0 g.1 g.2 h g.4
     visible (Leaves phase) s' h g = g.4
@@ -126,7 +126,7 @@ module _ (p : Program) (k k' : ConcreteState) (t : ℕ) (event : Event) (done : 
         (sym (by_fork go entry arguments room answer mid serves h))
     deferral_request request go answer mid serves h = refl
 
-    pub deferral : (l : Look) (s' : State) → Gives l → StepsSo p done action mark s t woken l s'
+    pub deferral : (l : Look) (s' : State) → Gives l → StepsSo p done raises action mark s t woken l s'
         → action ≡ deferred_by_step mark l event.value
     deferral (Goes x) s' h g = g.3
     deferral (Asks request go) s' h g = g.5 ∙ deferral_request request go g.0 g.1 g.2 h

@@ -1,29 +1,31 @@
 -- What the source has come to behind the entries of a log.
 use Rattle.std.proofs.Common.{◌≡◌, ℕ, zero, suc, ◌+◌, ◌<◌, true, List, [], ◌∷◌, Option, Some, None, Ok, refl, ap}
-use Rattle.std.proofs.Common.{sym, ◌∙◌, subst, arith, length, length-set, length-append, false}
-use Rattle.std.specs.Prelude.{◌^◌, ◌-◌, ◌++◌, ◌≤◌}
+use Rattle.std.proofs.Common.{sym, ◌∙◌, subst, arith, length, length-set, length-append, Bool, false, inl, inr, ◌==◌}
+use Rattle.std.proofs.lemmas.Bool.{eq-eqb}
+use Rattle.std.specs.Prelude.{◌^◌, ◌-◌, ◌++◌, ◌≤◌, not}
 use Rattle.words.specs.Limits.{most_threads}
 use Rattle.words.specs.Updates.{put}
 use Rattle.words.specs.Versions.{most_of}
-use Rattle.locals.specs.Threads.{Thread}
+use Rattle.locals.specs.Threads.{Thread, is_dying}
 use Rattle.locals.specs.Looks.{Look, Goes, look}
 use Rattle.locals.specs.Steps.{local_after, and_step}
 use Rattle.machine.specs.declared.event.Entry.{Entry}
 use Rattle.machine.specs.declared.event.Event.{Event}
 use Rattle.machine.specs.declared.event.EventName.TheVariants as name
-use Rattle.machine.specs.FrontRuns.{EventStep, Label, label_of, event_label}
-use Rattle.machine.specs.Runs.{Doing, Own, Strayed, Step, is_paused}
+use Rattle.machine.specs.FrontRuns.{EventStep, Label, OutsideStep, label_of, event_label, doing_of}
+use Rattle.machine.specs.Runs.{Doing, Own, Strayed, Killed, Step, IsStep, IsKillStep, is_paused}
 use Rattle.machine.specs.ThreadSets.{set_of}
 use Rattle.machine.specs.declared.thread_set.ThreadSet.{ThreadSet}
 use Rattle.runner.specs.LogRuns.{local_step_of, shared_step_of}
 use Rattle.std.specs.Prelude.{map, replicate}
 use Rattle.std.proofs.lemmas.List.{append-nil, append_assoc, length-map, length-replicate, replicate_more}
-use Rattle.machine.specs.States.{ConcreteState, thread_of, state_of, opening_concrete, opening_state}
+use Rattle.machine.specs.States.{State, ConcreteState, thread_of, state_of, opening_concrete, opening_state}
 use Rattle.machine.specs.ConcreteServing.{plain}
 use Rattle.machine.specs.ConcreteSteps.{thread_step, on_machine, step_of, put_thread}
 use Rattle.machine.proofs.Stepping.{opens_so as opens_state, steps_so}
 use Rattle.machine.proofs.Placing.{thread_at-put}
-use Rattle.machine.specs.ConcreteOutside.{stray_of}
+use Rattle.machine.specs.ConcreteOutside.{kill_of, stray_of}
+use Rattle.machine.proofs.Killing.{kills_so, kill_told}
 use Rattle.machine.proofs.Outside.{strays_so, stray_told}
 use Rattle.machine.proofs.OwnEvents.{own_so}
 use Rattle.runner.specs.Logs.{EntersOwn, EntersOutside, Ends}
@@ -38,21 +40,24 @@ use Rattle.meaning.specs.Runs.{IsStep as IsSourceStep}
 use Rattle.program.specs.declared.kinds.Member.{Member}
 use Rattle.proof_commutation.specs.Deferring.{IsBehind}
 use Rattle.protocol.proofs.Sleeps.{put_same}
-use Rattle.proof_simulation.specs.Ordering.{StepsSo, act}
+use Rattle.proof_simulation.specs.Ordering.{StepsSo, act, raises_number}
 use Rattle.proof_simulation.specs.Next.{take_deferred}
 use Rattle.proof_simulation.specs.Strays.{after_stray, stray_condition}
-use Rattle.proof_simulation.specs.Tracking.{TracksStray}
-use Rattle.proof_simulation.proofs.Tracking.{tracks_stray}
+use Rattle.proof_simulation.specs.Tracking.{TracksKill, TracksStray}
+use Rattle.proof_simulation.proofs.Tracking.{tracks_kill, tracks_stray}
 use Rattle.proof_simulation.specs.Explaining.{IsDue, IsReached}
 use Rattle.proof_simulation.specs.Progress.{Progress, answer_in, visible_step, progress_step, opening_progress}
+use Rattle.proof_simulation.specs.Progress.{progress, progress_taken}
 use Rattle.proof_simulation.proofs.Completions.{steps_so as tells_so}
 use Rattle.proof_simulation.proofs.Explaining.{goes_on_by, due, reached}
+use Rattle.proof_simulation.specs.Kills.{killed_last}
 use Rattle.proof_simulation.proofs.Local.{put_again}
 use Rattle.proof_simulation.proofs.Worlds.{put_put}
 use Rattle.log_simulation.specs.Entries.{is_visible, deferred_at, deferred_locally, progress_locally}
-use Rattle.log_simulation.specs.Entries.{progress_shared, progress_end, progress_outside}
+use Rattle.log_simulation.specs.Entries.{progress_shared, progress_end, progress_outside, progress_killed}
+use Rattle.log_simulation.specs.Entries.{progress_strayed}
 use Rattle.log_simulation.specs.Entries.{entry_steps, progress_entry, ComesTo}
-use Rattle.log_simulation.specs.Going.{IsStrayDue}
+use Rattle.log_simulation.specs.Going.{IsKillDue, IsStrayDue}
 use Rattle.log_simulation.proofs.LogSteps.{visible, deferral, put_twice, goes_local, goes_by, same_thread}
 
 abbrev step_by : ℕ → Event → EventStep
@@ -83,7 +88,7 @@ module _ (p : Program) where
   one_step : (n : List EventStep) (k k' : ConcreteState) (t : ℕ) (here : Thread) (event : Event) (g : Progress)
       → ComesTo p n k g → thread_of k t ≡ Some here → step_of (code_of p) k t ≡ Ok (k', event)
       → on_machine k t (thread_step (length k.threads) t k.common (look (code_of p) t here)) ≡ Ok (k', event)
-      → ComesTo p (n ++ step_by t event ∷ []) k' (progress_shared p t here event.value k' g)
+      → ComesTo p (n ++ step_by t event ∷ []) k' (progress_shared p t here (state_of k).word event.value k' g)
   one_step n k k' t here event g h stands takes gives =
       let d = steps_so (code_of p) k k' t event h.kept takes in
       let st = d.2 in
@@ -91,15 +96,16 @@ module _ (p : Program) where
       let is : st.thread ≡ here = same_thread (sym st.stands ∙ stands) in
       let mark = mark_of (marks_of p) st.thread in
       let answer = answer_in (state_of k) (state_of k') t d.0 looks st.moves in
-      let done = visible_step p looks answer in
+      let done = visible_step p (state_of k).word t looks answer in
       let action = deferred_by_step mark looks answer in
-      let so = subst (λ (x : Thread). StepsSo p done action (mark_of (marks_of p) x) (state_of k) t d.0
+      let raises = raises_number looks in
+      let so = subst (λ (x : Thread). StepsSo p done raises action (mark_of (marks_of p) x) (state_of k) t d.0
       (look (code_of p) t x) (state_of k')) is (tells_so p mark (state_of k) (state_of k') t d.0 looks st.moves) in
       let here_mark = mark_of (marks_of p) here in
-      let shown : done ≡ is_visible p (look (code_of p) t here) event.value =
-      visible p k k' t event done d.0 action here_mark (look (code_of p) t here) (state_of k') gives so in
+      let shown : done ≡ is_visible p (state_of k).word t (look (code_of p) t here) event.value =
+      visible p k k' t event done raises d.0 action here_mark (look (code_of p) t here) (state_of k') gives so in
       let told : action ≡ deferred_by_step here_mark (look (code_of p) t here) event.value =
-      deferral p k k' t event done d.0 action here_mark (look (code_of p) t here) (state_of k') gives so in
+      deferral p k k' t event done raises d.0 action here_mark (look (code_of p) t here) (state_of k') gives so in
       let l : Step = record { thread = t; woken = d.0; pauses = is_paused (state_of k') t; doing = Own } in
       let on = goes_on_by p (opening_progress p) h.steps (opening_state (code_of p)) (state_of k) h.run l (state_of k')
       st in
@@ -109,10 +115,13 @@ module _ (p : Program) where
         run = on.0;
         labels = labels_on h.steps n l (step_by t event) h.labels
             (same_label t d.0 event.woken Own _ d.1 (own_so (code_of p) k k' t event takes));
-        comes = on.1 ∙ ap (progress_step p done action (state_of k') t) h.comes
-            ∙ ap (λ b. progress_step p b action (state_of k') t g) shown
-            ∙ ap (λ (i : Option Kind). progress_step p (is_visible p (look (code_of p) t here) event.value) i
-            (state_of k') t g) told;
+        comes = on.1 ∙ ap (progress_step p done action raises (state_of k') t) h.comes
+            ∙ ap (λ b. progress_step p b action raises (state_of k') t g) shown
+            ∙ ap (λ (i : Option Kind). progress_step p (is_visible p (state_of k).word t (look (code_of p) t here)
+            event.value) i raises (state_of k') t g) told
+            ∙ ap (λ (x : Thread). progress_step p (is_visible p (state_of k).word t (look (code_of p) t here)
+            event.value) (deferred_by_step here_mark (look (code_of p) t here) event.value)
+            (raises_number (look (code_of p) t x)) (state_of k') t g) is;
       }
 
   -- and what is due of it, where others learn of it
@@ -120,7 +129,8 @@ module _ (p : Program) where
       (g : Progress)
       → ComesTo p n k g → thread_of k t ≡ Some here → step_of (code_of p) k t ≡ Ok (k', event)
       → on_machine k t (thread_step (length k.threads) t k.common (look (code_of p) t here)) ≡ Ok (k', event)
-      → is_visible p (look (code_of p) t here) event.value ≡ true → length n + 1 < 2 ^ 32 → IsDue p (state_of k') t g
+      → is_visible p (state_of k).word t (look (code_of p) t here) event.value ≡ true → length n + 1 < 2 ^ 32
+      → IsDue p (state_of k') t g
   one_due w n k k' t here event g h stands takes gives is_so short =
       let d = steps_so (code_of p) k k' t event h.kept takes in
       let st = d.2 in
@@ -128,12 +138,13 @@ module _ (p : Program) where
       let is : st.thread ≡ here = same_thread (sym st.stands ∙ stands) in
       let mark = mark_of (marks_of p) st.thread in
       let answer = answer_in (state_of k) (state_of k') t d.0 looks st.moves in
-      let done = visible_step p looks answer in
+      let done = visible_step p (state_of k).word t looks answer in
       let action = deferred_by_step mark looks answer in
-      let so = subst (λ (x : Thread). StepsSo p done action (mark_of (marks_of p) x) (state_of k) t d.0
+      let raises = raises_number looks in
+      let so = subst (λ (x : Thread). StepsSo p done raises action (mark_of (marks_of p) x) (state_of k) t d.0
       (look (code_of p) t x) (state_of k')) is (tells_so p mark (state_of k) (state_of k') t d.0 looks st.moves) in
-      let shown : done ≡ is_visible p (look (code_of p) t here) event.value =
-      visible p k k' t event done d.0 action (mark_of (marks_of p) here) (look (code_of p) t here)
+      let shown : done ≡ is_visible p (state_of k).word t (look (code_of p) t here) event.value =
+      visible p k k' t event done raises d.0 action (mark_of (marks_of p) here) (look (code_of p) t here)
       (state_of k') gives so in
       let l : Step = record { thread = t; woken = d.0; pauses = is_paused (state_of k') t; doing = Own } in
       let many = as_many h.steps n h.labels in
@@ -187,13 +198,17 @@ module _ (p : Program) where
           let many : last ≡ all = append_assoc n (replicate more (local_step_of t)) (local_step_of t ∷ [])
           ∙ ap (λ i. n ++ i) (replicate_more more (local_step_of t)
           ∙ ap (λ (j : ℕ). replicate j (local_step_of t)) one) in
-          let told : progress_shared p t m 0 (put_thread there t here) (record g { deferred = put g.deferred t ks })
+          let word = (state_of there).word in
+          let told : progress_shared p t m word 0 (put_thread there t here) (record g {
+            deferred = put g.deferred t ks;
+          })
           ≡ record g {
             deferred = put (put g.deferred t ks) t
                 (deferred_at (marks_of p) (Some m) (put g.deferred t ks t));
+            raised = put g.raised t (g.raised t);
           } =
-          ap (λ (l : Look). progress_step p (is_visible p l 0) (deferred_by_step (mark_of (marks_of p) m) l 0)
-          (state_of (put_thread there t here)) t (record g { deferred = put g.deferred t ks })) local in
+          ap (λ (l : Look). progress_step p (is_visible p word t l 0) (deferred_by_step (mark_of (marks_of p) m) l 0)
+          (raises_number l) (state_of (put_thread there t here)) t (record g { deferred = put g.deferred t ks })) local in
           let waits : put (put g.deferred t ks) t (deferred_at (marks_of p) (Some m) (put g.deferred t ks t))
           ≡ put g.deferred t (deferred_at (marks_of p) (Some m) ks) =
           put_put g.deferred t ks _ ∙ ap (λ (i : List Kind). put g.deferred t (deferred_at (marks_of p) (Some m) i))
@@ -203,7 +218,11 @@ module _ (p : Program) where
           (subst (λ i. ComesTo p i (put_thread there t here)
           (record g { deferred = put g.deferred t (deferred_at (marks_of p) (Some m) ks) })) many
           (subst (λ (x : Progress). ComesTo p last (put_thread there t here) x)
-          (told ∙ ap (λ (f : ℕ → List Kind). record g { deferred = f }) waits) on))
+          (told ∙ ap (λ (f : ℕ → List Kind). record g { deferred = f; raised = put g.raised t (g.raised t) }) waits
+          ∙ ap (λ (b : ℕ → Bool). record g {
+            deferred = put g.deferred t (deferred_at (marks_of p) (Some m) ks);
+            raised = b;
+          }) (sym (put_again g.raised t (g.raised t) refl))) on))
 
   module _ (n : List EventStep) (k k' : ConcreteState) (e : Entry) (g : Progress) (h : ComesTo p n k g)
       (enters : EntersOwn (code_of p) k e k') where
@@ -229,12 +248,14 @@ module _ (p : Program) where
     abbrev mine : List EventStep
     mine = replicate e.local (local_step_of e.thread)
 
-    pub enters_so : ComesTo p (n ++ entry_steps e) k' (progress_entry p e enters.origin enters.here k' g)
+    pub enters_so : ComesTo p (n ++ entry_steps e) k'
+        (progress_entry p e enters.origin enters.here (state_of k).word k' g)
     enters_so = by_end e.event enters.ends
       where
         by_end : (event : Option Event) → Ends (code_of p) there e.thread enters.here event k'
             → ComesTo p (n ++ (mine ++ shared_step_of e.thread event)) k'
-            (progress_end p e.thread enters.here event k' (progress_locally p e.thread e.local enters.origin g))
+            (progress_end p e.thread enters.here (state_of k).word event k'
+            (progress_locally p e.thread e.local enters.origin g))
         by_end None ends =
             let same : n ++ mine ≡ n ++ (mine ++ []) = ap (λ i. n ++ i) (sym (append-nil mine)) in
             subst (λ i. ComesTo p i k' (progress_locally p e.thread e.local enters.origin g)) same
@@ -242,14 +263,14 @@ module _ (p : Program) where
             (progress_locally p e.thread e.local enters.origin g)) (sym ends) came)
         by_end (Some event) ends =
             let same = append_assoc n mine (step_by e.thread event ∷ []) in
-            subst (λ i. ComesTo p i k' (progress_shared p e.thread enters.here event.value k'
+            subst (λ i. ComesTo p i k' (progress_shared p e.thread enters.here (state_of k).word event.value k'
             (progress_locally p e.thread e.local enters.origin g))) same
             (one_step (n ++ mine) there k' e.thread enters.here event
             (progress_locally p e.thread e.local enters.origin g) came
             (thread_at-put k.threads e.thread enters.origin enters.here enters.stands) ends.1 (gives_so event ends.1))
 
     pub due_so : WellFormed p → (event : Event) → e.event ≡ Some event
-        → is_visible p (look (code_of p) e.thread enters.here) event.value ≡ true
+        → is_visible p (state_of k).word e.thread (look (code_of p) e.thread enters.here) event.value ≡ true
         → length n + e.local + 1 < 2 ^ 32
         → IsDue p (state_of k') e.thread (progress_locally p e.thread e.local enters.origin g)
     due_so w event is is_so short =
@@ -262,8 +283,9 @@ module _ (p : Program) where
         (omega (arith, short, long, locals_long))
 
   -- a wake from outside
-  one_stray : (n : List EventStep) (k k' : ConcreteState) (t : ℕ) (event : Event) (g : Progress) → ComesTo p n k g
-      → stray_of k t ≡ Ok (k', event) → ComesTo p (n ++ step_by t event ∷ []) k' (progress_outside p t event.value g)
+  pub one_stray : (n : List EventStep) (k k' : ConcreteState) (t : ℕ) (event : Event) (g : Progress)
+      → ComesTo p n k g → stray_of k t ≡ Ok (k', event)
+      → ComesTo p (n ++ step_by t event ∷ []) k' (progress_strayed p t event.value g)
   one_stray n k k' t event g h gives =
       let d = strays_so (code_of p) k k' t event h.kept gives in
       let l : Step = record { thread = t; woken = t ∷ []; pauses = false; doing = Strayed event.value } in
@@ -275,37 +297,122 @@ module _ (p : Program) where
         run = on.0;
         labels = labels_on h.steps n l (step_by t event) h.labels
             (same_label t (t ∷ []) event.woken (Strayed event.value) _ d.0 (stray_told k k' t event gives));
-        comes = on.1 ∙ ap (progress_outside p t event.value) h.comes;
+        comes = on.1 ∙ ap (progress_strayed p t event.value) h.comes;
       }
+
+  -- a kill, by which the thread begins to die or doesn't
+  pub one_kill : (n : List EventStep) (k k' : ConcreteState) (t : ℕ) (event : Event) (begins : Bool) (g : Progress)
+      → ComesTo p n k g → kill_of k t ≡ Ok (k', event) → (event.value == 1) ≡ begins
+      → ComesTo p (n ++ step_by t event ∷ []) k' (progress_killed p begins (state_of k).word (state_of k') t g)
+  one_kill n k k' t event begins g h gives begun =
+      let d = kills_so (code_of p) k k' t event h.kept gives in
+      let l : Step = record { thread = t; woken = []; pauses = false; doing = Killed (event.value == 1) } in
+      let on = goes_on_by p (opening_progress p) h.steps (opening_state (code_of p)) (state_of k) h.run l (state_of k')
+      d.1 in
+      subst (λ b. ComesTo p (n ++ step_by t event ∷ []) k' (progress_killed p b (state_of k).word (state_of k') t g))
+      begun (record {
+        kept = d.2;
+        steps = h.steps ++ l ∷ [];
+        run = on.0;
+        labels = labels_on h.steps n l (step_by t event) h.labels
+            (same_label t [] event.woken (Killed (event.value == 1)) _ d.0 (kill_told k k' t event gives));
+        comes = on.1 ∙ killed (event.value == 1) d.1
+            ∙ ap (progress_killed p (event.value == 1) (state_of k).word (state_of k') t) h.comes;
+      })
+    where
+      killed : (b : Bool)
+          → (st : IsStep (code_of p) (state_of k) (record { thread = t; woken = []; pauses = false; doing = Killed b })
+          (state_of k'))
+          → progress_taken p (state_of k) (state_of k') (record {
+            thread = t;
+            woken = [];
+            pauses = false;
+            doing = Killed b;
+          }) st (progress p h.steps (state_of k) h.run)
+          ≡ progress_killed p b (state_of k).word (state_of k') t (progress p h.steps (state_of k) h.run)
+      killed true st = refl
+      killed false st = refl
+
+  -- what came from outside
+  pub one_outside : (n : List EventStep) (k k' : ConcreteState) (t : ℕ) (event : Event) (g : Progress)
+      → ComesTo p n k g → OutsideStep k t event k'
+      → ComesTo p (n ++ step_by t event ∷ []) k'
+      (progress_outside p t (doing_of event.name event.value) (state_of k).word (state_of k') g)
+  one_outside n k k' t event g h (inl gives) =
+      subst (λ (d : Doing). ComesTo p (n ++ step_by t event ∷ []) k'
+      (progress_outside p t d (state_of k).word (state_of k') g)) (sym (stray_told k k' t event gives))
+      (one_stray n k k' t event g h gives)
+  one_outside n k k' t event g h (inr gives) =
+      subst (λ (d : Doing). ComesTo p (n ++ step_by t event ∷ []) k'
+      (progress_outside p t d (state_of k).word (state_of k') g)) (sym (kill_told k k' t event gives))
+      (one_kill n k k' t event (event.value == 1) g h gives refl)
 
   module _ (n : List EventStep) (k k' : ConcreteState) (e : Entry) (g : Progress) (h : ComesTo p n k g)
       (outside : EntersOutside k e k') where
-    pub outside_so : ComesTo p (n ++ entry_steps e) k' (progress_outside p e.thread outside.event.value g)
+    pub outside_so : ComesTo p (n ++ entry_steps e) k'
+        (progress_outside p e.thread (doing_of outside.event.name outside.event.value) (state_of k).word (state_of k') g)
     outside_so =
-        let g' = progress_outside p e.thread outside.event.value g in
+        let g' = progress_outside p e.thread (doing_of outside.event.name outside.event.value) (state_of k).word
+        (state_of k') g in
         subst (λ j. ComesTo p (n ++ (replicate j (local_step_of e.thread) ++ shared_step_of e.thread e.event)) k' g')
         (sym outside.alone)
         (subst (λ (o : Option Event). ComesTo p (n ++ shared_step_of e.thread o) k' g') (sym outside.is)
-        (one_stray n k k' e.thread outside.event g h outside.gives))
+        (one_outside n k k' e.thread outside.event g h outside.gives))
 
-    -- what is due of the process, where it waits on the condition
-    pub stray_due_so : WellFormed p → length n + 1 < 2 ^ 32 → (c : Member)
-        → stray_condition p outside.event.value (g.source.table.waits e.thread) ≡ Some c → IsStrayDue p e.thread c g
-    stray_due_so w short c is =
-        let t = e.thread in
-        let many = as_many h.steps n h.labels in
-        let r = subst (λ (i : Progress). IsReached p w (length h.steps) (state_of k) i) h.comes
-        (reached p w h.steps (state_of k) h.run (omega (arith, many, short))) in
-        let d = strays_so (code_of p) k k' t outside.event h.kept outside.gives in
-        let found = subst (λ (o : Option Member). TracksStray p w (length h.steps) (state_of k) t g.source
-        r.tracks.deferred o) is
-        (tracks_stray p w (length h.steps) (state_of k) g.source r.tracks t outside.event.value d.1.sleeps) in
-        record {
-          ahead = r.tracks.ahead;
-          behind = subst (λ (f : ℕ → List Kind). IsBehind p f g.source r.tracks.ahead) r.waits r.tracks.behind;
-          step = subst (λ (f : ℕ → List Kind). IsSourceStep p (take_deferred p t (f t) g.source) (act t (Stray c))
-              (after_stray t (Some c) (take_deferred p t (f t) g.source))) r.waits found.1;
-        }
+  -- what came so far is tied to the machine
+  tied : (w : WellFormed p) (n : List EventStep) (k : ConcreteState) (g : Progress) (h : ComesTo p n k g)
+      → length n + 1 < 2 ^ 32 → IsReached p w (length h.steps) (state_of k) g
+  tied w n k g h short =
+      let many = as_many h.steps n h.labels in
+      subst (λ (i : Progress). IsReached p w (length h.steps) (state_of k) i) h.comes
+      (reached p w h.steps (state_of k) h.run (omega (arith, many, short)))
+
+  -- what is due of a process whose thread is woken from outside, where it waits on the condition
+  pub stray_due : (w : WellFormed p) (n : List EventStep) (k k' : ConcreteState) (t : ℕ) (event : Event) (g : Progress)
+      → ComesTo p n k g → stray_of k t ≡ Ok (k', event) → length n + 1 < 2 ^ 32 → (c : Member)
+      → stray_condition p event.value (g.source.table.waits t) ≡ Some c → IsStrayDue p t c g
+  stray_due w n k k' t event g h gives short c is =
+      let r = tied w n k g h short in
+      let d = strays_so (code_of p) k k' t event h.kept gives in
+      let found = subst (λ (o : Option Member). TracksStray p w (length h.steps) (state_of k) t g.source
+      r.tracks.deferred r.tracks.ties.world o) is
+      (tracks_stray p w (length h.steps) (state_of k) g.source r.tracks t event.value d.1.sleeps) in
+      record {
+        ahead = r.tracks.ahead;
+        behind = subst (λ (f : ℕ → List Kind). IsBehind p f g.source r.tracks.ahead) r.waits r.tracks.behind;
+        step = subst (λ (f : ℕ → List Kind). IsSourceStep p (take_deferred p t (f t) g.source) (act t (Stray c))
+            (after_stray t (Some c) (take_deferred p t (f t) g.source))) r.waits found.1;
+      }
+
+  -- and of one whose thread is killed
+  pub kill_due_so : (w : WellFormed p) (n : List EventStep) (k k' : ConcreteState) (t : ℕ) (event : Event)
+      (g : Progress)
+      → ComesTo p n k g → kill_of k t ≡ Ok (k', event) → length n + 1 < 2 ^ 32 → event.value ≡ 1
+      → IsKillDue p (state_of k') t (killed_last p (state_of k).word t) g
+  kill_due_so w n k k' t event g h gives short begins =
+      let r = tied w n k g h short in
+      let d = kills_so (code_of p) k k' t event h.kept gives in
+      let st = subst (λ b. IsKillStep b (state_of k) (record {
+        thread = t;
+        woken = [];
+        pauses = false;
+        doing = Killed (event.value == 1);
+      }) (state_of k')) (eq-eqb event.value 1 begins) d.1 in
+      let n = tracks_kill p w (length h.steps) (state_of k) g.source r.tracks t st.thread st.stands
+      (alive (is_dying st.thread) st.begins_so) in
+      let told = subst (λ b. TracksKill p w (length h.steps) (state_of k) t g.source r.tracks.deferred b
+      r.tracks.ties.world) (r.raises t) n in
+      let found = subst (λ (f : ℕ → List Kind). TracksKill p w (length h.steps) (state_of k) t g.source f
+      (g.raised t) r.tracks.ties.world) r.waits told in
+      subst (λ (x : State). IsKillDue p x t (killed_last p (state_of k).word t) g) (sym st.after) (record {
+        ahead = r.tracks.ahead;
+        behind = subst (λ (f : ℕ → List Kind). IsBehind p f g.source r.tracks.ahead) r.waits r.tracks.behind;
+        step = found.1;
+      })
+    where
+      alive : (b : Bool) → true ≡ not b → b ≡ false
+      alive true e = absurd cc
+      alive false e = refl
 
   pub opens_so : most_of p.version ≤ most_threads → ComesTo p [] (opening_concrete (code_of p)) (opening_progress p)
   opens_so fits =

@@ -1,7 +1,7 @@
 -- A recorder records what the source comes to, step by step.
 use Rattle.std.proofs.Common.{◌≡◌, ◌+◌, ◌<◌, ◌≤◌, ℕ, zero, suc, Bool, true, false, List, [], length, Option, Some, None}
 use Rattle.std.proofs.Common.{refl, ap, sym, ◌∙◌, arith, subst}
-use Rattle.std.specs.Prelude.{◌^◌, ◌++◌, MatchBool, map}
+use Rattle.std.specs.Prelude.{◌^◌, ◌++◌, ◌||◌, MatchBool, map}
 use Rattle.std.proofs.lemmas.List.{append-nil, append_assoc, length-map}
 use Rattle.words.specs.Updates.{put}
 use Rattle.words.specs.declared.version.ImageVersion.{ImageVersion}
@@ -19,7 +19,7 @@ use Rattle.proof_commutation.specs.Placed.{actions_of, actions_up_to}
 use Rattle.proof_thread.specs.Deferrals.{deferred_by_mark, deferred_by_step, mark_of}
 use Rattle.machine.specs.FrontRuns.{EventStep, label_of, event_label}
 use Rattle.machine.specs.Runs.{Step}
-use Rattle.machine.specs.States.{ConcreteState, state_of as machine_state}
+use Rattle.machine.specs.States.{State, ConcreteState, state_of as machine_state}
 use Rattle.meaning.specs.Labels.{Kind, Action}
 use Rattle.meaning.specs.States.{SourceState}
 use Rattle.program.specs.Names.{said_by}
@@ -28,6 +28,8 @@ use Rattle.program.specs.declared.kinds.Member.{Member}
 use Rattle.program.specs.WellFormed.{WellFormed}
 use Rattle.protocol.proofs.Sleeps.{at_put, put_same, put_other}
 use Rattle.proof_simulation.specs.Explaining.{explanation, IsDue, IsReached}
+use Rattle.proof_simulation.specs.Kills.{killed_last}
+use Rattle.proof_simulation.specs.Ordering.{raises_number}
 use Rattle.proof_simulation.specs.Progress.{Progress, progress_next, progress_caught_up, progress_step, progress_stray}
 use Rattle.proof_simulation.specs.Deferred.{deferred_then}
 use Rattle.proof_simulation.proofs.Explaining.{explained_so, reached}
@@ -37,16 +39,17 @@ use Rattle.source_states.specs.Actions.{action_of}
 use Rattle.source_states.specs.States.{state_of}
 use Rattle.proof_simulation.specs.Strays.{stray_condition}
 use Rattle.log_simulation.specs.declared.deferred.Deferred.{Deferred}
-use Rattle.log_simulation.specs.Entries.{is_visible, progress_locally, progress_outside, progress_shared, deferred_at}
+use Rattle.log_simulation.specs.Entries.{is_visible, progress_locally, progress_strayed, progress_shared, deferred_at}
 use Rattle.log_simulation.specs.Entries.{deferred_locally}
 use Rattle.log_simulation.specs.declared.follower.Follower.{Follower}
-use Rattle.log_simulation.specs.Going.{Follows, FollowsStray, IsStrayDue, Matches, CatchesUp}
+use Rattle.log_simulation.specs.Going.{Follows, FollowsKill, FollowsStray, IsKillDue, IsStrayDue, Matches, CatchesUp}
+use Rattle.log_simulation.specs.Going.{progress_left}
 use Rattle.log_simulation.specs.Requests.{visible_step}
 use Rattle.log_simulation.proofs.Visible.{visible_so}
 use Rattle.log_simulation.specs.declared.recorder.Recorder.{Recorder}
 use Rattle.log_simulation.specs.Explanations.{IsExplanationOf}
 use Rattle.log_simulation.specs.Recording.{Counts, IsAlong, IsOf, Records, RecordsUnlessLong, progress_rest}
-use Rattle.log_simulation.specs.Deferred.{deferral_of, deferred_by_next_step, CountsDeferred}
+use Rattle.log_simulation.specs.Deferred.{deferral_of, deferred_by_next_step, CountsDeferred, Raises}
 use Rattle.log_simulation.specs.declared.deferral.Deferral.{Deferral}
 use Rattle.log_simulation.proofs.Records.{deferral_so, when_false, when_true, few_deferred, then_few}
 
@@ -75,84 +78,104 @@ tells_on more n g g' r r' last counts tells same on = by_whole last.is_whole ref
 -- the same program's
 pub still_of : (p : Program) (r r' : Recorder) → IsOf p r → r'.follower.checked ≡ r.follower.checked
     → r'.follower.layout ≡ r.follower.layout → r'.marks ≡ r.marks → length r'.deferred.items ≡ length r.deferred.items
-    → IsOf p r'
-still_of p r r' of checked layout marks places = record {
+    → length r'.raised.items ≡ length r.raised.items → IsOf p r'
+still_of p r r' of checked layout marks places bits = record {
   program = ap (λ x. said_by x.now) checked ∙ of.program;
   layout = layout ∙ of.layout;
   marks = ap (λ x. x.items) marks ∙ of.marks;
   places = places ∙ of.places;
+  bits = bits ∙ of.bits;
 }
 
 -- what is heard of a step
-pub is_visible_so : (p : Program) (f : Follower) (image : Image) (t : ℕ) (here : Thread) (step : NextStep) (v : ℕ)
-    (b : Bool) (version : ImageVersion) → version ≡ image.version → said_by f.checked.now ≡ p → f.layout ≡ layout_of p
-    → image ≡ code_of p → step ≡ next_step_of (look image t here)
+pub is_visible_so : (p : Program) (f : Follower) (image : Image) (word : ℕ → ℕ) (t : ℕ) (here : Thread)
+    (step : NextStep) (v : ℕ) (b : Bool) (version : ImageVersion) → version ≡ image.version
+    → said_by f.checked.now ≡ p → f.layout ≡ layout_of p → image ≡ code_of p
+    → step ≡ next_step_of (look (code_of p) t here)
     → (version ≡ (said_by f.checked.now).version → f.layout ≡ layout_of (said_by f.checked.now)
-    → b ≡ visible_step (said_by f.checked.now) step v)
-    → is_visible p (look (code_of p) t here) v ≡ b
-is_visible_so p f image t here step v b version same program layout own is is_visible =
-    let told : b ≡ visible_step p step v =
-    subst (λ (q : Program). version ≡ q.version → f.layout ≡ layout_of q → b ≡ visible_step q step v) program
+    → b ≡ visible_step (said_by f.checked.now) word t step v)
+    → b ≡ is_visible p word t (look (code_of p) t here) v
+is_visible_so p f image word t here step v b version same program layout own is is_visible =
+    let told : b ≡ visible_step p word t step v =
+    subst (λ (q : Program). version ≡ q.version → f.layout ≡ layout_of q → b ≡ visible_step q word t step v) program
     is_visible (same ∙ ap (λ (i : Image). i.version) own) layout in
-    let there : step ≡ next_step_of (look (code_of p) t here) =
-    is ∙ ap (λ i. next_step_of (look i t here)) own in
-    sym (told ∙ ap (λ s. visible_step p s v) there ∙ visible_so p (look (code_of p) t here) v)
+    told ∙ ap (λ s. visible_step p word t s v) is ∙ visible_so p word t (look (code_of p) t here) v
+
+-- the monitor that is found to come last
+pub last_so : (p : Program) (f : Follower) (word : ℕ → ℕ) (t : ℕ) (o : Option ℕ) → said_by f.checked.now ≡ p
+    → f.layout ≡ layout_of p
+    → (f.layout ≡ layout_of (said_by f.checked.now) → o ≡ killed_last (said_by f.checked.now) word t)
+    → o ≡ killed_last p word t
+last_so p f word t o program layout finds =
+    subst (λ (q : Program). f.layout ≡ layout_of q → o ≡ killed_last q word t) program finds layout
 
 bounded_put : (f : ℕ → List Kind) (t n m : ℕ) (ks : List Kind) → ((u : ℕ) → length (f u) ≤ n) → length ks ≤ n + m
     → (u : ℕ) → length (put f t ks u) ≤ n + m
 bounded_put f t n m ks few here u = at_put f t ks u (λ l. length l ≤ n + m) (λ e. here)
     (λ o. let less = few u in omega (arith, less))
 
+-- as many bits as before
+still_raised : (r last : Recorder) (f : ℕ → Bool) → last.raised ≡ r.raised → Raises r.raised.items f
+    → Raises last.raised.items f
+still_raised r last f same h = subst (λ (bits : List Bool). Raises bits f) (sym (ap (λ v. v.items) same)) h
+
 -- behind local steps
 pub locally : (p : Program) (n more t : ℕ) (origin : Thread) (g : Progress) (r last : Recorder)
-    → Records n g r → last.steps ≡ n + more → n + more < 2 ^ 32 → last.follower ≡ r.follower
+    → Records n g r → last.steps ≡ n + more → n + more < 2 ^ 32 → last.follower ≡ r.follower → last.raised ≡ r.raised
     → CountsDeferred last.deferred.items (put g.deferred t (deferred_locally p t more origin (g.deferred t)))
     → Records (n + more) (progress_locally p t more origin g) last
-locally p n more t origin g r last h steps few follower waits = record {
+locally p n more t origin g r last h steps few follower raised waits = record {
   few = few;
   counted = steps;
   matches = subst (λ (f : Follower). Matches f (progress_locally p t more origin g)) (sym follower)
       (record { actions = h.matches.actions; source = h.matches.source });
   waits = waits;
+  raised = still_raised r last g.raised raised h.raised;
   bounded = bounded_put g.deferred t n more _ h.bounded
       (let long = few_deferred p t more origin (g.deferred t) in let less = h.bounded t in omega (arith, long, less));
 }
 
-module _ (p : Program) (n t v : ℕ) (here : Thread) (k : ConcreteState) (g : Progress) where
+module _ (p : Program) (n t v : ℕ) (here : Thread) (word : ℕ → ℕ) (k : ConcreteState) (g : Progress) where
   abbrev action : Option Kind
   action = deferred_by_step (mark_of (marks_of p) here) (look (code_of p) t here) v
 
+  abbrev raising : Bool
+  raising = raises_number (look (code_of p) t here)
+
   -- behind a step that others don't learn of
-  pub internally : (r last : Recorder) → Records n g r → is_visible p (look (code_of p) t here) v ≡ false
+  pub internally : (r last : Recorder) → Records n g r → is_visible p word t (look (code_of p) t here) v ≡ false
       → last.steps ≡ n + 1 → n + 1 < 2 ^ 32 → last.follower ≡ r.follower
       → CountsDeferred last.deferred.items
       (put g.deferred t (deferred_then (deferred_by_step (mark_of (marks_of p) here)
       (look (code_of p) t here) v) (g.deferred t)))
-      → Records (n + 1) (progress_shared p t here v k g) last
-  internally r last h none steps few follower waits =
-      subst (λ b. Records (n + 1) (progress_step p b action (machine_state k) t g) last) (sym none) (record {
+      → Raises last.raised.items (put g.raised t (raises_number (look (code_of p) t here) || g.raised t))
+      → Records (n + 1) (progress_shared p t here word v k g) last
+  internally r last h none steps few follower waits raised =
+      subst (λ b. Records (n + 1) (progress_step p b action raising (machine_state k) t g) last) (sym none) (record {
         few = few;
         counted = steps;
-        matches = subst (λ (f : Follower). Matches f (progress_step p false action (machine_state k) t g))
+        matches = subst (λ (f : Follower). Matches f (progress_step p false action raising (machine_state k) t g))
             (sym follower)
             (record { actions = h.matches.actions; source = h.matches.source });
         waits = waits;
+        raised = raised;
         bounded = bounded_put g.deferred t n 1 _ h.bounded
             (let long = then_few action (g.deferred t) in let less = h.bounded t in omega (arith, long, less));
       })
 
   -- behind one that they learn of
-  pub loudly : (last : Recorder) → is_visible p (look (code_of p) t here) v ≡ true
+  pub loudly : (last : Recorder) → is_visible p word t (look (code_of p) t here) v ≡ true
       → ((u : ℕ) → length (g.deferred u) ≤ n) → last.steps ≡ n + 1 → n + 1 < 2 ^ 32
       → Matches last.follower (progress_next p (machine_state k) t (progress_caught_up p t g))
-      → CountsDeferred last.deferred.items (put g.deferred t [])
-      → Records (n + 1) (progress_shared p t here v k g) last
-  loudly last is bounded steps few matches waits =
-      subst (λ b. Records (n + 1) (progress_step p b action (machine_state k) t g) last) (sym is) (record {
+      → CountsDeferred last.deferred.items (put g.deferred t []) → Raises last.raised.items (put g.raised t false)
+      → Records (n + 1) (progress_shared p t here word v k g) last
+  loudly last is bounded steps few matches waits raised =
+      subst (λ b. Records (n + 1) (progress_step p b action raising (machine_state k) t g) last) (sym is) (record {
         few = few;
         counted = steps;
-        matches = matches;
+        matches = record { actions = matches.actions; source = matches.source };
         waits = waits;
+        raised = raised;
         bounded = bounded_put g.deferred t n 1 [] bounded (omega arith);
       })
 
@@ -161,13 +184,14 @@ module _ (p : Program) (n t a : ℕ) (g : Progress) where
   -- that is no action
   pub unheard : (r last : Recorder) → Records n g r → stray_condition p a (g.source.table.waits t) ≡ None
       → last.steps ≡ n + 1 → n + 1 < 2 ^ 32 → last.follower ≡ r.follower → last.deferred ≡ r.deferred
-      → Records (n + 1) (progress_outside p t a g) last
-  unheard r last h none steps few follower deferred =
+      → last.raised ≡ r.raised → Records (n + 1) (progress_strayed p t a g) last
+  unheard r last h none steps few follower deferred raised =
       subst (λ (o : Option Member). Records (n + 1) (progress_stray p o t g) last) (sym none) (record {
         few = few;
         counted = steps;
         matches = subst (λ (f : Follower). Matches f g) (sym follower) h.matches;
         waits = subst (λ (w : List Deferred). CountsDeferred w g.deferred) (sym (ap (λ v. v.items) deferred)) h.waits;
+        raised = still_raised r last g.raised raised h.raised;
         bounded = λ u. let less = h.bounded u in omega (arith, less);
       })
 
@@ -175,13 +199,14 @@ module _ (p : Program) (n t a : ℕ) (g : Progress) where
   pub stops_waiting : (c : Member) (r last : Recorder) → Records n g r
       → stray_condition p a (g.source.table.waits t) ≡ Some c → last.steps ≡ n + 1 → n + 1 < 2 ^ 32
       → Matches last.follower (progress_stray p (Some c) t g) → CountsDeferred last.deferred.items (put g.deferred t [])
-      → Records (n + 1) (progress_outside p t a g) last
-  stops_waiting c r last h is steps few matches waits =
+      → last.raised ≡ r.raised → Records (n + 1) (progress_strayed p t a g) last
+  stops_waiting c r last h is steps few matches waits raised =
       subst (λ (o : Option Member). Records (n + 1) (progress_stray p o t g) last) (sym is) (record {
         few = few;
         counted = steps;
         matches = matches;
         waits = waits;
+        raised = still_raised r last g.raised raised h.raised;
         bounded = bounded_put g.deferred t n 1 [] h.bounded (omega arith);
       })
 
@@ -204,6 +229,42 @@ pub follows_stray_due : (p : Program) (f f' : Follower) (t count : ℕ) (c : Mem
 follows_stray_due p f f' t count c b g program matches due many follows =
     subst (λ q. IsStrayDue q t c g → (b ≡ true) × Matches f' (progress_stray q (Some c) t g)) program
     (λ d. follows g matches (sym many) d) due
+
+-- behind a kill
+pub killed_so : (p : Program) (n t : ℕ) (s : State) (m : Option ℕ) (g : Progress) (last : Recorder)
+    → ((u : ℕ) → length (g.deferred u) ≤ n) → last.steps ≡ n + 1 → n + 1 < 2 ^ 32
+    → Matches last.follower (progress_left p s t m g) → CountsDeferred last.deferred.items (put g.deferred t [])
+    → Raises last.raised.items (put g.raised t false) → Records (n + 1) (progress_left p s t m g) last
+killed_so p n t s m g last bounded steps few matches waits raised = record {
+  few = few;
+  counted = steps;
+  matches = matches;
+  waits = waits;
+  raised = raised;
+  bounded = bounded_put g.deferred t n 1 [] bounded (omega arith);
+}
+
+-- behind a step that is nothing
+pub nothing_so : (n : ℕ) (g : Progress) (r last : Recorder) → Records n g r → last.steps ≡ n + 1 → n + 1 < 2 ^ 32
+    → last.follower ≡ r.follower → last.deferred ≡ r.deferred → last.raised ≡ r.raised → Records (n + 1) g last
+nothing_so n g r last h steps few follower deferred raised = record {
+  few = few;
+  counted = steps;
+  matches = subst (λ (f : Follower). Matches f g) (sym follower) h.matches;
+  waits = subst (λ (w : List Deferred). CountsDeferred w g.deferred) (sym (ap (λ v. v.items) deferred)) h.waits;
+  raised = still_raised r last g.raised raised h.raised;
+  bounded = λ u. let less = h.bounded u in omega (arith, less);
+}
+
+-- the follower follows the kill of a process
+pub follows_kill_due : (p : Program) (f f' : Follower) (s : State) (t count : ℕ) (raised : Bool) (m : Option ℕ)
+    (b : Bool) (g : Progress)
+    → said_by f.checked.now ≡ p → f.layout ≡ layout_of p → Matches f g → IsKillDue p s t m g
+    → count ≡ length (g.deferred t) → raised ≡ g.raised t → FollowsKill f s t count raised m b f'
+    → (b ≡ true) × Matches f' (progress_left p s t m g)
+follows_kill_due p f f' s t count raised m b g program layout matches due many bit follows =
+    subst (λ q. IsKillDue q s t m g → f.layout ≡ layout_of q → (b ≡ true) × Matches f' (progress_left q s t m g))
+    program (λ d own. follows g own matches (sym many) (sym bit) d) due layout
 
 -- the follower follows what is due
 pub follows_due : (p : Program) (f f' : Follower) (k : ConcreteState) (t count : ℕ) (b : Bool) (g : Progress)
@@ -300,12 +361,11 @@ local_more p image t n o h f marks own same goes =
     ∙ ap (λ j. deferred_locally p t j o (f t)) one)
 
 -- what waits behind a step, as the code tells it
-pub deferral_told : (p : Program) (image : Image) (t v : ℕ) (here : Thread) (marks : List Mark) (mark : Option Mark)
-    (step : NextStep) (l : Deferral) → image ≡ code_of p → marks ≡ marks_of p → mark ≡ mark_of marks here
-    → step ≡ next_step_of (look image t here) → l ≡ deferral_of (deferred_by_next_step mark step v)
+pub deferral_told : (p : Program) (t v : ℕ) (here : Thread) (marks : List Mark) (mark : Option Mark)
+    (step : NextStep) (l : Deferral) → marks ≡ marks_of p → mark ≡ mark_of marks here
+    → step ≡ next_step_of (look (code_of p) t here) → l ≡ deferral_of (deferred_by_next_step mark step v)
     → l ≡ deferral_of (deferred_by_step (mark_of (marks_of p) here) (look (code_of p) t here) v)
-deferral_told p image t v here marks mark step l own same is there told =
+deferral_told p t v here marks mark step l same is there told =
     told ∙ ap (λ m. deferral_of (deferred_by_next_step m step v)) (is ∙ ap (λ (m : List Mark). mark_of m here) same)
-    ∙ ap (λ s. deferral_of (deferred_by_next_step (mark_of (marks_of p) here) s v))
-    (there ∙ ap (λ (i : Image). next_step_of (look i t here)) own)
+    ∙ ap (λ s. deferral_of (deferred_by_next_step (mark_of (marks_of p) here) s v)) there
     ∙ ap deferral_of (deferral_so (mark_of (marks_of p) here) (look (code_of p) t here) v)

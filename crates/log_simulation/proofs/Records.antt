@@ -15,7 +15,7 @@ use Rattle.program.specs.Trees.{Program}
 use Rattle.protocol.proofs.Sleeps.{put_same, put_other}
 use Rattle.proof_simulation.specs.Deferred.{deferred_then, is_failing, has_failed}
 use Rattle.log_simulation.specs.Entries.{deferred_at, deferred_locally}
-use Rattle.log_simulation.specs.Deferred.{deferral_of, deferred_by_next_step, Says, CountsDeferred}
+use Rattle.log_simulation.specs.Deferred.{deferral_of, deferred_by_next_step, Says, CountsDeferred, Raises}
 use Rattle.log_simulation.specs.declared.deferral.Deferral.TheVariants as deferral
 use Rattle.log_simulation.specs.declared.deferred.Deferred.{Deferred}
 
@@ -133,7 +133,7 @@ action_more x y ks (Some k) says is count failed = by_test (is_failing k) refl i
     by_test false so e = one_more x y ks k false says so count (failed ∙ sym (or_false x.has_failed))
 
 -- what stands in a list behind a change at one place
-get_set : (ws : List Deferred) (t u : ℕ) (x y : Deferred) → slice_get (slice_set ws t y) u ≡ Some x
+get_set : {A : Type 0} (ws : List A) (t u : ℕ) (x y : A) → slice_get (slice_set ws t y) u ≡ Some x
     → ((u ≡ t) × (x ≡ y)) ⊎ ((u ≡ t → ⊥) × (slice_get ws u ≡ Some x))
 get_set [] t u x y h = absurd cc
 get_set (w ∷ ws) zero zero x y h = inl (refl, cc)
@@ -174,12 +174,37 @@ none_deferred [] x waits says (suc t) y h = absurd cc
 none_deferred (w ∷ ws) x waits says zero y h = waits zero y h
 none_deferred (w ∷ ws) x waits says (suc t) y h = none_deferred ws x (λ u z i. waits (suc u) z i) says t y h
 
-pub there_so : (ws : List Deferred) (t : ℕ) (d : Deferred) → t < length ws → slice_get ws t ≡ Some (get_or ws t d)
+pub there_so : {A : Type 0} (ws : List A) (t : ℕ) (d : A) → t < length ws → slice_get ws t ≡ Some (get_or ws t d)
 there_so [] t d less = absurd (omega (arith, less))
 there_so (w ∷ ws) zero d less = refl
 there_so (w ∷ ws) (suc t) d less = there_so ws t d (omega (arith, less))
 
-pub past_none : (ws : List Deferred) (t : ℕ) → length ws ≤ t → slice_get ws t ≡ None
+pub past_none : {A : Type 0} (ws : List A) (t : ℕ) → length ws ≤ t → slice_get ws t ≡ None
 past_none [] t past = refl
 past_none (w ∷ ws) zero past = absurd (omega (arith, past))
 past_none (w ∷ ws) (suc t) past = past_none ws t (omega (arith, past))
+
+-- a bit more or less
+pub put_raised : (bits : List Bool) (f : ℕ → Bool) (t : ℕ) (b : Bool) → Raises bits f
+    → Raises (slice_set bits t b) (put f t b)
+put_raised bits f t b raised u x h = by_place (get_set bits t u x b h)
+  where
+    by_place : ((u ≡ t) × (x ≡ b)) ⊎ ((u ≡ t → ⊥) × (slice_get bits u ≡ Some x)) → x ≡ put f t b u
+    by_place (inl (e, s)) = s ∙ sym (ap (put f t b) e ∙ put_same f t b)
+    by_place (inr (o, s)) = raised u x s ∙ sym (put_other f t b u o)
+
+-- where there is no such place, nothing is said of it
+pub raised_past : (bits : List Bool) (f : ℕ → Bool) (t : ℕ) (b : Bool) → Raises bits f → slice_get bits t ≡ None
+    → Raises bits (put f t b)
+raised_past bits f t b raised none u x h =
+    raised u x h ∙ sym (put_other f t b u (λ e. nowhere (ap (slice_get bits) (sym e) ∙ h)))
+  where
+    nowhere : slice_get bits t ≡ Some x → ⊥
+    nowhere there = let both : Some x ≡ None = sym there ∙ none in absurd cc
+
+-- nobody has raised a number
+pub none_raised : (bits : List Bool) → Raises bits (λ t. false) → Raises (bits ++ false ∷ []) (λ t. false)
+none_raised [] raised zero y h = cc
+none_raised [] raised (suc t) y h = absurd cc
+none_raised (b ∷ bits) raised zero y h = raised zero y h
+none_raised (b ∷ bits) raised (suc t) y h = none_raised bits (λ u z i. raised (suc u) z i) t y h

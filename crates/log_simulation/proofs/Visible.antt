@@ -8,10 +8,10 @@ use Rattle.locals.specs.declared.request.Request.TheVariants as told
 use Rattle.locals.specs.Looks.{Request as RequestOf, AskLoad, Look, Goes, Asks, Leaves, Breaks, Rests}
 use Rattle.locals.specs.Requests.{next_step_of, request_step}
 use Rattle.program.specs.Trees.{Program}
-use Rattle.proof_simulation.specs.Ordering.{completes}
+use Rattle.proof_simulation.specs.Ordering.{completes, is_raise, raises_number}
 use Rattle.protocol.specs.Word.{owner}
 use Rattle.log_simulation.specs.Entries.{is_visible}
-use Rattle.log_simulation.specs.Requests.{visible_request, visible_step}
+use Rattle.log_simulation.specs.Requests.{raises, visible_request, visible_step}
 
 -- a compare-and-swap that found what it expected took a free lock, or an owned one
 pub taken : (p : Program) (request : Request) (a : Addr) (expected new value t : ℕ) → value ≡ expected
@@ -26,15 +26,28 @@ taken p request a expected new value t same is here =
     by_first true d h = refl
     by_first false d h = absurd cc
 
-by_request : (p : Program) (request : RequestOf) (v : ℕ) → visible_step p (request_step request) v
-    ≡ completes p request v
-by_request p (AskLoad a) v = refl
-by_request p request v = refl
+by_request : (p : Program) (word : ℕ → ℕ) (t : ℕ) (request : RequestOf) (v : ℕ)
+    → visible_step p word t (request_step request) v ≡ completes p request v
+by_request p word t (AskLoad a) v = refl
+by_request p word t request v = refl
 
 -- the step of a thread that looks so
-pub visible_so : (p : Program) (l : Look) (v : ℕ) → visible_step p (next_step_of l) v ≡ is_visible p l v
-visible_so p (Goes x) v = refl
-visible_so p (Asks request go) v = by_request p request v
-visible_so p (Leaves phase) v = refl
-visible_so p Breaks v = refl
-visible_so p Rests v = refl
+pub visible_so : (p : Program) (word : ℕ → ℕ) (t : ℕ) (l : Look) (v : ℕ)
+    → visible_step p word t (next_step_of l) v ≡ is_visible p word t l v
+visible_so p word t (Goes x) v = refl
+visible_so p word t (Asks request go) v = by_request p word t request v
+visible_so p word t (Leaves phase) v = refl
+visible_so p word t Breaks v = refl
+visible_so p word t Rests v = refl
+
+raises_request : (request : RequestOf) → raises (request_step request) ≡ is_raise request
+raises_request (AskLoad a) = refl
+raises_request request = refl
+
+-- whether it raises a number
+pub raises_so : (l : Look) → raises (next_step_of l) ≡ raises_number l
+raises_so (Goes x) = refl
+raises_so (Asks request go) = raises_request request
+raises_so (Leaves phase) = refl
+raises_so Breaks = refl
+raises_so Rests = refl

@@ -1,5 +1,5 @@
 -- What is deferred of each process, as a recorder counts it.
-use Rattle.std.specs.Prelude.{ℕ, ◌≡◌, ◌==◌, List, length, Option, Some, None, if◌then◌else◌}
+use Rattle.std.specs.Prelude.{ℕ, ◌≡◌, ◌==◌, Bool, List, length, Option, Some, None, if◌then◌else◌}
 use Rattle.std.specs.Prelude.{slice_get}
 use Rattle.words.specs.declared.outcome.Fault.TheVariants.{ProcessTableFull}
 use Rattle.locals.specs.declared.request.Request.TheVariants as told
@@ -36,3 +36,7 @@ pub record Says (x : Deferred) (ks : List Kind) : Type 0 where
 -- of each process
 abbrev pub CountsDeferred : List Deferred → (ℕ → List Kind) → Type 0
 CountsDeferred counted deferred = (t : ℕ) → (x : Deferred) → slice_get counted t ≡ Some x → Says x (deferred t)
+
+-- which threads have raised a number
+abbrev pub Raises : List Bool → (ℕ → Bool) → Type 0
+Raises bits raised = (t : ℕ) → (b : Bool) → slice_get bits t ≡ Some b → b ≡ raised t

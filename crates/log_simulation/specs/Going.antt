@@ -1,15 +1,18 @@
 -- How far a follower has come, and where it comes to.
-use Rattle.std.specs.Prelude.{ℕ, ◌≡◌, Bool, true, false, [], ◌∷◌, ◌++◌, length, map, Some}
+use Rattle.std.specs.Prelude.{ℕ, ◌≡◌, Bool, true, false, List, [], ◌∷◌, ◌++◌, length, map, Option, Some}
+use Rattle.words.specs.Updates.{put}
 use Rattle.machine.specs.States.{State}
 use Rattle.program.specs.Names.{said_by}
 use Rattle.program.specs.Trees.{Program}
 use Rattle.program.specs.declared.kinds.Member.{Member}
 use Rattle.lowering.specs.Layout.{layout_of}
-use Rattle.meaning.specs.Labels.{Action, Label, Stray, kind_of}
+use Rattle.meaning.specs.Labels.{Action, Label, Stray, Kill, kind_of}
 use Rattle.meaning.specs.Runs.{IsStep}
 use Rattle.meaning.specs.States.{SourceState}
 use Rattle.proof_commutation.specs.Deferring.{is_internal, IsBehind}
 use Rattle.proof_simulation.specs.Ordering.{Resumes, act}
+use Rattle.proof_simulation.specs.Kills.{after_kill, killed_resumed}
+use Rattle.proof_simulation.specs.Next.{offer_of_process}
 use Rattle.proof_simulation.specs.Progress.{Progress, progress_caught_up, progress_next, progress_stray}
 use Rattle.proof_simulation.specs.Strays.{after_stray}
 use Rattle.proof_simulation.specs.Tracking.{CanTake}
@@ -70,3 +73,38 @@ FollowsStray old t c count is_possible new =
     let p = said_by old.checked.now in
     (g : Progress) → Matches old g → length (g.deferred t) ≡ count → IsStrayDue p t c g
     → (is_possible ≡ true) × Matches new (progress_stray p (Some c) t g)
+
+-- whom process t has resumed that is killed, where its thread has raised a number or hasn't, behind what was deferred
+abbrev pub resumed_by : Program → State → (t : ℕ) → (raised : Bool) → Progress → List ℕ
+resumed_by p s t raised g =
+    let a = (progress_caught_up p t g).source in
+    killed_resumed p s a.table raised (offer_of_process p a.variable (a.process t))
+
+-- a kill of process t that led to this state of the machine, of which this monitor comes last: what is deferred of the
+-- process may be taken, and then it is killed
+pub record IsKillDue (p : Program) (s : State) (t : ℕ) (last : Option ℕ) (g : Progress) : Type 0 where
+  pub ahead : SourceState
+  pub behind : IsBehind p g.deferred g.source ahead
+  pub step :
+      let caught_up = (progress_caught_up p t g).source in
+      let resumed = resumed_by p s t (g.raised t) g in
+      IsStep p caught_up (act t (Kill resumed last)) (after_kill t resumed last caught_up)
+
+-- what was deferred of process t, and its kill
+abbrev pub progress_left : Program → State → (t : ℕ) → (last : Option ℕ) → Progress → Progress
+progress_left p s t last g =
+    let caught_up = progress_caught_up p t g in
+    let resumed = resumed_by p s t (g.raised t) g in
+    record caught_up {
+      actions = caught_up.actions ++ act t (Kill resumed last) ∷ [];
+      source = after_kill t resumed last caught_up.source;
+      raised = put g.raised t false;
+    }
+
+-- where so many actions of process t are deferred, and it may be killed behind them, it is
+abbrev pub FollowsKill : Follower → State → (t count : ℕ) → (raised : Bool) → (last : Option ℕ) → (is_possible : Bool)
+    → Follower → Type 0
+FollowsKill old s t count raised last is_possible new =
+    let p = said_by old.checked.now in
+    (g : Progress) → old.layout ≡ layout_of p → Matches old g → length (g.deferred t) ≡ count → g.raised t ≡ raised
+    → IsKillDue p s t last g → (is_possible ≡ true) × Matches new (progress_left p s t last g)

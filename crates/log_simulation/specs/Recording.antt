@@ -1,10 +1,11 @@
 -- The source behind a log, as far as it was walked.
-use Rattle.std.specs.Prelude.{ℕ, zero, suc, ◌≡◌, ◌+◌, ◌<◌, ◌≤◌, ◌^◌, ◌++◌, true, List, length, MatchBool}
+use Rattle.std.specs.Prelude.{ℕ, zero, suc, ◌≡◌, ◌+◌, ◌<◌, ◌≤◌, ◌^◌, ◌++◌, [], ◌∷◌, true, List, length, MatchBool}
 use Rattle.words.specs.Limits.{most_threads}
 use Rattle.machine.specs.FrontRuns.{EventStep}
 use Rattle.machine.specs.States.{ConcreteState}
 use Rattle.machine.specs.Views.{concrete}
 use Rattle.machine.specs.declared.event.Entry.{Entry}
+use Rattle.machine.specs.declared.event.Event.{Event}
 use Rattle.runner.specs.LogRuns.{steps_of}
 use Rattle.program.specs.Names.{said_by}
 use Rattle.program.specs.Trees.{Program}
@@ -15,7 +16,7 @@ use Rattle.proof_simulation.specs.Progress.{Progress, progress_caught_up}
 use Rattle.log_simulation.specs.Entries.{ComesTo, entry_steps}
 use Rattle.log_simulation.specs.Explanations.{LeadsTo, StopsAt}
 use Rattle.log_simulation.specs.Going.{Matches}
-use Rattle.log_simulation.specs.Deferred.{CountsDeferred}
+use Rattle.log_simulation.specs.Deferred.{CountsDeferred, Raises}
 use Rattle.log_simulation.specs.declared.recorder.Recorder.{Recorder}
 use Rattle.log_simulation.specs.declared.walking.Walked.{Walked}
 use Rattle.log_simulation.specs.declared.walking.Walked.TheVariants as walked
@@ -26,6 +27,7 @@ pub record IsOf (p : Program) (r : Recorder) : Type 0 where
   pub layout : r.follower.layout ≡ layout_of p
   pub marks : r.marks.items ≡ marks_of p
   pub places : length r.deferred.items ≡ most_threads + 1
+  pub bits : length r.raised.items ≡ most_threads + 1
 
 -- it has recorded this, behind so many steps
 pub record Records (steps : ℕ) (g : Progress) (r : Recorder) : Type 0 where
@@ -33,6 +35,7 @@ pub record Records (steps : ℕ) (g : Progress) (r : Recorder) : Type 0 where
   pub counted : r.steps ≡ steps
   pub matches : Matches r.follower g
   pub waits : CountsDeferred r.deferred.items g.deferred
+  pub raised : Raises r.raised.items g.raised
   pub bounded : (t : ℕ) → length (g.deferred t) ≤ steps
 
 -- or there are more steps than are counted
@@ -56,6 +59,12 @@ pub record IsAlong (p : Program) (events : List EventStep) (k : ConcreteState) (
 abbrev pub KeepsUp : Program → ConcreteState → Recorder → Entry → ConcreteState → Recorder → Type 0
 KeepsUp p k r e k' r' =
     WellFormed p → (events : List EventStep) → IsAlong p events k r → IsAlong p (events ++ entry_steps e) k' r'
+
+-- a step from outside, with this event, led from one state of the machine to another
+abbrev pub IsAlongStep : Program → ConcreteState → Recorder → ℕ → Event → ConcreteState → Recorder → Type 0
+IsAlongStep p k r t event k' r' =
+    WellFormed p → (events : List EventStep) → IsAlong p events k r
+    → IsAlong p (events ++ record { thread = t; event = event } ∷ []) k' r'
 
 -- all of a log that leads to this state of the machine was recorded
 pub record IsWhole (p : Program) (log : List Entry) (k : ConcreteState) (r : Recorder) : Type 0 where

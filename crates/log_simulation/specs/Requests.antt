@@ -20,9 +20,14 @@ visible_request p (told.Requeue from to wake moves expected) v = true
 visible_request p (told.Print number) v = true
 visible_request p request v = false
 
--- whether what a thread comes to is one, with this value in its event
-abbrev pub visible_step : Program → NextStep → ℕ → Bool
-visible_step p (next.Shared request) v = visible_request p request v
-visible_step p (next.Fork entry count has_room) v = not (v == 0)
-visible_step p (next.Exit phase) v = completes_exit phase
-visible_step p step v = false
+-- whether what thread t comes to is one, with these words before it and this value in its event
+abbrev pub visible_step : Program → (word : ℕ → ℕ) → (t : ℕ) → NextStep → ℕ → Bool
+visible_step p word t (next.Shared request) v = visible_request p request v
+visible_step p word t (next.Fork entry count has_room) v = not (v == 0)
+visible_step p word t (next.Exit phase) v = completes_exit word t phase
+visible_step p word t step v = false
+
+-- whether a thread that comes to this raises the number of a condition's word
+abbrev pub raises : NextStep → Bool
+raises (next.Shared (told.FetchAdd a v)) = true
+raises step = false

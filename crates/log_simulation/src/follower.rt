@@ -1,4 +1,5 @@
-ghost use Rattle.std.specs.Prelude.{◌≡◌, IfOk, Some, option_map, true, false, OnOk};
+ghost use Rattle.std.specs.Prelude.{[], ◌≡◌, ◌<◌, ◌≤◌, ◌^◌, IfOk, MatchBool, Some, None, option_map, true, false, OnOk, length};
+ghost use Rattle.words.specs.Limits.{most_threads};
 ghost use Rattle.machine.specs.States.{state_of as machine_state};
 ghost use Rattle.machine.specs.Views.{concrete};
 ghost use Rattle.program.specs.Names.{said_by};
@@ -12,13 +13,16 @@ ghost use Rattle.proof_simulation.specs.Ordering.{Resumes, act, awake_waiters};
 ghost use Rattle.proof_simulation.specs.Progress.{opening_progress};
 ghost use Rattle.proof_simulation.specs.Tracking.{CanTake};
 ghost use Rattle.log_simulation.specs.Choosing.{resumed_only};
-ghost use Rattle.log_simulation.specs.Going.{Follows, FollowsStray, Matches, CatchesUp, Takes, TakesInternal};
+ghost use Rattle.log_simulation.specs.Going.{Follows, FollowsKill, FollowsStray, Matches, CatchesUp, Takes};
+ghost use Rattle.log_simulation.specs.Going.{TakesInternal};
+ghost use Rattle.proof_simulation.specs.Kills.{killed_last, killed_resumed};
+ghost use Rattle.proof_simulation.specs.Next.{offer_of_process};
 ghost use Rattle.proof_simulation.specs.Strays.{stray_condition};
 ghost use Rattle.log_simulation.specs.Requests.{visible_step};
 ghost use Rattle.log_simulation.specs.Waiting.{is_awake};
 
 use crate::choosing::{is_condition, notified, visible_action};
-use crate::requests::is_visible;
+use crate::requests::{is_visible, linked_monitor, owns_pending, pending_word};
 use layout::Layout;
 use locals::NextStep;
 use machine::Machine;
@@ -66,15 +70,37 @@ impl<'a> Follower<'a> {
         self.actions
     }
 
-    /// Whether the step of a thread that comes to this, with this value in its event, is a visible action of its
-    /// process, in the program's image of this version.
-    pub fn is_visible(&self, version: ImageVersion, step: NextStep, value: u32) -> bool
-        ensures { version ≡ (said_by self.now.checked.now).version
-            → self.now.layout ≡ layout_of (said_by self.now.checked.now)
-            → result ≡ visible_step (said_by self.now.checked.now) step value }
+    /// Whether the step of thread `t` that comes to this, with this value in its event, is a visible action of its
+    /// process, in the program's image of this version. It is asked before the step.
+    pub fn is_visible(
+        &self,
+        version: ImageVersion,
+        machine: &Machine,
+        t: u32,
+        step: NextStep,
+        value: u32,
+    ) -> bool
+        ensures { let p = said_by self.now.checked.now in version ≡ p.version
+            → self.now.layout ≡ layout_of p → 0 < t → t ≤ most_threads
+            → length machine.now.words < 2 ^ 32
+            → result ≡ visible_step p (machine_state (concrete machine.now)).word t step value }
     {
         let monitors = self.checked.program().monitors.len() as u32;
-        is_visible(version, &self.layout, monitors, step, value)
+        is_visible(version, &self.layout, monitors, machine, t, step, value)
+    }
+
+    /// The monitor that process `t` abandons last if it is killed now: the one that its thread is just taking or giving
+    /// up, if the thread owns it.
+    pub fn killed_last(&self, machine: &Machine, t: u32) -> Option<u32>
+        ensures { let p = said_by self.now.checked.now in self.now.layout ≡ layout_of p
+            → 0 < t → t ≤ most_threads → length machine.now.words < 2 ^ 32
+            → result ≡ killed_last p (machine_state (concrete machine.now)).word t }
+    {
+        if !owns_pending(machine, t) {
+            return None;
+        }
+        let monitors = self.checked.program().monitors.len() as u32;
+        linked_monitor(&self.layout, monitors, pending_word(machine, t))
     }
 
     // Takes an action, if it is possible; else nothing is known of the state.
@@ -153,11 +179,12 @@ impl<'a> Follower<'a> {
 
     // Whom a process with this offer resumes, where it notifies or broadcasts a condition.
     fn resumed(&self, machine: &Machine, offer: &Offer) -> Result<Vec<u64>, AllocError>
-        ensures { IfOk result (λ v. self.now.layout ≡ layout_of (said_by self.now.checked.now)
+        ensures some { IfOk result (λ v. self.now.layout ≡ layout_of (said_by self.now.checked.now)
             → (c : MemberOf) → resumed_only offer.now ≡ Some c
             → v.items ≡ awake_waiters (said_by self.now.checked.now)
             (machine_state (concrete machine.now))
             (state_of self.now.state).table c) }
+        ensures none { IfOk result (λ v. resumed_only offer.now ≡ None → v.items ≡ []) }
     {
         match notified(offer) {
             Some(condition) => self.waiters(machine, condition),
@@ -197,6 +224,7 @@ impl<'a> Follower<'a> {
             None => Ok(false),
         }
     }
+
     /// The condition that process `t` waits on, if its word has this address.
     pub fn stray_condition(&self, t: u32, address: u32) -> Option<Member>
         ensures { self.now.layout ≡ layout_of (said_by self.now.checked.now)
@@ -229,5 +257,49 @@ impl<'a> Follower<'a> {
             return Ok(false);
         }
         self.take(t, ActionKind::Stray(condition))
+    }
+
+    // Whom process `t` has resumed that is killed now, if its thread has raised the number of a condition's word.
+    fn killed_resumed(
+        &self,
+        machine: &Machine,
+        t: u32,
+        raised: bool,
+    ) -> Result<Vec<u64>, AllocError>
+        ensures { let p = said_by self.now.checked.now in let a = state_of self.now.state in
+            IfOk result (λ v. self.now.layout ≡ layout_of p
+            → v.items ≡ killed_resumed p (machine_state (concrete machine.now)) a.table raised
+            (offer_of_process p a.variable (a.process t))) }
+    {
+        if !raised {
+            return Ok(Vec::new(self.alloc));
+        }
+        match self.state.offered(self.alloc, self.checked, u64::from(t))? {
+            Some((offer, _)) => self.resumed(machine, &offer),
+            None => Ok(Vec::new(self.alloc)),
+        }
+    }
+
+    /// Follows a kill of process `t` that led to this machine, where its thread has raised the number of a condition's
+    /// word or hasn't, and this monitor comes last: first come so many internal actions of it, and then the kill. False
+    /// where one isn't there, or that isn't possible.
+    pub fn follow_kill(
+        &mut self,
+        machine: &Machine,
+        t: u32,
+        count: u32,
+        raised: bool,
+        last: Option<u32>,
+    ) -> Result<bool, AllocError>
+        ensures follows { let s = machine_state (concrete machine.now) in
+            IfOk result (λ b. FollowsKill self.old s t count raised last b self.new) }
+        ensures kept { OnOk result ((self.new.checked ≡ self.old.checked)
+            × (self.new.layout ≡ self.old.layout)) }
+    {
+        if !self.catch_up(t, count)? {
+            return Ok(false);
+        }
+        let resumed = self.killed_resumed(machine, t, raised)?;
+        self.take(t, ActionKind::Kill(resumed, last))
     }
 }

@@ -1,5 +1,5 @@
-ghost use Rattle.std.specs.Prelude.{[], ◌≡◌, ◌+◌, ◌<◌, ◌≤◌, ◌^◌, true, IfOk, List, MatchBool, None, OnOk, Option, Some};
-ghost use Rattle.std.specs.Prelude.{length, map, ℕ};
+ghost use Rattle.std.specs.Prelude.{[], ◌≡◌, ◌+◌, ◌<◌, ◌≤◌, ◌^◌, ◌||◌, Bool, true, false, IfOk, List, MatchBool, None};
+ghost use Rattle.std.specs.Prelude.{OnOk, Option, Some, length, map, ℕ};
 ghost use Rattle.words.specs.Limits.{most_threads};
 ghost use Rattle.words.specs.Updates.{put};
 ghost use Rattle.lowering.specs.Layout.{layout_of};
@@ -7,13 +7,16 @@ ghost use Rattle.lowering.specs.Pieces.{code_of, marks_of};
 ghost use Rattle.proof_commutation.specs.Deferring.{IsBehind};
 ghost use Rattle.proof_thread.specs.Deferrals.{deferred_by_mark, mark_of};
 ghost use Rattle.locals.specs.Looks.{look};
+ghost use Rattle.locals.specs.Requests.{next_step_of};
 ghost use Rattle.locals.specs.Steps.{local_after, local_step};
+ghost use Rattle.locals.specs.Threads.{Thread};
 ghost use Rattle.machine.specs.FrontRuns.{EventStep};
 ghost use Rattle.machine.specs.States.{opening_concrete, state_of as machine_state};
 ghost use Rattle.machine.specs.Views.{concrete};
 ghost use Rattle.meaning.specs.Labels.{Kind};
 ghost use Rattle.meaning.specs.States.{SourceState};
 ghost use Rattle.proof_simulation.specs.Explaining.{IsDue};
+ghost use Rattle.proof_simulation.specs.Kills.{killed_last};
 ghost use Rattle.proof_simulation.specs.Progress.{Progress};
 ghost use Rattle.proof_simulation.specs.Deferred.{deferred_then};
 ghost use Rattle.proof_simulation.specs.Strays.{stray_condition};
@@ -22,20 +25,21 @@ ghost use Rattle.program.specs.Trees.{Program};
 ghost use Rattle.program.specs.declared.kinds.Member.{Member};
 ghost use Rattle.program.specs.WellFormed.{WellFormed};
 ghost use Rattle.source_states.specs.Actions.{action_of};
-ghost use Rattle.log_simulation.specs.Entries.{is_visible, progress_locally, progress_outside, progress_shared};
-ghost use Rattle.log_simulation.specs.Going.{IsStrayDue, Matches};
+ghost use Rattle.log_simulation.specs.Entries.{is_visible, progress_locally, progress_shared, progress_strayed};
+ghost use Rattle.log_simulation.specs.Going.{IsKillDue, IsStrayDue, Matches, progress_left};
 ghost use Rattle.log_simulation.specs.Explanations.{IsExplanationOf};
 ghost use Rattle.log_simulation.specs.Recording.{Counts, IsAlong, IsOf, RecordsUnlessLong, progress_rest};
-ghost use Rattle.log_simulation.specs.Deferred.{CountsDeferred, deferral_of};
+ghost use Rattle.log_simulation.specs.Deferred.{CountsDeferred, Raises, deferral_of};
 
 use crate::deferral::{Deferral, at_mark, at_step, mark_at};
 use crate::deferred::Deferred;
 use crate::follower::Follower;
+use crate::requests::is_raise;
 use isa::Image;
 use layout::Layout;
-use locals::Local;
+use locals::{Local, NextStep};
 use lowering::Mark;
-use machine::{Entry, Event, Machine};
+use machine::{Entry, Machine};
 use program::Checked;
 use source_states::Action;
 use std::alloc::{AllocError, Global};
@@ -48,6 +52,9 @@ pub struct Recorder<'a> {
     follower: Follower<'a>,
     // What is deferred of each process until its next visible action, by its number.
     deferred: Vec<Deferred>,
+    // Of each thread, by its number, whether it has raised the number of a condition's word, and not yet woken who
+    // slept on it.
+    raised: Vec<bool>,
     // How many steps the log has so far, while they are counted.
     steps: u32,
     is_whole: bool,
@@ -63,6 +70,17 @@ fn nothing(alloc: Global) -> Result<Vec<Deferred>, AllocError>
         deferred.push(Deferred::none())?;
     }
     Ok(deferred)
+}
+
+// No thread has raised a number.
+fn none_raised(alloc: Global) -> Result<Vec<bool>, AllocError>
+    ensures { IfOk result (λ v. (length v.items ≡ most_threads + 1) × Raises v.items (λ t. false)) }
+{
+    let mut raised = Vec::new(alloc);
+    for _ in 0..=MOST_THREADS {
+        raised.push(false)?;
+    }
+    Ok(raised)
 }
 
 impl<'a> Recorder<'a> {
@@ -82,6 +100,7 @@ impl<'a> Recorder<'a> {
             marks,
             follower: Follower::new(alloc, checked, layout)?,
             deferred: nothing(alloc)?,
+            raised: none_raised(alloc)?,
             steps: 0,
             is_whole: true,
         })
@@ -137,6 +156,35 @@ impl<'a> Recorder<'a> {
         }
     }
 
+    // A thread raises the number of a condition's word, if it does.
+    fn raise(&mut self, t: u32, raises: bool)
+        ensures kept { self.new ≡ record self.old { raised = self.new.raised } }
+        ensures bits { length self.new.raised.items ≡ length self.old.raised.items }
+        ensures raises { (f : ℕ → Bool) → Raises self.old.raised.items f
+            → Raises self.new.raised.items (put f t (raises || f t)) }
+    {
+        if !raises {
+            return;
+        }
+        if let Some(raised) = self.raised.get_mut(t as usize) {
+            *raised = true;
+        }
+    }
+
+    // A thread has woken who slept on the word whose number it has raised, or dies; whether it had raised one.
+    fn lower(&mut self, t: u32) -> bool
+        ensures kept { self.new ≡ record self.old { raised = self.new.raised } }
+        ensures bits { length self.new.raised.items ≡ length self.old.raised.items }
+        ensures raises { (f : ℕ → Bool) → Raises self.old.raised.items f
+            → t < length self.old.raised.items
+            → (result ≡ f t) × Raises self.new.raised.items (put f t false) }
+    {
+        match self.raised.get_mut(t as usize) {
+            Some(raised) => std::mem::replace(raised, false),
+            None => false,
+        }
+    }
+
     // Takes a local step of a thread.
     fn take_step(&mut self, image: &Image, here: &mut Local, t: u32) -> bool
         ensures step { MatchBool result (local_step image.now t here.old ≡ Some here.new)
@@ -174,35 +222,60 @@ impl<'a> Recorder<'a> {
         true
     }
 
-    /// Takes in the shared step of thread `t`, which stood here before it, and which led to this machine.
+    /// Whether the shared step of thread `t` that comes to this, with this value in its event, is a visible action of
+    /// its process. It is asked before the step.
+    pub fn is_visible(
+        &self,
+        image: &Image,
+        machine: &Machine,
+        t: u32,
+        step: NextStep,
+        value: u32,
+    ) -> bool
+        ensures { (p : Program) (here : Thread) → image.now ≡ code_of p → IsOf p self.now
+            → 0 < t → t ≤ most_threads → length machine.now.words < 2 ^ 32
+            → step ≡ next_step_of (look (code_of p) t here)
+            → result ≡ is_visible p (machine_state (concrete machine.now)).word t
+            (look (code_of p) t here) value }
+    {
+        self.follower
+            .is_visible(image.version(), machine, t, step, value)
+    }
+
+    /// Takes in the shared step of thread `t`, which stood here before it, came to this with this value in its event,
+    /// was visible or not, and led to this machine.
     pub fn take_shared_step(
         &mut self,
         machine: &Machine,
         t: u32,
         here: &Local,
-        image: &Image,
-        event: Event,
+        step: NextStep,
+        value: u32,
+        visible: bool,
     ) -> Result<(), AllocError>
-        ensures { OnOk result ((p : Program) (n : ℕ) (g : Progress) → image.now ≡ code_of p
+        ensures { OnOk result ((p : Program) (n : ℕ) (word : ℕ → ℕ) (g : Progress)
+            → step ≡ next_step_of (look (code_of p) t here.now)
+            → visible ≡ is_visible p word t (look (code_of p) t here.now) value
             → IsOf p self.old
             → t ≤ most_threads → RecordsUnlessLong n g self.old
-            → (is_visible p (look (code_of p) t here.now) event.value ≡ true → n + 1 < 2 ^ 32
+            → (is_visible p word t (look (code_of p) t here.now) value ≡ true → n + 1 < 2 ^ 32
             → IsDue p (machine_state (concrete machine.now)) t g)
             → IsOf p self.new
-            × RecordsUnlessLong (n
-            + 1) (progress_shared p t here.now event.value (concrete machine.now) g) self.new) }
+            × RecordsUnlessLong (n + 1)
+            (progress_shared p t here.now word value (concrete machine.now) g) self.new) }
     {
         self.count(1);
         if !self.is_whole {
             return Ok(());
         }
-        let step = here.next_step(image, t);
-        if self.follower.is_visible(image.version(), step, event.value) {
+        if visible {
+            self.lower(t);
             let count = self.take_deferred(t);
             self.is_whole = self.follower.follow(machine, t, count)?;
         } else {
+            self.raise(t, is_raise(step));
             let mark = mark_at(self.marks.as_slice(), here);
-            self.delay(t, at_step(mark, step, event.value));
+            self.delay(t, at_step(mark, step, value));
         }
         Ok(())
     }
@@ -214,7 +287,7 @@ impl<'a> Recorder<'a> {
             → t ≤ most_threads → RecordsUnlessLong n g self.old
             → (n + 1 < 2 ^ 32 → (c : Member)
             → stray_condition p address (g.source.table.waits t) ≡ Some c → IsStrayDue p t c g)
-            → IsOf p self.new × RecordsUnlessLong (n + 1) (progress_outside p t address g) self.new) }
+            → IsOf p self.new × RecordsUnlessLong (n + 1) (progress_strayed p t address g) self.new) }
     {
         self.count(1);
         if !self.is_whole {
@@ -226,6 +299,47 @@ impl<'a> Recorder<'a> {
         let count = self.take_deferred(t);
         self.is_whole = self.follower.follow_stray(t, condition, count)?;
         Ok(())
+    }
+
+    /// The monitor that process `t` abandons last if it is killed now.
+    pub fn killed_last(&self, machine: &Machine, t: u32) -> Option<u32>
+        ensures { (p : Program) → IsOf p self.now → 0 < t → t ≤ most_threads
+            → length machine.now.words < 2 ^ 32
+            → result ≡ killed_last p (machine_state (concrete machine.now)).word t }
+    {
+        self.follower.killed_last(machine, t)
+    }
+
+    /// Takes in a kill of thread `t` that led to this machine, and by which the thread begins to die; this monitor comes
+    /// last of those that its process abandons.
+    pub fn take_kill(
+        &mut self,
+        machine: &Machine,
+        t: u32,
+        last: Option<u32>,
+    ) -> Result<(), AllocError>
+        ensures { let s = machine_state (concrete machine.now) in
+            OnOk result ((p : Program) (n : ℕ) (g : Progress) → IsOf p self.old
+            → t ≤ most_threads → RecordsUnlessLong n g self.old
+            → (n + 1 < 2 ^ 32 → IsKillDue p s t last g)
+            → IsOf p self.new × RecordsUnlessLong (n + 1) (progress_left p s t last g) self.new) }
+    {
+        self.count(1);
+        if !self.is_whole {
+            return Ok(());
+        }
+        let raised = self.lower(t);
+        let count = self.take_deferred(t);
+        self.is_whole = self.follower.follow_kill(machine, t, count, raised, last)?;
+        Ok(())
+    }
+
+    /// Takes in a step that is nothing in the source.
+    pub fn take_nothing(&mut self)
+        ensures { (p : Program) (n : ℕ) (g : Progress) → IsOf p self.old → RecordsUnlessLong n g self.old
+            → IsOf p self.new × RecordsUnlessLong (n + 1) g self.new }
+    {
+        self.count(1);
     }
 
     // The deferred actions are taken, by rising process. Each is possible, in a legal log of fewer than 2^32 steps.

@@ -1,14 +1,20 @@
-ghost use Rattle.std.specs.Prelude.{◌≡◌, ◌&&◌, length, not};
+ghost use Rattle.std.specs.Prelude.{◌≡◌, ◌==◌, ◌&&◌, ◌+◌, ◌<◌, ◌≤◌, ◌^◌, length, not};
 ghost use Rattle.lowering.specs.Layout.{layout_of};
-ghost use Rattle.words.specs.Process.{number_of};
+ghost use Rattle.words.specs.Limits.{most_threads};
+ghost use Rattle.words.specs.Process.{number_of, process_word};
+ghost use Rattle.machine.specs.States.{state_of};
+ghost use Rattle.machine.specs.Views.{concrete};
 ghost use Rattle.program.specs.Trees.{Program};
-ghost use Rattle.proof_simulation.specs.Ordering.{is_link_word, is_lock_word, is_process_word};
-ghost use Rattle.log_simulation.specs.Requests.{visible_request, visible_step};
+ghost use Rattle.proof_simulation.specs.Kills.{linked_monitor};
+ghost use Rattle.proof_simulation.specs.Ordering.{completes_exit, is_link_word, is_lock_word, is_process_word};
+ghost use Rattle.protocol.specs.Word.{owner};
+ghost use Rattle.log_simulation.specs.Requests.{raises, visible_request, visible_step};
 
 use layout::Layout;
 use locals::{NextStep, Request};
+use machine::Machine;
 use robustexit::ExitPhase;
-use words::{Addr, ImageVersion, ProcessWord, tid};
+use words::{Addr, ImageVersion, MOST_THREADS, ProcessWord, block, tid};
 
 // Whether the address is that of this word of some process, in an image of this version.
 fn is_of_process(version: ImageVersion, address: Addr, word: ProcessWord) -> bool
@@ -77,22 +83,93 @@ fn completes(
     }
 }
 
-/// Whether the step of a thread that comes to this, with this value in its event, is a visible action of its process,
-/// in a program's image of this version.
+// The word at an address, 0 where the memory has none.
+fn word_at(machine: &Machine, address: Addr) -> u32
+    ensures { result ≡ (state_of (concrete machine.now)).word address.0 }
+{
+    if address.0 as usize >= machine.memory_len() {
+        return 0;
+    }
+    machine.word(address)
+}
+
+/// The pending word of thread `t`.
+pub fn pending_word(machine: &Machine, t: u32) -> u32
+    ensures { 0 < t → t ≤ most_threads
+        → result ≡ (state_of (concrete machine.now)).word (process_word t 1) }
+{
+    if t == 0 || t > MOST_THREADS {
+        return 0;
+    }
+    word_at(machine, block(t, ProcessWord::Pending))
+}
+
+/// Whether thread `t` owns the lock of its pending entry, if it has one.
+pub fn owns_pending(machine: &Machine, t: u32) -> bool
+    ensures { let word = (state_of (concrete machine.now)).word in 0 < t → t ≤ most_threads
+        → length machine.now.words < 2 ^ 32
+        → result ≡ (not (word (process_word t 1) == 0)
+        && (owner (word (word (process_word t 1) + 1)) == t)) }
+{
+    let pending = pending_word(machine, t);
+    if pending == 0 || pending == u32::MAX {
+        return false;
+    }
+    tid(word_at(machine, Addr(pending + 1))) == t
+}
+
+// Whether the next step of the exit of thread `t` is a visible action.
+fn abandons(machine: &Machine, t: u32, phase: ExitPhase) -> bool
+    ensures { 0 < t → t ≤ most_threads → length machine.now.words < 2 ^ 32
+        → result ≡ completes_exit (state_of (concrete machine.now)).word t phase }
+{
+    match phase {
+        ExitPhase::Entry { entry, .. } => pending_word(machine, t) != entry.0,
+        ExitPhase::Pending => owns_pending(machine, t),
+        ExitPhase::ClearId => true,
+        ExitPhase::LastWake | ExitPhase::Ended => false,
+    }
+}
+
+/// Whether the step of thread `t` that comes to this, with this value in its event, is a visible action of its process,
+/// in a program's image of this version. It is asked before the step.
 pub fn is_visible(
     version: ImageVersion,
     layout: &Layout,
     monitors: u32,
+    machine: &Machine,
+    t: u32,
     step: NextStep,
     value: u32,
 ) -> bool
     ensures { (p : Program) → version ≡ p.version → layout.now ≡ layout_of p → monitors ≡ length p.monitors
-        → result ≡ visible_step p step value }
+        → 0 < t → t ≤ most_threads → length machine.now.words < 2 ^ 32
+        → result ≡ visible_step p (state_of (concrete machine.now)).word t step value }
 {
     match step {
         NextStep::Shared(request) => completes(version, layout, monitors, request, value),
         NextStep::Fork { .. } => value != 0,
-        NextStep::Exit(ExitPhase::Entry { .. } | ExitPhase::ClearId) => true,
+        NextStep::Exit(phase) => abandons(machine, t, phase),
         _ => false,
     }
+}
+
+/// Whether a thread that comes to this raises the number of a condition's word.
+pub fn is_raise(step: NextStep) -> bool
+    ensures { result ≡ raises step }
+{
+    matches!(step, NextStep::Shared(Request::FetchAdd(_, _)))
+}
+
+/// The monitor whose link word has this address, if one has.
+pub fn linked_monitor(layout: &Layout, monitors: u32, address: u32) -> Option<u32>
+    ensures { (p : Program) → layout.now ≡ layout_of p → result ≡ linked_monitor p address monitors }
+{
+    let mut found = None;
+    for monitor in 0..monitors {
+        if layout.link(monitor) == address {
+            found = Some(monitor);
+        }
+    }
+    found
 }

@@ -1,14 +1,14 @@
-ghost use Rattle.std.specs.Prelude.{[], ◌≡◌, ◌<◌, ◌≤◌, false, true, IfOk, MatchBool, Ok, OnOk, Some, length};
+ghost use Rattle.std.specs.Prelude.{[], ◌≡◌, ◌<◌, ◌≤◌, ◌⊎◌, false, true, IfOk, MatchBool, Ok, OnOk, Some, length};
 ghost use Rattle.lowering.specs.Pieces.{code_of};
 ghost use Rattle.locals.specs.Threads.{Thread};
 ghost use Rattle.machine.specs.States.{ConcreteState, opening_concrete, thread_of};
-ghost use Rattle.machine.specs.ConcreteOutside.{stray_of};
+ghost use Rattle.machine.specs.ConcreteOutside.{kill_of, stray_of};
 ghost use Rattle.machine.specs.ConcreteSteps.{can_move};
 ghost use Rattle.machine.specs.Views.{concrete};
 ghost use Rattle.program.specs.Trees.{Program};
 ghost use Rattle.program.specs.WellFormed.{WellFormed};
 ghost use Rattle.runner.specs.Logs.{Ends, Enters, EntersOutside, EntersOwn, is_outside};
-ghost use Rattle.log_simulation.specs.Recording.{IsAlong, KeepsUp, WalksTo};
+ghost use Rattle.log_simulation.specs.Recording.{IsAlong, IsAlongStep, KeepsUp, WalksTo};
 
 use crate::recorder::Recorder;
 use isa::Image;
@@ -78,15 +78,17 @@ fn go_own(
     let Some(event) = entry.event else {
         return Ok(true);
     };
+    let step = here.next_step(image, t);
+    let visible = recorder.is_visible(image, machine, t, step, event.value);
     if !take_shared(machine, t, event) {
         return Ok(false);
     }
-    recorder.take_shared_step(machine, t, here, image, event)?;
+    recorder.take_shared_step(machine, t, here, step, event.value, visible)?;
     Ok(true)
 }
 
 // Wakes thread `t` from outside; false where that isn't this event.
-fn take_outside(machine: &mut Machine, t: u32, event: Event) -> bool
+fn take_stray(machine: &mut Machine, t: u32, event: Event) -> bool
     ensures gives { MatchBool result
         (stray_of (concrete machine.old) t ≡ Ok (concrete machine.new, event))
         ((k : ConcreteState) → stray_of (concrete machine.old) t ≡ Ok (k, event) → ⊥) }
@@ -98,17 +100,79 @@ fn take_outside(machine: &mut Machine, t: u32, event: Event) -> bool
     }
 }
 
-// Whether an entry is a wake from outside.
+// Kills thread `t`; false where that isn't this event.
+fn take_kill(machine: &mut Machine, t: u32, event: Event) -> bool
+    ensures gives { MatchBool result
+        (kill_of (concrete machine.old) t ≡ Ok (concrete machine.new, event))
+        ((k : ConcreteState) → kill_of (concrete machine.old) t ≡ Ok (k, event) → ⊥) }
+    ensures program { machine.new.program ≡ machine.old.program }
+{
+    match machine.kill(t) {
+        Ok(kill) => kill == event,
+        Err(_) => false,
+    }
+}
+
+// Takes a wake of thread `t` from outside with this event, and records it; false where the machine can't take it.
+fn go_stray(
+    machine: &mut Machine,
+    recorder: &mut Recorder,
+    t: u32,
+    event: Event,
+) -> Result<bool, AllocError>
+    ensures gives { IfOk result (λ b. MatchBool b
+        (stray_of (concrete machine.old) t ≡ Ok (concrete machine.new, event))
+        ((k : ConcreteState) → stray_of (concrete machine.old) t ≡ Ok (k, event) → ⊥)) }
+    ensures told { IfOk result (λ b. b ≡ true → (p : Program)
+        → IsAlongStep p (concrete machine.old) recorder.old t event (concrete machine.new)
+        recorder.new) }
+    ensures program { OnOk result (machine.new.program ≡ machine.old.program) }
+{
+    if !take_stray(machine, t, event) {
+        return Ok(false);
+    }
+    recorder.take_stray(t, event.value)?;
+    Ok(true)
+}
+
+// Takes a kill of thread `t` with this event, and records it; false where the machine can't take it.
+fn go_kill(
+    machine: &mut Machine,
+    recorder: &mut Recorder,
+    t: u32,
+    event: Event,
+) -> Result<bool, AllocError>
+    ensures gives { IfOk result (λ b. MatchBool b
+        (kill_of (concrete machine.old) t ≡ Ok (concrete machine.new, event))
+        ((k : ConcreteState) → kill_of (concrete machine.old) t ≡ Ok (k, event) → ⊥)) }
+    ensures told { IfOk result (λ b. b ≡ true → (p : Program)
+        → IsAlongStep p (concrete machine.old) recorder.old t event (concrete machine.new)
+        recorder.new) }
+    ensures program { OnOk result (machine.new.program ≡ machine.old.program) }
+{
+    let last = recorder.killed_last(machine, t);
+    if !take_kill(machine, t, event) {
+        return Ok(false);
+    }
+    if event.value == 1 {
+        recorder.take_kill(machine, t, last)?;
+    } else {
+        recorder.take_nothing();
+    }
+    Ok(true)
+}
+
+// Whether an entry came from outside.
 fn is_outside(entry: &Entry) -> bool
     ensures { result ≡ is_outside entry.now.event }
 {
     match entry.event {
-        Some(event) => event.name == EventName::Stray,
+        Some(event) => matches!(event.name, EventName::Stray | EventName::Kill),
         None => false,
     }
 }
 
-// Takes an entry that is a wake from outside, and records it; false where the machine can't take it.
+// Takes an entry that came from outside, and records it; false where the machine can't take it.
 fn go_outside(
     machine: &mut Machine,
     recorder: &mut Recorder,
@@ -128,11 +192,10 @@ fn go_outside(
     if entry.local > 0 {
         return Ok(false);
     }
-    if !take_outside(machine, entry.thread, event) {
-        return Ok(false);
+    match event.name {
+        EventName::Kill => go_kill(machine, recorder, entry.thread, event),
+        _ => go_stray(machine, recorder, entry.thread, event),
     }
-    recorder.take_stray(entry.thread, event.value)?;
-    Ok(true)
 }
 
 // Takes an entry, and records it; false where the machine can't take it. What `here` holds is lost.

@@ -1,15 +1,17 @@
 -- The entry is taken where its local steps are all there, and its shared step is the one behind them.
-use Rattle.std.proofs.Common.{rules, refl, ap, ◌+◌, ◌∙◌, ◌≡◌, subst, length, None, Some}
+use Rattle.std.proofs.Common.{rules, refl, ap, ◌+◌, ◌<◌, ◌^◌, ◌∙◌, ◌≡◌, subst, sym, length, None, Some}
 use Rattle.lowering.specs.Pieces.{code_of}
 use Rattle.isa.specs.Programs.{Program as Image}
 use Rattle.locals.specs.Steps.{local_after}
 use Rattle.machine.specs.ConcreteSteps.{put_thread}
-use Rattle.machine.specs.States.{thread_of}
+use Rattle.machine.specs.States.{ConcreteState, state_of as machine_state, thread_of}
+use Rattle.locals.specs.Looks.{look}
+use Rattle.locals.specs.Requests.{next_step_of}
 use Rattle.machine.specs.Views.{concrete}
-use Rattle.log_simulation.specs.Entries.{progress_locally}
+use Rattle.log_simulation.specs.Entries.{is_visible, progress_locally}
 use Rattle.runner.proofs.Once.{still_made}
 use Rattle.log_simulation.proofs.Entering.{enters_locally, enters_shared, never_shared, put_there}
-use Rattle.log_simulation.proofs.Keeping.{due_at, keeps_locally, keeps_shared, within_most}
+use Rattle.log_simulation.proofs.Keeping.{due_at, few_words, keeps_locally, keeps_shared, some_thread, within_most}
 use Rattle.log_simulation.proofs.Records.{when_true, when_false}
 use Rattle.log_simulation.proofs.walking.go_own.Goals as goal
 
@@ -83,13 +85,20 @@ returns-clause-told c = λ _ p own w events along.
     c.args.entry.now.local o here c.in-Some.is c.if-not-copy_mover.ensures.0 stood refl goes there
     (ap (λ m. m.program) c.copy_local.ensures ∙ c.in_ok-make_room.ensures.same.0 ∙ c.requires.program ∙ own)
     (when_true _ _ c.take_shared.result (c.take_shared.ensures.ends here stands) c.if-not-take_shared.false) in
-    let told = c.take_steps.ensures.told c.if-not-take_steps.false p (length events) along.source own along.of_program
+    let event = c.in-Some.event in
+    let g = along.source in
+    let told = c.take_steps.ensures.told c.if-not-take_steps.false p (length events) g own along.of_program
     along.told in
-    let visible = c.in_ok-take_shared_step.ensures p (length events + c.args.entry.now.local)
-    (progress_locally p t c.args.entry.now.local o along.source) own told.0
-    (within_most p events k along.source t o along.comes stood) told.1
-    (λ is short. due_at p events k new c.args.entry.now o here enters stood goes along.source along.comes w
-    c.in-Some.event c.in-Some.is is short) in
+    let is = c.next_step-step.ensures ∙ ap (λ (i : Image). next_step_of (look i t here)) own in
+    let less = within_most p events k g t o along.comes stood in
+    let few = subst (λ n. n < 2 ^ 32) (sym (ap (λ (m : ConcreteState). length m.common.words) there))
+    (few_words p events k g w along.comes) in
+    let shown = c.is_visible-visible.ensures p here own told.0 (some_thread k t o stood) less few is
+    ∙ ap (λ (m : ConcreteState). is_visible p (machine_state m).word t (look (code_of p) t here) event.value) there in
+    let visible = c.in_ok-take_shared_step.ensures p (length events + c.args.entry.now.local) (machine_state k).word
+    (progress_locally p t c.args.entry.now.local o g) is shown told.0 less told.1
+    (λ is short. due_at p events k new c.args.entry.now o here enters stood goes g along.comes w
+    event c.in-Some.is is short) in
     keeps_shared p events k new c.args.entry.now o here enters stood goes c.args.recorder.now
     c.take_shared_step.new.self along
-    c.in-Some.event c.in-Some.is visible.0 visible.1
+    event c.in-Some.is visible.0 visible.1

@@ -1,12 +1,13 @@
 -- The log leads on from each entry that is taken, and stops at the first that can't be, or that is one too many.
-use Rattle.std.proofs.Common.{rules, ◌+◌, ◌∙◌, sym, arith, take, get_or, None, subst}
+use Rattle.std.proofs.lemmas.List.{take_all}
+use Rattle.std.proofs.Common.{rules, ◌+◌, ◌≡◌, ◌∙◌, sym, arith, take, get_or, None, subst}
 use Rattle.isa.specs.Programs.{Program as Image}
 use Rattle.machine.specs.declared.event.Entry.{Entry}
 use Rattle.machine.specs.Views.{concrete}
 use Rattle.runner.specs.LogRuns.{steps_of}
 use Rattle.runner.specs.Logs.{Enters}
 use Rattle.lowering.specs.Pieces.{code_of}
-use Rattle.log_simulation.specs.Recording.{IsAlong}
+use Rattle.log_simulation.specs.Recording.{IsAlong, IsWhole}
 use Rattle.log_simulation.proofs.Records.{when_false, when_true}
 use Rattle.log_simulation.proofs.Stopping.{leads_next, steps_next, stops_illegal, stops_long, whole_first}
 use Rattle.log_simulation.proofs.walking.walk.Goals as goal
@@ -73,3 +74,13 @@ loop-entry-preserved c =
             whole = sym c.is_whole.ensures ∙ c.if-not-is_whole.false;
           };
     }
+
+pub returns : goal.returns
+returns c = λ p w own begins.
+    let l = c.loop-entry in
+    let log = c.args.log.now in
+    let past = c.loop-entry-test.false in
+    let all : take l.entry-index log ≡ log = take_all l.entry-index log (omega (arith, past)) in (
+      subst (λ es. IsWhole p es (concrete l.machine) l.recorder) all (l.invariant.recorded p w own begins),
+      l.invariant.program ∙ own,
+    )

@@ -16,4 +16,4 @@ returns c = λ label layout can visible who.
     (ap (option_map (λ n. offer_of p n.0 n.1)) (sym c.in-Some.is) ∙ c.in_ok-offer.ensures
     ∙ ap (λ n. option_map (offer p a.variable) (a.process n)) c.from.ensures)
     (machine_state (concrete c.args.machine.now)) c.in_ok-resumed.resumed.items visible who
-    (λ d e. c.in_ok-resumed.ensures layout d e)
+    (λ d e. c.in_ok-resumed.ensures.some layout d e)

@@ -14,6 +14,7 @@ returns c =
         layout = e.kept.1;
         marks = c.requires.marks;
         places = c.in_ok-nothing.ensures.0;
+        bits = c.in_ok-none_raised.ensures.0;
       };
       source = opening_progress p;
       comes = opens_so p (omega arith);
@@ -22,6 +23,7 @@ returns c =
         counted = refl;
         matches = e.opens;
         waits = c.in_ok-nothing.ensures.1;
+        raised = c.in_ok-none_raised.ensures.1;
         bounded = λ t. omega arith;
       };
     }

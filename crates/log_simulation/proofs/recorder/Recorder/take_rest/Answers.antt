@@ -1,5 +1,5 @@
 -- Each process pays in its turn.
-use Rattle.std.proofs.Common.{◌≡◌, ◌+◌, ◌∙◌, ap, arith, subst, sym, ℕ}
+use Rattle.std.proofs.Common.{◌≡◌, ◌+◌, ◌∙◌, ap, arith, length, subst, sym, ℕ}
 use Rattle.std.proofs.lemmas.Bool.{false≢true}
 use Rattle.program.specs.Names.{said_by}
 use Rattle.log_simulation.specs.Going.{Matches}
@@ -45,6 +45,7 @@ loop-before-preserved c = record {
         marks = taken.marks;
         follower = c.catch_up.new.self;
         deferred = taken.deferred;
+        raised = taken.raised;
         steps = taken.steps;
         is_whole = taken.is_whole;
       } in
@@ -52,7 +53,8 @@ loop-before-preserved c = record {
         still_of p l.self last i.0
             (c.in_ok-catch_up.ensures.kept.0 ∙ ap (λ (x : Follower). x.checked) follower)
             (c.in_ok-catch_up.ensures.kept.1 ∙ ap (λ (x : Follower). x.layout) follower)
-            (ap (λ r. r.marks) c.take_deferred-count.ensures.kept) c.take_deferred-count.ensures.places,
+            (ap (λ r. r.marks) c.take_deferred-count.ensures.kept) c.take_deferred-count.ensures.places
+            (ap (λ r. length r.raised.items) c.take_deferred-count.ensures.kept),
         subst (λ x. Matches c.catch_up.new.self x) (sym more) r.1,
         subst (λ x. CountsDeferred taken.deferred.items x.deferred) (sym more) w.1,
         subst (λ x. IsBehind p x.deferred x.source ahead) (sym more) r.2,

@@ -27,6 +27,7 @@ loop-preserved c =
       counts = subst (λ (r : Recorder). Counts c.args.entry.now.local c.args.self.now r) (sym kept) i.counts;
       follower = ap (λ r. r.follower) kept ∙ i.follower;
       marks = ap (λ r. r.marks) kept ∙ i.marks;
+      raised = ap (λ r. r.raised) kept ∙ i.raised;
       places = c.take_step.ensures.places ∙ i.places;
       waits = λ p f own marks waits few.
           let t = c.args.entry.now.thread in
@@ -52,10 +53,11 @@ returns-clause-told c = λ _ p n g own of tells.
     let within = c.loop.auto.counter-end in
     let past = c.loop-test.false in
     let all : c.loop.counter ≡ c.args.entry.now.local = omega (arith, within, past) in (
-      still_of p r last of (ap (λ x. x.checked) i.follower) (ap (λ x. x.layout) i.follower) i.marks i.places,
+      still_of p r last of (ap (λ x. x.checked) i.follower) (ap (λ x. x.layout) i.follower) i.marks i.places
+          (ap (λ v. length v.items) i.raised),
       tells_on c.args.entry.now.local n g
           (progress_locally p t c.args.entry.now.local o g) r last last i.counts tells refl
-          (λ h steps few. locally p n c.args.entry.now.local t o g r last h steps few i.follower
+          (λ h steps few. locally p n c.args.entry.now.local t o g r last h steps few i.follower i.raised
           (subst (λ j. CountsDeferred last.deferred.items
           (put g.deferred t (deferred_locally p t j o (g.deferred t)))) all
           (i.waits p g.deferred own of.marks h.waits (let less = h.bounded t in omega (arith, few, less))))),

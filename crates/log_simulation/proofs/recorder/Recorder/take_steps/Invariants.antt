@@ -15,6 +15,7 @@ invariant-loop l = record {
   counts : Counts l.entry.local l.fn.self l.self;
   follower : l.self.follower ≡ l.fn.self.follower;
   marks : l.self.marks ≡ l.fn.self.marks;
+  raised : l.self.raised ≡ l.fn.self.raised;
   places : length l.self.deferred.items ≡ length l.fn.self.deferred.items;
   waits : (p : Program) (f : ℕ → List Kind) → l.image ≡ code_of p → l.fn.self.marks.items ≡ marks_of p
       → CountsDeferred l.fn.self.deferred.items f → length (f l.entry.thread) + l.entry.local < 2 ^ 32

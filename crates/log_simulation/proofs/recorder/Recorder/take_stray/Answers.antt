@@ -5,7 +5,7 @@ use Rattle.std.specs.Prelude.{MatchBool}
 use Rattle.lowering.specs.Layout.{layout_of}
 use Rattle.program.specs.Names.{said_by}
 use Rattle.proof_simulation.specs.Strays.{stray_condition}
-use Rattle.log_simulation.specs.Entries.{progress_outside}
+use Rattle.log_simulation.specs.Entries.{progress_strayed}
 use Rattle.log_simulation.specs.Going.{Matches}
 use Rattle.log_simulation.specs.declared.follower.Follower.{Follower}
 use Rattle.log_simulation.specs.declared.recorder.Recorder.{Recorder}
@@ -51,6 +51,7 @@ returns c = λ p n g of less tells due.
       marks = taken.marks;
       follower = c.follow_stray.new.self;
       deferred = taken.deferred;
+      raised = taken.raised;
       steps = taken.steps;
       is_whole = b;
     } in (
@@ -58,9 +59,11 @@ returns c = λ p n g of less tells due.
           (c.in_ok-self.ensures.kept.0 ∙ ap (λ (x : Follower). x.checked) second)
           (c.in_ok-self.ensures.kept.1 ∙ ap (λ (x : Follower). x.layout) second)
           (ap (λ r. r.marks) c.take_deferred-count.ensures.kept ∙ ap (λ r. r.marks) c.count.ensures.kept)
-          (c.take_deferred-count.ensures.places ∙ more),
-      subst (λ (x : Bool). MatchBool x (Records (n + 1) (progress_outside p t a g) last) (2 ^ 32 ≤ n + 1)) (sym r.0)
-          (stops_waiting p n t a g member old last h (sym found) steps few r.1 w.1),
+          (c.take_deferred-count.ensures.places ∙ more) (ap (λ r. length r.raised.items) c.take_deferred-count.ensures.kept
+          ∙ ap (λ r. length r.raised.items) c.count.ensures.kept),
+      subst (λ (x : Bool). MatchBool x (Records (n + 1) (progress_strayed p t a g) last) (2 ^ 32 ≤ n + 1)) (sym r.0)
+          (stops_waiting p n t a g member old last h (sym found) steps few r.1 w.1
+          (ap (λ r. r.raised) c.take_deferred-count.ensures.kept ∙ ap (λ r. r.raised) c.count.ensures.kept)),
     )
 
 pub returns-in_default : goal.returns-in_default
@@ -73,12 +76,12 @@ returns-in_default c = λ p n g of less tells due.
     let layout = ap (λ (x : Follower). x.layout) first in
     let places = ap (λ r. length r.deferred.items) c.count.ensures.kept in (
       still_of p old counted of (ap (λ (x : Follower). x.checked) first) layout
-          (ap (λ r. r.marks) c.count.ensures.kept) places,
-      tells_on 1 n g (progress_outside p t a g) old counted counted c.count.ensures.counts tells refl
+          (ap (λ r. r.marks) c.count.ensures.kept) places (ap (λ r. length r.raised.items) c.count.ensures.kept),
+      tells_on 1 n g (progress_strayed p t a g) old counted counted c.count.ensures.counts tells refl
           (λ h steps few.
           let found = condition_so p n t a g counted.follower c.stray_condition.result
           (ap (λ (x : Follower). said_by x.checked.now) first ∙ of.program) (layout ∙ of.layout)
           (subst (λ (x : Follower). Matches x g) (sym first) h.matches) c.stray_condition.ensures in
           unheard p n t a g old counted h (sym found ∙ c.in_default.is) steps few first
-          (ap (λ r. r.deferred) c.count.ensures.kept)),
+          (ap (λ r. r.deferred) c.count.ensures.kept) (ap (λ r. r.raised) c.count.ensures.kept)),
     )
