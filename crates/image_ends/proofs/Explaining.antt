@@ -12,11 +12,10 @@ use Rattle.meaning.specs.Labels.{Aborted, Action, Ended, Kill, Kind, Stray}
 use Rattle.meaning.specs.Processes.{Over, Process}
 use Rattle.meaning.specs.States.{SourceState}
 use Rattle.proof_exploration.specs.Exploring.{HasAborted, IsOver, IsStuck}
-use Rattle.refinement.specs.Outside.{stray_threads}
 use Rattle.refinement.specs.Refines.{Explained, Refines, is_kill_kind, is_stray_kind, processes_of}
 use Rattle.refinement.specs.Seen.{machine_end, process_end}
 use Rattle.source_search.specs.Found.{AreFrom, IsFrom, LeadsNowhere}
-use Rattle.image_ends.specs.Ending.{AllOver}
+use Rattle.image_ends.specs.Ending.{AllOver, IsSearched}
 
 is_from : (strays : Bool) (k : Kind) → (strays ≡ false → is_stray_kind k ≡ false) → is_kill_kind k ≡ false
     → IsFrom strays k
@@ -61,12 +60,13 @@ has_aborted s q cause (Some other) is e = absurd (cc)
 
 module _ (p : Program) (image : Image) (strays : Bool) (steps : List Step) (s : State) (refines : Refines p image)
     (run : MachineRun image steps s) (few : length steps < 2 ^ 32)
-    (calm : strays ≡ false → stray_threads p steps ≡ []) where
+    (calm : IsSearched p strays steps) where
   explained : Explained p image steps s
   explained = refines.follows steps s run few
 
   from : AreFrom strays explained.actions
-  from = are_from strays explained.actions (λ e. explained.strays ∙ calm e) explained.kills
+  from = are_from strays explained.actions (λ e. explained.strays ∙ calm.called_for e)
+      (explained.kills ∙ calm.unkilled)
 
   pub all_over : LeadsNowhere p strays (IsStuck p) → ((t : ℕ) → CanStep s t → ⊥) → AllOver p s
   all_over nowhere rests = record {

@@ -1,5 +1,6 @@
 -- A machine at whose end all processes are over.
-use Rattle.std.specs.Prelude.{ℕ, ◌≡◌, List, Some}
+use Rattle.std.specs.Prelude.{ℕ, ◌≡◌, Bool, false, List, [], Some}
+use Rattle.machine.specs.Runs.{Step}
 use Rattle.machine.specs.States.{State}
 use Rattle.program.specs.Trees.{Program}
 use Rattle.meaning.specs.Labels.{Action}
@@ -7,6 +8,7 @@ use Rattle.meaning.specs.Processes.{Process}
 use Rattle.meaning.specs.Runs.{IsRun}
 use Rattle.meaning.specs.States.{SourceState}
 use Rattle.proof_exploration.specs.Exploring.{IsOver}
+use Rattle.refinement.specs.Outside.{killed_threads, stray_threads}
 use Rattle.refinement.specs.Seen.{machine_end, source_end}
 
 -- the machine has printed what a run of the program prints, and its threads have the ends of the run's processes, all of
@@ -18,3 +20,9 @@ pub record AllOver (p : Program) (s : State) : Type 0 where
   pub output : s.output ≡ source.printed
   pub ends : (q : ℕ) → machine_end s q ≡ source_end source q
   pub over : (q : ℕ) (at : Process) → source.process q ≡ Some at → IsOver at
+
+-- what came from outside in these steps of the machine is what was searched: nobody is killed, and without stray
+-- wake-ups nobody who waits on a condition is woken from outside
+pub record IsSearched (p : Program) (strays : Bool) (steps : List Step) : Type 0 where
+  pub unkilled : killed_threads steps ≡ []
+  pub called_for : strays ≡ false → stray_threads p steps ≡ []

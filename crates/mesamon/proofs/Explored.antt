@@ -8,11 +8,10 @@ use Rattle.machine.specs.States.{State}
 use Rattle.program.specs.Trees.{Program}
 use Rattle.lowering.specs.Pieces.{code_of}
 use Rattle.proof_exploration.specs.Exploring.{HasAborted, IsStuck}
-use Rattle.refinement.specs.Outside.{stray_threads}
 use Rattle.refinement.specs.Refines.{Refines}
 use Rattle.refinement.specs.Seen.{machine_end}
 use Rattle.source_search.specs.Found.{LeadsNowhere}
-use Rattle.image_ends.specs.Ending.{AllOver}
+use Rattle.image_ends.specs.Ending.{AllOver, IsSearched}
 use Rattle.compiler.specs.Accepts.{AcceptsText}
 use Rattle.compiler.specs.Compiles.{IsCompiled}
 use Rattle.source_search.specs.declared.runs.Exploration.{Exploration}
@@ -23,14 +22,14 @@ abbrev NeverHangs : Type 0
 NeverHangs =
     (p : Program) (image : Image) (strays : Bool) (steps : List Step) (s : State) → Refines p image
     → LeadsNowhere p strays (IsStuck p) → MachineRun image steps s → length steps < 2 ^ 32
-    → (strays ≡ false → stray_threads p steps ≡ []) → ((t : ℕ) → CanStep s t → ⊥) → AllOver p s
+    → IsSearched p strays steps → ((t : ℕ) → CanStep s t → ⊥) → AllOver p s
 
 -- one of a program in no run of which a process aborts has no thread that does
 abbrev NeverAborts : Type 0
 NeverAborts =
     (p : Program) (image : Image) (strays : Bool) (steps : List Step) (s : State) (q : ℕ) (cause : Cause)
     → Refines p image → LeadsNowhere p strays HasAborted → MachineRun image steps s → length steps < 2 ^ 32
-    → (strays ≡ false → stray_threads p steps ≡ []) → machine_end s q ≡ Some (Aborted cause) → ⊥
+    → IsSearched p strays steps → machine_end s q ≡ Some (Aborted cause) → ⊥
 
 pub holds_of_image : NeverHangs → NeverAborts → (p : Program) (strays : Bool) (e : Exploration) → Refines p (code_of p)
     → IsFoundOf p strays e → HoldsOfImage p strays e

@@ -1,5 +1,5 @@
 -- A report of a run of compiled code by a schedule is explained by a run of the program.
-use Rattle.std.proofs.Common.{◌≡◌, ◌<◌, ◌+◌, ◌^◌, ◌++◌, ℕ, zero, suc, cond, not, List, [], ◌∷◌, Option, Some, None}
+use Rattle.std.proofs.Common.{◌≡◌, ◌<◌, ◌+◌, ◌^◌, ◌++◌, ℕ, zero, suc, List, [], ◌∷◌, Option, Some, None}
 use Rattle.std.proofs.Common.{Result, Ok, Err, IfOk, IfErr, MatchResult}
 use Rattle.std.proofs.Common.{inl, inr, length, map, min, replicate, refl, ap, ap₂, sym, ◌∙◌, subst, arith}
 use Rattle.std.specs.List.{All}
@@ -10,16 +10,16 @@ use Rattle.std.proofs.lemmas.List.Sums.{sum_by-cons}
 use Rattle.isa.specs.Programs.{Program}
 use Rattle.machine.specs.declared.event.Entry.{Entry}
 use Rattle.machine.specs.declared.event.Event.{Event}
-use Rattle.machine.specs.FrontRuns.{EventStep, Label, doing_of, label_of, event_label}
-use Rattle.machine.specs.Runs.{Doing, Own, Step, Strayed, is_own}
+use Rattle.machine.specs.FrontRuns.{EventStep, Label, label_of, event_label}
+use Rattle.machine.specs.Runs.{Step}
 use Rattle.machine.specs.States.{state_of}
 use Rattle.machine.specs.Views.{concrete}
 use Rattle.machine.proofs.Refusing.{breaks_so}
 use Rattle.lowering.specs.Pieces.{code_of}
 use Rattle.refinement.specs.Refines.{Refines}
-use Rattle.runner.specs.Logs.{cost, event_cost, is_outside}
+use Rattle.runner.specs.Logs.{cost, event_cost}
 use Rattle.runner.specs.LogRuns.{local_step_of, shared_step_of, steps_of}
-use Rattle.runner.specs.Schedules.{FailsAt, IsFollowed, IsOneStep, turn_of}
+use Rattle.runner.specs.Schedules.{FailsAt, IsFollowed, IsOneStep, turn_by, turn_by_event, turn_of}
 use Rattle.runner.specs.declared.report.Report.{Report}
 use Rattle.runner.specs.declared.schedule.ScheduleFault.TheVariants.{Broken}
 use Rattle.runner.specs.declared.schedule.Turn.{Turn}
@@ -27,7 +27,7 @@ use Rattle.runner.specs.declared.schedule.Turn.TheVariants as turn
 use Rattle.runner.proofs.Unrolling.{holds, runs_so}
 use Rattle.compiler.specs.Compiles.{IsCompiled}
 use Rattle.runner.specs.declared.schedule.ScheduleFault.TheVariants as follow
-use Rattle.mesamon.specs.Replaying.{IsLeftSchedule, IsNoRefusal, IsRefusedReplay, IsReplayOfText, step_turn, turn_by}
+use Rattle.mesamon.specs.Replaying.{IsLeftSchedule, IsNoRefusal, IsRefusedReplay, IsReplayOfText, step_turn}
 use Rattle.mesamon.specs.declared.replaying.ReplayFault.{ReplayFault}
 use Rattle.mesamon.specs.declared.replaying.ReplayFault.TheVariants.{Refused, BadEntry, Memory}
 use Rattle.mesamon.proofs.Fitting.{fits_of}
@@ -50,17 +50,12 @@ label_turn l = turn_by l.doing l.thread
 abbrev event_turn : EventStep → Turn
 event_turn s = label_turn (event_label s)
 
--- what comes from outside is no own step
-outside_turn : (doing : Doing) (t : ℕ) → turn_by doing t ≡ cond (not (is_own doing)) (turn.Stray t) (turn.Step t)
-outside_turn Own t = refl
-outside_turn (Strayed a) t = refl
-
 -- the step of an entry of one step is its turn
 entry_turn : (t n : ℕ) (event : Option Event) → n + event_cost event ≡ 1
     → map event_turn (replicate n (local_step_of t) ++ shared_step_of t event)
-    ≡ cond (is_outside event) (turn.Stray t) (turn.Step t) ∷ []
+    ≡ turn_by_event event t ∷ []
 entry_turn t zero None one = absurd cc
-entry_turn t zero (Some e) one = ap (λ (x : Turn). x ∷ []) (outside_turn (doing_of e.name e.value) t)
+entry_turn t zero (Some e) one = refl
 entry_turn t (suc zero) None one = refl
 entry_turn t (suc zero) (Some e) one = absurd (omega (arith, one))
 entry_turn t (suc (suc n)) event one = absurd (omega (arith, one))
@@ -107,6 +102,7 @@ sound_at : (text : List ℕ) (image : Program) (schedule : List Turn) (number : 
     → FailsAt (code_of c.program) schedule (Broken number) → ⊥
 sound_at text image schedule number c (inl memory) = absurd memory
 sound_at text image schedule number c (inr (before, k, turn.Stray t, comes, refuses)) = absurd refuses.2
+sound_at text image schedule number c (inr (before, k, turn.Kill t, comes, refuses)) = absurd refuses.2
 sound_at text image schedule number c (inr (before, k, turn.Step t, comes, refuses)) =
     let refines : Refines c.program (code_of c.program) = subst (λ (p : Program). Refines c.program p) c.code
     c.refines in

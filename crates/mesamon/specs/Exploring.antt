@@ -12,9 +12,8 @@ use Rattle.program.specs.Names.{Naming, said_by}
 use Rattle.program.specs.Trees.{Program}
 use Rattle.lowering.specs.Pieces.{code_of}
 use Rattle.proof_exploration.specs.Exploring.{HasAborted, IsStuck}
-use Rattle.refinement.specs.Outside.{stray_threads}
 use Rattle.refinement.specs.Seen.{machine_end}
-use Rattle.image_ends.specs.Ending.{AllOver}
+use Rattle.image_ends.specs.Ending.{AllOver, IsSearched}
 use Rattle.source_states.specs.declared.action.Action.{Action}
 use Rattle.source_states.specs.Actions.{action_of}
 use Rattle.source_search.specs.Found.{LeadsNowhere, LeadsTo}
@@ -34,16 +33,16 @@ pub record IsFoundOf (p : Program) (strays : Bool) (e : Exploration) : Type 0 wh
   pub never_stuck : e.complete ≡ true → e.stuck ≡ None → LeadsNowhere p strays (IsStuck p)
   pub never_aborted : e.complete ≡ true → e.aborted ≡ None → LeadsNowhere p strays HasAborted
 
--- of each run of the program's image, under whatever schedule, of fewer than 2^32 steps, in which, where no stray wakes
--- were searched, nobody who waits on a condition is woken from outside: where the search was complete and found no run
+-- of each run of the program's image, under whatever schedule, of fewer than 2^32 steps, in which nobody is killed, and,
+-- where no stray wakes were searched, nobody who waits on a condition is woken from outside: where the search was complete and found no run
 -- that gets stuck, all processes are over wherever no thread can move; and where it found none that aborts, no thread
 -- has aborted
 pub record HoldsOfImage (p : Program) (strays : Bool) (e : Exploration) : Type 0 where
   pub never_hangs : e.complete ≡ true → e.stuck ≡ None → (steps : List Step) (s : State)
-      → MachineRun (code_of p) steps s → length steps < 2 ^ 32 → (strays ≡ false → stray_threads p steps ≡ [])
+      → MachineRun (code_of p) steps s → length steps < 2 ^ 32 → IsSearched p strays steps
       → ((t : ℕ) → CanStep s t → ⊥) → AllOver p s
   pub never_faults : e.complete ≡ true → e.aborted ≡ None → (steps : List Step) (s : State) (q : ℕ) (cause : Cause)
-      → MachineRun (code_of p) steps s → length steps < 2 ^ 32 → (strays ≡ false → stray_threads p steps ≡ [])
+      → MachineRun (code_of p) steps s → length steps < 2 ^ 32 → IsSearched p strays steps
       → machine_end s q ≡ Some (outcome.Aborted cause) → ⊥
 
 -- the text's program, what was found of it, and what that says of its image

@@ -1,7 +1,7 @@
 -- What a run of a source text by a schedule answers.
 use Rattle.std.specs.Prelude.{◌≡◌, ◌⊎◌, ℕ, List, map}
 use Rattle.isa.specs.Programs.{Program as Image}
-use Rattle.machine.specs.Runs.{Doing, MachineRun, Own, Step, Strayed}
+use Rattle.machine.specs.Runs.{MachineRun, Step}
 use Rattle.machine.specs.States.{state_of}
 use Rattle.machine.specs.Views.{concrete}
 use Rattle.program.specs.Trees.{Program}
@@ -10,17 +10,11 @@ use Rattle.refinement.specs.Refines.{Explained}
 use Rattle.runner.specs.declared.report.Report.{Report}
 use Rattle.runner.specs.declared.schedule.ScheduleFault.TheVariants as follow
 use Rattle.runner.specs.declared.schedule.Turn.{Turn}
-use Rattle.runner.specs.declared.schedule.Turn.TheVariants as turn
-use Rattle.runner.specs.Schedules.{FailsAt, IsFollowed}
+use Rattle.runner.specs.Schedules.{FailsAt, IsFollowed, turn_by}
 use Rattle.mesamon.specs.declared.replaying.ReplayFault.{ReplayFault}
 use Rattle.mesamon.specs.declared.replaying.ReplayFault.TheVariants.{Refused, BadEntry, Memory}
 use Rattle.compiler.specs.Accepts.{AcceptsText, RefusesText}
 use Rattle.scanner.specs.Refusals.{out_of_memory}
-
--- the turn of a thread that takes a step, or is woken from outside
-abbrev pub turn_by : Doing → (thread : ℕ) → Turn
-turn_by Own thread = turn.Step thread
-turn_by (Strayed address) thread = turn.Stray thread
 
 -- the turn that a step of the machine is
 abbrev pub step_turn : Step → Turn

@@ -34,13 +34,14 @@ fn turns_of(alloc: Global, text: &[u8]) -> Result<Vec<Turn>, AllocError> {
 }
 
 // The turn of a word: the number of the thread that takes a step, or behind an `s` of the one that is woken from
-// outside.
+// outside, or behind a `k` of the one that is killed.
 //
 // What is no number to 4294967295 names thread 0, which there never is, so that it is refused as the turn of a thread
-// that can't move, or doesn't sleep.
+// that can't move, or doesn't sleep, or was never made.
 fn turn_of(word: &[u8]) -> Turn {
     match word {
         [b's', digits @ ..] => Turn::Stray(thread_of(digits)),
+        [b'k', digits @ ..] => Turn::Kill(thread_of(digits)),
         digits => Turn::Step(thread_of(digits)),
     }
 }
