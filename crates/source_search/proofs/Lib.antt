@@ -3,4 +3,5 @@ pub mod Tried
 pub mod Successors
 pub mod Endings
 pub mod Keeping
+pub mod Ahead
 pub mod Searched

@@ -1,6 +1,6 @@
 -- How far a search has come, and what it knows at its end.
 use Rattle.std.proofs.Common.{◌≡◌, ◌<◌, ◌≤◌, ◌+◌, ℕ, Bool, List, [], ◌∷◌, ◌++◌, length, get_or, take, All}
-use Rattle.std.proofs.Common.{Option, Some, None, slice_get, sym, refl, ap, ◌∙◌, subst, arith, ltb, false, inl, inr}
+use Rattle.std.proofs.Common.{Option, Some, None, slice_get, sym, refl, ap, ◌∙◌, subst, arith, ltb, true, false, inl, inr}
 use Rattle.std.proofs.lemmas.Bool.Decides.{nat_tests}
 use Rattle.std.specs.Prelude.{IsSome, is_some, option_map}
 use Rattle.std.proofs.lemmas.List.{get_or_append_left, length-append, length-map, length-take, take-append-le, take_all}
@@ -8,21 +8,25 @@ use Rattle.std.proofs.lemmas.List.Elements.{All-contains, All-more, All-weaker}
 use Rattle.std.proofs.lemmas.Option.{get_or_from_slice_get, slice_get-map, slice_get_within}
 use Rattle.program.specs.Trees.{Program}
 use Rattle.program.specs.WellFormed.{WellFormed}
-use Rattle.meaning.specs.Labels.{Action}
+use Rattle.meaning.specs.Labels.{Action, Kill, Kind, Stray}
+use Rattle.meaning.specs.Offers.{offer}
 use Rattle.meaning.specs.Processes.{Process}
 use Rattle.meaning.specs.Runs.{IsStep, Leads}
 use Rattle.meaning.specs.States.{SourceState, opening}
 use Rattle.meaning.proofs.Holding.{all_stand}
 use Rattle.meaning.proofs.Keeping.{OptionWaits}
 use Rattle.meaning.proofs.Led.{leads_more}
-use Rattle.proof_exploration.specs.Exploring.{HasAborted, IsStuck}
-use Rattle.proof_exploration.specs.Searching.{IsKept}
+use Rattle.meaning.proofs.Offered.{IsOwn, own_kind, plain}
+use Rattle.proof_exploration.specs.Exploring.{AreOwn, HasAborted, IsFromOutside, IsStuck}
+use Rattle.proof_exploration.specs.Searching.{IsComplete, IsCovered, IsKept}
 use Rattle.proof_exploration.proofs.Alike.{like_aborted, like_back, like_stuck}
+use Rattle.proof_exploration.proofs.Representing.{own_leads}
+use Rattle.proof_exploration.proofs.Searching.{never_aborted, never_stuck}
 use Rattle.source_states.specs.States.{state_of}
 use Rattle.source_states.specs.declared.state.SourceState.{SourceState as StateOf}
-use Rattle.source_search.specs.Found.{AreFrom, LeadsNowhere}
-use Rattle.source_search.specs.Kept.{IsExpanded, IsLonger, NoneIs, states_in}
-use Rattle.source_search.proofs.Keeping.{expanded_still, kept_still, longer_none, longer_twice}
+use Rattle.source_search.specs.Found.{AreFrom, IsFrom, LeadsNowhere}
+use Rattle.source_search.specs.Kept.{IsExpanded, IsLonger, IsSeen, NoneIs, states_in}
+use Rattle.source_search.proofs.Keeping.{expanded_still, longer_none, longer_twice, seen_still}
 use Rattle.source_search.proofs.Successors.{expanded_like, without_like}
 
 -- the kept states before this place are expanded, and none of them is an end that isn't noted
@@ -120,33 +124,80 @@ is_there p wf done s a s' run (inr (inl x)) =
     waits (Some b) is = refl
 is_there p wf done s a s' run (inr (inr x)) = ap is_some x.3.stands
 
--- then each run leads to what is kept, and to no end that the search hasn't found
-module _ (p : Program) (wf : WellFormed p) (strays : Bool) (first kept : List SourceState)
-    (opens : IsKept first (opening p)) (longer : IsLonger first kept) (expanded : All (IsExpanded p strays kept) kept)
-  where
+-- an action of a process's own is searched
+own_from : (k : Kind) → IsOwn k → IsFrom false k
+own_from (Stray c) is = absurd is
+own_from (Kill resumed last) is = absurd is
+own_from other is = tt
+
+-- no action that is searched without strays is from outside
+not_outside : (k : Kind) → IsFrom false k → IsFromOutside k → ⊥
+not_outside (Stray c) is outside = let differ : false ≡ true = is in absurd (cc)
+not_outside (Kill resumed last) is outside = is
+not_outside other is outside = outside
+
+are_own : (actions : List Action) → AreFrom false actions → AreOwn actions
+are_own [] from = tt
+are_own (a ∷ actions) from = (not_outside a.kind from.0, are_own actions from.1)
+
+-- then each run leads to what is kept, where stray wake-ups are searched; else the search is complete
+module _ (p : Program) (wf : WellFormed p) (kept : List SourceState) where
+  module _ (opens : IsKept kept (opening p)) (expanded : All (IsExpanded p true kept) kept) where
     goes_to_kept : (actions done : List Action) (s e : SourceState) → Leads p (opening p) done s → IsKept kept s
-        → Leads p s actions e → AreFrom strays actions → IsKept kept e
+        → Leads p s actions e → AreFrom true actions → IsKept kept e
     goes_to_kept [] done s e run is led from = subst (IsKept kept) led is
     goes_to_kept (a ∷ actions) done s e run is led from =
-        let expands : IsExpanded p strays kept s =
-        expanded_like p strays kept s is.0 (like_back is.0 s is.2)
-        (All-contains (IsExpanded p strays kept) kept is.0 expanded is.1) in
+        let expands : IsExpanded p true kept s =
+        expanded_like p true kept s is.0 (like_back is.0 s is.2)
+        (All-contains (IsExpanded p true kept) kept is.0 expanded is.1) in
         goes_to_kept actions (done ++ a ∷ []) led.0 e (leads_more p (opening p) s led.0 done a run led.1)
         (expands a (is_there p wf done s a led.0 run led.1) from.0 led.0 led.1) led.2 from.1
 
-    all_kept : (actions : List Action) (s : SourceState) → Leads p (opening p) actions s → AreFrom strays actions
+    all_kept : (actions : List Action) (s : SourceState) → Leads p (opening p) actions s → AreFrom true actions
         → IsKept kept s
-    all_kept actions s led from =
-        goes_to_kept actions [] (opening p) s refl (kept_still first kept longer (opening p) opens) led from
+    all_kept actions s led from = goes_to_kept actions [] (opening p) s refl opens led from
 
+  complete : (n : ℕ) × IsCovered p kept n (opening p) → All (IsExpanded p false kept) kept → IsComplete p kept
+  complete opens expanded = record {
+    opens = opens;
+    expanded = λ s is a s' x.
+        All-contains (IsExpanded p false kept) kept s expanded is a (ap is_some x.stands)
+        (own_from a.kind (subst IsOwn (sym x.named)
+        (own_kind (offer p s.variable x.before) x.label x.effect x.after (plain p s.variable x.before) x.acts)))
+        s' (inl x);
+  }
+
+  no_stuck : (strays : Bool) → IsSeen p strays kept (opening p) → All (IsExpanded p strays kept) kept
+      → All (λ s. IsStuck p s → ⊥) kept → LeadsNowhere p strays (IsStuck p)
+  no_stuck true opens expanded none actions s run from bad =
+      let is : IsKept kept s = all_kept opens expanded actions s run from in
+      All-contains (λ s. IsStuck p s → ⊥) kept is.0 none is.1 (like_stuck p s is.0 (like_back is.0 s is.2) bad)
+  no_stuck false opens expanded none actions s run from bad =
+      never_stuck p kept wf (complete opens expanded)
+      (λ r is. All-contains (λ s. IsStuck p s → ⊥) kept r none is)
+      actions s (own_leads p (opening p) s actions run (are_own actions from)) bad
+
+  no_aborted : (strays : Bool) → IsSeen p strays kept (opening p) → All (IsExpanded p strays kept) kept
+      → All (λ s. HasAborted s → ⊥) kept → LeadsNowhere p strays HasAborted
+  no_aborted true opens expanded none actions s run from bad =
+      let is : IsKept kept s = all_kept opens expanded actions s run from in
+      All-contains (λ s. HasAborted s → ⊥) kept is.0 none is.1 (like_aborted s is.0 (like_back is.0 s is.2) bad)
+  no_aborted false opens expanded none actions s run from bad =
+      never_aborted p kept wf (complete opens expanded)
+      (λ r is. All-contains (λ s. HasAborted s → ⊥) kept r none is)
+      actions s (own_leads p (opening p) s actions run (are_own actions from)) bad
+
+-- no run leads to an end that the search hasn't found
+module _ (p : Program) (wf : WellFormed p) (strays : Bool) (first kept : List SourceState)
+    (opens : IsSeen p strays first (opening p)) (longer : IsLonger first kept)
+    (expanded : All (IsExpanded p strays kept) kept)
+  where
     pub nowhere_stuck : (stuck : Option ℕ) → NoneIs (IsStuck p) kept stuck → stuck ≡ None
         → LeadsNowhere p strays (IsStuck p)
-    nowhere_stuck stuck none e actions s run from bad =
-        let is : IsKept kept s = all_kept actions s run from in
-        All-contains (λ s. IsStuck p s → ⊥) kept is.0 (none e) is.1 (like_stuck p s is.0 (like_back is.0 s is.2) bad)
+    nowhere_stuck stuck none e =
+        no_stuck p wf kept strays (seen_still first kept longer p strays (opening p) opens) expanded (none e)
 
     pub nowhere_aborted : (aborted : Option ℕ) → NoneIs HasAborted kept aborted → aborted ≡ None
         → LeadsNowhere p strays HasAborted
-    nowhere_aborted aborted none e actions s run from bad =
-        let is : IsKept kept s = all_kept actions s run from in
-        All-contains (λ s. HasAborted s → ⊥) kept is.0 (none e) is.1 (like_aborted s is.0 (like_back is.0 s is.2) bad)
+    nowhere_aborted aborted none e =
+        no_aborted p wf kept strays (seen_still first kept longer p strays (opening p) opens) expanded (none e)

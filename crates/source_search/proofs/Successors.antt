@@ -14,9 +14,9 @@ use Rattle.meaning.specs.States.{SourceState}
 use Rattle.meaning.specs.Table.{AllowsKill, AllowsStray}
 use Rattle.meaning.proofs.Unique.{step_once}
 use Rattle.proof_exploration.specs.Exploring.{IsLike}
-use Rattle.proof_exploration.specs.Searching.{IsKept}
-use Rattle.proof_exploration.proofs.Alike.{like_action, like_after, like_back, like_same, like_trans, printing}
+use Rattle.proof_exploration.proofs.Alike.{like_action, like_after, like_back, like_same, printing}
 use Rattle.source_search.specs.Kept.{IsExpanded}
+use Rattle.source_search.proofs.Keeping.{seen_like}
 
 -- a state without what was printed
 pub without_like : (s c : SourceState) → c ≡ record s { printed = [] } → IsLike s c
@@ -100,6 +100,6 @@ pub expanded_like : (p : Program) (strays : Bool) (kept : List SourceState) (s c
     → IsExpanded p strays kept c → IsExpanded p strays kept s
 expanded_like p strays kept s c like expanded a there from s' x =
     let led : LeadsAlike p c a s' = step_alike p s c like a s' x in
-    let next : IsKept kept led.0 =
-    expanded a (subst (λ (f : ℕ → Option Process). IsSome (f a.process)) like.process there) from led.0 led.1 in
-    (next.0, next.1, like_trans next.0 led.0 s' next.2 (like_back s' led.0 led.2))
+    seen_like p strays kept led.0 s'
+    (expanded a (subst (λ (f : ℕ → Option Process). IsSome (f a.process)) like.process there) from led.0 led.1)
+    (like_back s' led.0 led.2)

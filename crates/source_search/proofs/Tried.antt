@@ -1,7 +1,7 @@
 -- Actions that are tried in place of all that take up an offer.
 use Rattle.std.proofs.Common.{◌≡◌, ◌<◌, ◌≤◌, ◌+◌, ◌↔◌, ℕ, Bool, true, false, List, [], ◌∷◌, ◌++◌, Option, Some, None}
 use Rattle.std.proofs.Common.{Contains}
-use Rattle.std.proofs.Common.{refl, sym, ap, ◌∙◌, subst, arith, map, inl, inr, filter}
+use Rattle.std.proofs.Common.{refl, sym, ap, ◌∙◌, subst, arith, map, inl, inr, filter, zero, suc, length}
 use Rattle.std.proofs.lemmas.List.Elements.{Contains-append_left, Contains-push}
 use Rattle.std.proofs.lemmas.Option.{IfSome_then}
 use Rattle.std.proofs.lemmas.Result.{IfOk-weaker}
@@ -102,6 +102,20 @@ resumes_named n m free abandoned t label effect after t' takes allows = ap kind_
 pub joins_named : (n child : ℕ) (go : End → Process) (t : Table) → HasName n (JoinsOne child go) t (Join child)
 joins_named n child go t label effect after t' takes allows = ap kind_of takes.1
 
+-- two of at most one number are one
+only_one : (xs : List ℕ) (x y : ℕ) → length xs ≤ 1 → Contains xs x → Contains xs y → x ≡ y
+only_one [] x y few (k, l, e) j = absurd (omega (arith, l))
+only_one (a ∷ xs) x y few (zero, l, e) (zero, m, f) = sym e ∙ f
+only_one (a ∷ xs) x y few (suc k, l, e) j = absurd (omega (arith, l, few))
+only_one (a ∷ xs) x y few (zero, l, e) (suc k, m, f) = absurd (omega (arith, m, few))
+
+-- a list of some of at most one number has that one
+all_named : (xs rs : List ℕ) → length xs ≤ 1 → ((x : ℕ) → Contains rs x → Contains xs x) → (rs ≡ [] → ⊥) → (x : ℕ)
+    → Contains xs x → Contains rs x
+all_named xs [] few among some x i = absurd (some refl)
+all_named xs (r ∷ rs) few among some x i =
+    (zero, omega arith, only_one xs r x few (among r (zero, omega arith, refl)) i)
+
 -- of a broadcast the list of all that wait is enough
 module _ (n : ℕ) (c : Member) (q : Process) (t : Table) (waiting : List ℕ)
     (all : (r : ℕ) → Contains waiting r ↔ (t.waits r ≡ Some c)) where
@@ -122,6 +136,37 @@ module _ (n : ℕ) (c : Member) (q : Process) (t : Table) (waiting : List ℕ)
 
       same : SameMembers takes.0 waiting
       same r = (λ i. (all r).1 ((allowed.0).wait r i), λ i. (allowed.0).all r ((all r).0 i))
+
+  -- of a notify it is enough where at most one waits
+  pub few_tried : length waiting ≤ 1 → (actions : List Action) → actions ≡ by n (Notify c waiting) ∷ []
+      → AllTakeUp n (NotifiesSome c q) t actions
+  few_tried few actions is label effect after t' takes allows = record {
+    label = Notifies c waiting;
+    listed = subst (λ xs. Contains xs (by n (Notify c waiting))) (sym is) (0, omega arith, refl);
+    takes = (waiting, refl, takes.2, takes.3);
+    allows = (
+      record {
+        wait = λ r i. (all r).0 i;
+        some = λ r w e. none_waits r ((all r).1 w) e;
+      },
+      allowed.1 ∙ (λ i. record t { waits = λ r. without_same takes.0 waiting t.waits r same i }),
+    );
+  }
+    where
+      allowed : Allows n (Notifies c takes.0) t t'
+      allowed = subst (λ l. Allows n l t t') takes.1 allows
+
+      none_waits : (r : ℕ) → Contains waiting r → waiting ≡ [] → ⊥
+      none_waits r i e =
+          let j : Contains [] r = subst (λ l. Contains l r) e i in
+          let less : j.0 < 0 = j.1 in omega (arith, less)
+
+      same : SameMembers takes.0 waiting
+      same r = (
+        λ i. (all r).1 ((allowed.0).wait r i),
+        λ i. all_named waiting takes.0 few (λ x j. (all x).1 ((allowed.0).wait x j))
+            (λ e. (allowed.0).some r ((all r).0 i) e) r i,
+      )
 
   -- of a notify one list for each set of them
   pub notify_tried : (lists : List (List ℕ)) (actions : List Action) → HasEachSet waiting lists
@@ -168,7 +213,7 @@ pub are_choices : (p : Program) (s : SourceState) (n : ℕ) (o : Offer) (actions
     → Some o ≡ option_map (offer p s.variable) (s.process n) → AllTakeUp n o s.table actions
     → AreOwnChoices p s n actions
 are_choices p s n o actions is all kind s' x = (
-  by n (kind_of tried.label),
+  kind_of tried.label,
   tried.listed,
   record {
     before = x.before;
@@ -205,8 +250,8 @@ with_strays : (p : Program) (strays : Bool) (s : SourceState) (n : ℕ) (own act
     → ((c : Member) → strays ≡ true → s.table.waits n ≡ Some c → Contains actions (by n (Stray c)))
     → AreChoices p strays s n actions
 with_strays p strays s n own actions are all stray kind s' from (inl x) =
-    let tried : (a : Action) × Contains own a × IsAction p s a s' = are kind s' x in
-    (tried.0, all tried.0 tried.1, inl tried.2)
+    let tried : (k : Kind) × Contains own (by n k) × IsAction p s (by n k) s' = are kind s' x in
+    (by n tried.0, all (by n tried.0) tried.1, inl tried.2)
 with_strays p strays s n own actions are all stray kind s' from (inr (inl x)) = (
   by n (Stray x.0),
   stray x.0 (subst (IsFrom strays) x.1 from) x.2.allows.0,

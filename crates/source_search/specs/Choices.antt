@@ -31,7 +31,7 @@ AllTakeUp n o t actions = (label : Label) (effect : Effect) (after : Process) (t
 -- whatever the process does of its own in this state, one of these actions leads to the same state
 abbrev pub AreOwnChoices : Program → SourceState → ℕ → List Action → Type 0
 AreOwnChoices p s n actions = (kind : Kind) (s' : SourceState) → IsAction p s (by n kind) s'
-    → (a : Action) × Contains actions a × IsAction p s a s'
+    → (k : Kind) × Contains actions (by n k) × IsAction p s (by n k) s'
 
 -- whatever such an action of the process leads to from this state, one of these actions leads to the same
 abbrev pub AreChoices : Program → Bool → SourceState → ℕ → List Action → Type 0

@@ -1,3 +1,4 @@
 pub mod Found
 pub mod Choices
+pub mod Covered
 pub mod Kept

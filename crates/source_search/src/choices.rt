@@ -73,6 +73,9 @@ fn notifies(
         (map action_of v.items))) }
 {
     let waiting = state.table().waiting(alloc, condition)?;
+    if waiting.len() <= 1 {
+        return one(alloc, process, ActionKind::Notify(condition, waiting));
+    }
     let Some(lists) = sets(alloc, waiting.as_slice())? else {
         return Ok(None);
     };
@@ -170,8 +173,8 @@ fn choices_of<'a>(
     }
 }
 
-// What a process may do next of its own.
-fn own_actions<'a>(
+/// What a process may do next of its own.
+pub(crate) fn own_actions<'a>(
     alloc: Global,
     checked: &'a Checked,
     state: &SourceState<'a>,

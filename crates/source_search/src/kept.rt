@@ -22,6 +22,8 @@ pub(crate) struct Way {
     pub process: u64,
     /// The place of the action among the choices.
     pub choice: usize,
+    /// The place of a calm action among the choices that were come to behind it, where there were several.
+    pub later: usize,
 }
 
 /// The states that a search keeps, in the order in which they were come to.

@@ -2,8 +2,10 @@
 #![tactic(auto)]
 
 mod choices;
+mod covering;
 mod digest;
 mod ends;
+mod follow;
 mod kept;
 mod next;
 mod outside;

@@ -1,8 +1,17 @@
 use crate::choices::choices;
+use crate::follow::follow_calm;
 use crate::kept::Way;
 use program::Checked;
 use source_states::{Action, SourceState};
 use std::alloc::{AllocError, Global};
+
+/// How the first state is come to.
+pub(crate) const OPENING: Way = Way {
+    before: 0,
+    process: 1,
+    choice: 0,
+    later: 0,
+};
 
 // The ways that lead to a place, the last one first.
 fn ways_back(alloc: Global, ways: &[Way], place: usize) -> Result<Vec<Way>, AllocError> {
@@ -35,6 +44,28 @@ fn action_at<'a>(
     }
 }
 
+// Follows calm actions, and of several choices that are come to takes the one at this place, and follows again.
+fn follow_on<'a>(
+    alloc: Global,
+    checked: &'a Checked,
+    state: &mut SourceState<'a>,
+    way: Way,
+    actions: &mut Vec<Action>,
+) -> Result<(), AllocError> {
+    let Some(choices) = follow_calm(alloc, checked, state, way.process, actions)? else {
+        return Ok(());
+    };
+    let Some(action) = choices.into_iter().nth(way.later) else {
+        return Ok(());
+    };
+    if !state.advance(alloc, checked.program(), &action)? {
+        return Ok(());
+    }
+    actions.push(action)?;
+    let _choices = follow_calm(alloc, checked, state, way.process, actions)?;
+    Ok(())
+}
+
 /// The actions that lead to the kept state at a place, by the ways that lead to each.
 pub(crate) fn actions_to(
     alloc: Global,
@@ -46,6 +77,9 @@ pub(crate) fn actions_to(
     let back = ways_back(alloc, ways, place)?;
     let mut actions = Vec::new(alloc);
     let mut state = SourceState::opening(alloc, checked)?;
+    if !strays {
+        follow_on(alloc, checked, &mut state, OPENING, &mut actions)?;
+    }
     for way in back.as_slice().iter().rev() {
         let Some(action) = action_at(alloc, checked, &state, *way, strays)? else {
             return Ok(actions);
@@ -54,6 +88,9 @@ pub(crate) fn actions_to(
             return Ok(actions);
         }
         actions.push(action)?;
+        if !strays {
+            follow_on(alloc, checked, &mut state, *way, &mut actions)?;
+        }
     }
     Ok(actions)
 }

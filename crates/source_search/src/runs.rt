@@ -6,7 +6,7 @@ ghost use Rattle.source_search.specs.Found.{LeadsNowhere, LeadsTo};
 use crate::ends::{has_aborted, is_stuck};
 use crate::kept::{Kept, Way};
 use crate::outside::are_from;
-use crate::replay::actions_to;
+use crate::replay::{OPENING, actions_to};
 use crate::search::{Findings, search};
 use program::Checked;
 use source_states::{Action, SourceState, accepts};
@@ -142,8 +142,9 @@ fn is_complete(
 
 /// Searches all runs of actions of a program's own processes, and with `strays` those too in which a process that waits
 /// resumes though nobody notified it; breadth first, keeping at most so many states: for one that gets stuck, and for
-/// one in which a process aborts. What is found is such a run, and no shorter one was come to. Where the search came to
-/// its end and none was found, there is none.
+/// one in which a process aborts. Without strays a process whose next action is calm, so that none of the others races
+/// with it, is followed alone. What is found is such a run. Where the search came to its end and none was found, there
+/// is none.
 pub fn explore(
     alloc: Global,
     checked: &Checked,
@@ -162,12 +163,7 @@ pub fn explore(
     let _program = checked.program();
     let mut kept = Kept::new(alloc, most_states);
     let opening = SourceState::opening(alloc, checked)?;
-    let way = Way {
-        before: 0,
-        process: 1,
-        choice: 0,
-    };
-    let opens = kept.keep(alloc, checked, opening, way)?;
+    let opens = kept.cover(alloc, checked, opening, OPENING, strays)?;
     let findings = search(alloc, checked, &mut kept, most_states, strays)?;
     let ways = kept.ways.as_slice();
     let stuck = stuck_run(alloc, checked, ways, findings.stuck, strays)?;

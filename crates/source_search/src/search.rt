@@ -11,6 +11,7 @@ use crate::kept::{Kept, Way};
 use crate::next::next_state;
 use program::Checked;
 use source_states::{Action, SourceState};
+use sourcemeaning::can_move;
 use std::alloc::{AllocError, Global};
 
 /// Where the ends that are looked for were found first, and whether all that may come next was kept.
@@ -56,7 +57,7 @@ impl<'a> Kept<'a> {
     ghost use Rattle.source_states.specs.States.{state_of};
     ghost use Rattle.source_search.specs.Kept.{IsExpanded, IsFollowed, IsLonger, LeadsToKept, states_in};
 
-    // Keeps the state to which an action leads, where it is possible; false where no more can be kept.
+    // Keeps what the state leads to that an action leads to, where it is possible; false where no more can be kept.
     fn take(
         &mut self,
         alloc: Global,
@@ -64,17 +65,18 @@ impl<'a> Kept<'a> {
         state: &SourceState<'a>,
         action: &Action,
         way: Way,
+        strays: bool,
     ) -> Result<bool, AllocError>
         ensures longer { OnOk result
             (IsLonger (states_in self.old.states.items) (states_in self.new.states.items)) }
         ensures kept { IfOk result (λ kept. kept ≡ true
-            → LeadsToKept (program_of checked.now.tree) (states_in self.new.states.items)
+            → LeadsToKept (program_of checked.now.tree) strays (states_in self.new.states.items)
             (state_of state.now) (action_of action.now)) }
     {
         let found = next_state(alloc, checked, state, action)?;
         match found {
             None => Ok(true),
-            Some(next) => self.keep(alloc, checked, next, way),
+            Some(next) => self.cover(alloc, checked, next, way, strays),
         }
     }
 
@@ -87,11 +89,12 @@ impl<'a> Kept<'a> {
         before: usize,
         process: u64,
         actions: &[Action],
+        strays: bool,
     ) -> Result<bool, AllocError>
         ensures longer { OnOk result
             (IsLonger (states_in self.old.states.items) (states_in self.new.states.items)) }
         ensures kept { IfOk result (λ kept. kept ≡ true
-            → All (LeadsToKept (program_of checked.now.tree) (states_in self.new.states.items)
+            → All (LeadsToKept (program_of checked.now.tree) strays (states_in self.new.states.items)
             (state_of state.now)) (map action_of actions.now)) }
     {
         for choice in 0..actions.len() {
@@ -99,8 +102,9 @@ impl<'a> Kept<'a> {
                 before,
                 process,
                 choice,
+                later: 0,
             };
-            if !self.take(alloc, checked, state, &actions[choice], way)? {
+            if !self.take(alloc, checked, state, &actions[choice], way, strays)? {
                 return Ok(false);
             }
         }
@@ -123,11 +127,14 @@ impl<'a> Kept<'a> {
             → IsFollowed (program_of checked.now.tree) strays (states_in self.new.states.items)
             (state_of state.now) process) }
     {
+        if !strays && !can_move(state, checked, process) {
+            return Ok(true);
+        }
         let Some(actions) = choices(alloc, checked, state, process, strays)? else {
             return Ok(false);
         };
         let listed = actions.as_slice();
-        let all = self.take_all(alloc, checked, state, before, process, listed)?;
+        let all = self.take_all(alloc, checked, state, before, process, listed, strays)?;
         Ok(all)
     }
 

@@ -1,15 +1,14 @@
 use Rattle.std.proofs.Common.{subst}
 use Rattle.program.specs.Views.{program_of}
-use Rattle.proof_exploration.specs.Searching.{IsKept}
-use Rattle.source_search.specs.Kept.{states_in}
+use Rattle.source_search.specs.Kept.{IsSeen, states_in}
 use Rattle.source_search.proofs.Searched.{nowhere_aborted, nowhere_stuck}
 use Rattle.source_search.proofs.runs.explore.Goals as goal
 
 pub returns-clause-never_stuck : goal.returns-clause-never_stuck
 returns-clause-never_stuck c = λ complete none.
     nowhere_stuck (program_of c.args.checked.now.tree) c.program-program.ensures.well_formed c.args.strays
-    (states_in c.keep.new.self.states.items) (states_in c.search.new.kept.states.items)
-    (subst (IsKept (states_in c.keep.new.self.states.items)) c.in_ok-opening.ensures
+    (states_in c.cover.new.self.states.items) (states_in c.search.new.kept.states.items)
+    (subst (IsSeen (program_of c.args.checked.now.tree) c.args.strays (states_in c.cover.new.self.states.items)) c.in_ok-opening.ensures
     (c.in_ok-opens.ensures.kept (c.is_complete-complete.ensures.opens complete)))
     c.in_ok-findings.ensures.longer
     (c.in_ok-findings.ensures.expanded (c.is_complete-complete.ensures.complete complete))
@@ -20,8 +19,8 @@ returns-clause-never_stuck c = λ complete none.
 pub returns-clause-never_aborted : goal.returns-clause-never_aborted
 returns-clause-never_aborted c = λ complete none.
     nowhere_aborted (program_of c.args.checked.now.tree) c.program-program.ensures.well_formed c.args.strays
-    (states_in c.keep.new.self.states.items) (states_in c.search.new.kept.states.items)
-    (subst (IsKept (states_in c.keep.new.self.states.items)) c.in_ok-opening.ensures
+    (states_in c.cover.new.self.states.items) (states_in c.search.new.kept.states.items)
+    (subst (IsSeen (program_of c.args.checked.now.tree) c.args.strays (states_in c.cover.new.self.states.items)) c.in_ok-opening.ensures
     (c.in_ok-opens.ensures.kept (c.is_complete-complete.ensures.opens complete)))
     c.in_ok-findings.ensures.longer
     (c.in_ok-findings.ensures.expanded (c.is_complete-complete.ensures.complete complete))

@@ -6,7 +6,7 @@ use Rattle.proof_exploration.specs.Exploring.{IsLike}
 use Rattle.source_states.specs.Actions.{action_of}
 use Rattle.source_states.specs.States.{state_of}
 use Rattle.source_search.specs.Kept.{states_in}
-use Rattle.source_search.proofs.Keeping.{kept_like}
+use Rattle.source_search.proofs.Keeping.{seen_like}
 use Rattle.source_search.proofs.kept.Kept.take.Goals as goal
 
 pub returns-in-None-clause-kept : goal.returns-in-None-clause-kept
@@ -22,8 +22,9 @@ returns-in-Some c =
     (action_of c.args.action.now) s → IsLike (state_of c.in-Some.next) s =
     rw c.in-Some.is at c.in_ok-found.ensures in
     record {
-      longer = c.keep.ensures.longer;
-      kept = IfOk-weaker c.keep.result _ _ (λ b h e s' x.
-          kept_like (states_in c.keep.new.self.states.items) (state_of c.in-Some.next) s' (h e) (next s' x))
-          c.keep.ensures.kept;
+      longer = c.cover.ensures.longer;
+      kept = IfOk-weaker c.cover.result _ _ (λ b h e s' x.
+          seen_like (program_of c.args.checked.now.tree) c.args.strays (states_in c.cover.new.self.states.items)
+          (state_of c.in-Some.next) s' (h e) (next s' x))
+          c.cover.ensures.kept;
     }

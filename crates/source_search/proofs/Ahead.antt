@@ -1,0 +1,157 @@
+-- What calm actions of one process at a time lead to, and how far what is kept covers.
+use Rattle.std.proofs.Common.{◌≡◌, ◌<◌, ◌+◌, ℕ, zero, suc, Bool, true, false, List, [], ◌∷◌, length, get_or}
+use Rattle.std.proofs.Common.{map, take, All, Contains, sym, ap, ◌∙◌, subst, arith, inl, inr}
+use Rattle.std.proofs.lemmas.List.Elements.{All-contains, All-weaker}
+use Rattle.program.specs.Trees.{Program}
+use Rattle.meaning.specs.Labels.{Action, Kind}
+use Rattle.meaning.specs.Runs.{CanMove, IsAction, IsStep}
+use Rattle.meaning.specs.States.{SourceState}
+use Rattle.meaning.proofs.Unique.{step_once}
+use Rattle.proof_exploration.specs.Exploring.{IsCalmKind, IsLike}
+use Rattle.proof_exploration.specs.Searching.{IsCovered, IsKept}
+use Rattle.proof_exploration.proofs.Representing.{calm_named, grown, like_covered}
+use Rattle.source_states.specs.Actions.{action_of}
+use Rattle.source_states.specs.declared.action.Action.{Action as ActionOf}
+use Rattle.source_search.specs.Choices.{AreOwnChoices, by}
+use Rattle.source_search.specs.Covered.{AllCovered, IsAhead, IsFollowable, LeadsToCovered, LeadsWithin}
+use Rattle.source_search.specs.Kept.{IsLonger, IsSeen}
+use Rattle.source_search.proofs.Keeping.{all_contained, one_more_action}
+
+-- more actions are room for what fewer are
+module _ (p : Program) (kept : List SourceState) where
+  covered_suc : (n : ℕ) (s : SourceState) → IsCovered p kept n s → IsCovered p kept (suc n) s
+  covered_suc zero s is = inl is
+  covered_suc (suc n) s (inl is) = inl is
+  covered_suc (suc n) s (inr (t, calm, all)) =
+      inr (t, calm, λ kind after x. covered_suc n after (all kind after x))
+
+  abbrev up : ℕ → ℕ → ℕ
+  up zero n = n
+  up (suc k) n = suc (up k n)
+
+  up_is : (k n : ℕ) → up k n ≡ k + n
+  up_is zero n = omega arith
+  up_is (suc k) n = let rest : up k n ≡ k + n = up_is k n in omega (arith, rest)
+
+  covered_up : (k n : ℕ) (s : SourceState) → IsCovered p kept n s → IsCovered p kept (up k n) s
+  covered_up zero n s is = is
+  covered_up (suc k) n s is = covered_suc (up k n) s (covered_up k n s is)
+
+  pub covered_to : (n k m : ℕ) (s : SourceState) → k + n ≡ m → IsCovered p kept n s → IsCovered p kept m s
+  covered_to n k m s e is = subst (λ x. IsCovered p kept x s) (up_is k n ∙ e) (covered_up k n s is)
+
+module _ (p : Program) where
+  pub ahead_none : (s : SourceState) → IsAhead p s s
+  ahead_none s kept n is = (n, is)
+
+  pub ahead_then : (s r q : SourceState) → IsAhead p s r → IsAhead p r q → IsAhead p s q
+  ahead_then s r q first second kept n is =
+      let mid : (m : ℕ) × IsCovered p kept m r = second kept n is in
+      first kept mid.0 mid.1
+
+  -- a process that can move, and whose choices are calm
+  pub followable : (s : SourceState) (t : ℕ) (actions : List Action) → CanMove p s t → AreOwnChoices p s t actions
+      → All (λ a. IsCalmKind a.kind) actions → IsFollowable p s t actions
+  followable s t actions can are calm =
+      let tried : (k : Kind) × Contains actions (by t k) × IsAction p s (by t k) can.after =
+      are can.kind can.after can.moves in
+      record {
+        calm = calm_named p s t tried.0 can.after tried.2
+            (All-contains (λ a. IsCalmKind a.kind) actions (by t tried.0) calm tried.1);
+        choices = are;
+      }
+
+  the_one : (a b : Action) → Contains (a ∷ []) b → b ≡ a
+  the_one a b (zero, l, e) = sym e
+  the_one a b (suc k, l, e) = absurd (omega (arith, l))
+
+  -- where there is one choice, it is possible, and each action leads where it does
+  module _ (s : SourceState) (t : ℕ) (a : Action) (is : IsFollowable p s t (a ∷ [])) where
+    pub one_possible : ((u : SourceState) → IsStep p s a u → ⊥) → ⊥
+    one_possible never =
+        let tried : (k : Kind) × Contains (a ∷ []) (by t k) × IsAction p s (by t k) (is.calm).after =
+        is.choices (is.calm).kind (is.calm).after (is.calm).moves in
+        never (is.calm).after (inl (subst (λ b. IsAction p s b (is.calm).after) (the_one a (by t tried.0) tried.1)
+        tried.2))
+
+    pub ahead_one : (s' : SourceState) → IsStep p s a s' → IsAhead p s s'
+    ahead_one s' step kept n covered = (
+      suc n,
+      inr (
+        t,
+        is.calm,
+        λ kind after x.
+            let tried : (k : Kind) × Contains (a ∷ []) (by t k) × IsAction p s (by t k) after =
+            is.choices kind after x in
+            subst (IsCovered p kept n)
+            (step_once p a s s' after step
+            (inl (subst (λ b. IsAction p s b after) (the_one a (by t tried.0) tried.1) tried.2)))
+            covered,
+      ),
+    )
+
+  -- where all choices lead to what is covered, the state is covered
+  pub covered_by_choices : (kept : List SourceState) (s : SourceState) (t : ℕ) (actions : List Action)
+      → IsFollowable p s t actions → AllCovered p kept s actions → (n : ℕ) × IsCovered p kept n s
+  covered_by_choices kept s t actions is all = (
+    suc all.0,
+    inr (
+      t,
+      is.calm,
+      λ kind after x.
+          let tried : (k : Kind) × Contains actions (by t k) × IsAction p s (by t k) after = is.choices kind after x in
+          All-contains (LeadsWithin p kept s all.0) actions (by t tried.0) all.1 tried.1 after (inl tried.2),
+    ),
+  )
+
+  -- without strays what is covered is seen
+  pub seen_covered : (strays : Bool) (kept : List SourceState) (s : SourceState) → strays ≡ false
+      → (n : ℕ) × IsCovered p kept n s → IsSeen p strays kept s
+  seen_covered true kept s e is = absurd (let differ : true ≡ false = e in cc)
+  seen_covered false kept s e is = is
+
+  pub leads_nowhere : (kept : List SourceState) (s : SourceState) (a : Action) → ((u : SourceState) → IsStep p s a u → ⊥)
+      → LeadsToCovered p kept s a
+  leads_nowhere kept s a never = (zero, λ s' x. absurd (never s' x))
+
+  pub leads_like : (kept : List SourceState) (s n r : SourceState) (a : Action)
+      → ((u : SourceState) → IsStep p s a u → IsLike n u) → IsAhead p n r → IsKept kept r
+      → LeadsToCovered p kept s a
+  leads_like kept s n r a next ahead is =
+      let covered : (m : ℕ) × IsCovered p kept m n = ahead kept zero is in
+      (covered.0, λ s' x. like_covered p kept covered.0 n s' (next s' x) covered.1)
+
+  pub none_covered : (kept : List SourceState) (s : SourceState) (actions : List ActionOf)
+      → AllCovered p kept s (map action_of (take 0 actions))
+  none_covered kept s actions = (
+    zero,
+    λ k d less. absurd (let no : k < length (map action_of (take 0 actions)) = less in
+        nothing k actions no),
+  )
+    where
+      nothing : (k : ℕ) (actions : List ActionOf) → k < length (map action_of (take 0 actions)) → ⊥
+      nothing k [] less = omega (arith, less)
+      nothing k (a ∷ as') less = omega (arith, less)
+
+  -- one choice more
+  pub covered_more : (kept kept' : List SourceState) → IsLonger kept kept' → (s : SourceState)
+      (actions : List ActionOf) (i : ℕ) (a : ActionOf)
+      → i < length actions → a ≡ get_or actions i a
+      → AllCovered p kept s (map action_of (take i actions)) → LeadsToCovered p kept' s (action_of a)
+      → AllCovered p kept' s (map action_of (take (i + 1) actions))
+  covered_more kept kept' longer s actions i a less is all leads = (
+    all.0 + leads.0,
+    one_more_action (LeadsWithin p kept' s (all.0 + leads.0)) actions i a less is
+        (All-weaker (LeadsWithin p kept s all.0) (LeadsWithin p kept' s (all.0 + leads.0))
+        (λ b to s' x. covered_to p kept' all.0 leads.0 (all.0 + leads.0) s' (omega arith)
+        (grown p kept kept' (all_contained kept kept' longer) all.0 s' (to s' x)))
+        (map action_of (take i actions)) all.1)
+        (λ s' x. covered_to p kept' leads.0 all.0 (all.0 + leads.0) s' (omega arith) (leads.1 s' x)),
+  )
+
+-- a list of one action
+pub one_listed : (actions : List ActionOf) (a : ActionOf) → length actions ≡ 1 → a ≡ get_or actions 0 a
+    → map action_of actions ≡ action_of a ∷ []
+one_listed [] a one is = absurd (omega (arith, one))
+one_listed (b ∷ []) a one is = ap (λ (x : ActionOf). action_of x ∷ []) (sym is)
+one_listed (b ∷ c ∷ rest) a one is = absurd (omega (arith, one))

@@ -1,0 +1,91 @@
+use crate::follow::follow_calm;
+use crate::kept::{Kept, Way};
+use crate::next::next_state;
+use program::Checked;
+use source_states::{Action, SourceState};
+use std::alloc::{AllocError, Global};
+
+impl<'a> Kept<'a> {
+    ghost use Rattle.std.specs.Prelude.{◌≡◌, IfOk, OnOk, map, true};
+    ghost use Rattle.program.specs.Views.{program_of};
+    ghost use Rattle.source_states.specs.Actions.{action_of};
+    ghost use Rattle.source_states.specs.States.{state_of};
+    ghost use Rattle.source_search.specs.Covered.{AllCovered, LeadsToCovered};
+    ghost use Rattle.source_search.specs.Kept.{IsLonger, IsSeen, states_in};
+
+    // Follows calm actions behind one of several, and keeps the state that they lead to; false where no more can be
+    // kept.
+    fn cover_one(
+        &mut self,
+        alloc: Global,
+        checked: &'a Checked,
+        state: &SourceState<'a>,
+        action: &Action,
+        way: Way,
+    ) -> Result<bool, AllocError>
+        ensures longer { OnOk result
+            (IsLonger (states_in self.old.states.items) (states_in self.new.states.items)) }
+        ensures kept { IfOk result (λ kept. kept ≡ true
+            → LeadsToCovered (program_of checked.now.tree) (states_in self.new.states.items)
+            (state_of state.now) (action_of action.now)) }
+    {
+        let Some(next) = next_state(alloc, checked, state, action)? else {
+            return Ok(true);
+        };
+        let mut after = next;
+        let mut trail = Vec::new(alloc);
+        let _choices = follow_calm(alloc, checked, &mut after, way.process, &mut trail)?;
+        self.keep(alloc, checked, after, way)
+    }
+
+    // The same behind each of these actions.
+    fn cover_each(
+        &mut self,
+        alloc: Global,
+        checked: &'a Checked,
+        state: &SourceState<'a>,
+        actions: &[Action],
+        way: Way,
+    ) -> Result<bool, AllocError>
+        ensures longer { OnOk result
+            (IsLonger (states_in self.old.states.items) (states_in self.new.states.items)) }
+        ensures kept { IfOk result (λ kept. kept ≡ true
+            → AllCovered (program_of checked.now.tree) (states_in self.new.states.items)
+            (state_of state.now) (map action_of actions.now)) }
+    {
+        for later in 0..actions.len() {
+            let way = Way { later, ..way };
+            if !self.cover_one(alloc, checked, state, &actions[later], way)? {
+                return Ok(false);
+            }
+        }
+        Ok(true)
+    }
+
+    /// Keeps a state, unless one like it is kept; without strays the states in its place to which calm actions lead
+    /// from it, of one process at a time; false, where no more can be kept.
+    pub fn cover(
+        &mut self,
+        alloc: Global,
+        checked: &'a Checked,
+        state: SourceState<'a>,
+        way: Way,
+        strays: bool,
+    ) -> Result<bool, AllocError>
+        ensures longer { OnOk result
+            (IsLonger (states_in self.old.states.items) (states_in self.new.states.items)) }
+        ensures kept { IfOk result (λ kept. kept ≡ true
+            → IsSeen (program_of checked.now.tree) strays (states_in self.new.states.items)
+            (state_of state.entry)) }
+    {
+        if strays {
+            return self.keep(alloc, checked, state, way);
+        }
+        let mut after = state;
+        let mut trail = Vec::new(alloc);
+        let Some(actions) = follow_calm(alloc, checked, &mut after, way.process, &mut trail)? else {
+            return self.keep(alloc, checked, after, way);
+        };
+        self.cover_each(alloc, checked, &after, actions.as_slice(), way)
+    }
+}
