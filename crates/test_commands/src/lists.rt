@@ -6,7 +6,7 @@ mod logs;
 mod runs;
 
 use crate::lists::failure::Failure;
-use crate::lists::logs::{show_logs, show_strays};
+use crate::lists::logs::{Outside, show_logs};
 use crate::lists::runs::show_actions;
 use std::io;
 
@@ -15,8 +15,9 @@ pub fn take_line(rt: &HostRuntime, line: &str) -> io::Result<bool> {
     let (key, row) = line.split_once(' ').unwrap_or((line, ""));
     let shown = match key {
         "actions" => show_actions(rt, row),
-        "logs" => show_logs(rt, row),
-        "strays" => show_strays(rt, row),
+        "logs" => show_logs(rt, row, Outside::Nothing),
+        "strays" => show_logs(rt, row, Outside::Strays),
+        "kills" => show_logs(rt, row, Outside::Kills),
         _ => return Ok(false),
     };
     show_failure(rt, shown)?;

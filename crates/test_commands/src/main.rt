@@ -31,6 +31,7 @@
 //! actions LIST | TEXT         a list of actions of the program of this text
 //! logs COUNT MOST | TEXT      so many logs of the program's image, each of so many entries at most
 //! strays COUNT MOST | TEXT    the same with wakes from outside of threads that sleep
+//! kills COUNT MOST | TEXT     so many logs of one run, with a thread killed behind the first step, the second ..
 //! workers COUNT | TEXT        so many runs of the program on real workers
 //! ```
 //!
@@ -54,7 +55,8 @@
 //! Logs are explained, and forged ones too (`test_logs`): the line printed tells how many logs were explained by runs
 //! of the program, and how many were refused as another image's, or forged in each way. Of logs with wakes from outside
 //! it tells how many have one, and how many were refused with a local step before the first, with the first twice, and
-//! with nobody woken by it.
+//! with nobody woken by it. Of logs with a kill it tells how many have one, by how many of these a thread begins to
+//! die, and how many logs were refused with a local step before it, and with its other value.
 //!
 //! Of runs on real workers the log is written and read again, and explained: the line printed tells how many of the
 //! explanations are runs of the program that print what was printed.

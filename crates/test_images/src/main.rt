@@ -15,6 +15,10 @@
 //!                     the next draw, modulo how many sleep, is its place among these
 //! stray_by_hand       in rounds until no thread can move; then the second thread is woken from outside, and the rounds
 //!                     go on
+//! kill_by_hand DEED ..
+//!                     by what these words say: `T` is the next entry of thread T, `eT` its entries as long as it can
+//!                     move, `kT` its kill, `pT` takes its piece out and keeps it, `hT` hands that in for it, and `wA`
+//!                     prints the word at address A. The log is printed from the entry before the first kill on
 //! ```
 //!
 //! Empty lines and lines that begin with `#` say nothing.
@@ -36,6 +40,7 @@
 
 mod by_hand;
 mod failure;
+mod kill_by_hand;
 mod meeting;
 mod opening;
 mod outcome;
@@ -46,6 +51,7 @@ mod stray_by_hand;
 
 use crate::by_hand::hand_in;
 use crate::failure::Failure;
+use crate::kill_by_hand::run_with_kills;
 use crate::meeting::Meeting;
 use crate::opening::show_opening;
 use crate::schedules::{Outside, run_schedules};
@@ -118,6 +124,7 @@ fn run_image<R: Threads + Wait + Sync + Print>(
         Some("schedules") => run_schedules(rt, alloc, image, limit, Outside::Nothing, words),
         Some("strays") => run_schedules(rt, alloc, image, limit, Outside::Strays, words),
         Some("stray_by_hand") => run_with_stray(rt, alloc, image, limit),
+        Some("kill_by_hand") => run_with_kills(rt, alloc, image, limit, words),
         Some(_) => Err(Failure::Row),
     }
 }

@@ -38,7 +38,8 @@ fn show_output<R: Print>(rt: &R, report: &Report) -> io::Result<()> {
     show_threads(rt, &report.last)
 }
 
-fn show_log<R: Print>(rt: &R, log: &[Entry]) -> io::Result<()> {
+/// Prints the entries of a log.
+pub fn show_log<R: Print>(rt: &R, log: &[Entry]) -> io::Result<()> {
     for entry in log {
         let thread = entry.thread;
         let local = entry.local;

@@ -4,7 +4,7 @@ use isa::Image;
 use program::Checked;
 use std::alloc::Global;
 use std::io;
-use test_logs::{StrayTrial, Subject, Trial, try_logs, try_strays};
+use test_logs::{KillTrial, StrayTrial, Subject, Trial, try_kills, try_logs, try_strays};
 
 // A program whose image is none of a row's.
 const OTHER: &[u8] = b"PROGRAM P; MAIN END.";
@@ -27,40 +27,56 @@ fn row_of(row: &str) -> Result<LogRow<'_>, Failure> {
     })
 }
 
+/// What happens from outside in the logs of a row.
+#[derive(Clone, Copy, PartialEq, Eq, Debug)]
+pub enum Outside {
+    /// Nothing.
+    Nothing,
+    /// Threads that sleep are woken.
+    Strays,
+    /// One thread is killed.
+    Kills,
+}
+
 /// Prints what comes of logs of the image of the program whose text stands in the row, behind how many logs there are,
 /// and of how many entries each at most.
-pub fn show_logs(rt: &HostRuntime, row: &str) -> Result<(), Failure> {
+pub fn show_logs(rt: &HostRuntime, row: &str, outside: Outside) -> Result<(), Failure> {
     let row = row_of(row)?;
     let (checked, lowered) = compile_checked(rt.alloc(), row.text)?;
-    let trial = trial_of(rt.alloc(), &checked, &lowered.image, row.count, row.most)?;
-    show_trial(rt, &trial)?;
-    Ok(())
+    show_of(rt, &checked, &lowered.image, row, outside)
 }
 
-/// The same of logs with wakes from outside.
-pub fn show_strays(rt: &HostRuntime, row: &str) -> Result<(), Failure> {
-    let row = row_of(row)?;
-    let (checked, lowered) = compile_checked(rt.alloc(), row.text)?;
-    let trial = stray_trial_of(rt.alloc(), &checked, &lowered.image, row.count, row.most)?;
-    show_stray_trial(rt, &trial)?;
-    Ok(())
-}
-
-fn stray_trial_of(
-    alloc: Global,
+fn show_of(
+    rt: &HostRuntime,
     checked: &Checked,
     image: &Image,
-    count: u32,
-    most: u32,
-) -> Result<StrayTrial, Failure> {
-    let other = compile(alloc, OTHER)?;
+    row: LogRow,
+    outside: Outside,
+) -> Result<(), Failure> {
+    let other = compile(rt.alloc(), OTHER)?;
     let subject = Subject {
-        alloc,
+        alloc: rt.alloc(),
         checked,
         image,
         other: &other,
     };
-    Ok(try_strays(&subject, count, most)?)
+    match outside {
+        Outside::Nothing => show_trial(rt, &try_logs(&subject, row.count, row.most)?)?,
+        Outside::Strays => show_stray_trial(rt, &try_strays(&subject, row.count, row.most)?)?,
+        Outside::Kills => show_kill_trial(rt, &try_kills(&subject, row.count, row.most)?)?,
+    }
+    Ok(())
+}
+
+fn show_trial(rt: &HostRuntime, trial: &Trial) -> io::Result<()> {
+    let runs = trial.runs;
+    let images = trial.other_images;
+    print!(rt; "{runs} runs, refused {images} of another image, ")?;
+    let events = trial.events;
+    let doubled = trial.doubled;
+    let firsts = trial.firsts;
+    let counts = trial.counts;
+    println!(rt; "{events} events, {doubled} doubled, {firsts} without the first, {counts} counts")
 }
 
 fn show_stray_trial(rt: &HostRuntime, trial: &StrayTrial) -> io::Result<()> {
@@ -73,30 +89,12 @@ fn show_stray_trial(rt: &HostRuntime, trial: &StrayTrial) -> io::Result<()> {
     println!(rt; "{counts} counts, {doubled} doubled, {woken} without the woken")
 }
 
-fn trial_of(
-    alloc: Global,
-    checked: &Checked,
-    image: &Image,
-    count: u32,
-    most: u32,
-) -> Result<Trial, Failure> {
-    let other = compile(alloc, OTHER)?;
-    let subject = Subject {
-        alloc,
-        checked,
-        image,
-        other: &other,
-    };
-    Ok(try_logs(&subject, count, most)?)
-}
-
-fn show_trial(rt: &HostRuntime, trial: &Trial) -> io::Result<()> {
+fn show_kill_trial(rt: &HostRuntime, trial: &KillTrial) -> io::Result<()> {
     let runs = trial.runs;
-    let images = trial.other_images;
-    print!(rt; "{runs} runs, refused {images} of another image, ")?;
-    let events = trial.events;
-    let doubled = trial.doubled;
-    let firsts = trial.firsts;
+    let logs = trial.logs;
+    let deaths = trial.deaths;
+    print!(rt; "{runs} runs, {logs} with a kill, {deaths} that made a thread die, ")?;
     let counts = trial.counts;
-    println!(rt; "{events} events, {doubled} doubled, {firsts} without the first, {counts} counts")
+    let values = trial.values;
+    println!(rt; "refused {counts} counts, {values} values")
 }
