@@ -303,7 +303,10 @@ def within(index, size):
 
 class State:
     """A state of a run. A process is what it is at, a number that belongs to it, and its frames, the innermost first; a
-    frame is a procedure, the place of its next step, its locals, and the frames of its callers."""
+    frame is a procedure, the place of its next step, its locals, and the frames of its callers. One process may be
+    watched: none of its steps is done but as an action of its own."""
+
+    watched = None
 
     def __init__(self, program):
         main = program.main
@@ -313,7 +316,7 @@ class State:
         self.claimed, self.ends, self.printed = 0, {}, 0
 
     def copy(self):
-        copy = State.__new__(State)
+        copy = type(self).__new__(type(self))
         copy.program, copy.claimed, copy.printed = self.program, self.claimed, self.printed
         copy.members, copy.holders = list(self.members), list(self.holders)
         copy.processes, copy.ends = list(self.processes), dict(self.ends)
@@ -369,9 +372,14 @@ class State:
             self.processes[p] = ("before", 0, (recover, 0, (0,) * len(recover.locals), frames))
 
     def leave(self, p, result):
-        procedure, _, _, callers = self.processes[p][2]
+        procedure, _, _, _ = self.processes[p][2]
         if procedure.role == "entry":
             self.holders[procedure.monitor.number] = FREE
+        self.go_back(p, result)
+
+    # A process goes on behind the call of the procedure that it is in.
+    def go_back(self, p, result):
+        procedure, _, _, callers = self.processes[p][2]
         if callers is None:
             self.end(p, ("ended", result))
             return
@@ -486,6 +494,8 @@ def settled(state):
 
 def is_calm(state, p):
     at, number, _ = state.processes[p]
+    if p == state.watched:
+        return False
     if at == "joining":
         return number in state.ends
     return at == "before" and (p in state.ends or not is_ordered(state, p))
@@ -516,7 +526,9 @@ def settle_one(state, p):
 # The states that come of one action whose order matters, where what is printed next is as it was seen.
 def actions(state, printed):
     for p, (at, number, _) in enumerate(state.processes):
-        if at in ("entering", "resuming") and state.holders[number] <= FREE:
+        if p == state.watched:
+            yield from state.watched_actions(printed)
+        elif at in ("entering", "resuming") and state.holders[number] <= FREE:
             other = state.copy()
             other.take(p)
             yield from settled(other)
@@ -553,7 +565,12 @@ def is_end(state, printed, faults):
 
 def is_of_a_run(program, printed, faults, most=300000):
     """Whether some run of a program prints these numbers and ends so; None where that isn't found out in so many states."""
-    states = settled(State(program))
+    return is_reached(State(program), printed, lambda state: is_end(state, printed, faults), most)
+
+
+def is_reached(first, printed, is_wanted, most):
+    """Whether a run from a state comes to one that is wanted; None where that isn't found out in so many states."""
+    states = settled(first)
     seen = set()
     while states:
         state = states.pop()
@@ -561,7 +578,7 @@ def is_of_a_run(program, printed, faults, most=300000):
         if key in seen:
             continue
         seen.add(key)
-        if is_end(state, printed, faults):
+        if is_wanted(state):
             return True
         if len(seen) > most:
             return None
