@@ -1,18 +1,12 @@
 -- The faults of products, totals and what AND and OR join, from those of their operands.
-use Rattle.std.proofs.Common.{Box, ◌≡◌, List, Option, Global, refl, ap, ◌∙◌, sym, subst}
+use Rattle.std.proofs.Common.{Box, ◌≡◌, List, Option, Global, ap, ◌∙◌, sym, subst}
 use Rattle.scanner.specs.declared.refusal.Refusal.{Refusal}
 use Rattle.program.specs.declared.kinds.ValueType.TheVariants.{Integer}
-use Rattle.syntax.specs.declared.expression.Conjunction.TheBlock.{Row_of-Conjunction, end_of-Conjunction}
-use Rattle.syntax.specs.declared.expression.Conjunction.TheBlock.{more_of-Conjunction, items-the_row-Conjunction}
 use Rattle.syntax.specs.declared.expression.Conjunction.TheBlock.{hidden-the_row-Conjunction-1}
-use Rattle.syntax.specs.declared.expression.Conjunction.TheBlock.{items_hidden-the_row-Conjunction-1, Row_of-Relation}
-use Rattle.syntax.specs.declared.expression.Conjunction.TheBlock.{end_of-Relation, more_of-Relation}
-use Rattle.syntax.specs.declared.expression.Conjunction.TheBlock.{items-the_row-Relation, hidden-the_row-Relation-0}
-use Rattle.syntax.specs.declared.expression.Conjunction.TheBlock.{items_hidden-the_row-Relation-0, Row_of-Summand}
-use Rattle.syntax.specs.declared.expression.Conjunction.TheBlock.{end_of-Summand, more_of-Summand}
-use Rattle.syntax.specs.declared.expression.Conjunction.TheBlock.{items-the_row-Summand, Row_of-Multiplier}
-use Rattle.syntax.specs.declared.expression.Conjunction.TheBlock.{end_of-Multiplier, more_of-Multiplier}
-use Rattle.syntax.specs.declared.expression.Conjunction.TheBlock.{items-the_row-Multiplier, struct-Product}
+use Rattle.syntax.specs.declared.expression.Conjunction.TheBlock.{items_hidden-the_row-Conjunction-1}
+use Rattle.syntax.specs.declared.expression.Conjunction.TheBlock.{hidden-the_row-Relation-0}
+use Rattle.syntax.specs.declared.expression.Conjunction.TheBlock.{items_hidden-the_row-Relation-0}
+use Rattle.syntax.specs.declared.expression.Conjunction.TheBlock.{struct-Product}
 use Rattle.syntax.specs.declared.expression.Conjunction.TheBlock.{struct-Total, items_shown-the_row-Multiplier-2}
 use Rattle.syntax.specs.declared.expression.Conjunction.TheBlock.{items_shown-the_row-Summand-3}
 use Rattle.syntax.specs.declared.expression.Conjunction.TheViews.{AnyOf as AnyOfMade, Conjunction::AllOf as AllOfMade}
@@ -22,10 +16,10 @@ use Rattle.syntax.specs.declared.expression.Product.{Product, out-Product}
 use Rattle.syntax.specs.declared.expression.Total.{Total, out-Total}
 use Rattle.syntax.specs.declared.expression.Multiplier.{Multiplier}
 use Rattle.syntax.specs.declared.expression.Summand.{Summand}
-use Rattle.syntax.specs.Tree.{OrElse, AndAlso, Adds, Scales}
-use Rattle.syntax.specs.View.{conjunction_of, conjunctions_of, relation_of, relations_of, total_of, summands_of}
+use Rattle.syntax.specs.View.{conjunction_of, relation_of, total_of, summands_of}
 use Rattle.syntax.specs.View.{term_of, product_of, factor_of, multipliers_of, conjunctions_in, relations_in}
 use Rattle.syntax.specs.View.{summands_in, multipliers_in, expression_of}
+use Rattle.syntax.proofs.Built.{row_conjunctions, row_relations, row_summands, row_multipliers}
 use Rattle.types.specs.Scope.{Scope}
 use Rattle.types.specs.Faults.{Gathers}
 use Rattle.types.specs.Typing.{factor_type, term_type, factor_place, term_place}
@@ -33,24 +27,6 @@ use Rattle.types.specs.ExpressionFaults.{wants, factor_faults, term_faults, sum_
 use Rattle.types.specs.ExpressionFaults.{expression_faults, multipliers_faults, summands_faults}
 use Rattle.body_faults.specs.Operands as o
 use Rattle.body_faults.proofs.Gathering.{gathers_chain}
-
-row_conjunctions : {n : _} (row : Row_of-Conjunction n) → conjunctions_of row ≡ conjunctions_in
-    (items-the_row-Conjunction _ row)
-row_conjunctions end_of-Conjunction = refl
-row_conjunctions (more_of-Conjunction c row) = ap (OrElse (conjunction_of c)) (row_conjunctions row)
-
-row_relations : {n : _} (row : Row_of-Relation n) → relations_of row ≡ relations_in (items-the_row-Relation _ row)
-row_relations end_of-Relation = refl
-row_relations (more_of-Relation r row) = ap (AndAlso (relation_of r)) (row_relations row)
-
-row_summands : {n : _} (row : Row_of-Summand n) → summands_of row ≡ summands_in (items-the_row-Summand _ row)
-row_summands end_of-Summand = refl
-row_summands (more_of-Summand op place t row) = ap (Adds op place (term_of t)) (row_summands row)
-
-row_multipliers : {n : _} (row : Row_of-Multiplier n) → multipliers_of row ≡ multipliers_in
-    (items-the_row-Multiplier _ row)
-row_multipliers end_of-Multiplier = refl
-row_multipliers (more_of-Multiplier op f row) = ap (Scales op (factor_of f)) (row_multipliers row)
 
 pub all_of_seen : (s : Scope) (x : Box AllOfType Global)
     → o.all_of s (relation_of x.value.first) (relation_of x.value.second) (relations_in x.value.rest.items)

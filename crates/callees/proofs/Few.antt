@@ -49,7 +49,7 @@ own_pieces k t =
     (recover_pieces k t.recover) in
     omega arith
 
-before_within : (k : ℕ) (ts : List MonitorTree) (i : ℕ) (t : MonitorTree) → slice_get ts i ≡ Some t
+pub before_within : (k : ℕ) (ts : List MonitorTree) (i : ℕ) (t : MonitorTree) → slice_get ts i ≡ Some t
     → length (pieces_from k (take i ts)) + length t.procedures ≤ length (pieces_from k ts)
 before_within k [] i t e = let w : None ≡ Some t = e in cc
 before_within k (x ∷ ts) zero t e =
@@ -63,7 +63,7 @@ before_within k (x ∷ ts) (suc i) t e =
     let g = length-append (monitor_pieces k x) (pieces_from (k + 1) ts) in
     omega arith
 
-all_pieces : (u : UnitTree) → length (pieces_from 0 u.monitors) + length u.procedures + 1 ≡ length (pieces u)
+pub all_pieces : (u : UnitTree) → length (pieces_from 0 u.monitors) + length u.procedures + 1 ≡ length (pieces u)
 all_pieces u =
     let f = length-map u.procedures (piece_of External) in
     let g = length-append (pieces_from 0 u.monitors) (map (piece_of External) u.procedures) in

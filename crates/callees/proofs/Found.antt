@@ -18,12 +18,12 @@ number_behind true o k n h e = let f : 0 ≡ n = cc in omega arith
 number_behind false (Some m) k n h e = let f : suc m ≡ n = cc in let g = h m refl in omega arith
 number_behind false None k n h e = let w : None ≡ Some n = e in cc
 
-text_within : (ns : List NameTree) (text : List ℕ) (n : ℕ) → text_number ns text ≡ Some n → n < length ns
+pub text_within : (ns : List NameTree) (text : List ℕ) (n : ℕ) → text_number ns text ≡ Some n → n < length ns
 text_within [] text n e = let w : None ≡ Some n = e in cc
 text_within (x ∷ ns) text n e = number_behind (bytes_eq text x.text) (text_number ns text) (length ns) n
     (text_within ns text) e
 
-undeclared : (o p : Option ℕ) (n : ℕ) → unless_declared o p ≡ Some n → p ≡ Some n
+pub undeclared : (o p : Option ℕ) (n : ℕ) → unless_declared o p ≡ Some n → p ≡ Some n
 undeclared (Some m) p n e = let w : None ≡ Some n = e in cc
 undeclared None p n e = e
 

@@ -1,16 +1,10 @@
 -- Rows of operands in code, as chains of the tree.
-use Rattle.std.proofs.Common.{Box, ◌≡◌, List, Global, refl, ap, ◌∙◌, sym}
-use Rattle.syntax.specs.declared.expression.Conjunction.TheBlock.{Row_of-Conjunction, end_of-Conjunction}
-use Rattle.syntax.specs.declared.expression.Conjunction.TheBlock.{more_of-Conjunction, items-the_row-Conjunction}
+use Rattle.std.proofs.Common.{Box, ◌≡◌, List, Global, ap, ◌∙◌, sym}
 use Rattle.syntax.specs.declared.expression.Conjunction.TheBlock.{hidden-the_row-Conjunction-1}
-use Rattle.syntax.specs.declared.expression.Conjunction.TheBlock.{items_hidden-the_row-Conjunction-1, Row_of-Relation}
-use Rattle.syntax.specs.declared.expression.Conjunction.TheBlock.{end_of-Relation, more_of-Relation}
-use Rattle.syntax.specs.declared.expression.Conjunction.TheBlock.{items-the_row-Relation, hidden-the_row-Relation-0}
-use Rattle.syntax.specs.declared.expression.Conjunction.TheBlock.{items_hidden-the_row-Relation-0, Row_of-Summand}
-use Rattle.syntax.specs.declared.expression.Conjunction.TheBlock.{end_of-Summand, more_of-Summand}
-use Rattle.syntax.specs.declared.expression.Conjunction.TheBlock.{items-the_row-Summand, Row_of-Multiplier}
-use Rattle.syntax.specs.declared.expression.Conjunction.TheBlock.{end_of-Multiplier, more_of-Multiplier}
-use Rattle.syntax.specs.declared.expression.Conjunction.TheBlock.{items-the_row-Multiplier, struct-Product}
+use Rattle.syntax.specs.declared.expression.Conjunction.TheBlock.{items_hidden-the_row-Conjunction-1}
+use Rattle.syntax.specs.declared.expression.Conjunction.TheBlock.{hidden-the_row-Relation-0}
+use Rattle.syntax.specs.declared.expression.Conjunction.TheBlock.{items_hidden-the_row-Relation-0}
+use Rattle.syntax.specs.declared.expression.Conjunction.TheBlock.{struct-Product}
 use Rattle.syntax.specs.declared.expression.Conjunction.TheBlock.{struct-Total, items_shown-the_row-Multiplier-2}
 use Rattle.syntax.specs.declared.expression.Conjunction.TheBlock.{items_shown-the_row-Summand-3}
 use Rattle.syntax.specs.declared.expression.Conjunction.TheViews.{AnyOf as AnyOfMade, Conjunction::AllOf as AllOfMade}
@@ -22,27 +16,10 @@ use Rattle.syntax.specs.declared.expression.Multiplier.{Multiplier}
 use Rattle.syntax.specs.declared.expression.Summand.{Summand}
 use Rattle.syntax.specs.Tree.{AnyOf, OrElse, AllOf, AndAlso, Adds, Scales}
 use Rattle.syntax.specs.Tree.{Total as TotalTree, Product as ProductTree}
-use Rattle.syntax.specs.View.{conjunction_of, conjunctions_of, relation_of, relations_of, total_of, summands_of}
-use Rattle.syntax.specs.View.{term_of, product_of, factor_of, multipliers_of, conjunctions_in, relations_in}
+use Rattle.syntax.specs.View.{conjunction_of, relation_of, total_of}
+use Rattle.syntax.specs.View.{term_of, product_of, factor_of, conjunctions_in, relations_in}
 use Rattle.syntax.specs.View.{summands_in, multipliers_in, expression_of}
-
-row_conjunctions : {n : _} (row : Row_of-Conjunction n) → conjunctions_of row ≡ conjunctions_in
-    (items-the_row-Conjunction _ row)
-row_conjunctions end_of-Conjunction = refl
-row_conjunctions (more_of-Conjunction c row) = ap (OrElse (conjunction_of c)) (row_conjunctions row)
-
-row_relations : {n : _} (row : Row_of-Relation n) → relations_of row ≡ relations_in (items-the_row-Relation _ row)
-row_relations end_of-Relation = refl
-row_relations (more_of-Relation r row) = ap (AndAlso (relation_of r)) (row_relations row)
-
-row_summands : {n : _} (row : Row_of-Summand n) → summands_of row ≡ summands_in (items-the_row-Summand _ row)
-row_summands end_of-Summand = refl
-row_summands (more_of-Summand op place t row) = ap (Adds op place (term_of t)) (row_summands row)
-
-row_multipliers : {n : _} (row : Row_of-Multiplier n) → multipliers_of row ≡ multipliers_in
-    (items-the_row-Multiplier _ row)
-row_multipliers end_of-Multiplier = refl
-row_multipliers (more_of-Multiplier op f row) = ap (Scales op (factor_of f)) (row_multipliers row)
+use Rattle.syntax.proofs.Built.{row_conjunctions, row_relations, row_summands, row_multipliers}
 
 pub all_of_seen : (y : Box AllOfType Global)
     → AllOf (relation_of y.value.first) (AndAlso (relation_of y.value.second) (relations_in y.value.rest.items))

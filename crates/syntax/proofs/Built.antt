@@ -47,20 +47,20 @@ use Rattle.syntax.specs.View.{conjunction_of, conjunctions_of, relation_of, rela
 use Rattle.syntax.specs.View.{summands_of, term_of, product_of, factor_of, multipliers_of, conjunctions_in}
 use Rattle.syntax.specs.View.{relations_in, summands_in, multipliers_in}
 
-row_conjunctions : {n : _} (row : Row_of-Conjunction n) → conjunctions_of row ≡ conjunctions_in
+pub row_conjunctions : {n : _} (row : Row_of-Conjunction n) → conjunctions_of row ≡ conjunctions_in
     (items-the_row-Conjunction _ row)
 row_conjunctions end_of-Conjunction = refl
 row_conjunctions (more_of-Conjunction c row) = ap (OrElse (conjunction_of c)) (row_conjunctions row)
 
-row_relations : {n : _} (row : Row_of-Relation n) → relations_of row ≡ relations_in (items-the_row-Relation _ row)
+pub row_relations : {n : _} (row : Row_of-Relation n) → relations_of row ≡ relations_in (items-the_row-Relation _ row)
 row_relations end_of-Relation = refl
 row_relations (more_of-Relation r row) = ap (AndAlso (relation_of r)) (row_relations row)
 
-row_summands : {n : _} (row : Row_of-Summand n) → summands_of row ≡ summands_in (items-the_row-Summand _ row)
+pub row_summands : {n : _} (row : Row_of-Summand n) → summands_of row ≡ summands_in (items-the_row-Summand _ row)
 row_summands end_of-Summand = refl
 row_summands (more_of-Summand op place t row) = ap (Adds op place (term_of t)) (row_summands row)
 
-row_multipliers : {n : _} (row : Row_of-Multiplier n) → multipliers_of row ≡ multipliers_in
+pub row_multipliers : {n : _} (row : Row_of-Multiplier n) → multipliers_of row ≡ multipliers_in
     (items-the_row-Multiplier _ row)
 row_multipliers end_of-Multiplier = refl
 row_multipliers (more_of-Multiplier op f row) = ap (Scales op (factor_of f)) (row_multipliers row)

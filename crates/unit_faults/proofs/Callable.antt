@@ -1,7 +1,7 @@
 -- Calls are of pieces of the unit.
-use Rattle.std.proofs.Common.{◌≡◌, ℕ, zero, suc, ◌<◌, ◌≤◌, ◌+◌, List, [], ◌∷◌, ◌++◌, length, map, take, Option, Some}
+use Rattle.std.proofs.Common.{◌≡◌, ℕ, zero, suc, ◌<◌, ◌≤◌, ◌+◌, List, [], ◌∷◌, ◌++◌, length, map, Option, Some}
 use Rattle.std.proofs.Common.{None}
-use Rattle.std.proofs.Common.{Bool, true, false, cond, bytes_eq, refl, subst, arith, length-append}
+use Rattle.std.proofs.Common.{refl, subst, arith, length-append}
 use Rattle.std.proofs.Common.{slice_get}
 use Rattle.std.specs.Prelude.{option_map, option_to_list, option_and_then}
 use Rattle.std.specs.List.{All, flat_map}
@@ -9,7 +9,6 @@ use Rattle.std.proofs.lemmas.List.{length-map}
 use Rattle.std.proofs.lemmas.List.Elements.{All-nil, All-cons, All-append, All-map}
 use Rattle.callgraph.specs.declared.Call.{Call}
 use Rattle.callgraph.specs.Calls.{Within}
-use Rattle.program.specs.declared.kinds.Role.TheVariants.{External, Main}
 use Rattle.program.specs.Scope.{own_monitor}
 use Rattle.syntax.specs.Lexeme.{NameTree}
 use Rattle.syntax.specs.Tree.{MonitorTree, UnitTree}
@@ -17,56 +16,13 @@ use Rattle.syntax.specs.Tree.{StatementTree, Assign, If, While, Call as CallOf, 
 use Rattle.syntax.specs.Tree.{Broadcast, Print, Abort, StatementTrees, NoStatements, Then, PartTree, NoPart, Part}
 use Rattle.types.specs.CallFaults.{calls, block_calls, part_calls}
 use Rattle.types.specs.Judgement.{calls_from, all_calls}
-use Rattle.types.specs.Names.{text_number, number_in, member_names, procedure_names, monitor_names, external_names}
-use Rattle.types.specs.Pieces.{Piece, piece_of, part_of, role_of, recover_pieces, monitor_pieces, pieces_from, pieces}
+use Rattle.types.specs.Names.{number_in, member_names, procedure_names, monitor_names, external_names}
+use Rattle.types.specs.Pieces.{Piece, pieces}
 use Rattle.types.specs.Pieces.{first_piece, first_external}
 use Rattle.types.specs.Scope.{Scope, unless_declared, procedure_number, inner_procedure, external_procedure}
 use Rattle.types.specs.Scope.{own_procedure, first_found, callee_number, callee}
-
-number_behind : (b : Bool) (o : Option ℕ) (k n : ℕ) → ((m : ℕ) → o ≡ Some m → m < k)
-    → cond b (Some 0) (option_map suc o) ≡ Some n → n < suc k
-number_behind true o k n h e = let f : 0 ≡ n = cc in omega arith
-number_behind false (Some m) k n h e = let f : suc m ≡ n = cc in let g = h m refl in omega arith
-number_behind false None k n h e = let w : None ≡ Some n = e in cc
-
-text_within : (ns : List NameTree) (text : List ℕ) (n : ℕ) → text_number ns text ≡ Some n → n < length ns
-text_within [] text n e = let w : None ≡ Some n = e in cc
-text_within (x ∷ ns) text n e = number_behind (bytes_eq text x.text) (text_number ns text) (length ns) n
-    (text_within ns text) e
-
-undeclared : (o p : Option ℕ) (n : ℕ) → unless_declared o p ≡ Some n → p ≡ Some n
-undeclared (Some m) p n e = let w : None ≡ Some n = e in cc
-undeclared None p n e = e
-
-own_pieces : (k : ℕ) (t : MonitorTree) → length t.procedures ≤ length (monitor_pieces k t)
-own_pieces k t =
-    let f = length-map t.procedures (λ q. piece_of (role_of q.access k) q.procedure) in
-    let g = length-append (map (λ q. piece_of (role_of q.access k) q.procedure) t.procedures)
-    (recover_pieces k t.recover) in
-    omega arith
-
--- the pieces before a monitor and those of its procedures are among all
-pub before_within : (k : ℕ) (ts : List MonitorTree) (i : ℕ) (t : MonitorTree) → slice_get ts i ≡ Some t
-    → length (pieces_from k (take i ts)) + length t.procedures ≤ length (pieces_from k ts)
-before_within k [] i t e = let w : None ≡ Some t = e in cc
-before_within k (x ∷ ts) zero t e =
-    let same : x ≡ t = cc in
-    let g = length-append (monitor_pieces k x) (pieces_from (k + 1) ts) in
-    let h = own_pieces k x in
-    subst (λ y. 0 + length y.procedures ≤ length (monitor_pieces k x ++ pieces_from (k + 1) ts)) same (omega arith)
-before_within k (x ∷ ts) (suc i) t e =
-    let h = before_within (k + 1) ts i t e in
-    let f = length-append (monitor_pieces k x) (pieces_from (k + 1) (take i ts)) in
-    let g = length-append (monitor_pieces k x) (pieces_from (k + 1) ts) in
-    omega arith
-
-pub all_pieces : (u : UnitTree) → length (pieces_from 0 u.monitors) + length u.procedures + 1 ≡ length (pieces u)
-all_pieces u =
-    let f = length-map u.procedures (piece_of External) in
-    let g = length-append (pieces_from 0 u.monitors) (map (piece_of External) u.procedures) in
-    let h = length-append (pieces_from 0 u.monitors ++ map (piece_of External) u.procedures)
-    (part_of Main u.place u.body ∷ []) in
-    omega arith
+use Rattle.callees.proofs.Few.{before_within, all_pieces}
+use Rattle.callees.proofs.Found.{text_within, undeclared}
 
 summed : (k : ℕ) (o : Option ℕ) (n : ℕ) → option_map (λ i. k + i) o ≡ Some n → (i : ℕ) × (o ≡ Some i) × (k + i ≡ n)
 summed k None n e = let w : None ≡ Some n = e in cc

@@ -16,7 +16,8 @@ use Rattle.callees.specs.Pieces.{piece_of}
 use Rattle.syntax.specs.Tree.{UnitTree}
 use Rattle.types.specs.Names.{body_scope}
 use Rattle.types.specs.Pieces.{Piece, pieces}
-use Rattle.unit_faults.proofs.Callable.{all_pieces, monitor_within}
+use Rattle.callees.proofs.Few.{all_pieces}
+use Rattle.unit_faults.proofs.Callable.{monitor_within}
 
 pub few_outer : (x : Unit) → declarations (unit_of x) < 2 ^ 32 - 1
     → length x.monitors.items + length x.procedures.items < 2 ^ 32 - 1
