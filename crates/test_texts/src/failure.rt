@@ -6,16 +6,16 @@ use thiserror::Error;
 /// Why nothing came of a row.
 #[derive(Debug, Drop, Error)]
 pub enum Failure {
-    /// It has no numbers and text.
+    /// It isn't what a row with its first word is.
     #[error("no row")]
     Row,
-    /// Its text is refused.
+    /// Its text, or a piece, is refused.
     #[error("{0}")]
     Refused(Refusal),
     /// The image can't be run, or its log is that of no run.
     #[error("no run")]
     Run,
-    /// The timeline is no text.
+    /// What was made of it is no text.
     #[error("no text")]
     Text,
     /// The timeline is no JSON.

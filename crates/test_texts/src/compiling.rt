@@ -1,35 +1,20 @@
-//! Compiles texts by several workers, as rows on standard input say, and prints what comes of each. A row is a line:
-//!
-//! ```text
-//! alike TEXT              the text is compiled by `compile`, and by 1, 2, 3, 7 and 64 workers
-//! meet TEXT               three workers compile the text, ten times; the first piece of each waits for the other two
-//! alone TEXT              one worker compiles it through the same gate, where nobody else can come
-//! pieces COUNT NUMBER ..  empty pieces of these numbers are handed to a collector of so many
-//! times COUNT N TEXT      the code of the text's pieces is made so often, by N workers, or by `generate` where N is 0
-//! ```
-//!
-//! Empty lines and lines that begin with `#` say nothing.
-//!
-//! The script ./benchmark times the last one.
-#![tactic(auto)]
-
-ghost use Rattle.std.specs.Prelude.{◌≤◌};
-ghost use Rattle.codegen_workers.specs.Limits.{most_workers};
+// Texts that are compiled by several workers.
 
 mod alike;
-mod failure;
 mod handing;
 mod meeting;
 mod repeating;
 
-use crate::alike::show_alike;
+ghost use Rattle.std.specs.Prelude.{◌≤◌};
+ghost use Rattle.codegen_workers.specs.Limits.{most_workers};
+
+use crate::compiling::alike::show_alike;
+use crate::compiling::handing::show_pieces;
+use crate::compiling::meeting::Meeting;
+use crate::compiling::repeating::repeat;
 use crate::failure::Failure;
-use crate::handing::show_pieces;
-use crate::meeting::Meeting;
-use crate::repeating::repeat;
 use compiler::compile_with;
 use scanner::Refusal;
-use std::io;
 use std::sync::Wait;
 use std::thread::Threads;
 
@@ -42,26 +27,12 @@ const TURNS: u32 = 10_000_000;
 // The same where no other can come.
 const FEW_TURNS: u32 = 1000;
 
-fn main(rt: HostRuntime) -> io::Result<()> {
-    for line in rt.lines(rt.alloc()) {
-        let line = line?;
-        let line = line.as_str();
-        if line.trim().is_empty() || line.starts_with('#') {
-            continue;
-        }
-        if let Err(failure) = take_row(&rt, line) {
-            println!(rt; "{failure}")?;
-        }
-    }
-    Ok(())
-}
-
-// Does what a row says.
-fn take_row<R: AllocGlobal + Print + Threads + Wait + Sync>(
+/// Does what a row on compiling workers says.
+pub fn take_compiling<R: AllocGlobal + Print + Threads + Wait + Sync>(
     rt: &R,
-    row: &str,
+    key: &str,
+    said: &str,
 ) -> Result<(), Failure> {
-    let (key, said) = row.split_once(' ').ok_or(Failure::Row)?;
     match key {
         "alike" => show_alike(rt, said),
         "meet" => show_meetings(rt, said),

@@ -1,15 +1,10 @@
-//! Prints the refusals of texts, each with its hints, and the hints to refusals that no text has.
-//!
-//! Standard input has the texts, one after the other. A line that begins with `==` stands before each, is no part of it,
-//! and says what is wrong with it.
-#![tactic(auto)]
-
-mod failure;
+// Refusals of texts with their hints.
 
 use crate::failure::Failure;
 use compiler::check_text;
 use refusal_hints::hints_of;
 use scanner::{Place, Refusal, RefusalKind};
+use std::alloc::Global;
 
 // The kinds of refusals, in the order of their numbers.
 const KINDS: [RefusalKind; 12] = [
@@ -27,22 +22,43 @@ const KINDS: [RefusalKind; 12] = [
     RefusalKind::StrayPiece,
 ];
 
-fn main(rt: HostRuntime) -> Result<(), Failure> {
-    let mut text = String::new(rt.alloc());
-    for line in rt.lines(rt.alloc()) {
-        let line = line?;
-        let line = line.as_str();
-        if line.starts_with("==") {
-            show(&rt, text.as_str())?;
-            text.clear();
-            println!(rt; "{line}")?;
-        } else {
-            text.push_str(line)?;
-            text.push_str("\n")?;
+/// A text of several lines, as far as it was read.
+#[derive(Drop)]
+pub struct HintedText {
+    text: String,
+    is_open: bool,
+}
+
+impl HintedText {
+    /// That of no lines, outside any text.
+    pub fn new(alloc: Global) -> HintedText {
+        HintedText {
+            text: String::new(alloc),
+            is_open: false,
         }
     }
-    show(&rt, text.as_str())?;
-    show_astray(&rt)
+
+    /// Whether the next line belongs to a text.
+    pub fn is_open(&self) -> bool {
+        self.is_open
+    }
+
+    /// Takes a line: one of the text, or one that ends it, at which the text's refusal is printed with its hints, and
+    /// then the line where it says what the next text has.
+    pub fn take<R: AllocGlobal + Print>(&mut self, rt: &R, line: &str) -> Result<(), Failure> {
+        if !line.starts_with("==") {
+            self.text.push_str(line)?;
+            self.text.push_str("\n")?;
+            return Ok(());
+        }
+        show(rt, self.text.as_str())?;
+        self.text.clear();
+        self.is_open = line != "==";
+        if self.is_open {
+            println!(rt; "{line}")?;
+        }
+        Ok(())
+    }
 }
 
 // Prints the refusal of a text with its hints, if it has one. Before the first text there is none.
@@ -69,8 +85,8 @@ fn show_hints<R: AllocGlobal + Print>(
     Ok(())
 }
 
-// Prints the hints to a refusal of each kind at a place that its text doesn't have.
-fn show_astray<R: AllocGlobal + Print>(rt: &R) -> Result<(), Failure> {
+/// Prints the hints to a refusal of each kind at a place that its text doesn't have.
+pub fn show_astray<R: AllocGlobal + Print>(rt: &R) -> Result<(), Failure> {
     println!(rt; "== A refusal of each kind that isn't the text's.")?;
     for kind in KINDS {
         let refusal = Refusal {

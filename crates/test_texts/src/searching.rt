@@ -1,18 +1,4 @@
-//! Searches all runs of programs, as rows on standard input say, and prints what was found. A row is a line: how many
-//! states may be kept, which runs are searched (`own`, or `strays` where those who wait may resume by themselves too),
-//! and the text of a program:
-//!
-//! ```text
-//! 10000 own PROGRAM P; MAIN PRINT 1; END.
-//! ```
-//!
-//! A line is printed for each: whether the search came to its end, how many actions the run has that it found to get
-//! stuck, and how many the one in which it found a process to abort, where it found one.
-//!
-//! Empty lines and lines that begin with `#` say nothing.
-#![tactic(auto)]
-
-mod failure;
+// Searches over all runs of programs.
 
 use crate::failure::Failure;
 use compiler::compile_checked;
@@ -21,25 +7,18 @@ use source_states::Action;
 use std::alloc::Global;
 use std::io;
 
-fn main(rt: HostRuntime) -> io::Result<()> {
-    for line in rt.lines(rt.alloc()) {
-        let line = line?;
-        let line = line.as_str();
-        if line.trim().is_empty() || line.starts_with('#') {
-            continue;
-        }
-        match take_row(rt.alloc(), line) {
-            Ok(found) => show(&rt, &found)?,
-            Err(failure) => println!(rt; "{failure}")?,
-        }
-    }
+/// Searches all runs of a program, and prints whether the search came to its end, how many actions the run has that it
+/// found to get stuck, and how many the one in which it found a process to abort, where it found one.
+pub fn show_search<R: AllocGlobal + Print>(rt: &R, said: &str) -> Result<(), Failure> {
+    let found = search(rt.alloc(), said)?;
+    show(rt, &found)?;
     Ok(())
 }
 
-// What a search finds of the program of one row.
-fn take_row(alloc: Global, row: &str) -> Result<Exploration, Failure> {
-    let (most, row) = row.split_once(' ').ok_or(Failure::Row)?;
-    let (runs, text) = row.split_once(' ').ok_or(Failure::Row)?;
+// What a search finds of the program of a row.
+fn search(alloc: Global, said: &str) -> Result<Exploration, Failure> {
+    let (most, said) = said.split_once(' ').ok_or(Failure::Row)?;
+    let (runs, text) = said.split_once(' ').ok_or(Failure::Row)?;
     let most: usize = most.parse().map_err(|_| Failure::Row)?;
     let strays = has_strays(runs)?;
     let (checked, _lowered) = compile_checked(alloc, text.as_bytes())?;

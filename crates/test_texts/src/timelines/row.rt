@@ -9,8 +9,6 @@ use std::alloc::Global;
 /// A row on standard input.
 #[derive(Clone, Copy)]
 pub struct Row<'a> {
-    /// Whether the timeline is printed.
-    pub shown: bool,
     /// The seed of the run's order.
     pub seed: u64,
     /// The most steps of the machine.
@@ -22,18 +20,13 @@ pub struct Row<'a> {
 }
 
 impl<'a> Row<'a> {
-    /// The row that a line is.
-    pub fn of_line(line: &'a str) -> Result<Row<'a>, Failure> {
-        let (said, text) = line.split_once('|').ok_or(Failure::Row)?;
+    /// The row that is said behind its first word.
+    pub fn of_line(said: &'a str) -> Result<Row<'a>, Failure> {
+        let (said, text) = said.split_once('|').ok_or(Failure::Row)?;
         let said = said.trim();
-        let (shown, said) = match said.strip_prefix("show ") {
-            Some(said) => (true, said),
-            None => (false, said),
-        };
         let (seed, said) = said.split_once(' ').ok_or(Failure::Row)?;
         let (steps, strays) = said.split_once(' ').ok_or(Failure::Row)?;
         Ok(Row {
-            shown,
             seed: seed.parse().map_err(|_| Failure::Row)?,
             steps: steps.parse().map_err(|_| Failure::Row)?,
             strays: strays.parse().map_err(|_| Failure::Row)?,
