@@ -83,7 +83,7 @@ id_zero pt q v h other = absurd (other h)
 
 -- how many steps are left before the id word is read, by that word
 abbrev ranks : ℕ → ℕ
-ranks v = if v == 0 then 1 else 35
+ranks v = if v == 0 then 4 else 35
 
 yes : {A : Type 0} (a b : ℕ) (x y : A) → a ≡ b → (if a == b then x else y) ≡ x
 yes a b x y h = cond-true (a == b) x y (eq-eqb a b h)
@@ -233,7 +233,7 @@ module _ (p : Program) (w : WellFormed p) (steps : ℕ) (s : State) (c : SourceS
       by_reply answer mid sv e' e (suc v) z =
           let other : sv.reply ≢ 0 = λ i. absurd (omega (arith, z, i)) in
           let id : k.world.id child ≢ 0 = λ i. other (sv.serves.0 ∙ i) in
-          let ranked : rank (more_steps b) k.world (JoinReads child) ≡ 35 = no {A = ℕ} (k.world.id child) 0 1 35 id in
+          let ranked : rank (more_steps b) k.world (JoinReads child) ≡ 35 = no {A = ℕ} (k.world.id child) 0 4 35 id in
           record {
             to = JoinSleeps child;
             leads = no sv.reply 0 _ _ other;
@@ -248,7 +248,7 @@ module _ (p : Program) (w : WellFormed p) (steps : ℕ) (s : State) (c : SourceS
 
   -- the thread sleeps, or the child is over by now
   pub sleep_step : (x : Thread) → x ≡ j.sleeps → c.process t ≡ Some (Joining child into part f cs)
-      → (k.world.at t).point ≡ JoinSleeps child → 18 ≤ n
+      → (k.world.at t).point ≡ JoinSleeps child → 18 ≤ n + 3
       → IsLow k.world.sequence (look (code_of p) t x)
       → StepsSo p done raises deferral (mark_of (marks_of p) x) s t woken (look (code_of p) t x) s'
       → Next p w steps s' t done raises deferral pauses n c (stages k.world) (raised_at k.world)
@@ -263,9 +263,12 @@ module _ (p : Program) (w : WellFormed p) (steps : ℕ) (s : State) (c : SourceS
         process = Joining child into part f cs;
         acts = refl;
         stands = reads join_steps (omega arith) is j (j.again sv.reply);
-        paced = λ none i. fewer sv.after (after_awake (JoinSleeps child) (Joining child into part f cs) x
-            (AskWait (process_word child 2) child) j.after_sleep proc point (ap (look (code_of p) t) there ∙ j.sleep)
-            valid_child refl tt refl (λ o. refl) refl answer mid sv e' i) sv.serves;
+        paced = λ none i. omega (
+          arith,
+          fewer sv.after (after_awake (JoinSleeps child) (Joining child into part f cs) x
+              (AskWait (process_word child 2) child) j.after_sleep proc point (ap (look (code_of p) t) there ∙ j.sleep)
+              valid_child refl tt refl (λ o. refl) refl answer mid sv e' i) sv.serves,
+        );
       }) low moves
     where
       fewer : (world : World) → world.asleep t ≡ None
@@ -278,7 +281,7 @@ module _ (p : Program) (w : WellFormed p) (steps : ℕ) (s : State) (c : SourceS
           absurd (cc (up, asleep))
       fewer world up (inr h) =
           let gone = id_zero (k.world.at child).point child (k.world.id child) (inv.joiners.ids child) h.0 in
-          let ranked : ranks (world.id child) ≡ 1 = yes {A = ℕ} (world.id child) 0 1 35
+          let ranked : ranks (world.id child) ≡ 4 = yes {A = ℕ} (world.id child) 0 4 35
           (ap (λ (x : World). x.id child) h.1 ∙ gone) in
           omega (arith, ranked, enough)
 

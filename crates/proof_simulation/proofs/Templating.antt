@@ -53,7 +53,7 @@ use Rattle.proof_simulation.proofs.Resumed.{who_resumes}
 use Rattle.proof_simulation.proofs.Moving.{IsLow, Next}
 use Rattle.proof_simulation.proofs.Stepped.{Arrives, stepped}
 use Rattle.proof_simulation.proofs.Serving.{served}
-use Rattle.proof_simulation.proofs.Ranking.{IsTemplate, rank_falls, rank_ends}
+use Rattle.proof_simulation.proofs.Ranking.{IsTemplate, rank_falls, rank_ends, spare_at}
 use Rattle.proof_simulation.proofs.Points.{InTemplate, in_template}
 use Rattle.proof_simulation.proofs.Offering.{acts_now, same_next}
 use Rattle.proof_simulation.specs.Deferred.{Stage, stages, stage_of, Agrees, raised_at}
@@ -138,7 +138,7 @@ module _ (p : Program) (w : WellFormed p) (steps : ℕ) (s : State) (c : SourceS
   module _ (kind : Template) (u : Variables) (pt : Point) (x : Thread) (fits : TemplateFits b u t kind)
       (same : SameBefore kind pt u c.variable) (ne : pt ≢ Runs) (stands : StandsIn p t kind pt x)
       (proc : c.process t ≡ Some (process_at p kind pt)) (point : (k.world.at t).point ≡ pt)
-      (list : (k.world.at t).list ≡ list_at kind pt) (enough : rank (more_steps b) k.world pt ≤ n) where
+      (list : (k.world.at t).list ≡ list_at kind pt) (enough : rank (more_steps b) k.world pt ≤ n + spare_at pt) where
     within : InTemplate p t number.0 (omega (arith, number.1, few)) pt
     within = in_template p t number.0 (omega (arith, number.1, few)) b refl u kind pt x fits ne stands
 
@@ -199,7 +199,7 @@ module _ (p : Program) (w : WellFormed p) (steps : ℕ) (s : State) (c : SourceS
               → ((world : World) → steps_left b c.variable t world stand
               ≡ template_steps + most_steps b + before_template)
               → (source_event k.world c.table t pt sv.reply sv.after e ≡ None → pauses ≡ false
-              → more_steps b + 16 < rank (more_steps b) k.world pt)
+              → more_steps b + 12 + spare_at pt < rank (more_steps b) k.world pt)
               → (stand : StandsAt b c.variable t (Some y) (Some q) to (holds q))
               × (source_event k.world c.table t pt sv.reply sv.after e ≡ None → pauses ≡ false
               → steps_left b c.variable t (go_list sv.after t to (next_list pt (k.world.at t).list)) stand < n)
