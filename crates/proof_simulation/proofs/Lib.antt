@@ -4,6 +4,7 @@ pub mod Sourcing
 pub mod Nexts
 pub mod Moving
 pub mod Completions
+pub mod WholeCalls
 pub mod Resumed
 pub mod Deferred
 pub mod Stepped

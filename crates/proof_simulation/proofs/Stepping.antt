@@ -4,7 +4,7 @@ use Rattle.std.proofs.Common.{sym, ◌∙◌, subst, arith, inl, inr, ◌⊎◌}
 use Rattle.locals.specs.Threads.{Thread, Dies as Dies'}
 use Rattle.locals.specs.Looks.{Goes, look}
 use Rattle.machine.specs.States.{State}
-use Rattle.machine.specs.Runs.{Step, IsOwnStep, is_paused}
+use Rattle.machine.specs.Runs.{is_paused}
 use Rattle.program.specs.Trees.{Program}
 use Rattle.program.specs.WellFormed.{WellFormed}
 use Rattle.lowering.specs.Pieces.{code_of, marks_of}
@@ -23,7 +23,7 @@ use Rattle.proof_thread.specs.Completing as F
 use Rattle.refinement.specs.Built.{build_of, marked_image}
 use Rattle.proof_templates.specs.Layout.{place}
 use Rattle.proof_templates.specs.Inside.{Enters, Exits, Waits, Notifies, Broadcasts}
-use Rattle.proof_simulation.specs.Ordering.{StepsSo}
+use Rattle.proof_simulation.specs.Ordering.{StepsWhole}
 use Rattle.proof_simulation.specs.Killing.{last_of, left_of as monitors_left}
 use Rattle.proof_simulation.specs.Standing.{StandsAt, unmade, works, returns, inside, faults, killed, refused, reads}
 use Rattle.proof_simulation.specs.Standing.{sleeps, learns, takes, walks, clears, wakes, rests, IsAtWork, IsEnding}
@@ -56,7 +56,7 @@ module _ (p : Program) (w : WellFormed p) (steps : ℕ) (s : State) (c : SourceS
   b = build_of p w k.world.made
 
   abbrev Goes' : Thread → Type 0
-  Goes' x = StepsSo p done raises deferral (mark_of (marks_of p) x) s t woken (look (code_of p) t x) s'
+  Goes' x = StepsWhole p done raises deferral (mark_of (marks_of p) x) s t woken (look (code_of p) t x) s'
 
   abbrev IsLow' : Thread → Type 0
   IsLow' x = IsLow k.world.sequence (look (code_of p) t x)
@@ -217,13 +217,13 @@ module _ (p : Program) (w : WellFormed p) (steps : ℕ) (s : State) (c : SourceS
       dies_step p w steps s c k t woken done raises deferral pauses s' n number few awake fault point
       (proc ∙ ap (λ (i : List ℕ). Some (Dying (Faulted fault) i)) (sym list))
       (omega (arith, all x (P.Dies (Faulted fault) NoEntry) _ refl enough))
-      (subst (λ (v : Thread). StepsSo p done raises deferral (mark_of (marks_of p) v) s t woken (look
+      (subst (λ (v : Thread). StepsWhole p done raises deferral (mark_of (marks_of p) v) s t woken (look
       (code_of p) t v) s') (same_thread e) moves)
   from_stand o q pt l (killed {x = pending} of) proc point list x enough thread e low moves =
       killed_step p w steps s c k t woken done raises deferral pauses s' n number few awake pending of point
       (proc ∙ ap (λ (i : List ℕ). Some (Dying Killed (monitors_left (last_of pending) i))) (sym list))
       (omega (arith, all x (P.Dies Killed pending) _ refl enough))
-      (subst (λ (v : Thread). StepsSo p done raises deferral (mark_of (marks_of p) v) s t woken (look
+      (subst (λ (v : Thread). StepsWhole p done raises deferral (mark_of (marks_of p) v) s t woken (look
       (code_of p) t v) s') (same_thread e) moves)
   from_stand o q pt l (refused {child = child} {x = y} {q = r} {joining = joining} left few' h o' steady) proc point
       list x enough thread e low moves =
@@ -291,7 +291,7 @@ module _ (p : Program) (w : WellFormed p) (steps : ℕ) (s : State) (c : SourceS
       (subst (λ (i : List ℕ). IsEnding end (monitors_left (last_of pending) i)) (sym list) ends)
       (proc ∙ ap (λ (i : List ℕ). Some (ending end (monitors_left (last_of pending) i))) (sym list)) point
       (all x (Walks zero pending end) _ refl enough)
-      (subst (λ (v : Thread). StepsSo p done raises deferral (mark_of (marks_of p) v) s t woken
+      (subst (λ (v : Thread). StepsWhole p done raises deferral (mark_of (marks_of p) v) s t woken
       (look (code_of p) t v) s')
       (same_thread e) moves)
   from_stand o q pt l (walks {e = suc m} {x = pending} {end = end} phase is short ends of) proc point list x enough
@@ -302,61 +302,53 @@ module _ (p : Program) (w : WellFormed p) (steps : ℕ) (s : State) (c : SourceS
       (subst (λ (i : List ℕ). IsEnding end (monitors_left (last_of pending) i)) (sym list) ends)
       (proc ∙ ap (λ (i : List ℕ). Some (ending end (monitors_left (last_of pending) i))) (sym list)) point
       (all x (Walks (suc m) pending end) _ refl enough)
-      (subst (λ (v : Thread). StepsSo p done raises deferral (mark_of (marks_of p) v) s t woken
+      (subst (λ (v : Thread). StepsWhole p done raises deferral (mark_of (marks_of p) v) s t woken
       (look (code_of p) t v) s')
       (same_thread e) moves)
   from_stand o q pt l (clears {end = end}) proc point list x enough thread e low moves =
       clear_step p w steps s c k t woken done raises deferral pauses s' n number few awake end proc point
-      (subst (λ (v : Thread). StepsSo p done raises deferral (mark_of (marks_of p) v) s t woken
+      (subst (λ (v : Thread). StepsWhole p done raises deferral (mark_of (marks_of p) v) s t woken
       (look (code_of p) t v) s')
       (same_thread e) moves)
   from_stand o q pt l (wakes {end = end}) proc point list x enough thread e low moves =
       wake_step p w steps s c k t woken done raises deferral pauses s' n number few awake end proc point
       (all x (LastWakes end) _ refl enough)
-      (subst (λ (v : Thread). StepsSo p done raises deferral (mark_of (marks_of p) v) s t woken
+      (subst (λ (v : Thread). StepsWhole p done raises deferral (mark_of (marks_of p) v) s t woken
       (look (code_of p) t v) s')
       (same_thread e) moves)
   from_stand o q pt l rests proc point list x enough thread e low moves =
-      absurd (subst (λ (v : Thread). StepsSo p done raises deferral (mark_of (marks_of p) v) s t woken (look
+      absurd (subst (λ (v : Thread). StepsWhole p done raises deferral (mark_of (marks_of p) v) s t woken (look
       (code_of p) t v) s') (same_thread e) moves)
 
--- with as many steps to spare as a call has pieces before its last
-pub next_spared : (p : Program) (w : WellFormed p) (steps : ℕ) (s : State) (c : SourceState)
-    (k : Corresponds p w steps s c)
-    (l : Step) (s' : State) (st : IsOwnStep (code_of p) s l s') (done raises : Bool) (deferral : Option Kind)
-    → StepsSo p done raises deferral (mark_of (marks_of p) st.thread) s l.thread l.woken
-    (look (code_of p) l.thread st.thread) s'
-    → IsLow k.world.sequence (look (code_of p) l.thread st.thread)
-    → Next p w steps s' l.thread done raises deferral l.pauses (left_of p w k l.thread
-    - spare_step (look (code_of p) l.thread st.thread) (k.world.at l.thread).point) c (stages k.world) (raised_at
-    k.world)
-next_spared p w steps s c k l s' st done raises deferral moves low =
-    let t = l.thread in
-    from_stand p w steps s c k t l.woken done raises deferral l.pauses s'
-    (left_of p w k t - spare_step (look (code_of p) t st.thread) (k.world.at t).point)
-    (number_of p w steps s c k t st.thread st.stands) (few_made p w steps s c k)
-    (awake_at (place p) (s.asleep t) (k.world.asleep t) (k.shares.sleeps t) st.awake) st.pauses (s.thread t)
-    (c.process t) (k.world.at t).point (k.world.at t).list (k.threads t) refl refl refl st.thread (omega arith)
-    st.stands st.stands low moves
+module _ (p : Program) (w : WellFormed p) (steps : ℕ) (s : State) (c : SourceState) (k : Corresponds p w steps s c)
+    (t : ℕ) (woken : List ℕ) (s' : State) (x : Thread) (thread : s.thread t ≡ Some x) (awake : s.asleep t ≡ None)
+    (done raises : Bool) (deferral : Option Kind)
+    (moves : StepsWhole p done raises deferral (mark_of (marks_of p) x) s t woken (look (code_of p) t x) s')
+    (low : IsLow k.world.sequence (look (code_of p) t x)) where
+  -- with as many steps to spare as a call has pieces before its last
+  pub next_spared : Next p w steps s' t done raises deferral (is_paused s' t)
+      (left_of p w k t - spare_step (look (code_of p) t x) (k.world.at t).point) c (stages k.world) (raised_at k.world)
+  next_spared =
+      from_stand p w steps s c k t woken done raises deferral (is_paused s' t) s'
+      (left_of p w k t - spare_step (look (code_of p) t x) (k.world.at t).point)
+      (number_of p w steps s c k t x thread) (few_made p w steps s c k)
+      (awake_at (place p) (s.asleep t) (k.world.asleep t) (k.shares.sleeps t) awake) refl (s.thread t)
+      (c.process t) (k.world.at t).point (k.world.at t).list (k.threads t) refl refl refl x (omega arith)
+      thread thread low moves
 
-pub next : (p : Program) (w : WellFormed p) (steps : ℕ) (s : State) (c : SourceState) (k : Corresponds p w steps s c)
-    (l : Step) (s' : State) (st : IsOwnStep (code_of p) s l s') (done raises : Bool) (deferral : Option Kind)
-    → StepsSo p done raises deferral (mark_of (marks_of p) st.thread) s l.thread l.woken
-    (look (code_of p) l.thread st.thread) s'
-    → IsLow k.world.sequence (look (code_of p) l.thread st.thread)
-    → Next p w steps s' l.thread done raises deferral l.pauses (left_of p w k l.thread) c (stages k.world) (raised_at
-    k.world)
-next p w steps s c k l s' st done raises deferral moves low =
-    let n = next_spared p w steps s c k l s' st done raises deferral moves low in
-    record {
-      after = n.after;
-      ties = n.ties;
-      kinds = n.kinds;
-      own = n.own;
-      leads = n.leads;
-      stage = n.stage;
-      staged = n.staged;
-      raised = n.raised;
-      places = n.places;
-      paced = λ awake. elim (n.paced awake) [ inl some ↦ inl some | inr less ↦ inr (omega (arith, less)) ];
-    }
+  pub next : Next p w steps s' t done raises deferral (is_paused s' t) (left_of p w k t) c (stages k.world) (raised_at
+      k.world)
+  next =
+      let n = next_spared in
+      record {
+        after = n.after;
+        ties = n.ties;
+        kinds = n.kinds;
+        own = n.own;
+        leads = n.leads;
+        stage = n.stage;
+        staged = n.staged;
+        raised = n.raised;
+        places = n.places;
+        paced = λ goes. elim (n.paced goes) [ inl some ↦ inl some | inr less ↦ inr (omega (arith, less)) ];
+      }

@@ -6,9 +6,9 @@ use Rattle.locals.specs.Threads.{Thread, is_dying}
 use Rattle.locals.specs.Looks.{Look, Goes, Asks, Leaves, Breaks, Rests, look}
 use Rattle.locals.specs.Steps.{local_next, and_step, local_after}
 use Rattle.machine.specs.States.{State, opening_state, with_thread}
-use Rattle.machine.specs.Runs.{Doing, Own, Strayed, Killed, is_own, Step, GoesBy, MachineRun, IsOwnStep, IsStrayStep}
+use Rattle.machine.specs.Runs.{Doing, Own, Strayed, Killed, is_own, Step, GoesBy, MachineRun, IsStrayStep}
 use Rattle.machine.specs.Runs.{IsKillStep, IsDone, killed_to}
-use Rattle.machine.specs.Runs.{Moves, NextIsBroken, is_paused}
+use Rattle.machine.specs.Runs.{Moves, NextIsBroken}
 use Rattle.program.specs.Trees.{Program}
 use Rattle.program.specs.WellFormed.{WellFormed}
 use Rattle.lowering.specs.Pieces.{marks_of, code_of}
@@ -28,6 +28,7 @@ use Rattle.proof_simulation.proofs.Worlds.{put_put}
 use Rattle.proof_simulation.proofs.Local.{put_again}
 use Rattle.proof_simulation.proofs.Moving.{AreOwn, IsSome, left_of}
 use Rattle.proof_simulation.proofs.Completions.{told_deferral, told_apart}
+use Rattle.proof_simulation.proofs.WholeCalls.{steps_whole}
 use Rattle.proof_simulation.proofs.Stepping.{next}
 use Rattle.proof_simulation.proofs.Bounds.{left_few, left_short}
 use Rattle.proof_simulation.proofs.Paces.{Trail, rests, goes, keeps_pace}
@@ -188,15 +189,16 @@ module _ (p : Program) (w : WellFormed p) where
       let answer = answer_in s s' l.thread l.woken looks st.moves in
       let done = visible_step p s.word l.thread looks answer in
       let deferral = deferred_by_step mark looks answer in
-      let n = next p w taken s c k l s' st done (raises_number looks) deferral (steps_so p mark s s' l.thread l.woken
-      looks st.moves)
+      let so = steps_so p mark s s' l.thread l.woken looks st.moves in
+      let n = next p w taken s c k l.thread l.woken s' st.thread st.stands st.awake done (raises_number looks) deferral
+      (steps_whole p done (raises_number looks) deferral mark s l.thread l.woken looks s' so)
       (λ request go e d. let few = k.numbers d in omega (arith, few, short)) in
       record {
         after = n.after;
         ties = n.ties;
         kinds = n.kinds;
         leads = n.leads;
-        paced = λ awake own. (n.own, n.paced awake);
+        paced = λ awake own. (n.own, n.paced (sym st.pauses ∙ awake));
         stage = n.stage;
         staged = n.staged;
         counted = λ ks agrees.
@@ -353,18 +355,15 @@ module _ (p : Program) (w : WellFormed p) where
   goes_on s t m y awake h r =
       let mid = with_thread s t m in
       let after = with_thread mid t y in
-      let step : IsOwnStep (code_of p) mid (record { thread = t; woken = []; pauses = is_paused after t; doing = Own }) after = record {
-        thread = m;
-        stands = put_same s.thread t (Some m);
-        awake = awake;
-        moves = subst (λ (l : Look). Moves mid t [] l after) (sym h) (refl, refl);
-        pauses = refl;
-      } in
-      let so = told_apart p mid t [] (look (code_of p) t m) after step.moves in
-      let deferral = told_deferral p so.0 (mark_of (marks_of p) m) mid t [] (look (code_of p) t m) after so.1 in
-      let n = next p w r.taken mid r.source r.ties (record { thread = t; woken = []; pauses = is_paused after t; doing = Own })
-      after
-      step so.0 (raises_number (look (code_of p) t m)) deferral.0 deferral.1 (λ request go e d. absurd (cc (h, e))) in
+      let looks = look (code_of p) t m in
+      let mark = mark_of (marks_of p) m in
+      let moves : Moves mid t [] looks after = subst (λ (l : Look). Moves mid t [] l after) (sym h) (refl, refl) in
+      let so = told_apart p mid t [] looks after moves in
+      let deferral = told_deferral p so.0 mark mid t [] looks after so.1 in
+      let n = next p w r.taken mid r.source r.ties t [] after m (put_same s.thread t (Some m)) awake so.0
+      (raises_number looks) deferral.0
+      (steps_whole p so.0 (raises_number looks) deferral.0 mark mid t [] looks after deferral.1)
+      (λ request go e d. absurd (cc (h, e))) in
       record {
         taken = suc r.taken;
         source = n.after;

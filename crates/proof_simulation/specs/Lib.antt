@@ -1,3 +1,4 @@
+pub mod WholeCalls
 pub mod Deferred
 pub mod Ordering
 pub mod Killing
