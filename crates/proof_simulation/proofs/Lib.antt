@@ -5,6 +5,7 @@ pub mod Nexts
 pub mod Moving
 pub mod Completions
 pub mod WholeCalls
+pub mod Traces
 pub mod Resumed
 pub mod Deferred
 pub mod Stepped
@@ -21,6 +22,7 @@ pub mod Bounds
 pub mod Paces
 pub mod Leaving
 pub mod Observing
+pub mod Spares
 pub mod Local
 pub mod Starting
 pub mod Acting

@@ -567,6 +567,11 @@ module _ (p : Program) (w : WellFormed p) where
   unfolding ties_later
   later_staged steps s c k u = refl
 
+  pub later_left : (steps : ℕ) (s : State) (c : SourceState) (k : Corresponds p w steps s c) (u : ℕ)
+      → left_of p w (ties_later steps s c k) u ≡ left_of p w k u
+  unfolding ties_later
+  later_left steps s c k u = refl
+
   pub tracks_later : (steps : ℕ) (s : State) (a : SourceState) (r : Tracks p w steps s a)
       → (n : Tracks p w (suc steps) s a) × (n.deferred ≡ r.deferred)
       × ((u : ℕ) → raised_at n.ties.world u ≡ raised_at r.ties.world u)
