@@ -41,7 +41,7 @@ use Rattle.refinement.specs.Built.{build_of, marked_image}
 use Rattle.proof_templates.specs.Layout.{place, valid}
 use Rattle.proof_templates.specs.Asking.{template_steps}
 use Rattle.proof_templates.proofs.Addresses.{variables_apart, variable_apart}
-use Rattle.proof_simulation.specs.Ordering.{StepsSo, Places, nothing, waits, acts}
+use Rattle.proof_simulation.specs.Ordering.{StepsWhole, Places, nothing, waits, acts}
 use Rattle.proof_simulation.specs.Standing.{StandsAt, works, IsAtWork, Holds}
 use Rattle.proof_simulation.specs.Ranks.{steps_left, before_template}
 use Rattle.proof_simulation.specs.Corresponding.{Corresponds, IsBefore, Reached}
@@ -193,7 +193,7 @@ module _ (p : Program) (w : WellFormed p) (steps : ℕ) (s : State) (c : SourceS
     -- a thread on its way to what its process does next
     pub works_step : (x : Thread) (left : ℕ) → left ≤ most_steps b + template_steps
         → (h : Proceeds b t c.variable left x q) → IsAtWork p q c.variable → left + before_template ≤ n
-        → StepsSo p done raises deferral (mark_of (marks_of p) x) s t woken (look (code_of p) t x) s'
+        → StepsWhole p done raises deferral (mark_of (marks_of p) x) s t woken (look (code_of p) t x) s'
         → (x ≡ h.last) ⊎ Next p w steps s' t done raises deferral pauses n c (stages k.world) (raised_at k.world)
     works_step x left few h work enough moves =
         by_step (first_step (marked_image p) t (view_of b q c.variable) left x h.last h.walk)
@@ -210,12 +210,12 @@ module _ (p : Program) (w : WellFormed p) (steps : ℕ) (s : State) (c : SourceS
             → (x ≡ h.last) ⊎ Next p w steps s' t done raises deferral pauses n c (stages k.world) (raised_at k.world)
         by_step (at_end e) = inl e
         by_step (goes_on y m e plain less walk) =
-            let g : StepsSo p done raises deferral (mark_of (marks_of p) x) s t woken (Goes y) s' =
-            subst (λ (l : Look). StepsSo p done raises deferral (mark_of (marks_of p) x) s t woken l s') e moves in
+            let g : StepsWhole p done raises deferral (mark_of (marks_of p) x) s t woken (Goes y) s' =
+            subst (λ (l : Look). StepsWhole p done raises deferral (mark_of (marks_of p) x) s t woken l s') e moves in
             inr (on g.2 (g.3 ∙ plain) g.4 y m less walk g.1)
         by_step (loads_on a word go m e shown less walk) =
-            let g : StepsSo p done raises deferral (mark_of (marks_of p) x) s t woken (Asks (AskLoad a) go) s' =
-            subst (λ (l : Look). StepsSo p done raises deferral (mark_of (marks_of p) x) s t woken l s') e moves in
+            let g : StepsWhole p done raises deferral (mark_of (marks_of p) x) s t woken (Asks (AskLoad a) go) s' =
+            subst (λ (l : Look). StepsWhole p done raises deferral (mark_of (marks_of p) x) s t woken l s') e moves in
             let value : g.0 ≡ word =
             g.2.1.1.0 ∙ ap s.word shown.there ∙ k.variables shown.member shown.index shown.variable ∙ sym shown.shown in
             inr (on (g.4 ∙ variable_loaded p shown.member shown.index a g.0 shown.variable shown.there) g.5 g.6
@@ -294,7 +294,7 @@ module _ (p : Program) (w : WellFormed p) (steps : ℕ) (s : State) (c : SourceS
           paced = λ z. inl tt;
         })
 
-    module _ (x : Thread) (work : IsAtWork p q c.variable) (moves : StepsSo p done raises deferral (mark_of
+    module _ (x : Thread) (work : IsAtWork p q c.variable) (moves : StepsWhole p done raises deferral (mark_of
         (marks_of p) x) s t woken (look (code_of p) t x) s') where
       takes_up : (l : Label) (effect : Effect) (r : Process) → offer p c.variable q ≡ Does l effect r
           → TakesUp (offer p c.variable q) l effect r
@@ -305,8 +305,8 @@ module _ (p : Program) (w : WellFormed p) (steps : ℕ) (s : State) (c : SourceS
           → offer p c.variable q ≡ Does (Alone kind) Nothing r → Stands b t y r
           → Next p w steps s' t done raises deferral pauses n c (stages k.world) (raised_at k.world)
       acts_step kind y r mine h mark o stands =
-          let g : StepsSo p done raises deferral (mark_of (marks_of p) x) s t woken (Goes y) s' =
-          subst (λ (l : Look). StepsSo p done raises deferral (mark_of (marks_of p) x) s t woken l s') h moves in
+          let g : StepsWhole p done raises deferral (mark_of (marks_of p) x) s t woken (Goes y) s' =
+          subst (λ (l : Look). StepsWhole p done raises deferral (mark_of (marks_of p) x) s t woken l s') h moves in
           let takes = takes_up (Alone kind) Nothing r o in
           does s (Alone kind) Nothing y r takes tt (own_kind kind mine) refl
           (held_of (holds q) r (work.keeps (Alone kind) Nothing r tt takes)) stands refl refl refl refl k.output
@@ -321,8 +321,8 @@ module _ (p : Program) (w : WellFormed p) (steps : ℕ) (s : State) (c : SourceS
           → ((answer : ℕ) → Stands b t (go answer) r)
           → Next p w steps s' t done raises deferral pauses n c (stages k.world) (raised_at k.world)
       prints_step v go r h o stands =
-          let g : StepsSo p done raises deferral (mark_of (marks_of p) x) s t woken (Asks (AskPrint v) go) s' =
-          subst (λ (l : Look). StepsSo p done raises deferral (mark_of (marks_of p) x) s t woken l s') h moves in
+          let g : StepsWhole p done raises deferral (mark_of (marks_of p) x) s t woken (Asks (AskPrint v) go) s' =
+          subst (λ (l : Look). StepsWhole p done raises deferral (mark_of (marks_of p) x) s t woken l s') h moves in
           let z = signed_of v in
           let takes = takes_up (Alone (L.Print z)) (Writes z) r o in
           does (record s { output = s.output ++ z ∷ [] }) (Alone (L.Print z)) (Writes z) (go g.0) r takes tt tt refl
@@ -395,9 +395,9 @@ module _ (p : Program) (w : WellFormed p) (steps : ℕ) (s : State) (c : SourceS
             → Next p w steps s' t done raises deferral pauses n c (stages k.world) (raised_at k.world)
         stores_step go r h o stands =
             let a = variable_address p m i in
-            let g : StepsSo p done raises deferral (mark_of (marks_of p) x) s t woken (Asks (AskStore a (word_of z))
+            let g : StepsWhole p done raises deferral (mark_of (marks_of p) x) s t woken (Asks (AskStore a (word_of z))
             go) s' =
-            subst (λ (l : Look). StepsSo p done raises deferral (mark_of (marks_of p) x) s t woken l s') h moves in
+            subst (λ (l : Look). StepsWhole p done raises deferral (mark_of (marks_of p) x) s t woken l s') h moves in
             let effect = Puts' m.monitor m.number i z in
             let mine = holder p w steps s c k t m.monitor listed in
             let takes = takes_up (Stores m.monitor) effect r o in

@@ -1,6 +1,12 @@
 -- How many steps a thread has left at most.
 use Rattle.std.proofs.Common.{ℕ, zero, suc, ◌+◌, ◌<◌, ◌≤◌, ◌==◌, Bool, true, false, List, Option, arith}
+use Rattle.std.proofs.Common.{◌≡◌, ◌∙◌, refl, ap, Some, None}
 use Rattle.std.specs.Prelude.{if◌then◌else◌}
+use Rattle.locals.specs.Looks as M
+use Rattle.meaning.specs.Labels.{Faulted, Killed}
+use Rattle.protocol.specs.Requests.{request}
+use Rattle.proof_templates.specs.Asking.{machine_request}
+use Rattle.proof_simulation.proofs.Ranking.{spare_at}
 use Rattle.locals.specs.Threads.{Thread}
 use Rattle.program.specs.Trees.{Program}
 use Rattle.program.specs.WellFormed.{WellFormed}
@@ -32,8 +38,8 @@ rank_few more w big (ReenterPends m) = omega (arith, big)
 rank_few more w big (ReenterTries m) = omega arith
 rank_few more w big (TakeReads m k) = omega arith
 rank_few more w big (TakeMarks m v k) = either_few (w.lock m == v) 18 52 _ (omega arith) (omega arith)
-rank_few more w big (TakeSleeps m v k) = either_few (w.lock m == v) 1 52 _ (omega arith) (omega arith)
-rank_few more w big (TakeTries m v k) = either_few (w.lock m == v) 1 52 _ (omega arith) (omega arith)
+rank_few more w big (TakeSleeps m v k) = either_few (w.lock m == v) 4 52 _ (omega arith) (omega arith)
+rank_few more w big (TakeTries m v k) = either_few (w.lock m == v) 4 52 _ (omega arith) (omega arith)
 rank_few more w big (GotReads m v) = omega arith
 rank_few more w big (GotLinks m v h) = omega arith
 rank_few more w big (GotHeads m v) = omega arith
@@ -45,7 +51,7 @@ rank_few more w big (BroadcastAdds c) = omega arith
 rank_few more w big (BroadcastMarks c) = omega arith
 rank_few more w big (BroadcastReads c) = omega arith
 rank_few more w big (BroadcastMoves c s) = omega arith
-rank_few more w big (JoinReads q) = either_few (w.id q == 0) 1 35 _ (omega arith) (omega arith)
+rank_few more w big (JoinReads q) = either_few (w.id q == 0) 4 35 _ (omega arith) (omega arith)
 rank_few more w big (JoinSleeps q) = omega arith
 rank_few more w big (JoinLearns q end) = omega arith
 rank_few more w big (JoinTakes q end) = omega arith
@@ -69,6 +75,44 @@ rank_few more w big Unmade = omega arith
 rank_few more w big Runs = omega arith
 rank_few more w big (MeetsClaimed q) = omega arith
 rank_few more w big (HasEnded end) = omega arith
+
+either_some : (b : Bool) (x y n : ℕ) → n ≤ x → n ≤ y → n ≤ (if b then x else y)
+either_some true x y n h g = h
+either_some false x y n h g = g
+
+-- before a call so many steps are left
+pub rank_some : (more : ℕ) (w : World) (pt : Point) → spare_at pt ≡ 3 → 4 ≤ rank more w pt
+rank_some more w (TakeSleeps m v k) h = either_some (w.lock m == v) 4 52 _ (omega arith) (omega arith)
+rank_some more w (HasLeft m (ToWait c s)) h = omega arith
+rank_some more w (LeaveWakes m ToExit) h = omega arith
+rank_some more w (LeaveWakes m (ToWait c s)) h = omega arith
+rank_some more w (NotifyWakes c) h = omega arith
+rank_some more w (BroadcastMoves c s) h = omega arith
+rank_some more w (JoinSleeps q) h = omega arith
+rank_some more w pt h = absurd cc
+
+abbrev pub is_call : M.Request → Bool
+is_call (M.AskWait a expected) = true
+is_call (M.AskWake a n) = true
+is_call (M.AskRequeue a b n m expected) = true
+is_call request = false
+
+abbrev asks_call : Option M.Request → Bool
+asks_call None = false
+asks_call (Some r) = is_call r
+
+-- a point whose request is a call has as many to spare as its pieces
+pub call_spare : (p : Program) (t : ℕ) (pt : Point) (asks : M.Request) → machine_request p (request t pt) ≡ Some asks
+    → is_call asks ≡ true → spare_at pt ≡ 3
+call_spare p t (TakeSleeps m v k) asks e h = refl
+call_spare p t (HasLeft m (ToWait c s)) asks e h = refl
+call_spare p t (LeaveWakes m k) asks e h = refl
+call_spare p t (NotifyWakes c) asks e h = refl
+call_spare p t (BroadcastMoves c s) asks e h = refl
+call_spare p t (JoinSleeps q) asks e h = refl
+call_spare p t (Dies (Faulted fault) x) asks e h = absurd (let isnt = ap asks_call e ∙ h in cc)
+call_spare p t (Dies Killed x) asks e h = absurd (let isnt = ap asks_call e ∙ h in cc)
+call_spare p t pt asks e h = absurd (let isnt = ap asks_call e ∙ h in cc)
 
 module _ (b : Build) (v : Variables) (t : ℕ) (w : World) where
   at_most : (pt : Point) → rank (more_steps b) w pt ≤ more_steps b + 68

@@ -37,7 +37,7 @@ use Rattle.refinement.specs.Built.{build_of}
 use Rattle.proof_templates.specs.Layout.{place, valid, is_process}
 use Rattle.proof_templates.proofs.Layouts.{apart, number_is}
 use Rattle.proof_templates.proofs.Addresses.{variable_apart}
-use Rattle.proof_simulation.specs.Ordering.{StepsSo, Places, nothing, acts}
+use Rattle.proof_simulation.specs.Ordering.{StepsWhole, Places, nothing, acts}
 use Rattle.proof_simulation.specs.Standing.{StandsAt, IsAtWork, reads, refused as refused'}
 use Rattle.proof_simulation.specs.Ranks.{steps_left}
 use Rattle.proof_simulation.specs.Serving.{Keeps}
@@ -148,7 +148,7 @@ module _ (p : Program) (w : WellFormed p) (steps : ℕ) (s : State) (c : SourceS
       (subst (λ (a : ℕ). StandsAt (build_of p w a) c.variable t (Some y) (Some r) pt l) (sym made) stands)
       shares keeps made at result sequence places (inl tt) has_raised same
 
-  module _ (x : Thread) (work : IsAtWork p q c.variable) (moves : StepsSo p done raises deferral (mark_of
+  module _ (x : Thread) (work : IsAtWork p q c.variable) (moves : StepsWhole p done raises deferral (mark_of
       (marks_of p) x) s t woken (look (code_of p) t x) s') where
     pub claims_step : {into : Option ℕ} {part : Part} {f : Frame} {cs : List Caller} (child : ℕ) (go' : ℕ → Thread)
         → 0 < child → child ≤ k.world.made → join_steps + 5 < n
@@ -161,9 +161,10 @@ module _ (p : Program) (w : WellFormed p) (steps : ℕ) (s : State) (c : SourceS
     claims_step {into = into} {part = part} {f = f} {cs = cs} child go' some below enough h o j free taken =
         elim (cases_eq (k.world.claim child) 0) [ inl z ↦ claimed z | inr z ↦ refused z ]
       where
-        g : StepsSo p done raises deferral (mark_of (marks_of p) x) s t woken (Asks (AskSwap (process_word child 3) 1)
+        g : StepsWhole p done raises deferral (mark_of (marks_of p) x) s t woken (Asks
+            (AskSwap (process_word child 3) 1)
             go') s'
-        g = subst (λ (l : Look). StepsSo p done raises deferral (mark_of (marks_of p) x) s t woken l s') h moves
+        g = subst (λ (l : Look). StepsWhole p done raises deferral (mark_of (marks_of p) x) s t woken l s') h moves
 
         calm : false ≡ raised_then done raises (raised_at k.world t)
         calm = raised_none done raises (raised_at k.world t) g.6 (ap (λ (i : Point). is_some (notified_at i)) point)

@@ -7,7 +7,7 @@ use Rattle.std.proofs.lemmas.Bool.{cases_eq, eq-eqb, ne_eqb}
 use Rattle.words.specs.Updates.{put}
 use Rattle.locals.specs.Looks.{look}
 use Rattle.machine.specs.States.{State}
-use Rattle.machine.specs.Runs.{Doing, Own, Strayed, Killed, Step, IsDone, GoesBy}
+use Rattle.machine.specs.Runs.{Doing, Own, Strayed, Killed, Step}
 use Rattle.program.specs.declared.kinds.Member.{Member}
 use Rattle.proof_thread.specs.Completing.{IsOwn}
 use Rattle.refinement.specs.Outside.{is_condition_word}
@@ -19,7 +19,9 @@ use Rattle.meaning.specs.States.{SourceState}
 use Rattle.proof_thread.specs.Deferrals.{mark_of, deferred_by_step}
 use Rattle.protocol.proofs.Sleeps.{put_same, put_other}
 use Rattle.refinement.specs.Pace.{is_action_of}
-use Rattle.proof_simulation.specs.Progress.{answer_in, visible_step}
+use Rattle.proof_simulation.specs.Progress.{answer_whole, visible_step}
+use Rattle.proof_simulation.specs.Traces.{TraceStep, Loud, Silent, Trace}
+use Rattle.proof_simulation.specs.WholeCalls.{IsWholeDone}
 use Rattle.proof_simulation.specs.Ordering.{Places, act}
 use Rattle.proof_simulation.specs.Ordering as P
 use Rattle.proof_simulation.specs.Deferred.{AreOwn, Stage, Agrees, is_failing, has_failed, deferred_then}
@@ -43,33 +45,45 @@ abbrev pub behind : Bool → Option Kind → List Kind → List Kind
 behind true deferral ks = []
 behind false deferral ks = deferred_then deferral ks
 
--- how many actions of its process a step takes, and what waits behind it
-abbrev pub done_count : (p : Program) → (s s' : State) → (l : Step) → (d : Doing) → IsDone (code_of p) s l s' d
+-- how many actions of its process a step with whole calls takes, and what waits behind it
+abbrev pub done_count : (p : Program) → (s s' : State) → (l : Step) → (d : Doing) → IsWholeDone (code_of p) s l s' d
     → List Kind → ℕ
 done_count p s s' l Own st ks =
     let looks = look (code_of p) l.thread st.thread in
-    let answer = answer_in s s' l.thread l.woken looks st.moves in
+    let answer = answer_whole s s' l.thread l.woken looks st.moves in
     step_count (visible_step p s.word l.thread looks answer) (deferred_by_step (mark_of (marks_of p) st.thread) looks
     answer) ks
 done_count p s s' l (Strayed a) st ks = 0
 done_count p s s' l (Killed begins) st ks = 0
 
-abbrev pub done_behind : (p : Program) → (s s' : State) → (l : Step) → (d : Doing) → IsDone (code_of p) s l s' d
+abbrev pub done_behind : (p : Program) → (s s' : State) → (l : Step) → (d : Doing) → IsWholeDone (code_of p) s l s' d
     → List Kind → List Kind
 done_behind p s s' l Own st ks =
     let looks = look (code_of p) l.thread st.thread in
-    let answer = answer_in s s' l.thread l.woken looks st.moves in
+    let answer = answer_whole s s' l.thread l.woken looks st.moves in
     behind (visible_step p s.word l.thread looks answer) (deferred_by_step (mark_of (marks_of p) st.thread) looks
     answer) ks
 done_behind p s s' l (Strayed a) st ks = if is_condition_word p a then [] else ks
 done_behind p s s' l (Killed begins) st ks = if begins then [] else ks
 
-abbrev pub counts : (p : Program) → (ℕ → List Kind) → (steps : List Step) → (s s' : State)
-    → GoesBy (code_of p) s steps s' → ℕ → ℕ
-counts p deferred [] s s' run t = 0
-counts p deferred (l ∷ ls) s s' run t =
-    of_one l.thread t (done_count p s run.0 l l.doing run.1 (deferred l.thread))
-    + counts p (put deferred l.thread (done_behind p s run.0 l l.doing run.1 (deferred l.thread))) ls run.0 s' run.2 t
+-- the same of a step of a trace
+abbrev pub traced_count : (p : Program) → (s s' : State) → (l : Step) → (taken next : ℕ → ℕ)
+    → TraceStep (code_of p) s taken l s' next → List Kind → ℕ
+traced_count p s s' l taken next (Loud st time) ks = done_count p s s' l l.doing st ks
+traced_count p s s' l taken next (Silent own same piece) ks = 0
+
+abbrev pub traced_behind : (p : Program) → (s s' : State) → (l : Step) → (taken next : ℕ → ℕ)
+    → TraceStep (code_of p) s taken l s' next → List Kind → List Kind
+traced_behind p s s' l taken next (Loud st time) ks = done_behind p s s' l l.doing st ks
+traced_behind p s s' l taken next (Silent own same piece) ks = ks
+
+abbrev pub counts : (p : Program) → (ℕ → List Kind) → (steps : List Step) → (s : State) → (taken : ℕ → ℕ) → (s' : State)
+    → Trace (code_of p) s taken steps s' → ℕ → ℕ
+counts p deferred [] s taken s' run t = 0
+counts p deferred (l ∷ ls) s taken s' run t =
+    of_one l.thread t (traced_count p s run.0 l taken run.1 run.2 (deferred l.thread))
+    + counts p (put deferred l.thread (traced_behind p s run.0 l taken run.1 run.2 (deferred l.thread))) ls run.0 run.1
+    s' run.3 t
 
 abbrev none : Bool → ℕ
 none b = if b then 0 else 0

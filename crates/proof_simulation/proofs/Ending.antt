@@ -51,7 +51,7 @@ use Rattle.proof_templates.specs.Layout.{place, valid, is_process}
 use Rattle.proof_templates.proofs.Layouts.{apart, number_is}
 use Rattle.proof_templates.specs.Inside.{IsSteady}
 use Rattle.proof_templates.proofs.Addresses.{variable_apart}
-use Rattle.proof_simulation.specs.Ordering.{StepsSo, Places, nothing, again, waits}
+use Rattle.proof_simulation.specs.Ordering.{StepsWhole, Places, nothing, again, waits}
 use Rattle.proof_simulation.specs.Killing.{IsOfProgram, last_of, left_of}
 use Rattle.proof_simulation.specs.Standing.{StandsAt, IsAtWork, IsEnding, ending, entries_seen, walks}
 use Rattle.proof_simulation.specs.Ranks.{rank, steps_left}
@@ -210,7 +210,7 @@ module _ (p : Program) (w : WellFormed p) (steps : ℕ) (s : State) (c : SourceS
       → Leads p c (map (act t) kinds) (record c { process = f })
       → Places p s' t c (record c { process = f }) done deferral (stages k.world t) W.Leaves kinds
       → IsSome kinds ⊎ (4 < n) → raised_at k.world t ≡ false
-      → StepsSo p done raises deferral (mark_of (marks_of p) (Dies' cause)) s t woken (look (code_of p) t (Dies'
+      → StepsWhole p done raises deferral (mark_of (marks_of p) (Dies' cause)) s t woken (look (code_of p) t (Dies'
       cause)) s'
       → Next p w steps s' t done raises deferral pauses n c (stages k.world) (raised_at k.world)
   by_fault cause x at f kinds of reached stands list same chain ps own leads places paced idle g =
@@ -235,7 +235,7 @@ module _ (p : Program) (w : WellFormed p) (steps : ℕ) (s : State) (c : SourceS
   -- a thread that comes to a fault which it met in the source already
   pub dies_step : (fault : Fault) → (k.world.at t).point ≡ Dies (Faulted fault) NoEntry
       → c.process t ≡ Some (Dying (Faulted fault) l) → 4 < n
-      → StepsSo p done raises deferral (mark_of (marks_of p) (Dies' (Faulted fault))) s t woken (look (code_of p) t
+      → StepsWhole p done raises deferral (mark_of (marks_of p) (Dies' (Faulted fault))) s t woken (look (code_of p) t
       (Dies' (Faulted fault))) s'
       → Next p w steps s' t done raises deferral pauses n c (stages k.world) (raised_at k.world)
   dies_step fault point proc enough moves =
@@ -247,7 +247,7 @@ module _ (p : Program) (w : WellFormed p) (steps : ℕ) (s : State) (c : SourceS
   -- a thread that was killed, as its process was
   pub killed_step : (x : PendingEntry) → IsOfProgram p x → (k.world.at t).point ≡ Dies Killed x
       → c.process t ≡ Some (Dying Killed (left_of (last_of x) l)) → 4 < n
-      → StepsSo p done raises deferral (mark_of (marks_of p) (Dies' Killed)) s t woken (look (code_of p) t (Dies'
+      → StepsWhole p done raises deferral (mark_of (marks_of p) (Dies' Killed)) s t woken (look (code_of p) t (Dies'
       Killed)) s'
       → Next p w steps s' t done raises deferral pauses n c (stages k.world) (raised_at k.world)
   killed_step x of point proc enough moves =
@@ -262,14 +262,14 @@ module _ (p : Program) (w : WellFormed p) (steps : ℕ) (s : State) (c : SourceS
       → Reached p.version (go_list k.world t (Dies (Faulted fault) NoEntry) l) c.table
       → kind_of label ≡ L.Fails fault → is_internal label ≡ true
       → TakesUp (offer p c.variable q) label Nothing (Dying (Faulted fault) l) → Allows t label c.table c.table
-      → StepsSo p done raises deferral (mark_of (marks_of p) x) s t woken (look (code_of p) t x) s'
+      → StepsWhole p done raises deferral (mark_of (marks_of p) x) s t woken (look (code_of p) t x) s'
       → Next p w steps s' t done raises deferral pauses n c (stages k.world) (raised_at k.world)
   fault_met q fault label x proc list steady e works idle chain reached kind internal takes allowed moves =
       let r = Dying (Faulted fault) l in
       let z = thread_at (Dies (Faulted fault) NoEntry) l in
-      let g : StepsSo p done raises deferral (mark_of (marks_of p) (Dies' (Faulted fault))) s t woken
+      let g : StepsWhole p done raises deferral (mark_of (marks_of p) (Dies' (Faulted fault))) s t woken
       (look (code_of p) t (Dies' (Faulted fault))) s' =
-      subst (λ (i : Thread). StepsSo p done raises deferral (mark_of (marks_of p) i) s t woken
+      subst (λ (i : Thread). StepsWhole p done raises deferral (mark_of (marks_of p) i) s t woken
       (look (code_of p) t i) s') e moves
       in
       by_fault (Faulted fault) NoEntry (put k.world.at t z) (put c.process t (Some r)) (kind_of label ∷ []) tt reached
@@ -286,7 +286,7 @@ module _ (p : Program) (w : WellFormed p) (steps : ℕ) (s : State) (c : SourceS
       → (k.world.at t).point ≡ MeetsClaimed child → IsSteady p q c.variable
       → offer p c.variable q ≡ ClaimsOne child joining (Dying (Faulted HandleNotJoinable) (holds q))
       → x ≡ Dies' (Faulted HandleNotJoinable)
-      → StepsSo p done raises deferral (mark_of (marks_of p) x) s t woken (look (code_of p) t x) s'
+      → StepsWhole p done raises deferral (mark_of (marks_of p) x) s t woken (look (code_of p) t x) s'
       → Next p w steps s' t done raises deferral pauses n c (stages k.world) (raised_at k.world)
   refused_step child q joining x proc list point steady o e moves =
       let move = ClaimTaken child in
@@ -356,7 +356,7 @@ module _ (p : Program) (w : WellFormed p) (steps : ℕ) (s : State) (c : SourceS
 
   -- the machine's answer is the head, whatever is returned
   return_moves : (mark : Option Mark) (r : Option ℕ)
-      → StepsSo p done raises deferral mark s t woken (Asks (return_request r) first_exit) s'
+      → StepsWhole p done raises deferral mark s t woken (Asks (return_request r) first_exit) s'
       → s' ≡ with_thread (returned_state r) t (Exits phase)
   return_moves mark None g = g.3 ∙ ap (λ (x : State). with_thread x t (first_exit g.0)) g.2.1.1
       ∙ ap (λ a. with_thread (returned_state None) t (first_exit a)) (g.2.1.0 ∙ head_word)
@@ -369,7 +369,7 @@ module _ (p : Program) (w : WellFormed p) (steps : ℕ) (s : State) (c : SourceS
 
   -- which raises no number
   returns_raise : (mark : Option Mark) (r : Option ℕ)
-      → StepsSo p done raises deferral mark s t woken (Asks (return_request r) first_exit) s' → raises ≡ false
+      → StepsWhole p done raises deferral mark s t woken (Asks (return_request r) first_exit) s' → raises ≡ false
   returns_raise mark None g = g.6
   returns_raise mark (Some v) g = g.6
 
@@ -382,7 +382,7 @@ module _ (p : Program) (w : WellFormed p) (steps : ℕ) (s : State) (c : SourceS
       → Leads p c (map (act t) kinds) (record c { process = f })
       → Places p s' t c (record c { process = f }) done deferral (stages k.world t) W.Leaves kinds
       → IsSome kinds ⊎ (4 < n)
-      → StepsSo p done raises deferral mark s t woken (Asks (return_request r) first_exit) s'
+      → StepsWhole p done raises deferral mark s t woken (Asks (return_request r) first_exit) s'
       → Next p w steps s' t done raises deferral pauses n c (stages k.world) (raised_at k.world)
   by_return mark r at f kinds fits none reached stands list same point ps own leads places paced g =
       let end = Ended (left_value r) in
@@ -407,13 +407,13 @@ module _ (p : Program) (w : WellFormed p) (steps : ℕ) (s : State) (c : SourceS
 
   -- a return is no action that others learn of
   returns_done : (mark : Option Mark) (r : Option ℕ)
-      → StepsSo p done raises deferral mark s t woken (Asks (return_request r) first_exit) s' → done ≡ false
+      → StepsWhole p done raises deferral mark s t woken (Asks (return_request r) first_exit) s' → done ≡ false
   returns_done mark None g = g.4
   returns_done mark (Some v) g = g.4
 
   -- it is an action that waits, by its mark
   returns_deferral : (mark : Option Mark) (r : Option ℕ)
-      → StepsSo p done raises deferral mark s t woken (Asks (return_request r) first_exit) s' → deferral ≡ last_mark
+      → StepsWhole p done raises deferral mark s t woken (Asks (return_request r) first_exit) s' → deferral ≡ last_mark
       mark
   returns_deferral mark None g = g.5
   returns_deferral mark (Some v) g = g.5
@@ -422,17 +422,17 @@ module _ (p : Program) (w : WellFormed p) (steps : ℕ) (s : State) (c : SourceS
   pub returns_step : (r : Option ℕ) (x : Thread) → IsResult r → (k.world.at t).point ≡ Runs → l ≡ []
       → c.process t ≡ Some (Leaving (left_value r)) → look (code_of p) t x ≡ Asks (return_request r) first_exit
       → last_mark (mark_of (marks_of p) x) ≡ None → 4 < n
-      → StepsSo p done raises deferral (mark_of (marks_of p) x) s t woken (look (code_of p) t x) s'
+      → StepsWhole p done raises deferral (mark_of (marks_of p) x) s t woken (look (code_of p) t x) s'
       → Next p w steps s' t done raises deferral pauses n c (stages k.world) (raised_at k.world)
   returns_step r x fits point none proc h mark enough moves =
       by_return (mark_of (marks_of p) x) r k.world.at c.process [] fits none k.reached point
       refl (λ y. refl) point (same_puts c.process t _ proc) tt refl
-      (nothing (returns_done (mark_of (marks_of p) x) r (subst (λ (i : Look). StepsSo p done raises deferral (mark_of
+      (nothing (returns_done (mark_of (marks_of p) x) r (subst (λ (i : Look). StepsWhole p done raises deferral (mark_of
       (marks_of p) x) s t woken i s') h moves))
-      (returns_deferral (mark_of (marks_of p) x) r (subst (λ (i : Look). StepsSo p done raises deferral (mark_of
+      (returns_deferral (mark_of (marks_of p) x) r (subst (λ (i : Look). StepsWhole p done raises deferral (mark_of
       (marks_of p) x) s t woken i s') h moves) ∙ mark)
       (inr refl) refl) (inr enough)
-      (subst (λ (i : Look). StepsSo p done raises deferral (mark_of (marks_of p) x) s t woken i s') h moves)
+      (subst (λ (i : Look). StepsWhole p done raises deferral (mark_of (marks_of p) x) s t woken i s') h moves)
 
   module _ (q : Process) (proc : c.process t ≡ Some q) (point : (k.world.at t).point ≡ Runs) (list : l ≡ holds q) where
     takes_up : (label : Label) (r : Process) → offer p c.variable q ≡ Does label Nothing r
@@ -442,7 +442,7 @@ module _ (p : Program) (w : WellFormed p) (steps : ℕ) (s : State) (c : SourceS
     -- a thread that meets a fault
     pub faults_step : (fault : Fault) (x : Thread) → IsAtWork p q c.variable → x ≡ Dies' (Faulted fault)
         → offer p c.variable q ≡ Does (Alone (L.Fails fault)) Nothing (Dying (Faulted fault) (holds q))
-        → StepsSo p done raises deferral (mark_of (marks_of p) x) s t woken (look (code_of p) t x) s'
+        → StepsWhole p done raises deferral (mark_of (marks_of p) x) s t woken (look (code_of p) t x) s'
         → Next p w steps s' t done raises deferral pauses n c (stages k.world) (raised_at k.world)
     faults_step fault x work e o moves =
         let move = Raise fault in
@@ -461,7 +461,7 @@ module _ (p : Program) (w : WellFormed p) (steps : ℕ) (s : State) (c : SourceS
         → look (code_of p) t x ≡ Asks (return_request r) first_exit
         → last_mark (mark_of (marks_of p) x) ≡ Some L.Return
         → offer p c.variable q ≡ Does (Alone L.Return) Nothing (Leaving (left_value r))
-        → StepsSo p done raises deferral (mark_of (marks_of p) x) s t woken (look (code_of p) t x) s'
+        → StepsWhole p done raises deferral (mark_of (marks_of p) x) s t woken (look (code_of p) t x) s'
         → Next p w steps s' t done raises deferral pauses n c (stages k.world) (raised_at k.world)
     leaves_step r x work fits h mark o moves =
         let move = Own (Alone L.Return) in
@@ -482,11 +482,12 @@ module _ (p : Program) (w : WellFormed p) (steps : ℕ) (s : State) (c : SourceS
           refl,
         )
         (waits _ _ (Alone L.Return)
-        (returns_done (mark_of (marks_of p) x) r (subst (λ (i : Look). StepsSo p done raises deferral (mark_of
+        (returns_done (mark_of (marks_of p) x) r (subst (λ (i : Look). StepsWhole p done raises deferral (mark_of
         (marks_of p) x) s t woken i s') h moves))
-        (returns_deferral (mark_of (marks_of p) x) r (subst (λ (i : Look). StepsSo p done raises deferral (mark_of
+        (returns_deferral (mark_of (marks_of p) x) r (subst (λ (i : Look). StepsWhole p done raises deferral (mark_of
         (marks_of p) x) s t woken i s') h moves) ∙ mark)
         (ap stage_of point) tt proc
         (may_defer p w steps s c k t q after' (Alone L.Return) list work.steady refl takes refl
         (λ end h. cc)) refl)
-        (inl tt) (subst (λ (i : Look). StepsSo p done raises deferral (mark_of (marks_of p) x) s t woken i s') h moves)
+        (inl tt)
+        (subst (λ (i : Look). StepsWhole p done raises deferral (mark_of (marks_of p) x) s t woken i s') h moves)

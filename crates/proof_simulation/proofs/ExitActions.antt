@@ -6,7 +6,7 @@ use Rattle.std.proofs.lemmas.Bool.{cases_eq, eq-eqb, ne_eqb, false≢true, or_le
 use Rattle.words.specs.Process.{process_word}
 use Rattle.words.specs.Versions.{most_of}
 use Rattle.robustexit.specs.declared.phase.ExitPhase.{ExitPhase}
-use Rattle.robustexit.specs.declared.phase.ExitPhase.TheVariants.{Entry, Pending, ClearId, LastWake, Ended}
+use Rattle.robustexit.specs.declared.phase.ExitPhase.TheVariants.{Pending}
 use Rattle.robustexit.specs.RobustExit.{Shared}
 use Rattle.program.specs.Trees.{Program}
 use Rattle.program.specs.WellFormed.{WellFormed}

@@ -1,13 +1,13 @@
 -- The run that explains, by the machine's steps, is one.
-use Rattle.std.proofs.Common.{◌≡◌, ℕ, suc, ◌+◌, ◌<◌, Bool, true, false, List, [], ◌∷◌, length, refl, ap, Option, Some, None, append-nil, append_assoc}
-use Rattle.std.proofs.Common.{sym, ◌∙◌, subst, arith}
+use Rattle.std.proofs.Common.{◌≡◌, ℕ, suc, ◌+◌, ◌<◌, Bool, true, false, List, [], ◌∷◌, length, refl, ap, Option, Some}
+use Rattle.std.proofs.Common.{None, append-nil, append_assoc, sym, ◌∙◌, subst, arith}
 use Rattle.std.specs.Prelude.{◌^◌, ◌++◌, is_some, if◌then◌else◌, not}
 use Rattle.std.proofs.lemmas.Bool.{false≢true}
 use Rattle.words.specs.Updates.{put}
 use Rattle.locals.specs.Looks.{look, Look}
 use Rattle.machine.specs.States.{State, opening_state, with_sleepers}
 use Rattle.machine.specs.Runs.{Doing, Own, Strayed, Killed, Step, GoesBy, MachineRun, IsStep, IsOwnStep, IsStrayStep}
-use Rattle.machine.specs.Runs.{IsKillStep, IsDone, killed_to}
+use Rattle.machine.specs.Runs.{IsKillStep, killed_to}
 use Rattle.locals.specs.Threads.{is_dying}
 use Rattle.protocol.specs.World.{World}
 use Rattle.program.specs.Trees.{Program}
@@ -19,14 +19,18 @@ use Rattle.meaning.specs.States.{SourceState, opening}
 use Rattle.proof_commutation.specs.Placed.{actions_of, actions_up_to}
 use Rattle.proof_thread.specs.Deferrals.{mark_of, deferred_by_step}
 use Rattle.proof_simulation.specs.Corresponding.{Corresponds}
-use Rattle.proof_simulation.specs.Explaining.{explanation, IsDue, IsReached}
+use Rattle.proof_simulation.specs.Explaining.{explanation, explanation_of_trace, IsDue, IsReached}
 use Rattle.proof_commutation.specs.Deferring.{IsBehind}
 use Rattle.proof_simulation.specs.Next.{after_next, next_kinds, next_visible, offer_of_process, take_deferred}
 use Rattle.proof_simulation.specs.Next.{internal_next}
 use Rattle.proof_simulation.specs.Ordering.{act, raises_number}
 use Rattle.proof_simulation.specs.Kills.{killed_last, killed_resumed}
-use Rattle.proof_simulation.specs.Progress.{answer_in, visible_step, Progress, progress, progress_by, progress_step}
-use Rattle.proof_simulation.specs.Progress.{progress_taken, progress_own, progress_done, progress_stray, progress_kill}
+use Rattle.proof_simulation.specs.Progress.{answer_in, answer_whole, visible_step, Progress, progress, progress_by}
+use Rattle.proof_simulation.specs.Progress.{progress_step, progress_taken, progress_whole_own, progress_whole}
+use Rattle.proof_simulation.specs.Progress.{progress_stray, progress_kill, progress_traced, progress_by_trace}
+use Rattle.proof_simulation.specs.Progress.{progress_of_trace}
+use Rattle.proof_simulation.specs.WholeCalls.{IsWholeStep, IsWholeDone}
+use Rattle.proof_simulation.specs.Traces.{TraceStep, Loud, Silent, Trace, none_taken}
 use Rattle.program.specs.declared.kinds.Member.{Member}
 use Rattle.meaning.specs.Table.{Table}
 use Rattle.proof_thread.specs.Completing.{IsOwn}
@@ -36,29 +40,29 @@ use Rattle.proof_simulation.proofs.Strays.{strayed}
 use Rattle.proof_simulation.specs.Progress.{opening_progress}
 use Rattle.proof_simulation.specs.Tracking.{CanTake, Tracks, TracksStray, TracksKill, RaisedSo, HasDeferred}
 use Rattle.proof_simulation.specs.Deferred.{deferred_then, raised_at, raised_then, Stage, Agrees, AreOwn}
-use Rattle.proof_simulation.proofs.Completions.{steps_so}
+use Rattle.proof_simulation.proofs.WholeCalls.{whole_own, answer_same, whole_so}
+use Rattle.proof_simulation.proofs.Traces.{trace_of, progress_same}
 use Rattle.proof_simulation.proofs.Nexts.{catches_up_behind, visible_is, visible_so}
 use Rattle.proof_simulation.proofs.Finishing.{finishes, finishes_counted, finishes_own}
 use Rattle.proof_simulation.proofs.Local.{put_again}
 use Rattle.proof_simulation.proofs.Sourcing.{action}
-use Rattle.proof_simulation.proofs.Tracking.{tracks_stray, tracks_kill, tracks_later, opens_deferred, tracks_deferred}
+use Rattle.proof_simulation.proofs.Tracking.{tracks_stray, tracks_kill, tracks_later, opens_deferred, tracks_whole}
 use Rattle.proof_simulation.proofs.Tracking.{catches_up_deferred}
 use Rattle.proof_simulation.proofs.Tracking.{takes_visible_deferred, takes_visible_own}
-use Rattle.proof_simulation.proofs.Whole.{AllOwn, leads_on, come, most, few, own_kinds, own_none, none_from_outside}
+use Rattle.proof_simulation.proofs.Whole.{AllOwn, leads_on, come_along, come_pace, own_kinds, own_none}
+use Rattle.proof_simulation.proofs.Whole.{none_from_outside}
 use Rattle.proof_simulation.proofs.Whole.{processes_append, threads_append, strays_of, one_stray, stray_told}
 use Rattle.proof_simulation.proofs.Whole.{kills_append, kills_of, one_kill}
 use Rattle.proof_simulation.proofs.Worlds.{put_put}
 use Rattle.proof_simulation.proofs.Observing.{ends, sound}
 use Rattle.proof_simulation.proofs.Resting.{at_rest, sleepers}
-use Rattle.proof_simulation.proofs.Paces.{count_by-append, keeps_pace}
+use Rattle.proof_simulation.proofs.Paces.{count_by-append}
 use Rattle.proof_simulation.proofs.Counting.{count, counts, count_map, count_one, count_stray, count_kill, of_none}
-use Rattle.proof_simulation.proofs.Counting.{done_count}
+use Rattle.proof_simulation.proofs.Counting.{done_count, traced_count, traced_behind}
 use Rattle.proof_simulation.proofs.Counting.{done_behind, of_one, step_count, behind, length_waits}
 use Rattle.proof_simulation.proofs.Counting.{length_taken}
-use Rattle.proof_simulation.proofs.Opening.{opens, opens_calm}
-use Rattle.proof_simulation.proofs.Bounds.{left_short}
-use Rattle.proof_simulation.proofs.Moving.{left_of}
-use Rattle.refinement.specs.Pace.{is_action_of, stretch_length}
+use Rattle.proof_simulation.proofs.Opening.{opens_calm}
+use Rattle.refinement.specs.Pace.{is_action_of}
 use Rattle.refinement.specs.Refines.{Explained, processes_of, is_stray_kind, is_kill_kind}
 
 -- a run of the machine goes on by a step
@@ -102,44 +106,42 @@ module _ (p : Program) (w : WellFormed p) where
   Adds g g' more = (t : ℕ) → count t g'.actions + length (g'.deferred t)
       ≡ count t g.actions + length (g.deferred t) + more t
 
-  module _ (taken : ℕ) (s : State) (g : Progress) (r : IsReached p w taken s g) (l : Step) (s' : State)
-      (st : IsOwnStep (code_of p) s l s') (short : taken + 1 < 2 ^ 32) where
-    abbrev t : ℕ
-    t = l.thread
-
+  -- a step of thread t with whole calls
+  module _ (taken : ℕ) (s : State) (g : Progress) (r : IsReached p w taken s g) (t : ℕ) (woken : List ℕ) (s' : State)
+      (st : IsWholeStep (code_of p) s t woken s') (short : taken + 1 < 2 ^ 32) where
     abbrev looks : Look
-    looks = look (code_of p) l.thread st.thread
+    looks = look (code_of p) t st.thread
 
     abbrev answer : ℕ
-    answer = answer_in s s' l.thread l.woken looks st.moves
+    answer = answer_whole s s' t woken looks st.moves
 
     abbrev deferral : Option Kind
     deferral = deferred_by_step (mark_of (marks_of p) st.thread) looks answer
 
     -- whether the thread has raised a number then
     abbrev has : Bool
-    has = raised_then (visible_step p s.word l.thread looks answer) (raises_number looks) (raised_at
+    has = raised_then (visible_step p s.word t looks answer) (raises_number looks) (raised_at
         r.tracks.ties.world t)
 
     raised_so : (v : World) → RaisedSo r.tracks.ties.world v t has → (b : Bool)
-        → visible_step p s.word l.thread looks answer ≡ b → (u : ℕ)
+        → visible_step p s.word t looks answer ≡ b → (u : ℕ)
         → raised_at v u ≡ put g.raised t (raised_then b (raises_number looks) (g.raised t)) u
     raised_so v h b e u = h u
-        ∙ ap (λ (f : ℕ → Bool). put f t (raised_then (visible_step p s.word l.thread looks answer) (raises_number looks)
+        ∙ ap (λ (f : ℕ → Bool). put f t (raised_then (visible_step p s.word t looks answer) (raises_number looks)
         (f t)) u) (λ i v. r.raises v i)
         ∙ ap (λ x. put g.raised t (raised_then x (raises_number looks) (g.raised t)) u) e
 
-    on : (visible_step p s.word l.thread looks answer ≡ false → (n : Tracks p w (suc taken) s' g.source)
+    on : (visible_step p s.word t looks answer ≡ false → (n : Tracks p w (suc taken) s' g.source)
         × (n.deferred ≡ put r.tracks.deferred t (deferred_then deferral (r.tracks.deferred t)))
         × RaisedSo r.tracks.ties.world n.ties.world t has)
-        × (visible_step p s.word l.thread looks answer ≡ true
+        × (visible_step p s.word t looks answer ≡ true
         → (o : HasDeferred p w (suc taken) s' t g.source (r.tracks.deferred t))
         × (o.deferred ≡ r.tracks.deferred) × RaisedSo r.tracks.ties.world o.ties.world t has)
-    on = tracks_deferred p w taken s g.source r.tracks l s' st (visible_step p s.word l.thread looks answer)
-        (raises_number looks) deferral
-        (steps_so p (mark_of (marks_of p) st.thread) s s' l.thread l.woken looks st.moves) short
+    on = tracks_whole p w taken s g.source r.tracks t woken s' st.thread st.stands st.awake
+        (visible_step p s.word t looks answer) (raises_number looks) deferral
+        (whole_so p (mark_of (marks_of p) st.thread) s s' t woken looks st.moves) short
 
-    owes : visible_step p s.word l.thread looks answer ≡ true
+    owes : visible_step p s.word t looks answer ≡ true
         → (o : HasDeferred p w (suc taken) s' t g.source (g.deferred t)) × (o.deferred ≡ g.deferred)
         × RaisedSo r.tracks.ties.world o.ties.world t has
     owes e =
@@ -148,8 +150,8 @@ module _ (p : Program) (w : WellFormed p) where
         × (i.deferred ≡ r.tracks.deferred) × RaisedSo r.tracks.ties.world i.ties.world t has) r.waits o in
         (same.0, same.1 ∙ r.waits, same.2)
 
-    pub due : visible_step p s.word l.thread looks answer ≡ true → IsDue p s' t g
-    due e =
+    whole_due : visible_step p s.word t looks answer ≡ true → IsDue p s' t g
+    whole_due e =
         let o = owes e in
         let paying = pay_all (suc taken) s' t (g.deferred t) g.source o.0 in
         let last = takes_visible_deferred p w (suc taken) s' t (take_deferred p t (g.deferred t) g.source) paying.1.0 in
@@ -162,7 +164,7 @@ module _ (p : Program) (w : WellFormed p) where
           resumes = last.3;
         }
 
-    by_visible : (b : Bool) → visible_step p s.word l.thread looks answer ≡ b
+    by_visible : (b : Bool) → visible_step p s.word t looks answer ≡ b
         → IsReached p w (suc taken) s' (progress_step p b deferral (raises_number looks) s' t g)
         × SameOutside g (progress_step p b deferral (raises_number looks) s' t g)
         × Adds g (progress_step p b deferral (raises_number looks) s' t g) (λ u. of_one t u (step_count b deferral
@@ -221,33 +223,44 @@ module _ (p : Program) (w : WellFormed p) where
               (actions_of t (next_kinds (next_visible p s' t a))) in
               let both = count_by-append (is_action_of u) g.actions (actions_of t ks) in
               let first = count_map t u ks own in
-              let one = ap (count u) name ∙ count_one t u kind [] (takes_visible_own p w (suc taken) s' t a paying.1.0) in
+              let one = ap (count u) name
+              ∙ count_one t u kind [] (takes_visible_own p w (suc taken) s' t a paying.1.0) in
               let none = length_taken g.deferred t u in
               omega (arith, all, both, first, one, none),
         )
 
-    step_so : IsReached p w (suc taken) s' (progress_own p s s' l st g)
-        × SameOutside g (progress_own p s s' l st g)
-        × Adds g (progress_own p s s' l st g)
-        (λ u. of_one t u (step_count (visible_step p s.word l.thread looks answer) deferral (g.deferred t)))
-    step_so = by_visible (visible_step p s.word l.thread looks answer) refl
+    step_so : IsReached p w (suc taken) s' (progress_whole_own p s s' t woken st g)
+        × SameOutside g (progress_whole_own p s s' t woken st g)
+        × Adds g (progress_whole_own p s s' t woken st g)
+        (λ u. of_one t u (step_count (visible_step p s.word t looks answer) deferral (g.deferred t)))
+    step_so = by_visible (visible_step p s.word t looks answer) refl
+
+  -- the same of a step of the machine
+  pub due : (taken : ℕ) (s : State) (g : Progress) → IsReached p w taken s g → (l : Step) (s' : State)
+      (st : IsOwnStep (code_of p) s l s') → taken + 1 < 2 ^ 32
+      → visible_step p s.word l.thread (look (code_of p) l.thread st.thread)
+      (answer_in s s' l.thread l.woken (look (code_of p) l.thread st.thread) st.moves) ≡ true → IsDue p s' l.thread g
+  due taken s g r l s' st short e =
+      let looks = look (code_of p) l.thread st.thread in
+      whole_due taken s g r l.thread l.woken s' (whole_own p s l s' st) short
+      (ap (visible_step p s.word l.thread looks) (answer_same s s' l.thread l.woken looks st.moves) ∙ e)
 
   deferred_behind : (b : Bool) (k : Option Kind) (raises : Bool) (s : State) (u : ℕ) (g : Progress)
       → (progress_step p b k raises s u g).deferred ≡ put g.deferred u (behind b k (g.deferred u))
   deferred_behind true k raises s u g = refl
   deferred_behind false k raises s u g = refl
 
-  -- what belongs to the source behind one step
+  -- what belongs to the source behind one step with whole calls
   pub record Reaches (taken : ℕ) (s : State) (g : Progress) (l : Step) (s' : State) (d : Doing)
-      (st : IsDone (code_of p) s l s' d) : Type 0 where
-    pub is : IsReached p w (suc taken) s' (progress_done p s s' l d st g)
-    pub strays : processes_of is_stray_kind (progress_done p s s' l d st g).actions
+      (st : IsWholeDone (code_of p) s l s' d) : Type 0 where
+    pub is : IsReached p w (suc taken) s' (progress_whole p s s' l d st g)
+    pub strays : processes_of is_stray_kind (progress_whole p s s' l d st g).actions
         ≡ processes_of is_stray_kind g.actions ++ strays_of p l d
-    pub kills : processes_of is_kill_kind (progress_done p s s' l d st g).actions
+    pub kills : processes_of is_kill_kind (progress_whole p s s' l d st g).actions
         ≡ processes_of is_kill_kind g.actions ++ kills_of l d
-    pub adds : Adds g (progress_done p s s' l d st g)
+    pub adds : Adds g (progress_whole p s s' l d st g)
         (λ u. of_one l.thread u (done_count p s s' l d st (g.deferred l.thread)))
-    pub waits : (progress_done p s s' l d st g).deferred
+    pub waits : (progress_whole p s s' l d st g).deferred
         ≡ put g.deferred l.thread (done_behind p s s' l d st (g.deferred l.thread))
 
   -- a wake from outside
@@ -423,11 +436,11 @@ module _ (p : Program) (w : WellFormed p) where
       }) st
 
   reaches : (taken : ℕ) (s : State) (g : Progress) → IsReached p w taken s g → (l : Step) (s' : State) (d : Doing)
-      (st : IsDone (code_of p) s l s' d) → taken + 1 < 2 ^ 32 → Reaches taken s g l s' d st
+      (st : IsWholeDone (code_of p) s l s' d) → taken + 1 < 2 ^ 32 → Reaches taken s g l s' d st
   reaches taken s g r l s' Own st short =
-      let x = step_so taken s g r l s' st short in
+      let x = step_so taken s g r l.thread l.woken s' st short in
       let looks = look (code_of p) l.thread st.thread in
-      let answer = answer_in s s' l.thread l.woken looks st.moves in
+      let answer = answer_whole s s' l.thread l.woken looks st.moves in
       record {
         is = x.0;
         strays = x.1 is_stray_kind (λ i h. (own_kinds i h).0) ∙ sym (append-nil _);
@@ -440,27 +453,60 @@ module _ (p : Program) (w : WellFormed p) where
   reaches taken s g r l s' (Killed true) st short = kills_so taken s g r l s' st
   reaches taken s g r l s' (Killed false) st short = again_so taken s g r l s' st
 
-  pub reaches_by : (steps : List Step) (taken : ℕ) (s s' : State) (g : Progress) → IsReached p w taken s g
-      → (run : GoesBy (code_of p) s steps s') → taken + length steps < 2 ^ 32
-      → IsReached p w (taken + length steps) s' (progress_by p g steps s s' run)
-      × (processes_of is_stray_kind (progress_by p g steps s s' run).actions
+  -- what belongs to it behind one step of a trace
+  record TracedReaches (many : ℕ) (s : State) (g : Progress) (taken : ℕ → ℕ) (l : Step) (s' : State) (next : ℕ → ℕ)
+      (step : TraceStep (code_of p) s taken l s' next) : Type 0 where
+    is : IsReached p w (suc many) s' (progress_traced p s s' l taken next step g)
+    strays : processes_of is_stray_kind (progress_traced p s s' l taken next step g).actions
+        ≡ processes_of is_stray_kind g.actions ++ strays_of p l l.doing
+    kills : processes_of is_kill_kind (progress_traced p s s' l taken next step g).actions
+        ≡ processes_of is_kill_kind g.actions ++ kills_of l l.doing
+    adds : Adds g (progress_traced p s s' l taken next step g)
+        (λ u. of_one l.thread u (traced_count p s s' l taken next step (g.deferred l.thread)))
+    waits : (progress_traced p s s' l taken next step g).deferred
+        ≡ put g.deferred l.thread (traced_behind p s s' l taken next step (g.deferred l.thread))
+
+  traced_reaches : (many : ℕ) (s : State) (g : Progress) → IsReached p w many s g → (taken : ℕ → ℕ) (l : Step)
+      (s' : State) (next : ℕ → ℕ) (step : TraceStep (code_of p) s taken l s' next) → many + 1 < 2 ^ 32
+      → TracedReaches many s g taken l s' next step
+  traced_reaches many s g r taken l s' next (Loud st time) short =
+      let x = reaches many s g r l s' l.doing st short in
+      record { is = x.is; strays = x.strays; kills = x.kills; adds = x.adds; waits = x.waits }
+  traced_reaches many s g r taken l s' next (Silent own same piece) short =
+      let n = tracks_later p w many s g.source r.tracks in
+      subst (λ (x : State). (i : x ≡ s) → TracedReaches many s g taken l x next (Silent own i piece)) (sym same)
+      (λ i. record {
+        is = record { run = r.run; tracks = n.0; waits = n.1 ∙ r.waits; raises = λ u. n.2 u ∙ r.raises u };
+        strays = sym (ap (λ (d : Doing). processes_of is_stray_kind g.actions ++ strays_of p l d) own
+            ∙ append-nil (processes_of is_stray_kind g.actions));
+        kills = sym (ap (λ (d : Doing). processes_of is_kill_kind g.actions ++ kills_of l d) own
+            ∙ append-nil (processes_of is_kill_kind g.actions));
+        adds = λ u. let none = of_none l.thread u in omega (arith, none);
+        waits = put_again g.deferred l.thread (g.deferred l.thread) refl;
+      }) same
+
+  pub reaches_by : (steps : List Step) (many : ℕ) (s : State) (taken : ℕ → ℕ) (s' : State) (g : Progress)
+      → IsReached p w many s g → (run : Trace (code_of p) s taken steps s') → many + length steps < 2 ^ 32
+      → IsReached p w (many + length steps) s' (progress_by_trace p g steps s taken s' run)
+      × (processes_of is_stray_kind (progress_by_trace p g steps s taken s' run).actions
       ≡ processes_of is_stray_kind g.actions ++ stray_threads p steps)
-      × (processes_of is_kill_kind (progress_by p g steps s s' run).actions
+      × (processes_of is_kill_kind (progress_by_trace p g steps s taken s' run).actions
       ≡ processes_of is_kill_kind g.actions ++ killed_threads steps)
-      × Adds g (progress_by p g steps s s' run) (λ t. counts p g.deferred steps s s' run t)
-  reaches_by [] taken s s' g r run short =
-      let same : taken ≡ taken + 0 = omega arith in (
-        subst (λ n. IsReached p w n s' g) same (subst (λ (x : State). IsReached p w taken x g) run r),
+      × Adds g (progress_by_trace p g steps s taken s' run) (λ t. counts p g.deferred steps s taken s' run t)
+  reaches_by [] many s taken s' g r run short =
+      let same : many ≡ many + 0 = omega arith in (
+        subst (λ n. IsReached p w n s' g) same (subst (λ (x : State). IsReached p w many x g) run r),
         sym (append-nil (processes_of is_stray_kind g.actions)),
         sym (append-nil (processes_of is_kill_kind g.actions)),
         λ t. omega arith,
       )
-  reaches_by (l ∷ ls) taken s s' g r run short =
-      let first = reaches taken s g r l run.0 l.doing run.1 (omega (arith, short)) in
-      let there = progress_taken p s run.0 l run.1 g in
-      let more = reaches_by ls (suc taken) run.0 s' there first.is run.2 (omega (arith, short)) in
-      let total : suc taken + length ls ≡ taken + suc (length ls) = omega arith in (
-        subst (λ n. IsReached p w n s' (progress_by p there ls run.0 s' run.2)) total more.0,
+  reaches_by (l ∷ ls) many s taken s' g r run short =
+      let first = traced_reaches many s g r taken l run.0 run.1 run.2 (omega (arith, short)) in
+      let there = progress_traced p s run.0 l taken run.1 run.2 g in
+      let more = reaches_by ls (suc many) run.0 run.1 s' there first.is run.3 (omega (arith, short)) in
+      let last = progress_by_trace p there ls run.0 run.1 s' run.3 in
+      let total : suc many + length ls ≡ many + suc (length ls) = omega arith in (
+        subst (λ n. IsReached p w n s' last) total more.0,
         more.1 ∙ ap (λ (i : List ℕ). i ++ stray_threads p ls) first.strays
             ∙ append_assoc (processes_of is_stray_kind g.actions) (strays_of p l l.doing) (stray_threads p ls)
             ∙ ap (λ (i : List ℕ). processes_of is_stray_kind g.actions ++ i)
@@ -471,9 +517,8 @@ module _ (p : Program) (w : WellFormed p) where
             (ap (λ (i : List ℕ). i ++ killed_threads ls) (sym (one_kill l)) ∙ sym (kills_append (l ∷ []) ls)),
         λ t.
             let one = first.adds t in
-            let rest = subst (λ (f : ℕ → List Kind). count t (progress_by p there ls run.0 s' run.2).actions
-            + length ((progress_by p there ls run.0 s' run.2).deferred t)
-            ≡ count t there.actions + length (there.deferred t) + counts p f ls run.0 s' run.2 t)
+            let rest = subst (λ (f : ℕ → List Kind). count t last.actions + length (last.deferred t)
+            ≡ count t there.actions + length (there.deferred t) + counts p f ls run.0 run.1 s' run.3 t)
             first.waits (more.3 t) in
             omega (arith, one, rest),
       )
@@ -482,24 +527,26 @@ module _ (p : Program) (w : WellFormed p) where
   opens_reached =
       let o = opens_deferred p w in record { run = refl; tracks = o.0; waits = o.1; raises = λ u. o.2 u }
 
-  module _ (steps : List Step) (s : State) (run : MachineRun (code_of p) steps s) (short : length steps < 2 ^ 32) where
+  module _ (steps : List Step) (s : State) (run : Trace (code_of p) (opening_state (code_of p)) none_taken steps s)
+      (short : length steps < 2 ^ 32) where
     abbrev g : Progress
-    g = progress p steps s run
+    g = progress_of_trace p steps s run
 
     whole : IsReached p w (0 + length steps) s g
         × (processes_of is_stray_kind g.actions ≡ [] ++ stray_threads p steps)
         × (processes_of is_kill_kind g.actions ≡ [] ++ killed_threads steps)
-        × Adds (opening_progress p) g (λ t. counts p (λ u. []) steps (opening_state (code_of p)) s run t)
-    whole = reaches_by steps 0 (opening_state (code_of p)) s (opening_progress p) opens_reached run
+        × Adds (opening_progress p) g
+        (λ t. counts p (λ u. []) steps (opening_state (code_of p)) none_taken s run t)
+    whole = reaches_by steps 0 (opening_state (code_of p)) none_taken s (opening_progress p) opens_reached run
         (omega (arith, short))
 
-    pub reached : IsReached p w (length steps) s (progress p steps s run)
-    reached =
+    pub reached_along : IsReached p w (length steps) s (progress_of_trace p steps s run)
+    reached_along =
         let same : 0 + length steps ≡ length steps = omega arith in
         subst (λ n. IsReached p w n s g) same whole.0
 
-    pub explained_so : (e : Explained p (code_of p) steps s) × (e.actions ≡ explanation p steps s run)
-    explained_so =
+    pub explained_along : (e : Explained p (code_of p) steps s) × (e.actions ≡ explanation_of_trace p steps s run)
+    explained_along =
         let r = whole.0.tracks in
         let done = finishes p w (0 + length steps) s g.source r in
         let n = 0 + length steps in
@@ -509,11 +556,9 @@ module _ (p : Program) (w : WellFormed p) where
         ap (λ (f : ℕ → List Kind). actions_up_to s.made f) whole.0.waits in
         let rest : Leads p g.source (actions_up_to s.made g.deferred) source =
         subst (λ (l : List Action). Leads p g.source l source) up done.1 in
-        let start = opens p w in
-        let c = come p w 0 (opening_state (code_of p)) (opening p) start steps s (omega (arith, short)) run in
-        let pace = keeps_pace (most p w) (stretch_length p) (left_of p w start) (left_of p w c.ties) steps c.actions
-        (left_short p w 0) (few p w 0 (opening_state (code_of p)) (opening p) start) c.trail in
-        let actions = explanation p steps s run in
+        let c = come_along p w steps s run short in
+        let pace = come_pace p w steps s _ c in
+        let actions = explanation_of_trace p steps s run in
         let last = actions_up_to s.made g.deferred in
         let last_own : AllOwn last = subst (λ (l : List Action). AllOwn l) up (finishes_own p w n s g.source r) in (
           record {
@@ -545,3 +590,19 @@ module _ (p : Program) (w : WellFormed p) where
           },
           refl,
         )
+
+  -- a run of the machine is a trace
+  module _ (steps : List Step) (s : State) (run : MachineRun (code_of p) steps s) (short : length steps < 2 ^ 32) where
+    abbrev trace : Trace (code_of p) (opening_state (code_of p)) none_taken steps s
+    trace = trace_of p steps (opening_state (code_of p)) s run
+
+    same : progress_of_trace p steps s trace ≡ progress p steps s run
+    same = progress_same p (opening_progress p) steps (opening_state (code_of p)) s run
+
+    pub reached : IsReached p w (length steps) s (progress p steps s run)
+    reached = subst (λ (g : Progress). IsReached p w (length steps) s g) same (reached_along steps s trace short)
+
+    pub explained_so : (e : Explained p (code_of p) steps s) × (e.actions ≡ explanation p steps s run)
+    explained_so =
+        let e = explained_along steps s trace short in
+        (e.0, e.1 ∙ ap (λ (g : Progress). g.actions ++ actions_up_to s.made g.deferred) same)

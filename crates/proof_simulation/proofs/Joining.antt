@@ -46,7 +46,7 @@ use Rattle.protocol.specs.Carries.{Event, Acts}
 use Rattle.words.specs.Updates.{put}
 use Rattle.words.specs.Versions.{most_of}
 use Rattle.proof_templates.proofs.Layouts.{number_is}
-use Rattle.proof_simulation.specs.Ordering.{StepsSo, completes, is_raise}
+use Rattle.proof_simulation.specs.Ordering.{StepsWhole, completes, is_raise}
 use Rattle.proof_simulation.specs.Standing.{StandsAt, works, reads, sleeps, learns, takes, IsLast, IsChild}
 use Rattle.proof_simulation.specs.Ranks.{rank, steps_left, more_steps, before_template}
 use Rattle.proof_simulation.specs.Corresponding.{Corresponds, IsBefore}
@@ -56,7 +56,7 @@ use Rattle.proof_simulation.proofs.Completions.{point_deferral, point_completes,
 use Rattle.proof_simulation.proofs.Resumed.{who_resumes}
 use Rattle.proof_simulation.proofs.Moving.{IsLow, Next}
 use Rattle.proof_simulation.proofs.Stepped.{Arrives, stepped}
-use Rattle.proof_simulation.proofs.Serving.{served}
+use Rattle.proof_simulation.proofs.Serving.{fresh_at, served}
 use Rattle.proof_simulation.proofs.Templating.{awake_at, not_paused, works_on}
 use Rattle.proof_simulation.proofs.Keeping.{goes_on_keeps, faults_keep}
 use Rattle.proof_simulation.proofs.Acting.{held_of}
@@ -83,7 +83,7 @@ id_zero pt q v h other = absurd (other h)
 
 -- how many steps are left before the id word is read, by that word
 abbrev ranks : ℕ → ℕ
-ranks v = if v == 0 then 1 else 35
+ranks v = if v == 0 then 4 else 35
 
 yes : {A : Type 0} (a b : ℕ) (x y : A) → a ≡ b → (if a == b then x else y) ≡ x
 yes a b x y h = cond-true (a == b) x y (eq-eqb a b h)
@@ -194,20 +194,20 @@ module _ (p : Program) (w : WellFormed p) (steps : ℕ) (s : State) (c : SourceS
     join_step : ((answer : ℕ) (mid : State) (sv : IsServed p s mid k.world t pt answer)
         (e' : s' ≡ with_thread mid t (go answer)) (e : End) → Goes answer mid sv e' e)
         → IsLow k.world.sequence (look (code_of p) t x)
-        → StepsSo p done raises deferral (mark_of (marks_of p) x) s t woken (look (code_of p) t x) s'
+        → StepsWhole p done raises deferral (mark_of (marks_of p) x) s t woken (look (code_of p) t x) s'
         → Next p w steps s' t done raises deferral pauses n c (stages k.world) (raised_at k.world)
     join_step goes low moves =
-        let g : StepsSo p done raises deferral (mark_of (marks_of p) x) s t woken (Asks asks go) s' =
-        subst (λ (i : Look). StepsSo p done raises deferral (mark_of (marks_of p) x) s t woken i s') looks moves in
+        let g : StepsWhole p done raises deferral (mark_of (marks_of p) x) s t woken (Asks asks go) s' =
+        subst (λ (i : Look). StepsWhole p done raises deferral (mark_of (marks_of p) x) s t woken i s') looks moves in
         let sv = served p s k.world c.table t pt asks woken g.0 g.1 k.shares inv number.0
-        (omega (arith, number.1, few)) (low asks go looks) askable same g.2 in
+        (omega (arith, number.1, few)) (low asks go looks) (fresh_at k.world c.table inv t pt point) askable same g.2 in
         went g.0 g.1 sv g.3 g.4 g.5 g.6 (goes g.0 g.1 sv g.3)
 
   -- the id word is read: the child is over, or the thread is to sleep
   pub read_step : (x : Thread) → x ≡ j.reads → c.process t ≡ Some (Joining child into part f cs)
       → (k.world.at t).point ≡ JoinReads child → rank (more_steps b) k.world (JoinReads child) ≤ n
       → IsLow k.world.sequence (look (code_of p) t x)
-      → StepsSo p done raises deferral (mark_of (marks_of p) x) s t woken (look (code_of p) t x) s'
+      → StepsWhole p done raises deferral (mark_of (marks_of p) x) s t woken (look (code_of p) t x) s'
       → Next p w steps s' t done raises deferral pauses n c (stages k.world) (raised_at k.world)
   read_step x there proc point enough low moves =
       join_step (JoinReads child) (Joining child into part f cs) x (AskLoad (process_word child 2)) j.after_read proc
@@ -233,7 +233,7 @@ module _ (p : Program) (w : WellFormed p) (steps : ℕ) (s : State) (c : SourceS
       by_reply answer mid sv e' e (suc v) z =
           let other : sv.reply ≢ 0 = λ i. absurd (omega (arith, z, i)) in
           let id : k.world.id child ≢ 0 = λ i. other (sv.serves.0 ∙ i) in
-          let ranked : rank (more_steps b) k.world (JoinReads child) ≡ 35 = no {A = ℕ} (k.world.id child) 0 1 35 id in
+          let ranked : rank (more_steps b) k.world (JoinReads child) ≡ 35 = no {A = ℕ} (k.world.id child) 0 4 35 id in
           record {
             to = JoinSleeps child;
             leads = no sv.reply 0 _ _ other;
@@ -248,9 +248,9 @@ module _ (p : Program) (w : WellFormed p) (steps : ℕ) (s : State) (c : SourceS
 
   -- the thread sleeps, or the child is over by now
   pub sleep_step : (x : Thread) → x ≡ j.sleeps → c.process t ≡ Some (Joining child into part f cs)
-      → (k.world.at t).point ≡ JoinSleeps child → 18 ≤ n
+      → (k.world.at t).point ≡ JoinSleeps child → 18 ≤ n + 3
       → IsLow k.world.sequence (look (code_of p) t x)
-      → StepsSo p done raises deferral (mark_of (marks_of p) x) s t woken (look (code_of p) t x) s'
+      → StepsWhole p done raises deferral (mark_of (marks_of p) x) s t woken (look (code_of p) t x) s'
       → Next p w steps s' t done raises deferral pauses n c (stages k.world) (raised_at k.world)
   sleep_step x there proc point enough low moves =
       join_step (JoinSleeps child) (Joining child into part f cs) x (AskWait (process_word child 2) child) j.after_sleep
@@ -263,9 +263,12 @@ module _ (p : Program) (w : WellFormed p) (steps : ℕ) (s : State) (c : SourceS
         process = Joining child into part f cs;
         acts = refl;
         stands = reads join_steps (omega arith) is j (j.again sv.reply);
-        paced = λ none i. fewer sv.after (after_awake (JoinSleeps child) (Joining child into part f cs) x
-            (AskWait (process_word child 2) child) j.after_sleep proc point (ap (look (code_of p) t) there ∙ j.sleep)
-            valid_child refl tt refl (λ o. refl) refl answer mid sv e' i) sv.serves;
+        paced = λ none i. omega (
+          arith,
+          fewer sv.after (after_awake (JoinSleeps child) (Joining child into part f cs) x
+              (AskWait (process_word child 2) child) j.after_sleep proc point (ap (look (code_of p) t) there ∙ j.sleep)
+              valid_child refl tt refl (λ o. refl) refl answer mid sv e' i) sv.serves,
+        );
       }) low moves
     where
       fewer : (world : World) → world.asleep t ≡ None
@@ -278,7 +281,7 @@ module _ (p : Program) (w : WellFormed p) (steps : ℕ) (s : State) (c : SourceS
           absurd (cc (up, asleep))
       fewer world up (inr h) =
           let gone = id_zero (k.world.at child).point child (k.world.id child) (inv.joiners.ids child) h.0 in
-          let ranked : ranks (world.id child) ≡ 1 = yes {A = ℕ} (world.id child) 0 1 35
+          let ranked : ranks (world.id child) ≡ 4 = yes {A = ℕ} (world.id child) 0 4 35
           (ap (λ (x : World). x.id child) h.1 ∙ gone) in
           omega (arith, ranked, enough)
 
@@ -323,7 +326,7 @@ module _ (p : Program) (w : WellFormed p) (steps : ℕ) (s : State) (c : SourceS
   pub learn_step : (x : Thread) (end : End) → x ≡ j.learns → c.process t ≡ Some (after_join into part f cs end)
       → (k.world.at t).point ≡ JoinLearns child end → more_steps b + 34 ≤ n
       → IsLow k.world.sequence (look (code_of p) t x)
-      → StepsSo p done raises deferral (mark_of (marks_of p) x) s t woken (look (code_of p) t x) s'
+      → StepsWhole p done raises deferral (mark_of (marks_of p) x) s t woken (look (code_of p) t x) s'
       → Next p w steps s' t done raises deferral pauses n c (stages k.world) (raised_at k.world)
   learn_step x (Ended z) there proc point enough low moves =
       let tell = tells (JoinLearns child (Ended z)) (Ended z) point (refl, refl) in
@@ -371,7 +374,7 @@ module _ (p : Program) (w : WellFormed p) (steps : ℕ) (s : State) (c : SourceS
   pub take_step : (x : Thread) (z : ℤ) → x ≡ j.takes → c.process t ≡ Some (goes_on None (with_result into z f) cs)
       → (k.world.at t).point ≡ JoinTakes child (Ended z) → more_steps b + 17 ≤ n
       → IsLow k.world.sequence (look (code_of p) t x)
-      → StepsSo p done raises deferral (mark_of (marks_of p) x) s t woken (look (code_of p) t x) s'
+      → StepsWhole p done raises deferral (mark_of (marks_of p) x) s t woken (look (code_of p) t x) s'
       → Next p w steps s' t done raises deferral pauses n c (stages k.world) (raised_at k.world)
   take_step x z there proc point enough low moves =
       let tell = tells (JoinTakes child (Ended z)) (Ended z) point (refl, refl) in

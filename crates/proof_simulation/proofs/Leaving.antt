@@ -1,5 +1,5 @@
 -- The steps of an exit: over the entries of the robust list, each an abandoned monitor, and to the end.
-use Rattle.std.proofs.Common.{Option, ◌≡◌, ◌⊎◌, ◌==◌, ℕ, zero, suc, ◌+◌, ◌<◌, ◌≤◌, Bool, true, false, List, [], ◌∷◌}
+use Rattle.std.proofs.Common.{Option, ◌≡◌, ◌⊎◌, ℕ, zero, suc, ◌+◌, ◌<◌, ◌≤◌, Bool, true, false, List, [], ◌∷◌}
 use Rattle.std.proofs.Common.{length, Some, None, refl, ap, sym, ◌∙◌, subst, arith, inl, inr}
 use Rattle.std.specs.Prelude.{if◌then◌else◌, is_some}
 use Rattle.std.proofs.lemmas.Bool.{cases_eq, eq-eqb, ne_eqb, eqb-true, false≢true}
@@ -30,7 +30,7 @@ use Rattle.protocol.specs.Exits.{PhaseIs}
 use Rattle.protocol.proofs.Good.{Good}
 use Rattle.refinement.specs.Built.{build_of}
 use Rattle.proof_templates.specs.Layout.{place, valid}
-use Rattle.proof_simulation.specs.Ordering.{StepsSo, Resumes}
+use Rattle.proof_simulation.specs.Ordering.{StepsWhole, Resumes}
 use Rattle.proof_simulation.specs.Killing.{IsOfProgram, last_of, left_of}
 use Rattle.proof_simulation.specs.Standing.{StandsAt, walks, clears, wakes, rests, ending, IsEnding, entries_seen}
 use Rattle.proof_simulation.specs.Ranks.{rank, steps_left}
@@ -126,7 +126,7 @@ module _ (p : Program) (w : WellFormed p) (steps : ℕ) (s : State) (c : SourceS
     module _ (e : ℕ) (phase : ExitPhase) (is : PhaseIs (place p) (valid p) (Walks e x end) phase)
         (short : entries_seen phase + length l ≤ 64) (ends : IsEnding end (left l))
         (proc : c.process t ≡ Some (ending end (left l))) (point : (k.world.at t).point ≡ Walks e x end)
-        (g : StepsSo p done raises deferral None s t woken (Leaves phase) s') where
+        (g : StepsWhole p done raises deferral None s t woken (Leaves phase) s') where
       on : LeavesOn p s s' k.world t (Walks e x end)
       on = leaves_on p w s k.world c.table t k.shares inv number.0 (omega (arith, number.1, few)) k.size
           (Walks e x end) phase woken s' tt of point (k.lists t) is (short_walk e)
@@ -146,7 +146,7 @@ module _ (p : Program) (w : WellFormed p) (steps : ℕ) (s : State) (c : SourceS
     -- the end of the walk: what is pending is abandoned, if the thread owns it
     end_step : (phase : ExitPhase) → PhaseIs (place p) (valid p) (Walks zero x end) phase
         → entries_seen phase + length l ≤ 64 → IsEnding end (left l) → c.process t ≡ Some (ending end (left l))
-        → (k.world.at t).point ≡ Walks zero x end → 3 ≤ n → StepsSo p done raises deferral None s t woken (Leaves
+        → (k.world.at t).point ≡ Walks zero x end → 3 ≤ n → StepsWhole p done raises deferral None s t woken (Leaves
         phase) s'
         → Next p w steps s' t done raises deferral pauses n c (stages k.world) (raised_at k.world)
     end_step phase is short ends proc point enough g =
@@ -199,7 +199,7 @@ module _ (p : Program) (w : WellFormed p) (steps : ℕ) (s : State) (c : SourceS
     entry_step : (m : ℕ) (phase : ExitPhase) → PhaseIs (place p) (valid p) (Walks (suc m) x end) phase
         → entries_seen phase + length l ≤ 64 → IsEnding end (left l) → c.process t ≡ Some (ending end (left l))
         → (k.world.at t).point ≡ Walks (suc m) x end → (if is_pending x m then 4 else 1) ≤ n
-        → StepsSo p done raises deferral None s t woken (Leaves phase) s'
+        → StepsWhole p done raises deferral None s t woken (Leaves phase) s'
         → Next p w steps s' t done raises deferral pauses n c (stages k.world) (raised_at k.world)
     entry_step m phase is short ends proc point enough g = elim (left_step x m (tail l)) [
       | inl q ↦
@@ -263,21 +263,21 @@ module _ (p : Program) (w : WellFormed p) (steps : ℕ) (s : State) (c : SourceS
     pub walk_step : (e : ℕ) (phase : ExitPhase) → PhaseIs (place p) (valid p) (Walks e x end) phase
         → entries_seen phase + length l ≤ 64 → IsEnding end (left l) → c.process t ≡ Some (ending end (left l))
         → (k.world.at t).point ≡ Walks e x end → rank 0 k.world (Walks e x end) ≤ n
-        → StepsSo p done raises deferral None s t woken (look (code_of p) t (Exits phase)) s'
+        → StepsWhole p done raises deferral None s t woken (look (code_of p) t (Exits phase)) s'
         → Next p w steps s' t done raises deferral pauses n c (stages k.world) (raised_at k.world)
     walk_step zero phase is short ends proc point enough moves =
         end_step phase is short ends proc point enough
-        (subst (λ (g : Look). StepsSo p done raises deferral None s t woken g s') (walking_look p t zero x end phase
+        (subst (λ (g : Look). StepsWhole p done raises deferral None s t woken g s') (walking_look p t zero x end phase
         is) moves)
     walk_step (suc m) phase is short ends proc point enough moves =
         entry_step m phase is short ends proc point enough
-        (subst (λ (g : Look). StepsSo p done raises deferral None s t woken g s') (walking_look p t (suc m) x end phase
-        is)
+        (subst (λ (g : Look). StepsWhole p done raises deferral None s t woken g s')
+        (walking_look p t (suc m) x end phase is)
         moves)
 
   -- the id word is cleared: the process is over
   pub clear_step : (end : End) → c.process t ≡ Some (ending end []) → (k.world.at t).point ≡ ClearsId end
-      → StepsSo p done raises deferral None s t woken (look (code_of p) t (Exits ClearId)) s'
+      → StepsWhole p done raises deferral None s t woken (look (code_of p) t (Exits ClearId)) s'
       → Next p w steps s' t done raises deferral pauses n c (stages k.world) (raised_at k.world)
   clear_step end proc point moves =
       let on = leaves_on p w s k.world c.table t k.shares inv number.0 (omega (arith, number.1, few)) k.size
@@ -305,7 +305,7 @@ module _ (p : Program) (w : WellFormed p) (steps : ℕ) (s : State) (c : SourceS
 
   -- the last wake
   pub wake_step : (end : End) → c.process t ≡ Some (Over end) → (k.world.at t).point ≡ LastWakes end → 1 ≤ n
-      → StepsSo p done raises deferral None s t woken (look (code_of p) t (Exits LastWake)) s'
+      → StepsWhole p done raises deferral None s t woken (look (code_of p) t (Exits LastWake)) s'
       → Next p w steps s' t done raises deferral pauses n c (stages k.world) (raised_at k.world)
   wake_step end proc point enough moves =
       let on = leaves_on p w s k.world c.table t k.shares inv number.0 (omega (arith, number.1, few)) k.size

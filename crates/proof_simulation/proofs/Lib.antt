@@ -4,6 +4,8 @@ pub mod Sourcing
 pub mod Nexts
 pub mod Moving
 pub mod Completions
+pub mod WholeCalls
+pub mod Traces
 pub mod Resumed
 pub mod Deferred
 pub mod Stepped
@@ -20,6 +22,7 @@ pub mod Bounds
 pub mod Paces
 pub mod Leaving
 pub mod Observing
+pub mod Spares
 pub mod Local
 pub mod Starting
 pub mod Acting

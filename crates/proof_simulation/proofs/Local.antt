@@ -17,7 +17,7 @@ use Rattle.protocol.specs.World.{mem}
 use Rattle.protocol.proofs.Sleeps.{at_put}
 use Rattle.proof_thread.specs.Walks.{Walks, WalksWithin, stays, goes, loads, empty_view}
 use Rattle.refinement.specs.Built.{build_of}
-use Rattle.proof_simulation.specs.Ordering.{StepsSo, nothing}
+use Rattle.proof_simulation.specs.Ordering.{StepsWhole, nothing}
 use Rattle.proof_simulation.specs.Standing.{StandsAt}
 use Rattle.proof_simulation.specs.Ranks.{steps_left}
 use Rattle.proof_simulation.specs.Corresponding.{Corresponds, IsBefore}
@@ -58,11 +58,11 @@ module _ (p : Program) (w : WellFormed p) (steps : ℕ) (s : State) (c : SourceS
       → (stand : StandsAt (build_of p w k.world.made) c.variable t (Some y) (Some q) pt l)
       → steps_left (build_of p w k.world.made) c.variable t k.world stand < n
       → look (code_of p) t x ≡ Goes y → deferred_by_mark (mark_of (marks_of p) x) ≡ None
-      → StepsSo p done raises deferral (mark_of (marks_of p) x) s t woken (look (code_of p) t x) s'
+      → StepsWhole p done raises deferral (mark_of (marks_of p) x) s t woken (look (code_of p) t x) s'
       → Next p w steps s' t done raises deferral pauses n c (stages k.world) (raised_at k.world)
   goes_local x y q pt l proc point list stand less h plain moves =
-      let g : StepsSo p done raises deferral (mark_of (marks_of p) x) s t woken (Goes y) s' =
-      subst (λ (i : Look). StepsSo p done raises deferral (mark_of (marks_of p) x) s t woken i s') h moves in
+      let g : StepsWhole p done raises deferral (mark_of (marks_of p) x) s t woken (Goes y) s' =
+      subst (λ (i : Look). StepsWhole p done raises deferral (mark_of (marks_of p) x) s t woken i s') h moves in
       let at : k.world.at ≡ put k.world.at t (thread_at pt l) =
       put_again k.world.at t (thread_at pt l) (ap (λ (i : Point). thread_at i (k.world.at t).list) point
       ∙ ap (thread_at pt) list) in

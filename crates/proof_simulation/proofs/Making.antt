@@ -38,7 +38,7 @@ use Rattle.proof_templates.proofs.Addresses.{variable_apart}
 use Rattle.proof_thread.specs.Walks.{stays}
 use Rattle.refinement.specs.Built.{build_of}
 use Rattle.proof_templates.specs.Inside.{IsSteady}
-use Rattle.proof_simulation.specs.Ordering.{StepsSo, waits, acts}
+use Rattle.proof_simulation.specs.Ordering.{StepsWhole, waits, acts}
 use Rattle.proof_simulation.specs.Standing.{StandsAt, IsAtWork, faults}
 use Rattle.proof_simulation.specs.Corresponding.{Corresponds, IsBefore}
 use Rattle.proof_simulation.proofs.Moving.{Next, raised_none}
@@ -263,12 +263,13 @@ module _ (p : Program) (w : WellFormed p) (steps : ℕ) (s : State) (c : SourceS
       → ((m : ℕ) → k.world.made ≤ suc m → suc m ≤ most_of p.version
       → Stands (build_of p w (suc m)) t (go' (suc m)) (later (suc m)))
       → ((m u : ℕ) → k.world.made ≤ m → Stands (build_of p w m) u (opening_thread entry arguments) child)
-      → StepsSo p done raises deferral (mark_of (marks_of p) x) s t woken (look (code_of p) t x) s'
+      → StepsWhole p done raises deferral (mark_of (marks_of p) x) s t woken (look (code_of p) t x) s'
       → Next p w steps s' t done raises deferral pauses n c (stages k.world) (raised_at k.world)
   forks_step child later go' entry arguments x work h full o empty mine its moves =
-      by_answer (subst (λ (l : Look). StepsSo p done raises deferral (mark_of (marks_of p) x) s t woken l s') h moves)
+      by_answer
+      (subst (λ (l : Look). StepsWhole p done raises deferral (mark_of (marks_of p) x) s t woken l s') h moves)
     where
-      by_answer : StepsSo p done raises deferral (mark_of (marks_of p) x) s t woken (Asks
+      by_answer : StepsWhole p done raises deferral (mark_of (marks_of p) x) s t woken (Asks
           (AskFork entry arguments true) go') s'
           → Next p w steps s' t done raises deferral pauses n c (stages k.world) (raised_at k.world)
       by_answer (answer, mid, (nobody, inl (many, is, same)), e, d, f, low) =

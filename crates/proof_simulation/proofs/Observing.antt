@@ -353,7 +353,7 @@ module _ (p : Program) (w : WellFormed p) (s : State) (size : s.size ≡ memory_
         → IsBusy p s t x
     begins_busy v k x is fits =
         let g = begins b v t false k some few fits in
-        subst (λ (z : Thread). IsBusy p s t z) (sym is) (steps_busy 16 (first_thread k) g.thread g.walk
+        subst (λ (z : Thread). IsBusy p s t z) (sym is) (steps_busy 12 (first_thread k) g.thread g.walk
         (inside_busy v k (first_point false k) g.thread fits (begins_inside k) g.stands))
 
     completes_busy : (v : Variables) (x : Thread) (q : Process)

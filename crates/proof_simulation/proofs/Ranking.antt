@@ -1,7 +1,10 @@
 -- Inside a template each step that carries nothing, and after which the thread doesn't sleep, leaves fewer steps.
 use Rattle.std.proofs.Common.{◌≡◌, ◌≢◌, ℕ, ◌+◌, ◌<◌, ◌==◌, Bool, true, false, List, Option, Some, None, refl, ap, sym}
 use Rattle.std.proofs.Common.{◌∙◌, arith, inl, inr}
+use Rattle.std.proofs.Common.{◌≤◌}
 use Rattle.std.specs.Prelude.{if◌then◌else◌}
+use Rattle.locals.specs.Threads.{Thread}
+use Rattle.locals.specs.Looks.{Look, Goes, Asks}
 use Rattle.std.proofs.lemmas.Bool.{cond-true, cond-false, eq-eqb, ne_eqb, eqb-true}
 use Rattle.meaning.specs.Labels.{End}
 use Rattle.meaning.specs.Table.{Table}
@@ -57,54 +60,81 @@ none_chosen false e h = refl
 slept : (asleep : Option Spot) (x : Spot) → asleep ≡ Some x → asleep ≡ None → ⊥
 slept asleep x h g = absurd (cc (h, g))
 
+-- the pieces of a point's call before its last
+abbrev pub spare_at : Point → ℕ
+spare_at (TakeSleeps m v k) = 3
+spare_at (HasLeft m (ToWait c s)) = 3
+spare_at (LeaveWakes m k) = 3
+spare_at (NotifyWakes c) = 3
+spare_at (BroadcastMoves c s) = 3
+spare_at (JoinSleeps q) = 3
+spare_at pt = 0
+
+-- as many for a step that asks, and none for another
+abbrev pub spare_step : Look → Point → ℕ
+spare_step (Asks request go) pt = spare_at pt
+spare_step l pt = 0
+
+pub spare_none : (l : Look) (pt : Point) → spare_at pt ≡ 0 → spare_step l pt ≡ 0
+spare_none (Asks request go) pt h = h
+spare_none l pt h = refl
+
+pub spare_most : (l : Look) (pt : Point) → spare_step l pt ≤ spare_at pt
+spare_most (Asks request go) pt = omega arith
+spare_most l pt = omega arith
+
+pub spare_goes : (l : Look) (x : Thread) (pt : Point) → l ≡ Goes x → spare_step l pt ≡ 0
+spare_goes l x pt h = ap (λ m. spare_step m pt) h
+
 module _ (more : ℕ) (w : World) (T : Table) (t r : ℕ) (w' : World) (e : End) (p : Point) (l : List ℕ)
     (awake : w'.asleep t ≡ None) where
   abbrev after : World
   after = go_list w' t p l
 
-  abbrev Falls : ℕ → Point → Type 0
-  Falls n to = rank more after to + 16 < n
+  abbrev Falls : ℕ → ℕ → Point → Type 0
+  Falls extra n to = rank more after to + 12 + extra < n
 
   pub rank_falls : (pt : Point) → IsTemplate pt → Serves w t pt (request t pt) r w' → MayAnswer pt r
-      → source_event w T t pt r w' e ≡ None → next w e pt r ≢ Runs → Falls (rank more w pt) (next w e pt r)
+      → source_event w T t pt r w' e ≡ None → next w e pt r ≢ Runs
+      → Falls (spare_at pt) (rank more w pt) (next w e pt r)
   rank_falls Unmade is serves may none on = absurd is
   rank_falls Runs is serves may none on = absurd is
   rank_falls (EnterPends m) is serves may none on = omega arith
   rank_falls (EnterTries m) is serves may none on =
       let b = none_chosen (r == 0) _ none in
-      chosen (Falls 52) (r == 0) (GotReads m 0) (TakeReads m ToEnter) (λ h. absurd (cc (h, b))) (λ h. omega arith)
+      chosen (Falls 0 52) (r == 0) (GotReads m 0) (TakeReads m ToEnter) (λ h. absurd (cc (h, b))) (λ h. omega arith)
   rank_falls (ReenterPends m) is serves may none on = omega arith
   rank_falls (ReenterTries m) is serves may none on =
-      chosen (Falls 52) (r == 0) (GotReads m 0) (TakeReads m ToReenter) (λ h. absurd (may (eqb-true r 0 h)))
+      chosen (Falls 0 52) (r == 0) (GotReads m 0) (TakeReads m ToReenter) (λ h. absurd (may (eqb-true r 0 h)))
       (λ h. omega arith)
   rank_falls (TakeReads m k) is serves may none on =
       let same : w'.lock m ≡ r = ap (λ (x : World). x.lock m) serves.1 ∙ sym serves.0 in
-      chosen (Falls 35) (owner r == 0) (TakeTries m r k) (TakeMarks m r k)
-      (λ h. let x = fresh (w'.lock m) r 1 52 same in omega (arith, x))
+      chosen (Falls 0 35) (owner r == 0) (TakeTries m r k) (TakeMarks m r k)
+      (λ h. let x = fresh (w'.lock m) r 4 52 same in omega (arith, x))
       (λ h. let x = fresh (w'.lock m) r 18 52 same in omega (arith, x))
   rank_falls (TakeMarks m v k) is serves may none on = elim serves.1 [
     | inl z ↦
         let now : w'.lock m ≡ with_waiters v =
         ap (λ (x : World). x.lock m) z.1 ∙ put_same w.lock m (with_waiters v) in
         let was = fresh (w.lock m) v 18 52 z.0 in
-        chosen (Falls (rank more w (TakeMarks m v k))) (r == v) (TakeSleeps m (with_waiters v) k) (TakeReads m k)
-        (λ h. let x = fresh (w'.lock m) (with_waiters v) 1 52 now in omega (arith, x, was))
+        chosen (Falls 0 (rank more w (TakeMarks m v k))) (r == v) (TakeSleeps m (with_waiters v) k) (TakeReads m k)
+        (λ h. let x = fresh (w'.lock m) (with_waiters v) 4 52 now in omega (arith, x, was))
         (λ h. absurd (cc (h, eq-eqb r v (serves.0 ∙ z.0))))
     | inr z ↦
         let was = stale (w.lock m) v 18 52 z.0 in
-        chosen (Falls (rank more w (TakeMarks m v k))) (r == v) (TakeSleeps m (with_waiters v) k) (TakeReads m k)
+        chosen (Falls 0 (rank more w (TakeMarks m v k))) (r == v) (TakeSleeps m (with_waiters v) k) (TakeReads m k)
         (λ h. absurd (z.0 (sym serves.0 ∙ eqb-true r v h))) (λ h. omega (arith, was))
   ]
   rank_falls (TakeSleeps m v k) is serves may none on = elim serves [
     | inl z ↦ absurd (slept (w'.asleep t) (OnLock m)
         (ap (λ (x : World). x.asleep t) z.1 ∙ put_same w.asleep t (Some (OnLock m))) awake)
-    | inr z ↦ let was = stale (w.lock m) v 1 52 z.0 in omega (arith, was)
+    | inr z ↦ let was = stale (w.lock m) v 4 52 z.0 in omega (arith, was)
   ]
   rank_falls (TakeTries m v k) is serves may none on = elim serves.1 [
     | inl z ↦ let b = none_chosen (r == v) _ none in absurd (cc (b, eq-eqb r v (serves.0 ∙ z.0)))
     | inr z ↦
-        let was = stale (w.lock m) v 1 52 z.0 in
-        chosen (Falls (rank more w (TakeTries m v k))) (r == v) (GotReads m v) (TakeReads m k)
+        let was = stale (w.lock m) v 4 52 z.0 in
+        chosen (Falls 0 (rank more w (TakeTries m v k))) (r == v) (GotReads m v) (TakeReads m k)
         (λ h. absurd (z.0 (sym serves.0 ∙ eqb-true r v h))) (λ h. omega (arith, was))
   ]
   rank_falls (GotReads m v) is serves may none on = omega arith
@@ -150,7 +180,7 @@ module _ (more : ℕ) (w : World) (T : Table) (t r : ℕ) (w' : World) (e : End)
   if_runs false x y h g e = g e
 
   pub rank_ends : (pt : Point) → IsTemplate pt → source_event w T t pt r w' e ≡ None → next w e pt r ≡ Runs
-      → more + 16 < rank more w pt
+      → more + 12 + spare_at pt < rank more w pt
   rank_ends Unmade is none on = absurd is
   rank_ends Runs is none on = absurd is
   rank_ends (EnterPends m) is none on = absurd cc

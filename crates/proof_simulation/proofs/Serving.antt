@@ -21,7 +21,7 @@ use Rattle.protocol.specs.Word.{with_waiters}
 use Rattle.protocol.specs.Points.{Spot, OnLock, OnSequence, OnId, Release, ToExit, ToWait, Point, EnterPends}
 use Rattle.protocol.specs.Points.{EnterTries, ReenterPends, ReenterTries, TakeMarks, TakeTries, GotLinks, GotHeads}
 use Rattle.protocol.specs.Points.{GotUnpends, NotifyAdds, BroadcastAdds, BroadcastMarks, LeavePends, LeaveHeads}
-use Rattle.protocol.specs.Points.{LeaveSwaps, HasLeft}
+use Rattle.protocol.specs.Points.{LeaveSwaps, HasLeft, BroadcastMoves}
 use Rattle.protocol.specs.World.{World, put_sequence, awake_after, requeued_sleep}
 use Rattle.protocol.specs.Cells.{Cell, LockOf, LinkOf, HeadOf, PendingOf, IdOf, ClaimOf, ResultOf, OutcomeOf}
 use Rattle.protocol.specs.Cells.{SequenceOf, cell, write, cell_of}
@@ -34,6 +34,7 @@ use Rattle.protocol.proofs.Calls.{calls_follow}
 use Rattle.protocol.proofs.Exits.{distinct, names-mem, none_woken, spot_at}
 use Rattle.protocol.proofs.Good.{Good}
 use Rattle.protocol.proofs.Rest.{matches}
+use Rattle.protocol.proofs.Waits.{FreshAt}
 use Rattle.protocol.proofs.Sleeps.{put_other, cases_member, sequence_same, sequence_other}
 use Rattle.protocol.proofs.Stores.{stores_follow}
 use Rattle.proof_thread.specs.Variables.{variable_address}
@@ -42,6 +43,7 @@ use Rattle.proof_templates.specs.Asking.{machine_request, machine_answer}
 use Rattle.proof_templates.proofs.Layouts.{apart, number_is}
 use Rattle.proof_templates.proofs.Addresses.{variable_apart}
 use Rattle.proof_simulation.specs.Serving.{IsAskable, Keeps, IsServed}
+use Rattle.proof_simulation.specs.WholeCalls.{ServesWhole}
 use Rattle.proof_simulation.proofs.Pigeons.{short}
 
 -- what is served for a request, whatever point asks it
@@ -355,6 +357,31 @@ module _ (p : Program) (s : State) (w : World) (t : ℕ) (pt : Point)
             omega (arith, small)) in
             omega (arith, less)
 
+    -- a requeue that moves whatever the word says: the number is still the word's
+    requeues_fresh : ((u : ℕ) (c : Member) → w.asleep u ≡ Some (OnSequence c) → u ≤ 1000) → (c : Member) (v : ℕ)
+        → valid p (SequenceOf c) ≡ true → valid p (LockOf c.monitor) ≡ true → v ≡ w.sequence c
+        → ServesWhole t (M.AskRequeue (place p (SequenceOf c)) (place p (LockOf c.monitor)) 0 everyone v) s woken
+        answer mid
+        → IsAnswered p s mid w t pt (AskRequeue c v) answer
+    requeues_fresh few c v ok okl fresh h = requeues few c v ok okl (
+      h.0,
+      h.1,
+      elim h.2 [
+        | inl g ↦ inl (
+          g.0,
+          g.1,
+          record {
+            equal = shares.words.word (SequenceOf c) ok ∙ sym fresh;
+            wakes = g.2.wakes;
+            moves = g.2.moves;
+          },
+          g.3,
+          g.4,
+        )
+        | inr g ↦ inr g
+      ],
+    )
+
     faults : (cause : Cause) → 0 < t → t ≤ most_of p.version
         → A.Serves t (M.AskFault cause) s woken answer mid → IsAnswered p s mid w t pt (AskFault cause) answer
     faults cause some few h =
@@ -387,46 +414,65 @@ usual t (LeaveSwaps m r) = tt
 usual t (HasLeft m r) = usual_leave t m r
 usual t pt = tt
 
+-- the number of a requeue is still the word's
+abbrev pub IsFresh : World → Request → Type 0
+IsFresh w (AskRequeue c v) = v ≡ w.sequence c
+IsFresh w r = Unit {0}
+
+fresh_leave : (w : World) (t m : ℕ) (k : Release) → IsFresh w (request t (HasLeft m k))
+fresh_leave w t m ToExit = tt
+fresh_leave w t m (ToWait c s) = tt
+
+fresh_request : (w : World) (t : ℕ) (pt : Point) → FreshAt w.sequence pt → IsFresh w (request t pt)
+fresh_request w t (BroadcastMoves c s) h = h
+fresh_request w t (HasLeft m r) h = fresh_leave w t m r
+fresh_request w t pt h = tt
+
+-- what a thread at a point knows of the number there
+pub fresh_at : (w : World) (T : Table) → Good w T → (t : ℕ) (pt : Point) → (w.at t).point ≡ pt → FreshAt w.sequence pt
+fresh_at w T good t pt point = subst (FreshAt w.sequence) point (good.fresh.fresh t)
+
 -- what the machine answers to a usual request, by the request alone
 answered : (p : Program) (s : State) (w : World) (t : ℕ) (pt : Point) (r : Request) (asks : M.Request) (woken : List ℕ)
     (answer : ℕ) (mid : State) → Shares (place p) (valid p) (shared_of s) w → 0 < t
     → t ≤ most_of p.version → ((c : Member) → w.sequence c + 1 < 4294967296)
     → ((u : ℕ) (c : Member) → w.asleep u ≡ Some (OnSequence c) → u ≤ 1000)
-    → IsUsual r → IsAskable p r → machine_request p r ≡ Some asks → A.Serves t asks s woken answer mid
+    → IsFresh w r → IsUsual r → IsAskable p r → machine_request p r ≡ Some asks → ServesWhole t asks s woken answer mid
     → IsAnswered p s mid w t pt r answer
 answered p s w t pt r asks woken answer mid shares some few low sleepers = by_request r
   where
-    same : (x : M.Request) → Some x ≡ Some asks → A.Serves t asks s woken answer mid → A.Serves t x s woken answer mid
-    same x e h = let q : x ≡ asks = cc in subst (λ (y : M.Request). A.Serves t y s woken answer mid) (sym q) h
+    same : (x : M.Request) → Some x ≡ Some asks → ServesWhole t asks s woken answer mid
+        → ServesWhole t x s woken answer mid
+    same x e h = let q : x ≡ asks = cc in subst (λ (y : M.Request). ServesWhole t y s woken answer mid) (sym q) h
 
-    by_request : (r : Request) → IsUsual r → IsAskable p r → machine_request p r ≡ Some asks
-        → A.Serves t asks s woken answer mid
+    by_request : (r : Request) → IsFresh w r → IsUsual r → IsAskable p r → machine_request p r ≡ Some asks
+        → ServesWhole t asks s woken answer mid
         → IsAnswered p s mid w t pt r answer
-    by_request AskNothing usual ok e h = absurd ok
-    by_request (AskLoad a) usual ok e h =
+    by_request AskNothing fresh usual ok e h = absurd ok
+    by_request (AskLoad a) fresh usual ok e h =
         loads p s w t pt shares woken answer mid a ok (same (M.AskLoad (place p a)) e h)
-    by_request (AskStore a v) usual ok e h =
+    by_request (AskStore a v) fresh usual ok e h =
         stores p s w t pt shares woken answer mid a v ok usual
         (same (M.AskStore (place p a) (stored_value (place p) a v)) e h)
-    by_request (AskSwap a v) usual ok e h =
+    by_request (AskSwap a v) fresh usual ok e h =
         swaps p s w t pt shares woken answer mid a v ok usual
         (same (M.AskSwap (place p a) (stored_value (place p) a v)) e h)
-    by_request (AskCompareSwap a x v) usual ok e h =
+    by_request (AskCompareSwap a x v) fresh usual ok e h =
         compares p s w t pt shares woken answer mid a x v ok usual (same (M.AskCompareSwap (place p a) x v) e h)
-    by_request (AskOrWaiters a) usual ok e h =
+    by_request (AskOrWaiters a) fresh usual ok e h =
         marks p s w t pt shares woken answer mid a ok usual (same (M.AskOr (place p a) 2147483648) e h)
-    by_request (AskAddOne a) usual ok e h =
+    by_request (AskAddOne a) fresh usual ok e h =
         adds p s w t pt shares woken answer mid low a ok usual (same (M.AskAdd (place p a) 1) e h)
-    by_request (AskWait x v) usual ok e h =
+    by_request (AskWait x v) fresh usual ok e h =
         waits p s w t pt shares woken answer mid x v ok (same (M.AskWait (place p (cell_of x)) v) e h)
-    by_request (AskWakeOne x) usual ok e h =
+    by_request (AskWakeOne x) fresh usual ok e h =
         wakes p s w t pt shares woken answer mid x ok (same (M.AskWake (place p (cell_of x)) 1) e h)
-    by_request (AskRequeue c v) usual ok e h =
-        requeues p s w t pt shares woken answer mid sleepers c v ok.0 ok.1
+    by_request (AskRequeue c v) fresh usual ok e h =
+        requeues_fresh p s w t pt shares woken answer mid sleepers c v ok.0 ok.1 fresh
         (same (M.AskRequeue (place p (SequenceOf c)) (place p (LockOf c.monitor)) 0 everyone v) e h)
-    by_request (AskFault cause) usual ok e h =
+    by_request (AskFault cause) fresh usual ok e h =
         faults p s w t pt shares woken answer mid cause some few (same (M.AskFault cause) e h)
-    by_request AskExitStep usual ok e h = absurd cc
+    by_request AskExitStep fresh usual ok e h = absurd cc
 
 -- who sleeps on a condition is a process
 sleeper_few : (w : World) (T : Table) → Good w T → (u : ℕ) (c : Member) → w.asleep u ≡ Some (OnSequence c)
@@ -441,12 +487,13 @@ sleeper_few w T good u c e =
 -- and so to the request of a thread's point
 pub served : (p : Program) (s : State) (w : World) (T : Table) (t : ℕ) (pt : Point) (asks : M.Request) (woken : List ℕ)
     (answer : ℕ) (mid : State) → Shares (place p) (valid p) (shared_of s) w → Good w T → 0 < t
-    → t ≤ most_of p.version → ((c : Member) → w.sequence c + 1 < 4294967296) → IsAskable p (request t pt)
+    → t ≤ most_of p.version → ((c : Member) → w.sequence c + 1 < 4294967296) → FreshAt w.sequence pt
+    → IsAskable p (request t pt)
     → machine_request p (request t pt) ≡ Some asks
-    → A.Serves t asks s woken answer mid → IsServed p s mid w t pt answer
-served p s w T t pt asks woken answer mid shares good some few low ok e h =
+    → ServesWhole t asks s woken answer mid → IsServed p s mid w t pt answer
+served p s w T t pt asks woken answer mid shares good some few low fresh ok e h =
     let a = answered p s w t pt (request t pt) asks woken answer mid shares some few low
-    (λ u c z. sleeper_few w T good u c z) (usual t pt) ok e h in
+    (λ u c z. sleeper_few w T good u c z) (fresh_request w t pt fresh) (usual t pt) ok e h in
     record {
       reply = a.reply;
       after = a.after;

@@ -32,13 +32,14 @@ use Rattle.proof_templates.specs.Inside.{StandsIn}
 use Rattle.proof_templates.specs.Inside.{TemplateFits, SameBefore, first_thread, first_point}
 use Rattle.proof_templates.specs.Templates.{Begins}
 use Rattle.proof_templates.proofs.Begins.{begins}
-use Rattle.proof_simulation.specs.Ordering.{StepsSo}
+use Rattle.proof_simulation.specs.Ordering.{StepsWhole}
 use Rattle.proof_simulation.specs.Standing.{StandsAt, inside}
 use Rattle.proof_simulation.specs.Ranks.{rank, more_steps, before_template}
 use Rattle.proof_simulation.specs.Corresponding.{Reached, Corresponds, IsBefore}
 use Rattle.proof_simulation.proofs.Worlds.{reached_on, shares_at}
 use Rattle.proof_simulation.proofs.Moving.{put_stage, put_raised, IsLow, Next}
 use Rattle.proof_simulation.proofs.Local.{first_step, goes_local}
+use Rattle.proof_simulation.proofs.Ranking.{spare_step, spare_most, spare_goes}
 use Rattle.proof_simulation.proofs.Templating.{inside_step}
 use Rattle.proof_simulation.specs.Deferred.{Stage, stages, stage_of, notified_at, raised_at}
 use Rattle.std.specs.Prelude.{is_some}
@@ -54,9 +55,10 @@ module _ (p : Program) (w : WellFormed p) (steps : ℕ) (s : State) (c : SourceS
       → StepsWithin (build_of p w k.world.made) t left x y → TemplateFits (build_of p w k.world.made) u t kind
       → SameBefore kind pt u c.variable → pt ≢ Runs → StandsIn p t kind pt y
       → c.process t ≡ Some (process_at p kind pt) → (k.world.at t).point ≡ pt
-      → (k.world.at t).list ≡ list_at kind pt → left + rank (more_steps (build_of p w k.world.made)) k.world pt ≤ n
+      → (k.world.at t).list ≡ list_at kind pt → left + rank (more_steps (build_of p w k.world.made)) k.world pt
+      ≤ n + spare_step (look (code_of p) t x) pt
       → IsLow k.world.sequence (look (code_of p) t x)
-      → StepsSo p done raises deferral (mark_of (marks_of p) x) s t woken (look (code_of p) t x) s'
+      → StepsWhole p done raises deferral (mark_of (marks_of p) x) s t woken (look (code_of p) t x) s'
       → Next p w steps s' t done raises deferral pauses n c (stages k.world) (raised_at k.world)
   inside_any kind u pt left x y small walk fits same ne stands proc point list enough low moves =
       by_step (first_step p (marked_image p) t left x y walk)
@@ -69,15 +71,15 @@ module _ (p : Program) (w : WellFormed p) (steps : ℕ) (s : State) (c : SourceS
           inside_step p w steps s c k t woken done raises deferral pauses s' n number few awake paused kind u pt y fits
           same ne
           stands
-          proc point list (omega (arith, enough))
+          proc point list (omega (arith, enough, spare_most (look (code_of p) t x) pt))
           (subst (λ (z : Thread). IsLow k.world.sequence (look (code_of p) t z)) e low)
-          (subst (λ (z : Thread). StepsSo p done raises deferral (mark_of (marks_of p) z) s t woken (look
+          (subst (λ (z : Thread). StepsWhole p done raises deferral (mark_of (marks_of p) z) s t woken (look
           (code_of p) t z) s') e moves)
       by_step (inr (z, m, h, plain, le, more)) =
           goes_local p w steps s c k t woken done raises deferral pauses s' n x z (process_at p kind pt) pt
           (list_at kind pt) proc point list
           (inside m kind u (omega (arith, le, small)) more fits same ne stands) (omega
-          (arith, le, enough)) h plain moves
+          (arith, le, enough, spare_goes (look (code_of p) t x) z pt h)) h plain moves
 
 -- a thread at the first point of one works
 first_works : (held : Bool) (kind : Template) → stage_of (first_point held kind) ≡ W.Works
@@ -301,7 +303,7 @@ module _ (p : Program) (w : WellFormed p) (steps : ℕ) (s : State) (c : SourceS
     start_step : (low : IsLow k.world.sequence (look (code_of p) t x)) (woken : List ℕ) (done raises : Bool)
         (deferral : Option Kind) (pauses : Bool) (s' : State)
         (n : ℕ) → pauses ≡ is_paused s' t → before_template ≤ n
-        → StepsSo p done raises deferral (mark_of (marks_of p) x) s t woken (look (code_of p) t x) s'
+        → StepsWhole p done raises deferral (mark_of (marks_of p) x) s t woken (look (code_of p) t x) s'
         → Next p w steps s' t done raises deferral pauses n c (stages k.world) (raised_at k.world)
     unfolding started
     start_step low woken done raises deferral pauses s' n paused enough moves =
@@ -325,7 +327,7 @@ module _ (p : Program) (w : WellFormed p) (steps : ℕ) (s : State) (c : SourceS
       Kind)
       (pauses : Bool) (s' : State) (n : ℕ)
       → pauses ≡ is_paused s' t → before_template ≤ n
-      → StepsSo p done raises deferral (mark_of (marks_of p) x) s t woken (look (code_of p) t x) s'
+      → StepsWhole p done raises deferral (mark_of (marks_of p) x) s t woken (look (code_of p) t x) s'
       → Next p w steps s' t done raises deferral pauses n c (stages k.world) (raised_at k.world)
   template_step kind x fits thread proc list is low woken done raises deferral pauses s' n paused enough moves =
       let st = starts kind fits list in

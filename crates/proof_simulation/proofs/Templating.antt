@@ -40,7 +40,7 @@ use Rattle.proof_templates.specs.Asking.{machine_answer, template_steps}
 use Rattle.proof_templates.specs.Inside.{Template, process_at, list_at, StandsIn, TemplateFits, SameBefore, IsSteady}
 use Rattle.proof_templates.specs.Templates.{Follows, StandsOn}
 use Rattle.proof_templates.proofs.Follows.{follows}
-use Rattle.proof_simulation.specs.Ordering.{StepsSo, completes, is_raise}
+use Rattle.proof_simulation.specs.Ordering.{StepsWhole, completes, is_raise}
 use Rattle.proof_simulation.specs.Standing.{IsAtWork, StandsAt, works, inside}
 use Rattle.proof_simulation.specs.Ranks.{rank, steps_left, more_steps, before_template}
 use Rattle.proof_simulation.specs.Corresponding.{Corresponds, IsBefore}
@@ -52,8 +52,8 @@ use Rattle.proof_simulation.proofs.Completions.{point_deferral, point_completes,
 use Rattle.proof_simulation.proofs.Resumed.{who_resumes}
 use Rattle.proof_simulation.proofs.Moving.{IsLow, Next}
 use Rattle.proof_simulation.proofs.Stepped.{Arrives, stepped}
-use Rattle.proof_simulation.proofs.Serving.{served}
-use Rattle.proof_simulation.proofs.Ranking.{IsTemplate, rank_falls, rank_ends}
+use Rattle.proof_simulation.proofs.Serving.{fresh_at, served}
+use Rattle.proof_simulation.proofs.Ranking.{IsTemplate, rank_falls, rank_ends, spare_at}
 use Rattle.proof_simulation.proofs.Points.{InTemplate, in_template}
 use Rattle.proof_simulation.proofs.Offering.{acts_now, same_next}
 use Rattle.proof_simulation.specs.Deferred.{Stage, stages, stage_of, Agrees, raised_at}
@@ -138,7 +138,7 @@ module _ (p : Program) (w : WellFormed p) (steps : ℕ) (s : State) (c : SourceS
   module _ (kind : Template) (u : Variables) (pt : Point) (x : Thread) (fits : TemplateFits b u t kind)
       (same : SameBefore kind pt u c.variable) (ne : pt ≢ Runs) (stands : StandsIn p t kind pt x)
       (proc : c.process t ≡ Some (process_at p kind pt)) (point : (k.world.at t).point ≡ pt)
-      (list : (k.world.at t).list ≡ list_at kind pt) (enough : rank (more_steps b) k.world pt ≤ n) where
+      (list : (k.world.at t).list ≡ list_at kind pt) (enough : rank (more_steps b) k.world pt ≤ n + spare_at pt) where
     within : InTemplate p t number.0 (omega (arith, number.1, few)) pt
     within = in_template p t number.0 (omega (arith, number.1, few)) b refl u kind pt x fits ne stands
 
@@ -199,7 +199,7 @@ module _ (p : Program) (w : WellFormed p) (steps : ℕ) (s : State) (c : SourceS
               → ((world : World) → steps_left b c.variable t world stand
               ≡ template_steps + most_steps b + before_template)
               → (source_event k.world c.table t pt sv.reply sv.after e ≡ None → pauses ≡ false
-              → more_steps b + 16 < rank (more_steps b) k.world pt)
+              → more_steps b + 12 + spare_at pt < rank (more_steps b) k.world pt)
               → (stand : StandsAt b c.variable t (Some y) (Some q) to (holds q))
               × (source_event k.world c.table t pt sv.reply sv.after e ≡ None → pauses ≡ false
               → steps_left b c.variable t (go_list sv.after t to (next_list pt (k.world.at t).list)) stand < n)
@@ -252,11 +252,12 @@ module _ (p : Program) (w : WellFormed p) (steps : ℕ) (s : State) (c : SourceS
           (λ v. ap (λ (x : State). x.asleep v) came ∙ sv.shares.sleeps v) sv.shares.spots within.askable h) arrives
 
     pub inside_step : IsLow k.world.sequence (look (code_of p) t x)
-        → StepsSo p done raises deferral (mark_of (marks_of p) x) s t woken (look (code_of p) t x) s'
+        → StepsWhole p done raises deferral (mark_of (marks_of p) x) s t woken (look (code_of p) t x) s'
         → Next p w steps s' t done raises deferral pauses n c (stages k.world) (raised_at k.world)
     inside_step low moves =
-        let g : StepsSo p done raises deferral (mark_of (marks_of p) x) s t woken (Asks goes.asks goes.go) s' =
-        subst (λ (l : Look). StepsSo p done raises deferral (mark_of (marks_of p) x) s t woken l s') goes.look
+        let g : StepsWhole p done raises deferral (mark_of (marks_of p) x) s t woken (Asks goes.asks goes.go) s' =
+        subst (λ (l : Look). StepsWhole p done raises deferral (mark_of (marks_of p) x) s t woken l s') goes.look
         moves in
         answered g.0 g.1 (served p s k.world c.table t pt goes.asks woken g.0 g.1 k.shares inv number.0
-        (omega (arith, number.1, few)) (low goes.asks goes.go goes.look) within.askable goes.same g.2) g.3 g.4 g.5 g.6
+        (omega (arith, number.1, few)) (low goes.asks goes.go goes.look) (fresh_at k.world c.table inv t pt point)
+        within.askable goes.same g.2) g.3 g.4 g.5 g.6

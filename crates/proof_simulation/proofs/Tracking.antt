@@ -28,7 +28,7 @@ use Rattle.proof_simulation.specs.Deferred.{Leaves, raised_at, raised_then}
 use Rattle.proof_simulation.proofs.KillSteps.{killed_ties, killed_staged, killed_raised, killed_step}
 use Rattle.proof_simulation.proofs.Nexts.{caught_up_behind}
 use Rattle.proof_simulation.proofs.Strays.{Strayed, strayed}
-use Rattle.machine.specs.Runs.{Step, IsOwnStep}
+use Rattle.machine.specs.Runs.{Step, IsOwnStep, is_paused}
 use Rattle.program.specs.Trees.{Program}
 use Rattle.program.specs.WellFormed.{WellFormed}
 use Rattle.lowering.specs.Pieces.{marks_of, code_of}
@@ -55,7 +55,7 @@ use Rattle.refinement.specs.Seen.{machine_end, source_end, process_end}
 use Rattle.proof_simulation.specs.Standing.{StandsAt}
 use Rattle.proof_simulation.specs.Standing as S
 use Rattle.proof_simulation.specs.Corresponding.{Corresponds}
-use Rattle.proof_simulation.specs.Ordering.{StepsSo, MovesSo, Places, act, state_after, Resumes as Resumes'}
+use Rattle.proof_simulation.specs.Ordering.{StepsSo, StepsWhole, MovesSo, Places, act, state_after, Resumes as Resumes'}
 use Rattle.proof_simulation.specs.Ordering as P
 use Rattle.proof_simulation.specs.Tracking.{CanTake, Tracks, HasDeferred}
 use Rattle.proof_simulation.proofs.Moving.{Next, left_of}
@@ -66,6 +66,7 @@ use Rattle.proof_simulation.proofs.Worlds.{reached_good}
 use Rattle.words.specs.declared.outcome.Fault.{Fault}
 use Rattle.proof_simulation.proofs.Local.{put_again}
 use Rattle.proof_simulation.proofs.Completions.{told_deferral}
+use Rattle.proof_simulation.proofs.WholeCalls.{steps_whole}
 use Rattle.proof_simulation.specs.Deferred.{Stage, stages, Agrees, Stays, is_failing, has_failed, deferred_then}
 use Rattle.proof_simulation.specs.Deferred.{Works, Meets}
 use Rattle.proof_thread.specs.Deferrals.{mark_of}
@@ -191,33 +192,30 @@ module _ (p : Program) (w : WellFormed p) where
           let made = (reached_good p.version k.world c.table k.reached).made in
           absurd (omega (arith, number.1, made))
 
-  -- a step of the machine, which is none that others learn of, or is one; and what waits behind it
-  pub tracks_deferred : (steps : ℕ) (s : State) (a : SourceState) (r : Tracks p w steps s a) (l : Step) (s' : State)
-      (st : IsOwnStep (code_of p) s l s') (done raises : Bool)
+  -- a step with whole calls, which is none that others learn of, or is one; and what waits behind it
+  pub tracks_whole : (steps : ℕ) (s : State) (a : SourceState) (r : Tracks p w steps s a) (t : ℕ) (woken : List ℕ)
+      (s' : State) (x : Thread) → s.thread t ≡ Some x → s.asleep t ≡ None → (done raises : Bool)
       (deferral : Option Kind)
-      → StepsSo p done raises deferral (mark_of (marks_of p) st.thread) s l.thread l.woken
-      (look (code_of p) l.thread st.thread) s'
+      → StepsWhole p done raises deferral (mark_of (marks_of p) x) s t woken (look (code_of p) t x) s'
       → steps + 1 < 2 ^ 32
       → (done ≡ false → (n : Tracks p w (suc steps) s' a)
-      × (n.deferred ≡ put r.deferred l.thread (deferred_then deferral (r.deferred l.thread)))
-      × RaisedSo r.ties.world n.ties.world l.thread (raised_then done raises (raised_at r.ties.world l.thread)))
-      × (done ≡ true → (o : HasDeferred p w (suc steps) s' l.thread a (r.deferred l.thread))
+      × (n.deferred ≡ put r.deferred t (deferred_then deferral (r.deferred t)))
+      × RaisedSo r.ties.world n.ties.world t (raised_then done raises (raised_at r.ties.world t)))
+      × (done ≡ true → (o : HasDeferred p w (suc steps) s' t a (r.deferred t))
       × (o.deferred ≡ r.deferred)
-      × RaisedSo r.ties.world o.ties.world l.thread (raised_then done raises (raised_at r.ties.world l.thread)))
-  tracks_deferred steps s a r l s' st done raises deferral moves short = by_places n.kinds n.places n.own
+      × RaisedSo r.ties.world o.ties.world t (raised_then done raises (raised_at r.ties.world t)))
+  tracks_whole steps s a r t woken s' x thread awake done raises deferral moves short =
+      by_places n.kinds n.places n.own
     where
       c : SourceState
       c = r.ahead
 
-      t : ℕ
-      t = l.thread
-
       ks : List Kind
-      ks = r.deferred l.thread
+      ks = r.deferred t
 
-      n : Next p w steps s' l.thread done raises deferral l.pauses (left_of p w r.ties l.thread) r.ahead
+      n : Next p w steps s' t done raises deferral (is_paused s' t) (left_of p w r.ties t) r.ahead
           (stages r.ties.world) (raised_at r.ties.world)
-      n = next p w steps s r.ahead r.ties l s' st done raises deferral moves
+      n = next p w steps s r.ahead r.ties t woken s' x thread awake done raises deferral moves
           (λ request go e d. let few = r.ties.numbers d in omega (arith, few, short))
 
       Raised : World → Type 0
@@ -334,6 +332,24 @@ module _ (p : Program) (w : WellFormed p) where
                   tied.2,
                 ),
           )
+
+  -- the same of a step of the machine
+  pub tracks_deferred : (steps : ℕ) (s : State) (a : SourceState) (r : Tracks p w steps s a) (l : Step) (s' : State)
+      (st : IsOwnStep (code_of p) s l s') (done raises : Bool)
+      (deferral : Option Kind)
+      → StepsSo p done raises deferral (mark_of (marks_of p) st.thread) s l.thread l.woken
+      (look (code_of p) l.thread st.thread) s'
+      → steps + 1 < 2 ^ 32
+      → (done ≡ false → (n : Tracks p w (suc steps) s' a)
+      × (n.deferred ≡ put r.deferred l.thread (deferred_then deferral (r.deferred l.thread)))
+      × RaisedSo r.ties.world n.ties.world l.thread (raised_then done raises (raised_at r.ties.world l.thread)))
+      × (done ≡ true → (o : HasDeferred p w (suc steps) s' l.thread a (r.deferred l.thread))
+      × (o.deferred ≡ r.deferred)
+      × RaisedSo r.ties.world o.ties.world l.thread (raised_then done raises (raised_at r.ties.world l.thread)))
+  tracks_deferred steps s a r l s' st done raises deferral moves short =
+      tracks_whole steps s a r l.thread l.woken s' st.thread st.stands st.awake done raises deferral
+      (steps_whole p done raises deferral (mark_of (marks_of p) st.thread) s l.thread l.woken
+      (look (code_of p) l.thread st.thread) s' moves) short
 
   -- a wake from outside
   pub tracks_stray : (steps : ℕ) (s : State) (a : SourceState) (r : Tracks p w steps s a) (t address : ℕ)
@@ -550,6 +566,11 @@ module _ (p : Program) (w : WellFormed p) where
       → stages (ties_later steps s c k).world u ≡ stages k.world u
   unfolding ties_later
   later_staged steps s c k u = refl
+
+  pub later_left : (steps : ℕ) (s : State) (c : SourceState) (k : Corresponds p w steps s c) (u : ℕ)
+      → left_of p w (ties_later steps s c k) u ≡ left_of p w k u
+  unfolding ties_later
+  later_left steps s c k u = refl
 
   pub tracks_later : (steps : ℕ) (s : State) (a : SourceState) (r : Tracks p w steps s a)
       → (n : Tracks p w (suc steps) s a) × (n.deferred ≡ r.deferred)

@@ -1,3 +1,5 @@
+pub mod WholeCalls
+pub mod Traces
 pub mod Deferred
 pub mod Ordering
 pub mod Killing

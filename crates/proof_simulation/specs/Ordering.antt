@@ -29,6 +29,7 @@ use Rattle.lowering.specs.declared.mark.Mark.{Mark}
 use Rattle.proof_thread.specs.Deferrals.{deferred_by_mark, deferred_by_request}
 use Rattle.meaning.specs.Labels.{Fails}
 pub use Rattle.refinement.specs.Outside.{any_below}
+use Rattle.proof_simulation.specs.WholeCalls.{ServesWhole}
 use Rattle.proof_simulation.specs.Deferred.{Stage, Works, Meets, Agrees, Stays, is_failing}
 use Rattle.proof_simulation.specs.Deferred as W
 
@@ -105,6 +106,14 @@ StepsSo p done raises deferral mark s t woken (Leaves phase) s' =
     × (deferral ≡ None) × (raises ≡ false)
 StepsSo p done raises deferral mark s t woken Breaks s' = ⊥
 StepsSo p done raises deferral mark s t woken Rests s' = ⊥
+
+-- the same of a step with whole calls
+abbrev pub StepsWhole : Program → Bool → Bool → Option Kind → Option Mark → State → ℕ → List ℕ → Look → State → Type 0
+StepsWhole p done raises deferral mark s t woken (Asks request go) s' =
+    (answer : ℕ) × (mid : State) × ServesWhole t request s woken answer mid × (s' ≡ with_thread mid t (go answer))
+    × (done ≡ completes p request answer) × (deferral ≡ deferred_by_request mark request answer)
+    × (raises ≡ is_raise request)
+StepsWhole p done raises deferral mark s t woken other s' = StepsSo p done raises deferral mark s t woken other s'
 
 -- an action of process t
 abbrev pub act : ℕ → Kind → Action

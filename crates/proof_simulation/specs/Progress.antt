@@ -16,6 +16,8 @@ use Rattle.proof_simulation.specs.Kills.{killed_last, killed_resumed, after_kill
 use Rattle.proof_simulation.specs.Next.{after_next, next_kinds, next_visible, offer_of_process, take_deferred}
 use Rattle.proof_simulation.specs.Ordering.{act, completes, completes_exit, raises_number}
 use Rattle.proof_simulation.specs.Deferred.{deferred_then, raised_then}
+use Rattle.proof_simulation.specs.WholeCalls.{MovesWhole, IsWholeStep, IsWholeDone}
+use Rattle.proof_simulation.specs.Traces.{TraceStep, Loud, Silent, Trace, none_taken}
 
 -- the answer to what a step asks
 abbrev pub answer_in : (s s' : State) (t : ℕ) (woken : List ℕ) (l : Look) → Moves s t woken l s' → ℕ
@@ -24,6 +26,14 @@ answer_in s s' t woken (Asks request go) g = g.0
 answer_in s s' t woken (Leaves phase) g = 0
 answer_in s s' t woken Breaks g = 0
 answer_in s s' t woken Rests g = 0
+
+-- the same with whole calls
+abbrev pub answer_whole : (s s' : State) (t : ℕ) (woken : List ℕ) (l : Look) → MovesWhole s t woken l s' → ℕ
+answer_whole s s' t woken (Goes x) g = 0
+answer_whole s s' t woken (Asks request go) g = g.0
+answer_whole s s' t woken (Leaves phase) g = 0
+answer_whole s s' t woken Breaks g = 0
+answer_whole s s' t woken Rests g = 0
 
 -- whether a step of thread t that looks so is visible, by the words before it
 abbrev pub visible_step : Program → (word : ℕ → ℕ) → ℕ → Look → (answer : ℕ) → Bool
@@ -130,3 +140,38 @@ opening_progress p = record { actions = []; source = opening p; deferred = λ t.
 -- of a run from the opening state
 abbrev pub progress : (p : Program) (steps : List Step) (s : State) → MachineRun (code_of p) steps s → Progress
 progress p steps s run = progress_by p (opening_progress p) steps (opening_state (code_of p)) s run
+
+-- behind a step of thread t with whole calls
+abbrev pub progress_whole_own : (p : Program) → (s s' : State) → (t : ℕ) → (woken : List ℕ)
+    → IsWholeStep (code_of p) s t woken s' → Progress → Progress
+progress_whole_own p s s' t woken st g =
+    let looks = look (code_of p) t st.thread in
+    let answer = answer_whole s s' t woken looks st.moves in
+    let deferral = deferred_by_step (mark_of (marks_of p) st.thread) looks answer in
+    progress_step p (visible_step p s.word t looks answer) deferral (raises_number looks) s' t g
+
+-- behind a step with whole calls, by what it is
+abbrev pub progress_whole : (p : Program) → (s s' : State) → (l : Step) → (d : Doing)
+    → IsWholeDone (code_of p) s l s' d → Progress → Progress
+progress_whole p s s' l Own st g = progress_whole_own p s s' l.thread l.woken st g
+progress_whole p s s' l (Strayed a) st g = progress_done p s s' l (Strayed a) st g
+progress_whole p s s' l (Killed begins) st g = progress_done p s s' l (Killed begins) st g
+
+-- behind a step of a trace: a silent one leads nowhere
+abbrev pub progress_traced : (p : Program) → (s s' : State) → (l : Step) → (taken next : ℕ → ℕ)
+    → TraceStep (code_of p) s taken l s' next → Progress → Progress
+progress_traced p s s' l taken next (Loud st time) g = progress_whole p s s' l l.doing st g
+progress_traced p s s' l taken next (Silent own same piece) g = g
+
+-- behind several steps of one
+abbrev pub progress_by_trace : (p : Program) → Progress → (steps : List Step) → (s : State) → (taken : ℕ → ℕ)
+    → (s' : State) → Trace (code_of p) s taken steps s' → Progress
+progress_by_trace p g [] s taken s' run = g
+progress_by_trace p g (l ∷ ls) s taken s' run =
+    progress_by_trace p (progress_traced p s run.0 l taken run.1 run.2 g) ls run.0 run.1 s' run.3
+
+-- of a trace from the opening state
+abbrev pub progress_of_trace : (p : Program) (steps : List Step) (s : State)
+    → Trace (code_of p) (opening_state (code_of p)) none_taken steps s → Progress
+progress_of_trace p steps s run =
+    progress_by_trace p (opening_progress p) steps (opening_state (code_of p)) none_taken s run

@@ -29,27 +29,27 @@ rank more w (ReenterPends m) = 69
 rank more w (ReenterTries m) = 52
 rank more w (TakeReads m k) = 35
 rank more w (TakeMarks m v k) = if w.lock m == v then 18 else 52
-rank more w (TakeSleeps m v k) = if w.lock m == v then 1 else 52
-rank more w (TakeTries m v k) = if w.lock m == v then 1 else 52
+rank more w (TakeSleeps m v k) = if w.lock m == v then 4 else 52
+rank more w (TakeTries m v k) = if w.lock m == v then 4 else 52
 rank more w (GotReads m v) = more + 68
 rank more w (GotLinks m v h) = more + 51
 rank more w (GotHeads m v) = more + 34
 rank more w (GotUnpends m v) = more + 17
 rank more w (WaitReads c) = 69
 rank more w (NotifyAdds c) = 18
-rank more w (NotifyWakes c) = 1
+rank more w (NotifyWakes c) = 4
 rank more w (BroadcastAdds c) = 52
 rank more w (BroadcastMarks c) = 35
 rank more w (BroadcastReads c) = 18
-rank more w (BroadcastMoves c s) = 1
-rank more w (JoinReads q) = if w.id q == 0 then 1 else 35
+rank more w (BroadcastMoves c s) = 4
+rank more w (JoinReads q) = if w.id q == 0 then 4 else 35
 rank more w (JoinSleeps q) = 18
 rank more w (JoinLearns q end) = more + 34
 rank more w (JoinTakes q end) = more + 17
 rank more w (LeavePends m r) = 52
 rank more w (LeaveReads m r) = 35
 rank more w (LeaveHeads m h r) = 18
-rank more w (LeaveSwaps m r) = 1
+rank more w (LeaveSwaps m r) = 4
 rank more w (LeaveWakes m ToExit) = more + 34
 rank more w (LeaveWakes m (ToWait c s)) = 69
 rank more w (HasLeft m ToExit) = more + 17

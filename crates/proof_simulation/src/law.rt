@@ -14,8 +14,9 @@ ghost use Rattle.proof_simulation.specs.Deferred.{deferred_then, raised_at, rais
 ghost use Rattle.proof_simulation.specs.Corresponding.{Corresponds};
 ghost use Rattle.proof_commutation.specs.Placed.{actions_up_to};
 ghost use Rattle.proof_thread.specs.Deferrals.{mark_of};
-ghost use Rattle.proof_simulation.specs.Explaining.{IsDue, IsReached, explanation};
-ghost use Rattle.proof_simulation.specs.Progress.{Progress, answer_in, visible_step, progress};
+ghost use Rattle.proof_simulation.specs.Explaining.{IsDue, IsReached, explanation, explanation_of_trace};
+ghost use Rattle.proof_simulation.specs.Progress.{Progress, answer_in, visible_step, progress, progress_of_trace};
+ghost use Rattle.proof_simulation.specs.Traces.{Trace, none_taken};
 ghost use Rattle.words.specs.Updates.{put};
 ghost use Rattle.proof_simulation.specs.Tracking.{CanTake, HasDeferred, RaisedSo, Tracks, TracksKill, TracksStray};
 ghost use Rattle.proof_simulation.specs.Strays.{stray_condition};
@@ -147,4 +148,25 @@ pub fn run_explains()
         (run : MachineRun (code_of p) steps s)
         → length steps < 2 ^ 32
         → (e : Explained p (code_of p) steps s) × (e.actions ≡ explanation p steps s run) }
+{}
+
+/// A run whose futex calls are taken in pieces is explained by the same means, as a trace of steps with whole calls:
+/// each of its steps is loud, one of those, or silent, none of them. A run of the machine is a trace along which the
+/// source comes to the same. What the source has come to behind each step of a trace is a run of the program, which
+/// goes with the state with whole calls; and its explanation explains it in all that `Refines` says of that state and
+/// of the run's own steps: it keeps pace, though a stretch counts pieces too.
+pub fn traces_explain()
+    ensures traced { (p : Program) (steps : List Step) (s : State)
+        (run : MachineRun (code_of p) steps s)
+        → (trace : Trace (code_of p) (opening_state (code_of p)) none_taken steps s)
+        × (progress_of_trace p steps s trace ≡ progress p steps s run) }
+    ensures reached { (p : Program) (w : WellFormed p) (steps : List Step) (s : State)
+        (trace : Trace (code_of p) (opening_state (code_of p)) none_taken steps s)
+        → length steps < 2 ^ 32
+        → IsReached p w (length steps) s (progress_of_trace p steps s trace) }
+    ensures explained { (p : Program) → WellFormed p → (steps : List Step) (s : State)
+        (trace : Trace (code_of p) (opening_state (code_of p)) none_taken steps s)
+        → length steps < 2 ^ 32
+        → (e : Explained p (code_of p) steps s)
+        × (e.actions ≡ explanation_of_trace p steps s trace) }
 {}

@@ -4,4 +4,4 @@
 
 mod law;
 
-pub use law::{code_refines, run_explains, source_follows, source_waits};
+pub use law::{code_refines, run_explains, source_follows, source_waits, traces_explain};

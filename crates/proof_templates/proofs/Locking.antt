@@ -94,7 +94,7 @@ module _ (p : Program) (image : MarkedImage) (t m : ℕ) (k : Purpose) (mark : M
       (within_on image t (empty_view p) 1 n
       x y z v w)
 
-  enough : (n : ℕ) (x y : Thread) → n ≤ 16 → Go n x y → Go template_steps x y
+  enough : (n : ℕ) (x y : Thread) → n ≤ 12 → Go n x y → Go template_steps x y
   enough n x y le w = wider image t (empty_view p) n template_steps x y le w
 
   asks : (i j : ℕ) (x : Marked) (operands : List ℕ) (s : ℕ) (after : ℕ → List ℕ) (request : Request)

@@ -43,7 +43,7 @@ machine_answer p other r = r
 
 -- the most local steps of a template from one request to the next
 abbrev pub template_steps : ℕ
-template_steps = 16
+template_steps = 12
 
 -- a thread asks what its point asks, and comes after each answer, within few local steps, to where a thread of the next
 -- point stands
