@@ -1,3 +1,4 @@
+pub mod Rising
 pub mod Offered
 pub mod Unique
 pub mod Waits

@@ -1,6 +1,7 @@
 -- What all processes share but variables and output: monitors, conditions, and the process table; and which actions it
 -- allows (Lampson and Redell, sections 2 and 3).
 use Rattle.std.specs.Prelude.{ℕ, ◌+◌, ◌≡◌, ◌≤◌, ◌<◌, Bool, true, false, List, [], ◌∷◌, Option, Some, None, Contains}
+use Rattle.std.specs.List.Sorted.{IsStrictlyIncreasing}
 use Rattle.words.specs.Updates.{put}
 use Rattle.program.specs.declared.kinds.Member.{Member}
 use Rattle.meaning.specs.Labels.{End, Label, Alone, Stores, Forks, FindsFull, Claims, FindsClaimed, Joins, Enters}
@@ -41,13 +42,16 @@ enterable false = Free
 abbrev pub AllWait : Table → Member → List ℕ → Type 0
 AllWait t c resumed = (q : ℕ) → Contains resumed q → t.waits q ≡ Some c
 
--- a notify resumes some of the processes that wait on the condition, one at least where any waits
+-- a notify resumes some of the processes that wait on the condition, one at least where any waits: a set, as its rising
+-- numbers
 pub record IsNotified (t : Table) (c : Member) (resumed : List ℕ) : Type 0 where
+  pub rising : IsStrictlyIncreasing resumed
   pub wait : AllWait t c resumed
   pub some : (q : ℕ) → t.waits q ≡ Some c → resumed ≡ [] → ⊥
 
 -- a broadcast resumes all of them
 pub record IsBroadcast (t : Table) (c : Member) (resumed : List ℕ) : Type 0 where
+  pub rising : IsStrictlyIncreasing resumed
   pub wait : AllWait t c resumed
   pub all : (q : ℕ) → t.waits q ≡ Some c → Contains resumed q
 
@@ -80,7 +84,7 @@ AllowsStray p c t t' = (t.waits p ≡ Some c) × (t' ≡ record t { waits = put 
 -- the processes that one killed at a notify or broadcast has resumed: some that wait on the condition, or none
 abbrev pub AreResumed : Table → Option Member → List ℕ → Type 0
 AreResumed t None resumed = resumed ≡ []
-AreResumed t (Some c) resumed = AllWait t c resumed
+AreResumed t (Some c) resumed = IsStrictlyIncreasing resumed × AllWait t c resumed
 
 -- from outside: a process dies where it stands
 abbrev pub AllowsKill : ℕ → Option Member → List ℕ → Table → Table → Type 0

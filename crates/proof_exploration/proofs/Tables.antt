@@ -416,6 +416,7 @@ o_sym t u o e = o (sym e)
 notified_kept : (t u : ℕ) (c : Member) (qs : List ℕ) (k : Label) (T : Table) → t ≢ u → T.hold c.monitor ≡ HeldBy t
     → Guard u k T → Fit u k T → IsNotified T c qs → IsNotified (table_after u k T) c qs
 notified_kept t u c qs k T o held h e is = record {
+  rising = is.rising;
   wait = λ q i. waits_kept t u c (wait_change k) T q o held (wait_fits u k T h e) (is.wait q i);
   some = λ q w. is.some q (waits_back t u c (wait_change k) T q o held (wait_fits u k T h e) w);
 }
@@ -423,6 +424,7 @@ notified_kept t u c qs k T o held h e is = record {
 pub notified_back : (t u : ℕ) (c : Member) (qs : List ℕ) (k : Label) (T : Table) → t ≢ u → T.hold c.monitor ≡ HeldBy t
     → Guard u k T → Fit u k T → IsNotified (table_after u k T) c qs → IsNotified T c qs
 notified_back t u c qs k T o held h e is = record {
+  rising = is.rising;
   wait = λ q i. waits_back t u c (wait_change k) T q o held (wait_fits u k T h e) (is.wait q i);
   some = λ q w. is.some q (waits_kept t u c (wait_change k) T q o held (wait_fits u k T h e) w);
 }
@@ -430,6 +432,7 @@ notified_back t u c qs k T o held h e is = record {
 broadcast_kept : (t u : ℕ) (c : Member) (qs : List ℕ) (k : Label) (T : Table) → t ≢ u → T.hold c.monitor ≡ HeldBy t
     → Guard u k T → Fit u k T → IsBroadcast T c qs → IsBroadcast (table_after u k T) c qs
 broadcast_kept t u c qs k T o held h e is = record {
+  rising = is.rising;
   wait = λ q i. waits_kept t u c (wait_change k) T q o held (wait_fits u k T h e) (is.wait q i);
   all = λ q w. is.all q (waits_back t u c (wait_change k) T q o held (wait_fits u k T h e) w);
 }
@@ -437,6 +440,7 @@ broadcast_kept t u c qs k T o held h e is = record {
 pub broadcast_back : (t u : ℕ) (c : Member) (qs : List ℕ) (k : Label) (T : Table) → t ≢ u → T.hold c.monitor ≡ HeldBy t
     → Guard u k T → Fit u k T → IsBroadcast (table_after u k T) c qs → IsBroadcast T c qs
 broadcast_back t u c qs k T o held h e is = record {
+  rising = is.rising;
   wait = λ q i. waits_back t u c (wait_change k) T q o held (wait_fits u k T h e) (is.wait q i);
   all = λ q w. is.all q (waits_kept t u c (wait_change k) T q o held (wait_fits u k T h e) w);
 }

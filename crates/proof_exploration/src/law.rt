@@ -1,19 +1,17 @@
 ghost use Rattle.std.specs.Prelude.{◌≡◌, ℕ, List, Option, Contains, length};
 ghost use Rattle.program.specs.Trees.{Program};
 ghost use Rattle.program.specs.WellFormed.{WellFormed};
-ghost use Rattle.program.specs.declared.kinds.Member.{Member};
-ghost use Rattle.meaning.specs.Labels.{Action, Broadcast, Kind, Notify};
+ghost use Rattle.meaning.specs.Labels.{Action, Kind};
 ghost use Rattle.meaning.specs.Runs.{IsAction, IsRun};
 ghost use Rattle.meaning.specs.States.{SourceState, opening};
 ghost use Rattle.proof_exploration.specs.Exploring.{AreOwn, Follows, HasAborted, IsCalm, IsCalmKind, IsLike, IsStuck};
-ghost use Rattle.proof_exploration.specs.Exploring.{LeadsAlone, MovesCalmly, PicksCalm, SameMembers};
+ghost use Rattle.proof_exploration.specs.Exploring.{LeadsAlone, MovesCalmly, PicksCalm};
 ghost use Rattle.proof_exploration.specs.Searching.{IsComplete, IsCovered};
 
 /// Who need not be interleaved. In a state that a run leads to, the calm action of a process and any action of another
 /// are possible in either order, and both orders lead to one state, but for what was printed. So for each run to a
 /// state in which no process can move there is one as long, to the same end but for what was printed, in which where a
-/// process with a calm next action is picked, it acts. Of a notify or broadcast only the set of those that it resumes
-/// matters.
+/// process with a calm next action is picked, it acts.
 pub fn following_laws()
     ensures commute { (p : Program) (done : List Action) (s s1 s2 : SourceState) (t u : ℕ)
         (k j : Kind)
@@ -29,17 +27,6 @@ pub fn following_laws()
         → (others : List Action) × (end : SourceState) × Follows p pick (opening p) others end
         × IsLike end s
         × (length others ≡ length actions) }
-    ensures resumes { (p : Program) (done : List Action) (s s' : SourceState) (t : ℕ) (c : Member)
-        (qs rs : List ℕ)
-        → WellFormed p → LeadsAlone p (opening p) done s → SameMembers qs rs
-        → IsAction p s (record { process = t; kind = Notify c qs }) s'
-        → IsAction p s (record { process = t; kind = Notify c rs }) s' }
-    ensures resumes_all { (p : Program) (done : List Action) (s s' : SourceState) (t : ℕ)
-        (c : Member)
-        (qs rs : List ℕ)
-        → WellFormed p → LeadsAlone p (opening p) done s → SameMembers qs rs
-        → IsAction p s (record { process = t; kind = Broadcast c qs }) s'
-        → IsAction p s (record { process = t; kind = Broadcast c rs }) s' }
 {}
 
 /// A search is complete where the states that it keeps are closed under what may come next, and between them one

@@ -10,6 +10,7 @@ use Rattle.words.proofs.Versions.{most_few, most_some}
 use Rattle.program.specs.declared.kinds.Member.{Member}
 use Rattle.meaning.specs.Labels.{Label, Alone, Stores, Waits}
 use Rattle.meaning.specs.Table.{Hold, Free, Abandoned, HeldBy, Table, first_table, Allows, IsNotified, IsBroadcast}
+use Rattle.meaning.specs.Table.{AreResumed}
 use Rattle.protocol.specs.Word.{owner, waiters, owner_died_bit}
 use Rattle.protocol.specs.Points.{ToEnter, ToReenter, ToResume, ToExit, ToWait, Owned, Spot, OnSequence, Point}
 use Rattle.protocol.specs.Points.{Unmade, Runs, NotifyWakes, BroadcastMarks, BroadcastReads, BroadcastMoves, Thread}
@@ -26,6 +27,7 @@ use Rattle.protocol.specs.Carries.{resumed_by, is_resumed, has_died}
 use Rattle.protocol.specs.Runs.{IsOver, HasJoined}
 use Rattle.protocol.proofs.Words.{owner-small, died-small}
 use Rattle.protocol.proofs.Sleeps.{requeue_less, mem-contains, contains-mem, chosen_sound, chosen_all}
+use Rattle.protocol.proofs.Rising.{resumed_rise}
 use Rattle.protocol.proofs.Roles.{own, holds, helps, may_sleep, Knows, Tie}
 use Rattle.protocol.proofs.Lock.{slept, tie_of_free}
 use Rattle.protocol.proofs.Chains.{ChainAt, chain_some}
@@ -137,6 +139,7 @@ not_member x (u ∷ us) h e = cc
 notified : (w : World) (T : Table) (c : Member) (woken : List ℕ) → Good w T → IsWake w.asleep (OnSequence c) 1 woken
     → IsNotified T c (resumed_by w T c (awake_after w.asleep woken))
 notified w T c woken inv wake = record {
+  rising = resumed_rise w T c (awake_after w.asleep woken);
   wait = λ q h. resumed_wait w T c (awake_after w.asleep woken) q h;
   some = λ q h none. let r = some_resumed c w.asleep T.waits woken q wake (λ x a. inv.conds.sleeper x c a) h
       in not_member r.0 (resumed_by w T c (awake_after w.asleep woken))
@@ -146,6 +149,7 @@ notified w T c woken inv wake = record {
 broadcast : (w : World) (T : Table) (c : Member) → Good w T
     → IsBroadcast T c (resumed_by w T c (requeued_sleep w.asleep c))
 broadcast w T c inv = record {
+  rising = resumed_rise w T c (requeued_sleep w.asleep c);
   wait = λ q h. resumed_wait w T c (requeued_sleep w.asleep c) q h;
   all = λ q h. elim (resumed_or_asleep c (requeued_sleep w.asleep c) T.waits q h) [
     | inl r ↦ mem-contains (resumed_by w T c (requeued_sleep w.asleep c)) q
@@ -154,12 +158,19 @@ broadcast w T c inv = record {
   ];
 }
 
+killed_resumes : (w : World) (T : Table) (t : ℕ) (c : Member)
+    → AreResumed T (Some c) (resumed_by w T c (put w.asleep t None))
+killed_resumes w T t c = (
+  resumed_rise w T c (put w.asleep t None),
+  λ q h. resumed_wait w T c (put w.asleep t None) q h,
+)
+
 kill_permitted : (w : World) (T : Table) (t : ℕ) (p : Point)
     → Permits (death w T t p) T (record T { waits = killed_waits w T t p })
-kill_permitted w T t (NotifyWakes c) = (λ q h. resumed_wait w T c (put w.asleep t None) q h, refl)
-kill_permitted w T t (BroadcastMarks c) = (λ q h. resumed_wait w T c (put w.asleep t None) q h, refl)
-kill_permitted w T t (BroadcastReads c) = (λ q h. resumed_wait w T c (put w.asleep t None) q h, refl)
-kill_permitted w T t (BroadcastMoves c s) = (λ q h. resumed_wait w T c (put w.asleep t None) q h, refl)
+kill_permitted w T t (NotifyWakes c) = (killed_resumes w T t c, refl)
+kill_permitted w T t (BroadcastMarks c) = (killed_resumes w T t c, refl)
+kill_permitted w T t (BroadcastReads c) = (killed_resumes w T t c, refl)
+kill_permitted w T t (BroadcastMoves c s) = (killed_resumes w T t c, refl)
 kill_permitted w T t p = (refl, refl)
 
 waits_permitted : (t m : ℕ) (c : Member) (T : Table) → c.monitor ≡ m

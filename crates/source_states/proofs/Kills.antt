@@ -1,6 +1,7 @@
 -- Kills that are possible, and that aren't.
 use Rattle.std.proofs.Common.{◌≡◌, ◌⊎◌, ◌↔◌, ◌++◌, ℕ, List, [], ◌∷◌, Option, Some}
 use Rattle.std.proofs.Common.{None, Contains, refl, ap, sym, ◌∙◌, subst, inl, inr, arith}
+use Rattle.std.specs.List.Sorted.{IsStrictlyIncreasing}
 use Rattle.words.specs.Updates.{put}
 use Rattle.program.specs.declared.kinds.Member.{Member}
 use Rattle.program.specs.Trees.{Program}
@@ -67,8 +68,10 @@ notifying o (Some c) h = (h c).1 refl
 
 none_resumed : (t : Table) (n : Option Member) (resumed : List ℕ) → resumed ≡ [] → AreResumed t n resumed
 none_resumed t None resumed none = none
-none_resumed t (Some c) resumed none =
-    λ q (k, l, e). absurd (let m = subst (λ xs. Contains xs q) none (k, l, e) in omega (arith, m.1))
+none_resumed t (Some c) resumed none = (
+  subst IsStrictlyIncreasing (sym none) (λ k less. absurd (omega (arith, less))),
+  λ q (k, l, e). absurd (let m = subst (λ xs. Contains xs q) none (k, l, e) in omega (arith, m.1)),
+)
 
 -- a kill that is possible
 pub killed : (p : Program) (s s' : SourceState) (n : ℕ) (before : Process) (o : Offer) (entered given : Option ℕ)

@@ -1,4 +1,5 @@
 ghost use Rattle.std.specs.Prelude.{◌≡◌, ◌↔◌, Contains, IfOk, MatchBool, OnOk, Some, ℕ};
+ghost use Rattle.std.specs.List.Sorted.{IsStrictlyIncreasing};
 ghost use Rattle.meaning.specs.Labels.{Broadcasts, Notifies, Waits};
 ghost use Rattle.meaning.specs.Table.{AllWait, Allows, AllowsKill, AllowsStray, AreResumed, without_waiters};
 
@@ -12,6 +13,19 @@ fn is_named(process: u64, waits: Member, condition: Member, resumed: &[u64]) -> 
         ((waits ≡ condition) × (Contains resumed.now process → ⊥)) }
 {
     waits != condition || resumed.contains(&process)
+}
+
+// Whether each number is below the next one, so that they name a set.
+fn are_rising(numbers: &[u64]) -> bool
+    ensures { MatchBool result (IsStrictlyIncreasing numbers.now)
+        (IsStrictlyIncreasing numbers.now → ⊥) }
+{
+    for place in 1..numbers.len() {
+        if numbers[place - 1] >= numbers[place] {
+            return false;
+        }
+    }
+    true
 }
 
 impl Table {
@@ -37,7 +51,8 @@ impl Table {
 
     /// The processes that wait on this condition, rising.
     pub fn waiting(&self, alloc: Global, condition: Member) -> Result<Vec<u64>, AllocError>
-        ensures { IfOk result (λ v. (q : ℕ)
+        ensures rising { IfOk result (λ v. IsStrictlyIncreasing v.items) }
+        ensures all { IfOk result (λ v. (q : ℕ)
             → Contains v.items q ↔ ((table_of self.now).waits q ≡ Some condition)) }
     {
         let mut waiting = Vec::new(alloc);
@@ -69,7 +84,7 @@ impl Table {
     {
         match notified {
             None => resumed.is_empty(),
-            Some(condition) => self.all_wait(condition, resumed),
+            Some(condition) => are_rising(resumed) && self.all_wait(condition, resumed),
         }
     }
 
@@ -98,14 +113,14 @@ impl Table {
         }
     }
 
-    /// A process notifies a condition and resumes these; false, and nothing is done, where one of them doesn't wait on
-    /// it, or where somebody waits on it and these are none.
+    /// A process notifies a condition and resumes these; false, and nothing is done, where their numbers don't rise,
+    /// where one of them doesn't wait on it, or where somebody waits on it and these are none.
     pub fn notify(&mut self, condition: Member, resumed: &[u64]) -> bool
         ensures { (p : ℕ) → IsDecided result
             (Allows p (Notifies condition resumed.now) (table_of self.old))
             (table_of self.old) (table_of self.new) }
     {
-        if !self.all_wait(condition, resumed) {
+        if !are_rising(resumed) || !self.all_wait(condition, resumed) {
             return false;
         }
         if resumed.is_empty() && !self.names_all(condition, resumed) {
@@ -115,14 +130,17 @@ impl Table {
         true
     }
 
-    /// A process broadcasts a condition and resumes these; false, and nothing is done, where they aren't all that
-    /// wait on it.
+    /// A process broadcasts a condition and resumes these; false, and nothing is done, where their numbers don't
+    /// rise, or they aren't all that wait on it.
     pub fn broadcast(&mut self, condition: Member, resumed: &[u64]) -> bool
         ensures { (p : ℕ) → IsDecided result
             (Allows p (Broadcasts condition resumed.now) (table_of self.old))
             (table_of self.old) (table_of self.new) }
     {
-        if !self.all_wait(condition, resumed) || !self.names_all(condition, resumed) {
+        if !are_rising(resumed) || !self.all_wait(condition, resumed) {
+            return false;
+        }
+        if !self.names_all(condition, resumed) {
             return false;
         }
         self.let_go(resumed);
@@ -142,7 +160,7 @@ impl Table {
     }
 
     /// A process dies where it stands, and has resumed these of those that wait on a condition; false, and nothing is
-    /// done, where one of them doesn't wait on it.
+    /// done, where their numbers don't rise, or one of them doesn't wait on it.
     pub fn kill(&mut self, process: u64, notified: Option<Member>, resumed: &[u64]) -> bool
         ensures { IsDecided result (AllowsKill process notified resumed.now (table_of self.old))
             (table_of self.old) (table_of self.new) }

@@ -1,6 +1,7 @@
 -- Which offers can be taken up, and so which processes can move.
 use Rattle.std.proofs.Common.{if◌then◌else◌, ◌≡◌, ◌⊎◌, ◌↔◌, ◌<◌, ◌≤◌, ◌+◌, ℕ, Bool, true, false, MatchBool, List, []}
 use Rattle.std.proofs.Common.{Option, Some, None, Contains, refl, sym, ◌∙◌, subst, inl, inr, arith}
+use Rattle.std.specs.List.Sorted.{IsStrictlyIncreasing}
 use Rattle.std.specs.Prelude.{IsSome}
 use Rattle.words.specs.Updates.{put}
 use Rattle.program.specs.declared.kinds.Member.{Member}
@@ -16,9 +17,10 @@ use Rattle.meaning.specs.Table.{Table, HeldBy, Allows, without_waiters}
 use Rattle.sourcemeaning.specs.Free.{IsFree, IsFreeLabel}
 use Rattle.sourcemeaning.specs.Moving.{CanBeTakenUp, IsEnterable}
 
--- the processes that wait on each condition are those of a list
+-- the processes that wait on each condition are those of a list that rises
 abbrev pub HasWaiters : Table → Type 0
 HasWaiters t = (c : Member) → (ws : List ℕ) × ((q : ℕ) → t.waits q ≡ Some c ↔ Contains ws q)
+    × IsStrictlyIncreasing ws
 
 -- the table after an action that it always allows
 free_label : (n : ℕ) (t : Table) (l : Label) → IsFreeLabel l → (t' : Table) × Allows n l t t'
@@ -105,6 +107,7 @@ free_moves n t (NotifiesSome c q) has h = record {
   takes = ((has c).0, refl, refl, refl);
   allows = (
     record {
+      rising = (has c).2;
       wait = λ r w. ((has c).1 r).1 w;
       some = λ r w none. nobody r (has c).0 (((has c).1 r).0 w) none;
     },
@@ -117,7 +120,10 @@ free_moves n t (NotifiesAll c q) has h = record {
   after = q;
   leaves = record t { waits = without_waiters (has c).0 t.waits };
   takes = ((has c).0, refl, refl, refl);
-  allows = (record { wait = λ r w. ((has c).1 r).1 w; all = λ r w. ((has c).1 r).0 w }, refl);
+  allows = (
+    record { rising = (has c).2; wait = λ r w. ((has c).1 r).1 w; all = λ r w. ((has c).1 r).0 w },
+    refl,
+  );
 }
 
 pub rests_never : (n : ℕ) (t : Table) (o : Offer) → o ≡ Rests → CanBeTakenUp n t o → ⊥

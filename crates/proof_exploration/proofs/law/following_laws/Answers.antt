@@ -4,7 +4,6 @@ use Rattle.std.proofs.Common.{length}
 use Rattle.proof_exploration.proofs.Commuting.{behind, goes_after, other_after, alike}
 use Rattle.proof_exploration.proofs.Searching.{alone_leads}
 use Rattle.proof_exploration.proofs.Following.{Followed, followed}
-use Rattle.proof_exploration.proofs.Resuming.{notify_same, broadcast_same}
 use Rattle.proof_exploration.proofs.law.following_laws.Goals as goal
 
 pub returns-clause-commute : goal.returns-clause-commute
@@ -21,11 +20,3 @@ returns-clause-follows c = λ p pick actions s wf picks led stuck.
     let f : Followed p pick (opening p) (length actions) s =
     followed p wf pick picks (length actions) actions [] (opening p) s refl refl led stuck in
     (f.actions, f.end, f.follows, f.like, f.long)
-
-pub returns-clause-resumes : goal.returns-clause-resumes
-returns-clause-resumes c = λ p done s s' t d qs rs wf led same x.
-    notify_same p wf done s (alone_leads p (opening p) s done led) t d qs rs s' x same
-
-pub returns-clause-resumes_all : goal.returns-clause-resumes_all
-returns-clause-resumes_all c = λ p done s s' t d qs rs wf led same x.
-    broadcast_same p wf done s (alone_leads p (opening p) s done led) t d qs rs s' x same
