@@ -5,7 +5,9 @@ use machine::Entry;
 use program::Checked;
 use std::alloc::{AllocError, Global};
 use std::io;
-use test_logs::{CHANGES, Change, ChangeTrial, log_of, log_with_kill, log_with_strays, try_changes};
+use test_logs::{
+    CHANGES, Change, ChangeTrial, log_of, log_with_kill, log_with_strays, try_changes,
+};
 use test_schedules::Sequence;
 
 // The most entries of a log.

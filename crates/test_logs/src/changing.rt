@@ -179,5 +179,5 @@ fn draw_name(sequence: &mut Sequence) -> EventName {
 // One thread.
 fn draw_set(sequence: &mut Sequence) -> ThreadSet {
     let thread = sequence.draw() % THREADS + 1;
-    Event::with_threads(EventName::Wake, 1, &[thread], &[]).woken
+    ThreadSet::of(&[thread])
 }
