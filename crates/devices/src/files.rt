@@ -1,4 +1,5 @@
 use crate::counted::Counted;
+use crate::sweeping::{ENDING, sweep};
 use crate::writing::write_bytes;
 use std::fs::{Metadata, OpenFile, OpenOptions, Permissions};
 use std::io::ErrorKind;
@@ -27,15 +28,22 @@ const NO_GROUP: u32 = 0o707;
 /// beside is followed or written to; a link of the name itself is replaced. Nobody may do more with the file than
 /// before. What is no regular file, or stands in /dev or /proc, is written as it stands.
 ///
-/// What the standard library's files can't do: a file beside that was left by a run that was killed goes only by a run of
-/// the same process number. Nothing waits for the disk, so after a loss of power the file can be shorter. And where
-/// another run of this process number, in a container of its own, has the folder too, one can take the other's file.
+/// A file beside that was left by a run that was killed is removed by the next run that writes a file of the name, if
+/// that file belongs to the same user, and no process of its number is there.
+///
+/// What the standard library's files can't do: nothing waits for the disk, so after a loss of power the file can be
+/// shorter. And where a run in a container of its own writes a file of this name in the same folder, one of the two can
+/// fail, or, where both have one process number, take the other's file.
 pub fn put_file<R: Files + AllocGlobal>(rt: &R, name: &str, bytes: &[u8]) -> io::Result<()> {
     let stands = fs::metadata(rt, name).ok();
     if is_device(name, stands.as_ref()) {
         return write_bytes(&mut Counted::new(fs::create(rt, name)?), bytes);
     }
-    let (part, file) = make_beside(rt, name, stands.as_ref())?;
+    let process = process_number(rt)?;
+    let (part, file) = make_beside(rt, name, process.as_str(), stands.as_ref())?;
+    if !process.is_empty() {
+        let _swept = sweep_beside(rt, name, &file);
+    }
     let put = fill_and_rename(rt, part.as_str(), file, name, bytes);
     if put.is_err() {
         let _removed = fs::remove_file(rt, part.as_str());
@@ -54,6 +62,12 @@ fn is_device(name: &str, stands: Option<&Metadata>) -> bool {
     }
 }
 
+// Removes what runs that were killed have left. What can't be removed stays, and hinders nothing.
+fn sweep_beside<R: Files + AllocGlobal>(rt: &R, name: &str, file: &R::File) -> io::Result<()> {
+    let own = file.metadata()?;
+    sweep(rt, name, &own)
+}
+
 fn fill_and_rename<R: Files>(
     rt: &R,
     part: &str,
@@ -70,12 +84,12 @@ fn fill_and_rename<R: Files>(
 fn make_beside<R: Files + AllocGlobal>(
     rt: &R,
     name: &str,
+    process: &str,
     stands: Option<&Metadata>,
 ) -> io::Result<(String, R::File)> {
-    let process = process_number(rt)?;
     let owned = !process.is_empty();
     for number in 0..MOST_NAMES {
-        let part = format!(in rt.alloc(); "{name}.{process}.{number}.part")?;
+        let part = format!(in rt.alloc(); "{name}.{process}.{number}{ENDING}")?;
         match make_anew(rt, part.as_str(), owned, stands) {
             Ok(file) => return Ok((part, file)),
             Err(error) => {

@@ -5,6 +5,7 @@ mod counted;
 mod files;
 mod reading;
 mod report;
+mod sweeping;
 mod writing;
 
 pub use counted::Counted;

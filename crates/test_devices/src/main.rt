@@ -17,6 +17,7 @@
 
 mod failure;
 mod faulty;
+mod leaving;
 mod putting;
 mod reading;
 mod telling;
