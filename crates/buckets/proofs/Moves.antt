@@ -16,6 +16,7 @@ pub record Moved (s s' : Sleepers) (moved : List ℕ) (b i : ℕ) : Type 0 where
   pub last : queue s' b ≡ queue s b ++ take i moved
   pub others : (d : ℕ) → d ≢ b → queue s' d ≡ queue s d
   pub places : place_of s' ≡ with_place (place_of s) (take i moved) (Some b)
+  pub holders : s'.holders ≡ s.holders
   pub threads : thread_count s' ≡ thread_count s
   pub sound : IsSound s'
 
@@ -24,6 +25,7 @@ Moved-none s moved b ok = record {
   last = sym (append-nil (queue s b));
   others = λ d ne. refl;
   places = refl;
+  holders = refl;
   threads = refl;
   sound = ok;
 }
@@ -59,9 +61,9 @@ IsDistinct-take (suc n) (x ∷ xs) h = (some n xs h.0, IsDistinct-take n xs h.1)
 pub Moved-more : (s s' s'' : Sleepers) (moved : List ℕ) (b i t : ℕ) → Moved s s' moved b i → i < length moved → t
     ≡ get_or moved i t
     → queue s'' b ≡ queue s' b ++ t ∷ [] → ((d : ℕ) → d ≢ b → queue s'' d ≡ queue s' d) → place_of s'' ≡ with_place
-    (place_of s') (t ∷ []) (Some b) → thread_count s'' ≡ thread_count s' → IsSound s''
+    (place_of s') (t ∷ []) (Some b) → s''.holders ≡ s'.holders → thread_count s'' ≡ thread_count s' → IsSound s''
     → Moved s s'' moved b (i + 1)
-Moved-more s s' s'' moved b i t m l e last others places threads ok =
+Moved-more s s' s'' moved b i t m l e last others places holders threads ok =
     let more : take (i + 1) moved ≡ take i moved ++ t ∷ [] = take_more moved i t l ∙ ap (λ x. take i moved ++ x ∷ [])
     (sym e) in
     record {
@@ -70,6 +72,7 @@ Moved-more s s' s'' moved b i t m l e last others places threads ok =
       others = λ d ne. others d ne ∙ m.others d ne;
       places = places ∙ ap (λ p. with_place p (t ∷ []) (Some b)) m.places ∙ with_place-append (place_of s)
           (take i moved) t (Some b) ∙ ap (λ x. with_place (place_of s) x (Some b)) (sym more);
+      holders = holders ∙ m.holders;
       threads = threads ∙ m.threads;
       sound = ok;
     }
@@ -103,6 +106,7 @@ pub record Shifted (o s : Sleepers) (moved : List ℕ) (a b : ℕ) : Type 0 wher
   pub last : queue s b ≡ queue o b ++ moved
   pub others : (d : ℕ) → d ≢ a → d ≢ b → queue s d ≡ queue o d
   pub places : place_of s ≡ with_place (place_of o) moved (Some b)
+  pub holders : s.holders ≡ o.holders
   pub threads : thread_count s ≡ thread_count o
 
 pub Moved-all : (o s s' : Sleepers) (moved : List ℕ) (a b n i : ℕ) → a ≢ b → Taken o s moved a n → Moved s s' moved b
@@ -116,5 +120,6 @@ Moved-all o s s' moved a b n i ne t m l =
       others = λ d na nb. m.others d nb ∙ t.others d na;
       places = m.places ∙ ap (λ x. with_place (place_of s) x (Some b)) whole ∙ ap (λ p. with_place p moved (Some b))
           t.places ∙ with_place-again (place_of o) moved None (Some b);
+      holders = m.holders ∙ t.holders;
       threads = m.threads ∙ t.threads;
     }

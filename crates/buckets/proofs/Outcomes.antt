@@ -12,7 +12,7 @@ use Rattle.words.specs.Limits.{most_threads}
 use Rattle.buckets.specs.declared.sleeper.Sleeper.{Sleeper}
 use Rattle.buckets.specs.BucketCount.{IsBucketCount}
 use Rattle.buckets.specs.Places.{names, with_place}
-use Rattle.buckets.specs.Sleepers.{Sleepers, queue, place_of, thread_count, IsSound}
+use Rattle.buckets.specs.Sleepers.{Sleepers, queue, place_of, thread_count, bucket_count, holder_of, IsSound}
 use Rattle.buckets.specs.Lists.{concatenation, IsConsistent}
 use Rattle.buckets.proofs.Queues.{on, on-here, on-elsewhere}
 use Rattle.buckets.proofs.Rows.{mod_lt, sound, on-concatenation}
@@ -20,14 +20,15 @@ use Rattle.buckets.proofs.Changes.{Replaces, replaced, on-replaced}
 use Rattle.buckets.proofs.Arrivals.{enters, on-push}
 use Rattle.buckets.proofs.Drops.{others, drops, on-others, filter-absent}
 
--- what contracts see of a table of places and the lists of the buckets
-abbrev pub shown : List (Option Addr) → List (List Sleeper) → Sleepers
-shown places rows = record { places = places; waiting = concatenation rows }
+-- what contracts see of a table of places, the lists of the buckets and their holders
+abbrev pub shown : List (Option Addr) → List (List Sleeper) → List (Option ℕ) → Sleepers
+shown places rows holders = record { places = places; waiting = concatenation rows; holders = holders }
 
 pub record Entered (s s' : Sleepers) (t a : ℕ) : Type 0 where
   pub last : queue s' a ≡ queue s a ++ t ∷ []
   pub others : (b : ℕ) → b ≢ a → queue s' b ≡ queue s b
   pub places : place_of s' ≡ with_place (place_of s) (t ∷ []) (Some a)
+  pub holders : s'.holders ≡ s.holders
   pub threads : thread_count s' ≡ thread_count s
   pub sound : IsSound s × IsSound s'
 
@@ -36,12 +37,14 @@ pub record Taken (s s' : Sleepers) (front : List ℕ) (a n : ℕ) : Type 0 where
   pub rest : queue s' a ≡ drop n (queue s a)
   pub others : (b : ℕ) → b ≢ a → queue s' b ≡ queue s b
   pub places : place_of s' ≡ with_place (place_of s) front None
+  pub holders : s'.holders ≡ s.holders
   pub threads : thread_count s' ≡ thread_count s
   pub sound : IsSound s × IsSound s'
 
 pub record Dropped (s s' : Sleepers) (t : ℕ) : Type 0 where
   pub queues : (b : ℕ) → queue s' b ≡ filter (λ u. not (eqb u t)) (queue s b)
   pub places : place_of s' ≡ with_place (place_of s) (t ∷ []) None
+  pub holders : s'.holders ≡ s.holders
   pub threads : thread_count s' ≡ thread_count s
   pub sound : IsSound s × IsSound s'
 
@@ -62,13 +65,13 @@ pub no_entry : (o : Option Addr) → option_map (λ x. x.0) o ≡ None → o ≡
 no_entry None h = refl
 no_entry (Some x) h = absurd cc
 
-pub enqueued : (places : List (Option Addr)) (rows : List (List Sleeper)) (s : Sleeper) (k : ℕ) → IsConsistent places rows
-    → 1 ≤ s.thread → s.thread < length places → get_or places s.thread None ≡ None → k ≡ s.address.0 % length rows
+pub enqueued : (places : List (Option Addr)) (rows : List (List Sleeper)) (holders : List (Option ℕ)) (s : Sleeper) (k : ℕ)
+    → IsConsistent places rows → length holders ≡ length rows → 1 ≤ s.thread → s.thread < length places → get_or places s.thread None ≡ None → k ≡ s.address.0 % length rows
     → IsConsistent (set places s.thread (Some s.address)) (set rows k (get_or rows k [] ++ s ∷ [])) × Entered
-    (shown places rows) (shown (set places s.thread (Some s.address)) (set rows k (get_or rows k [] ++ s ∷ []))) s.thread
-    s.address.0
+    (shown places rows holders)
+    (shown (set places s.thread (Some s.address)) (set rows k (get_or rows k [] ++ s ∷ [])) holders) s.thread s.address.0
 unfolding queue place_of thread_count
-enqueued places rows s k i one inside free is =
+enqueued places rows holders s k i held one inside free is =
     let l : k < length rows = omega (arith, is, mod_lt s.address.0 (length rows) i.some) in
     let row' = get_or rows k [] ++ s ∷ [] in
     let r : Replaces places (set places s.thread (Some s.address)) (length rows) k row' = rw is
@@ -82,23 +85,24 @@ enqueued places rows s k i one inside free is =
         others = λ b ne. on-replaced places _ rows k row' i i' l b _ (λ e. on-push b s _
             ∙ rw (on-elsewhere b s [] (λ q. ne (sym q)), append-nil) (on-bucket places rows i b k e)) (λ _. refl);
         places = fun_ext (λ u. place-set places s.thread u (Some s.address) inside);
+        holders = refl;
         threads = omega (arith, length-set places s.thread (Some s.address));
-        sound = (sound places rows i, sound _ _ i');
+        sound = (sound places rows holders i held, sound _ _ holders i' (held ∙ sym (length-set rows k row')));
       },
     )
 
-pub dropped : (places : List (Option Addr)) (rows : List (List Sleeper)) (t k : ℕ) (a : Addr) → IsConsistent places rows
-    → t < length places → get_or places t None ≡ Some a → k ≡ a.0 % length rows → IsConsistent (set places t None)
-    (set rows k (others t (get_or rows k []))) × Dropped (shown places rows)
-    (shown (set places t None) (set rows k (others t (get_or rows k [])))) t
+pub dropped : (places : List (Option Addr)) (rows : List (List Sleeper)) (holders : List (Option ℕ)) (t k : ℕ) (a : Addr)
+    → IsConsistent places rows → length holders ≡ length rows → t < length places → get_or places t None ≡ Some a → k ≡ a.0 % length rows → IsConsistent (set places t None)
+    (set rows k (others t (get_or rows k []))) × Dropped (shown places rows holders)
+    (shown (set places t None) (set rows k (others t (get_or rows k []))) holders) t
 unfolding queue place_of thread_count
-dropped places rows t k a i inside sleeps is =
+dropped places rows holders t k a i held inside sleeps is =
     let l : k < length rows = omega (arith, is, mod_lt a.0 (length rows) i.some) in
     let row' = others t (get_or rows k []) in
     let r : Replaces places (set places t None) (length rows) k row' = rw is (drops places rows t a i inside sleeps) in
     let i' : IsConsistent (set places t None) (set rows k row') = replaced places _ rows k row' i l r in
     let here : (b : ℕ) → names (on b (concatenation rows)) t ≡ true → a.0 ≡ b = λ b h. let
-    at = (sound places rows i).agree.sleeps t b h in let at' : Some a.0 ≡ Some b = rw sleeps at at in cc in (
+    at = (sound places rows holders i held).agree.sleeps t b h in let at' : Some a.0 ≡ Some b = rw sleeps at at in cc in (
       i',
       record {
         queues = λ b. on-replaced places _ rows k row' i i' l b _
@@ -106,17 +110,19 @@ dropped places rows t k a i inside sleeps is =
             (λ ne. sym (filter-absent t _ (false_from_ne_true _
             (λ h. ne (ap (λ x. x % length rows) (sym (here b h)) ∙ sym is)))));
         places = fun_ext (λ u. place-set places t u None inside);
+        holders = refl;
         threads = omega (arith, length-set places t None);
-        sound = (sound places rows i, sound _ _ i');
+        sound = (sound places rows holders i held, sound _ _ holders i' (held ∙ sym (length-set rows k row')));
       },
     )
 
 -- a thread that sleeps nowhere stands in no list
-pub not_there : (places : List (Option Addr)) (rows : List (List Sleeper)) (t : ℕ) → IsConsistent places rows → get_or
-    places t None ≡ None → Dropped (shown places rows) (shown places rows) t
+pub not_there : (places : List (Option Addr)) (rows : List (List Sleeper)) (holders : List (Option ℕ)) (t : ℕ)
+    → IsConsistent places rows → length holders ≡ length rows → get_or places t None ≡ None
+    → Dropped (shown places rows holders) (shown places rows holders) t
 unfolding queue place_of thread_count
-not_there places rows t i awake =
-    let s = sound places rows i in
+not_there places rows holders t i held awake =
+    let s = sound places rows holders i held in
     record {
       queues = λ b. sym (filter-absent t _ (false_from_ne_true _ (λ h. let at = s.agree.sleeps t b h in let at' :
           option_map (λ (x : Addr). x.0) None ≡ Some b = rw awake at at in cc)));
@@ -125,6 +131,7 @@ not_there places rows t i awake =
         | inr ne ↦ rw
             (ne_eqb u t ne) refl
       ]);
+      holders = refl;
       threads = refl;
       sound = (s, s);
     }
@@ -165,20 +172,34 @@ opened threads n few some =
       found = λ t a h. absurd (let no = awake_all (threads + 1) t in cc);
     }
 
-pub record Opened (s : Sleepers) (most : ℕ) : Type 0 where
+pub record Opened (s : Sleepers) (most n : ℕ) : Type 0 where
   pub empty : (a : ℕ) → queue s a ≡ []
   pub awake : (t : ℕ) → place_of s t ≡ None
   pub threads : thread_count s ≡ most
+  pub count : bucket_count s ≡ n
+  pub free : (k : ℕ) → holder_of s k ≡ None
   pub sound : IsSound s
 
+-- a table in which nobody holds a bucket
+abbrev pub no_holder : Option ℕ
+no_holder = None
+
+free_all : (n : ℕ) (k : ℕ) → get_or (replicate n no_holder) k None ≡ None
+free_all zero k = refl
+free_all (suc n) zero = refl
+free_all (suc n) (suc k) = free_all n k
+
 pub opens : (threads n : ℕ) → threads ≤ most_threads → 1 ≤ n → Opened
-    (shown (replicate (threads + 1) nobody_at) (replicate n [])) threads
-unfolding queue place_of thread_count
+    (shown (replicate (threads + 1) nobody_at) (replicate n []) (replicate n no_holder)) threads n
+unfolding queue place_of thread_count bucket_count holder_of
 opens threads n few some = record {
   empty = λ a. rw (empty_joined n) refl;
   awake = λ t. rw (awake_all (threads + 1) t) refl;
   threads = rw (length-replicate (threads + 1) nobody_at) (omega arith);
-  sound = sound _ _ (opened threads n few some);
+  count = length-replicate n no_holder;
+  free = λ k. free_all n k;
+  sound = sound _ _ _ (opened threads n few some)
+      (length-replicate n no_holder ∙ sym (length-replicate {A = List Sleeper} n []));
 }
 
 pub some_bucket : (n : ℕ) → IsBucketCount n → 1 ≤ n

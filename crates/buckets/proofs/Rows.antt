@@ -10,7 +10,7 @@ use Rattle.std.proofs.lemmas.List.Elements.{filter_map-append}
 use Rattle.words.specs.declared.mem.Addr.{Addr}
 use Rattle.buckets.specs.declared.sleeper.Sleeper.{Sleeper}
 use Rattle.buckets.specs.Places.{names}
-use Rattle.buckets.specs.Sleepers.{thread_on, queue, place_of, thread_count, IsSound}
+use Rattle.buckets.specs.Sleepers.{thread_on, queue, place_of, thread_count, bucket_count, IsSound}
 use Rattle.buckets.specs.Lists.{concatenation, among, Stand, IsConsistent}
 use Rattle.buckets.proofs.Queues.{on, on-here, on-elsewhere}
 
@@ -120,12 +120,14 @@ in_table places rows i t a h = (
 )
 
 -- what callers learn
-pub sound : (places : List (Option Addr)) (rows : List (List Sleeper)) → IsConsistent places rows → IsSound
-    (record { places = places; waiting = concatenation rows })
-unfolding queue place_of thread_count
-sound places rows i =
+pub sound : (places : List (Option Addr)) (rows : List (List Sleeper)) (holders : List (Option ℕ))
+    → IsConsistent places rows → length holders ≡ length rows → IsSound
+    (record { places = places; waiting = concatenation rows; holders = holders })
+unfolding queue place_of thread_count bucket_count
+sound places rows holders i held =
     let home : (a : ℕ) → a % length rows < length rows = λ a. mod_lt a (length rows) i.some in
     record {
+      some = omega (arith, i.some, held);
       in_range = λ t a h. let r = in_table places rows i t a h in (r.0, omega (arith, r.1));
       agree = record {
         stands = λ t a h. rw (on-concatenation places rows i a) (named t a (entry_of (get_or places t None) a h));

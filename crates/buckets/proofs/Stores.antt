@@ -14,16 +14,16 @@ use Rattle.buckets.specs.declared.sleeper.Sleeper.{Sleeper}
 use Rattle.buckets.specs.declared.node.Chain.{Chain}
 use Rattle.buckets.specs.declared.node.Node.{Node}
 use Rattle.words.specs.Limits.{most_threads}
-use Rattle.buckets.specs.Sleepers.{Sleepers, queue, place_of, thread_count}
+use Rattle.buckets.specs.Sleepers.{Sleepers, IsSound, queue, place_of, thread_count}
 use Rattle.buckets.specs.Lists.{among, IsConsistent}
 use Rattle.buckets.specs.Chains.{node_at, row_of, rows, Chained, IsChain, Once, Rechained, IsStored}
 use Rattle.buckets.proofs.Arrivals.{room_for as room_in}
 use Rattle.buckets.proofs.Drops.{others}
 use Rattle.buckets.proofs.Once.{home_of, once_of}
-use Rattle.buckets.proofs.Outcomes.{shown, enqueued, dropped, opened, opens, nobody_at, no_entry, on-bucket}
+use Rattle.buckets.proofs.Outcomes.{shown, enqueued, dropped, opened, opens, nobody_at, no_holder, no_entry, on-bucket}
 use Rattle.buckets.proofs.Outcomes.{Entered, Dropped, Opened}
 use Rattle.buckets.proofs.Queues.{on}
-use Rattle.buckets.proofs.Rows.{mod_lt}
+use Rattle.buckets.proofs.Rows.{mod_lt, sound}
 use Rattle.buckets.proofs.Segments.{segment_kept, walk_is, walk_short, walk_none}
 
 -- the list of a chain among those of all
@@ -132,8 +132,20 @@ nobody_counted zero = refl
 nobody_counted (suc n) = nobody_counted n
 
 -- what contracts see
-abbrev pub seen : Slab Node → List Chain → List (Option Addr) → Sleepers
-seen nodes chains places = shown places (rows (get nodes) (length places - 1) chains)
+abbrev pub seen : Slab Node → List Chain → List (Option Addr) → List (Option ℕ) → Sleepers
+seen nodes chains places holders = shown places (rows (get nodes) (length places - 1) chains) holders
+
+-- each bucket has its list and its holder, or none
+pub held_rows : (nodes : Slab Node) (chains : List Chain) (places : List (Option Addr)) (holders : List (Option ℕ))
+    → IsStored nodes chains places holders
+    → length holders ≡ length (rows (get nodes) (length places - 1) chains)
+held_rows nodes chains places holders i = i.held ∙ sym (length-rows (get nodes) (length places - 1) chains)
+
+-- what callers learn
+pub sound_in : (nodes : Slab Node) (chains : List Chain) (places : List (Option Addr)) (holders : List (Option ℕ))
+    → IsStored nodes chains places holders → IsSound (seen nodes chains places holders)
+sound_in nodes chains places holders i =
+    sound places (rows (get nodes) (length places - 1) chains) holders i.consistent (held_rows nodes chains places holders i)
 
 -- a chain and its list, among those of all
 row_of_old : (nodes : Slab Node) (most k : ℕ) (chains : List Chain) (old : Chain) → k < length chains
@@ -145,16 +157,16 @@ chained_old : (nodes : Slab Node) (most k : ℕ) (chains : List Chain) (old : Ch
 chained_old nodes most k chains old all l e = rw (← e) at (all k old l)
 
 -- a number that contracts allow lies in the table
-pub in_places : (nodes : Slab Node) (chains : List Chain) (places : List (Option Addr)) (t : ℕ) → IsStored nodes chains
-    places → t ≤ thread_count (seen nodes chains places) → t < length places
+pub in_places : (nodes : Slab Node) (chains : List Chain) (places : List (Option Addr)) (holders : List (Option ℕ)) (t : ℕ) → IsStored nodes chains
+    places holders → t ≤ thread_count (seen nodes chains places holders) → t < length places
 unfolding thread_count
-in_places nodes chains places t i h = omega (arith, h, i.consistent.threads)
+in_places nodes chains places holders t i h = omega (arith, h, i.consistent.threads)
 
 -- a thread that contracts say is awake has no place in the table
-pub free_in : (nodes : Slab Node) (chains : List Chain) (places : List (Option Addr)) (t : ℕ) → place_of
-    (seen nodes chains places) t ≡ None → get_or places t None ≡ None
+pub free_in : (nodes : Slab Node) (chains : List Chain) (places : List (Option Addr)) (holders : List (Option ℕ)) (t : ℕ) → place_of
+    (seen nodes chains places holders) t ≡ None → get_or places t None ≡ None
 unfolding place_of
-free_in nodes chains places t h = no_entry (get_or places t None) h
+free_in nodes chains places holders t h = no_entry (get_or places t None) h
 
 -- what is known of the chain of an address's bucket
 pub record Known (nodes : Slab Node) (chains : List Chain) (places : List (Option Addr)) (k : ℕ) (old : Chain) : Type 0
@@ -164,9 +176,9 @@ pub record Known (nodes : Slab Node) (chains : List Chain) (places : List (Optio
     pub chain : IsChain (get nodes) (length places - 1) old
     pub once : Once (row_of (get nodes) (length places - 1) old)
 
-pub known : (nodes : Slab Node) (chains : List Chain) (places : List (Option Addr)) (a k : ℕ) (old : Chain)
-    → IsStored nodes chains places → k ≡ a % length chains → old ≡ get_or chains k old → Known nodes chains places k old
-known nodes chains places a k old i ek eo =
+pub known : (nodes : Slab Node) (chains : List Chain) (places : List (Option Addr)) (holders : List (Option ℕ)) (a k : ℕ) (old : Chain)
+    → IsStored nodes chains places holders → k ≡ a % length chains → old ≡ get_or chains k old → Known nodes chains places k old
+known nodes chains places holders a k old i ek eo =
     let most = length places - 1 in
     let long = length-rows (get nodes) most chains in
     let l : k < length chains = omega (arith, ek, mod_lt a (length chains) (omega (arith, i.consistent.some, long))) in
@@ -180,42 +192,42 @@ known nodes chains places a k old i ek eo =
     }
 
 -- the threads of a chain that sleep on an address of its bucket are those that contracts see
-pub queue_in : (nodes : Slab Node) (chains : List Chain) (places : List (Option Addr)) (a k : ℕ) (old : Chain)
-    → IsStored nodes chains places → k ≡ a % length chains → old ≡ get_or chains k old
-    → on a (row_of (get nodes) (length places - 1) old) ≡ queue (seen nodes chains places) a
+pub queue_in : (nodes : Slab Node) (chains : List Chain) (places : List (Option Addr)) (holders : List (Option ℕ)) (a k : ℕ) (old : Chain)
+    → IsStored nodes chains places holders → k ≡ a % length chains → old ≡ get_or chains k old
+    → on a (row_of (get nodes) (length places - 1) old) ≡ queue (seen nodes chains places holders) a
 unfolding queue
-queue_in nodes chains places a k old i ek eo =
-    let kn = known nodes chains places a k old i ek eo in
+queue_in nodes chains places holders a k old i ek eo =
+    let kn = known nodes chains places holders a k old i ek eo in
     ap (on a) (sym kn.row_is) ∙ on-bucket places (rows (get nodes) (length places - 1) chains) i.consistent a k
     (rw (length-rows (get nodes) (length places - 1) chains) (sym ek))
 
 -- there is a bucket
-pub some_chain : (nodes : Slab Node) (chains : List Chain) (places : List (Option Addr)) → IsStored nodes chains places
+pub some_chain : (nodes : Slab Node) (chains : List Chain) (places : List (Option Addr)) (holders : List (Option ℕ)) → IsStored nodes chains places holders
     → 1 ≤ length chains
-some_chain nodes chains places i = omega (arith, i.consistent.some, length-rows (get nodes) (length places - 1) chains)
+some_chain nodes chains places holders i = omega (arith, i.consistent.some, length-rows (get nodes) (length places - 1) chains)
 
 -- who sleeps on an address stands in the chain of its bucket
-pub stands_in : (nodes : Slab Node) (chains : List Chain) (places : List (Option Addr)) (t : ℕ) (a : Addr) (k : ℕ)
-    (old : Chain) → IsStored nodes chains places → k ≡ a.0 % length chains → old ≡ get_or chains k old → get_or places t
+pub stands_in : (nodes : Slab Node) (chains : List Chain) (places : List (Option Addr)) (holders : List (Option ℕ)) (t : ℕ) (a : Addr) (k : ℕ)
+    (old : Chain) → IsStored nodes chains places holders → k ≡ a.0 % length chains → old ≡ get_or chains k old → get_or places t
     None ≡ Some a → among t (row_of (get nodes) (length places - 1) old) ≡ true
-stands_in nodes chains places t a k old i ek eo at =
-    let kn = known nodes chains places a.0 k old i ek eo in
+stands_in nodes chains places holders t a k old i ek eo at =
+    let kn = known nodes chains places holders a.0 k old i ek eo in
     rw kn.row_is at (rw (length-rows (get nodes) (length places - 1) chains, ← ek) at (i.consistent.found t a at))
 
 -- a thread comes to its bucket
-pub entered : (nodes nodes' : Slab Node) (chains : List Chain) (places : List (Option Addr)) (s : Sleeper) (k : ℕ)
-    (old c : Chain) → IsStored nodes chains places → 1 ≤ s.thread → s.thread < length places → get_or places s.thread None
+pub entered : (nodes nodes' : Slab Node) (chains : List Chain) (places : List (Option Addr)) (holders : List (Option ℕ)) (s : Sleeper) (k : ℕ)
+    (old c : Chain) → IsStored nodes chains places holders → 1 ≤ s.thread → s.thread < length places → get_or places s.thread None
     ≡ None → k ≡ s.address.0 % length chains → old ≡ get_or chains k old
     → ((row : List Sleeper) → Chained (get nodes) old row → Once row → Rechained nodes nodes' row (row ++ s ∷ []) c)
-    → slab_len nodes' ≡ slab_len nodes + 1 → IsStored nodes' (set chains k c) (set places s.thread (Some s.address))
-    × Entered (seen nodes chains places) (seen nodes' (set chains k c) (set places s.thread (Some s.address))) s.thread
+    → slab_len nodes' ≡ slab_len nodes + 1 → IsStored nodes' (set chains k c) (set places s.thread (Some s.address)) holders
+    × Entered (seen nodes chains places holders) (seen nodes' (set chains k c) (set places s.thread (Some s.address)) holders) s.thread
     s.address.0
-entered nodes nodes' chains places s k old c i one inside free ek eo re len =
+entered nodes nodes' chains places holders s k old c i one inside free ek eo re len =
     let most = length places - 1 in
     let lists = rows (get nodes) most chains in
     let long : length lists ≡ length chains = length-rows (get nodes) most chains in
     let is : k ≡ s.address.0 % length lists = rw long ek in
-    let kn = known nodes chains places s.address.0 k old i ek eo in
+    let kn = known nodes chains places holders s.address.0 k old i ek eo in
     let row = get_or lists k [] in
     let r : Rechained nodes nodes' row (row ++ s ∷ []) c = re row (rw kn.row_is kn.chain) (rw kn.row_is kn.once) in
     let short : length (row ++ s ∷ []) ≤ most = omega (
@@ -225,7 +237,7 @@ entered nodes nodes' chains places s k old c i one inside free ek eo re len =
           i.consistent.no_zero free,
     ) in
     let rc = rechained nodes nodes' most chains places k c (row ++ s ∷ []) i.consistent i.chained kn.inside r short in
-    let en = enqueued places lists s k i.consistent one inside free is in
+    let en = enqueued places lists holders s k i.consistent (i.held ∙ sym long) one inside free is in
     let same : length (set places s.thread (Some s.address)) ≡ length places = length-set places s.thread
     (Some s.address) in (
       record {
@@ -233,24 +245,25 @@ entered nodes nodes' chains places s k old c i one inside free ek eo re len =
         chained = rw same rc.1;
         counted = len ∙ ap (λ n. n + 1) i.counted ∙ sym (count_in places s.thread s.address inside free);
         room = omega (arith, same, i.room, r.capacity);
+        held = i.held ∙ sym (length-set chains k c);
       },
       rw (same, rc.0) en.1,
     )
 
 -- and leaves it
-pub gone : (nodes nodes' : Slab Node) (chains : List Chain) (places : List (Option Addr)) (t k : ℕ) (a : Addr)
-    (old c : Chain) → IsStored nodes chains places → t < length places → get_or places t None ≡ Some a
+pub gone : (nodes nodes' : Slab Node) (chains : List Chain) (places : List (Option Addr)) (holders : List (Option ℕ)) (t k : ℕ) (a : Addr)
+    (old c : Chain) → IsStored nodes chains places holders → t < length places → get_or places t None ≡ Some a
     → k ≡ a.0 % length chains → old ≡ get_or chains k old
     → Rechained nodes nodes' (row_of (get nodes) (length places - 1) old)
     (others t (row_of (get nodes) (length places - 1) old)) c → slab_len nodes' + 1 ≡ slab_len nodes
-    → IsStored nodes' (set chains k c) (set places t None) × Dropped (seen nodes chains places)
-    (seen nodes' (set chains k c) (set places t None)) t
-gone nodes nodes' chains places t k a old c i inside sleeps ek eo re len =
+    → IsStored nodes' (set chains k c) (set places t None) holders × Dropped (seen nodes chains places holders)
+    (seen nodes' (set chains k c) (set places t None) holders) t
+gone nodes nodes' chains places holders t k a old c i inside sleeps ek eo re len =
     let most = length places - 1 in
     let lists = rows (get nodes) most chains in
     let long : length lists ≡ length chains = length-rows (get nodes) most chains in
     let is : k ≡ a.0 % length lists = rw long ek in
-    let kn = known nodes chains places a.0 k old i ek eo in
+    let kn = known nodes chains places holders a.0 k old i ek eo in
     let row = get_or lists k [] in
     let r : Rechained nodes nodes' row (others t row) c = rw kn.row_is re in
     let short : length (others t row) ≤ most = omega (
@@ -261,13 +274,14 @@ gone nodes nodes' chains places t k a old c i inside sleeps ek eo re len =
       walk_short (get nodes) most (node_at (get nodes) old.first),
     ) in
     let rc = rechained nodes nodes' most chains places k c (others t row) i.consistent i.chained kn.inside r short in
-    let d = dropped places lists t k a i.consistent inside sleeps is in
+    let d = dropped places lists holders t k a i.consistent (i.held ∙ sym long) inside sleeps is in
     let same : length (set places t None) ≡ length places = length-set places t None in (
       record {
         consistent = rw (same, rc.0) d.0;
         chained = rw same rc.1;
         counted = omega (arith, len, i.counted, count_out places t a inside sleeps);
         room = omega (arith, same, i.room, r.capacity);
+        held = i.held ∙ sym (length-set chains k c);
       },
       rw (same, rc.0) d.1,
     )
@@ -280,16 +294,19 @@ rows-nobody : (at : ℕ → Option Node) (most n : ℕ) → rows at most (replic
 rows-nobody at most zero = refl
 rows-nobody at most (suc n) = rw (walk_none at most) (ap (λ x. [] ∷ x) (rows-nobody at most n))
 
-pub made : (nodes : Slab Node) (chains : List Chain) (places : List (Option Addr)) (n threads : ℕ) → nodes.slots ≡ []
-    → chains ≡ replicate n nobody_in → places ≡ replicate (threads + 1) nobody_at → threads ≤ nodes.capacity
-    → threads ≤ most_threads → 1 ≤ n → IsStored nodes chains places × Opened (seen nodes chains places) threads
-made nodes chains places n threads es ec ep room few some =
+pub made : (nodes : Slab Node) (chains : List Chain) (places : List (Option Addr)) (holders : List (Option ℕ))
+    (n threads : ℕ) → nodes.slots ≡ []
+    → chains ≡ replicate n nobody_in → places ≡ replicate (threads + 1) nobody_at
+    → holders ≡ replicate n no_holder → threads ≤ nodes.capacity
+    → threads ≤ most_threads → 1 ≤ n → IsStored nodes chains places holders × Opened (seen nodes chains places holders) threads n
+made nodes chains places holders n threads es ec ep eh room few some =
     let none = rows-nobody (get nodes) (length places - 1) n in (
       record {
         consistent = rw (ec, none, ep) (opened threads n few some);
         chained = rw ec (All-replicate (IsChain (get nodes) (length places - 1)) n nobody_in (rw (walk_none (get nodes) (length places - 1)) (refl, refl)));
         counted = ap (count_by is_some) es ∙ sym (ap (count_by is_some) ep ∙ nobody_counted (threads + 1));
         room = omega (arith, ap length ep, length-replicate (threads + 1) nobody_at, room);
+        held = ap length eh ∙ length-replicate n no_holder ∙ sym (ap length ec ∙ length-replicate n nobody_in);
       },
-      rw (ec, none, ep) (opens threads n few some),
+      rw (ec, none, ep, eh) (opens threads n few some),
     )

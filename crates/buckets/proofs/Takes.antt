@@ -52,6 +52,7 @@ pub record Left (s s' : Sleepers) (taken : List ℕ) (a i : ℕ) : Type 0 where
   pub rest : queue s' a ≡ drop i (queue s a)
   pub others : (b : ℕ) → b ≢ a → queue s' b ≡ queue s b
   pub places : place_of s' ≡ with_place (place_of s) (take i taken) None
+  pub holders : s'.holders ≡ s.holders
   pub threads : thread_count s' ≡ thread_count s
   pub sound : IsSound s'
 
@@ -61,6 +62,7 @@ Left-none s taken a ok = record {
   rest = refl;
   others = λ b ne. refl;
   places = refl;
+  holders = refl;
   threads = refl;
   sound = ok;
 }
@@ -98,6 +100,7 @@ Left-more s s' s'' taken a n i t ok is l h e d =
           let also = ok.agree.sleeps t b r in cc)));
       places = d.places ∙ ap (λ p. with_place p (t ∷ []) None) l.places ∙ with_place-append (place_of s)
           (take i taken) t None ∙ ap (λ x. with_place (place_of s) x None) (sym more);
+      holders = d.holders ∙ l.holders;
       threads = d.threads ∙ l.threads;
       sound = d.sound.1;
     }
@@ -114,6 +117,7 @@ Left-all s s' taken a n i ok is l h =
           ∙ ap (λ x. drop (length x) (queue s a)) (sym is));
       others = l.others;
       places = l.places ∙ ap (λ x. with_place (place_of s) x None) whole;
+      holders = l.holders;
       threads = l.threads;
       sound = (ok, l.sound);
     }

@@ -75,9 +75,11 @@ pub record Rechained (old new : Slab Node) (row row' : List Sleeper) (chain : Ch
   pub capacity : new.capacity ≡ old.capacity
 
 -- each chain ends and has its last node; the lists along the chains and the table of places say the same; there is a node
--- for each sleeper, and room for all threads
-pub record IsStored (nodes : Slab Node) (chains : List Chain) (places : List (Option Addr)) : Type 0 where
+-- for each sleeper, and room for all threads; and each chain's bucket has a holder or none
+pub record IsStored (nodes : Slab Node) (chains : List Chain) (places : List (Option Addr)) (holders : List (Option ℕ))
+    : Type 0 where
   pub consistent : IsConsistent places (rows (get nodes) (length places - 1) chains)
   pub chained : All (IsChain (get nodes) (length places - 1)) chains
   pub counted : slab_len nodes ≡ count_by is_some places
   pub room : length places ≤ nodes.capacity + 1
+  pub held : length holders ≡ length chains

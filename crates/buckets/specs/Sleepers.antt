@@ -1,4 +1,5 @@
--- What a contract sees of the buckets: who sleeps, and on which address. It is read by three functions alone.
+-- What a contract sees of the buckets: who sleeps, and on which address; and which thread holds each bucket. It is read
+-- by the functions below alone.
 use Rattle.std.specs.Prelude.{◌≡◌, ℕ, ◌-◌, ◌≤◌, ◌==◌, if◌then◌else◌, Option, Some, None, List, length}
 use Rattle.std.specs.Prelude.{slice_index_or}
 use Rattle.std.specs.List.{filter_map}
@@ -7,10 +8,12 @@ use Rattle.words.specs.declared.mem.Addr.{Addr}
 use Rattle.buckets.specs.declared.sleeper.Sleeper.{Sleeper}
 use Rattle.buckets.specs.Places.{Agree}
 
--- for each thread from 0 where it sleeps, and the sleepers, those of one address in the order of their arrival
+-- for each thread from 0 where it sleeps; the sleepers, those of one address in the order of their arrival; and for each
+-- bucket from 0 its holder
 pub record Sleepers : Type 0 where
   pub places : List (Option Addr)
   pub waiting : List Sleeper
+  pub holders : List (Option ℕ)
 
 -- the thread, where it sleeps on the address
 abbrev pub thread_on : ℕ → Sleeper → Option ℕ
@@ -28,7 +31,16 @@ place_of s t = option_map (λ a. a.0) (slice_index_or s.places t None)
 unfoldable pub thread_count : Sleepers → ℕ
 thread_count s = length s.places - 1
 
--- what is true of every value: whoever sleeps is a thread, and the lists and places agree
+-- how many buckets there are
+unfoldable pub bucket_count : Sleepers → ℕ
+bucket_count s = length s.holders
+
+-- the thread that holds a bucket, if one does
+unfoldable pub holder_of : Sleepers → ℕ → Option ℕ
+holder_of s k = slice_index_or s.holders k None
+
+-- what is true of every value: there is a bucket, whoever sleeps is a thread, and the lists and places agree
 pub record IsSound (s : Sleepers) : Type 0 where
+  pub some : 1 ≤ bucket_count s
   pub in_range : (t a : ℕ) → place_of s t ≡ Some a → (1 ≤ t) × (t ≤ thread_count s)
   pub agree : Agree (queue s) (place_of s)

@@ -1,9 +1,10 @@
-ghost use Rattle.std.specs.Prelude.{◌≡◌, ◌≢◌, ℕ, ◌<◌, ◌≤◌, ◌++◌, ◌∷◌, [], ◌↔◌, ◌==◌, not, None, Some, if◌then◌else◌};
+ghost use Rattle.std.specs.Prelude.{◌≡◌, ◌≢◌, ℕ, ◌<◌, ◌≤◌, ◌%◌, ◌++◌, ◌∷◌, [], ◌↔◌, ◌==◌, not, None, Some, if◌then◌else◌};
 ghost use Rattle.std.specs.Prelude.{length, take, drop, slice_get, IfOk, IsTrue};
 ghost use Rattle.std.specs.List.{filter};
 ghost use Rattle.std.specs.Option.{option_map};
 ghost use Rattle.buckets.specs.Places.{with_place};
-ghost use Rattle.buckets.specs.Sleepers.{queue, place_of, thread_count, IsSound};
+ghost use Rattle.words.specs.Updates.{put};
+ghost use Rattle.buckets.specs.Sleepers.{queue, place_of, thread_count, bucket_count, holder_of, IsSound};
 ghost use Rattle.buckets.specs.BucketCount.{IsBucketCount};
 
 use crate::chain::{append, bucket_of, threads_on, unlink};
@@ -16,9 +17,10 @@ use std::marker::Model;
 use words::{Addr, MOST_THREADS};
 
 /// The threads that sleep, in buckets: for each address a list of its sleepers, in the order in which they came to it.
-/// A thread stands in at most one list. Contracts read the list of an address by `queue`, and the address on which a
-/// thread sleeps by `place_of`. After `new` no call takes memory: what it takes grows with the threads, and with the
-/// buckets by two keys each.
+/// A thread stands in at most one list. A thread can hold a bucket while it goes through a call in pieces; no call here
+/// looks at that. Contracts read the list of an address by `queue`, the address on which a thread sleeps by `place_of`,
+/// and who holds a bucket by `holder_of`. After `new` no call takes memory: what it takes grows with the threads, and
+/// with the buckets by two keys and a number each.
 #[derive(Drop)]
 pub struct Buckets {
     alloc: Global,
@@ -28,6 +30,8 @@ pub struct Buckets {
     chains: Vec<Chain>,
     // For each thread from 0 where it sleeps. There is no thread 0.
     places: Vec<Option<Addr>>,
+    // For each bucket the thread that holds it.
+    holders: Vec<Option<u32>>,
 }
 
 impl Model for Buckets {
@@ -42,9 +46,10 @@ impl Model for Buckets {
     ghost view = { λ b. record {
       places = b.places.items;
       waiting = concatenation (rows (get b.nodes) (length b.places.items - 1) b.chains.items);
+      holders = b.holders.items;
     } };
 
-    ghost invariant = { λ b. IsStored b.nodes b.chains.items b.places.items };
+    ghost invariant = { λ b. IsStored b.nodes b.chains.items b.places.items b.holders.items };
 }
 
 impl Buckets {
@@ -55,13 +60,15 @@ impl Buckets {
         matches!(n, 1 | 2 | 4 | 8 | 16 | 32 | 64 | 128 | 256)
     }
 
-    /// `n` buckets, with nobody asleep, and room for `threads` threads, with the numbers from 1 to `threads`.
+    /// `n` buckets, which nobody holds, with nobody asleep, and room for `threads` threads, with the numbers from 1 to `threads`.
     pub fn new(alloc: Global, n: u32, threads: u32) -> Result<Buckets, AllocError>
         requires allowed { IsBucketCount n }
         requires few { threads ≤ MOST_THREADS }
         ensures empty { IfOk result (λ b. (a : ℕ) → queue b a ≡ []) }
         ensures awake { IfOk result (λ b. (t : ℕ) → place_of b t ≡ None) }
         ensures threads { IfOk result (λ b. thread_count b ≡ threads) }
+        ensures count { IfOk result (λ b. bucket_count b ≡ n) }
+        ensures free { IfOk result (λ b. (k : ℕ) → holder_of b k ≡ None) }
         ensures sound { IfOk result IsSound }
     {
         Ok(Buckets {
@@ -72,6 +79,7 @@ impl Buckets {
                 last: None
             }; n as usize]?,
             places: vec![in alloc; None; threads as usize + 1]?,
+            holders: vec![in alloc; None; n as usize]?,
         })
     }
 
@@ -130,6 +138,7 @@ impl Buckets {
         ensures last { queue self.new a.0 ≡ queue self.old a.0 ++ t ∷ [] }
         ensures others { (b : ℕ) → b ≢ a.0 → queue self.new b ≡ queue self.old b }
         ensures places { place_of self.new ≡ with_place (place_of self.old) (t ∷ []) (Some a.0) }
+        ensures holders { self.new.holders ≡ self.old.holders }
         ensures threads { thread_count self.new ≡ thread_count self.old }
         ensures sound { IsSound self.old × IsSound self.new }
     {
@@ -148,6 +157,7 @@ impl Buckets {
         ensures rest { queue self.new a.0 ≡ drop n (queue self.old a.0) }
         ensures others { (b : ℕ) → b ≢ a.0 → queue self.new b ≡ queue self.old b }
         ensures places { place_of self.new ≡ with_place (place_of self.old) result None }
+        ensures holders { self.new.holders ≡ self.old.holders }
         ensures threads { thread_count self.new ≡ thread_count self.old }
         ensures sound { IsSound self.old × IsSound self.new }
     {
@@ -168,6 +178,7 @@ impl Buckets {
         ensures others { (d : ℕ) → d ≢ a.0 → d ≢ b.0 → queue self.new d ≡ queue self.old d }
         ensures places { place_of self.new ≡ with_place (place_of self.old) result (Some b.0) }
         ensures same { a.0 ≡ b.0 → self.new ≡ self.old }
+        ensures holders { self.new.holders ≡ self.old.holders }
         ensures threads { thread_count self.new ≡ thread_count self.old }
         ensures sound { IsSound self.old × IsSound self.new }
     {
@@ -187,6 +198,7 @@ impl Buckets {
         ensures queues { (b : ℕ) → queue self.new b ≡ filter
             (λ u. not (u == t)) (queue self.old b) }
         ensures places { place_of self.new ≡ with_place (place_of self.old) (t ∷ []) None }
+        ensures holders { self.new.holders ≡ self.old.holders }
         ensures threads { thread_count self.new ≡ thread_count self.old }
         ensures sound { IsSound self.old × IsSound self.new }
     {
@@ -196,5 +208,51 @@ impl Buckets {
             self.chains[bucket] = unlink(&mut self.nodes, self.chains[bucket], most, t);
             self.places[t as usize] = None;
         }
+    }
+
+    /// The bucket of an address.
+    pub fn number(&self, a: Addr) -> u32
+        ensures value { result ≡ a.0 % bucket_count self.now }
+        ensures inside { result < bucket_count self.now }
+        ensures sound { IsSound self.now }
+    {
+        bucket_of(a, self.holders.len()) as u32
+    }
+
+    /// The thread that holds bucket `k`, if one does.
+    pub fn holder(&self, k: u32) -> Option<u32>
+        requires { k < bucket_count self.now }
+        ensures value { result ≡ holder_of self.now k }
+        ensures sound { IsSound self.now }
+    {
+        self.holders[k as usize]
+    }
+
+    /// Thread `t` holds bucket `k`, which nobody holds.
+    pub fn grab(&mut self, t: u32, k: u32)
+        requires inside { k < bucket_count self.old }
+        requires free { holder_of self.old k ≡ None }
+        ensures holder { holder_of self.new ≡ put (holder_of self.old) k (Some t) }
+        ensures count { bucket_count self.new ≡ bucket_count self.old }
+        ensures queues { queue self.new ≡ queue self.old }
+        ensures places { place_of self.new ≡ place_of self.old }
+        ensures threads { thread_count self.new ≡ thread_count self.old }
+        ensures sound { IsSound self.old × IsSound self.new }
+    {
+        self.holders[k as usize] = Some(t);
+    }
+
+    /// Thread `t` gives up bucket `k`, which it holds.
+    pub fn release(&mut self, t: u32, k: u32)
+        requires inside { k < bucket_count self.old }
+        requires held { holder_of self.old k ≡ Some t }
+        ensures holder { holder_of self.new ≡ put (holder_of self.old) k None }
+        ensures count { bucket_count self.new ≡ bucket_count self.old }
+        ensures queues { queue self.new ≡ queue self.old }
+        ensures places { place_of self.new ≡ place_of self.old }
+        ensures threads { thread_count self.new ≡ thread_count self.old }
+        ensures sound { IsSound self.old × IsSound self.new }
+    {
+        self.holders[k as usize] = None;
     }
 }

@@ -1,2 +1,3 @@
 pub mod FutexCalls
 pub mod Answers
+pub mod Pieces

@@ -33,6 +33,7 @@ pub fn wait(mem: &Mem, buckets: &mut Buckets, t: u32, a: Addr, expected: u32) ->
         → queue buckets.new a.0 ≡ queue buckets.old a.0 ++ t ∷ [] }
     ensures others { (b : ℕ) → b ≢ a.0 → queue buckets.new b ≡ queue buckets.old b }
     ensures unchanged { result ≡ WaitAnswer.Again → buckets.new ≡ buckets.old }
+    ensures holders { buckets.new.holders ≡ buckets.old.holders }
     ensures threads { thread_count buckets.new ≡ thread_count buckets.old }
     ensures sound { result ≡ WaitAnswer.Sleeps → IsSound buckets.old × IsSound buckets.new }
 {
@@ -50,6 +51,7 @@ pub fn wake(buckets: &mut Buckets, a: Addr, n: u32) -> Woken
     ensures woken { result.threads ≡ take n (queue buckets.old a.0) }
     ensures rest { queue buckets.new a.0 ≡ drop n (queue buckets.old a.0) }
     ensures others { (b : ℕ) → b ≢ a.0 → queue buckets.new b ≡ queue buckets.old b }
+    ensures holders { buckets.new.holders ≡ buckets.old.holders }
     ensures threads { thread_count buckets.new ≡ thread_count buckets.old }
     ensures sound { IsSound buckets.old × IsSound buckets.new }
 {
@@ -86,6 +88,7 @@ pub fn cmp_requeue(
     ensures last { IfOk result (λ r. a.0 ≢ b.0
         → queue buckets.new b.0 ≡ queue buckets.old b.0 ++ r.moved) }
     ensures others { (d : ℕ) → d ≢ a.0 → d ≢ b.0 → queue buckets.new d ≡ queue buckets.old d }
+    ensures holders { buckets.new.holders ≡ buckets.old.holders }
     ensures threads { thread_count buckets.new ≡ thread_count buckets.old }
     ensures sound { OnOk result (IsSound buckets.old × IsSound buckets.new) }
 {

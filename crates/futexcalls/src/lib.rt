@@ -2,7 +2,9 @@
 #![tactic(auto)]
 
 mod calls;
+mod pieces;
 mod woken;
 
 pub use calls::{Again, WaitAnswer, cmp_requeue, wait, wake};
+pub use pieces::{FutexCall, FutexPhase};
 pub use woken::{Requeued, Woken};

@@ -2,6 +2,8 @@ pub mod States
 pub mod ThreadSets
 pub mod AbstractServing
 pub mod Runs
+pub mod PieceStates
+pub mod PieceSteps
 pub mod ConcreteServing
 pub mod ConcreteExits
 pub mod ConcreteSteps

@@ -1,3 +1,4 @@
 pub mod Fronts
 pub mod Phases
 pub mod RobustExit
+pub mod Waking

@@ -49,6 +49,7 @@ pub fn abandon(mem: &mut Mem, buckets: &mut Buckets, lock: Addr) -> Woken
     ensures rest { queue buckets.new lock.0
         ≡ drop (if waiters_of (word_of mem.old lock.0) then 1 else 0) (queue buckets.old lock.0) }
     ensures others { (b : ℕ) → b ≢ lock.0 → queue buckets.new b ≡ queue buckets.old b }
+    ensures holders { buckets.new.holders ≡ buckets.old.holders }
     ensures threads { thread_count buckets.new ≡ thread_count buckets.old }
     ensures sound { IsSound buckets.old × IsSound buckets.new }
 {

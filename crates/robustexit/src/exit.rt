@@ -38,6 +38,7 @@ pub fn exit_step(
     ensures front { TakesFront buckets.old buckets.new (wake_word t phase (word_of mem.old))
         result.1.threads }
     ensures words { length mem.new ≡ length mem.old }
+    ensures holders { buckets.new.holders ≡ buckets.old.holders }
     ensures threads { thread_count buckets.new ≡ thread_count buckets.old }
     ensures sound { IsSound buckets.new }
 {
@@ -86,6 +87,7 @@ fn entry_step(
         × (result.0 ≡ ExitPhase.Pending)) }
     ensures front { TakesFront buckets.old buckets.new (entry.0 + 1) result.1.threads }
     ensures words { length mem.new ≡ length mem.old }
+    ensures holders { buckets.new.holders ≡ buckets.old.holders }
     ensures threads { thread_count buckets.new ≡ thread_count buckets.old }
     ensures sound { IsSound buckets.new }
 {
@@ -109,6 +111,7 @@ fn pending_step(mem: &mut Mem, buckets: &mut Buckets, t: u32) -> Woken
     ensures front { TakesFront buckets.old buckets.new (word_of mem.old (process_word t 1)
         + 1) result.threads }
     ensures words { length mem.new ≡ length mem.old }
+    ensures holders { buckets.new.holders ≡ buckets.old.holders }
     ensures threads { thread_count buckets.new ≡ thread_count buckets.old }
     ensures sound { IsSound buckets.new }
 {

@@ -23,7 +23,7 @@ loop-t-preserved c =
     Moved-more c.take-moved.new.self c.loop-t.self c.enqueue.new.self c.as_slice-t-items.result.now c.args.b.0
     c.loop-t.t-index (get_or c.as_slice-t-items.result.now c.loop-t.t-index 0) c.loop-t.invariant
     c.loop-t-test.true (get_or_default c.as_slice-t-items.result.now c.loop-t.t-index 0 _ c.loop-t-test.true)
-    e.last e.others e.places e.threads e.sound.1
+    e.last e.others e.places e.holders e.threads e.sound.1
 
 pub returns : goal.returns
 returns c =
@@ -36,6 +36,7 @@ returns c =
       rest = t.rest;
       others = t.others;
       places = t.places;
+      holders = t.holders;
       threads = t.threads;
       sound = t.sound;
     }) m l in
@@ -46,6 +47,7 @@ returns c =
       others = w.others;
       places = w.places;
       same = λ e. absurd (c.if-a-b.false e);
+      holders = w.holders;
       threads = w.threads;
       sound = (t.sound.0, c.loop-t.invariant.sound);
     }
@@ -59,6 +61,7 @@ returns-then-a-b c =
       others = λ d na nb. refl;
       places = refl;
       same = λ e. refl;
+      holders = refl;
       threads = refl;
       sound = (c.nobody.ensures.sound, c.nobody.ensures.sound);
     })

@@ -23,7 +23,7 @@ loop-t-preserved c =
     Left-more c.args.self.now c.loop-t.self c.drop_out.new.self c.as_slice-t-items.result.now c.args.a.0 c.args.n
     c.loop-t.t-index (get_or c.as_slice-t-items.result.now c.loop-t.t-index 0) h.sound is c.loop-t.invariant
     c.loop-t-test.true (get_or_default c.as_slice-t-items.result.now c.loop-t.t-index 0 _ c.loop-t-test.true)
-    (record { queues = e.queues; places = e.places; threads = e.threads; sound = e.sound })
+    (record { queues = e.queues; places = e.places; holders = e.holders; threads = e.threads; sound = e.sound })
 
 pub returns : goal.returns
 returns c =
@@ -38,6 +38,7 @@ returns c =
       rest = t.rest;
       others = t.others;
       places = t.places;
+      holders = t.holders;
       threads = t.threads;
       sound = t.sound;
     }

@@ -1,0 +1,10 @@
+mod Calls
+mod Exits
+mod Held
+mod Outside
+mod Reading
+mod Reduces
+mod Rests
+mod Runs
+mod Sleepers
+mod Wholly

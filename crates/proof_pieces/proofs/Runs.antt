@@ -1,0 +1,109 @@
+-- Runs in pieces are runs of whole steps.
+use Rattle.std.proofs.Common.{◌≡◌, ◌⊎◌, ℕ, ◌+◌, ◌<◌, ◌==◌, inl, inr, Option, Some, None, List, [], ◌∷◌, refl, ap, subst}
+use Rattle.std.proofs.Common.{Bool, true, false, arith}
+use Rattle.std.specs.Prelude.{if◌then◌else◌}
+use Rattle.std.proofs.lemmas.Bool.{eqb-true}
+use Rattle.isa.specs.Programs.{Program}
+use Rattle.futexcalls.specs.declared.pieces.FutexPhase.TheVariants.{First}
+use Rattle.locals.specs.Threads.{Thread}
+use Rattle.machine.specs.States.{State, opening_state}
+use Rattle.machine.specs.Runs.{Step, Doing, Own, Strayed, Killed, is_paused}
+use Rattle.machine.specs.PieceStates.{PieceState, IsHeldRight, opening_pieces}
+use Rattle.machine.specs.PieceSteps.{IsPieceDone, IsPieceStep, GoesByPieces, PieceRun}
+use Rattle.proof_pieces.specs.Whole.{whole, whole_at, IsWholeDone, IsSilent, IsSeen, GoesWhole, Keeps, Ends, Drops, Takes}
+use Rattle.proof_pieces.proofs.Held.{piece_kept}
+use Rattle.proof_pieces.proofs.Outside.{strays_kept, strays_both, kills_kept, kills_both}
+use Rattle.proof_pieces.proofs.Reduces.{piece_so}
+
+done_kept : (p : Program) (s s' : PieceState) (step : Step) (d : Doing) → IsHeldRight p s → IsPieceDone p s step s' d
+    → IsHeldRight p s'
+done_kept p s s' step Own right h =
+    piece_kept p s s' step.thread h.thread step.woken right h.stands h.awake h.piece
+done_kept p s s' step (Strayed a) right h = strays_kept p a s s' step right h
+done_kept p s s' step (Killed begins) right h = kills_kept p begins s s' step right h
+
+pub held_kept : (p : Program) (s s' : PieceState) (step : Step) → IsHeldRight p s → IsPieceStep p s step s'
+    → IsHeldRight p s'
+held_kept p s s' step right h = done_kept p s s' step step.doing right h
+
+-- silent, or one whole step, by what the step is
+abbrev Done : Program → PieceState → Step → PieceState → Doing → Type 0
+Done p s step s' d = ((d ≡ Own) × (step.woken ≡ []) × (whole p s' ≡ whole p s))
+    ⊎ ((pauses : Bool) × IsWholeDone p (whole p s) (record step { pauses = pauses }) (whole p s') d)
+
+done_so : (p : Program) (s s' : PieceState) (step : Step) (d : Doing) → IsHeldRight p s → IsPieceDone p s step s' d
+    → Done p s step s' d
+done_so p s s' step Own right h = elim (piece_so p s s' step.thread h.thread step.woken right h.stands h.awake h.piece) [
+  | inl q ↦ inl (refl, q.0, q.1)
+  | inr w ↦ inr (
+    is_paused (whole p s') step.thread,
+    record { thread = w.thread; stands = w.stands; awake = w.awake; moves = w.moves; pauses = w.pauses },
+  )
+]
+done_so p s s' step (Strayed a) right h =
+    let w = strays_both p a s s' step right h in
+    inr (step.pauses, record { sleeps = w.sleeps; woken = w.woken; after = w.after; pauses = w.pauses })
+done_so p s s' step (Killed begins) right h =
+    let w = kills_both p begins s s' step h in
+    inr (
+      step.pauses,
+      record {
+        thread = w.thread;
+        stands = w.stands;
+        begins_so = w.begins_so;
+        woken = w.woken;
+        after = w.after;
+        pauses = w.pauses;
+      },
+    )
+
+pub reduces : (p : Program) (s s' : PieceState) (step : Step) → IsHeldRight p s → IsPieceStep p s step s'
+    → IsSilent p s step s' ⊎ IsSeen p s step s'
+reduces p s s' step right h = done_so p s s' step step.doing right h
+
+outside_whole : (p : Program) (u : ℕ) (o : Option Thread) → whole_at p u First o ≡ o
+outside_whole p u None = refl
+outside_whole p u (Some x) = refl
+
+opening_whole : (p : Program) (n : ℕ) → whole p (opening_pieces p n) ≡ opening_state p
+opening_whole p n = λ k. record (opening_state p) { thread = λ u. outside_whole p u ((opening_state p).thread u) k }
+
+opening_held : (p : Program) (n : ℕ) → 0 < n → IsHeldRight p (opening_pieces p n)
+opening_held p n some = record {
+  some = some;
+  few = λ u x h. by_test u (u == 1) refl _ h;
+  apart = λ u. inl refl;
+  right = λ b u h. absurd cc;
+  all = λ b u h. absurd cc;
+}
+  where
+    by_test : (u : ℕ) (b : Bool) → (u == 1) ≡ b → {x : Thread} (y : Thread) → (if b then Some y else None) ≡ Some x
+        → u < 1 + 1
+    by_test u true q y h = omega (arith, eqb-true u 1 q)
+    by_test u false q y h = absurd cc
+
+goes : (p : Program) (steps : List Step) (s s' : PieceState) → IsHeldRight p s → GoesByPieces p s steps s'
+    → IsHeldRight p s' × ((kept : List Step) × Keeps steps kept × GoesWhole p (whole p s) kept (whole p s'))
+goes p [] s s' right e = (subst (IsHeldRight p) e right, ([], Ends, ap (whole p) e))
+goes p (step ∷ steps) s s' right run =
+    let rest = goes p steps run.0 s' (held_kept p s run.0 step right run.1) run.2 in (
+      rest.0,
+      elim (reduces p s run.0 step right run.1) [
+        | inl q ↦ (
+          rest.1.0,
+          Drops step q.0 q.1 rest.1.1,
+          subst (λ (z : State). GoesWhole p z rest.1.0 (whole p s')) q.2 rest.1.2,
+        )
+        | inr w ↦ (
+          record step { pauses = w.0 } ∷ rest.1.0,
+          Takes step w.0 rest.1.1,
+          (whole p run.0, w.1, rest.1.2),
+        )
+      ],
+    )
+
+pub runs_so : (p : Program) (n : ℕ) (steps : List Step) (s : PieceState) → 0 < n → PieceRun p n steps s
+    → IsHeldRight p s × ((kept : List Step) × Keeps steps kept × GoesWhole p (opening_state p) kept (whole p s))
+runs_so p n steps s some run =
+    let r = goes p steps (opening_pieces p n) s (opening_held p n some) run in
+    (r.0, (r.1.0, r.1.1, subst (λ (z : State). GoesWhole p z r.1.0 (whole p s)) (opening_whole p n) r.1.2))

@@ -1,0 +1,41 @@
+-- What is true of the machine with calls in pieces.
+use Rattle.std.specs.Prelude.{ℕ, ◌<◌, ◌≡◌, ◌⊎◌, ◌↔◌, Some, None, List}
+use Rattle.isa.specs.Programs.{Program}
+use Rattle.machine.specs.States.{opening_state}
+use Rattle.machine.specs.Runs.{Step, CanStep, NextIsBroken}
+use Rattle.machine.specs.PieceStates.{PieceState, IsHeldRight, IsWithin}
+use Rattle.machine.specs.PieceSteps.{IsPieceStep, PieceRun, CanTakePiece, NextPieceIsBroken}
+use Rattle.proof_pieces.specs.Whole.{whole, IsSilent, IsSeen, GoesWhole, Keeps}
+
+-- each step keeps that buckets are held as the phases say
+abbrev pub HeldSo : Type 0
+HeldSo = (p : Program) (s s' : PieceState) (step : Step) → IsHeldRight p s → IsPieceStep p s step s' → IsHeldRight p s'
+
+-- each step is silent, or one step of the whole calls
+abbrev pub ReducesSo : Type 0
+ReducesSo = (p : Program) (s s' : PieceState) (step : Step) → IsHeldRight p s → IsPieceStep p s step s'
+    → IsSilent p s step s' ⊎ IsSeen p s step s'
+
+-- each run in pieces, with any number of buckets, is a run of whole steps: its own without silent ones
+abbrev pub RunsSo : Type 0
+RunsSo = (p : Program) (n : ℕ) (steps : List Step) (s : PieceState) → 0 < n → PieceRun p n steps s
+    → IsHeldRight p s × ((kept : List Step) × Keeps steps kept × GoesWhole p (opening_state p) kept (whole p s))
+
+-- where no thread can take a step no bucket is held, the whole is the machine's state, and no thread can step in it
+abbrev pub RestsSo : Type 0
+RestsSo = (p : Program) (s : PieceState) → IsHeldRight p s → ((t : ℕ) → CanTakePiece p s t → ⊥)
+    → ((b : ℕ) → s.holder b ≡ None) × (whole p s ≡ s.base) × ((t : ℕ) → CanStep (whole p s) t → ⊥)
+
+-- where a bucket is held, some thread within a call can take its next step
+abbrev pub GoesOn : Type 0
+GoesOn = (p : Program) (s : PieceState) (b u : ℕ) → IsHeldRight p s → s.holder b ≡ Some u
+    → (t : ℕ) × IsWithin p s t × CanTakePiece p s t
+
+-- a thread's next step may not be in pieces just where it may not be in the whole
+abbrev pub BreaksBoth : Type 0
+BreaksBoth = (p : Program) (s : PieceState) (t : ℕ) → IsHeldRight p s
+    → NextPieceIsBroken p s t ↔ NextIsBroken p (whole p s) t
+
+-- who sleeps sleeps in the whole
+abbrev pub SleepsSo : Type 0
+SleepsSo = (p : Program) (s : PieceState) (t a : ℕ) → s.base.asleep t ≡ Some a → (whole p s).asleep t ≡ Some a
