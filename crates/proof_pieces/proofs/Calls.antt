@@ -1,10 +1,7 @@
 -- The call that a thread makes; and a thread that waits runs on behind its wait.
 use Rattle.std.proofs.Common.{◌≡◌, ◌∙◌, ℕ, ◌+◌, Option, Some, None, List, [], ◌∷◌, length, refl, ap, subst, Bool, true, false}
-use Rattle.std.specs.Prelude.{ℤ, nat_lt, nat_le, ◌==◌, ◌&&◌, ◌%◌, not, int_div, int_rem}
+use Rattle.std.specs.Prelude.{nat_lt, slice_get}
 use Rattle.words.specs.declared.outcome.Fault.{Fault}
-use Rattle.words.specs.declared.outcome.Fault.TheVariants.{ResultOutOfRange, DivisionByZero, IndexOutOfRange}
-use Rattle.words.specs.declared.outcome.Fault.TheVariants.{ProcessTableFull}
-use Rattle.words.specs.Signed.{signed_of}
 use Rattle.words.specs.Versions.{most_of}
 use Rattle.isa.specs.Programs.{Program}
 use Rattle.isa.specs.declared.operator.Operator.{Operator}
@@ -21,11 +18,12 @@ use Rattle.futexcalls.specs.declared.pieces.FutexCall.TheVariants.{Wait, Wake, R
 use Rattle.robustexit.specs.declared.phase.ExitPhase.TheVariants.{Entry, Pending, ClearId, LastWake, Ended}
 use Rattle.locals.specs.declared.frame.Frame.{Frame}
 use Rattle.locals.specs.declared.frame.Locals.{Locals}
-use Rattle.locals.specs.Threads.{Thread, Runs, Dies, Exits, is_dying}
-use Rattle.locals.specs.InstructionEffects.{in_range, push_effect, signed_result, operator_effect}
+use Rattle.locals.specs.Threads.{Thread, Runs, Dies, Exits, fresh, is_dying}
+use Rattle.locals.specs.InstructionEffects.{operator_effect}
 use Rattle.locals.specs.Looks.{AskReturn, AskReturnValue}
-use Rattle.locals.specs.Looks.{Request, AskWait, Look, Goes, Asks, Leaves, Breaks, Rests, look, look_at, at_place}
-use Rattle.locals.specs.Looks.{return_look, if_so, or_dies, effect}
+use Rattle.locals.specs.Looks.{Request, AskWait, Look, Goes, Asks, look, look_at, at_place}
+use Rattle.locals.specs.Looks.{return_look, if_so, or_dies, effect, Effect, Then, Keeps, To, Tests, Asking, Trying, Calls}
+use Rattle.locals.specs.Looks.{Returns, ReturnsValue, Fails, Misses, Guards, Checks}
 use Rattle.machine.specs.PieceStates.{request_of, call_of, call_at, called}
 
 pub call_back : (call : FutexCall) → call_of (request_of call) ≡ Some call
@@ -56,6 +54,90 @@ abbrev RunsOn : Look → Type 0
 RunsOn (Asks (AskWait a expected) go) = is_dying (go 0) ≡ false
 RunsOn l = Unit {0}
 
+-- no effect dies of a wait's answer
+abbrev TriesNoWait : Effect → Type 0
+TriesNoWait (Trying (AskWait a expected) fault answered) = ⊥
+TriesNoWait (Guards test e) = TriesNoWait e
+TriesNoWait (Checks test fault e) = TriesNoWait e
+TriesNoWait e = Unit {0}
+
+tries_operator : (o : Operator) (a b : ℕ) (rest : List ℕ) → TriesNoWait (operator_effect o a b rest)
+tries_operator Add a b rest = tt
+tries_operator Sub a b rest = tt
+tries_operator Mul a b rest = tt
+tries_operator Div a b rest = tt
+tries_operator Mod a b rest = tt
+tries_operator Eq a b rest = tt
+tries_operator Ne a b rest = tt
+tries_operator Lt a b rest = tt
+tries_operator Le a b rest = tt
+tries_operator Gt a b rest = tt
+tries_operator Ge a b rest = tt
+tries_operator BitAnd a b rest = tt
+tries_operator BitOr a b rest = tt
+
+tries_instruction : (most t : ℕ) (locals : Locals) (i : Instr) (operands : List ℕ)
+    → TriesNoWait (effect most t i operands locals)
+tries_instruction most t locals (Push n) operands = tt
+tries_instruction most t locals (GetLocal slot) operands = tt
+tries_instruction most t locals (SetLocal slot) [] = tt
+tries_instruction most t locals (SetLocal slot) (v ∷ rest) = tt
+tries_instruction most t locals Pop [] = tt
+tries_instruction most t locals Pop (v ∷ rest) = tt
+tries_instruction most t locals (Operate o) [] = tt
+tries_instruction most t locals (Operate o) (b ∷ []) = tt
+tries_instruction most t locals (Operate o) (b ∷ a ∷ rest) = tries_operator o a b rest
+tries_instruction most t locals Negate [] = tt
+tries_instruction most t locals Negate (a ∷ rest) = tt
+tries_instruction most t locals Not [] = tt
+tries_instruction most t locals Not (a ∷ rest) = tt
+tries_instruction most t locals (Jump to) operands = tt
+tries_instruction most t locals (JumpIfZero to) [] = tt
+tries_instruction most t locals (JumpIfZero to) (v ∷ rest) = tt
+tries_instruction most t locals (Call to) operands = tt
+tries_instruction most t locals Ret operands = tt
+tries_instruction most t locals RetValue [] = tt
+tries_instruction most t locals RetValue (v ∷ rest) = tt
+tries_instruction most t locals (Index b n) [] = tt
+tries_instruction most t locals (Index b n) (i ∷ rest) = tt
+tries_instruction most t locals OwnNumber operands = tt
+tries_instruction most t locals (ProcessAddress word) [] = tt
+tries_instruction most t locals (ProcessAddress word) (h ∷ rest) = tt
+tries_instruction most t locals (Raise fault) operands = tt
+tries_instruction most t locals Load [] = tt
+tries_instruction most t locals Load (a ∷ rest) = tt
+tries_instruction most t locals Store [] = tt
+tries_instruction most t locals Store (v ∷ []) = tt
+tries_instruction most t locals Store (v ∷ a ∷ rest) = tt
+tries_instruction most t locals Swap [] = tt
+tries_instruction most t locals Swap (v ∷ []) = tt
+tries_instruction most t locals Swap (v ∷ a ∷ rest) = tt
+tries_instruction most t locals CompareSwap [] = tt
+tries_instruction most t locals CompareSwap (c ∷ []) = tt
+tries_instruction most t locals CompareSwap (c ∷ b ∷ []) = tt
+tries_instruction most t locals CompareSwap (c ∷ b ∷ a ∷ rest) = tt
+tries_instruction most t locals FetchOr [] = tt
+tries_instruction most t locals FetchOr (v ∷ []) = tt
+tries_instruction most t locals FetchOr (v ∷ a ∷ rest) = tt
+tries_instruction most t locals FetchAdd [] = tt
+tries_instruction most t locals FetchAdd (v ∷ []) = tt
+tries_instruction most t locals FetchAdd (v ∷ a ∷ rest) = tt
+tries_instruction most t locals (Fork to n) operands = tt
+tries_instruction most t locals Print [] = tt
+tries_instruction most t locals Print (v ∷ rest) = tt
+tries_instruction most t locals FutexWait [] = tt
+tries_instruction most t locals FutexWait (e ∷ []) = tt
+tries_instruction most t locals FutexWait (e ∷ a ∷ rest) = tt
+tries_instruction most t locals FutexWake [] = tt
+tries_instruction most t locals FutexWake (n ∷ []) = tt
+tries_instruction most t locals FutexWake (n ∷ a ∷ rest) = tt
+tries_instruction most t locals FutexRequeue [] = tt
+tries_instruction most t locals FutexRequeue (e ∷ []) = tt
+tries_instruction most t locals FutexRequeue (e ∷ d ∷ []) = tt
+tries_instruction most t locals FutexRequeue (e ∷ d ∷ c ∷ []) = tt
+tries_instruction most t locals FutexRequeue (e ∷ d ∷ c ∷ b ∷ []) = tt
+tries_instruction most t locals FutexRequeue (e ∷ d ∷ c ∷ b ∷ a ∷ rest) = tt
+
 on_if : (test : Bool) (l : Look) → RunsOn l → RunsOn (if_so test l)
 on_if true l h = h
 on_if false l h = tt
@@ -64,102 +146,51 @@ on_or : (test : Bool) (fault : Fault) (l : Look) → RunsOn l → RunsOn (or_die
 on_or true fault l h = h
 on_or false fault l h = tt
 
-module _ (place most t : ℕ) (locals : Locals) (callers : List Frame) where
-  on_push : (n : ℕ) (operands : List ℕ) → RunsOn (at_place place locals callers (push_effect n operands))
-  on_push n operands = on_if _ _ tt
+module _ (place : ℕ) (locals : Locals) (callers : List Frame) where
+  asking_on : (request : Request) (answered : ℕ → List ℕ)
+      → RunsOn (Asks request (λ v. Runs (place + 1) (answered v) locals callers))
+  asking_on (AskWait a expected) answered = refl
+  asking_on request answered = tt
 
-  on_signed : (z : ℤ) (rest : List ℕ) → RunsOn (at_place place locals callers (signed_result z rest))
-  on_signed z rest = on_or (in_range z) ResultOutOfRange _ tt
+  trying_on : (request : Request) (fault : Fault) (answered : ℕ → List ℕ) → TriesNoWait (Trying request fault answered)
+      → RunsOn (at_place place locals callers (Trying request fault answered))
+  trying_on (AskWait a expected) fault answered h = absurd h
+  trying_on request fault answered h = tt
 
-  on_operator : (o : Operator) (a b : ℕ) (rest : List ℕ)
-      → RunsOn (at_place place locals callers (operator_effect o a b rest))
-  on_operator Add a b rest = on_signed _ rest
-  on_operator Sub a b rest = on_signed _ rest
-  on_operator Mul a b rest = on_signed _ rest
-  on_operator Div a b rest = on_or (not (b == 0)) DivisionByZero _ (on_signed _ rest)
-  on_operator Mod a b rest = on_or (not (b == 0)) DivisionByZero _ tt
-  on_operator Eq a b rest = tt
-  on_operator Ne a b rest = tt
-  on_operator Lt a b rest = tt
-  on_operator Le a b rest = tt
-  on_operator Gt a b rest = tt
-  on_operator Ge a b rest = tt
-  on_operator BitAnd a b rest = tt
-  on_operator BitOr a b rest = tt
+  returned_on : (v : ℕ) (operands : List ℕ) (frames : List Frame) → RunsOn (return_look (AskReturnValue v) operands frames)
+  returned_on v operands [] = tt
+  returned_on v operands (f ∷ fs) = tt
 
-  on_return : (request : Request) (operands : List ℕ) (frames : List Frame)
-      → ((go : ℕ → Thread) → RunsOn (Asks request go)) → RunsOn (return_look request operands frames)
-  on_return request operands [] h = h _
-  on_return request operands (f ∷ fs) h = tt
+  return_on : (operands : List ℕ) (frames : List Frame) → RunsOn (return_look AskReturn operands frames)
+  return_on operands [] = tt
+  return_on operands (f ∷ fs) = tt
 
-  on_instruction : (i : Instr) (operands : List ℕ) → RunsOn (at_place place locals callers (effect most t i operands locals))
-  on_instruction (Push n) operands = on_push n operands
-  on_instruction (GetLocal slot) operands = on_push _ operands
-  on_instruction (SetLocal slot) [] = tt
-  on_instruction (SetLocal slot) (v ∷ rest) = tt
-  on_instruction Pop [] = tt
-  on_instruction Pop (v ∷ rest) = tt
-  on_instruction (Operate o) [] = tt
-  on_instruction (Operate o) (b ∷ []) = tt
-  on_instruction (Operate o) (b ∷ a ∷ rest) = on_operator o a b rest
-  on_instruction Negate [] = tt
-  on_instruction Negate (a ∷ rest) = on_signed _ rest
-  on_instruction Not [] = tt
-  on_instruction Not (a ∷ rest) = tt
-  on_instruction (Jump to) operands = tt
-  on_instruction (JumpIfZero to) [] = tt
-  on_instruction (JumpIfZero to) (v ∷ rest) = tt
-  on_instruction (Call to) operands = on_if _ _ tt
-  on_instruction Ret operands = on_return AskReturn operands callers (λ go. tt)
-  on_instruction RetValue [] = tt
-  on_instruction RetValue (v ∷ rest) = on_return (AskReturnValue v) (v ∷ rest) callers (λ go. tt)
-  on_instruction (Index b n) [] = tt
-  on_instruction (Index b n) (i ∷ rest) = on_or _ IndexOutOfRange _ tt
-  on_instruction OwnNumber operands = on_push t operands
-  on_instruction (ProcessAddress word) [] = tt
-  on_instruction (ProcessAddress word) (h ∷ rest) = on_if _ _ tt
-  on_instruction (Raise fault) operands = tt
-  on_instruction Load [] = tt
-  on_instruction Load (a ∷ rest) = tt
-  on_instruction Store [] = tt
-  on_instruction Store (v ∷ []) = tt
-  on_instruction Store (v ∷ a ∷ rest) = tt
-  on_instruction Swap [] = tt
-  on_instruction Swap (v ∷ []) = tt
-  on_instruction Swap (v ∷ a ∷ rest) = tt
-  on_instruction CompareSwap [] = tt
-  on_instruction CompareSwap (c ∷ []) = tt
-  on_instruction CompareSwap (c ∷ b ∷ []) = tt
-  on_instruction CompareSwap (c ∷ b ∷ a ∷ rest) = tt
-  on_instruction FetchOr [] = tt
-  on_instruction FetchOr (v ∷ []) = tt
-  on_instruction FetchOr (v ∷ a ∷ rest) = tt
-  on_instruction FetchAdd [] = tt
-  on_instruction FetchAdd (v ∷ []) = tt
-  on_instruction FetchAdd (v ∷ a ∷ rest) = tt
-  on_instruction (Fork to n) operands = on_if (nat_le n (length operands)) _ tt
-  on_instruction Print [] = tt
-  on_instruction Print (v ∷ rest) = tt
-  on_instruction FutexWait [] = tt
-  on_instruction FutexWait (e ∷ []) = tt
-  on_instruction FutexWait (e ∷ a ∷ rest) = refl
-  on_instruction FutexWake [] = tt
-  on_instruction FutexWake (n ∷ []) = tt
-  on_instruction FutexWake (n ∷ a ∷ rest) = tt
-  on_instruction FutexRequeue [] = tt
-  on_instruction FutexRequeue (e ∷ []) = tt
-  on_instruction FutexRequeue (e ∷ d ∷ []) = tt
-  on_instruction FutexRequeue (e ∷ d ∷ c ∷ []) = tt
-  on_instruction FutexRequeue (e ∷ d ∷ c ∷ b ∷ []) = tt
-  on_instruction FutexRequeue (e ∷ d ∷ c ∷ b ∷ a ∷ rest) = tt
+  effect_on : (e : Effect) → TriesNoWait e → RunsOn (at_place place locals callers e)
+  effect_on (Then operands) h = tt
+  effect_on (Keeps locals' operands) h = tt
+  effect_on (To place' operands) h = tt
+  effect_on (Tests value place' operands) h = tt
+  effect_on (Asking request answered) h = asking_on request answered
+  effect_on (Trying request fault answered) h = trying_on request fault answered h
+  effect_on (Calls place' operands) h =
+      on_if (nat_lt (length callers) 15)
+      (Goes (Runs place' operands fresh (record { back = place + 1; locals = locals } ∷ callers))) tt
+  effect_on (Returns operands) h = return_on operands callers
+  effect_on (ReturnsValue v operands) h = returned_on v operands callers
+  effect_on (Fails fault) h = tt
+  effect_on Misses h = tt
+  effect_on (Guards test e) h = on_if test (at_place place locals callers e) (effect_on e h)
+  effect_on (Checks test fault e) h = on_or test fault (at_place place locals callers e) (effect_on e h)
 
 on_place : (most t : ℕ) (i : Option Instr) (place : ℕ) (operands : List ℕ) (locals : Locals) (callers : List Frame)
     → RunsOn (look_at most t i place operands locals callers)
 on_place most t None place operands locals callers = tt
-on_place most t (Some i) place operands locals callers = on_instruction place most t locals callers i operands
+on_place most t (Some i) place operands locals callers =
+    effect_on place locals callers (effect most t i operands locals) (tries_instruction most t locals i operands)
 
 on_look : (p : Program) (t : ℕ) (x : Thread) → RunsOn (look p t x)
-on_look p t (Runs place operands locals callers) = on_place _ t _ place operands locals callers
+on_look p t (Runs place operands locals callers) =
+    on_place (most_of p.version) t (slice_get p.code place) place operands locals callers
 on_look p t (Dies cause) = tt
 on_look p t (Exits (Entry e seen)) = tt
 on_look p t (Exits Pending) = tt

@@ -1,6 +1,6 @@
 -- What comes from outside, in pieces and in the whole: a wake that nobody called for, of a thread that sleeps and so holds
 -- nothing; and a kill, by which a thread gives up the buckets that it holds.
-use Rattle.std.proofs.Common.{◌≡◌, ◌≢◌, ◌∙◌, ℕ, ◌==◌, Option, Some, None, [], ◌∷◌, refl, sym, ap, subst, Bool, true, false}
+use Rattle.std.proofs.Common.{◌≡◌, ◌∙◌, ℕ, ◌==◌, Option, Some, None, refl, sym, ap, subst, Bool, true, false}
 use Rattle.std.proofs.Common.{not, inl, inr}
 use Rattle.std.specs.Prelude.{if◌then◌else◌}
 use Rattle.std.proofs.lemmas.Bool.{eqb-true}

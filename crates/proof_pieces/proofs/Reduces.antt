@@ -13,9 +13,9 @@ use Rattle.futexcalls.specs.declared.pieces.FutexPhase.TheVariants.{First, Secon
 use Rattle.futexcalls.specs.Pieces.{buckets_of, takes_at, after_lock, IsPhase, LiesIn, Compares, Acts}
 use Rattle.locals.specs.Threads.{Thread, Exits}
 use Rattle.locals.specs.Looks.{AskWait, Look, Goes, Asks, Leaves, look}
-use Rattle.machine.specs.States.{State, with_thread, with_sleepers}
+use Rattle.machine.specs.States.{with_thread, with_sleepers}
 use Rattle.machine.specs.AbstractServing.{shared_of, with_shared}
-use Rattle.machine.specs.Runs.{Step, Own, is_paused}
+use Rattle.machine.specs.Runs.{Own, is_paused}
 use Rattle.machine.specs.PieceStates.{PieceState, request_of, call_at, called, held, committed, committed_at}
 use Rattle.futexcalls.specs.Pieces.{held_at}
 use Rattle.machine.specs.PieceStates.{waits_at, IsHeldRight}
@@ -302,25 +302,28 @@ module _ (p : Program) (s s' : PieceState) (t : ℕ) (x : Thread) (woken : List 
 
   pub piece_so : Piece p s t x woken s' → Reduced p s t woken s'
   piece_so (IsLocal y looks first nobody e) = inr (loud p s t x woken (Goes y) (whole p s') stands awake looks
-      (first_same _ _ _ first) (first_none _ _ first) (
+      (first_same (s.phase t) (Goes y) x first) (first_none (s.phase t) (Goes y) first) (
         nobody,
         ap (whole p) e
-            ∙ whole_on p s t s.base [] y (first_free p _ _ _ first),
+            ∙ whole_on p s t s.base [] y (first_free p (s.phase t) t (s.base.thread t) first),
       ))
   piece_so (IsPlain request go answer mid looks isnt first serves e) = inr (loud p s t x woken (Asks request go)
-      (whole p s') stands awake looks (first_same _ _ _ first) (first_none _ _ first) (
+      (whole p s') stands awake looks (first_same (s.phase t) (Asks request go) x first)
+      (first_none (s.phase t) (Asks request go) first) (
         answer,
         wholly p s mid,
         plain_served p s right t request woken answer mid isnt serves,
-        ap (whole p) e ∙ whole_on p s t mid [] (go answer) (first_free p _ _ _ first),
+        ap (whole p) e ∙ whole_on p s t mid [] (go answer) (first_free p (s.phase t) t (mid.thread t) first),
       ))
   piece_so (IsExit phase after next looks first step free e) = inr (loud p s t x woken (Leaves phase) (whole p s')
-      stands awake looks (first_same _ _ _ first) (first_none _ _ first) (
+      stands awake looks (first_same (s.phase t) (Leaves phase) x first)
+      (first_none (s.phase t) (Leaves phase) first) (
         joins_shared (committed p s) after,
         next,
         exit_both s.base.size t (shared_of s.base) (committed p s) woken after (apart_so p s right) phase next
             (λ a w. nobody_free p s right a (free a w)) step,
-        ap (whole p) e ∙ whole_on p s t (with_shared s.base after) [] (Exits next) (first_free p _ _ _ first),
+        ap (whole p) e ∙ whole_on p s t (with_shared s.base after) [] (Exits next)
+            (first_free p (s.phase t) t (s.base.thread t) first),
       ))
   piece_so (IsLock call go b looks lies takes free nobody e) =
       let late = locked_same s.buckets (s.phase t) call go x b takes in

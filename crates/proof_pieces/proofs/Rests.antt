@@ -18,7 +18,7 @@ use Rattle.locals.specs.Looks.{Request, AskLoad, Look, Goes, Asks, Leaves, Break
 use Rattle.machine.specs.States.{State}
 use Rattle.machine.specs.AbstractServing.{IsUnserved}
 use Rattle.machine.specs.Runs.{CanStep, NextIsBroken, IsBroken, has_ended}
-use Rattle.machine.specs.PieceStates.{PieceState, request_of, call_of, call_at, called, committed, committed_at}
+use Rattle.machine.specs.PieceStates.{PieceState, request_of, call_of, called, committed, committed_at}
 use Rattle.futexcalls.specs.Pieces.{held_at}
 use Rattle.machine.specs.PieceStates.{IsHeldRight, IsWithin}
 use Rattle.machine.specs.PieceSteps.{CanTakePiece, BlocksCall, BlocksAt, NextPieceIsBroken}

@@ -1,17 +1,17 @@
 -- The state of the whole calls behind one step of a thread in pieces.
-use Rattle.std.proofs.Common.{◌≡◌, ◌≢◌, ◌∙◌, ℕ, suc, ◌+◌, ◌<◌, ◌==◌, inl, inr, Option, Some, None, List, [], ◌∷◌, refl}
+use Rattle.std.proofs.Common.{◌≡◌, ◌∙◌, ℕ, suc, ◌+◌, ◌<◌, ◌==◌, inl, inr, Option, Some, None, List, refl}
 use Rattle.std.proofs.Common.{sym, ap, subst, Bool, true, false, arith}
 use Rattle.std.specs.Prelude.{if◌then◌else◌}
 use Rattle.isa.specs.Programs.{Program}
 use Rattle.words.specs.Updates.{put}
 use Rattle.futexcalls.specs.declared.pieces.FutexPhase.{FutexPhase}
-use Rattle.futexcalls.specs.declared.pieces.FutexPhase.TheVariants.{First, Second, Compare, Act}
+use Rattle.futexcalls.specs.declared.pieces.FutexPhase.TheVariants.{First}
 use Rattle.locals.specs.Threads.{Thread, opening_thread}
 use Rattle.locals.specs.Looks.{Request, AskLoad, AskStore, AskSwap, AskCompareSwap, AskOr, AskAdd, AskFork, AskPrint}
 use Rattle.locals.specs.Looks.{AskWait, AskWake, AskRequeue, AskReturn, AskReturnValue, AskFault, Look, look}
 use Rattle.machine.specs.States.{State, with_thread, with_word}
 use Rattle.machine.specs.AbstractServing.{Serves, with_child}
-use Rattle.machine.specs.Runs.{Step, Own, is_paused}
+use Rattle.machine.specs.Runs.{Own, is_paused}
 use Rattle.machine.specs.PieceStates.{PieceState, call_of, call_at, called, committed, committed_at, IsHeldRight}
 use Rattle.machine.specs.PieceSteps.{goes_outside}
 use Rattle.proof_pieces.specs.Whole.{either, behind, whole_at, whole, ServesWhole, MovesWhole, IsOwnWhole}
@@ -99,8 +99,10 @@ whole_child p s right entry arguments = λ k. record (with_child (whole p s) ent
         (called p u (put s.base.thread (suc s.base.made) (Some (opening_thread entry arguments)) u))
         ≡ committed p s u
     committeds u = seen_second (λ j ph x. committed_at ph (called p j x)) s.phase s.base.thread (suc s.base.made)
-        (Some (opening_thread entry arguments)) None (first_free p _ _ _ first) u
-        ∙ unput (committed p s) (suc s.base.made) None (sym (first_free p _ _ _ first)) u
+        (Some (opening_thread entry arguments)) None
+        (first_free p (s.phase (suc s.base.made)) (suc s.base.made) (Some (opening_thread entry arguments)) first) u
+        ∙ unput (committed p s) (suc s.base.made) None
+        (sym (first_free p (s.phase (suc s.base.made)) (suc s.base.made) (s.base.thread (suc s.base.made)) first)) u
 
 -- what is no call is served in the whole as here
 pub plain_served : (p : Program) (s : PieceState) → IsHeldRight p s → (t : ℕ) (request : Request) (woken : List ℕ)
