@@ -8,7 +8,7 @@ use Rattle.locals.specs.Looks.{AskWait, AskWake, AskRequeue, Look, Asks, look}
 use Rattle.machine.specs.States.{State}
 use Rattle.machine.specs.Runs.{Own, Step, is_own, is_paused}
 use Rattle.refinement.specs.Refines.{Sleeps}
-use Rattle.proof_simulation.specs.WholeCalls.{IsWholeDone}
+use Rattle.proof_simulation.specs.WholeCalls.{IsUntimedDone}
 
 -- how many pieces of a call come before the one that is its step with whole calls, at most: buckets are taken, and a
 -- requeue compares. None where a thread asks for something else
@@ -39,7 +39,7 @@ pub record TakesPiece (image : Image) (s : State) (taken : ℕ → ℕ) (l : Ste
 -- one step of a run, from a state with whole calls to the next; and of how many pieces of its call each thread has
 -- taken before it and behind it, what is asked of the thread that steps
 pub data TraceStep (image : Image) (s : State) (taken : ℕ → ℕ) (l : Step) (s' : State) (next : ℕ → ℕ) : Type 0 where
-  Loud : IsWholeDone image s l s' l.doing → (is_own l.doing ≡ true → KeepsTime image s taken l s')
+  Loud : IsUntimedDone image s l s' l.doing → (is_own l.doing ≡ true → KeepsTime image s taken l s')
       → TraceStep image s taken l s' next
   Silent : l.doing ≡ Own → s' ≡ s → (l.pauses ≡ false → TakesPiece image s taken l next)
       → TraceStep image s taken l s' next

@@ -1,51 +1,22 @@
--- The machine with whole futex calls, as the proof follows it. A requeue moves whatever the word says: that it is what
--- was expected need not be seen at once with the move.
-use Rattle.std.specs.Prelude.{ℕ, ◌≡◌, ◌≢◌, ◌+◌, ◌⊎◌, Option, None, Some, List, [], length}
-use Rattle.buckets.specs.Places.{with_place}
-use Rattle.futexcalls.specs.FutexCalls.{Wakes, Moves as MovesOf}
+-- Steps of the machine with whole futex calls, as the proof follows them: those behind calls in pieces, but for whether
+-- a thread then sleeps.
+use Rattle.std.specs.Prelude.{ℕ, ◌≡◌, None, Some, List}
 use Rattle.isa.specs.Programs.{Program as Image}
-use Rattle.robustexit.specs.RobustExit.{Shared, ExitStep}
-use Rattle.robustexit.specs.declared.phase.ExitPhase.{ExitPhase}
-use Rattle.locals.specs.Threads.{Thread, Exits}
-use Rattle.locals.specs.Looks.{Request, AskRequeue, Look, Goes, Asks, Leaves, Breaks, Rests, look}
-use Rattle.machine.specs.States.{State, with_thread, with_sleepers}
-use Rattle.machine.specs.AbstractServing.{Serves, Lies, shared_of, with_shared}
+use Rattle.locals.specs.Threads.{Thread}
+use Rattle.locals.specs.Looks.{look}
+use Rattle.machine.specs.States.{State}
+pub use Rattle.proof_pieces.specs.Whole.{ServesWhole, MovesWhole}
 use Rattle.machine.specs.Runs.{Doing, Own, Strayed, Killed, Step, IsStrayStep, IsKillStep}
 
--- a requeue that moves whatever the word
-pub record Requeued (asleep : ℕ → Option ℕ) (a b n m : ℕ) (woken moved : List ℕ) (after : ℕ → Option ℕ) : Type 0 where
-  pub wakes : Wakes asleep a n woken (with_place asleep woken None)
-  pub moves : MovesOf (with_place asleep woken None) a b m moved after
-
--- how a request is served: as the machine serves it, but for what the requeue compares
-abbrev pub ServesWhole : ℕ → Request → State → List ℕ → ℕ → State → Type 0
-ServesWhole t (AskRequeue a b n m expected) s woken answer s' =
-    Lies s a × Lies s b
-    × (((moved : List ℕ) × (after : ℕ → Option ℕ) × Requeued s.asleep a b n m woken moved after
-    × (answer ≡ length woken + length moved) × (s' ≡ with_sleepers s after))
-    ⊎ ((s.word a ≢ expected) × (woken ≡ []) × (answer ≡ 4294967295) × (s' ≡ s)))
-ServesWhole t request s woken answer s' = Serves t request s woken answer s'
-
--- what a thread that looks so does in one step
-abbrev pub MovesWhole : State → ℕ → List ℕ → Look → State → Type 0
-MovesWhole s t woken (Goes x) s' = (woken ≡ []) × (s' ≡ with_thread s t x)
-MovesWhole s t woken (Asks request go) s' =
-    (answer : ℕ) × (mid : State) × ServesWhole t request s woken answer mid × (s' ≡ with_thread mid t (go answer))
-MovesWhole s t woken (Leaves phase) s' =
-    (after : Shared) × (next : ExitPhase) × ExitStep s.size t phase (shared_of s) woken after next
-    × (s' ≡ with_thread (with_shared s after) t (Exits next))
-MovesWhole s t woken Breaks s' = ⊥
-MovesWhole s t woken Rests s' = ⊥
-
 -- one step of a thread that was made and doesn't sleep
-pub record IsWholeStep (image : Image) (s : State) (t : ℕ) (woken : List ℕ) (s' : State) : Type 0 where
+pub record IsOwnUntimed (image : Image) (s : State) (t : ℕ) (woken : List ℕ) (s' : State) : Type 0 where
   pub thread : Thread
   pub stands : s.thread t ≡ Some thread
   pub awake : s.asleep t ≡ None
   pub moves : MovesWhole s t woken (look image t thread) s'
 
 -- a step, by what it is
-abbrev pub IsWholeDone : Image → State → Step → State → Doing → Type 0
-IsWholeDone image s l s' Own = IsWholeStep image s l.thread l.woken s'
-IsWholeDone image s l s' (Strayed a) = IsStrayStep a s l s'
-IsWholeDone image s l s' (Killed begins) = IsKillStep begins s l s'
+abbrev pub IsUntimedDone : Image → State → Step → State → Doing → Type 0
+IsUntimedDone image s l s' Own = IsOwnUntimed image s l.thread l.woken s'
+IsUntimedDone image s l s' (Strayed a) = IsStrayStep a s l s'
+IsUntimedDone image s l s' (Killed begins) = IsKillStep begins s l s'
