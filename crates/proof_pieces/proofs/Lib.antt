@@ -7,4 +7,5 @@ mod Reduces
 mod Rests
 mod Runs
 mod Sleepers
+mod Times
 mod Wholly

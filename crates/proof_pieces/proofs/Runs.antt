@@ -1,16 +1,18 @@
 -- Runs in pieces are runs of whole steps.
 use Rattle.std.proofs.Common.{◌≡◌, ◌⊎◌, ℕ, ◌+◌, ◌<◌, ◌==◌, inl, inr, Option, Some, None, List, [], ◌∷◌, refl, ap, subst}
-use Rattle.std.proofs.Common.{Bool, true, false, arith}
+use Rattle.std.proofs.Common.{◌∙◌, sym, Bool, true, false, arith}
 use Rattle.std.specs.Prelude.{if◌then◌else◌}
 use Rattle.std.proofs.lemmas.Bool.{eqb-true}
 use Rattle.isa.specs.Programs.{Program}
 use Rattle.futexcalls.specs.declared.pieces.FutexPhase.TheVariants.{First}
 use Rattle.locals.specs.Threads.{Thread}
 use Rattle.machine.specs.States.{State, opening_state}
-use Rattle.machine.specs.Runs.{Step, Doing, Own, Strayed, Killed, is_paused}
+use Rattle.machine.specs.Runs.{Step, Doing, Own, Strayed, Killed, is_own}
 use Rattle.machine.specs.PieceStates.{PieceState, IsHeldRight, opening_pieces}
 use Rattle.machine.specs.PieceSteps.{IsPieceDone, IsPieceStep, GoesByPieces, PieceRun}
-use Rattle.proof_pieces.specs.Whole.{whole, whole_at, IsWholeDone, IsSilent, IsSeen, GoesWhole, Keeps, Ends, Drops, Takes}
+use Rattle.proof_pieces.specs.Traces.{TraceStep, Loud, Silent, Trace, none_taken, taken}
+use Rattle.proof_pieces.specs.Whole.{whole, whole_at}
+use Rattle.proof_pieces.specs.WholeCalls.{IsWholeDone}
 use Rattle.proof_pieces.proofs.Held.{piece_kept}
 use Rattle.proof_pieces.proofs.Outside.{strays_kept, strays_both, kills_kept, kills_both}
 use Rattle.proof_pieces.proofs.Reduces.{piece_so}
@@ -26,39 +28,40 @@ pub held_kept : (p : Program) (s s' : PieceState) (step : Step) → IsHeldRight 
     → IsHeldRight p s'
 held_kept p s s' step right h = done_kept p s s' step step.doing right h
 
+-- each step is one of the trace
+traced : (p : Program) (s s' : PieceState) (step : Step) (d : Doing) → step.doing ≡ d → IsHeldRight p s
+    → IsPieceDone p s step s' d → TraceStep p (whole p s) (taken p s) step (whole p s') (taken p s')
+traced p s s' step Own is right h =
+    elim (piece_so p s s' step.thread h.thread step.woken right h.stands h.awake step.pauses h.pauses h.piece) [
+      | inl q ↦ Silent is q.1 (λ on. let k = q.2 on in record { awake = k.awake; few = k.few; more = k.more })
+      | inr w ↦ Loud (subst (IsWholeDone p (whole p s) step (whole p s')) (sym is) w.0)
+          (λ own. record { few = w.1.few; goes_on = w.1.goes_on })
+    ]
+traced p s s' step (Strayed a) is right h = Loud
+    (subst (IsWholeDone p (whole p s) step (whole p s')) (sym is) (strays_both p a s s' step right h))
+    (λ own. absurd (let isnt : is_own (Strayed a) ≡ true = ap is_own (sym is) ∙ own in cc))
+traced p s s' step (Killed begins) is right h = Loud
+    (subst (IsWholeDone p (whole p s) step (whole p s')) (sym is) (kills_both p begins s s' step h))
+    (λ own. absurd (let isnt : is_own (Killed begins) ≡ true = ap is_own (sym is) ∙ own in cc))
+
 -- silent, or one whole step, by what the step is
 abbrev Done : Program → PieceState → Step → PieceState → Doing → Type 0
 Done p s step s' d = ((d ≡ Own) × (step.woken ≡ []) × (whole p s' ≡ whole p s))
-    ⊎ ((pauses : Bool) × IsWholeDone p (whole p s) (record step { pauses = pauses }) (whole p s') d)
+    ⊎ IsWholeDone p (whole p s) step (whole p s') d
 
 done_so : (p : Program) (s s' : PieceState) (step : Step) (d : Doing) → IsHeldRight p s → IsPieceDone p s step s' d
     → Done p s step s' d
-done_so p s s' step Own right h = elim (piece_so p s s' step.thread h.thread step.woken right h.stands h.awake h.piece) [
-  | inl q ↦ inl (refl, q.0, q.1)
-  | inr w ↦ inr (
-    is_paused (whole p s') step.thread,
-    record { thread = w.thread; stands = w.stands; awake = w.awake; moves = w.moves; pauses = w.pauses },
-  )
-]
-done_so p s s' step (Strayed a) right h =
-    let w = strays_both p a s s' step right h in
-    inr (step.pauses, record { sleeps = w.sleeps; woken = w.woken; after = w.after; pauses = w.pauses })
-done_so p s s' step (Killed begins) right h =
-    let w = kills_both p begins s s' step h in
-    inr (
-      step.pauses,
-      record {
-        thread = w.thread;
-        stands = w.stands;
-        begins_so = w.begins_so;
-        woken = w.woken;
-        after = w.after;
-        pauses = w.pauses;
-      },
-    )
+done_so p s s' step Own right h =
+    elim (piece_so p s s' step.thread h.thread step.woken right h.stands h.awake step.pauses h.pauses h.piece) [
+      | inl q ↦ inl (refl, q.0, q.1)
+      | inr w ↦ inr w.0
+    ]
+done_so p s s' step (Strayed a) right h = inr (strays_both p a s s' step right h)
+done_so p s s' step (Killed begins) right h = inr (kills_both p begins s s' step h)
 
 pub reduces : (p : Program) (s s' : PieceState) (step : Step) → IsHeldRight p s → IsPieceStep p s step s'
-    → IsSilent p s step s' ⊎ IsSeen p s step s'
+    → ((step.doing ≡ Own) × (step.woken ≡ []) × (whole p s' ≡ whole p s))
+    ⊎ IsWholeDone p (whole p s) step (whole p s') step.doing
 reduces p s s' step right h = done_so p s s' step step.doing right h
 
 outside_whole : (p : Program) (u : ℕ) (o : Option Thread) → whole_at p u First o ≡ o
@@ -83,27 +86,14 @@ opening_held p n some = record {
     by_test u false q y h = absurd cc
 
 goes : (p : Program) (steps : List Step) (s s' : PieceState) → IsHeldRight p s → GoesByPieces p s steps s'
-    → IsHeldRight p s' × ((kept : List Step) × Keeps steps kept × GoesWhole p (whole p s) kept (whole p s'))
-goes p [] s s' right e = (subst (IsHeldRight p) e right, ([], Ends, ap (whole p) e))
+    → IsHeldRight p s' × Trace p (whole p s) (taken p s) steps (whole p s')
+goes p [] s s' right e = (subst (IsHeldRight p) e right, ap (whole p) e)
 goes p (step ∷ steps) s s' right run =
-    let rest = goes p steps run.0 s' (held_kept p s run.0 step right run.1) run.2 in (
-      rest.0,
-      elim (reduces p s run.0 step right run.1) [
-        | inl q ↦ (
-          rest.1.0,
-          Drops step q.0 q.1 rest.1.1,
-          subst (λ (z : State). GoesWhole p z rest.1.0 (whole p s')) q.2 rest.1.2,
-        )
-        | inr w ↦ (
-          record step { pauses = w.0 } ∷ rest.1.0,
-          Takes step w.0 rest.1.1,
-          (whole p run.0, w.1, rest.1.2),
-        )
-      ],
-    )
+    let rest = goes p steps run.0 s' (held_kept p s run.0 step right run.1) run.2 in
+    (rest.0, (whole p run.0, taken p run.0, traced p s run.0 step step.doing refl right run.1, rest.1))
 
 pub runs_so : (p : Program) (n : ℕ) (steps : List Step) (s : PieceState) → 0 < n → PieceRun p n steps s
-    → IsHeldRight p s × ((kept : List Step) × Keeps steps kept × GoesWhole p (opening_state p) kept (whole p s))
+    → IsHeldRight p s × Trace p (opening_state p) none_taken steps (whole p s)
 runs_so p n steps s some run =
     let r = goes p steps (opening_pieces p n) s (opening_held p n some) run in
-    (r.0, (r.1.0, r.1.1, subst (λ (z : State). GoesWhole p z r.1.0 (whole p s)) (opening_whole p n) r.1.2))
+    (r.0, subst (λ (z : State). Trace p z none_taken steps (whole p s)) (opening_whole p n) r.1)

@@ -11,10 +11,10 @@ use Rattle.locals.specs.Looks.{Request, AskLoad, AskStore, AskSwap, AskCompareSw
 use Rattle.locals.specs.Looks.{AskWait, AskWake, AskRequeue, AskReturn, AskReturnValue, AskFault, Look, look}
 use Rattle.machine.specs.States.{State, with_thread, with_word}
 use Rattle.machine.specs.AbstractServing.{Serves, with_child}
-use Rattle.machine.specs.Runs.{Own, is_paused}
 use Rattle.machine.specs.PieceStates.{PieceState, call_of, call_at, called, committed, committed_at, IsHeldRight}
 use Rattle.machine.specs.PieceSteps.{goes_outside}
-use Rattle.proof_pieces.specs.Whole.{either, behind, whole_at, whole, ServesWhole, MovesWhole, IsOwnWhole}
+use Rattle.proof_pieces.specs.Whole.{either, behind, whole_at, whole}
+use Rattle.proof_pieces.specs.WholeCalls.{ServesWhole, MovesWhole, IsWholeStep}
 use Rattle.proof_pieces.proofs.Reading.{seen, seen_first, seen_second, unput}
 
 -- a state of the machine with the threads and the sleepers of the whole
@@ -43,19 +43,29 @@ whole_on p s t mid bs y free = λ k. record {
     committeds u = seen (λ j ph x. committed_at ph (called p j x)) s.phase mid.thread t First (Some y) None refl u
         ∙ unput (λ j. committed_at (s.phase j) (called p j (mid.thread j))) t None (sym free) u
 
--- a step of a thread that stands in the whole as it stands here
+-- a thread that stands in the whole as it stands here
+pub stands_whole : (p : Program) (s : PieceState) (t : ℕ) (x : Thread) (l : Look) → s.base.thread t ≡ Some x
+    → look p t x ≡ l → behind (s.phase t) l x ≡ x → (whole p s).thread t ≡ Some x
+stands_whole p s t x l stands looks same =
+    ap (whole_at p t (s.phase t)) stands ∙ ap (λ m. Some (behind (s.phase t) m x)) looks ∙ ap (λ y. Some y) same
+
+pub awake_whole : (p : Program) (s : PieceState) (t : ℕ) (x : Thread) (l : Look) → s.base.thread t ≡ Some x
+    → s.base.asleep t ≡ None → look p t x ≡ l → committed_at (s.phase t) (call_at l) ≡ None
+    → (whole p s).asleep t ≡ None
+awake_whole p s t x l stands awake looks free = ap (λ o. either o (committed p s t)) awake
+    ∙ ap (λ o. committed_at (s.phase t) (called p t o)) stands
+    ∙ ap (λ m. committed_at (s.phase t) (call_at m)) looks ∙ free
+
+-- a step of such a thread
 pub loud : (p : Program) (s : PieceState) (t : ℕ) (x : Thread) (woken : List ℕ) (l : Look) (after : State)
     → s.base.thread t ≡ Some x → s.base.asleep t ≡ None → look p t x ≡ l → behind (s.phase t) l x ≡ x
     → committed_at (s.phase t) (call_at l) ≡ None → MovesWhole (whole p s) t woken l after
-    → IsOwnWhole p (whole p s) (record { thread = t; woken = woken; pauses = is_paused after t; doing = Own }) after
+    → IsWholeStep p (whole p s) t woken after
 loud p s t x woken l after stands awake looks same free moves = record {
   thread = x;
-  stands = ap (whole_at p t (s.phase t)) stands ∙ ap (λ m. Some (behind (s.phase t) m x)) looks ∙ ap (λ y. Some y) same;
-  awake = ap (λ o. either o (committed p s t)) awake
-      ∙ ap (λ o. committed_at (s.phase t) (called p t o)) stands
-      ∙ ap (λ m. committed_at (s.phase t) (call_at m)) looks ∙ free;
+  stands = stands_whole p s t x l stands looks same;
+  awake = awake_whole p s t x l stands awake looks free;
   moves = subst (λ m. MovesWhole (whole p s) t woken m after) (sym looks) moves;
-  pauses = refl;
 }
 
 pub first_same : (ph : FutexPhase) (l : Look) (x : Thread) → ph ≡ First → behind ph l x ≡ x

@@ -1,25 +1,29 @@
 -- What is true of the machine with calls in pieces.
-use Rattle.std.specs.Prelude.{ℕ, ◌<◌, ◌≡◌, ◌⊎◌, ◌↔◌, Some, None, List}
+use Rattle.std.specs.Prelude.{ℕ, ◌<◌, ◌≡◌, ◌⊎◌, ◌↔◌, Some, None, List, []}
 use Rattle.isa.specs.Programs.{Program}
 use Rattle.machine.specs.States.{opening_state}
-use Rattle.machine.specs.Runs.{Step, CanStep, NextIsBroken}
+use Rattle.machine.specs.Runs.{Step, Own, CanStep, NextIsBroken}
 use Rattle.machine.specs.PieceStates.{PieceState, IsHeldRight, IsWithin}
 use Rattle.machine.specs.PieceSteps.{IsPieceStep, PieceRun, CanTakePiece, NextPieceIsBroken}
-use Rattle.proof_pieces.specs.Whole.{whole, IsSilent, IsSeen, GoesWhole, Keeps}
+use Rattle.proof_pieces.specs.Traces.{Trace, none_taken}
+use Rattle.proof_pieces.specs.Whole.{whole}
+use Rattle.proof_pieces.specs.WholeCalls.{IsWholeDone}
 
 -- each step keeps that buckets are held as the phases say
 abbrev pub HeldSo : Type 0
 HeldSo = (p : Program) (s s' : PieceState) (step : Step) → IsHeldRight p s → IsPieceStep p s step s' → IsHeldRight p s'
 
--- each step is silent, or one step of the whole calls
+-- each step is silent, one of its thread's own that wakes nobody and behind which the whole is as it was; or it is one
+-- step of the whole calls, by the same thread, which wakes the same
 abbrev pub ReducesSo : Type 0
 ReducesSo = (p : Program) (s s' : PieceState) (step : Step) → IsHeldRight p s → IsPieceStep p s step s'
-    → IsSilent p s step s' ⊎ IsSeen p s step s'
+    → ((step.doing ≡ Own) × (step.woken ≡ []) × (whole p s' ≡ whole p s))
+    ⊎ IsWholeDone p (whole p s) step (whole p s') step.doing
 
--- each run in pieces, with any number of buckets, is a run of whole steps: its own without silent ones
+-- each run in pieces, with any number of buckets, is a trace of steps with whole calls
 abbrev pub RunsSo : Type 0
 RunsSo = (p : Program) (n : ℕ) (steps : List Step) (s : PieceState) → 0 < n → PieceRun p n steps s
-    → IsHeldRight p s × ((kept : List Step) × Keeps steps kept × GoesWhole p (opening_state p) kept (whole p s))
+    → IsHeldRight p s × Trace p (opening_state p) none_taken steps (whole p s)
 
 -- where no thread can take a step no bucket is held, the whole is the machine's state, and no thread can step in it
 abbrev pub RestsSo : Type 0

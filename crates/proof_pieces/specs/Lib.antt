@@ -1,2 +1,4 @@
 pub mod Laws
+pub mod Traces
 pub mod Whole
+pub mod WholeCalls
