@@ -4,8 +4,8 @@ mod Held
 mod Outside
 mod Reading
 mod Reduces
-mod Rests
-mod Runs
+pub mod Rests
+pub mod Runs
 mod Sleepers
 mod Times
 mod Wholly

@@ -20,8 +20,8 @@ use Rattle.proof_thread.specs.Deferrals.{mark_of, deferred_by_step}
 use Rattle.protocol.proofs.Sleeps.{put_same, put_other}
 use Rattle.refinement.specs.Pace.{is_action_of}
 use Rattle.proof_simulation.specs.Progress.{answer_whole, visible_step}
-use Rattle.proof_simulation.specs.Traces.{TraceStep, Loud, Silent, Trace}
-use Rattle.proof_simulation.specs.WholeCalls.{IsUntimedDone}
+use Rattle.proof_pieces.specs.Traces.{TraceStep, Loud, Silent, Trace}
+use Rattle.proof_pieces.specs.WholeCalls.{IsWholeDone}
 use Rattle.proof_simulation.specs.Ordering.{Places, act}
 use Rattle.proof_simulation.specs.Ordering as P
 use Rattle.proof_simulation.specs.Deferred.{AreOwn, Stage, Agrees, is_failing, has_failed, deferred_then}
@@ -46,7 +46,7 @@ behind true deferral ks = []
 behind false deferral ks = deferred_then deferral ks
 
 -- how many actions of its process a step with whole calls takes, and what waits behind it
-abbrev pub done_count : (p : Program) → (s s' : State) → (l : Step) → (d : Doing) → IsUntimedDone (code_of p) s l s' d
+abbrev pub done_count : (p : Program) → (s s' : State) → (l : Step) → (d : Doing) → IsWholeDone (code_of p) s l s' d
     → List Kind → ℕ
 done_count p s s' l Own st ks =
     let looks = look (code_of p) l.thread st.thread in
@@ -56,7 +56,7 @@ done_count p s s' l Own st ks =
 done_count p s s' l (Strayed a) st ks = 0
 done_count p s s' l (Killed begins) st ks = 0
 
-abbrev pub done_behind : (p : Program) → (s s' : State) → (l : Step) → (d : Doing) → IsUntimedDone (code_of p) s l s' d
+abbrev pub done_behind : (p : Program) → (s s' : State) → (l : Step) → (d : Doing) → IsWholeDone (code_of p) s l s' d
     → List Kind → List Kind
 done_behind p s s' l Own st ks =
     let looks = look (code_of p) l.thread st.thread in

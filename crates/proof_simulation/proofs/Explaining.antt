@@ -29,8 +29,8 @@ use Rattle.proof_simulation.specs.Progress.{answer_in, answer_whole, visible_ste
 use Rattle.proof_simulation.specs.Progress.{progress_step, progress_taken, progress_whole_own, progress_whole}
 use Rattle.proof_simulation.specs.Progress.{progress_stray, progress_kill, progress_traced, progress_by_trace}
 use Rattle.proof_simulation.specs.Progress.{progress_of_trace}
-use Rattle.proof_simulation.specs.WholeCalls.{IsOwnUntimed, IsUntimedDone}
-use Rattle.proof_simulation.specs.Traces.{TraceStep, Loud, Silent, Trace, none_taken}
+use Rattle.proof_pieces.specs.WholeCalls.{IsWholeStep, IsWholeDone}
+use Rattle.proof_pieces.specs.Traces.{TraceStep, Loud, Silent, Trace, none_taken}
 use Rattle.program.specs.declared.kinds.Member.{Member}
 use Rattle.meaning.specs.Table.{Table}
 use Rattle.proof_thread.specs.Completing.{IsOwn}
@@ -108,7 +108,7 @@ module _ (p : Program) (w : WellFormed p) where
 
   -- a step of thread t with whole calls
   module _ (taken : ℕ) (s : State) (g : Progress) (r : IsReached p w taken s g) (t : ℕ) (woken : List ℕ) (s' : State)
-      (st : IsOwnUntimed (code_of p) s t woken s') (short : taken + 1 < 2 ^ 32) where
+      (st : IsWholeStep (code_of p) s t woken s') (short : taken + 1 < 2 ^ 32) where
     abbrev looks : Look
     looks = look (code_of p) t st.thread
 
@@ -252,7 +252,7 @@ module _ (p : Program) (w : WellFormed p) where
 
   -- what belongs to the source behind one step with whole calls
   pub record Reaches (taken : ℕ) (s : State) (g : Progress) (l : Step) (s' : State) (d : Doing)
-      (st : IsUntimedDone (code_of p) s l s' d) : Type 0 where
+      (st : IsWholeDone (code_of p) s l s' d) : Type 0 where
     pub is : IsReached p w (suc taken) s' (progress_whole p s s' l d st g)
     pub strays : processes_of is_stray_kind (progress_whole p s s' l d st g).actions
         ≡ processes_of is_stray_kind g.actions ++ strays_of p l d
@@ -436,7 +436,7 @@ module _ (p : Program) (w : WellFormed p) where
       }) st
 
   reaches : (taken : ℕ) (s : State) (g : Progress) → IsReached p w taken s g → (l : Step) (s' : State) (d : Doing)
-      (st : IsUntimedDone (code_of p) s l s' d) → taken + 1 < 2 ^ 32 → Reaches taken s g l s' d st
+      (st : IsWholeDone (code_of p) s l s' d) → taken + 1 < 2 ^ 32 → Reaches taken s g l s' d st
   reaches taken s g r l s' Own st short =
       let x = step_so taken s g r l.thread l.woken s' st short in
       let looks = look (code_of p) l.thread st.thread in

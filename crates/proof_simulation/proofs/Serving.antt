@@ -43,7 +43,7 @@ use Rattle.proof_templates.specs.Asking.{machine_request, machine_answer}
 use Rattle.proof_templates.proofs.Layouts.{apart, number_is}
 use Rattle.proof_templates.proofs.Addresses.{variable_apart}
 use Rattle.proof_simulation.specs.Serving.{IsAskable, Keeps, IsServed}
-use Rattle.proof_simulation.specs.WholeCalls.{ServesWhole}
+use Rattle.proof_pieces.specs.WholeCalls.{ServesWhole}
 use Rattle.proof_simulation.proofs.Pigeons.{short}
 
 -- what is served for a request, whatever point asks it

@@ -34,7 +34,7 @@ use Rattle.proof_simulation.specs.Standing as S
 use Rattle.proof_simulation.specs.Standing.{StandsAt}
 use Rattle.proof_simulation.specs.Ranks.{more_steps, steps_left}
 use Rattle.proof_simulation.specs.Corresponding.{Corresponds}
-use Rattle.proof_simulation.specs.Traces.{pieces_before, pieces_of}
+use Rattle.proof_pieces.specs.Traces.{pieces_before, pieces_of}
 use Rattle.proof_simulation.proofs.Standings.{first_in}
 use Rattle.proof_simulation.proofs.Moving.{left_of}
 use Rattle.proof_simulation.proofs.Ranking.{spare_at, spare_step}

@@ -8,7 +8,7 @@ use Rattle.program.specs.Trees.{Program}
 use Rattle.lowering.specs.Pieces.{code_of, marks_of}
 use Rattle.proof_thread.specs.Deferrals.{mark_of, deferred_by_step}
 use Rattle.proof_simulation.specs.Ordering.{raises_number}
-use Rattle.proof_simulation.specs.Traces.{KeepsTime, Loud, Trace, none_taken}
+use Rattle.proof_pieces.specs.Traces.{KeepsTime, Loud, Trace, none_taken}
 use Rattle.proof_simulation.specs.Progress.{Progress, visible_step, progress_step, progress_own, progress_done}
 use Rattle.proof_simulation.specs.Progress.{progress_by, progress_whole_own, progress_whole, progress_by_trace}
 use Rattle.proof_simulation.proofs.WholeCalls.{whole_own, whole_done, answer_same}

@@ -33,8 +33,8 @@ use Rattle.proof_simulation.proofs.Ranking.{spare_step}
 use Rattle.proof_simulation.proofs.Spares.{few_pieces, spared_at, spares, left_in_trace, trace_few, trace_less}
 use Rattle.proof_simulation.proofs.Spares.{trace_none, trace_one}
 use Rattle.proof_simulation.proofs.Traces.{trace_of}
-use Rattle.proof_simulation.specs.WholeCalls.{IsUntimedDone}
-use Rattle.proof_simulation.specs.Traces.{pieces_of, KeepsTime, TakesPiece, TraceStep, Loud, Silent, Trace, none_taken}
+use Rattle.proof_pieces.specs.WholeCalls.{IsWholeDone}
+use Rattle.proof_pieces.specs.Traces.{pieces_of, KeepsTime, TakesPiece, TraceStep, Loud, Silent, Trace, none_taken}
 use Rattle.proof_simulation.proofs.Bounds.{left_few, left_short}
 use Rattle.proof_simulation.proofs.Paces.{Trail, rests, goes, keeps_pace}
 use Rattle.proof_simulation.proofs.Opening.{opens}
@@ -178,7 +178,7 @@ module _ (p : Program) (w : WellFormed p) where
 
   -- what belongs to the state behind one step with whole calls
   pub record StepCome (steps : ℕ) (s : State) (c : SourceState) (k : Corresponds p w steps s c) (l : Step) (s' : State)
-      (d : Doing) (st : IsUntimedDone (code_of p) s l s' d) : Type 0 where
+      (d : Doing) (st : IsWholeDone (code_of p) s l s' d) : Type 0 where
     pub after : SourceState
     pub ties : Corresponds p w (suc steps) s' after
     pub kinds : List Kind
@@ -196,7 +196,7 @@ module _ (p : Program) (w : WellFormed p) where
     pub kills : processes_of is_kill_kind (map (act l.thread) kinds) ≡ kills_of l d
 
   step_come : (steps : ℕ) (s : State) (c : SourceState) (k : Corresponds p w steps s c) (l : Step) (s' : State)
-      (d : Doing) (st : IsUntimedDone (code_of p) s l s' d) → steps + 1 < 2 ^ 32 → StepCome steps s c k l s' d st
+      (d : Doing) (st : IsWholeDone (code_of p) s l s' d) → steps + 1 < 2 ^ 32 → StepCome steps s c k l s' d st
   step_come steps s c k l s' Own st short =
       let t = l.thread in
       let looks = look (code_of p) t st.thread in
@@ -322,17 +322,22 @@ module _ (p : Program) (w : WellFormed p) where
 
   -- fewer steps are left behind a loud one, where it has no action
   loud_paced : (steps : ℕ) (s : State) (c : SourceState) (k : Corresponds p w steps s c) (taken : ℕ → ℕ) (l : Step)
-      (s' : State) (next : ℕ → ℕ) (st : IsUntimedDone (code_of p) s l s' l.doing)
+      (s' : State) (next : ℕ → ℕ) (st : IsWholeDone (code_of p) s l s' l.doing)
       (n : StepCome steps s c k l s' l.doing st) → KeepsTime (code_of p) s taken l s' → l.pauses ≡ false
       → is_own l.doing ≡ true
       → AreOwn n.kinds × (IsSome n.kinds ⊎ (left_along n.ties next l.thread < left_along k taken l.thread))
-  loud_paced steps s c k taken l s' next st n time awake own = ((n.paced own).1, by_time (time.goes_on awake))
+  loud_paced steps s c k taken l s' next st n time awake own = ((n.paced own).1, by_time (told (time.goes_on awake)))
     where
       t : ℕ
       t = l.thread
 
       pieces : ℕ
       pieces = pieces_of (code_of p) t (s.thread t)
+
+      told : (is_paused s' t ≡ false) ⊎ ((0 < pieces) × (a : ℕ) × (s'.asleep t ≡ Some a))
+          → (is_paused s' t ≡ false) ⊎ ((0 < pieces) × Sleeps s' t)
+      told (inl e) = inl e
+      told (inr (some, a, is)) = inr (some, (a, is))
 
       by_time : (is_paused s' t ≡ false) ⊎ ((0 < pieces) × Sleeps s' t)
           → IsSome n.kinds ⊎ (left_along n.ties next t < left_along k taken t)

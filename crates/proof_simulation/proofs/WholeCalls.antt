@@ -9,7 +9,7 @@ use Rattle.lowering.specs.Pieces.{code_of}
 use Rattle.lowering.specs.declared.mark.Mark.{Mark}
 use Rattle.meaning.specs.Labels.{Kind}
 use Rattle.proof_thread.specs.Deferrals.{deferred_by_step}
-use Rattle.proof_simulation.specs.WholeCalls.{ServesWhole, MovesWhole, IsOwnUntimed, IsUntimedDone}
+use Rattle.proof_pieces.specs.WholeCalls.{ServesWhole, MovesWhole, IsWholeStep, IsWholeDone}
 use Rattle.proof_simulation.specs.Ordering.{StepsSo, StepsWhole, raises_number}
 use Rattle.proof_simulation.specs.Progress.{answer_in, answer_whole, visible_step}
 
@@ -41,7 +41,7 @@ moves_whole s t woken Breaks s' g = g
 moves_whole s t woken Rests s' g = g
 
 abbrev pub whole_own : (p : Program) → (s : State) → (l : Step) → (s' : State) → IsOwnStep (code_of p) s l s'
-    → IsOwnUntimed (code_of p) s l.thread l.woken s'
+    → IsWholeStep (code_of p) s l.thread l.woken s'
 whole_own p s l s' st = record {
   thread = st.thread;
   stands = st.stands;
@@ -50,7 +50,7 @@ whole_own p s l s' st = record {
 }
 
 abbrev pub whole_done : (p : Program) → (s : State) → (l : Step) → (s' : State) → (d : Doing)
-    → IsDone (code_of p) s l s' d → IsUntimedDone (code_of p) s l s' d
+    → IsDone (code_of p) s l s' d → IsWholeDone (code_of p) s l s' d
 whole_done p s l s' Own st = whole_own p s l s' st
 whole_done p s l s' (Strayed a) st = st
 whole_done p s l s' (Killed begins) st = st

@@ -14,7 +14,7 @@ use Rattle.proof_commutation.specs.Placed.{actions_up_to}
 use Rattle.proof_simulation.specs.Deferred.{raised_at}
 use Rattle.proof_simulation.specs.Ordering.{Resumes}
 use Rattle.proof_simulation.specs.Progress.{Progress, progress, progress_caught_up, progress_of_trace}
-use Rattle.proof_simulation.specs.Traces.{Trace, none_taken}
+use Rattle.proof_pieces.specs.Traces.{Trace, none_taken}
 use Rattle.proof_simulation.specs.Tracking.{CanTake, Tracks}
 
 -- all actions that the source has come to, and then what is deferred

@@ -1,5 +1,3 @@
-pub mod WholeCalls
-pub mod Traces
 pub mod Deferred
 pub mod Ordering
 pub mod Killing
@@ -13,3 +11,4 @@ pub mod Progress
 pub mod Explaining
 pub mod Serving
 pub mod Strays
+pub mod PieceRuns

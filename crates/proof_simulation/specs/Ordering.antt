@@ -29,7 +29,7 @@ use Rattle.lowering.specs.declared.mark.Mark.{Mark}
 use Rattle.proof_thread.specs.Deferrals.{deferred_by_mark, deferred_by_request}
 use Rattle.meaning.specs.Labels.{Fails}
 pub use Rattle.refinement.specs.Outside.{any_below}
-use Rattle.proof_simulation.specs.WholeCalls.{ServesWhole}
+use Rattle.proof_pieces.specs.WholeCalls.{ServesWhole}
 use Rattle.proof_simulation.specs.Deferred.{Stage, Works, Meets, Agrees, Stays, is_failing}
 use Rattle.proof_simulation.specs.Deferred as W
 

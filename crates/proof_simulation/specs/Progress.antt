@@ -16,8 +16,8 @@ use Rattle.proof_simulation.specs.Kills.{killed_last, killed_resumed, after_kill
 use Rattle.proof_simulation.specs.Next.{after_next, next_kinds, next_visible, offer_of_process, take_deferred}
 use Rattle.proof_simulation.specs.Ordering.{act, completes, completes_exit, raises_number}
 use Rattle.proof_simulation.specs.Deferred.{deferred_then, raised_then}
-use Rattle.proof_simulation.specs.WholeCalls.{MovesWhole, IsOwnUntimed, IsUntimedDone}
-use Rattle.proof_simulation.specs.Traces.{TraceStep, Loud, Silent, Trace, none_taken}
+use Rattle.proof_pieces.specs.WholeCalls.{MovesWhole, IsWholeStep, IsWholeDone}
+use Rattle.proof_pieces.specs.Traces.{TraceStep, Loud, Silent, Trace, none_taken}
 
 -- the answer to what a step asks
 abbrev pub answer_in : (s s' : State) (t : ℕ) (woken : List ℕ) (l : Look) → Moves s t woken l s' → ℕ
@@ -143,7 +143,7 @@ progress p steps s run = progress_by p (opening_progress p) steps (opening_state
 
 -- behind a step of thread t with whole calls
 abbrev pub progress_whole_own : (p : Program) → (s s' : State) → (t : ℕ) → (woken : List ℕ)
-    → IsOwnUntimed (code_of p) s t woken s' → Progress → Progress
+    → IsWholeStep (code_of p) s t woken s' → Progress → Progress
 progress_whole_own p s s' t woken st g =
     let looks = look (code_of p) t st.thread in
     let answer = answer_whole s s' t woken looks st.moves in
@@ -152,7 +152,7 @@ progress_whole_own p s s' t woken st g =
 
 -- behind a step with whole calls, by what it is
 abbrev pub progress_whole : (p : Program) → (s s' : State) → (l : Step) → (d : Doing)
-    → IsUntimedDone (code_of p) s l s' d → Progress → Progress
+    → IsWholeDone (code_of p) s l s' d → Progress → Progress
 progress_whole p s s' l Own st g = progress_whole_own p s s' l.thread l.woken st g
 progress_whole p s s' l (Strayed a) st g = progress_done p s s' l (Strayed a) st g
 progress_whole p s s' l (Killed begins) st g = progress_done p s s' l (Killed begins) st g

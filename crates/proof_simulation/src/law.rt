@@ -4,6 +4,8 @@ ghost use Rattle.proof_commutation.specs.Deferring.{is_internal};
 ghost use Rattle.proof_thread.specs.Variables.{IsVariable, variable_address};
 ghost use Rattle.locals.specs.Looks.{look};
 ghost use Rattle.locals.specs.Threads.{Thread, is_dying};
+ghost use Rattle.machine.specs.PieceStates.{PieceState};
+ghost use Rattle.machine.specs.PieceSteps.{PieceRun};
 ghost use Rattle.machine.specs.Runs.{IsOwnStep, MachineRun, Step};
 ghost use Rattle.machine.specs.States.{State, opening_state};
 ghost use Rattle.meaning.specs.Labels.{Kind, Label, kind_of};
@@ -15,8 +17,9 @@ ghost use Rattle.proof_simulation.specs.Corresponding.{Corresponds};
 ghost use Rattle.proof_commutation.specs.Placed.{actions_up_to};
 ghost use Rattle.proof_thread.specs.Deferrals.{mark_of};
 ghost use Rattle.proof_simulation.specs.Explaining.{IsDue, IsReached, explanation, explanation_of_trace};
+ghost use Rattle.proof_simulation.specs.PieceRuns.{ExplainedPieces};
 ghost use Rattle.proof_simulation.specs.Progress.{Progress, answer_in, visible_step, progress, progress_of_trace};
-ghost use Rattle.proof_simulation.specs.Traces.{Trace, none_taken};
+ghost use Rattle.proof_pieces.specs.Traces.{Trace, none_taken};
 ghost use Rattle.words.specs.Updates.{put};
 ghost use Rattle.proof_simulation.specs.Tracking.{CanTake, HasDeferred, RaisedSo, Tracks, TracksKill, TracksStray};
 ghost use Rattle.proof_simulation.specs.Strays.{stray_condition};
@@ -169,4 +172,13 @@ pub fn traces_explain()
         → length steps < 2 ^ 32
         → (e : Explained p (code_of p) steps s)
         × (e.actions ≡ explanation_of_trace p steps s trace) }
+{}
+
+/// Each run whose futex calls are taken in pieces, with any number of buckets, of fewer than 2^32 steps, is explained by
+/// a run of the program, in all that `Refines` says: a call takes the buckets of its words, compares and acts in steps
+/// of its own, and steps of other threads, wakes that nobody called for and kills come between. No code takes such
+/// steps yet.
+pub fn piece_runs_explain()
+    ensures { (p : Program) → WellFormed p → (n : ℕ) (steps : List Step) (s : PieceState) → 0 < n
+        → PieceRun (code_of p) n steps s → length steps < 2 ^ 32 → ExplainedPieces p steps s }
 {}

@@ -4,4 +4,6 @@
 
 mod law;
 
-pub use law::{code_refines, run_explains, source_follows, source_waits, traces_explain};
+pub use law::{
+    code_refines, piece_runs_explain, run_explains, source_follows, source_waits, traces_explain,
+};
