@@ -27,7 +27,8 @@ pub inside_table : (nodes : Slab Node) (chains : List Chain) (places : List (Opt
 unfolding bucket_count
 inside_table nodes chains places holders k h = h
 
-pub changed : (nodes : Slab Node) (chains : List Chain) (places : List (Option Addr)) (holders : List (Option ℕ)) (k : ℕ)
+pub changed : (nodes : Slab Node) (chains : List Chain) (places : List (Option Addr)) (holders : List (Option ℕ))
+    (k : ℕ)
     (v : Option ℕ) → IsStored nodes chains places holders → k < length holders
     → IsStored nodes chains places (set holders k v)
     × Changed (seen nodes chains places holders) (seen nodes chains places (set holders k v)) k v

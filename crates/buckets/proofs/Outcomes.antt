@@ -65,11 +65,14 @@ pub no_entry : (o : Option Addr) → option_map (λ x. x.0) o ≡ None → o ≡
 no_entry None h = refl
 no_entry (Some x) h = absurd cc
 
-pub enqueued : (places : List (Option Addr)) (rows : List (List Sleeper)) (holders : List (Option ℕ)) (s : Sleeper) (k : ℕ)
-    → IsConsistent places rows → length holders ≡ length rows → 1 ≤ s.thread → s.thread < length places → get_or places s.thread None ≡ None → k ≡ s.address.0 % length rows
+pub enqueued : (places : List (Option Addr)) (rows : List (List Sleeper)) (holders : List (Option ℕ)) (s : Sleeper)
+    (k : ℕ)
+    → IsConsistent places rows → length holders ≡ length rows → 1 ≤ s.thread → s.thread < length places → get_or places
+    s.thread None ≡ None → k ≡ s.address.0 % length rows
     → IsConsistent (set places s.thread (Some s.address)) (set rows k (get_or rows k [] ++ s ∷ [])) × Entered
     (shown places rows holders)
-    (shown (set places s.thread (Some s.address)) (set rows k (get_or rows k [] ++ s ∷ [])) holders) s.thread s.address.0
+    (shown (set places s.thread (Some s.address)) (set rows k (get_or rows k [] ++ s ∷ [])) holders) s.thread
+    s.address.0
 unfolding queue place_of thread_count
 enqueued places rows holders s k i held one inside free is =
     let l : k < length rows = omega (arith, is, mod_lt s.address.0 (length rows) i.some) in
@@ -91,8 +94,10 @@ enqueued places rows holders s k i held one inside free is =
       },
     )
 
-pub dropped : (places : List (Option Addr)) (rows : List (List Sleeper)) (holders : List (Option ℕ)) (t k : ℕ) (a : Addr)
-    → IsConsistent places rows → length holders ≡ length rows → t < length places → get_or places t None ≡ Some a → k ≡ a.0 % length rows → IsConsistent (set places t None)
+pub dropped : (places : List (Option Addr)) (rows : List (List Sleeper)) (holders : List (Option ℕ)) (t k : ℕ)
+    (a : Addr)
+    → IsConsistent places rows → length holders ≡ length rows → t < length places → get_or places t None ≡ Some a → k
+    ≡ a.0 % length rows → IsConsistent (set places t None)
     (set rows k (others t (get_or rows k []))) × Dropped (shown places rows holders)
     (shown (set places t None) (set rows k (others t (get_or rows k []))) holders) t
 unfolding queue place_of thread_count
@@ -102,7 +107,8 @@ dropped places rows holders t k a i held inside sleeps is =
     let r : Replaces places (set places t None) (length rows) k row' = rw is (drops places rows t a i inside sleeps) in
     let i' : IsConsistent (set places t None) (set rows k row') = replaced places _ rows k row' i l r in
     let here : (b : ℕ) → names (on b (concatenation rows)) t ≡ true → a.0 ≡ b = λ b h. let
-    at = (sound places rows holders i held).agree.sleeps t b h in let at' : Some a.0 ≡ Some b = rw sleeps at at in cc in (
+    at = (sound places rows holders i held).agree.sleeps t b h in let at' : Some a.0 ≡ Some b = rw sleeps
+    at at in cc in (
       i',
       record {
         queues = λ b. on-replaced places _ rows k row' i i' l b _

@@ -145,7 +145,8 @@ held_rows nodes chains places holders i = i.held ∙ sym (length-rows (get nodes
 pub sound_in : (nodes : Slab Node) (chains : List Chain) (places : List (Option Addr)) (holders : List (Option ℕ))
     → IsStored nodes chains places holders → IsSound (seen nodes chains places holders)
 sound_in nodes chains places holders i =
-    sound places (rows (get nodes) (length places - 1) chains) holders i.consistent (held_rows nodes chains places holders i)
+    sound places (rows (get nodes) (length places - 1) chains) holders i.consistent
+    (held_rows nodes chains places holders i)
 
 -- a chain and its list, among those of all
 row_of_old : (nodes : Slab Node) (most k : ℕ) (chains : List Chain) (old : Chain) → k < length chains
@@ -157,13 +158,15 @@ chained_old : (nodes : Slab Node) (most k : ℕ) (chains : List Chain) (old : Ch
 chained_old nodes most k chains old all l e = rw (← e) at (all k old l)
 
 -- a number that contracts allow lies in the table
-pub in_places : (nodes : Slab Node) (chains : List Chain) (places : List (Option Addr)) (holders : List (Option ℕ)) (t : ℕ) → IsStored nodes chains
+pub in_places : (nodes : Slab Node) (chains : List Chain) (places : List (Option Addr)) (holders : List (Option ℕ))
+    (t : ℕ) → IsStored nodes chains
     places holders → t ≤ thread_count (seen nodes chains places holders) → t < length places
 unfolding thread_count
 in_places nodes chains places holders t i h = omega (arith, h, i.consistent.threads)
 
 -- a thread that contracts say is awake has no place in the table
-pub free_in : (nodes : Slab Node) (chains : List Chain) (places : List (Option Addr)) (holders : List (Option ℕ)) (t : ℕ) → place_of
+pub free_in : (nodes : Slab Node) (chains : List Chain) (places : List (Option Addr)) (holders : List (Option ℕ))
+    (t : ℕ) → place_of
     (seen nodes chains places holders) t ≡ None → get_or places t None ≡ None
 unfolding place_of
 free_in nodes chains places holders t h = no_entry (get_or places t None) h
@@ -176,8 +179,10 @@ pub record Known (nodes : Slab Node) (chains : List Chain) (places : List (Optio
     pub chain : IsChain (get nodes) (length places - 1) old
     pub once : Once (row_of (get nodes) (length places - 1) old)
 
-pub known : (nodes : Slab Node) (chains : List Chain) (places : List (Option Addr)) (holders : List (Option ℕ)) (a k : ℕ) (old : Chain)
-    → IsStored nodes chains places holders → k ≡ a % length chains → old ≡ get_or chains k old → Known nodes chains places k old
+pub known : (nodes : Slab Node) (chains : List Chain) (places : List (Option Addr)) (holders : List (Option ℕ))
+    (a k : ℕ) (old : Chain)
+    → IsStored nodes chains places holders → k ≡ a % length chains → old ≡ get_or chains k old → Known nodes chains
+    places k old
 known nodes chains places holders a k old i ek eo =
     let most = length places - 1 in
     let long = length-rows (get nodes) most chains in
@@ -192,7 +197,8 @@ known nodes chains places holders a k old i ek eo =
     }
 
 -- the threads of a chain that sleep on an address of its bucket are those that contracts see
-pub queue_in : (nodes : Slab Node) (chains : List Chain) (places : List (Option Addr)) (holders : List (Option ℕ)) (a k : ℕ) (old : Chain)
+pub queue_in : (nodes : Slab Node) (chains : List Chain) (places : List (Option Addr)) (holders : List (Option ℕ))
+    (a k : ℕ) (old : Chain)
     → IsStored nodes chains places holders → k ≡ a % length chains → old ≡ get_or chains k old
     → on a (row_of (get nodes) (length places - 1) old) ≡ queue (seen nodes chains places holders) a
 unfolding queue
@@ -202,25 +208,37 @@ queue_in nodes chains places holders a k old i ek eo =
     (rw (length-rows (get nodes) (length places - 1) chains) (sym ek))
 
 -- there is a bucket
-pub some_chain : (nodes : Slab Node) (chains : List Chain) (places : List (Option Addr)) (holders : List (Option ℕ)) → IsStored nodes chains places holders
+pub some_chain : (nodes : Slab Node) (chains : List Chain) (places : List (Option Addr)) (holders : List (Option ℕ))
+    → IsStored nodes chains places holders
     → 1 ≤ length chains
-some_chain nodes chains places holders i = omega (arith, i.consistent.some, length-rows (get nodes) (length places - 1) chains)
+some_chain nodes chains places holders i = omega (
+  arith,
+  i.consistent.some,
+  length-rows (get nodes) (length places - 1)
+      chains,
+)
 
 -- who sleeps on an address stands in the chain of its bucket
-pub stands_in : (nodes : Slab Node) (chains : List Chain) (places : List (Option Addr)) (holders : List (Option ℕ)) (t : ℕ) (a : Addr) (k : ℕ)
-    (old : Chain) → IsStored nodes chains places holders → k ≡ a.0 % length chains → old ≡ get_or chains k old → get_or places t
+pub stands_in : (nodes : Slab Node) (chains : List Chain) (places : List (Option Addr)) (holders : List (Option ℕ))
+    (t : ℕ) (a : Addr) (k : ℕ)
+    (old : Chain) → IsStored nodes chains places holders → k ≡ a.0 % length chains → old ≡ get_or chains k old → get_or
+    places t
     None ≡ Some a → among t (row_of (get nodes) (length places - 1) old) ≡ true
 stands_in nodes chains places holders t a k old i ek eo at =
     let kn = known nodes chains places holders a.0 k old i ek eo in
     rw kn.row_is at (rw (length-rows (get nodes) (length places - 1) chains, ← ek) at (i.consistent.found t a at))
 
 -- a thread comes to its bucket
-pub entered : (nodes nodes' : Slab Node) (chains : List Chain) (places : List (Option Addr)) (holders : List (Option ℕ)) (s : Sleeper) (k : ℕ)
-    (old c : Chain) → IsStored nodes chains places holders → 1 ≤ s.thread → s.thread < length places → get_or places s.thread None
+pub entered : (nodes nodes' : Slab Node) (chains : List Chain) (places : List (Option Addr)) (holders : List (Option ℕ))
+    (s : Sleeper) (k : ℕ)
+    (old c : Chain) → IsStored nodes chains places holders → 1 ≤ s.thread → s.thread < length places → get_or places
+    s.thread None
     ≡ None → k ≡ s.address.0 % length chains → old ≡ get_or chains k old
     → ((row : List Sleeper) → Chained (get nodes) old row → Once row → Rechained nodes nodes' row (row ++ s ∷ []) c)
-    → slab_len nodes' ≡ slab_len nodes + 1 → IsStored nodes' (set chains k c) (set places s.thread (Some s.address)) holders
-    × Entered (seen nodes chains places holders) (seen nodes' (set chains k c) (set places s.thread (Some s.address)) holders) s.thread
+    → slab_len nodes' ≡ slab_len nodes + 1 → IsStored nodes' (set chains k c) (set places s.thread (Some s.address))
+    holders
+    × Entered (seen nodes chains places holders) (seen nodes' (set chains k c) (set places s.thread (Some s.address))
+    holders) s.thread
     s.address.0
 entered nodes nodes' chains places holders s k old c i one inside free ek eo re len =
     let most = length places - 1 in
@@ -251,7 +269,8 @@ entered nodes nodes' chains places holders s k old c i one inside free ek eo re 
     )
 
 -- and leaves it
-pub gone : (nodes nodes' : Slab Node) (chains : List Chain) (places : List (Option Addr)) (holders : List (Option ℕ)) (t k : ℕ) (a : Addr)
+pub gone : (nodes nodes' : Slab Node) (chains : List Chain) (places : List (Option Addr)) (holders : List (Option ℕ))
+    (t k : ℕ) (a : Addr)
     (old c : Chain) → IsStored nodes chains places holders → t < length places → get_or places t None ≡ Some a
     → k ≡ a.0 % length chains → old ≡ get_or chains k old
     → Rechained nodes nodes' (row_of (get nodes) (length places - 1) old)
@@ -298,7 +317,8 @@ pub made : (nodes : Slab Node) (chains : List Chain) (places : List (Option Addr
     (n threads : ℕ) → nodes.slots ≡ []
     → chains ≡ replicate n nobody_in → places ≡ replicate (threads + 1) nobody_at
     → holders ≡ replicate n no_holder → threads ≤ nodes.capacity
-    → threads ≤ most_threads → 1 ≤ n → IsStored nodes chains places holders × Opened (seen nodes chains places holders) threads n
+    → threads ≤ most_threads → 1 ≤ n → IsStored nodes chains places holders × Opened (seen nodes chains places holders)
+    threads n
 made nodes chains places holders n threads es ec ep eh room few some =
     let none = rows-nobody (get nodes) (length places - 1) n in (
       record {

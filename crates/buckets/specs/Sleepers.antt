@@ -8,8 +8,8 @@ use Rattle.words.specs.declared.mem.Addr.{Addr}
 use Rattle.buckets.specs.declared.sleeper.Sleeper.{Sleeper}
 use Rattle.buckets.specs.Places.{Agree}
 
--- for each thread from 0 where it sleeps; the sleepers, those of one address in the order of their arrival; and for each
--- bucket from 0 its holder
+-- for each thread from 0 where it sleeps; the sleepers, those of one address in the order of their arrival; and for
+-- each bucket from 0 its holder
 pub record Sleepers : Type 0 where
   pub places : List (Option Addr)
   pub waiting : List Sleeper

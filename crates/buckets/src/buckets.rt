@@ -1,5 +1,5 @@
-ghost use Rattle.std.specs.Prelude.{◌≡◌, ◌≢◌, ℕ, ◌<◌, ◌≤◌, ◌%◌, ◌++◌, ◌∷◌, [], ◌↔◌, ◌==◌, not, None, Some, if◌then◌else◌};
-ghost use Rattle.std.specs.Prelude.{length, take, drop, slice_get, IfOk, IsTrue};
+ghost use Rattle.std.specs.Prelude.{◌≡◌, ◌≢◌, ℕ, ◌<◌, ◌≤◌, ◌%◌, ◌++◌, ◌∷◌, [], ◌↔◌, ◌==◌, not, None, Some};
+ghost use Rattle.std.specs.Prelude.{if◌then◌else◌, length, take, drop, slice_get, IfOk, IsTrue};
 ghost use Rattle.std.specs.List.{filter};
 ghost use Rattle.std.specs.Option.{option_map};
 ghost use Rattle.buckets.specs.Places.{with_place};
@@ -60,7 +60,8 @@ impl Buckets {
         matches!(n, 1 | 2 | 4 | 8 | 16 | 32 | 64 | 128 | 256)
     }
 
-    /// `n` buckets, which nobody holds, with nobody asleep, and room for `threads` threads, with the numbers from 1 to `threads`.
+    /// `n` buckets, which nobody holds, with nobody asleep, and room for `threads` threads, with the numbers from 1 to
+    /// `threads`.
     pub fn new(alloc: Global, n: u32, threads: u32) -> Result<Buckets, AllocError>
         requires allowed { IsBucketCount n }
         requires few { threads ≤ MOST_THREADS }

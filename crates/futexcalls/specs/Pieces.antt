@@ -1,6 +1,7 @@
--- A futex call in pieces, of n buckets, where the bucket of an address is its rest by n: which buckets the call takes, in
--- rising order, when it compares, and what its act does.
-use Rattle.std.specs.Prelude.{◌≡◌, ◌≢◌, ℕ, ◌%◌, ◌<◌, ◌==◌, nat_le, if◌then◌else◌, Option, Some, None, List, [], ◌∷◌, take}
+-- A futex call in pieces, of n buckets, where the bucket of an address is its rest by n: which buckets the call takes,
+-- in rising order, when it compares, and what its act does.
+use Rattle.std.specs.Prelude.{◌≡◌, ◌≢◌, ℕ, ◌%◌, ◌<◌, ◌==◌, nat_le, if◌then◌else◌, Option, Some, None, List, [], ◌∷◌}
+use Rattle.std.specs.Prelude.{take}
 use Rattle.buckets.specs.Places.{with_place}
 use Rattle.futexcalls.specs.declared.pieces.FutexCall.{FutexCall}
 use Rattle.futexcalls.specs.declared.pieces.FutexCall.TheVariants.{Wait, Wake, Requeue}

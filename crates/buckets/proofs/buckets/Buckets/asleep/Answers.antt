@@ -19,7 +19,8 @@ pub returns : goal.returns
 unfolding place_of
 returns c =
     let b = c.self.inside in
-    let l = in_places b.nodes b.chains.items b.places.items b.holders.items c.args.thread c.self.invariant (rw c.self.view_is c.requires)
+    let l = in_places b.nodes b.chains.items b.places.items b.holders.items c.args.thread c.self.invariant
+    (rw c.self.view_is c.requires)
     in
     rw (← c.self.view_is) (record {
       value = ap (option_map (λ a. a.0)) (get_or_read b.places.items c.args.thread c.index.result.now l

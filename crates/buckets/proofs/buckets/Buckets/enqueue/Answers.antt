@@ -12,8 +12,10 @@ append-requires c =
     let old = c.index.result.now in
     let ek : c.bucket_of-bucket.result ≡ c.args.a.0 % length b.chains.items = c.bucket_of-bucket.ensures
     ∙ ap (λ n. c.args.a.0 % n) (omega arith) in
-    let inside = in_places b.nodes b.chains.items b.places.items b.holders.items c.args.t i (rw c.self.view_is c.requires.in_range.1) in
-    let free = free_in b.nodes b.chains.items b.places.items b.holders.items c.args.t (rw c.self.view_is c.requires.awake) in
+    let inside = in_places b.nodes b.chains.items b.places.items b.holders.items c.args.t i
+    (rw c.self.view_is c.requires.in_range.1) in
+    let free = free_in b.nodes b.chains.items b.places.items b.holders.items c.args.t
+    (rw c.self.view_is c.requires.awake) in
     record {
       room = omega (
         arith,
@@ -21,7 +23,8 @@ append-requires c =
         i.room,
         room_for b.places.items c.args.t c.args.a c.requires.in_range.0 inside i.consistent.no_zero free,
       );
-      last = last_there (get b.nodes) old.first _ old.last None (known b.nodes b.chains.items b.places.items b.holders.items c.args.a.0
+      last = last_there (get b.nodes) old.first _ old.last None
+          (known b.nodes b.chains.items b.places.items b.holders.items c.args.a.0
           c.bucket_of-bucket.result old i ek c.index.ensures).chain;
     }
 
@@ -40,9 +43,12 @@ invariant_of-self c =
     let i = c.self.invariant in
     let ek : c.bucket_of-bucket.result ≡ c.args.a.0 % length b.chains.items = c.bucket_of-bucket.ensures
     ∙ ap (λ n. c.args.a.0 % n) (omega arith) in
-    let inside = in_places b.nodes b.chains.items b.places.items b.holders.items c.args.t i (rw c.self.view_is c.requires.in_range.1) in
-    let free = free_in b.nodes b.chains.items b.places.items b.holders.items c.args.t (rw c.self.view_is c.requires.awake) in
-    (entered b.nodes c.append.new.nodes b.chains.items b.places.items b.holders.items (record { thread = c.args.t; address = c.args.a })
+    let inside = in_places b.nodes b.chains.items b.places.items b.holders.items c.args.t i
+    (rw c.self.view_is c.requires.in_range.1) in
+    let free = free_in b.nodes b.chains.items b.places.items b.holders.items c.args.t
+    (rw c.self.view_is c.requires.awake) in
+    (entered b.nodes c.append.new.nodes b.chains.items b.places.items b.holders.items
+    (record { thread = c.args.t; address = c.args.a })
     c.bucket_of-bucket.result c.index.result.now c.append.result i c.requires.in_range.0 inside free ek c.index.ensures
     c.append.ensures.chained c.append.ensures.len).0
 
@@ -52,8 +58,10 @@ returns c =
     let i = c.self.invariant in
     let ek : c.bucket_of-bucket.result ≡ c.args.a.0 % length b.chains.items = c.bucket_of-bucket.ensures
     ∙ ap (λ n. c.args.a.0 % n) (omega arith) in
-    let inside = in_places b.nodes b.chains.items b.places.items b.holders.items c.args.t i (rw c.self.view_is c.requires.in_range.1) in
-    let free = free_in b.nodes b.chains.items b.places.items b.holders.items c.args.t (rw c.self.view_is c.requires.awake) in
+    let inside = in_places b.nodes b.chains.items b.places.items b.holders.items c.args.t i
+    (rw c.self.view_is c.requires.in_range.1) in
+    let free = free_in b.nodes b.chains.items b.places.items b.holders.items c.args.t
+    (rw c.self.view_is c.requires.awake) in
     let e = (entered b.nodes c.append.new.nodes b.chains.items b.places.items b.holders.items
     (record { thread = c.args.t; address = c.args.a }) c.bucket_of-bucket.result c.index.result.now c.append.result i
     c.requires.in_range.0 inside free ek c.index.ensures c.append.ensures.chained c.append.ensures.len).1 in

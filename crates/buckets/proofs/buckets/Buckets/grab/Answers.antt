@@ -24,7 +24,8 @@ returns c =
     let b = c.self.inside in
     let l = inside_table b.nodes b.chains.items b.places.items b.holders.items c.args.k
     (rw c.self.view_is c.requires.inside) in
-    let h = (changed b.nodes b.chains.items b.places.items b.holders.items c.args.k (Some c.args.t) c.self.invariant l).1 in
+    let h = (changed b.nodes b.chains.items b.places.items b.holders.items c.args.k (Some c.args.t) c.self.invariant
+    l).1 in
     rw (← c.self.view_is) (record {
       holder = h.holder;
       count = h.count;

@@ -10,10 +10,12 @@ invariant_of-result c =
     (λ y k. search rules) in
     let places : c.in_ok-vec-2.field-0.items ≡ replicate (c.args.threads + 1) nobody_at = c.in_ok-vec-2.ensures.items_if_clones_equal
     (λ y k. search rules) in
-    let holders : c.in_ok-vec-3.field-0.items ≡ replicate c.args.n no_holder = c.in_ok-vec-3.ensures.items_if_clones_equal
+    let holders : c.in_ok-vec-3.field-0.items ≡ replicate c.args.n
+    no_holder = c.in_ok-vec-3.ensures.items_if_clones_equal
     (λ y k. search rules) in
     let s = c.in_ok-with_capacity.ensures in
-    (made c.in_ok-with_capacity.field-0 c.in_ok-vec.field-0.items c.in_ok-vec-2.field-0.items c.in_ok-vec-3.field-0.items c.args.n c.args.threads
+    (made c.in_ok-with_capacity.field-0 c.in_ok-vec.field-0.items c.in_ok-vec-2.field-0.items
+    c.in_ok-vec-3.field-0.items c.args.n c.args.threads
     s.empty chains places holders s.capacity c.requires.few (some_bucket c.args.n c.requires.allowed)).0
 
 pub returns : goal.returns
@@ -22,9 +24,12 @@ returns c =
     (λ y k. search rules) in
     let places : c.in_ok-vec-2.field-0.items ≡ replicate (c.args.threads + 1) nobody_at = c.in_ok-vec-2.ensures.items_if_clones_equal
     (λ y k. search rules) in
-    let holders : c.in_ok-vec-3.field-0.items ≡ replicate c.args.n no_holder = c.in_ok-vec-3.ensures.items_if_clones_equal
+    let holders : c.in_ok-vec-3.field-0.items ≡ replicate c.args.n
+    no_holder = c.in_ok-vec-3.ensures.items_if_clones_equal
     (λ y k. search rules) in
     let s = c.in_ok-with_capacity.ensures in
-    let o = (made c.in_ok-with_capacity.field-0 c.in_ok-vec.field-0.items c.in_ok-vec-2.field-0.items c.in_ok-vec-3.field-0.items c.args.n
-    c.args.threads s.empty chains places holders s.capacity c.requires.few (some_bucket c.args.n c.requires.allowed)).1 in
+    let o = (made c.in_ok-with_capacity.field-0 c.in_ok-vec.field-0.items c.in_ok-vec-2.field-0.items
+    c.in_ok-vec-3.field-0.items c.args.n
+    c.args.threads s.empty chains places holders s.capacity c.requires.few
+    (some_bucket c.args.n c.requires.allowed)).1 in
     record { empty = o.empty; awake = o.awake; threads = o.threads; count = o.count; free = o.free; sound = o.sound }

@@ -8,7 +8,12 @@ use Rattle.buckets.proofs.buckets.Buckets.number.Goals as goal
 pub bucket_of-requires : goal.bucket_of-requires
 bucket_of-requires c =
     let b = c.self.inside in
-    omega (arith, c.self.invariant.held, some_chain b.nodes b.chains.items b.places.items b.holders.items c.self.invariant)
+    omega (
+      arith,
+      c.self.invariant.held,
+      some_chain b.nodes b.chains.items b.places.items b.holders.items
+          c.self.invariant,
+    )
 
 pub returns : goal.returns
 returns c =

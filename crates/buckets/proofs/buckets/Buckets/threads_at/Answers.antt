@@ -29,7 +29,8 @@ returns c =
     let most : c.len-2.result - 1 ≡ length b.places.items - 1 = omega arith in
     rw (← c.self.view_is) (record {
       value = c.threads_on.ensures ∙ ap (λ m. on c.args.a.0 (row_of (get b.nodes) m c.index.result.now)) most
-          ∙ queue_in b.nodes b.chains.items b.places.items b.holders.items c.args.a.0 c.bucket_of-bucket.result c.index.result.now
+          ∙ queue_in b.nodes b.chains.items b.places.items b.holders.items c.args.a.0 c.bucket_of-bucket.result
+          c.index.result.now
           c.self.invariant ek c.index.ensures;
       sound = sound_in b.nodes b.chains.items b.places.items b.holders.items c.self.invariant;
     })
