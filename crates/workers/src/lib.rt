@@ -3,6 +3,7 @@
 #![tactic(auto)]
 
 mod image_ref;
+mod lookout;
 mod parker;
 mod pool;
 mod running;

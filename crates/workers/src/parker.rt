@@ -22,6 +22,16 @@ impl Parker {
         &self.called
     }
 
+    /// How often the worker was called.
+    pub fn calls(&self) -> u64 {
+        self.called.notifications()
+    }
+
+    /// Calls the worker.
+    pub fn call(&self) {
+        self.called.notify_all();
+    }
+
     /// Notes that the worker was refused. It ends.
     pub fn refuse(&self) {
         self.refused.store(true, Ordering::SeqCst);
