@@ -6,6 +6,7 @@ mod image_ref;
 mod lookout;
 mod parker;
 mod pool;
+mod precedence;
 mod running;
 mod shared_run;
 mod turns;

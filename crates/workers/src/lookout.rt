@@ -24,9 +24,14 @@ impl Lookout {
         }
     }
 
+    /// Whether it has places at all.
+    pub fn has_places(&self) -> bool {
+        self.places > 0
+    }
+
     /// Takes a place, if one is free.
     pub fn enter(&self) -> bool {
-        if self.places == 0 {
+        if !self.has_places() {
             return false;
         }
         if self.lookers.fetch_add(1, Ordering::SeqCst) < self.places {

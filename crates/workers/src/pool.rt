@@ -7,6 +7,7 @@ ghost use Rattle.workers.specs.Handed.{IsAfresh};
 use crate::image_ref::ImageRef;
 use crate::lookout::Lookout;
 use crate::parker::Parker;
+use crate::precedence::Precedence;
 use crate::shared_run::{SharedRun, WakeReason};
 use crate::turns::Turns;
 use crossbeam_utils::CachePadded;
@@ -19,14 +20,10 @@ use std::thread;
 use std::thread::{Builder, Threads};
 use words::{Gate, MOST_THREADS};
 
-// How often a worker tries for the lock before it sleeps. It lingers in between, twice as long each time up to so many
-// doublings: each trial takes the lock's word to another processor, and meanwhile whoever holds the lock gets on.
-const TRIALS: u32 = 12;
+// How often a worker tries for the lock before it sleeps, and how long it lingers in between.
+const TRIALS: u32 = 200;
 
-const DOUBLINGS: u32 = 6;
-
-// For how many moments a worker looks for a call before it sleeps: about as long as it takes to be woken.
-const LOOKS: u32 = 1000;
+const MOMENT: u32 = 8;
 
 // A worker's stack. It has room for a few pieces, which are what takes most of it.
 const STACK_BYTES: usize = 256 * 1024;
@@ -40,6 +37,7 @@ pub struct Pool<J: RunName> {
     parkers: Vec<CachePadded<Parker>>,
     made: Condvar,
     lookout: Lookout,
+    precedence: Precedence,
 }
 
 impl<J: RunName> Pool<J> {
@@ -58,6 +56,7 @@ impl<J: RunName> Pool<J> {
             parkers,
             made: Condvar::new(),
             lookout: Lookout::new(rt),
+            precedence: Precedence::new(),
         })
     }
 
@@ -164,10 +163,16 @@ impl<J: RunName> Pool<J> {
         let Some(parker) = self.parkers.get(t as usize) else {
             return After::Ends;
         };
-        let shared_run = parker.called().wait_while(rt, self.lock(rt), |shared_run| {
-            !shared_run.can_move(t) && !self.is_over(shared_run)
-        });
-        shared_run.next(t, &mut turns.pieces[0])
+        for _ in rt.forever() {
+            let shared_run = self.lock(rt);
+            if shared_run.can_move(t) || self.is_over(&shared_run) {
+                return shared_run.next(t, &mut turns.pieces[0]);
+            }
+            drop(shared_run);
+            parker.park(rt);
+            self.precedence.take(&self.lookout, t);
+        }
+        After::Ends
     }
 
     // Takes in the turns of thread `t`, and calls whom they concern.
@@ -184,34 +189,23 @@ impl<J: RunName> Pool<J> {
         let Some(parker) = self.parkers.get(t as usize) else {
             return After::Ends;
         };
+        let few = turns.are_few();
+        self.precedence.take(&self.lookout, t);
         let mut shared_run = self.lock(rt);
         let calls = parker.calls();
         let after = shared_run.hand_in(t, turns, share, parker, gate);
         let wake_reason = shared_run.wake_reason();
         let is_over = after != After::Goes && self.is_over(&shared_run);
         drop(shared_run);
+        self.precedence.pass_on(t, few && after == After::Goes);
         self.tell(wake_reason);
         if is_over {
             self.call_all();
         }
-        if after == After::Sleeps {
-            self.look_for_call(parker, calls);
+        if after == After::Sleeps && parker.look(&self.lookout, calls) {
+            self.precedence.take(&self.lookout, t);
         }
         after
-    }
-
-    // Looks for a call past so many, for a while: to be woken takes longer than others often need to call.
-    fn look_for_call(&self, parker: &Parker, calls: u64) {
-        if !self.lookout.enter() {
-            return;
-        }
-        for _ in 0..LOOKS {
-            if parker.calls() != calls {
-                break;
-            }
-            spin_loop();
-        }
-        self.lookout.leave();
     }
 
     // Takes the lock. It is held for a moment only, so that it is worthwhile to try for a while before one sleeps.
@@ -231,8 +225,8 @@ impl<J: RunName> Pool<J> {
             return None;
         }
         let mut found = None;
-        for trial in 0..TRIALS {
-            linger(trial);
+        for _ in 0..TRIALS {
+            linger();
             found = self.shared_run.try_lock();
             if found.is_some() {
                 break;
@@ -303,9 +297,9 @@ impl<J: RunName> Pool<J> {
     }
 }
 
-// Lets some moments go by, twice as many at each trial, up to a bound.
-fn linger(trial: u32) {
-    for _ in 0..4u32 << trial.min(DOUBLINGS) {
+// Lets a moment go by.
+fn linger() {
+    for _ in 0..MOMENT {
         spin_loop();
     }
 }
