@@ -4,7 +4,7 @@ use std::sync::Wait;
 use std::sync::atomic::{AtomicBool, AtomicU64, Ordering};
 use std::thread;
 
-// For how many moments a worker looks for a call before it sleeps, at most: a few times as long as it takes to be woken.
+// For how many moments a worker looks for a call before it sleeps, at most: a few times as long as being woken takes.
 const MOST_LOOKS: u64 = 4000;
 
 /// Where the worker of a thread parks, and whether its last entry was refused with `Limit`.

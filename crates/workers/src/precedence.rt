@@ -4,13 +4,13 @@ use std::hint::spin_loop;
 use std::sync::atomic::{AtomicU64, Ordering};
 
 // For how many moments a worker leaves the lock to the one with precedence.
-const LOOKS: u32 = 2000;
+const LOOKS: u32 = 4000;
 
 // How many entries a worker makes before it gives precedence up, so that others have their turn.
-const MOST_ENTRIES: u64 = 64;
+const MOST_ENTRIES: u64 = 256;
 
-/// Which worker has precedence: the others leave the lock to it, for a while. So it makes entry after entry, and what the
-/// lock keeps stays in its processor's memory. It is a courtesy: nothing rests on it but speed.
+/// Which worker has precedence: the others leave the lock to it, for a while. So it makes entry after entry, and what
+/// the lock keeps stays in its processor's memory. It is a courtesy: nothing rests on it but speed.
 #[derive(Drop)]
 pub struct Precedence {
     // The thread whose worker has it, or 0.
@@ -28,8 +28,8 @@ impl Precedence {
         }
     }
 
-    /// Takes it for the worker of thread `t`: at once where nobody else has it, else when that one gives it up, and after
-    /// a while anyhow. Where there is no place to look from, it is left where it is.
+    /// Takes it for the worker of thread `t`: at once where nobody else has it, else when that one gives it up, and
+    /// after a while anyhow. Where there is no place to look from, it is left where it is.
     pub fn take(&self, lookout: &Lookout, t: u32) {
         let me = u64::from(t);
         if !lookout.has_places() || self.holder.load(Ordering::SeqCst) == me || self.claim(me) {
@@ -48,8 +48,8 @@ impl Precedence {
         self.holder.store(me, Ordering::SeqCst);
     }
 
-    /// Gives it up, if the worker of thread `t` has it. One that goes on with few steps between its entries keeps it, up
-    /// to a number of entries.
+    /// Gives it up, if the worker of thread `t` has it. One that goes on with few steps between its entries keeps it,
+    /// up to a number of entries.
     pub fn pass_on(&self, t: u32, goes_on: bool) {
         if self.holder.load(Ordering::SeqCst) != u64::from(t) {
             return;
