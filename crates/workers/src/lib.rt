@@ -3,8 +3,10 @@
 #![tactic(auto)]
 
 mod image_ref;
+mod lookout;
 mod parker;
 mod pool;
+mod precedence;
 mod running;
 mod shared_run;
 mod turns;

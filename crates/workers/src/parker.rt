@@ -1,10 +1,19 @@
-use std::sync::Condvar;
-use std::sync::atomic::{AtomicBool, Ordering};
+use crate::lookout::Lookout;
+use std::hint::spin_loop;
+use std::sync::Wait;
+use std::sync::atomic::{AtomicBool, AtomicU64, Ordering};
+use std::thread;
+
+// For how many moments a worker looks for a call before it sleeps, at most: a few times as long as being woken takes.
+const MOST_LOOKS: u64 = 4000;
 
 /// Where the worker of a thread parks, and whether its last entry was refused with `Limit`.
 #[derive(Drop)]
 pub struct Parker {
-    called: Condvar,
+    called: thread::Parker,
+    calls: AtomicU64,
+    // For how many moments the worker looks for its next call.
+    looks: AtomicU64,
     refused: AtomicBool,
 }
 
@@ -12,14 +21,52 @@ impl Parker {
     /// A parker whose worker was not refused.
     pub fn new() -> Parker {
         Parker {
-            called: Condvar::new(),
+            called: thread::Parker::new(),
+            calls: AtomicU64::new(0),
+            looks: AtomicU64::new(MOST_LOOKS),
             refused: AtomicBool::new(false),
         }
     }
 
-    /// What the worker parks on.
-    pub fn called(&self) -> &Condvar {
-        &self.called
+    /// Parks until the worker is called. A call that came since it was parked last counts.
+    pub fn park<R: Wait>(&self, rt: &R) {
+        self.called.park(rt);
+    }
+
+    /// Calls the worker.
+    pub fn call(&self) {
+        self.calls.fetch_add(1, Ordering::SeqCst);
+        self.called.unpark();
+    }
+
+    /// How often the worker was called.
+    pub fn calls(&self) -> u64 {
+        self.calls.load(Ordering::SeqCst)
+    }
+
+    /// Looks for a call past so many, for a while, and says whether there was one. It looks half as long each time that
+    /// none comes, and as long as at first when one has come.
+    pub fn look(&self, lookout: &Lookout, calls: u64) -> bool {
+        if !lookout.enter() {
+            return false;
+        }
+        let looks = self.looks.load(Ordering::SeqCst);
+        let called = self.look_for(looks, calls);
+        lookout.leave();
+        let next = if called { MOST_LOOKS } else { looks / 2 };
+        self.looks.store(next, Ordering::SeqCst);
+        called
+    }
+
+    // Looks so many times for a call past so many.
+    fn look_for(&self, looks: u64, calls: u64) -> bool {
+        for _ in 0..looks {
+            if self.calls() != calls {
+                return true;
+            }
+            spin_loop();
+        }
+        self.calls() != calls
     }
 
     /// Notes that the worker was refused. It ends.

@@ -5,22 +5,28 @@ ghost use Rattle.workers.specs.SharedRuns.{state_of};
 ghost use Rattle.workers.specs.Handed.{IsAfresh};
 
 use crate::image_ref::ImageRef;
+use crate::lookout::Lookout;
 use crate::parker::Parker;
+use crate::precedence::Precedence;
 use crate::shared_run::{SharedRun, WakeReason};
 use crate::turns::Turns;
 use crossbeam_utils::CachePadded;
 use runner::{After, RunName, Share};
 use std::alloc::{AllocError, Global};
+use std::fmt::Write;
 use std::hint::spin_loop;
 use std::sync::{Condvar, Mutex, MutexGuard, Wait};
 use std::thread;
-use std::thread::Threads;
+use std::thread::{Builder, Threads};
 use words::{Gate, MOST_THREADS};
 
 // How often a worker tries for the lock before it sleeps, and how long it lingers in between.
 const TRIALS: u32 = 200;
 
 const MOMENT: u32 = 8;
+
+// A worker's stack. It has room for a few pieces, which are what takes most of it.
+const STACK_BYTES: usize = 256 * 1024;
 
 /// The run under its lock, a parker for the worker of each thread that there can be, and where the calling thread
 /// parks.
@@ -30,11 +36,17 @@ pub struct Pool<J: RunName> {
     shared_run: Mutex<CachePadded<SharedRun<J>>>,
     parkers: Vec<CachePadded<Parker>>,
     made: Condvar,
+    lookout: Lookout,
+    precedence: Precedence,
 }
 
 impl<J: RunName> Pool<J> {
     /// A pool without workers; parker number 0 is nobody's.
-    pub fn new(alloc: Global, shared_run: SharedRun<J>) -> Result<Pool<J>, AllocError> {
+    pub fn new<R: Threads>(
+        rt: &R,
+        alloc: Global,
+        shared_run: SharedRun<J>,
+    ) -> Result<Pool<J>, AllocError> {
         let mut parkers = Vec::new(alloc);
         for _ in 0..=MOST_THREADS {
             parkers.push(CachePadded::new(Parker::new()))?;
@@ -43,6 +55,8 @@ impl<J: RunName> Pool<J> {
             shared_run: Mutex::new(CachePadded::new(shared_run)),
             parkers,
             made: Condvar::new(),
+            lookout: Lookout::new(rt),
+            precedence: Precedence::new(),
         })
     }
 
@@ -72,7 +86,11 @@ impl<J: RunName> Pool<J> {
                     self.fail(rt);
                     continue;
                 };
-                let worker = scope.spawn(move || {
+                let Ok(builder) = builder_of(alloc, t) else {
+                    self.fail(rt);
+                    continue;
+                };
+                let worker = builder.spawn_scoped(scope, move || {
                     let share = self.work(rt, image_ref, gate, t, turns, share);
                     self.lock(rt).give_back(share);
                 });
@@ -145,10 +163,16 @@ impl<J: RunName> Pool<J> {
         let Some(parker) = self.parkers.get(t as usize) else {
             return After::Ends;
         };
-        let shared_run = parker.called().wait_while(rt, self.lock(rt), |shared_run| {
-            !shared_run.can_move(t) && !self.is_over(shared_run)
-        });
-        shared_run.next(t, &mut turns.pieces[0])
+        for _ in rt.forever() {
+            let shared_run = self.lock(rt);
+            if shared_run.can_move(t) || self.is_over(&shared_run) {
+                return shared_run.next(t, &mut turns.pieces[0]);
+            }
+            drop(shared_run);
+            parker.park(rt);
+            self.precedence.take(&self.lookout, t);
+        }
+        After::Ends
     }
 
     // Takes in the turns of thread `t`, and calls whom they concern.
@@ -165,27 +189,51 @@ impl<J: RunName> Pool<J> {
         let Some(parker) = self.parkers.get(t as usize) else {
             return After::Ends;
         };
+        let few = turns.are_few();
+        self.precedence.take(&self.lookout, t);
         let mut shared_run = self.lock(rt);
+        let calls = parker.calls();
         let after = shared_run.hand_in(t, turns, share, parker, gate);
         let wake_reason = shared_run.wake_reason();
         let is_over = after != After::Goes && self.is_over(&shared_run);
         drop(shared_run);
+        self.precedence.pass_on(t, few && after == After::Goes);
         self.tell(wake_reason);
         if is_over {
             self.call_all();
+        }
+        if after == After::Sleeps && parker.look(&self.lookout, calls) {
+            self.precedence.take(&self.lookout, t);
         }
         after
     }
 
     // Takes the lock. It is held for a moment only, so that it is worthwhile to try for a while before one sleeps.
     fn lock<R: Wait>(&self, rt: &R) -> MutexGuard<'_, CachePadded<SharedRun<J>>> {
-        for _ in 0..TRIALS {
-            if let Some(shared_run) = self.shared_run.try_lock() {
-                return shared_run;
-            }
-            linger();
+        if let Some(shared_run) = self.shared_run.try_lock() {
+            return shared_run;
+        }
+        if let Some(shared_run) = self.look_for_lock() {
+            return shared_run;
         }
         self.shared_run.lock(rt)
+    }
+
+    // Tries for the lock, for a while.
+    fn look_for_lock(&self) -> Option<MutexGuard<'_, CachePadded<SharedRun<J>>>> {
+        if !self.lookout.enter() {
+            return None;
+        }
+        let mut found = None;
+        for _ in 0..TRIALS {
+            linger();
+            found = self.shared_run.try_lock();
+            if found.is_some() {
+                break;
+            }
+        }
+        self.lookout.leave();
+        found
     }
 
     // Ends the run for want of memory.
@@ -202,7 +250,7 @@ impl<J: RunName> Pool<J> {
         if shared_run.fault().is_some() {
             return true;
         }
-        for t in 1..=MOST_THREADS {
+        for t in 1..=shared_run.threads() {
             if shared_run.can_move(t) && !self.is_refused(t) {
                 return false;
             }
@@ -236,7 +284,7 @@ impl<J: RunName> Pool<J> {
     // Calls the worker of thread `t`.
     fn call(&self, t: u32) {
         if let Some(parker) = self.parkers.get(t as usize) {
-            parker.called().notify_all();
+            parker.call();
         }
     }
 
@@ -244,7 +292,7 @@ impl<J: RunName> Pool<J> {
     fn call_all(&self) {
         self.made.notify_all();
         for parker in self.parkers.iter() {
-            parker.called().notify_all();
+            parker.call();
         }
     }
 }
@@ -254,4 +302,11 @@ fn linger() {
     for _ in 0..MOMENT {
         spin_loop();
     }
+}
+
+// How the worker of thread `t` is started: under a name that tools show, and on a small stack.
+fn builder_of(alloc: Global, t: u32) -> Result<Builder, AllocError> {
+    let mut name = String::new(alloc);
+    write!(name, "thread {t}")?;
+    Ok(Builder::new().name(name).stack_size(STACK_BYTES))
 }

@@ -56,7 +56,7 @@ fn run_as<J: RunName + Send + Sync, R: Threads + Wait + Sync, G: Gate>(
     let Some(kept) = shared.share() else {
         unreachable!()
     };
-    let Ok(pool) = Pool::new(alloc, SharedRun::new(shared, kept)) else {
+    let Ok(pool) = Pool::new(rt, alloc, SharedRun::new(shared, kept)) else {
         return Err(RunFault::Memory);
     };
     let image_ref = ImageRef {

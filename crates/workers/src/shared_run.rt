@@ -68,6 +68,14 @@ impl<J: RunName> SharedRun<J> {
         self.shared.machine().can_move(t)
     }
 
+    /// How many threads were made.
+    pub fn threads(&self) -> u32
+        ensures value { result ≡ length (state_of self.now).threads }
+        ensures within { result ≤ most_threads }
+    {
+        self.shared.machine().threads()
+    }
+
     /// Why the run ends before its time, if it does.
     pub fn fault(&self) -> Option<RunFault>
         ensures { result ≡ self.now.fault }
@@ -90,7 +98,7 @@ impl<J: RunName> SharedRun<J> {
             (length (state_of self.now).threads ≤ self.now.started) }
         ensures few { result ≡ true → self.now.started < most_threads }
     {
-        self.started < self.shared.machine().threads()
+        self.started < self.threads()
     }
 
     /// The next thread without a worker, with a part of the count for it.

@@ -9,6 +9,9 @@ use words::{Gate, MOST_LOCAL_STEPS};
 // How many turns a worker takes at most before it hands them in. Each has a piece of some 12 kilobytes.
 const MOST_TURNS: usize = 16;
 
+// How many local steps are few: it takes less time to take them than to hand the lock to and fro.
+const FEW_STEPS: u32 = 64;
+
 /// The turns of one thread that its worker has taken and not handed in: a piece for each, which began where the one
 /// before has come. So the lock is taken once for all of them.
 #[derive(Drop)]
@@ -36,6 +39,11 @@ impl<J: RunName> Turns<J> {
         ensures { result.now ≡ take self.now.taken self.now.pieces.items }
     {
         &self.pieces.as_slice()[..self.taken]
+    }
+
+    /// Whether few local steps were taken: fewer than others could take meanwhile with profit.
+    pub fn are_few(&self) -> bool {
+        self.taken == 1 && self.pieces[0].count() < FEW_STEPS
     }
 
     /// Takes turns from the first piece on, until another step than a local one comes, or there is no piece left. The

@@ -1,0 +1,74 @@
+use crate::lookout::Lookout;
+use crossbeam_utils::CachePadded;
+use std::hint::spin_loop;
+use std::sync::atomic::{AtomicU64, Ordering};
+
+// For how many moments a worker leaves the lock to the one with precedence.
+const LOOKS: u32 = 4000;
+
+// How many entries a worker makes before it gives precedence up, so that others have their turn.
+const MOST_ENTRIES: u64 = 256;
+
+/// Which worker has precedence: the others leave the lock to it, for a while. So it makes entry after entry, and what
+/// the lock keeps stays in its processor's memory. It is a courtesy: nothing rests on it but speed.
+#[derive(Drop)]
+pub struct Precedence {
+    // The thread whose worker has it, or 0.
+    holder: CachePadded<AtomicU64>,
+    // How many entries that worker has made since.
+    entries: CachePadded<AtomicU64>,
+}
+
+impl Precedence {
+    /// Nobody has it.
+    pub fn new() -> Precedence {
+        Precedence {
+            holder: CachePadded::new(AtomicU64::new(0)),
+            entries: CachePadded::new(AtomicU64::new(0)),
+        }
+    }
+
+    /// Takes it for the worker of thread `t`: at once where nobody else has it, else when that one gives it up, and
+    /// after a while anyhow. Where there is no place to look from, it is left where it is.
+    pub fn take(&self, lookout: &Lookout, t: u32) {
+        let me = u64::from(t);
+        if !lookout.has_places() || self.holder.load(Ordering::SeqCst) == me || self.claim(me) {
+            return;
+        }
+        if !lookout.enter() {
+            return;
+        }
+        for _ in 0..LOOKS {
+            if self.claim(me) {
+                break;
+            }
+            spin_loop();
+        }
+        lookout.leave();
+        self.holder.store(me, Ordering::SeqCst);
+    }
+
+    /// Gives it up, if the worker of thread `t` has it. One that goes on with few steps between its entries keeps it,
+    /// up to a number of entries.
+    pub fn pass_on(&self, t: u32, goes_on: bool) {
+        if self.holder.load(Ordering::SeqCst) != u64::from(t) {
+            return;
+        }
+        let entries = self.entries.load(Ordering::SeqCst);
+        if goes_on && entries < MOST_ENTRIES {
+            self.entries.store(entries + 1, Ordering::SeqCst);
+            return;
+        }
+        self.entries.store(0, Ordering::SeqCst);
+        self.holder.store(0, Ordering::SeqCst);
+    }
+
+    // Takes it where nobody has it.
+    fn claim(&self, me: u64) -> bool {
+        self.holder.load(Ordering::SeqCst) == 0
+            && self
+                .holder
+                .compare_exchange(0, me, Ordering::SeqCst, Ordering::SeqCst)
+                .is_ok()
+    }
+}
