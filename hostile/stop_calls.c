@@ -30,14 +30,14 @@ static void count_call(void)
 
 #define REAL(name) ((__typeof__(&name))dlsym(RTLD_NEXT, #name))
 
-int openat(int folder, const char *path, int flags, ...)
+int open(const char *path, int flags, ...)
 {
     va_list rest;
     va_start(rest, flags);
     mode_t mode = flags & O_CREAT ? va_arg(rest, mode_t) : 0;
     va_end(rest);
     count_call();
-    return REAL(openat)(folder, path, flags, mode);
+    return REAL(open)(path, flags, mode);
 }
 
 ssize_t write(int file, const void *bytes, size_t size)
@@ -62,10 +62,4 @@ int unlink(const char *path)
 {
     count_call();
     return REAL(unlink)(path);
-}
-
-int unlinkat(int folder, const char *path, int flags)
-{
-    count_call();
-    return REAL(unlinkat)(folder, path, flags);
 }
