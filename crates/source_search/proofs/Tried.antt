@@ -3,9 +3,11 @@ use Rattle.std.proofs.Common.{◌≡◌, ◌<◌, ◌≤◌, ◌+◌, ◌↔◌,
 use Rattle.std.proofs.Common.{Contains}
 use Rattle.std.proofs.Common.{refl, sym, ap, ◌∙◌, subst, arith, map, inl, inr, filter, zero, suc, length}
 use Rattle.std.proofs.lemmas.List.Elements.{Contains-append_left, Contains-push}
+use Rattle.std.proofs.lemmas.List.Kept.{IsStrictlyIncreasing-filter}
 use Rattle.std.proofs.lemmas.Option.{IfSome_then}
 use Rattle.std.proofs.lemmas.Result.{IfOk-weaker}
 use Rattle.std.specs.Global.{Global}
+use Rattle.std.specs.List.Sorted.{IsStrictlyIncreasing}
 use Rattle.std.specs.Prelude.{option_map, IfOk, IfSome, Result, Vec}
 use Rattle.words.specs.declared.outcome.Fault.TheVariants.{HandleNotJoinable, ProcessTableFull}
 use Rattle.program.specs.declared.kinds.Member.{Member}
@@ -118,7 +120,7 @@ all_named xs (r ∷ rs) few among some x i =
 
 -- of a broadcast the list of all that wait is enough
 module _ (n : ℕ) (c : Member) (q : Process) (t : Table) (waiting : List ℕ)
-    (all : (r : ℕ) → Contains waiting r ↔ (t.waits r ≡ Some c)) where
+    (all : (r : ℕ) → Contains waiting r ↔ (t.waits r ≡ Some c)) (rising : IsStrictlyIncreasing waiting) where
   pub broadcast_tried : (actions : List Action) → actions ≡ by n (Broadcast c waiting) ∷ []
       → AllTakeUp n (NotifiesAll c q) t actions
   broadcast_tried actions is label effect after t' takes allows = record {
@@ -126,7 +128,7 @@ module _ (n : ℕ) (c : Member) (q : Process) (t : Table) (waiting : List ℕ)
     listed = subst (λ xs. Contains xs (by n (Broadcast c waiting))) (sym is) (0, omega arith, refl);
     takes = (waiting, refl, takes.2, takes.3);
     allows = (
-      record { wait = λ r i. (all r).0 i; all = λ r w. (all r).1 w },
+      record { rising = rising; wait = λ r i. (all r).0 i; all = λ r w. (all r).1 w },
       allowed.1 ∙ (λ i. record t { waits = λ r. without_same takes.0 waiting t.waits r same i }),
     );
   }
@@ -146,6 +148,7 @@ module _ (n : ℕ) (c : Member) (q : Process) (t : Table) (waiting : List ℕ)
     takes = (waiting, refl, takes.2, takes.3);
     allows = (
       record {
+        rising = rising;
         wait = λ r i. (all r).0 i;
         some = λ r w e. none_waits r ((all r).1 w) e;
       },
@@ -179,6 +182,7 @@ module _ (n : ℕ) (c : Member) (q : Process) (t : Table) (waiting : List ℕ)
     takes = (chosen, refl, takes.2, takes.3);
     allows = (
       record {
+        rising = IsStrictlyIncreasing-filter (is_one_of takes.0) waiting rising;
         wait = λ r i. (allowed.0).wait r ((same r).1 i);
         some = λ r w e. (allowed.0).some r w (empty_too takes.0 same e);
       },

@@ -13,9 +13,9 @@ returns c =
     let waiting : (r : ℕ) → Contains c.in_ok-waiting.waiting.items r
     ↔ ((state_of c.args.state.now).table.waits r ≡ Some c.args.condition) =
     subst (λ (t : Table). (r : ℕ) → Contains c.in_ok-waiting.waiting.items r ↔ (t.waits r ≡ Some c.args.condition))
-    c.table.ensures c.in_ok-waiting.ensures in
+    c.table.ensures c.in_ok-waiting.ensures.all in
     all_tried c.one.result c.args.process (Broadcast c.args.condition c.in_ok-waiting.waiting.items)
     (λ (actions : List Action). (after : Process) → AllTakeUp c.args.process (NotifiesAll c.args.condition after)
     (state_of c.args.state.now).table actions)
     (λ actions is after. broadcast_tried c.args.process c.args.condition after (state_of c.args.state.now).table
-    c.in_ok-waiting.waiting.items waiting actions is) c.one.ensures
+    c.in_ok-waiting.waiting.items waiting c.in_ok-waiting.ensures.rising actions is) c.one.ensures

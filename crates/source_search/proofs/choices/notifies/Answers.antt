@@ -15,24 +15,24 @@ returns-then-len-le1 c =
     let waiting : (r : ℕ) → Contains c.in_ok-waiting.waiting.items r
     ↔ ((state_of c.args.state.now).table.waits r ≡ Some c.args.condition) =
     subst (λ (t : Table). (r : ℕ) → Contains c.in_ok-waiting.waiting.items r ↔ (t.waits r ≡ Some c.args.condition))
-    c.table.ensures c.in_ok-waiting.ensures in
+    c.table.ensures c.in_ok-waiting.ensures.all in
     let few : length c.in_ok-waiting.waiting.items ≤ 1 = grind (arith, nat_tests, c.if-len-le1.true) in
     all_tried c.one.result c.args.process (Notify c.args.condition c.in_ok-waiting.waiting.items)
     (λ (actions : List Action). (after : Process) → AllTakeUp c.args.process (NotifiesSome c.args.condition after)
     (state_of c.args.state.now).table actions)
     (λ actions is after. few_tried c.args.process c.args.condition after (state_of c.args.state.now).table
-    c.in_ok-waiting.waiting.items waiting few actions is) c.one.ensures
+    c.in_ok-waiting.waiting.items waiting c.in_ok-waiting.ensures.rising few actions is) c.one.ensures
 
 pub returns : goal.returns
 returns c = λ after.
     let waiting : (r : ℕ) → Contains c.in_ok-waiting.waiting.items r
     ↔ ((state_of c.args.state.now).table.waits r ≡ Some c.args.condition) =
     subst (λ (t : Table). (r : ℕ) → Contains c.in_ok-waiting.waiting.items r ↔ (t.waits r ≡ Some c.args.condition))
-    c.table.ensures c.in_ok-waiting.ensures in
+    c.table.ensures c.in_ok-waiting.ensures.all in
     let sets : HasEachSet c.as_slice.result.now (lists_in c.in-Some.lists.items) =
     rw c.in-Some.is at c.in_ok-lists.ensures in
     notify_tried c.args.process c.args.condition after (state_of c.args.state.now).table c.in_ok-waiting.waiting.items
-    waiting (lists_in c.in-Some.lists.items) (map action_of c.in_ok-actions.actions.items)
+    waiting c.in_ok-waiting.ensures.rising (lists_in c.in-Some.lists.items) (map action_of c.in_ok-actions.actions.items)
     (subst (λ numbers. HasEachSet numbers (lists_in c.in-Some.lists.items)) c.as_slice.ensures.value sets)
     (c.in_ok-actions.ensures
     ∙ ap (λ lists. map (λ list. by c.args.process (Notify c.args.condition list)) (lists_in lists))
