@@ -1,21 +1,32 @@
 -- What calm actions of one process at a time lead to, and how far what is kept covers.
 use Rattle.std.proofs.Common.{◌≡◌, ◌<◌, ◌+◌, ℕ, zero, suc, Bool, true, false, List, [], ◌∷◌, length, get_or}
-use Rattle.std.proofs.Common.{map, take, All, Contains, sym, ap, ◌∙◌, subst, arith, inl, inr}
+use Rattle.std.specs.Prelude.{if◌then◌else◌, nat_le, option_map}
+use Rattle.std.proofs.Common.{None, Option, Some, refl, map, take, All, Contains, sym, ap, ◌∙◌, subst, arith, inl, inr}
 use Rattle.std.proofs.lemmas.List.Elements.{All-contains, All-weaker}
 use Rattle.program.specs.Trees.{Program}
-use Rattle.meaning.specs.Labels.{Action, Kind}
+use Rattle.meaning.specs.Labels.{Action, FindsClaimed, FindsFull, Kind, kind_of}
+use Rattle.meaning.specs.Offers.{ClaimsOne, Does, JoinsOne, MakesOne, NotifiesAll, NotifiesSome, Offer, Rests, Takes}
+use Rattle.meaning.specs.Offers.{offer}
+use Rattle.meaning.specs.Processes.{Process}
+use Rattle.meaning.specs.Table.{Table}
 use Rattle.meaning.specs.Runs.{CanMove, IsAction, IsStep}
 use Rattle.meaning.specs.States.{SourceState}
 use Rattle.meaning.proofs.Unique.{step_once}
-use Rattle.proof_exploration.specs.Exploring.{IsCalmKind, IsLike}
+use Rattle.proof_commutation.specs.Deferring.{is_internal}
+use Rattle.proof_exploration.specs.Exploring.{IsCalmKind, IsFromOutside, IsLike}
 use Rattle.proof_exploration.specs.Searching.{IsCovered, IsKept}
 use Rattle.proof_exploration.proofs.Representing.{calm_named, grown, like_covered}
 use Rattle.source_states.specs.Actions.{action_of}
+use Rattle.source_states.specs.Internal.{IsInternalTaken, internal_from, internal_kind}
 use Rattle.source_states.specs.declared.action.Action.{Action as ActionOf}
 use Rattle.source_search.specs.Choices.{AreOwnChoices, by}
 use Rattle.source_search.specs.Covered.{AllCovered, IsAhead, IsFollowable, LeadsToCovered, LeadsWithin}
+use Rattle.source_search.specs.Followed.{IsFollowedTo}
+use Rattle.source_search.specs.declared.follow.Followed.{Followed}
+use Rattle.source_search.specs.declared.follow.Followed.TheVariants.{Stopped, Went, Choices, Lost}
 use Rattle.source_search.specs.Kept.{IsLonger, IsSeen}
 use Rattle.source_search.proofs.Keeping.{all_contained, one_more_action}
+use Rattle.source_search.proofs.Tried.{HasName, are_choices, one_tried}
 
 -- more actions are room for what fewer are
 module _ (p : Program) (kept : List SourceState) where
@@ -155,3 +166,50 @@ pub one_listed : (actions : List ActionOf) (a : ActionOf) → length actions ≡
 one_listed [] a one is = absurd (omega (arith, one))
 one_listed (b ∷ []) a one is = ap (λ (x : ActionOf). action_of x ∷ []) (sym is)
 one_listed (b ∷ c ∷ rest) a one is = absurd (omega (arith, one))
+
+-- what is known behind more actions that were followed
+pub followed_then : (p : Program) (s r q : SourceState) (f : Followed) → IsAhead p s r → IsFollowedTo p r q f
+    → IsFollowedTo p s q f
+followed_then p s r q Stopped first second = ahead_then p s r q first second
+followed_then p s r q Went first second = ahead_then p s r q first second
+followed_then p s r q (Choices actions) first second = (ahead_then p s r q first second.0, second.1)
+followed_then p s r q Lost first second = tt
+
+some_if : {A : Type 0} (b : Bool) (x y : A) → (if b then Some x else None) ≡ Some y → x ≡ y
+some_if true x y e = cc
+some_if false x y e = absurd (cc)
+
+-- an internal action that is calm is all that its process may do
+internal_named : (n : ℕ) (o : Offer) (t : Table) (kind : Kind) → internal_kind o t ≡ Some kind → IsCalmKind kind
+    → HasName n o t kind
+internal_named n Rests t kind is calm = absurd (let no : None ≡ Some kind = is in cc)
+internal_named n (Does l e q) t kind is calm = λ label effect after t' takes allows.
+    ap kind_of takes.0 ∙ some_if (is_internal l) (kind_of l) kind is
+internal_named n (Takes k free abandoned) t kind is calm = absurd (let no : None ≡ Some kind = is in cc)
+internal_named n (MakesOne child q full) t kind is calm = absurd
+    (subst IsCalmKind (sym (some_if (nat_le t.most t.made) (kind_of FindsFull) kind is)) calm)
+internal_named n (ClaimsOne child q refused) t kind is calm = absurd
+    (subst IsCalmKind (sym (some_if (t.claimed child) (kind_of (FindsClaimed child)) kind is)) calm)
+internal_named n (JoinsOne child q) t kind is calm = absurd (let no : None ≡ Some kind = is in cc)
+internal_named n (NotifiesSome c q) t kind is calm = absurd (let no : None ≡ Some kind = is in cc)
+internal_named n (NotifiesAll c q) t kind is calm = absurd (let no : None ≡ Some kind = is in cc)
+
+-- a process took its internal action, which is calm
+module _ (p : Program) (s s' : SourceState) (n : ℕ) (kind : Kind) (is : IsInternalTaken p n (Some kind) s s')
+    (calm : IsCalmKind kind) (own : IsFromOutside kind → ⊥) where
+  acts : IsStep p s (by n kind) s' → IsAction p s (by n kind) s'
+  acts (inl x) = x
+  acts (inr (inl x)) = absurd (own (subst IsFromOutside (sym x.1) tt))
+  acts (inr (inr x)) = absurd (own (subst IsFromOutside (sym x.2) tt))
+
+  alone : (o : Option Process) → s.process n ≡ o → IsFollowable p s n (by n kind ∷ [])
+  alone None e = absurd (let no : None ≡ Some kind = sym (ap (internal_from p s) e) ∙ is.0 in cc)
+  alone (Some q) e = record {
+    calm = calm_named p s n kind s' (acts is.1) calm;
+    choices = are_choices p s n (offer p s.variable q) (by n kind ∷ []) (sym (ap (option_map (offer p s.variable)) e))
+        (one_tried n (offer p s.variable q) s.table kind (by n kind ∷ []) refl
+        (internal_named n (offer p s.variable q) s.table kind (sym (ap (internal_from p s) e) ∙ is.0) calm));
+  }
+
+  pub internal_ahead : IsAhead p s s'
+  internal_ahead = ahead_one p s n (by n kind) (alone (s.process n) refl) s' is.1

@@ -16,11 +16,11 @@ use Rattle.proof_exploration.specs.Searching.{IsKept}
 use Rattle.proof_exploration.proofs.Alike.{like_self, like_trans}
 use Rattle.proof_exploration.proofs.Representing.{grown, like_covered}
 use Rattle.source_states.specs.Actions.{action_of}
-use Rattle.source_states.specs.States.{state_of}
 use Rattle.source_states.specs.declared.action.Action.{Action as ActionOf}
-use Rattle.source_states.specs.declared.state.SourceState.{SourceState as StateOf}
 use Rattle.source_search.specs.Choices.{AreChoices}
 use Rattle.source_search.specs.Found.{IsFrom}
+use Rattle.source_search.specs.Packed.{unpacked}
+use Rattle.source_search.specs.declared.packed.Packed.{Packed as PackedOf}
 use Rattle.source_search.specs.Kept.{IsExpanded, IsFollowed, IsLonger, IsSeen, LeadsToKept, states_in}
 use Rattle.source_search.proofs.Subsets.{contains_map}
 
@@ -33,26 +33,26 @@ longer_twice first kept kept' a b =
     (a.0 ++ b.0, b.1 ∙ ap (λ x. x ++ b.0) a.1 ∙ append_assoc first a.0 b.0)
 
 -- one state more is kept
-last_kept : (xs ys : List StateOf) (x : StateOf) → ys ≡ xs ++ x ∷ []
-    → states_in ys ≡ states_in xs ++ state_of x ∷ []
-last_kept xs ys x is = ap states_in is ∙ map_push state_of xs x
+last_kept : (xs ys : List PackedOf) (x : PackedOf) → ys ≡ xs ++ x ∷ []
+    → states_in ys ≡ states_in xs ++ unpacked x ∷ []
+last_kept xs ys x is = ap states_in is ∙ map_push unpacked xs x
 
-pub longer_one : (xs ys : List StateOf) (x : StateOf) → ys ≡ xs ++ x ∷ [] → IsLonger (states_in xs) (states_in ys)
-longer_one xs ys x is = (state_of x ∷ [], last_kept xs ys x is)
+pub longer_one : (xs ys : List PackedOf) (x : PackedOf) → ys ≡ xs ++ x ∷ [] → IsLonger (states_in xs) (states_in ys)
+longer_one xs ys x is = (unpacked x ∷ [], last_kept xs ys x is)
 
-pub kept_last : (xs ys : List StateOf) (x : StateOf) → ys ≡ xs ++ x ∷ [] → IsKept (states_in ys) (state_of x)
+pub kept_last : (xs ys : List PackedOf) (x : PackedOf) → ys ≡ xs ++ x ∷ [] → IsKept (states_in ys) (unpacked x)
 kept_last xs ys x is = (
-  state_of x,
-  subst (λ l. Contains l (state_of x)) (sym (last_kept xs ys x is)) (Contains-push (states_in xs) (state_of x)),
-  like_self (state_of x),
+  unpacked x,
+  subst (λ l. Contains l (unpacked x)) (sym (last_kept xs ys x is)) (Contains-push (states_in xs) (unpacked x)),
+  like_self (unpacked x),
 )
 
 -- a state like one that is kept
-pub kept_at : (xs : List StateOf) (i : ℕ) (x : StateOf) (s : SourceState) → slice_get xs i ≡ Some x
-    → IsLike (state_of x) s → IsKept (states_in xs) s
+pub kept_at : (xs : List PackedOf) (i : ℕ) (x : PackedOf) (s : SourceState) → slice_get xs i ≡ Some x
+    → IsLike (unpacked x) s → IsKept (states_in xs) s
 kept_at xs i x s is like = (
-  state_of x,
-  contains_map state_of xs x (subst (Contains xs) (get_or_from_slice_get xs i x x is)
+  unpacked x,
+  contains_map unpacked xs x (subst (Contains xs) (get_or_from_slice_get xs i x x is)
       (Contains-get_or xs i x (slice_get_within xs i x is))),
   like,
 )

@@ -1,9 +1,8 @@
 -- How far a search has come, and what it knows at its end.
 use Rattle.std.proofs.Common.{◌≡◌, ◌<◌, ◌≤◌, ◌+◌, ℕ, Bool, List, [], ◌∷◌, ◌++◌, length, get_or, take, All}
-use Rattle.std.proofs.Common.{Option, Some, None, slice_get, sym, refl, ap, ◌∙◌, subst, arith, ltb, true, false, inl, inr}
-use Rattle.std.proofs.lemmas.Bool.Decides.{nat_tests}
+use Rattle.std.proofs.Common.{Option, Some, None, slice_get, sym, refl, ap, ◌∙◌, subst, arith, true, false, inl, inr}
 use Rattle.std.specs.Prelude.{IsSome, is_some, option_map}
-use Rattle.std.proofs.lemmas.List.{get_or_append_left, length-append, length-map, length-take, take-append-le, take_all}
+use Rattle.std.proofs.lemmas.List.{get_or_append_left, length-append, length-take, take-append-le, take_all}
 use Rattle.std.proofs.lemmas.List.Elements.{All-contains, All-more, All-weaker}
 use Rattle.std.proofs.lemmas.Option.{get_or_from_slice_get, slice_get-map, slice_get_within}
 use Rattle.program.specs.Trees.{Program}
@@ -17,17 +16,17 @@ use Rattle.meaning.proofs.Holding.{all_stand}
 use Rattle.meaning.proofs.Keeping.{OptionWaits}
 use Rattle.meaning.proofs.Led.{leads_more}
 use Rattle.meaning.proofs.Offered.{IsOwn, own_kind, plain}
-use Rattle.proof_exploration.specs.Exploring.{AreOwn, HasAborted, IsFromOutside, IsStuck}
+use Rattle.proof_exploration.specs.Exploring.{AreOwn, HasAborted, IsFromOutside, IsLike, IsStuck}
 use Rattle.proof_exploration.specs.Searching.{IsComplete, IsCovered, IsKept}
 use Rattle.proof_exploration.proofs.Alike.{like_aborted, like_back, like_stuck}
 use Rattle.proof_exploration.proofs.Representing.{own_leads}
 use Rattle.proof_exploration.proofs.Searching.{never_aborted, never_stuck}
-use Rattle.source_states.specs.States.{state_of}
-use Rattle.source_states.specs.declared.state.SourceState.{SourceState as StateOf}
 use Rattle.source_search.specs.Found.{AreFrom, IsFrom, LeadsNowhere}
+use Rattle.source_search.specs.Packed.{unpacked}
+use Rattle.source_search.specs.declared.packed.Packed.{Packed as PackedOf}
 use Rattle.source_search.specs.Kept.{IsExpanded, IsLonger, IsSeen, NoneIs, states_in}
 use Rattle.source_search.proofs.Keeping.{expanded_still, longer_none, longer_twice, seen_still}
-use Rattle.source_search.proofs.Successors.{expanded_like, without_like}
+use Rattle.source_search.proofs.Successors.{expanded_like}
 
 -- the kept states before this place are expanded, and none of them is an end that isn't noted
 pub record IsSoFar (p : Program) (strays : Bool) (first kept : List SourceState) (place : ℕ)
@@ -53,7 +52,7 @@ at_first p strays first = record {
 module _ (p : Program) (strays : Bool) (first kept kept' : List SourceState) (place : ℕ)
     (stuck stuck' aborted aborted' : Option ℕ) (so_far : IsSoFar p strays first kept place stuck aborted)
     (longer : IsLonger kept kept') (r c : SourceState)
-    (here : slice_get kept place ≡ Some r) (same : c ≡ record r { printed = [] }) where
+    (here : slice_get kept place ≡ Some r) (like : IsLike r c) where
   less : place < length kept
   less = slice_get_within kept place r here
 
@@ -81,24 +80,17 @@ module _ (p : Program) (strays : Bool) (first kept kept' : List SourceState) (pl
     expanded = one_more (IsExpanded p strays kept')
         (All-weaker (IsExpanded p strays kept) (IsExpanded p strays kept') (expanded_still kept kept' longer p strays)
         (take place kept) so_far.expanded)
-        (expanded_like p strays kept' r c (without_like r c same) expanded);
+        (expanded_like p strays kept' r c like expanded);
     never_stuck = λ e. one_more (λ s. IsStuck p s → ⊥) (so_far.never_stuck (unstuck e).0)
-        (λ bad. (unstuck e).1 (like_stuck p r c (without_like r c same) bad));
+        (λ bad. (unstuck e).1 (like_stuck p r c like bad));
     never_aborted = λ e. one_more (λ s. HasAborted s → ⊥) (so_far.never_aborted (unaborted e).0)
-        (λ bad. (unaborted e).1 (like_aborted r c (without_like r c same) bad));
+        (λ bad. (unaborted e).1 (like_aborted r c like bad));
   }
 
 -- a state that is kept at a place
-pub state_at : (states : List StateOf) (place : ℕ) (s : StateOf) → slice_get states place ≡ Some s
-    → slice_get (states_in states) place ≡ Some (state_of s)
-state_at states place s is = slice_get-map state_of states place ∙ ap (option_map state_of) is
-
--- nothing is kept there
-pub past : (states states' : List StateOf) (place : ℕ) → states' ≡ states → false ≡ ltb place (length states')
-    → length (states_in states) ≤ place
-past states states' place same e =
-    let le : length states' ≤ place = grind (arith, nat_tests, e) in
-    omega (arith, le, ap length same, length-map states state_of)
+pub state_at : (states : List PackedOf) (place : ℕ) (s : PackedOf) → slice_get states place ≡ Some s
+    → slice_get (states_in states) place ≡ Some (unpacked s)
+state_at states place s is = slice_get-map unpacked states place ∙ ap (option_map unpacked) is
 
 -- all were looked at
 module _ (p : Program) (strays : Bool) (first kept : List SourceState) (place : ℕ) (stuck aborted : Option ℕ)

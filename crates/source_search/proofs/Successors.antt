@@ -1,9 +1,8 @@
 -- Where actions lead to from states that are alike.
-use Rattle.std.proofs.Common.{◌≡◌, ◌↔◌, ℕ, Bool, List, [], Option, Some, None, All, Contains, refl, sym, ap, ◌∙◌, inl}
+use Rattle.std.proofs.Common.{◌≡◌, ℕ, Bool, List, [], Option, Some, refl, sym, ap, ◌∙◌, inl}
 use Rattle.std.proofs.Common.{inr}
 use Rattle.std.proofs.Common.{subst}
-use Rattle.std.specs.Prelude.{IsSome, is_some}
-use Rattle.std.proofs.lemmas.List.Elements.{All-contains}
+use Rattle.std.specs.Prelude.{IsSome}
 use Rattle.words.specs.Updates.{put}
 use Rattle.program.specs.Trees.{Program}
 use Rattle.meaning.specs.Labels.{Action, Killed}
@@ -81,19 +80,6 @@ module _ (p : Program) (s c : SourceState) (a : Action) (is : c ≡ record s { p
   is_next n step s' x =
       let led : LeadsAlike p c a s' = step_alike p s c (without_like s c is) a s' x in
       like_back s' n (like_same s' led.0 n led.2 (step_once p a c led.0 n led.1 step))
-
--- processes that stand at one place where either state has them
-pub same_everywhere : (s r : SourceState) (ns ms : List ℕ) → ((q : ℕ) → Contains ns q ↔ IsSome (s.process q))
-    → ((q : ℕ) → Contains ms q ↔ IsSome (r.process q)) → All (λ q. s.process q ≡ r.process q) ns
-    → All (λ q. s.process q ≡ r.process q) ms → s.process ≡ r.process
-same_everywhere s r ns ms in_s in_r first second = λ i q. at q (s.process q) (r.process q) refl refl i
-  where
-    at : (q : ℕ) (x y : Option Process) → s.process q ≡ x → r.process q ≡ y → s.process q ≡ r.process q
-    at q (Some x) y e f = All-contains (λ q. s.process q ≡ r.process q) ns q first
-        ((in_s q).1 (ap is_some e))
-    at q None (Some y) e f = All-contains (λ q. s.process q ≡ r.process q) ms q second
-        ((in_r q).1 (ap is_some f))
-    at q None None e f = e ∙ sym f
 
 -- where all that follows the one is kept, all that follows the other is
 pub expanded_like : (p : Program) (strays : Bool) (kept : List SourceState) (s c : SourceState) → IsLike s c

@@ -1,18 +1,24 @@
 -- The states that a search keeps, and where it has come to its end.
-use Rattle.std.specs.Prelude.{ℕ, ◌≡◌, ◌++◌, All, Bool, true, false, IsSome, List, Option, None, map}
+use Rattle.std.specs.Prelude.{ℕ, ◌≡◌, ◌++◌, All, Bool, true, false, IsSome, List, Option, Some, None, map}
+use Rattle.std.specs.List.{slice_get}
 use Rattle.program.specs.Trees.{Program}
 use Rattle.meaning.specs.Labels.{Action, Kind}
 use Rattle.meaning.specs.Runs.{IsStep}
 use Rattle.meaning.specs.States.{SourceState}
+use Rattle.proof_exploration.specs.Exploring.{IsLike}
 use Rattle.proof_exploration.specs.Searching.{IsCovered, IsKept}
-use Rattle.source_states.specs.declared.state.SourceState.{SourceState as StateOf}
-use Rattle.source_states.specs.States.{state_of}
 use Rattle.source_search.specs.Choices.{by}
 use Rattle.source_search.specs.Found.{IsFrom}
+use Rattle.source_search.specs.Packed.{unpacked}
+use Rattle.source_search.specs.declared.packed.Packed.{Packed as PackedOf}
 
 -- the states that are kept
-abbrev pub states_in : List StateOf → List SourceState
-states_in states = map state_of states
+abbrev pub states_in : List PackedOf → List SourceState
+states_in states = map unpacked states
+
+-- a state like this one is kept at the place
+abbrev pub IsKeptAt : List PackedOf → ℕ → SourceState → Type 0
+IsKeptAt states place s = (x : PackedOf) × (slice_get states place ≡ Some x) × IsLike (unpacked x) s
 
 -- more is kept, behind what was
 abbrev pub IsLonger : List SourceState → List SourceState → Type 0

@@ -2,3 +2,5 @@ pub mod Found
 pub mod Choices
 pub mod Covered
 pub mod Kept
+pub mod Packed
+pub mod Followed

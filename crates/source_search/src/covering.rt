@@ -1,4 +1,4 @@
-use crate::follow::follow_calm;
+use crate::follow::{Followed, follow_calm, is_lost};
 use crate::kept::{Kept, Way};
 use crate::next::next_state;
 use program::Checked;
@@ -34,7 +34,10 @@ impl<'a> Kept<'a> {
         };
         let mut after = next;
         let mut trail = Vec::new(alloc);
-        let _choices = follow_calm(alloc, checked, &mut after, way.process, &mut trail)?;
+        let followed = follow_calm(alloc, checked, &mut after, way.process, &mut trail)?;
+        if is_lost(&followed) {
+            return Ok(false);
+        }
         self.keep(alloc, checked, after, way)
     }
 
@@ -83,7 +86,11 @@ impl<'a> Kept<'a> {
         }
         let mut after = state;
         let mut trail = Vec::new(alloc);
-        let Some(actions) = follow_calm(alloc, checked, &mut after, way.process, &mut trail)? else {
+        let followed = follow_calm(alloc, checked, &mut after, way.process, &mut trail)?;
+        if is_lost(&followed) {
+            return Ok(false);
+        }
+        let Followed::Choices(actions) = followed else {
             return self.keep(alloc, checked, after, way);
         };
         self.cover_each(alloc, checked, &after, actions.as_slice(), way)

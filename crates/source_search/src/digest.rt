@@ -1,120 +1,181 @@
 use program::{Member, Program, Statement, Target};
-use source_offers::{End, Frame, Process, Stage};
+use source_offers::{End, Frame, Process, Stage, Variables};
 use source_states::SourceState;
 use source_table::Hold;
 use std::alloc::{AllocError, Global};
 use std::hash::{FoldHasher, Hasher};
 use words::Cause;
 
-fn feed_member(member: Member, hasher: &mut FoldHasher) {
-    hasher.write_u32(member.monitor);
-    hasher.write_u32(member.number);
+// A number that is mixed of others.
+#[derive(Drop)]
+struct Mixer {
+    number: u64,
 }
 
-fn feed_option(number: Option<u32>, hasher: &mut FoldHasher) {
-    match number {
-        None => hasher.write_u64(0),
-        Some(number) => hasher.write_u64(u64::from(number) + 1),
+impl Mixer {
+    fn new() -> Mixer {
+        Mixer { number: 0 }
+    }
+
+    // Mixes in a number.
+    fn feed(&mut self, number: u64) {
+        self.number = (self.number ^ number)
+            .wrapping_mul(0x9E37_79B9_7F4A_7C15)
+            .rotate_left(31);
+    }
+
+    // Mixes in a number of one kind among several.
+    fn feed_kind(&mut self, kind: u64, number: u64) {
+        self.feed(number.wrapping_mul(16).wrapping_add(kind));
     }
 }
 
-fn feed_target(target: &Target, hasher: &mut FoldHasher) {
+fn feed_member(member: Member, digest: &mut Mixer) {
+    digest.feed_kind(u64::from(member.monitor), u64::from(member.number));
+}
+
+fn feed_option(number: Option<u32>, digest: &mut Mixer) {
+    match number {
+        None => digest.feed(0),
+        Some(number) => digest.feed(u64::from(number) + 1),
+    }
+}
+
+fn feed_target(target: &Target, digest: &mut Mixer) {
     match target {
-        Target::Local(slot) => hasher.write_u32(*slot),
-        Target::Member(member) => feed_member(*member, hasher),
-        Target::Element(element) => feed_member(element.array, hasher),
+        Target::Local(slot) => digest.feed_kind(1, u64::from(*slot)),
+        Target::Member(member) => feed_member(*member, digest),
+        Target::Element(element) => feed_member(element.array, digest),
     }
 }
 
 // What a statement is, roughly.
-fn feed_statement(statement: &Statement, hasher: &mut FoldHasher) {
+fn feed_statement(statement: &Statement, digest: &mut Mixer) {
     match statement {
-        Statement::Assign(target, _) => feed_target(target, hasher),
-        Statement::If { then_part, .. } => hasher.write_usize(then_part.len()),
-        Statement::While { body, .. } => hasher.write_usize(body.len()),
-        Statement::Call { procedure, .. } => hasher.write_u32(*procedure),
-        Statement::Fork { procedure, .. } => hasher.write_u32(*procedure),
-        Statement::Join { .. } => hasher.write_u8(1),
-        Statement::Return(_) => hasher.write_u8(2),
-        Statement::Wait(condition) => feed_member(*condition, hasher),
-        Statement::Notify(condition) => feed_member(*condition, hasher),
-        Statement::Broadcast(condition) => feed_member(*condition, hasher),
-        Statement::Print(_) => hasher.write_u8(3),
-        Statement::Abort => hasher.write_u8(4),
+        Statement::Assign(target, _) => feed_target(target, digest),
+        Statement::If { then_part, .. } => digest.feed_kind(2, then_part.len() as u64),
+        Statement::While { body, .. } => digest.feed_kind(3, body.len() as u64),
+        Statement::Call { procedure, .. } => digest.feed_kind(4, u64::from(*procedure)),
+        Statement::Fork { procedure, .. } => digest.feed_kind(5, u64::from(*procedure)),
+        Statement::Join { .. } => digest.feed_kind(6, 0),
+        Statement::Return(_) => digest.feed_kind(7, 0),
+        Statement::Wait(condition) => feed_member(*condition, digest),
+        Statement::Notify(condition) => feed_member(*condition, digest),
+        Statement::Broadcast(condition) => feed_member(*condition, digest),
+        Statement::Print(_) => digest.feed_kind(8, 0),
+        Statement::Abort => digest.feed_kind(9, 0),
     }
 }
 
-fn feed_rest(rest: &[&[Statement]], hasher: &mut FoldHasher) {
+fn feed_rest(rest: &[&[Statement]], digest: &mut Mixer) {
     for statements in rest {
-        hasher.write_usize(statements.len());
+        digest.feed(statements.len() as u64);
         if let Some(first) = statements.first() {
-            feed_statement(first, hasher);
+            feed_statement(first, digest);
         }
     }
 }
 
-fn feed_frame(frame: &Frame, hasher: &mut FoldHasher) {
-    feed_option(frame.into, hasher);
+fn feed_frame(frame: &Frame, digest: &mut Mixer) {
+    feed_option(frame.into, digest);
     for value in frame.locals.as_slice() {
-        hasher.write_i64(*value);
+        digest.feed(value.cast_unsigned());
     }
-    feed_rest(frame.rest.as_slice(), hasher);
+    feed_rest(frame.rest.as_slice(), digest);
 }
 
-fn feed_cause(cause: Cause, hasher: &mut FoldHasher) {
-    match cause {
-        Cause::Killed => hasher.write_u8(0),
-        Cause::Faulted(fault) => hasher.write_u32(fault.number()),
-    }
-}
-
-fn feed_end(end: End, hasher: &mut FoldHasher) {
+fn feed_end(end: End, digest: &mut Mixer) {
     match end {
-        End::Ended(value) => hasher.write_i64(value),
-        End::Aborted(cause) => feed_cause(cause, hasher),
+        End::Ended(value) => digest.feed_kind(10, value.cast_unsigned()),
+        End::Aborted(Cause::Killed) => digest.feed_kind(11, 0),
+        End::Aborted(Cause::Faulted(fault)) => digest.feed_kind(12, u64::from(fault.number())),
     }
 }
 
-fn feed_stage(stage: &Stage, hasher: &mut FoldHasher) {
+fn feed_stage(stage: &Stage, digest: &mut Mixer) {
     match stage {
-        Stage::Entering(monitor) => hasher.write_u32(*monitor),
-        Stage::Before(entered) => feed_option(*entered, hasher),
-        Stage::Suspended(condition) => feed_member(*condition, hasher),
-        Stage::Joining { child, .. } => hasher.write_u64(*child),
-        Stage::Returning(value) => hasher.write_i64(*value),
-        Stage::Failing(fault, _) => hasher.write_u32(fault.number()),
-        Stage::Dying(_, monitors) => hasher.write_usize(monitors.len()),
-        Stage::Leaving(value) => hasher.write_i64(*value),
-        Stage::Over(end) => feed_end(*end, hasher),
+        Stage::Entering(monitor) => digest.feed_kind(1, u64::from(*monitor)),
+        Stage::Before(None) => digest.feed_kind(2, 0),
+        Stage::Before(Some(entered)) => digest.feed_kind(3, u64::from(*entered)),
+        Stage::Suspended(condition) => {
+            digest.feed_kind(4, u64::from(condition.monitor));
+            digest.feed(u64::from(condition.number));
+        }
+        Stage::Joining { child, .. } => digest.feed_kind(5, *child),
+        Stage::Returning(value) => digest.feed_kind(6, value.cast_unsigned()),
+        Stage::Failing(fault, _) => digest.feed_kind(7, u64::from(fault.number())),
+        Stage::Dying(_, monitors) => digest.feed_kind(8, monitors.len() as u64),
+        Stage::Leaving(value) => digest.feed_kind(9, value.cast_unsigned()),
+        Stage::Over(end) => feed_end(*end, digest),
     }
 }
 
-fn feed_process(process: &Process, hasher: &mut FoldHasher) {
-    feed_stage(&process.stage, hasher);
-    feed_frame(&process.frame, hasher);
+fn feed_process(process: &Process, digest: &mut Mixer) {
+    feed_stage(&process.stage, digest);
+    feed_frame(&process.frame, digest);
     for caller in process.callers.as_slice() {
-        feed_frame(caller, hasher);
+        feed_frame(caller, digest);
     }
 }
 
 // A process, and what the table says of it.
-fn feed_entry(state: &SourceState, number: u64, hasher: &mut FoldHasher) {
-    hasher.write_u64(number);
+fn feed_entry(state: &SourceState, number: u64, digest: &mut Mixer) {
+    digest.feed(number);
     if let Some(process) = state.process(number) {
-        feed_process(process, hasher);
+        feed_process(process, digest);
     }
     if let Some(condition) = state.waits(number) {
-        feed_member(condition, hasher);
+        feed_member(condition, digest);
     }
-    hasher.write_u8(u8::from(state.claimed(number)));
+    digest.feed(u64::from(state.claimed(number)));
 }
 
-fn feed_hold(hold: Hold, hasher: &mut FoldHasher) {
+fn feed_hold(hold: Hold, digest: &mut Mixer) {
     match hold {
-        Hold::Free => hasher.write_u64(0),
-        Hold::Abandoned => hasher.write_u64(u64::MAX),
-        Hold::HeldBy(process) => hasher.write_u64(process),
+        Hold::Free => digest.feed(0),
+        Hold::Abandoned => digest.feed(u64::MAX),
+        Hold::HeldBy(process) => digest.feed(process),
     }
+}
+
+// Who holds each monitor.
+fn feed_holds(program: &Program, state: &SourceState, digest: &mut Mixer) {
+    let mut monitor: u32 = 0;
+    for _ in program.monitors.as_slice() {
+        feed_hold(state.hold(monitor), digest);
+        monitor = monitor.saturating_add(1);
+    }
+}
+
+/// The digest of a process.
+pub(crate) fn digest_process(process: &Process) -> u64 {
+    let mut digest = Mixer::new();
+    feed_process(process, &mut digest);
+    digest.number
+}
+
+/// The digest of the table of a state in which there are these processes.
+pub(crate) fn digest_table(program: &Program, state: &SourceState, numbers: &[u64]) -> u64 {
+    let mut digest = Mixer::new();
+    for number in numbers {
+        if let Some(condition) = state.waits(*number) {
+            digest.feed(*number);
+            feed_member(condition, &mut digest);
+        }
+        if let Some(end) = state.over(*number) {
+            feed_end(end, &mut digest);
+        }
+        digest.feed(u64::from(state.claimed(*number)));
+    }
+    feed_holds(program, state, &mut digest);
+    digest.number
+}
+
+/// The digest of the values of variables.
+pub(crate) fn digest_variables(variables: &Variables) -> u64 {
+    let mut hasher = FoldHasher::default();
+    variables.feed(&mut hasher);
+    hasher.finish()
 }
 
 /// A number that is mostly another where the state is another. Nothing is promised of it: it decides how fast a kept
@@ -124,16 +185,12 @@ pub(crate) fn digest(
     program: &Program,
     state: &SourceState,
 ) -> Result<u64, AllocError> {
-    let mut hasher = FoldHasher::default();
+    let mut digest = Mixer::new();
     let numbers = state.numbers(alloc)?;
     for number in numbers.as_slice() {
-        feed_entry(state, *number, &mut hasher);
+        feed_entry(state, *number, &mut digest);
     }
-    let mut monitor: u32 = 0;
-    for _ in program.monitors.as_slice() {
-        feed_hold(state.hold(monitor), &mut hasher);
-        monitor = monitor.saturating_add(1);
-    }
-    state.variables().feed(&mut hasher);
-    Ok(hasher.finish())
+    feed_holds(program, state, &mut digest);
+    digest.feed(digest_variables(state.variables()));
+    Ok(digest.number)
 }

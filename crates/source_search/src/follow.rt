@@ -1,13 +1,16 @@
-ghost use Rattle.std.specs.Prelude.{◌≡◌, All, IfOk, IfSome, OnOk, map, true, ℕ};
+ghost use Rattle.std.specs.Prelude.{◌≡◌, All, IfOk, IfSome, false, map, true};
+ghost use Rattle.program.specs.Trees.{Program as ProgramOf};
 ghost use Rattle.program.specs.Views.{program_of};
-ghost use Rattle.proof_exploration.specs.Exploring.{IsCalmKind};
+ghost use Rattle.meaning.specs.States.{SourceState as SourceStateOf};
+ghost use Rattle.proof_exploration.specs.Exploring.{IsCalmKind, IsFromOutside};
 ghost use Rattle.source_states.specs.Actions.{action_of, kind_of};
 ghost use Rattle.source_states.specs.States.{state_of};
 ghost use Rattle.source_search.specs.Covered.{IsAhead, IsFollowable};
+ghost use Rattle.source_search.specs.Followed.{IsFollowedTo};
 
 use crate::choices::own_actions;
-use program::{Checked, Statement};
-use source_offers::{Stage, upcoming};
+use program::{Checked, Role, Statement, Target};
+use source_offers::{Frame, Stage, upcoming};
 use source_states::{Action, ActionKind, SourceState};
 use sourcemeaning::can_move;
 use std::alloc::{AllocError, Global};
@@ -16,9 +19,10 @@ use words::Fault;
 // How many calm actions are done at most before a state is kept.
 const MOST: usize = 1000;
 
-// Whether an action of this name is calm: none for which processes race.
+// Whether an action of this name is a process's own and calm: none for which processes race.
 fn is_calm(kind: &ActionKind) -> bool
-    ensures { result ≡ true → IsCalmKind (kind_of kind.now) }
+    ensures calm { result ≡ true → IsCalmKind (kind_of kind.now) }
+    ensures own { result ≡ true → IsFromOutside (kind_of kind.now) → ⊥ }
 {
     match kind {
         ActionKind::Enter(_) => false,
@@ -29,6 +33,8 @@ fn is_calm(kind: &ActionKind) -> bool
             Fault::ProcessTableFull | Fault::HandleNotJoinable => false,
             _ => true,
         },
+        ActionKind::Stray(_) => false,
+        ActionKind::Kill(_, _) => false,
         _ => true,
     }
 }
@@ -45,20 +51,47 @@ fn are_calm(actions: &[Action]) -> bool
     true
 }
 
-// Whether the next action of a process looks calm and possible, from where the process stands. Nothing is promised of
-// it: it spares asking what the process may do.
-fn looks_calm(state: &SourceState, number: u64) -> bool {
+// How the next action of a process looks.
+#[derive(Clone, Copy, PartialEq, Eq, Debug)]
+enum Looks {
+    // As one for which processes race, or none.
+    Racing,
+    // As a calm one that no other process sees.
+    Internal,
+    // As another that is calm.
+    Calm,
+}
+
+// How what comes next in a procedure looks.
+fn looks_within(frame: &Frame) -> Looks {
+    match upcoming(frame.rest.as_slice()) {
+        Some(Statement::Fork { .. }) | Some(Statement::Join { .. }) => Looks::Racing,
+        Some(Statement::Assign(Target::Local(_), _)) => Looks::Internal,
+        Some(Statement::If { .. }) | Some(Statement::While { .. }) => Looks::Internal,
+        Some(Statement::Call { .. }) | Some(Statement::Abort) => Looks::Internal,
+        None | Some(Statement::Return(_)) => match frame.role {
+            Role::Internal(_) | Role::External => Looks::Internal,
+            _ => Looks::Calm,
+        },
+        Some(_) => Looks::Calm,
+    }
+}
+
+// How the next action of a process looks, from where the process stands. Nothing is promised of it: it spares asking
+// what the process may do.
+fn looks_next(state: &SourceState, number: u64) -> Looks {
     let Some(process) = state.process(number) else {
-        return false;
+        return Looks::Racing;
     };
     match &process.stage {
-        Stage::Entering(_) | Stage::Suspended(_) | Stage::Over(_) => false,
-        Stage::Joining { child, .. } => state.over(*child).is_some(),
-        Stage::Before(_) => !matches!(
-            upcoming(process.frame.rest.as_slice()),
-            Some(Statement::Fork { .. }) | Some(Statement::Join { .. })
-        ),
-        _ => true,
+        Stage::Entering(_) | Stage::Suspended(_) | Stage::Over(_) => Looks::Racing,
+        Stage::Joining { child, .. } => match state.over(*child) {
+            None => Looks::Racing,
+            Some(_) => Looks::Calm,
+        },
+        Stage::Before(_) => looks_within(&process.frame),
+        Stage::Returning(_) | Stage::Failing(_, _) => Looks::Internal,
+        Stage::Dying(_, _) | Stage::Leaving(_) => Looks::Calm,
     }
 }
 
@@ -72,9 +105,6 @@ fn calm_actions<'a>(
     ensures { IfOk result (λ o. IfSome o (λ v. IsFollowable (program_of checked.now.tree)
         (state_of state.now) process (map action_of v.items))) }
 {
-    if !looks_calm(state, process) {
-        return Ok(None);
-    }
     if !can_move(state, checked, process) {
         return Ok(None);
     }
@@ -87,27 +117,119 @@ fn calm_actions<'a>(
     Ok(Some(actions))
 }
 
-// What some process may do next that can move and of which all of that is calm; this one, where it is such a process.
-fn some_calm_actions<'a>(
+/// What came of following calm actions.
+#[derive(Drop)]
+pub(crate) enum Followed {
+    /// None can be followed, or enough were.
+    Stopped,
+    /// One was followed.
+    Went,
+    /// What a process may do next, of which all is calm, and several actions.
+    Choices(Vec<Action>),
+    /// What looked calm wasn't, and nothing is known of the state.
+    Lost,
+}
+
+/// Whether nothing is known of the state.
+pub(crate) fn is_lost(followed: &Followed) -> bool
+    ensures { result ≡ false → (p : ProgramOf) (s s' : SourceStateOf)
+        → IsFollowedTo p s s' followed.now → IsAhead p s s' }
+{
+    match followed {
+        Followed::Lost => true,
+        Followed::Stopped => false,
+        Followed::Went => false,
+        Followed::Choices(_) => false,
+    }
+}
+
+// Lets a process do what it may, where all of that is calm, and it is one action; and notes the action.
+fn go_calmly<'a>(
     alloc: Global,
     checked: &'a Checked,
-    state: &SourceState<'a>,
-    first: u64,
-) -> Result<Option<Vec<Action>>, AllocError>
-    ensures { IfOk result (λ o. IfSome o (λ v. (t : ℕ) × IsFollowable (program_of checked.now.tree)
-        (state_of state.now) t (map action_of v.items))) }
+    state: &mut SourceState<'a>,
+    process: u64,
+    trail: &mut Vec<Action>,
+) -> Result<Followed, AllocError>
+    ensures { IfOk result (λ f. IsFollowedTo (program_of checked.now.tree) (state_of state.old)
+        (state_of state.new) f) }
 {
-    if let Some(actions) = calm_actions(alloc, checked, state, first)? {
-        return Ok(Some(actions));
+    let Some(mut actions) = calm_actions(alloc, checked, state, process)? else {
+        return Ok(Followed::Stopped);
+    };
+    let listed = actions.as_slice();
+    if listed.len() != 1 {
+        return Ok(Followed::Choices(actions));
     }
-    let all = state.numbers(alloc)?;
-    let numbers = all.as_slice();
+    if !state.advance(alloc, checked.program(), &listed[0])? {
+        return Ok(Followed::Lost);
+    }
+    trail.append(&mut actions)?;
+    Ok(Followed::Went)
+}
+
+// Lets a process take its internal action, and notes it.
+fn go_alone<'a>(
+    alloc: Global,
+    checked: &'a Checked,
+    state: &mut SourceState<'a>,
+    process: u64,
+    trail: &mut Vec<Action>,
+) -> Result<Followed, AllocError>
+    ensures { IfOk result (λ f. IsFollowedTo (program_of checked.now.tree) (state_of state.old)
+        (state_of state.new) f) }
+{
+    let Some(kind) = state.take_internal(alloc, checked.program(), process)? else {
+        return Ok(Followed::Lost);
+    };
+    if !is_calm(&kind) {
+        return Ok(Followed::Lost);
+    }
+    trail.push(Action { process, kind })?;
+    Ok(Followed::Went)
+}
+
+// Follows the next action of a process, where it is calm, and notes it.
+fn follow_one<'a>(
+    alloc: Global,
+    checked: &'a Checked,
+    state: &mut SourceState<'a>,
+    process: u64,
+    trail: &mut Vec<Action>,
+) -> Result<Followed, AllocError>
+    ensures { IfOk result (λ f. IsFollowedTo (program_of checked.now.tree) (state_of state.old)
+        (state_of state.new) f) }
+{
+    match looks_next(state, process) {
+        Looks::Racing => Ok(Followed::Stopped),
+        Looks::Internal => go_alone(alloc, checked, state, process, trail),
+        Looks::Calm => go_calmly(alloc, checked, state, process, trail),
+    }
+}
+
+// Follows the next action of the first process of these of which it is calm; of this one, where it is.
+fn follow_some<'a>(
+    alloc: Global,
+    checked: &'a Checked,
+    state: &mut SourceState<'a>,
+    first: u64,
+    numbers: &[u64],
+    trail: &mut Vec<Action>,
+) -> Result<Followed, AllocError>
+    ensures { IfOk result (λ f. IsFollowedTo (program_of checked.now.tree) (state_of state.old)
+        (state_of state.new) f) }
+{
+    match follow_one(alloc, checked, state, first, trail)? {
+        Followed::Stopped => {}
+        followed => return Ok(followed),
+    }
     for number in numbers {
-        if let Some(actions) = calm_actions(alloc, checked, state, *number)? {
-            return Ok(Some(actions));
+        match follow_one(alloc, checked, state, *number, trail)? {
+            Followed::Stopped => {}
+            followed => return Ok(followed),
         }
     }
-    Ok(None)
+    Ok(Followed::Stopped)
 }
 
 /// Follows one process at a time, this one first, as long as one has a calm next action and no choice, and notes the
@@ -118,24 +240,16 @@ pub(crate) fn follow_calm<'a>(
     state: &mut SourceState<'a>,
     first: u64,
     trail: &mut Vec<Action>,
-) -> Result<Option<Vec<Action>>, AllocError>
-    ensures ahead { OnOk result (IsAhead (program_of checked.now.tree) (state_of state.old)
-        (state_of state.new)) }
-    ensures choices { IfOk result (λ o. IfSome o (λ v. (t : ℕ) × IsFollowable
-        (program_of checked.now.tree) (state_of state.new) t (map action_of v.items))) }
+) -> Result<Followed, AllocError>
+    ensures { IfOk result (λ f. IsFollowedTo (program_of checked.now.tree) (state_of state.old)
+        (state_of state.new) f) }
 {
+    let all = state.numbers(alloc)?;
     for _ in 0..MOST {
-        let Some(mut actions) = some_calm_actions(alloc, checked, state, first)? else {
-            return Ok(None);
-        };
-        let listed = actions.as_slice();
-        if listed.len() != 1 {
-            return Ok(Some(actions));
+        match follow_some(alloc, checked, state, first, all.as_slice(), trail)? {
+            Followed::Went => {}
+            followed => return Ok(followed),
         }
-        if !state.advance(alloc, checked.program(), &listed[0])? {
-            return Ok(None);
-        }
-        trail.append(&mut actions)?;
     }
-    Ok(None)
+    Ok(Followed::Stopped)
 }

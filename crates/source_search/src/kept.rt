@@ -1,14 +1,15 @@
-ghost use Rattle.std.specs.Prelude.{◌≡◌, IfOk, OnOk, true};
+ghost use Rattle.std.specs.Prelude.{◌≡◌, IfOk, IfSome, OnOk, true};
 ghost use Rattle.proof_exploration.specs.Searching.{IsKept as IsKeptIn};
 ghost use Rattle.source_states.specs.States.{state_of};
 ghost use Rattle.source_search.specs.Kept.{states_in};
 
 use crate::digest::digest;
-use crate::states::is_like;
+use crate::packed::Packed;
+use crate::parts::Parts;
 use program::Checked;
 use source_states::SourceState;
 use std::alloc::{AllocError, Global};
-use std::collections::BTreeMap;
+use std::collections::{BTreeMap, VecDeque};
 
 // How many places are tried for a digest.
 const TRIES: u64 = 8;
@@ -30,7 +31,11 @@ pub(crate) struct Way {
 #[derive(Drop)]
 pub(crate) struct Kept<'a> {
     // The states.
-    pub states: Vec<SourceState<'a>>,
+    pub states: Vec<Packed<'a>>,
+    // The parts of which they are made.
+    parts: Parts<'a>,
+    // The last of the states once more, whole, which were not looked at yet.
+    ahead: VecDeque<SourceState<'a>>,
     // How each was come to.
     pub ways: Vec<Way>,
     // The place of each digest, or of one shortly before it.
@@ -42,7 +47,7 @@ pub(crate) struct Kept<'a> {
 /// Whether a state like this one, whose digest is `first`, is kept at the place of that digest or of one shortly after.
 pub(crate) fn is_kept<'a>(
     alloc: Global,
-    states: &[SourceState<'a>],
+    states: &[Packed<'a>],
     places: &BTreeMap<u64, usize>,
     first: u64,
     state: &SourceState<'a>,
@@ -57,7 +62,7 @@ pub(crate) fn is_kept<'a>(
         let Some(kept) = states.get(*place) else {
             return Ok(false);
         };
-        if is_like(kept, state, alloc)? {
+        if kept.is_like(alloc, state)? {
             return Ok(true);
         }
     }
@@ -77,12 +82,14 @@ fn free_key(places: &BTreeMap<u64, usize>, first: u64) -> Option<u64> {
 
 impl<'a> Kept<'a> {
     ghost use Rattle.source_states.specs.States.{state_of};
-    ghost use Rattle.source_search.specs.Kept.{IsLonger, states_in};
+    ghost use Rattle.source_search.specs.Kept.{IsKeptAt, IsLonger, states_in};
 
     /// No states yet, and how many may be kept.
     pub fn new(alloc: Global, most: usize) -> Kept<'a> {
         Kept {
             states: Vec::new(alloc),
+            parts: Parts::new(alloc),
+            ahead: VecDeque::new(alloc),
             ways: Vec::new(alloc),
             places: BTreeMap::new(alloc),
             most,
@@ -97,6 +104,28 @@ impl<'a> Kept<'a> {
             let _none = self.places.insert(key, self.states.len())?;
         }
         Ok(())
+    }
+
+    /// The next state that was kept, whole. It is there always; that it is the one at this place is looked at.
+    pub fn next(
+        &mut self,
+        alloc: Global,
+        place: usize,
+    ) -> Result<Option<SourceState<'a>>, AllocError>
+        ensures states { OnOk result (self.new.states.items ≡ self.old.states.items) }
+        ensures like { IfOk result (λ o. IfSome o
+            (λ s. IsKeptAt self.new.states.items place (state_of s))) }
+    {
+        let Some(state) = self.ahead.pop_front() else {
+            return Ok(None);
+        };
+        let Some(kept) = self.states.get(place) else {
+            return Ok(None);
+        };
+        if !kept.is_like(alloc, &state)? {
+            return Ok(None);
+        }
+        Ok(Some(state))
     }
 
     /// Keeps a state, unless one like it is kept; false, where no more can be kept.
@@ -119,9 +148,14 @@ impl<'a> Kept<'a> {
         if self.states.len() >= self.most {
             return Ok(false);
         }
+        let packed = self.parts.pack(alloc, checked.program(), &state)?;
+        if !packed.is_like(alloc, &state)? {
+            return Ok(false);
+        }
         self.note(first)?;
         self.ways.push(way)?;
-        self.states.push(state)?;
+        self.states.push(packed)?;
+        self.ahead.push_back(state)?;
         Ok(true)
     }
 }

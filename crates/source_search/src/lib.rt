@@ -9,10 +9,11 @@ mod follow;
 mod kept;
 mod next;
 mod outside;
+mod packed;
+mod parts;
 mod replay;
 mod runs;
 mod search;
 mod sets;
-mod states;
 
 pub use runs::{Exploration, explore};

@@ -1,5 +1,5 @@
 use crate::choices::choices;
-use crate::follow::follow_calm;
+use crate::follow::{Followed, follow_calm};
 use crate::kept::Way;
 use program::Checked;
 use source_states::{Action, SourceState};
@@ -52,7 +52,8 @@ fn follow_on<'a>(
     way: Way,
     actions: &mut Vec<Action>,
 ) -> Result<(), AllocError> {
-    let Some(choices) = follow_calm(alloc, checked, state, way.process, actions)? else {
+    let followed = follow_calm(alloc, checked, state, way.process, actions)?;
+    let Followed::Choices(choices) = followed else {
         return Ok(());
     };
     let Some(action) = choices.into_iter().nth(way.later) else {
@@ -62,7 +63,7 @@ fn follow_on<'a>(
         return Ok(());
     }
     actions.push(action)?;
-    let _choices = follow_calm(alloc, checked, state, way.process, actions)?;
+    let _followed = follow_calm(alloc, checked, state, way.process, actions)?;
     Ok(())
 }
 

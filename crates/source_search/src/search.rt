@@ -188,11 +188,14 @@ pub(crate) fn search<'a>(
         aborted: None,
     };
     for place in 0..most {
-        let Some(found) = kept.states.get(place) else {
+        let known = kept.states.as_slice();
+        if place >= known.len() {
             findings.complete = true;
             return Ok(findings);
+        }
+        let Some(state) = kept.next(alloc, place)? else {
+            return Ok(findings);
         };
-        let state = found.copy(alloc)?;
         findings.look(alloc, checked, &state, place)?;
         if !kept.expand(alloc, checked, &state, place, strays)? {
             return Ok(findings);

@@ -9,7 +9,7 @@ use Rattle.source_search.proofs.follow.are_calm.Goals as goal
 pub loop-action-preserved : goal.loop-action-preserved
 loop-action-preserved c =
     one_more_action (λ a. IsCalmKind a.kind) c.args.actions.now c.loop-action.action-index c.action-item.result
-    c.loop-action-test.true c.action-item.is c.loop-action.invariant (c.is_calm.ensures c.if-not-is_calm.false)
+    c.loop-action-test.true c.action-item.is c.loop-action.invariant (c.is_calm.ensures.calm c.if-not-is_calm.false)
 
 pub returns : goal.returns
 returns c = λ e.

@@ -1,11 +1,11 @@
-use Rattle.std.proofs.Common.{◌≡◌, ◌∙◌, ◌≤◌, Some, ap, arith, length, refl, slice_get, subst}
+use Rattle.std.proofs.Common.{◌∙◌, ◌≤◌, ap, arith, length, refl, subst}
 use Rattle.std.proofs.lemmas.Bool.Decides.{nat_tests}
 use Rattle.std.proofs.lemmas.List.{length-map}
-use Rattle.std.proofs.lemmas.Option.{slice_get_read}
 use Rattle.program.specs.Views.{program_of}
 use Rattle.source_states.specs.States.{state_of}
-use Rattle.source_search.specs.Kept.{states_in}
-use Rattle.source_search.proofs.Searched.{all_expanded, at_first, goes_on, none_aborted, none_stuck, past, state_at}
+use Rattle.source_search.specs.Kept.{IsKeptAt, IsLonger, states_in}
+use Rattle.source_search.specs.Packed.{unpacked}
+use Rattle.source_search.proofs.Searched.{all_expanded, at_first, goes_on, none_aborted, none_stuck, state_at}
 use Rattle.source_search.proofs.search.search.Goals as goal
 
 pub loop-place-init : goal.loop-place-init
@@ -17,43 +17,53 @@ loop-place-init c = record {
 pub loop-place-preserved : goal.loop-place-preserved
 loop-place-preserved c =
     let states = c.loop-place.kept.states.items in
-    let here : slice_get states c.loop-place.place ≡ Some c.in-Some.found.now =
-    subst (λ xs. slice_get xs c.loop-place.place ≡ Some c.in-Some.found.now) c.deref.ensures.value
-    (slice_get_read c.deref.result.now (length c.deref.result.now) c.loop-place.place c.in-Some.found.now refl
-    c.in-Some.ensures.lookup.3.0 c.in-Some.ensures.lookup.1) in
+    let there : IsKeptAt c.next.new.self.states.items c.loop-place.place (state_of c.in-Some.state) =
+    rw c.in-Some.is at c.in_ok-state.ensures.like in
+    let here : IsKeptAt states c.loop-place.place (state_of c.in-Some.state) =
+    subst (λ xs. IsKeptAt xs c.loop-place.place (state_of c.in-Some.state)) c.in_ok-state.ensures.states there in
     record {
       so_far = goes_on (program_of c.args.checked.now.tree) c.args.strays (states_in c.args.kept.now.states.items)
           (states_in states) (states_in c.expand.new.self.states.items) c.loop-place.place c.loop-place.findings.stuck
           c.look.new.self.stuck c.loop-place.findings.aborted c.look.new.self.aborted c.loop-place.invariant.so_far
-          c.in_ok-expand.ensures.longer (state_of c.in-Some.found.now) (state_of c.in_ok-state.state)
-          (state_at states c.loop-place.place c.in-Some.found.now here) c.in_ok-state.ensures
+          (subst (λ xs. IsLonger (states_in xs) (states_in c.expand.new.self.states.items)) c.in_ok-state.ensures.states
+          c.in_ok-expand.ensures.longer) (unpacked here.0) (state_of c.in-Some.state)
+          (state_at states c.loop-place.place here.0 here.1) here.2
           (c.in_ok-expand.ensures.kept c.if-not-branch.false) c.in_ok-look.ensures.stuck c.in_ok-look.ensures.aborted;
       goes_on = c.in_ok-look.ensures.complete ∙ c.loop-place.invariant.goes_on;
     }
 
-pub returns-in_default-clause-expanded : goal.returns-in_default-clause-expanded
-returns-in_default-clause-expanded c = λ e.
+pub returns-then-place-known-clause-expanded : goal.returns-then-place-known-clause-expanded
+returns-then-place-known-clause-expanded c = λ e.
     let end : length (states_in c.loop-place.kept.states.items) ≤ c.loop-place.place =
-    past c.loop-place.kept.states.items c.deref.result.now c.loop-place.place c.deref.ensures.value
-    c.in_default.ensures.lookup.0 in
+    omega (
+      arith,
+      ap length c.as_slice-known.ensures.value,
+      length-map c.loop-place.kept.states.items unpacked,
+    ) in
     all_expanded (program_of c.args.checked.now.tree) c.args.strays (states_in c.args.kept.now.states.items)
     (states_in c.loop-place.kept.states.items) c.loop-place.place c.loop-place.findings.stuck
     c.loop-place.findings.aborted c.loop-place.invariant.so_far end
 
-pub returns-in_default-clause-stuck : goal.returns-in_default-clause-stuck
-returns-in_default-clause-stuck c = λ e.
+pub returns-then-place-known-clause-stuck : goal.returns-then-place-known-clause-stuck
+returns-then-place-known-clause-stuck c = λ e.
     let end : length (states_in c.loop-place.kept.states.items) ≤ c.loop-place.place =
-    past c.loop-place.kept.states.items c.deref.result.now c.loop-place.place c.deref.ensures.value
-    c.in_default.ensures.lookup.0 in
+    omega (
+      arith,
+      ap length c.as_slice-known.ensures.value,
+      length-map c.loop-place.kept.states.items unpacked,
+    ) in
     none_stuck (program_of c.args.checked.now.tree) c.args.strays (states_in c.args.kept.now.states.items)
     (states_in c.loop-place.kept.states.items) c.loop-place.place c.loop-place.findings.stuck
     c.loop-place.findings.aborted c.loop-place.invariant.so_far end
 
-pub returns-in_default-clause-aborted : goal.returns-in_default-clause-aborted
-returns-in_default-clause-aborted c = λ e.
+pub returns-then-place-known-clause-aborted : goal.returns-then-place-known-clause-aborted
+returns-then-place-known-clause-aborted c = λ e.
     let end : length (states_in c.loop-place.kept.states.items) ≤ c.loop-place.place =
-    past c.loop-place.kept.states.items c.deref.result.now c.loop-place.place c.deref.ensures.value
-    c.in_default.ensures.lookup.0 in
+    omega (
+      arith,
+      ap length c.as_slice-known.ensures.value,
+      length-map c.loop-place.kept.states.items unpacked,
+    ) in
     none_aborted (program_of c.args.checked.now.tree) c.args.strays (states_in c.args.kept.now.states.items)
     (states_in c.loop-place.kept.states.items) c.loop-place.place c.loop-place.findings.stuck
     c.loop-place.findings.aborted c.loop-place.invariant.so_far end
@@ -67,7 +77,7 @@ returns-clause-expanded c = λ e.
       few,
       c.loop-place-test.false,
       ap length c.as_slice-all.ensures.value,
-      length-map c.loop-place.kept.states.items state_of,
+      length-map c.loop-place.kept.states.items unpacked,
     ) in
     all_expanded (program_of c.args.checked.now.tree) c.args.strays (states_in c.args.kept.now.states.items)
     (states_in c.loop-place.kept.states.items) c.loop-place.place c.loop-place.findings.stuck
@@ -82,7 +92,7 @@ returns-clause-stuck c = λ e.
       few,
       c.loop-place-test.false,
       ap length c.as_slice-all.ensures.value,
-      length-map c.loop-place.kept.states.items state_of,
+      length-map c.loop-place.kept.states.items unpacked,
     ) in
     none_stuck (program_of c.args.checked.now.tree) c.args.strays (states_in c.args.kept.now.states.items)
     (states_in c.loop-place.kept.states.items) c.loop-place.place c.loop-place.findings.stuck
@@ -97,7 +107,7 @@ returns-clause-aborted c = λ e.
       few,
       c.loop-place-test.false,
       ap length c.as_slice-all.ensures.value,
-      length-map c.loop-place.kept.states.items state_of,
+      length-map c.loop-place.kept.states.items unpacked,
     ) in
     none_aborted (program_of c.args.checked.now.tree) c.args.strays (states_in c.args.kept.now.states.items)
     (states_in c.loop-place.kept.states.items) c.loop-place.place c.loop-place.findings.stuck

@@ -5,6 +5,7 @@ use Rattle.meaning.specs.States.{SourceState}
 use Rattle.proof_exploration.specs.Exploring.{IsLike}
 use Rattle.source_states.specs.Actions.{action_of}
 use Rattle.source_states.specs.States.{state_of}
+use Rattle.source_search.specs.Covered.{IsAhead}
 use Rattle.source_search.specs.Kept.{states_in}
 use Rattle.source_search.proofs.Ahead.{leads_like, leads_nowhere}
 use Rattle.source_search.proofs.kept.Kept.cover_one.Goals as goal
@@ -22,8 +23,11 @@ returns-clause-kept c =
     let next : (s : SourceState) → IsStep (program_of c.args.checked.now.tree) (state_of c.args.state.now)
     (action_of c.args.action.now) s → IsLike (state_of c.in-Some.next) s =
     rw c.in-Some.is at c.in_ok-next.ensures in
+    let ahead : IsAhead (program_of c.args.checked.now.tree) (state_of c.in-Some.next) (state_of c.follow_calm.new.state) =
+    c.is_lost.ensures c.if-is_lost.false (program_of c.args.checked.now.tree) (state_of c.in-Some.next)
+    (state_of c.follow_calm.new.state) c.in_ok-followed.ensures in
     IfOk-weaker c.keep.result _ _ (λ b h e.
     leads_like (program_of c.args.checked.now.tree) (states_in c.keep.new.self.states.items)
     (state_of c.args.state.now) (state_of c.in-Some.next) (state_of c.follow_calm.new.state)
-    (action_of c.args.action.now) next c.in_ok-_choices.ensures.ahead (h e))
+    (action_of c.args.action.now) next ahead (h e))
     c.keep.ensures.kept
