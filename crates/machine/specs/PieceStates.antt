@@ -12,8 +12,8 @@ use Rattle.locals.specs.Threads.{Thread}
 use Rattle.locals.specs.Looks.{Request, AskWait, AskWake, AskRequeue, Look, Goes, Asks, Leaves, Breaks, Rests, look}
 use Rattle.machine.specs.States.{State, opening_state}
 
--- a state; the phase of each thread, which is the first for a thread outside calls; the holder of each bucket, if it has
--- one; and how many buckets there are
+-- a state; the phase of each thread, which is the first for a thread outside calls; the holder of each bucket, if it
+-- has one; and how many buckets there are
 pub record PieceState : Type 0 where
   pub base : State
   pub phase : ℕ → FutexPhase
@@ -79,8 +79,8 @@ pub record IsWithin (p : Program) (s : PieceState) (u : ℕ) : Type 0 where
   pub lies : LiesIn s.base.size call
   pub awake : s.base.asleep u ≡ None
 
--- what always holds: there is a bucket, no thread stands past those that were made, each is outside calls or within one,
--- and the buckets are held as the phases say
+-- what always holds: there is a bucket, no thread stands past those that were made, each is outside calls or within
+-- one, and the buckets are held as the phases say
 pub record IsHeldRight (p : Program) (s : PieceState) : Type 0 where
   pub some : 0 < s.buckets
   pub few : (u : ℕ) (x : Thread) → s.base.thread u ≡ Some x → u < s.base.made + 1

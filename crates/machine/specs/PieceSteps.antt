@@ -1,5 +1,5 @@
--- The machine's steps with futex calls in pieces: a call takes its buckets, compares and acts, each in a step of its own,
--- and steps of other threads come between.
+-- The machine's steps with futex calls in pieces: a call takes its buckets, compares and acts, each in a step of its
+-- own, and steps of other threads come between.
 use Rattle.std.specs.Prelude.{ℕ, ◌≡◌, ◌≢◌, ◌+◌, ◌%◌, Bool, true, false, Option, Some, None, List, [], ◌∷◌, length}
 use Rattle.words.specs.declared.outcome.Cause.TheVariants.{Killed as Killed'}
 use Rattle.isa.specs.Programs.{Program}
@@ -64,7 +64,8 @@ pub data Piece (p : Program) (s : PieceState) (t : ℕ) (x : Thread) (woken : Li
   -- the act, whose answer is how many it woke or moved
   IsAct : (call : FutexCall) (go : ℕ → Thread) (moved : List ℕ) (after : ℕ → Option ℕ)
       → look p t x ≡ Asks (request_of call) go → s.phase t ≡ Act → Acts t call s.base.asleep woken moved after
-      → s' ≡ goes_outside s t (with_sleepers s.base after) (buckets_of s.buckets call) (go (length woken + length moved))
+      → s' ≡ goes_outside s t (with_sleepers s.base after) (buckets_of s.buckets call)
+      (go (length woken + length moved))
       → Piece p s t x woken s'
 
 -- one step of a thread that was made and doesn't sleep
