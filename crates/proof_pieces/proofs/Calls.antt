@@ -1,5 +1,6 @@
 -- The call that a thread makes; and a thread that waits runs on behind its wait.
-use Rattle.std.proofs.Common.{◌≡◌, ◌∙◌, ℕ, ◌+◌, Option, Some, None, List, [], ◌∷◌, length, refl, ap, subst, Bool, true, false}
+use Rattle.std.proofs.Common.{◌≡◌, ◌∙◌, ℕ, ◌+◌, Option, Some, None, List, [], ◌∷◌, length, refl, ap, subst, Bool, true}
+use Rattle.std.proofs.Common.{false}
 use Rattle.std.specs.Prelude.{nat_lt, slice_get}
 use Rattle.words.specs.declared.outcome.Fault.{Fault}
 use Rattle.words.specs.Versions.{most_of}
@@ -22,7 +23,8 @@ use Rattle.locals.specs.Threads.{Thread, Runs, Dies, Exits, fresh, is_dying}
 use Rattle.locals.specs.InstructionEffects.{operator_effect}
 use Rattle.locals.specs.Looks.{AskReturn, AskReturnValue}
 use Rattle.locals.specs.Looks.{Request, AskWait, Look, Goes, Asks, look, look_at, at_place}
-use Rattle.locals.specs.Looks.{return_look, if_so, or_dies, effect, Effect, Then, Keeps, To, Tests, Asking, Trying, Calls}
+use Rattle.locals.specs.Looks.{return_look, if_so, or_dies, effect, Effect, Then, Keeps, To, Tests, Asking, Trying}
+use Rattle.locals.specs.Looks.{Calls}
 use Rattle.locals.specs.Looks.{Returns, ReturnsValue, Fails, Misses, Guards, Checks}
 use Rattle.machine.specs.PieceStates.{request_of, call_of, call_at, called}
 
@@ -157,7 +159,8 @@ module _ (place : ℕ) (locals : Locals) (callers : List Frame) where
   trying_on (AskWait a expected) fault answered h = absurd h
   trying_on request fault answered h = tt
 
-  returned_on : (v : ℕ) (operands : List ℕ) (frames : List Frame) → RunsOn (return_look (AskReturnValue v) operands frames)
+  returned_on : (v : ℕ) (operands : List ℕ) (frames : List Frame) → RunsOn
+      (return_look (AskReturnValue v) operands frames)
   returned_on v operands [] = tt
   returned_on v operands (f ∷ fs) = tt
 

@@ -1,5 +1,5 @@
--- Nobody has committed on a word whose bucket is free, or held by a thread that has not committed; and a step of an exit
--- that wakes on such a word wakes in the whole as here.
+-- Nobody has committed on a word whose bucket is free, or held by a thread that has not committed; and a step of an
+-- exit that wakes on such a word wakes in the whole as here.
 use Rattle.std.proofs.Common.{◌≡◌, ◌≢◌, ◌∙◌, ℕ, ◌+◌, ◌%◌, ◌<◌, ◌⊎◌, inl, inr, Option, Some, None, List, [], ◌∷◌, length}
 use Rattle.std.proofs.Common.{refl, sym, ap, Bool, true, false, arith}
 use Rattle.std.specs.Prelude.{if◌then◌else◌}
@@ -11,7 +11,8 @@ use Rattle.futexcalls.specs.declared.pieces.FutexCall.{FutexCall}
 use Rattle.futexcalls.specs.declared.pieces.FutexCall.TheVariants.{Wait, Wake, Requeue}
 use Rattle.futexcalls.specs.declared.pieces.FutexPhase.{FutexPhase}
 use Rattle.futexcalls.specs.declared.pieces.FutexPhase.TheVariants.{First, Second, Compare, Act}
-use Rattle.robustexit.specs.RobustExit.{Shared, ExitStep, EntryStep, PendingStep, IsPending, IsForeign, IsOwned, NoEntry}
+use Rattle.robustexit.specs.RobustExit.{Shared, ExitStep, EntryStep, PendingStep, IsPending, IsForeign, IsOwned}
+use Rattle.robustexit.specs.RobustExit.{NoEntry}
 use Rattle.robustexit.specs.RobustExit.{IsIdle, Abandons, WakesOne, IsEntry}
 use Rattle.robustexit.specs.Waking.{WakesOn}
 use Rattle.robustexit.specs.declared.phase.ExitPhase.{ExitPhase}
@@ -90,7 +91,8 @@ module _ (size t : ℕ) (sh : Shared) (c : ℕ → Option ℕ) (woken : List ℕ
     wakes = wakes_both sh.asleep c a 1 woken after.asleep apart (λ l. free) h.wakes;
   }
 
-  entry_both : (e : ℕ) → (sh.word (process_word t 1) ≢ e → (owner_of (sh.word (e + 1)) ≡ t) × (waiters_of (sh.word (e + 1)) ≡ true) → (u : ℕ) → c u ≢ Some (e + 1))
+  entry_both : (e : ℕ) → (sh.word (process_word t 1) ≢ e → (owner_of (sh.word (e + 1)) ≡ t)
+      × (waiters_of (sh.word (e + 1)) ≡ true) → (u : ℕ) → c u ≢ Some (e + 1))
       → EntryStep size t e sh woken after → EntryStep size t e (joins_shared c sh) woken (joins_shared c after)
   entry_both e free (IsPending q i) = IsPending q (idle_both i)
   entry_both e free (IsForeign q i) = IsForeign q (idle_both i)

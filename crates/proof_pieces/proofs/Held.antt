@@ -2,7 +2,8 @@
 use Rattle.std.proofs.Common.{◌≡◌, ◌≢◌, ◌∙◌, ℕ, suc, ◌+◌, ◌%◌, ◌<◌, ◌≤◌, ◌==◌, ◌⊎◌, ◌||◌, inl, inr, Option, Some, None}
 use Rattle.std.proofs.Common.{List, [], ◌∷◌, refl, sym, ap, subst, Bool, true, false, arith}
 use Rattle.std.specs.Prelude.{if◌then◌else◌, nat_le}
-use Rattle.std.proofs.lemmas.Bool.{eqb-true, eqb-false, eq-eqb, cases_eq, cases_Bool, both_ways, or_cases, or_left, or_right}
+use Rattle.std.proofs.lemmas.Bool.{eqb-true, eqb-false, eq-eqb, cases_eq, cases_Bool, both_ways, or_cases, or_left}
+use Rattle.std.proofs.lemmas.Bool.{or_right}
 use Rattle.isa.specs.Programs.{Program}
 use Rattle.words.specs.Updates.{put}
 use Rattle.buckets.specs.Places.{names, with_place}
@@ -11,9 +12,11 @@ use Rattle.futexcalls.specs.declared.pieces.FutexCall.{FutexCall}
 use Rattle.futexcalls.specs.declared.pieces.FutexCall.TheVariants.{Wait, Wake, Requeue}
 use Rattle.futexcalls.specs.declared.pieces.FutexPhase.{FutexPhase}
 use Rattle.futexcalls.specs.declared.pieces.FutexPhase.TheVariants.{First, Second, Compare, Act}
-use Rattle.futexcalls.specs.Pieces.{lesser, greater, buckets_of, takes_at, after_lock, IsPhase, LiesIn, RequeuesCompared}
+use Rattle.futexcalls.specs.Pieces.{lesser, greater, buckets_of, takes_at, after_lock, IsPhase, LiesIn}
+use Rattle.futexcalls.specs.Pieces.{RequeuesCompared}
 use Rattle.futexcalls.specs.Pieces.{Acts}
-use Rattle.robustexit.specs.RobustExit.{Shared, ExitStep, EntryStep, PendingStep, IsPending, IsForeign, IsOwned, NoEntry}
+use Rattle.robustexit.specs.RobustExit.{Shared, ExitStep, EntryStep, PendingStep, IsPending, IsForeign, IsOwned}
+use Rattle.robustexit.specs.RobustExit.{NoEntry}
 use Rattle.robustexit.specs.RobustExit.{IsIdle}
 use Rattle.robustexit.specs.declared.phase.ExitPhase.{ExitPhase}
 use Rattle.robustexit.specs.declared.phase.ExitPhase.TheVariants.{Entry, Pending, ClearId, LastWake, Ended}
@@ -88,7 +91,8 @@ kept_on p s t mid bs y x right stands gives keeps = record {
   where
     other : (u : ℕ) → u ≢ t → held p (goes_outside s t mid bs y) u ≡ held p s u
     other u ne = elim (keeps.same u) [
-      | inl e ↦ ap (λ f. held_at s.buckets f (called p u (put mid.thread t (Some y) u))) (put-there s.phase t First u ne)
+      | inl e ↦ ap (λ f. held_at s.buckets f (called p u (put mid.thread t (Some y) u)))
+          (put-there s.phase t First u ne)
           ∙ ap (λ o. held_at s.buckets (s.phase u) (called p u o)) (put-there mid.thread t (Some y) u ne ∙ e)
       | inr f ↦ ap (λ g. held_at s.buckets g (called p u (put mid.thread t (Some y) u)))
           (put-there s.phase t First u ne ∙ f)
@@ -96,12 +100,14 @@ kept_on p s t mid bs y x right stands gives keeps = record {
     ]
 
 -- the threads stay and nobody falls asleep
-plainly : (p : Program) (s : PieceState) (t : ℕ) (mid : State) → IsHeldRight p s → mid.size ≡ s.base.size → mid.made ≡ s.base.made
+plainly : (p : Program) (s : PieceState) (t : ℕ) (mid : State) → IsHeldRight p s → mid.size ≡ s.base.size → mid.made
+    ≡ s.base.made
     → mid.thread ≡ s.base.thread → ((u : ℕ) → u ≢ t → s.base.asleep u ≡ None → mid.asleep u ≡ None) → Keeps s t mid
 plainly p s t mid right size made threads awake = record {
   size = size;
   more = omega (arith, made);
-  few = λ u z e. let less : u < s.base.made + 1 = right.few u z (sym (ap (λ f. f u) threads) ∙ e) in omega (arith, less, made);
+  few = λ u z e. let less : u < s.base.made + 1 = right.few u z (sym (ap (λ f. f u) threads) ∙ e) in omega
+      (arith, less, made);
   same = λ u. inl (ap (λ f. f u) threads);
   awake = awake;
 }
@@ -166,11 +172,13 @@ if_awake : (b : Bool) (o : Option ℕ) → o ≡ None → (if b then None else o
 if_awake true o h = refl
 if_awake false o h = h
 
-wakes_awake : (z after : ℕ → Option ℕ) (a n : ℕ) (xs : List ℕ) → Wakes z a n xs after → (u : ℕ) → z u ≡ None → after u ≡ None
+wakes_awake : (z after : ℕ → Option ℕ) (a n : ℕ) (xs : List ℕ) → Wakes z a n xs after → (u : ℕ) → z u ≡ None → after u
+    ≡ None
 wakes_awake z after a n xs h u none = ap (λ f. f u) h.awake ∙ if_awake (names xs u) (z u) none
 
 -- whoever a requeue moves slept
-requeue_awake : (z after : ℕ → Option ℕ) (a b n m : ℕ) (woken moved : List ℕ) → RequeuesCompared z a b n m woken moved after
+requeue_awake : (z after : ℕ → Option ℕ) (a b n m : ℕ) (woken moved : List ℕ) → RequeuesCompared z a b n m woken moved
+    after
     → (u : ℕ) → z u ≡ None → after u ≡ None
 requeue_awake z after a b n m woken moved h u none = ap (λ f. f u) h.moves.goes ∙ by_test (names moved u) refl
   where
@@ -357,7 +365,8 @@ kept_equal p s t right at = record {
   some = right.some;
   few = right.few;
   apart = λ u. elim (right.apart u) [
-    | inl f ↦ inl (put-there s.phase t Act u (λ q. absurd (let e : First ≡ Compare = sym f ∙ ap s.phase q ∙ at in cc)) ∙ f)
+    | inl f ↦ inl (put-there s.phase t Act u (λ q. absurd (let e : First ≡ Compare = sym f ∙ ap s.phase q ∙ at in cc))
+        ∙ f)
     | inr w ↦ inr (record {
       thread = w.thread;
       call = w.call;
@@ -391,7 +400,8 @@ module _ (p : Program) (s s' : PieceState) (t : ℕ) (x : Thread) (woken : List 
 
   held_so : (call : FutexCall) (go : ℕ → Thread) (ph : FutexPhase) → look p t x ≡ Asks (request_of call) go
       → s.phase t ≡ ph → held_at s.buckets ph (Some call) ≡ held p s t
-  held_so call go ph looks at = sym (ap (held_at s.buckets (s.phase t)) (called_is p t x call go (s.base.thread t) stands looks)
+  held_so call go ph looks at = sym (ap (held_at s.buckets (s.phase t))
+      (called_is p t x call go (s.base.thread t) stands looks)
       ∙ ap (λ f. held_at s.buckets f (Some call)) at)
 
   act_keeps : (call : FutexCall) (moved : List ℕ) (after : ℕ → Option ℕ) → Acts t call s.base.asleep woken moved after
@@ -421,10 +431,12 @@ module _ (p : Program) (s s' : PieceState) (t : ℕ) (x : Thread) (woken : List 
       (λ u ne none. exit_awake s.base.size t phase next (shared_of s.base) after woken step u none)))
   piece_kept (IsLock call go b looks lies takes free nobody e) = subst (IsHeldRight p) (sym e)
       (kept_lock p s t b x call go right stands awake looks lies takes free)
-  piece_kept (IsEqual call go a v looks is at equal nobody e) = subst (IsHeldRight p) (sym e) (kept_equal p s t right at)
+  piece_kept (IsEqual call go a v looks is at equal nobody e) = subst (IsHeldRight p) (sym e)
+      (kept_equal p s t right at)
   piece_kept (IsAgain call go a v looks is at differs nobody e) = subst (IsHeldRight p) (sym e)
       (kept_on p s t s.base (buckets_of s.buckets call) _ x right stands (held_so call go Compare looks at)
       (keeps_base p s t right))
   piece_kept (IsAct call go moved after looks act h e) = subst (IsHeldRight p) (sym e)
-      (kept_on p s t (with_sleepers s.base after) (buckets_of s.buckets call) _ x right stands (held_so call go Act looks act)
+      (kept_on p s t (with_sleepers s.base after) (buckets_of s.buckets call) _ x right stands
+      (held_so call go Act looks act)
       (act_keeps call moved after h))

@@ -1,5 +1,5 @@
--- What comes from outside, in pieces and in the whole: a wake that nobody called for, of a thread that sleeps and so holds
--- nothing; and a kill, by which a thread gives up the buckets that it holds.
+-- What comes from outside, in pieces and in the whole: a wake that nobody called for, of a thread that sleeps and so
+-- holds nothing; and a kill, by which a thread gives up the buckets that it holds.
 use Rattle.std.proofs.Common.{◌≡◌, ◌∙◌, ℕ, ◌==◌, Option, Some, None, refl, sym, ap, subst, Bool, true, false}
 use Rattle.std.proofs.Common.{not, inl, inr}
 use Rattle.std.specs.Prelude.{if◌then◌else◌}
@@ -99,7 +99,8 @@ kill_whole p s t = λ k. record (whole p s) { thread = λ u. threads u k; asleep
     sleepers u = by_test (u == t)
       where
         by_test : (b : Bool) → either (if b then None else s.base.asleep u)
-            (committed_at (if b then First else s.phase u) (called p u (if b then Some (Dies Killed') else s.base.thread u)))
+            (committed_at (if b then First else s.phase u) (called p u
+            (if b then Some (Dies Killed') else s.base.thread u)))
             ≡ (if b then None else either (s.base.asleep u) (committed p s u))
         by_test true = refl
         by_test false = refl

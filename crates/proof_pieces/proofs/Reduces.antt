@@ -175,7 +175,8 @@ module _ (p : Program) (s s' : PieceState) (t : ℕ) (x : Thread) (woken : List 
     (paused : pauses ≡ is_paused s'.base t) where
   held_act : (call : FutexCall) (go : ℕ → Thread) → look p t x ≡ Asks (request_of call) go → s.phase t ≡ Act
       → held p s t ≡ buckets_of s.buckets call
-  held_act call go looks act = ap (held_at s.buckets (s.phase t)) (called_is p t x call go (s.base.thread t) stands looks)
+  held_act call go looks act = ap (held_at s.buckets (s.phase t))
+      (called_is p t x call go (s.base.thread t) stands looks)
       ∙ ap (λ f. held_at s.buckets f (Some call)) act
 
   committed_look : (call : FutexCall) (go : ℕ → Thread) (ph : FutexPhase) → look p t x ≡ Asks (request_of call) go
@@ -196,7 +197,8 @@ module _ (p : Program) (s s' : PieceState) (t : ℕ) (x : Thread) (woken : List 
 
   few_call : (call : FutexCall) (go : ℕ → Thread) → look p t x ≡ Asks (request_of call) go
       → IsPhase s.buckets (s.phase t) call → taken p s t ≤ pieces_before (Asks (request_of call) go)
-  few_call call go looks there = subst (λ m. m ≤ pieces_before (Asks (request_of call) go)) (sym (taken_is call go looks))
+  few_call call go looks there = subst (λ m. m ≤ pieces_before (Asks (request_of call) go))
+      (sym (taken_is call go looks))
       (phase_few s.buckets (s.phase t) call go there)
 
   few_first : (l : Look) → s.phase t ≡ First → taken p s t ≤ pieces_before l
@@ -383,7 +385,8 @@ module _ (p : Program) (s s' : PieceState) (t : ℕ) (x : Thread) (woken : List 
       inl (
         nobody,
         ap (whole p) e
-            ∙ silent p s t x (Asks (request_of (Requeue c d n m expected)) go) Act s.holder stands looks refl same refl free,
+            ∙ silent p s t x (Asks (request_of (Requeue c d n m expected)) go) Act s.holder stands looks refl same refl
+            free,
         λ q. piece_taken (Asks (request_of (Requeue c d n m expected)) go) looks same free
             (subst (λ k. k < 3) (sym before) (equal_few (c.0 % s.buckets == d.0 % s.buckets)))
             (ap (λ (z : PieceState). taken p z t) e
@@ -431,7 +434,8 @@ module _ (p : Program) (s s' : PieceState) (t : ℕ) (x : Thread) (woken : List 
       )
   piece_so (IsLock call go b looks lies takes free nobody e) =
       let late = locked_same s.buckets (s.phase t) call go x b takes in
-      let early = early_same (s.phase t) (Asks (request_of call) go) x (takes_early s.buckets (s.phase t) call b takes) in
+      let early = early_same (s.phase t) (Asks (request_of call) go) x
+      (takes_early s.buckets (s.phase t) call b takes) in
       inl (
         nobody,
         ap (whole p) e
@@ -445,7 +449,8 @@ module _ (p : Program) (s s' : PieceState) (t : ℕ) (x : Thread) (woken : List 
             (put-here s.phase t (after_lock s.buckets (s.phase t) call) t refl)
             ∙ ap (taken_at s.buckets (after_lock s.buckets (s.phase t) call))
             (called_is p t x call go (s.base.thread t) stands looks)
-            ∙ lock_more s.buckets (s.phase t) call b (stood call go looks) takes ∙ sym (ap suc (taken_is call go looks))),
+            ∙ lock_more s.buckets (s.phase t) call b (stood call go looks) takes ∙ sym
+            (ap suc (taken_is call go looks))),
       )
   piece_so (IsEqual call go a v looks is at equal nobody e) = equal_so call go a v looks is at equal nobody e
   piece_so (IsAgain call go a v looks is at differs nobody e) = again_so call go a v looks is at differs nobody e

@@ -263,11 +263,13 @@ pub sleeps_so : (p : Program) (s : PieceState) (t a : ℕ) → s.base.asleep t �
 sleeps_so p s t a h = ap (λ o. either o (committed p s t)) h
 
 -- what is unserved here is so in the whole, and back
-unserved_there : (p : Program) (s : PieceState) (request : Request) → IsUnserved request s.base → IsUnserved request (whole p s)
+unserved_there : (p : Program) (s : PieceState) (request : Request) → IsUnserved request s.base → IsUnserved request
+    (whole p s)
 unserved_there p s (AskLoad a) h = h
 unserved_there p s request h = h
 
-unserved_here : (p : Program) (s : PieceState) (request : Request) → IsUnserved request (whole p s) → IsUnserved request s.base
+unserved_here : (p : Program) (s : PieceState) (request : Request) → IsUnserved request (whole p s) → IsUnserved request
+    s.base
 unserved_here p s (AskLoad a) h = h
 unserved_here p s request h = h
 

@@ -61,12 +61,14 @@ requeued_both z c a b n m woken moved after apart nobody h = record {
     awake = refl;
   };
   moves = record {
-    choice = λ ne. subst (λ f. IsChoice f a m moved) (place_both z c woken None (λ u q. apart u a (h.wakes.choice.slept u q)))
+    choice = λ ne. subst (λ f. IsChoice f a m moved) (place_both z c woken None
+        (λ u q. apart u a (h.wakes.choice.slept u q)))
         (choice_both (with_place z woken None) c a m moved (λ l. nobody) (h.moves.choice ne));
     none = h.moves.none;
     goes = ap (λ y. joined y c) h.moves.goes
         ∙ place_both (with_place z woken None) c moved (Some b) free
-        ∙ ap (λ f. with_place f moved (Some b)) (place_both z c woken None (λ u q. apart u a (h.wakes.choice.slept u q)));
+        ∙ ap (λ f. with_place f moved (Some b)) (place_both z c woken None
+        (λ u q. apart u a (h.wakes.choice.slept u q)));
   };
 }
   where

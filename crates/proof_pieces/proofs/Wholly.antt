@@ -100,8 +100,10 @@ whole_child p s right entry arguments = λ k. record (with_child (whole p s) ent
     first : s.phase (suc s.base.made) ≡ First
     first = unmade_first p s right
 
-    threads : (u : ℕ) → whole_at p u (s.phase u) (put s.base.thread (suc s.base.made) (Some (opening_thread entry arguments)) u)
-        ≡ put (λ j. whole_at p j (s.phase j) (s.base.thread j)) (suc s.base.made) (Some (opening_thread entry arguments)) u
+    threads : (u : ℕ) → whole_at p u (s.phase u) (put s.base.thread (suc s.base.made)
+        (Some (opening_thread entry arguments)) u)
+        ≡ put (λ j. whole_at p j (s.phase j) (s.base.thread j)) (suc s.base.made)
+        (Some (opening_thread entry arguments)) u
     threads = seen_second (whole_at p) s.phase s.base.thread (suc s.base.made) (Some (opening_thread entry arguments)) _
         (ap (λ f. whole_at p (suc s.base.made) f (Some (opening_thread entry arguments))) first)
 
@@ -166,9 +168,11 @@ silent p s t x l ph holder stands looks late early after before = λ k. record (
     threads u = seen_first (whole_at p) s.phase s.base.thread t ph (Some x) (at ph late) u
         ∙ unput (λ j. whole_at p j (s.phase j) (s.base.thread j)) t (Some x) (sym (at (s.phase t) early)) u
 
-    none_at : (f : FutexPhase) → committed_at f (call_at l) ≡ None → committed_at f (called p t (s.base.thread t)) ≡ None
+    none_at : (f : FutexPhase) → committed_at f (call_at l) ≡ None → committed_at f (called p t (s.base.thread t))
+        ≡ None
     none_at f e = ap (λ o. committed_at f (called p t o)) stands ∙ ap (λ m. committed_at f (call_at m)) looks ∙ e
 
     committeds : (u : ℕ) → committed_at (put s.phase t ph u) (called p u (s.base.thread u)) ≡ committed p s u
-    committeds u = seen_first (λ j f y. committed_at f (called p j y)) s.phase s.base.thread t ph None (none_at ph after) u
+    committeds u = seen_first (λ j f y. committed_at f (called p j y)) s.phase s.base.thread t ph None
+        (none_at ph after) u
         ∙ unput (committed p s) t None (sym (none_at (s.phase t) before)) u

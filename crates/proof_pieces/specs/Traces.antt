@@ -1,11 +1,11 @@
--- A run in pieces as a trace of steps with whole calls. Each of its steps is loud, one of those; or silent, none of them:
--- a piece of a call before the one that is its step, or the last piece of a wait, whose thread sleeps already where
--- calls are whole.
+-- A run in pieces as a trace of steps with whole calls. Each of its steps is loud, one of those; or silent, none of
+-- them: a piece of a call before the one that is its step, or the last piece of a wait, whose thread sleeps already
+-- where calls are whole.
 use Rattle.std.specs.Prelude.{ℕ, suc, ◌≡◌, ◌<◌, ◌≤◌, ◌==◌, ◌%◌, ◌⊎◌, true, false, if◌then◌else◌, List, [], ◌∷◌, Option}
 use Rattle.std.specs.Prelude.{Some, None}
 use Rattle.isa.specs.Programs.{Program}
 use Rattle.futexcalls.specs.declared.pieces.FutexCall.{FutexCall}
-use Rattle.futexcalls.specs.declared.pieces.FutexCall.TheVariants.{Wait, Wake, Requeue}
+use Rattle.futexcalls.specs.declared.pieces.FutexCall.TheVariants.{Requeue}
 use Rattle.futexcalls.specs.declared.pieces.FutexPhase.{FutexPhase}
 use Rattle.futexcalls.specs.declared.pieces.FutexPhase.TheVariants.{First, Second, Compare, Act}
 use Rattle.locals.specs.Threads.{Thread}

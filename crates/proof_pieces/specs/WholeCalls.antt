@@ -1,4 +1,5 @@
--- The machine with whole futex calls. A requeue moves whatever the word: that it is as expected is seen in a step before.
+-- The machine with whole futex calls. A requeue moves whatever the word: that it is as expected is seen in a step
+-- before.
 use Rattle.std.specs.Prelude.{ℕ, ◌≡◌, ◌≢◌, ◌+◌, ◌⊎◌, Option, Some, None, List, [], length}
 use Rattle.isa.specs.Programs.{Program}
 use Rattle.futexcalls.specs.Pieces.{RequeuesCompared}

@@ -2,7 +2,8 @@ ghost use Rattle.proof_pieces.specs.Laws.{HeldSo, ReducesSo, RunsSo, RestsSo, Go
 
 /// Each step of the machine with calls in pieces is silent, or one step of the whole calls by the same thread, which
 /// wakes the same: a wait at its comparison, a wake and a requeue at their act. So each run in pieces, with any number
-/// of buckets, is a run of whole calls. It keeps that the buckets are held as the threads' phases say.
+/// of buckets, is a trace of steps with whole calls, in which no thread takes more silent pieces than its call has. It
+/// keeps that the buckets are held as the threads' phases say.
 pub fn pieces_are_whole_calls()
     ensures held { HeldSo }
     ensures reduces { ReducesSo }
