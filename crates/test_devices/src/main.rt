@@ -17,7 +17,6 @@
 
 mod failure;
 mod faulty;
-mod leaving;
 mod putting;
 mod reading;
 mod telling;
