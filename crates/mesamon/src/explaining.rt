@@ -12,6 +12,7 @@ use crate::schedule::schedule_of;
 use crate::showing::status_of;
 use crate::source_log::explain_log_text;
 use crate::status::Status;
+use crate::telling::{tell_explained, told_entry, told_turn};
 use actionlines::action_lines;
 use commandline::ExplainedBy;
 use devices::{Counted, write_bytes};
@@ -27,6 +28,7 @@ pub fn explain_file<'a, R: Files + AllocGlobal, O: Write>(
     drawings: Drawings<'a>,
     hints: bool,
     output: &mut Counted<O>,
+    told: &mut String,
 ) -> Result<Status, Failure<'a>>
     ensures { IfOk result
         (λ s. HasExplained (HasAll O.contents output.old output.new) s) }
@@ -37,8 +39,9 @@ pub fn explain_file<'a, R: Files + AllocGlobal, O: Write>(
         bytes: bytes.as_slice(),
         hints,
     };
-    let run = explain_text(rt, &text, by)?;
+    let run = explain_text(rt, &text, by, told)?;
     let lines = action_lines(rt.alloc(), run.checked.names(), run.actions.as_slice())?;
+    tell_explained(rt.alloc(), told, &text, &run);
     drawings.put(rt, &run.checked, run.actions.as_slice())?;
     write_bytes(output, lines.as_slice())?;
     Ok(status_of(run.report.verdict))
@@ -49,33 +52,42 @@ fn explain_text<'a, 't, R: Files + AllocGlobal>(
     rt: &R,
     text: &SourceText<'t>,
     by: ExplainedBy<'a>,
+    told: &mut String,
 ) -> Result<ExplainedRun<'t>, Failure<'a>>
     ensures { IfOk result (λ run. IsExplainedAs by.entry text.now.bytes.now run) }
 {
-    explain_by(rt, text.bytes, by).map_err(|failure| hinted(rt.alloc(), text, failure))
+    explain_by(rt, text, by, told).map_err(|failure| hinted(rt.alloc(), text, failure))
 }
 
 fn explain_by<'a, 't, R: Files + AllocGlobal>(
     rt: &R,
-    text: &'t [u8],
+    text: &SourceText<'t>,
     by: ExplainedBy<'a>,
+    told: &mut String,
 ) -> Result<ExplainedRun<'t>, Failure<'a>>
-    ensures { IfOk result (λ run. IsExplainedAs by.entry text.now run) }
+    ensures { IfOk result (λ run. IsExplainedAs by.entry text.now.bytes.now run) }
 {
+    let alloc = rt.alloc();
     match by {
-        ExplainedBy::Order { steps } => Ok(explain_source(rt.alloc(), text, steps)?),
+        ExplainedBy::Order { steps } => Ok(explain_source(alloc, text.bytes, steps)?),
         ExplainedBy::Seed {
             steps,
             seed,
             strays,
-        } => Ok(explain_by_seed(rt.alloc(), text, steps, seed, strays)?),
+        } => Ok(explain_by_seed(alloc, text.bytes, steps, seed, strays)?),
         ExplainedBy::Schedule(name) => {
             let turns = schedule_of(rt, name)?;
-            Ok(explain_schedule(rt.alloc(), text, turns.as_slice())?)
+            match explain_schedule(alloc, text.bytes, turns.as_slice()) {
+                Ok(run) => Ok(run),
+                Err(fault) => Err(told_turn(alloc, told, text, turns.as_slice(), fault)),
+            }
         }
         ExplainedBy::Log(name) => {
             let log = whole_bytes_of(rt, name)?;
-            Ok(explain_log_text(rt.alloc(), text, log.as_slice())?)
+            match explain_log_text(alloc, text.bytes, log.as_slice()) {
+                Ok(run) => Ok(run),
+                Err(fault) => Err(told_entry(alloc, told, text, log.as_slice(), fault)),
+            }
         }
     }
 }
