@@ -13,6 +13,7 @@ use crate::failure::Failure;
 use crate::files::{bytes_of, put_bytes};
 use crate::hinting::{SourceText, hinted};
 use crate::lines::{line_of_image, write_text};
+use crate::listing::list_file;
 use crate::running::{exec_file, replay_file, run_file};
 use crate::status::Status;
 use crate::telling::{tell_failure, wants_hints};
@@ -20,7 +21,7 @@ use commandline::{Job, line};
 use compiler::{check_text, compile_checked, compile_with};
 use devices::Counted;
 use emit::emit;
-use isa::{Image, decode, encode, list_lines};
+use isa::{Image, encode};
 use program::Checked;
 use std::alloc::Global;
 use std::io;
@@ -125,7 +126,7 @@ fn do_job<'a, R: Files + AllocGlobal + Threads + Wait + Sync, O: Write, E: Write
             workers,
             hints,
         } => compile_file(rt, file, out, workers, hints, output),
-        Job::List { image } => list_file(rt, image, output),
+        Job::List { image, source } => list_file(rt, image, source, output),
         Job::Run {
             file,
             options,
@@ -143,10 +144,11 @@ fn do_job<'a, R: Files + AllocGlobal + Threads + Wait + Sync, O: Write, E: Write
             by,
             chart,
             timeline,
+            places,
             hints,
         } => {
             let drawings = Drawings { chart, timeline };
-            explain_file(rt, file, by, drawings, hints, output, told)
+            explain_file(rt, file, by, drawings, places, hints, output, told)
         }
         Job::Emit { file, out, hints } => emit_file(rt, file, out, hints, output),
         Job::Explore {
@@ -269,22 +271,5 @@ fn emit_file<'a, R: Files + AllocGlobal, O: Write>(
     let lines = emit(rt.alloc(), &checked)?;
     put_bytes(rt, out, lines.as_slice())?;
     write_text(output, "ok\n")?;
-    Ok(Status::Done)
-}
-
-// Lists the instructions of an image's file.
-fn list_file<'a, R: Files + AllocGlobal, O: Write>(
-    rt: &R,
-    file: &'a str,
-    output: &mut Counted<O>,
-) -> Result<Status, Failure<'a>>
-    ensures done { IfOk result (λ s. s ≡ Status.Done) }
-    ensures wrote { OnOk result
-        (HasListed (HasAll O.contents output.old output.new)) }
-{
-    let bytes = bytes_of(rt, file)?;
-    let image = decode(rt.alloc(), bytes.as_slice())?;
-    let lines = list_lines(rt.alloc(), &image)?;
-    write_text(output, lines.as_str())?;
     Ok(Status::Done)
 }

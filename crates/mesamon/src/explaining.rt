@@ -1,5 +1,6 @@
 ghost use Rattle.std.specs.Prelude.{IfOk};
 ghost use Rattle.devices.specs.Writing.{HasAll};
+ghost use Rattle.line_tails.specs.Beside.{IsBeside};
 ghost use Rattle.mesamon.specs.Asked.{IsExplainedAs};
 ghost use Rattle.mesamon.specs.Commands.{HasExplained};
 
@@ -16,6 +17,9 @@ use crate::telling::{tell_explained, told_entry, told_turn};
 use actionlines::action_lines;
 use commandline::ExplainedBy;
 use devices::{Counted, write_bytes};
+use line_tails::put_beside;
+use run_hints::asides_of;
+use std::alloc::{AllocError, Global};
 use std::io::Write;
 use std::rt::Files;
 
@@ -26,6 +30,7 @@ pub fn explain_file<'a, R: Files + AllocGlobal, O: Write>(
     file: &'a str,
     by: ExplainedBy<'a>,
     drawings: Drawings<'a>,
+    places: bool,
     hints: bool,
     output: &mut Counted<O>,
     told: &mut String,
@@ -41,10 +46,34 @@ pub fn explain_file<'a, R: Files + AllocGlobal, O: Write>(
     };
     let run = explain_text(rt, &text, by, told)?;
     let lines = action_lines(rt.alloc(), run.checked.names(), run.actions.as_slice())?;
+    let lines = lines_beside(rt.alloc(), &text, &run, places, lines)?;
     tell_explained(rt.alloc(), told, &text, &run);
     drawings.put(rt, &run.checked, run.actions.as_slice())?;
     write_bytes(output, lines.as_slice())?;
     Ok(status_of(run.report.verdict))
+}
+
+// The lines of an explained run, with the places of its actions behind them where those are wanted.
+fn lines_beside(
+    alloc: Global,
+    text: &SourceText<'_>,
+    run: &ExplainedRun<'_>,
+    places: bool,
+    lines: Vec<u8>,
+) -> Result<Vec<u8>, AllocError>
+    ensures { IfOk result (λ v. IsBeside lines.items v.items) }
+{
+    if !places {
+        return Ok(lines);
+    }
+    let tails = asides_of(
+        alloc,
+        text.file,
+        text.bytes,
+        &run.checked,
+        run.actions.as_slice(),
+    )?;
+    put_beside(alloc, "", lines.as_slice(), tails.as_slice())
 }
 
 // Runs a text and explains the run, or explains the log of a file; its refusal with hints where they are wanted.

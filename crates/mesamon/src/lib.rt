@@ -10,6 +10,7 @@ mod failure;
 mod files;
 mod hinting;
 mod lines;
+mod listing;
 mod replaying;
 mod run_ends;
 mod run_entries;

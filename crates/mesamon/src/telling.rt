@@ -10,6 +10,7 @@ use run_hints::{Way, end_hints};
 use runner::{Report, Turn};
 use source_states::Action;
 use std::alloc::{AllocError, Global};
+use std::io::ErrorKind;
 
 // What a line of a log has.
 const LINE: &str =
@@ -34,6 +35,13 @@ fn append_told(told: &mut String, hints: Result<String, AllocError>) {
     }
 }
 
+// Appends the system's reason, where it is known.
+fn append_reason(told: &mut String, reason: Option<ErrorKind>) {
+    if let Some(reason) = reason {
+        let _appended = writeln!(told, "  {reason}");
+    }
+}
+
 /// Appends what helps with a failure, where more is known than its line tells. What was to be told of a run isn't told
 /// where the run's own lines aren't written.
 pub fn tell_failure(told: &mut String, failure: &Failure<'_>) {
@@ -41,7 +49,12 @@ pub fn tell_failure(told: &mut String, failure: &Failure<'_>) {
         Failure::LogLine(_) => {
             let _appended = told.push_str(LINE);
         }
-        Failure::Write(_) | Failure::Memory => told.clear(),
+        Failure::Read { reason, .. } => append_reason(told, *reason),
+        Failure::Write { reason, .. } => {
+            told.clear();
+            append_reason(told, *reason);
+        }
+        Failure::Memory => told.clear(),
         _ => {}
     }
 }

@@ -21,3 +21,17 @@ fn fault_deed(fault: Fault) -> &'static str {
         Fault::JoinedAborted => "joined an aborted process without an ABORTED part",
     }
 }
+
+/// What a fault is.
+pub(crate) fn fault_name(fault: Fault) -> &'static str {
+    match fault {
+        Fault::ResultOutOfRange => "a result out of range",
+        Fault::DivisionByZero => "a division by zero",
+        Fault::IndexOutOfRange => "an index out of range",
+        Fault::HandleNotJoinable => "a handle that can't be joined",
+        Fault::ProcessTableFull => "no process left",
+        Fault::AbortStatement => "ABORT",
+        Fault::AbandonedMonitor => "an abandoned monitor without a RECOVER part",
+        Fault::JoinedAborted => "an aborted process, and no ABORTED part",
+    }
+}

@@ -42,7 +42,7 @@ const KEEP: &str =
     "  --log OUT keeps the log of such a run; mesamon explain FILE --log OUT tells what led there\n";
 
 // What is said of a run that was explained.
-const DRAW: &str = "  --chart OUT draws it, and --timeline OUT writes it for a viewer of traces\n";
+const DRAW: &str = "  with --places each action has its place; --chart OUT draws them\n";
 
 /// Appends the line that says how to look on.
 pub fn append_way(out: &mut String, file: &str, way: Way<'_>) -> Result<(), AllocError> {
