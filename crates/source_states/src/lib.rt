@@ -2,6 +2,7 @@
 #![tactic(auto)]
 
 mod action;
+mod alone;
 mod done;
 mod dying;
 mod entering;

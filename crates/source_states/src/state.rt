@@ -1,4 +1,4 @@
-ghost use Rattle.std.specs.Prelude.{◌≡◌, ◌↔◌, [], Contains, IfOk, IsSome, MatchBool, option_map, ℕ};
+ghost use Rattle.std.specs.Prelude.{◌≡◌, ◌↔◌, [], Contains, IfOk, IsSome, MatchBool, None, option_map, ℕ};
 ghost use Rattle.std.specs.List.Sorted.{IsStrictlyIncreasing};
 ghost use Rattle.program.specs.Views.{program_of};
 ghost use Rattle.meaning.specs.Processes.{begins, opening_frame};
@@ -64,6 +64,27 @@ impl<'a> SourceState<'a> {
             processes,
             printed: Vec::new(alloc),
         })
+    }
+
+    /// A state with this table and these variables, in which no process stands yet and nothing is printed.
+    pub fn without_processes(
+        alloc: Global,
+        table: Table,
+        variables: Variables,
+    ) -> SourceState<'a>
+        ensures { state_of result ≡ record {
+          table = table_of table;
+          variable = variables_of variables;
+          process = λ q. None;
+          printed = [];
+        } }
+    {
+        SourceState {
+            table,
+            variables,
+            processes: BTreeMap::new(alloc),
+            printed: Vec::new(alloc),
+        }
     }
 
     /// The numbers printed.
