@@ -1,3 +1,4 @@
 pub mod FutexCalls
 pub mod Answers
 pub mod Pieces
+pub mod PieceResults

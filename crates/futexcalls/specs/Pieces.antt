@@ -88,3 +88,9 @@ Acts t (Wait a expected) asleep woken moved after =
 Acts t (Wake a wakes) asleep woken moved after = (moved ≡ []) × Wakes asleep a.0 wakes woken after
 Acts t (Requeue a b wakes moves expected) asleep woken moved after =
     RequeuesCompared asleep a.0 b.0 wakes moves woken moved after
+
+-- the answer of a call whose word differs
+abbrev pub again_of : FutexCall → ℕ
+again_of (Wait a expected) = 1
+again_of (Wake a wakes) = 4294967295
+again_of (Requeue a b wakes moves expected) = 4294967295

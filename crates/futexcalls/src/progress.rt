@@ -1,0 +1,44 @@
+ghost use Rattle.std.specs.Prelude.{◌≡◌};
+ghost use Rattle.futexcalls.specs.PieceResults.{answer_of};
+
+use crate::pieces::{FutexCall, FutexPhase};
+use crate::woken::Requeued;
+
+// What a requeue, or a wake, answers whose word differs.
+const AGAIN: u32 = u32::MAX;
+
+/// The answer of a futex call that was taken in pieces.
+#[derive(Drop, Debug)]
+pub enum FutexAnswer {
+    /// The word differs from what was expected, and nothing has changed (futex(2), EAGAIN).
+    Again,
+    /// The call has acted. Of a wait both lists are empty, and its thread sleeps; of a wake nobody was moved.
+    Acted(Requeued),
+}
+
+impl FutexAnswer {
+    /// What the thread of the call is answered: how many threads woke or were moved, of a wait 0; where the word
+    /// differs, of a wait 1, else 4294967295.
+    pub fn value(&self, call: FutexCall) -> u32
+        ensures { result ≡ answer_of call self.now }
+    {
+        match self {
+            FutexAnswer::Again => match call {
+                FutexCall::Wait { .. } => 1,
+                FutexCall::Wake { .. } | FutexCall::Requeue { .. } => AGAIN,
+            },
+            FutexAnswer::Acted(acted) => acted.count(),
+        }
+    }
+}
+
+/// What came of a piece of a futex call.
+#[derive(Drop, Debug)]
+pub enum FutexProgress {
+    /// The call stands before another piece.
+    Next(FutexPhase),
+    /// A thread holds the bucket that the call takes next. Nothing has changed.
+    Blocked,
+    /// The call is over, and has given up its buckets.
+    Done(FutexAnswer),
+}
