@@ -3,3 +3,4 @@ pub mod Fixed
 pub mod Rows
 pub mod Marking
 pub mod Settling
+pub mod Falling

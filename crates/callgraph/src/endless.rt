@@ -7,16 +7,8 @@ ghost use Rattle.callgraph.specs.Marks.{AreSettled};
 ghost use Rattle.callgraph.specs.declared.Call.{Call as CallOf};
 
 use crate::graph::Graph;
+use crate::walking::{Step, all_entered, push_steps};
 use std::alloc::{AllocError, Global};
-
-// A step of a depth-first walk.
-#[derive(Clone, Copy)]
-enum Step {
-    // A procedure is entered, unless it was before.
-    Enter(usize),
-    // All that it calls was entered.
-    Leave(usize),
-}
 
 // Adds the steps of a procedure and of what it calls, where it wasn't seen.
 fn enter(
@@ -29,20 +21,7 @@ fn enter(
         return Ok(());
     }
     seen[procedure] = true;
-    steps.push(Step::Leave(procedure))?;
-    for callee in graph.callees(procedure) {
-        steps.push(Step::Enter(*callee as usize))?;
-    }
-    Ok(())
-}
-
-// The steps that enter each of `count` procedures.
-fn all_entered(alloc: Global, count: usize) -> Result<Vec<Step>, AllocError> {
-    let mut steps = Vec::new(alloc);
-    for number in 0..count {
-        steps.push(Step::Enter(number))?;
-    }
-    Ok(steps)
+    push_steps(graph, procedure, steps)
 }
 
 // Settles what a depth-first walk leaves, each procedure behind those that it calls, so that few or none of those whose

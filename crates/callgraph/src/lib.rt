@@ -2,10 +2,13 @@
 #![tactic(auto)]
 
 mod chain;
+mod components;
 mod endless;
 mod graph;
+mod levels;
 mod reach;
 mod settle;
+mod walking;
 
 pub use chain::chains;
 pub use graph::{Graph, Row};

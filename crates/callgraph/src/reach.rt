@@ -51,9 +51,9 @@ fn mark_all(
 }
 
 impl Graph {
-    /// Where calls lead from a procedure. It is on a cycle where they lead to itself. The only error is that memory
-    /// runs out. Each call is looked at once.
-    pub fn reached(&self, alloc: Global, start: u32) -> Result<Vec<bool>, AllocError>
+    // Where calls lead from a procedure. It is on a cycle where they lead to itself. The only error is that memory
+    // runs out. Each call is looked at once.
+    pub(crate) fn reached(&self, alloc: Global, start: u32) -> Result<Vec<bool>, AllocError>
         ensures sound { (calls : List CallOf) → IsGraph calls self.now → IfOk result (λ v. (b : ℕ)
             → slice_index_or v.items b false ≡ true → Leads calls start b) }
         ensures complete { (calls : List CallOf) → IsGraph calls self.now

@@ -5,6 +5,7 @@ ghost use Rattle.scanner.specs.declared.refusal.RefusalKind.TheVariants.{Recursi
 ghost use Rattle.syntax.specs.Tree.{UnitTree};
 ghost use Rattle.callgraph.specs.Calls.{Within, Leads};
 ghost use Rattle.callgraph.specs.Graphs.{IsGraph};
+ghost use Rattle.callgraph.specs.Levels.{NeverRise};
 ghost use Rattle.callgraph.specs.declared.Call.{Call as CallOf};
 ghost use Rattle.callees.specs.Pieces.{piece_of};
 ghost use Rattle.types.specs.Faults.{fault};
@@ -31,15 +32,16 @@ fn is_named(role: Role) -> bool
 }
 
 // The least fault, where the procedure of this number stands at a place: calls lead from it back to it. They are not
-// followed where such a fault would come behind the least one. The places of procedures rise, and at most 512 of them
-// come before the limit of procedures, so there are at most so many walks, however many procedures there are.
+// followed where such a fault would come behind the least one.
 fn cycle(
     alloc: Global,
     graph: &Graph,
+    levels: &[usize],
     number: u32,
     place: Place,
     least: Option<Refusal>,
 ) -> Result<Option<Refusal>, AllocError>
+    requires { (calls : List CallOf) → IsGraph calls graph.now → NeverRise calls levels.now }
     ensures { (calls : List CallOf) → IsGraph calls graph.now
         → IfOk result (λ r. Collects (λ e. Leads calls number number
         × (e ≡ fault Recursion place)) least r) }
@@ -51,8 +53,7 @@ fn cycle(
     if is_behind(fault, least) {
         return Ok(least);
     }
-    let reached = graph.reached(alloc, number)?;
-    let itself = reached.get(number as usize).copied().unwrap_or(false);
+    let itself = graph.leads_back(alloc, levels, number)?;
     Ok(note_where(itself, RefusalKind::Recursion, place, least))
 }
 
@@ -69,6 +70,7 @@ pub fn circular(
         → IfOk result (λ r. Collects (InCalls u) least r) }
 {
     let graph = Graph::new(alloc, calls, pieces.len())?;
+    let levels = graph.levels(alloc)?;
     let endless = graph.endless_chains(alloc)?;
     let long = chains(alloc, calls, pieces.len(), MOST_IN_CHAIN)?;
     let mut least = least;
@@ -77,7 +79,7 @@ pub fn circular(
             continue;
         }
         if endless[number] {
-            least = cycle(alloc, &graph, number as u32, piece.place, least)?;
+            least = cycle(alloc, &graph, &levels, number as u32, piece.place, least)?;
         } else {
             least = note_where(long[number], RefusalKind::Limit, piece.place, least);
         }
