@@ -1,6 +1,7 @@
 use Rattle.std.proofs.Common.{◌≡◌, ◌<◌, ℕ, ◌∙◌, sym, subst, false, slice_index_or, length, map, take, arith, get_or}
 use Rattle.std.proofs.Common.{List, Option, ◌+◌}
 use Rattle.scanner.specs.declared.refusal.Refusal.{Refusal}
+use Rattle.callgraph.specs.Levels.{NeverRise}
 use Rattle.callgraph.specs.declared.Call.{Call}
 use Rattle.callees.specs.declared.piece.Piece.{Piece as PieceOf}
 use Rattle.std.proofs.lemmas.List.{get_or_read}
@@ -27,6 +28,10 @@ loop-number-preserved-then-not-is_named c =
     c.loop-number.least c.loop-number.least c.loop-number-test.true c.index-pieces-number.is c.loop-number.invariant
     (unnamed_step c.args.calls.now before (piece_of c.index-pieces-number.result) c.loop-number.least
     (sym c.is_named.ensures ∙ c.if-not-is_named.true))
+
+pub cycle-requires : goal.cycle-requires
+cycle-requires c calls g =
+    subst (λ levels. NeverRise calls levels) (sym c.deref.ensures.value) (c.in_ok-levels.ensures calls g)
 
 pub loop-number-preserved : goal.loop-number-preserved
 loop-number-preserved c =
