@@ -5,6 +5,8 @@
 mod abandon;
 mod exit;
 mod phase;
+mod waking;
 
 pub use exit::{exit_step, first_phase};
 pub use phase::{ExitPhase, MOST_ENTRIES, phase_at};
+pub use waking::wakes_on;
