@@ -10,7 +10,7 @@ loop-procedure-preserved c b k =
     let i = c.loop-procedure.procedure-index in
     let p = slice_index_or ps i 0 in
     let here : slice_index_or c.args.levels.now p 0 ≤ c.args.level =
-        omega (arith, c.level_of.ensures.level, c.if-level_of-level.false) in
+    omega (arith, c.level_of.ensures.level, c.if-level_of-level.false) in
     elim (Contains-push_cases _ p b (subst (λ xs. Contains xs b) (take_more ps i 0 c.loop-procedure-test.true) k)) [
       | inl j ↦ c.loop-procedure.invariant b j
       | inr s ↦ subst (λ x. slice_index_or c.args.levels.now x 0 ≤ c.args.level) s here

@@ -15,7 +15,7 @@ loop-procedure-preserved c calls g a b l call =
       | inr q ↦
           let called : IsCall calls i b = subst (λ x. IsCall calls x b) q call in
           let listed : Contains c.callees.result.now b = subst (λ xs. Contains xs b)
-              (sym (c.callees.ensures ∙ g.rows i)) (is_listed calls i b called) in
+          (sym (c.callees.ensures ∙ g.rows i)) (is_listed calls i b called) in
           let most : slice_index_or levels b 0 ≤ slice_index_or levels i 0 = omega (
             arith,
             c.are_at_most.ensures c.if-not-are_at_most.false b listed,
