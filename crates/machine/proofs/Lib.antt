@@ -19,3 +19,4 @@ pub mod Outside
 pub mod Killing
 pub mod OwnEvents
 pub mod FrontRuns
+pub mod CallPieces

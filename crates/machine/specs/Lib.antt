@@ -11,5 +11,6 @@ pub mod ConcreteOutside
 pub mod FrontRuns
 pub mod RequestMeanings
 pub mod Views
+pub mod ConcretePieces
 pub mod Determined
 pub mod LocalRuns

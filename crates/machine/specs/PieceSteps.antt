@@ -6,9 +6,9 @@ use Rattle.isa.specs.Programs.{Program}
 use Rattle.words.specs.Updates.{put}
 use Rattle.buckets.specs.Places.{with_place}
 use Rattle.futexcalls.specs.declared.pieces.FutexCall.{FutexCall}
-use Rattle.futexcalls.specs.declared.pieces.FutexCall.TheVariants.{Wait, Wake, Requeue}
 use Rattle.futexcalls.specs.declared.pieces.FutexPhase.TheVariants.{First, Compare, Act}
 use Rattle.futexcalls.specs.Pieces.{buckets_of, takes_at, after_lock, LiesIn, Compares, Acts}
+pub use Rattle.futexcalls.specs.Pieces.{again_of}
 use Rattle.robustexit.specs.RobustExit.{Shared, ExitStep}
 use Rattle.robustexit.specs.Waking.{WakesOn}
 use Rattle.robustexit.specs.declared.phase.ExitPhase.{ExitPhase}
@@ -27,12 +27,6 @@ goes_outside s t mid buckets x = record s {
   phase = put s.phase t First;
   holder = with_place s.holder buckets None;
 }
-
--- the answer of a call whose word differs
-abbrev pub again_of : FutexCall → ℕ
-again_of (Wait a expected) = 1
-again_of (Wake a wakes) = 4294967295
-again_of (Requeue a b wakes moves expected) = 4294967295
 
 -- one step of thread t, which is x
 pub data Piece (p : Program) (s : PieceState) (t : ℕ) (x : Thread) (woken : List ℕ) (s' : PieceState) : Type 0 where

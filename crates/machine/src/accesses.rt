@@ -27,6 +27,7 @@ impl Common {
             → serve made t (AskStore a.0 v) (common self.old)
             ≡ with_common result (common self.new) }
         ensures capacity { self.new.capacity ≡ self.old.capacity }
+        ensures holders { self.new.sleepers.holders ≡ self.old.sleepers.holders }
         ensures same { OnErr result (self.new ≡ self.old) }
     {
         check_address(&self.words, a)?;
@@ -40,6 +41,7 @@ impl Common {
             → serve made t (AskSwap a.0 v) (common self.old)
             ≡ with_common result (common self.new) }
         ensures capacity { self.new.capacity ≡ self.old.capacity }
+        ensures holders { self.new.sleepers.holders ≡ self.old.sleepers.holders }
         ensures same { OnErr result (self.new ≡ self.old) }
     {
         check_address(&self.words, a)?;
@@ -53,6 +55,7 @@ impl Common {
             → serve made t (AskCompareSwap a.0 expected new) (common self.old)
             ≡ with_common result (common self.new) }
         ensures capacity { self.new.capacity ≡ self.old.capacity }
+        ensures holders { self.new.sleepers.holders ≡ self.old.sleepers.holders }
         ensures same { OnErr result (self.new ≡ self.old) }
     {
         check_address(&self.words, a)?;
@@ -65,6 +68,7 @@ impl Common {
         ensures gives { (made t : ℕ)
             → serve made t (AskOr a.0 v) (common self.old) ≡ with_common result (common self.new) }
         ensures capacity { self.new.capacity ≡ self.old.capacity }
+        ensures holders { self.new.sleepers.holders ≡ self.old.sleepers.holders }
         ensures same { OnErr result (self.new ≡ self.old) }
     {
         check_address(&self.words, a)?;
@@ -77,6 +81,7 @@ impl Common {
         ensures gives { (made t : ℕ)
             → serve made t (AskAdd a.0 v) (common self.old) ≡ with_common result (common self.new) }
         ensures capacity { self.new.capacity ≡ self.old.capacity }
+        ensures holders { self.new.sleepers.holders ≡ self.old.sleepers.holders }
         ensures same { OnErr result (self.new ≡ self.old) }
     {
         check_address(&self.words, a)?;

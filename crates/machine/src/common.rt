@@ -3,7 +3,7 @@ ghost use Rattle.std.specs.Prelude.{slice_get, slice_set, Some};
 ghost use Rattle.words.specs.Limits.{most_threads};
 ghost use Rattle.isa.specs.Programs.{memory_size};
 ghost use Rattle.buckets.specs.BucketCount.{IsBucketCount};
-ghost use Rattle.buckets.specs.Sleepers.{queue, place_of};
+ghost use Rattle.buckets.specs.Sleepers.{queue, place_of, bucket_count, holder_of};
 ghost use Rattle.machine.specs.Views.{address_of, common};
 ghost use Rattle.machine.specs.ConcreteOutside.{drop_sleeper};
 
@@ -48,6 +48,8 @@ impl Common {
         ensures empty { IfOk result (λ c. (a : ℕ) → queue c.sleepers a ≡ []) }
         ensures awake { IfOk result (λ c. (t : ℕ) → place_of c.sleepers t ≡ None) }
         ensures output { IfOk result (λ c. c.output ≡ []) }
+        ensures buckets { IfOk result (λ c. bucket_count c.sleepers ≡ buckets) }
+        ensures free { IfOk result (λ c. (k : ℕ) → holder_of c.sleepers k ≡ None) }
     {
         Ok(Common {
             words: opening_words(alloc, image)?,
@@ -102,6 +104,7 @@ impl Common {
         requires { t ≤ most_threads }
         ensures dropped { common self.new ≡ drop_sleeper (common self.old) t }
         ensures capacity { self.new.capacity ≡ self.old.capacity }
+        ensures holders { self.new.sleepers.holders ≡ self.old.sleepers.holders }
     {
         self.buckets.drop_out(t)
     }

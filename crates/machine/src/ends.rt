@@ -20,6 +20,7 @@ impl Common {
             → serve made t (AskPrint number) (common self.old)
             ≡ with_common (Ok result) (common self.new) }
         ensures capacity { self.new.capacity ≡ self.old.capacity }
+        ensures holders { self.new.sleepers.holders ≡ self.old.sleepers.holders }
     {
         self.output.push_reserved(signed(number));
         Served::quietly(0, EventName::Print, number)
@@ -31,6 +32,7 @@ impl Common {
         ensures gives { (made : ℕ)
             → serve made t AskReturn (common self.old) ≡ with_common (Ok result) (common self.new) }
         ensures capacity { self.new.capacity ≡ self.old.capacity }
+        ensures holders { self.new.sleepers.holders ≡ self.old.sleepers.holders }
     {
         let head = self.words.load(block(t, ProcessWord::Head));
         self.words.store(block(t, ProcessWord::Outcome), ENDED);
@@ -44,6 +46,7 @@ impl Common {
             → serve made t (AskReturnValue value) (common self.old)
             ≡ with_common (Ok result) (common self.new) }
         ensures capacity { self.new.capacity ≡ self.old.capacity }
+        ensures holders { self.new.sleepers.holders ≡ self.old.sleepers.holders }
     {
         self.words.store(block(t, ProcessWord::Result), value);
         let head = self.words.load(block(t, ProcessWord::Head));
@@ -58,6 +61,7 @@ impl Common {
             → serve made t (AskFault cause) (common self.old)
             ≡ with_common (Ok result) (common self.new) }
         ensures capacity { self.new.capacity ≡ self.old.capacity }
+        ensures holders { self.new.sleepers.holders ≡ self.old.sleepers.holders }
     {
         let head = self.words.load(block(t, ProcessWord::Head));
         self.words
@@ -70,6 +74,7 @@ impl Common {
         requires { IsThread t }
         ensures gives { common self.new ≡ set_word (common self.old) (process_word t 2) t }
         ensures capacity { self.new.capacity ≡ self.old.capacity }
+        ensures holders { self.new.sleepers.holders ≡ self.old.sleepers.holders }
     {
         self.words.store(block(t, ProcessWord::Id), t);
     }

@@ -1,14 +1,15 @@
 //! The exits of threads.
-ghost use Rattle.std.specs.Prelude.{◌≡◌, ◌≢◌, ◌+◌, ◌*◌, ◌≤◌, length};
+ghost use Rattle.std.specs.Prelude.{◌≡◌, ◌≢◌, ◌+◌, ◌*◌, ◌≤◌, length, MatchBool};
 ghost use Rattle.words.specs.Limits.{most_threads};
 ghost use Rattle.machine.specs.ThreadSets.{IsThread};
 ghost use Rattle.machine.specs.ConcreteExits.{leave};
 ghost use Rattle.machine.specs.RequestMeanings.{value_at, name_at};
+ghost use Rattle.machine.specs.ConcretePieces.{IsHeldUp};
 ghost use Rattle.machine.specs.Views.{common};
 
 use crate::common::Common;
 use crate::event::{Event, EventName};
-use robustexit::{ExitPhase, exit_step};
+use robustexit::{ExitPhase, exit_step, wakes_on};
 use words::{Mem, ProcessWord, block};
 
 // The address that an event of this phase names, or 0.
@@ -44,6 +45,7 @@ impl Common {
         ensures gives { leave t phase (common self.old)
             ≡ record { common = common self.new; next = result.0; event = result.1 } }
         ensures capacity { self.new.capacity ≡ self.old.capacity }
+        ensures holders { self.new.sleepers.holders ≡ self.old.sleepers.holders }
     {
         let address = address_at(&self.words, t, phase);
         let (next, woken) = exit_step(&mut self.words, &mut self.buckets, t, phase);
@@ -53,5 +55,20 @@ impl Common {
         };
         let event = Event::with_threads(name_of(phase), value, woken.threads.as_slice(), &[]);
         (next, event)
+    }
+
+    /// Whether a thread holds the bucket of the word on which the step of thread `t`'s exit in this phase would wake.
+    pub fn is_held_up(&self, t: u32, phase: ExitPhase) -> bool
+        requires thread { IsThread t }
+        ensures { MatchBool result (IsHeldUp self.now.words self.now.sleepers t phase)
+            (IsHeldUp self.now.words self.now.sleepers t phase → ⊥) }
+    {
+        match wakes_on(&self.words, t, phase) {
+            Some(word) => {
+                let bucket = self.buckets.number(word);
+                self.buckets.holder(bucket).is_some()
+            }
+            None => false,
+        }
     }
 }

@@ -24,6 +24,7 @@ impl Common {
             → serve made t (AskWait a.0 expected) (common self.old)
             ≡ with_common result (common self.new) }
         ensures capacity { self.new.capacity ≡ self.old.capacity }
+        ensures holders { self.new.sleepers.holders ≡ self.old.sleepers.holders }
         ensures same { OnErr result (self.new ≡ self.old) }
     {
         check_address(&self.words, a)?;
@@ -39,6 +40,7 @@ impl Common {
             → serve made t (AskWake a.0 n) (common self.old)
             ≡ with_common result (common self.new) }
         ensures capacity { self.new.capacity ≡ self.old.capacity }
+        ensures holders { self.new.sleepers.holders ≡ self.old.sleepers.holders }
         ensures same { OnErr result (self.new ≡ self.old) }
     {
         check_address(&self.words, a)?;
@@ -64,6 +66,7 @@ impl Common {
             (common self.old)
             ≡ with_common result (common self.new) }
         ensures capacity { self.new.capacity ≡ self.old.capacity }
+        ensures holders { self.new.sleepers.holders ≡ self.old.sleepers.holders }
         ensures same { OnErr result (self.new ≡ self.old) }
     {
         check_address(&self.words, a)?;

@@ -2,6 +2,8 @@
 #![tactic(auto)]
 
 mod accesses;
+mod call_pieces;
+mod call_step;
 mod common;
 mod ends;
 mod event;
@@ -16,6 +18,7 @@ mod serving;
 mod thread_set;
 mod thread_step;
 
+pub use call_step::CallStep;
 pub use event::{Entry, Event, EventName, StepFault};
 pub use laws::steps_are_machine_steps;
 pub use machine::Machine;

@@ -1,10 +1,17 @@
 ghost use Rattle.std.specs.Prelude.{◌≡◌, ◌≢◌, ◌≤◌, ◌<◌, ◌+◌, ℕ, length, slice_index, slice_set, ◌-◌};
-ghost use Rattle.std.specs.Prelude.{true, false, Some, None, Ok, Err, IfOk, IfErr, OnOk, OnErr, MatchBool, is_some};
+ghost use Rattle.std.specs.Prelude.{◌⊎◌, true, false, Some, None, Ok, Err, IfOk, IfErr, OnOk, OnErr, MatchBool, is_some};
 ghost use Rattle.words.specs.Limits.{most_threads};
 ghost use Rattle.words.specs.Process.{process_word};
 ghost use Rattle.words.specs.Outcomes.{outcome_of};
 ghost use Rattle.isa.specs.Programs.{memory_size};
 ghost use Rattle.buckets.specs.BucketCount.{IsBucketCount};
+ghost use Rattle.buckets.specs.Places.{names};
+ghost use Rattle.buckets.specs.Sleepers.{bucket_count, holder_of};
+ghost use Rattle.futexcalls.specs.Pieces.{takes_at, held_at, IsPhase, LiesIn};
+ghost use Rattle.locals.specs.Looks.{look};
+ghost use Rattle.locals.specs.Requests.{next_step_of};
+ghost use Rattle.locals.specs.Threads.{Thread};
+ghost use Rattle.machine.specs.ConcretePieces.{MakesCall, DoesPiece, IsHeldUp};
 ghost use Rattle.locals.specs.Steps.{local_step};
 ghost use Rattle.machine.specs.States.{thread_of, state_of, opening_concrete};
 ghost use Rattle.machine.specs.Runs.{has_ended};
@@ -14,11 +21,14 @@ ghost use Rattle.machine.specs.LocalRuns.{RunsOn};
 ghost use Rattle.machine.specs.Views.{concrete, AllEnded, IsQuiet, variable_address, address_of, printed_by};
 ghost use Rattle.machine.specs.Views.{IsWellFormed};
 
+use crate::call_step::{CallProgress, CallStep};
 use crate::common::Common;
 use crate::event::{Event, EventName, StepFault};
 use crate::parts::{opening_threads, step_parts, variable};
+use futexcalls::{FutexCall, FutexPhase};
 use isa::Image;
-use locals::Local;
+use locals::{Local, NextStep};
+use robustexit::ExitPhase;
 use std::alloc::{AllocError, Global};
 use std::marker::Model;
 use words::{Addr, Outcome, ProcessWord, block};
@@ -54,12 +64,14 @@ impl Model for Machine {
 }
 
 impl Machine {
-    /// The machine at the start of an image, over so many buckets of sleepers, which no contract sees: one thread,
-    /// which stands at the image's start. It keeps a copy of the image. From then on no step takes memory.
+    /// The machine at the start of an image, over so many buckets of sleepers, which nobody holds: one thread, which
+    /// stands at the image's start. It keeps a copy of the image. From then on no step takes memory.
     pub fn new(alloc: Global, image: &Image, buckets: u32) -> Result<Machine, AllocError>
         requires { IsBucketCount buckets }
         ensures program { IfOk result (λ m. m.program ≡ image.now) }
         ensures opening { IfOk result (λ m. concrete m ≡ opening_concrete image.now) }
+        ensures buckets { IfOk result (λ m. bucket_count m.sleepers ≡ buckets) }
+        ensures free { IfOk result (λ m. (k : ℕ) → holder_of m.sleepers k ≡ None) }
         ensures holds { IfOk result (λ m. IsWellFormed image.now (concrete m)) }
     {
         Ok(Machine {
@@ -259,6 +271,7 @@ impl Machine {
         ensures err { IfErr result (λ f. (step_of self.old.program (concrete self.old) t ≡ Err f)
             × (self.new ≡ self.old)) }
         ensures program { self.new.program ≡ self.old.program }
+        ensures holders { self.new.sleepers.holders ≡ self.old.sleepers.holders }
         ensures holds { IsWellFormed self.new.program (concrete self.new) }
     {
         if t == 0 || t as usize > self.threads.len() || self.asleep(t).is_some() {
@@ -272,6 +285,78 @@ impl Machine {
         step_parts(image, common, threads, t)
     }
 
+    /// What the next step of thread `t` is.
+    pub fn next_step(&self, t: u32) -> NextStep
+        requires { (0 < t) × (t ≤ length self.now.threads) }
+        ensures { (x : Thread) → thread_of (concrete self.now) t ≡ Some x
+            → result ≡ next_step_of (look self.now.program t x) }
+    {
+        self.threads[t as usize - 1].next_step(&self.image, t)
+    }
+
+    /// Whether a thread holds the bucket of the word on which the step of thread `t`'s exit in this phase would wake.
+    pub fn is_held_up(&self, t: u32, phase: ExitPhase) -> bool
+        requires { (0 < t) × (t ≤ length self.now.threads) }
+        ensures { MatchBool result (IsHeldUp self.now.words self.now.sleepers t phase)
+            (IsHeldUp self.now.words self.now.sleepers t phase → ⊥) }
+    {
+        self.common.is_held_up(t, phase)
+    }
+
+    /// Whether the words of a futex call lie in the memory.
+    pub fn has_words(&self, call: FutexCall) -> bool
+        ensures { MatchBool result (LiesIn (length self.now.words) call)
+            (LiesIn (length self.now.words) call → ⊥) }
+    {
+        let size = self.memory_len();
+        match call {
+            FutexCall::Wait { address, .. } | FutexCall::Wake { address, .. } => {
+                (address.0 as usize) < size
+            }
+            FutexCall::Requeue {
+                address,
+                target,
+                ..
+            } => (address.0 as usize) < size && (target.0 as usize) < size,
+        }
+    }
+
+    /// The bucket that a futex call takes next, in the phase before which it stands, if it takes one.
+    pub fn next_bucket(&self, call: FutexCall, phase: FutexPhase) -> Option<u32>
+        ensures { result ≡ takes_at (bucket_count self.now.sleepers) phase call }
+    {
+        self.common.next_bucket(call, phase)
+    }
+
+    /// Takes a piece of the futex call that thread `t` makes, which is awake, stands before this piece, and holds the
+    /// buckets that its phase says; the words of the call lie in the memory. Behind the last piece the thread goes on
+    /// with the call's answer.
+    pub fn take_piece(&mut self, t: u32, call: FutexCall, phase: FutexPhase) -> CallStep
+        requires makes { MakesCall self.old t call }
+        requires lies { LiesIn (length self.old.words) call }
+        requires awake { (state_of (concrete self.old)).asleep t ≡ None }
+        requires stands { (phase ≡ FutexPhase.First)
+            ⊎ IsPhase (bucket_count self.old.sleepers) phase call }
+        requires held { (k : ℕ)
+            → names (held_at (bucket_count self.old.sleepers) phase (Some call)) k ≡ true
+            → holder_of self.old.sleepers k ≡ Some t }
+        ensures piece { (phases : ℕ → FutexPhase) (x : Thread) → phases t ≡ phase
+            → thread_of (concrete self.old) t ≡ Some x
+            → DoesPiece self.old phases t call x result self.new }
+        ensures program { self.new.program ≡ self.old.program }
+        ensures room { self.new.room ≡ self.old.room }
+        ensures holds { IsWellFormed self.new.program (concrete self.new) }
+    {
+        match self.common.call_piece(t, call, phase) {
+            CallProgress::Next(next) => CallStep::Next(next),
+            CallProgress::Blocked => CallStep::Blocked,
+            CallProgress::Done(served) => {
+                self.threads[t as usize - 1].go_on(&self.image, t, served.answer);
+                CallStep::Done(served.event)
+            }
+        }
+    }
+
     /// Wakes thread `t` though nobody called for it, as the kernel may (futex(2): "spurious wake-up"). It is a step that
     /// no thread takes.
     ///
@@ -282,6 +367,7 @@ impl Machine {
         ensures err { IfErr result (λ f. (stray_of (concrete self.old) t ≡ Err f)
             × (self.new ≡ self.old)) }
         ensures program { self.new.program ≡ self.old.program }
+        ensures holders { self.new.sleepers.holders ≡ self.old.sleepers.holders }
         ensures holds { IsWellFormed self.new.program (concrete self.new) }
     {
         let Some(place) = self.asleep(t) else {
@@ -303,6 +389,7 @@ impl Machine {
         ensures err { IfErr result (λ f. (kill_of (concrete self.old) t ≡ Err f)
             × (self.new ≡ self.old)) }
         ensures program { self.new.program ≡ self.old.program }
+        ensures holders { self.new.sleepers.holders ≡ self.old.sleepers.holders }
         ensures holds { IsWellFormed self.new.program (concrete self.new) }
     {
         if !self.is_made(t) {

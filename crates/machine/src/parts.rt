@@ -88,6 +88,7 @@ pub fn step_parts(
     ensures same { OnErr result ((shared.new ≡ shared.old)
         × (threads.new.items ≡ threads.old.items)) }
     ensures capacity { shared.new.capacity ≡ shared.old.capacity }
+    ensures holders { shared.new.sleepers.holders ≡ shared.old.sleepers.holders }
     ensures space { vec_capacity threads.new ≡ vec_capacity threads.old }
 {
     match threads[t as usize - 1].next_step(image, t) {
@@ -132,6 +133,7 @@ fn fork_parts(
     ensures same { OnErr result ((shared.new ≡ shared.old)
         × (threads.new.items ≡ threads.old.items)) }
     ensures capacity { shared.new.capacity ≡ shared.old.capacity }
+    ensures holders { shared.new.sleepers.holders ≡ shared.old.sleepers.holders }
     ensures space { vec_capacity threads.new ≡ vec_capacity threads.old }
 {
     let made = threads.len() as u32;

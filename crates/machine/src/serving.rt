@@ -20,6 +20,7 @@ impl Common {
             → serve made t (asked_of request) (common self.old)
             ≡ with_common result (common self.new) }
         ensures capacity { self.new.capacity ≡ self.old.capacity }
+        ensures holders { self.new.sleepers.holders ≡ self.old.sleepers.holders }
         ensures same { OnErr result (self.new ≡ self.old) }
     {
         match request {

@@ -40,6 +40,7 @@ pub fn take_exit(
     ensures done { (made : ℕ) → thread_step made t (common shared.old) (look image.now t local.old)
         ≡ Ok (record { common = common shared.new; thread = local.new; child = None; event = result }) }
     ensures capacity { shared.new.capacity ≡ shared.old.capacity }
+    ensures holders { shared.new.sleepers.holders ≡ shared.old.sleepers.holders }
 {
     let (next, event) = shared.leave(t, phase);
     local.enter_phase(next);
@@ -65,6 +66,7 @@ pub fn take_request(
         → thread_step made t (common shared.old) (look image.now t local.old) ≡ Err f) }
     ensures same { OnErr result ((local.new ≡ local.old) × (shared.new ≡ shared.old)) }
     ensures capacity { shared.new.capacity ≡ shared.old.capacity }
+    ensures holders { shared.new.sleepers.holders ≡ shared.old.sleepers.holders }
 {
     let served = shared.serve(t, request)?;
     local.go_on(image, t, served.answer);
@@ -91,6 +93,7 @@ pub fn take_fork(
     ensures child { IfOk result (λ r. IsSome r.0 → made < most_threads) }
     ensures same { OnErr result ((local.new ≡ local.old) × (shared.new ≡ shared.old)) }
     ensures capacity { shared.new.capacity ≡ shared.old.capacity }
+    ensures holders { shared.new.sleepers.holders ≡ shared.old.sleepers.holders }
 {
     if made == MOST_THREADS {
         local.go_on(image, t, 0);

@@ -1,0 +1,88 @@
+//! The futex calls of threads, in pieces.
+ghost use Rattle.std.specs.Prelude.{◌≡◌, ◌⊎◌, ℕ, None, Some, true, length};
+ghost use Rattle.std.specs.List.{All};
+ghost use Rattle.buckets.specs.Places.{names};
+ghost use Rattle.buckets.specs.Sleepers.{Sleepers, place_of, bucket_count, holder_of, IsSound};
+ghost use Rattle.futexcalls.specs.Answers.{word_of};
+ghost use Rattle.futexcalls.specs.declared.progress.FutexProgress.{FutexProgress};
+ghost use Rattle.futexcalls.specs.Pieces.{takes_at, held_at, IsPhase, LiesIn};
+ghost use Rattle.futexcalls.specs.PieceResults.{PieceSo, answer_of};
+ghost use Rattle.machine.specs.ThreadSets.{IsThread};
+ghost use Rattle.machine.specs.ConcreteServing.{event_of};
+ghost use Rattle.machine.specs.ConcretePieces.{call_name, woken_in, moved_in, Tells};
+
+use crate::call_step::CallProgress;
+use crate::common::Common;
+use crate::event::{Event, EventName};
+use crate::served::Served;
+use futexcalls::{FutexAnswer, FutexCall, FutexPhase, FutexProgress, futex_step, next_bucket};
+
+// How a call that is over is told.
+fn name_of(call: FutexCall) -> EventName
+    ensures { result ≡ call_name call }
+{
+    match call {
+        FutexCall::Wait { .. } => EventName::Wait,
+        FutexCall::Wake { .. } => EventName::Wake,
+        FutexCall::Requeue { .. } => EventName::Requeue,
+    }
+}
+
+// What comes of a call that is over.
+fn served(call: FutexCall, answer: &FutexAnswer) -> Served
+    requires woken { All IsThread (woken_in answer.now) }
+    requires moved { All IsThread (moved_in answer.now) }
+    ensures answer { result.answer ≡ answer_of call answer.now }
+    ensures event { result.event
+        ≡ event_of (call_name call) (answer_of call answer.now) (woken_in answer.now) (moved_in answer.now) }
+{
+    let value = answer.value(call);
+    let event = match answer {
+        FutexAnswer::Again => Event::new(name_of(call), value),
+        FutexAnswer::Acted(acted) => Event::with_threads(
+            name_of(call),
+            value,
+            acted.woken.as_slice(),
+            acted.moved.as_slice(),
+        ),
+    };
+    Served {
+        answer: value,
+        event,
+    }
+}
+
+impl Common {
+    /// The bucket that a futex call takes next, in the phase before which it stands, if it takes one.
+    pub fn next_bucket(&self, call: FutexCall, phase: FutexPhase) -> Option<u32>
+        ensures { result ≡ takes_at (bucket_count self.now.sleepers) phase call }
+    {
+        next_bucket(&self.buckets, call, phase)
+    }
+
+    /// Takes the next piece of a futex call of thread `t`, which is awake and holds the buckets that its phase says.
+    pub fn call_piece(&mut self, t: u32, call: FutexCall, phase: FutexPhase) -> CallProgress
+        requires thread { IsThread t }
+        requires lies { LiesIn (length self.old.words) call }
+        requires awake { place_of self.old.sleepers t ≡ None }
+        requires stands { (phase ≡ FutexPhase.First)
+            ⊎ IsPhase (bucket_count self.old.sleepers) phase call }
+        requires held { (k : ℕ)
+            → names (held_at (bucket_count self.old.sleepers) phase (Some call)) k ≡ true
+            → holder_of self.old.sleepers k ≡ Some t }
+        ensures piece { (progress : FutexProgress)
+            × PieceSo (word_of self.old.words) t call phase self.old.sleepers progress self.new.sleepers
+            × Tells call progress result }
+        ensures words { self.new.words ≡ self.old.words }
+        ensures output { self.new.output ≡ self.old.output }
+        ensures capacity { self.new.capacity ≡ self.old.capacity }
+        ensures count { bucket_count self.new.sleepers ≡ bucket_count self.old.sleepers }
+        ensures sound { IsSound self.new.sleepers }
+    {
+        match futex_step(&self.words, &mut self.buckets, t, call, phase) {
+            FutexProgress::Next(next) => CallProgress::Next(next),
+            FutexProgress::Blocked => CallProgress::Blocked,
+            FutexProgress::Done(answer) => CallProgress::Done(served(call, &answer)),
+        }
+    }
+}
