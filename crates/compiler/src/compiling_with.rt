@@ -20,6 +20,46 @@ use std::sync::Wait;
 use std::thread::Threads;
 use words::Gate;
 
+// How many bytes may stand between two semicolons of a text whose code several workers make. What makes code calls
+// itself for each of the operators in a row, of which so many bytes hold half as many, and a thread of the system's
+// mostly has a stack for twice as many.
+const MOST_BETWEEN: usize = 1 << 15;
+
+// The most bytes that stand between two semicolons of a text, those of comments included.
+fn most_between(text: &[u8]) -> usize {
+    let mut most = 0;
+    let mut count: usize = 0;
+    let mut last = b' ';
+    let mut is_comment = false;
+    for byte in text {
+        is_comment = if is_comment {
+            *byte != b'\n'
+        } else {
+            *byte == b'-' && last == b'-'
+        };
+        last = *byte;
+        count = if *byte == b';' && !is_comment {
+            0
+        } else {
+            count.saturating_add(1)
+        };
+        most = count.max(most);
+    }
+    most
+}
+
+// As many workers as are wanted for a text, or one where their stacks may be too small for it.
+fn workers_for(text: &[u8], wanted: u32) -> u32
+    requires { (1 ≤ wanted) × (wanted ≤ most_workers) }
+    ensures { (1 ≤ result) × (result ≤ most_workers) }
+{
+    if most_between(text) <= MOST_BETWEEN {
+        wanted
+    } else {
+        1
+    }
+}
+
 // The image of a source text, or its refusal.
 fn image_with<R: Threads + Wait + Sync, G: Gate>(
     rt: &R,
@@ -34,13 +74,14 @@ fn image_with<R: Threads + Wait + Sync, G: Gate>(
 {
     code_refines();
     let checked = read(alloc, text)?;
-    let lowered = lower_with(rt, alloc, &checked, workers, gate)?;
+    let lowered = lower_with(rt, alloc, &checked, workers_for(text, workers), gate)?;
     let Lowered { image, .. } = lowered;
     Ok(image)
 }
 
 /// The image of a source text, as `compile` gives it, with the code of its pieces made by this many workers, from 1 to
-/// 64. Piece `j`, from 0, belongs to worker `1 + j MOD workers`, which passes the gate before it.
+/// 64. Piece `j`, from 0, belongs to worker `1 + j MOD workers`, which passes the gate before it. A text with more than
+/// 32,768 bytes between two semicolons has one worker, the calling thread.
 ///
 /// # Errors
 ///
