@@ -1,15 +1,13 @@
 -- A piece of a futex call as the code takes it is a step of the machine with pieces, and keeps what always holds.
-use Rattle.std.proofs.Common.{◌≡◌, ◌≢◌, ℕ, ◌+◌, ◌-◌, ◌≤◌, ◌==◌, Bool, true, false, Option, Some, None, List, []}
+use Rattle.std.proofs.Common.{◌≡◌, ℕ, ◌+◌, ◌-◌, ◌≤◌, ◌==◌, Bool, true, false, Option, Some, None, List, []}
 use Rattle.std.proofs.Common.{◌∷◌, length, slice_set, refl, sym, ap, subst, ◌∙◌, ◌⊎◌, inl, inr, arith, length-set}
-use Rattle.std.specs.Prelude.{slice_index, if◌then◌else◌, ℤ}
-use Rattle.std.proofs.Math.Path.{fun_ext}
+use Rattle.std.specs.Prelude.{slice_index, if◌then◌else◌}
 use Rattle.std.proofs.lemmas.Bool.{cases_eq, eqb-true, or_cases}
 use Rattle.words.specs.Updates.{put}
 use Rattle.buckets.specs.Places.{names, with_place}
 use Rattle.isa.specs.Programs.{Program}
 use Rattle.std.specs.List.{All}
 use Rattle.buckets.specs.Sleepers.{Sleepers, queue, place_of, thread_count, bucket_count, holder_of, IsSound}
-use Rattle.futexcalls.specs.FutexCalls.{Wakes}
 use Rattle.futexcalls.specs.Answers.{word_of}
 use Rattle.futexcalls.specs.declared.pieces.FutexCall.{FutexCall}
 use Rattle.futexcalls.specs.declared.pieces.FutexCall.TheVariants.{Wait, Wake, Requeue}
@@ -25,8 +23,8 @@ use Rattle.futexcalls.specs.PieceResults.{woken_by, moved_by}
 use Rattle.locals.specs.Threads.{Thread}
 use Rattle.locals.specs.Looks.{Asks, look}
 use Rattle.locals.specs.Requests.{CanBeAnswered}
-use Rattle.machine.specs.States.{State, thread_at, thread_of, state_of, with_sleepers}
-use Rattle.machine.specs.PieceStates.{PieceState, request_of}
+use Rattle.machine.specs.States.{thread_at, thread_of, state_of, with_sleepers}
+use Rattle.machine.specs.PieceStates.{request_of}
 use Rattle.machine.specs.PieceSteps.{Piece, BlocksCall, IsLock, IsEqual, IsAgain, IsAct, goes_outside}
 use Rattle.machine.specs.ConcretePieces.{pieces_of, woken_in, moved_in, call_name, Tells, MakesCall, DoesPiece}
 use Rattle.machine.specs.declared.call_step.CallStep.TheVariants as step

@@ -6,7 +6,7 @@ use Rattle.std.specs.Prelude.{slice_index}
 use Rattle.std.proofs.Math.Path.{fun_ext}
 use Rattle.std.proofs.lemmas.Bool.{cases_eq, eq-eqb, ne_eqb, cond-true, cond-false}
 use Rattle.words.specs.Process.{process_word}
-use Rattle.isa.specs.Programs.{Program, memory_size}
+use Rattle.isa.specs.Programs.{Program}
 use Rattle.locals.specs.Threads.{Thread, opening_thread}
 use Rattle.locals.specs.Looks.{AskFork, Asks}
 use Rattle.machine.specs.declared.event.Event.{Event}

@@ -1,17 +1,15 @@
 -- A kill from outside is a step of the relation: who is killed stands in no list then, and begins to die.
-use Rattle.std.proofs.Common.{◌≡◌, ◌≢◌, ℕ, ◌≤◌, ◌-◌, ◌==◌, Bool, true, false, not, Option, Some, None, Result, Ok, Err}
-use Rattle.std.proofs.Common.{List, [], ◌∷◌, length, length-set, slice_set, refl, sym, ap, ◌∙◌, subst, arith}
+use Rattle.std.proofs.Common.{◌≡◌, ℕ, ◌-◌, ◌==◌, Bool, true, false, not, Option, Some, None, Ok, Err}
+use Rattle.std.proofs.Common.{[], length, length-set, slice_set, refl, sym, ap, ◌∙◌, subst, arith}
 use Rattle.std.specs.Prelude.{◌↔◌}
 use Rattle.std.proofs.Math.Path.{fun_ext}
 use Rattle.words.specs.declared.outcome.Cause.TheVariants.{Killed as Killed'}
 use Rattle.isa.specs.Programs.{Program}
 use Rattle.locals.specs.Threads.{Thread, Dies, is_dying}
 use Rattle.machine.specs.declared.event.Event.{Event}
-use Rattle.machine.specs.declared.event.EventName.TheVariants as name
 use Rattle.machine.specs.declared.event.StepFault.TheVariants.{CannotMove}
 use Rattle.machine.specs.ThreadSets.{set_of}
-use Rattle.machine.specs.States.{State, ConcreteState, state_of, thread_of}
-use Rattle.machine.specs.ConcreteServing.{plain}
+use Rattle.machine.specs.States.{ConcreteState, state_of, thread_of}
 use Rattle.machine.specs.ConcreteOutside.{killed_in, kill_by, kill_at, kill_of}
 use Rattle.machine.specs.Runs.{Killed, IsStep, killed_to}
 use Rattle.machine.specs.Views.{IsWellFormed}

@@ -6,7 +6,7 @@ use Rattle.std.specs.List.{IsDistinct}
 use Rattle.std.proofs.lemmas.Bool.{both_ways, eq-eqb, eqb-true, ne_eqb, ltb-true, lt-ltb, or_cases, or_parts}
 use Rattle.words.specs.LockWord.{lock_word, owner_of, waiters_of}
 use Rattle.words.specs.Process.{process_word}
-use Rattle.isa.specs.Programs.{Program, memory_size}
+use Rattle.isa.specs.Programs.{Program}
 use Rattle.futexcalls.specs.FutexCalls.{IsChoice}
 use Rattle.robustexit.specs.declared.phase.ExitPhase.{ExitPhase}
 use Rattle.robustexit.specs.declared.phase.ExitPhase.TheVariants.{Entry, Pending, ClearId, LastWake, Ended}

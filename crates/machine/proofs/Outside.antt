@@ -1,5 +1,5 @@
 -- A wake from outside is one of the relation: who slept stands in no list then, and sleeps nowhere.
-use Rattle.std.proofs.Common.{◌≡◌, ◌≢◌, ℕ, ◌≤◌, Bool, true, false, ◌||◌, not, eqb, Option, Some, None, Result, Ok, Err}
+use Rattle.std.proofs.Common.{◌≡◌, ◌≢◌, ℕ, true, false, ◌||◌, not, eqb, Option, Some, None, Ok, Err}
 use Rattle.std.proofs.Common.{List, [], ◌∷◌, refl, sym, ap, ◌∙◌, subst, arith, inl, inr}
 use Rattle.std.specs.Prelude.{◌↔◌, filter}
 use Rattle.std.specs.List.{IsDistinct, AllByRecursion}
@@ -12,7 +12,7 @@ use Rattle.machine.specs.declared.event.Event.{Event}
 use Rattle.machine.specs.declared.event.EventName.TheVariants as name
 use Rattle.machine.specs.declared.event.StepFault.TheVariants.{CannotMove}
 use Rattle.machine.specs.ThreadSets.{IsThread, set_of}
-use Rattle.machine.specs.States.{ConcreteState, state_of, thread_of}
+use Rattle.machine.specs.States.{ConcreteState, state_of}
 use Rattle.machine.specs.ConcreteServing.{event_of}
 use Rattle.machine.specs.ConcreteOutside.{drop_sleeper, stray_at, stray_of}
 use Rattle.machine.specs.Runs.{Strayed, IsStep}

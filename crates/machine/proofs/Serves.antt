@@ -11,7 +11,7 @@ use Rattle.words.specs.Process.{process_word}
 use Rattle.words.specs.Outcomes.{cause_number}
 use Rattle.words.specs.Signed.{signed_of}
 use Rattle.buckets.specs.Places.{with_place}
-use Rattle.isa.specs.Programs.{Program, memory_size}
+use Rattle.isa.specs.Programs.{Program}
 use Rattle.locals.specs.Threads.{Thread}
 use Rattle.locals.specs.Looks.{Request, AskLoad, AskStore, AskSwap, AskCompareSwap, AskOr, AskAdd, AskFork, AskPrint}
 use Rattle.locals.specs.Looks.{AskWait, AskWake, AskRequeue, AskReturn, AskReturnValue, AskFault, Asks}

@@ -2,7 +2,6 @@
 use Rattle.std.specs.Prelude.{ℕ, suc, ◌≡◌, ◌≢◌, ◌<◌, ◌+◌, ◌%◌, ◌==◌, ◌⊎◌, ◌++◌, List, [], ◌∷◌, length, true}
 use Rattle.std.specs.Prelude.{Option, if◌then◌else◌}
 use Rattle.std.specs.Int.Bits.{bit_or}
-use Rattle.words.specs.Limits.{most_threads}
 use Rattle.words.specs.Process.{process_word}
 use Rattle.words.specs.Outcomes.{cause_number}
 use Rattle.words.specs.Signed.{signed_of}

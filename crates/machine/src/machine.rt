@@ -87,6 +87,7 @@ impl Machine {
         ensures err { OnErr result ((self.old.room < n) × (self.new.room ≡ self.old.room)) }
         ensures same { (self.new.program ≡ self.old.program)
             × (concrete self.new ≡ concrete self.old) }
+        ensures sleepers { self.new.sleepers ≡ self.old.sleepers }
     {
         self.common.make_room(n)
     }

@@ -1,13 +1,12 @@
 -- A piece of the thread's call is one of the machine with pieces.
-use Rattle.std.proofs.Common.{◌≡◌, ℕ, ◌-◌, ◌<◌, ◌≤◌, length, slice_set, Some, refl, sym, ap, ◌∙◌, subst, arith}
+use Rattle.std.proofs.Common.{◌≡◌, ℕ, ◌-◌, length, slice_set, Some, refl, sym, ap, ◌∙◌, subst, arith}
 use Rattle.std.proofs.Common.{length-set}
 use Rattle.futexcalls.specs.declared.pieces.FutexPhase.{FutexPhase}
 use Rattle.futexcalls.specs.Pieces.{LiesIn}
 use Rattle.locals.specs.Threads.{Thread}
 use Rattle.locals.specs.Looks.{look}
-use Rattle.locals.specs.Requests.{after_answer, CanBeAnswered}
+use Rattle.locals.specs.Requests.{after_answer}
 use Rattle.machine.specs.declared.call_step.CallStep.TheVariants.{Next, Blocked, Done}
-use Rattle.machine.specs.declared.call_step.CallProgress.TheVariants as common
 use Rattle.machine.specs.States.{thread_of}
 use Rattle.machine.specs.ConcretePieces.{MakesCall, DoesPiece}
 use Rattle.machine.specs.Views.{View, concrete}
