@@ -1,0 +1,2 @@
+pub mod OwnCalls
+pub mod Owns

@@ -1,0 +1,139 @@
+-- A piece of the call that the thread makes.
+use Rattle.std.proofs.Common.{◌≡◌, inl, inr, [], slice_set, Some, None, true, refl, sym, ap, ◌∙◌}
+use Rattle.std.proofs.Common.{subst, length-set}
+use Rattle.buckets.specs.Places.{names}
+use Rattle.buckets.specs.Sleepers.{bucket_count}
+use Rattle.futexcalls.specs.declared.pieces.FutexPhase.{FutexPhase}
+use Rattle.futexcalls.specs.declared.pieces.FutexPhase.TheVariants.{First}
+use Rattle.futexcalls.specs.Pieces.{held_at, takes_at, IsPhase}
+use Rattle.locals.specs.Looks.{Asks}
+use Rattle.machine.specs.ConcretePieces.{pieces_of, MakesCall}
+use Rattle.machine.specs.PieceStates.{request_of}
+use Rattle.machine.specs.PieceSteps.{CanTakePiece}
+use Rattle.machine.specs.States.{state_of}
+use Rattle.machine.specs.Views.{View, concrete}
+use Rattle.piece_machine.specs.declared.piece_event.PieceEvent.TheVariants.{Event}
+use Rattle.piece_machine.specs.PieceViews.{PieceView, pieces, phase_in, IsKept, Steps, Tells}
+use Rattle.piece_machine.proofs.OwnCalls.{called_is, stands_in, holds, in_the_way, call_blocks}
+use Rattle.piece_machine.proofs.Owns.{phase_at, call_step, kept_on}
+use Rattle.piece_machine.proofs.piece_machine.PieceMachine.call_step.Goals.{in-Some, in-None}
+use Rattle.piece_machine.proofs.piece_machine.PieceMachine.call_step.Goals as goal
+
+pub take_piece-requires-clause-stands : goal.take_piece-requires-clause-stands
+take_piece-requires-clause-stands c =
+    let v = c.self.inside.machine in
+    let ph = c.self.inside.phases.items in
+    let m = subst (λ (q : PieceView). MakesCall q.view c.args.t c.args.call) (sym c.self.view_is) c.requires.makes in
+    let at : phase_in ph c.args.t ≡ c.index-phase.result.now =
+    phase_at v ph c.args.t m.thread c.index-phase.result.now c.self.invariant m.stands c.index-phase.ensures in
+    elim (stands_in v.program (pieces_of v (phase_in ph)) c.args.t m.thread c.args.call m.go c.self.invariant.right
+    m.stands m.asks) [
+      | inl f ↦ inl (sym at ∙ f)
+      | inr w ↦ inr (subst (λ (f : FutexPhase). IsPhase (bucket_count v.sleepers) f c.args.call) at w.0)
+    ]
+
+pub take_piece-requires-clause-held : goal.take_piece-requires-clause-held
+take_piece-requires-clause-held c = λ k h.
+    let v = c.self.inside.machine in
+    let ph = c.self.inside.phases.items in
+    let m = subst (λ (q : PieceView). MakesCall q.view c.args.t c.args.call) (sym c.self.view_is) c.requires.makes in
+    let at : phase_in ph c.args.t ≡ c.index-phase.result.now =
+    phase_at v ph c.args.t m.thread c.index-phase.result.now c.self.invariant m.stands c.index-phase.ensures in
+    holds v.program (pieces_of v (phase_in ph)) c.args.t m.thread c.args.call m.go k c.self.invariant.right
+    m.stands m.asks
+    (subst (λ (f : FutexPhase). names (held_at (bucket_count v.sleepers) f (Some c.args.call)) k ≡ true) (sym at) h)
+
+pub invariant_of-self : goal.invariant_of-self
+invariant_of-self c =
+    let v = c.self.inside.machine in
+    let v' = c.take_piece.new.self in
+    let ph = c.self.inside.phases.items in
+    let m = subst (λ (q : PieceView). MakesCall q.view c.args.t c.args.call) (sym c.self.view_is) c.requires.makes in
+    let awake : (state_of (concrete v)).asleep c.args.t ≡ None =
+    subst (λ (q : PieceView). (pieces q).base.asleep c.args.t ≡ None) (sym c.self.view_is) c.requires.awake in
+    let at = phase_at v ph c.args.t m.thread c.index-phase.result.now c.self.invariant m.stands c.index-phase.ensures in
+    let e = c.in-Next.ensures in
+    kept_on v v' ph (slice_set ph c.args.t c.in-Next.next) c.args.t [] c.self.invariant e.program e.holds
+    (length-set ph c.args.t c.in-Next.next)
+    (call_step v v' ph c.args.t m.thread [] c.in-Next.next c.self.invariant m.stands awake
+    (e.piece (phase_in ph) m.thread at m.stands))
+
+pub returns-after-bucket-clause-done : goal.returns-after-bucket-clause-done
+returns-after-bucket-clause-done c =
+    let v = c.self.inside.machine in
+    let v' = c.take_piece.new.self in
+    let ph = c.self.inside.phases.items in
+    let m = subst (λ (q : PieceView). MakesCall q.view c.args.t c.args.call) (sym c.self.view_is) c.requires.makes in
+    let awake : (state_of (concrete v)).asleep c.args.t ≡ None =
+    subst (λ (q : PieceView). (pieces q).base.asleep c.args.t ≡ None) (sym c.self.view_is) c.requires.awake in
+    let at = phase_at v ph c.args.t m.thread c.index-phase.result.now c.self.invariant m.stands c.index-phase.ensures in
+    let called = called_is v.program c.args.t m.thread c.args.call m.go _ m.stands m.asks in
+    let next = ap (λ (f : FutexPhase). takes_at (bucket_count v.sleepers) f c.args.call) at
+    ∙ sym c.next_bucket-bucket.ensures in
+    let told : Tells v.program (pieces_of v (phase_in ph)) c.args.t [] c.match-bucket.result =
+    elim c.match-bucket.branch [
+      | in-Some w ↦ rw w.result-is (refl, c.args.call, called, next ∙ w.in-Some.is)
+      | in-None w ↦ rw w.result-is (refl, c.args.call, called, next ∙ w.in-None.is, w.expected_word.ensures)
+    ] in
+    subst (λ (q : PieceView). Steps q.view.program (pieces q) c.args.t c.match-bucket.result
+    (pieces_of v' (phase_in (slice_set ph c.args.t c.in-Next.next)))) c.self.view_is (record {
+      woken = [];
+      step = call_step v v' ph c.args.t m.thread [] c.in-Next.next c.self.invariant m.stands awake
+          (c.in-Next.ensures.piece (phase_in ph) m.thread at m.stands);
+      told = told;
+    })
+
+pub invariant_of-self-in-Blocked : goal.invariant_of-self-in-Blocked
+invariant_of-self-in-Blocked c =
+    let v = c.self.inside.machine in
+    let ph = c.self.inside.phases.items in
+    let m = subst (λ (q : PieceView). MakesCall q.view c.args.t c.args.call) (sym c.self.view_is) c.requires.makes in
+    let at = phase_at v ph c.args.t m.thread c.index-phase.result.now c.self.invariant m.stands c.index-phase.ensures in
+    subst (λ (q : View). IsKept q ph) (sym (c.in-Blocked.ensures.piece (phase_in ph) m.thread at m.stands).1)
+    c.self.invariant
+
+pub returns-in-Blocked-clause-err : goal.returns-in-Blocked-clause-err
+returns-in-Blocked-clause-err c =
+    let v = c.self.inside.machine in
+    let ph = c.self.inside.phases.items in
+    let m = subst (λ (q : PieceView). MakesCall q.view c.args.t c.args.call) (sym c.self.view_is) c.requires.makes in
+    let at = phase_at v ph c.args.t m.thread c.index-phase.result.now c.self.invariant m.stands c.index-phase.ensures in
+    let b = c.in-Blocked.ensures.piece (phase_in ph) m.thread at m.stands in
+    let s = pieces_of v (phase_in ph) in (
+      subst (λ (q : PieceView). CanTakePiece q.view.program (pieces q) c.args.t → ⊥) c.self.view_is
+          (in_the_way v.program s c.args.t m.thread (Asks (request_of c.args.call) m.go) m.stands m.asks
+          (call_blocks s c.args.t c.args.call m.go b.0)),
+      (λ i. record { view = b.1 i; phases = ph }) ∙ c.self.view_is,
+    )
+
+pub invariant_of-self-in-Done : goal.invariant_of-self-in-Done
+invariant_of-self-in-Done c =
+    let v = c.self.inside.machine in
+    let v' = c.take_piece.new.self in
+    let ph = c.self.inside.phases.items in
+    let m = subst (λ (q : PieceView). MakesCall q.view c.args.t c.args.call) (sym c.self.view_is) c.requires.makes in
+    let awake : (state_of (concrete v)).asleep c.args.t ≡ None =
+    subst (λ (q : PieceView). (pieces q).base.asleep c.args.t ≡ None) (sym c.self.view_is) c.requires.awake in
+    let at = phase_at v ph c.args.t m.thread c.index-phase.result.now c.self.invariant m.stands c.index-phase.ensures in
+    let e = c.in-Done.ensures in
+    let d = e.piece (phase_in ph) m.thread at m.stands in
+    kept_on v v' ph (slice_set ph c.args.t First) c.args.t d.0 c.self.invariant e.program e.holds
+    (length-set ph c.args.t First)
+    (call_step v v' ph c.args.t m.thread d.0 First c.self.invariant m.stands awake d.4)
+
+pub returns-in-Done-clause-done : goal.returns-in-Done-clause-done
+returns-in-Done-clause-done c =
+    let v = c.self.inside.machine in
+    let v' = c.take_piece.new.self in
+    let ph = c.self.inside.phases.items in
+    let m = subst (λ (q : PieceView). MakesCall q.view c.args.t c.args.call) (sym c.self.view_is) c.requires.makes in
+    let awake : (state_of (concrete v)).asleep c.args.t ≡ None =
+    subst (λ (q : PieceView). (pieces q).base.asleep c.args.t ≡ None) (sym c.self.view_is) c.requires.awake in
+    let at = phase_at v ph c.args.t m.thread c.index-phase.result.now c.self.invariant m.stands c.index-phase.ensures in
+    let d = c.in-Done.ensures.piece (phase_in ph) m.thread at m.stands in
+    subst (λ (q : PieceView). Steps q.view.program (pieces q) c.args.t (Event c.in-Done.event)
+    (pieces_of v' (phase_in (slice_set ph c.args.t First)))) c.self.view_is (record {
+      woken = d.0;
+      step = call_step v v' ph c.args.t m.thread d.0 First c.self.invariant m.stands awake d.4;
+      told = ap (λ z. z.woken) d.3;
+    })

@@ -1,0 +1,79 @@
+-- A machine whose threads take futex calls in pieces, as contracts see it, and its steps.
+use Rattle.std.specs.Prelude.{ℕ, ◌≡◌, ◌<◌, List, [], Some, None, length, slice_index_or}
+use Rattle.words.specs.Limits.{most_threads}
+use Rattle.isa.specs.Programs.{Program}
+use Rattle.futexcalls.specs.declared.pieces.FutexCall.{FutexCall}
+use Rattle.futexcalls.specs.declared.pieces.FutexCall.TheVariants.{Wait, Wake, Requeue}
+use Rattle.futexcalls.specs.declared.pieces.FutexPhase.{FutexPhase}
+use Rattle.futexcalls.specs.declared.pieces.FutexPhase.TheVariants.{First}
+use Rattle.futexcalls.specs.Pieces.{takes_at}
+use Rattle.locals.specs.Threads.{Thread}
+use Rattle.locals.specs.Looks.{look}
+use Rattle.machine.specs.Views.{View, concrete, IsWellFormed}
+use Rattle.machine.specs.ConcretePieces.{pieces_of}
+use Rattle.machine.specs.declared.event.StepFault.{StepFault}
+use Rattle.machine.specs.declared.event.StepFault.TheVariants.{CannotMove, Broken}
+use Rattle.machine.specs.PieceStates.{PieceState, IsHeldRight, call_at, called}
+use Rattle.machine.specs.PieceSteps.{IsPieceStep, BlocksAt, CanTakePiece, NextPieceIsBroken}
+use Rattle.machine.specs.Runs.{Own, Step, is_paused}
+use Rattle.machine.specs.ThreadSets.{set_of}
+use Rattle.piece_machine.specs.declared.piece_event.PieceEvent.{PieceEvent}
+use Rattle.piece_machine.specs.declared.piece_event.PieceEvent.TheVariants.{Lock, Compare, Event}
+
+-- the machine, and for each thread from 0 the phase of its call
+pub record PieceView : Type 0 where
+  pub view : View
+  pub phases : List FutexPhase
+
+-- the phase of a thread
+abbrev pub phase_in : List FutexPhase → ℕ → FutexPhase
+phase_in phases t = slice_index_or phases t First
+
+-- the state that it stands for
+abbrev pub pieces : PieceView → PieceState
+pieces v = pieces_of v.view (phase_in v.phases)
+
+-- what always holds
+pub record IsKept (view : View) (phases : List FutexPhase) : Type 0 where
+  pub well : IsWellFormed view.program (concrete view)
+  pub right : IsHeldRight view.program (pieces_of view (phase_in phases))
+  pub long : most_threads < length phases
+
+-- a step of thread t from one state to another, which wakes these threads
+abbrev pub own_step : PieceState → ℕ → List ℕ → Step
+own_step s' t woken = record { thread = t; woken = woken; pauses = is_paused s'.base t; doing = Own }
+
+-- the word that a call expects, 0 where it expects none
+abbrev pub expected_of : FutexCall → ℕ
+expected_of (Wait a expected) = expected
+expected_of (Wake a wakes) = 0
+expected_of (Requeue a b wakes moves expected) = expected
+
+-- what is told of a step: which bucket its thread took, or the word that it compared, or what others see
+abbrev pub Tells : Program → PieceState → ℕ → List ℕ → PieceEvent → Type 0
+Tells p s t woken (Lock b) =
+    (woken ≡ []) × (call : FutexCall) × (called p t (s.base.thread t) ≡ Some call)
+    × (takes_at s.buckets (s.phase t) call ≡ Some b)
+Tells p s t woken (Compare v) =
+    (woken ≡ []) × (call : FutexCall) × (called p t (s.base.thread t) ≡ Some call)
+    × (takes_at s.buckets (s.phase t) call ≡ None) × (v ≡ expected_of call)
+Tells p s t woken (Event e) = e.woken ≡ set_of woken
+
+-- one step of thread t, told so
+pub record Steps (p : Program) (s : PieceState) (t : ℕ) (e : PieceEvent) (s' : PieceState) : Type 0 where
+  pub woken : List ℕ
+  pub step : IsPieceStep p s (own_step s' t woken) s'
+  pub told : Tells p s t woken e
+
+-- why a step of thread t is refused: a held bucket is in its way, or it can't move for another cause; or it may not be
+abbrev pub Refuses : Program → PieceState → ℕ → StepFault → Type 0
+Refuses p s t CannotMove = CanTakePiece p s t → ⊥
+Refuses p s t Broken = NextPieceIsBroken p s t
+
+-- thread t was made and is awake, makes no futex call, and no held bucket is in its way
+pub record IsApart (p : Program) (s : PieceState) (t : ℕ) : Type 0 where
+  pub thread : Thread
+  pub stands : s.base.thread t ≡ Some thread
+  pub awake : s.base.asleep t ≡ None
+  pub none : call_at (look p t thread) ≡ None
+  pub free : BlocksAt s t (look p t thread) → ⊥

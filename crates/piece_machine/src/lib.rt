@@ -1,0 +1,9 @@
+//! The machine with futex calls in pieces: each piece of a call is a step of its own, and steps of other threads come
+//! between.
+#![tactic(auto)]
+
+mod piece_event;
+mod piece_machine;
+
+pub use piece_event::PieceEvent;
+pub use piece_machine::PieceMachine;

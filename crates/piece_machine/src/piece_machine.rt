@@ -1,0 +1,188 @@
+ghost use Rattle.std.specs.Prelude.{◌≡◌, ◌≤◌, ◌+◌, None, Some, IfOk, IfErr, OnOk};
+ghost use Rattle.buckets.specs.BucketCount.{IsBucketCount};
+ghost use Rattle.machine.specs.ConcretePieces.{MakesCall};
+ghost use Rattle.machine.specs.PieceStates.{opening_pieces, call_of};
+ghost use Rattle.machine.specs.RequestMeanings.{asked_of};
+ghost use Rattle.piece_machine.specs.PieceViews.{pieces, Steps, Refuses, IsApart, expected_of};
+
+use crate::piece_event::PieceEvent;
+use futexcalls::{FutexCall, FutexPhase};
+use isa::Image;
+use locals::{NextStep, Request};
+use machine::{CallStep, Machine, StepFault};
+use std::alloc::{AllocError, Global};
+use std::marker::Model;
+use words::MOST_THREADS;
+
+/// A machine whose threads take futex calls in pieces. Contracts see the machine and its threads' phases.
+#[derive(Drop)]
+pub struct PieceMachine {
+    machine: Machine,
+    // For each thread from 0 how far it has come in its call. There is no thread 0.
+    phases: Vec<FutexPhase>,
+}
+
+impl Model for PieceMachine {
+    ghost use Rattle.piece_machine.specs.PieceViews.{PieceView, IsKept};
+
+    ghost Value = { PieceView };
+
+    ghost view = { λ m. record { view = m.machine; phases = m.phases.items } };
+
+    ghost invariant = { λ m. IsKept m.machine m.phases.items };
+}
+
+// The futex call that a request is, if it is one.
+fn call_in(request: Request) -> Option<FutexCall>
+    ensures { result ≡ call_of (asked_of request) }
+{
+    match request {
+        Request::Wait { address, expected } => Some(FutexCall::Wait { address, expected }),
+        Request::Wake { address, count } => Some(FutexCall::Wake {
+            address,
+            wakes: count,
+        }),
+        Request::Requeue {
+            from,
+            to,
+            wake,
+            moves,
+            expected,
+        } => Some(FutexCall::Requeue {
+            address: from,
+            target: to,
+            wakes: wake,
+            moves,
+            expected,
+        }),
+        Request::Load(_)
+        | Request::Store(..)
+        | Request::Swap(..)
+        | Request::CompareSwap { .. }
+        | Request::FetchOr(..)
+        | Request::FetchAdd(..)
+        | Request::Print(_)
+        | Request::Return
+        | Request::ReturnValue(_)
+        | Request::Fault(_) => None,
+    }
+}
+
+// The word that a call expects, where it expects one.
+fn expected_word(call: FutexCall) -> u32
+    ensures { result ≡ expected_of call }
+{
+    match call {
+        FutexCall::Wait { expected, .. } | FutexCall::Requeue { expected, .. } => expected,
+        FutexCall::Wake { .. } => 0,
+    }
+}
+
+impl PieceMachine {
+    /// The machine at the start of an image, over so many buckets, which nobody holds. It keeps a copy of the image. From
+    /// then on no step takes memory.
+    pub fn new(alloc: Global, image: &Image, buckets: u32) -> Result<PieceMachine, AllocError>
+        requires { IsBucketCount buckets }
+        ensures program { IfOk result (λ m. m.view.program ≡ image.now) }
+        ensures opening { IfOk result (λ m. pieces m ≡ opening_pieces image.now buckets) }
+    {
+        Ok(PieceMachine {
+            machine: Machine::new(alloc, image, buckets)?,
+            phases: vec![in alloc; FutexPhase::First; MOST_THREADS as usize + 1]?,
+        })
+    }
+
+    /// Makes room for `n` printed numbers at least.
+    pub fn make_room(&mut self, n: usize) -> Result<(), AllocError>
+        ensures room { OnOk result (n ≤ self.new.view.room) }
+        ensures same { (self.new.view.program ≡ self.old.view.program)
+            × (pieces self.new ≡ pieces self.old) }
+    {
+        self.machine.make_room(n)
+    }
+
+    /// The machine, which shows its words, its threads and what they printed.
+    pub fn machine(&self) -> &Machine
+        ensures { result.now ≡ self.now.view }
+    {
+        &self.machine
+    }
+
+    /// One step of thread `t`: a local one, a shared one, or a piece of its futex call.
+    ///
+    /// Refuses with `CannotMove` where there is no such thread, it sleeps, it has ended, or a held bucket is in its way,
+    /// and with `Broken` where its step may not be; then nothing has changed.
+    pub fn step(&mut self, t: u32) -> Result<PieceEvent, StepFault>
+        requires { 1 ≤ self.old.view.room }
+        ensures done { IfOk result
+            (λ e. Steps self.old.view.program (pieces self.old) t e (pieces self.new)) }
+        ensures err { IfErr result
+            (λ f. Refuses self.old.view.program (pieces self.old) t f × (self.new ≡ self.old)) }
+        ensures program { self.new.view.program ≡ self.old.view.program }
+        ensures room { self.old.view.room ≤ self.new.view.room + 1 }
+    {
+        if !self.machine.is_made(t) || self.machine.asleep(t).is_some() {
+            return Err(StepFault::CannotMove);
+        }
+        match self.machine.next_step(t) {
+            NextStep::Shared(request) => match call_in(request) {
+                Some(call) => self.call_step(t, call),
+                None => self.whole_step(t),
+            },
+            NextStep::Exit(phase) => {
+                if self.machine.is_held_up(t, phase) {
+                    return Err(StepFault::CannotMove);
+                }
+                self.whole_step(t)
+            }
+            _ => self.whole_step(t),
+        }
+    }
+
+    // A step of thread `t`, which is awake, that is none of a futex call, and that no held bucket is in the way of.
+    fn whole_step(&mut self, t: u32) -> Result<PieceEvent, StepFault>
+        requires room { 1 ≤ self.old.view.room }
+        requires apart { IsApart self.old.view.program (pieces self.old) t }
+        ensures done { IfOk result
+            (λ e. Steps self.old.view.program (pieces self.old) t e (pieces self.new)) }
+        ensures err { IfErr result
+            (λ f. Refuses self.old.view.program (pieces self.old) t f × (self.new ≡ self.old)) }
+        ensures program { self.new.view.program ≡ self.old.view.program }
+        ensures room { self.old.view.room ≤ self.new.view.room + 1 }
+    {
+        let event = self.machine.step(t)?;
+        Ok(PieceEvent::Event(event))
+    }
+
+    // A piece of the futex call that thread `t` makes, which is awake.
+    fn call_step(&mut self, t: u32, call: FutexCall) -> Result<PieceEvent, StepFault>
+        requires makes { MakesCall self.old.view t call }
+        requires awake { (pieces self.old).base.asleep t ≡ None }
+        ensures done { IfOk result
+            (λ e. Steps self.old.view.program (pieces self.old) t e (pieces self.new)) }
+        ensures err { IfErr result
+            (λ f. Refuses self.old.view.program (pieces self.old) t f × (self.new ≡ self.old)) }
+        ensures program { self.new.view.program ≡ self.old.view.program }
+        ensures room { self.new.view.room ≡ self.old.view.room }
+    {
+        if !self.machine.has_words(call) {
+            return Err(StepFault::Broken);
+        }
+        let phase = self.phases[t as usize];
+        let bucket = self.machine.next_bucket(call, phase);
+        match self.machine.take_piece(t, call, phase) {
+            CallStep::Next(next) => {
+                self.phases[t as usize] = next;
+                Ok(match bucket {
+                    Some(bucket) => PieceEvent::Lock(bucket),
+                    None => PieceEvent::Compare(expected_word(call)),
+                })
+            }
+            CallStep::Blocked => Err(StepFault::CannotMove),
+            CallStep::Done(event) => {
+                self.phases[t as usize] = FutexPhase::First;
+                Ok(PieceEvent::Event(event))
+            }
+        }
+    }
+}
