@@ -1,6 +1,6 @@
 -- Which entries tell of a wake or a kill from outside: those that are one, and no entry of a thread's own.
 use Rattle.std.proofs.Common.{◌≡◌, ℕ, List, [], ◌∷◌, ◌++◌, Bool, true, false, not, Option, Some, None, Ok, refl, ap}
-use Rattle.std.proofs.Common.{◌∙◌, ◌+◌, ◌≤◌, ◌<◌, arith, subst, sym, inl, inr}
+use Rattle.std.proofs.Common.{◌∙◌, ◌+◌, ◌<◌, arith, subst, sym, inl, inr}
 use Rattle.std.specs.Prelude.{if◌then◌else◌}
 use Rattle.std.specs.List.{All}
 use Rattle.std.proofs.lemmas.List.Elements.{All-append, All-cons, All-nil}
@@ -85,8 +85,11 @@ unstrayed_more may log log' e grows calm has none =
     subst (λ (es : List Entry). All IsUnstrayed es) (sym grows)
     (All-append IsUnstrayed log (e ∷ []) (has.strays none) (All-cons IsUnstrayed e [] calm (All-nil IsUnstrayed)))
 
-by_kill : (b c : Bool) → b ≡ c → (if b then 1 else 0) ≡ (if c then 1 else 0)
-by_kill b c is = ap (λ (x : Bool). if x then 1 else 0) is
+abbrev counted : Bool → ℕ
+counted b = if b then 1 else 0
+
+by_kill : (b c : Bool) → b ≡ c → counted b ≡ counted c
+by_kill b c is = ap counted is
 
 -- an entry of a thread's own is no kill
 pub own_kills : (p : Program) (k k' : ConcreteState) (e : Entry) → EntersOwn p k e k' → kill_cost e.event ≡ 0
