@@ -26,7 +26,7 @@ no_compile rows (Compile file out workers hints) (inr (inr none)) h = none worke
 no_compile rows other missing h = h
 
 pub no_list : (rows : List Row) (job : Job) → first_of (codes "IMAGE") rows ≡ None → IsListOf rows job → ⊥
-no_list rows (List' image) none h = no_value _ _ none h
+no_list rows (List' image source) none h = no_value _ _ none h.0
 no_list rows other none h = h
 
 pub no_run : (rows : List Row) (job : Job)
@@ -52,8 +52,8 @@ no_replay rows other missing h = h
 pub no_explain : (rows : List Row) (job : Job)
     → (first_of (codes "FILE") rows ≡ None) ⊎ ((e : ExplainedBy) → IsExplainedBy rows e → ⊥) → IsExplainOf rows job
     → ⊥
-no_explain rows (Explain file by chart timeline hints) (inl none) h = no_value _ _ none h.0
-no_explain rows (Explain file by chart timeline hints) (inr none) h = none by h.1
+no_explain rows (Explain file by chart timeline places hints) (inl none) h = no_value _ _ none h.0
+no_explain rows (Explain file by chart timeline places hints) (inr none) h = none by h.1
 no_explain rows other missing h = h
 
 pub no_emit : (rows : List Row) (job : Job)

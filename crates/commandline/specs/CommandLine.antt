@@ -103,9 +103,9 @@ emit_command =
 abbrev pub check_command : App
 check_command = with_rule (with_rule (new_app (codes "check")) (positional (codes "FILE"))) (flag (codes "hints"))
 
--- `list IMAGE`
+-- `list IMAGE [--source FILE]`
 abbrev pub list_command : App
-list_command = with_rule (new_app (codes "list")) (positional (codes "IMAGE"))
+list_command = with_rule (with_rule (new_app (codes "list")) (positional (codes "IMAGE"))) (valued (codes "source"))
 
 -- `run FILE [--steps N] [--in-order | --seed N [--strays N]] [--trace] [--log OUT] [--hints]`
 abbrev pub run_command : App
@@ -123,13 +123,13 @@ replay_command =
     (new_rule (codes "SCHEDULE"))) (flag (codes "trace"))) (valued (codes "log"))) (flag (codes "hints"))
 
 -- `explain FILE [[--steps N] [--seed N [--strays N]] | --schedule SCHEDULE | --log LOG] [--chart OUT] [--timeline OUT]
--- [--hints]`
+-- [--places] [--hints]`
 abbrev pub explain_command : App
 explain_command =
-    with_rule (with_rule (with_rule (with_rule (with_rule (with_rule (with_rule (with_rule (with_rule
+    with_rule (with_rule (with_rule (with_rule (with_rule (with_rule (with_rule (with_rule (with_rule (with_rule
     (new_app (codes "explain")) (positional (codes "FILE"))) steps_option) seed_option) strays_option)
     (valued (codes "schedule"))) (valued (codes "log"))) (valued (codes "chart"))) (valued (codes "timeline")))
-    (flag (codes "hints"))
+    (flag (codes "places"))) (flag (codes "hints"))
 
 -- `explore FILE [--states N] [--strays] [--chart OUT] [--timeline OUT] [--hints]`
 abbrev pub explore_command : App
@@ -253,7 +253,9 @@ IsCompileOf rows other = ⊥
 
 -- a job of listing
 abbrev pub IsListOf : List Row → Job → Type 0
-IsListOf rows (List' image) = first_of (codes "IMAGE") rows ≡ Some image.now
+IsListOf rows (List' image source) =
+    (first_of (codes "IMAGE") rows ≡ Some image.now)
+    × (first_of (codes "source") rows ≡ option_map (λ file. file.now) source)
 IsListOf rows other = ⊥
 
 -- a job of running a source text
@@ -276,10 +278,11 @@ AsksForReplay rows other = ⊥
 
 -- a job of explaining
 abbrev pub IsExplainOf : List Row → Job → Type 0
-IsExplainOf rows (Explain file by chart timeline hints) =
+IsExplainOf rows (Explain file by chart timeline places hints) =
     (first_of (codes "FILE") rows ≡ Some file.now) × IsExplainedBy rows by
     × (first_of (codes "chart") rows ≡ option_map (λ out. out.now) chart)
-    × (first_of (codes "timeline") rows ≡ option_map (λ out. out.now) timeline) × ReadsFlag (codes "hints") rows hints
+    × (first_of (codes "timeline") rows ≡ option_map (λ out. out.now) timeline)
+    × ReadsFlag (codes "places") rows places × ReadsFlag (codes "hints") rows hints
 IsExplainOf rows other = ⊥
 
 -- a job of writing C

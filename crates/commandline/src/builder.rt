@@ -25,7 +25,12 @@ const TRACE: &str = "Shows each entry of the log on standard error";
 
 const ALL_STRAYS: &str = "Searches the runs with stray wakes too";
 
-const HINTS: &str = "Shows hints behind a refusal of the source text";
+const HINTS: &str = "Shows hints behind a refusal, a failure or the end of a run";
+
+const PLACES: &str = "Shows where in the text each action was done, and what it did";
+
+// What the text of an image is.
+const SOURCE: &str = "The source text of the image, whose lines stand between the instructions";
 
 // What the stray wakes of a run by a seed are.
 const STRAYS: &str =
@@ -103,7 +108,8 @@ fn list_command<'a>(alloc: Global) -> Result<Command<'a>, AllocError>
 {
     Command::new(alloc, "list")
         .about("Prints the instructions of an image")
-        .arg(positional(alloc, "IMAGE", "The image"))
+        .arg(positional(alloc, "IMAGE", "The image"))?
+        .arg(valued(alloc, "source", "FILE", SOURCE))
 }
 
 /// `run`, without the command above it.
@@ -177,6 +183,7 @@ pub fn explain_command<'a>(alloc: Global) -> Result<Command<'a>, AllocError>
             "Where the picture of the run is written",
         ))?
         .arg(valued(alloc, "timeline", "OUT", TIMELINE))?
+        .arg(flag(alloc, "places", PLACES))?
         .arg(flag(alloc, "hints", HINTS))
 }
 

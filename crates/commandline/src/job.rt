@@ -41,6 +41,8 @@ pub enum Job<'a> {
     List {
         /// The name of the image's file.
         image: &'a str,
+        /// The name of the file of the source text whose image it is, where its lines stand between the instructions.
+        source: Option<&'a str>,
     },
     /// Run the source text of a file.
     Run {
@@ -48,7 +50,7 @@ pub enum Job<'a> {
         file: &'a str,
         /// How it goes.
         options: RunOptions<'a>,
-        /// Whether hints stand behind a refusal of the source text.
+        /// Whether hints stand behind what is told.
         hints: bool,
     },
     /// Run an image.
@@ -67,7 +69,7 @@ pub enum Job<'a> {
         by: ReplayedBy<'a>,
         /// Whether the log is shown.
         trace: bool,
-        /// Whether hints stand behind a refusal of the source text.
+        /// Whether hints stand behind what is told.
         hints: bool,
     },
     /// Print the source actions that a run of the source text of a file is, and draw and time them where that is wanted.
@@ -80,7 +82,9 @@ pub enum Job<'a> {
         chart: Option<&'a str>,
         /// The name of the timeline's file, where one is wanted.
         timeline: Option<&'a str>,
-        /// Whether hints stand behind a refusal of the source text.
+        /// Whether each action goes on with its place.
+        places: bool,
+        /// Whether hints stand behind what is told.
         hints: bool,
     },
     /// Write the program of a file as one in C.
@@ -204,7 +208,8 @@ fn list_of<'a>(matches: &ArgMatches<'a>) -> Option<Job<'a>>
         → ⊥ }
 {
     let image = matches.get_str("IMAGE")?;
-    Some(Job::List { image })
+    let source = matches.get_str("source");
+    Some(Job::List { image, source })
 }
 
 fn run_of<'a>(matches: &ArgMatches<'a>) -> Option<Job<'a>>
@@ -258,12 +263,14 @@ fn explain_of<'a>(matches: &ArgMatches<'a>) -> Option<Job<'a>>
     let by = explained_by(matches)?;
     let chart = matches.get_str("chart");
     let timeline = matches.get_str("timeline");
+    let places = matches.get_flag("places");
     let hints = matches.get_flag("hints");
     Some(Job::Explain {
         file,
         by,
         chart,
         timeline,
+        places,
         hints,
     })
 }

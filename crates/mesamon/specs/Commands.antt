@@ -14,6 +14,7 @@ use Rattle.mesamon.specs.declared.status.Status.TheVariants.{Done, Stuck, Limit}
 use Rattle.program.specs.Trees.{Program as ProgramOf}
 use Rattle.source_states.specs.Actions.{action_of}
 use Rattle.actionlines.specs.Lines.{line}
+use Rattle.line_tails.specs.Beside.{IsBeside}
 use Rattle.compiler.specs.Accepts.{AcceptsText}
 use Rattle.compiler.specs.Compiles.{IsCompiled}
 use Rattle.mesamon.specs.declared.explained_run.ExplainedRun.{ExplainedRun}
@@ -39,13 +40,15 @@ pub record HasCompiled (Wrote : List ℕ → Type 0) : Type 0 where
   pub compiled : IsCompiled text image
   pub wrote : Wrote (image_line (length image.code))
 
--- some bytes spell an image, and the lines of its instructions were written
+-- some bytes spell an image, and the lines of its instructions were written, as they are or with something beside them
 pub record HasListed (Wrote : List ℕ → Type 0) : Type 0 where
   pub bytes : List ℕ
   pub image : Program
   pub spelled : IsSpelled image
   pub is : spelling image ≡ bytes
-  pub wrote : Wrote (lines 0 image.code)
+  pub told : List ℕ
+  pub beside : IsBeside (lines 0 image.code) told
+  pub wrote : Wrote told
 
 -- the exit status of a run, by its verdict
 abbrev pub status_of_verdict : Verdict → Status
@@ -99,13 +102,16 @@ IsExplained text r =
     ⊎ (((schedule : List Turn) × IsExplanation text (IsReplayOfText text schedule) r)
     ⊎ ((lines : List ℕ) × IsExplanationOfLog text lines r))
 
--- some text was run and its run explained, or a log of it, and the lines of the actions were written
+-- some text was run and its run explained, or a log of it, and the lines of the actions were written, as they are or
+-- with something beside them
 pub record HasExplained (Wrote : List ℕ → Type 0) (status : Status) : Type 0 where
   pub text : List ℕ
   pub explained_run : ExplainedRun
   pub explained : IsExplained text explained_run
   pub ended : status ≡ status_of_verdict explained_run.report.verdict
-  pub wrote : Wrote (explained_lines explained_run)
+  pub told : List ℕ
+  pub beside : IsBeside (explained_lines explained_run) told
+  pub wrote : Wrote told
 
 -- a command that ended so has run some text or some image, has explained a run, or has searched all runs of some text,
 -- with nothing told of it as an error where it ran nothing

@@ -1,5 +1,6 @@
 ghost use Rattle.std.specs.Prelude.{IfOk};
 ghost use Rattle.devices.specs.Writing.{HasAll};
+ghost use Rattle.line_tails.specs.Beside.{IsBeside};
 ghost use Rattle.mesamon.specs.Asked.{IsExplainedAs};
 ghost use Rattle.mesamon.specs.Commands.{HasExplained};
 
@@ -12,9 +13,13 @@ use crate::schedule::schedule_of;
 use crate::showing::status_of;
 use crate::source_log::explain_log_text;
 use crate::status::Status;
+use crate::telling::{tell_explained, told_entry, told_turn};
 use actionlines::action_lines;
 use commandline::ExplainedBy;
 use devices::{Counted, write_bytes};
+use line_tails::put_beside;
+use run_hints::asides_of;
+use std::alloc::{AllocError, Global};
 use std::io::Write;
 use std::rt::Files;
 
@@ -25,8 +30,10 @@ pub fn explain_file<'a, R: Files + AllocGlobal, O: Write>(
     file: &'a str,
     by: ExplainedBy<'a>,
     drawings: Drawings<'a>,
+    places: bool,
     hints: bool,
     output: &mut Counted<O>,
+    told: &mut String,
 ) -> Result<Status, Failure<'a>>
     ensures { IfOk result
         (λ s. HasExplained (HasAll O.contents output.old output.new) s) }
@@ -37,11 +44,36 @@ pub fn explain_file<'a, R: Files + AllocGlobal, O: Write>(
         bytes: bytes.as_slice(),
         hints,
     };
-    let run = explain_text(rt, &text, by)?;
+    let run = explain_text(rt, &text, by, told)?;
     let lines = action_lines(rt.alloc(), run.checked.names(), run.actions.as_slice())?;
+    let lines = lines_beside(rt.alloc(), &text, &run, places, lines)?;
+    tell_explained(rt.alloc(), told, &text, &run);
     drawings.put(rt, &run.checked, run.actions.as_slice())?;
     write_bytes(output, lines.as_slice())?;
     Ok(status_of(run.report.verdict))
+}
+
+// The lines of an explained run, with the places of its actions behind them where those are wanted.
+fn lines_beside(
+    alloc: Global,
+    text: &SourceText<'_>,
+    run: &ExplainedRun<'_>,
+    places: bool,
+    lines: Vec<u8>,
+) -> Result<Vec<u8>, AllocError>
+    ensures { IfOk result (λ v. IsBeside lines.items v.items) }
+{
+    if !places {
+        return Ok(lines);
+    }
+    let tails = asides_of(
+        alloc,
+        text.file,
+        text.bytes,
+        &run.checked,
+        run.actions.as_slice(),
+    )?;
+    put_beside(alloc, "", lines.as_slice(), tails.as_slice())
 }
 
 // Runs a text and explains the run, or explains the log of a file; its refusal with hints where they are wanted.
@@ -49,33 +81,42 @@ fn explain_text<'a, 't, R: Files + AllocGlobal>(
     rt: &R,
     text: &SourceText<'t>,
     by: ExplainedBy<'a>,
+    told: &mut String,
 ) -> Result<ExplainedRun<'t>, Failure<'a>>
     ensures { IfOk result (λ run. IsExplainedAs by.entry text.now.bytes.now run) }
 {
-    explain_by(rt, text.bytes, by).map_err(|failure| hinted(rt.alloc(), text, failure))
+    explain_by(rt, text, by, told).map_err(|failure| hinted(rt.alloc(), text, failure))
 }
 
 fn explain_by<'a, 't, R: Files + AllocGlobal>(
     rt: &R,
-    text: &'t [u8],
+    text: &SourceText<'t>,
     by: ExplainedBy<'a>,
+    told: &mut String,
 ) -> Result<ExplainedRun<'t>, Failure<'a>>
-    ensures { IfOk result (λ run. IsExplainedAs by.entry text.now run) }
+    ensures { IfOk result (λ run. IsExplainedAs by.entry text.now.bytes.now run) }
 {
+    let alloc = rt.alloc();
     match by {
-        ExplainedBy::Order { steps } => Ok(explain_source(rt.alloc(), text, steps)?),
+        ExplainedBy::Order { steps } => Ok(explain_source(alloc, text.bytes, steps)?),
         ExplainedBy::Seed {
             steps,
             seed,
             strays,
-        } => Ok(explain_by_seed(rt.alloc(), text, steps, seed, strays)?),
+        } => Ok(explain_by_seed(alloc, text.bytes, steps, seed, strays)?),
         ExplainedBy::Schedule(name) => {
             let turns = schedule_of(rt, name)?;
-            Ok(explain_schedule(rt.alloc(), text, turns.as_slice())?)
+            match explain_schedule(alloc, text.bytes, turns.as_slice()) {
+                Ok(run) => Ok(run),
+                Err(fault) => Err(told_turn(alloc, told, text, turns.as_slice(), fault)),
+            }
         }
         ExplainedBy::Log(name) => {
             let log = whole_bytes_of(rt, name)?;
-            Ok(explain_log_text(rt.alloc(), text, log.as_slice())?)
+            match explain_log_text(alloc, text.bytes, log.as_slice()) {
+                Ok(run) => Ok(run),
+                Err(fault) => Err(told_entry(alloc, told, text, log.as_slice(), fault)),
+            }
         }
     }
 }

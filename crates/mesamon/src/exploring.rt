@@ -11,6 +11,7 @@ use crate::failure::Failure;
 use crate::files::bytes_of;
 use crate::hinting::{SourceText, hinted};
 use crate::status::Status;
+use crate::telling::tell_found;
 use actionlines::action_lines;
 use compiler::{compile_checked, text_laws};
 use devices::{Counted, write_bytes};
@@ -83,6 +84,7 @@ pub fn explore_file<'a, R: Files + AllocGlobal, O: Write>(
     drawings: Drawings<'a>,
     hints: bool,
     output: &mut Counted<O>,
+    told: &mut String,
 ) -> Result<Status, Failure<'a>>
     ensures { IfOk result
         (λ s. HasExplored (HasAll O.contents output.old output.new) s) }
@@ -95,6 +97,8 @@ pub fn explore_file<'a, R: Files + AllocGlobal, O: Write>(
     };
     let explored = explore_text(rt.alloc(), &text, most_states, strays)?;
     let lines = lines_of(rt.alloc(), &explored)?;
+    let found = shown(&explored.exploration);
+    tell_found(rt.alloc(), told, &text, &explored.checked, found);
     put_found(rt, drawings, &explored)?;
     write_bytes(output, lines.as_slice())?;
     Ok(status_of_found(&explored.exploration))
@@ -116,19 +120,24 @@ fn explore_text<'a, 't>(
     ))
 }
 
-// Shows the run that was found in files: the stuck one, where there are two.
+// Shows the run that was found in files.
 fn put_found<'a, R: Files + AllocGlobal>(
     rt: &R,
     drawings: Drawings<'a>,
     explored: &ExploredText<'_>,
 ) -> Result<(), Failure<'a>> {
-    let found = &explored.exploration;
-    if let Some(actions) = &found.stuck {
-        return drawings.put(rt, &explored.checked, actions.as_slice());
-    }
-    match &found.aborted {
-        Some(actions) => drawings.put(rt, &explored.checked, actions.as_slice()),
+    match shown(&explored.exploration) {
+        Some(actions) => drawings.put(rt, &explored.checked, actions),
         None => Ok(()),
+    }
+}
+
+// The run that was found: the stuck one, where there are two.
+fn shown(found: &Exploration) -> Option<&[Action]> {
+    match (&found.stuck, &found.aborted) {
+        (Some(actions), _) => Some(actions.as_slice()),
+        (None, Some(actions)) => Some(actions.as_slice()),
+        (None, None) => None,
     }
 }
 

@@ -24,12 +24,16 @@ returns-clause-app c =
     ∙ ap₂ with_rule sixth c.valued-3.ensures.rule in
     let eighth = c.in_ok-arg-8.ensures.shape c.valued-4.ensures.local
     ∙ ap₂ with_rule seventh c.valued-4.ensures.rule in
-    IfOk-weaker c.arg-9.result _ _ (λ r h. h.shape c.flag.ensures.local
-    ∙ ap₂ with_rule eighth c.flag.ensures.rule) c.arg-9.ensures
+    let ninth = c.in_ok-arg-9.ensures.shape c.flag.ensures.local
+    ∙ ap₂ with_rule eighth c.flag.ensures.rule in
+    IfOk-weaker c.arg-10.result _ _ (λ r h. h.shape c.flag-2.ensures.local
+    ∙ ap₂ with_rule ninth c.flag-2.ensures.rule) c.arg-10.ensures
 
 pub returns-clause-local : goal.returns-clause-local
-returns-clause-local c = IfOk-weaker c.arg-9.result _ _ (λ r h. rw (
+returns-clause-local c = IfOk-weaker c.arg-10.result _ _ (λ r h. rw (
   h.globals,
+  c.flag-2.ensures.local,
+  c.in_ok-arg-9.ensures.globals,
   c.flag.ensures.local,
   c.in_ok-arg-8.ensures.globals,
   c.valued-4.ensures.local,
@@ -49,4 +53,4 @@ returns-clause-local c = IfOk-weaker c.arg-9.result _ _ (λ r h. rw (
   c.positional.ensures.local,
   c.about.ensures,
   c.new.ensures.local,
-) refl) c.arg-9.ensures
+) refl) c.arg-10.ensures

@@ -20,10 +20,12 @@ returns-clause-job c =
     let file = first_value-rows found (codes "FILE") in
     let chart = first_value-rows found (codes "chart") in
     let timeline = first_value-rows found (codes "timeline") in
+    let places = one_text-rows found (codes "places") in
     let hints = one_text-rows found (codes "hints") in (
       search rules,
       c.in_ok-by.ensures.by,
       sym chart ∙ sym c.get_str-chart.ensures,
       sym timeline ∙ sym c.get_str-timeline.ensures,
+      (search rules, search rules),
       (search rules, search rules),
     )

@@ -1,4 +1,4 @@
-use Rattle.std.proofs.Common.{rules, codes}
+use Rattle.std.proofs.Common.{rules, codes, sym, ◌∙◌}
 use Rattle.clap.proofs.WalkLemmas.{first_value-rows}
 use Rattle.clap.specs.Words.{found_of}
 use Rattle.clap.specs.Walk.{rows_of}
@@ -12,5 +12,7 @@ returns-in_err-image-clause-none c =
 
 pub returns-clause-job : goal.returns-clause-job
 returns-clause-job c =
-    let image = first_value-rows (found_of c.args.matches.now) (codes "IMAGE") in
-    search rules
+    let found = found_of c.args.matches.now in
+    let image = first_value-rows found (codes "IMAGE") in
+    let source = first_value-rows found (codes "source") in
+    (search rules, sym source ∙ sym c.get_str-source.ensures)

@@ -1,0 +1,211 @@
+use crate::causes::fault_name;
+use crate::follower::Follower;
+use crate::level::Standing;
+use crate::moment::Moment;
+use crate::names::{append_member, append_place};
+use crate::stands::token_of;
+use crate::values::{append_callee, append_local, append_typed, append_value, member_type, result_of};
+use places::places_of;
+use program::{Checked, Member, Names, Statement, Target};
+use source_offers::{End, Place};
+use source_states::{Action, ActionKind};
+use std::alloc::{AllocError, Global};
+
+// An action that was done, and what is known of it.
+#[derive(Clone, Copy)]
+struct Told<'f, 'n, 'k, 'm, 'a, 't> {
+    follower: &'f Follower<'a, 't>,
+    names: &'n Names<'m>,
+    action: &'k Action,
+    moment: Moment<'a>,
+}
+
+impl Told<'_, '_, '_, '_, '_, '_> {
+    // The token at which it was done: a monitor is entered at the call.
+    fn token(&self) -> usize {
+        let moment = &self.moment;
+        match (&self.action.kind, moment.below) {
+            (ActionKind::Enter(_), Some(token)) if moment.standing == Standing::Begins => token,
+            _ => token_of(self.follower.places, moment.piece, moment.standing),
+        }
+    }
+
+    // The locals of a process's innermost procedure.
+    fn locals(&self, process: u64) -> &[i64] {
+        match self.follower.state.process(process) {
+            Some(found) => found.frame.locals.as_slice(),
+            None => &[],
+        }
+    }
+
+    // Appends a variable of a monitor that was assigned, and its value.
+    fn append_stored(
+        &self,
+        out: &mut String,
+        member: Member,
+        index: Option<i64>,
+    ) -> Result<(), AllocError> {
+        append_member(out, self.names, member)?;
+        if let Some(index) = index {
+            write!(out, "[{index}]")?;
+        }
+        out.push_str(" := ")?;
+        let place = Place {
+            monitor: member.monitor,
+            member: member.number,
+            index: u32::try_from(index.unwrap_or(0)).unwrap_or(0),
+        };
+        let value = self.follower.state.variable(place);
+        append_typed(out, member_type(self.follower.program, member), value)
+    }
+
+    // Appends a local that was assigned, and its value.
+    fn append_put(&self, out: &mut String, slot: u32) -> Result<(), AllocError> {
+        append_local(out, self.follower, self.moment.piece, slot)?;
+        out.push_str(" := ")?;
+        let value = self
+            .locals(self.action.process)
+            .get(slot as usize)
+            .copied()
+            .unwrap_or(0);
+        append_value(out, self.follower.program, self.moment.piece, slot, value)
+    }
+
+    // Appends what was assigned.
+    fn append_assigned(&self, out: &mut String) -> Result<(), AllocError> {
+        match self.moment.statement {
+            Some(Statement::Assign(Target::Local(slot), _)) => self.append_put(out, *slot),
+            Some(Statement::Assign(Target::Member(member), _)) => {
+                self.append_stored(out, *member, None)
+            }
+            Some(Statement::Assign(Target::Element(element), _)) => {
+                self.append_stored(out, element.array, Some(self.moment.value))
+            }
+            _ => Ok(()),
+        }
+    }
+
+    // Appends what was tested, and what came of it.
+    fn append_test(&self, out: &mut String) -> Result<(), AllocError> {
+        let places = self.follower.places;
+        places.append_words(out, self.token().saturating_add(1))?;
+        out.push_str(if self.moment.value == 0 {
+            ", FALSE"
+        } else {
+            ", TRUE"
+        })
+    }
+
+    // Appends how a procedure ended.
+    fn append_return(&self, out: &mut String) -> Result<(), AllocError> {
+        if self.moment.standing == Standing::Ends {
+            return out.push_str("END");
+        }
+        out.push_str("RETURN")?;
+        let result = result_of(self.follower.program, self.moment.piece);
+        if result.is_none() {
+            return Ok(());
+        }
+        out.push(' ')?;
+        append_typed(out, result, self.moment.value)
+    }
+
+    // Appends what came of a JOIN.
+    fn append_joined(&self, out: &mut String, child: u64) -> Result<(), AllocError> {
+        match self.follower.state.over(child) {
+            Some(End::Ended(value)) => write!(out, "gave {value}"),
+            Some(End::Aborted(_)) => out.push_str("it aborted"),
+            None => Ok(()),
+        }
+    }
+
+    // Appends the innermost procedure of a process, with its arguments.
+    fn append_begun(&self, out: &mut String, process: u64) -> Result<(), AllocError> {
+        match self.follower.levels(process) {
+            [.., top] => append_callee(out, self.follower, top.piece, self.locals(process)),
+            [] => Ok(()),
+        }
+    }
+
+    // Appends what was done, behind a blank, where more is told than the line has.
+    fn append_deed(&self, out: &mut String) -> Result<(), AllocError> {
+        out.push(' ')?;
+        match &self.action.kind {
+            ActionKind::Assign => self.append_assigned(out),
+            ActionKind::Test => self.append_test(out),
+            ActionKind::Call | ActionKind::Enter(_) => self.append_begun(out, self.action.process),
+            ActionKind::Fork(child) | ActionKind::Claim(child) => self.append_begun(out, *child),
+            ActionKind::Return | ActionKind::Exit(_) => self.append_return(out),
+            ActionKind::Join(child) => self.append_joined(out, *child),
+            ActionKind::Fails(fault) => out.push_str(fault_name(*fault)),
+            _ => Ok(()),
+        }
+    }
+
+    // Appends the place, and what was done.
+    fn append(&self, out: &mut String, file: &str) -> Result<(), AllocError> {
+        if matches!(self.action.kind, ActionKind::Finish | ActionKind::Abandon(_)) {
+            return Ok(());
+        }
+        out.push_str("  ")?;
+        append_place(out, file, self.follower.places, self.token())?;
+        match self.action.kind {
+            ActionKind::Print(_)
+            | ActionKind::Wait(_)
+            | ActionKind::Resume(_)
+            | ActionKind::Notify(_, _)
+            | ActionKind::Broadcast(_, _)
+            | ActionKind::Stray(_)
+            | ActionKind::Kill(_, _) => Ok(()),
+            _ => self.append_deed(out),
+        }
+    }
+}
+
+// What stands behind the line of an action, which is done.
+fn aside_of(
+    alloc: Global,
+    file: &str,
+    names: &Names<'_>,
+    follower: &mut Follower<'_, '_>,
+    action: &Action,
+) -> Result<Option<String>, AllocError> {
+    let Some(moment) = follower.pass(action)? else {
+        return Ok(None);
+    };
+    let told = Told {
+        follower,
+        names,
+        action,
+        moment,
+    };
+    let mut out = String::new(alloc);
+    told.append(&mut out, file)?;
+    Ok(Some(out))
+}
+
+/// What stands behind the line of each action of a run of a program, whose text this is: two blanks, `FILE:LINE`, and
+/// what it did; nothing behind that of an end or of an abandoned monitor. Of actions that aren't a run it has those
+/// before the first that isn't possible.
+///
+/// # Errors
+///
+/// Where memory runs out, and for nothing else.
+pub fn asides_of(
+    alloc: Global,
+    file: &str,
+    text: &[u8],
+    checked: &Checked,
+    actions: &[Action],
+) -> Result<Vec<String>, AllocError> {
+    let places = places_of(alloc, text)?;
+    let mut follower = Follower::opening(alloc, checked, &places)?;
+    let mut asides = Vec::new(alloc);
+    for action in actions {
+        let Some(aside) = aside_of(alloc, file, checked.names(), &mut follower, action)? else {
+            break;
+        };
+        asides.push(aside)?;
+    }
+    Ok(asides)
+}

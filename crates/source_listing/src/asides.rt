@@ -1,0 +1,199 @@
+use crate::plan::Plan;
+use crate::words::Words;
+use isa::Instr;
+use places::{Places, places_of};
+use program::Checked;
+use std::alloc::{AllocError, Global};
+
+/// What stands beside the lines of a listing.
+#[derive(Drop)]
+pub struct Listing {
+    /// What stands before the first line.
+    pub head: String,
+    /// What stands behind each line, and before its line feed.
+    pub tails: Vec<String>,
+}
+
+// A line of the text that becomes instructions from a place on.
+#[derive(Clone, Copy)]
+struct Mark {
+    place: usize,
+    line: u32,
+}
+
+// The text, as it stands beside a listing.
+#[derive(Drop)]
+struct Source<'t> {
+    lines: Vec<&'t [u8]>,
+}
+
+impl<'t> Source<'t> {
+    fn of(alloc: Global, text: &'t [u8]) -> Result<Source<'t>, AllocError> {
+        let mut lines = Vec::new(alloc);
+        for line in text.split(|byte| *byte == b'\n') {
+            lines.push(line)?;
+        }
+        Ok(Source { lines })
+    }
+
+    // Appends a line, with its number.
+    fn append(&self, out: &mut String, number: u32) -> Result<(), AllocError> {
+        write!(out, "-- {number}: ")?;
+        let index = (number as usize).saturating_sub(1);
+        for byte in self.lines.get(index).copied().unwrap_or(&[]) {
+            out.push(match *byte {
+                b' '..=b'~' => char::from(*byte),
+                b'\t' => ' ',
+                b'\r' => continue,
+                _ => '?',
+            })?;
+        }
+        Ok(())
+    }
+}
+
+// Adds the mark of a token.
+fn add_mark(
+    marks: &mut Vec<Mark>,
+    places: &Places<'_>,
+    place: usize,
+    token: usize,
+) -> Result<(), AllocError> {
+    let line = places.place(token).line;
+    marks.push(Mark { place, line })?;
+    Ok(())
+}
+
+// The marks of the statements that begin before a piece's end; how many statements there were up to there.
+fn add_statements(
+    marks: &mut Vec<Mark>,
+    places: &Places<'_>,
+    plan: &Plan<'_>,
+    from: usize,
+    end: usize,
+) -> Result<usize, AllocError> {
+    let mut number = from;
+    for place in plan.statements.iter().skip(from) {
+        if *place >= end {
+            break;
+        }
+        if let Some(spot) = places.spot(number) {
+            add_mark(marks, places, *place, spot.token)?;
+        }
+        number = number.saturating_add(1);
+    }
+    Ok(number)
+}
+
+// The marks of a program, by rising place.
+fn marks_of(alloc: Global, places: &Places<'_>, plan: &Plan<'_>) -> Result<Vec<Mark>, AllocError> {
+    let mut marks = Vec::new(alloc);
+    let mut number = 0;
+    let bounds = plan.pieces.iter().zip(plan.ends.iter());
+    for ((start, end), piece) in bounds.zip(places.pieces.iter()) {
+        add_mark(&mut marks, places, *start, piece.token)?;
+        number = add_statements(&mut marks, places, plan, number, *end)?;
+        add_mark(&mut marks, places, *end, piece.end)?;
+    }
+    Ok(marks)
+}
+
+// What is still to be written beside the instructions.
+#[derive(Drop)]
+struct Beside<'m, 't> {
+    source: &'m Source<'t>,
+    marks: &'m [Mark],
+    numbers: &'m [usize],
+    last: u32,
+}
+
+impl Beside<'_, '_> {
+    // The line that begins at a place, where one does that isn't the last one.
+    fn line_at(&mut self, place: usize) -> Option<u32> {
+        let mut line = None;
+        for _mark in 0..self.marks.len() {
+            match self.marks {
+                [first, rest @ ..] if first.place <= place => {
+                    line = Some(first.line);
+                    self.marks = rest;
+                }
+                _ => break,
+            }
+        }
+        if line == Some(self.last) {
+            return None;
+        }
+        if let Some(line) = line {
+            self.last = line;
+        }
+        line
+    }
+
+    // Whether what is pushed at a place is a number of the text.
+    fn is_number(&mut self, place: usize) -> bool {
+        match self.numbers {
+            [first, rest @ ..] if *first == place => {
+                self.numbers = rest;
+                true
+            }
+            _ => false,
+        }
+    }
+
+    // What stands behind the line of an instruction: the name of its word, and the next source line.
+    fn tail(
+        &mut self,
+        alloc: Global,
+        words: &Words<'_, '_>,
+        place: usize,
+        instruction: Instr,
+    ) -> Result<String, AllocError> {
+        let mut out = String::new(alloc);
+        let is_number = self.is_number(place);
+        match instruction {
+            Instr::Push(address) if !is_number => words.append_word(&mut out, address)?,
+            Instr::Index(address, _) => words.append_word(&mut out, address)?,
+            _ => {}
+        }
+        if let Some(line) = self.line_at(place.saturating_add(1)) {
+            out.push('\n')?;
+            self.source.append(&mut out, line)?;
+        }
+        Ok(out)
+    }
+}
+
+/// What stands beside the listing of a program's image, whose text this is: before the instructions that a source line
+/// became that line, and behind an instruction that has the address of a monitor's word what that is.
+///
+/// # Errors
+///
+/// Where memory runs out, and for nothing else.
+pub fn listing_of(
+    alloc: Global,
+    text: &[u8],
+    checked: &Checked,
+    code: &[Instr],
+) -> Result<Listing, AllocError> {
+    let places = places_of(alloc, text)?;
+    let plan = Plan::of(alloc, checked.program())?;
+    let words = Words::of(alloc, checked.program(), checked.names())?;
+    let marks = marks_of(alloc, &places, &plan)?;
+    let source = Source::of(alloc, text)?;
+    let mut beside = Beside {
+        source: &source,
+        marks: marks.as_slice(),
+        numbers: plan.numbers.as_slice(),
+        last: 0,
+    };
+    let mut head = String::new(alloc);
+    if let Some(line) = beside.line_at(0) {
+        source.append(&mut head, line)?;
+        head.push('\n')?;
+    }
+    let mut tails = Vec::new(alloc);
+    for (place, instruction) in code.iter().enumerate() {
+        tails.push(beside.tail(alloc, &words, place, *instruction)?)?;
+    }
+    Ok(Listing { head, tails })
+}
