@@ -126,7 +126,11 @@ fn do_job<'a, R: Files + AllocGlobal + Threads + Wait + Sync, O: Write, E: Write
             workers,
             hints,
         } => compile_file(rt, file, out, workers, hints, output),
-        Job::List { image, source } => list_file(rt, image, source, output),
+        Job::List {
+            image,
+            source,
+            hints,
+        } => list_file(rt, image, source, hints, output),
         Job::Run {
             file,
             options,

@@ -4,7 +4,7 @@ ghost use Rattle.line_tails.specs.Beside.{IsBeside};
 ghost use Rattle.mesamon.specs.Asked.{IsExplainedAs};
 ghost use Rattle.mesamon.specs.Commands.{HasExplained};
 
-use crate::drawing::Drawings;
+use crate::drawing::{Drawings, ShownRun};
 use crate::explained_run::{ExplainedRun, explain_by_seed, explain_schedule, explain_source};
 use crate::failure::Failure;
 use crate::files::{bytes_of, whole_bytes_of};
@@ -14,6 +14,7 @@ use crate::showing::status_of;
 use crate::source_log::explain_log_text;
 use crate::status::Status;
 use crate::telling::{tell_explained, told_entry, told_turn};
+use crate::titles::title_of;
 use actionlines::action_lines;
 use commandline::ExplainedBy;
 use devices::{Counted, write_bytes};
@@ -48,9 +49,28 @@ pub fn explain_file<'a, R: Files + AllocGlobal, O: Write>(
     let lines = action_lines(rt.alloc(), run.checked.names(), run.actions.as_slice())?;
     let lines = lines_beside(rt.alloc(), &text, &run, places, lines)?;
     tell_explained(rt.alloc(), told, &text, &run);
-    drawings.put(rt, &run.checked, run.actions.as_slice())?;
+    let title = title_of(rt.alloc(), file, by, run.report.verdict)?;
+    put_run(rt, drawings, &text, &run, title.as_str())?;
     write_bytes(output, lines.as_slice())?;
     Ok(status_of(run.report.verdict))
+}
+
+// Shows an explained run in files.
+fn put_run<'a, R: Files + AllocGlobal>(
+    rt: &R,
+    drawings: Drawings<'a>,
+    text: &SourceText<'_>,
+    run: &ExplainedRun<'_>,
+    title: &str,
+) -> Result<(), Failure<'a>> {
+    let shown = ShownRun {
+        text: text.bytes,
+        checked: &run.checked,
+        actions: run.actions.as_slice(),
+        log: run.report.log.as_slice(),
+        title,
+    };
+    drawings.put(rt, &shown)
 }
 
 // The lines of an explained run, with the places of its actions behind them where those are wanted.

@@ -6,12 +6,13 @@ ghost use Rattle.compiler.specs.Accepts.{RefusesText};
 ghost use Rattle.mesamon.specs.Exploring.{end_lines, explored_lines, explored_status, states_line};
 ghost use Rattle.mesamon.specs.Exploring.{HasExplored, IsExploredText, IsFoundOf};
 
-use crate::drawing::Drawings;
+use crate::drawing::{Drawings, ShownRun};
 use crate::failure::Failure;
 use crate::files::bytes_of;
 use crate::hinting::{SourceText, hinted};
 use crate::status::Status;
 use crate::telling::tell_found;
+use crate::titles::title_of_found;
 use actionlines::action_lines;
 use compiler::{compile_checked, text_laws};
 use devices::{Counted, write_bytes};
@@ -99,7 +100,7 @@ pub fn explore_file<'a, R: Files + AllocGlobal, O: Write>(
     let lines = lines_of(rt.alloc(), &explored)?;
     let found = shown(&explored.exploration);
     tell_found(rt.alloc(), told, &text, &explored.checked, found);
-    put_found(rt, drawings, &explored)?;
+    put_found(rt, drawings, &text, &explored)?;
     write_bytes(output, lines.as_slice())?;
     Ok(status_of_found(&explored.exploration))
 }
@@ -124,12 +125,22 @@ fn explore_text<'a, 't>(
 fn put_found<'a, R: Files + AllocGlobal>(
     rt: &R,
     drawings: Drawings<'a>,
+    text: &SourceText<'_>,
     explored: &ExploredText<'_>,
 ) -> Result<(), Failure<'a>> {
-    match shown(&explored.exploration) {
-        Some(actions) => drawings.put(rt, &explored.checked, actions),
-        None => Ok(()),
-    }
+    let Some(actions) = shown(&explored.exploration) else {
+        return Ok(());
+    };
+    let is_stuck = explored.exploration.stuck.is_some();
+    let title = title_of_found(rt.alloc(), text.file, is_stuck)?;
+    let run = ShownRun {
+        text: text.bytes,
+        checked: &explored.checked,
+        actions,
+        log: &[],
+        title: title.as_str(),
+    };
+    drawings.put(rt, &run)
 }
 
 // The run that was found: the stuck one, where there are two.

@@ -7,6 +7,7 @@ ghost use Rattle.mesamon.specs.declared.status.Status.TheVariants as status;
 
 use crate::failure::Failure;
 use crate::files::bytes_of;
+use crate::hinting::{SourceText, hinted};
 use crate::status::Status;
 use compiler::compile_checked;
 use devices::{Counted, write_bytes};
@@ -28,20 +29,28 @@ fn are_same(alloc: Global, a: &Image, b: &Image) -> Result<bool, AllocError> {
 fn beside<'a, R: Files + AllocGlobal>(
     rt: &R,
     source: &'a str,
+    hints: bool,
     image: &Image,
 ) -> Result<Listing, Failure<'a>> {
-    let text = bytes_of(rt, source)?;
-    let (checked, lowered) = compile_checked(rt.alloc(), text.as_slice())?;
+    let bytes = bytes_of(rt, source)?;
+    let text = SourceText {
+        file: source,
+        bytes: bytes.as_slice(),
+        hints,
+    };
+    let (checked, lowered) = compile_checked(rt.alloc(), text.bytes)
+        .map_err(|refusal| hinted(rt.alloc(), &text, Failure::from(refusal)))?;
     if !are_same(rt.alloc(), image, &lowered.image)? {
         return Err(Failure::OtherImage(source));
     }
-    Ok(listing_of(rt.alloc(), text.as_slice(), &checked, image.code())?)
+    Ok(listing_of(rt.alloc(), text.bytes, &checked, image.code())?)
 }
 
 // The lines of an image, with those of the source text of a file beside them, where one is named.
 fn lines_beside<'a, R: Files + AllocGlobal>(
     rt: &R,
     source: Option<&'a str>,
+    hints: bool,
     image: &Image,
     lines: String,
 ) -> Result<Vec<u8>, Failure<'a>>
@@ -50,7 +59,7 @@ fn lines_beside<'a, R: Files + AllocGlobal>(
     let Some(source) = source else {
         return Ok(lines.into_bytes());
     };
-    let Listing { head, tails } = beside(rt, source, image)?;
+    let Listing { head, tails } = beside(rt, source, hints, image)?;
     Ok(put_beside(
         rt.alloc(),
         head.as_str(),
@@ -65,6 +74,7 @@ pub fn list_file<'a, R: Files + AllocGlobal, O: Write>(
     rt: &R,
     file: &'a str,
     source: Option<&'a str>,
+    hints: bool,
     output: &mut Counted<O>,
 ) -> Result<Status, Failure<'a>>
     ensures done { IfOk result (λ s. s ≡ status.Done) }
@@ -74,7 +84,7 @@ pub fn list_file<'a, R: Files + AllocGlobal, O: Write>(
     let bytes = bytes_of(rt, file)?;
     let image = decode(rt.alloc(), bytes.as_slice())?;
     let lines = list_lines(rt.alloc(), &image)?;
-    let told = lines_beside(rt, source, &image, lines)?;
+    let told = lines_beside(rt, source, hints, &image, lines)?;
     write_bytes(output, told.as_slice())?;
     Ok(Status::Done)
 }
