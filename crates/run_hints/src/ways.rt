@@ -64,7 +64,7 @@ pub fn append_limit(out: &mut String, way: Way<'_>, steps: u64) -> Result<(), Al
         Way::Log(_) => out.push_str("  the log ends here, and a process can move\n"),
         _ => writeln!(
             out,
-            "  {steps} steps were taken; --steps N sets another limit"
+            "  {steps} steps were taken; the next entry would pass the limit, and --steps N sets another"
         ),
     }
 }

@@ -1,5 +1,5 @@
 use crate::plan::Plan;
-use crate::words::Words;
+use crate::monitor_words::Words;
 use isa::Instr;
 use places::{Places, places_of};
 use program::Checked;

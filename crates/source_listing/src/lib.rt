@@ -5,6 +5,6 @@
 mod asides;
 mod lengths;
 mod plan;
-mod words;
+mod monitor_words;
 
 pub use asides::{Listing, listing_of};
