@@ -1,9 +1,11 @@
--- Which run of a text a command was asked for.
+-- Which run of a text a command was asked for, and whether it is told with more beside it.
 use Rattle.std.specs.Prelude.{ℕ, Bool, false, List, is_some}
 use Rattle.commandline.specs.declared.options.ExplainedBy.{ExplainedBy}
 use Rattle.commandline.specs.declared.options.ExplainedBy.TheVariants.{Order, Seed, Schedule, Log}
 use Rattle.commandline.specs.declared.options.Order.{Order as OrderOf}
 use Rattle.commandline.specs.declared.options.Order.TheVariants.{Workers, InOrder, Seed as InSeed}
+use Rattle.commandline.specs.declared.job.Job.{Job}
+use Rattle.commandline.specs.declared.job.Job.TheVariants.{Explain, List as ListImage}
 use Rattle.commandline.specs.declared.options.ReplayedBy.{ReplayedBy}
 use Rattle.commandline.specs.declared.options.ReplayedBy.TheVariants.{Schedule as BySchedule, Log as ByLog}
 use Rattle.runner.specs.declared.report.Report.{Report}
@@ -18,6 +20,12 @@ abbrev pub has_strays : OrderOf → Bool
 has_strays Workers = false
 has_strays InOrder = false
 has_strays (InSeed seed strays) = is_some strays
+
+-- whether a job asks for more beside the lines that it writes: of a listing its source, of an explanation the places
+abbrev pub asks_for_more : Job → Bool
+asks_for_more (ListImage image source hints) = is_some source
+asks_for_more (Explain file by chart timeline places hints) = places
+asks_for_more other = false
 
 -- the run that is explained, by what is named
 abbrev pub IsExplainedAs : ExplainedBy → List ℕ → ExplainedRun → Type 0

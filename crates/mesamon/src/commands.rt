@@ -1,10 +1,10 @@
-ghost use Rattle.std.specs.Prelude.{◌≡◌, ◌≤◌, ◌⊎◌, List, IfOk, OnOk};
+ghost use Rattle.std.specs.Prelude.{◌≡◌, ◌≤◌, IfOk, OnOk, map};
 ghost use Rattle.devices.specs.Writing.{HasAll};
 ghost use Rattle.program.specs.Names.{said_by};
 ghost use Rattle.program.specs.Trees.{Program};
 ghost use Rattle.compiler.specs.Accepts.{AcceptsText};
 ghost use Rattle.compiler.specs.Compiles.{IsCompiled};
-ghost use Rattle.mesamon.specs.Commands.{HasChecked, HasCompiled, HasDone, HasEnded, HasListed};
+ghost use Rattle.mesamon.specs.Commands.{HasAnswered, HasChecked, HasCompiled};
 
 use crate::drawing::Drawings;
 use crate::explaining::explain_file;
@@ -51,15 +51,14 @@ pub fn perform<R: Files + AllocGlobal + Threads + Wait + Sync, O: Write, E: Writ
     hints: &mut String,
 ) -> u8
     ensures known { result ≤ 6 }
-    ensures done { result ≡ 0 → HasCompiled
+    ensures done { result ≡ 0 → HasAnswered (map (λ w. w.now) words.now)
         (HasAll O.contents output.old output.new)
-        ⊎ (HasListed (HasAll O.contents output.old output.new)
-        ⊎ (HasEnded (HasAll O.contents output.old output.new)
-        (HasAll E.contents errors.old errors.new) Status.Done
-        ⊎ HasChecked (HasAll O.contents output.old output.new))) }
-    ensures stuck { result ≡ 3 → HasEnded (HasAll O.contents output.old output.new)
+        (HasAll E.contents errors.old errors.new) Status.Done }
+    ensures stuck { result ≡ 3 → HasAnswered (map (λ w. w.now) words.now)
+        (HasAll O.contents output.old output.new)
         (HasAll E.contents errors.old errors.new) Status.Stuck }
-    ensures limit { result ≡ 4 → HasEnded (HasAll O.contents output.old output.new)
+    ensures limit { result ≡ 4 → HasAnswered (map (λ w. w.now) words.now)
+        (HasAll O.contents output.old output.new)
         (HasAll E.contents errors.old errors.new) Status.Limit }
 {
     match do_job(rt, words, output, errors, hints) {
@@ -115,8 +114,9 @@ fn do_job<'a, R: Files + AllocGlobal + Threads + Wait + Sync, O: Write, E: Write
     errors: &mut Counted<E>,
     told: &mut String,
 ) -> Result<Status, Failure<'a>>
-    ensures { IfOk result (λ s. HasDone (HasAll O.contents output.old output.new)
-        (HasAll E.contents errors.old errors.new) s) }
+    ensures { IfOk result (HasAnswered (map (λ w. w.now) words.now)
+        (HasAll O.contents output.old output.new)
+        (HasAll E.contents errors.old errors.new)) }
 {
     match line(rt.alloc(), words)? {
         Job::Check { file, hints } => check_file(rt, file, hints, output),

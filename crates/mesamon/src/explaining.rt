@@ -1,8 +1,7 @@
 ghost use Rattle.std.specs.Prelude.{IfOk};
 ghost use Rattle.devices.specs.Writing.{HasAll};
-ghost use Rattle.line_tails.specs.Beside.{IsBeside};
 ghost use Rattle.mesamon.specs.Asked.{IsExplainedAs};
-ghost use Rattle.mesamon.specs.Commands.{HasExplained};
+ghost use Rattle.mesamon.specs.Commands.{AreTold, HasExplained};
 
 use crate::drawing::{Drawings, ShownRun};
 use crate::explained_run::{ExplainedRun, explain_by_seed, explain_schedule, explain_source};
@@ -37,7 +36,7 @@ pub fn explain_file<'a, R: Files + AllocGlobal, O: Write>(
     told: &mut String,
 ) -> Result<Status, Failure<'a>>
     ensures { IfOk result
-        (λ s. HasExplained (HasAll O.contents output.old output.new) s) }
+        (λ s. HasExplained places (HasAll O.contents output.old output.new) s) }
 {
     let bytes = bytes_of(rt, file)?;
     let text = SourceText {
@@ -81,7 +80,7 @@ fn lines_beside(
     places: bool,
     lines: Vec<u8>,
 ) -> Result<Vec<u8>, AllocError>
-    ensures { IfOk result (λ v. IsBeside lines.items v.items) }
+    ensures { IfOk result (λ v. AreTold places lines.items v.items) }
 {
     if !places {
         return Ok(lines);

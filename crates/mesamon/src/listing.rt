@@ -1,8 +1,7 @@
-ghost use Rattle.std.specs.Prelude.{◌≡◌, IfOk, OnOk};
+ghost use Rattle.std.specs.Prelude.{◌≡◌, IfOk, OnOk, is_some};
 ghost use Rattle.std.specs.String.{string_bytes};
 ghost use Rattle.devices.specs.Writing.{HasAll};
-ghost use Rattle.line_tails.specs.Beside.{IsBeside};
-ghost use Rattle.mesamon.specs.Commands.{HasListed};
+ghost use Rattle.mesamon.specs.Commands.{AreTold, HasListed};
 ghost use Rattle.mesamon.specs.declared.status.Status.TheVariants as status;
 
 use crate::failure::Failure;
@@ -54,7 +53,8 @@ fn lines_beside<'a, R: Files + AllocGlobal>(
     image: &Image,
     lines: String,
 ) -> Result<Vec<u8>, Failure<'a>>
-    ensures { IfOk result (λ v. IsBeside (string_bytes lines.entry) v.items) }
+    ensures { IfOk result
+        (λ v. AreTold (is_some source.entry) (string_bytes lines.entry) v.items) }
 {
     let Some(source) = source else {
         return Ok(lines.into_bytes());
@@ -79,7 +79,7 @@ pub fn list_file<'a, R: Files + AllocGlobal, O: Write>(
 ) -> Result<Status, Failure<'a>>
     ensures done { IfOk result (λ s. s ≡ status.Done) }
     ensures wrote { OnOk result
-        (HasListed (HasAll O.contents output.old output.new)) }
+        (HasListed (is_some source.entry) (HasAll O.contents output.old output.new)) }
 {
     let bytes = bytes_of(rt, file)?;
     let image = decode(rt.alloc(), bytes.as_slice())?;

@@ -9,6 +9,6 @@ returns g c = record {
   explained = explained_so c.args.by _ c.in_ok-run.run' c.in_ok-run.ensures;
   ended = c.status_of.ensures;
   told = _;
-  beside = search rules;
+  are_told = search rules;
   wrote = search rules;
 }

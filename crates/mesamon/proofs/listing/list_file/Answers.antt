@@ -8,6 +8,6 @@ returns-clause-wrote g c = record {
   spelled = c.in_ok-image.ensures.found.0;
   is = c.in_ok-image.ensures.found.1;
   told = _;
-  beside = search rules;
+  are_told = search rules;
   wrote = search rules;
 }
