@@ -43,7 +43,11 @@ fn told(
             told_by(replay_command(alloc)?, "mesamon replay", why)
         }
         "explore" => told_by(explore_command(alloc)?, "mesamon explore", no_chart(inner)),
-        _ => told_by(explain_command(alloc)?, "mesamon explain", no_explanation(inner)),
+        _ => told_by(
+            explain_command(alloc)?,
+            "mesamon explain",
+            no_explanation(inner),
+        ),
     }
 }
 

@@ -23,7 +23,9 @@ mod status;
 mod telling;
 mod titles;
 
-pub use commandline::{ChartOptions, ExplainedBy, Job, Order, ReplayedBy, RunOptions, WordsFault, line};
+pub use commandline::{
+    ChartOptions, ExplainedBy, Job, Order, ReplayedBy, RunOptions, WordsFault, line,
+};
 pub use commands::{perform, perform_with_hints};
 pub use compiler::{check_text, compile, compile_checked, compile_with};
 pub use devices::Counted;

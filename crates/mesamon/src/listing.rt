@@ -37,8 +37,11 @@ fn beside<'a, R: Files + AllocGlobal>(
         bytes: bytes.as_slice(),
         hints,
     };
-    let (checked, lowered) = compile_checked(rt.alloc(), text.bytes)
-        .map_err(|refusal| hinted(rt.alloc(), &text, Failure::from(refusal)))?;
+    let (checked, lowered) = compile_checked(rt.alloc(), text.bytes).map_err(|refusal| hinted(
+        rt.alloc(),
+        &text,
+        Failure::from(refusal),
+    ))?;
     if !are_same(rt.alloc(), image, &lowered.image)? {
         return Err(Failure::OtherImage(source));
     }

@@ -1,8 +1,9 @@
+use crate::explained_run::ExplainedRun;
 use crate::hinting::SourceText;
 use crate::run_entries::explained;
 use machine::{Entry, Machine};
 use program::Checked;
-use run_hints::{Way, append_limit, append_way, end_hints};
+use run_hints::{Way, append_drawing, append_limit, append_way, end_hints};
 use runner::{Report, Verdict};
 use source_states::Action;
 use std::alloc::{AllocError, Global};
@@ -35,12 +36,8 @@ fn steps_of(log: &[Entry]) -> u64 {
     steps
 }
 
-/// The hints to the end of a run, whose actions are known: nothing where all processes ended by their returns.
-///
-/// # Errors
-///
-/// Where memory runs out, and for nothing else.
-pub fn explained_hints(
+// The hints to the end of a run, whose actions are known, without how to look on.
+fn known_hints(
     alloc: Global,
     text: &SourceText<'_>,
     checked: &Checked,
@@ -48,14 +45,30 @@ pub fn explained_hints(
     actions: &[Action],
     way: Way<'_>,
 ) -> Result<String, AllocError> {
-    if !is_told(report) {
-        return Ok(String::new(alloc));
-    }
     let mut told = end_hints(alloc, text.file, text.bytes, checked, actions)?;
     if report.verdict == Verdict::Limit {
         append_limit(&mut told, way, steps_of(report.log.as_slice()))?;
     }
-    append_way(&mut told, text.file, way)?;
+    Ok(told)
+}
+
+/// The hints to the end of a run that was explained: nothing where all processes ended by their returns.
+///
+/// # Errors
+///
+/// Where memory runs out, and for nothing else.
+pub fn explained_hints(
+    alloc: Global,
+    text: &SourceText<'_>,
+    run: &ExplainedRun<'_>,
+    way: Way<'_>,
+) -> Result<String, AllocError> {
+    if !is_told(&run.report) {
+        return Ok(String::new(alloc));
+    }
+    let actions = run.actions.as_slice();
+    let mut told = known_hints(alloc, text, &run.checked, &run.report, actions, way)?;
+    append_drawing(&mut told)?;
     Ok(told)
 }
 
@@ -77,7 +90,9 @@ pub fn report_hints(
     match explained(alloc, text.bytes, report.log.as_slice())? {
         None => Ok(String::new(alloc)),
         Some((checked, actions)) => {
-            explained_hints(alloc, text, &checked, report, actions.as_slice(), way)
+            let mut told = known_hints(alloc, text, &checked, report, actions.as_slice(), way)?;
+            append_way(&mut told, text.file, way)?;
+            Ok(told)
         }
     }
 }

@@ -5,6 +5,7 @@ use crate::replaying::ReplayFault;
 use crate::run_ends::{explained_hints, report_hints};
 use crate::run_entries::{log_entry_hints, schedule_entry_hints};
 use crate::source_log::SourceLogFault;
+use commandline::ExplainedBy;
 use program::Checked;
 use run_hints::{Way, end_hints};
 use runner::{Report, Turn};
@@ -78,17 +79,20 @@ pub fn tell_explained(
     told: &mut String,
     text: &SourceText<'_>,
     run: &ExplainedRun<'_>,
+    by: ExplainedBy<'_>,
 ) {
     if text.hints {
-        let hints = explained_hints(
-            alloc,
-            text,
-            &run.checked,
-            &run.report,
-            run.actions.as_slice(),
-            Way::Explained,
-        );
-        append_told(told, hints);
+        append_told(told, explained_hints(alloc, text, run, way_by(by)));
+    }
+}
+
+// How a run was made that was explained.
+fn way_by(by: ExplainedBy<'_>) -> Way<'_> {
+    match by {
+        ExplainedBy::Order { .. } => Way::InOrder,
+        ExplainedBy::Seed { seed, strays, .. } => Way::Seed(seed, strays),
+        ExplainedBy::Schedule(schedule) => Way::Schedule(schedule),
+        ExplainedBy::Log(log) => Way::Log(log),
     }
 }
 

@@ -18,7 +18,9 @@ fn append_way(out: &mut String, by: ExplainedBy<'_>) -> Result<(), AllocError> {
     match by {
         ExplainedBy::Order { .. } => out.push_str("in order"),
         ExplainedBy::Seed {
-            seed, strays: None, ..
+            seed,
+            strays: None,
+            ..
         } => write!(out, "seed {seed}"),
         ExplainedBy::Seed {
             seed,

@@ -2,9 +2,11 @@ use crate::causes::fault_name;
 use crate::follower::Follower;
 use crate::level::Standing;
 use crate::moment::Moment;
-use crate::names::{append_member, append_place};
+use crate::names::{append_member, append_piece, append_place};
 use crate::stands::token_of;
-use crate::values::{append_callee, append_local, append_typed, append_value, member_type, result_of};
+use crate::values::{
+    append_callee, append_local, append_typed, append_value, member_type, result_of,
+};
 use places::places_of;
 use program::{Checked, Member, Names, Statement, Target};
 use source_offers::{End, Place};
@@ -127,6 +129,14 @@ impl Told<'_, '_, '_, '_, '_, '_> {
         }
     }
 
+    // Appends the procedure that a process was forked with.
+    fn append_forked(&self, out: &mut String, process: u64) -> Result<(), AllocError> {
+        match self.follower.levels(process) {
+            [first, ..] => append_piece(out, self.follower.places, first.piece),
+            [] => Ok(()),
+        }
+    }
+
     // Appends what was done, behind a blank, where more is told than the line has.
     fn append_deed(&self, out: &mut String) -> Result<(), AllocError> {
         out.push(' ')?;
@@ -134,7 +144,8 @@ impl Told<'_, '_, '_, '_, '_, '_> {
             ActionKind::Assign => self.append_assigned(out),
             ActionKind::Test => self.append_test(out),
             ActionKind::Call | ActionKind::Enter(_) => self.append_begun(out, self.action.process),
-            ActionKind::Fork(child) | ActionKind::Claim(child) => self.append_begun(out, *child),
+            ActionKind::Fork(child) => self.append_begun(out, *child),
+            ActionKind::Claim(child) => self.append_forked(out, *child),
             ActionKind::Return | ActionKind::Exit(_) => self.append_return(out),
             ActionKind::Join(child) => self.append_joined(out, *child),
             ActionKind::Fails(fault) => out.push_str(fault_name(*fault)),
@@ -144,7 +155,10 @@ impl Told<'_, '_, '_, '_, '_, '_> {
 
     // Appends the place, and what was done.
     fn append(&self, out: &mut String, file: &str) -> Result<(), AllocError> {
-        if matches!(self.action.kind, ActionKind::Finish | ActionKind::Abandon(_)) {
+        if matches!(
+            self.action.kind,
+            ActionKind::Finish | ActionKind::Abandon(_)
+        ) {
             return Ok(());
         }
         out.push_str("  ")?;

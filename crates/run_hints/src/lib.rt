@@ -17,4 +17,4 @@ mod ways;
 pub use asides::asides_of;
 pub use ends::end_hints;
 pub use entries::{Refused, entry_hints};
-pub use ways::{Way, append_limit, append_way};
+pub use ways::{Way, append_drawing, append_limit, append_way};

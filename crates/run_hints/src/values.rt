@@ -83,5 +83,9 @@ pub(crate) fn append_callee(
         append_typed(out, Some(*kind), *value)?;
         before = ", ";
     }
-    out.push_str(if procedure.parameters.is_empty() { "" } else { ")" })
+    out.push_str(if procedure.parameters.is_empty() {
+        ""
+    } else {
+        ")"
+    })
 }

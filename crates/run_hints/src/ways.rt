@@ -16,8 +16,6 @@ pub enum Way<'a> {
     Schedule(&'a str),
     /// By the log in the file of this name.
     Log(&'a str),
-    /// It was explained.
-    Explained,
 }
 
 // Appends the options by which `explain` makes the same run.
@@ -33,7 +31,7 @@ fn append_options(out: &mut String, way: Way<'_>) -> Result<(), AllocError> {
         }
         Way::Seed(seed, None) => write!(out, " --seed {seed}"),
         Way::Seed(seed, Some(strays)) => write!(out, " --seed {seed} --strays {strays}"),
-        Way::Workers(None) | Way::InOrder | Way::Explained => Ok(()),
+        Way::Workers(None) | Way::InOrder => Ok(()),
     }
 }
 
@@ -44,12 +42,15 @@ const KEEP: &str =
 // What is said of a run that was explained.
 const DRAW: &str = "  with --places each action has its place; --chart OUT draws them\n";
 
-/// Appends the line that says how to look on.
+/// Appends the line that says how to look on at a run that was explained.
+pub fn append_drawing(out: &mut String) -> Result<(), AllocError> {
+    out.push_str(DRAW)
+}
+
+/// Appends the line that says how to look on at a run that wasn't explained yet.
 pub fn append_way(out: &mut String, file: &str, way: Way<'_>) -> Result<(), AllocError> {
-    match way {
-        Way::Explained => return out.push_str(DRAW),
-        Way::Workers(None) => return out.push_str(KEEP),
-        _ => {}
+    if let Way::Workers(None) = way {
+        return out.push_str(KEEP);
     }
     out.push_str("  mesamon explain ")?;
     append_bytes(out, file.as_bytes())?;
