@@ -1,4 +1,4 @@
-ghost use Rattle.std.specs.Prelude.{IfSome, None, Option as OptionOf, ℕ, ◌≡◌};
+ghost use Rattle.std.specs.Prelude.{IfSome, None, Option as OptionOf, ℕ, ◌≡◌, [], ◌∷◌, codes};
 ghost use Rattle.clap.specs.Words.{found_of, one_of};
 ghost use Rattle.clap.specs.Walk.{rows_of};
 ghost use Rattle.commandline.specs.CommandLine as line;
@@ -106,6 +106,14 @@ fn action_of(matches: &ArgMatches<'_>, id: &str) -> Option<Option<u64>>
     Some(Some(action))
 }
 
+// Whether the words say which actions a picture has.
+fn names_actions(matches: &ArgMatches<'_>) -> bool
+    ensures { result
+        ≡ line.has_any (codes "from" ∷ codes "to" ∷ []) (rows_of (found_of matches.now)) }
+{
+    is_written(matches, "from") || is_written(matches, "to")
+}
+
 /// The picture that is asked for, where one is. Which actions it has is said beside its file alone.
 pub fn chart_of<'a>(matches: &ArgMatches<'a>) -> Option<Option<ChartOptions<'a>>>
     ensures chart { IfSome result (ReadsChart (rows_of (found_of matches.now))) }
@@ -116,7 +124,7 @@ pub fn chart_of<'a>(matches: &ArgMatches<'a>) -> Option<Option<ChartOptions<'a>>
     let to = action_of(matches, "to")?;
     match matches.get_str("chart") {
         Some(out) => Some(Some(ChartOptions { out, from, to })),
-        None if is_written(matches, "from") || is_written(matches, "to") => None,
+        None if names_actions(matches) => None,
         None => Some(None),
     }
 }

@@ -1,5 +1,5 @@
-use crate::plan::Plan;
 use crate::monitor_words::Words;
+use crate::plan::Plan;
 use isa::Instr;
 use places::{Places, places_of};
 use program::Checked;

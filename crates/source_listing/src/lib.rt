@@ -4,7 +4,7 @@
 
 mod asides;
 mod lengths;
-mod plan;
 mod monitor_words;
+mod plan;
 
 pub use asides::{Listing, listing_of};

@@ -40,9 +40,9 @@ returns-clause-app c =
     let sixth = c.in_ok-command.ensures.shape c.valued-2.ensures.local
     ∙ ap₂ with_rule fifth c.valued-2.ensures.rule in
     let seventh = c.in_ok-with_chart_options.ensures.app ∙ ap line.with_chart_options sixth in
-    let eighth = c.in_ok-arg-7.ensures.shape c.valued-3.ensures.local
+    let eighth = c.in_ok-arg-6.ensures.shape c.valued-3.ensures.local
     ∙ ap₂ with_rule seventh c.valued-3.ensures.rule in
-    let ninth = c.in_ok-arg-8.ensures.shape c.flag.ensures.local
+    let ninth = c.in_ok-arg-7.ensures.shape c.flag.ensures.local
     ∙ ap₂ with_rule eighth c.flag.ensures.rule in
     IfOk-weaker c.arg-9.result _ _ (λ r h. h.shape c.flag-2.ensures.local
     ∙ ap₂ with_rule ninth c.flag-2.ensures.rule) c.arg-9.ensures
@@ -51,9 +51,9 @@ pub returns-clause-local : goal.returns-clause-local
 returns-clause-local c = IfOk-weaker c.arg-9.result _ _ (λ r h. rw (
   h.globals,
   c.flag-2.ensures.local,
-  c.in_ok-arg-8.ensures.globals,
-  c.flag.ensures.local,
   c.in_ok-arg-7.ensures.globals,
+  c.flag.ensures.local,
+  c.in_ok-arg-6.ensures.globals,
   c.valued-3.ensures.local,
   c.in_ok-with_chart_options.ensures.local,
 ) refl) c.arg-9.ensures

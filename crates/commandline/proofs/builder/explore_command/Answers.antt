@@ -28,7 +28,7 @@ returns-clause-app c =
     let third = c.in_ok-command.ensures.shape c.flag.ensures.local
     ∙ ap₂ with_rule second c.flag.ensures.rule in
     let fourth = c.in_ok-with_chart_options.ensures.app ∙ ap line.with_chart_options third in
-    let fifth = c.in_ok-arg-4.ensures.shape c.valued.ensures.local
+    let fifth = c.in_ok-arg-3.ensures.shape c.valued.ensures.local
     ∙ ap₂ with_rule fourth c.valued.ensures.rule in
     IfOk-weaker c.arg-5.result _ _ (λ r h. h.shape c.flag-2.ensures.local
     ∙ ap₂ with_rule fifth c.flag-2.ensures.rule) c.arg-5.ensures
@@ -37,7 +37,7 @@ pub returns-clause-local : goal.returns-clause-local
 returns-clause-local c = IfOk-weaker c.arg-5.result _ _ (λ r h. rw (
   h.globals,
   c.flag-2.ensures.local,
-  c.in_ok-arg-4.ensures.globals,
+  c.in_ok-arg-3.ensures.globals,
   c.valued.ensures.local,
   c.in_ok-with_chart_options.ensures.local,
 ) refl) c.arg-5.ensures
