@@ -45,17 +45,13 @@ fn circle_from(alloc: Global, state: &SourceState<'_>, first: u64) -> Result<Vec
 
 // Appends the line of a circle.
 fn append_circle(out: &mut String, circle: &[u64], first: u64) -> Result<(), AllocError> {
-    let mut before = "  a circle: process ";
-    for process in circle {
-        out.push_str(before)?;
+    out.push_str("  a circle: process ")?;
+    append_number(out, first)?;
+    out.push_str(" waits for process ")?;
+    for process in circle.iter().skip(1) {
         append_number(out, *process)?;
-        before = if *process == first {
-            " waits for process "
-        } else {
-            ", which waits for process "
-        };
+        out.push_str(", which waits for process ")?;
     }
-    out.push_str(before)?;
     append_number(out, first)?;
     out.push('\n')
 }

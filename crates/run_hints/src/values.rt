@@ -77,11 +77,9 @@ pub(crate) fn append_callee(
     let Some(procedure) = follower.program.procedures.get(piece as usize) else {
         return Ok(());
     };
-    let mut before = "(";
-    for (kind, value) in procedure.parameters.iter().zip(locals) {
-        out.push_str(before)?;
+    for (number, (kind, value)) in procedure.parameters.iter().zip(locals).enumerate() {
+        out.push_str(if number == 0 { "(" } else { ", " })?;
         append_typed(out, Some(*kind), *value)?;
-        before = ", ";
     }
     out.push_str(if procedure.parameters.is_empty() {
         ""
