@@ -9,6 +9,7 @@ use Rattle.mesamon.specs.Statuses.{status_code}
 use Rattle.account_text.specs.Accounts.{account, output_lines}
 use Rattle.isa.specs.Programs.{Program}
 use Rattle.isa.specs.Spelling.{IsSpelled, spelling}
+use Rattle.runner.specs.Logs.{Outside}
 use Rattle.runner.specs.Reports.{IsReport}
 use Rattle.commandline.specs.CommandLine.{AsksFor}
 use Rattle.commandline.specs.declared.job.Job.{Job}
@@ -85,16 +86,16 @@ has_run W E F text trace report (Ok s) run ended wrote told =
     record { text = text; trace = trace; report = report; run = run; ended = ended; wrote = wrote; told = told }
 has_run W E F text trace report (Err f) run ended wrote told = tt
 
-pub has_executed : (W E : List ℕ → Type 0) (F : Type 0) (bytes : List ℕ) (image : Program) (strays : Bool) (limit : ℕ)
+pub has_executed : (W E : List ℕ → Type 0) (F : Type 0) (bytes : List ℕ) (image : Program) (may : Outside) (limit : ℕ)
     (trace : Bool) (report : Report) (r : Result Status F) → IsSpelled image → spelling image ≡ bytes
-    → IsReport image strays limit report → IfOk r (λ s. s ≡ status_of_verdict report.verdict)
+    → IsReport image may limit report → IfOk r (λ s. s ≡ status_of_verdict report.verdict)
     → OnOk r (W (output_lines report.output.items)) → OnOk r (E (account report trace)) → IfOk r (HasExecuted W E)
-has_executed W E F bytes image strays limit trace report (Ok s) spelled is run ended wrote told = record {
+has_executed W E F bytes image may limit trace report (Ok s) spelled is run ended wrote told = record {
   bytes = bytes;
   image = image;
   spelled = spelled;
   is = is;
-  strays = strays;
+  may = may;
   limit = limit;
   trace = trace;
   report = report;
@@ -103,7 +104,7 @@ has_executed W E F bytes image strays limit trace report (Ok s) spelled is run e
   wrote = wrote;
   told = told;
 }
-has_executed W E F bytes image strays limit trace report (Err f) spelled is run ended wrote told = tt
+has_executed W E F bytes image may limit trace report (Err f) spelled is run ended wrote told = tt
 
 -- a command that ran nothing was done
 pub done_by : (m : Bool) (W E : List ℕ → Type 0) (F : Type 0) (A : Type 0) (r : Result Status F)

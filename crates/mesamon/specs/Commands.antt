@@ -8,6 +8,7 @@ use Rattle.runner.specs.declared.report.Verdict.{Verdict}
 use Rattle.runner.specs.declared.report.Verdict.TheVariants as verdict
 use Rattle.runner.specs.declared.report.Report.{Report}
 use Rattle.runner.specs.declared.schedule.Turn.{Turn}
+use Rattle.runner.specs.Logs.{Outside}
 use Rattle.runner.specs.Reports.{IsReport}
 use Rattle.mesamon.specs.declared.status.Status.{Status}
 use Rattle.mesamon.specs.declared.status.Status.TheVariants.{Done, Stuck, Limit}
@@ -65,11 +66,11 @@ status_of_verdict verdict.Done = Done
 status_of_verdict verdict.Stuck = Stuck
 status_of_verdict verdict.Limit = Limit
 
--- a report of a run of the text within some limit of steps, with wakes from outside or without, or by some schedule, or
--- by the log that some text is
+-- a report of a run of the text within some limit of steps, with something from outside or without, or by some schedule,
+-- or by the log that some text is
 abbrev pub IsReportOf : List ℕ → Report → Type 0
 IsReportOf text report =
-    ((strays : Bool) × (limit : ℕ) × IsRunOfText text strays limit report)
+    ((may : Outside) × (limit : ℕ) × IsRunOfText text may limit report)
     ⊎ (((schedule : List Turn) × IsReplayOfText text schedule report)
     ⊎ ((lines : List ℕ) × IsReplayOfLog text lines report))
 
@@ -83,18 +84,18 @@ pub record HasRun (Wrote WroteErrors : List ℕ → Type 0) (status : Status) : 
   pub wrote : Wrote (output_lines report.output.items)
   pub told : WroteErrors (account report trace)
 
--- some bytes spell an image that was run within some limit of steps, with wakes from outside or without, and its output
--- and its account were written
+-- some bytes spell an image that was run within some limit of steps, with something from outside or without, and its
+-- output and its account were written
 pub record HasExecuted (Wrote WroteErrors : List ℕ → Type 0) (status : Status) : Type 0 where
   pub bytes : List ℕ
   pub image : Program
   pub spelled : IsSpelled image
   pub is : spelling image ≡ bytes
-  pub strays : Bool
+  pub may : Outside
   pub limit : ℕ
   pub trace : Bool
   pub report : Report
-  pub run : IsReport image strays limit report
+  pub run : IsReport image may limit report
   pub ended : status ≡ status_of_verdict report.verdict
   pub wrote : Wrote (output_lines report.output.items)
   pub told : WroteErrors (account report trace)
@@ -103,11 +104,11 @@ pub record HasExecuted (Wrote WroteErrors : List ℕ → Type 0) (status : Statu
 abbrev pub explained_lines : ExplainedRun → List ℕ
 explained_lines r = flat_map (line r.checked.names) (map action_of r.actions.items)
 
--- the actions are those of a run of the text within some limit of steps, with wakes from outside or without, or by some
--- schedule, or of the log that some lines are
+-- the actions are those of a run of the text within some limit of steps, with something from outside or without, or by
+-- some schedule, or of the log that some lines are
 abbrev pub IsExplained : List ℕ → ExplainedRun → Type 0
 IsExplained text r =
-    ((strays : Bool) × (limit : ℕ) × IsExplanationOfText text strays limit r)
+    ((may : Outside) × (limit : ℕ) × IsExplanationOfText text may limit r)
     ⊎ (((schedule : List Turn) × IsExplanation text (IsReplayOfText text schedule) r)
     ⊎ ((lines : List ℕ) × IsExplanationOfLog text lines r))
 

@@ -1,7 +1,7 @@
 ghost use Rattle.std.specs.Prelude.{◌≡◌, IfOk};
 ghost use Rattle.devices.specs.Writing.{HasAll};
 ghost use Rattle.runner.specs.Reports.{IsReport};
-ghost use Rattle.mesamon.specs.Asked.{IsReplayedAs, has_strays};
+ghost use Rattle.mesamon.specs.Asked.{IsReplayedAs, outside_by};
 ghost use Rattle.mesamon.specs.Commands.{HasExecuted, HasRun};
 ghost use Rattle.mesamon.specs.Running.{IsRunOfText};
 
@@ -66,7 +66,7 @@ fn run_text<'a, R: AllocGlobal + Threads + Wait + Sync>(
     steps: u32,
     order: Order,
 ) -> Result<Report, Failure<'a>>
-    ensures { IfOk result (λ report. IsRunOfText text.now.bytes.now (has_strays order) steps report) }
+    ensures { IfOk result (λ report. IsRunOfText text.now.bytes.now (outside_by order) steps report) }
 {
     run_by(rt, text.bytes, steps, order).map_err(|fault| hinted(
         rt.alloc(),
@@ -81,7 +81,7 @@ fn run_by<R: AllocGlobal + Threads + Wait + Sync>(
     steps: u32,
     order: Order,
 ) -> Result<Report, RunSourceFault>
-    ensures { IfOk result (λ report. IsRunOfText text.now (has_strays order) steps report) }
+    ensures { IfOk result (λ report. IsRunOfText text.now (outside_by order) steps report) }
 {
     match order {
         Order::Workers => run_source(rt, rt.alloc(), text, steps, &OpenGate),
@@ -115,13 +115,13 @@ fn run_image<R: AllocGlobal + Threads + Wait + Sync>(
     steps: u32,
     order: Order,
 ) -> Result<Report, RunFault>
-    ensures { IfOk result (λ report. IsReport image.now (has_strays order) steps report) }
+    ensures { IfOk result (λ report. IsReport image.now (outside_by order) steps report) }
 {
     match order {
         Order::Workers => workers::run(rt, rt.alloc(), image, steps, &OpenGate),
         Order::InOrder => runner::run_in_order(rt.alloc(), image, steps, &OpenGate),
         Order::Seed { seed, strays } => {
-            runner::run_by_seed(rt.alloc(), image, steps, seed, strays)
+            runner::run_by_seed(rt.alloc(), image, steps, seed, strays, 0)
         }
     }
 }
