@@ -1,6 +1,6 @@
 use crate::failure::Failure;
 use crate::files::put_bytes;
-use chart::chart;
+use chart::{Picture, chart};
 use program::Checked;
 use source_states::Action;
 use std::rt::Files;
@@ -24,8 +24,17 @@ impl<'a> Drawings<'a> {
         actions: &[Action],
     ) -> Result<(), Failure<'a>> {
         if let Some(out) = self.chart {
-            let picture = chart(rt.alloc(), checked, actions)?;
-            put_bytes(rt, out, picture.as_slice())?;
+            let picture = Picture {
+                checked,
+                procedures: &[],
+                actions,
+                log: &[],
+                title: "A run",
+                from: None,
+                to: None,
+            };
+            let drawn = chart(rt.alloc(), &picture)?;
+            put_bytes(rt, out, drawn.as_slice())?;
         }
         if let Some(out) = self.timeline {
             let records = timeline(rt.alloc(), checked, actions)?;
