@@ -18,21 +18,24 @@ fn side(kind: &ActionKind) -> u64 {
 }
 
 impl<'c, 'n> Sheet<'c, 'n> {
-    // Notes which processes are joined, and the last action of each.
+    // Notes which processes are joined, and the last action of each that isn't over at the end.
     fn look_ahead(&mut self) -> Result<(), AllocError> {
         let actions = self.actions;
         let mut number: u64 = 0;
-        self.lasts.push(0)?;
+        self.lasts.push(Some(0))?;
         for action in actions {
             number = number.saturating_add(1);
             if let ActionKind::Join(child) = action.kind {
                 self.joined.push(child)?;
             }
             if let ActionKind::Fork(_) = action.kind {
-                self.lasts.push(0)?;
+                self.lasts.push(Some(0))?;
             }
             if let Some(last) = self.lasts.get_mut(index_of(action.process)) {
-                *last = number;
+                *last = match action.kind {
+                    ActionKind::Finish => None,
+                    _ => Some(number),
+                };
             }
         }
         Ok(())
@@ -169,9 +172,11 @@ impl<'c, 'n> Sheet<'c, 'n> {
         let main = checked.program().procedures.len().saturating_sub(1);
         self.begin(&state, 1, Some(main as u32))?;
         let is_run = self.draw_steps(checked, &mut state)?;
-        if is_run && self.span.last == self.actions.len() as u64 {
-            self.draw_rest(checked, &state)?;
+        if !is_run || self.span.last < self.actions.len() as u64 {
+            return self.end_strip();
         }
-        self.end_strip()
+        self.draw_rest(checked, &state)?;
+        self.end_strip()?;
+        self.write_circles(&state)
     }
 }

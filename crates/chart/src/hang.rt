@@ -76,7 +76,9 @@ impl<'c, 'n> Sheet<'c, 'n> {
             return Ok(false);
         }
         let edge = self.moment(2).left.saturating_add(2);
-        let across = edge.saturating_add(lane.saturating_mul(LANE)).saturating_add(LANE);
+        let across = edge
+            .saturating_add(lane.saturating_mul(LANE))
+            .saturating_add(LANE);
         let (from, to) = (start.saturating_add(4), goal.saturating_sub(4));
         append_shape(
             &mut self.marks,
@@ -101,7 +103,11 @@ impl<'c, 'n> Sheet<'c, 'n> {
     // Writes a circle of processes below the rows.
     fn write_circle(&mut self, circle: &[u64], first: u64) -> Result<(), AllocError> {
         self.bottom = self.bottom.saturating_add(16);
-        append_shape(&mut self.marks, "<text class='hang' x='0' y='$'>", &[self.bottom])?;
+        append_shape(
+            &mut self.marks,
+            "<text class='hang' x='0' y='$'>",
+            &[self.bottom],
+        )?;
         let mut form = "a circle: process $";
         for process in circle {
             append_shape(&mut self.marks, form, &[*process])?;
@@ -117,8 +123,8 @@ impl<'c, 'n> Sheet<'c, 'n> {
         append_shape(&mut self.marks, "</text>\n", &[])
     }
 
-    // Writes each circle of processes below the rows.
-    fn write_circles(&mut self, state: &SourceState) -> Result<(), AllocError> {
+    /// Writes each circle of processes below the rows.
+    pub fn write_circles(&mut self, state: &SourceState) -> Result<(), AllocError> {
         for index in 0..self.rows.len() {
             let first = (index as u64).saturating_add(1);
             let circle = circle_from(self.alloc, state, first)?;
@@ -138,6 +144,6 @@ impl<'c, 'n> Sheet<'c, 'n> {
             let process = (index as u64).saturating_add(1);
             self.describe_last(state, process, left)?;
         }
-        self.write_circles(state)
+        Ok(())
     }
 }

@@ -105,9 +105,7 @@ fn append_value(out: &mut Vec<u8>, kind: ValueType, value: i64) -> Result<(), Al
         ValueType::Boolean if value == 0 => append_shape(out, "FALSE", &[]),
         ValueType::Boolean => append_shape(out, "TRUE", &[]),
         ValueType::Process => append_shape(out, "process $", &[value.unsigned_abs()]),
-        ValueType::Integer => {
-            out.extend_from_slice(Buffer::new().format(value).as_bytes())
-        }
+        ValueType::Integer => { out.extend_from_slice(Buffer::new().format(value).as_bytes()) }
     }
 }
 

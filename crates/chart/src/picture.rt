@@ -85,12 +85,7 @@ fn append_title(out: &mut Vec<u8>, sheet: &Sheet, title: &str) -> Result<(), All
 }
 
 // Appends what a picture begins with.
-fn append_head(
-    out: &mut Vec<u8>,
-    sheet: &Sheet,
-    across: u64,
-    tall: u64,
-) -> Result<(), AllocError> {
+fn append_head(out: &mut Vec<u8>, sheet: &Sheet, across: u64, tall: u64) -> Result<(), AllocError> {
     append_shape(
         out,
         "<svg xmlns='http://www.w3.org/2000/svg' width='$' height='$' viewBox='0 0 $ $'>\n",

@@ -19,8 +19,8 @@ pub(crate) struct Row {
     pub pieces: Vec<Option<u32>>,
     /// Its last attempt to take a monitor, while that is one that failed.
     pub trial: Option<Trial>,
-    /// The last action of the process in the run, from 1.
-    pub last: u64,
+    /// The last action of the process in the run, where it isn't over at the end.
+    pub last: Option<u64>,
     /// What it is doing, from the outermost monitor that it holds.
     pub bars: Vec<Bar>,
     /// The middle of its row in this strip.
@@ -56,8 +56,12 @@ fn place(level: usize, middle: u64, moment: Moment) -> Place {
     }
 }
 
-// Whether a process that begins to wait so at an action, in a run of which this is its last one, waits to the end.
-fn is_for_good(layer: Layer, action: u64, last: u64) -> bool {
+// Whether a process that begins to wait so at an action waits to the end of the run, where this is its last action in it
+// if it isn't over then.
+fn is_for_good(layer: Layer, action: u64, last: Option<u64>) -> bool {
+    let Some(last) = last else {
+        return false;
+    };
     match layer {
         Layer::Tried(monitor, _) => monitor.is_none(),
         Layer::Waits(_) | Layer::Resumed(_) | Layer::Enters(_) | Layer::Joins(_) => last <= action,
@@ -74,9 +78,10 @@ fn write_name(
     name: &[u8],
 ) -> Result<u64, AllocError> {
     append_text(marks, form, &[left, above], name)?;
-    Ok(left
-        .saturating_add(wide(letters_of(name), LETTER))
-        .saturating_add(5))
+    Ok(
+        left.saturating_add(wide(letters_of(name), LETTER))
+            .saturating_add(5),
+    )
 }
 
 // Writes who holds the monitor above the bar of a process that waits for it, and gives where that ends.
@@ -100,7 +105,7 @@ impl Row {
         alloc: Global,
         name: Vec<u8>,
         piece: Option<u32>,
-        last: u64,
+        last: Option<u64>,
     ) -> Result<Row, AllocError> {
         let mut pieces = Vec::new(alloc);
         pieces.push(piece)?;

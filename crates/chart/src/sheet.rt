@@ -38,8 +38,8 @@ pub(crate) struct Sheet<'c, 'n> {
     pub rows: Vec<Row>,
     /// The processes that others join.
     pub joined: Vec<u64>,
-    /// The number of each process's last action, that of process 1 first.
-    pub lasts: Vec<u64>,
+    /// The number of the last action of each process, or 0; None where it is over at the end. That of process 1 first.
+    pub lasts: Vec<Option<u64>>,
     /// The number of the last action that was done.
     pub number: u64,
     /// The upper edge of this strip.
@@ -122,9 +122,9 @@ impl<'c, 'n> Sheet<'c, 'n> {
         }
     }
 
-    /// The last action of a process in the run.
-    pub fn last_of(&self, process: u64) -> u64 {
-        self.lasts.get(index_of(process)).copied().unwrap_or(0)
+    /// The last action of a process in the run, where it isn't over at the end.
+    pub fn last_of(&self, process: u64) -> Option<u64> {
+        self.lasts.get(index_of(process)).copied().unwrap_or(None)
     }
 
     // From a moment on a process does this.

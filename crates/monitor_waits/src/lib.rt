@@ -1,7 +1,7 @@
 //! Who waited for whose monitor in a run, as the log of the machine tells it.
 #![tactic(auto)]
 
-mod attempts;
 mod events;
+mod reading;
 
-pub use attempts::{Attempt, attempts};
+pub use reading::{Attempt, attempts};
