@@ -28,17 +28,21 @@ fn last_layer(state: &SourceState, number: u64) -> Layer {
     }
 }
 
+// How what a process does at the end is written.
+fn note_form(stuck: bool) -> &'static str {
+    if stuck {
+        "<text class='hang' x='$' y='$'>"
+    } else {
+        "<text class='note' x='$' y='$'>"
+    }
+}
+
 impl<'c, 'n> Sheet<'c, 'n> {
     // Writes at this place what a process does at the end.
     fn describe(&mut self, layer: Layer, left: u64, below: u64) -> Result<(), AllocError> {
         let mut text = Vec::new(self.alloc);
         self.labels.append_description(&mut text, layer)?;
-        let form = if self.stuck {
-            "<text class='hang' x='$' y='$'>"
-        } else {
-            "<text class='note' x='$' y='$'>"
-        };
-        append_shape(&mut self.marks, form, &[left, below])?;
+        append_shape(&mut self.marks, note_form(self.stuck), &[left, below])?;
         self.marks.extend_from_slice(text.as_slice())?;
         let letters = wide(text.len() as u64, LETTER);
         self.reach = self.reach.max(left.saturating_add(letters));
@@ -105,22 +109,16 @@ impl<'c, 'n> Sheet<'c, 'n> {
         self.bottom = self.bottom.saturating_add(16);
         append_shape(
             &mut self.marks,
-            "<text class='hang' x='0' y='$'>",
-            &[self.bottom],
+            "<text class='hang' x='0' y='$'>a circle: process $ waits for process ",
+            &[self.bottom, first],
         )?;
-        let mut form = "a circle: process $";
-        for process in circle {
-            append_shape(&mut self.marks, form, &[*process])?;
-            form = if *process == first {
-                " waits for process $"
-            } else {
-                ", which waits for process $"
-            };
+        for process in circle.get(1..).unwrap_or(&[]) {
+            append_shape(&mut self.marks, "$, which waits for process ", &[*process])?;
         }
-        append_shape(&mut self.marks, form, &[first])?;
+        append_shape(&mut self.marks, "$</text>\n", &[first])?;
         let letters = (circle.len() as u64).saturating_add(1).saturating_mul(30);
         self.reach = self.reach.max(wide(letters, LETTER));
-        append_shape(&mut self.marks, "</text>\n", &[])
+        Ok(())
     }
 
     /// Writes each circle of processes below the rows.

@@ -109,19 +109,23 @@ fn append_value(out: &mut Vec<u8>, kind: ValueType, value: i64) -> Result<(), Al
     }
 }
 
+// What stands before an argument, from 0.
+fn separator(index: usize) -> &'static str {
+    if index == 0 { "" } else { ", " }
+}
+
 // Appends the arguments with which a procedure of these parameters began.
 fn append_arguments(
     out: &mut Vec<u8>,
     parameters: &[ValueType],
     locals: &[i64],
 ) -> Result<(), AllocError> {
-    let mut before = "(";
-    for (kind, value) in parameters.iter().zip(locals) {
-        append_shape(out, before, &[])?;
+    append_shape(out, "(", &[])?;
+    for (index, (kind, value)) in parameters.iter().zip(locals).enumerate() {
+        append_shape(out, separator(index), &[])?;
         append_value(out, *kind, *value)?;
-        before = ", ";
     }
-    append_shape(out, if before == "(" { "()" } else { ")" }, &[])
+    append_shape(out, ")", &[])
 }
 
 /// The name of a process's row: its number, its procedure, where that is known, and the arguments of that, which are the

@@ -51,20 +51,21 @@ fn shown_title(alloc: Global, title: &str) -> Result<String, AllocError> {
     Ok(shown)
 }
 
+// How the numbers of actions and processes are written.
+fn counts_form(actions: u64, processes: u64) -> &'static str {
+    match (actions, processes) {
+        (1, 1) => "$ action of $ process",
+        (1, _) => "$ action of $ processes",
+        (_, 1) => "$ actions of $ process",
+        (_, _) => "$ actions of $ processes",
+    }
+}
+
 // Appends how many actions and processes the run has, and which actions are drawn.
 fn append_counts(out: &mut Vec<u8>, sheet: &Sheet) -> Result<(), AllocError> {
     let actions = sheet.actions.len() as u64;
     let processes = sheet.rows.len() as u64;
-    append_shape(
-        out,
-        match (actions, processes) {
-            (1, 1) => "$ action of $ process",
-            (1, _) => "$ action of $ processes",
-            (_, 1) => "$ actions of $ process",
-            (_, _) => "$ actions of $ processes",
-        },
-        &[actions, processes],
-    )?;
+    append_shape(out, counts_form(actions, processes), &[actions, processes])?;
     let Span { first, last } = sheet.span;
     if first <= 1 && last == actions {
         return Ok(());

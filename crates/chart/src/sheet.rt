@@ -112,7 +112,9 @@ impl<'c, 'n> Sheet<'c, 'n> {
     /// first one that is drawn all moments are at the left edge.
     pub fn moment(&self, half: u64) -> Moment {
         let left = if self.draws() {
-            (self.column() * COLUMN).saturating_add(half.saturating_mul(COLUMN / 2))
+            self.column()
+                .saturating_mul(COLUMN)
+                .saturating_add(half.saturating_mul(COLUMN / 2))
         } else {
             0
         };
