@@ -1,8 +1,9 @@
 use crate::failure::Failure;
 use crate::files::put_bytes;
-use chart::chart;
+use chart::{Picture, chart};
 use commandline::ChartOptions;
 use machine::Entry;
+use places::{Places, places_of};
 use program::Checked;
 use source_states::Action;
 use std::alloc::{AllocError, Global};
@@ -52,11 +53,31 @@ impl<'a> Drawings<'a> {
     }
 }
 
+// The names of the pieces of a program, by their numbers.
+fn names_of<'t>(alloc: Global, places: &Places<'t>) -> Result<Vec<&'t [u8]>, AllocError> {
+    let mut names = Vec::new(alloc);
+    for piece in places.pieces.iter() {
+        names.push(piece.name)?;
+    }
+    Ok(names)
+}
+
 // The picture of a run.
 fn picture_of(
     alloc: Global,
     run: &ShownRun<'_, '_>,
-    _options: ChartOptions<'_>,
+    options: ChartOptions<'_>,
 ) -> Result<Vec<u8>, AllocError> {
-    chart(alloc, run.checked, run.actions)
+    let places = places_of(alloc, run.text)?;
+    let procedures = names_of(alloc, &places)?;
+    let picture = Picture {
+        checked: run.checked,
+        procedures: procedures.as_slice(),
+        actions: run.actions,
+        log: run.log,
+        title: run.title,
+        from: options.from,
+        to: options.to,
+    };
+    chart(alloc, &picture)
 }
