@@ -57,7 +57,7 @@ fn lines_beside<'a, R: Files + AllocGlobal>(
     lines: String,
 ) -> Result<Vec<u8>, Failure<'a>>
     ensures { IfOk result
-        (λ v. AreTold (is_some source.entry) (string_bytes lines.entry) v.items) }
+        (λ v. AreTold (is_some source.entry) (string_bytes lines) v.items) }
 {
     let Some(source) = source else {
         return Ok(lines.into_bytes());

@@ -1,11 +1,9 @@
 // Which limit is passed at a place.
 
-use crate::declarations::{Declaration, Sort, declarations_of};
 use crate::lexeme::Lexeme;
-use crate::scopes::{Scope, walk_over};
+use crate::scopes::walk_over;
 use crate::spot::Spot;
-use scanner::{Keyword, MOST_BYTES, Place, Token};
-use std::alloc::{AllocError, Global};
+use scanner::{Keyword, MOST_BYTES, Place};
 
 const CHAIN: &str = "a chain of calls has at most 15 procedures, the first one counted";
 
@@ -35,89 +33,8 @@ fn limit_of_name(spot: &Spot<'_, '_>) -> &'static str {
     }
 }
 
-// What is counted up to a declared name.
-#[derive(Clone, Copy)]
-enum Counted {
-    Monitors,
-    Procedures,
-    Conditions,
-    // Parameters and variables of a body.
-    Locals(Scope),
-}
-
-impl Counted {
-    // How many there may be.
-    fn most(self) -> usize {
-        match self {
-            Counted::Monitors => 64,
-            Counted::Procedures => 512,
-            Counted::Conditions => 256,
-            Counted::Locals(_) => 16,
-        }
-    }
-
-    // Whether a declaration is one of them.
-    fn counts(self, declaration: &Declaration<'_>) -> bool {
-        match (self, declaration.sort) {
-            (Counted::Monitors, Sort::Monitor(_)) => true,
-            (Counted::Procedures, Sort::Procedure(_)) => true,
-            (Counted::Conditions, Sort::Variable(word)) => word == Keyword::Condition,
-            (Counted::Locals(scope), Sort::Variable(_)) => declaration.scope == scope,
-            _ => false,
-        }
-    }
-
-    // How many of them there are up to a place.
-    fn count(self, declarations: &[Declaration<'_>], place: Place) -> usize {
-        let mut count: usize = 0;
-        for declaration in declarations {
-            if self.counts(declaration) {
-                count = count.saturating_add(1);
-            }
-            let at = declaration.name.place;
-            if at == place {
-                break;
-            }
-        }
-        count
-    }
-}
-
-// What is counted of which a declared name is one.
-fn counted_at(spot: &Spot<'_, '_>) -> Counted {
-    let scope = walk_over(spot.before).scope;
-    match spot.back(1) {
-        Lexeme::Word(Keyword::Monitor) => Counted::Monitors,
-        Lexeme::Word(Keyword::Procedure) => Counted::Procedures,
-        Lexeme::Word(Keyword::Var) if scope.body == 0 => Counted::Conditions,
-        _ => Counted::Locals(scope),
-    }
-}
-
-/// Appends which limit is passed at a place of a text, and of declared names which of them stands there.
-pub(crate) fn append_limit(
-    alloc: Global,
-    out: &mut String,
-    text: &[u8],
-    tokens: &[Token],
-    spot: &Spot<'_, '_>,
-    place: Place,
-) -> Result<(), AllocError> {
-    writeln!(out, "{}", limit_at(text, place, spot))?;
-    if spot.here() != Lexeme::Name || place == Place::START {
-        return Ok(());
-    }
-    let counted = counted_at(spot);
-    let declarations = declarations_of(alloc, tokens)?;
-    let count = counted.count(declarations.as_slice(), place);
-    if count > counted.most() {
-        writeln!(out, "this is number {count}")?;
-    }
-    Ok(())
-}
-
-// The limit that is passed at a place of a text.
-fn limit_at(text: &[u8], place: Place, spot: &Spot<'_, '_>) -> &'static str {
+/// The limit that is passed at a place of a text.
+pub(crate) fn limit_at(text: &[u8], place: Place, spot: &Spot<'_, '_>) -> &'static str {
     if text.len() > MOST_BYTES {
         return "a text has at most 1048576 bytes";
     }

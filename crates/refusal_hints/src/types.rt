@@ -1,14 +1,10 @@
 // What helps with a type, or a number of arguments, that isn't the one wanted.
 
 use crate::declarations::Declaration;
-use crate::expression_types::misfit_at;
-use crate::headers::Header;
-use crate::lexeme::{Lexeme, append_keyword};
+use crate::lexeme::Lexeme;
 use crate::names::append_found;
-use crate::sought::sought_at;
 use crate::spot::Spot;
-use crate::wanted_types::wanted_at;
-use scanner::{Keyword, Sign, Token};
+use scanner::{Keyword, Sign};
 use std::alloc::{AllocError, Global};
 
 // What an operator takes.
@@ -77,101 +73,14 @@ fn append_sentence(out: &mut String, sentence: Option<&'static str>) -> Result<(
     }
 }
 
-// What is wanted beside a type in = or #.
-fn other_side(before: Lexeme, held: Keyword) -> Option<Keyword> {
-    match (before, held) {
-        (Lexeme::Mark(Sign::Equal | Sign::NotEqual), Keyword::Integer) => Some(Keyword::Boolean),
-        (Lexeme::Mark(Sign::Equal | Sign::NotEqual), Keyword::Boolean) => Some(Keyword::Integer),
-        _ => None,
-    }
-}
-
-// Appends both types, where they are known.
-fn append_both(
-    alloc: Global,
-    out: &mut String,
-    held: Keyword,
-    wanted: Option<Keyword>,
-) -> Result<(), AllocError> {
-    match wanted {
-        Some(wanted) if wanted != held => {
-            append_keyword(alloc, out, held)?;
-            out.push_str(" stands here, where ")?;
-            append_keyword(alloc, out, wanted)?;
-            out.push_str(" is wanted\n")
-        }
-        _ => Ok(()),
-    }
-}
-
-// Appends the type of what stands at a place, and the one that is wanted there.
-fn append_misfit(
-    alloc: Global,
-    out: &mut String,
-    declarations: &[Declaration<'_>],
-    tokens: &[Token<'_>],
-    spot: &Spot<'_, '_>,
-) -> Result<(), AllocError> {
-    let sought = sought_at(declarations, spot);
-    let misfit = misfit_at(declarations, sought, spot);
-    let Some(held) = misfit.held else {
-        return Ok(());
-    };
-    let wanted = match misfit.wanted {
-        Some(wanted) => Some(wanted),
-        None => match other_side(spot.back(1), held) {
-            Some(other) => Some(other),
-            None => wanted_at(declarations, sought, tokens, spot),
-        },
-    };
-    append_both(alloc, out, held, wanted)
-}
-
-// Appends how many parameters a procedure has, and what it gives.
-fn append_header(
-    alloc: Global,
-    out: &mut String,
-    header: &Header<'_, '_>,
-) -> Result<(), AllocError> {
-    let count = header.count();
-    let plural = if count == 1 { "" } else { "s" };
-    write!(out, "it has {count} parameter{plural}, and gives ")?;
-    match header.result() {
-        Some(result) => append_keyword(alloc, out, result)?,
-        None => out.push_str("nothing")?,
-    }
-    out.push_str("\n")
-}
-
-// Appends what is wanted of a call of the procedure whose name stands at a place, if one stands there.
-fn append_wanted(
-    alloc: Global,
-    out: &mut String,
-    declarations: &[Declaration<'_>],
-    tokens: &[Token<'_>],
-    spot: &Spot<'_, '_>,
-) -> Result<(), AllocError> {
-    let found = sought_at(declarations, spot).find(declarations, spot.token(0).text);
-    let header = match found {
-        Some(declaration) => Header::of(tokens, &declaration),
-        None => None,
-    };
-    match header {
-        Some(header) => append_header(alloc, out, &header),
-        None => append_misfit(alloc, out, declarations, tokens, spot),
-    }
-}
-
 /// Appends what helps with a type.
 pub(crate) fn append_type(
     alloc: Global,
     out: &mut String,
     declarations: &[Declaration<'_>],
-    tokens: &[Token<'_>],
     spot: &Spot<'_, '_>,
 ) -> Result<(), AllocError> {
     append_found(alloc, out, declarations, spot)?;
-    append_wanted(alloc, out, declarations, tokens, spot)?;
     append_sentence(out, wanted_behind(spot.back(1)))?;
     append_sentence(out, wanted_before(spot.here(), spot.ahead(1)))
 }
