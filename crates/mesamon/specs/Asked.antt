@@ -1,9 +1,11 @@
--- Which run of a text a command was asked for.
-use Rattle.std.specs.Prelude.{ℕ, List, is_some}
+-- Which run of a text a command was asked for, and whether it is told with more beside it.
+use Rattle.std.specs.Prelude.{ℕ, Bool, false, List, is_some}
 use Rattle.commandline.specs.declared.options.ExplainedBy.{ExplainedBy}
 use Rattle.commandline.specs.declared.options.ExplainedBy.TheVariants.{Order, Seed, Schedule, Log}
 use Rattle.commandline.specs.declared.options.Order.{Order as OrderOf}
 use Rattle.commandline.specs.declared.options.Order.TheVariants.{Workers, InOrder, Seed as InSeed}
+use Rattle.commandline.specs.declared.job.Job.{Job}
+use Rattle.commandline.specs.declared.job.Job.TheVariants.{Explain, List as ListImage}
 use Rattle.commandline.specs.declared.options.ReplayedBy.{ReplayedBy}
 use Rattle.commandline.specs.declared.options.ReplayedBy.TheVariants.{Schedule as BySchedule, Log as ByLog}
 use Rattle.runner.specs.Logs.{Outside, nothing_outside, outside_of}
@@ -19,6 +21,12 @@ abbrev pub outside_by : OrderOf → Outside
 outside_by Workers = nothing_outside
 outside_by InOrder = nothing_outside
 outside_by (InSeed seed strays) = outside_of (is_some strays) 0
+
+-- whether a job asks for more beside the lines that it writes: of a listing its source, of an explanation the places
+abbrev pub asks_for_more : Job → Bool
+asks_for_more (ListImage image source hints) = is_some source
+asks_for_more (Explain file by chart timeline places hints) = places
+asks_for_more other = false
 
 -- the run that is explained, by what is named
 abbrev pub IsExplainedAs : ExplainedBy → List ℕ → ExplainedRun → Type 0

@@ -1,5 +1,5 @@
 -- What a command that ended well has done: it wrote of some text, whose bytes a file gave.
-use Rattle.std.specs.Prelude.{codes, ◌≡◌, ◌⊎◌, ℕ, Bool, List, [], length, map}
+use Rattle.std.specs.Prelude.{codes, ◌≡◌, ◌⊎◌, ◌++◌, ℕ, Bool, true, false, List, [], length, map}
 use Rattle.std.specs.List.{flat_map}
 use Rattle.isa.specs.Programs.{Program}
 use Rattle.isa.specs.Spelling.{IsSpelled, spelling}
@@ -15,9 +15,13 @@ use Rattle.mesamon.specs.declared.status.Status.TheVariants.{Done, Stuck, Limit}
 use Rattle.program.specs.Trees.{Program as ProgramOf}
 use Rattle.source_states.specs.Actions.{action_of}
 use Rattle.actionlines.specs.Lines.{line}
+use Rattle.line_tails.specs.Beside.{with_tails}
+use Rattle.commandline.specs.CommandLine.{AsksFor}
+use Rattle.commandline.specs.declared.job.Job.{Job}
 use Rattle.compiler.specs.Accepts.{AcceptsText}
 use Rattle.compiler.specs.Compiles.{IsCompiled}
 use Rattle.mesamon.specs.declared.explained_run.ExplainedRun.{ExplainedRun}
+use Rattle.mesamon.specs.Asked.{asks_for_more}
 use Rattle.mesamon.specs.Running.{IsRunOfText}
 use Rattle.mesamon.specs.Explaining.{IsExplanation, IsExplanationOfText}
 use Rattle.mesamon.specs.Replaying.{IsReplayOfText}
@@ -40,13 +44,21 @@ pub record HasCompiled (Wrote : List ℕ → Type 0) : Type 0 where
   pub compiled : IsCompiled text image
   pub wrote : Wrote (image_line (length image.code))
 
+-- lines are told as they are; where more is asked for, with something before the first of them and before each one's
+-- line feed
+abbrev pub AreTold : Bool → List ℕ → List ℕ → Type 0
+AreTold false lines told = told ≡ lines
+AreTold true lines told = (head : List ℕ) × (tails : List (List ℕ)) × (told ≡ head ++ with_tails lines tails)
+
 -- some bytes spell an image, and the lines of its instructions were written
-pub record HasListed (Wrote : List ℕ → Type 0) : Type 0 where
+pub record HasListed (more : Bool) (Wrote : List ℕ → Type 0) : Type 0 where
   pub bytes : List ℕ
   pub image : Program
   pub spelled : IsSpelled image
   pub is : spelling image ≡ bytes
-  pub wrote : Wrote (lines 0 image.code)
+  pub told : List ℕ
+  pub are_told : AreTold more (lines 0 image.code) told
+  pub wrote : Wrote told
 
 -- the exit status of a run, by its verdict
 abbrev pub status_of_verdict : Verdict → Status
@@ -101,24 +113,32 @@ IsExplained text r =
     ⊎ ((lines : List ℕ) × IsExplanationOfLog text lines r))
 
 -- some text was run and its run explained, or a log of it, and the lines of the actions were written
-pub record HasExplained (Wrote : List ℕ → Type 0) (status : Status) : Type 0 where
+pub record HasExplained (more : Bool) (Wrote : List ℕ → Type 0) (status : Status) : Type 0 where
   pub text : List ℕ
   pub explained_run : ExplainedRun
   pub explained : IsExplained text explained_run
   pub ended : status ≡ status_of_verdict explained_run.report.verdict
-  pub wrote : Wrote (explained_lines explained_run)
+  pub told : List ℕ
+  pub are_told : AreTold more (explained_lines explained_run) told
+  pub wrote : Wrote told
 
 -- a command that ended so has run some text or some image, has explained a run, or has searched all runs of some text,
 -- with nothing told of it as an error where it ran nothing
-abbrev pub HasEnded : (Wrote WroteErrors : List ℕ → Type 0) → Status → Type 0
-HasEnded Wrote WroteErrors status =
+abbrev pub HasEnded : Bool → (Wrote WroteErrors : List ℕ → Type 0) → Status → Type 0
+HasEnded more Wrote WroteErrors status =
     HasRun Wrote WroteErrors status ⊎ (HasExecuted Wrote WroteErrors status
-    ⊎ ((HasExplained Wrote status × WroteErrors []) ⊎ (HasExplored Wrote status × WroteErrors [])))
+    ⊎ ((HasExplained more Wrote status × WroteErrors []) ⊎ (HasExplored Wrote status × WroteErrors [])))
 
 -- a command that ended well has compiled, has listed, has run, has explained or has checked
-abbrev pub HasDone : (Wrote WroteErrors : List ℕ → Type 0) → Status → Type 0
-HasDone Wrote WroteErrors Done =
-    HasCompiled Wrote ⊎ (HasListed Wrote ⊎ (HasEnded Wrote WroteErrors Done ⊎ HasChecked Wrote))
-HasDone Wrote WroteErrors Stuck = HasEnded Wrote WroteErrors Stuck
-HasDone Wrote WroteErrors Limit = HasEnded Wrote WroteErrors Limit
-HasDone Wrote WroteErrors _ = ⊥
+abbrev pub HasDone : Bool → (Wrote WroteErrors : List ℕ → Type 0) → Status → Type 0
+HasDone more Wrote WroteErrors Done =
+    HasCompiled Wrote ⊎ (HasListed more Wrote ⊎ (HasEnded more Wrote WroteErrors Done ⊎ HasChecked Wrote))
+HasDone more Wrote WroteErrors Stuck = HasEnded more Wrote WroteErrors Stuck
+HasDone more Wrote WroteErrors Limit = HasEnded more Wrote WroteErrors Limit
+HasDone more Wrote WroteErrors _ = ⊥
+
+-- a command ended so that did the job which the words ask for: more stands beside its lines only where that job asks
+-- for it
+abbrev pub HasAnswered : List (List ℕ) → (Wrote WroteErrors : List ℕ → Type 0) → Status → Type 0
+HasAnswered words Wrote WroteErrors status =
+    (job : Job) × AsksFor words job × HasDone (asks_for_more job) Wrote WroteErrors status
