@@ -57,6 +57,32 @@ fn cycle(
     Ok(note_where(itself, RefusalKind::Recursion, place, least))
 }
 
+// The first of the procedures that begin chains without end.
+fn first_endless(endless: &[bool]) -> Option<u32> {
+    for (number, begins) in endless.iter().enumerate() {
+        if *begins {
+            return u32::try_from(number).ok();
+        }
+    }
+    None
+}
+
+// Levels of procedures, where there is one above a cycle and on none. Else they would help nobody: where the first
+// procedure with chains without end is on a cycle, that is the least fault, and no further calls are followed.
+fn levels(alloc: Global, graph: &Graph, endless: &[bool]) -> Result<Vec<usize>, AllocError>
+    ensures { (calls : List CallOf) → IsGraph calls graph.now
+        → IfOk result (λ v. NeverRise calls v.items) }
+{
+    let none = Vec::new(alloc);
+    let Some(first) = first_endless(endless) else {
+        return Ok(none);
+    };
+    if graph.leads_back(alloc, &none, first)? {
+        return Ok(none);
+    }
+    graph.levels(alloc)
+}
+
 /// The least fault of the calls of a unit's pieces.
 pub fn circular(
     alloc: Global,
@@ -70,8 +96,8 @@ pub fn circular(
         → IfOk result (λ r. Collects (InCalls u) least r) }
 {
     let graph = Graph::new(alloc, calls, pieces.len())?;
-    let levels = graph.levels(alloc)?;
     let endless = graph.endless_chains(alloc)?;
+    let levels = levels(alloc, &graph, endless.as_slice())?;
     let long = chains(alloc, calls, pieces.len(), MOST_IN_CHAIN)?;
     let mut least = least;
     for (number, piece) in pieces.iter().enumerate() {
