@@ -70,7 +70,7 @@ listed_as W job same is h = subst (λ (j : Job). HasListed (asks_for_more j) W) 
 -- where a job was done, the words were answered that ask for it
 pub answered : (words : List (List ℕ)) (W E : List ℕ → Type 0) (F : Type 0) (job : Job) (r : Result Status F)
     → AsksFor words job → IfOk r (HasDone (asks_for_more job) W E) → IfOk r (HasAnswered words W E)
-answered words W E F job (Ok s) asks done = (job, asks, done)
+answered words W E F job (Ok s) asks done = record { job = job; asks = asks; done = done }
 answered words W E F job (Err f) asks done = tt
 
 -- where nothing is written, known bytes grow by none
@@ -147,12 +147,15 @@ limit-four m W E Failed n h c z = absurd h
 -- the same of a command that did what the words ask for
 pub answered-zero : (words : List (List ℕ)) (W E : List ℕ → Type 0) (s : Status) (n : ℕ) → HasAnswered words W E s
     → n ≡ status_code s → n ≡ 0 → HasAnswered words W E Done
-answered-zero words W E s n h c z = (h.0, h.1, done-zero (asks_for_more h.0) W E s n h.2 c z)
+answered-zero words W E s n h c z =
+    record { job = h.job; asks = h.asks; done = done-zero (asks_for_more h.job) W E s n h.done c z }
 
 pub answered-three : (words : List (List ℕ)) (W E : List ℕ → Type 0) (s : Status) (n : ℕ) → HasAnswered words W E s
     → n ≡ status_code s → n ≡ 3 → HasAnswered words W E Stuck
-answered-three words W E s n h c z = (h.0, h.1, stuck-three (asks_for_more h.0) W E s n h.2 c z)
+answered-three words W E s n h c z =
+    record { job = h.job; asks = h.asks; done = stuck-three (asks_for_more h.job) W E s n h.done c z }
 
 pub answered-four : (words : List (List ℕ)) (W E : List ℕ → Type 0) (s : Status) (n : ℕ) → HasAnswered words W E s
     → n ≡ status_code s → n ≡ 4 → HasAnswered words W E Limit
-answered-four words W E s n h c z = (h.0, h.1, limit-four (asks_for_more h.0) W E s n h.2 c z)
+answered-four words W E s n h c z =
+    record { job = h.job; asks = h.asks; done = limit-four (asks_for_more h.job) W E s n h.done c z }

@@ -139,6 +139,7 @@ HasDone more Wrote WroteErrors _ = ⊥
 
 -- a command ended so that did the job which the words ask for: more stands beside its lines only where that job asks
 -- for it
-abbrev pub HasAnswered : List (List ℕ) → (Wrote WroteErrors : List ℕ → Type 0) → Status → Type 0
-HasAnswered words Wrote WroteErrors status =
-    (job : Job) × AsksFor words job × HasDone (asks_for_more job) Wrote WroteErrors status
+pub record HasAnswered (words : List (List ℕ)) (Wrote WroteErrors : List ℕ → Type 0) (status : Status) : Type 0 where
+  pub job : Job
+  pub asks : AsksFor words job
+  pub done : HasDone (asks_for_more job) Wrote WroteErrors status

@@ -46,11 +46,11 @@ pub fn explain_file<'a, R: Files + AllocGlobal, O: Write>(
     };
     let run = explain_text(rt, &text, by, told)?;
     let lines = action_lines(rt.alloc(), run.checked.names(), run.actions.as_slice())?;
-    let lines = lines_beside(rt.alloc(), &text, &run, places, lines)?;
+    let answer = lines_beside(rt.alloc(), &text, &run, places, lines)?;
     tell_explained(rt.alloc(), told, &text, &run, by);
     let title = title_of(rt.alloc(), file, by, run.report.verdict)?;
     put_run(rt, drawings, &text, &run, title.as_str())?;
-    write_bytes(output, lines.as_slice())?;
+    write_bytes(output, answer.as_slice())?;
     Ok(status_of(run.report.verdict))
 }
 

@@ -7,7 +7,7 @@ returns-clause-wrote g c = record {
   image = _;
   spelled = c.in_ok-image.ensures.found.0;
   is = c.in_ok-image.ensures.found.1;
-  told = _;
+  told = c.in_ok-told.told.items;
   are_told = search rules;
   wrote = search rules;
 }
