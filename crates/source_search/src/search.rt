@@ -9,6 +9,7 @@ use crate::choices::choices;
 use crate::ends::{has_aborted, is_stuck};
 use crate::kept::{Kept, Way};
 use crate::next::next_state;
+use crate::outside::Outside;
 use program::Checked;
 use source_states::{Action, SourceState};
 use sourcemeaning::can_move;
@@ -65,18 +66,18 @@ impl<'a> Kept<'a> {
         state: &SourceState<'a>,
         action: &Action,
         way: Way,
-        strays: bool,
+        outside: Outside,
     ) -> Result<bool, AllocError>
         ensures longer { OnOk result
             (IsLonger (states_in self.old.states.items) (states_in self.new.states.items)) }
         ensures kept { IfOk result (λ kept. kept ≡ true
-            → LeadsToKept (program_of checked.now.tree) strays (states_in self.new.states.items)
+            → LeadsToKept (program_of checked.now.tree) outside (states_in self.new.states.items)
             (state_of state.now) (action_of action.now)) }
     {
         let found = next_state(alloc, checked, state, action)?;
         match found {
             None => Ok(true),
-            Some(next) => self.cover(alloc, checked, next, way, strays),
+            Some(next) => self.cover(alloc, checked, next, way, outside),
         }
     }
 
@@ -89,12 +90,12 @@ impl<'a> Kept<'a> {
         before: usize,
         process: u64,
         actions: &[Action],
-        strays: bool,
+        outside: Outside,
     ) -> Result<bool, AllocError>
         ensures longer { OnOk result
             (IsLonger (states_in self.old.states.items) (states_in self.new.states.items)) }
         ensures kept { IfOk result (λ kept. kept ≡ true
-            → All (LeadsToKept (program_of checked.now.tree) strays (states_in self.new.states.items)
+            → All (LeadsToKept (program_of checked.now.tree) outside (states_in self.new.states.items)
             (state_of state.now)) (map action_of actions.now)) }
     {
         for choice in 0..actions.len() {
@@ -104,7 +105,7 @@ impl<'a> Kept<'a> {
                 choice,
                 later: 0,
             };
-            if !self.take(alloc, checked, state, &actions[choice], way, strays)? {
+            if !self.take(alloc, checked, state, &actions[choice], way, outside)? {
                 return Ok(false);
             }
         }
@@ -119,22 +120,22 @@ impl<'a> Kept<'a> {
         state: &SourceState<'a>,
         before: usize,
         process: u64,
-        strays: bool,
+        outside: Outside,
     ) -> Result<bool, AllocError>
         ensures longer { OnOk result
             (IsLonger (states_in self.old.states.items) (states_in self.new.states.items)) }
         ensures kept { IfOk result (λ kept. kept ≡ true
-            → IsFollowed (program_of checked.now.tree) strays (states_in self.new.states.items)
+            → IsFollowed (program_of checked.now.tree) outside (states_in self.new.states.items)
             (state_of state.now) process) }
     {
-        if !strays && !can_move(state, checked, process) {
+        if !outside.is_any() && !can_move(state, checked, process) {
             return Ok(true);
         }
-        let Some(actions) = choices(alloc, checked, state, process, strays)? else {
+        let Some(actions) = choices(alloc, checked, state, process, outside)? else {
             return Ok(false);
         };
         let listed = actions.as_slice();
-        let all = self.take_all(alloc, checked, state, before, process, listed, strays)?;
+        let all = self.take_all(alloc, checked, state, before, process, listed, outside)?;
         Ok(all)
     }
 
@@ -145,18 +146,18 @@ impl<'a> Kept<'a> {
         checked: &'a Checked,
         state: &SourceState<'a>,
         before: usize,
-        strays: bool,
+        outside: Outside,
     ) -> Result<bool, AllocError>
         ensures longer { OnOk result
             (IsLonger (states_in self.old.states.items) (states_in self.new.states.items)) }
         ensures kept { IfOk result (λ kept. kept ≡ true
-            → IsExpanded (program_of checked.now.tree) strays (states_in self.new.states.items)
+            → IsExpanded (program_of checked.now.tree) outside (states_in self.new.states.items)
             (state_of state.now)) }
     {
         let all = state.numbers(alloc)?;
         let numbers = all.as_slice();
         for number in numbers {
-            if !self.follow(alloc, checked, state, before, *number, strays)? {
+            if !self.follow(alloc, checked, state, before, *number, outside)? {
                 return Ok(false);
             }
         }
@@ -170,12 +171,12 @@ pub(crate) fn search<'a>(
     checked: &'a Checked,
     kept: &mut Kept<'a>,
     most: usize,
-    strays: bool,
+    outside: Outside,
 ) -> Result<Findings, AllocError>
     ensures longer { OnOk result
         (IsLonger (states_in kept.old.states.items) (states_in kept.new.states.items)) }
     ensures expanded { IfOk result (λ f. f.complete ≡ true
-        → All (IsExpanded (program_of checked.now.tree) strays (states_in kept.new.states.items))
+        → All (IsExpanded (program_of checked.now.tree) outside (states_in kept.new.states.items))
         (states_in kept.new.states.items)) }
     ensures stuck { IfOk result (λ f. f.complete ≡ true
         → NoneIs (IsStuck (program_of checked.now.tree)) (states_in kept.new.states.items) f.stuck) }
@@ -197,7 +198,7 @@ pub(crate) fn search<'a>(
             return Ok(findings);
         };
         findings.look(alloc, checked, &state, place)?;
-        if !kept.expand(alloc, checked, &state, place, strays)? {
+        if !kept.expand(alloc, checked, &state, place, outside)? {
             return Ok(findings);
         }
     }

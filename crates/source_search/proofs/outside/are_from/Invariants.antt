@@ -5,4 +5,4 @@ use Rattle.source_search.proofs.outside.are_from.Given as goal
 
 abbrev pub invariant-loop-action : goal.invariant-loop-action
 invariant-loop-action l =
-    AreFrom l.strays (map action_of (drop l.action-index l.actions)) → AreFrom l.strays (map action_of l.actions)
+    AreFrom l.outside (map action_of (drop l.action-index l.actions)) → AreFrom l.outside (map action_of l.actions)
