@@ -1,4 +1,4 @@
-ghost use Rattle.std.specs.Prelude.{◌≡◌, ◌≤◌, if◌then◌else◌, map, true};
+ghost use Rattle.std.specs.Prelude.{◌≡◌, ◌≤◌, ◌+◌, if◌then◌else◌, IfSome, map, true};
 ghost use Rattle.source_offers.specs.Stages.{process_of};
 ghost use Rattle.source_states.specs.Actions.{action_of, kind_of};
 ghost use Rattle.source_states.specs.States.{state_of};
@@ -91,18 +91,29 @@ fn is_kill(kind: &ActionKind) -> bool
     matches!(kind, ActionKind::Kill(_, _))
 }
 
+// How many kills may be left behind an action, of so many before it; None where it is one too many.
+fn left_behind(kind: &ActionKind, left: u32) -> Option<u32>
+    ensures { IfSome result (λ n. n + one_kill (kind_of kind.now) ≡ left) }
+{
+    if !is_kill(kind) {
+        return Some(left);
+    }
+    if left == 0 {
+        return None;
+    }
+    Some(left - 1)
+}
+
 // Whether no more of these are kills than this number.
 fn are_few_kills(actions: &[Action], most: u32) -> bool
     ensures { result ≡ true → kills_of (map action_of actions.now) ≤ most }
 {
     let mut left = most;
     for action in actions {
-        if is_kill(&action.kind) {
-            if left == 0 {
-                return false;
-            }
-            left -= 1;
-        }
+        let Some(behind) = left_behind(&action.kind, left) else {
+            return false;
+        };
+        left = behind;
     }
     true
 }
