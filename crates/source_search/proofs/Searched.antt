@@ -1,5 +1,5 @@
 -- How far a search has come, and what it knows at its end.
-use Rattle.std.proofs.Common.{◌≡◌, ◌<◌, ◌≤◌, ◌+◌, ℕ, Bool, List, [], ◌∷◌, ◌++◌, length, get_or, take, All}
+use Rattle.std.proofs.Common.{◌≡◌, ◌<◌, ◌≤◌, ◌+◌, ℕ, zero, suc, Bool, List, [], ◌∷◌, ◌++◌, length, get_or, take, All}
 use Rattle.std.proofs.Common.{Option, Some, None, slice_get, sym, refl, ap, ◌∙◌, subst, arith, true, false, inl, inr}
 use Rattle.std.specs.Prelude.{IsSome, is_some, option_map}
 use Rattle.std.proofs.lemmas.List.{get_or_append_left, length-append, length-take, take-append-le, take_all}
@@ -7,7 +7,7 @@ use Rattle.std.proofs.lemmas.List.Elements.{All-contains, All-more, All-weaker}
 use Rattle.std.proofs.lemmas.Option.{get_or_from_slice_get, slice_get-map, slice_get_within}
 use Rattle.program.specs.Trees.{Program}
 use Rattle.program.specs.WellFormed.{WellFormed}
-use Rattle.meaning.specs.Labels.{Action, Kill, Kind, Stray}
+use Rattle.meaning.specs.Labels.{Action, Cause, Faulted, Kill, Killed, Kind, Stray}
 use Rattle.meaning.specs.Offers.{offer}
 use Rattle.meaning.specs.Processes.{Process}
 use Rattle.meaning.specs.Runs.{IsStep, Leads}
@@ -18,10 +18,11 @@ use Rattle.meaning.proofs.Led.{leads_more}
 use Rattle.meaning.proofs.Offered.{IsOwn, own_kind, plain}
 use Rattle.proof_exploration.specs.Exploring.{AreOwn, HasAborted, IsFromOutside, IsLike, IsStuck}
 use Rattle.proof_exploration.specs.Searching.{IsComplete, IsCovered, IsKept}
-use Rattle.proof_exploration.proofs.Alike.{like_aborted, like_back, like_stuck}
+use Rattle.proof_exploration.proofs.Alike.{like_back, like_stuck}
 use Rattle.proof_exploration.proofs.Representing.{own_leads}
 use Rattle.proof_exploration.proofs.Searching.{never_aborted, never_stuck}
-use Rattle.source_search.specs.Found.{AreFrom, AreNamed, IsFrom, IsNamed, LeadsNowhere, is_any, killed_in, kills_of}
+use Rattle.source_search.specs.Found.{AreFrom, AreNamed, HasFailed, IsCounted, IsFrom, IsNamed, LeadsNowhere, is_any}
+use Rattle.source_search.specs.Found.{killed_in, kills_of}
 use Rattle.source_search.specs.Found.{one_kill}
 use Rattle.source_search.specs.declared.outside.Outside.{Outside}
 use Rattle.source_search.specs.Packed.{unpacked}
@@ -31,6 +32,23 @@ use Rattle.source_search.proofs.Keeping.{expanded_still, longer_none, longer_twi
 use Rattle.source_search.proofs.Killed.{killed_more, killed_opening}
 use Rattle.source_search.proofs.Successors.{expanded_like}
 
+-- states that are alike have the same ends
+like_failed : (may : Outside) (s r : SourceState) → IsLike s r → HasFailed may s → HasFailed may r
+like_failed may s r like is =
+    (is.0, is.1.0, ap (λ (f : ℕ → Option Process). f is.0) (sym like.process) ∙ is.1.1, is.1.2)
+
+-- where nothing from outside is searched, each end is looked for
+counts : (may : Outside) (cause : Cause) → is_any may ≡ false → IsCounted may cause
+counts may (Faulted fault) none = tt
+counts may Killed none = no_kills may.kills (none_kills may 0 none)
+  where
+    no_kills : (n : ℕ) → (0 < n → ⊥) → n ≡ 0
+    no_kills zero never = refl
+    no_kills (suc n) never = absurd (never (omega arith))
+
+fails_too : (may : Outside) (s : SourceState) → is_any may ≡ false → HasAborted s → HasFailed may s
+fails_too may s none is = (is.0, is.1, is.2, counts may is.1 none)
+
 -- the kept states before this place are expanded, and none of them is an end that isn't noted
 pub record IsSoFar (p : Program) (may : Outside) (first kept : List SourceState) (place : ℕ)
     (stuck aborted : Option ℕ) : Type 0 where
@@ -38,7 +56,7 @@ pub record IsSoFar (p : Program) (may : Outside) (first kept : List SourceState)
   pub within : place ≤ length kept
   pub expanded : All (IsExpanded p may kept) (take place kept)
   pub never_stuck : NoneIs (IsStuck p) (take place kept) stuck
-  pub never_aborted : NoneIs HasAborted (take place kept) aborted
+  pub never_aborted : NoneIs (HasFailed may) (take place kept) aborted
 
 none_yet : {X : Type 0} (P : X → Type 0) (xs : List X) → All P (take 0 xs)
 none_yet P xs k d less = absurd (omega (arith, less, length-take 0 xs))
@@ -49,7 +67,7 @@ at_first p may first = record {
   within = omega arith;
   expanded = none_yet (IsExpanded p may first) first;
   never_stuck = λ e. none_yet (λ s. IsStuck p s → ⊥) first;
-  never_aborted = λ e. none_yet (λ s. HasAborted s → ⊥) first;
+  never_aborted = λ e. none_yet (λ s. HasFailed may s → ⊥) first;
 }
 
 module _ (p : Program) (may : Outside) (first kept kept' : List SourceState) (place : ℕ)
@@ -75,7 +93,7 @@ module _ (p : Program) (may : Outside) (first kept kept' : List SourceState) (pl
 
   -- one state more was looked at and expanded
   pub goes_on : IsExpanded p may kept' c → (stuck' ≡ None → (stuck ≡ None) × (IsStuck p c → ⊥))
-      → (aborted' ≡ None → (aborted ≡ None) × (HasAborted c → ⊥))
+      → (aborted' ≡ None → (aborted ≡ None) × (HasFailed may c → ⊥))
       → IsSoFar p may first kept' (place + 1) stuck' aborted'
   goes_on expanded unstuck unaborted = record {
     longer = longer_twice first kept kept' so_far.longer longer;
@@ -86,8 +104,8 @@ module _ (p : Program) (may : Outside) (first kept kept' : List SourceState) (pl
         (expanded_like p may kept' r c like expanded);
     never_stuck = λ e. one_more (λ s. IsStuck p s → ⊥) (so_far.never_stuck (unstuck e).0)
         (λ bad. (unstuck e).1 (like_stuck p r c like bad));
-    never_aborted = λ e. one_more (λ s. HasAborted s → ⊥) (so_far.never_aborted (unaborted e).0)
-        (λ bad. (unaborted e).1 (like_aborted r c like bad));
+    never_aborted = λ e. one_more (λ s. HasFailed may s → ⊥) (so_far.never_aborted (unaborted e).0)
+        (λ bad. (unaborted e).1 (like_failed may r c like bad));
   }
 
 -- a state that is kept at a place
@@ -104,8 +122,8 @@ module _ (p : Program) (may : Outside) (first kept : List SourceState) (place : 
   pub none_stuck : NoneIs (IsStuck p) kept stuck
   none_stuck = subst (λ l. NoneIs (IsStuck p) l stuck) (take_all place kept end) so_far.never_stuck
 
-  pub none_aborted : NoneIs HasAborted kept aborted
-  none_aborted = subst (λ l. NoneIs HasAborted l aborted) (take_all place kept end) so_far.never_aborted
+  pub none_aborted : NoneIs (HasFailed may) kept aborted
+  none_aborted = subst (λ l. NoneIs (HasFailed may) l aborted) (take_all place kept end) so_far.never_aborted
 
 -- a process that does something, or to which something is done, was made
 is_there : (p : Program) → WellFormed p → (done : List Action) (s : SourceState) (a : Action) (s' : SourceState)
@@ -195,14 +213,14 @@ module _ (p : Program) (wf : WellFormed p) (may : Outside) (kept : List SourceSt
         actions s (own_leads p (opening p) s actions run (are_own may actions any from.0 from.1)) bad
 
     no_aborted : (b : Bool) → is_any may ≡ b → IsSeen p b kept (opening p)
-        → All (λ s. HasAborted s → ⊥) kept → LeadsNowhere p may HasAborted
+        → All (λ s. HasFailed may s → ⊥) kept → LeadsNowhere p may (HasFailed may)
     no_aborted true any opens none actions s run from bad =
         let is : IsKept kept s = all_kept opens expanded any actions s run from in
-        All-contains (λ s. HasAborted s → ⊥) kept is.0 none is.1 (like_aborted s is.0 (like_back is.0 s is.2) bad)
+        All-contains (λ s. HasFailed may s → ⊥) kept is.0 none is.1 (like_failed may s is.0 (like_back is.0 s is.2) bad)
     no_aborted false any opens none actions s run from bad =
         never_aborted p kept wf (complete opens expanded any)
-        (λ r is. All-contains (λ s. HasAborted s → ⊥) kept r none is)
-        actions s (own_leads p (opening p) s actions run (are_own may actions any from.0 from.1)) bad
+        (λ r is aborted. All-contains (λ s. HasFailed may s → ⊥) kept r none is (fails_too may r any aborted))
+        actions s (own_leads p (opening p) s actions run (are_own may actions any from.0 from.1)) (bad.0, bad.1.0, bad.1.1)
 
 -- no run leads to an end that the search hasn't found
 module _ (p : Program) (wf : WellFormed p) (may : Outside) (first kept : List SourceState)
@@ -215,8 +233,8 @@ module _ (p : Program) (wf : WellFormed p) (may : Outside) (first kept : List So
         no_stuck p wf may kept expanded (is_any may) refl (seen_still first kept longer p (is_any may) (opening p) opens)
         (none e)
 
-    pub nowhere_aborted : (aborted : Option ℕ) → NoneIs HasAborted kept aborted → aborted ≡ None
-        → LeadsNowhere p may HasAborted
+    pub nowhere_aborted : (aborted : Option ℕ) → NoneIs (HasFailed may) kept aborted → aborted ≡ None
+        → LeadsNowhere p may (HasFailed may)
     nowhere_aborted aborted none e =
         no_aborted p wf may kept expanded (is_any may) refl (seen_still first kept longer p (is_any may) (opening p) opens)
         (none e)

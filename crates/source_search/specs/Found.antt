@@ -3,7 +3,7 @@ use Rattle.std.specs.Prelude.{ℕ, zero, suc, ◌≡◌, ◌+◌, ◌<◌, ◌�
 use Rattle.std.specs.Prelude.{List, [], ◌∷◌, Option, Some, None, map, ⊤}
 use Rattle.words.specs.Limits.{most_threads}
 use Rattle.program.specs.Trees.{Program}
-use Rattle.meaning.specs.Labels.{Action, Aborted, Cause, Kill, Killed, Kind, Stray}
+use Rattle.meaning.specs.Labels.{Action, Aborted, Cause, Faulted, Kill, Killed, Kind, Stray}
 use Rattle.meaning.specs.Processes.{Process, Dying, Over}
 use Rattle.meaning.specs.Runs.{IsRun}
 use Rattle.meaning.specs.States.{SourceState}
@@ -80,6 +80,15 @@ LeadsNowhere p may Is = (actions : List Action) (s : SourceState) → IsRun p ac
 abbrev pub GoesOn : SourceState → ℕ → Type 0
 GoesOn s q = (at : Process) × (s.process q ≡ Some at) × (IsOver at → ⊥)
 
--- there is such a process, and it has aborted
-abbrev pub AbortedAt : SourceState → ℕ → Type 0
-AbortedAt s q = (cause : Cause) × (s.process q ≡ Some (Over (Aborted cause)))
+-- an end of this cause is looked for: a fault, and a kill only where no kills are searched
+abbrev pub IsCounted : Outside → Cause → Type 0
+IsCounted may (Faulted fault) = ⊤
+IsCounted may Killed = may.kills ≡ 0
+
+-- there is such a process, and it has aborted of a cause that is looked for
+abbrev pub FailedAt : Outside → SourceState → ℕ → Type 0
+FailedAt may s q = (cause : Cause) × (s.process q ≡ Some (Over (Aborted cause))) × IsCounted may cause
+
+-- some process has aborted of a cause that is looked for
+abbrev pub HasFailed : Outside → SourceState → Type 0
+HasFailed may s = (q : ℕ) × FailedAt may s q

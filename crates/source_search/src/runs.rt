@@ -1,9 +1,9 @@
 ghost use Rattle.std.specs.Prelude.{◌≡◌, IfOk, IfSome, None, true};
 ghost use Rattle.program.specs.Views.{program_of};
-ghost use Rattle.proof_exploration.specs.Exploring.{HasAborted, IsStuck};
-ghost use Rattle.source_search.specs.Found.{LeadsNowhere, LeadsTo};
+ghost use Rattle.proof_exploration.specs.Exploring.{IsStuck};
+ghost use Rattle.source_search.specs.Found.{HasFailed, LeadsNowhere, LeadsTo};
 
-use crate::ends::{has_aborted, is_stuck};
+use crate::ends::{has_failed, is_stuck};
 use crate::kept::{Kept, Way};
 use crate::outside::{Outside, are_from};
 use crate::replay::{OPENING, actions_to};
@@ -21,7 +21,7 @@ pub struct Exploration {
     pub complete: bool,
     /// A run at whose end no process can move and not all are over, where one was found.
     pub stuck: Option<Vec<Action>>,
-    /// A run at whose end some process has aborted, where one was found.
+    /// A run at whose end some process has aborted, and not of a kill where kills are searched, where one was found.
     pub aborted: Option<Vec<Action>>,
 }
 
@@ -56,7 +56,7 @@ fn is_aborted_run(
     outside: Outside,
 ) -> Result<bool, AllocError>
     ensures { IfOk result (λ is. is ≡ true
-        → LeadsTo (program_of checked.now.tree) outside HasAborted actions.now) }
+        → LeadsTo (program_of checked.now.tree) outside (HasFailed outside) actions.now) }
 {
     if !are_from(actions, outside) {
         return Ok(false);
@@ -65,7 +65,7 @@ fn is_aborted_run(
     match walked {
         None => Ok(false),
         Some(state) => {
-            let aborted = has_aborted(alloc, &state)?;
+            let aborted = has_failed(alloc, &state, outside)?;
             Ok(aborted)
         }
     }
@@ -102,7 +102,7 @@ fn aborted_run(
     outside: Outside,
 ) -> Result<Option<Vec<Action>>, AllocError>
     ensures { IfOk result (λ o. IfSome o
-        (λ v. LeadsTo (program_of checked.now.tree) outside HasAborted v.items)) }
+        (λ v. LeadsTo (program_of checked.now.tree) outside (HasFailed outside) v.items)) }
 {
     let Some(place) = place else {
         return Ok(None);
@@ -155,11 +155,11 @@ pub fn explore(
     ensures stuck { IfOk result (λ e. IfSome e.stuck (λ v. LeadsTo (program_of checked.now.tree) outside
         (IsStuck (program_of checked.now.tree)) v.items)) }
     ensures aborted { IfOk result (λ e. IfSome e.aborted
-        (λ v. LeadsTo (program_of checked.now.tree) outside HasAborted v.items)) }
+        (λ v. LeadsTo (program_of checked.now.tree) outside (HasFailed outside) v.items)) }
     ensures never_stuck { IfOk result (λ e. e.complete ≡ true → e.stuck ≡ None
         → LeadsNowhere (program_of checked.now.tree) outside (IsStuck (program_of checked.now.tree))) }
     ensures never_aborted { IfOk result (λ e. e.complete ≡ true → e.aborted ≡ None
-        → LeadsNowhere (program_of checked.now.tree) outside HasAborted) }
+        → LeadsNowhere (program_of checked.now.tree) outside (HasFailed outside)) }
 {
     let _program = checked.program();
     let mut kept = Kept::new(alloc, most_states);

@@ -1,12 +1,13 @@
 ghost use Rattle.std.specs.Prelude.{◌≡◌, All, IfOk, None, OnOk, length, true};
 ghost use Rattle.program.specs.Views.{program_of};
-ghost use Rattle.proof_exploration.specs.Exploring.{HasAborted, IsStuck};
+ghost use Rattle.proof_exploration.specs.Exploring.{IsStuck};
+ghost use Rattle.source_search.specs.Found.{HasFailed};
 ghost use Rattle.source_states.specs.Actions.{action_of};
 ghost use Rattle.source_states.specs.States.{state_of};
 ghost use Rattle.source_search.specs.Kept.{IsExpanded, IsLonger, NoneIs, states_in};
 
 use crate::choices::choices;
-use crate::ends::{has_aborted, is_stuck};
+use crate::ends::{has_failed, is_stuck};
 use crate::kept::{Kept, Way};
 use crate::next::next_state;
 use crate::outside::Outside;
@@ -34,17 +35,18 @@ impl Findings {
         checked: &Checked,
         state: &SourceState,
         place: usize,
+        outside: Outside,
     ) -> Result<(), AllocError>
         ensures complete { OnOk result (self.new.complete ≡ self.old.complete) }
         ensures stuck { OnOk result (self.new.stuck ≡ None → (self.old.stuck ≡ None)
             × (IsStuck (program_of checked.now.tree) (state_of state.now) → ⊥)) }
         ensures aborted { OnOk result (self.new.aborted ≡ None → (self.old.aborted ≡ None)
-            × (HasAborted (state_of state.now) → ⊥)) }
+            × (HasFailed outside (state_of state.now) → ⊥)) }
     {
         if self.stuck.is_none() && is_stuck(alloc, checked, state)? {
             self.stuck = Some(place);
         }
-        if self.aborted.is_none() && has_aborted(alloc, state)? {
+        if self.aborted.is_none() && has_failed(alloc, state, outside)? {
             self.aborted = Some(place);
         }
         Ok(())
@@ -181,7 +183,7 @@ pub(crate) fn search<'a>(
     ensures stuck { IfOk result (λ f. f.complete ≡ true
         → NoneIs (IsStuck (program_of checked.now.tree)) (states_in kept.new.states.items) f.stuck) }
     ensures aborted { IfOk result (λ f. f.complete ≡ true
-        → NoneIs HasAborted (states_in kept.new.states.items) f.aborted) }
+        → NoneIs (HasFailed outside) (states_in kept.new.states.items) f.aborted) }
 {
     let mut findings = Findings {
         complete: false,
@@ -197,7 +199,7 @@ pub(crate) fn search<'a>(
         let Some(state) = kept.next(alloc, place)? else {
             return Ok(findings);
         };
-        findings.look(alloc, checked, &state, place)?;
+        findings.look(alloc, checked, &state, place, outside)?;
         if !kept.expand(alloc, checked, &state, place, outside)? {
             return Ok(findings);
         }
