@@ -11,12 +11,13 @@ use Rattle.machine.specs.States.{State}
 use Rattle.program.specs.Names.{Naming, said_by}
 use Rattle.program.specs.Trees.{Program}
 use Rattle.lowering.specs.Pieces.{code_of}
-use Rattle.proof_exploration.specs.Exploring.{HasAborted, IsStuck}
+use Rattle.proof_exploration.specs.Exploring.{IsStuck}
 use Rattle.refinement.specs.Seen.{machine_end}
 use Rattle.image_ends.specs.Ending.{AllOver, IsSearched}
 use Rattle.source_states.specs.declared.action.Action.{Action}
 use Rattle.source_states.specs.Actions.{action_of}
-use Rattle.source_search.specs.Found.{LeadsNowhere, LeadsTo}
+use Rattle.source_search.specs.Found.{HasFailed, IsCounted, LeadsNowhere, LeadsTo}
+use Rattle.source_search.specs.declared.outside.Outside.{Outside}
 use Rattle.source_search.specs.declared.runs.Exploration.{Exploration}
 use Rattle.actionlines.specs.Lines.{line}
 use Rattle.compiler.specs.Accepts.{AcceptsText}
@@ -25,31 +26,31 @@ use Rattle.mesamon.specs.declared.exploring.ExploredText.{ExploredText}
 use Rattle.mesamon.specs.declared.status.Status.{Status}
 use Rattle.mesamon.specs.declared.status.Status.TheVariants.{Done, Stuck, Limit}
 
--- what was found of a program, without stray wakes or with them: runs with such an end; and where the search was
+-- what was found of a program, with as much from outside as may be: runs with such an end; and where the search was
 -- complete and found none, there is none
-pub record IsFoundOf (p : Program) (strays : Bool) (e : Exploration) : Type 0 where
-  pub stuck : IfSome e.stuck (λ v. LeadsTo p strays (IsStuck p) v.items)
-  pub aborted : IfSome e.aborted (λ v. LeadsTo p strays HasAborted v.items)
-  pub never_stuck : e.complete ≡ true → e.stuck ≡ None → LeadsNowhere p strays (IsStuck p)
-  pub never_aborted : e.complete ≡ true → e.aborted ≡ None → LeadsNowhere p strays HasAborted
+pub record IsFoundOf (p : Program) (may : Outside) (e : Exploration) : Type 0 where
+  pub stuck : IfSome e.stuck (λ v. LeadsTo p may (IsStuck p) v.items)
+  pub aborted : IfSome e.aborted (λ v. LeadsTo p may (HasFailed may) v.items)
+  pub never_stuck : e.complete ≡ true → e.stuck ≡ None → LeadsNowhere p may (IsStuck p)
+  pub never_aborted : e.complete ≡ true → e.aborted ≡ None → LeadsNowhere p may (HasFailed may)
 
--- of each run of the program's image, under whatever schedule, of fewer than 2^32 steps, in which nobody is killed, and,
--- where no stray wakes were searched, nobody who waits on a condition is woken from outside: where the search was complete and found no run
+-- of each run of the program's image, under whatever schedule, of fewer than 2^32 steps, in which no more are killed than
+-- may be, and, where no stray wakes were searched, nobody who waits on a condition is woken from outside: where the search was complete and found no run
 -- that gets stuck, all processes are over wherever no thread can move; and where it found none that aborts, no thread
--- has aborted
-pub record HoldsOfImage (p : Program) (strays : Bool) (e : Exploration) : Type 0 where
+-- has aborted, where kills are searched by a fault
+pub record HoldsOfImage (p : Program) (may : Outside) (e : Exploration) : Type 0 where
   pub never_hangs : e.complete ≡ true → e.stuck ≡ None → (steps : List Step) (s : State)
-      → MachineRun (code_of p) steps s → length steps < 2 ^ 32 → IsSearched p strays steps
+      → MachineRun (code_of p) steps s → length steps < 2 ^ 32 → IsSearched p may steps
       → ((t : ℕ) → CanStep s t → ⊥) → AllOver p s
   pub never_faults : e.complete ≡ true → e.aborted ≡ None → (steps : List Step) (s : State) (q : ℕ) (cause : Cause)
-      → MachineRun (code_of p) steps s → length steps < 2 ^ 32 → IsSearched p strays steps
-      → machine_end s q ≡ Some (outcome.Aborted cause) → ⊥
+      → MachineRun (code_of p) steps s → length steps < 2 ^ 32 → IsSearched p may steps
+      → machine_end s q ≡ Some (outcome.Aborted cause) → IsCounted may cause → ⊥
 
 -- the text's program, what was found of it, and what that says of its image
-pub record IsExploredText (text : List ℕ) (strays : Bool) (r : ExploredText) : Type 0 where
+pub record IsExploredText (text : List ℕ) (may : Outside) (r : ExploredText) : Type 0 where
   pub accepts : AcceptsText text (said_by r.checked)
-  pub found : IsFoundOf (said_by r.checked) strays r.exploration
-  pub image : HoldsOfImage (said_by r.checked) strays r.exploration
+  pub found : IsFoundOf (said_by r.checked) may r.exploration
+  pub image : HoldsOfImage (said_by r.checked) may r.exploration
 
 -- the line of how many states were kept
 abbrev pub states_line : ℕ → Bool → List ℕ
@@ -77,11 +78,11 @@ found_status false false = Limit
 abbrev pub explored_status : Exploration → Status
 explored_status e = found_status (is_some e.stuck) e.complete
 
--- all runs of some text were searched, without stray wakes or with them, and what was found was written
+-- all runs of some text were searched, with as much from outside as may be, and what was found was written
 pub record HasExplored (Wrote : List ℕ → Type 0) (status : Status) : Type 0 where
   pub text : List ℕ
-  pub strays : Bool
+  pub may : Outside
   pub explored_text : ExploredText
-  pub explored : IsExploredText text strays explored_text
+  pub explored : IsExploredText text may explored_text
   pub ended : status ≡ explored_status explored_text.exploration
   pub wrote : Wrote (explored_lines explored_text)

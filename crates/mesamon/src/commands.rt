@@ -21,6 +21,7 @@ use devices::Counted;
 use emit::emit;
 use isa::{Image, decode, encode, list_lines};
 use program::Checked;
+use source_search::Outside;
 use std::alloc::Global;
 use std::io;
 use std::io::Write;
@@ -127,7 +128,8 @@ fn do_job<'a, R: Files + AllocGlobal + Threads + Wait + Sync, O: Write, E: Write
             hints,
         } => {
             let drawings = Drawings { chart, timeline };
-            explore_file(rt, file, states, strays, drawings, hints, output)
+            let outside = Outside { strays, kills: 0 };
+            explore_file(rt, file, states, outside, drawings, hints, output)
         }
     }
 }

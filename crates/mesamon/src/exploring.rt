@@ -17,7 +17,7 @@ use devices::{Counted, write_bytes};
 use image_ends::image_laws;
 use program::{Checked, Names};
 use scanner::Refusal;
-use source_search::{Exploration, explore};
+use source_search::{Exploration, Outside, explore};
 use source_states::Action;
 use std::alloc::{AllocError, Global};
 use std::fmt::Write as _;
@@ -34,10 +34,12 @@ pub struct ExploredText<'a> {
 }
 
 /// Searches all runs of the program of a source text, keeping at most so many states: for one that gets stuck, and for
-/// one in which a process aborts. With strays, processes that wait on a condition are also woken by nobody.
+/// one in which a process aborts. With strays, processes that wait on a condition are also woken by nobody, and so many
+/// processes may be killed.
 ///
 /// Where the search was complete and found none, there is none, and so no schedule of the text's image hangs, or has a
-/// thread that aborts: with strays whatever wakes come from outside, else as long as none do.
+/// thread that aborts by a fault: with strays whatever wakes come from outside, else as long as none do, and as long as
+/// no more threads are killed.
 ///
 /// # Errors
 ///
@@ -46,15 +48,15 @@ pub fn explore_source<'a>(
     alloc: Global,
     text: &'a [u8],
     most_states: usize,
-    strays: bool,
+    outside: Outside,
 ) -> Result<ExploredText<'a>, Refusal>
-    ensures { MatchResult result (λ explored. IsExploredText text.now strays explored)
+    ensures { MatchResult result (λ explored. IsExploredText text.now outside explored)
         (λ e. (e ≡ out_of_memory) ⊎ RefusesText text.now e) }
 {
     text_laws();
     image_laws();
     let (checked, _lowered) = compile_checked(alloc, text)?;
-    let exploration = explore_checked(alloc, &checked, most_states, strays)?;
+    let exploration = explore_checked(alloc, &checked, most_states, outside)?;
     Ok(ExploredText {
         checked,
         exploration,
@@ -66,20 +68,20 @@ fn explore_checked(
     alloc: Global,
     checked: &Checked,
     most_states: usize,
-    strays: bool,
+    outside: Outside,
 ) -> Result<Exploration, AllocError>
-    ensures { IfOk result (λ e. IsFoundOf (said_by checked.now) strays e) }
+    ensures { IfOk result (λ e. IsFoundOf (said_by checked.now) outside e) }
 {
-    explore(alloc, checked, most_states, strays)
+    explore(alloc, checked, most_states, outside)
 }
 
-/// Searches all runs of the source text of a file, with stray wakes or without, prints what is found, and shows it in
+/// Searches all runs of the source text of a file, with as much from outside as may be, prints what is found, and shows it in
 /// other files where they are named and anything was found.
 pub fn explore_file<'a, R: Files + AllocGlobal, O: Write>(
     rt: &R,
     file: &'a str,
     most_states: u32,
-    strays: bool,
+    outside: Outside,
     drawings: Drawings<'a>,
     hints: bool,
     output: &mut Counted<O>,
@@ -93,7 +95,7 @@ pub fn explore_file<'a, R: Files + AllocGlobal, O: Write>(
         bytes: bytes.as_slice(),
         hints,
     };
-    let explored = explore_text(rt.alloc(), &text, most_states, strays)?;
+    let explored = explore_text(rt.alloc(), &text, most_states, outside)?;
     let lines = lines_of(rt.alloc(), &explored)?;
     put_found(rt, drawings, &explored)?;
     write_bytes(output, lines.as_slice())?;
@@ -105,11 +107,11 @@ fn explore_text<'a, 't>(
     alloc: Global,
     text: &SourceText<'t>,
     most_states: u32,
-    strays: bool,
+    outside: Outside,
 ) -> Result<ExploredText<'t>, Failure<'a>>
-    ensures { IfOk result (λ explored. IsExploredText text.now.bytes.now strays explored) }
+    ensures { IfOk result (λ explored. IsExploredText text.now.bytes.now outside explored) }
 {
-    explore_source(alloc, text.bytes, most_states as usize, strays).map_err(|refusal| hinted(
+    explore_source(alloc, text.bytes, most_states as usize, outside).map_err(|refusal| hinted(
         alloc,
         text,
         Failure::from(refusal),
