@@ -22,20 +22,19 @@ fn type_of(token: &Token<'_>) -> Option<Keyword> {
 
 impl<'t, 'a> Header<'t, 'a> {
     // That of the procedure whose name is the token at this index.
-    fn behind(tokens: &'t [Token<'a>], index: usize) -> Header<'t, 'a> {
-        let tokens = tokens.get(index.saturating_add(1)..).unwrap_or(&[]);
-        let end = tokens.iter().position(|token| Lexeme::of(token.kind)
-            == Lexeme::Mark(Sign::Semicolon));
-        Header {
-            tokens: tokens.get(..end.unwrap_or(tokens.len())).unwrap_or(&[]),
-        }
+    fn behind(tokens: &'t [Token<'a>], index: usize) -> Option<Header<'t, 'a>> {
+        let behind = tokens.get(index.saturating_add(1)..)?;
+        let end = behind.iter().position(|token| Lexeme::of(token.kind)
+            == Lexeme::Mark(Sign::Semicolon))?;
+        let tokens = behind.get(..end)?;
+        Some(Header { tokens })
     }
 
     /// That of the last procedure that begins in these tokens.
     pub(crate) fn last_of(tokens: &'t [Token<'a>]) -> Option<Header<'t, 'a>> {
         let index = tokens.iter().rposition(|token| Lexeme::of(token.kind)
             == Lexeme::Word(Keyword::Procedure))?;
-        Some(Header::behind(tokens, index.saturating_add(1)))
+        Header::behind(tokens, index.saturating_add(1))
     }
 
     /// That of a declared procedure.
@@ -47,7 +46,7 @@ impl<'t, 'a> Header<'t, 'a> {
         match declaration.sort {
             Sort::Procedure(_) => {
                 let index = tokens.iter().position(|token| token.place == place)?;
-                Some(Header::behind(tokens, index))
+                Header::behind(tokens, index)
             }
             _ => None,
         }
