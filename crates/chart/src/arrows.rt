@@ -14,12 +14,12 @@ pub(crate) enum Arrow {
 }
 
 impl Arrow {
-    // How it is drawn: from a point to another height.
+    // How it is drawn: from a point to another height, on a line of the ground that parts it from what lies below.
     fn form(self) -> &'static str {
         match self {
-            Arrow::Fork => "<path class='fork' d='M$,$V$'/>",
-            Arrow::Notify => "<path class='notify' d='M$,$V$'/>",
-            Arrow::Join => "<path class='join' d='M$,$V$'/>",
+            Arrow::Fork => "<path class='halo' d='M$,$V$'/><path class='fork' d='M$,$V$'/>",
+            Arrow::Notify => "<path class='halo' d='M$,$V$'/><path class='notify' d='M$,$V$'/>",
+            Arrow::Join => "<path class='halo' d='M$,$V$'/><path class='join' d='M$,$V$'/>",
         }
     }
 }
@@ -34,19 +34,25 @@ fn head(start: u64, goal: u64) -> u64 {
 }
 
 impl<'c, 'n> Sheet<'c, 'n> {
-    /// The middle of a process's row.
-    pub fn middle(&self, process: u64) -> u64 {
+    /// The middle of a process's row, where it has one in this strip.
+    pub fn middle(&self, process: u64) -> Option<u64> {
         match self.rows.get(index_of(process)) {
-            None => 0,
-            Some(row) => row.middle,
+            Some(row) if row.placed => Some(row.middle),
+            _ => None,
         }
     }
 
     /// Draws an arrow in the column of the last action.
     pub fn draw_arrow(&mut self, arrow: Arrow, from: u64, to: u64) -> Result<(), AllocError> {
+        let (Some(start), Some(goal)) = (self.middle(from), self.middle(to)) else {
+            return Ok(());
+        };
         let left = self.moment(1).left;
-        let start = self.middle(from);
-        let end = head(start, self.middle(to));
-        append_shape(&mut self.marks, arrow.form(), &[left, start, end])
+        let end = head(start, goal);
+        append_shape(
+            &mut self.marks,
+            arrow.form(),
+            &[left, start, end, left, start, end],
+        )
     }
 }

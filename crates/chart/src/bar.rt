@@ -1,8 +1,7 @@
-use crate::labels::append_description;
+use crate::labels::Labels;
 use crate::layer::Layer;
 use crate::palette::colour;
 use crate::shapes::append_shape;
-use program::Names;
 use std::alloc::AllocError;
 
 // The class of a colour that no monitor has.
@@ -13,10 +12,12 @@ const NO_MONITOR: u64 = 9;
 pub(crate) struct Bar {
     /// What the process is doing.
     pub layer: Layer,
-    /// Where the bar begins, from the picture's left edge.
+    /// Where the bar begins, from the first action's left edge.
     pub left: u64,
     /// The action with which it began.
     pub since: u64,
+    /// Whether the process waits so to the end of the run.
+    pub never: bool,
 }
 
 /// Where a bar stands, and with which action it ends.
@@ -42,14 +43,23 @@ fn height(level: usize) -> u64 {
     }
 }
 
+// The colour of a monitor, where it is known which.
+fn colour_of(monitor: Option<u32>) -> u64 {
+    match monitor {
+        None => NO_MONITOR,
+        Some(monitor) => colour(monitor),
+    }
+}
+
 // The class of a layer, and its monitor's colour.
 fn class_of(layer: Layer) -> (&'static str, u64) {
     match layer {
         Layer::Runs => ("runs", NO_MONITOR),
-        Layer::Holds(monitor) => ("holds", colour(monitor)),
+        Layer::Holds(monitor, _) => ("holds", colour(monitor)),
         Layer::Waits(condition) => ("waits", colour(condition.monitor)),
         Layer::Resumed(monitor) => ("resumed", colour(monitor)),
         Layer::Enters(monitor) => ("enters", colour(monitor)),
+        Layer::Tried(monitor, _) => ("enters", colour_of(monitor)),
         Layer::Joins(_) => ("joins", NO_MONITOR),
         Layer::Dies => ("dies", NO_MONITOR),
         Layer::IsOver => ("over", NO_MONITOR),
@@ -57,45 +67,60 @@ fn class_of(layer: Layer) -> (&'static str, u64) {
 }
 
 impl Bar {
-    // Draws a rectangle, or a line; on white where it stands on another bar.
-    fn outline(&self, out: &mut Vec<u8>, place: Place) -> Result<(), AllocError> {
+    // What its element's class has beside the layer's.
+    fn manner(&self) -> &'static str {
+        if self.never { " m$ never'" } else { " m$'" }
+    }
+
+    // Appends the beginning of an element, up to its classes.
+    fn append_class(&self, out: &mut Vec<u8>, element: &str) -> Result<(), AllocError> {
         let (class, number) = class_of(self.layer);
+        append_shape(out, element, &[])?;
+        append_shape(out, class, &[])?;
+        append_shape(out, self.manner(), &[number])
+    }
+
+    // Draws a rectangle.
+    fn append_block(&self, out: &mut Vec<u8>, place: Place) -> Result<(), AllocError> {
+        let tall = height(place.level);
+        let top = place.middle.saturating_sub(tall / 2);
         let wide = place.right.saturating_sub(self.left);
-        if matches!(self.layer, Layer::Holds(_) | Layer::Waits(_)) {
-            let tall = height(place.level);
-            let top = place.middle.saturating_sub(tall / 2);
-            append_shape(out, "<rect class='", &[])?;
-            append_shape(out, class, &[])?;
-            let numbers = [number, self.left, top, wide, tall];
-            return append_shape(out, " m$' x='$' y='$' width='$' height='$'/>", &numbers);
-        }
+        self.append_class(out, "<rect class='")?;
+        let numbers = [self.left, top, wide, tall];
+        append_shape(out, " x='$' y='$' width='$' height='$'/>", &numbers)
+    }
+
+    // Draws a line, on the ground where it stands on another bar.
+    fn append_line(&self, out: &mut Vec<u8>, place: Place) -> Result<(), AllocError> {
         if place.level > 0 {
-            let top = place.middle.saturating_sub(3);
-            let numbers = [self.left, top, wide];
+            let top = place.middle.saturating_sub(4);
+            let numbers = [self.left, top, place.right.saturating_sub(self.left)];
             append_shape(
                 out,
-                "<rect class='under' x='$' y='$' width='$' height='6'/>",
+                "<rect class='under' x='$' y='$' width='$' height='8'/>",
                 &numbers,
             )?;
         }
-        append_shape(out, "<path class='", &[])?;
-        append_shape(out, class, &[])?;
+        self.append_class(out, "<path class='")?;
         append_shape(
             out,
-            " m$' d='M$,$H$'/>",
-            &[number, self.left, place.middle, place.right],
+            " d='M$,$H$'/>",
+            &[self.left, place.middle, place.right],
         )
     }
 
     /// Draws a bar up to its right edge, with what it is.
-    pub fn draw(&self, out: &mut Vec<u8>, names: &Names, place: Place) -> Result<(), AllocError> {
+    pub fn draw(&self, out: &mut Vec<u8>, labels: Labels, place: Place) -> Result<(), AllocError> {
         if place.right <= self.left {
             return Ok(());
         }
         append_shape(out, "<g><title>", &[])?;
-        append_description(out, names, self.layer)?;
+        labels.append_description(out, self.layer)?;
         append_shape(out, ", $ to $</title>", &[self.since, place.until])?;
-        self.outline(out, place)?;
+        match self.layer {
+            Layer::Holds(_, _) | Layer::Waits(_) => self.append_block(out, place)?,
+            _ => self.append_line(out, place)?,
+        }
         append_shape(out, "</g>\n", &[])
     }
 }

@@ -1,17 +1,12 @@
-use crate::legend::append_legend;
+use crate::frames::{begun, depth};
+use crate::labels::row_name;
 use crate::marks::finds_abandoned;
-use crate::palette::STYLES;
-use crate::row::LEVELS;
-use crate::shapes::append_shape;
-use crate::sheet::{COLUMN, COLUMNS, LEFT, Sheet};
+use crate::row::Row;
+use crate::sheet::{Sheet, index_of};
 use program::Checked;
 use source_states::{Action, ActionKind, SourceState};
-use std::alloc::{AllocError, Global};
-
-// The least width of a picture, which the legend takes, and the room for words behind the last column.
-const LEAST_WIDTH: u64 = 820;
-
-const RIGHT: u64 = 170;
+use sourcemeaning::movers;
+use std::alloc::AllocError;
 
 // Where in its column an action changes what its process does.
 fn side(kind: &ActionKind) -> u64 {
@@ -23,16 +18,45 @@ fn side(kind: &ActionKind) -> u64 {
 }
 
 impl<'c, 'n> Sheet<'c, 'n> {
-    // A process is made: its row begins.
-    fn begin(&mut self, state: &SourceState, child: u64) -> Result<(), AllocError> {
-        self.add_row()?;
-        self.follow(state, child, self.moment(1))
+    // Notes which processes are joined, and the last action of each that isn't over at the end.
+    fn look_ahead(&mut self) -> Result<(), AllocError> {
+        let actions = self.actions;
+        let mut number: u64 = 0;
+        self.lasts.push(Some(0))?;
+        for action in actions {
+            number = number.saturating_add(1);
+            if let ActionKind::Join(child) = action.kind {
+                self.joined.push(child)?;
+            }
+            if let ActionKind::Fork(_) = action.kind {
+                self.lasts.push(Some(0))?;
+            }
+            if let Some(last) = self.lasts.get_mut(index_of(action.process)) {
+                *last = match action.kind {
+                    ActionKind::Finish => None,
+                    _ => Some(number),
+                };
+            }
+        }
+        Ok(())
     }
 
-    // The row of the main process begins.
-    fn begin_first(&mut self, state: &SourceState) -> Result<(), AllocError> {
-        self.add_row()?;
-        self.follow(state, 1, self.moment(0))
+    // A process is made, in which this piece begins, with these locals: its row begins.
+    fn begin(
+        &mut self,
+        state: &SourceState,
+        process: u64,
+        piece: Option<u32>,
+    ) -> Result<(), AllocError> {
+        let locals = match state.process(process) {
+            None => &[],
+            Some(made) => made.frame.locals.as_slice(),
+        };
+        let number = piece.unwrap_or(u32::MAX);
+        let name = row_name(self.alloc, self.labels, process, number, locals)?;
+        let row = Row::new(self.alloc, name, piece, self.last_of(process))?;
+        self.add_row(row)?;
+        self.follow(state, process, self.moment(1))
     }
 
     // A process is over: its row ends, where no other joins it.
@@ -53,9 +77,14 @@ impl<'c, 'n> Sheet<'c, 'n> {
     }
 
     // Draws what an action does to the rows of other processes, and to one that ends.
-    fn follow_others(&mut self, state: &SourceState, action: &Action) -> Result<(), AllocError> {
+    fn follow_others(
+        &mut self,
+        state: &SourceState,
+        action: &Action,
+        piece: Option<u32>,
+    ) -> Result<(), AllocError> {
         match &action.kind {
-            ActionKind::Fork(child) => self.begin(state, *child),
+            ActionKind::Fork(child) => self.begin(state, *child, piece),
             ActionKind::Join(child) => self.leave(*child, self.moment(1)),
             ActionKind::Finish => self.end(action.process),
             ActionKind::Notify(_, resumed)
@@ -65,142 +94,89 @@ impl<'c, 'n> Sheet<'c, 'n> {
         }
     }
 
-    // Draws what an action does to the rows.
-    fn follow_all(&mut self, state: &SourceState, action: &Action) -> Result<(), AllocError> {
+    // Notes what an action did to the procedures of its process, and whether it took the monitor that it tried to take.
+    fn settle(
+        &mut self,
+        state: &SourceState,
+        action: &Action,
+        piece: Option<u32>,
+    ) -> Result<(), AllocError> {
+        let Some(row) = self.rows.get_mut(index_of(action.process)) else {
+            return Ok(());
+        };
+        match action.kind {
+            ActionKind::Call => row.pieces.push(piece)?,
+            ActionKind::Enter(_) | ActionKind::Resume(_) | ActionKind::Kill(_, _) => {
+                row.trial = None;
+            }
+            _ => {}
+        }
+        row.settle(depth(state, action.process))
+    }
+
+    // Does an action, and draws it; false where it isn't possible.
+    fn draw_step(
+        &mut self,
+        checked: &'c Checked<'n>,
+        action: &Action,
+        state: &mut SourceState<'c>,
+    ) -> Result<bool, AllocError> {
+        self.advance()?;
+        self.fail_all(state, self.number, self.moment(0))?;
+        let piece = begun(state, action);
+        let abandoned = finds_abandoned(state, &action.kind);
+        if !state.advance(self.alloc, checked.program(), action)? {
+            return Ok(false);
+        }
+        self.settle(state, action, piece)?;
         let moment = self.moment(side(&action.kind));
         self.follow(state, action.process, moment)?;
-        self.follow_others(state, action)
-    }
-}
-
-// The processes that are joined.
-fn joined(alloc: Global, actions: &[Action]) -> Result<Vec<u64>, AllocError> {
-    let mut joined = Vec::new(alloc);
-    for action in actions {
-        if let ActionKind::Join(child) = action.kind {
-            joined.push(child)?;
+        self.follow_others(state, action, piece)?;
+        if self.draws() {
+            self.draw_action(state, action, abandoned)?;
         }
+        Ok(true)
     }
-    Ok(joined)
-}
 
-// Where the bars of each level are written.
-fn no_bars(alloc: Global) -> Result<Vec<Vec<u8>>, AllocError> {
-    let mut bars = Vec::new(alloc);
-    for _level in 0..LEVELS {
-        bars.push(Vec::new(alloc))?;
-    }
-    Ok(bars)
-}
-
-// Does an action, and draws it; false where it isn't possible.
-fn draw_step<'a>(
-    alloc: Global,
-    checked: &'a Checked,
-    action: &Action,
-    state: &mut SourceState<'a>,
-    sheet: &mut Sheet,
-) -> Result<bool, AllocError> {
-    let abandoned = finds_abandoned(state, &action.kind);
-    if !state.advance(alloc, checked.program(), action)? {
-        return Ok(false);
-    }
-    sheet.advance()?;
-    sheet.follow_all(state, action)?;
-    sheet.draw_action(state, action, abandoned)?;
-    Ok(true)
-}
-
-// Draws the actions from a state on, up to the first that isn't possible.
-fn draw_steps<'a>(
-    alloc: Global,
-    checked: &'a Checked,
-    actions: &[Action],
-    state: &mut SourceState<'a>,
-    sheet: &mut Sheet,
-) -> Result<(), AllocError> {
-    sheet.begin_first(state)?;
-    for action in actions {
-        if !draw_step(alloc, checked, action, state, sheet)? {
-            return sheet.end_strip();
+    // Does actions, and draws them, up to the last that is drawn or the first that isn't possible; false there.
+    fn draw_steps(
+        &mut self,
+        checked: &'c Checked<'n>,
+        state: &mut SourceState<'c>,
+    ) -> Result<bool, AllocError> {
+        let actions = self.actions;
+        for action in actions.iter().take(self.span.last as usize) {
+            if !self.draw_step(checked, action, state)? {
+                return Ok(false);
+            }
         }
+        Ok(true)
     }
-    sheet.end_strip()?;
-    sheet.draw_last(state)
-}
 
-// Draws the actions, up to the first that isn't possible.
-fn draw_run(
-    alloc: Global,
-    checked: &Checked,
-    actions: &[Action],
-    sheet: &mut Sheet,
-) -> Result<(), AllocError> {
-    let mut state = SourceState::opening(alloc, checked)?;
-    draw_steps(alloc, checked, actions, &mut state, sheet)
-}
-
-// Appends what a picture begins with.
-fn append_head(out: &mut Vec<u8>, sheet: &Sheet, wide: u64, tall: u64) -> Result<(), AllocError> {
-    let size = [wide, tall, wide, tall];
-    append_shape(
-        out,
-        "<svg xmlns='http://www.w3.org/2000/svg' width='$' height='$' viewBox='0 0 $ $'>\n",
-        &size,
-    )?;
-    out.extend_from_slice(STYLES.as_bytes())?;
-    append_shape(
-        out,
-        "<text class='title' x='12' y='25'>A run of $ actions by $ processes</text>\n",
-        &[sheet.drawn, sheet.rows.len() as u64],
-    )
-}
-
-// Appends what was drawn.
-fn append_layers(out: &mut Vec<u8>, sheet: &Sheet) -> Result<(), AllocError> {
-    out.extend_from_slice(sheet.lines.as_slice())?;
-    for level in sheet.bars.iter() {
-        out.extend_from_slice(level.as_slice())?;
+    // Draws how a run ends.
+    fn draw_rest(
+        &mut self,
+        checked: &'c Checked<'n>,
+        state: &SourceState<'c>,
+    ) -> Result<(), AllocError> {
+        self.fail_all(state, u64::MAX, self.moment(2))?;
+        let movers = movers(self.alloc, checked, state)?;
+        self.stuck = movers.is_empty() && self.rows.iter().any(|row| !row.gone && !row.is_over());
+        self.draw_last(state)
     }
-    out.extend_from_slice(sheet.marks.as_slice())
-}
 
-// Appends the whole picture, with this legend, which ends at a height.
-fn append_picture(
-    out: &mut Vec<u8>,
-    sheet: &Sheet,
-    legend: &[u8],
-    wide: u64,
-    tall: u64,
-) -> Result<(), AllocError> {
-    append_head(out, sheet, wide, tall)?;
-    append_layers(out, sheet)?;
-    out.extend_from_slice(legend)?;
-    out.extend_from_slice(b"</svg>\n")
-}
-
-// Appends the whole picture. The legend is made beside it.
-fn assemble(out: &mut Vec<u8>, legend: &mut Vec<u8>, sheet: &Sheet) -> Result<(), AllocError> {
-    let columns = sheet.drawn.min(COLUMNS);
-    let wide = (columns * COLUMN)
-        .saturating_add(LEFT + RIGHT)
-        .max(LEAST_WIDTH);
-    let tall = append_legend(legend, sheet.names, wide, sheet.bottom)?;
-    append_picture(out, sheet, legend.as_slice(), wide, tall)
-}
-
-// The whole picture.
-fn picture(alloc: Global, sheet: &Sheet) -> Result<Vec<u8>, AllocError> {
-    let mut out = Vec::new(alloc);
-    let mut legend = Vec::new(alloc);
-    assemble(&mut out, &mut legend, sheet)?;
-    Ok(out)
-}
-
-/// The picture of a run, as SVG. Of actions that aren't a run it shows those before the first that isn't possible.
-pub fn chart(alloc: Global, checked: &Checked, actions: &[Action]) -> Result<Vec<u8>, AllocError> {
-    let joined = joined(alloc, actions)?;
-    let mut sheet = Sheet::new(alloc, checked.names(), joined, no_bars(alloc)?);
-    draw_run(alloc, checked, actions, &mut sheet)?;
-    picture(alloc, &sheet)
+    /// Draws the run, from its first action that is drawn to its last, and what its processes wait for at its end.
+    pub fn draw_run(&mut self, checked: &'c Checked<'n>) -> Result<(), AllocError> {
+        self.look_ahead()?;
+        let mut state = SourceState::opening(self.alloc, checked)?;
+        let main = checked.program().procedures.len().saturating_sub(1);
+        self.begin(&state, 1, Some(main as u32))?;
+        let is_run = self.draw_steps(checked, &mut state)?;
+        if !is_run || self.span.last < self.actions.len() as u64 {
+            return self.end_strip();
+        }
+        self.draw_rest(checked, &state)?;
+        self.end_strip()?;
+        self.write_circles(&state)
+    }
 }

@@ -1,21 +1,24 @@
+use crate::frames::append_held;
 use program::Member;
-use source_offers::{Process, Stage, add_monitor, add_monitors};
+use source_offers::{Process, Stage};
 use source_states::SourceState;
-use std::alloc::{AllocError, Global};
+use std::alloc::AllocError;
 
 /// What a process is doing while others act. Those that it holds lie below what it waits for.
 #[derive(Clone, Copy, PartialEq, Eq)]
 pub(crate) enum Layer {
     /// Runs, or could run.
     Runs,
-    /// Holds this monitor.
-    Holds(u32),
+    /// Holds this monitor, in the ENTRY procedure of this piece where it is known.
+    Holds(u32, Option<u32>),
     /// Waits on this condition.
     Waits(Member),
     /// Was resumed, and hasn't taken this monitor again.
     Resumed(u32),
     /// Called an ENTRY procedure of this monitor, and hasn't entered.
     Enters(u32),
+    /// Tried to take this monitor, where it is known which, while this process held it.
+    Tried(Option<u32>, u64),
     /// Waits for the end of this process.
     Joins(u64),
     /// Is dying.
@@ -24,24 +27,17 @@ pub(crate) enum Layer {
     IsOver,
 }
 
-// The monitors of a process's ENTRY procedures, the innermost first.
-fn monitors_of(alloc: Global, process: &Process) -> Result<Vec<u32>, AllocError> {
-    let mut monitors = Vec::new(alloc);
-    match &process.stage {
-        Stage::Dying(_, left) => {
-            monitors.extend_from_slice(left.as_slice())?;
-            return Ok(monitors);
-        }
-        Stage::Leaving(_) | Stage::Over(_) => return Ok(monitors),
-        Stage::Entering(_) | Stage::Returning(_) => {}
-        _ => add_monitor(&mut monitors, process.frame.role)?,
-    }
-    add_monitors(&mut monitors, process.callers.as_slice())?;
-    Ok(monitors)
+/// A failed attempt to take a monitor, where it is known which, and who held that.
+#[derive(Clone, Copy)]
+pub(crate) struct Trial {
+    /// The monitor, where it is taken later.
+    pub monitor: Option<u32>,
+    /// Who held it.
+    pub holder: u64,
 }
 
-// What a process does besides holding monitors.
-fn uppermost(state: &SourceState, number: u64, process: &Process) -> Option<Layer> {
+/// What a process does besides holding monitors.
+pub(crate) fn uppermost(state: &SourceState, number: u64, process: &Process) -> Option<Layer> {
     match &process.stage {
         Stage::Entering(monitor) => Some(Layer::Enters(*monitor)),
         Stage::Suspended(condition) => match state.waits(number) {
@@ -55,39 +51,28 @@ fn uppermost(state: &SourceState, number: u64, process: &Process) -> Option<Laye
     }
 }
 
-// The monitor that a process gave up to wait on a condition of it.
-fn given_up(process: &Process) -> Option<u32> {
-    match &process.stage {
-        Stage::Suspended(condition) => Some(condition.monitor),
-        _ => None,
+// The same of a process whose last attempt to take a monitor failed. It waits on a condition until it is resumed.
+fn tried(layer: Option<Layer>, trial: Option<Trial>) -> Option<Layer> {
+    match (layer, trial) {
+        (Some(Layer::Waits(_)), _) | (_, None) => layer,
+        (_, Some(trial)) => Some(Layer::Tried(trial.monitor, trial.holder)),
     }
 }
 
-// Appends the monitors that a process holds, of these, from the last on.
-fn append_held(
-    layers: &mut Vec<Layer>,
-    process: &Process,
-    monitors: &[u32],
-) -> Result<(), AllocError> {
-    let without = given_up(process);
-    for monitor in monitors.iter().rev() {
-        if without != Some(*monitor) {
-            layers.push(Layer::Holds(*monitor))?;
-        }
-    }
-    Ok(())
-}
-
-// Appends what a process is doing, from the outermost monitor that it holds.
-fn append_layers(
+/// Appends what a process of this number is doing, if there is one, from the outermost monitor that it holds. These are
+/// the pieces that run in it, the outermost first, and its last attempt to take a monitor, if that failed.
+pub(crate) fn append_layers_of(
     layers: &mut Vec<Layer>,
     state: &SourceState,
     number: u64,
-    process: &Process,
+    pieces: &[Option<u32>],
+    trial: Option<Trial>,
 ) -> Result<(), AllocError> {
-    let monitors = monitors_of(*layers.allocator(), process)?;
-    append_held(layers, process, monitors.as_slice())?;
-    let last = match uppermost(state, number, process) {
+    let Some(process) = state.process(number) else {
+        return Ok(());
+    };
+    append_held(layers, process, pieces)?;
+    let last = match tried(uppermost(state, number, process), trial) {
         None if layers.is_empty() => Some(Layer::Runs),
         last => last,
     };
@@ -95,16 +80,4 @@ fn append_layers(
         layers.push(layer)?;
     }
     Ok(())
-}
-
-/// Appends what a process of this number is doing, if there is one, from the outermost monitor that it holds.
-pub(crate) fn append_layers_of(
-    layers: &mut Vec<Layer>,
-    state: &SourceState,
-    number: u64,
-) -> Result<(), AllocError> {
-    match state.process(number) {
-        Some(process) => append_layers(layers, state, number, process),
-        None => Ok(()),
-    }
 }

@@ -3,14 +3,20 @@
 
 mod arrows;
 mod bar;
+mod circles;
 mod drawing;
+mod frames;
+mod hang;
 mod labels;
 mod layer;
 mod legend;
 mod marks;
 mod palette;
+mod picture;
 mod row;
 mod shapes;
 mod sheet;
+mod span;
+mod strip;
 
-pub use drawing::chart;
+pub use picture::{Picture, chart};

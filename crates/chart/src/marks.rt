@@ -1,6 +1,5 @@
 use crate::arrows::Arrow;
-use crate::labels::monitor_name;
-use crate::shapes::{append_escaped, append_shape, append_text};
+use crate::shapes::{append_clipped, append_shape, append_text, letters_of, wide};
 use crate::sheet::{Sheet, index_of};
 use actionlines::append_line;
 use itoa::Buffer;
@@ -21,19 +20,18 @@ pub(crate) fn finds_abandoned(state: &SourceState, kind: &ActionKind) -> bool {
 }
 
 impl<'c, 'n> Sheet<'c, 'n> {
-    // Where a note of this width stands below the bars of a process, behind the notes before it.
-    fn note_place(&mut self, process: u64, wide: u64) -> Option<[u64; 2]> {
+    // Where a note of so many letters stands below the bars of a process, behind the notes before it.
+    fn note_place(&mut self, process: u64, letters: u64) -> Option<[u64; 2]> {
         let middle = self.moment(1).left;
         match self.rows.get_mut(index_of(process)) {
             None => None,
-            Some(row) => Some(row.note_place(middle, wide)),
+            Some(row) => Some(row.note_place(middle, letters)),
         }
     }
 
     // Writes a note below the bars of a process, behind the notes before it.
     fn note(&mut self, process: u64, form: &str, text: &[u8]) -> Result<(), AllocError> {
-        let wide = (text.len() as u64).saturating_mul(6);
-        match self.note_place(process, wide) {
+        match self.note_place(process, letters_of(text)) {
             None => Ok(()),
             Some(place) => append_text(&mut self.marks, form, &place, text),
         }
@@ -42,31 +40,37 @@ impl<'c, 'n> Sheet<'c, 'n> {
     // Writes that a monitor is abandoned.
     fn note_abandoned(&mut self, process: u64, monitor: u32) -> Result<(), AllocError> {
         let mut text = Vec::from_slice(self.alloc, b"abandons ")?;
-        text.extend_from_slice(monitor_name(self.names, monitor))?;
+        text.extend_from_slice(self.labels.monitor(monitor))?;
         self.note(process, "<text class='fault' x='$' y='$'>", text.as_slice())
     }
 
     // Draws a form in the middle of the last action's column.
     fn dot(&mut self, process: u64, form: &str) -> Result<(), AllocError> {
         let left = self.moment(1).left;
-        let middle = self.middle(process);
-        append_shape(&mut self.marks, form, &[left, middle])
+        match self.middle(process) {
+            None => Ok(()),
+            Some(middle) => append_shape(&mut self.marks, form, &[left, middle]),
+        }
     }
 
     // Writes why a process aborted.
     fn draw_cause(&mut self, process: u64, cause: Cause) -> Result<(), AllocError> {
         let left = self.moment(1).left.saturating_add(9);
-        let middle = self.middle(process).saturating_add(3);
+        self.reach = self.reach.max(left.saturating_add(wide(8, 60)));
+        let Some(middle) = self.middle(process) else {
+            return Ok(());
+        };
+        let below = middle.saturating_add(3);
         match cause {
             Cause::Faulted(fault) => append_shape(
                 &mut self.marks,
                 "<text class='fault' x='$' y='$'>fault $</text>",
-                &[left, middle, u64::from(fault.number())],
+                &[left, below, u64::from(fault.number())],
             ),
             Cause::Killed => append_shape(
                 &mut self.marks,
                 "<text class='fault' x='$' y='$'>killed</text>",
-                &[left, middle],
+                &[left, below],
             ),
         }
     }
@@ -113,7 +117,7 @@ impl<'c, 'n> Sheet<'c, 'n> {
                 return self.dot(process, "<circle class='fails' cx='$' cy='$' r='3'/>");
             }
             ActionKind::Stray(_) => {
-                self.note(process, "<text class='note' x='$' y='$'>", b"stray")?;
+                self.note(process, "<text class='quiet' x='$' y='$'>", b"stray")?;
             }
             ActionKind::Print(number) => {
                 let mut buffer = Buffer::new();
@@ -133,9 +137,9 @@ impl<'c, 'n> Sheet<'c, 'n> {
         finds_abandoned: bool,
     ) -> Result<(), AllocError> {
         let mut line = Vec::new(self.alloc);
-        append_line(&mut line, self.names, action)?;
-        append_shape(&mut self.marks, "<g><title>$: ", &[self.drawn])?;
-        append_escaped(&mut self.marks, line.as_slice())?;
+        append_line(&mut line, self.labels.names, action)?;
+        append_shape(&mut self.marks, "<g><title>$: ", &[self.number])?;
+        append_clipped(&mut self.marks, line.as_slice())?;
         append_shape(&mut self.marks, "</title>", &[])?;
         if finds_abandoned {
             self.note(

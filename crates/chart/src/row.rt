@@ -1,23 +1,34 @@
 use crate::bar::{Bar, Place};
-use crate::labels::{condition_name, monitor_name};
-use crate::layer::Layer;
-use crate::palette::colour;
-use crate::shapes::append_text;
-use program::Names;
+use crate::labels::Labels;
+use crate::layer::{Layer, Trial};
+use crate::shapes::{append_shape, append_text, letters_of, wide};
 use std::alloc::{AllocError, Global};
 
 /// On how many levels bars are drawn; those that stand on more share the last.
 pub(crate) const LEVELS: usize = 6;
 
+// How wide a letter of a bar's name or of a note is, in tenths.
+const LETTER: u64 = 56;
+
 /// A process in the picture.
 #[derive(Drop)]
 pub(crate) struct Row {
+    /// Its name.
+    pub name: Vec<u8>,
+    /// The pieces that run in the process, the outermost first.
+    pub pieces: Vec<Option<u32>>,
+    /// Its last attempt to take a monitor, while that is one that failed.
+    pub trial: Option<Trial>,
+    /// The last action of the process in the run, where it isn't over at the end.
+    pub last: Option<u64>,
     /// What it is doing, from the outermost monitor that it holds.
     pub bars: Vec<Bar>,
     /// The middle of its row in this strip.
     pub middle: u64,
     /// Whether it has a row in this strip.
     pub placed: bool,
+    /// Whether it is to have one from this strip's beginning.
+    pub shown: bool,
     /// Where the names above its bars end.
     pub names_end: u64,
     /// Where the notes below its bars end.
@@ -26,10 +37,10 @@ pub(crate) struct Row {
     pub gone: bool,
 }
 
-/// A place in time: from the picture's left edge, and the action there.
+/// A place in time: from the first action's left edge, and the action there.
 #[derive(Clone, Copy)]
 pub(crate) struct Moment {
-    /// From the picture's left edge.
+    /// From the first action's left edge.
     pub left: u64,
     /// The action, from 1.
     pub action: u64,
@@ -45,32 +56,72 @@ fn place(level: usize, middle: u64, moment: Moment) -> Place {
     }
 }
 
-// The form, the monitor and the name that are written above a bar, if any.
-fn label_of<'n>(names: &Names<'n>, layer: Layer) -> Option<(&'static str, u32, &'n [u8])> {
+// Whether a process that begins to wait so at an action waits to the end of the run, where this is its last action in it
+// if it isn't over then.
+fn is_for_good(layer: Layer, action: u64, last: Option<u64>) -> bool {
+    let Some(last) = last else {
+        return false;
+    };
     match layer {
-        Layer::Holds(monitor) => {
-            let form = "<text class='m$' x='$' y='$'>";
-            Some((form, monitor, monitor_name(names, monitor)))
-        }
-        Layer::Waits(condition) => {
-            let form = "<text class='condition m$' x='$' y='$'>";
-            Some((form, condition.monitor, condition_name(names, condition)))
-        }
-        _ => None,
+        Layer::Tried(monitor, _) => monitor.is_none(),
+        Layer::Waits(_) | Layer::Resumed(_) | Layer::Enters(_) | Layer::Joins(_) => last <= action,
+        _ => false,
     }
 }
 
+// Writes a name above a bar, and gives where it ends.
+fn write_name(
+    marks: &mut Vec<u8>,
+    form: &str,
+    left: u64,
+    above: u64,
+    name: &[u8],
+) -> Result<u64, AllocError> {
+    append_text(marks, form, &[left, above], name)?;
+    Ok(
+        left.saturating_add(wide(letters_of(name), LETTER))
+            .saturating_add(5),
+    )
+}
+
+// Writes who holds the monitor above the bar of a process that waits for it, and gives where that ends.
+fn write_holder(
+    marks: &mut Vec<u8>,
+    left: u64,
+    above: u64,
+    holder: u64,
+) -> Result<u64, AllocError> {
+    append_shape(
+        marks,
+        "<text class='quiet' x='$' y='$'>held by $</text>\n",
+        &[left, above, holder],
+    )?;
+    Ok(left.saturating_add(wide(10, LETTER)).saturating_add(5))
+}
+
 impl Row {
-    /// The row of a process.
-    pub fn new(alloc: Global) -> Row {
-        Row {
+    /// The row of a process with this name, which begins with this piece and has this last action.
+    pub fn new(
+        alloc: Global,
+        name: Vec<u8>,
+        piece: Option<u32>,
+        last: Option<u64>,
+    ) -> Result<Row, AllocError> {
+        let mut pieces = Vec::new(alloc);
+        pieces.push(piece)?;
+        Ok(Row {
+            name,
+            pieces,
+            trial: None,
+            last,
             bars: Vec::new(alloc),
             middle: 0,
             placed: false,
+            shown: false,
             names_end: 0,
             notes_end: 0,
             gone: false,
-        }
+        })
     }
 
     /// Whether it is over, and only waits to be joined.
@@ -78,37 +129,58 @@ impl Row {
         matches!(self.bars.as_slice(), [bar] if bar.layer == Layer::IsOver)
     }
 
-    /// Where a note of this width, round a middle, stands below its bars, behind the notes before it.
-    pub fn note_place(&mut self, middle: u64, wide: u64) -> [u64; 2] {
+    /// The process has so many procedures now: those that returned are gone, and a RECOVER part has begun.
+    pub fn settle(&mut self, depth: usize) -> Result<(), AllocError> {
+        self.pieces.truncate(depth);
+        for _piece in self.pieces.len()..depth {
+            self.pieces.push(None)?;
+        }
+        Ok(())
+    }
+
+    /// Where a note of so many letters, round a middle, stands below its bars, behind the notes before it.
+    pub fn note_place(&mut self, middle: u64, letters: u64) -> [u64; 2] {
+        let wide = wide(letters, LETTER);
         let left = middle.saturating_sub(wide / 2).max(self.notes_end);
-        self.notes_end = left.saturating_add(wide).saturating_add(3);
+        self.notes_end = left.saturating_add(wide).saturating_add(4);
         [left, self.middle.saturating_add(17)]
     }
 
     // Writes the name of what a bar shows above it, where no other name stands.
-    fn label(&mut self, marks: &mut Vec<u8>, names: &Names, bar: Bar) -> Result<(), AllocError> {
-        let Some((form, monitor, name)) = label_of(names, bar.layer) else {
-            return Ok(());
-        };
+    fn label(&mut self, marks: &mut Vec<u8>, labels: Labels, bar: Bar) -> Result<(), AllocError> {
         if bar.left < self.names_end {
             return Ok(());
         }
-        let wide = (name.len() as u64).saturating_mul(6).saturating_add(4);
-        self.names_end = bar.left.saturating_add(wide);
         let above = self.middle.saturating_sub(11);
-        append_text(marks, form, &[colour(monitor), bar.left, above], name)
+        self.names_end = match bar.layer {
+            Layer::Holds(monitor, piece) => {
+                let name = labels.piece(piece).unwrap_or(labels.monitor(monitor));
+                write_name(marks, "<text x='$' y='$'>", bar.left, above, name)?
+            }
+            Layer::Waits(condition) => {
+                let name = labels.condition(condition);
+                let form = "<text class='condition' x='$' y='$'>";
+                write_name(marks, form, bar.left, above, name)?
+            }
+            Layer::Tried(_, holder) => write_holder(marks, bar.left, above, holder)?,
+            _ => return Ok(()),
+        };
+        Ok(())
     }
 
-    /// Writes the names of what its bars show above them, from a level on.
+    /// Writes the names of what its bars show above them, from a level on, where it has a row.
     pub fn label_from(
         &mut self,
         marks: &mut Vec<u8>,
-        names: &Names,
+        labels: Labels,
         first: usize,
     ) -> Result<(), AllocError> {
+        if !self.placed {
+            return Ok(());
+        }
         for level in first..self.bars.len() {
             if let Some(bar) = self.bars.get(level).copied() {
-                self.label(marks, names, bar)?;
+                self.label(marks, labels, bar)?;
             }
         }
         Ok(())
@@ -118,7 +190,7 @@ impl Row {
     fn draw_level(
         &self,
         levels: &mut [Vec<u8>],
-        names: &Names,
+        labels: Labels,
         level: usize,
         moment: Moment,
     ) -> Result<(), AllocError> {
@@ -126,21 +198,24 @@ impl Row {
             return Ok(());
         };
         match levels.get_mut(level.min(LEVELS - 1)) {
-            Some(out) => bar.draw(out, names, place(level, self.middle, moment)),
+            Some(out) => bar.draw(out, labels, place(level, self.middle, moment)),
             None => Ok(()),
         }
     }
 
-    // Draws its bars from a level on, up to a moment, each over those that it stands on.
+    // Draws its bars from a level on, up to a moment, each over those that it stands on, where it has a row.
     fn draw_from(
         &self,
         levels: &mut [Vec<u8>],
-        names: &Names,
+        labels: Labels,
         first: usize,
         moment: Moment,
     ) -> Result<(), AllocError> {
+        if !self.placed {
+            return Ok(());
+        }
         for level in first..self.bars.len() {
-            self.draw_level(levels, names, level, moment)?;
+            self.draw_level(levels, labels, level, moment)?;
         }
         Ok(())
     }
@@ -161,40 +236,39 @@ impl Row {
     pub fn change(
         &mut self,
         levels: &mut [Vec<u8>],
-        names: &Names,
+        labels: Labels,
         layers: &[Layer],
         moment: Moment,
     ) -> Result<usize, AllocError> {
         let kept = self.kept(layers);
-        self.draw_from(levels, names, kept, moment)?;
+        self.draw_from(levels, labels, kept, moment)?;
         self.bars.truncate(kept);
         for layer in layers.get(kept..).unwrap_or(&[]) {
             self.bars.push(Bar {
                 layer: *layer,
                 left: moment.left,
                 since: moment.action,
+                never: is_for_good(*layer, moment.action, self.last),
             })?;
         }
         Ok(kept)
     }
 
-    /// Ends its row in this strip: its bars go on from the next strip's left edge.
+    /// Ends its row in this strip: its bars go on from the next strip's left edge. How far its words reach.
     pub fn cut(
         &mut self,
         levels: &mut [Vec<u8>],
-        names: &Names,
+        labels: Labels,
         moment: Moment,
-        left: u64,
-    ) -> Result<(), AllocError> {
-        if self.placed {
-            self.draw_from(levels, names, 0, moment)?;
-        }
+    ) -> Result<u64, AllocError> {
+        self.draw_from(levels, labels, 0, moment)?;
         for bar in self.bars.iter_mut() {
-            bar.left = left;
+            bar.left = 0;
         }
+        let reach = self.names_end.max(self.notes_end);
         self.placed = false;
         self.names_end = 0;
         self.notes_end = 0;
-        Ok(())
+        Ok(reach)
     }
 }

@@ -5,6 +5,9 @@ ghost use Rattle.chart.specs.Texts.{escape};
 use itoa::Buffer;
 use std::alloc::AllocError;
 
+// How many letters of a name are shown.
+const MOST_LETTERS: usize = 40;
+
 /// Appends a form of XML text, with the next number in place of each `$`.
 pub(crate) fn append_shape(
     out: &mut Vec<u8>,
@@ -25,7 +28,7 @@ pub(crate) fn append_shape(
     Ok(())
 }
 
-/// Appends a form with numbers, a text, and a second form.
+/// Appends a form with numbers, a text, and the end of a text's element.
 pub(crate) fn append_text(
     out: &mut Vec<u8>,
     form: &str,
@@ -33,7 +36,7 @@ pub(crate) fn append_text(
     text: &[u8],
 ) -> Result<(), AllocError> {
     append_shape(out, form, numbers)?;
-    append_escaped(out, text)?;
+    append_clipped(out, text)?;
     append_shape(out, "</text>\n", &[])
 }
 
@@ -57,4 +60,29 @@ pub(crate) fn append_escaped(out: &mut Vec<u8>, text: &[u8]) -> Result<(), Alloc
         append_byte(out, *byte)?;
     }
     Ok(())
+}
+
+/// Appends a text of ASCII, with what XML has for some of its bytes; of a long one the first letters, and `..`.
+pub(crate) fn append_clipped(out: &mut Vec<u8>, text: &[u8]) -> Result<(), AllocError> {
+    match text.get(..MOST_LETTERS) {
+        None => append_escaped(out, text),
+        Some(front) => {
+            append_escaped(out, front)?;
+            append_escaped(out, b"..")
+        }
+    }
+}
+
+/// How many letters `append_clipped` shows of a text of that length.
+pub(crate) fn letters_of(text: &[u8]) -> u64 {
+    if text.len() < MOST_LETTERS {
+        text.len() as u64
+    } else {
+        MOST_LETTERS as u64 + 2
+    }
+}
+
+/// How wide letters are, each of so many tenths. All of them are as wide in the fonts that the style sheet names.
+pub(crate) fn wide(letters: u64, tenths: u64) -> u64 {
+    letters.saturating_mul(tenths) / 10
 }

@@ -1,12 +1,10 @@
-use crate::layer::{Layer, append_layers_of};
+use crate::labels::Labels;
+use crate::layer::{Layer, Trial, append_layers_of};
 use crate::row::{Moment, Row};
-use crate::shapes::append_shape;
-use program::Names;
-use source_states::SourceState;
+use crate::span::Span;
+use monitor_waits::Attempt;
+use source_states::{Action, SourceState};
 use std::alloc::{AllocError, Global};
-
-/// Where the first action's column begins.
-pub(crate) const LEFT: u64 = 84;
 
 /// How many actions stand side by side; more stand below them.
 pub(crate) const COLUMNS: u64 = 80;
@@ -14,18 +12,22 @@ pub(crate) const COLUMNS: u64 = 80;
 /// The width of an action's column.
 pub(crate) const COLUMN: u64 = 14;
 
-// The height of a row, and of a strip's numbers above its rows.
-const ROW: u64 = 36;
+/// The upper edge of the first strip.
+pub(crate) const TOP: u64 = 56;
 
-const TICKS: u64 = 18;
-
-/// A picture while it is drawn, in strips of columns.
+/// A picture while it is drawn, in strips of columns. It counts from the left edge of the first action's column.
 #[derive(Drop)]
 pub(crate) struct Sheet<'c, 'n> {
     /// What memory comes from.
     pub alloc: Global,
     /// The names that the text gave.
-    pub names: &'c Names<'n>,
+    pub labels: Labels<'c, 'n>,
+    /// The actions of the run.
+    pub actions: &'c [Action],
+    /// Which of them are drawn.
+    pub span: Span,
+    /// The attempts to take a monitor that failed, which come next.
+    pub attempts: &'c [Attempt],
     /// What lies behind the bars.
     pub lines: Vec<u8>,
     /// The bars, those that stand on others behind them.
@@ -36,12 +38,20 @@ pub(crate) struct Sheet<'c, 'n> {
     pub rows: Vec<Row>,
     /// The processes that others join.
     pub joined: Vec<u64>,
-    /// How many actions were drawn.
-    pub drawn: u64,
+    /// The number of the last action of each process, or 0; None where it is over at the end. That of process 1 first.
+    pub lasts: Vec<Option<u64>>,
+    /// The number of the last action that was done.
+    pub number: u64,
     /// The upper edge of this strip.
     pub top: u64,
     /// The lower edge of this strip's rows.
     pub bottom: u64,
+    /// How far the names of rows reach, to the left.
+    pub left_reach: u64,
+    /// How far words reach, to the right.
+    pub reach: u64,
+    /// Whether the run got stuck.
+    pub stuck: bool,
 }
 
 // The place of a process's row.
@@ -49,147 +59,74 @@ pub(crate) fn index_of(process: u64) -> usize {
     process.saturating_sub(1) as usize
 }
 
+// Where the bars of each level are written.
+fn no_bars(alloc: Global) -> Result<Vec<Vec<u8>>, AllocError> {
+    let mut bars = Vec::new(alloc);
+    for _level in 0..crate::row::LEVELS {
+        bars.push(Vec::new(alloc))?;
+    }
+    Ok(bars)
+}
+
 impl<'c, 'n> Sheet<'c, 'n> {
-    /// An empty picture.
+    /// An empty picture of these actions.
     pub fn new(
         alloc: Global,
-        names: &'c Names<'n>,
-        joined: Vec<u64>,
-        bars: Vec<Vec<u8>>,
-    ) -> Sheet<'c, 'n> {
-        Sheet {
+        labels: Labels<'c, 'n>,
+        actions: &'c [Action],
+        attempts: &'c [Attempt],
+        span: Span,
+    ) -> Result<Sheet<'c, 'n>, AllocError> {
+        Ok(Sheet {
             alloc,
-            names,
+            labels,
+            actions,
+            span,
+            attempts,
             lines: Vec::new(alloc),
-            bars,
+            bars: no_bars(alloc)?,
             marks: Vec::new(alloc),
             rows: Vec::new(alloc),
-            joined,
-            drawn: 0,
-            top: 40,
-            bottom: 58,
-        }
+            joined: Vec::new(alloc),
+            lasts: Vec::new(alloc),
+            number: 0,
+            top: TOP,
+            bottom: TOP,
+            left_reach: 60,
+            reach: 0,
+            stuck: false,
+        })
     }
 
-    /// A moment in the column of the last action: 0 is its left edge, 1 its middle, and 2 its right edge.
+    /// Whether the last action that was done is drawn.
+    pub fn draws(&self) -> bool {
+        self.span.has(self.number)
+    }
+
+    /// In which column of its strip the last action is, from 0.
+    pub fn column(&self) -> u64 {
+        self.number.saturating_sub(self.span.first) % COLUMNS
+    }
+
+    /// A moment in the column of the last action: 0 is its left edge, 1 its middle, and 2 its right edge. Before the
+    /// first one that is drawn all moments are at the left edge.
     pub fn moment(&self, half: u64) -> Moment {
-        let column = self.drawn.saturating_sub(1) % COLUMNS;
-        Moment {
-            left: (column * COLUMN)
-                .saturating_add(LEFT)
-                .saturating_add(half.saturating_mul(COLUMN / 2)),
-            action: self.drawn,
-        }
-    }
-
-    // Gives a process a row of this strip.
-    fn place_row(&mut self, index: usize) -> Result<(), AllocError> {
-        let Some(row) = self.rows.get_mut(index) else {
-            return Ok(());
+        let left = if self.draws() {
+            self.column()
+                .saturating_mul(COLUMN)
+                .saturating_add(half.saturating_mul(COLUMN / 2))
+        } else {
+            0
         };
-        row.placed = true;
-        row.middle = self.bottom.saturating_add(ROW / 2);
-        self.bottom = self.bottom.saturating_add(ROW);
-        let number = (index as u64).saturating_add(1);
-        let below = row.middle.saturating_add(4);
-        append_shape(
-            &mut self.lines,
-            "<text class='process' x='12' y='$'>process $</text>\n",
-            &[below, number],
-        )?;
-        row.label_from(&mut self.marks, self.names, 0)
-    }
-
-    // Whether a process is to have a row of a strip from its beginning.
-    fn goes_on(&self, index: usize) -> bool {
-        match self.rows.get(index) {
-            None => false,
-            Some(row) => !row.gone && !row.is_over(),
+        Moment {
+            left,
+            action: self.number,
         }
     }
 
-    // Gives a process that goes on a row of this strip.
-    fn place_again(&mut self, index: usize) -> Result<(), AllocError> {
-        if self.goes_on(index) {
-            return self.place_row(index);
-        }
-        Ok(())
-    }
-
-    // Gives each process that goes on a row of this strip.
-    fn place_rows(&mut self) -> Result<(), AllocError> {
-        for index in 0..self.rows.len() {
-            self.place_again(index)?;
-        }
-        Ok(())
-    }
-
-    /// Adds the row of the next process.
-    pub fn add_row(&mut self) -> Result<(), AllocError> {
-        let first = self.rows.len();
-        self.rows.push(Row::new(self.alloc))?;
-        self.place_row(first)
-    }
-
-    // Draws the line of the grid in a column, with the number of its action.
-    fn draw_line(&mut self, column: u64, number: u64) -> Result<(), AllocError> {
-        let left = column
-            .saturating_mul(COLUMN)
-            .saturating_add(LEFT - COLUMN / 2);
-        let tick = self.top.saturating_add(10);
-        let below = tick.saturating_add(4);
-        append_shape(
-            &mut self.lines,
-            "<text class='tick' x='$' y='$'>$</text><path class='grid' d='M$,$V$'/>\n",
-            &[left, tick, number, left, below, self.bottom],
-        )
-    }
-
-    // Draws the grid of this strip, with the numbers of each tenth action.
-    fn draw_grid(&mut self) -> Result<(), AllocError> {
-        let columns = self.drawn.saturating_sub(1) % COLUMNS + 1;
-        let before = self.drawn.saturating_sub(columns);
-        for column in 1..=columns {
-            let number = before.saturating_add(column);
-            if number % 10 == 0 || number == 1 {
-                self.draw_line(column, number)?;
-            }
-        }
-        Ok(())
-    }
-
-    // Ends a process's row in this strip.
-    fn cut(&mut self, index: usize, moment: Moment) -> Result<(), AllocError> {
-        match self.rows.get_mut(index) {
-            Some(row) => row.cut(self.bars.as_mut_slice(), self.names, moment, LEFT),
-            None => Ok(()),
-        }
-    }
-
-    /// Ends this strip: its bars are drawn up to its right edge.
-    pub fn end_strip(&mut self) -> Result<(), AllocError> {
-        let moment = self.moment(2);
-        for index in 0..self.rows.len() {
-            self.cut(index, moment)?;
-        }
-        self.draw_grid()
-    }
-
-    // Ends this strip, and begins the next.
-    fn begin_strip(&mut self) -> Result<(), AllocError> {
-        self.end_strip()?;
-        self.top = self.bottom.saturating_add(14);
-        self.bottom = self.top.saturating_add(TICKS);
-        self.place_rows()
-    }
-
-    /// Goes on to the column of the next action, in a new strip where this one is full.
-    pub fn advance(&mut self) -> Result<(), AllocError> {
-        if self.drawn > 0 && self.drawn % COLUMNS == 0 {
-            self.begin_strip()?;
-        }
-        self.drawn = self.drawn.saturating_add(1);
-        Ok(())
+    /// The last action of a process in the run, where it isn't over at the end.
+    pub fn last_of(&self, process: u64) -> Option<u64> {
+        self.lasts.get(index_of(process)).copied().unwrap_or(None)
     }
 
     // From a moment on a process does this.
@@ -197,8 +134,8 @@ impl<'c, 'n> Sheet<'c, 'n> {
         let Some(row) = self.rows.get_mut(index_of(process)) else {
             return Ok(());
         };
-        let kept = row.change(self.bars.as_mut_slice(), self.names, layers, moment)?;
-        row.label_from(&mut self.marks, self.names, kept)
+        let kept = row.change(self.bars.as_mut_slice(), self.labels, layers, moment)?;
+        row.label_from(&mut self.marks, self.labels, kept)
     }
 
     /// From a moment on a process does what the state says.
@@ -209,38 +146,53 @@ impl<'c, 'n> Sheet<'c, 'n> {
         moment: Moment,
     ) -> Result<(), AllocError> {
         let mut layers = Vec::new(self.alloc);
-        append_layers_of(&mut layers, state, process)?;
+        if let Some(row) = self.rows.get(index_of(process)) {
+            let pieces = row.pieces.as_slice();
+            append_layers_of(&mut layers, state, process, pieces, row.trial)?;
+        }
         self.change(process, layers.as_slice(), moment)
-    }
-
-    // Whether a process has no row of this strip yet.
-    fn is_unplaced(&self, index: usize) -> bool {
-        match self.rows.get(index) {
-            None => false,
-            Some(row) => !row.placed,
-        }
-    }
-
-    // Sees that a process has a row of this strip.
-    fn see(&mut self, index: usize) -> Result<(), AllocError> {
-        if self.is_unplaced(index) {
-            return self.place_row(index);
-        }
-        Ok(())
-    }
-
-    // The process has gone.
-    fn mark_gone(&mut self, process: u64) {
-        if let Some(row) = self.rows.get_mut(index_of(process)) {
-            row.gone = true;
-        }
     }
 
     /// A process is joined, or is over and never joined: its row ends.
     pub fn leave(&mut self, process: u64, moment: Moment) -> Result<(), AllocError> {
-        self.see(index_of(process))?;
         self.change(process, &[], moment)?;
-        self.mark_gone(process);
+        if let Some(row) = self.rows.get_mut(index_of(process)) {
+            row.gone = true;
+        }
+        Ok(())
+    }
+
+    // A process failed to take a monitor.
+    fn fail(
+        &mut self,
+        state: &SourceState,
+        attempt: Attempt,
+        moment: Moment,
+    ) -> Result<(), AllocError> {
+        if let Some(row) = self.rows.get_mut(index_of(attempt.process)) {
+            row.trial = Some(Trial {
+                monitor: attempt.monitor,
+                holder: attempt.holder,
+            });
+        }
+        self.follow(state, attempt.process, moment)
+    }
+
+    /// Draws the attempts that come behind fewer than so many actions, at a moment.
+    pub fn fail_all(
+        &mut self,
+        state: &SourceState,
+        count: u64,
+        moment: Moment,
+    ) -> Result<(), AllocError> {
+        let attempts = self.attempts;
+        for attempt in attempts {
+            if attempt.behind as u64 >= count {
+                break;
+            }
+            self.fail(state, *attempt, moment)?;
+            self.attempts = self.attempts.get(1..).unwrap_or(&[]);
+        }
         Ok(())
     }
 }

@@ -1,8 +1,9 @@
 -- Where a value is missing, no job is asked for.
-use Rattle.std.proofs.Common.{◌≡◌, ◌⊎◌, inl, inr, ℕ, List, None, codes}
+use Rattle.std.proofs.Common.{◌≡◌, ◌⊎◌, inl, inr, ℕ, List, Option, None, codes}
 use Rattle.clap.specs.Words.{Row, first_of}
 use Rattle.commandline.specs.CommandLine.{IsCheckOf, IsCompileOf, IsEmitOf, IsExplainOf, IsListOf, AsksForExec}
-use Rattle.commandline.specs.CommandLine.{IsExploreOf, ReadsStates}
+use Rattle.commandline.specs.CommandLine.{IsExploreOf, ReadsChart, ReadsStates}
+use Rattle.commandline.specs.declared.options.ChartOptions.{ChartOptions}
 use Rattle.commandline.specs.CommandLine.{AsksForReplay, AsksForRun, IsExplainedBy, IsReplayedBy, ReadsOptions}
 use Rattle.commandline.specs.CommandLine.{ReadsWorkers}
 use Rattle.commandline.specs.declared.options.ExplainedBy.{ExplainedBy}
@@ -26,7 +27,7 @@ no_compile rows (Compile file out workers hints) (inr (inr none)) h = none worke
 no_compile rows other missing h = h
 
 pub no_list : (rows : List Row) (job : Job) → first_of (codes "IMAGE") rows ≡ None → IsListOf rows job → ⊥
-no_list rows (List' image) none h = no_value _ _ none h
+no_list rows (List' image source hints) none h = no_value _ _ none h.0
 no_list rows other none h = h
 
 pub no_run : (rows : List Row) (job : Job)
@@ -50,10 +51,11 @@ no_replay rows (Replay file by trace hints) (inr none) h = none by h.1
 no_replay rows other missing h = h
 
 pub no_explain : (rows : List Row) (job : Job)
-    → (first_of (codes "FILE") rows ≡ None) ⊎ ((e : ExplainedBy) → IsExplainedBy rows e → ⊥) → IsExplainOf rows job
-    → ⊥
-no_explain rows (Explain file by chart timeline hints) (inl none) h = no_value _ _ none h.0
-no_explain rows (Explain file by chart timeline hints) (inr none) h = none by h.1
+    → (first_of (codes "FILE") rows ≡ None) ⊎ (((e : ExplainedBy) → IsExplainedBy rows e → ⊥)
+    ⊎ ((c : Option ChartOptions) → ReadsChart rows c → ⊥)) → IsExplainOf rows job → ⊥
+no_explain rows (Explain file by chart timeline places hints) (inl none) h = no_value _ _ none h.0
+no_explain rows (Explain file by chart timeline places hints) (inr (inl none)) h = none by h.1
+no_explain rows (Explain file by chart timeline places hints) (inr (inr none)) h = none chart h.2
 no_explain rows other missing h = h
 
 pub no_emit : (rows : List Row) (job : Job)
@@ -63,7 +65,9 @@ no_emit rows (Emit file out hints) (inr none) h = no_value _ _ none h.1
 no_emit rows other missing h = h
 
 pub no_explore : (rows : List Row) (job : Job)
-    → (first_of (codes "FILE") rows ≡ None) ⊎ ((n : ℕ) → ReadsStates rows n → ⊥) → IsExploreOf rows job → ⊥
+    → (first_of (codes "FILE") rows ≡ None) ⊎ (((n : ℕ) → ReadsStates rows n → ⊥)
+    ⊎ ((c : Option ChartOptions) → ReadsChart rows c → ⊥)) → IsExploreOf rows job → ⊥
 no_explore rows (Explore file states strays chart timeline hints) (inl none) h = no_value _ _ none h.0
-no_explore rows (Explore file states strays chart timeline hints) (inr none) h = none states h.1
+no_explore rows (Explore file states strays chart timeline hints) (inr (inl none)) h = none states h.1
+no_explore rows (Explore file states strays chart timeline hints) (inr (inr none)) h = none chart h.3
 no_explore rows other missing h = h

@@ -3,7 +3,8 @@ use Rattle.std.proofs.Common.{◌≡◌, ◌⊎◌, inl, inr, ◌||◌, ◌∙�
 use Rattle.std.proofs.Common.{codes, refl, sym, true≢false}
 use Rattle.clap.specs.Words.{Row, Text, first_of, one_of}
 use Rattle.commandline.specs.CommandLine.{IsExplainedBy, IsReplayedBy, ReadsOrder, ReadsSeed, ReadsSteps, ReadsStrays}
-use Rattle.commandline.specs.CommandLine.{IsNumberOf, has_any, is_written}
+use Rattle.commandline.specs.CommandLine.{IsNumberOf, ReadsAction, ReadsChart, has_any, is_written}
+use Rattle.commandline.specs.declared.options.ChartOptions.{ChartOptions}
 use Rattle.commandline.specs.declared.options.ExplainedBy.{ExplainedBy}
 use Rattle.commandline.specs.declared.options.ExplainedBy.TheVariants.{Order as ByOrder, Seed as BySeed}
 use Rattle.commandline.specs.declared.options.ExplainedBy.TheVariants.{Schedule as BySchedule, Log as ByLog}
@@ -43,6 +44,27 @@ pub no_count : (rows : List Row) (s : Option ℕ) → is_written (codes "strays"
     → ((n : ℕ) → IsNumberOf (one_of (codes "strays") rows) 32 n → ⊥) → ReadsStrays rows s → ⊥
 no_count rows None written none h = clash _ written h
 no_count rows (Some n) written none h = none n h.1
+
+-- where no number can be read for an action that is asked for, none is asked for
+pub no_action : (name : Text) (rows : List Row) (a : Option ℕ) → is_written name rows ≡ true
+    → ((n : ℕ) → IsNumberOf (one_of name rows) 64 n → ⊥) → ReadsAction name rows a → ⊥
+no_action name rows None written none h = clash _ written h
+no_action name rows (Some n) written none h = none n h.1
+
+-- where one of the two actions can't be read, no picture is asked for
+pub no_actions : (rows : List Row) (c : Option ChartOptions)
+    → ((a : Option ℕ) → ReadsAction (codes "from") rows a → ⊥)
+    ⊎ ((a : Option ℕ) → ReadsAction (codes "to") rows a → ⊥) → ReadsChart rows c → ⊥
+no_actions rows None (inl none) h = none None (first_out (codes "from") (codes "to" ∷ []) rows h.1)
+no_actions rows None (inr none) h = none None (second_out (codes "from") (codes "to") [] rows h.1)
+no_actions rows (Some c) (inl none) h = none c.from h.1
+no_actions rows (Some c) (inr none) h = none c.to h.2
+
+-- which actions a picture has is said beside its file alone
+pub no_chart : (rows : List Row) (c : Option ChartOptions) → first_of (codes "chart") rows ≡ None
+    → has_any (codes "from" ∷ codes "to" ∷ []) rows ≡ true → ReadsChart rows c → ⊥
+no_chart rows None none some h = clash _ some h.1
+no_chart rows (Some c) none some h = no_value _ _ none h.0
 
 -- what stands beside a seed alone has no order where none stands
 pub no_strays : (rows : List Row) (o : Order) → is_written (codes "seed") rows ≡ false

@@ -21,6 +21,7 @@ use Rattle.commandline.specs.declared.options.ExplainedBy.TheVariants.{Order as 
 use Rattle.commandline.specs.declared.options.ExplainedBy.TheVariants.{Seed as ExplainedBySeed}
 use Rattle.commandline.specs.declared.options.ExplainedBy.TheVariants.{Schedule as ExplainedBySchedule}
 use Rattle.commandline.specs.declared.options.ExplainedBy.TheVariants.{Log as ExplainedByLog}
+use Rattle.commandline.specs.declared.options.ChartOptions.{ChartOptions}
 use Rattle.commandline.specs.declared.options.RunOptions.{RunOptions}
 use Rattle.commandline.specs.declared.job.Job.{Job}
 use Rattle.commandline.specs.declared.job.Job.TheVariants.{Check, Compile, List as List', Run, Exec, Replay}
@@ -73,6 +74,14 @@ strays_option = record (new_rule (codes "strays")) {
   parser = Some (Unsigned 1 4294967295);
 }
 
+-- `--NAME N`, the number of an action: one of 64 bits, from 1
+abbrev pub action_option : Text → Rule
+action_option name = record (new_rule name) {
+  long = Some name;
+  value_names = 1;
+  parser = Some (Unsigned 1 18446744073709551615);
+}
+
 -- an option that has a value, of which no more is known
 abbrev pub valued : Text → Rule
 valued name = record (new_rule name) { long = Some name; value_names = 1 }
@@ -103,9 +112,11 @@ emit_command =
 abbrev pub check_command : App
 check_command = with_rule (with_rule (new_app (codes "check")) (positional (codes "FILE"))) (flag (codes "hints"))
 
--- `list IMAGE`
+-- `list IMAGE [--source FILE] [--hints]`
 abbrev pub list_command : App
-list_command = with_rule (new_app (codes "list")) (positional (codes "IMAGE"))
+list_command =
+    with_rule (with_rule (with_rule (new_app (codes "list")) (positional (codes "IMAGE"))) (valued (codes "source")))
+    (flag (codes "hints"))
 
 -- `run FILE [--steps N] [--in-order | --seed N [--strays N]] [--trace] [--log OUT] [--hints]`
 abbrev pub run_command : App
@@ -122,21 +133,27 @@ replay_command =
     with_rule (with_rule (with_rule (with_rule (with_rule (new_app (codes "replay")) (positional (codes "FILE")))
     (new_rule (codes "SCHEDULE"))) (flag (codes "trace"))) (valued (codes "log"))) (flag (codes "hints"))
 
--- `explain FILE [[--steps N] [--seed N [--strays N]] | --schedule SCHEDULE | --log LOG] [--chart OUT] [--timeline OUT]
--- [--hints]`
+-- `[--chart OUT [--from N] [--to N]]`
+abbrev pub with_chart_options : App → App
+with_chart_options app =
+    with_rule (with_rule (with_rule app (valued (codes "chart"))) (action_option (codes "from")))
+    (action_option (codes "to"))
+
+-- `explain FILE [[--steps N] [--seed N [--strays N]] | --schedule SCHEDULE | --log LOG]
+-- [--chart OUT [--from N] [--to N]] [--timeline OUT] [--places] [--hints]`
 abbrev pub explain_command : App
 explain_command =
-    with_rule (with_rule (with_rule (with_rule (with_rule (with_rule (with_rule (with_rule (with_rule
-    (new_app (codes "explain")) (positional (codes "FILE"))) steps_option) seed_option) strays_option)
-    (valued (codes "schedule"))) (valued (codes "log"))) (valued (codes "chart"))) (valued (codes "timeline")))
+    with_rule (with_rule (with_rule (with_chart_options (with_rule (with_rule (with_rule (with_rule (with_rule
+    (with_rule (new_app (codes "explain")) (positional (codes "FILE"))) steps_option) seed_option) strays_option)
+    (valued (codes "schedule"))) (valued (codes "log")))) (valued (codes "timeline"))) (flag (codes "places")))
     (flag (codes "hints"))
 
--- `explore FILE [--states N] [--strays] [--chart OUT] [--timeline OUT] [--hints]`
+-- `explore FILE [--states N] [--strays] [--chart OUT [--from N] [--to N]] [--timeline OUT] [--hints]`
 abbrev pub explore_command : App
 explore_command =
-    with_rule (with_rule (with_rule (with_rule (with_rule (with_rule (new_app (codes "explore"))
-    (positional (codes "FILE"))) states_option) (flag (codes "strays"))) (valued (codes "chart")))
-    (valued (codes "timeline"))) (flag (codes "hints"))
+    with_rule (with_rule (with_chart_options (with_rule (with_rule (with_rule (new_app (codes "explore"))
+    (positional (codes "FILE"))) states_option) (flag (codes "strays")))) (valued (codes "timeline")))
+    (flag (codes "hints"))
 
 -- whether the words have this argument; its default, which they don't have, is no such
 abbrev pub is_of_words : Option ValueSource → Bool
@@ -177,6 +194,19 @@ abbrev pub ReadsStrays : List Row → Option ℕ → Type 0
 ReadsStrays rows None = is_written (codes "strays") rows ≡ false
 ReadsStrays rows (Some strays) =
     (is_written (codes "strays") rows ≡ true) × IsNumberOf (one_of (codes "strays") rows) 32 strays
+
+-- the text that stands for this argument is the number of an action, where one stands
+abbrev pub ReadsAction : Text → List Row → Option ℕ → Type 0
+ReadsAction name rows None = is_written name rows ≡ false
+ReadsAction name rows (Some action) = (is_written name rows ≡ true) × IsNumberOf (one_of name rows) 64 action
+
+-- the picture that is asked for, where one is; which actions it has stands beside its file alone
+abbrev pub ReadsChart : List Row → Option ChartOptions → Type 0
+ReadsChart rows None =
+    (first_of (codes "chart") rows ≡ None) × (has_any (codes "from" ∷ codes "to" ∷ []) rows ≡ false)
+ReadsChart rows (Some chart) =
+    (first_of (codes "chart") rows ≡ Some chart.out.now) × ReadsAction (codes "from") rows chart.from
+    × ReadsAction (codes "to") rows chart.to
 
 -- whether a flag stands
 abbrev pub ReadsFlag : Text → List Row → Bool → Type 0
@@ -253,7 +283,9 @@ IsCompileOf rows other = ⊥
 
 -- a job of listing
 abbrev pub IsListOf : List Row → Job → Type 0
-IsListOf rows (List' image) = first_of (codes "IMAGE") rows ≡ Some image.now
+IsListOf rows (List' image source hints) =
+    (first_of (codes "IMAGE") rows ≡ Some image.now)
+    × (first_of (codes "source") rows ≡ option_map (λ file. file.now) source) × ReadsFlag (codes "hints") rows hints
 IsListOf rows other = ⊥
 
 -- a job of running a source text
@@ -276,10 +308,10 @@ AsksForReplay rows other = ⊥
 
 -- a job of explaining
 abbrev pub IsExplainOf : List Row → Job → Type 0
-IsExplainOf rows (Explain file by chart timeline hints) =
-    (first_of (codes "FILE") rows ≡ Some file.now) × IsExplainedBy rows by
-    × (first_of (codes "chart") rows ≡ option_map (λ out. out.now) chart)
-    × (first_of (codes "timeline") rows ≡ option_map (λ out. out.now) timeline) × ReadsFlag (codes "hints") rows hints
+IsExplainOf rows (Explain file by chart timeline places hints) =
+    (first_of (codes "FILE") rows ≡ Some file.now) × IsExplainedBy rows by × ReadsChart rows chart
+    × (first_of (codes "timeline") rows ≡ option_map (λ out. out.now) timeline)
+    × ReadsFlag (codes "places") rows places × ReadsFlag (codes "hints") rows hints
 IsExplainOf rows other = ⊥
 
 -- a job of writing C
@@ -293,7 +325,7 @@ IsEmitOf rows other = ⊥
 abbrev pub IsExploreOf : List Row → Job → Type 0
 IsExploreOf rows (Explore file states strays chart timeline hints) =
     (first_of (codes "FILE") rows ≡ Some file.now) × ReadsStates rows states × ReadsFlag (codes "strays") rows strays
-    × (first_of (codes "chart") rows ≡ option_map (λ out. out.now) chart)
+    × ReadsChart rows chart
     × (first_of (codes "timeline") rows ≡ option_map (λ out. out.now) timeline) × ReadsFlag (codes "hints") rows hints
 IsExploreOf rows other = ⊥
 

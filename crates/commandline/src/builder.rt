@@ -25,7 +25,21 @@ const TRACE: &str = "Shows each entry of the log on standard error";
 
 const ALL_STRAYS: &str = "Searches the runs with stray wakes too";
 
-const HINTS: &str = "Shows hints behind a refusal of the source text";
+const HINTS: &str = "Shows hints behind a refusal, a failure or the end of a run";
+
+const PLACES: &str = "Shows where in the text each action was done, and what it did";
+
+// What the file of a picture is, and which actions it has.
+const RUN_CHART: &str = "Where the picture of the run is written";
+
+const FOUND_CHART: &str = "Where the picture of what is found is written";
+
+const FROM: &str = "Beside --chart: the number of the first action that is drawn";
+
+const TO: &str = "Beside --chart: the number of the last action that is drawn";
+
+// What the text of an image is.
+const SOURCE: &str = "The source text of the image, whose lines stand between the instructions";
 
 // What the stray wakes of a run by a seed are.
 const STRAYS: &str =
@@ -103,7 +117,9 @@ fn list_command<'a>(alloc: Global) -> Result<Command<'a>, AllocError>
 {
     Command::new(alloc, "list")
         .about("Prints the instructions of an image")
-        .arg(positional(alloc, "IMAGE", "The image"))
+        .arg(positional(alloc, "IMAGE", "The image"))?
+        .arg(valued(alloc, "source", "FILE", SOURCE))?
+        .arg(flag(alloc, "hints", HINTS))
 }
 
 /// `run`, without the command above it.
@@ -157,26 +173,38 @@ pub fn replay_command<'a>(alloc: Global) -> Result<Command<'a>, AllocError>
         .arg(flag(alloc, "hints", HINTS))
 }
 
+// A command with the options of a picture.
+fn with_chart_options<'a>(
+    alloc: Global,
+    command: Command<'a>,
+    help: &'a str,
+) -> Result<Command<'a>, AllocError>
+    requires { (fields_of command).has_globals ≡ false }
+    ensures app { IfOk result (λ c. app_of c ≡ line.with_chart_options (app_of command.entry)) }
+    ensures local { IfOk result (λ c. (fields_of c).has_globals ≡ false) }
+{
+    command
+        .arg(valued(alloc, "chart", "OUT", help))?
+        .arg(action_option(alloc, "from", FROM))?
+        .arg(action_option(alloc, "to", TO))
+}
+
 /// `explain`, without the command above it.
 pub fn explain_command<'a>(alloc: Global) -> Result<Command<'a>, AllocError>
     ensures app { IfOk result (λ c. app_of c ≡ line.explain_command) }
     ensures local { IfOk result (λ c. (fields_of c).has_globals ≡ false) }
 {
-    Command::new(alloc, "explain")
+    let command = Command::new(alloc, "explain")
         .about("Runs a source text and prints what its processes do")
         .arg(positional(alloc, "FILE", "The source text"))?
         .arg(steps_option(alloc))?
         .arg(seed_option(alloc))?
         .arg(strays_option(alloc))?
         .arg(valued(alloc, "schedule", "SCHEDULE", "The threads of its steps"))?
-        .arg(valued(alloc, "log", "LOG", "The log of the run"))?
-        .arg(valued(
-            alloc,
-            "chart",
-            "OUT",
-            "Where the picture of the run is written",
-        ))?
+        .arg(valued(alloc, "log", "LOG", "The log of the run"))?;
+    with_chart_options(alloc, command, RUN_CHART)?
         .arg(valued(alloc, "timeline", "OUT", TIMELINE))?
+        .arg(flag(alloc, "places", PLACES))?
         .arg(flag(alloc, "hints", HINTS))
 }
 
@@ -191,21 +219,17 @@ fn emit_command<'a>(alloc: Global) -> Result<Command<'a>, AllocError>
         .arg(flag(alloc, "hints", HINTS))
 }
 
-fn explore_command<'a>(alloc: Global) -> Result<Command<'a>, AllocError>
+/// `explore`, without the command above it.
+pub fn explore_command<'a>(alloc: Global) -> Result<Command<'a>, AllocError>
     ensures app { IfOk result (λ c. app_of c ≡ line.explore_command) }
     ensures local { IfOk result (λ c. (fields_of c).has_globals ≡ false) }
 {
-    Command::new(alloc, "explore")
+    let command = Command::new(alloc, "explore")
         .about("Searches all runs of a source text for one that gets stuck or aborts")
         .arg(positional(alloc, "FILE", "The source text"))?
         .arg(states_option(alloc))?
-        .arg(flag(alloc, "strays", ALL_STRAYS))?
-        .arg(valued(
-            alloc,
-            "chart",
-            "OUT",
-            "Where the picture of what is found is written",
-        ))?
+        .arg(flag(alloc, "strays", ALL_STRAYS))?;
+    with_chart_options(alloc, command, FOUND_CHART)?
         .arg(valued(alloc, "timeline", "OUT", TIMELINE))?
         .arg(flag(alloc, "hints", HINTS))
 }
@@ -281,6 +305,18 @@ fn strays_option<'a>(alloc: Global) -> Arg<'a>
         .value_name("N")
         .value_parser(ValueParser::unsigned(1, u32::MAX as u64))
         .help(STRAYS)
+}
+
+// An option `--NAME N`, the number of an action.
+fn action_option<'a>(alloc: Global, name: &'a str, help: &'a str) -> Arg<'a>
+    ensures rule { rule_of result ≡ line.action_option name.entry.now }
+    ensures local { result.global ≡ false }
+{
+    Arg::new(alloc, name)
+        .long(name)
+        .value_name("N")
+        .value_parser(ValueParser::unsigned(1, u64::MAX))
+        .help(help)
 }
 
 // An option `--NAME`.

@@ -9,10 +9,10 @@ ghost use Rattle.commandline.specs.declared.job.Job.{Job as JobOf};
 
 use crate::builder::command;
 use crate::fault::WordsFault;
-use crate::options::{ExplainedBy, ReplayedBy, RunOptions};
+use crate::options::{ChartOptions, ExplainedBy, ReplayedBy, RunOptions};
 use crate::refusing::refusal_of;
 use crate::sources::{explained_by, replayed_by};
-use crate::values::{options_of, states_of, workers_of};
+use crate::values::{chart_of, options_of, states_of, workers_of};
 use clap::{ArgMatches, Command, Error};
 use std::alloc::Global;
 
@@ -41,6 +41,10 @@ pub enum Job<'a> {
     List {
         /// The name of the image's file.
         image: &'a str,
+        /// The name of the file of the source text whose image it is, where its lines stand between the instructions.
+        source: Option<&'a str>,
+        /// Whether hints stand behind a refusal of the source text.
+        hints: bool,
     },
     /// Run the source text of a file.
     Run {
@@ -48,7 +52,7 @@ pub enum Job<'a> {
         file: &'a str,
         /// How it goes.
         options: RunOptions<'a>,
-        /// Whether hints stand behind a refusal of the source text.
+        /// Whether hints stand behind what is told.
         hints: bool,
     },
     /// Run an image.
@@ -67,7 +71,7 @@ pub enum Job<'a> {
         by: ReplayedBy<'a>,
         /// Whether the log is shown.
         trace: bool,
-        /// Whether hints stand behind a refusal of the source text.
+        /// Whether hints stand behind what is told.
         hints: bool,
     },
     /// Print the source actions that a run of the source text of a file is, and draw and time them where that is wanted.
@@ -76,11 +80,13 @@ pub enum Job<'a> {
         file: &'a str,
         /// Which run it is.
         by: ExplainedBy<'a>,
-        /// The name of the picture's file, where one is wanted.
-        chart: Option<&'a str>,
+        /// The picture of it, where one is wanted.
+        chart: Option<ChartOptions<'a>>,
         /// The name of the timeline's file, where one is wanted.
         timeline: Option<&'a str>,
-        /// Whether hints stand behind a refusal of the source text.
+        /// Whether each action goes on with its place.
+        places: bool,
+        /// Whether hints stand behind what is told.
         hints: bool,
     },
     /// Write the program of a file as one in C.
@@ -101,8 +107,8 @@ pub enum Job<'a> {
         states: u32,
         /// Whether the runs with stray wakes are searched too.
         strays: bool,
-        /// The name of the picture's file, where one is wanted.
-        chart: Option<&'a str>,
+        /// The picture of it, where one is wanted.
+        chart: Option<ChartOptions<'a>>,
         /// The name of the timeline's file, where one is wanted.
         timeline: Option<&'a str>,
         /// Whether hints stand behind a refusal of the source text.
@@ -204,7 +210,13 @@ fn list_of<'a>(matches: &ArgMatches<'a>) -> Option<Job<'a>>
         → ⊥ }
 {
     let image = matches.get_str("IMAGE")?;
-    Some(Job::List { image })
+    let source = matches.get_str("source");
+    let hints = matches.get_flag("hints");
+    Some(Job::List {
+        image,
+        source,
+        hints,
+    })
 }
 
 fn run_of<'a>(matches: &ArgMatches<'a>) -> Option<Job<'a>>
@@ -256,14 +268,16 @@ fn explain_of<'a>(matches: &ArgMatches<'a>) -> Option<Job<'a>>
 {
     let file = matches.get_str("FILE")?;
     let by = explained_by(matches)?;
-    let chart = matches.get_str("chart");
+    let chart = chart_of(matches)?;
     let timeline = matches.get_str("timeline");
+    let places = matches.get_flag("places");
     let hints = matches.get_flag("hints");
     Some(Job::Explain {
         file,
         by,
         chart,
         timeline,
+        places,
         hints,
     })
 }
@@ -287,7 +301,7 @@ fn explore_of<'a>(matches: &ArgMatches<'a>) -> Option<Job<'a>>
     let file = matches.get_str("FILE")?;
     let states = states_of(matches)?;
     let strays = matches.get_flag("strays");
-    let chart = matches.get_str("chart");
+    let chart = chart_of(matches)?;
     let timeline = matches.get_str("timeline");
     let hints = matches.get_flag("hints");
     Some(Job::Explore {

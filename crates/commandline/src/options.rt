@@ -30,6 +30,17 @@ pub struct RunOptions<'a> {
     pub log: Option<&'a str>,
 }
 
+/// Where a run is drawn, and which of its actions. They count from 1.
+#[derive(Clone, Copy, PartialEq, Eq, Debug)]
+pub struct ChartOptions<'a> {
+    /// The name of the picture's file.
+    pub out: &'a str,
+    /// The first action that is drawn, where one is named.
+    pub from: Option<u64>,
+    /// The last one.
+    pub to: Option<u64>,
+}
+
 /// What a replay goes by.
 #[derive(Clone, Copy, PartialEq, Eq, Debug)]
 pub enum ReplayedBy<'a> {

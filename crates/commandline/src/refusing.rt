@@ -1,4 +1,5 @@
-use crate::builder::{exec_command, explain_command, replay_command, run_command};
+use crate::builder::{exec_command, explain_command, explore_command, replay_command, run_command};
+use crate::sources::explained_by;
 use crate::values::is_written;
 use clap::error::ErrorKind;
 use clap::{ArgMatches, Command, Error};
@@ -12,6 +13,11 @@ const NO_SEED: &str = "the argument '--strays <N>' cannot be used without '--see
 
 // What is said of a replay by nothing.
 const NO_SCHEDULE: &str = "one of <SCHEDULE> and '--log <LOG>' has to be given";
+
+// What is said of actions that no picture has.
+const NO_CHART_FROM: &str = "the argument '--from <N>' cannot be used without '--chart <OUT>'";
+
+const NO_CHART_TO: &str = "the argument '--to <N>' cannot be used without '--chart <OUT>'";
 
 /// What is said of words that the parser takes and that ask for no job.
 pub fn refusal_of(alloc: Global, command: &mut Command<'_>, matches: &ArgMatches<'_>) -> Error {
@@ -36,7 +42,12 @@ fn told(
             let why = (ErrorKind::MissingRequiredArgument, NO_SCHEDULE);
             told_by(replay_command(alloc)?, "mesamon replay", why)
         }
-        _ => told_by(explain_command(alloc)?, "mesamon explain", no_run(inner)),
+        "explore" => told_by(explore_command(alloc)?, "mesamon explore", no_chart(inner)),
+        _ => told_by(
+            explain_command(alloc)?,
+            "mesamon explain",
+            no_explanation(inner),
+        ),
     }
 }
 
@@ -57,6 +68,25 @@ fn no_order(matches: &ArgMatches<'_>) -> (ErrorKind, &'static str) {
     } else {
         (ErrorKind::MissingRequiredArgument, NO_SEED)
     }
+}
+
+// Why the arguments of `explain` ask for nothing.
+fn no_explanation(matches: &ArgMatches<'_>) -> (ErrorKind, &'static str) {
+    if explained_by(matches).is_some() {
+        no_chart(matches)
+    } else {
+        no_run(matches)
+    }
+}
+
+// Which actions are named where no picture is.
+fn no_chart(matches: &ArgMatches<'_>) -> (ErrorKind, &'static str) {
+    let message = if is_written(matches, "from") {
+        NO_CHART_FROM
+    } else {
+        NO_CHART_TO
+    };
+    (ErrorKind::MissingRequiredArgument, message)
 }
 
 // Why the arguments name no one run that can be explained.

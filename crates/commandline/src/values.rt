@@ -1,13 +1,14 @@
-ghost use Rattle.std.specs.Prelude.{IfSome, None, Option as OptionOf, ℕ, ◌≡◌};
+ghost use Rattle.std.specs.Prelude.{IfSome, None, Option as OptionOf, ℕ, ◌≡◌, [], ◌∷◌, codes};
 ghost use Rattle.clap.specs.Words.{found_of, one_of};
 ghost use Rattle.clap.specs.Walk.{rows_of};
 ghost use Rattle.commandline.specs.CommandLine as line;
 ghost use Rattle.commandline.specs.CommandLine.{IsNumberOf, ReadsOptions, ReadsOrder, ReadsSeed, ReadsSteps};
-ghost use Rattle.commandline.specs.CommandLine.{ReadsStates, ReadsStrays, ReadsWorkers};
+ghost use Rattle.commandline.specs.CommandLine.{ReadsAction, ReadsChart, ReadsStates, ReadsStrays, ReadsWorkers};
+ghost use Rattle.commandline.specs.declared.options.ChartOptions.{ChartOptions as ChartOf};
 ghost use Rattle.commandline.specs.declared.options.Order.{Order as OrderOf};
 ghost use Rattle.commandline.specs.declared.options.RunOptions.{RunOptions as OptionsOf};
 
-use crate::options::{MOST_WORKERS, Order, RunOptions};
+use crate::options::{ChartOptions, MOST_WORKERS, Order, RunOptions};
 use clap::ArgMatches;
 use clap::parser::ValueSource;
 
@@ -31,6 +32,15 @@ fn number_of(matches: &ArgMatches<'_>, id: &str) -> Option<u32>
         → IsNumberOf (one_of id.now (rows_of (found_of matches.now))) 32 n → ⊥ }
 {
     matches.get_one::<u32>(id)
+}
+
+// The number of 64 bits that stands for this argument.
+fn long_number_of(matches: &ArgMatches<'_>, id: &str) -> Option<u64>
+    ensures number { IfSome result (IsNumberOf (one_of id.now (rows_of (found_of matches.now))) 64) }
+    ensures none { result ≡ None → (n : ℕ)
+        → IsNumberOf (one_of id.now (rows_of (found_of matches.now))) 64 n → ⊥ }
+{
+    matches.get_one::<u64>(id)
 }
 
 /// The limit of steps.
@@ -67,7 +77,7 @@ pub fn seed_of(matches: &ArgMatches<'_>) -> Option<u64>
     ensures number { IfSome result (ReadsSeed (rows_of (found_of matches.now))) }
     ensures none { result ≡ None → (n : ℕ) → ReadsSeed (rows_of (found_of matches.now)) n → ⊥ }
 {
-    matches.get_one::<u64>("seed")
+    long_number_of(matches, "seed")
 }
 
 /// How often a stray wake comes, where such are asked for.
@@ -81,6 +91,42 @@ pub fn strays_of(matches: &ArgMatches<'_>) -> Option<Option<u32>>
     }
     let strays = number_of(matches, "strays")?;
     Some(Some(strays))
+}
+
+// The number of an action, where one is asked for.
+fn action_of(matches: &ArgMatches<'_>, id: &str) -> Option<Option<u64>>
+    ensures action { IfSome result (ReadsAction id.now (rows_of (found_of matches.now))) }
+    ensures none { result ≡ None → (a : OptionOf ℕ)
+        → ReadsAction id.now (rows_of (found_of matches.now)) a → ⊥ }
+{
+    if !is_written(matches, id) {
+        return Some(None);
+    }
+    let action = long_number_of(matches, id)?;
+    Some(Some(action))
+}
+
+// Whether the words say which actions a picture has.
+fn names_actions(matches: &ArgMatches<'_>) -> bool
+    ensures { result
+        ≡ line.has_any (codes "from" ∷ codes "to" ∷ []) (rows_of (found_of matches.now)) }
+{
+    is_written(matches, "from") || is_written(matches, "to")
+}
+
+/// The picture that is asked for, where one is. Which actions it has is said beside its file alone.
+pub fn chart_of<'a>(matches: &ArgMatches<'a>) -> Option<Option<ChartOptions<'a>>>
+    ensures chart { IfSome result (ReadsChart (rows_of (found_of matches.now))) }
+    ensures none { result ≡ None → (c : OptionOf ChartOf)
+        → ReadsChart (rows_of (found_of matches.now)) c → ⊥ }
+{
+    let from = action_of(matches, "from")?;
+    let to = action_of(matches, "to")?;
+    match matches.get_str("chart") {
+        Some(out) => Some(Some(ChartOptions { out, from, to })),
+        None if names_actions(matches) => None,
+        None => Some(None),
+    }
 }
 
 // Who moves the threads of a run. A fixed order has no seed, and where no seed stands no stray wakes are asked for.

@@ -1,9 +1,10 @@
 -- What was asked for is a run of the text.
-use Rattle.std.proofs.Common.{List, ℕ, false, inl, inr, is_some}
+use Rattle.std.proofs.Common.{List, ℕ, inl, inr, is_some}
 use Rattle.commandline.specs.declared.options.ExplainedBy.{ExplainedBy}
 use Rattle.commandline.specs.declared.options.ExplainedBy.TheVariants.{Order, Seed, Schedule, Log}
 use Rattle.commandline.specs.declared.options.ReplayedBy.{ReplayedBy}
 use Rattle.commandline.specs.declared.options.ReplayedBy.TheVariants.{Schedule as BySchedule, Log as ByLog}
+use Rattle.runner.specs.Logs.{nothing_outside, outside_of}
 use Rattle.runner.specs.declared.report.Report.{Report}
 use Rattle.mesamon.specs.Asked.{IsExplainedAs, IsReplayedAs}
 use Rattle.mesamon.specs.Commands.{IsExplained, IsReportOf}
@@ -11,8 +12,8 @@ use Rattle.mesamon.specs.declared.explained_run.ExplainedRun.{ExplainedRun}
 
 pub explained_so : (by : ExplainedBy) (text : List ℕ) (r : ExplainedRun) → IsExplainedAs by text r
     → IsExplained text r
-explained_so (Order steps) text r h = inl (false, steps, h)
-explained_so (Seed steps seed strays) text r h = inl (is_some strays, steps, h)
+explained_so (Order steps) text r h = inl (nothing_outside, steps, h)
+explained_so (Seed steps seed strays) text r h = inl (outside_of (is_some strays) 0, steps, h)
 explained_so (Schedule name) text r h = inr (inl h)
 explained_so (Log name) text r h = inr (inr h)
 

@@ -1,5 +1,5 @@
 -- A report of a run of compiled code is explained by a run of the program.
-use Rattle.std.proofs.Common.{◌≡◌, ◌≢◌, ◌<◌, ◌^◌, ℕ, Bool, List, length, subst, arith}
+use Rattle.std.proofs.Common.{◌≡◌, ◌≢◌, ◌<◌, ◌^◌, ℕ, List, length, subst, arith}
 use Rattle.isa.specs.Programs.{Program}
 use Rattle.machine.specs.declared.event.Entry.{Entry}
 use Rattle.machine.specs.States.{state_of}
@@ -11,6 +11,7 @@ use Rattle.refinement.specs.Refines.{Refines}
 use Rattle.runner.specs.declared.fault.RunFault.{RunFault}
 use Rattle.runner.specs.declared.fault.RunFault.TheVariants.{Broken, Memory, Stray, CannotMove, Limit}
 use Rattle.runner.specs.declared.report.Report.{Report}
+use Rattle.runner.specs.Logs.{Outside}
 use Rattle.runner.specs.LogRuns.{RunsSo, LocallySo}
 use Rattle.runner.specs.Reports.{IsReport, CanFail, MeetsBroken}
 use Rattle.simulation.specs.ExplainedLog.{IsExplainedLog}
@@ -18,10 +19,10 @@ use Rattle.compiler.specs.Compiles.{IsCompiled}
 use Rattle.mesamon.specs.Running.{IsFailedRun, IsRunOfText}
 use Rattle.mesamon.proofs.Fitting.{fits_of}
 
-pub run_explained : RunsSo → (text : List ℕ) (image : Program) (strays : Bool) (limit : ℕ) (r : Report)
-    → IsCompiled text image → limit < 2 ^ 32 → IsReport image strays limit r → IsRunOfText text strays limit r
-run_explained runs text image strays limit r c below report =
-    let reported : IsReport (code_of c.program) strays limit r = subst (λ (p : Program). IsReport p strays limit r)
+pub run_explained : RunsSo → (text : List ℕ) (image : Program) (may : Outside) (limit : ℕ) (r : Report)
+    → IsCompiled text image → limit < 2 ^ 32 → IsReport image may limit r → IsRunOfText text may limit r
+run_explained runs text image may limit r c below report =
+    let reported : IsReport (code_of c.program) may limit r = subst (λ (p : Program). IsReport p may limit r)
     c.code report in
     let refines : Refines c.program (code_of c.program) = subst (λ (p : Program). Refines c.program p) c.code
     c.refines in
@@ -38,20 +39,20 @@ run_explained runs text image strays limit r c below report =
       explained = refines.follows steps (state_of (concrete r.last)) run few;
     }
 
-pub run_fails : (text : List ℕ) (image : Program) (strays : Bool) (limit : ℕ) (fault : RunFault)
-    → IsCompiled text image → CanFail image strays limit fault → IsFailedRun text strays limit fault
-run_fails text image strays limit fault c fails = record {
+pub run_fails : (text : List ℕ) (image : Program) (may : Outside) (limit : ℕ) (fault : RunFault)
+    → IsCompiled text image → CanFail image may limit fault → IsFailedRun text may limit fault
+run_fails text image may limit fault c fails = record {
   program = c.program;
   accepts = c.accepts;
-  fails = subst (λ (p : Program). CanFail p strays limit fault) c.code fails;
+  fails = subst (λ (p : Program). CanFail p may limit fault) c.code fails;
 }
 
 -- compiled code meets no step that may not be: the log that it would follow is a run of the machine, and local steps
 -- lead to none from there
-pub run_sound : RunsSo → LocallySo → (text : List ℕ) (image : Program) (strays : Bool) (limit : ℕ) (fault : RunFault)
-    → IsCompiled text image → CanFail image strays limit fault → limit < 2 ^ 32 → fault ≢ Broken
-run_sound runs locally text image strays limit Broken c fails below e =
-    let m : MeetsBroken (code_of c.program) strays limit = subst (λ (p : Program). MeetsBroken p strays limit) c.code
+pub run_sound : RunsSo → LocallySo → (text : List ℕ) (image : Program) (may : Outside) (limit : ℕ) (fault : RunFault)
+    → IsCompiled text image → CanFail image may limit fault → limit < 2 ^ 32 → fault ≢ Broken
+run_sound runs locally text image may limit Broken c fails below e =
+    let m : MeetsBroken (code_of c.program) may limit = subst (λ (p : Program). MeetsBroken p may limit) c.code
     fails in
     let refines : Refines c.program (code_of c.program) = subst (λ (p : Program). Refines c.program p) c.code
     c.refines in
@@ -59,12 +60,12 @@ run_sound runs locally text image strays limit Broken c fails below e =
     let (steps, run, count, same) = runs (code_of c.program) m.log m.concrete fits m.legal in
     let within = m.within in
     let few : length steps < 2 ^ 32 = omega arith in
-    let (awake, broken) = locally (code_of c.program) strays limit m fits in
+    let (awake, broken) = locally (code_of c.program) may limit m fits in
     refines.locally steps (state_of m.concrete) run few m.thread m.count m.origin m.here m.stands awake m.goes broken
-run_sound runs locally text image strays limit Memory c fails below e = absurd cc
-run_sound runs locally text image strays limit Stray c fails below e = absurd cc
-run_sound runs locally text image strays limit CannotMove c fails below e = absurd cc
-run_sound runs locally text image strays limit Limit c fails below e = absurd cc
+run_sound runs locally text image may limit Memory c fails below e = absurd cc
+run_sound runs locally text image may limit Stray c fails below e = absurd cc
+run_sound runs locally text image may limit CannotMove c fails below e = absurd cc
+run_sound runs locally text image may limit Limit c fails below e = absurd cc
 
 -- what is explained by the image of a program is explained by its code
 pub of_code : (p : ProgramOf) (image : Program) (log entries : List Entry) (actions : List Action) → image ≡ code_of p

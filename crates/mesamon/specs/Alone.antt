@@ -1,9 +1,10 @@
--- Which wakes from outside a run on the calling thread may have.
-use Rattle.std.specs.Prelude.{Bool, false, is_some}
+-- What may come from outside in a run on the calling thread.
+use Rattle.std.specs.Prelude.{is_some}
+use Rattle.runner.specs.Logs.{Outside, nothing_outside, outside_of}
 use Rattle.mesamon.specs.declared.explained_run.Alone.{Alone}
 use Rattle.mesamon.specs.declared.explained_run.Alone.TheVariants.{InOrder, Seed}
 
--- whether stray wakes may come in this order
-abbrev pub allows_strays : Alone → Bool
-allows_strays InOrder = false
-allows_strays (Seed seed strays) = is_some strays
+-- what may come from outside in this order
+abbrev pub outside_alone : Alone → Outside
+outside_alone InOrder = nothing_outside
+outside_alone (Seed seed strays) = outside_of (is_some strays) 0

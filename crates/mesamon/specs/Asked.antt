@@ -1,11 +1,14 @@
--- Which run of a text a command was asked for.
+-- Which run of a text a command was asked for, and whether it is told with more beside it.
 use Rattle.std.specs.Prelude.{ℕ, Bool, false, List, is_some}
 use Rattle.commandline.specs.declared.options.ExplainedBy.{ExplainedBy}
 use Rattle.commandline.specs.declared.options.ExplainedBy.TheVariants.{Order, Seed, Schedule, Log}
 use Rattle.commandline.specs.declared.options.Order.{Order as OrderOf}
 use Rattle.commandline.specs.declared.options.Order.TheVariants.{Workers, InOrder, Seed as InSeed}
+use Rattle.commandline.specs.declared.job.Job.{Job}
+use Rattle.commandline.specs.declared.job.Job.TheVariants.{Explain, List as ListImage}
 use Rattle.commandline.specs.declared.options.ReplayedBy.{ReplayedBy}
 use Rattle.commandline.specs.declared.options.ReplayedBy.TheVariants.{Schedule as BySchedule, Log as ByLog}
+use Rattle.runner.specs.Logs.{Outside, nothing_outside, outside_of}
 use Rattle.runner.specs.declared.report.Report.{Report}
 use Rattle.runner.specs.declared.schedule.Turn.{Turn}
 use Rattle.mesamon.specs.declared.explained_run.ExplainedRun.{ExplainedRun}
@@ -13,16 +16,22 @@ use Rattle.mesamon.specs.Explaining.{IsExplanation, IsExplanationOfText}
 use Rattle.mesamon.specs.Replaying.{IsReplayOfText}
 use Rattle.mesamon.specs.SourceLog.{IsExplanationOfLog, IsReplayOfLog}
 
--- whether stray wakes may come in a run in this order
-abbrev pub has_strays : OrderOf → Bool
-has_strays Workers = false
-has_strays InOrder = false
-has_strays (InSeed seed strays) = is_some strays
+-- what may come from outside in a run in this order
+abbrev pub outside_by : OrderOf → Outside
+outside_by Workers = nothing_outside
+outside_by InOrder = nothing_outside
+outside_by (InSeed seed strays) = outside_of (is_some strays) 0
+
+-- whether a job asks for more beside the lines that it writes: of a listing its source, of an explanation the places
+abbrev pub asks_for_more : Job → Bool
+asks_for_more (ListImage image source hints) = is_some source
+asks_for_more (Explain file by chart timeline places hints) = places
+asks_for_more other = false
 
 -- the run that is explained, by what is named
 abbrev pub IsExplainedAs : ExplainedBy → List ℕ → ExplainedRun → Type 0
-IsExplainedAs (Order steps) text r = IsExplanationOfText text false steps r
-IsExplainedAs (Seed steps seed strays) text r = IsExplanationOfText text (is_some strays) steps r
+IsExplainedAs (Order steps) text r = IsExplanationOfText text nothing_outside steps r
+IsExplainedAs (Seed steps seed strays) text r = IsExplanationOfText text (outside_of (is_some strays) 0) steps r
 IsExplainedAs (Schedule name) text r = (schedule : List Turn) × IsExplanation text (IsReplayOfText text schedule) r
 IsExplainedAs (Log name) text r = (lines : List ℕ) × IsExplanationOfLog text lines r
 

@@ -1,9 +1,10 @@
 -- What a run of a source text that is explained answers.
-use Rattle.std.specs.Prelude.{◌≡◌, ◌⊎◌, ℕ, Bool, List, map}
+use Rattle.std.specs.Prelude.{◌≡◌, ◌⊎◌, ℕ, List, map}
 use Rattle.scanner.specs.Refusals.{out_of_memory}
 use Rattle.program.specs.Names.{said_by}
 use Rattle.lowering.specs.Pieces.{code_of}
 use Rattle.source_states.specs.Actions.{action_of}
+use Rattle.runner.specs.Logs.{Outside}
 use Rattle.runner.specs.declared.report.Report.{Report}
 use Rattle.simulation.specs.ExplainedLog.{IsExplainedLog}
 use Rattle.compiler.specs.Accepts.{AcceptsText, RefusesText}
@@ -19,9 +20,9 @@ pub record IsExplanation (text : List ℕ) (IsOfKind : Report → Type 0) (r : E
   pub explained : IsExplainedLog (said_by r.checked) (code_of (said_by r.checked)) r.report.log.items
       (map action_of r.actions.items)
 
--- a run of the text's program within the limit, with wakes from outside only where strays may come, and its actions
-abbrev pub IsExplanationOfText : List ℕ → Bool → ℕ → ExplainedRun → Type 0
-IsExplanationOfText text strays limit r = IsExplanation text (IsRunOfText text strays limit) r
+-- a run of the text's program within the limit, with no more from outside than may be in it, and its actions
+abbrev pub IsExplanationOfText : List ℕ → Outside → ℕ → ExplainedRun → Type 0
+IsExplanationOfText text may limit r = IsExplanation text (IsRunOfText text may limit) r
 
 -- the text's refusal, or want of memory
 abbrev pub IsRefusedExplanation : List ℕ → ExplainSourceFault → Type 0

@@ -23,7 +23,7 @@ use Rattle.mesamon.specs.declared.explained_run.ExplainSourceFault.TheVariants a
 use Rattle.mesamon.specs.declared.source_log.SourceLogFault.{SourceLogFault}
 use Rattle.mesamon.specs.declared.source_log.SourceLogFault.TheVariants as log
 use Rattle.mesamon.specs.declared.failure.Failure.{Failure}
-use Rattle.mesamon.specs.declared.failure.Failure.TheVariants.{Usage, Read, Write, Refused, Image, Run, Schedule}
+use Rattle.mesamon.specs.declared.failure.Failure.TheVariants.{Usage, Read, Write, OtherImage, Refused, Image, Run, Schedule}
 use Rattle.mesamon.specs.declared.failure.Failure.TheVariants.{LogLine, LogEntry, Output, Memory}
 use Rattle.mesamon.specs.declared.status.Status.{Status}
 use Rattle.mesamon.specs.declared.status.Status.TheVariants as status
@@ -31,8 +31,9 @@ use Rattle.mesamon.specs.declared.status.Status.TheVariants as status
 -- the exit status of a failure
 abbrev pub status_of : Failure → Status
 status_of (Usage e) = status.Usage
-status_of (Read name) = status.Failed
-status_of (Write name) = status.Failed
+status_of (Read name reason) = status.Failed
+status_of (Write name reason) = status.Failed
+status_of (OtherImage name) = status.Failed
 status_of (Refused e hints) = status.Refused
 status_of (Image e) = status.Failed
 status_of (Run e) = status.Failed

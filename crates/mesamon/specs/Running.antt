@@ -1,5 +1,5 @@
 -- What a run of a source text answers.
-use Rattle.std.specs.Prelude.{◌≡◌, ◌⊎◌, ℕ, Bool, List}
+use Rattle.std.specs.Prelude.{◌≡◌, ◌⊎◌, ℕ, List}
 use Rattle.machine.specs.Runs.{MachineRun, Step}
 use Rattle.machine.specs.States.{state_of}
 use Rattle.machine.specs.Views.{concrete}
@@ -8,32 +8,33 @@ use Rattle.lowering.specs.Pieces.{code_of}
 use Rattle.refinement.specs.Refines.{Explained}
 use Rattle.runner.specs.declared.fault.RunFault.{RunFault}
 use Rattle.runner.specs.declared.report.Report.{Report}
+use Rattle.runner.specs.Logs.{Outside}
 use Rattle.runner.specs.Reports.{IsReport, CanFail}
 use Rattle.mesamon.specs.declared.source_run.RunSourceFault.{RunSourceFault}
 use Rattle.mesamon.specs.declared.source_run.RunSourceFault.TheVariants.{Refused, Run}
 use Rattle.compiler.specs.Accepts.{AcceptsText, RefusesText}
 use Rattle.scanner.specs.Refusals.{out_of_memory}
 
--- a report of a run of the code of the text's program, in which no wake comes from outside but where strays may: a run
--- of the machine, which a run of the program explains
-pub record IsRunOfText (text : List ℕ) (strays : Bool) (limit : ℕ) (report : Report) : Type 0 where
+-- a report of a run of the code of the text's program, with no more from outside than may be in it: a run of the machine,
+-- which a run of the program explains
+pub record IsRunOfText (text : List ℕ) (may : Outside) (limit : ℕ) (report : Report) : Type 0 where
   pub program : Program
   pub accepts : AcceptsText text program
-  pub is_report : IsReport (code_of program) strays limit report
+  pub is_report : IsReport (code_of program) may limit report
   pub steps : List Step
   pub machine_run : MachineRun (code_of program) steps (state_of (concrete report.last))
   pub explained : Explained program (code_of program) steps (state_of (concrete report.last))
 
 -- the run of that code can fail so
-pub record IsFailedRun (text : List ℕ) (strays : Bool) (limit : ℕ) (fault : RunFault) : Type 0 where
+pub record IsFailedRun (text : List ℕ) (may : Outside) (limit : ℕ) (fault : RunFault) : Type 0 where
   pub program : Program
   pub accepts : AcceptsText text program
-  pub fails : CanFail (code_of program) strays limit fault
+  pub fails : CanFail (code_of program) may limit fault
 
 -- the text's refusal, or want of memory, or a fault of the run
-abbrev pub IsRefusedRun : List ℕ → Bool → ℕ → RunSourceFault → Type 0
-IsRefusedRun text strays limit (Refused e) = (e ≡ out_of_memory) ⊎ RefusesText text e
-IsRefusedRun text strays limit (Run fault) = IsFailedRun text strays limit fault
+abbrev pub IsRefusedRun : List ℕ → Outside → ℕ → RunSourceFault → Type 0
+IsRefusedRun text may limit (Refused e) = (e ≡ out_of_memory) ⊎ RefusesText text e
+IsRefusedRun text may limit (Run fault) = IsFailedRun text may limit fault
 
 -- no refusal but for want of memory
 abbrev pub IsMemory : RunSourceFault → Type 0

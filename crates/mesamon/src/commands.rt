@@ -1,10 +1,10 @@
-ghost use Rattle.std.specs.Prelude.{◌≡◌, ◌≤◌, ◌⊎◌, List, IfOk, OnOk};
+ghost use Rattle.std.specs.Prelude.{◌≡◌, ◌≤◌, IfOk, OnOk, map};
 ghost use Rattle.devices.specs.Writing.{HasAll};
 ghost use Rattle.program.specs.Names.{said_by};
 ghost use Rattle.program.specs.Trees.{Program};
 ghost use Rattle.compiler.specs.Accepts.{AcceptsText};
 ghost use Rattle.compiler.specs.Compiles.{IsCompiled};
-ghost use Rattle.mesamon.specs.Commands.{HasChecked, HasCompiled, HasDone, HasEnded, HasListed};
+ghost use Rattle.mesamon.specs.Commands.{HasAnswered, HasChecked, HasCompiled};
 
 use crate::drawing::Drawings;
 use crate::explaining::explain_file;
@@ -13,13 +13,15 @@ use crate::failure::Failure;
 use crate::files::{bytes_of, put_bytes};
 use crate::hinting::{SourceText, hinted};
 use crate::lines::{line_of_image, write_text};
+use crate::listing::list_file;
 use crate::running::{exec_file, replay_file, run_file};
 use crate::status::Status;
+use crate::telling::{tell_failure, wants_hints};
 use commandline::{Job, line};
 use compiler::{check_text, compile_checked, compile_with};
 use devices::Counted;
 use emit::emit;
-use isa::{Image, decode, encode, list_lines};
+use isa::{Image, encode};
 use program::Checked;
 use std::alloc::Global;
 use std::io;
@@ -30,7 +32,8 @@ use std::thread::Threads;
 use words::OpenGate;
 
 /// Does the command that these words ask for, those after the program's name, and answers the exit status. `output`
-/// and `errors` stand for standard output and standard error.
+/// and `errors` stand for standard output and standard error; what is to stand behind what `errors` got is appended to
+/// `hints`, where the words ask for hints.
 ///
 /// The first fault decides: of the words, of reading the files, of the source text or the image, of its run, of
 /// writing.
@@ -45,25 +48,49 @@ pub fn perform<R: Files + AllocGlobal + Threads + Wait + Sync, O: Write, E: Writ
     words: &[&str],
     output: &mut Counted<O>,
     errors: &mut Counted<E>,
+    hints: &mut String,
 ) -> u8
     ensures known { result ≤ 6 }
-    ensures done { result ≡ 0 → HasCompiled
+    ensures done { result ≡ 0 → HasAnswered (map (λ w. w.now) words.now)
         (HasAll O.contents output.old output.new)
-        ⊎ (HasListed (HasAll O.contents output.old output.new)
-        ⊎ (HasEnded (HasAll O.contents output.old output.new)
-        (HasAll E.contents errors.old errors.new) Status.Done
-        ⊎ HasChecked (HasAll O.contents output.old output.new))) }
-    ensures stuck { result ≡ 3 → HasEnded (HasAll O.contents output.old output.new)
+        (HasAll E.contents errors.old errors.new) Status.Done }
+    ensures stuck { result ≡ 3 → HasAnswered (map (λ w. w.now) words.now)
+        (HasAll O.contents output.old output.new)
         (HasAll E.contents errors.old errors.new) Status.Stuck }
-    ensures limit { result ≡ 4 → HasEnded (HasAll O.contents output.old output.new)
+    ensures limit { result ≡ 4 → HasAnswered (map (λ w. w.now) words.now)
+        (HasAll O.contents output.old output.new)
         (HasAll E.contents errors.old errors.new) Status.Limit }
 {
-    match do_job(rt, words, output, errors) {
+    match do_job(rt, words, output, errors, hints) {
         Ok(status) => status.code(),
         Err(failure) => {
             let _told = tell(errors, &failure);
+            if wants_hints(words) {
+                tell_failure(hints, &failure);
+            }
             failure.status().code()
         }
+    }
+}
+
+/// As `perform`, and then writes the hints to `errors`, behind what they speak of. Where they can't be written, a command
+/// that ended well has failed.
+pub fn perform_with_hints<R: Files + AllocGlobal + Threads + Wait + Sync, O: Write, E: Write>(
+    rt: &R,
+    words: &[&str],
+    output: &mut Counted<O>,
+    errors: &mut Counted<E>,
+) -> u8
+    ensures { result ≤ 6 }
+{
+    let mut hints = String::new(rt.alloc());
+    let status = perform(rt, words, output, errors, &mut hints);
+    if hints.is_empty() || write_text(errors, hints.as_str()).is_ok() {
+        return status;
+    }
+    match status {
+        1 | 2 | 5 => status,
+        _ => Status::Failed.code(),
     }
 }
 
@@ -85,9 +112,11 @@ fn do_job<'a, R: Files + AllocGlobal + Threads + Wait + Sync, O: Write, E: Write
     words: &'a [&'a str],
     output: &mut Counted<O>,
     errors: &mut Counted<E>,
+    told: &mut String,
 ) -> Result<Status, Failure<'a>>
-    ensures { IfOk result (λ s. HasDone (HasAll O.contents output.old output.new)
-        (HasAll E.contents errors.old errors.new) s) }
+    ensures { IfOk result (HasAnswered (map (λ w. w.now) words.now)
+        (HasAll O.contents output.old output.new)
+        (HasAll E.contents errors.old errors.new)) }
 {
     match line(rt.alloc(), words)? {
         Job::Check { file, hints } => check_file(rt, file, hints, output),
@@ -97,26 +126,34 @@ fn do_job<'a, R: Files + AllocGlobal + Threads + Wait + Sync, O: Write, E: Write
             workers,
             hints,
         } => compile_file(rt, file, out, workers, hints, output),
-        Job::List { image } => list_file(rt, image, output),
+        Job::List {
+            image,
+            source,
+            hints,
+        } => list_file(rt, image, source, hints, output),
         Job::Run {
             file,
             options,
             hints,
-        } => run_file(rt, file, options, hints, output, errors),
+        } => run_file(rt, file, options, hints, output, errors, told),
         Job::Exec { image, options } => exec_file(rt, image, options, output, errors),
         Job::Replay {
             file,
             by,
             trace,
             hints,
-        } => replay_file(rt, file, by, trace, hints, output, errors),
+        } => replay_file(rt, file, by, trace, hints, output, errors, told),
         Job::Explain {
             file,
             by,
             chart,
             timeline,
+            places,
             hints,
-        } => explain_file(rt, file, by, Drawings { chart, timeline }, hints, output),
+        } => {
+            let drawings = Drawings { chart, timeline };
+            explain_file(rt, file, by, drawings, places, hints, output, told)
+        }
         Job::Emit { file, out, hints } => emit_file(rt, file, out, hints, output),
         Job::Explore {
             file,
@@ -127,7 +164,7 @@ fn do_job<'a, R: Files + AllocGlobal + Threads + Wait + Sync, O: Write, E: Write
             hints,
         } => {
             let drawings = Drawings { chart, timeline };
-            explore_file(rt, file, states, strays, drawings, hints, output)
+            explore_file(rt, file, states, strays, drawings, hints, output, told)
         }
     }
 }
@@ -238,22 +275,5 @@ fn emit_file<'a, R: Files + AllocGlobal, O: Write>(
     let lines = emit(rt.alloc(), &checked)?;
     put_bytes(rt, out, lines.as_slice())?;
     write_text(output, "ok\n")?;
-    Ok(Status::Done)
-}
-
-// Lists the instructions of an image's file.
-fn list_file<'a, R: Files + AllocGlobal, O: Write>(
-    rt: &R,
-    file: &'a str,
-    output: &mut Counted<O>,
-) -> Result<Status, Failure<'a>>
-    ensures done { IfOk result (λ s. s ≡ Status.Done) }
-    ensures wrote { OnOk result
-        (HasListed (HasAll O.contents output.old output.new)) }
-{
-    let bytes = bytes_of(rt, file)?;
-    let image = decode(rt.alloc(), bytes.as_slice())?;
-    let lines = list_lines(rt.alloc(), &image)?;
-    write_text(output, lines.as_str())?;
     Ok(Status::Done)
 }

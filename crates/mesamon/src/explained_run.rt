@@ -1,16 +1,17 @@
-ghost use Rattle.std.specs.Prelude.{◌≡◌, ◌<◌, ◌^◌, false, is_some, IfOk, IfErr, List, MatchResult, map, ℕ};
+ghost use Rattle.std.specs.Prelude.{◌≡◌, ◌<◌, ◌^◌, is_some, IfOk, IfErr, List, MatchResult, map, ℕ};
 ghost use Rattle.machine.specs.States.{ConcreteState};
 ghost use Rattle.program.specs.Names.{said_by};
 ghost use Rattle.program.specs.Trees.{Program};
 ghost use Rattle.source_states.specs.Actions.{action_of};
 ghost use Rattle.runner.specs.Logs.{cost};
+ghost use Rattle.runner.specs.Logs.{nothing_outside, outside_of};
 ghost use Rattle.runner.specs.Reports.{CanFail, IsReport};
 ghost use Rattle.simulation.specs.ExplainedLog.{IsExplainedLog, LeadsTo};
 ghost use Rattle.backend.specs.Lowered.{IsLowered};
 ghost use Rattle.backend.specs.Refusals.{CodeFits};
 ghost use Rattle.compiler.specs.Accepts.{AcceptsText};
 ghost use Rattle.compiler.specs.Compiles.{IsCompiled};
-ghost use Rattle.mesamon.specs.Alone.{allows_strays};
+ghost use Rattle.mesamon.specs.Alone.{outside_alone};
 ghost use Rattle.mesamon.specs.Explaining.{IsExplanation, IsExplanationOfText, IsRefusedExplanation, IsWantOfMemory};
 ghost use Rattle.mesamon.specs.Replaying.{IsReplayOfText, IsRefusedReplay, IsNoRefusal};
 ghost use Rattle.mesamon.specs.declared.explained_run.ExplainSourceFault.TheVariants.{Refused, Memory};
@@ -70,11 +71,11 @@ enum Alone {
 
 // Runs an image on the calling thread.
 fn run_alone(alloc: Global, image: &Image, limit: u32, order: Alone) -> Result<Report, RunFault>
-    ensures ok { IfOk result (λ report. IsReport image.now (allows_strays order) limit report) }
-    ensures err { IfErr result (λ fault. CanFail image.now (allows_strays order) limit fault) }
+    ensures ok { IfOk result (λ report. IsReport image.now (outside_alone order) limit report) }
+    ensures err { IfErr result (λ fault. CanFail image.now (outside_alone order) limit fault) }
 {
     match order {
-        Alone::Seed { seed, strays } => runner::run_by_seed(alloc, image, limit, seed, strays),
+        Alone::Seed { seed, strays } => runner::run_by_seed(alloc, image, limit, seed, strays, 0),
         Alone::InOrder => runner::run_in_order(alloc, image, limit, &OpenGate),
     }
 }
@@ -87,7 +88,7 @@ fn run_image(
     order: Alone,
 ) -> Result<Report, ExplainSourceFault>
     requires { (text : List ℕ) × IsCompiled text image.now }
-    ensures { MatchResult result (λ report. IsReport image.now (allows_strays order) limit report)
+    ensures { MatchResult result (λ report. IsReport image.now (outside_alone order) limit report)
         (λ fault. fault ≡ Memory) }
 {
     logs_are_machine_runs();
@@ -129,7 +130,7 @@ fn explain_alone<'a>(
     order: Alone,
 ) -> Result<ExplainedRun<'a>, ExplainSourceFault>
     ensures explained { IfOk result
-        (λ run. IsExplanationOfText text.now (allows_strays order) limit run) }
+        (λ run. IsExplanationOfText text.now (outside_alone order) limit run) }
     ensures fault { IfErr result (λ fault. IsRefusedExplanation text.now fault) }
     ensures only { (p : Program) → AcceptsText text.now p → CodeFits p
         → IfErr result (λ fault. IsWantOfMemory fault) }
@@ -156,7 +157,7 @@ pub fn explain_source<'a>(
     text: &'a [u8],
     limit: u32,
 ) -> Result<ExplainedRun<'a>, ExplainSourceFault>
-    ensures explained { IfOk result (λ run. IsExplanationOfText text.now false limit run) }
+    ensures explained { IfOk result (λ run. IsExplanationOfText text.now nothing_outside limit run) }
     ensures fault { IfErr result (λ fault. IsRefusedExplanation text.now fault) }
     ensures only { (p : Program) → AcceptsText text.now p → CodeFits p
         → IfErr result (λ fault. IsWantOfMemory fault) }
@@ -177,7 +178,7 @@ pub fn explain_by_seed<'a>(
     strays: Option<u32>,
 ) -> Result<ExplainedRun<'a>, ExplainSourceFault>
     ensures explained { IfOk result
-        (λ run. IsExplanationOfText text.now (is_some strays) limit run) }
+        (λ run. IsExplanationOfText text.now (outside_of (is_some strays) 0) limit run) }
     ensures fault { IfErr result (λ fault. IsRefusedExplanation text.now fault) }
     ensures only { (p : Program) → AcceptsText text.now p → CodeFits p
         → IfErr result (λ fault. IsWantOfMemory fault) }

@@ -6,11 +6,13 @@ ghost use Rattle.compiler.specs.Accepts.{RefusesText};
 ghost use Rattle.mesamon.specs.Exploring.{end_lines, explored_lines, explored_status, states_line};
 ghost use Rattle.mesamon.specs.Exploring.{HasExplored, IsExploredText, IsFoundOf};
 
-use crate::drawing::Drawings;
+use crate::drawing::{Drawings, ShownRun};
 use crate::failure::Failure;
 use crate::files::bytes_of;
 use crate::hinting::{SourceText, hinted};
 use crate::status::Status;
+use crate::telling::tell_found;
+use crate::titles::title_of_found;
 use actionlines::action_lines;
 use compiler::{compile_checked, text_laws};
 use devices::{Counted, write_bytes};
@@ -83,6 +85,7 @@ pub fn explore_file<'a, R: Files + AllocGlobal, O: Write>(
     drawings: Drawings<'a>,
     hints: bool,
     output: &mut Counted<O>,
+    told: &mut String,
 ) -> Result<Status, Failure<'a>>
     ensures { IfOk result
         (λ s. HasExplored (HasAll O.contents output.old output.new) s) }
@@ -95,7 +98,9 @@ pub fn explore_file<'a, R: Files + AllocGlobal, O: Write>(
     };
     let explored = explore_text(rt.alloc(), &text, most_states, strays)?;
     let lines = lines_of(rt.alloc(), &explored)?;
-    put_found(rt, drawings, &explored)?;
+    let found = shown(&explored.exploration);
+    tell_found(rt.alloc(), told, &text, &explored.checked, found);
+    put_found(rt, drawings, &text, &explored)?;
     write_bytes(output, lines.as_slice())?;
     Ok(status_of_found(&explored.exploration))
 }
@@ -116,19 +121,34 @@ fn explore_text<'a, 't>(
     ))
 }
 
-// Shows the run that was found in files: the stuck one, where there are two.
+// Shows the run that was found in files.
 fn put_found<'a, R: Files + AllocGlobal>(
     rt: &R,
     drawings: Drawings<'a>,
+    text: &SourceText<'_>,
     explored: &ExploredText<'_>,
 ) -> Result<(), Failure<'a>> {
-    let found = &explored.exploration;
-    if let Some(actions) = &found.stuck {
-        return drawings.put(rt, &explored.checked, actions.as_slice());
-    }
-    match &found.aborted {
-        Some(actions) => drawings.put(rt, &explored.checked, actions.as_slice()),
-        None => Ok(()),
+    let Some(actions) = shown(&explored.exploration) else {
+        return Ok(());
+    };
+    let is_stuck = explored.exploration.stuck.is_some();
+    let title = title_of_found(rt.alloc(), text.file, is_stuck)?;
+    let run = ShownRun {
+        text: text.bytes,
+        checked: &explored.checked,
+        actions,
+        log: &[],
+        title: title.as_str(),
+    };
+    drawings.put(rt, &run)
+}
+
+// The run that was found: the stuck one, where there are two.
+fn shown(found: &Exploration) -> Option<&[Action]> {
+    match (&found.stuck, &found.aborted) {
+        (Some(actions), _) => Some(actions.as_slice()),
+        (None, Some(actions)) => Some(actions.as_slice()),
+        (None, None) => None,
     }
 }
 

@@ -1,4 +1,4 @@
-ghost use Rattle.std.specs.Prelude.{◌≡◌};
+ghost use Rattle.std.specs.Prelude.{◌≡◌, None, Some};
 ghost use Rattle.std.specs.IoError.{error_kind};
 ghost use Rattle.mesamon.specs.declared.failure.Failure.TheVariants.{Memory as memory, Output as output};
 ghost use Rattle.mesamon.specs.Failures.{status_of, OfExplain, OfFault, OfImage, OfIo, OfRefusal};
@@ -24,12 +24,25 @@ pub enum Failure<'a> {
     /// The words of the command line are no command, or ask for help: what the user is told.
     #[error("{0}")]
     Usage(String),
-    /// The file of this name could not be read.
-    #[error("cannot read {0}")]
-    Read(&'a str),
-    /// The file of this name could not be written.
-    #[error("cannot write {0}")]
-    Write(&'a str),
+    /// A file could not be read.
+    #[error("cannot read {name}")]
+    Read {
+        /// Its name.
+        name: &'a str,
+        /// Why, where that is known.
+        reason: Option<io::ErrorKind>,
+    },
+    /// A file could not be written.
+    #[error("cannot write {name}")]
+    Write {
+        /// Its name.
+        name: &'a str,
+        /// Why, where that is known.
+        reason: Option<io::ErrorKind>,
+    },
+    /// The image is not that of the source text of the file of this name.
+    #[error("image of another text than {0}")]
+    OtherImage(&'a str),
     /// The source text was refused.
     #[error("{refusal}")]
     Refused {
@@ -65,33 +78,43 @@ pub enum Failure<'a> {
 impl<'a> Failure<'a> {
     /// The failure of reading a file.
     pub fn of_read(name: &'a str, error: &io::Error) -> Failure<'a>
-        ensures { OfIo (error_kind error.now) (Failure.Read name.entry) result }
+        ensures { OfIo (error_kind error.now)
+            (Failure.Read name.entry (Some (error_kind error.now))) result }
     {
-        if error.kind() == io::ErrorKind::OutOfMemory {
+        let kind = error.kind();
+        if kind == io::ErrorKind::OutOfMemory {
             Failure::Memory
         } else {
-            Failure::Read(name)
+            Failure::Read {
+                name,
+                reason: Some(kind),
+            }
         }
     }
 
     /// The failure of reading the bytes of a file.
     pub fn of_source(name: &'a str, fault: ReadFault) -> Failure<'a>
-        ensures { OfSource fault (Failure.Read name.entry) result }
+        ensures { OfSource fault (Failure.Read name.entry None) result }
     {
         match fault {
-            ReadFault::Device => Failure::Read(name),
+            ReadFault::Device => Failure::Read { name, reason: None },
             ReadFault::Memory => Failure::Memory,
         }
     }
 
     /// The failure of writing a file.
     pub fn of_write(name: &'a str, error: &io::Error) -> Failure<'a>
-        ensures { OfIo (error_kind error.now) (Failure.Write name.entry) result }
+        ensures { OfIo (error_kind error.now)
+            (Failure.Write name.entry (Some (error_kind error.now))) result }
     {
-        if error.kind() == io::ErrorKind::OutOfMemory {
+        let kind = error.kind();
+        if kind == io::ErrorKind::OutOfMemory {
             Failure::Memory
         } else {
-            Failure::Write(name)
+            Failure::Write {
+                name,
+                reason: Some(kind),
+            }
         }
     }
 
@@ -103,8 +126,9 @@ impl<'a> Failure<'a> {
             Failure::Usage(_) => Status::Usage,
             Failure::Refused { .. } => Status::Refused,
             Failure::Memory => Status::Memory,
-            Failure::Read(_)
-            | Failure::Write(_)
+            Failure::Read { .. }
+            | Failure::Write { .. }
+            | Failure::OtherImage(_)
             | Failure::Image(_)
             | Failure::Run(_)
             | Failure::Schedule(_)

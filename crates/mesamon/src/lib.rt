@@ -10,16 +10,23 @@ mod failure;
 mod files;
 mod hinting;
 mod lines;
+mod listing;
 mod replaying;
+mod run_ends;
+mod run_entries;
 mod running;
 mod schedule;
 mod showing;
 mod source_log;
 mod source_run;
 mod status;
+mod telling;
+mod titles;
 
-pub use commandline::{ExplainedBy, Job, Order, ReplayedBy, RunOptions, WordsFault, line};
-pub use commands::perform;
+pub use commandline::{
+    ChartOptions, ExplainedBy, Job, Order, ReplayedBy, RunOptions, WordsFault, line,
+};
+pub use commands::{perform, perform_with_hints};
 pub use compiler::{check_text, compile, compile_checked, compile_with};
 pub use devices::Counted;
 pub use explained_run::{

@@ -1,7 +1,7 @@
 ghost use Rattle.std.specs.Prelude.{◌≡◌, IfOk};
 ghost use Rattle.devices.specs.Writing.{HasAll};
 ghost use Rattle.runner.specs.Reports.{IsReport};
-ghost use Rattle.mesamon.specs.Asked.{IsReplayedAs, has_strays};
+ghost use Rattle.mesamon.specs.Asked.{IsReplayedAs, outside_by};
 ghost use Rattle.mesamon.specs.Commands.{HasExecuted, HasRun};
 ghost use Rattle.mesamon.specs.Running.{IsRunOfText};
 
@@ -14,9 +14,11 @@ use crate::showing::{Kept, show};
 use crate::source_log::replay_log_text;
 use crate::source_run::{RunSourceFault, run_by_seed, run_in_order, run_source};
 use crate::status::Status;
+use crate::telling::{tell_run, told_entry, told_turn};
 use commandline::{Order, ReplayedBy, RunOptions};
 use devices::Counted;
 use isa::{Image, decode};
+use run_hints::Way;
 use runner::{Report, RunFault};
 use std::io::Write;
 use std::rt::Files;
@@ -32,6 +34,7 @@ pub fn run_file<'a, R: Files + AllocGlobal + Threads + Wait + Sync, O: Write, E:
     hints: bool,
     output: &mut Counted<O>,
     errors: &mut Counted<E>,
+    told: &mut String,
 ) -> Result<Status, Failure<'a>>
     ensures { IfOk result (λ s. HasRun (HasAll O.contents output.old output.new)
         (HasAll E.contents errors.old errors.new) s) }
@@ -43,7 +46,17 @@ pub fn run_file<'a, R: Files + AllocGlobal + Threads + Wait + Sync, O: Write, E:
         hints,
     };
     let report = run_text(rt, &text, options.steps, options.order)?;
+    tell_run(rt.alloc(), told, &text, &report, way_of(options));
     show(rt, &report, kept_by(options), output, errors)
+}
+
+// How a run by these options is made.
+fn way_of(options: RunOptions<'_>) -> Way<'_> {
+    match options.order {
+        Order::Workers => Way::Workers(options.log),
+        Order::InOrder => Way::InOrder,
+        Order::Seed { seed, strays } => Way::Seed(seed, strays),
+    }
 }
 
 // Runs a text; its refusal with hints where they are wanted.
@@ -53,7 +66,7 @@ fn run_text<'a, R: AllocGlobal + Threads + Wait + Sync>(
     steps: u32,
     order: Order,
 ) -> Result<Report, Failure<'a>>
-    ensures { IfOk result (λ report. IsRunOfText text.now.bytes.now (has_strays order) steps report) }
+    ensures { IfOk result (λ report. IsRunOfText text.now.bytes.now (outside_by order) steps report) }
 {
     run_by(rt, text.bytes, steps, order).map_err(|fault| hinted(
         rt.alloc(),
@@ -68,7 +81,7 @@ fn run_by<R: AllocGlobal + Threads + Wait + Sync>(
     steps: u32,
     order: Order,
 ) -> Result<Report, RunSourceFault>
-    ensures { IfOk result (λ report. IsRunOfText text.now (has_strays order) steps report) }
+    ensures { IfOk result (λ report. IsRunOfText text.now (outside_by order) steps report) }
 {
     match order {
         Order::Workers => run_source(rt, rt.alloc(), text, steps, &OpenGate),
@@ -102,13 +115,13 @@ fn run_image<R: AllocGlobal + Threads + Wait + Sync>(
     steps: u32,
     order: Order,
 ) -> Result<Report, RunFault>
-    ensures { IfOk result (λ report. IsReport image.now (has_strays order) steps report) }
+    ensures { IfOk result (λ report. IsReport image.now (outside_by order) steps report) }
 {
     match order {
         Order::Workers => workers::run(rt, rt.alloc(), image, steps, &OpenGate),
         Order::InOrder => runner::run_in_order(rt.alloc(), image, steps, &OpenGate),
         Order::Seed { seed, strays } => {
-            runner::run_by_seed(rt.alloc(), image, steps, seed, strays)
+            runner::run_by_seed(rt.alloc(), image, steps, seed, strays, 0)
         }
     }
 }
@@ -122,6 +135,7 @@ pub fn replay_file<'a, R: Files + AllocGlobal, O: Write, E: Write>(
     hints: bool,
     output: &mut Counted<O>,
     errors: &mut Counted<E>,
+    told: &mut String,
 ) -> Result<Status, Failure<'a>>
     ensures { IfOk result (λ s. HasRun (HasAll O.contents output.old output.new)
         (HasAll E.contents errors.old errors.new) s) }
@@ -132,9 +146,18 @@ pub fn replay_file<'a, R: Files + AllocGlobal, O: Write, E: Write>(
         bytes: bytes.as_slice(),
         hints,
     };
-    let report = replay_text(rt, &text, by)?;
+    let report = replay_text(rt, &text, by, told)?;
+    tell_run(rt.alloc(), told, &text, &report, way_by(by));
     let log = log_beside(by);
     show(rt, &report, Kept { trace, log }, output, errors)
+}
+
+// How a replay is made.
+fn way_by(by: ReplayedBy<'_>) -> Way<'_> {
+    match by {
+        ReplayedBy::Schedule { schedule, .. } => Way::Schedule(schedule),
+        ReplayedBy::Log(log) => Way::Log(log),
+    }
 }
 
 // Runs a text by the schedule or the log of a file; its refusal with hints where they are wanted.
@@ -142,27 +165,36 @@ fn replay_text<'a, R: Files + AllocGlobal>(
     rt: &R,
     text: &SourceText<'_>,
     by: ReplayedBy<'a>,
+    told: &mut String,
 ) -> Result<Report, Failure<'a>>
     ensures { IfOk result (λ report. IsReplayedAs by.entry text.now.bytes.now report) }
 {
-    replay_by(rt, text.bytes, by).map_err(|failure| hinted(rt.alloc(), text, failure))
+    replay_by(rt, text, by, told).map_err(|failure| hinted(rt.alloc(), text, failure))
 }
 
 fn replay_by<'a, R: Files + AllocGlobal>(
     rt: &R,
-    text: &[u8],
+    text: &SourceText<'_>,
     by: ReplayedBy<'a>,
+    told: &mut String,
 ) -> Result<Report, Failure<'a>>
-    ensures { IfOk result (λ report. IsReplayedAs by.entry text.now report) }
+    ensures { IfOk result (λ report. IsReplayedAs by.entry text.now.bytes.now report) }
 {
+    let alloc = rt.alloc();
     match by {
         ReplayedBy::Schedule { schedule, .. } => {
             let turns = schedule_of(rt, schedule)?;
-            Ok(replay(rt.alloc(), text, turns.as_slice())?)
+            match replay(alloc, text.bytes, turns.as_slice()) {
+                Ok(report) => Ok(report),
+                Err(fault) => Err(told_turn(alloc, told, text, turns.as_slice(), fault)),
+            }
         }
         ReplayedBy::Log(name) => {
             let log = whole_bytes_of(rt, name)?;
-            Ok(replay_log_text(rt.alloc(), text, log.as_slice())?)
+            match replay_log_text(alloc, text.bytes, log.as_slice()) {
+                Ok(report) => Ok(report),
+                Err(fault) => Err(told_entry(alloc, told, text, log.as_slice(), fault)),
+            }
         }
     }
 }

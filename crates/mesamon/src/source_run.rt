@@ -1,5 +1,6 @@
-ghost use Rattle.std.specs.Prelude.{◌≡◌, ◌≢◌, false, is_some, IfOk, IfErr};
+ghost use Rattle.std.specs.Prelude.{◌≡◌, ◌≢◌, is_some, IfOk, IfErr};
 ghost use Rattle.runner.specs.declared.fault.RunFault.TheVariants.{Broken};
+ghost use Rattle.runner.specs.Logs.{nothing_outside, outside_of};
 ghost use Rattle.program.specs.Trees.{Program};
 ghost use Rattle.backend.specs.Refusals.{CodeFits};
 ghost use Rattle.compiler.specs.Accepts.{AcceptsText};
@@ -57,8 +58,8 @@ pub fn run_source<R: Threads + Wait + Sync, G: Gate>(
     limit: u32,
     gate: &G,
 ) -> Result<Report, RunSourceFault>
-    ensures report { IfOk result (λ report. IsRunOfText text.now false limit report) }
-    ensures fault { IfErr result (λ fault. IsRefusedRun text.now false limit fault) }
+    ensures report { IfOk result (λ report. IsRunOfText text.now nothing_outside limit report) }
+    ensures fault { IfErr result (λ fault. IsRefusedRun text.now nothing_outside limit fault) }
     ensures sound { IfErr result (λ fault. fault ≢ Run Broken) }
     ensures only { (p : Program) → AcceptsText text.now p → CodeFits p
         → IfErr result (λ fault. IsMemory fault) }
@@ -77,8 +78,8 @@ pub fn run_in_order<G: Gate>(
     limit: u32,
     gate: &G,
 ) -> Result<Report, RunSourceFault>
-    ensures report { IfOk result (λ report. IsRunOfText text.now false limit report) }
-    ensures fault { IfErr result (λ fault. IsRefusedRun text.now false limit fault) }
+    ensures report { IfOk result (λ report. IsRunOfText text.now nothing_outside limit report) }
+    ensures fault { IfErr result (λ fault. IsRefusedRun text.now nothing_outside limit fault) }
     ensures sound { IfErr result (λ fault. fault ≢ Run Broken) }
     ensures only { (p : Program) → AcceptsText text.now p → CodeFits p
         → IfErr result (λ fault. IsMemory fault) }
@@ -97,13 +98,13 @@ pub fn run_by_seed(
     seed: u64,
     strays: Option<u32>,
 ) -> Result<Report, RunSourceFault>
-    ensures report { IfOk result (λ report. IsRunOfText text.now (is_some strays) limit report) }
-    ensures fault { IfErr result (λ fault. IsRefusedRun text.now (is_some strays) limit fault) }
+    ensures report { IfOk result (λ report. IsRunOfText text.now (outside_of (is_some strays) 0) limit report) }
+    ensures fault { IfErr result (λ fault. IsRefusedRun text.now (outside_of (is_some strays) 0) limit fault) }
     ensures sound { IfErr result (λ fault. fault ≢ Run Broken) }
     ensures only { (p : Program) → AcceptsText text.now p → CodeFits p
         → IfErr result (λ fault. IsMemory fault) }
 {
     logs_are_machine_runs();
     let image = compile(alloc, text)?;
-    Ok(runner::run_by_seed(alloc, &image, limit, seed, strays)?)
+    Ok(runner::run_by_seed(alloc, &image, limit, seed, strays, 0)?)
 }

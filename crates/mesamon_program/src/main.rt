@@ -1,7 +1,7 @@
-//! The program mesamon: it hands its words to `mesamon::perform`, on a thread with a large stack.
+//! The program mesamon: it hands its words to `mesamon::perform_with_hints`, on a thread with a large stack.
 #![tactic(auto)]
 
-use mesamon::{Counted, Status, perform};
+use mesamon::{Counted, Status, perform_with_hints};
 use std::io::Write;
 use std::process::ExitCode;
 use std::rt::{Env, Files};
@@ -46,7 +46,7 @@ fn perform_words<R: Env + Files + AllocGlobal + Threads + Wait + Sync, O: Write,
 ) -> io::Result<u8> {
     let words: Vec<String> = env::args(rt)?.skip(1).collect(rt.alloc())?;
     let texts: Vec<&str> = words.iter().map(|word| word.as_str()).collect(rt.alloc())?;
-    Ok(perform(rt, texts.as_slice(), output, errors))
+    Ok(perform_with_hints(rt, texts.as_slice(), output, errors))
 }
 
 // Says why there are no words: one of them is no UTF-8, or there was no memory for them.

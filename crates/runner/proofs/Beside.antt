@@ -9,13 +9,14 @@ use Rattle.robustexit.specs.RobustExit.{Shared, IsIdle, EntryStep, PendingStep, 
 use Rattle.robustexit.specs.RobustExit.{IsOwned, ExitStep, put}
 use Rattle.buckets.specs.Places.{names, with_place}
 use Rattle.futexcalls.specs.FutexCalls.{Wakes, Moves as Requeued, Requeues, Sleeps}
-use Rattle.locals.specs.Threads.{Thread, opening_thread}
+use Rattle.words.specs.declared.outcome.Cause.TheVariants.{Killed}
+use Rattle.locals.specs.Threads.{Thread, Dies, opening_thread}
 use Rattle.locals.specs.Looks.{Request, AskLoad, AskStore, AskSwap, AskCompareSwap, AskOr, AskAdd, AskFork, AskPrint}
 use Rattle.locals.specs.Looks.{AskWait, AskWake, AskRequeue, AskReturn, AskReturnValue, AskFault, Look, Goes}
 use Rattle.locals.specs.Looks.{Asks, Leaves, Breaks, Rests}
 use Rattle.machine.specs.States.{State, with_thread, with_word, with_sleepers}
 use Rattle.machine.specs.AbstractServing.{Serves, with_child, shared_of, with_shared}
-use Rattle.machine.specs.Runs.{Moves}
+use Rattle.machine.specs.Runs.{Moves, killed_to}
 
 -- who was awake, but for thread t, still is
 abbrev StaysAwake : ℕ → (ℕ → Option ℕ) → (ℕ → Option ℕ) → Type 0
@@ -179,6 +180,13 @@ pub outside_beside : (t : ℕ) (s s' : State) → s' ≡ with_sleepers s (put s.
 outside_beside t s s' is =
     to t s (with_sleepers s (put s.asleep t None)) s' is
     (by_sleepers t s (put s.asleep t None) (λ u other h. at_other u t None (s.asleep u) other ∙ h))
+
+-- a kill of thread t from outside
+pub kill_beside : (t : ℕ) (s s' : State) (begins : Bool) → s' ≡ killed_to begins s t → Beside t s s'
+kill_beside t s s' true is =
+    let mid = with_sleepers s (put s.asleep t None) in
+    then_thread t s mid s' (Dies Killed) (outside_beside t s mid refl) is
+kill_beside t s s' false is = to t s s s' is (same t s)
 
 -- any step
 pub beside : (t : ℕ) (s : State) (woken : List ℕ) (l : Look) (s' : State) → IsNumbered s → Moves s t woken l s'

@@ -1,6 +1,7 @@
 -- A piece that came in is an entry of the log.
 use Rattle.std.proofs.Common.{◌≡◌, ℕ, ◌+◌, ◌≤◌, List, [], ◌∷◌, ◌++◌, true, Option, Some, None, Result, Ok, Err}
 use Rattle.std.proofs.Common.{Bool, false, is_err, IfOk, is_some, refl, ap, sym, ◌∙◌, ◌≢◌, arith, subst, inl, inr}
+use Rattle.std.specs.Prelude.{if◌then◌else◌}
 use Rattle.std.proofs.lemmas.List.Sums.{sum_by-append}
 use mir.Val.{bool_byte}
 use Rattle.isa.specs.Programs.{Program}
@@ -13,11 +14,12 @@ use Rattle.machine.specs.States.{ConcreteState, thread_of, opening_concrete}
 use Rattle.machine.specs.ConcreteSteps.{step_of, put_thread, can_move}
 use Rattle.machine.specs.FrontRuns.{OutsideStep}
 use Rattle.runner.specs.Views.{PieceView, LogState}
-use Rattle.runner.specs.Logs.{Runs, Enters, EntersOwn, Ends, event_cost, cost}
+use Rattle.runner.specs.Logs.{Runs, Enters, EntersOwn, Ends, HasOnly, Outside, event_cost, cost, is_kill, kill_cost}
+use Rattle.runner.specs.Logs.{kills_in}
 use Rattle.runner.specs.Entries.{entry_end, entry_end_by, IsFine}
 use Rattle.runner.specs.Legal.{IsLegal}
 use Rattle.runner.proofs.Going.{runs_more}
-use Rattle.runner.proofs.Owning.{none_said, own_more}
+use Rattle.runner.proofs.Owning.{kills_more, only_own, own_kills}
 
 abbrev pub entry : ℕ → ℕ → Option Event → Entry
 entry t n e = record { thread = t; local = n; event = e }
@@ -73,14 +75,19 @@ pub same_event : (r : Result (ConcreteState × Option Event) StepFault) (k k' : 
     → r ≡ Ok (k, e) → r ≡ Ok (k', e') → e ≡ e'
 same_event r k k' e e' a b = ap (λ (q : ConcreteState × Option Event). q.1) (inside _ _ (sym a ∙ b))
 
-pub keeps : (p : Program) (strays : Bool) (q q' : Program) (limit : ℕ) (h : LogState) (log : List Entry)
-    (new : ConcreteState) (a : PieceView) (t steps limited extra : ℕ) (event : Option Event)
-    → q' ≡ q → IsLegal p strays limit q h.concrete h.log steps limited
+same_kills : (p : Program) (k k' : ConcreteState) (log log' : List Entry) (e : Entry) (killed : ℕ)
+    → EntersOwn p k e k' → log' ≡ log ++ e ∷ [] → killed ≡ kills_in log → killed ≡ kills_in log'
+same_kills p k k' log log' e killed enters grows is =
+    omega (arith, is, kills_more log log' e grows, own_kills p k k' e enters)
+
+pub keeps : (p : Program) (may : Outside) (q q' : Program) (limit : ℕ) (h : LogState) (log : List Entry)
+    (new : ConcreteState) (a : PieceView) (t steps limited killed extra : ℕ) (event : Option Event)
+    → q' ≡ q → IsLegal p may limit q h.concrete h.log steps limited killed
     → local_after p a.thread a.count a.origin ≡ Some a.here
     → IsFine p limit h t a → entry_end q h.concrete t a.here ≡ Ok (new, event)
     → log ≡ h.log ++ entry t a.count event ∷ [] → extra ≡ bool_byte (is_some event)
-    → IsLegal p strays limit q' new log (steps + (a.count + extra)) limited
-keeps p strays q q' limit h log new a t steps limited extra event is' legal goes fine gives grows is_extra =
+    → IsLegal p may limit q' new log (steps + (a.count + extra)) limited killed
+keeps p may q q' limit h log new a t steps limited killed extra event is' legal goes fine gives grows is_extra =
     let gives' : entry_end p h.concrete t a.here ≡ Ok (new, event) =
     ap (λ x. entry_end x h.concrete t a.here) (sym legal.program) ∙ gives in
     let goes' : local_after p t a.count a.origin ≡ Some a.here =
@@ -95,10 +102,12 @@ keeps p strays q q' limit h log new a t steps limited extra event is' legal goes
     record {
       program = is' ∙ legal.program;
       legal = (let P : List Entry → Type 0 = λ l. Runs p (opening_concrete p) l new in subst P (sym grows) runs');
-      own = own_more p h.concrete new h.log log (entry t a.count event) strays one grows legal.own;
+      own = only_own p h.concrete new may h.log log (entry t a.count event) one grows legal.own;
       counted = omega (arith, legal.counted);
       limit_is = legal.limit_is;
       within = omega (arith, fine.within, legal.counted, legal.limit_is);
+      kills = same_kills p h.concrete new h.log log (entry t a.count event) killed one grows legal.kills;
+      few = omega (arith, legal.few);
     }
 
 cost_small : (e : Option Event) → event_cost e ≤ 1
@@ -106,13 +115,13 @@ cost_small None = omega arith
 cost_small (Some e) = omega arith
 
 -- an entry is one more of a legal log, where the limit leaves room for any
-pub keeps_entry : (p : Program) (strays : Bool) (q q' q'' : Program) (limit : ℕ) (k k' new : ConcreteState)
-    (log log' log'' : List Entry) (e : Entry) (steps limited extra : ℕ)
-    → IsLegal p strays limit q k log steps limited → cost log + 257 ≤ limit → q' ≡ q → k' ≡ k → log' ≡ log
+pub keeps_entry : (p : Program) (may : Outside) (q q' q'' : Program) (limit : ℕ) (k k' new : ConcreteState)
+    (log log' log'' : List Entry) (e : Entry) (steps limited killed extra : ℕ)
+    → IsLegal p may limit q k log steps limited killed → cost log + 257 ≤ limit → q' ≡ q → k' ≡ k → log' ≡ log
     → q'' ≡ q' → EntersOwn q' k' e new → e.local ≤ 256 → log'' ≡ log' ++ e ∷ [] → extra ≡ bool_byte (is_some e.event)
-    → IsLegal p strays limit q'' new log'' (steps + (e.local + extra)) limited
-keeps_entry p strays q q' q'' limit k k' new log log' log'' e steps limited extra legal room same there before same' one
-    turn grows is_extra =
+    → IsLegal p may limit q'' new log'' (steps + (e.local + extra)) limited killed
+keeps_entry p may q q' q'' limit k k' new log log' log'' e steps limited killed extra legal room same there before same'
+    one turn grows is_extra =
     let program : q' ≡ p = same ∙ legal.program in
     let enters : EntersOwn p k e new =
     subst (λ (x : Program). EntersOwn x k e new) program
@@ -125,30 +134,44 @@ keeps_entry p strays q q' q'' limit k k' new log log' log'' e steps limited extr
       program = same' ∙ program;
       legal = subst (λ (l : List Entry). Runs p (opening_concrete p) l new) (sym grown)
           (runs_more p (opening_concrete p) k new log e legal.legal (inl enters));
-      own = own_more p k new log log'' e strays enters grown legal.own;
+      own = only_own p k new may log log'' e enters grown legal.own;
       counted = omega (arith, legal.counted, all, last);
       limit_is = legal.limit_is;
       within = omega (arith, legal.counted, legal.limit_is, room, turn, last, cost_small e.event);
+      kills = same_kills p k new log log'' e killed enters grown legal.kills;
+      few = omega (arith, legal.few);
     }
 
+kill_small : (e : Option Event) → kill_cost e ≤ 1
+kill_small e = by_test (is_kill e)
+  where
+    by_test : (b : Bool) → (if b then 1 else 0) ≤ 1
+    by_test true = omega arith
+    by_test false = omega arith
+
 -- a wake or a kill from outside is one more of a legal log that isn't at its limit
-pub keeps_outside : (p : Program) (strays : Bool) (q q' : Program) (limit : ℕ) (k new : ConcreteState)
-    (log log' : List Entry) (t steps limited : ℕ) (event : Event) → strays ≡ true
-    → IsLegal p strays limit q k log steps limited → q' ≡ q → steps ≢ limited
+pub keeps_outside : (p : Program) (may : Outside) (q q' : Program) (limit : ℕ) (k new : ConcreteState)
+    (log log' : List Entry) (t steps limited killed killed' : ℕ) (event : Event)
+    → IsLegal p may limit q k log steps limited killed → q' ≡ q → steps ≢ limited
     → OutsideStep k t event new → log' ≡ log ++ entry t 0 (Some event) ∷ []
-    → IsLegal p strays limit q' new log' (steps + 1) limited
-keeps_outside p strays q q' limit k new log log' t steps limited event some legal same room gives grows =
+    → killed' ≡ killed + kill_cost (Some event) → HasOnly may log'
+    → IsLegal p may limit q' new log' (steps + 1) limited killed'
+keeps_outside p may q q' limit k new log log' t steps limited killed killed' event legal same room gives grows counts
+    has =
     let one : Enters p k (entry t 0 (Some event)) new =
     inr (record { event = event; alone = refl; is = refl; gives = gives }) in
     let all : cost log' ≡ cost log + 1 = ap cost grows ∙ cost_more log t 0 (Some event) in
+    let most = kill_small (Some event) in
     record {
       program = same ∙ legal.program;
       legal = subst (λ (l : List Entry). Runs p (opening_concrete p) l new) (sym grows)
           (runs_more p (opening_concrete p) k new log (entry t 0 (Some event)) legal.legal one);
-      own = λ none. none_said strays some none;
+      own = has;
       counted = omega (arith, legal.counted, all);
       limit_is = legal.limit_is;
       within = omega (arith, legal.within, room);
+      kills = omega (arith, counts, legal.kills, kills_more log log' (entry t 0 (Some event)) grows);
+      few = omega (arith, counts, legal.few, most);
     }
 
 -- what holds of an entry that came in

@@ -52,7 +52,7 @@ put_there : {A : Type 0} → (f : ℕ → A) (t : ℕ) (x : A) → put f t x t �
 put_there f t x = rw (eq-eqb t t refl) refl
 
 pub locally_so : LocallySo
-locally_so p strays limit m fits =
+locally_so p may limit m fits =
     let k = m.concrete in
     let t = m.thread in
     let there = put_thread k t m.here in

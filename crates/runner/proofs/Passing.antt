@@ -18,20 +18,21 @@ use Rattle.machine.specs.States.{Common, ConcreteState, thread_of, state_of}
 use Rattle.machine.specs.ConcreteServing.{Served, serve, within, requeue_to, load}
 use Rattle.machine.specs.ConcreteSteps.{Stepped, go_on_with, thread_step, on_machine, fault_of, put_thread}
 use Rattle.machine.specs.ConcreteSteps.{can_move, thread_can_move}
-use Rattle.machine.specs.ConcreteOutside.{stray_of}
+use Rattle.machine.specs.ConcreteOutside.{kill_of, stray_of}
 use Rattle.machine.specs.Views.{IsWellFormed}
+use Rattle.machine.proofs.Killing.{kills_so}
 use Rattle.machine.proofs.Outside.{strays_so}
 use Rattle.machine.proofs.Placing.{get_set_other, thread_at-other}
 use Rattle.runner.specs.declared.fault.RunFault.TheVariants.{Limit}
 use Rattle.runner.specs.Views.{PieceView, LogState}
 use Rattle.runner.specs.Logs.{Ends, event_cost, cost}
-use Rattle.runner.specs.Entries.{entry_end, entry_end_by, Takes, TakesOutside, RefusesEntry}
+use Rattle.runner.specs.Entries.{entry_end, entry_end_by, Takes, TakesKill, TakesOutside, RefusesEntry}
 use Rattle.runner.specs.Reports.{IsNextEntry, PassesLimit}
 use Rattle.runner.specs.Rounds.{AllPast}
 use Rattle.machine.proofs.Stepping.{steps_so}
 use Rattle.runner.proofs.Handing.{step_there, comes_in, up}
 use Rattle.runner.proofs.Growing.{inside, cost_more, ends}
-use Rattle.runner.proofs.Beside.{Beside, beside, outside_beside}
+use Rattle.runner.proofs.Beside.{Beside, beside, kill_beside, outside_beside}
 use Rattle.runner.proofs.Once.{no_stray}
 use Rattle.runner.proofs.Unrolling.{kept_put}
 
@@ -84,6 +85,12 @@ outside_apart : (p : Program) (k k' : ConcreteState) (t : ℕ) (event : Event) �
 outside_apart p k k' t event concrete gives =
     let s = strays_so p k k' t event concrete gives in
     record { beside = outside_beside t (state_of k) (state_of k') s.1.after; concrete = s.2 }
+
+kill_apart : (p : Program) (k k' : ConcreteState) (t : ℕ) (event : Event) → IsWellFormed p k
+    → kill_of k t ≡ Ok (k', event) → Apart p k k' t
+kill_apart p k k' t event concrete gives =
+    let s = kills_so p k k' t event concrete gives in
+    record { beside = kill_beside t (state_of k) (state_of k') (event.value == 1) s.1.after; concrete = s.2 }
 
 -- no fault
 record Fine (r : Result Served StepFault) : Type 0 where
@@ -267,6 +274,17 @@ wake_past p limit old new t refused concrete takes past u is =
     let awake = (up old.concrete u (past u is).0).awake in
     let other : u ≢ t = λ e. no_stray old.concrete u (new.concrete, takes.event) awake
     (ap (stray_of old.concrete) e ∙ takes.gives) in
+    let more : cost new.log ≡ cost old.log + (0 + event_cost (Some takes.event)) = ap cost takes.log
+    ∙ cost_more old.log t 0 (Some takes.event) in
+    past_stays p limit old new t u concrete m other (omega (arith, more)) (past u is)
+
+-- a kill of a thread that wasn't refused
+pub kill_past : (p : Program) (limit : ℕ) (old new : LogState) (t : ℕ) (refused : List Bool)
+    → IsWellFormed p old.concrete → TakesKill limit old t new → slice_get refused t ≡ Some false
+    → AllPast p limit old refused → AllPast p limit new refused
+kill_past p limit old new t refused concrete takes free past u is =
+    let m = kill_apart p old.concrete new.concrete t takes.event concrete takes.gives in
+    let other : u ≢ t = λ e. clash (sym is ∙ ap (slice_get refused) e ∙ free) in
     let more : cost new.log ≡ cost old.log + (0 + event_cost (Some takes.event)) = ap cost takes.log
     ∙ cost_more old.log t 0 (Some takes.event) in
     past_stays p limit old new t u concrete m other (omega (arith, more)) (past u is)

@@ -1,31 +1,30 @@
 -- What is told of a run whose threads can make no entry more.
-use Rattle.std.proofs.Common.{◌≡◌, ◌≤◌, ℕ, List, Bool, false, Result, Ok, Err, IfOk, MatchResult, is_ok, ap, sym, ◌∙◌}
+use Rattle.std.proofs.Common.{◌≡◌, ◌≤◌, ℕ, List, Result, Ok, Err, IfOk, MatchResult, is_ok, ap, sym, ◌∙◌}
 use Rattle.std.proofs.Common.{subst}
-use Rattle.std.specs.List.{All}
 use Rattle.isa.specs.Programs.{Program}
 use Rattle.machine.specs.declared.event.Entry.{Entry}
 use Rattle.machine.specs.States.{opening_concrete}
 use Rattle.machine.specs.Views.{View, concrete}
 use Rattle.runner.specs.declared.report.Report.{Report}
-use Rattle.runner.specs.Logs.{Runs, IsOwnEntry, cost}
+use Rattle.runner.specs.Logs.{HasOnly, Outside, Runs, cost}
 use Rattle.runner.specs.Reports.{IsReport, IsVerdict}
 use Rattle.runner.specs.Rounds.{Idle}
 use Rattle.runner.specs.Views.{LogState}
 
 -- a report of the log and the machine that a run leaves
-pub reported : {E : Type 0} → (p : Program) (strays : Bool) (limit : ℕ) (h : LogState) (log : List Entry) (last : View)
-    (r : Result Report E) → Runs p (opening_concrete p) h.log h.concrete → (strays ≡ false → All IsOwnEntry h.log)
+pub reported : {E : Type 0} → (p : Program) (may : Outside) (limit : ℕ) (h : LogState) (log : List Entry) (last : View)
+    (r : Result Report E) → Runs p (opening_concrete p) h.log h.concrete → HasOnly may h.log
     → cost h.log ≤ limit → Idle p limit h → log ≡ h.log → concrete last ≡ h.concrete → last.program ≡ p
     → IfOk r (λ report. report.log.items ≡ log) → IfOk r (λ report. report.last ≡ last)
     → IfOk r (λ report. report.output.items ≡ last.output) → IfOk r (λ report. IsVerdict (concrete last) report.verdict)
-    → IfOk r (λ report. IsReport p strays limit report)
-reported p strays limit h log last (Err e) legal own within idle is there program logged same output verdict = logged
-reported p strays limit h log last (Ok r) legal own within idle is there program logged same output verdict =
+    → IfOk r (λ report. IsReport p may limit report)
+reported p may limit h log last (Err e) legal own within idle is there program logged same output verdict = logged
+reported p may limit h log last (Ok r) legal own within idle is there program logged same output verdict =
     let back : h ≡ record { log = r.log.items; concrete = concrete r.last } =
     sym (λ i. record { log = (logged ∙ is) i; concrete = (ap concrete same ∙ there) i }) in
     record {
       legal = subst (λ (x : LogState). Runs p (opening_concrete p) x.log x.concrete) back legal;
-      own = subst (λ (x : LogState). strays ≡ false → All IsOwnEntry x.log) back own;
+      own = subst (λ (x : LogState). HasOnly may x.log) back own;
       program = ap (λ (v : View). v.program) same ∙ program;
       within = subst (λ (x : LogState). cost x.log ≤ limit) back within;
       output = output ∙ ap (λ (v : View). v.output) (sym same);

@@ -192,7 +192,7 @@ breaks_by there (Ok x) None h = absurd cc
 breaks_by there (Err f) None h = let e : f ≡ step.Broken = cc in ap Err e
 
 pub meets_so : MeetsSo
-meets_so p strays limit m fits =
+meets_so p may limit m fits =
     let u = up m.concrete m.thread m.moves in
     let there = put_thread m.concrete m.thread m.here in
     let more = replicate m.count (local_step_of m.thread) in

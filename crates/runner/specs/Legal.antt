@@ -1,21 +1,22 @@
 -- What the types of the shared part of a run and of a share of its count keep.
-use Rattle.std.specs.Prelude.{ℕ, ◌≡◌, ◌≤◌, ◌<◌, ◌+◌, ◌*◌, ◌^◌, Bool, false, List, length}
-use Rattle.std.specs.List.{All}
+use Rattle.std.specs.Prelude.{ℕ, ◌≡◌, ◌≤◌, ◌<◌, ◌+◌, ◌*◌, ◌^◌, List, length}
 use Rattle.isa.specs.Programs.{Program}
 use Rattle.machine.specs.declared.event.Entry.{Entry}
 use Rattle.machine.specs.States.{ConcreteState, opening_concrete}
-use Rattle.runner.specs.Logs.{Runs, cost, IsOwnEntry}
+use Rattle.runner.specs.Logs.{HasOnly, Outside, Runs, cost, kills_in}
 
--- the machine runs the program, the log is legal for it and leads to what the machine keeps, without wakes from outside
--- where there may be none, the steps are the log's cost, and within the limit
-pub record IsLegal (p : Program) (strays : Bool) (limit : ℕ) (q : Program) (k : ConcreteState) (log : List Entry)
-    (steps limited : ℕ) : Type 0 where
+-- the machine runs the program, the log is legal for it and leads to what the machine keeps, with no more from outside
+-- than may be, the steps are the log's cost, within the limit, and its kills are counted
+pub record IsLegal (p : Program) (may : Outside) (limit : ℕ) (q : Program) (k : ConcreteState) (log : List Entry)
+    (steps limited killed : ℕ) : Type 0 where
   pub program : q ≡ p
   pub legal : Runs p (opening_concrete p) log k
-  pub own : strays ≡ false → All IsOwnEntry log
+  pub own : HasOnly may log
   pub counted : steps ≡ cost log
   pub limit_is : limited ≡ limit
   pub within : steps ≤ limited
+  pub kills : killed ≡ kills_in log
+  pub few : killed ≤ steps
 
 -- the book's total is the number of entries, and what was not given out of the count's parts has counted none
 pub record IsCounted (all booked rest idle given : ℕ) (log : List Entry) : Type 0 where

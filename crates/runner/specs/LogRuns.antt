@@ -1,5 +1,5 @@
 -- A legal log is a run of the machine, step by step, and each run of the machine itself is a log's.
-use Rattle.std.specs.Prelude.{◌≡◌, ◌≤◌, ◌+◌, ◌++◌, ℕ, Bool, List, [], ◌∷◌, length, map, replicate, Option, Some, None}
+use Rattle.std.specs.Prelude.{◌≡◌, ◌≤◌, ◌+◌, ◌++◌, ℕ, List, [], ◌∷◌, length, map, replicate, Option, Some, None}
 use Rattle.words.specs.Limits.{most_threads}
 use Rattle.words.specs.Versions.{most_of}
 use Rattle.isa.specs.Programs.{Program}
@@ -10,7 +10,7 @@ use Rattle.machine.specs.States.{State, ConcreteState, opening_concrete, state_o
 use Rattle.machine.specs.ConcreteServing.{plain}
 use Rattle.machine.specs.Runs.{Step, MachineRun, NextIsBroken}
 use Rattle.machine.specs.FrontRuns.{EventStep, FrontRun, label_of, event_label}
-use Rattle.runner.specs.Logs.{Runs, cost}
+use Rattle.runner.specs.Logs.{Outside, Runs, cost}
 use Rattle.runner.specs.Reports.{MeetsBroken}
 
 -- a local step of a thread, and the shared step of an entry, if any
@@ -50,7 +50,7 @@ RunsSo =
 -- may not be
 abbrev pub MeetsSo : Type 0
 MeetsSo =
-    (p : Program) (strays : Bool) (limit : ℕ) (m : MeetsBroken p strays limit) → most_of p.version ≤ most_threads
+    (p : Program) (may : Outside) (limit : ℕ) (m : MeetsBroken p may limit) → most_of p.version ≤ most_threads
     → (steps : List Step) × (s : State)
     × MachineRun p steps s × (length steps ≡ cost m.log + m.count) × NextIsBroken p s m.thread
     × (map label_of steps ≡ map event_label (steps_of m.log ++ replicate m.count (local_step_of m.thread)))
@@ -59,6 +59,6 @@ MeetsSo =
 -- step may not be
 abbrev pub LocallySo : Type 0
 LocallySo =
-    (p : Program) (strays : Bool) (limit : ℕ) (m : MeetsBroken p strays limit) → most_of p.version ≤ most_threads
+    (p : Program) (may : Outside) (limit : ℕ) (m : MeetsBroken p may limit) → most_of p.version ≤ most_threads
     → (m.concrete.common.asleep m.thread ≡ None)
     × NextIsBroken p (with_thread (state_of m.concrete) m.thread m.here) m.thread

@@ -1,6 +1,7 @@
 -- Which logs are legal, where they lead, and what they cost.
-use Rattle.std.specs.Prelude.{ℕ, ◌≡◌, ◌+◌, ◌⊎◌, List, [], ◌∷◌, Bool, true, false, not, Option, Some, None, Ok}
-use Rattle.std.specs.List.{sum_by}
+use Rattle.std.specs.Prelude.{ℕ, ◌≡◌, ◌≤◌, ◌+◌, if◌then◌else◌, ◌⊎◌, List, [], ◌∷◌, Bool, true, false, not, Option, Some, None}
+use Rattle.std.specs.Prelude.{Ok}
+use Rattle.std.specs.List.{All, sum_by}
 use Rattle.isa.specs.Programs.{Program}
 use Rattle.locals.specs.Threads.{Thread}
 use Rattle.locals.specs.Steps.{local_step, local_after}
@@ -51,9 +52,47 @@ abbrev pub is_kill : Option Event → Bool
 is_kill None = false
 is_kill (Some event) = is_killing (doing_of event.name event.value)
 
+-- whether it was a wake
+abbrev pub is_waking : Doing → Bool
+is_waking Own = false
+is_waking (Strayed a) = true
+is_waking (Killed begins) = false
+
+abbrev pub is_stray : Option Event → Bool
+is_stray None = false
+is_stray (Some event) = is_waking (doing_of event.name event.value)
+
 -- the entry is its thread's own, by its event
 abbrev pub IsOwnEntry : Entry → Type 0
 IsOwnEntry e = is_outside e.event ≡ false
+
+-- the entry is no wake from outside
+abbrev pub IsUnstrayed : Entry → Type 0
+IsUnstrayed e = is_stray e.event ≡ false
+
+-- how many kills a log has
+abbrev pub kill_cost : Option Event → ℕ
+kill_cost event = if is_kill event then 1 else 0
+
+abbrev pub kills_in : List Entry → ℕ
+kills_in es = sum_by (λ e. kill_cost e.event) es
+
+-- what may come from outside in a run: wakes of sleepers, and so many kills at most
+pub record Outside : Type 0 where
+  pub strays : Bool
+  pub kills : ℕ
+
+abbrev pub outside_of : Bool → ℕ → Outside
+outside_of strays kills = record { strays = strays; kills = kills }
+
+-- nothing
+abbrev pub nothing_outside : Outside
+nothing_outside = outside_of false 0
+
+-- a log has no more from outside than may be
+pub record HasOnly (may : Outside) (es : List Entry) : Type 0 where
+  pub strays : may.strays ≡ false → All IsUnstrayed es
+  pub kills : kills_in es ≤ may.kills
 
 -- the entries take the machine from one state to another, one after the other
 abbrev pub Runs : Program → ConcreteState → List Entry → ConcreteState → Type 0

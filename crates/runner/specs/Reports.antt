@@ -1,6 +1,5 @@
 -- What the report of a run says.
-use Rattle.std.specs.Prelude.{ℕ, ◌≡◌, ◌≤◌, ◌<◌, ◌+◌, Bool, true, false, List, length, Option, Some, None, Ok, Err}
-use Rattle.std.specs.List.{All}
+use Rattle.std.specs.Prelude.{ℕ, ◌≡◌, ◌≤◌, ◌<◌, ◌+◌, true, false, List, length, Option, Some, None, Ok, Err}
 use Rattle.words.specs.Limits.{most_local_steps}
 use Rattle.isa.specs.Programs.{Program}
 use Rattle.locals.specs.Threads.{Thread}
@@ -18,7 +17,7 @@ use Rattle.runner.specs.declared.fault.RunFault.TheVariants.{Limit as Limit'}
 use Rattle.runner.specs.declared.report.Verdict.{Verdict}
 use Rattle.runner.specs.declared.report.Verdict.TheVariants.{Done, Stuck, Limit}
 use Rattle.runner.specs.declared.report.Report.{Report}
-use Rattle.runner.specs.Logs.{Runs, IsOwnEntry, cost, event_cost}
+use Rattle.runner.specs.Logs.{HasOnly, Outside, Runs, cost, event_cost}
 use Rattle.runner.specs.Entries.{entry_end}
 
 -- the next entry of a thread: its local steps until another step comes or its turn is over, and then the shared step
@@ -47,25 +46,23 @@ IsVerdict k Stuck =
     IsQuiet k × (t : ℕ) × (0 < t) × (t ≤ length k.threads) × (has_ended (thread_of k t) ≡ false)
 IsVerdict k Limit = (t : ℕ) × (can_move k t ≡ true)
 
--- the log is legal for the program and within the limit, without wakes from outside where the run makes none, the
--- machine is where it leads, the output is the machine's, the verdict holds, and the next entry of each thread that can
+-- the log is legal for the program and within the limit, with no more from outside than may be in the run, the machine is where it leads, the output is the machine's, the verdict holds, and the next entry of each thread that can
 -- move would pass the limit
-pub record IsReport (p : Program) (strays : Bool) (limit : ℕ) (r : Report) : Type 0 where
+pub record IsReport (p : Program) (may : Outside) (limit : ℕ) (r : Report) : Type 0 where
   pub legal : Runs p (opening_concrete p) r.log.items (concrete r.last)
-  pub own : strays ≡ false → All IsOwnEntry r.log.items
+  pub own : HasOnly may r.log.items
   pub program : r.last.program ≡ p
   pub within : cost r.log.items ≤ limit
   pub output : r.output.items ≡ (concrete r.last).common.output
   pub verdict : IsVerdict (concrete r.last) r.verdict
   pub over : (t : ℕ) → can_move (concrete r.last) t ≡ true → PassesLimit p limit r.log.items (concrete r.last) t
 
--- some legal log within the limit, without wakes from outside where the run makes none, leads to where a thread comes,
--- within a turn of local steps, to a step that may not be
-pub record MeetsBroken (p : Program) (strays : Bool) (limit : ℕ) : Type 0 where
+-- some legal log within the limit, with no more from outside than may be in the run, leads to where a thread comes, within a turn of local steps, to a step that may not be
+pub record MeetsBroken (p : Program) (may : Outside) (limit : ℕ) : Type 0 where
   pub log : List Entry
   pub concrete : ConcreteState
   pub legal : Runs p (opening_concrete p) log concrete
-  pub own : strays ≡ false → All IsOwnEntry log
+  pub own : HasOnly may log
   pub within : cost log ≤ limit
   pub thread : ℕ
   pub origin : Thread
@@ -78,9 +75,9 @@ pub record MeetsBroken (p : Program) (strays : Bool) (limit : ℕ) : Type 0 wher
   pub breaks : entry_end p concrete thread here ≡ Err step.Broken
 
 -- what a run may be refused for
-abbrev pub CanFail : Program → Bool → ℕ → RunFault → Type 0
-CanFail p strays limit Memory = Unit {0}
-CanFail p strays limit Broken = MeetsBroken p strays limit
-CanFail p strays limit Stray = ⊥
-CanFail p strays limit CannotMove = ⊥
-CanFail p strays limit Limit' = ⊥
+abbrev pub CanFail : Program → Outside → ℕ → RunFault → Type 0
+CanFail p may limit Memory = Unit {0}
+CanFail p may limit Broken = MeetsBroken p may limit
+CanFail p may limit Stray = ⊥
+CanFail p may limit CannotMove = ⊥
+CanFail p may limit Limit' = ⊥

@@ -2,11 +2,11 @@
 use Rattle.std.specs.Prelude.{ℕ, suc, ◌≡◌, ◌≢◌, ◌<◌, ◌≤◌, true, false, Bool, List, [], ◌∷◌, slice_get, Some, None}
 use Rattle.words.specs.Limits.{most_threads}
 use Rattle.isa.specs.Programs.{Program}
-use Rattle.machine.specs.States.{ConcreteState, state_of}
+use Rattle.machine.specs.States.{ConcreteState, state_of, thread_of}
 use Rattle.machine.specs.ConcreteSteps.{can_move}
 use Rattle.runner.specs.declared.drawing.Drawn.{Drawn}
-use Rattle.runner.specs.declared.drawing.Drawn.TheVariants.{Mover, Sleeper}
-use Rattle.runner.specs.Logs.{cost}
+use Rattle.runner.specs.declared.drawing.Drawn.TheVariants.{Living, Mover, Sleeper}
+use Rattle.runner.specs.Logs.{Outside, cost, kills_in}
 use Rattle.runner.specs.Views.{LogState}
 use Rattle.runner.specs.Reports.{PassesLimit}
 
@@ -32,11 +32,17 @@ IsDrawn k refused t = IsPickable k refused t × (0 < t) × (t ≤ most_threads)
 abbrev pub IsAsleep : ConcreteState → ℕ → Type 0
 IsAsleep k t = (state_of k).asleep t ≢ None
 
--- what may be drawn: a thread that can move and wasn't refused; or one that sleeps, where there may be wakes from
--- outside and the limit leaves room for one
-abbrev pub MayBeDrawn : Bool → ℕ → LogState → List Bool → Drawn → Type 0
-MayBeDrawn strays limit h refused (Mover t) = IsDrawn h.concrete refused t
-MayBeDrawn strays limit h refused (Sleeper t) = (strays ≡ true) × IsAsleep h.concrete t × (cost h.log < limit)
+-- a thread that was made, and wasn't refused
+abbrev pub IsUnrefused : ConcreteState → List Bool → ℕ → Type 0
+IsUnrefused k refused t = (thread_of k t ≢ None) × (slice_get refused t ≡ Some false)
+
+-- what may be drawn: a thread that can move and wasn't refused; or, where the limit leaves room for a step more, one that
+-- sleeps, where there may be wakes from outside, and one that was made and wasn't refused, where there may be more kills
+abbrev pub MayBeDrawn : Outside → ℕ → LogState → List Bool → Drawn → Type 0
+MayBeDrawn may limit h refused (Mover t) = IsDrawn h.concrete refused t
+MayBeDrawn may limit h refused (Sleeper t) = (may.strays ≡ true) × IsAsleep h.concrete t × (cost h.log < limit)
+MayBeDrawn may limit h refused (Living t) =
+    (kills_in h.log < may.kills) × IsUnrefused h.concrete refused t × (cost h.log < limit)
 
 -- how many weren't refused
 abbrev pub unrefused : List Bool → ℕ

@@ -2,12 +2,13 @@ ghost use Rattle.words.specs.Limits.{most_threads};
 ghost use Rattle.std.specs.Prelude.{suc, ◌≡◌, ◌≢◌, ◌+◌, ◌-◌, ◌<◌, ◌≤◌, length, slice_get, true, Some, None};
 ghost use Rattle.std.specs.Prelude.{is_some, IfErr, IfSome, MatchBool, MatchOption, OnOk};
 ghost use Rattle.std.specs.List.{All, Contains};
-ghost use Rattle.machine.specs.States.{state_of};
+ghost use Rattle.machine.specs.States.{state_of, thread_of};
 ghost use Rattle.machine.specs.ConcreteSteps.{can_move};
 ghost use Rattle.machine.specs.Views.{concrete, IsWellFormed};
-ghost use Rattle.runner.specs.Logs.{cost};
+ghost use Rattle.runner.specs.Logs.{cost, kills_in};
 ghost use Rattle.runner.specs.Reports.{CanFail};
-ghost use Rattle.runner.specs.Rounds.{AllPast, Idle, IsAsleep, IsDrawn, IsPickable, MayBeDrawn, NoneLeft, unrefused};
+ghost use Rattle.runner.specs.Rounds.{AllPast, Idle, IsAsleep, IsDrawn, IsPickable, IsUnrefused, MayBeDrawn, NoneLeft};
+ghost use Rattle.runner.specs.Rounds.{unrefused};
 ghost use Rattle.runner.specs.Views.{log_state};
 
 use crate::fault::RunFault;
@@ -29,24 +30,60 @@ pub enum Drawn {
     Mover(u32),
     /// A wake from outside of this thread, which sleeps.
     Sleeper(u32),
+    /// The kill of this thread, which lives.
+    Living(u32),
 }
 
-/// Makes entries until no thread can make one, each of a thread that is drawn anew among those that can move, or, where
-/// `strays` says so, a wake from outside. A thread that was refused with `Limit` is passed over from then on.
+// About one entry in so many is a kill, as long as there may be one more: 2 at least, and 2^12 at most.
+const MOST_DOUBLINGS: u64 = 12;
+
+/// What comes from outside in a run by a seed, and how often.
+#[derive(Clone, Copy)]
+pub struct Outside {
+    // Where there is a number but 0, about one entry in so many is a wake.
+    strays: Option<u32>,
+    // There are so many kills at most.
+    kills: u32,
+    // About one entry in 2 to the power of so many is a kill, as long as there may be one more.
+    doublings: u32,
+}
+
+impl Outside {
+    /// What comes from outside where these are asked for. Where there may be kills, the generator's next number says how
+    /// often they come.
+    pub fn new(strays: Option<u32>, kills: u32, generator: &mut SplitMix64) -> Outside
+        ensures { (result.strays ≡ strays) × (result.kills ≡ kills) }
+    {
+        let doublings = if kills == 0 {
+            0
+        } else {
+            1 + (generator.next_u64() % MOST_DOUBLINGS) as u32
+        };
+        Outside {
+            strays,
+            kills,
+            doublings,
+        }
+    }
+}
+
+/// Makes entries until no thread can make one, each of a thread that is drawn anew among those that can move, or one
+/// that comes from outside. A thread that was refused with `Limit` is passed over from then on.
 pub fn run_drawn<J: RunName>(
     shared: &mut Shared<J>,
     image: &Image,
     share: &mut Share<J>,
     generator: &mut SplitMix64,
-    strays: Option<u32>,
+    outside: Outside,
 ) -> Result<(), RunFault>
     requires image { image.now ≡ J.program }
-    requires strays { is_some strays ≡ J.strays }
+    requires strays { is_some outside.strays ≡ J.outside.strays }
+    requires kills { outside.kills ≡ J.outside.kills }
     ensures ok { OnOk result (Idle J.program J.limit (log_state shared.new)) }
-    ensures err { IfErr result (λ fault. CanFail J.program J.strays J.limit fault) }
+    ensures err { IfErr result (λ fault. CanFail J.program J.outside J.limit fault) }
 {
     let mut refused = [false; MOST_THREADS as usize + 1];
-    while let Some(drawn) = draw_entry(shared, &refused, generator, strays) {
+    while let Some(drawn) = draw_entry(shared, &refused, generator, outside) {
         make_drawn(shared, &mut refused, image, share, drawn)?;
     }
     Ok(())
@@ -64,12 +101,12 @@ fn make_drawn<J: RunName>(
     requires image { image.now ≡ J.program }
     requires room { length refused.old ≡ suc most_threads }
     requires kept { IsWellFormed J.program (log_state shared.old).concrete }
-    requires drawn { MayBeDrawn J.strays J.limit (log_state shared.old) refused.old drawn }
+    requires drawn { MayBeDrawn J.outside J.limit (log_state shared.old) refused.old drawn }
     requires past { AllPast J.program J.limit (log_state shared.old) refused.old }
     ensures past { OnOk result (AllPast J.program J.limit (log_state shared.new) refused.new) }
     ensures less { OnOk result ((J.limit - cost shared.new.log) + unrefused refused.new
         < (J.limit - cost shared.old.log) + unrefused refused.old) }
-    ensures err { IfErr result (λ fault. CanFail J.program J.strays J.limit fault) }
+    ensures err { IfErr result (λ fault. CanFail J.program J.outside J.limit fault) }
 {
     match drawn {
         Drawn::Mover(t) => {
@@ -77,29 +114,35 @@ fn make_drawn<J: RunName>(
             Ok(())
         }
         Drawn::Sleeper(t) => shared.stray(t, share),
+        Drawn::Living(t) => shared.kill(t, share),
     }
 }
 
-// Draws the next entry: where a wake from outside is due, that of a thread that sleeps; else that of a thread that can
-// move and wasn't refused. None where there is no thread of the latter, and then no number is drawn.
+// Draws the next entry: where a wake from outside is due, that of a thread that sleeps; else, where a kill is due, that
+// of a thread that lives; else that of a thread that can move and wasn't refused. None where there is no thread of the
+// last, and then no number is drawn.
 fn draw_entry<J: RunName>(
     shared: &Shared<J>,
     refused: &[bool],
     generator: &mut SplitMix64,
-    strays: Option<u32>,
+    outside: Outside,
 ) -> Option<Drawn>
     requires room { length refused.now ≡ suc most_threads }
-    requires strays { is_some strays ≡ J.strays }
+    requires strays { is_some outside.strays ≡ J.outside.strays }
+    requires kills { outside.kills ≡ J.outside.kills }
     ensures drawn { MatchOption result (NoneLeft (log_state shared.now).concrete refused.now)
-        (λ drawn. MayBeDrawn J.strays J.limit (log_state shared.now) refused.now drawn) }
+        (λ drawn. MayBeDrawn J.outside J.limit (log_state shared.now) refused.now drawn) }
     ensures kept { IsWellFormed J.program (log_state shared.now).concrete }
 {
     let movers = movers(shared.machine(), refused);
     if movers.is_empty() {
         return None;
     }
-    if let Some(t) = draw_sleeper(shared, generator, strays) {
+    if let Some(t) = draw_sleeper(shared, generator, outside.strays) {
         return Some(Drawn::Sleeper(t));
+    }
+    if let Some(t) = draw_living(shared, refused, generator, outside) {
+        return Some(Drawn::Living(t));
     }
     Some(Drawn::Mover(pick(&movers, generator)))
 }
@@ -121,6 +164,31 @@ fn draw_sleeper<J: RunName>(
         return None;
     }
     Some(pick(&sleepers, generator))
+}
+
+// Draws a thread that lives and wasn't refused, where there may be a kill more, one is due, there is such a thread, and
+// the limit leaves room.
+fn draw_living<J: RunName>(
+    shared: &Shared<J>,
+    refused: &[bool],
+    generator: &mut SplitMix64,
+    outside: Outside,
+) -> Option<u32>
+    requires room { length refused.now ≡ suc most_threads }
+    ensures { IfSome result (λ t. (kills_in shared.now.log < outside.kills)
+        × IsUnrefused (log_state shared.now).concrete refused.now t × (cost shared.now.log < J.limit)) }
+{
+    if shared.kills() >= outside.kills {
+        return None;
+    }
+    if generator.next_u64().trailing_zeros() < outside.doublings || !shared.has_step_left() {
+        return None;
+    }
+    let living = living(shared.machine(), refused);
+    if living.is_empty() {
+        return None;
+    }
+    Some(pick(&living, generator))
 }
 
 // Whether a wake from outside is due: where the generator's next number is a multiple of that which `strays` has. No
@@ -205,4 +273,37 @@ fn add_sleeper(sleepers: &mut ArrayVec<u32, 64>, machine: &Machine, t: u32)
     if machine.asleep(t).is_some() {
         sleepers.push(t);
     }
+}
+
+// The threads that live, which aren't dying yet nor ended, and weren't refused, by rising number.
+fn living(machine: &Machine, refused: &[bool]) -> ArrayVec<u32, 64>
+    requires room { length refused.now ≡ suc most_threads }
+    ensures { All (IsUnrefused (concrete machine.now) refused.now) result.items }
+{
+    let mut living: ArrayVec<u32, 64> = ArrayVec::new();
+    for before in 0..machine.threads() {
+        add_living(&mut living, machine, refused, before + 1);
+    }
+    living
+}
+
+// Adds thread `t`, if it lives and wasn't refused.
+fn add_living(living: &mut ArrayVec<u32, 64>, machine: &Machine, refused: &[bool], t: u32)
+    requires space { length living.old.items < 64 }
+    requires room { length refused.now ≡ suc most_threads }
+    requires thread { (0 < t) × (t ≤ most_threads) }
+    ensures living { All (IsUnrefused (concrete machine.now) refused.now) living.old.items
+        → All (IsUnrefused (concrete machine.now) refused.now) living.new.items }
+    ensures few { length living.new.items ≤ length living.old.items + 1 }
+{
+    if lives(machine, t) && !refused[t as usize] {
+        living.push(t);
+    }
+}
+
+// Whether thread `t` was made and isn't dying: a kill of it changes it.
+fn lives(machine: &Machine, t: u32) -> bool
+    ensures { result ≡ true → thread_of (concrete machine.now) t ≢ None }
+{
+    machine.is_made(t) && !machine.local(t).is_dying()
 }

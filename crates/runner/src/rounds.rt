@@ -24,7 +24,7 @@ pub fn run_rounds<J: RunName, G: Gate>(
 ) -> Result<(), RunFault>
     requires image { image.now ≡ J.program }
     ensures ok { OnOk result (Idle J.program J.limit (log_state shared.new)) }
-    ensures err { IfErr result (λ fault. CanFail J.program J.strays J.limit fault) }
+    ensures err { IfErr result (λ fault. CanFail J.program J.outside J.limit fault) }
 {
     let mut refused = [false; MOST_THREADS as usize + 1];
     while run_round(shared, &mut refused, image, share, gate)? {}
@@ -40,7 +40,7 @@ pub fn run_alone<J: RunName, G: Gate>(
     t: u32,
 ) -> Result<(), RunFault>
     ensures given { shared.new.given ≡ shared.old.given }
-    ensures err { IfErr result (λ fault. CanFail J.program J.strays J.limit fault) }
+    ensures err { IfErr result (λ fault. CanFail J.program J.outside J.limit fault) }
 {
     while shared.machine().threads() == 1 && shared.machine().can_move(t) && shared.has_room() {
         gate.pass(t);
@@ -65,7 +65,7 @@ fn run_round<J: RunName, G: Gate>(
         × (cost shared.new.log ≤ J.limit)) }
     ensures none { IfOk result (λ made. made ≡ false
         → Idle J.program J.limit (log_state shared.new)) }
-    ensures err { IfErr result (λ fault. CanFail J.program J.strays J.limit fault) }
+    ensures err { IfErr result (λ fault. CanFail J.program J.outside J.limit fault) }
 {
     let mut made = false;
     let mut t = 1;
@@ -100,7 +100,7 @@ pub(crate) fn make_entry<J: RunName, G: Gate>(
     ensures kept { IfOk result (λ made. made ≡ true → refused.new ≡ refused.old) }
     ensures passed { IfOk result (λ made. made ≡ false → IsPickable (log_state shared.old).concrete refused.old t
         → refused.new ≡ slice_set refused.old t true) }
-    ensures err { IfErr result (λ fault. CanFail J.program J.strays J.limit fault) }
+    ensures err { IfErr result (λ fault. CanFail J.program J.outside J.limit fault) }
 {
     if !shared.has_room() {
         return try_entry(shared, refused, image, share, gate, t);
@@ -136,7 +136,7 @@ fn try_entry<J: RunName, G: Gate>(
     ensures kept { IfOk result (λ made. made ≡ true → refused.new ≡ refused.old) }
     ensures passed { IfOk result (λ made. made ≡ false → IsPickable (log_state shared.old).concrete refused.old t
         → refused.new ≡ slice_set refused.old t true) }
-    ensures err { IfErr result (λ fault. CanFail J.program J.strays J.limit fault) }
+    ensures err { IfErr result (λ fault. CanFail J.program J.outside J.limit fault) }
 {
     if refused[t as usize] {
         return Ok(false);

@@ -1,4 +1,5 @@
-ghost use Rattle.std.specs.Prelude.{◌≡◌, false, IfOk, IfErr};
+ghost use Rattle.std.specs.Prelude.{◌≡◌, IfOk, IfErr};
+ghost use Rattle.runner.specs.Logs.{nothing_outside};
 ghost use Rattle.runner.specs.Reports.{IsReport, CanFail};
 
 use crate::fault::RunFault;
@@ -18,7 +19,7 @@ use words::Gate;
 ///
 /// It makes entries round after round. A round goes through the threads by rising number, those made in the round
 /// included, and makes one entry for each that can move; one whose entry would pass the limit is passed over from then
-/// on. No entry is a wake from outside.
+/// on. No entry comes from outside.
 ///
 /// Refuses only with `Memory` and with `Broken`, where some legal log within the limit leads a thread, within a turn
 /// of local steps, to a step that may not be.
@@ -28,8 +29,8 @@ pub fn run_in_order<G: Gate>(
     limit: u32,
     gate: &G,
 ) -> Result<Report, RunFault>
-    ensures ok { IfOk result (λ report. IsReport image.now false limit report) }
-    ensures err { IfErr result (λ fault. CanFail image.now false limit fault) }
+    ensures ok { IfOk result (λ report. IsReport image.now nothing_outside limit report) }
+    ensures err { IfErr result (λ fault. CanFail image.now nothing_outside limit fault) }
 {
     run_as::<Brand, G>(alloc, image, limit, Blank::new(u64::from(PARTS)), gate)
 }
@@ -44,8 +45,8 @@ fn run_as<J: RunName, G: Gate>(
     requires image { image.now ≡ J.program }
     requires limit { limit ≡ J.limit }
     requires blank { (blank.name ≡ J.name) × (blank.parts ≡ J.parts) × (J.parts ≡ 1024) }
-    ensures ok { IfOk result (λ report. IsReport J.program J.strays J.limit report) }
-    ensures err { IfErr result (λ fault. CanFail J.program J.strays J.limit fault) }
+    ensures ok { IfOk result (λ report. IsReport J.program J.outside J.limit report) }
+    ensures err { IfErr result (λ fault. CanFail J.program J.outside J.limit fault) }
 {
     let Ok(mut shared) = Shared::<J>::new(alloc, image, limit, blank) else {
         return Err(RunFault::Memory);
@@ -65,8 +66,8 @@ pub fn finish<J: RunName, G: Gate>(
     gate: &G,
 ) -> Result<Report, RunFault>
     requires image { image.now ≡ J.program }
-    ensures ok { IfOk result (λ report. IsReport J.program J.strays J.limit report) }
-    ensures err { IfErr result (λ fault. CanFail J.program J.strays J.limit fault) }
+    ensures ok { IfOk result (λ report. IsReport J.program J.outside J.limit report) }
+    ensures err { IfErr result (λ fault. CanFail J.program J.outside J.limit fault) }
 {
     let mut shared = shared;
     run_rounds(&mut shared, image, share, gate)?;

@@ -1,7 +1,8 @@
 ghost use Rattle.std.specs.Prelude.{◌≡◌, is_some, IfOk, IfErr};
+ghost use Rattle.runner.specs.Logs.{outside_of};
 ghost use Rattle.runner.specs.Reports.{IsReport, CanFail};
 
-use crate::drawing::run_drawn;
+use crate::drawing::{Outside, run_drawn};
 use crate::fault::RunFault;
 use crate::naming::RunName;
 use crate::report::{Report, report_of};
@@ -28,17 +29,25 @@ use std::sync::ledger::Blank;
 /// those that sleep, by rising number, the one at the place that the number behind has modulo how many there are. With
 /// `None` and with `Some(0)` there are no such entries and no such numbers.
 ///
+/// At most `kills` entries are kills, of threads that live: that were made, and aren't dying. Where it isn't 0, the
+/// generator's first number has an e from 1 to 12, which is 1 more than what it has modulo 12. Each time that there is a
+/// thread to be drawn, no wake was made in its place, and there were fewer kills, the next number comes before that
+/// which draws it. Where it is a multiple of 2^e, some thread lives and wasn't passed over, and the steps so far are
+/// fewer than the limit, the entry kills, of those threads, by rising number, the one at the place that the number
+/// behind has modulo how many there are. With 0 there are no such entries and no such numbers.
+///
 /// Refuses only with `Memory` and with `Broken`, as `run_in_order` does; the log that leads to a broken step may have
-/// wakes from outside unless `strays` is `None`.
+/// as much from outside.
 pub fn run_by_seed(
     alloc: Global,
     image: &Image,
     limit: u32,
     seed: u64,
     strays: Option<u32>,
+    kills: u32,
 ) -> Result<Report, RunFault>
-    ensures ok { IfOk result (λ report. IsReport image.now (is_some strays) limit report) }
-    ensures err { IfErr result (λ fault. CanFail image.now (is_some strays) limit fault) }
+    ensures ok { IfOk result (λ report. IsReport image.now (outside_of (is_some strays) kills) limit report) }
+    ensures err { IfErr result (λ fault. CanFail image.now (outside_of (is_some strays) kills) limit fault) }
 {
     run_as::<Brand>(
         alloc,
@@ -47,6 +56,7 @@ pub fn run_by_seed(
         Blank::new(u64::from(PARTS)),
         seed,
         strays,
+        kills,
     )
 }
 
@@ -57,13 +67,15 @@ fn run_as<J: RunName>(
     blank: Blank,
     seed: u64,
     strays: Option<u32>,
+    kills: u32,
 ) -> Result<Report, RunFault>
     requires image { image.now ≡ J.program }
-    requires strays { is_some strays ≡ J.strays }
+    requires strays { is_some strays ≡ J.outside.strays }
+    requires kills { kills ≡ J.outside.kills }
     requires limit { limit ≡ J.limit }
     requires blank { (blank.name ≡ J.name) × (blank.parts ≡ J.parts) × (J.parts ≡ 1024) }
-    ensures ok { IfOk result (λ report. IsReport J.program J.strays J.limit report) }
-    ensures err { IfErr result (λ fault. CanFail J.program J.strays J.limit fault) }
+    ensures ok { IfOk result (λ report. IsReport J.program J.outside J.limit report) }
+    ensures err { IfErr result (λ fault. CanFail J.program J.outside J.limit fault) }
 {
     let Ok(mut shared) = Shared::<J>::new(alloc, image, limit, blank) else {
         return Err(RunFault::Memory);
@@ -72,7 +84,8 @@ fn run_as<J: RunName>(
         unreachable!()
     };
     let mut generator = SplitMix64::seed_from_u64(seed);
-    run_drawn(&mut shared, image, &mut share, &mut generator, strays)?;
+    let outside = Outside::new(strays, kills, &mut generator);
+    run_drawn(&mut shared, image, &mut share, &mut generator, outside)?;
     let (log, last) = shared.into_parts();
     report_of(alloc, log, last).map_err(|_| RunFault::Memory)
 }

@@ -3,8 +3,7 @@ ghost use Rattle.std.specs.Prelude.{suc, ◌≡◌, ◌≢◌, ◌≤◌, ◌<�
 ghost use Rattle.std.specs.Prelude.{IfErr, OnOk, IfSome, IfNone, MatchBool, MatchOption};
 ghost use Rattle.machine.specs.States.{thread_of, opening_concrete};
 ghost use Rattle.machine.specs.ConcreteSteps.{can_move};
-ghost use Rattle.std.specs.List.{All};
-ghost use Rattle.runner.specs.Logs.{Runs, IsOwnEntry, cost};
+ghost use Rattle.runner.specs.Logs.{HasOnly, Runs, cost, kills_in};
 ghost use Rattle.runner.specs.Entries.{Takes, TakesOutside, RefusesEntry, RefusesOutside, IsFine, Stands};
 ghost use Rattle.runner.specs.Entries.{TakesKill, RefusesKill};
 ghost use Rattle.runner.specs.Nexts.{IsNext};
@@ -29,14 +28,16 @@ use std::sync::ledger;
 use std::sync::ledger::{Blank, Book};
 use words::{BUCKETS, MOST_LOCAL_STEPS};
 
-/// The machine of run `J` and its log. Its type keeps that the log is legal for the run's program, that it has no wakes
-/// from outside where the run's name rules them out, that the machine is where the log leads, that the log's cost is
+/// The machine of run `J` and its log. Its type keeps that the log is legal for the run's program, that it has no more
+/// from outside than the run's name allows, that the machine is where the log leads, that the log's cost is
 /// within the run's limit, and that all shares together have counted each entry once.
 #[derive(Drop)]
 pub struct Shared<J: RunName> {
     machine: Machine,
     log: Vec<Entry>,
     steps: u32,
+    // How many entries are kills.
+    kills: u32,
     limit: u32,
     book: Book<J>,
     // The parts of the count that were not given out.
@@ -53,8 +54,8 @@ impl<J: RunName> Model for Shared<J> {
 
     ghost view = { λ s. record { log = s.log.items; machine = s.machine; given = s.given } };
 
-    ghost invariant = { λ s. IsLegal J.program J.strays J.limit s.machine.program
-        (concrete s.machine) s.log.items s.steps s.limit
+    ghost invariant = { λ s. IsLegal J.program J.outside J.limit s.machine.program
+        (concrete s.machine) s.log.items s.steps s.limit s.kills
         × IsCounted J.parts s.book.total s.rest.parts s.rest.amount s.given s.log.items };
 }
 
@@ -79,6 +80,7 @@ impl<J: RunName> Shared<J> {
             machine,
             log: Vec::new(alloc),
             steps: 0,
+            kills: 0,
             limit,
             book,
             rest,
@@ -136,7 +138,7 @@ impl<J: RunName> Shared<J> {
         ensures value { result.now ≡ self.now.log }
         ensures legal { Runs J.program (opening_concrete J.program) self.now.log
             (log_state self.now).concrete }
-        ensures own { J.strays ≡ false → All IsOwnEntry self.now.log }
+        ensures own { HasOnly J.outside self.now.log }
     {
         self.log.as_slice()
     }
@@ -149,6 +151,14 @@ impl<J: RunName> Shared<J> {
         self.steps
     }
 
+    /// How many entries of the log are kills.
+    pub fn kills(&self) -> u32
+        ensures value { result ≡ kills_in self.now.log }
+        ensures within { result ≤ J.outside.kills }
+    {
+        self.kills
+    }
+
     /// What a run leaves: its log and its machine.
     pub fn into_parts(self) -> (Vec<Entry>, Machine)
         ensures log { result.0.items ≡ self.log }
@@ -156,7 +166,7 @@ impl<J: RunName> Shared<J> {
         ensures program { result.1.program ≡ J.program }
         ensures legal { Runs J.program (opening_concrete J.program) self.log
             (log_state self).concrete }
-        ensures own { J.strays ≡ false → All IsOwnEntry self.log }
+        ensures own { HasOnly J.outside self.log }
         ensures within { cost self.log ≤ J.limit }
     {
         let Shared { log, machine, .. } = self;
@@ -204,7 +214,7 @@ impl<J: RunName> Shared<J> {
             × (share.new ≡ share.old)
             × RefusesEntry J.program J.limit (log_state self.old) t piece fault) }
         ensures broken { IfErr result (λ fault. fault ≡ RunFault.Broken
-            → MeetsBroken J.program J.strays J.limit) }
+            → MeetsBroken J.program J.outside J.limit) }
         ensures given { self.new.given ≡ self.old.given }
         ensures legal { Runs J.program (opening_concrete J.program) self.new.log
             (log_state self.new).concrete }
@@ -235,7 +245,7 @@ impl<J: RunName> Shared<J> {
             × (share.new ≡ share.old)
             × RefusesEntry J.program J.limit (log_state self.old) t piece.old fault) }
         ensures broken { IfErr result (λ fault. fault ≡ RunFault.Broken
-            → MeetsBroken J.program J.strays J.limit) }
+            → MeetsBroken J.program J.outside J.limit) }
         ensures given { self.new.given ≡ self.old.given }
         ensures legal { Runs J.program (opening_concrete J.program) self.new.log
             (log_state self.new).concrete }
@@ -255,7 +265,7 @@ impl<J: RunName> Shared<J> {
             × (share.new ≡ share.old)
             × RefusesEntry J.program J.limit (log_state self.old) t piece.now fault) }
         ensures broken { IfErr result (λ fault. fault ≡ RunFault.Broken
-            → MeetsBroken J.program J.strays J.limit) }
+            → MeetsBroken J.program J.outside J.limit) }
         ensures given { self.new.given ≡ self.old.given }
         ensures legal { Runs J.program (opening_concrete J.program) self.new.log
             (log_state self.new).concrete }
@@ -278,7 +288,7 @@ impl<J: RunName> Shared<J> {
     ///
     /// Refuses in this order: `CannotMove` where the thread doesn't sleep, `Limit`, `Memory`; then nothing has changed.
     pub fn stray(&mut self, t: u32, share: &mut Share<J>) -> Result<(), RunFault>
-        requires strays { J.strays ≡ true }
+        requires strays { J.outside.strays ≡ true }
         ensures ok { OnOk result
             (TakesOutside J.limit (log_state self.old) t (log_state self.new)) }
         ensures counted { OnOk result (share.new
@@ -311,7 +321,7 @@ impl<J: RunName> Shared<J> {
     ///
     /// Refuses in this order: `CannotMove` where no such thread was made, `Limit`, `Memory`; then nothing has changed.
     pub fn kill(&mut self, t: u32, share: &mut Share<J>) -> Result<(), RunFault>
-        requires strays { J.strays ≡ true }
+        requires kills { kills_in self.old.log < J.outside.kills }
         ensures ok { OnOk result (TakesKill J.limit (log_state self.old) t (log_state self.new)) }
         ensures counted { OnOk result (share.new
             ≡ record share.old { count = share.old.count + 1 }) }
@@ -333,6 +343,7 @@ impl<J: RunName> Shared<J> {
             return Err(RunFault::Memory);
         }
         self.steps += 1;
+        self.kills += 1;
         share.count_one(&mut self.book);
         Ok(())
     }
@@ -378,7 +389,7 @@ impl<J: RunName> Shared<J> {
         requires room { cost self.old.log + suc most_local_steps ≤ J.limit }
         ensures ok { OnOk result (cost self.old.log < cost self.new.log) }
         ensures given { self.new.given ≡ self.old.given }
-        ensures err { IfErr result (λ fault. CanFail J.program J.strays J.limit fault) }
+        ensures err { IfErr result (λ fault. CanFail J.program J.outside J.limit fault) }
         ensures within { cost self.new.log ≤ J.limit }
     {
         if make_room(&mut self.machine, &mut self.log).is_err() {

@@ -1,7 +1,7 @@
 use crate::device::Device;
 use crate::fault::RowFault;
 use crate::row::Row;
-use mesamon::{Counted, perform};
+use mesamon::{Counted, perform_with_hints};
 use std::alloc::Global;
 use std::rt::Files;
 use std::sync::Wait;
@@ -86,7 +86,7 @@ impl Outcome {
             .collect(rt.alloc())?;
         let mut output = Counted::new(Device::new(rt.alloc(), row.output_room)?);
         let mut errors = Counted::new(Device::new(rt.alloc(), row.errors_room)?);
-        let status = perform(rt, words.as_slice(), &mut output, &mut errors);
+        let status = perform_with_hints(rt, words.as_slice(), &mut output, &mut errors);
         let output = output.into_inner();
         let errors = errors.into_inner();
         Ok(Outcome {

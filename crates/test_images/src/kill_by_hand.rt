@@ -1,4 +1,4 @@
-ghost use Rattle.std.specs.Prelude.{◌≡◌, true};
+ghost use Rattle.std.specs.Prelude.{◌≡◌, ◌^◌};
 
 use crate::failure::Failure;
 use crate::show::{show_end, show_log};
@@ -60,7 +60,7 @@ fn run_as<J: RunName, R: Print>(
     requires image { image.now ≡ J.program }
     requires limit { limit ≡ J.limit }
     requires blank { (blank.name ≡ J.name) × (blank.parts ≡ J.parts) × (J.parts ≡ 1024) }
-    requires strays { J.strays ≡ true }
+    requires kills { J.outside.kills ≡ 2 ^ 32 }
 {
     let mut shared = Shared::<J>::new(alloc, image, limit, blank)?;
     let Some(share) = shared.share() else {
@@ -109,7 +109,7 @@ fn perform<J: RunName, R: Print>(
     deed: Deed,
 ) -> Result<(), Failure>
     requires image { image.now ≡ J.program }
-    requires strays { J.strays ≡ true }
+    requires kills { J.outside.kills ≡ 2 ^ 32 }
 {
     match deed {
         Deed::Step(thread) => {
@@ -159,9 +159,11 @@ fn kill<J: RunName, R: Print>(
     hand: &mut Hand<J>,
     thread: u32,
 ) -> io::Result<()>
-    requires strays { J.strays ≡ true }
+    requires kills { J.outside.kills ≡ 2 ^ 32 }
 {
     let before = shared.log().len().saturating_sub(1);
+    // Each number that there may be of kills is below 2^32.
+    let _killed = shared.kills();
     if let Err(fault) = shared.kill(thread, &mut hand.share) {
         return println!(rt; "  kill of {thread}: {fault:?}");
     }

@@ -33,7 +33,7 @@ fn run_as<J: RunName, R: Print>(
     requires image { image.now ≡ J.program }
     requires limit { limit ≡ J.limit }
     requires blank { (blank.name ≡ J.name) × (blank.parts ≡ J.parts) × (J.parts ≡ 1024) }
-    requires strays { J.strays ≡ true }
+    requires strays { J.outside.strays ≡ true }
 {
     let mut shared = Shared::<J>::new(alloc, image, limit, blank)?;
     let Some(mut share) = shared.share() else {
@@ -57,7 +57,7 @@ fn wake<J: RunName, R: Print>(
     shared: &mut Shared<J>,
     share: &mut Share<J>,
 ) -> io::Result<()>
-    requires strays { J.strays ≡ true }
+    requires strays { J.outside.strays ≡ true }
 {
     let answer = match shared.stray(SLEEPER, share) {
         Ok(()) => "woken",

@@ -1,10 +1,11 @@
 -- What lies under the lock of a run with several workers.
-use Rattle.std.specs.Prelude.{ℕ, ◌≡◌, ◌≤◌, ◌+◌, Bool, length, Option, Some, None}
+use Rattle.std.specs.Prelude.{ℕ, ◌≡◌, ◌≤◌, ◌+◌, length, Option, Some, None}
 use Rattle.words.specs.Limits.{most_threads}
 use Rattle.isa.specs.Programs.{Program}
 use Rattle.machine.specs.States.{ConcreteState}
 use Rattle.runner.specs.declared.fault.RunFault.{RunFault}
 use Rattle.runner.specs.Views.{SharedView, ShareView, log_state}
+use Rattle.runner.specs.Logs.{Outside}
 use Rattle.runner.specs.Reports.{CanFail}
 
 -- the run, why it ends before its time, how many workers were started, and what the calling thread counted
@@ -19,13 +20,13 @@ abbrev pub state_of : SharedRunView → ConcreteState
 state_of d = (log_state d.shared).concrete
 
 -- a fault has its cause
-abbrev pub HasCause : Program → Bool → ℕ → Option RunFault → Type 0
-HasCause p strays limit None = Unit {0}
-HasCause p strays limit (Some fault) = CanFail p strays limit fault
+abbrev pub HasCause : Program → Outside → ℕ → Option RunFault → Type 0
+HasCause p may limit None = Unit {0}
+HasCause p may limit (Some fault) = CanFail p may limit fault
 
 -- a fault has its cause, and each worker has one part of the count, as the calling thread has
-pub record IsSharedRun (p : Program) (strays : Bool) (limit given started : ℕ) (fault : Option RunFault) : Type 0 where
-  pub cause : HasCause p strays limit fault
+pub record IsSharedRun (p : Program) (may : Outside) (limit given started : ℕ) (fault : Option RunFault) : Type 0 where
+  pub cause : HasCause p may limit fault
   pub parts : given ≡ started + 1
   pub few : started ≤ most_threads
 

@@ -1,4 +1,5 @@
-ghost use Rattle.std.specs.Prelude.{◌≡◌, false, IfOk, IfErr};
+ghost use Rattle.std.specs.Prelude.{◌≡◌, IfOk, IfErr};
+ghost use Rattle.runner.specs.Logs.{nothing_outside};
 ghost use Rattle.runner.specs.Reports.{IsReport, CanFail};
 
 use crate::image_ref::ImageRef;
@@ -18,7 +19,7 @@ use words::Gate;
 ///
 /// A worker takes local steps by itself, and hands them in under one lock, with the shared step that comes next. The
 /// worker of a thread that sleeps parks until another's entry wakes its thread. One whose entry would pass the limit
-/// ends. The calling thread starts the workers, and returns when all have ended. No entry is a wake from outside.
+/// ends. The calling thread starts the workers, and returns when all have ended. No entry comes from outside.
 ///
 /// Refuses only with `Memory`, also where a worker can't be started, and with `Broken`, where some legal log within the
 /// limit leads a thread, within a turn of local steps, to a step that may not be. Then all workers end before their
@@ -30,8 +31,8 @@ pub fn run<R: Threads + Wait + Sync, G: Gate>(
     limit: u32,
     gate: &G,
 ) -> Result<Report, RunFault>
-    ensures ok { IfOk result (λ report. IsReport image.now false limit report) }
-    ensures err { IfErr result (λ fault. CanFail image.now false limit fault) }
+    ensures ok { IfOk result (λ report. IsReport image.now nothing_outside limit report) }
+    ensures err { IfErr result (λ fault. CanFail image.now nothing_outside limit fault) }
 {
     run_as::<Brand, R, G>(rt, alloc, image, limit, Blank::new(u64::from(PARTS)), gate)
 }
@@ -47,8 +48,8 @@ fn run_as<J: RunName + Send + Sync, R: Threads + Wait + Sync, G: Gate>(
     requires image { image.now ≡ J.program }
     requires limit { limit ≡ J.limit }
     requires blank { (blank.name ≡ J.name) × (blank.parts ≡ J.parts) × (J.parts ≡ 1024) }
-    ensures ok { IfOk result (λ report. IsReport J.program J.strays J.limit report) }
-    ensures err { IfErr result (λ fault. CanFail J.program J.strays J.limit fault) }
+    ensures ok { IfOk result (λ report. IsReport J.program J.outside J.limit report) }
+    ensures err { IfErr result (λ fault. CanFail J.program J.outside J.limit fault) }
 {
     let Ok(mut shared) = Shared::<J>::new(alloc, image, limit, blank) else {
         return Err(RunFault::Memory);

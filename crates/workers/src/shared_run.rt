@@ -35,7 +35,7 @@ impl<J: RunName> Model for SharedRun<J> {
       kept = d.kept;
     } };
 
-    ghost invariant = { λ d. IsSharedRun J.program J.strays J.limit d.shared.given d.started d.fault };
+    ghost invariant = { λ d. IsSharedRun J.program J.outside J.limit d.shared.given d.started d.fault };
 }
 
 /// Whom an entry concerns.
@@ -257,7 +257,7 @@ impl<J: RunName> SharedRun<J> {
 
     /// The run, why it ended before its time, and what the calling thread counted and was given back.
     pub fn into_parts(self) -> (Shared<J>, Option<RunFault>, Share<J>)
-        ensures cause { HasCause J.program J.strays J.limit result.1 }
+        ensures cause { HasCause J.program J.outside J.limit result.1 }
         ensures whole { (result.0 ≡ self.shared) × (result.1 ≡ self.fault)
             × (result.2 ≡ self.kept) }
     {

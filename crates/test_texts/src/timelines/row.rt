@@ -42,7 +42,7 @@ pub fn actions_of(
     image: &Image,
     row: &Row<'_>,
 ) -> Result<Vec<Action>, Failure> {
-    let report = match run_by_seed(alloc, image, row.steps, row.seed, Some(row.strays)) {
+    let report = match run_by_seed(alloc, image, row.steps, row.seed, Some(row.strays), 0) {
         Ok(report) => report,
         Err(RunFault::Memory) => return Err(Failure::Memory),
         Err(_) => return Err(Failure::Run),

@@ -2,7 +2,26 @@ use Rattle.std.proofs.Common.{ap, ap₂, codes, refl, ◌≡◌, ◌∙◌}
 use Rattle.std.proofs.lemmas.Result.{IfOk-weaker}
 use Rattle.clap.specs.Simple.{app_of_fields}
 use Rattle.clap.specs.Words.{app_of, new_app, with_rule}
+use Rattle.commandline.specs.CommandLine as line
 use Rattle.commandline.proofs.builder.explain_command.Goals as goal
+
+pub with_chart_options-requires : goal.with_chart_options-requires
+with_chart_options-requires c = rw (
+  c.in_ok-command.ensures.globals,
+  c.valued-2.ensures.local,
+  c.in_ok-arg-5.ensures.globals,
+  c.valued.ensures.local,
+  c.in_ok-arg-4.ensures.globals,
+  c.strays_option.ensures.local,
+  c.in_ok-arg-3.ensures.globals,
+  c.seed_option.ensures.local,
+  c.in_ok-arg-2.ensures.globals,
+  c.steps_option.ensures.local,
+  c.in_ok-arg.ensures.globals,
+  c.positional.ensures.local,
+  c.about.ensures,
+  c.new.ensures.local,
+) refl
 
 pub returns-clause-app : goal.returns-clause-app
 returns-clause-app c =
@@ -18,35 +37,23 @@ returns-clause-app c =
     ∙ ap₂ with_rule third c.strays_option.ensures.rule in
     let fifth = c.in_ok-arg-5.ensures.shape c.valued.ensures.local
     ∙ ap₂ with_rule fourth c.valued.ensures.rule in
-    let sixth = c.in_ok-arg-6.ensures.shape c.valued-2.ensures.local
+    let sixth = c.in_ok-command.ensures.shape c.valued-2.ensures.local
     ∙ ap₂ with_rule fifth c.valued-2.ensures.rule in
-    let seventh = c.in_ok-arg-7.ensures.shape c.valued-3.ensures.local
-    ∙ ap₂ with_rule sixth c.valued-3.ensures.rule in
-    let eighth = c.in_ok-arg-8.ensures.shape c.valued-4.ensures.local
-    ∙ ap₂ with_rule seventh c.valued-4.ensures.rule in
-    IfOk-weaker c.arg-9.result _ _ (λ r h. h.shape c.flag.ensures.local
-    ∙ ap₂ with_rule eighth c.flag.ensures.rule) c.arg-9.ensures
+    let seventh = c.in_ok-with_chart_options.ensures.app ∙ ap line.with_chart_options sixth in
+    let eighth = c.in_ok-arg-6.ensures.shape c.valued-3.ensures.local
+    ∙ ap₂ with_rule seventh c.valued-3.ensures.rule in
+    let ninth = c.in_ok-arg-7.ensures.shape c.flag.ensures.local
+    ∙ ap₂ with_rule eighth c.flag.ensures.rule in
+    IfOk-weaker c.arg-9.result _ _ (λ r h. h.shape c.flag-2.ensures.local
+    ∙ ap₂ with_rule ninth c.flag-2.ensures.rule) c.arg-9.ensures
 
 pub returns-clause-local : goal.returns-clause-local
 returns-clause-local c = IfOk-weaker c.arg-9.result _ _ (λ r h. rw (
   h.globals,
-  c.flag.ensures.local,
-  c.in_ok-arg-8.ensures.globals,
-  c.valued-4.ensures.local,
+  c.flag-2.ensures.local,
   c.in_ok-arg-7.ensures.globals,
-  c.valued-3.ensures.local,
+  c.flag.ensures.local,
   c.in_ok-arg-6.ensures.globals,
-  c.valued-2.ensures.local,
-  c.in_ok-arg-5.ensures.globals,
-  c.valued.ensures.local,
-  c.in_ok-arg-4.ensures.globals,
-  c.strays_option.ensures.local,
-  c.in_ok-arg-3.ensures.globals,
-  c.seed_option.ensures.local,
-  c.in_ok-arg-2.ensures.globals,
-  c.steps_option.ensures.local,
-  c.in_ok-arg.ensures.globals,
-  c.positional.ensures.local,
-  c.about.ensures,
-  c.new.ensures.local,
+  c.valued-3.ensures.local,
+  c.in_ok-with_chart_options.ensures.local,
 ) refl) c.arg-9.ensures

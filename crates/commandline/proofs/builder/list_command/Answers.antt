@@ -7,13 +7,21 @@ use Rattle.commandline.proofs.builder.list_command.Goals as goal
 pub returns-clause-app : goal.returns-clause-app
 returns-clause-app c =
     let new : app_of c.about.result ≡ new_app (codes "list") = ap app_of_fields c.about.ensures ∙ c.new.ensures.app in
-    IfOk-weaker c.arg.result _ _ (λ r h. h.shape c.positional.ensures.local
-    ∙ ap₂ with_rule new c.positional.ensures.rule) c.arg.ensures
+    let first = c.in_ok-arg.ensures.shape c.positional.ensures.local
+    ∙ ap₂ with_rule new c.positional.ensures.rule in
+    let second = c.in_ok-arg-2.ensures.shape c.valued.ensures.local
+    ∙ ap₂ with_rule first c.valued.ensures.rule in
+    IfOk-weaker c.arg-3.result _ _ (λ r h. h.shape c.flag.ensures.local
+    ∙ ap₂ with_rule second c.flag.ensures.rule) c.arg-3.ensures
 
 pub returns-clause-local : goal.returns-clause-local
-returns-clause-local c = IfOk-weaker c.arg.result _ _ (λ r h. rw (
+returns-clause-local c = IfOk-weaker c.arg-3.result _ _ (λ r h. rw (
   h.globals,
+  c.flag.ensures.local,
+  c.in_ok-arg-2.ensures.globals,
+  c.valued.ensures.local,
+  c.in_ok-arg.ensures.globals,
   c.positional.ensures.local,
   c.about.ensures,
   c.new.ensures.local,
-) refl) c.arg.ensures
+) refl) c.arg-3.ensures

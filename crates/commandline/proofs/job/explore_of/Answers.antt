@@ -12,20 +12,23 @@ returns-in_err-file-clause-none c =
 
 pub returns-in_err-states-clause-none : goal.returns-in_err-states-clause-none
 returns-in_err-states-clause-none c = λ _ job.
-    no_explore (rows_of (found_of c.args.matches.now)) job (inr (c.in_err-states.ensures.none refl))
+    no_explore (rows_of (found_of c.args.matches.now)) job (inr (inl (c.in_err-states.ensures.none refl)))
+
+pub returns-in_err-chart-clause-none : goal.returns-in_err-chart-clause-none
+returns-in_err-chart-clause-none c = λ _ job.
+    no_explore (rows_of (found_of c.args.matches.now)) job (inr (inr (c.in_err-chart.ensures.none refl)))
 
 pub returns-clause-job : goal.returns-clause-job
 returns-clause-job c =
     let found = found_of c.args.matches.now in
     let file = first_value-rows found (codes "FILE") in
     let strays = one_text-rows found (codes "strays") in
-    let chart = first_value-rows found (codes "chart") in
     let timeline = first_value-rows found (codes "timeline") in
     let hints = one_text-rows found (codes "hints") in (
       search rules,
       c.in_ok-states.ensures.number,
       (search rules, search rules),
-      sym chart ∙ sym c.get_str-chart.ensures,
+      c.in_ok-chart.ensures.chart,
       sym timeline ∙ sym c.get_str-timeline.ensures,
       (search rules, search rules),
     )

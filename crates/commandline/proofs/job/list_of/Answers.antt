@@ -1,5 +1,5 @@
-use Rattle.std.proofs.Common.{rules, codes}
-use Rattle.clap.proofs.WalkLemmas.{first_value-rows}
+use Rattle.std.proofs.Common.{rules, codes, sym, ◌∙◌}
+use Rattle.clap.proofs.WalkLemmas.{first_value-rows, one_text-rows}
 use Rattle.clap.specs.Words.{found_of}
 use Rattle.clap.specs.Walk.{rows_of}
 use Rattle.commandline.proofs.NoJobs.{no_list}
@@ -12,5 +12,8 @@ returns-in_err-image-clause-none c =
 
 pub returns-clause-job : goal.returns-clause-job
 returns-clause-job c =
-    let image = first_value-rows (found_of c.args.matches.now) (codes "IMAGE") in
-    search rules
+    let found = found_of c.args.matches.now in
+    let image = first_value-rows found (codes "IMAGE") in
+    let source = first_value-rows found (codes "source") in
+    let hints = one_text-rows found (codes "hints") in
+    (search rules, sym source ∙ sym c.get_str-source.ensures, (search rules, search rules))

@@ -1,6 +1,7 @@
 use Rattle.std.proofs.Common.{inl, inr, map}
 use Rattle.std.proofs.lemmas.Result.{IfOk-weaker}
-use Rattle.mesamon.proofs.Endings.{done_by, executed, explained, explored, nothing_written, ran}
+use Rattle.mesamon.proofs.Endings.{answered, done_by, executed, explained_as, explored, listed_as}
+use Rattle.mesamon.proofs.Endings.{nothing_written, ran}
 use Rattle.commandline.proofs.Workers.{compiling_workers}
 use Rattle.mesamon.proofs.commands.do_job.Goals as goal
 
@@ -12,36 +13,48 @@ compile_file-requires-after_bounds g c κs within =
 pub returns-in-Check : goal.returns-in-Check
 returns-in-Check g c =
     let told = c.check_file.ensures in
-    done_by _ _ _ _ c.check_file.result (λ h. inr (inr (inr h))) told.done told.wrote
+    answered _ _ _ _ c.in_ok-file.field-0 c.check_file.result c.in_ok-file.ensures.job
+    (done_by _ _ _ _ _ c.check_file.result (λ h. inr (inr (inr h))) told.done told.wrote)
 
 pub returns-in-Compile : goal.returns-in-Compile
 returns-in-Compile g c =
     let told = c.compile_file.ensures in
-    done_by _ _ _ _ c.compile_file.result (λ h. inl h) told.done told.wrote
+    answered _ _ _ _ c.in_ok-file.field-0 c.compile_file.result c.in_ok-file.ensures.job
+    (done_by _ _ _ _ _ c.compile_file.result (λ h. inl h) told.done told.wrote)
 
 pub returns-in-List : goal.returns-in-List
 returns-in-List g c =
     let told = c.list_file.ensures in
-    done_by _ _ _ _ c.list_file.result (λ h. inr (inl h)) told.done told.wrote
+    answered _ _ _ _ c.in_ok-file.field-0 c.list_file.result c.in_ok-file.ensures.job
+    (done_by _ _ _ _ _ c.list_file.result (λ h. inr (inl (listed_as _ _ _ c.in-List.is h))) told.done told.wrote)
 
 pub returns-in-Run : goal.returns-in-Run
-returns-in-Run g c = IfOk-weaker c.run_file.result _ _ (λ s h. ran _ _ s h) c.run_file.ensures
+returns-in-Run g c =
+    answered _ _ _ _ c.in_ok-file.field-0 c.run_file.result c.in_ok-file.ensures.job
+    (IfOk-weaker c.run_file.result _ _ (λ s h. ran _ _ _ s h) c.run_file.ensures)
 
 pub returns-in-Exec : goal.returns-in-Exec
-returns-in-Exec g c = IfOk-weaker c.exec_file.result _ _ (λ s h. executed _ _ s h) c.exec_file.ensures
+returns-in-Exec g c =
+    answered _ _ _ _ c.in_ok-file.field-0 c.exec_file.result c.in_ok-file.ensures.job
+    (IfOk-weaker c.exec_file.result _ _ (λ s h. executed _ _ _ s h) c.exec_file.ensures)
 
 pub returns-in-Replay : goal.returns-in-Replay
-returns-in-Replay g c = IfOk-weaker c.replay_file.result _ _ (λ s h. ran _ _ s h) c.replay_file.ensures
+returns-in-Replay g c =
+    answered _ _ _ _ c.in_ok-file.field-0 c.replay_file.result c.in_ok-file.ensures.job
+    (IfOk-weaker c.replay_file.result _ _ (λ s h. ran _ _ _ s h) c.replay_file.ensures)
 
 pub returns-in-Explain : goal.returns-in-Explain
 returns-in-Explain g c =
-    IfOk-weaker c.explain_file.result _ _ (λ s h. explained _ _ s (nothing_written _) h) c.explain_file.ensures
+    answered _ _ _ _ c.in_ok-file.field-0 c.explain_file.result c.in_ok-file.ensures.job
+    (IfOk-weaker c.explain_file.result _ _ (λ s h. explained_as _ _ s _ _ c.in-Explain.is (nothing_written _) h) c.explain_file.ensures)
 
 pub returns-in-Emit : goal.returns-in-Emit
 returns-in-Emit g c =
     let told = c.emit_file.ensures in
-    done_by _ _ _ _ c.emit_file.result (λ h. inr (inr (inr h))) told.done told.wrote
+    answered _ _ _ _ c.in_ok-file.field-0 c.emit_file.result c.in_ok-file.ensures.job
+    (done_by _ _ _ _ _ c.emit_file.result (λ h. inr (inr (inr h))) told.done told.wrote)
 
 pub returns-in-Explore : goal.returns-in-Explore
 returns-in-Explore g c =
-    IfOk-weaker c.explore_file.result _ _ (λ s h. explored _ _ s (nothing_written _) h) c.explore_file.ensures
+    answered _ _ _ _ c.in_ok-file.field-0 c.explore_file.result c.in_ok-file.ensures.job
+    (IfOk-weaker c.explore_file.result _ _ (λ s h. explored _ _ _ s (nothing_written _) h) c.explore_file.ensures)

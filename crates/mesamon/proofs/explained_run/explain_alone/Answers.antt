@@ -1,7 +1,7 @@
 use Rattle.std.proofs.Common.{◌<◌, ◌^◌, arith, subst, sym}
 use Rattle.program.specs.Names.{said_by}
 use Rattle.mesamon.proofs.RunsExplained.{of_code, run_explained}
-use Rattle.mesamon.specs.Alone.{allows_strays}
+use Rattle.mesamon.specs.Alone.{outside_alone}
 use Rattle.mesamon.specs.Explaining.{IsWantOfMemory}
 use Rattle.mesamon.proofs.Failing.{passed}
 use Rattle.mesamon.proofs.explained_run.explain_alone.Goals as goal
@@ -13,7 +13,7 @@ returns-clause-explained c =
     record {
       accepts = read.accepts;
       run = run_explained c.logs_are_machine_runs.ensures.runs c.args.text.now c.in_ok-checked.lowered.image
-          (allows_strays c.args.order) c.args.limit c.in_ok-report.report read.compiled small c.in_ok-report.ensures;
+          (outside_alone c.args.order) c.args.limit c.in_ok-report.report read.compiled small c.in_ok-report.ensures;
       explained = of_code (said_by c.in_ok-checked.checked) c.in_ok-checked.lowered.image _ _ _ read.code.image
           c.as_slice.ensures.value c.in_ok-actions.ensures;
     }

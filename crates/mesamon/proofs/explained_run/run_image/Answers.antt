@@ -1,5 +1,5 @@
 use Rattle.std.proofs.Common.{◌<◌, ◌^◌, arith}
-use Rattle.mesamon.specs.Alone.{allows_strays}
+use Rattle.mesamon.specs.Alone.{outside_alone}
 use Rattle.mesamon.proofs.RunsExplained.{run_sound}
 use Rattle.mesamon.proofs.explained_run.run_image.Goals as goal
 
@@ -7,5 +7,5 @@ pub unreachable-requires : goal.unreachable-requires
 unreachable-requires c =
     let below : c.args.limit < 2 ^ 32 = omega (arith, c.ranges.limit.fits) in
     run_sound c.logs_are_machine_runs.ensures.runs c.logs_are_machine_runs.ensures.locally c.requires.0
-    c.args.image.now (allows_strays c.args.order) c.args.limit c.in-Err-Broken.field-0 c.requires.1
+    c.args.image.now (outside_alone c.args.order) c.args.limit c.in-Err-Broken.field-0 c.requires.1
     c.in-Err-Broken.ensures.err below c.in-Err-Broken.field-0-is

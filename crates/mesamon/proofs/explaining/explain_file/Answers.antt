@@ -8,5 +8,7 @@ returns g c = record {
   explained_run = _;
   explained = explained_so c.args.by _ c.in_ok-run.run' c.in_ok-run.ensures;
   ended = c.status_of.ensures;
+  told = c.in_ok-answer.answer.items;
+  are_told = search rules;
   wrote = search rules;
 }

@@ -1,5 +1,5 @@
 use Rattle.std.proofs.Common.{inl}
-use Rattle.mesamon.specs.Asked.{has_strays}
+use Rattle.mesamon.specs.Asked.{outside_by}
 use Rattle.mesamon.proofs.Endings.{has_run}
 use Rattle.mesamon.proofs.running.run_file.Goals as goal
 
@@ -7,5 +7,5 @@ pub returns : goal.returns
 returns g c =
     let told = c.show.ensures in
     has_run _ _ _ _ c.kept_by.result.trace c.in_ok-report.report c.show.result
-    (inl (has_strays c.args.options.order, c.args.options.steps, c.in_ok-report.ensures)) told.ended told.output
+    (inl (outside_by c.args.options.order, c.args.options.steps, c.in_ok-report.ensures)) told.ended told.output
     told.errors

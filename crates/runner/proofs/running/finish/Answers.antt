@@ -7,12 +7,12 @@ use Rattle.runner.proofs.running.finish.Goals as goal
 pub returns-clause-ok : goal.returns-clause-ok
 returns-clause-ok g c =
     let p = g.J.RunName.program in
-    let strays = g.J.RunName.strays in
+    let may = g.J.RunName.outside in
     let limit = g.J.RunName.limit in
     let parts = c.into_parts-log in
     let e = c.report_of.ensures in
-    passed_on (λ (r : Report). IsReport p strays limit r) _ c.report_of.result c.map_err.result c.map_err.ensures.cases
+    passed_on (λ (r : Report). IsReport p may limit r) _ c.report_of.result c.map_err.result c.map_err.ensures.cases
     c.map_err.ensures.variant
-    (reported p strays limit (log_state c.run_rounds.new.shared) parts.result.0.items parts.result.1 c.report_of.result
+    (reported p may limit (log_state c.run_rounds.new.shared) parts.result.0.items parts.result.1 c.report_of.result
     parts.ensures.legal parts.ensures.own parts.ensures.within c.in_ok-run_rounds.ensures.ok parts.ensures.log
     parts.ensures.concrete parts.ensures.program e.log e.last e.output e.verdict)

@@ -21,8 +21,8 @@ invariant_of-self-2 g c =
     let event = c.in-Ok.event in
     let counted = c.self.invariant.1 in
     let grows = ap length c.in-Ok.ensures.log in (
-      keeps p g.J.RunName.strays s.machine.program c.enter.new.machine.program limit h c.enter.new.log.items
-          (concrete c.enter.new.machine) a c.args.t s.steps s.limit c.from.result event
+      keeps p g.J.RunName.outside s.machine.program c.enter.new.machine.program limit h c.enter.new.log.items
+          (concrete c.enter.new.machine) a c.args.t s.steps s.limit s.kills c.from.result event
           c.in-Ok.ensures.program c.self.invariant.0 c.piece.invariant.0 fine c.in-Ok.ensures.gives
           c.in-Ok.ensures.log (c.from.ensures ∙ ap bool_byte c.is_some.ensures),
       record {
@@ -51,7 +51,7 @@ returns-clause-legal g c =
     subst (λ (x : PieceView). IsFine p limit h c.args.t x) (sym c.piece.view_is)
     (subst (λ (x : SharedView). IsFine p limit (log_state x) c.args.t c.args.piece.now)
     (sym c.self.view_is) c.in_default.ensures.none) in
-    (keeps p g.J.RunName.strays s.machine.program c.enter.new.machine.program limit h c.enter.new.log.items
-    (concrete c.enter.new.machine) a c.args.t s.steps s.limit c.from.result c.in-Ok.event
+    (keeps p g.J.RunName.outside s.machine.program c.enter.new.machine.program limit h c.enter.new.log.items
+    (concrete c.enter.new.machine) a c.args.t s.steps s.limit s.kills c.from.result c.in-Ok.event
     c.in-Ok.ensures.program c.self.invariant.0 c.piece.invariant.0 fine c.in-Ok.ensures.gives
     c.in-Ok.ensures.log (c.from.ensures ∙ ap bool_byte c.is_some.ensures)).legal

@@ -1,7 +1,10 @@
 -- The log has one entry more, which is the kill.
-use Rattle.std.proofs.Common.{[], ◌∷◌, Some, length, length-append, ap, sym, arith, inr}
+use Rattle.std.proofs.Common.{[], ◌∷◌, ◌+◌, ◌<◌, Some, length, length-append, ap, sym, subst, arith, inr, refl}
 use Rattle.machine.specs.Views.{concrete}
+use Rattle.runner.specs.Logs.{kills_in}
+use Rattle.runner.specs.Views.{SharedView}
 use Rattle.runner.proofs.Growing.{entered, entry, keeps_outside}
+use Rattle.runner.proofs.Owning.{one_kill, only_kill}
 use Rattle.runner.proofs.shared.Shared.kill.Goals as goal
 
 pub invariant_of-self-2 : goal.invariant_of-self-2
@@ -11,10 +14,15 @@ invariant_of-self-2 g c =
     let counted = c.self.invariant.1 in
     let took = entered _ _ e.result c.is_err.result c.is_err.ensures.value c.if-is_err.false e.ensures.gives
     e.ensures.log in
+    let fewer = subst (λ (x : SharedView). kills_in x.log < g.J.RunName.outside.kills) (sym c.self.view_is)
+    c.requires.kills in
+    let has = only_kill (concrete s.machine) (concrete e.new.machine) g.J.RunName.outside s.log.items e.new.log.items
+    (entry c.args.t 0 (Some took.0)) took.0 fewer refl took.1 took.2 c.self.invariant.0.own in
     let grows = ap length took.2 in (
-      keeps_outside g.J.RunName.program g.J.RunName.strays s.machine.program e.new.machine.program g.J.RunName.limit
-          (concrete s.machine) (concrete e.new.machine) s.log.items e.new.log.items c.args.t s.steps s.limit took.0
-          c.requires.strays c.self.invariant.0 e.ensures.program (λ e. c.if-self.false (sym e)) (inr took.1) took.2,
+      keeps_outside g.J.RunName.program g.J.RunName.outside s.machine.program e.new.machine.program g.J.RunName.limit
+          (concrete s.machine) (concrete e.new.machine) s.log.items e.new.log.items c.args.t s.steps s.limit s.kills
+          (s.kills + 1) took.0 c.self.invariant.0 e.ensures.program (λ e. c.if-self.false (sym e)) (inr took.1) took.2
+          (omega (arith, one_kill (concrete s.machine) (concrete e.new.machine) c.args.t took.0 took.1)) has,
       record {
         total = omega (
           arith,
@@ -35,6 +43,11 @@ returns-clause-legal g c =
     let e = c.enter_kill in
     let took = entered _ _ e.result c.is_err.result c.is_err.ensures.value c.if-is_err.false e.ensures.gives
     e.ensures.log in
-    (keeps_outside g.J.RunName.program g.J.RunName.strays s.machine.program e.new.machine.program g.J.RunName.limit
-    (concrete s.machine) (concrete e.new.machine) s.log.items e.new.log.items c.args.t s.steps s.limit took.0
-    c.requires.strays c.self.invariant.0 e.ensures.program (λ e. c.if-self.false (sym e)) (inr took.1) took.2).legal
+    let fewer = subst (λ (x : SharedView). kills_in x.log < g.J.RunName.outside.kills) (sym c.self.view_is)
+    c.requires.kills in
+    let has = only_kill (concrete s.machine) (concrete e.new.machine) g.J.RunName.outside s.log.items e.new.log.items
+    (entry c.args.t 0 (Some took.0)) took.0 fewer refl took.1 took.2 c.self.invariant.0.own in
+    (keeps_outside g.J.RunName.program g.J.RunName.outside s.machine.program e.new.machine.program g.J.RunName.limit
+    (concrete s.machine) (concrete e.new.machine) s.log.items e.new.log.items c.args.t s.steps s.limit s.kills
+    (s.kills + 1) took.0 c.self.invariant.0 e.ensures.program (λ e. c.if-self.false (sym e)) (inr took.1) took.2
+    (omega (arith, one_kill (concrete s.machine) (concrete e.new.machine) c.args.t took.0 took.1)) has).legal

@@ -1,0 +1,148 @@
+use crate::explained_run::ExplainedRun;
+use crate::failure::Failure;
+use crate::hinting::SourceText;
+use crate::replaying::ReplayFault;
+use crate::run_ends::{explained_hints, report_hints};
+use crate::run_entries::{log_entry_hints, schedule_entry_hints};
+use crate::source_log::SourceLogFault;
+use commandline::ExplainedBy;
+use program::Checked;
+use run_hints::{Way, end_hints};
+use runner::{Report, Turn};
+use source_states::Action;
+use std::alloc::{AllocError, Global};
+use std::io::ErrorKind;
+
+// What a line of a log has.
+const LINE: &str =
+    "  a line has a thread, its local steps, and TURN 0 or a step's name and value\n";
+
+/// Whether the words of a command line ask for hints. What stands behind -- is no option.
+pub fn wants_hints(words: &[&str]) -> bool {
+    for word in words {
+        match *word {
+            "--" => return false,
+            "--hints" => return true,
+            _ => {}
+        }
+    }
+    false
+}
+
+// Appends hints, where there was memory for them.
+fn append_told(told: &mut String, hints: Result<String, AllocError>) {
+    if let Ok(hints) = hints {
+        let _appended = told.push_str(hints.as_str());
+    }
+}
+
+// Appends the system's reason, where it is known.
+fn append_reason(told: &mut String, reason: Option<ErrorKind>) {
+    if let Some(reason) = reason {
+        let _appended = writeln!(told, "  {reason}");
+    }
+}
+
+/// Appends what helps with a failure, where more is known than its line tells. What was to be told of a run isn't told
+/// where the run's own lines aren't written.
+pub fn tell_failure(told: &mut String, failure: &Failure<'_>) {
+    match failure {
+        Failure::LogLine(_) => {
+            let _appended = told.push_str(LINE);
+        }
+        Failure::Read { reason, .. } => append_reason(told, *reason),
+        Failure::Write { reason, .. } => {
+            told.clear();
+            append_reason(told, *reason);
+        }
+        Failure::Memory => told.clear(),
+        _ => {}
+    }
+}
+
+/// Appends the hints to the end of a run of a text, where they are wanted.
+pub fn tell_run(
+    alloc: Global,
+    told: &mut String,
+    text: &SourceText<'_>,
+    report: &Report,
+    way: Way<'_>,
+) {
+    if text.hints {
+        append_told(told, report_hints(alloc, text, report, way));
+    }
+}
+
+/// Appends the hints to the end of a run that was explained, where they are wanted.
+pub fn tell_explained(
+    alloc: Global,
+    told: &mut String,
+    text: &SourceText<'_>,
+    run: &ExplainedRun<'_>,
+    by: ExplainedBy<'_>,
+) {
+    if text.hints {
+        append_told(told, explained_hints(alloc, text, run, way_by(by)));
+    }
+}
+
+// How a run was made that was explained.
+fn way_by(by: ExplainedBy<'_>) -> Way<'_> {
+    match by {
+        ExplainedBy::Order { .. } => Way::InOrder,
+        ExplainedBy::Seed { seed, strays, .. } => Way::Seed(seed, strays),
+        ExplainedBy::Schedule(schedule) => Way::Schedule(schedule),
+        ExplainedBy::Log(log) => Way::Log(log),
+    }
+}
+
+/// Appends the hints to the end of a run that a search found, where one was and they are wanted.
+pub fn tell_found(
+    alloc: Global,
+    told: &mut String,
+    text: &SourceText<'_>,
+    checked: &Checked,
+    found: Option<&[Action]>,
+) {
+    if !text.hints {
+        return;
+    }
+    if let Some(actions) = found {
+        append_told(
+            told,
+            end_hints(alloc, text.file, text.bytes, checked, actions),
+        );
+    }
+}
+
+/// The failure of a run by a schedule. To an entry that is refused hints are appended, where they are wanted.
+pub fn told_turn<'a>(
+    alloc: Global,
+    told: &mut String,
+    text: &SourceText<'_>,
+    turns: &[Turn],
+    fault: ReplayFault,
+) -> Failure<'a> {
+    if let ReplayFault::BadEntry(number) = fault {
+        if text.hints {
+            append_told(told, schedule_entry_hints(alloc, text, turns, number));
+        }
+    }
+    Failure::from(fault)
+}
+
+/// The failure of a log. To an entry that is refused hints are appended, where they are wanted.
+pub fn told_entry<'a>(
+    alloc: Global,
+    told: &mut String,
+    text: &SourceText<'_>,
+    lines: &[u8],
+    fault: SourceLogFault,
+) -> Failure<'a> {
+    if let SourceLogFault::Entry(number) = fault {
+        if text.hints {
+            append_told(told, log_entry_hints(alloc, text, lines, number));
+        }
+    }
+    Failure::from(fault)
+}

@@ -1,0 +1,68 @@
+// What stands above the picture of a run: the file, which run it is, and how it ended.
+
+use commandline::ExplainedBy;
+use runner::Verdict;
+use std::alloc::{AllocError, Global};
+
+// How a run ended.
+fn end_of(verdict: Verdict) -> &'static str {
+    match verdict {
+        Verdict::Done => "all processes ended",
+        Verdict::Stuck => "stuck",
+        Verdict::Limit => "not at its end",
+    }
+}
+
+// Appends which run is explained.
+fn append_way(out: &mut String, by: ExplainedBy<'_>) -> Result<(), AllocError> {
+    match by {
+        ExplainedBy::Order { .. } => out.push_str("in order"),
+        ExplainedBy::Seed {
+            seed,
+            strays: None,
+            ..
+        } => write!(out, "seed {seed}"),
+        ExplainedBy::Seed {
+            seed,
+            strays: Some(strays),
+            ..
+        } => write!(out, "seed {seed}, strays {strays}"),
+        ExplainedBy::Schedule(name) => write!(out, "schedule {name}"),
+        ExplainedBy::Log(name) => write!(out, "log {name}"),
+    }
+}
+
+/// The title of a run that was explained.
+///
+/// # Errors
+///
+/// Where memory runs out, and for nothing else.
+pub fn title_of(
+    alloc: Global,
+    file: &str,
+    by: ExplainedBy<'_>,
+    verdict: Verdict,
+) -> Result<String, AllocError> {
+    let mut title = String::new(alloc);
+    write!(title, "{file}: ")?;
+    append_way(&mut title, by)?;
+    title.push_str(", ")?;
+    title.push_str(end_of(verdict))?;
+    Ok(title)
+}
+
+/// The title of a run that a search found: one that gets stuck, or else one in which a process aborts.
+///
+/// # Errors
+///
+/// Where memory runs out, and for nothing else.
+pub fn title_of_found(alloc: Global, file: &str, is_stuck: bool) -> Result<String, AllocError> {
+    let mut title = String::new(alloc);
+    write!(title, "{file}: found by a search, ")?;
+    title.push_str(if is_stuck {
+        "stuck"
+    } else {
+        "a process aborts"
+    })?;
+    Ok(title)
+}

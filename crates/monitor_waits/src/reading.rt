@@ -1,0 +1,184 @@
+use crate::events::{Act, Point, Told, after_event};
+use machine::Entry;
+use source_states::{Action, ActionKind};
+use std::alloc::{AllocError, Global};
+use words::MOST_THREADS;
+
+/// An attempt of a process to take a monitor that failed, since another process held it, or the process itself.
+#[derive(Clone, Copy, PartialEq, Eq, Debug)]
+pub struct Attempt {
+    /// How many of the actions come before it.
+    pub behind: usize,
+    /// The process, from 1.
+    pub process: u64,
+    /// The process that held the monitor then.
+    pub holder: u64,
+    /// The monitor, from 0; None where the process never took it.
+    pub monitor: Option<u32>,
+}
+
+// A thread while its events are read.
+#[derive(Drop)]
+struct Thread {
+    point: Point,
+    // Who held the monitor at its last failed attempt, until it takes it; else 0.
+    holder: u32,
+    // The places of its attempts whose monitor isn't known yet.
+    open: Vec<usize>,
+}
+
+// A log while it is read beside its actions.
+#[derive(Drop)]
+struct Reading<'p> {
+    actions: &'p [Action],
+    // How many of the actions come before the next entry, as far as its entries tell.
+    behind: usize,
+    // The threads, the first of thread 1.
+    threads: Vec<Thread>,
+    attempts: Vec<Attempt>,
+}
+
+// Whether an action is of this kind.
+fn is_act(kind: &ActionKind, act: Act) -> bool {
+    match kind {
+        ActionKind::Enter(_) | ActionKind::Resume(_) => act == Act::Takes,
+        ActionKind::Exit(_) | ActionKind::Wait(_) => act == Act::GivesUp,
+        ActionKind::Claim(_) => act == Act::Claims,
+        ActionKind::Fork(_) => act == Act::Forks,
+        ActionKind::Print(_) => act == Act::Prints,
+        ActionKind::Notify(_, _) => act == Act::Notifies,
+        ActionKind::Broadcast(_, _) => act == Act::Broadcasts,
+        ActionKind::Kill(_, _) => act == Act::Dies,
+        ActionKind::Finish => act == Act::Ends,
+        _ => false,
+    }
+}
+
+// The monitor that an action takes.
+fn taken(action: &Action) -> Option<u32> {
+    match action.kind {
+        ActionKind::Enter(monitor) | ActionKind::Resume(monitor) => Some(monitor),
+        _ => None,
+    }
+}
+
+// The threads as they begin.
+fn threads(alloc: Global) -> Result<Vec<Thread>, AllocError> {
+    let mut threads = Vec::new(alloc);
+    for _thread in 0..MOST_THREADS {
+        threads.push(Thread {
+            point: Point::Elsewhere,
+            holder: 0,
+            open: Vec::new(alloc),
+        })?;
+    }
+    Ok(threads)
+}
+
+// The place of a thread.
+fn index_of(thread: u32) -> usize {
+    thread.saturating_sub(1) as usize
+}
+
+impl<'p> Reading<'p> {
+    // The next action of a process that is of this kind, and how many come up to it.
+    fn find(&self, process: u64, act: Act) -> Option<(&'p Action, usize)> {
+        let mut count = self.behind;
+        for action in self.actions.get(self.behind..).unwrap_or(&[]) {
+            count = count.saturating_add(1);
+            if action.process == process && is_act(&action.kind, act) {
+                return Some((action, count));
+            }
+        }
+        None
+    }
+
+    // A thread took this monitor, or waits for it no longer: its attempts were for it.
+    fn settle(&mut self, thread: u32, monitor: Option<u32>) {
+        let Some(thread) = self.threads.get_mut(index_of(thread)) else {
+            return;
+        };
+        for place in thread.open.iter() {
+            if let Some(attempt) = self.attempts.get_mut(*place) {
+                attempt.monitor = monitor;
+            }
+        }
+        thread.open.clear();
+        thread.holder = 0;
+    }
+
+    // An entry is this action of its thread: those that follow come behind it.
+    fn pass(&mut self, thread: u32, act: Act) {
+        let Some((action, count)) = self.find(u64::from(thread), act) else {
+            return;
+        };
+        self.behind = count;
+        match act {
+            Act::Takes | Act::Dies => self.settle(thread, taken(action)),
+            _ => {}
+        }
+    }
+
+    // A thread failed to take a lock. Who tries again while the same thread holds it waits on.
+    fn fail(&mut self, number: u32, holder: u32) -> Result<(), AllocError> {
+        let Some(thread) = self.threads.get_mut(index_of(number)) else {
+            return Ok(());
+        };
+        if thread.holder == holder {
+            return Ok(());
+        }
+        thread.holder = holder;
+        thread.open.push(self.attempts.len())?;
+        self.attempts.push(Attempt {
+            behind: self.behind,
+            process: u64::from(number),
+            holder: u64::from(holder),
+            monitor: None,
+        })?;
+        Ok(())
+    }
+
+    // Reads an entry.
+    fn read(&mut self, entry: &Entry) -> Result<(), AllocError> {
+        let Some(event) = entry.event else {
+            return Ok(());
+        };
+        let Some(thread) = self.threads.get_mut(index_of(entry.thread)) else {
+            return Ok(());
+        };
+        let (point, told) = after_event(entry.thread, thread.point, event);
+        thread.point = point;
+        match told {
+            Told::Nothing => Ok(()),
+            Told::Acts(act) => {
+                self.pass(entry.thread, act);
+                Ok(())
+            }
+            Told::Fails(holder) => self.fail(entry.thread, holder),
+        }
+    }
+}
+
+/// The attempts to take a monitor that failed, in their order: of each process that waits for a monitor the first one,
+/// and each later one at which another process held it. The log is that of a run of a program's image, and the actions
+/// are those that it explains; of others nothing is said.
+///
+/// An attempt comes behind the last action before it that an entry of the log shows by itself: one that takes or gives
+/// up a monitor, claims, makes or ends a process, prints, notifies or broadcasts. So it lies within the time in which the
+/// other process holds the monitor.
+pub fn attempts(
+    alloc: Global,
+    log: &[Entry],
+    actions: &[Action],
+) -> Result<Vec<Attempt>, AllocError> {
+    let mut reading = Reading {
+        actions,
+        behind: 0,
+        threads: threads(alloc)?,
+        attempts: Vec::new(alloc),
+    };
+    for entry in log {
+        reading.read(entry)?;
+    }
+    Ok(reading.attempts)
+}

@@ -1,0 +1,11 @@
+use Rattle.std.proofs.Common.{◌≤◌, length}
+use Rattle.std.specs.List.{All}
+use Rattle.machine.specs.Views.{concrete}
+use Rattle.runner.specs.Rounds.{IsUnrefused}
+use Rattle.runner.proofs.drawing.living.Given as goal
+
+abbrev pub invariant-loop-before : goal.invariant-loop-before
+invariant-loop-before l = record {
+  living : All (IsUnrefused (concrete l.machine) l.refused) l.living.items;
+  few : length l.living.items ≤ l.before;
+}
