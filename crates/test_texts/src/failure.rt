@@ -21,6 +21,9 @@ pub enum Failure {
     /// The timeline is no JSON.
     #[error("no JSON")]
     Json,
+    /// The picture is no XML.
+    #[error("no XML")]
+    Xml,
     /// The timeline has no list of records, or a record lacks what its kind has.
     #[error("no record")]
     Record,

@@ -13,6 +13,7 @@
 //! timeline SEED STEPS STRAYS | TEXT     the timeline of a run in the order of a seed, of so many steps at most, in
 //!                                       which about one entry in so many is a stray wake, or none where that is 0
 //! show SEED STEPS STRAYS | TEXT         the same, and the timeline is printed too
+//! picture SEED STEPS STRAYS | TEXT      the pictures of the same run, whole and in part
 //! == TITLE                  behind it stands a text of several lines, up to the next line that begins with `==`: its
 //!                           refusal is printed with its hints
 //! ==                        no text stands behind it: rows of one line go on
@@ -27,6 +28,7 @@ mod compiling;
 mod emitting;
 mod failure;
 mod hinting;
+mod pictures;
 mod searching;
 mod timelines;
 
@@ -34,6 +36,7 @@ use crate::compiling::take_compiling;
 use crate::emitting::show_c;
 use crate::failure::Failure;
 use crate::hinting::{HintedText, show_astray};
+use crate::pictures::show_pictures;
 use crate::searching::show_search;
 use crate::timelines::show_timeline;
 use std::io;
@@ -77,6 +80,7 @@ fn take_row<R: AllocGlobal + Print + Threads + Wait + Sync>(
         "search" => show_search(rt, said),
         "timeline" => show_timeline(rt, said, false),
         "show" => show_timeline(rt, said, true),
+        "picture" => show_pictures(rt, said),
         "astray" => show_astray(rt),
         _ => take_compiling(rt, key, said),
     }

@@ -1,11 +1,11 @@
 // Timelines of runs. A timeline has to be JSON, its slices have to lie within one another on each track, each with one
 // name where it begins and where it ends, times may not fall, and no flow may end that didn't begin.
 
-mod row;
+pub mod row;
 mod tally;
 
 use crate::failure::Failure;
-use crate::timelines::row::{Row, actions_of};
+use crate::timelines::row::{Row, actions_of, report_of};
 use crate::timelines::tally::Tally;
 use compiler::compile_checked;
 use serde_json::Value;
@@ -21,7 +21,8 @@ pub fn show_timeline<R: AllocGlobal + Print>(
 ) -> Result<(), Failure> {
     let row = Row::of_line(said)?;
     let (checked, lowered) = compile_checked(rt.alloc(), row.text.as_bytes())?;
-    let actions = actions_of(rt.alloc(), &checked, &lowered.image, &row)?;
+    let report = report_of(rt.alloc(), &lowered.image, &row)?;
+    let actions = actions_of(rt.alloc(), &checked, &lowered.image, &report)?;
     let count = actions.len();
     let file = timeline(rt.alloc(), &checked, actions.as_slice())?;
     let file = str::from_utf8(file.as_slice()).map_err(|_| Failure::Text)?;

@@ -1,7 +1,7 @@
 use crate::failure::Failure;
 use isa::Image;
 use program::Checked;
-use runner::{RunFault, run_by_seed};
+use runner::{Report, RunFault, run_by_seed};
 use simulation::{ExplainFault, explain};
 use source_states::Action;
 use std::alloc::Global;
@@ -35,18 +35,22 @@ impl<'a> Row<'a> {
     }
 }
 
-/// The actions of a row's run of an image, which is that of a program.
+/// What a row's run of an image left.
+pub fn report_of(alloc: Global, image: &Image, row: &Row<'_>) -> Result<Report, Failure> {
+    match run_by_seed(alloc, image, row.steps, row.seed, Some(row.strays), 0) {
+        Ok(report) => Ok(report),
+        Err(RunFault::Memory) => Err(Failure::Memory),
+        Err(_) => Err(Failure::Run),
+    }
+}
+
+/// The actions of a run of an image, which is that of a program.
 pub fn actions_of(
     alloc: Global,
     checked: &Checked,
     image: &Image,
-    row: &Row<'_>,
+    report: &Report,
 ) -> Result<Vec<Action>, Failure> {
-    let report = match run_by_seed(alloc, image, row.steps, row.seed, Some(row.strays), 0) {
-        Ok(report) => report,
-        Err(RunFault::Memory) => return Err(Failure::Memory),
-        Err(_) => return Err(Failure::Run),
-    };
     match explain(alloc, checked, image, report.log.as_slice()) {
         Ok(actions) => Ok(actions),
         Err(ExplainFault::Memory) => Err(Failure::Memory),
