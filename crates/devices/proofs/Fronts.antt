@@ -1,7 +1,7 @@
 -- What was read of a reader's bytes, and written of those for a writer.
 use Rattle.std.proofs.Common.{◌≡◌, ◌≤◌, ◌⊎◌, inl, inr, ℕ, List, [], ◌++◌, Option, Some, None, IfSome, length, take, drop}
 use Rattle.std.proofs.Common.{◌+◌, ◌-◌, length-append, length-take-le, Result, Ok, Err, OnOk, OnErr, subst}
-use Rattle.std.proofs.Common.{refl, sym, ap, ◌∙◌, append_assoc, append-nil, take_all, take-append-drop}
+use Rattle.std.proofs.Common.{sym, ap, ◌∙◌, append_assoc, append-nil, take_all, take-append-drop}
 use Rattle.std.proofs.Math.Seq.{take-append_seam}
 use Rattle.std.proofs.lemmas.List.{take_rest, take-append-le}
 use Rattle.std.specs.Io.KnownBytes.{Appends, Consumes, IsAtEnd, Keeps}

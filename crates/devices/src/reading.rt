@@ -1,4 +1,4 @@
-ghost use Rattle.std.specs.Prelude.{◌≡◌, ◌+◌, MatchResult, IfSome, take};
+ghost use Rattle.std.specs.Prelude.{◌≡◌, ◌≤◌, ◌+◌, ◌^◌, MatchResult, IfSome, take};
 ghost use Rattle.devices.specs.Counting.{inner_of};
 ghost use Rattle.devices.specs.Reading.{IsReadFault};
 ghost use Rattle.devices.specs.declared.reading.ReadFault.TheVariants.{Memory};
@@ -12,11 +12,8 @@ use thiserror::Error;
 // How many bytes are asked for at once.
 const PIECE: usize = 1 << 13;
 
-// How many bytes are read at most.
-const WANTED: usize = MOST_BYTES + 1;
-
-// How many calls there are at most: with one byte in each, every second one may have been interrupted.
-const MOST_CALLS: usize = 2 * WANTED;
+// How many bytes are read at most where all are wanted, which is more than there is memory for.
+const MOST_WANTED: usize = 1 << 62;
 
 /// Why a source isn't read.
 #[derive(Clone, Copy, PartialEq, Eq, Debug, Error)]
@@ -47,10 +44,34 @@ pub fn read_source<R: Read>(alloc: Global, reader: &mut Counted<R>) -> Result<Ve
         ≡ take (MOST_BYTES + 1) xs))
         (λ fault. IsReadFault reader.old reader.new fault) }
 {
+    read_front(alloc, reader, MOST_BYTES + 1)
+}
+
+/// The bytes that a reader gives up to its end, of which there may be 2^62, as `read_source` reads them.
+pub fn read_whole<R: Read>(alloc: Global, reader: &mut Counted<R>) -> Result<Vec<u8>, ReadFault>
+    ensures { MatchResult result
+        (λ bytes. IfSome (R.remaining (inner_of reader.old)) (λ xs. bytes.items ≡ take (2 ^ 62) xs))
+        (λ fault. IsReadFault reader.old reader.new fault) }
+{
+    read_front(alloc, reader, MOST_WANTED)
+}
+
+// The bytes that a reader gives up to its end, or the first so many where there are more. With one byte in each call,
+// every second call may have been interrupted.
+fn read_front<R: Read>(
+    alloc: Global,
+    reader: &mut Counted<R>,
+    wanted: usize,
+) -> Result<Vec<u8>, ReadFault>
+    requires { (1 ≤ wanted) × (wanted ≤ 2 ^ 62) }
+    ensures { MatchResult result
+        (λ bytes. IfSome (R.remaining (inner_of reader.old)) (λ xs. bytes.items ≡ take wanted xs))
+        (λ fault. IsReadFault reader.old reader.new fault) }
+{
     let mut bytes = Vec::new(alloc);
     let mut piece = [0; PIECE];
-    for _ in 0..MOST_CALLS {
-        let most = PIECE.min(WANTED - bytes.len());
+    for _ in 0..2 * wanted {
+        let most = PIECE.min(wanted - bytes.len());
         if most == 0 {
             return Ok(bytes);
         }

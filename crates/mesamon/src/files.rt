@@ -1,5 +1,5 @@
 use crate::failure::Failure;
-use devices::{Counted, put_file, read_source};
+use devices::{Counted, put_file, read_source, read_whole};
 use std::fs;
 use std::rt::Files;
 
@@ -19,7 +19,8 @@ pub fn whole_bytes_of<'a, R: Files + AllocGlobal>(
     rt: &R,
     name: &'a str,
 ) -> Result<Vec<u8>, Failure<'a>> {
-    fs::read(rt, name).map_err(|error| Failure::of_read(name, &error))
+    let file = fs::open(rt, name).map_err(|error| Failure::of_read(name, &error))?;
+    read_whole(rt.alloc(), &mut Counted::new(file)).map_err(|fault| Failure::of_source(name, fault))
 }
 
 /// Writes a file of this name with these bytes, in place of what it held, as `put_file` does; the failure names it.

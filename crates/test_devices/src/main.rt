@@ -3,6 +3,7 @@
 //!
 //! ```text
 //! read WRONG TEXT         a source is read from a reader of the text, of which each call in turn goes wrong
+//! whole WRONG TEXT        the same, of all that the reader gives
 //! write WRONG TEXT        the text is written to a writer, of which each call in turn goes wrong
 //! report WRONG LIMIT HEX  an image is run, and what that tells is written to two writers, of which each call in turn
 //!                         goes wrong, of the first, of the second and of both
@@ -17,6 +18,7 @@
 
 mod failure;
 mod faulty;
+mod leaving;
 mod putting;
 mod reading;
 mod telling;
@@ -25,7 +27,7 @@ mod writing;
 use crate::failure::Failure;
 use crate::faulty::Wrong;
 use crate::putting::show_files;
-use crate::reading::show_reads;
+use crate::reading::{Extent, show_reads};
 use crate::telling::show_reports;
 use crate::writing::show_writes;
 use std::io;
@@ -51,7 +53,8 @@ fn take_row<R: AllocGlobal + Print + Files>(rt: &R, row: &str) -> Result<(), Fai
     let (key, said) = row.split_once(' ').ok_or(Failure::Row)?;
     let (first, rest) = said.split_once(' ').ok_or(Failure::Row)?;
     match key {
-        "read" => show_reads(rt, Wrong::called(first)?, rest),
+        "read" => show_reads(rt, Extent::Source, Wrong::called(first)?, rest),
+        "whole" => show_reads(rt, Extent::Whole, Wrong::called(first)?, rest),
         "write" => show_writes(rt, Wrong::called(first)?, rest),
         "report" => show_reports(rt, Wrong::called(first)?, rest),
         "put" => show_files(rt, first, rest),

@@ -1,4 +1,5 @@
 use crate::failure::Failure;
+use crate::leaving::show_left;
 use devices::put_file;
 use std::os::unix::fs::{PermissionsExt, symlink};
 use std::rt::Files;
@@ -33,6 +34,8 @@ fn show_all<R: AllocGlobal + Print + Files>(
     show_put(rt, "a link", link.as_str(), b"no link")?;
     show_text(rt, "where it led", plain.as_str())?;
     show_beside(rt, plain.as_str(), link.as_str())?;
+    show_left(rt, plain.as_str(), bytes)?;
+    show_text(rt, "beside what was left", plain.as_str())?;
     show_put(rt, "a folder", folder, bytes)?;
     show_put(rt, "a device", "/dev/null", bytes)?;
     Ok(())

@@ -1,4 +1,4 @@
-use Rattle.std.proofs.Common.{◌≡◌, ◌≤◌, ◌++◌, [], rules, take, length, sym, ap, subst, ◌∙◌, append-nil, drop_of_length-le, arith}
+use Rattle.std.proofs.Common.{◌≡◌, ◌++◌, [], rules, take, sym, ap, subst, ◌∙◌, append-nil, drop_of_length-le, arith}
 use Rattle.std.specs.Io.KnownBytes.{Appends}
 use Rattle.devices.proofs.Fronts.{appended, appended_kept, moves_front, on_err, on_err_so, on_ok}
 use Rattle.devices.proofs.Failing.{fails_behind}

@@ -1,14 +1,13 @@
-use Rattle.std.proofs.Common.{◌≡◌, ◌≤◌, ◌+◌, ◌⊎◌, inl, inr, length, ap, arith, rules}
-use Rattle.devices.specs.Counting.{HasFailed, failures_of}
+use Rattle.std.proofs.Common.{◌≡◌, ◌≤◌, inl, inr, length, arith, rules}
 use Rattle.devices.proofs.Counts.{calls_after, risen_since}
 use Rattle.devices.proofs.Fronts.{consumed_kept, consumed_none, front_read, piece_read}
-use Rattle.devices.proofs.reading.read_source.Goals.{in-Ok+in_ok-extend_from_slice-in-Ok, in-Err+else-ne}
-use Rattle.devices.proofs.reading.read_source.Goals as goal
+use Rattle.devices.proofs.reading.read_front.Goals.{in-Ok+in_ok-extend_from_slice-in-Ok, in-Err+else-ne}
+use Rattle.devices.proofs.reading.read_front.Goals as goal
 
 pub returns-then-most-eq0 : goal.returns-then-most-eq0
 returns-then-most-eq0 g c =
     let few = c.loop.invariant.few in
-    let many : length c.loop.bytes.items ≡ 1048577 = omega (arith, few, c.if-most-eq0.true, c.min-most.ensures, c.len.ensures) in
+    let many : length c.loop.bytes.items ≡ c.args.wanted = omega (arith, few, c.if-most-eq0.true, c.min-most.ensures, c.len.ensures) in
     front_read _ _ _ _ c.loop.invariant.read few (inr many)
 
 pub returns-in-Ok-eq0 : goal.returns-in-Ok-eq0
