@@ -11,7 +11,15 @@
 //! text MOST HEAD|UNIT|TAIL            source texts of MOST / 1024, MOST / 32 and MOST bytes, in which a part is repeated
 //!                                     as often as it can be, and blanks fill up the rest; `~` stands for a line feed
 //! bytes MOST DIGITS                   the same of that part alone, in hexadecimal digits
+//! log COUNT SEED TEXT                 the log of a run of a source text's program by the schedule of a seed (`test_logs`)
+//!                                     is changed in nine ways, so often in each, and then read and explained as one from
+//!                                     outside
+//! strays COUNT SEED TEXT              the same of a log with wakes from outside
+//! kill COUNT STEP TEXT                the same of one in which a thread is killed behind the step of this number
+//! schedules COUNT SEED TEXT           so many schedules whose turns are drawn are followed
 //! ```
+//!
+//! What is drawn follows from the row's number (`test_schedules`).
 //!
 //! Empty lines and lines that begin with `#` say nothing.
 #![tactic(auto)]
@@ -23,6 +31,8 @@ mod ends;
 mod failure;
 mod filling;
 mod jumps;
+mod logs;
+mod schedules;
 mod texts;
 mod tries;
 
@@ -30,6 +40,8 @@ use crate::changes::show_changes;
 use crate::codes::show_code;
 use crate::failure::Failure;
 use crate::jumps::show_jumps;
+use crate::logs::{Outside, show_logs};
+use crate::schedules::show_schedules;
 use crate::texts::{show_bytes, show_texts};
 use std::io;
 
@@ -62,6 +74,10 @@ fn run_row<R: AllocGlobal + Print>(rt: &R, row: &str) -> Result<(), Failure> {
         "jumps" => show_jumps(rt, rest),
         "text" => show_texts(rt, rest),
         "bytes" => show_bytes(rt, rest),
+        "log" => show_logs(rt, Outside::Nothing, rest),
+        "strays" => show_logs(rt, Outside::Wakes, rest),
+        "kill" => show_logs(rt, Outside::Kill, rest),
+        "schedules" => show_schedules(rt, rest),
         _ => Err(Failure::Row),
     }
 }
