@@ -1,6 +1,6 @@
 -- A step of a thread's own is one of the machine with pieces.
-use Rattle.std.proofs.Common.{◌≡◌, ℕ, ◌<◌, ◌%◌, Option, Some, None, List, length, slice_set, Ok, Err, refl}
-use Rattle.std.proofs.Common.{sym, ap, ◌∙◌, inl, inr, subst, arith}
+use Rattle.std.proofs.Common.{◌≡◌, ℕ, ◌<◌, ◌%◌, Option, Some, None, List, [], ◌∷◌, ◌++◌, length, slice_set, Ok, Err}
+use Rattle.std.proofs.Common.{refl, sym, ap, ◌∙◌, inl, inr, subst, arith}
 use Rattle.std.specs.Prelude.{slice_index_or}
 use Rattle.std.proofs.Math.Path.{fun_ext}
 use Rattle.std.proofs.lemmas.Bool.{cases_eq}
@@ -16,11 +16,11 @@ use Rattle.machine.specs.declared.event.Event.{Event}
 use Rattle.machine.specs.declared.event.StepFault.{StepFault}
 use Rattle.machine.specs.declared.event.StepFault.TheVariants.{CannotMove, Broken}
 use Rattle.machine.specs.States.{State, state_of, thread_of}
-use Rattle.machine.specs.Runs.{Moves}
+use Rattle.machine.specs.Runs.{Moves, Step}
 use Rattle.machine.specs.ConcreteSteps.{step_of}
 use Rattle.machine.specs.ConcretePieces.{pieces_of}
-use Rattle.machine.specs.PieceStates.{PieceState, call_at, IsHeldRight}
-use Rattle.machine.specs.PieceSteps.{Piece, IsLocal, IsPlain, IsExit, BlocksAt, IsPieceStep}
+use Rattle.machine.specs.PieceStates.{PieceState, call_at, IsHeldRight, opening_pieces}
+use Rattle.machine.specs.PieceSteps.{Piece, IsLocal, IsPlain, IsExit, BlocksAt, IsPieceStep, GoesByPieces}
 use Rattle.machine.specs.Views.{View, concrete, IsWellFormed}
 use Rattle.machine.proofs.Placing.{put-here, put-there}
 use Rattle.machine.proofs.Landing.{has_place}
@@ -136,6 +136,14 @@ phase_put phases t phase l = fun_ext (λ u. elim (cases_eq u t) [
   | inr ne ↦ get_or-set_other phases t u phase First ne ∙ sym (put-there (phase_in phases) t phase u ne)
 ])
 
+-- a run and one step more
+goes_more : (p : Program) (s mid s' : PieceState) (steps : List Step) (step : Step) → GoesByPieces p s steps mid
+    → IsPieceStep p mid step s' → GoesByPieces p s (steps ++ step ∷ []) s'
+goes_more p s mid s' [] step h one =
+    (s', subst (λ (q : PieceState). IsPieceStep p q step s') (sym h) one, refl)
+goes_more p s mid s' (first ∷ steps) step h one =
+    (h.0, h.1, goes_more p h.0 mid s' steps step h.2 one)
+
 -- a step keeps what always holds
 pub kept_on : (v v' : View) (phases phases' : List FutexPhase) (t : ℕ) (woken : List ℕ) → IsKept v phases
     → v'.program ≡ v.program → IsWellFormed v'.program (concrete v') → length phases' ≡ length phases
@@ -145,6 +153,14 @@ kept_on v v' phases phases' t woken kept same well long step = record {
   well = well;
   right = rw same (held_kept v.program (pieces_of v (phase_in phases)) (pieces_of v' (phase_in phases'))
       (own_step (pieces_of v' (phase_in phases')) t woken) kept.right step);
+  come = rw same (record {
+    buckets = kept.come.buckets;
+    some = kept.come.some;
+    steps = kept.come.steps ++ own_step (pieces_of v' (phase_in phases')) t woken ∷ [];
+    run = goes_more v.program (opening_pieces v.program kept.come.buckets) (pieces_of v (phase_in phases))
+        (pieces_of v' (phase_in phases')) kept.come.steps (own_step (pieces_of v' (phase_in phases')) t woken)
+        kept.come.run step;
+  });
   long = omega (arith, long, kept.long);
 }
 

@@ -14,7 +14,7 @@ use Rattle.machine.specs.ConcretePieces.{pieces_of}
 use Rattle.machine.specs.declared.event.StepFault.{StepFault}
 use Rattle.machine.specs.declared.event.StepFault.TheVariants.{CannotMove, Broken}
 use Rattle.machine.specs.PieceStates.{PieceState, IsHeldRight, call_at, called}
-use Rattle.machine.specs.PieceSteps.{IsPieceStep, BlocksAt, CanTakePiece, NextPieceIsBroken}
+use Rattle.machine.specs.PieceSteps.{IsPieceStep, PieceRun, BlocksAt, CanTakePiece, NextPieceIsBroken}
 use Rattle.machine.specs.Runs.{Own, Step, is_paused}
 use Rattle.machine.specs.ThreadSets.{set_of}
 use Rattle.piece_machine.specs.declared.piece_event.PieceEvent.{PieceEvent}
@@ -33,10 +33,18 @@ phase_in phases t = slice_index_or phases t First
 abbrev pub pieces : PieceView → PieceState
 pieces v = pieces_of v.view (phase_in v.phases)
 
+-- a run of the program from its opening, over some number of buckets, leads to the state
+pub record IsComeTo (p : Program) (s : PieceState) : Type 0 where
+  pub buckets : ℕ
+  pub some : 0 < buckets
+  pub steps : List Step
+  pub run : PieceRun p buckets steps s
+
 -- what always holds
 pub record IsKept (view : View) (phases : List FutexPhase) : Type 0 where
   pub well : IsWellFormed view.program (concrete view)
   pub right : IsHeldRight view.program (pieces_of view (phase_in phases))
+  pub come : IsComeTo view.program (pieces_of view (phase_in phases))
   pub long : most_threads < length phases
 
 -- a step of thread t from one state to another, which wakes these threads

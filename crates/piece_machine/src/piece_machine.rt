@@ -3,7 +3,7 @@ ghost use Rattle.buckets.specs.BucketCount.{IsBucketCount};
 ghost use Rattle.machine.specs.ConcretePieces.{MakesCall};
 ghost use Rattle.machine.specs.PieceStates.{opening_pieces, call_of};
 ghost use Rattle.machine.specs.RequestMeanings.{asked_of};
-ghost use Rattle.piece_machine.specs.PieceViews.{pieces, Steps, Refuses, IsApart, expected_of};
+ghost use Rattle.piece_machine.specs.PieceViews.{pieces, IsComeTo, Steps, Refuses, IsApart, expected_of};
 
 use crate::piece_event::PieceEvent;
 use futexcalls::{FutexCall, FutexPhase};
@@ -101,9 +101,11 @@ impl PieceMachine {
         self.machine.make_room(n)
     }
 
-    /// The machine, which shows its words, its threads and what they printed.
+    /// The machine, which shows its words, its threads and what they printed. With it comes what always holds: a run of
+    /// its program with futex calls in pieces leads to where it is.
     pub fn machine(&self) -> &Machine
-        ensures { result.now ≡ self.now.view }
+        ensures shows { result.now ≡ self.now.view }
+        ensures come { IsComeTo self.now.view.program (pieces self.now) }
     {
         &self.machine
     }

@@ -21,6 +21,7 @@ invariant_of-self c =
     record {
       well = rw (e.same.0, e.same.1) c.self.invariant.well;
       right = rw (e.same.0, state) c.self.invariant.right;
+      come = rw (e.same.0, state) c.self.invariant.come;
       long = c.self.invariant.long;
     }
 

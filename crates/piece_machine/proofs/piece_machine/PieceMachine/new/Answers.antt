@@ -1,5 +1,5 @@
 -- Nobody holds a bucket, and no thread is within a call.
-use Rattle.std.proofs.Common.{◌≡◌, ℕ, zero, suc, ◌<◌, [], length, replicate, refl, ap, ◌∙◌, arith, rules}
+use Rattle.std.proofs.Common.{◌≡◌, ℕ, zero, suc, ◌<◌, [], length, replicate, refl, sym, ap, ◌∙◌, arith, rules}
 use Rattle.std.specs.Prelude.{slice_index_or}
 use Rattle.std.proofs.Math.Path.{fun_ext}
 use Rattle.std.proofs.lemmas.List.{length-replicate}
@@ -42,6 +42,7 @@ invariant_of-result c =
     returns-clause-opening c in
     record {
       well = rw e.program e.holds;
+      come = rw e.program (record { buckets = c.args.buckets; some = some; steps = []; run = sym opening });
       right = rw (e.program, opening) (runs_so c.args.image.now c.args.buckets [] _ some refl).0;
       long = omega (arith, ap length items, length-replicate 65 First);
     }

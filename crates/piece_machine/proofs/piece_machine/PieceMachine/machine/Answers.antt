@@ -1,0 +1,8 @@
+-- What always holds of the fields holds of what they stand for.
+use Rattle.std.proofs.Common.{subst}
+use Rattle.piece_machine.specs.PieceViews.{PieceView, pieces, IsComeTo}
+use Rattle.piece_machine.proofs.piece_machine.PieceMachine.machine.Goals as goal
+
+pub returns-clause-come : goal.returns-clause-come
+returns-clause-come c =
+    subst (λ (q : PieceView). IsComeTo q.view.program (pieces q)) c.self.view_is c.self.invariant.come

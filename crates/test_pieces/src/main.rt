@@ -1,0 +1,84 @@
+//! Runs images of the machine with futex calls in pieces, by rows on standard input, and prints the shared steps. A row
+//! is a name, the number of buckets, the bytes of an image in hexadecimal digits, and a schedule, between white space: a
+//! word `TxN` is up to N steps of thread T, local or shared, as long as none is refused. Empty lines and lines that
+//! begin with `#` say nothing.
+#![tactic(auto)]
+ghost use Rattle.std.specs.Prelude.{◌≤◌};
+
+mod failure;
+mod show;
+
+use crate::failure::Failure;
+use crate::show::{show_refusal, show_step};
+use buckets::Buckets;
+use isa::{Image, decode};
+use piece_machine::PieceMachine;
+use std::alloc::Global;
+use std::io;
+
+// The most steps of a word of a schedule, and so the most numbers that it prints.
+const MOST_STEPS: u32 = 1000;
+
+fn main(rt: HostRuntime) -> io::Result<()> {
+    for line in rt.lines(rt.alloc()) {
+        let line = line?;
+        if line.trim().is_empty() || line.starts_with('#') {
+            continue;
+        }
+        if let Err(failure) = run_row(&rt, rt.alloc(), line.as_str()) {
+            println!(rt; "  {failure}")?;
+        }
+    }
+    Ok(())
+}
+
+// Runs the image of one row.
+fn run_row<R: Print>(rt: &R, alloc: Global, row: &str) -> Result<(), Failure> {
+    let mut words = row.split_whitespace();
+    let name = words.next().ok_or(Failure::Row)?;
+    let buckets = number(words.next().ok_or(Failure::Row)?)?;
+    let image = image_of(alloc, words.next().ok_or(Failure::Row)?)?;
+    println!(rt; "{name}")?;
+    if !Buckets::allowed(buckets) {
+        return Err(Failure::Row);
+    }
+    let mut machine = PieceMachine::new(alloc, &image, buckets)?;
+    for word in words {
+        let (thread, steps) = word.split_once('x').ok_or(Failure::Row)?;
+        let steps = number(steps)?.min(MOST_STEPS);
+        machine.make_room(steps as usize)?;
+        take_steps(rt, &mut machine, number(thread)?, steps)?;
+    }
+    Ok(())
+}
+
+fn number(word: &str) -> Result<u32, Failure> {
+    word.parse().map_err(|_| Failure::Row)
+}
+
+// The image that digits spell.
+fn image_of(alloc: Global, digits: &str) -> Result<Image, Failure> {
+    let bytes = hex::decode(alloc, digits).map_err(|_| Failure::Row)?;
+    Ok(decode(alloc, bytes.as_slice())?)
+}
+
+// Takes up to so many steps of a thread, and prints those that others see.
+fn take_steps<R: Print>(
+    rt: &R,
+    machine: &mut PieceMachine,
+    thread: u32,
+    steps: u32,
+) -> Result<(), Failure>
+    requires { steps ≤ machine.old.view.room }
+{
+    for _ in 0..steps {
+        match machine.step(thread) {
+            Ok(event) => show_step(rt, thread, event)?,
+            Err(fault) => {
+                show_refusal(rt, thread, fault)?;
+                return Ok(());
+            }
+        }
+    }
+    Ok(())
+}

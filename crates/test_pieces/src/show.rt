@@ -1,0 +1,35 @@
+use machine::{EventName, MOST_THREADS, StepFault, ThreadSet};
+use piece_machine::PieceEvent;
+use std::io;
+
+/// Prints a step of a thread, unless it is a local one.
+pub fn show_step<R: Print>(rt: &R, thread: u32, event: PieceEvent) -> io::Result<()> {
+    match event {
+        PieceEvent::Lock(bucket) => println!(rt; "  {thread} FLOCK {bucket}"),
+        PieceEvent::Compare(word) => println!(rt; "  {thread} FCMP {word}"),
+        PieceEvent::Event(event) => {
+            if event.name == EventName::Local {
+                return Ok(());
+            }
+            println!(rt; "  {thread} {:?} {}", event.name, event.value)?;
+            show_set(rt, "woke", event.woken)?;
+            show_set(rt, "moved", event.moved)
+        }
+    }
+}
+
+/// Prints why a step of a thread is refused.
+pub fn show_refusal<R: Print>(rt: &R, thread: u32, fault: StepFault) -> io::Result<()> {
+    println!(rt; "  {thread} {fault:?}")
+}
+
+// The threads of a set, each on a line.
+fn show_set<R: Print>(rt: &R, what: &str, set: ThreadSet) -> io::Result<()> {
+    for before in 0..MOST_THREADS {
+        let thread = before + 1;
+        if set.contains(thread) {
+            println!(rt; "    {what} {thread}")?;
+        }
+    }
+    Ok(())
+}
