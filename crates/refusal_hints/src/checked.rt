@@ -28,7 +28,7 @@ pub(crate) fn append_checked(
     match kind {
         RefusalKind::Unknown => append_unknown(alloc, out, declarations, spot),
         RefusalKind::Redeclared => append_redeclared(alloc, out, declarations, spot),
-        RefusalKind::TypeMismatch => append_type(alloc, out, declarations, spot),
+        RefusalKind::TypeMismatch => append_type(alloc, out, declarations, tokens, spot),
         RefusalKind::WrongPlace => writeln!(out, "{}", wrong_place_slip(spot)),
         RefusalKind::DirectReentry => {
             append_found(alloc, out, declarations, spot)?;

@@ -6,7 +6,7 @@ use crate::byte_slips::{append_not_ascii, bad_token_slip};
 use crate::checked::append_checked;
 use crate::excerpt::{append_excerpt, split_line};
 use crate::expected::append_expected;
-use crate::limits::limit_at;
+use crate::limits::append_limit;
 use crate::lines::hint_lines;
 use crate::spot::{Spot, tokens_around};
 use scanner::{Place, Refusal, RefusalKind, Token, scan};
@@ -39,7 +39,7 @@ fn append_by_tokens(
         accepted: &[],
     };
     if refusal.kind == RefusalKind::Limit {
-        return writeln!(out, "{}", limit_at(text, refusal.place, &spot));
+        return append_limit(alloc, out, text, tokens.as_slice(), &spot, refusal.place);
     }
     append_checked(alloc, out, tokens.as_slice(), refusal.kind, &spot)
 }

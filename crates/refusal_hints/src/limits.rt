@@ -1,9 +1,12 @@
 // Which limit is passed at a place.
 
+use crate::declarations::{Declaration, Sort, declarations_of};
 use crate::lexeme::Lexeme;
+use crate::names::declared_at;
 use crate::scopes::walk_over;
 use crate::spot::Spot;
-use scanner::{Keyword, MOST_BYTES, Place};
+use scanner::{Keyword, MOST_BYTES, Place, Token};
+use std::alloc::{AllocError, Global};
 
 const CHAIN: &str = "a chain of calls has at most 15 procedures, the first one counted";
 
@@ -33,8 +36,79 @@ fn limit_of_name(spot: &Spot<'_, '_>) -> &'static str {
     }
 }
 
-/// The limit that is passed at a place of a text.
-pub(crate) fn limit_at(text: &[u8], place: Place, spot: &Spot<'_, '_>) -> &'static str {
+// Whether a declaration counts among those that one is counted with: monitors, procedures, conditions, or what a body has
+// as parameters and variables.
+fn counts_with(here: &Declaration<'_>, other: &Declaration<'_>) -> bool {
+    match (here.sort, other.sort) {
+        (Sort::Monitor(_), Sort::Monitor(_)) | (Sort::Procedure(_), Sort::Procedure(_)) => true,
+        (Sort::Variable(_), Sort::Variable(_)) if here.scope.body > 0 => here.scope == other.scope,
+        (Sort::Variable(_), Sort::Variable(word)) => {
+            other.scope.body == 0 && word == Keyword::Condition
+        }
+        _ => false,
+    }
+}
+
+// How many there may be of those that it is counted with, and what they are called. Of parameters alone there may be 16,
+// and of them and variables more.
+fn most_of(here: &Declaration<'_>) -> (usize, &'static str) {
+    match here.sort {
+        Sort::Monitor(_) => (64, "monitors"),
+        Sort::Procedure(_) => (512, "procedures"),
+        Sort::Variable(_) if here.scope.body == 0 => (256, "conditions"),
+        Sort::Variable(_) => (16, "parameters and variables"),
+    }
+}
+
+// How many of those that it is counted with stand up to a declaration.
+fn count_to(declarations: &[Declaration<'_>], here: &Declaration<'_>) -> usize {
+    let last = here.name.place;
+    let mut count: usize = 0;
+    for declaration in declarations {
+        if counts_with(here, declaration) {
+            count = count.saturating_add(1);
+        }
+        let at = declaration.name.place;
+        if at == last {
+            break;
+        }
+    }
+    count
+}
+
+// Appends which of the names that it is counted with a declared one is.
+fn append_count(
+    out: &mut String,
+    declarations: &[Declaration<'_>],
+    place: Place,
+) -> Result<(), AllocError> {
+    let Some(here) = declared_at(declarations, place) else {
+        return Ok(());
+    };
+    let (most, what) = most_of(&here);
+    let count = count_to(declarations, &here);
+    if count <= most {
+        return Ok(());
+    }
+    writeln!(out, "this is number {count} of the {what}")
+}
+
+/// Appends which limit is passed at a place of a text, and of declared names which of them stands there.
+pub(crate) fn append_limit(
+    alloc: Global,
+    out: &mut String,
+    text: &[u8],
+    tokens: &[Token],
+    spot: &Spot<'_, '_>,
+    place: Place,
+) -> Result<(), AllocError> {
+    writeln!(out, "{}", limit_at(text, place, spot))?;
+    let declarations = declarations_of(alloc, tokens)?;
+    append_count(out, declarations.as_slice(), place)
+}
+
+// The limit that is passed at a place of a text.
+fn limit_at(text: &[u8], place: Place, spot: &Spot<'_, '_>) -> &'static str {
     if text.len() > MOST_BYTES {
         return "a text has at most 1048576 bytes";
     }

@@ -1,10 +1,15 @@
 // What helps with a type, or a number of arguments, that isn't the one wanted.
 
 use crate::declarations::Declaration;
-use crate::lexeme::Lexeme;
+use crate::expression_types::{judge, type_of_factor};
+use crate::headers::{Header, header_of};
+use crate::lexeme::{Lexeme, append_keyword};
 use crate::names::append_found;
+use crate::operators::{LOOSEST, operator_before};
+use crate::sought::sought_at;
 use crate::spot::Spot;
-use scanner::{Keyword, Sign};
+use crate::wanted_types::wanted_at;
+use scanner::{Keyword, Sign, Token};
 use std::alloc::{AllocError, Global};
 
 // What an operator takes.
@@ -73,14 +78,92 @@ fn append_sentence(out: &mut String, sentence: Option<&'static str>) -> Result<(
     }
 }
 
+// The type that is wanted beside one in = or #.
+fn other_type(held: Keyword) -> Option<Keyword> {
+    match held {
+        Keyword::Integer => Some(Keyword::Boolean),
+        Keyword::Boolean => Some(Keyword::Integer),
+        _ => None,
+    }
+}
+
+// The type of what begins at a place, and the one that is wanted there, where both are known.
+fn misfit_at(
+    declarations: &[Declaration<'_>],
+    tokens: &[Token<'_>],
+    spot: &Spot<'_, '_>,
+) -> Option<(Keyword, Keyword)> {
+    let sought = sought_at(declarations, spot);
+    let before = operator_before(spot.back(1), spot.back(2));
+    let bound = before.map_or(LOOSEST, |operator| operator.looseness);
+    let first = type_of_factor(declarations, sought, spot.from);
+    let judged = judge(spot.from, first, bound);
+    let held = judged.held?;
+    let wanted = match (judged.refusing, before) {
+        (Some(operator), _) => operator.takes,
+        (None, Some(operator)) => operator.takes.or(other_type(held)),
+        (None, None) => wanted_at(declarations, tokens, sought, spot),
+    };
+    Some((held, wanted?))
+}
+
+// Appends the type of what begins at a place, and the one that is wanted there.
+fn append_misfit(
+    alloc: Global,
+    out: &mut String,
+    misfit: Option<(Keyword, Keyword)>,
+) -> Result<(), AllocError> {
+    match misfit {
+        Some((held, wanted)) if held != wanted => {
+            out.push_str("what begins here is ")?;
+            append_keyword(alloc, out, held)?;
+            out.push_str(", and ")?;
+            append_keyword(alloc, out, wanted)?;
+            out.push_str(" is wanted\n")
+        }
+        _ => Ok(()),
+    }
+}
+
+// Appends how many parameters a procedure has, and what it gives.
+fn append_header(
+    alloc: Global,
+    out: &mut String,
+    header: Header<'_, '_>,
+) -> Result<(), AllocError> {
+    let count = header.count();
+    let plural = if count == 1 { "" } else { "s" };
+    write!(out, "it has {count} parameter{plural}, and gives ")?;
+    match header.result {
+        Some(result) => append_keyword(alloc, out, result)?,
+        None => out.push_str("nothing")?,
+    }
+    out.push_str("\n")
+}
+
+// The head of the procedure whose name stands at a place, if one stands there.
+fn header_here<'t, 'a>(
+    declarations: &[Declaration<'_>],
+    tokens: &'t [Token<'a>],
+    spot: &Spot<'_, '_>,
+) -> Option<Header<'t, 'a>> {
+    let sought = sought_at(declarations, spot);
+    header_of(tokens, &sought.find(declarations, spot.token(0).text)?)
+}
+
 /// Appends what helps with a type.
 pub(crate) fn append_type(
     alloc: Global,
     out: &mut String,
     declarations: &[Declaration<'_>],
+    tokens: &[Token<'_>],
     spot: &Spot<'_, '_>,
 ) -> Result<(), AllocError> {
     append_found(alloc, out, declarations, spot)?;
+    match header_here(declarations, tokens, spot) {
+        Some(header) => append_header(alloc, out, header)?,
+        None => append_misfit(alloc, out, misfit_at(declarations, tokens, spot))?,
+    }
     append_sentence(out, wanted_behind(spot.back(1)))?;
     append_sentence(out, wanted_before(spot.here(), spot.ahead(1)))
 }
