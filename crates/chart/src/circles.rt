@@ -27,6 +27,20 @@ pub(crate) fn awaited(state: &SourceState, process: u64) -> Option<u64> {
     }
 }
 
+// Appends a process, whom it waits for, and so on, as far as their numbers are greater than its own; whether the last
+// waits for it.
+fn closes(circle: &mut Vec<u64>, state: &SourceState, first: u64) -> Result<bool, AllocError> {
+    let mut last = first;
+    for _step in 0..state.made() {
+        circle.push(last)?;
+        last = awaited(state, last).unwrap_or(0);
+        if last <= first {
+            break;
+        }
+    }
+    Ok(last == first)
+}
+
 /// The circle of processes, each of which waits for the next and the last for the first, that begins with a process
 /// whose number is the least of it; else nobody.
 pub(crate) fn circle_from(
@@ -35,15 +49,8 @@ pub(crate) fn circle_from(
     first: u64,
 ) -> Result<Vec<u64>, AllocError> {
     let mut circle = Vec::new(alloc);
-    let mut last = first;
-    for _step in 0..state.made() {
-        circle.push(last)?;
-        match awaited(state, last) {
-            Some(next) if next == first => return Ok(circle),
-            Some(next) if next > first => last = next,
-            _ => break,
-        }
+    if !closes(&mut circle, state, first)? {
+        circle.clear();
     }
-    circle.clear();
     Ok(circle)
 }

@@ -1,12 +1,12 @@
 use crate::frames::{begun, depth};
-use crate::labels::row_name;
+use crate::labels::append_row_name;
 use crate::marks::finds_abandoned;
 use crate::row::Row;
 use crate::sheet::{Sheet, index_of};
 use program::Checked;
 use source_states::{Action, ActionKind, SourceState};
 use sourcemeaning::movers;
-use std::alloc::AllocError;
+use std::alloc::{AllocError, Global};
 
 // Where in its column an action changes what its process does.
 fn side(kind: &ActionKind) -> u64 {
@@ -17,6 +17,12 @@ fn side(kind: &ActionKind) -> u64 {
     }
 }
 
+// Whether a process can do an action.
+fn can_move(alloc: Global, checked: &Checked, state: &SourceState) -> Result<bool, AllocError> {
+    let movers = movers(alloc, checked, state)?;
+    Ok(!movers.is_empty())
+}
+
 impl<'c, 'n> Sheet<'c, 'n> {
     // Notes which processes are joined, and the last action of each that isn't over at the end.
     fn look_ahead(&mut self) -> Result<(), AllocError> {
@@ -25,36 +31,52 @@ impl<'c, 'n> Sheet<'c, 'n> {
         self.lasts.push(Some(0))?;
         for action in actions {
             number = number.saturating_add(1);
-            if let ActionKind::Join(child) = action.kind {
-                self.joined.push(child)?;
-            }
-            if let ActionKind::Fork(_) = action.kind {
-                self.lasts.push(Some(0))?;
-            }
-            if let Some(last) = self.lasts.get_mut(index_of(action.process)) {
-                *last = match action.kind {
-                    ActionKind::Finish => None,
-                    _ => Some(number),
-                };
-            }
+            self.look_at(action, number)?;
         }
         Ok(())
     }
 
-    // A process is made, in which this piece begins, with these locals: its row begins.
+    // Notes what an action of this number shows of that.
+    fn look_at(&mut self, action: &Action, number: u64) -> Result<(), AllocError> {
+        match action.kind {
+            ActionKind::Join(child) => self.joined.push(child)?,
+            ActionKind::Fork(_) => self.lasts.push(Some(0))?,
+            _ => {}
+        }
+        if let Some(last) = self.lasts.get_mut(index_of(action.process)) {
+            *last = match action.kind {
+                ActionKind::Finish => None,
+                _ => Some(number),
+            };
+        }
+        Ok(())
+    }
+
+    // The row of a process in which this piece begins.
+    fn row_of(
+        &self,
+        state: &SourceState,
+        process: u64,
+        piece: Option<u32>,
+    ) -> Result<Row, AllocError> {
+        let locals = match state.process(process) {
+            None => &[],
+            Some(made) => made.frame.locals.as_slice(),
+        };
+        let number = piece.unwrap_or(u32::MAX);
+        let mut name = Vec::new(self.alloc);
+        append_row_name(&mut name, self.labels, process, number, locals)?;
+        Row::new(self.alloc, name, piece, self.last_of(process))
+    }
+
+    // A process is made, in which this piece begins: its row begins.
     fn begin(
         &mut self,
         state: &SourceState,
         process: u64,
         piece: Option<u32>,
     ) -> Result<(), AllocError> {
-        let locals = match state.process(process) {
-            None => &[],
-            Some(made) => made.frame.locals.as_slice(),
-        };
-        let number = piece.unwrap_or(u32::MAX);
-        let name = row_name(self.alloc, self.labels, process, number, locals)?;
-        let row = Row::new(self.alloc, name, piece, self.last_of(process))?;
+        let row = self.row_of(state, process, piece)?;
         self.add_row(row)?;
         self.follow(state, process, self.moment(1))
     }
@@ -101,17 +123,10 @@ impl<'c, 'n> Sheet<'c, 'n> {
         action: &Action,
         piece: Option<u32>,
     ) -> Result<(), AllocError> {
-        let Some(row) = self.rows.get_mut(index_of(action.process)) else {
-            return Ok(());
-        };
-        match action.kind {
-            ActionKind::Call => row.pieces.push(piece)?,
-            ActionKind::Enter(_) | ActionKind::Resume(_) | ActionKind::Kill(_, _) => {
-                row.trial = None;
-            }
-            _ => {}
+        match self.rows.get_mut(index_of(action.process)) {
+            None => Ok(()),
+            Some(row) => row.settle(&action.kind, piece, depth(state, action.process)),
         }
-        row.settle(depth(state, action.process))
     }
 
     // Does an action, and draws it; false where it isn't possible.
@@ -128,14 +143,26 @@ impl<'c, 'n> Sheet<'c, 'n> {
         if !state.advance(self.alloc, checked.program(), action)? {
             return Ok(false);
         }
+        self.draw_done(state, action, piece, abandoned)?;
+        Ok(true)
+    }
+
+    // Draws an action that was done, which began this piece.
+    fn draw_done(
+        &mut self,
+        state: &SourceState,
+        action: &Action,
+        piece: Option<u32>,
+        abandoned: bool,
+    ) -> Result<(), AllocError> {
         self.settle(state, action, piece)?;
         let moment = self.moment(side(&action.kind));
         self.follow(state, action.process, moment)?;
         self.follow_others(state, action, piece)?;
         if self.draws() {
-            self.draw_action(state, action, abandoned)?;
+            return self.draw_action(state, action, abandoned);
         }
-        Ok(true)
+        Ok(())
     }
 
     // Does actions, and draws them, up to the last that is drawn or the first that isn't possible; false there.
@@ -160,23 +187,36 @@ impl<'c, 'n> Sheet<'c, 'n> {
         state: &SourceState<'c>,
     ) -> Result<(), AllocError> {
         self.fail_all(state, u64::MAX, self.moment(2))?;
-        let movers = movers(self.alloc, checked, state)?;
-        self.stuck = movers.is_empty() && self.rows.iter().any(|row| !row.gone && !row.is_over());
-        self.draw_last(state)
+        self.stuck = !can_move(self.alloc, checked, state)? && self.is_unfinished();
+        self.draw_last(state)?;
+        self.end_strip()?;
+        self.write_circles(state)
+    }
+
+    // Whether a process has a row that isn't over.
+    fn is_unfinished(&self) -> bool {
+        self.rows.iter().any(|row| !row.gone && !row.is_over())
+    }
+
+    // Draws the run from its opening state on.
+    fn draw_from(
+        &mut self,
+        checked: &'c Checked<'n>,
+        state: &mut SourceState<'c>,
+    ) -> Result<(), AllocError> {
+        let main = checked.program().procedures.len().saturating_sub(1);
+        self.begin(state, 1, Some(main as u32))?;
+        let is_run = self.draw_steps(checked, state)?;
+        if !is_run || self.span.last < self.actions.len() as u64 {
+            return self.end_strip();
+        }
+        self.draw_rest(checked, state)
     }
 
     /// Draws the run, from its first action that is drawn to its last, and what its processes wait for at its end.
     pub fn draw_run(&mut self, checked: &'c Checked<'n>) -> Result<(), AllocError> {
         self.look_ahead()?;
         let mut state = SourceState::opening(self.alloc, checked)?;
-        let main = checked.program().procedures.len().saturating_sub(1);
-        self.begin(&state, 1, Some(main as u32))?;
-        let is_run = self.draw_steps(checked, &mut state)?;
-        if !is_run || self.span.last < self.actions.len() as u64 {
-            return self.end_strip();
-        }
-        self.draw_rest(checked, &state)?;
-        self.end_strip()?;
-        self.write_circles(&state)
+        self.draw_from(checked, &mut state)
     }
 }

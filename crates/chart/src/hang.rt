@@ -1,6 +1,7 @@
 // What the processes wait for at the end of a run: in words, with arrows, and in circles.
 
 use crate::circles::{awaited, circle_from, holder};
+use crate::labels::Labels;
 use crate::layer::{Layer, uppermost};
 use crate::shapes::{append_shape, wide};
 use crate::sheet::Sheet;
@@ -37,16 +38,48 @@ fn note_form(stuck: bool) -> &'static str {
     }
 }
 
+// Writes what a process does at the end, and gives how many letters that has.
+fn append_note(
+    out: &mut Vec<u8>,
+    form: &str,
+    place: &[u64],
+    labels: Labels,
+    layer: Layer,
+) -> Result<u64, AllocError> {
+    append_shape(out, form, place)?;
+    let before = out.len();
+    labels.append_description(out, layer)?;
+    let letters = out.len().saturating_sub(before) as u64;
+    append_shape(out, "</text>\n", &[])?;
+    Ok(letters)
+}
+
+// Writes a circle of processes, of which this is the first, at a height.
+fn append_circle(
+    out: &mut Vec<u8>,
+    circle: &[u64],
+    first: u64,
+    height: u64,
+) -> Result<(), AllocError> {
+    append_shape(
+        out,
+        "<text class='hang' x='0' y='$'>a circle: process $ waits for process ",
+        &[height, first],
+    )?;
+    for process in circle.get(1..).unwrap_or(&[]) {
+        append_shape(out, "$, which waits for process ", &[*process])?;
+    }
+    append_shape(out, "$</text>\n", &[first])
+}
+
 impl<'c, 'n> Sheet<'c, 'n> {
     // Writes at this place what a process does at the end.
     fn describe(&mut self, layer: Layer, left: u64, below: u64) -> Result<(), AllocError> {
-        let mut text = Vec::new(self.alloc);
-        self.labels.append_description(&mut text, layer)?;
-        append_shape(&mut self.marks, note_form(self.stuck), &[left, below])?;
-        self.marks.extend_from_slice(text.as_slice())?;
-        let letters = wide(text.len() as u64, LETTER);
-        self.reach = self.reach.max(left.saturating_add(letters));
-        append_shape(&mut self.marks, "</text>\n", &[])
+        let form = note_form(self.stuck);
+        let letters = append_note(&mut self.marks, form, &[left, below], self.labels, layer)?;
+        let right = left.saturating_add(wide(letters, LETTER));
+        self.reach = self.reach.max(right);
+        Ok(())
     }
 
     // Writes behind a process that isn't over what it does at the end.
@@ -106,29 +139,25 @@ impl<'c, 'n> Sheet<'c, 'n> {
 
     // Writes a circle of processes below the rows.
     fn write_circle(&mut self, circle: &[u64], first: u64) -> Result<(), AllocError> {
-        self.bottom = self.bottom.saturating_add(16);
-        append_shape(
-            &mut self.marks,
-            "<text class='hang' x='0' y='$'>a circle: process $ waits for process ",
-            &[self.bottom, first],
-        )?;
-        for process in circle.get(1..).unwrap_or(&[]) {
-            append_shape(&mut self.marks, "$, which waits for process ", &[*process])?;
+        if circle.is_empty() {
+            return Ok(());
         }
-        append_shape(&mut self.marks, "$</text>\n", &[first])?;
         let letters = (circle.len() as u64).saturating_add(1).saturating_mul(30);
         self.reach = self.reach.max(wide(letters, LETTER));
-        Ok(())
+        self.bottom = self.bottom.saturating_add(16);
+        append_circle(&mut self.marks, circle, first, self.bottom)
+    }
+
+    // Writes the circle of which a process is the first, if there is one.
+    fn write_circle_from(&mut self, state: &SourceState, first: u64) -> Result<(), AllocError> {
+        let circle = circle_from(self.alloc, state, first)?;
+        self.write_circle(circle.as_slice(), first)
     }
 
     /// Writes each circle of processes below the rows.
     pub fn write_circles(&mut self, state: &SourceState) -> Result<(), AllocError> {
         for index in 0..self.rows.len() {
-            let first = (index as u64).saturating_add(1);
-            let circle = circle_from(self.alloc, state, first)?;
-            if !circle.is_empty() {
-                self.write_circle(circle.as_slice(), first)?;
-            }
+            self.write_circle_from(state, (index as u64).saturating_add(1))?;
         }
         Ok(())
     }

@@ -1,8 +1,8 @@
 use crate::layer::Layer;
 use crate::shapes::{append_clipped, append_shape};
 use itoa::Buffer;
-use program::{Member, Names, Program, Role, ValueType};
-use std::alloc::{AllocError, Global};
+use program::{Member, Names, Procedure, Program, Role, ValueType};
+use std::alloc::AllocError;
 
 /// The names of a program's things.
 #[derive(Clone, Copy)]
@@ -68,12 +68,25 @@ impl<'c, 'n> Labels<'c, 'n> {
         }
     }
 
-    // Appends that a process waits for a monitor, where it is known which.
-    fn append_trial(&self, out: &mut Vec<u8>, monitor: Option<u32>) -> Result<(), AllocError> {
+    // Appends that a process waits on a condition.
+    fn append_wait(&self, out: &mut Vec<u8>, condition: Member) -> Result<(), AllocError> {
+        self.append_monitor(out, "waits on ", condition.monitor)?;
+        append_shape(out, ".", &[])?;
+        append_clipped(out, self.condition(condition))
+    }
+
+    // Appends that a process waits for a monitor, where it is known which, and who holds that.
+    fn append_trial(
+        &self,
+        out: &mut Vec<u8>,
+        monitor: Option<u32>,
+        holder: u64,
+    ) -> Result<(), AllocError> {
         match monitor {
-            None => append_shape(out, "waits for a monitor", &[]),
-            Some(monitor) => self.append_monitor(out, "waits for ", monitor),
+            None => append_shape(out, "waits for a monitor", &[])?,
+            Some(monitor) => self.append_monitor(out, "waits for ", monitor)?,
         }
+        append_shape(out, ", held by $", &[holder])
     }
 
     /// Appends what a process is doing, in words.
@@ -81,17 +94,10 @@ impl<'c, 'n> Labels<'c, 'n> {
         match layer {
             Layer::Runs => append_shape(out, "runs", &[]),
             Layer::Holds(monitor, piece) => self.append_hold(out, monitor, piece),
-            Layer::Waits(condition) => {
-                self.append_monitor(out, "waits on ", condition.monitor)?;
-                append_shape(out, ".", &[])?;
-                append_clipped(out, self.condition(condition))
-            }
+            Layer::Waits(condition) => self.append_wait(out, condition),
             Layer::Resumed(monitor) => self.append_monitor(out, "resumed, waits for ", monitor),
             Layer::Enters(monitor) => self.append_monitor(out, "waits for ", monitor),
-            Layer::Tried(monitor, holder) => {
-                self.append_trial(out, monitor)?;
-                append_shape(out, ", held by $", &[holder])
-            }
+            Layer::Tried(monitor, holder) => self.append_trial(out, monitor, holder),
             Layer::Joins(child) => append_shape(out, "waits for process $", &[child]),
             Layer::Dies => append_shape(out, "is dying", &[]),
             Layer::IsOver => append_shape(out, "is over", &[]),
@@ -109,9 +115,17 @@ fn append_value(out: &mut Vec<u8>, kind: ValueType, value: i64) -> Result<(), Al
     }
 }
 
-// What stands before an argument, from 0.
-fn separator(index: usize) -> &'static str {
-    if index == 0 { "" } else { ", " }
+// Appends an argument, behind what parts it from the one before.
+fn append_argument(
+    out: &mut Vec<u8>,
+    is_first: bool,
+    kind: ValueType,
+    value: i64,
+) -> Result<(), AllocError> {
+    if !is_first {
+        append_shape(out, ", ", &[])?;
+    }
+    append_value(out, kind, value)
 }
 
 // Appends the arguments with which a procedure of these parameters began.
@@ -121,38 +135,57 @@ fn append_arguments(
     locals: &[i64],
 ) -> Result<(), AllocError> {
     append_shape(out, "(", &[])?;
-    for (index, (kind, value)) in parameters.iter().zip(locals).enumerate() {
-        append_shape(out, separator(index), &[])?;
-        append_value(out, *kind, *value)?;
+    let mut is_first = true;
+    for (kind, value) in parameters.iter().zip(locals) {
+        append_argument(out, is_first, *kind, *value)?;
+        is_first = false;
     }
     append_shape(out, ")", &[])
 }
 
-/// The name of a process's row: its number, its procedure, where that is known, and the arguments of that, which are the
-/// first of these locals.
-pub(crate) fn row_name(
-    alloc: Global,
+// Appends the monitor of an ENTRY procedure, before its name.
+fn append_owner(out: &mut Vec<u8>, labels: Labels, role: Role) -> Result<(), AllocError> {
+    match role {
+        Role::Entry(monitor) => {
+            out.extend_from_slice(labels.monitor(monitor))?;
+            append_shape(out, ".", &[])
+        }
+        _ => Ok(()),
+    }
+}
+
+// Appends a procedure of this name, with its monitor, and with its arguments, the first of these locals.
+fn append_procedure(
+    out: &mut Vec<u8>,
+    labels: Labels,
+    procedure: &Procedure,
+    name: &[u8],
+    locals: &[i64],
+) -> Result<(), AllocError> {
+    append_owner(out, labels, procedure.role)?;
+    out.extend_from_slice(name)?;
+    match procedure.role {
+        Role::Main => Ok(()),
+        _ => append_arguments(out, procedure.parameters.as_slice(), locals),
+    }
+}
+
+/// Appends the name of a process's row: its number, its procedure, where that is known, and the arguments of that, which
+/// are the first of these locals.
+pub(crate) fn append_row_name(
+    out: &mut Vec<u8>,
     labels: Labels,
     number: u64,
     piece: u32,
     locals: &[i64],
-) -> Result<Vec<u8>, AllocError> {
-    let mut name = Vec::new(alloc);
-    append_shape(&mut name, "$", &[number])?;
-    let (Some(text), Some(procedure)) = (
+) -> Result<(), AllocError> {
+    append_shape(out, "$", &[number])?;
+    let (Some(name), Some(procedure)) = (
         labels.piece(Some(piece)),
         labels.program.procedures.get(piece as usize),
     ) else {
-        return Ok(name);
+        return Ok(());
     };
-    append_shape(&mut name, " ", &[])?;
-    if let Role::Entry(monitor) = procedure.role {
-        name.extend_from_slice(labels.monitor(monitor))?;
-        append_shape(&mut name, ".", &[])?;
-    }
-    name.extend_from_slice(text)?;
-    if procedure.role != Role::Main {
-        append_arguments(&mut name, procedure.parameters.as_slice(), locals)?;
-    }
-    Ok(name)
+    append_shape(out, " ", &[])?;
+    append_procedure(out, labels, procedure, name, locals)
 }

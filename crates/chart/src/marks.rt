@@ -19,6 +19,26 @@ pub(crate) fn finds_abandoned(state: &SourceState, kind: &ActionKind) -> bool {
     }
 }
 
+// The dot of an action that ends no process.
+fn dot_of(kind: &ActionKind) -> &'static str {
+    match kind {
+        ActionKind::Notify(_, _) | ActionKind::Broadcast(_, _) => {
+            "<circle class='notifies' cx='$' cy='$' r='3'/>"
+        }
+        ActionKind::Fails(_) | ActionKind::Abandon(_) | ActionKind::Kill(_, _) => {
+            "<circle class='fails' cx='$' cy='$' r='3'/>"
+        }
+        _ => "<circle class='action' cx='$' cy='$' r='2'/>",
+    }
+}
+
+// Begins a group with the number and the line of an action as its title.
+fn append_title(out: &mut Vec<u8>, number: u64, line: &[u8]) -> Result<(), AllocError> {
+    append_shape(out, "<g><title>$: ", &[number])?;
+    append_clipped(out, line)?;
+    append_shape(out, "</title>", &[])
+}
+
 impl<'c, 'n> Sheet<'c, 'n> {
     // Where a note of so many letters stands below the bars of a process, behind the notes before it.
     fn note_place(&mut self, process: u64, letters: u64) -> Option<[u64; 2]> {
@@ -87,46 +107,53 @@ impl<'c, 'n> Sheet<'c, 'n> {
         self.draw_cause(process, cause)
     }
 
-    // Draws the arrows to resumed processes, or that there are none.
+    // Draws the arrows to resumed processes.
     fn draw_resumed(&mut self, process: u64, resumed: &[u64]) -> Result<(), AllocError> {
         for other in resumed {
             self.draw_arrow(Arrow::Notify, process, *other)?;
         }
-        self.dot(process, "<circle class='notifies' cx='$' cy='$' r='3'/>")
+        Ok(())
+    }
+
+    // Writes a number that is printed.
+    fn note_number(&mut self, process: u64, number: i64) -> Result<(), AllocError> {
+        let mut buffer = Buffer::new();
+        let text = buffer.format(number);
+        self.note(process, "<text class='print' x='$' y='$'>", text.as_bytes())
+    }
+
+    // Draws what an action says besides its dot.
+    fn draw_beside(&mut self, process: u64, kind: &ActionKind) -> Result<(), AllocError> {
+        match kind {
+            ActionKind::Fork(child) => self.draw_arrow(Arrow::Fork, process, *child),
+            ActionKind::Join(child) => self.draw_arrow(Arrow::Join, *child, process),
+            ActionKind::Notify(_, resumed)
+            | ActionKind::Broadcast(_, resumed)
+            | ActionKind::Kill(resumed, _) => self.draw_resumed(process, resumed.as_slice()),
+            ActionKind::Abandon(monitor) => self.note_abandoned(process, *monitor),
+            ActionKind::Stray(_) => {
+                self.note(process, "<text class='quiet' x='$' y='$'>", b"stray")
+            }
+            ActionKind::Print(number) => self.note_number(process, *number),
+            _ => Ok(()),
+        }
     }
 
     // Draws what an action does.
     fn draw_kind(&mut self, state: &SourceState, action: &Action) -> Result<(), AllocError> {
         let process = action.process;
+        self.draw_beside(process, &action.kind)?;
         match &action.kind {
-            ActionKind::Fork(child) => self.draw_arrow(Arrow::Fork, process, *child)?,
-            ActionKind::Join(child) => self.draw_arrow(Arrow::Join, *child, process)?,
-            ActionKind::Notify(_, resumed) | ActionKind::Broadcast(_, resumed) => {
-                return self.draw_resumed(process, resumed.as_slice());
-            }
-            ActionKind::Kill(resumed, _) => {
-                self.draw_resumed(process, resumed.as_slice())?;
-                return self.dot(process, "<circle class='fails' cx='$' cy='$' r='3'/>");
-            }
-            ActionKind::Finish => return self.draw_end(process, state.over(process)),
-            ActionKind::Fails(_) => {
-                return self.dot(process, "<circle class='fails' cx='$' cy='$' r='3'/>");
-            }
-            ActionKind::Abandon(monitor) => {
-                self.note_abandoned(process, *monitor)?;
-                return self.dot(process, "<circle class='fails' cx='$' cy='$' r='3'/>");
-            }
-            ActionKind::Stray(_) => {
-                self.note(process, "<text class='quiet' x='$' y='$'>", b"stray")?;
-            }
-            ActionKind::Print(number) => {
-                let mut buffer = Buffer::new();
-                let text = buffer.format(*number);
-                self.note(process, "<text class='print' x='$' y='$'>", text.as_bytes())?;
-            }
-            _ => {}
+            ActionKind::Finish => self.draw_end(process, state.over(process)),
+            kind => self.dot(process, dot_of(kind)),
         }
-        self.dot(process, "<circle class='action' cx='$' cy='$' r='2'/>")
+    }
+
+    // Begins the marks of an action with its line.
+    fn begin_marks(&mut self, action: &Action) -> Result<(), AllocError> {
+        let mut line = Vec::new(self.alloc);
+        append_line(&mut line, self.labels.names, action)?;
+        append_title(&mut self.marks, self.number, line.as_slice())
     }
 
     /// Draws the marks of an action, with its line.
@@ -136,17 +163,10 @@ impl<'c, 'n> Sheet<'c, 'n> {
         action: &Action,
         finds_abandoned: bool,
     ) -> Result<(), AllocError> {
-        let mut line = Vec::new(self.alloc);
-        append_line(&mut line, self.labels.names, action)?;
-        append_shape(&mut self.marks, "<g><title>$: ", &[self.number])?;
-        append_clipped(&mut self.marks, line.as_slice())?;
-        append_shape(&mut self.marks, "</title>", &[])?;
+        self.begin_marks(action)?;
         if finds_abandoned {
-            self.note(
-                action.process,
-                "<text class='fault' x='$' y='$'>",
-                b"was abandoned",
-            )?;
+            let form = "<text class='fault' x='$' y='$'>";
+            self.note(action.process, form, b"was abandoned")?;
         }
         self.draw_kind(state, action)?;
         append_shape(&mut self.marks, "</g>\n", &[])

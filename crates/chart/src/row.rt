@@ -2,6 +2,7 @@ use crate::bar::{Bar, Place};
 use crate::labels::Labels;
 use crate::layer::{Layer, Trial};
 use crate::shapes::{append_shape, append_text, letters_of, wide};
+use source_states::ActionKind;
 use std::alloc::{AllocError, Global};
 
 /// On how many levels bars are drawn; those that stand on more share the last.
@@ -124,13 +125,45 @@ impl Row {
         })
     }
 
+    /// Begins its row in a strip, at this height, with its name.
+    pub fn begin(
+        &mut self,
+        lines: &mut Vec<u8>,
+        marks: &mut Vec<u8>,
+        labels: Labels,
+        middle: u64,
+    ) -> Result<(), AllocError> {
+        self.placed = true;
+        self.middle = middle;
+        append_text(
+            lines,
+            "<text class='process' x='-8' y='$'>",
+            &[middle.saturating_add(4)],
+            self.name.as_slice(),
+        )?;
+        self.label_from(marks, labels, 0)
+    }
+
     /// Whether it is over, and only waits to be joined.
     pub fn is_over(&self) -> bool {
         matches!(self.bars.as_slice(), [bar] if bar.layer == Layer::IsOver)
     }
 
-    /// The process has so many procedures now: those that returned are gone, and a RECOVER part has begun.
-    pub fn settle(&mut self, depth: usize) -> Result<(), AllocError> {
+    /// Its process did an action, which began this piece, and has so many procedures now: those that returned are gone,
+    /// and a RECOVER part has begun. An attempt to take a monitor is over where the action took it.
+    pub fn settle(
+        &mut self,
+        kind: &ActionKind,
+        piece: Option<u32>,
+        depth: usize,
+    ) -> Result<(), AllocError> {
+        match kind {
+            ActionKind::Call => self.pieces.push(piece)?,
+            ActionKind::Enter(_) | ActionKind::Resume(_) | ActionKind::Kill(_, _) => {
+                self.trial = None;
+            }
+            _ => {}
+        }
         self.pieces.truncate(depth);
         for _piece in self.pieces.len()..depth {
             self.pieces.push(None)?;

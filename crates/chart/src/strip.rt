@@ -1,7 +1,7 @@
 // The strips of a picture: which processes have a row in one, and its grid.
 
 use crate::row::Row;
-use crate::shapes::{append_shape, append_text, letters_of, wide};
+use crate::shapes::{append_shape, letters_of, wide};
 use crate::sheet::{COLUMN, COLUMNS, Sheet, index_of};
 use source_states::{Action, ActionKind};
 use std::alloc::AllocError;
@@ -20,18 +20,11 @@ impl<'c, 'n> Sheet<'c, 'n> {
         let Some(row) = self.rows.get_mut(index) else {
             return Ok(());
         };
-        row.placed = true;
-        row.middle = self.bottom.saturating_add(ROW / 2);
+        let middle = self.bottom.saturating_add(ROW / 2);
         self.bottom = self.bottom.saturating_add(ROW);
         let letters = wide(letters_of(row.name.as_slice()), LETTER);
         self.left_reach = self.left_reach.max(letters);
-        append_text(
-            &mut self.lines,
-            "<text class='process' x='-8' y='$'>",
-            &[row.middle.saturating_add(4)],
-            row.name.as_slice(),
-        )?;
-        row.label_from(&mut self.marks, self.labels, 0)
+        row.begin(&mut self.lines, &mut self.marks, self.labels, middle)
     }
 
     /// Adds the row of the next process.
