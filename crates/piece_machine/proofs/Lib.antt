@@ -1,2 +1,4 @@
 pub mod OwnCalls
 pub mod Owns
+pub mod Blocked
+pub mod Strayed

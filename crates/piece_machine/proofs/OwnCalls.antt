@@ -35,13 +35,13 @@ pub called_is : (p : Program) (t : ℕ) (x : Thread) (call : FutexCall) (go : �
     → look p t x ≡ Asks (request_of call) go → called p t o ≡ Some call
 called_is p t x call go o stands looks = ap (called p t) stands ∙ ap call_at looks ∙ call_back call
 
-one_call : (a b : FutexCall) → Some a ≡ Some b → a ≡ b
+pub one_call : (a b : FutexCall) → Some a ≡ Some b → a ≡ b
 one_call a b h = cc
 
-one_phase : (a b : ExitPhase) → next.Exit a ≡ next.Exit b → a ≡ b
+pub one_phase : (a b : ExitPhase) → next.Exit a ≡ next.Exit b → a ≡ b
 one_phase a b h = cc
 
-no_exit : (r : Request) (phase : ExitPhase) → request_step r ≡ next.Exit phase → ⊥
+pub no_exit : (r : Request) (phase : ExitPhase) → request_step r ≡ next.Exit phase → ⊥
 no_exit (AskFork entry arguments has_room) phase h = cc
 no_exit (AskLoad a) phase h = cc
 no_exit (AskStore a v) phase h = cc
@@ -57,7 +57,7 @@ no_exit AskReturn phase h = cc
 no_exit (AskReturnValue v) phase h = cc
 no_exit (AskFault cause) phase h = cc
 
-one_thread : (x y : Thread) → Some x ≡ Some y → x ≡ y
+pub one_thread : (x y : Thread) → Some x ≡ Some y → x ≡ y
 one_thread x y h = cc
 
 -- the phase of a thread that makes a call is one of that call
@@ -132,7 +132,7 @@ pub made_of : (o : Option Thread) → (o ≡ None → ⊥) → (x : Thread) × (
 made_of None h = absurd (h refl)
 made_of (Some x) h = (x, refl)
 
-asks_call : (l : Look) (request : Told) (call : FutexCall) → next.Shared request ≡ next_step_of l
+pub asks_call : (l : Look) (request : Told) (call : FutexCall) → next.Shared request ≡ next_step_of l
     → Some call ≡ call_of (asked_of request) → (go : ℕ → Thread) × (l ≡ Asks (request_of call) go)
 asks_call (Goes y) request call is h = absurd cc
 asks_call (Asks r go) request call is h = (
@@ -152,7 +152,7 @@ makes_call v t request call made is h =
     record { thread = m.0; go = a.0; stands = m.1; asks = a.1 }
 
 -- a thread that asks for something else
-none_asked : (s : PieceState) (t : ℕ) (l : Look) (request : Told) → next.Shared request ≡ next_step_of l
+pub none_asked : (s : PieceState) (t : ℕ) (l : Look) (request : Told) → next.Shared request ≡ next_step_of l
     → None ≡ call_of (asked_of request) → (call_at l ≡ None) × (BlocksAt s t l → ⊥)
 none_asked s t (Goes y) request is h = absurd cc
 none_asked s t (Asks r go) request is h =
@@ -223,7 +223,7 @@ leaves_blocked v s t phase base made is blocks =
       exits Rests q = absurd cc
 
 -- a thread before any other step
-others : (s : PieceState) (t : ℕ) (l : Look) (n : NextStep) → n ≡ next_step_of l
+pub others : (s : PieceState) (t : ℕ) (l : Look) (n : NextStep) → n ≡ next_step_of l
     → ((request : Told) → n ≡ next.Shared request → ⊥) → ((phase : ExitPhase) → n ≡ next.Exit phase → ⊥)
     → (call_at l ≡ None) × (BlocksAt s t l → ⊥)
 others s t (Goes y) n is ns ne = (refl, λ b. b)

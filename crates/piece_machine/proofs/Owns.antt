@@ -145,24 +145,30 @@ goes_more p s mid s' (first ∷ steps) step h one =
     (h.0, h.1, goes_more p h.0 mid s' steps step h.2 one)
 
 -- a step keeps what always holds
+pub kept_by : (v v' : View) (phases phases' : List FutexPhase) (step : Step) → IsKept v phases
+    → v'.program ≡ v.program → IsWellFormed v'.program (concrete v') → length phases' ≡ length phases
+    → IsPieceStep v.program (pieces_of v (phase_in phases)) step (pieces_of v' (phase_in phases')) → IsKept v' phases'
+kept_by v v' phases phases' step kept same well long moves = record {
+  well = well;
+  right = rw same (held_kept v.program (pieces_of v (phase_in phases)) (pieces_of v' (phase_in phases')) step
+      kept.right moves);
+  come = rw same (record {
+    buckets = kept.come.buckets;
+    some = kept.come.some;
+    steps = kept.come.steps ++ step ∷ [];
+    run = goes_more v.program (opening_pieces v.program kept.come.buckets) (pieces_of v (phase_in phases))
+        (pieces_of v' (phase_in phases')) kept.come.steps step kept.come.run moves;
+  });
+  long = omega (arith, long, kept.long);
+}
+
+-- so does a step of a thread's own
 pub kept_on : (v v' : View) (phases phases' : List FutexPhase) (t : ℕ) (woken : List ℕ) → IsKept v phases
     → v'.program ≡ v.program → IsWellFormed v'.program (concrete v') → length phases' ≡ length phases
     → IsPieceStep v.program (pieces_of v (phase_in phases)) (own_step (pieces_of v' (phase_in phases')) t woken)
     (pieces_of v' (phase_in phases')) → IsKept v' phases'
-kept_on v v' phases phases' t woken kept same well long step = record {
-  well = well;
-  right = rw same (held_kept v.program (pieces_of v (phase_in phases)) (pieces_of v' (phase_in phases'))
-      (own_step (pieces_of v' (phase_in phases')) t woken) kept.right step);
-  come = rw same (record {
-    buckets = kept.come.buckets;
-    some = kept.come.some;
-    steps = kept.come.steps ++ own_step (pieces_of v' (phase_in phases')) t woken ∷ [];
-    run = goes_more v.program (opening_pieces v.program kept.come.buckets) (pieces_of v (phase_in phases))
-        (pieces_of v' (phase_in phases')) kept.come.steps (own_step (pieces_of v' (phase_in phases')) t woken)
-        kept.come.run step;
-  });
-  long = omega (arith, long, kept.long);
-}
+kept_on v v' phases phases' t woken kept same well long step =
+    kept_by v v' phases phases' (own_step (pieces_of v' (phase_in phases')) t woken) kept same well long step
 
 -- a thread that was made has a phase
 pub has_phase : (v : View) (phases : List FutexPhase) (t : ℕ) (x : Thread) → IsKept v phases

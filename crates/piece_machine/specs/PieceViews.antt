@@ -1,5 +1,5 @@
 -- A machine whose threads take futex calls in pieces, as contracts see it, and its steps.
-use Rattle.std.specs.Prelude.{ℕ, ◌≡◌, ◌<◌, List, [], Some, None, length, slice_index_or}
+use Rattle.std.specs.Prelude.{ℕ, ◌≡◌, ◌<◌, List, [], ◌∷◌, Option, Some, None, false, length, slice_index_or}
 use Rattle.words.specs.Limits.{most_threads}
 use Rattle.isa.specs.Programs.{Program}
 use Rattle.futexcalls.specs.declared.pieces.FutexCall.{FutexCall}
@@ -11,11 +11,12 @@ use Rattle.locals.specs.Threads.{Thread}
 use Rattle.locals.specs.Looks.{look}
 use Rattle.machine.specs.Views.{View, concrete, IsWellFormed}
 use Rattle.machine.specs.ConcretePieces.{pieces_of}
+use Rattle.machine.specs.declared.event.Event.{Event as Told}
 use Rattle.machine.specs.declared.event.StepFault.{StepFault}
 use Rattle.machine.specs.declared.event.StepFault.TheVariants.{CannotMove, Broken}
 use Rattle.machine.specs.PieceStates.{PieceState, IsHeldRight, call_at, called}
 use Rattle.machine.specs.PieceSteps.{IsPieceStep, PieceRun, BlocksAt, CanTakePiece, NextPieceIsBroken}
-use Rattle.machine.specs.Runs.{Own, Step, is_paused}
+use Rattle.machine.specs.Runs.{Own, Strayed, Step, is_paused}
 use Rattle.machine.specs.ThreadSets.{set_of}
 use Rattle.piece_machine.specs.declared.piece_event.PieceEvent.{PieceEvent}
 use Rattle.piece_machine.specs.declared.piece_event.PieceEvent.TheVariants.{Lock, Compare, Event}
@@ -85,3 +86,32 @@ pub record IsApart (p : Program) (s : PieceState) (t : ℕ) : Type 0 where
   pub awake : s.base.asleep t ≡ None
   pub none : call_at (look p t thread) ≡ None
   pub free : BlocksAt s t (look p t thread) → ⊥
+
+-- the bucket of an option, as a list
+abbrev pub bucket_list : Option ℕ → List ℕ
+bucket_list None = []
+bucket_list (Some b) = b ∷ []
+
+-- thread t was made, and a held bucket is in its way
+pub record IsBlocked (p : Program) (s : PieceState) (t : ℕ) : Type 0 where
+  pub thread : Thread
+  pub stands : s.base.thread t ≡ Some thread
+  pub blocks : BlocksAt s t (look p t thread)
+
+-- no thread can take a step
+abbrev pub IsAtRest : Program → PieceState → Type 0
+IsAtRest p s = (t : ℕ) → CanTakePiece p s t → ⊥
+
+-- a wake of thread t from outside
+abbrev pub stray_step : ℕ → ℕ → Step
+stray_step t a = record { thread = t; woken = t ∷ []; pauses = false; doing = Strayed a }
+
+-- one is a step of the machine with pieces, and is told with the address where the thread slept
+pub record Strays (p : Program) (s : PieceState) (t : ℕ) (e : Told) (s' : PieceState) : Type 0 where
+  pub step : IsPieceStep p s (stray_step t e.value) s'
+  pub told : e.woken ≡ set_of (t ∷ [])
+
+-- why it is refused: the thread doesn't sleep
+abbrev pub RefusesStray : PieceState → ℕ → StepFault → Type 0
+RefusesStray s t CannotMove = s.base.asleep t ≡ None
+RefusesStray s t Broken = ⊥

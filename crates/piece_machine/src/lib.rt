@@ -2,6 +2,8 @@
 //! between.
 #![tactic(auto)]
 
+mod movers;
+mod outside;
 mod piece_event;
 mod piece_machine;
 

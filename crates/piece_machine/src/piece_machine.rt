@@ -17,9 +17,9 @@ use words::MOST_THREADS;
 /// A machine whose threads take futex calls in pieces. Contracts see the machine and its threads' phases.
 #[derive(Drop)]
 pub struct PieceMachine {
-    machine: Machine,
+    pub(crate) machine: Machine,
     // For each thread from 0 how far it has come in its call. There is no thread 0.
-    phases: Vec<FutexPhase>,
+    pub(crate) phases: Vec<FutexPhase>,
 }
 
 impl Model for PieceMachine {
@@ -32,8 +32,8 @@ impl Model for PieceMachine {
     ghost invariant = { λ m. IsKept m.machine m.phases.items };
 }
 
-// The futex call that a request is, if it is one.
-fn call_in(request: Request) -> Option<FutexCall>
+/// The futex call that a request is, if it is one.
+pub(crate) fn call_in(request: Request) -> Option<FutexCall>
     ensures { result ≡ call_of (asked_of request) }
 {
     match request {
