@@ -29,6 +29,7 @@ mod emitting;
 mod failure;
 mod hinting;
 mod pictures;
+mod runs;
 mod searching;
 mod timelines;
 
@@ -36,9 +37,8 @@ use crate::compiling::take_compiling;
 use crate::emitting::show_c;
 use crate::failure::Failure;
 use crate::hinting::{HintedText, show_astray};
-use crate::pictures::show_pictures;
+use crate::runs::{Shown, show_run};
 use crate::searching::show_search;
-use crate::timelines::show_timeline;
 use std::io;
 use std::sync::Wait;
 use std::thread::Threads;
@@ -78,9 +78,9 @@ fn take_row<R: AllocGlobal + Print + Threads + Wait + Sync>(
     match key {
         "emit" => show_c(rt, said),
         "search" => show_search(rt, said),
-        "timeline" => show_timeline(rt, said, false),
-        "show" => show_timeline(rt, said, true),
-        "picture" => show_pictures(rt, said),
+        "timeline" => show_run(rt, said, Shown::Tally),
+        "show" => show_run(rt, said, Shown::Timeline),
+        "picture" => show_run(rt, said, Shown::Pictures),
         "astray" => show_astray(rt),
         _ => take_compiling(rt, key, said),
     }

@@ -5,10 +5,12 @@ mod xml;
 
 use crate::failure::Failure;
 use crate::pictures::xml::{Found, read_xml};
-use crate::timelines::row::{Row, actions_of, report_of};
 use chart::{Picture, chart};
-use compiler::compile_checked;
-use std::str;
+use program::Checked;
+use runner::Report;
+use source_states::Action;
+use std::alloc::Global;
+use std::{io, str};
 
 // A title with what begins and ends tags, quotes, and signs that XML may not have.
 const TITLE: &str = "a<b & c>'d' \"e\" ]]> &amp; \u{1}\t\u{FFFF}\u{E9}\u{1F600}";
@@ -22,18 +24,19 @@ const PARTS: [(Option<u64>, Option<u64>); 5] = [
     (Some(9), Some(1)),
 ];
 
-/// Checks the pictures of a row's run, and prints of how many actions each has a mark, and whether in it a process waits
-/// for a monitor.
-pub fn show_pictures<R: AllocGlobal + Print>(rt: &R, said: &str) -> Result<(), Failure> {
-    let row = Row::of_line(said)?;
-    let (checked, lowered) = compile_checked(rt.alloc(), row.text.as_bytes())?;
-    let report = report_of(rt.alloc(), &lowered.image, &row)?;
-    let actions = actions_of(rt.alloc(), &checked, &lowered.image, &report)?;
+/// Checks the pictures of a run, and prints of how many actions each has a mark, and whether in it a process waits for a
+/// monitor.
+pub fn show_pictures<R: AllocGlobal + Print>(
+    rt: &R,
+    checked: &Checked,
+    actions: &[Action],
+    report: &Report,
+) -> Result<(), Failure> {
     for (from, to) in PARTS {
         let picture = Picture {
-            checked: &checked,
+            checked,
             procedures: &[],
-            actions: actions.as_slice(),
+            actions,
             log: report.log.as_slice(),
             title: TITLE,
             from,
@@ -44,16 +47,25 @@ pub fn show_pictures<R: AllocGlobal + Print>(rt: &R, said: &str) -> Result<(), F
     Ok(())
 }
 
-// Checks a picture, and prints what it has.
+// Draws a picture, and prints what it has.
 fn show_picture<R: AllocGlobal + Print>(rt: &R, picture: &Picture<'_, '_>) -> Result<(), Failure> {
     let drawn = chart(rt.alloc(), picture)?;
-    let text = str::from_utf8(drawn.as_slice()).map_err(|_| Failure::Text)?;
-    let Found { marks, waits } = read_xml(rt.alloc(), text)?;
-    let rest = if waits {
-        ", and waits for a monitor"
-    } else {
-        ""
-    };
-    println!(rt; "{marks} marks{rest}")?;
+    show_found(rt, read_picture(rt.alloc(), drawn.as_slice())?)?;
     Ok(())
+}
+
+// Reads a picture.
+fn read_picture(alloc: Global, drawn: &[u8]) -> Result<Found, Failure> {
+    let text = str::from_utf8(drawn).map_err(|_| Failure::Text)?;
+    read_xml(alloc, text)
+}
+
+// Prints what a picture has.
+fn show_found<R: Print>(rt: &R, found: Found) -> io::Result<()> {
+    let Found { marks, waits } = found;
+    if waits {
+        println!(rt; "{marks} marks, and waits for a monitor")
+    } else {
+        println!(rt; "{marks} marks")
+    }
 }

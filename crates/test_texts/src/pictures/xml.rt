@@ -20,21 +20,33 @@ struct Reader<'t> {
     found: Found,
 }
 
-// Whether XML may have a sign of this text, outside of tags.
+// Whether XML may have a sign, outside of tags.
 fn is_sign(sign: char) -> bool {
     matches!(sign, '\t' | '\n' | ' '..='\u{FFFD}' | '\u{10000}'..)
 }
 
+// Whether XML may have all signs of a text, outside of tags.
+fn are_signs(text: &str) -> bool {
+    for sign in text.chars() {
+        if !is_sign(sign) {
+            return false;
+        }
+    }
+    true
+}
+
+// Whether a text behind & begins with what names a sign.
+fn is_entity(text: &str) -> bool {
+    text.starts_with("lt;") || text.starts_with("gt;") || text.starts_with("amp;")
+}
+
 // Checks a text between tags, or the value of an attribute: its signs, and that each & begins an entity.
 fn check_text(text: &str) -> Result<(), Failure> {
-    if !text.chars().all(is_sign) || text.contains("]]>") {
+    if !are_signs(text) || text.contains("]]>") {
         return Err(Failure::Xml);
     }
     for piece in text.split('&').skip(1) {
-        if !["lt;", "gt;", "amp;"]
-            .iter()
-            .any(|entity| piece.starts_with(*entity))
-        {
+        if !is_entity(piece) {
             return Err(Failure::Xml);
         }
     }
