@@ -2,8 +2,8 @@
 use Rattle.std.proofs.Common.{◌≡◌, ◌⊎◌, inl, inr, ◌||◌, ◌∙◌, Bool, true, false, ℕ, List, [], ◌∷◌, Option, Some, None}
 use Rattle.std.proofs.Common.{codes, refl, sym, true≢false}
 use Rattle.clap.specs.Words.{Row, Text, first_of, one_of}
-use Rattle.commandline.specs.CommandLine.{IsExplainedBy, IsReplayedBy, ReadsOrder, ReadsSeed, ReadsSteps, ReadsStrays}
-use Rattle.commandline.specs.CommandLine.{IsNumberOf, ReadsAction, ReadsChart, has_any, is_written}
+use Rattle.commandline.specs.CommandLine.{IsExplainedBy, IsReplayedBy, ReadsKills, ReadsOrder, ReadsSeed, ReadsSteps}
+use Rattle.commandline.specs.CommandLine.{IsNumberOf, ReadsAction, ReadsChart, ReadsStrays, has_any, is_written}
 use Rattle.commandline.specs.declared.options.ChartOptions.{ChartOptions}
 use Rattle.commandline.specs.declared.options.ExplainedBy.{ExplainedBy}
 use Rattle.commandline.specs.declared.options.ExplainedBy.TheVariants.{Order as ByOrder, Seed as BySeed}
@@ -66,30 +66,34 @@ pub no_chart : (rows : List Row) (c : Option ChartOptions) → first_of (codes "
 no_chart rows None none some h = clash _ some h.1
 no_chart rows (Some c) none some h = no_value _ _ none h.0
 
+-- what comes from outside beside a seed alone
+abbrev outside : List Text
+outside = codes "strays" ∷ codes "kills" ∷ []
+
 -- what stands beside a seed alone has no order where none stands
-pub no_strays : (rows : List Row) (o : Order) → is_written (codes "seed") rows ≡ false
-    → is_written (codes "strays") rows ≡ true → ReadsOrder rows o → ⊥
-no_strays rows Workers seed strays h =
-    clash _ strays (second_out (codes "seed") (codes "strays") [] rows
-    (rest_out (codes "in-order") (codes "seed" ∷ codes "strays" ∷ []) rows h))
-no_strays rows InOrder seed strays h = clash _ strays (second_out (codes "seed") (codes "strays") [] rows h.1)
-no_strays rows (Seed n s) seed strays h = clash _ h.1 seed
+pub no_outside : (rows : List Row) (o : Order) → is_written (codes "seed") rows ≡ false
+    → has_any (codes "strays" ∷ codes "kills" ∷ []) rows ≡ true → ReadsOrder rows o → ⊥
+no_outside rows Workers seed some h =
+    clash _ some (rest_out (codes "seed") outside rows (rest_out (codes "in-order") (codes "seed" ∷ outside) rows h))
+no_outside rows InOrder seed some h = clash _ some (rest_out (codes "seed") outside rows h.1)
+no_outside rows (Seed n s k) seed some h = clash _ h.1 seed
 
 pub no_order : (rows : List Row) (o : Order) → is_written (codes "in-order") rows ≡ true
     → is_written (codes "seed") rows ≡ true → ReadsOrder rows o → ⊥
-no_order rows Workers order seed h =
-    clash _ order (first_out (codes "in-order") (codes "seed" ∷ codes "strays" ∷ []) rows h)
-no_order rows InOrder order seed h = clash _ seed (first_out (codes "seed") (codes "strays" ∷ []) rows h.1)
-no_order rows (Seed n s) order seed h = clash _ order h.0
+no_order rows Workers order seed h = clash _ order (first_out (codes "in-order") (codes "seed" ∷ outside) rows h)
+no_order rows InOrder order seed h = clash _ seed (first_out (codes "seed") outside rows h.1)
+no_order rows (Seed n s k) order seed h = clash _ order h.0
 
+-- where a number that stands beside a seed can't be read, no order is asked for
 pub no_seed : (rows : List Row) (o : Order) → is_written (codes "in-order") rows ≡ false
     → is_written (codes "seed") rows ≡ true → ((n : ℕ) → ReadsSeed rows n → ⊥)
-    ⊎ ((s : Option ℕ) → ReadsStrays rows s → ⊥) → ReadsOrder rows o → ⊥
+    ⊎ (((s : Option ℕ) → ReadsStrays rows s → ⊥) ⊎ ((k : ℕ) → ReadsKills rows k → ⊥)) → ReadsOrder rows o → ⊥
 no_seed rows Workers order seed none h =
-    clash _ seed (second_out (codes "in-order") (codes "seed") (codes "strays" ∷ []) rows h)
+    clash _ seed (second_out (codes "in-order") (codes "seed") outside rows h)
 no_seed rows InOrder order seed none h = clash _ h.0 order
-no_seed rows (Seed n s) order seed (inl none) h = none n h.2
-no_seed rows (Seed n s) order seed (inr none) h = none s h.3
+no_seed rows (Seed n s k) order seed (inl none) h = none n h.2
+no_seed rows (Seed n s k) order seed (inr (inl none)) h = none s h.3
+no_seed rows (Seed n s k) order seed (inr (inr none)) h = none k h.4
 
 pub no_replayed : (rows : List Row) (r : ReplayedBy) → first_of (codes "SCHEDULE") rows ≡ None
     → first_of (codes "log") rows ≡ None → IsReplayedBy rows r → ⊥
@@ -97,54 +101,55 @@ no_replayed rows (Schedule schedule log) none no_log h = no_value _ _ none h.0
 no_replayed rows (Log log) none no_log h = no_value _ _ no_log h.1
 
 pub no_schedule : (rows : List Row) (e : ExplainedBy) → is_written (codes "schedule") rows ≡ true
-    → (has_any (codes "log" ∷ codes "seed" ∷ codes "steps" ∷ codes "strays" ∷ []) rows ≡ true)
+    → (has_any (codes "log" ∷ codes "seed" ∷ codes "steps" ∷ codes "strays" ∷ codes "kills" ∷ []) rows ≡ true)
     ⊎ (first_of (codes "schedule") rows ≡ None) → IsExplainedBy rows e → ⊥
 no_schedule rows (ByOrder steps) written why h =
-    clash _ written (first_out (codes "schedule") (codes "log" ∷ codes "seed" ∷ codes "strays" ∷ []) rows h.0)
-no_schedule rows (BySeed steps seed strays) written why h =
+    clash _ written (first_out (codes "schedule") (codes "log" ∷ codes "seed" ∷ outside) rows h.0)
+no_schedule rows (BySeed steps seed strays kills) written why h =
     clash _ written (first_out (codes "schedule") (codes "log" ∷ []) rows h.0)
 no_schedule rows (BySchedule schedule) written (inl more) h = clash _ more h.0
 no_schedule rows (BySchedule schedule) written (inr none) h = no_value _ _ none h.2
 no_schedule rows (ByLog log) written why h =
-    clash _ written (first_out (codes "schedule") (codes "seed" ∷ codes "steps" ∷ codes "strays" ∷ []) rows h.0)
+    clash _ written (first_out (codes "schedule") (codes "seed" ∷ codes "steps" ∷ outside) rows h.0)
 
 pub no_log : (rows : List Row) (e : ExplainedBy) → is_written (codes "log") rows ≡ true
-    → (has_any (codes "schedule" ∷ codes "seed" ∷ codes "steps" ∷ codes "strays" ∷ []) rows ≡ true)
+    → (has_any (codes "schedule" ∷ codes "seed" ∷ codes "steps" ∷ codes "strays" ∷ codes "kills" ∷ []) rows ≡ true)
     ⊎ (first_of (codes "log") rows ≡ None) → IsExplainedBy rows e → ⊥
 no_log rows (ByOrder steps) written why h =
-    clash _ written (second_out (codes "schedule") (codes "log") (codes "seed" ∷ codes "strays" ∷ []) rows h.0)
-no_log rows (BySeed steps seed strays) written why h =
+    clash _ written (second_out (codes "schedule") (codes "log") (codes "seed" ∷ outside) rows h.0)
+no_log rows (BySeed steps seed strays kills) written why h =
     clash _ written (second_out (codes "schedule") (codes "log") [] rows h.0)
 no_log rows (BySchedule schedule) written why h =
-    clash _ written (first_out (codes "log") (codes "seed" ∷ codes "steps" ∷ codes "strays" ∷ []) rows h.0)
+    clash _ written (first_out (codes "log") (codes "seed" ∷ codes "steps" ∷ outside) rows h.0)
 no_log rows (ByLog log) written (inl more) h = clash _ more h.0
 no_log rows (ByLog log) written (inr none) h = no_value _ _ none h.2
 
 pub no_steps : (rows : List Row) (e : ExplainedBy) → is_written (codes "schedule") rows ≡ false
     → is_written (codes "log") rows ≡ false → ((n : ℕ) → ReadsSteps rows n → ⊥) → IsExplainedBy rows e → ⊥
 no_steps rows (ByOrder steps) schedule log none h = none steps h.1
-no_steps rows (BySeed steps seed strays) schedule log none h = none steps h.2
+no_steps rows (BySeed steps seed strays kills) schedule log none h = none steps h.2
 no_steps rows (BySchedule name) schedule log none h = clash _ h.1 schedule
 no_steps rows (ByLog name) schedule log none h = clash _ h.1 log
 
 pub no_seeded : (rows : List Row) (e : ExplainedBy) → is_written (codes "schedule") rows ≡ false
     → is_written (codes "log") rows ≡ false → is_written (codes "seed") rows ≡ true
-    → ((n : ℕ) → ReadsSeed rows n → ⊥) ⊎ ((s : Option ℕ) → ReadsStrays rows s → ⊥) → IsExplainedBy rows e → ⊥
+    → ((n : ℕ) → ReadsSeed rows n → ⊥)
+    ⊎ (((s : Option ℕ) → ReadsStrays rows s → ⊥) ⊎ ((k : ℕ) → ReadsKills rows k → ⊥)) → IsExplainedBy rows e → ⊥
 no_seeded rows (ByOrder steps) schedule log seed none h =
-    clash _ seed (second_out (codes "log") (codes "seed") (codes "strays" ∷ []) rows
-    (rest_out (codes "schedule") (codes "log" ∷ codes "seed" ∷ codes "strays" ∷ []) rows h.0))
-no_seeded rows (BySeed steps seed strays) schedule log written (inl none) h = none seed h.3
-no_seeded rows (BySeed steps seed strays) schedule log written (inr none) h = none strays h.4
+    clash _ seed (second_out (codes "log") (codes "seed") outside rows
+    (rest_out (codes "schedule") (codes "log" ∷ codes "seed" ∷ outside) rows h.0))
+no_seeded rows (BySeed steps seed strays kills) schedule log written (inl none) h = none seed h.3
+no_seeded rows (BySeed steps seed strays kills) schedule log written (inr (inl none)) h = none strays h.4
+no_seeded rows (BySeed steps seed strays kills) schedule log written (inr (inr none)) h = none kills h.5
 no_seeded rows (BySchedule name) schedule log seed none h = clash _ h.1 schedule
 no_seeded rows (ByLog name) schedule log seed none h = clash _ h.1 log
 
 pub no_seedless : (rows : List Row) (e : ExplainedBy) → is_written (codes "schedule") rows ≡ false
     → is_written (codes "log") rows ≡ false → is_written (codes "seed") rows ≡ false
-    → is_written (codes "strays") rows ≡ true → IsExplainedBy rows e → ⊥
-no_seedless rows (ByOrder steps) schedule log seed strays h =
-    clash _ strays (second_out (codes "seed") (codes "strays") [] rows
-    (rest_out (codes "log") (codes "seed" ∷ codes "strays" ∷ []) rows
-    (rest_out (codes "schedule") (codes "log" ∷ codes "seed" ∷ codes "strays" ∷ []) rows h.0)))
-no_seedless rows (BySeed steps n s) schedule log seed strays h = clash _ h.1 seed
-no_seedless rows (BySchedule name) schedule log seed strays h = clash _ h.1 schedule
-no_seedless rows (ByLog name) schedule log seed strays h = clash _ h.1 log
+    → has_any (codes "strays" ∷ codes "kills" ∷ []) rows ≡ true → IsExplainedBy rows e → ⊥
+no_seedless rows (ByOrder steps) schedule log seed some h =
+    clash _ some (rest_out (codes "seed") outside rows (rest_out (codes "log") (codes "seed" ∷ outside) rows
+    (rest_out (codes "schedule") (codes "log" ∷ codes "seed" ∷ outside) rows h.0)))
+no_seedless rows (BySeed steps n s k) schedule log seed some h = clash _ h.1 seed
+no_seedless rows (BySchedule name) schedule log seed some h = clash _ h.1 schedule
+no_seedless rows (ByLog name) schedule log seed some h = clash _ h.1 log

@@ -45,6 +45,10 @@ steps_left_out : told (codes "steps") plain_run ≡ Some (codes "run", Some (cod
 unfolding clap_on_literals
 steps_left_out = refl
 
+kills_left_out : told (codes "kills") plain_run ≡ Some (codes "run", Some (codes "0"))
+unfolding clap_on_literals
+kills_left_out = refl
+
 trace_left_out : told (codes "trace") plain_run ≡ Some (codes "run", Some (codes "false"))
 unfolding clap_on_literals
 trace_left_out = refl

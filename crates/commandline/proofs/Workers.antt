@@ -1,5 +1,5 @@
 -- How many workers a job of compiling that was asked for has.
-use Rattle.std.proofs.Common.{◌≡◌, ◌≤◌, ◌⊎◌, ℕ, Bool, List, Option, Some, None, Bor, inl, inr, subst}
+use Rattle.std.proofs.Common.{◌≡◌, ◌≤◌, ℕ, Bool, List, Option, Some, None, Bor, inl, inr, subst}
 use Rattle.clap.specs.Words.{Row, Text, subcommand_of}
 use Rattle.commandline.specs.CommandLine.{AsksFor, IsAskedBy, IsCompileOf, command_line}
 use Rattle.commandline.specs.declared.job.Job.{Job}

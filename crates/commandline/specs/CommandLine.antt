@@ -74,6 +74,15 @@ strays_option = record (new_rule (codes "strays")) {
   parser = Some (Unsigned 1 4294967295);
 }
 
+-- `--kills N`, to 4294967295, and 0 where it is left out
+abbrev pub kills_option : Rule
+kills_option = record (new_rule (codes "kills")) {
+  long = Some (codes "kills");
+  value_names = 1;
+  defaults = codes "0" ∷ [];
+  parser = Some (Unsigned 0 4294967295);
+}
+
 -- `--NAME N`, the number of an action: one of 64 bits, from 1
 abbrev pub action_option : Text → Rule
 action_option name = record (new_rule name) {
@@ -90,11 +99,11 @@ valued name = record (new_rule name) { long = Some name; value_names = 1 }
 abbrev pub flag : Text → Rule
 flag name = record (new_rule name) { long = Some name; action = Some SetTrue }
 
--- `[--steps N] [--in-order | --seed N [--strays N]] [--trace] [--log OUT]`
+-- `[--steps N] [--in-order | --seed N [--strays N] [--kills N]] [--trace] [--log OUT]`
 abbrev pub with_run_options : App → App
 with_run_options app =
-    with_rule (with_rule (with_rule (with_rule (with_rule (with_rule app steps_option) (flag (codes "in-order")))
-    seed_option) strays_option) (flag (codes "trace"))) (valued (codes "log"))
+    with_rule (with_rule (with_rule (with_rule (with_rule (with_rule (with_rule app steps_option)
+    (flag (codes "in-order"))) seed_option) strays_option) kills_option) (flag (codes "trace"))) (valued (codes "log"))
 
 -- `compile FILE OUT [--workers N] [--hints]`
 abbrev pub compile_command : App
@@ -118,12 +127,12 @@ list_command =
     with_rule (with_rule (with_rule (new_app (codes "list")) (positional (codes "IMAGE"))) (valued (codes "source")))
     (flag (codes "hints"))
 
--- `run FILE [--steps N] [--in-order | --seed N [--strays N]] [--trace] [--log OUT] [--hints]`
+-- `run FILE [--steps N] [--in-order | --seed N [--strays N] [--kills N]] [--trace] [--log OUT] [--hints]`
 abbrev pub run_command : App
 run_command =
     with_rule (with_run_options (with_rule (new_app (codes "run")) (positional (codes "FILE")))) (flag (codes "hints"))
 
--- `exec IMAGE [--steps N] [--in-order | --seed N [--strays N]] [--trace] [--log OUT]`
+-- `exec IMAGE [--steps N] [--in-order | --seed N [--strays N] [--kills N]] [--trace] [--log OUT]`
 abbrev pub exec_command : App
 exec_command = with_run_options (with_rule (new_app (codes "exec")) (positional (codes "IMAGE")))
 
@@ -139,14 +148,14 @@ with_chart_options app =
     with_rule (with_rule (with_rule app (valued (codes "chart"))) (action_option (codes "from")))
     (action_option (codes "to"))
 
--- `explain FILE [[--steps N] [--seed N [--strays N]] | --schedule SCHEDULE | --log LOG]
+-- `explain FILE [[--steps N] [--seed N [--strays N] [--kills N]] | --schedule SCHEDULE | --log LOG]
 -- [--chart OUT [--from N] [--to N]] [--timeline OUT] [--places] [--hints]`
 abbrev pub explain_command : App
 explain_command =
     with_rule (with_rule (with_rule (with_chart_options (with_rule (with_rule (with_rule (with_rule (with_rule
-    (with_rule (new_app (codes "explain")) (positional (codes "FILE"))) steps_option) seed_option) strays_option)
-    (valued (codes "schedule"))) (valued (codes "log")))) (valued (codes "timeline"))) (flag (codes "places")))
-    (flag (codes "hints"))
+    (with_rule (with_rule (new_app (codes "explain")) (positional (codes "FILE"))) steps_option) seed_option)
+    strays_option) kills_option) (valued (codes "schedule"))) (valued (codes "log")))) (valued (codes "timeline")))
+    (flag (codes "places"))) (flag (codes "hints"))
 
 -- `explore FILE [--states N] [--strays] [--chart OUT [--from N] [--to N]] [--timeline OUT] [--hints]`
 abbrev pub explore_command : App
@@ -195,6 +204,10 @@ ReadsStrays rows None = is_written (codes "strays") rows ≡ false
 ReadsStrays rows (Some strays) =
     (is_written (codes "strays") rows ≡ true) × IsNumberOf (one_of (codes "strays") rows) 32 strays
 
+-- the text that stands for `--kills` is this number
+abbrev pub ReadsKills : List Row → ℕ → Type 0
+ReadsKills rows kills = IsNumberOf (one_of (codes "kills") rows) 32 kills
+
 -- the text that stands for this argument is the number of an action, where one stands
 abbrev pub ReadsAction : Text → List Row → Option ℕ → Type 0
 ReadsAction name rows None = is_written name rows ≡ false
@@ -229,14 +242,16 @@ command_line =
     explore_command.top
 
 -- who moves the threads of a run: a worker for each, or one worker in a fixed order or in that of a seed, beside which
--- alone stray wakes may be asked for
+-- alone stray wakes and kills may be asked for
 abbrev pub ReadsOrder : List Row → Order → Type 0
-ReadsOrder rows Workers = has_any (codes "in-order" ∷ codes "seed" ∷ codes "strays" ∷ []) rows ≡ false
+ReadsOrder rows Workers =
+    has_any (codes "in-order" ∷ codes "seed" ∷ codes "strays" ∷ codes "kills" ∷ []) rows ≡ false
 ReadsOrder rows InOrder =
-    (is_written (codes "in-order") rows ≡ true) × (has_any (codes "seed" ∷ codes "strays" ∷ []) rows ≡ false)
-ReadsOrder rows (Seed seed strays) =
+    (is_written (codes "in-order") rows ≡ true)
+    × (has_any (codes "seed" ∷ codes "strays" ∷ codes "kills" ∷ []) rows ≡ false)
+ReadsOrder rows (Seed seed strays kills) =
     (is_written (codes "in-order") rows ≡ false) × (is_written (codes "seed") rows ≡ true) × ReadsSeed rows seed
-    × ReadsStrays rows strays
+    × ReadsStrays rows strays × ReadsKills rows kills
 
 -- how a run goes, and what is kept of it
 abbrev pub ReadsOptions : List Row → RunOptions → Type 0
@@ -252,20 +267,20 @@ IsReplayedBy rows (ReplayedBySchedule schedule log) =
 IsReplayedBy rows (ReplayedByLog log) =
     (first_of (codes "SCHEDULE") rows ≡ None) × (first_of (codes "log") rows ≡ Some log.now)
 
--- which run is explained: it has one source, and a schedule or a log no limit of steps; stray wakes stand beside a seed
--- alone
+-- which run is explained: it has one source, and a schedule or a log no limit of steps; stray wakes and kills stand
+-- beside a seed alone
 abbrev pub IsExplainedBy : List Row → ExplainedBy → Type 0
 IsExplainedBy rows (ExplainedByOrder steps) =
-    (has_any (codes "schedule" ∷ codes "log" ∷ codes "seed" ∷ codes "strays" ∷ []) rows ≡ false)
+    (has_any (codes "schedule" ∷ codes "log" ∷ codes "seed" ∷ codes "strays" ∷ codes "kills" ∷ []) rows ≡ false)
     × ReadsSteps rows steps
-IsExplainedBy rows (ExplainedBySeed steps seed strays) =
+IsExplainedBy rows (ExplainedBySeed steps seed strays kills) =
     (has_any (codes "schedule" ∷ codes "log" ∷ []) rows ≡ false) × (is_written (codes "seed") rows ≡ true)
-    × ReadsSteps rows steps × ReadsSeed rows seed × ReadsStrays rows strays
+    × ReadsSteps rows steps × ReadsSeed rows seed × ReadsStrays rows strays × ReadsKills rows kills
 IsExplainedBy rows (ExplainedBySchedule schedule) =
-    (has_any (codes "log" ∷ codes "seed" ∷ codes "steps" ∷ codes "strays" ∷ []) rows ≡ false)
+    (has_any (codes "log" ∷ codes "seed" ∷ codes "steps" ∷ codes "strays" ∷ codes "kills" ∷ []) rows ≡ false)
     × (is_written (codes "schedule") rows ≡ true) × (first_of (codes "schedule") rows ≡ Some schedule.now)
 IsExplainedBy rows (ExplainedByLog log) =
-    (has_any (codes "schedule" ∷ codes "seed" ∷ codes "steps" ∷ codes "strays" ∷ []) rows ≡ false)
+    (has_any (codes "schedule" ∷ codes "seed" ∷ codes "steps" ∷ codes "strays" ∷ codes "kills" ∷ []) rows ≡ false)
     × (is_written (codes "log") rows ≡ true) × (first_of (codes "log") rows ≡ Some log.now)
 
 -- a job of checking, from the values of its command's arguments

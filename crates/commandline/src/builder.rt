@@ -45,6 +45,11 @@ const SOURCE: &str = "The source text of the image, whose lines stand between th
 const STRAYS: &str =
     "Beside --seed: makes about one entry in N a stray wake, where a thread sleeps";
 
+// What its kills are, and how many there are where no number stands.
+const KILLS: &str = "Beside --seed: kills at most N threads, each drawn, where it stands";
+
+const NO_KILLS: &str = "0";
+
 // What the file of a timeline is.
 const TIMELINE: &str = "Where its trace events are written, for Perfetto or Chrome's tracing";
 
@@ -155,6 +160,7 @@ fn with_run_options<'a>(alloc: Global, command: Command<'a>) -> Result<Command<'
         .arg(flag(alloc, "in-order", IN_ORDER))?
         .arg(seed_option(alloc))?
         .arg(strays_option(alloc))?
+        .arg(kills_option(alloc))?
         .arg(flag(alloc, "trace", TRACE))?
         .arg(valued(alloc, "log", "OUT", "Where the log is written"))
 }
@@ -200,6 +206,7 @@ pub fn explain_command<'a>(alloc: Global) -> Result<Command<'a>, AllocError>
         .arg(steps_option(alloc))?
         .arg(seed_option(alloc))?
         .arg(strays_option(alloc))?
+        .arg(kills_option(alloc))?
         .arg(valued(alloc, "schedule", "SCHEDULE", "The threads of its steps"))?
         .arg(valued(alloc, "log", "LOG", "The log of the run"))?;
     with_chart_options(alloc, command, RUN_CHART)?
@@ -305,6 +312,18 @@ fn strays_option<'a>(alloc: Global) -> Arg<'a>
         .value_name("N")
         .value_parser(ValueParser::unsigned(1, u32::MAX as u64))
         .help(STRAYS)
+}
+
+fn kills_option<'a>(alloc: Global) -> Arg<'a>
+    ensures rule { rule_of result ≡ line.kills_option }
+    ensures local { result.global ≡ false }
+{
+    Arg::new(alloc, "kills")
+        .long("kills")
+        .value_name("N")
+        .value_parser(ValueParser::unsigned(0, u32::MAX as u64))
+        .default_value(NO_KILLS)
+        .help(KILLS)
 }
 
 // An option `--NAME N`, the number of an action.

@@ -14,6 +14,8 @@ pub enum Order {
         seed: u64,
         /// How many entries come to one stray wake, about, where such are wanted.
         strays: Option<u32>,
+        /// The most threads that are killed.
+        kills: u32,
     },
 }
 
@@ -71,6 +73,8 @@ pub enum ExplainedBy<'a> {
         seed: u64,
         /// How many entries come to one stray wake, about, where such are wanted.
         strays: Option<u32>,
+        /// The most threads that are killed.
+        kills: u32,
     },
     /// That by the schedule in the file of this name.
     Schedule(&'a str),

@@ -8,8 +8,10 @@ use std::alloc::{AllocError, Global};
 // What is said of an order in which a run can't go.
 const TWO_ORDERS: &str = "the argument '--seed <N>' cannot be used with '--in-order'";
 
-// What is said of stray wakes where no seed says when they come.
-const NO_SEED: &str = "the argument '--strays <N>' cannot be used without '--seed <N>'";
+// What is said of stray wakes and of kills where no seed says when they come.
+const STRAYS_WITHOUT_SEED: &str = "the argument '--strays <N>' cannot be used without '--seed <N>'";
+
+const KILLS_WITHOUT_SEED: &str = "the argument '--kills <N>' cannot be used without '--seed <N>'";
 
 // What is said of a replay by nothing.
 const NO_SCHEDULE: &str = "one of <SCHEDULE> and '--log <LOG>' has to be given";
@@ -66,7 +68,16 @@ fn no_order(matches: &ArgMatches<'_>) -> (ErrorKind, &'static str) {
     if is_written(matches, "seed") {
         (ErrorKind::ArgumentConflict, TWO_ORDERS)
     } else {
-        (ErrorKind::MissingRequiredArgument, NO_SEED)
+        (ErrorKind::MissingRequiredArgument, no_seed(matches))
+    }
+}
+
+// What stands without the seed that it needs.
+fn no_seed(matches: &ArgMatches<'_>) -> &'static str {
+    if is_written(matches, "strays") {
+        STRAYS_WITHOUT_SEED
+    } else {
+        KILLS_WITHOUT_SEED
     }
 }
 
@@ -94,28 +105,40 @@ fn no_run(matches: &ArgMatches<'_>) -> (ErrorKind, &'static str) {
     if is_written(matches, "schedule") || is_written(matches, "log") {
         (ErrorKind::ArgumentConflict, two_runs(matches))
     } else {
-        (ErrorKind::MissingRequiredArgument, NO_SEED)
+        (ErrorKind::MissingRequiredArgument, no_seed(matches))
     }
 }
 
 // Which two arguments name no one run that can be explained.
 fn two_runs(matches: &ArgMatches<'_>) -> &'static str {
-    let seed = is_written(matches, "seed");
-    let strays = is_written(matches, "strays");
-    let schedule = is_written(matches, "schedule");
-    let log = is_written(matches, "log");
-    if schedule && log {
-        "the argument '--schedule <SCHEDULE>' cannot be used with '--log <LOG>'"
-    } else if seed && schedule {
+    match (is_written(matches, "schedule"), is_written(matches, "log")) {
+        (true, true) => "the argument '--schedule <SCHEDULE>' cannot be used with '--log <LOG>'",
+        (true, false) => beside_schedule(matches),
+        _ => beside_log(matches),
+    }
+}
+
+// Which argument can't stand beside a schedule, and does.
+fn beside_schedule(matches: &ArgMatches<'_>) -> &'static str {
+    if is_written(matches, "seed") {
         "the argument '--seed <N>' cannot be used with '--schedule <SCHEDULE>'"
-    } else if seed {
-        "the argument '--seed <N>' cannot be used with '--log <LOG>'"
-    } else if strays && schedule {
+    } else if is_written(matches, "strays") {
         "the argument '--strays <N>' cannot be used with '--schedule <SCHEDULE>'"
-    } else if strays {
-        "the argument '--strays <N>' cannot be used with '--log <LOG>'"
-    } else if schedule {
+    } else if is_written(matches, "kills") {
+        "the argument '--kills <N>' cannot be used with '--schedule <SCHEDULE>'"
+    } else {
         "the argument '--steps <N>' cannot be used with '--schedule <SCHEDULE>'"
+    }
+}
+
+// Which argument can't stand beside a log, and does.
+fn beside_log(matches: &ArgMatches<'_>) -> &'static str {
+    if is_written(matches, "seed") {
+        "the argument '--seed <N>' cannot be used with '--log <LOG>'"
+    } else if is_written(matches, "strays") {
+        "the argument '--strays <N>' cannot be used with '--log <LOG>'"
+    } else if is_written(matches, "kills") {
+        "the argument '--kills <N>' cannot be used with '--log <LOG>'"
     } else {
         "the argument '--steps <N>' cannot be used with '--log <LOG>'"
     }

@@ -7,7 +7,7 @@ ghost use Rattle.commandline.specs.declared.options.ExplainedBy.{ExplainedBy as 
 ghost use Rattle.commandline.specs.declared.options.ReplayedBy.{ReplayedBy as Replayed};
 
 use crate::options::{ExplainedBy, ReplayedBy};
-use crate::values::{is_written, seed_of, steps_of, strays_of};
+use crate::values::{is_written, kills_of, names_outside, seed_of, steps_of, strays_of};
 use clap::ArgMatches;
 
 /// What a replay goes by: a schedule, beside which a log is written, or else a log.
@@ -38,15 +38,16 @@ pub fn explained_by<'a>(matches: &ArgMatches<'a>) -> Option<ExplainedBy<'a>>
     by_steps(matches)
 }
 
-// Whether the words have one of these arguments.
-fn has_one(matches: &ArgMatches<'_>, a: &str, b: &str, c: &str, d: &str) -> bool
+// Whether the words have the other one of a schedule and a log, or what stands beside neither.
+fn has_more(matches: &ArgMatches<'_>, other: &str) -> bool
     ensures { result
-        ≡ has_any (a.now ∷ b.now ∷ c.now ∷ d.now ∷ []) (rows_of (found_of matches.now)) }
+        ≡ has_any (other.now ∷ codes "seed" ∷ codes "steps" ∷ codes "strays" ∷ codes "kills" ∷ [])
+        (rows_of (found_of matches.now)) }
 {
-    is_written(matches, a)
-        || is_written(matches, b)
-        || is_written(matches, c)
-        || is_written(matches, d)
+    is_written(matches, other)
+        || is_written(matches, "seed")
+        || is_written(matches, "steps")
+        || names_outside(matches)
 }
 
 fn by_schedule<'a>(matches: &ArgMatches<'a>) -> Option<ExplainedBy<'a>>
@@ -55,7 +56,7 @@ fn by_schedule<'a>(matches: &ArgMatches<'a>) -> Option<ExplainedBy<'a>>
     ensures none { result ≡ None → (e : Explained)
         → IsExplainedBy (rows_of (found_of matches.now)) e → ⊥ }
 {
-    if has_one(matches, "log", "seed", "steps", "strays") {
+    if has_more(matches, "log") {
         return None;
     }
     let schedule = matches.get_str("schedule")?;
@@ -68,14 +69,14 @@ fn by_log<'a>(matches: &ArgMatches<'a>) -> Option<ExplainedBy<'a>>
     ensures none { result ≡ None → (e : Explained)
         → IsExplainedBy (rows_of (found_of matches.now)) e → ⊥ }
 {
-    if has_one(matches, "schedule", "seed", "steps", "strays") {
+    if has_more(matches, "schedule") {
         return None;
     }
     let log = matches.get_str("log")?;
     Some(ExplainedBy::Log(log))
 }
 
-// A run within a limit of steps. Where no seed stands no stray wakes are asked for.
+// A run within a limit of steps. Where no seed stands nothing is asked for from outside.
 fn by_steps<'a>(matches: &ArgMatches<'a>) -> Option<ExplainedBy<'a>>
     requires schedule { stands (codes "schedule") (rows_of (found_of matches.now)) ≡ false }
     requires log { stands (codes "log") (rows_of (found_of matches.now)) ≡ false }
@@ -85,7 +86,7 @@ fn by_steps<'a>(matches: &ArgMatches<'a>) -> Option<ExplainedBy<'a>>
 {
     let steps = steps_of(matches)?;
     if !is_written(matches, "seed") {
-        return if is_written(matches, "strays") {
+        return if names_outside(matches) {
             None
         } else {
             Some(ExplainedBy::Order { steps })
@@ -93,9 +94,11 @@ fn by_steps<'a>(matches: &ArgMatches<'a>) -> Option<ExplainedBy<'a>>
     }
     let seed = seed_of(matches)?;
     let strays = strays_of(matches)?;
+    let kills = kills_of(matches)?;
     Some(ExplainedBy::Seed {
         steps,
         seed,
         strays,
+        kills,
     })
 }

@@ -2,7 +2,7 @@ ghost use Rattle.std.specs.Prelude.{IfSome, None, Option as OptionOf, ℕ, ◌�
 ghost use Rattle.clap.specs.Words.{found_of, one_of};
 ghost use Rattle.clap.specs.Walk.{rows_of};
 ghost use Rattle.commandline.specs.CommandLine as line;
-ghost use Rattle.commandline.specs.CommandLine.{IsNumberOf, ReadsOptions, ReadsOrder, ReadsSeed, ReadsSteps};
+ghost use Rattle.commandline.specs.CommandLine.{IsNumberOf, ReadsKills, ReadsOptions, ReadsOrder, ReadsSeed, ReadsSteps};
 ghost use Rattle.commandline.specs.CommandLine.{ReadsAction, ReadsChart, ReadsStates, ReadsStrays, ReadsWorkers};
 ghost use Rattle.commandline.specs.declared.options.ChartOptions.{ChartOptions as ChartOf};
 ghost use Rattle.commandline.specs.declared.options.Order.{Order as OrderOf};
@@ -93,6 +93,22 @@ pub fn strays_of(matches: &ArgMatches<'_>) -> Option<Option<u32>>
     Some(Some(strays))
 }
 
+/// How many threads are killed at most.
+pub fn kills_of(matches: &ArgMatches<'_>) -> Option<u32>
+    ensures number { IfSome result (ReadsKills (rows_of (found_of matches.now))) }
+    ensures none { result ≡ None → (n : ℕ) → ReadsKills (rows_of (found_of matches.now)) n → ⊥ }
+{
+    number_of(matches, "kills")
+}
+
+/// Whether the words say what comes from outside in a run.
+pub fn names_outside(matches: &ArgMatches<'_>) -> bool
+    ensures { result
+        ≡ line.has_any (codes "strays" ∷ codes "kills" ∷ []) (rows_of (found_of matches.now)) }
+{
+    is_written(matches, "strays") || is_written(matches, "kills")
+}
+
 // The number of an action, where one is asked for.
 fn action_of(matches: &ArgMatches<'_>, id: &str) -> Option<Option<u64>>
     ensures action { IfSome result (ReadsAction id.now (rows_of (found_of matches.now))) }
@@ -129,7 +145,7 @@ pub fn chart_of<'a>(matches: &ArgMatches<'a>) -> Option<Option<ChartOptions<'a>>
     }
 }
 
-// Who moves the threads of a run. A fixed order has no seed, and where no seed stands no stray wakes are asked for.
+// Who moves the threads of a run. A fixed order has no seed, and where no seed stands nothing is asked for from outside.
 fn order_of(matches: &ArgMatches<'_>) -> Option<Order>
     ensures order { IfSome result (ReadsOrder (rows_of (found_of matches.now))) }
     ensures none { result ≡ None → (o : OrderOf) → ReadsOrder (rows_of (found_of matches.now)) o
@@ -137,7 +153,7 @@ fn order_of(matches: &ArgMatches<'_>) -> Option<Order>
 {
     let in_order = is_written(matches, "in-order");
     if !is_written(matches, "seed") {
-        return if is_written(matches, "strays") {
+        return if names_outside(matches) {
             None
         } else if in_order {
             Some(Order::InOrder)
@@ -150,7 +166,12 @@ fn order_of(matches: &ArgMatches<'_>) -> Option<Order>
     }
     let seed = seed_of(matches)?;
     let strays = strays_of(matches)?;
-    Some(Order::Seed { seed, strays })
+    let kills = kills_of(matches)?;
+    Some(Order::Seed {
+        seed,
+        strays,
+        kills,
+    })
 }
 
 /// How a run goes, and what is kept of it.

@@ -13,7 +13,7 @@ use Rattle.mesamon.specs.declared.explained_run.ExplainedRun.{ExplainedRun}
 pub explained_so : (by : ExplainedBy) (text : List ℕ) (r : ExplainedRun) → IsExplainedAs by text r
     → IsExplained text r
 explained_so (Order steps) text r h = inl (nothing_outside, steps, h)
-explained_so (Seed steps seed strays) text r h = inl (outside_of (is_some strays) 0, steps, h)
+explained_so (Seed steps seed strays kills) text r h = inl (outside_of (is_some strays) kills, steps, h)
 explained_so (Schedule name) text r h = inr (inl h)
 explained_so (Log name) text r h = inr (inr h)
 

@@ -1,5 +1,5 @@
 -- What a search says of a program's image.
-use Rattle.std.proofs.Common.{◌≡◌, ◌<◌, ◌^◌, ℕ, Bool, false, List, [], Some, length, subst, sym}
+use Rattle.std.proofs.Common.{◌≡◌, ◌<◌, ◌^◌, ℕ, Bool, List, Some, length, subst}
 use Rattle.words.specs.declared.outcome.Cause.{Cause}
 use Rattle.words.specs.declared.outcome.Outcome.TheVariants.{Aborted}
 use Rattle.isa.specs.Programs.{Program as Image}

@@ -1,12 +1,12 @@
 -- A log of a run is refused for want of memory alone.
-use Rattle.std.proofs.Common.{◌≡◌, ◌<◌, ◌≤◌, ◌^◌, ℕ, List, Result, Ok, Err, IfErr, subst, arith}
+use Rattle.std.proofs.Common.{◌≡◌, ◌≤◌, ◌^◌, ℕ, List, Result, Ok, Err, IfErr, subst, arith}
 use Rattle.machine.specs.declared.event.Entry.{Entry}
 use Rattle.program.specs.Trees.{Program}
 use Rattle.lowering.specs.Pieces.{code_of}
 use Rattle.backend.specs.Refusals.{CodeFits}
 use Rattle.runner.specs.Logs.{cost}
 use Rattle.log_text.specs.Spelled.{LinesOnce, NoBadLine}
-use Rattle.simulation.specs.ExplainedLog.{IsNoLog, StopsAt}
+use Rattle.simulation.specs.ExplainedLog.{StopsAt}
 use Rattle.log_simulation.proofs.NoLog.{stops_none}
 use Rattle.compiler.specs.Accepts.{AcceptsText}
 use Rattle.mesamon.specs.SourceLog.{IsOfLog, IsRefusedLog, IsWantOfMemory, LinesOfRun}

@@ -7,4 +7,4 @@ use Rattle.mesamon.specs.declared.explained_run.Alone.TheVariants.{InOrder, Seed
 -- what may come from outside in this order
 abbrev pub outside_alone : Alone → Outside
 outside_alone InOrder = nothing_outside
-outside_alone (Seed seed strays) = outside_of (is_some strays) 0
+outside_alone (Seed seed strays kills) = outside_of (is_some strays) kills

@@ -20,7 +20,7 @@ use Rattle.mesamon.specs.SourceLog.{IsExplanationOfLog, IsReplayOfLog}
 abbrev pub outside_by : OrderOf → Outside
 outside_by Workers = nothing_outside
 outside_by InOrder = nothing_outside
-outside_by (InSeed seed strays) = outside_of (is_some strays) 0
+outside_by (InSeed seed strays kills) = outside_of (is_some strays) kills
 
 -- whether a job asks for more beside the lines that it writes: of a listing its source, of an explanation the places
 abbrev pub asks_for_more : Job → Bool
@@ -31,7 +31,8 @@ asks_for_more other = false
 -- the run that is explained, by what is named
 abbrev pub IsExplainedAs : ExplainedBy → List ℕ → ExplainedRun → Type 0
 IsExplainedAs (Order steps) text r = IsExplanationOfText text nothing_outside steps r
-IsExplainedAs (Seed steps seed strays) text r = IsExplanationOfText text (outside_of (is_some strays) 0) steps r
+IsExplainedAs (Seed steps seed strays kills) text r =
+    IsExplanationOfText text (outside_of (is_some strays) kills) steps r
 IsExplainedAs (Schedule name) text r = (schedule : List Turn) × IsExplanation text (IsReplayOfText text schedule) r
 IsExplainedAs (Log name) text r = (lines : List ℕ) × IsExplanationOfLog text lines r
 

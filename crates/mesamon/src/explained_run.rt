@@ -65,8 +65,13 @@ impl From<Refusal> for ExplainSourceFault {
 enum Alone {
     // A fixed order.
     InOrder,
-    // The order that follows from a seed, with about one stray wake in so many entries, where such are wanted.
-    Seed { seed: u64, strays: Option<u32> },
+    // The order that follows from a seed, with about one stray wake in so many entries, where such are wanted, and with
+    // so many kills at most.
+    Seed {
+        seed: u64,
+        strays: Option<u32>,
+        kills: u32,
+    },
 }
 
 // Runs an image on the calling thread.
@@ -75,7 +80,11 @@ fn run_alone(alloc: Global, image: &Image, limit: u32, order: Alone) -> Result<R
     ensures err { IfErr result (λ fault. CanFail image.now (outside_alone order) limit fault) }
 {
     match order {
-        Alone::Seed { seed, strays } => runner::run_by_seed(alloc, image, limit, seed, strays, 0),
+        Alone::Seed {
+            seed,
+            strays,
+            kills,
+        } => runner::run_by_seed(alloc, image, limit, seed, strays, kills),
         Alone::InOrder => runner::run_in_order(alloc, image, limit, &OpenGate),
     }
 }
@@ -165,7 +174,8 @@ pub fn explain_source<'a>(
     explain_alone(alloc, text, limit, Alone::InOrder)
 }
 
-/// The same, with the run in the order that follows from a seed, with stray wakes or without, as `run_by_seed` does.
+/// The same, with the run in the order that follows from a seed, with stray wakes and kills or without, as `run_by_seed`
+/// makes it.
 ///
 /// # Errors
 ///
@@ -176,14 +186,20 @@ pub fn explain_by_seed<'a>(
     limit: u32,
     seed: u64,
     strays: Option<u32>,
+    kills: u32,
 ) -> Result<ExplainedRun<'a>, ExplainSourceFault>
     ensures explained { IfOk result
-        (λ run. IsExplanationOfText text.now (outside_of (is_some strays) 0) limit run) }
+        (λ run. IsExplanationOfText text.now (outside_of (is_some strays) kills) limit run) }
     ensures fault { IfErr result (λ fault. IsRefusedExplanation text.now fault) }
     ensures only { (p : Program) → AcceptsText text.now p → CodeFits p
         → IfErr result (λ fault. IsWantOfMemory fault) }
 {
-    explain_alone(alloc, text, limit, Alone::Seed { seed, strays })
+    let order = Alone::Seed {
+        seed,
+        strays,
+        kills,
+    };
+    explain_alone(alloc, text, limit, order)
 }
 
 /// Compiles a source text, runs its image by a schedule as `replay` does, and explains the log.

@@ -122,7 +122,8 @@ fn explain_by<'a, 't, R: Files + AllocGlobal>(
             steps,
             seed,
             strays,
-        } => Ok(explain_by_seed(alloc, text.bytes, steps, seed, strays)?),
+            kills,
+        } => Ok(explain_by_seed(alloc, text.bytes, steps, seed, strays, kills)?),
         ExplainedBy::Schedule(name) => {
             let turns = schedule_of(rt, name)?;
             match explain_schedule(alloc, text.bytes, turns.as_slice()) {

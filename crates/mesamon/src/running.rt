@@ -50,12 +50,13 @@ pub fn run_file<'a, R: Files + AllocGlobal + Threads + Wait + Sync, O: Write, E:
     show(rt, &report, kept_by(options), output, errors)
 }
 
-// How a run by these options is made.
+// How a run by these options is made. One with kills is looked at by its log, as one on real threads.
 fn way_of(options: RunOptions<'_>) -> Way<'_> {
     match options.order {
         Order::Workers => Way::Workers(options.log),
         Order::InOrder => Way::InOrder,
-        Order::Seed { seed, strays } => Way::Seed(seed, strays),
+        Order::Seed { kills, .. } if kills > 0 => Way::Workers(options.log),
+        Order::Seed { seed, strays, .. } => Way::Seed(seed, strays),
     }
 }
 
@@ -86,7 +87,11 @@ fn run_by<R: AllocGlobal + Threads + Wait + Sync>(
     match order {
         Order::Workers => run_source(rt, rt.alloc(), text, steps, &OpenGate),
         Order::InOrder => run_in_order(rt.alloc(), text, steps, &OpenGate),
-        Order::Seed { seed, strays } => run_by_seed(rt.alloc(), text, steps, seed, strays),
+        Order::Seed {
+            seed,
+            strays,
+            kills,
+        } => run_by_seed(rt.alloc(), text, steps, seed, strays, kills),
     }
 }
 
@@ -120,9 +125,11 @@ fn run_image<R: AllocGlobal + Threads + Wait + Sync>(
     match order {
         Order::Workers => workers::run(rt, rt.alloc(), image, steps, &OpenGate),
         Order::InOrder => runner::run_in_order(rt.alloc(), image, steps, &OpenGate),
-        Order::Seed { seed, strays } => {
-            runner::run_by_seed(rt.alloc(), image, steps, seed, strays, 0)
-        }
+        Order::Seed {
+            seed,
+            strays,
+            kills,
+        } => runner::run_by_seed(rt.alloc(), image, steps, seed, strays, kills),
     }
 }
 

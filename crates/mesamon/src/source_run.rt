@@ -90,21 +90,23 @@ pub fn run_in_order<G: Gate>(
 }
 
 /// The same on the calling thread, in the order that follows from a seed, as `runner::run_by_seed` does; with wakes
-/// from outside, of which one comes in about so many entries, where `strays` has a number.
+/// from outside, of which one comes in about so many entries, where `strays` has a number, and with at most `kills`
+/// kills.
 pub fn run_by_seed(
     alloc: Global,
     text: &[u8],
     limit: u32,
     seed: u64,
     strays: Option<u32>,
+    kills: u32,
 ) -> Result<Report, RunSourceFault>
-    ensures report { IfOk result (λ report. IsRunOfText text.now (outside_of (is_some strays) 0) limit report) }
-    ensures fault { IfErr result (λ fault. IsRefusedRun text.now (outside_of (is_some strays) 0) limit fault) }
+    ensures report { IfOk result (λ report. IsRunOfText text.now (outside_of (is_some strays) kills) limit report) }
+    ensures fault { IfErr result (λ fault. IsRefusedRun text.now (outside_of (is_some strays) kills) limit fault) }
     ensures sound { IfErr result (λ fault. fault ≢ Run Broken) }
     ensures only { (p : Program) → AcceptsText text.now p → CodeFits p
         → IfErr result (λ fault. IsMemory fault) }
 {
     logs_are_machine_runs();
     let image = compile(alloc, text)?;
-    Ok(runner::run_by_seed(alloc, &image, limit, seed, strays, 0)?)
+    Ok(runner::run_by_seed(alloc, &image, limit, seed, strays, kills)?)
 }

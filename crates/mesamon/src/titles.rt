@@ -13,20 +13,33 @@ fn end_of(verdict: Verdict) -> &'static str {
     }
 }
 
+// Appends which seed a run goes by, and what comes from outside in it.
+fn append_seed(
+    out: &mut String,
+    seed: u64,
+    strays: Option<u32>,
+    kills: u32,
+) -> Result<(), AllocError> {
+    write!(out, "seed {seed}")?;
+    if let Some(strays) = strays {
+        write!(out, ", strays {strays}")?;
+    }
+    if kills > 0 {
+        write!(out, ", kills {kills}")?;
+    }
+    Ok(())
+}
+
 // Appends which run is explained.
 fn append_way(out: &mut String, by: ExplainedBy<'_>) -> Result<(), AllocError> {
     match by {
         ExplainedBy::Order { .. } => out.push_str("in order"),
         ExplainedBy::Seed {
             seed,
-            strays: None,
+            strays,
+            kills,
             ..
-        } => write!(out, "seed {seed}"),
-        ExplainedBy::Seed {
-            seed,
-            strays: Some(strays),
-            ..
-        } => write!(out, "seed {seed}, strays {strays}"),
+        } => append_seed(out, seed, strays, kills),
         ExplainedBy::Schedule(name) => write!(out, "schedule {name}"),
         ExplainedBy::Log(name) => write!(out, "log {name}"),
     }

@@ -9,8 +9,10 @@ pub with_chart_options-requires : goal.with_chart_options-requires
 with_chart_options-requires c = rw (
   c.in_ok-command.ensures.globals,
   c.valued-2.ensures.local,
-  c.in_ok-arg-5.ensures.globals,
+  c.in_ok-arg-6.ensures.globals,
   c.valued.ensures.local,
+  c.in_ok-arg-5.ensures.globals,
+  c.kills_option.ensures.local,
   c.in_ok-arg-4.ensures.globals,
   c.strays_option.ensures.local,
   c.in_ok-arg-3.ensures.globals,
@@ -35,25 +37,27 @@ returns-clause-app c =
     ∙ ap₂ with_rule second c.seed_option.ensures.rule in
     let fourth = c.in_ok-arg-4.ensures.shape c.strays_option.ensures.local
     ∙ ap₂ with_rule third c.strays_option.ensures.rule in
-    let fifth = c.in_ok-arg-5.ensures.shape c.valued.ensures.local
-    ∙ ap₂ with_rule fourth c.valued.ensures.rule in
-    let sixth = c.in_ok-command.ensures.shape c.valued-2.ensures.local
-    ∙ ap₂ with_rule fifth c.valued-2.ensures.rule in
-    let seventh = c.in_ok-with_chart_options.ensures.app ∙ ap line.with_chart_options sixth in
-    let eighth = c.in_ok-arg-6.ensures.shape c.valued-3.ensures.local
-    ∙ ap₂ with_rule seventh c.valued-3.ensures.rule in
-    let ninth = c.in_ok-arg-7.ensures.shape c.flag.ensures.local
-    ∙ ap₂ with_rule eighth c.flag.ensures.rule in
-    IfOk-weaker c.arg-9.result _ _ (λ r h. h.shape c.flag-2.ensures.local
-    ∙ ap₂ with_rule ninth c.flag-2.ensures.rule) c.arg-9.ensures
+    let fifth = c.in_ok-arg-5.ensures.shape c.kills_option.ensures.local
+    ∙ ap₂ with_rule fourth c.kills_option.ensures.rule in
+    let sixth = c.in_ok-arg-6.ensures.shape c.valued.ensures.local
+    ∙ ap₂ with_rule fifth c.valued.ensures.rule in
+    let seventh = c.in_ok-command.ensures.shape c.valued-2.ensures.local
+    ∙ ap₂ with_rule sixth c.valued-2.ensures.rule in
+    let eighth = c.in_ok-with_chart_options.ensures.app ∙ ap line.with_chart_options seventh in
+    let ninth = c.in_ok-arg-7.ensures.shape c.valued-3.ensures.local
+    ∙ ap₂ with_rule eighth c.valued-3.ensures.rule in
+    let tenth = c.in_ok-arg-8.ensures.shape c.flag.ensures.local
+    ∙ ap₂ with_rule ninth c.flag.ensures.rule in
+    IfOk-weaker c.arg-10.result _ _ (λ r h. h.shape c.flag-2.ensures.local
+    ∙ ap₂ with_rule tenth c.flag-2.ensures.rule) c.arg-10.ensures
 
 pub returns-clause-local : goal.returns-clause-local
-returns-clause-local c = IfOk-weaker c.arg-9.result _ _ (λ r h. rw (
+returns-clause-local c = IfOk-weaker c.arg-10.result _ _ (λ r h. rw (
   h.globals,
   c.flag-2.ensures.local,
-  c.in_ok-arg-7.ensures.globals,
+  c.in_ok-arg-8.ensures.globals,
   c.flag.ensures.local,
-  c.in_ok-arg-6.ensures.globals,
+  c.in_ok-arg-7.ensures.globals,
   c.valued-3.ensures.local,
   c.in_ok-with_chart_options.ensures.local,
-) refl) c.arg-9.ensures
+) refl) c.arg-10.ensures

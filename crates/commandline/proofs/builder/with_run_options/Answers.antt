@@ -13,17 +13,21 @@ returns-clause-app c =
     ∙ ap₂ with_rule second c.seed_option.ensures.rule in
     let fourth = c.in_ok-arg-4.ensures.shape c.strays_option.ensures.local
     ∙ ap₂ with_rule third c.strays_option.ensures.rule in
-    let fifth = c.in_ok-arg-5.ensures.shape c.flag-2.ensures.local
-    ∙ ap₂ with_rule fourth c.flag-2.ensures.rule in
-    IfOk-weaker c.arg-6.result _ _ (λ r h. h.shape c.valued.ensures.local
-    ∙ ap₂ with_rule fifth c.valued.ensures.rule) c.arg-6.ensures
+    let fifth = c.in_ok-arg-5.ensures.shape c.kills_option.ensures.local
+    ∙ ap₂ with_rule fourth c.kills_option.ensures.rule in
+    let sixth = c.in_ok-arg-6.ensures.shape c.flag-2.ensures.local
+    ∙ ap₂ with_rule fifth c.flag-2.ensures.rule in
+    IfOk-weaker c.arg-7.result _ _ (λ r h. h.shape c.valued.ensures.local
+    ∙ ap₂ with_rule sixth c.valued.ensures.rule) c.arg-7.ensures
 
 pub returns-clause-local : goal.returns-clause-local
-returns-clause-local c = IfOk-weaker c.arg-6.result _ _ (λ r h. rw (
+returns-clause-local c = IfOk-weaker c.arg-7.result _ _ (λ r h. rw (
   h.globals,
   c.valued.ensures.local,
-  c.in_ok-arg-5.ensures.globals,
+  c.in_ok-arg-6.ensures.globals,
   c.flag-2.ensures.local,
+  c.in_ok-arg-5.ensures.globals,
+  c.kills_option.ensures.local,
   c.in_ok-arg-4.ensures.globals,
   c.strays_option.ensures.local,
   c.in_ok-arg-3.ensures.globals,
@@ -33,4 +37,4 @@ returns-clause-local c = IfOk-weaker c.arg-6.result _ _ (λ r h. rw (
   c.in_ok-arg.ensures.globals,
   c.steps_option.ensures.local,
   c.requires,
-) refl) c.arg-6.ensures
+) refl) c.arg-7.ensures

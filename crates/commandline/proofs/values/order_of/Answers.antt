@@ -12,4 +12,9 @@ returns-in_err-seed-clause-none c = λ _ o.
 pub returns-in_err-strays-clause-none : goal.returns-in_err-strays-clause-none
 returns-in_err-strays-clause-none c = λ _ o.
     no_seed (rows_of (found_of c.args.matches.now)) o (search rules) (search rules)
-    (inr (c.in_err-strays.ensures.none refl))
+    (inr (inl (c.in_err-strays.ensures.none refl)))
+
+pub returns-in_err-kills-clause-none : goal.returns-in_err-kills-clause-none
+returns-in_err-kills-clause-none c = λ _ o.
+    no_seed (rows_of (found_of c.args.matches.now)) o (search rules) (search rules)
+    (inr (inr (c.in_err-kills.ensures.none refl)))
