@@ -1,22 +1,27 @@
 //! Runs images of the machine with futex calls in pieces, by rows on standard input, and prints the shared steps. A row
-//! is a name, the number of buckets, the bytes of an image in hexadecimal digits, and a schedule, between white space: a
-//! word `TxN` is up to N steps of thread T, local or shared, as long as none is refused. Empty lines and lines that
-//! begin with `#` say nothing.
+//! is a name, the number of buckets, the bytes of an image in hexadecimal digits, and a schedule, between white space:
+//!
+//! ```text
+//! TxN     up to N steps of thread T, local or shared, as long as none is refused
+//! sT      a wake of thread T from outside
+//! movers  prints the threads that can take a step, or that none can
+//! ```
+//!
+//! Empty lines and lines that begin with `#` say nothing.
 #![tactic(auto)]
-ghost use Rattle.std.specs.Prelude.{◌≤◌};
 
 mod failure;
 mod show;
 
 use crate::failure::Failure;
-use crate::show::{show_refusal, show_step};
+use crate::show::{show_movers, show_refusal, show_step};
 use buckets::Buckets;
 use isa::{Image, decode};
-use piece_machine::PieceMachine;
+use piece_machine::{PieceEvent, PieceMachine};
 use std::alloc::Global;
 use std::io;
 
-// The most steps of a word of a schedule, and so the most numbers that it prints.
+// The most steps of a word of a schedule.
 const MOST_STEPS: u32 = 1000;
 
 fn main(rt: HostRuntime) -> io::Result<()> {
@@ -44,10 +49,29 @@ fn run_row<R: Print>(rt: &R, alloc: Global, row: &str) -> Result<(), Failure> {
     }
     let mut machine = PieceMachine::new(alloc, &image, buckets)?;
     for word in words {
-        let (thread, steps) = word.split_once('x').ok_or(Failure::Row)?;
-        let steps = number(steps)?.min(MOST_STEPS);
-        machine.make_room(steps as usize)?;
-        take_steps(rt, &mut machine, number(thread)?, steps)?;
+        take_word(rt, &mut machine, word)?;
+    }
+    Ok(())
+}
+
+// Does what a word of a schedule says.
+fn take_word<R: Print>(rt: &R, machine: &mut PieceMachine, word: &str) -> Result<(), Failure> {
+    if word == "movers" {
+        return Ok(show_movers(rt, machine)?);
+    }
+    if let Some(sleeper) = word.strip_prefix('s') {
+        return wake_sleeper(rt, machine, number(sleeper)?);
+    }
+    let (thread, steps) = word.split_once('x').ok_or(Failure::Row)?;
+    let steps = number(steps)?.min(MOST_STEPS);
+    take_steps(rt, machine, number(thread)?, steps)
+}
+
+// Wakes a thread from outside.
+fn wake_sleeper<R: Print>(rt: &R, machine: &mut PieceMachine, thread: u32) -> Result<(), Failure> {
+    match machine.stray(thread) {
+        Ok(event) => show_step(rt, thread, PieceEvent::Event(event))?,
+        Err(fault) => show_refusal(rt, thread, fault)?,
     }
     Ok(())
 }
@@ -68,10 +92,9 @@ fn take_steps<R: Print>(
     machine: &mut PieceMachine,
     thread: u32,
     steps: u32,
-) -> Result<(), Failure>
-    requires { steps ≤ machine.old.view.room }
-{
+) -> Result<(), Failure> {
     for _ in 0..steps {
+        machine.make_room(1)?;
         match machine.step(thread) {
             Ok(event) => show_step(rt, thread, event)?,
             Err(fault) => {

@@ -1,5 +1,5 @@
 use machine::{EventName, MOST_THREADS, StepFault, ThreadSet};
-use piece_machine::PieceEvent;
+use piece_machine::{PieceEvent, PieceMachine};
 use std::io;
 
 /// Prints a step of a thread, unless it is a local one.
@@ -21,6 +21,20 @@ pub fn show_step<R: Print>(rt: &R, thread: u32, event: PieceEvent) -> io::Result
 /// Prints why a step of a thread is refused.
 pub fn show_refusal<R: Print>(rt: &R, thread: u32, fault: StepFault) -> io::Result<()> {
     println!(rt; "  {thread} {fault:?}")
+}
+
+/// Prints the threads that can take a step, or that none can.
+pub fn show_movers<R: Print>(rt: &R, machine: &PieceMachine) -> io::Result<()> {
+    if machine.quiet() {
+        return println!(rt; "  rest");
+    }
+    for before in 0..MOST_THREADS {
+        let thread = before + 1;
+        if machine.can_move(thread) {
+            println!(rt; "  {thread} can move")?;
+        }
+    }
+    Ok(())
 }
 
 // The threads of a set, each on a line.
