@@ -4,10 +4,12 @@ mod action;
 pub mod failure;
 mod logs;
 mod runs;
+mod seeds;
 
 use crate::lists::failure::Failure;
 use crate::lists::logs::{Outside, show_logs};
 use crate::lists::runs::show_actions;
+use crate::lists::seeds::show_seeds;
 use std::io;
 
 /// Prints what comes of a row of one line, or why nothing does; false where this line is none.
@@ -18,6 +20,7 @@ pub fn take_line(rt: &HostRuntime, line: &str) -> io::Result<bool> {
         "logs" => show_logs(rt, row, Outside::Nothing),
         "strays" => show_logs(rt, row, Outside::Strays),
         "kills" => show_logs(rt, row, Outside::Kills),
+        "seeds" => show_seeds(rt, row),
         _ => return Ok(false),
     };
     show_failure(rt, shown)?;

@@ -32,6 +32,9 @@
 //! logs COUNT MOST | TEXT      so many logs of the program's image, each of so many entries at most
 //! strays COUNT MOST | TEXT    the same with wakes from outside of threads that sleep
 //! kills COUNT MOST | TEXT     so many logs of one run, with a thread killed behind the first step, the second ..
+//! seeds COUNT STEPS STRAYS KILLS | TEXT
+//!                             the runs by the seeds from 1 to COUNT, of so many steps at most, with about one wake from
+//!                             outside in so many entries, or none where that is 0, and with so many kills at most
 //! workers COUNT | TEXT        so many runs of the program on real workers
 //! ```
 //!
@@ -57,6 +60,9 @@
 //! it tells how many have one, and how many were refused with a local step before the first, with the first twice, and
 //! with nobody woken by it. Of logs with a kill it tells how many have one, by how many of these a thread begins to
 //! die, and how many logs were refused with a local step before it, and with its other value.
+//!
+//! Of runs by seeds the line printed tells how many there are, how many of them are explained by runs of the program,
+//! and how many kills the one with most has.
 //!
 //! Of runs on real workers the log is written and read again, and explained: the line printed tells how many of the
 //! explanations are runs of the program that print what was printed.
