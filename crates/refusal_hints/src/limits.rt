@@ -3,9 +3,9 @@
 use crate::declarations::{Declaration, Sort, declarations_of};
 use crate::lexeme::Lexeme;
 use crate::names::declared_at;
-use crate::scopes::walk_over;
+use crate::scopes::{Walk, walk_over};
 use crate::spot::Spot;
-use scanner::{Keyword, MOST_BYTES, Place, Token};
+use scanner::{Keyword, Kind, MOST_BYTES, Place, Token};
 use std::alloc::{AllocError, Global};
 
 const CHAIN: &str = "a chain of calls has at most 15 procedures, the first one counted";
@@ -80,17 +80,60 @@ fn count_to(declarations: &[Declaration<'_>], here: &Declaration<'_>) -> usize {
 fn append_count(
     out: &mut String,
     declarations: &[Declaration<'_>],
-    place: Place,
+    here: &Declaration<'_>,
 ) -> Result<(), AllocError> {
-    let Some(here) = declared_at(declarations, place) else {
-        return Ok(());
-    };
-    let (most, what) = most_of(&here);
-    let count = count_to(declarations, &here);
+    let (most, what) = most_of(here);
+    let count = count_to(declarations, here);
     if count <= most {
         return Ok(());
     }
     writeln!(out, "this is number {count} of the {what}")
+}
+
+// How many words a variable has whose type begins with these two tokens.
+fn words_of(first: Kind, second: Kind) -> usize {
+    match (first, second) {
+        (Kind::Keyword(Keyword::Array), Kind::Number(size)) => size as usize,
+        _ => 1,
+    }
+}
+
+// How many words the variables of all monitors have, up to the one whose name stands at a place.
+fn member_words_to(tokens: &[Token<'_>], place: Place) -> usize {
+    let mut walk = Walk::new();
+    let mut words: usize = 0;
+    for five in tokens.windows(5) {
+        let [before, name, _, first, second] = five else {
+            continue;
+        };
+        walk.pass(before.kind);
+        if before.kind == Kind::Keyword(Keyword::Var) && walk.scope.body == 0 {
+            words = words.saturating_add(words_of(first.kind, second.kind));
+        }
+        let at = name.place;
+        if at == place {
+            break;
+        }
+    }
+    words
+}
+
+// Appends how many words the variables of monitors have up to a declared one, where it is one of them and they have too
+// many.
+fn append_words(
+    out: &mut String,
+    tokens: &[Token<'_>],
+    here: &Declaration<'_>,
+) -> Result<(), AllocError> {
+    match here.sort {
+        Sort::Variable(_) if here.scope.body == 0 => {}
+        _ => return Ok(()),
+    }
+    let words = member_words_to(tokens, here.name.place);
+    if words <= 1024 {
+        return Ok(());
+    }
+    writeln!(out, "up to this one they have {words}")
 }
 
 /// Appends which limit is passed at a place of a text, and of declared names which of them stands there.
@@ -104,7 +147,11 @@ pub(crate) fn append_limit(
 ) -> Result<(), AllocError> {
     writeln!(out, "{}", limit_at(text, place, spot))?;
     let declarations = declarations_of(alloc, tokens)?;
-    append_count(out, declarations.as_slice(), place)
+    let Some(here) = declared_at(declarations.as_slice(), place) else {
+        return Ok(());
+    };
+    append_count(out, declarations.as_slice(), &here)?;
+    append_words(out, tokens, &here)
 }
 
 // The limit that is passed at a place of a text.
