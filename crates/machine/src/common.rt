@@ -1,6 +1,7 @@
 ghost use Rattle.std.specs.Prelude.{◌≡◌, ◌-◌, ◌≤◌, ◌<◌, ℕ, [], None, IfOk, OnOk, OnErr, length, replicate};
 ghost use Rattle.std.specs.Prelude.{slice_get, slice_set, Some};
 ghost use Rattle.words.specs.Limits.{most_threads};
+ghost use Rattle.words.specs.Updates.{put};
 ghost use Rattle.isa.specs.Programs.{memory_size};
 ghost use Rattle.buckets.specs.BucketCount.{IsBucketCount};
 ghost use Rattle.buckets.specs.Sleepers.{queue, place_of, bucket_count, holder_of};
@@ -107,6 +108,26 @@ impl Common {
         ensures holders { self.new.sleepers.holders ≡ self.old.sleepers.holders }
     {
         self.buckets.drop_out(t)
+    }
+
+    /// The thread that holds bucket `k`, if one does.
+    pub fn holder(&self, k: u32) -> Option<u32>
+        requires { k < bucket_count self.now.sleepers }
+        ensures { result ≡ holder_of self.now.sleepers k }
+    {
+        self.buckets.holder(k)
+    }
+
+    /// Thread `t` gives up bucket `k`, which it holds.
+    pub fn release(&mut self, t: u32, k: u32)
+        requires inside { k < bucket_count self.old.sleepers }
+        requires held { holder_of self.old.sleepers k ≡ Some t }
+        ensures holder { holder_of self.new.sleepers ≡ put (holder_of self.old.sleepers) k None }
+        ensures count { bucket_count self.new.sleepers ≡ bucket_count self.old.sleepers }
+        ensures same { common self.new ≡ common self.old }
+        ensures capacity { self.new.capacity ≡ self.old.capacity }
+    {
+        self.buckets.release(t, k)
     }
 
     /// The numbers that were printed.

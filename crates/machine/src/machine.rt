@@ -2,6 +2,7 @@ ghost use Rattle.std.specs.Prelude.{◌≡◌, ◌≢◌, ◌≤◌, ◌<◌, �
 ghost use Rattle.std.specs.Prelude.{◌⊎◌, true, false, Some, None, Ok, Err, IfOk, IfErr, OnOk, OnErr, MatchBool, is_some};
 ghost use Rattle.words.specs.Limits.{most_threads};
 ghost use Rattle.words.specs.Process.{process_word};
+ghost use Rattle.words.specs.Updates.{put};
 ghost use Rattle.words.specs.Outcomes.{outcome_of};
 ghost use Rattle.isa.specs.Programs.{memory_size};
 ghost use Rattle.buckets.specs.BucketCount.{IsBucketCount};
@@ -327,6 +328,26 @@ impl Machine {
         ensures { result ≡ takes_at (bucket_count self.now.sleepers) phase call }
     {
         self.common.next_bucket(call, phase)
+    }
+
+    /// The thread that holds bucket `k`, if one does.
+    pub fn holder(&self, k: u32) -> Option<u32>
+        requires { k < bucket_count self.now.sleepers }
+        ensures { result ≡ holder_of self.now.sleepers k }
+    {
+        self.common.holder(k)
+    }
+
+    /// Thread `t` gives up bucket `k`, which it holds.
+    pub fn release(&mut self, t: u32, k: u32)
+        requires inside { k < bucket_count self.old.sleepers }
+        requires held { holder_of self.old.sleepers k ≡ Some t }
+        ensures holder { holder_of self.new.sleepers ≡ put (holder_of self.old.sleepers) k None }
+        ensures count { bucket_count self.new.sleepers ≡ bucket_count self.old.sleepers }
+        ensures same { (self.new.program ≡ self.old.program)
+            × (concrete self.new ≡ concrete self.old) × (self.new.room ≡ self.old.room) }
+    {
+        self.common.release(t, k)
     }
 
     /// Takes a piece of the futex call that thread `t` makes, which is awake, stands before this piece, and holds the

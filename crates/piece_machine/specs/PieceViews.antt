@@ -1,5 +1,5 @@
 -- A machine whose threads take futex calls in pieces, as contracts see it, and its steps.
-use Rattle.std.specs.Prelude.{ℕ, ◌≡◌, ◌<◌, List, [], ◌∷◌, Option, Some, None, false, length, slice_index_or}
+use Rattle.std.specs.Prelude.{ℕ, ◌≡◌, ◌<◌, ◌==◌, Bool, List, [], ◌∷◌, Option, Some, None, false, length, slice_index_or}
 use Rattle.words.specs.Limits.{most_threads}
 use Rattle.isa.specs.Programs.{Program}
 use Rattle.futexcalls.specs.declared.pieces.FutexCall.{FutexCall}
@@ -16,7 +16,7 @@ use Rattle.machine.specs.declared.event.StepFault.{StepFault}
 use Rattle.machine.specs.declared.event.StepFault.TheVariants.{CannotMove, Broken}
 use Rattle.machine.specs.PieceStates.{PieceState, IsHeldRight, call_at, called}
 use Rattle.machine.specs.PieceSteps.{IsPieceStep, PieceRun, BlocksAt, CanTakePiece, NextPieceIsBroken}
-use Rattle.machine.specs.Runs.{Own, Strayed, Step, is_paused}
+use Rattle.machine.specs.Runs.{Own, Strayed, Killed, Step, is_paused}
 use Rattle.machine.specs.ThreadSets.{set_of}
 use Rattle.piece_machine.specs.declared.piece_event.PieceEvent.{PieceEvent}
 use Rattle.piece_machine.specs.declared.piece_event.PieceEvent.TheVariants.{Lock, Compare, Event}
@@ -115,3 +115,17 @@ pub record Strays (p : Program) (s : PieceState) (t : ℕ) (e : Told) (s' : Piec
 abbrev pub RefusesStray : PieceState → ℕ → StepFault → Type 0
 RefusesStray s t CannotMove = s.base.asleep t ≡ None
 RefusesStray s t Broken = ⊥
+
+-- a kill of thread t from outside
+abbrev pub kill_step : ℕ → Bool → Step
+kill_step t begins = record { thread = t; woken = []; pauses = false; doing = Killed begins }
+
+-- one is a step of the machine with pieces, by which the thread begins to die just where the event's value is 1
+pub record Kills (p : Program) (s : PieceState) (t : ℕ) (e : Told) (s' : PieceState) : Type 0 where
+  pub step : IsPieceStep p s (kill_step t (e.value == 1)) s'
+  pub told : e.woken ≡ set_of []
+
+-- why it is refused: no such thread was made
+abbrev pub RefusesKill : PieceState → ℕ → StepFault → Type 0
+RefusesKill s t CannotMove = s.base.thread t ≡ None
+RefusesKill s t Broken = ⊥

@@ -1,4 +1,4 @@
-mod Calls
+pub mod Calls
 mod Exits
 mod Held
 mod Outside

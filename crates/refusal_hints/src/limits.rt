@@ -8,6 +8,9 @@ use crate::spot::Spot;
 use scanner::{Keyword, Kind, MOST_BYTES, Place, Token};
 use std::alloc::{AllocError, Global};
 
+// How many words the variables of all monitors may have (docs/language.md, "Limits").
+const MOST_MEMBER_WORDS: usize = 1024;
+
 const CHAIN: &str = "a chain of calls has at most 15 procedures, the first one counted";
 
 const PROCEDURE: &str =
@@ -130,7 +133,7 @@ fn append_words(
         _ => return Ok(()),
     }
     let words = member_words_to(tokens, here.name.place);
-    if words <= 1024 {
+    if words <= MOST_MEMBER_WORDS {
         return Ok(());
     }
     writeln!(out, "up to this one they have {words}")
