@@ -1,7 +1,5 @@
-ghost use Rattle.std.specs.Prelude.{◌≡◌, ◌≤◌, ◌<◌, ◌⊎◌, MatchResult};
+ghost use Rattle.std.specs.Prelude.{◌≡◌, ◌<◌, ◌⊎◌, MatchResult};
 ghost use Rattle.scanner.specs.Refusals.{out_of_memory};
-ghost use Rattle.syntax.specs.Limits.{most_nestings};
-ghost use Rattle.syntax.specs.Nesting.{unit_nesting};
 ghost use Rattle.syntax.specs.Whole.{unit_of};
 ghost use Rattle.types.specs.Judgement.{IsRefusalOf};
 ghost use Rattle.proof_well_formed.specs.Faultless.{HasNumbers};
@@ -24,7 +22,6 @@ use unit_faults::first_fault;
 /// The least fault of the unit by its place, and at one place by its number: `Redeclared`, `Unknown`, `TypeMismatch`,
 /// `WrongPlace`, `DirectReentry`, `Recursion` or `Limit` (docs/language.md). `Memory` may come at any point.
 pub fn check<'a>(alloc: Global, unit: &Unit<'a>) -> Result<Checked<'a>, Refusal>
-    requires within { unit_nesting (unit_of unit.now) ≤ most_nestings }
     requires numbers { HasNumbers (unit_of unit.now) }
     requires few { declarations (unit_of unit.now) < u32.MAX }
     ensures { MatchResult result (λ c. IsChecked (unit_of unit.now) c)

@@ -1,6 +1,6 @@
 -- Workers hand in, one after the other.
-use Rattle.std.proofs.Common.{◌≡◌, ◌<◌, ◌+◌, ◌∙◌, ℕ, zero, suc, List, [], ◌∷◌, Option, None, Result, Ok, Vec, length, map}
-use Rattle.std.proofs.Common.{replicate, sym, ap, subst, arith, false, Err, inl, inr, ◌++◌}
+use Rattle.std.proofs.Common.{◌≡◌, ◌<◌, ◌+◌, ◌∙◌, ℕ, suc, List, [], ◌∷◌, Option, None, Result, Ok, Vec, length, map}
+use Rattle.std.proofs.Common.{replicate, sym, ap, subst, arith, false, Err, inl, ◌++◌}
 use Rattle.std.specs.Prelude.{IfOk, IfErr}
 use Rattle.std.specs.Global.{Global}
 use Rattle.std.specs.declared.thread.PromisedHandle.{PromisedHandle}
@@ -15,7 +15,7 @@ use Rattle.codegen.specs.Generated.{piece_of, unlinked_pieces, RefusesPieces}
 use Rattle.linker.specs.Collecting.{collected, has_gap}
 use Rattle.codegen_workers.specs.Arrivals.{all_added, handed_in, AreFree}
 use Rattle.codegen_workers.specs.Handles.{IsHandleOf}
-use Rattle.codegen_workers.specs.Shares.{share_of, AreShares, EachFrom, IsShare}
+use Rattle.codegen_workers.specs.Shares.{AreShares, EachFrom, IsShare}
 use Rattle.codegen_workers.specs.declared.share.ShareOf.{ShareOf}
 use Rattle.codegen_workers.proofs.Places.{all_handed_in, none_handed_in, share_arrives}
 

@@ -1,4 +1,4 @@
-ghost use Rattle.std.specs.Prelude.{◌≡◌, ℕ, ◌<◌, ◌==◌, Some, true, None, if◌then◌else◌};
+ghost use Rattle.std.specs.Prelude.{◌≡◌, ℕ, ◌<◌, ◌==◌, Some, true, if◌then◌else◌};
 ghost use Rattle.buckets.specs.Places.{names};
 ghost use Rattle.buckets.specs.Sleepers.{thread_count, bucket_count, holder_of, IsSound};
 ghost use Rattle.futexcalls.specs.Pieces.{buckets_of, takes_at, after_lock, IsPhase};

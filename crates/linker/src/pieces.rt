@@ -1,4 +1,4 @@
-ghost use Rattle.std.specs.Prelude.{◌≡◌, ◌<◌, ◌≤◌, ◌+◌, ◌++◌, true, false, map, length, slice_index, MatchResult};
+ghost use Rattle.std.specs.Prelude.{◌≡◌, ◌<◌, ◌≤◌, ◌+◌, ◌++◌, true, false, map, slice_index, MatchResult};
 ghost use Rattle.scanner.specs.Refusals.{out_of_memory};
 ghost use Rattle.isa.specs.Limits.{most_instructions};
 ghost use Rattle.lowering.specs.Marks.{instructions};

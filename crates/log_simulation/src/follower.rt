@@ -1,4 +1,4 @@
-ghost use Rattle.std.specs.Prelude.{[], ◌≡◌, ◌<◌, ◌≤◌, ◌^◌, IfOk, MatchBool, Some, None, option_map, true, false, OnOk, length};
+ghost use Rattle.std.specs.Prelude.{[], ◌≡◌, ◌<◌, ◌≤◌, ◌^◌, IfOk, Some, None, option_map, true, false, OnOk, length};
 ghost use Rattle.words.specs.Limits.{most_threads};
 ghost use Rattle.machine.specs.States.{state_of as machine_state};
 ghost use Rattle.machine.specs.Views.{concrete};

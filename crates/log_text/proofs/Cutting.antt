@@ -1,6 +1,6 @@
 -- Texts that are cut at a byte are cut in one way.
 use Rattle.std.proofs.Common.{◌≡◌, ◌≢◌, ◌<◌, ◌≤◌, ◌+◌, ℕ, zero, suc, List, [], ◌∷◌, ◌++◌, length, get_or, take, drop}
-use Rattle.std.proofs.Common.{Bool, true, false, ◌&&◌, ltb, refl, ap, sym, ◌∙◌, subst, arith}
+use Rattle.std.proofs.Common.{refl, ap, sym, subst, arith}
 use Rattle.log_text.specs.Cuts.{NoByte, AtByte}
 
 pub cut_once : (b : ℕ) (xs ys r s : List ℕ) → NoByte b xs → NoByte b ys → AtByte b r → AtByte b s

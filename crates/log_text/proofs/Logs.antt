@@ -1,6 +1,6 @@
 -- Lines of entries, and texts that have none.
-use Rattle.std.proofs.Common.{◌≡◌, ◌≢◌, ◌<◌, ◌≤◌, ◌+◌, ◌^◌, ℕ, zero, suc, List, [], ◌∷◌, ◌++◌, length, drop, codes}
-use Rattle.std.proofs.Common.{Bool, true, false, ◌==◌, if◌then◌else◌, Result, Ok, Err, is_ok, is_err}
+use Rattle.std.proofs.Common.{◌≡◌, ◌≢◌, ◌<◌, ◌+◌, ℕ, zero, suc, List, [], ◌∷◌, ◌++◌, length, drop, codes}
+use Rattle.std.proofs.Common.{Bool, false, ◌==◌, if◌then◌else◌, Result, Ok, Err, is_ok, is_err}
 use Rattle.std.proofs.Common.{Option, Some, None, refl, ap, sym, ◌∙◌, subst, arith, length-append}
 use Rattle.std.specs.List.{All}
 use Rattle.std.specs.Fmt.{decimal}
@@ -11,9 +11,9 @@ use Rattle.machine.specs.ThreadSets.{IsThread}
 use Rattle.machine.specs.declared.event.Entry.{Entry}
 use Rattle.machine.specs.declared.event.Event.{Event}
 use Rattle.log_text.specs.Cuts.{AtByte, NoByte}
-use Rattle.log_text.specs.LogLines.{entry_line, entry_text, event_text, list_text, log_lines, members, name_text}
+use Rattle.log_text.specs.LogLines.{entry_line, entry_text, list_text, log_lines, members, name_text}
 use Rattle.log_text.specs.LogLines.{numbers_text, set_text, step_text, value_text}
-use Rattle.log_text.specs.Spelled.{IsBadLine, IsLogText, IsSharedEvent, IsSized, IsStep, LinesOnce, NoBadLine, NoLine}
+use Rattle.log_text.specs.Spelled.{IsLogText, IsSized, IsStep, LinesOnce, NoBadLine, NoLine}
 use Rattle.log_text.proofs.Cutting.{cut_once, none_append, none_of_plain}
 use Rattle.log_text.proofs.Entries.{entry_once}
 use Rattle.log_text.proofs.Members.{all_members}

@@ -1,6 +1,6 @@
 -- Rising threads are the members of their set, and are read one by one.
 use Rattle.std.proofs.Common.{◌≡◌, ◌<◌, ◌≤◌, ◌+◌, ◌-◌, ◌^◌, ◌⊎◌, ℕ, zero, suc, List, [], ◌∷◌, ◌++◌, length}
-use Rattle.std.proofs.Common.{true, false, if◌then◌else◌, refl, ap, sym, ◌∙◌, subst, arith, inl, inr, max, length-append}
+use Rattle.std.proofs.Common.{true, false, refl, ap, sym, ◌∙◌, subst, arith, inl, inr, length-append}
 use Rattle.std.specs.List.{All}
 use Rattle.std.specs.Fmt.{decimal}
 use Rattle.std.specs.Int.{bit_at}
@@ -14,7 +14,7 @@ use Rattle.std.proofs.lemmas.Nat.{or_lt}
 use Rattle.std.proofs.lemmas.Nat.Bits.{bit_at-zero, bit_at-lt, bit_at_or, bit_at-pow_same, bit_at-pow_other}
 use Rattle.machine.specs.ThreadSets.{bits_of, has, IsThread, set_of}
 use Rattle.machine.specs.declared.thread_set.ThreadSet.{ThreadSet}
-use Rattle.log_text.specs.Cuts.{IsDigit, NoDigit, NoNumber, Rises}
+use Rattle.log_text.specs.Cuts.{NoDigit, NoNumber, Rises}
 use Rattle.log_text.specs.LogLines.{members, numbers_text}
 use Rattle.log_text.proofs.Digits.{digit_there}
 use Rattle.log_text.proofs.Members.{more, set_of_members}

@@ -2,7 +2,7 @@ ghost use Rattle.std.specs.Prelude.{◌≡◌, ◌≢◌, MatchBool, MatchOption
 ghost use Rattle.machine.specs.declared.event.Entry.{Entry as LogEntry};
 ghost use Rattle.machine.specs.declared.event.Event.{Event as LogEvent};
 ghost use Rattle.machine.specs.declared.event.EventName.TheVariants.{Local};
-ghost use Rattle.log_text.specs.LogLines.{entry_text, event_text, step_text};
+ghost use Rattle.log_text.specs.LogLines.{entry_text, step_text};
 ghost use Rattle.log_text.specs.Spelled.{EndsEvent, IsSharedEvent, IsSized, IsStep};
 
 use crate::numbers::{number, spaced_number, value_of};

@@ -1,5 +1,5 @@
 ghost use Rattle.std.specs.Prelude.{◌≡◌, [], ◌∷◌, ◌++◌, OnOk};
-ghost use Rattle.lowering.specs.Marks.{with_mark, plain, plainly};
+ghost use Rattle.lowering.specs.Marks.{with_mark, plainly};
 
 use crate::mark::{Mark, Marked};
 use isa::Instr;

@@ -2,7 +2,7 @@
 ghost use Rattle.std.specs.Prelude.{◌≡◌, ◌⊎◌, ℕ, None, Some, true, length};
 ghost use Rattle.std.specs.List.{All};
 ghost use Rattle.buckets.specs.Places.{names};
-ghost use Rattle.buckets.specs.Sleepers.{Sleepers, place_of, bucket_count, holder_of, IsSound};
+ghost use Rattle.buckets.specs.Sleepers.{place_of, bucket_count, holder_of, IsSound};
 ghost use Rattle.futexcalls.specs.Answers.{word_of};
 ghost use Rattle.futexcalls.specs.declared.progress.FutexProgress.{FutexProgress};
 ghost use Rattle.futexcalls.specs.Pieces.{takes_at, held_at, IsPhase, LiesIn};

@@ -1,4 +1,4 @@
-ghost use Rattle.std.specs.Prelude.{◌≡◌, ◌≤◌, ◌<◌, ℕ, Some, None, Ok, Err, IfOk, IfErr, OnErr, IsSome, length};
+ghost use Rattle.std.specs.Prelude.{◌≡◌, ◌≤◌, ◌<◌, ℕ, None, Ok, Err, IfOk, IfErr, OnErr, IsSome, length};
 ghost use Rattle.words.specs.Limits.{most_threads};
 ghost use Rattle.buckets.specs.Sleepers.{place_of};
 ghost use Rattle.locals.specs.Looks.{look};

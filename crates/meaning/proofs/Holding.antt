@@ -8,7 +8,7 @@ use Rattle.program.specs.declared.kinds.Member.{Member}
 use Rattle.program.specs.Trees.{Program}
 use Rattle.program.specs.WellFormed.{WellFormed}
 use Rattle.meaning.specs.Values.{Variables}
-use Rattle.meaning.specs.Labels.{Killed, Label, Forks, Enters, Resumes, Waits, Action}
+use Rattle.meaning.specs.Labels.{Killed, Label, Forks, Enters, Resumes, Action}
 use Rattle.meaning.specs.Labels as L
 use Rattle.meaning.specs.Offers as O
 use Rattle.meaning.specs.Table.{Hold, HeldBy, Table, enterable, Allows, without_waiters, first_table}

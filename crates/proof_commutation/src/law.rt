@@ -1,7 +1,7 @@
 ghost use Rattle.std.specs.Prelude.{◌≡◌, ◌+◌, ◌∷◌, ◌++◌, [], ◌↔◌, ℕ, List, Some, None};
 ghost use Rattle.words.specs.Updates.{put};
 ghost use Rattle.program.specs.Trees.{Program};
-ghost use Rattle.meaning.specs.Labels.{Action, End, Kind, Label, kind_of};
+ghost use Rattle.meaning.specs.Labels.{End, Kind, Label, kind_of};
 ghost use Rattle.meaning.specs.Processes.{Over, Process};
 ghost use Rattle.meaning.specs.Runs.{IsAction, IsStep};
 ghost use Rattle.meaning.specs.States.{SourceState};

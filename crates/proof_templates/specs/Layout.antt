@@ -1,5 +1,5 @@
 -- Where the words of the protocol lie in the memory of a program's image.
-use Rattle.std.specs.Prelude.{ℕ, Bool, true, false, ◌&&◌, nat_lt, nat_le, Option, Some, None, is_some, slice_get}
+use Rattle.std.specs.Prelude.{ℕ, Bool, ◌&&◌, nat_lt, nat_le, is_some, slice_get}
 use Rattle.words.specs.Versions.{most_of}
 use Rattle.words.specs.Process.{process_word}
 use Rattle.program.specs.Trees.{Program}

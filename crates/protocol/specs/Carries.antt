@@ -3,7 +3,7 @@ use Rattle.std.specs.Prelude.{◌≡◌, ℕ, ◌+◌, ◌==◌, not, Bool, true
 use Rattle.std.specs.Prelude.{[], ◌∷◌}
 use Rattle.words.specs.Updates.{put}
 use Rattle.program.specs.declared.kinds.Member.{Member}
-use Rattle.meaning.specs.Labels.{End, Label, Alone, Stores, Forks, FindsFull, Claims, FindsClaimed, Joins}
+use Rattle.meaning.specs.Labels.{Label, Alone, Stores, Forks, FindsFull, Claims, FindsClaimed, Joins}
 use Rattle.meaning.specs.Labels.{Enters, Resumes, Exits, Waits, Notifies, Broadcasts, Abandons, Ends}
 use Rattle.meaning.specs.Labels as L
 use Rattle.meaning.specs.Table.{Table, Free, Abandoned, HeldBy, without_waiters, Allows, AllowsStray, AllowsKill}

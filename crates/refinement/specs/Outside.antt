@@ -1,5 +1,5 @@
 -- What comes from outside: wakes that nobody called for, of those who slept on the word of a condition; and kills.
-use Rattle.std.specs.Prelude.{ℕ, zero, suc, ◌==◌, ◌&&◌, ◌||◌, Bool, true, false, List, length, map, filter, Option, Some}
+use Rattle.std.specs.Prelude.{ℕ, zero, suc, ◌==◌, ◌&&◌, ◌||◌, Bool, false, List, length, map, filter, Option, Some}
 use Rattle.std.specs.Prelude.{None, slice_get}
 use Rattle.machine.specs.Runs.{Doing, Own, Strayed, Killed, Step}
 use Rattle.program.specs.declared.kinds.Member.{Member}

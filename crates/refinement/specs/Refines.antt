@@ -1,5 +1,5 @@
 -- What the code owes to the program.
-use Rattle.std.specs.Prelude.{ℕ, ◌≡◌, ◌<◌, ◌^◌, ◌⊎◌, Bool, true, false, List, [], length, map, filter, Some, None}
+use Rattle.std.specs.Prelude.{ℕ, ◌≡◌, ◌<◌, ◌^◌, ◌⊎◌, Bool, true, false, List, length, map, filter, Some, None}
 use Rattle.words.specs.Process.{process_word}
 use Rattle.words.specs.Signed.{word_of}
 use Rattle.isa.specs.Programs.{Program as Image}

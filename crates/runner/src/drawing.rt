@@ -2,7 +2,7 @@ ghost use Rattle.words.specs.Limits.{most_threads};
 ghost use Rattle.std.specs.Prelude.{suc, ◌≡◌, ◌≢◌, ◌+◌, ◌-◌, ◌<◌, ◌≤◌, length, slice_get, true, Some, None};
 ghost use Rattle.std.specs.Prelude.{is_some, IfErr, IfSome, MatchBool, MatchOption, OnOk};
 ghost use Rattle.std.specs.List.{All, Contains};
-ghost use Rattle.machine.specs.States.{state_of, thread_of};
+ghost use Rattle.machine.specs.States.{thread_of};
 ghost use Rattle.machine.specs.ConcreteSteps.{can_move};
 ghost use Rattle.machine.specs.Views.{concrete, IsWellFormed};
 ghost use Rattle.runner.specs.Logs.{cost, kills_in};

@@ -37,6 +37,6 @@ pub record ExplainsEntries (p : Program) (image : Image) (entries : List Entry) 
   pub last : IsLast image entries e.last
 
 -- why a log of the program's image isn't explained: the entry of this number is the first with which it is none
-abbrev pub RefusesEntry : Image → List Entry → LogFault → Type 0
-RefusesEntry image entries (log.Entry number) = StopsAt image entries number
-RefusesEntry image entries log.Memory = Unit {0}
+abbrev pub RefusesLogEntry : Image → List Entry → LogFault → Type 0
+RefusesLogEntry image entries (log.Entry number) = StopsAt image entries number
+RefusesLogEntry image entries log.Memory = Unit {0}

@@ -5,7 +5,7 @@ ghost use Rattle.program.specs.Names.{said_by};
 ghost use Rattle.lowering.specs.Pieces.{code_of};
 ghost use Rattle.backend.specs.Lowered.{IsLowered};
 ghost use Rattle.source_states.specs.Actions.{action_of};
-ghost use Rattle.simulation.specs.ExplainedLog.{ExplainsEntries, IsExplainedLog, RefusesEntry, RefusesLog};
+ghost use Rattle.simulation.specs.ExplainedLog.{ExplainsEntries, IsExplainedLog, RefusesLogEntry, RefusesLog};
 
 use crate::fault::{ExplainFault, LogFault};
 use backend::{Lowered, lower};
@@ -90,7 +90,7 @@ pub fn explain_log_lowered(
     requires { IsLowered (said_by checked.now) lowered }
     ensures { let p = said_by checked.now in MatchResult result
         (λ explained. ExplainsEntries p lowered.image log.now explained)
-        (λ fault. RefusesEntry lowered.image log.now fault) }
+        (λ fault. RefusesLogEntry lowered.image log.now fault) }
 {
     let Lowered {
         image,

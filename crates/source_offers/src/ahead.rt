@@ -15,7 +15,6 @@ use crate::process::{Process, Stage};
 use crate::rest::upcoming;
 use crate::variables::Variables;
 use program::{Expression, Program, Role, Statement, Target};
-use words::Fault;
 
 /// Whether what a process does next is internal: no other process sees it.
 #[derive(Clone, Copy, PartialEq, Eq, Debug)]

@@ -3,7 +3,7 @@ ghost use Rattle.std.specs.Prelude.{◌≡◌, ◌^◌};
 use crate::failure::Failure;
 use crate::show::{show_end, show_log};
 use isa::Image;
-use runner::{PARTS, Piece, RunFault, RunName, Share, Shared, report_of};
+use runner::{PARTS, Piece, RunName, Share, Shared, report_of};
 use std::alloc::Global;
 use std::io;
 use std::marker::Brand;

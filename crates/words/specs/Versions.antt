@@ -1,5 +1,5 @@
 -- The versions of an image: how many processes there can be, and where the words of the monitors begin.
-use Rattle.std.specs.Prelude.{ℕ, ◌+◌, ◌*◌, ◌≤◌}
+use Rattle.std.specs.Prelude.{ℕ, ◌+◌, ◌*◌}
 use Rattle.words.specs.declared.version.ImageVersion.{ImageVersion}
 use Rattle.words.specs.declared.version.ImageVersion.TheVariants.{One, Two}
 

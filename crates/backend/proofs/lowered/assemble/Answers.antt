@@ -1,4 +1,4 @@
-use Rattle.std.proofs.Common.{◌≡◌, ◌∙◌, ap, map, subst}
+use Rattle.std.proofs.Common.{◌∙◌, ap, map, subst}
 use Rattle.codegen.specs.Generated.{piece_of}
 use Rattle.program.specs.Names.{said_by}
 use Rattle.linker.specs.Failures as linked

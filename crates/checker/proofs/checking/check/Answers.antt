@@ -12,5 +12,5 @@ first_fault-requires-clause-clean c = λ clean.
 pub new-requires-2 : goal.new-requires-2
 new-requires-2 c =
     subst WellFormed (sym c.in_ok-program.ensures.program)
-    (c.faultless_units_are_well_formed.ensures (unit_of c.args.unit.now) c.requires.numbers c.requires.within
+    (c.faultless_units_are_well_formed.ensures (unit_of c.args.unit.now) c.requires.numbers c.args.unit.now.within
     (subst (IsVerdict (unit_of c.args.unit.now)) c.in_default.is c.in_ok-fault.ensures))

@@ -1,4 +1,4 @@
-use Rattle.std.proofs.Common.{◌≡◌, ◌+◌, ℕ, vec_len}
+use Rattle.std.proofs.Common.{vec_len}
 use Rattle.std.specs.Vec.Iter.{into_iter_items, into_iter_len}
 use Rattle.program.specs.Views.{program_of}
 use Rattle.codegen_workers.proofs.Handing.{HandsIn}

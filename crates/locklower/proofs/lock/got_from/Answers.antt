@@ -1,6 +1,5 @@
-use Rattle.std.proofs.Common.{ap, sym}
+use Rattle.std.proofs.Common.{sym}
 use Rattle.lowering.proofs.Joins.{joined}
-use Rattle.lowering.specs.Marks.{plain}
 use Rattle.locklower.proofs.RecoveryLaws.{moved_recovery}
 use Rattle.locklower.proofs.lock.got_from.Goals as goal
 

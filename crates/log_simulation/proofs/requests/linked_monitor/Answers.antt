@@ -1,6 +1,6 @@
 -- The last of the monitors so far whose link word has the address.
 use Rattle.std.proofs.Common.{◌≡◌, ◌∙◌, ap, arith, sym}
-use Rattle.lowering.specs.Layout.{layout_of, link_at}
+use Rattle.lowering.specs.Layout.{link_at}
 use Rattle.proof_simulation.specs.Kills.{linked_monitor}
 use Rattle.log_simulation.proofs.Below.{linked_here, linked_not}
 use Rattle.log_simulation.proofs.requests.linked_monitor.Goals.{then-link-address, else-link-address}

@@ -1,5 +1,5 @@
 -- The kill is one that is due, or of a thread that is dying.
-use Rattle.std.proofs.Common.{◌≡◌, ◌+◌, ◌<◌, ◌^◌, ℕ, Option, length, subst, sym}
+use Rattle.std.proofs.Common.{◌+◌, ℕ, Option, length, subst, sym}
 use Rattle.std.proofs.lemmas.Bool.{eq-eqb, ne_eqb}
 use Rattle.std.specs.Prelude.{true, false}
 use Rattle.machine.specs.States.{state_of as machine_state}

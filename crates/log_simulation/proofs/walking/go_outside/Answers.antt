@@ -1,5 +1,5 @@
 -- The entry is taken where it is just the wake of a thread that sleeps, or the kill of one that was made.
-use Rattle.std.proofs.Common.{◌≡◌, ◌<◌, ◌≤◌, ◌+◌, arith, length}
+use Rattle.std.proofs.Common.{arith}
 use Rattle.machine.specs.Views.{concrete}
 use Rattle.log_simulation.proofs.Entering.{no_event}
 use Rattle.log_simulation.proofs.walking.go_outside.Goals as goal

@@ -1,4 +1,3 @@
-use Rattle.std.proofs.Common.{◌≡◌}
 use Rattle.log_text.proofs.Entries.{event_there, no_event, no_name, no_space, no_turn, step_is, turn_text}
 use Rattle.log_text.proofs.fields.read_step.Goals as goal
 

@@ -1,4 +1,4 @@
-use Rattle.std.proofs.Common.{◌≡◌, ◌∙◌, ◌-◌, ◌^◌, ◌++◌, ℕ, ap, arith, sym}
+use Rattle.std.proofs.Common.{◌≡◌, ◌∙◌, ◌-◌, ◌^◌, ◌++◌, ℕ, ap, arith}
 use Rattle.std.specs.Fmt.{decimal}
 use Rattle.log_text.proofs.numbers.below_zero.Goals as goal
 

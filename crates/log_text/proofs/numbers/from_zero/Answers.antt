@@ -1,4 +1,4 @@
-use Rattle.std.proofs.Common.{◌≡◌, arith}
+use Rattle.std.proofs.Common.{arith}
 use Rattle.log_text.proofs.numbers.from_zero.Goals as goal
 
 pub returns-in_default-clause-reads : goal.returns-in_default-clause-reads

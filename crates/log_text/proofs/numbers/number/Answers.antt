@@ -1,4 +1,4 @@
-use Rattle.std.proofs.Common.{◌≡◌, ◌∙◌, arith, sym}
+use Rattle.std.proofs.Common.{◌∙◌, arith, sym}
 use Rattle.log_text.proofs.Digits.{digit_first, digit_shorter, digit_there, grown, number_once, too_big, zero_first}
 use Rattle.log_text.proofs.numbers.number.Goals as goal
 

@@ -1,4 +1,4 @@
-use Rattle.std.proofs.Common.{◌∷◌, ◌++◌, ◌∙◌, ◌≡◌, List, ℕ, ap, sym, arith}
+use Rattle.std.proofs.Common.{◌∷◌, ◌++◌, ◌∙◌, List, ℕ, ap, sym}
 use Rattle.std.proofs.lemmas.Option.{IfSome_then}
 use Rattle.log_text.proofs.Numerals.{no_sign_there, past_sign, shown_high, shown_low}
 use Rattle.log_text.proofs.numbers.printed.Goals as goal

@@ -1,4 +1,4 @@
-use Rattle.std.proofs.Common.{subst, sym, arith, get_or, ◌≡◌}
+use Rattle.std.proofs.Common.{subst, sym, arith, get_or}
 use Rattle.std.proofs.lemmas.Bool.{eq-eqb}
 use Rattle.log_text.specs.Cuts.{NoByte}
 use Rattle.log_text.proofs.Cutting.{none_anywhere, none_before}

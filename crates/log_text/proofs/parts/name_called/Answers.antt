@@ -1,6 +1,5 @@
-use Rattle.std.proofs.Common.{◌≡◌, ◌+◌, ◌≤◌, arith, ap, sym, ◌∙◌, inl, inr}
+use Rattle.std.proofs.Common.{◌≡◌, arith, ap, sym, ◌∙◌, inl, inr}
 use Rattle.std.proofs.lemmas.Bool.{cases_eq}
-use Rattle.machine.specs.declared.event.EventName.{EventName}
 use Rattle.log_text.specs.LogLines.{name_text}
 use Rattle.log_text.specs.Places.{place_of}
 use Rattle.log_text.proofs.Names.{few_places, place_once}

@@ -1,7 +1,6 @@
-use Rattle.std.proofs.Common.{◌≡◌, ◌<◌, ◌+◌, ◌++◌, ◌∙◌, [], ◌∷◌, ap, length, length-append, arith, sym}
+use Rattle.std.proofs.Common.{◌+◌, ◌++◌, ◌∙◌, [], ◌∷◌, ap, length, length-append, arith, sym}
 use Rattle.std.proofs.lemmas.Bool.{eqb-true}
 use Rattle.log_text.specs.LogLines.{log_lines}
-use Rattle.log_text.specs.Spelled.{IsBadLine}
 use Rattle.log_text.proofs.Logs.{line_more, no_bad_line, no_end, no_entry, pushed, read_back, sized_more, some_left}
 use Rattle.log_text.proofs.reading.read_log.Goals as goal
 

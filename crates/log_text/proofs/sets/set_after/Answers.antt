@@ -1,4 +1,4 @@
-use Rattle.std.proofs.Common.{◌≡◌, ◌++◌, ◌∙◌, ap, inl, inr, sym}
+use Rattle.std.proofs.Common.{◌++◌, ◌∙◌, ap, inl, inr, sym}
 use Rattle.std.proofs.lemmas.List.{append_cancel_left}
 use Rattle.std.proofs.lemmas.Option.{IfSome_then}
 use Rattle.machine.specs.ThreadSets.{set_of}

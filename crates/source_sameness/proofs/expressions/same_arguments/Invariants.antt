@@ -1,4 +1,4 @@
-use Rattle.std.proofs.Common.{◌≡◌, drop, length, map}
+use Rattle.std.proofs.Common.{◌≡◌, drop, map}
 use Rattle.program.specs.Views.{expression_of}
 use Rattle.source_sameness.proofs.expressions.same_arguments.Given as goal
 

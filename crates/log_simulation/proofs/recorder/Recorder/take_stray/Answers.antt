@@ -1,8 +1,7 @@
 -- The wake is an action that is due, or none.
-use Rattle.std.proofs.Common.{◌≡◌, ◌<◌, ◌≤◌, ◌^◌, ◌+◌, ◌∙◌, ap, arith, refl, subst, sym, Bool, List, Some, None}
+use Rattle.std.proofs.Common.{◌≡◌, ◌<◌, ◌≤◌, ◌^◌, ◌+◌, ◌∙◌, ap, arith, refl, subst, sym, Bool, List, Some}
 use Rattle.std.proofs.Common.{length}
 use Rattle.std.specs.Prelude.{MatchBool}
-use Rattle.lowering.specs.Layout.{layout_of}
 use Rattle.program.specs.Names.{said_by}
 use Rattle.proof_simulation.specs.Strays.{stray_condition}
 use Rattle.log_simulation.specs.Entries.{progress_strayed}
