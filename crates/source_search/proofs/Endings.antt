@@ -1,12 +1,15 @@
 -- States in which no process can move, or some process has aborted, by the numbers of their processes.
-use Rattle.std.proofs.Common.{◌↔◌, ℕ, Bool, true, false, MatchBool, List, All, Contains, ap}
+use Rattle.std.proofs.Common.{◌↔◌, ℕ, Bool, true, false, MatchBool, List, All, Contains, ap, sym, subst, ◌≡◌, ◌∙◌}
 use Rattle.std.specs.Prelude.{IsSome, is_some}
 use Rattle.std.proofs.lemmas.List.Elements.{All-contains}
 use Rattle.program.specs.Trees.{Program}
+use Rattle.meaning.specs.Labels.{Aborted, Cause}
+use Rattle.meaning.specs.Processes.{Over, Process}
 use Rattle.meaning.specs.Runs.{CanMove}
 use Rattle.meaning.specs.States.{SourceState}
-use Rattle.proof_exploration.specs.Exploring.{HasAborted, IsStuck}
-use Rattle.source_search.specs.Found.{AbortedAt, GoesOn}
+use Rattle.proof_exploration.specs.Exploring.{IsStuck}
+use Rattle.source_search.specs.Found.{FailedAt, GoesOn, HasFailed, IsCounted}
+use Rattle.source_search.specs.declared.outside.Outside.{Outside}
 
 module _ (s : SourceState) (ns : List ℕ) (all : (q : ℕ) → Contains ns q ↔ IsSome (s.process q)) where
   pub stuck_decided : (p : Program) (b : Bool) → ((t : ℕ) → CanMove p s t → ⊥)
@@ -23,8 +26,20 @@ module _ (s : SourceState) (ns : List ℕ) (all : (q : ℕ) → Contains ns q �
       All-contains (λ q. GoesOn s q → ⊥) ns stuck.process none ((all stuck.process).1 (ap is_some stuck.stands))
       (stuck.at, stuck.stands, stuck.goes_on)
 
-  pub aborted_decided : (b : Bool) → MatchBool b ((q : ℕ) × AbortedAt s q) (All (λ q. AbortedAt s q → ⊥) ns)
-      → MatchBool b (HasAborted s) (HasAborted s → ⊥)
-  aborted_decided true found = (found.0, found.1.0, found.1.1)
-  aborted_decided false none = λ is.
-      All-contains (λ q. AbortedAt s q → ⊥) ns is.0 none ((all is.0).1 (ap is_some is.2)) (is.1, is.2)
+  pub failed_decided : (may : Outside) (b : Bool)
+      → MatchBool b ((q : ℕ) × FailedAt may s q) (All (λ q. FailedAt may s q → ⊥) ns)
+      → MatchBool b (HasFailed may s) (HasFailed may s → ⊥)
+  failed_decided may true found = found
+  failed_decided may false none = λ is.
+      All-contains (λ q. FailedAt may s q → ⊥) ns is.0 none ((all is.0).1 (ap is_some is.1.1)) is.1
+
+one_cause : (c d : Cause) → (let x : Process = Over (Aborted c) in x) ≡ (let y : Process = Over (Aborted d) in y) → c ≡ d
+one_cause c d e = cc
+
+pub failed_so : (q : Process) (cause : Cause) (may : Outside) (b : Bool) → q ≡ Over (Aborted cause)
+    → MatchBool b (IsCounted may cause) (IsCounted may cause → ⊥)
+    → MatchBool b ((c : Cause) × (q ≡ Over (Aborted c)) × IsCounted may c)
+    ((c : Cause) → q ≡ Over (Aborted c) → IsCounted may c → ⊥)
+failed_so q cause may true is counted = (cause, is, counted)
+failed_so q cause may false is never = λ c same counted.
+    never (subst (IsCounted may) (one_cause c cause (sym same ∙ is)) counted)

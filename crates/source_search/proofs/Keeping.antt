@@ -1,8 +1,9 @@
 -- States that are kept, and stay so while more is.
-use Rattle.std.proofs.Common.{◌≡◌, ◌<◌, ◌+◌, ◌↔◌, ℕ, Bool, List, [], ◌∷◌, ◌++◌, length, get_or, map, take, All}
+use Rattle.std.proofs.Common.{◌≡◌, ◌<◌, ◌≤◌, ◌+◌, refl, arith, ◌↔◌, ℕ, Bool, List, [], ◌∷◌, ◌++◌, length, get_or, map, take, All}
 use Rattle.std.proofs.Common.{Contains, Some, true, false, zero, inl, inr}
 use Rattle.std.proofs.Common.{slice_get, sym, ap, ◌∙◌, subst, append_assoc}
-use Rattle.std.specs.Prelude.{IsSome}
+use Rattle.std.specs.Prelude.{IsSome, ◌||◌, nat_lt}
+use Rattle.std.proofs.lemmas.Bool.Decides.{nat_tests}
 use Rattle.std.proofs.lemmas.List.{append-nil, map_more, map_push}
 use Rattle.std.proofs.lemmas.List.Elements.{All-contains, All-more, All-push, All-weaker, Contains-append_left}
 use Rattle.std.proofs.lemmas.List.Elements.{Contains-get_or, Contains-push}
@@ -18,7 +19,8 @@ use Rattle.proof_exploration.proofs.Representing.{grown, like_covered}
 use Rattle.source_states.specs.Actions.{action_of}
 use Rattle.source_states.specs.declared.action.Action.{Action as ActionOf}
 use Rattle.source_search.specs.Choices.{AreChoices}
-use Rattle.source_search.specs.Found.{IsFrom}
+use Rattle.source_search.specs.Found.{IsFrom, is_any, killed_in}
+use Rattle.source_search.specs.declared.outside.Outside.{Outside}
 use Rattle.source_search.specs.Packed.{unpacked}
 use Rattle.source_search.specs.declared.packed.Packed.{Packed as PackedOf}
 use Rattle.source_search.specs.Kept.{IsExpanded, IsFollowed, IsLonger, IsSeen, LeadsToKept, states_in}
@@ -86,18 +88,32 @@ one_more_action P actions i a less is all one =
     ∙ ap (λ x. map action_of (take i actions) ++ action_of x ∷ []) (sym is)))
     (All-push P (map action_of (take i actions)) (action_of a) all one)
 
--- who can't move does nothing of its own
-rests_alone : (p : Program) (kept : List SourceState) (s : SourceState) (n : ℕ) → (CanMove p s n → ⊥)
-    → IsFollowed p false kept s n
-rests_alone p kept s n never kind from s' (inl x) = absurd (never (record { kind = kind; after = s'; moves = x }))
-rests_alone p kept s n never kind from s' (inr (inl x)) =
-    absurd (let differ : false ≡ true = subst (IsFrom false) x.1 from in cc)
-rests_alone p kept s n never kind from s' (inr (inr x)) = absurd (subst (IsFrom false) x.2 from)
+-- where nothing from outside is searched
+pub none_strays : (may : Outside) → is_any may ≡ false → may.strays ≡ true → ⊥
+none_strays may none is = true_false may.strays (nat_lt 0 may.kills) is none
+  where
+    true_false : (b c : Bool) → b ≡ true → (b || c) ≡ false → ⊥
+    true_false true c is e = let differ : true ≡ false = e in cc
+    true_false false c is e = let differ : false ≡ true = is in cc
 
-pub rests : (p : Program) (strays : Bool) (kept : List SourceState) (s : SourceState) (n : ℕ) → strays ≡ false
-    → (CanMove p s n → ⊥) → IsFollowed p strays kept s n
-rests p true kept s n e never = absurd (let differ : true ≡ false = e in cc)
-rests p false kept s n e never = rests_alone p kept s n never
+pub none_kills : (may : Outside) (n : ℕ) → is_any may ≡ false → n < may.kills → ⊥
+none_kills may n none less = by_second may.strays (nat_lt 0 may.kills) refl none
+  where
+    by_second : (b c : Bool) → nat_lt 0 may.kills ≡ c → (b || c) ≡ false → ⊥
+    by_second true c is e = let differ : true ≡ false = e in cc
+    by_second false true is e = let differ : true ≡ false = e in cc
+    by_second false false is e =
+        let few : may.kills ≤ 0 = grind (arith, nat_tests, is) in omega (arith, few, less)
+
+-- who can't move does nothing of its own
+pub rests : (p : Program) (may : Outside) (kept : List SourceState) (s : SourceState) (n : ℕ) → is_any may ≡ false
+    → (CanMove p s n → ⊥) → IsFollowed p may kept s n
+rests p may kept s n none never kind from s' (inl x) =
+    absurd (never (record { kind = kind; after = s'; moves = x }))
+rests p may kept s n none never kind from s' (inr (inl x)) =
+    absurd (none_strays may none (subst (IsFrom may s) x.1 from))
+rests p may kept s n none never kind from s' (inr (inr x)) =
+    absurd (none_kills may (killed_in s) none (subst (IsFrom may s) x.2 from))
 
 module _ (kept kept' : List SourceState) (longer : IsLonger kept kept') where
   pub kept_still : (s : SourceState) → IsKept kept s → IsKept kept' s
@@ -108,49 +124,49 @@ module _ (kept kept' : List SourceState) (longer : IsLonger kept kept') where
   seen_still p true s is = kept_still s is
   seen_still p false s is = (is.0, grown p kept kept' (all_contained kept kept' longer) is.0 s is.1)
 
-  pub leads_still : (p : Program) (strays : Bool) (s : SourceState) (a : Action) → LeadsToKept p strays kept s a
-      → LeadsToKept p strays kept' s a
-  leads_still p strays s a leads s' x = seen_still p strays s' (leads s' x)
+  pub leads_still : (p : Program) (may : Outside) (s : SourceState) (a : Action) → LeadsToKept p may kept s a
+      → LeadsToKept p may kept' s a
+  leads_still p may s a leads s' x = seen_still p (is_any may) s' (leads s' x)
 
   -- one action more
-  pub leads_more : (p : Program) (strays : Bool) (s : SourceState) (actions : List ActionOf) (i : ℕ) (a : ActionOf)
+  pub leads_more : (p : Program) (may : Outside) (s : SourceState) (actions : List ActionOf) (i : ℕ) (a : ActionOf)
       → i < length actions → a ≡ get_or actions i a
-      → All (LeadsToKept p strays kept s) (map action_of (take i actions)) → LeadsToKept p strays kept' s (action_of a)
-      → All (LeadsToKept p strays kept' s) (map action_of (take (i + 1) actions))
-  leads_more p strays s actions i a less is all leads =
-      one_more_action (LeadsToKept p strays kept' s) actions i a less is
-      (All-weaker (LeadsToKept p strays kept s) (LeadsToKept p strays kept' s) (leads_still p strays s)
+      → All (LeadsToKept p may kept s) (map action_of (take i actions)) → LeadsToKept p may kept' s (action_of a)
+      → All (LeadsToKept p may kept' s) (map action_of (take (i + 1) actions))
+  leads_more p may s actions i a less is all leads =
+      one_more_action (LeadsToKept p may kept' s) actions i a less is
+      (All-weaker (LeadsToKept p may kept s) (LeadsToKept p may kept' s) (leads_still p may s)
       (map action_of (take i actions)) all)
       leads
 
-  pub followed_still : (p : Program) (strays : Bool) (s : SourceState) (n : ℕ) → IsFollowed p strays kept s n
-      → IsFollowed p strays kept' s n
-  followed_still p strays s n leads kind from s' x = seen_still p strays s' (leads kind from s' x)
+  pub followed_still : (p : Program) (may : Outside) (s : SourceState) (n : ℕ) → IsFollowed p may kept s n
+      → IsFollowed p may kept' s n
+  followed_still p may s n leads kind from s' x = seen_still p (is_any may) s' (leads kind from s' x)
 
   -- one process more
-  pub followed_more : (p : Program) (strays : Bool) (s : SourceState) (ns : List ℕ) (i : ℕ) → i < length ns
-      → All (IsFollowed p strays kept s) (take i ns) → IsFollowed p strays kept' s (get_or ns i 0)
-      → All (IsFollowed p strays kept' s) (take (i + 1) ns)
-  followed_more p strays s ns i less all one =
-      All-more (IsFollowed p strays kept' s) ns i 0 less
-      (All-weaker (IsFollowed p strays kept s) (IsFollowed p strays kept' s) (followed_still p strays s) (take i ns)
+  pub followed_more : (p : Program) (may : Outside) (s : SourceState) (ns : List ℕ) (i : ℕ) → i < length ns
+      → All (IsFollowed p may kept s) (take i ns) → IsFollowed p may kept' s (get_or ns i 0)
+      → All (IsFollowed p may kept' s) (take (i + 1) ns)
+  followed_more p may s ns i less all one =
+      All-more (IsFollowed p may kept' s) ns i 0 less
+      (All-weaker (IsFollowed p may kept s) (IsFollowed p may kept' s) (followed_still p may s) (take i ns)
       all) one
 
-  pub expanded_still : (p : Program) (strays : Bool) (s : SourceState) → IsExpanded p strays kept s
-      → IsExpanded p strays kept' s
-  expanded_still p strays s leads a there from s' x = seen_still p strays s' (leads a there from s' x)
+  pub expanded_still : (p : Program) (may : Outside) (s : SourceState) → IsExpanded p may kept s
+      → IsExpanded p may kept' s
+  expanded_still p may s leads a there from s' x = seen_still p (is_any may) s' (leads a there from s' x)
 
 -- what a process may do was all tried
-pub all_followed : (p : Program) (strays : Bool) (kept : List SourceState) (s : SourceState) (n : ℕ)
-    (actions : List Action) → AreChoices p strays s n actions → All (LeadsToKept p strays kept s) actions
-    → IsFollowed p strays kept s n
-all_followed p strays kept s n actions are all kind from s' x =
+pub all_followed : (p : Program) (may : Outside) (kept : List SourceState) (s : SourceState) (n : ℕ)
+    (actions : List Action) → AreChoices p may s n actions → All (LeadsToKept p may kept s) actions
+    → IsFollowed p may kept s n
+all_followed p may kept s n actions are all kind from s' x =
     let tried : (a : Action) × Contains actions a × IsStep p s a s' = are kind s' from x in
-    All-contains (LeadsToKept p strays kept s) actions tried.0 all tried.1 s' tried.2
+    All-contains (LeadsToKept p may kept s) actions tried.0 all tried.1 s' tried.2
 
 -- and that of each process that is there
-pub all_expanded : (p : Program) (strays : Bool) (kept : List SourceState) (s : SourceState) (ns : List ℕ)
-    → ((q : ℕ) → Contains ns q ↔ IsSome (s.process q)) → All (IsFollowed p strays kept s) ns
-    → IsExpanded p strays kept s
-all_expanded p strays kept s ns is_there all a there from s' x =
-    All-contains (IsFollowed p strays kept s) ns a.process all ((is_there a.process).1 there) a.kind from s' x
+pub all_expanded : (p : Program) (may : Outside) (kept : List SourceState) (s : SourceState) (ns : List ℕ)
+    → ((q : ℕ) → Contains ns q ↔ IsSome (s.process q)) → All (IsFollowed p may kept s) ns
+    → IsExpanded p may kept s
+all_expanded p may kept s ns is_there all a there from s' x =
+    All-contains (IsFollowed p may kept s) ns a.process all ((is_there a.process).1 there) a.kind from s' x

@@ -1,5 +1,7 @@
 pub mod Subsets
 pub mod Tried
+pub mod Killed
+pub mod Kills
 pub mod Successors
 pub mod Endings
 pub mod Keeping

@@ -1,5 +1,5 @@
 -- How far a search has come, and what it knows at its end.
-use Rattle.std.proofs.Common.{◌≡◌, ◌<◌, ◌≤◌, ◌+◌, ℕ, Bool, List, [], ◌∷◌, ◌++◌, length, get_or, take, All}
+use Rattle.std.proofs.Common.{◌≡◌, ◌<◌, ◌≤◌, ◌+◌, ℕ, zero, suc, Bool, List, [], ◌∷◌, ◌++◌, length, get_or, take, All}
 use Rattle.std.proofs.Common.{Option, Some, None, slice_get, sym, refl, ap, ◌∙◌, subst, arith, true, false, inl, inr}
 use Rattle.std.specs.Prelude.{IsSome, is_some, option_map}
 use Rattle.std.proofs.lemmas.List.{get_or_append_left, length-append, length-take, take-append-le, take_all}
@@ -7,7 +7,7 @@ use Rattle.std.proofs.lemmas.List.Elements.{All-contains, All-more, All-weaker}
 use Rattle.std.proofs.lemmas.Option.{get_or_from_slice_get, slice_get-map, slice_get_within}
 use Rattle.program.specs.Trees.{Program}
 use Rattle.program.specs.WellFormed.{WellFormed}
-use Rattle.meaning.specs.Labels.{Action, Kill, Kind, Stray}
+use Rattle.meaning.specs.Labels.{Action, Cause, Faulted, Kill, Killed, Kind, Stray}
 use Rattle.meaning.specs.Offers.{offer}
 use Rattle.meaning.specs.Processes.{Process}
 use Rattle.meaning.specs.Runs.{IsStep, Leads}
@@ -18,39 +18,60 @@ use Rattle.meaning.proofs.Led.{leads_more}
 use Rattle.meaning.proofs.Offered.{IsOwn, own_kind, plain}
 use Rattle.proof_exploration.specs.Exploring.{AreOwn, HasAborted, IsFromOutside, IsLike, IsStuck}
 use Rattle.proof_exploration.specs.Searching.{IsComplete, IsCovered, IsKept}
-use Rattle.proof_exploration.proofs.Alike.{like_aborted, like_back, like_stuck}
+use Rattle.proof_exploration.proofs.Alike.{like_back, like_stuck}
 use Rattle.proof_exploration.proofs.Representing.{own_leads}
 use Rattle.proof_exploration.proofs.Searching.{never_aborted, never_stuck}
-use Rattle.source_search.specs.Found.{AreFrom, IsFrom, LeadsNowhere}
+use Rattle.source_search.specs.Found.{AreFrom, AreNamed, HasFailed, IsCounted, IsFrom, IsNamed, LeadsNowhere, is_any}
+use Rattle.source_search.specs.Found.{killed_in, kills_of}
+use Rattle.source_search.specs.Found.{one_kill}
+use Rattle.source_search.specs.declared.outside.Outside.{Outside}
 use Rattle.source_search.specs.Packed.{unpacked}
 use Rattle.source_search.specs.declared.packed.Packed.{Packed as PackedOf}
 use Rattle.source_search.specs.Kept.{IsExpanded, IsLonger, IsSeen, NoneIs, states_in}
-use Rattle.source_search.proofs.Keeping.{expanded_still, longer_none, longer_twice, seen_still}
+use Rattle.source_search.proofs.Keeping.{expanded_still, longer_none, longer_twice, none_kills, none_strays, seen_still}
+use Rattle.source_search.proofs.Killed.{killed_more, killed_opening}
 use Rattle.source_search.proofs.Successors.{expanded_like}
 
+-- states that are alike have the same ends
+like_failed : (may : Outside) (s r : SourceState) → IsLike s r → HasFailed may s → HasFailed may r
+like_failed may s r like is =
+    (is.0, (is.1.0, ap (λ (f : ℕ → Option Process). f is.0) (sym like.process) ∙ is.1.1, is.1.2))
+
+-- where nothing from outside is searched, each end is looked for
+counts : (may : Outside) (cause : Cause) → is_any may ≡ false → IsCounted may cause
+counts may (Faulted fault) none = tt
+counts may Killed none = no_kills may.kills (none_kills may 0 none)
+  where
+    no_kills : (n : ℕ) → (0 < n → ⊥) → n ≡ 0
+    no_kills zero never = refl
+    no_kills (suc n) never = absurd (never (omega arith))
+
+fails_too : (may : Outside) (s : SourceState) → is_any may ≡ false → HasAborted s → HasFailed may s
+fails_too may s none is = (is.0, (is.1, is.2, counts may is.1 none))
+
 -- the kept states before this place are expanded, and none of them is an end that isn't noted
-pub record IsSoFar (p : Program) (strays : Bool) (first kept : List SourceState) (place : ℕ)
+pub record IsSoFar (p : Program) (may : Outside) (first kept : List SourceState) (place : ℕ)
     (stuck aborted : Option ℕ) : Type 0 where
   pub longer : IsLonger first kept
   pub within : place ≤ length kept
-  pub expanded : All (IsExpanded p strays kept) (take place kept)
+  pub expanded : All (IsExpanded p may kept) (take place kept)
   pub never_stuck : NoneIs (IsStuck p) (take place kept) stuck
-  pub never_aborted : NoneIs HasAborted (take place kept) aborted
+  pub never_aborted : NoneIs (HasFailed may) (take place kept) aborted
 
 none_yet : {X : Type 0} (P : X → Type 0) (xs : List X) → All P (take 0 xs)
 none_yet P xs k d less = absurd (omega (arith, less, length-take 0 xs))
 
-pub at_first : (p : Program) (strays : Bool) (first : List SourceState) → IsSoFar p strays first first 0 None None
-at_first p strays first = record {
+pub at_first : (p : Program) (may : Outside) (first : List SourceState) → IsSoFar p may first first 0 None None
+at_first p may first = record {
   longer = longer_none first;
   within = omega arith;
-  expanded = none_yet (IsExpanded p strays first) first;
+  expanded = none_yet (IsExpanded p may first) first;
   never_stuck = λ e. none_yet (λ s. IsStuck p s → ⊥) first;
-  never_aborted = λ e. none_yet (λ s. HasAborted s → ⊥) first;
+  never_aborted = λ e. none_yet (λ s. HasFailed may s → ⊥) first;
 }
 
-module _ (p : Program) (strays : Bool) (first kept kept' : List SourceState) (place : ℕ)
-    (stuck stuck' aborted aborted' : Option ℕ) (so_far : IsSoFar p strays first kept place stuck aborted)
+module _ (p : Program) (may : Outside) (first kept kept' : List SourceState) (place : ℕ)
+    (stuck stuck' aborted aborted' : Option ℕ) (so_far : IsSoFar p may first kept place stuck aborted)
     (longer : IsLonger kept kept') (r c : SourceState)
     (here : slice_get kept place ≡ Some r) (like : IsLike r c) where
   less : place < length kept
@@ -71,20 +92,20 @@ module _ (p : Program) (strays : Bool) (first kept kept' : List SourceState) (pl
       All-more P kept' place r (omega (arith, less, long)) (subst (All P) (sym seen) all) (subst P (sym there) one)
 
   -- one state more was looked at and expanded
-  pub goes_on : IsExpanded p strays kept' c → (stuck' ≡ None → (stuck ≡ None) × (IsStuck p c → ⊥))
-      → (aborted' ≡ None → (aborted ≡ None) × (HasAborted c → ⊥))
-      → IsSoFar p strays first kept' (place + 1) stuck' aborted'
+  pub goes_on : IsExpanded p may kept' c → (stuck' ≡ None → (stuck ≡ None) × (IsStuck p c → ⊥))
+      → (aborted' ≡ None → (aborted ≡ None) × (HasFailed may c → ⊥))
+      → IsSoFar p may first kept' (place + 1) stuck' aborted'
   goes_on expanded unstuck unaborted = record {
     longer = longer_twice first kept kept' so_far.longer longer;
     within = omega (arith, less, long);
-    expanded = one_more (IsExpanded p strays kept')
-        (All-weaker (IsExpanded p strays kept) (IsExpanded p strays kept') (expanded_still kept kept' longer p strays)
+    expanded = one_more (IsExpanded p may kept')
+        (All-weaker (IsExpanded p may kept) (IsExpanded p may kept') (expanded_still kept kept' longer p may)
         (take place kept) so_far.expanded)
-        (expanded_like p strays kept' r c like expanded);
+        (expanded_like p may kept' r c like expanded);
     never_stuck = λ e. one_more (λ s. IsStuck p s → ⊥) (so_far.never_stuck (unstuck e).0)
         (λ bad. (unstuck e).1 (like_stuck p r c like bad));
-    never_aborted = λ e. one_more (λ s. HasAborted s → ⊥) (so_far.never_aborted (unaborted e).0)
-        (λ bad. (unaborted e).1 (like_aborted r c like bad));
+    never_aborted = λ e. one_more (λ s. HasFailed may s → ⊥) (so_far.never_aborted (unaborted e).0)
+        (λ bad. (unaborted e).1 (like_failed may r c like bad));
   }
 
 -- a state that is kept at a place
@@ -93,16 +114,16 @@ pub state_at : (states : List PackedOf) (place : ℕ) (s : PackedOf) → slice_g
 state_at states place s is = slice_get-map unpacked states place ∙ ap (option_map unpacked) is
 
 -- all were looked at
-module _ (p : Program) (strays : Bool) (first kept : List SourceState) (place : ℕ) (stuck aborted : Option ℕ)
-    (so_far : IsSoFar p strays first kept place stuck aborted) (end : length kept ≤ place) where
-  pub all_expanded : All (IsExpanded p strays kept) kept
-  all_expanded = subst (All (IsExpanded p strays kept)) (take_all place kept end) so_far.expanded
+module _ (p : Program) (may : Outside) (first kept : List SourceState) (place : ℕ) (stuck aborted : Option ℕ)
+    (so_far : IsSoFar p may first kept place stuck aborted) (end : length kept ≤ place) where
+  pub all_expanded : All (IsExpanded p may kept) kept
+  all_expanded = subst (All (IsExpanded p may kept)) (take_all place kept end) so_far.expanded
 
   pub none_stuck : NoneIs (IsStuck p) kept stuck
   none_stuck = subst (λ l. NoneIs (IsStuck p) l stuck) (take_all place kept end) so_far.never_stuck
 
-  pub none_aborted : NoneIs HasAborted kept aborted
-  none_aborted = subst (λ l. NoneIs HasAborted l aborted) (take_all place kept end) so_far.never_aborted
+  pub none_aborted : NoneIs (HasFailed may) kept aborted
+  none_aborted = subst (λ l. NoneIs (HasFailed may) l aborted) (take_all place kept end) so_far.never_aborted
 
 -- a process that does something, or to which something is done, was made
 is_there : (p : Program) → WellFormed p → (done : List Action) (s : SourceState) (a : Action) (s' : SourceState)
@@ -117,79 +138,103 @@ is_there p wf done s a s' run (inr (inl x)) =
 is_there p wf done s a s' run (inr (inr x)) = ap is_some x.3.stands
 
 -- an action of a process's own is searched
-own_from : (k : Kind) → IsOwn k → IsFrom false k
-own_from (Stray c) is = absurd is
-own_from (Kill resumed last) is = absurd is
-own_from other is = tt
+own_from : (may : Outside) (s : SourceState) (k : Kind) → IsOwn k → IsFrom may s k
+own_from may s (Stray c) is = absurd is
+own_from may s (Kill resumed last) is = absurd is
+own_from may s other is = tt
 
--- no action that is searched without strays is from outside
-not_outside : (k : Kind) → IsFrom false k → IsFromOutside k → ⊥
-not_outside (Stray c) is outside = let differ : false ≡ true = is in absurd (cc)
-not_outside (Kill resumed last) is outside = is
-not_outside other is outside = outside
+-- where nothing from outside is searched, no action of a run is from outside
+not_outside : (may : Outside) (k : Kind) → is_any may ≡ false → IsNamed may k → one_kill k ≤ may.kills
+    → IsFromOutside k → ⊥
+not_outside may (Stray c) none named few outside = none_strays may none named
+not_outside may (Kill resumed last) none named few outside = none_kills may 0 none (omega (arith, few))
+not_outside may other none named few outside = outside
 
-are_own : (actions : List Action) → AreFrom false actions → AreOwn actions
-are_own [] from = tt
-are_own (a ∷ actions) from = (not_outside a.kind from.0, are_own actions from.1)
+are_own : (may : Outside) (actions : List Action) → is_any may ≡ false → AreNamed may actions
+    → kills_of actions ≤ may.kills → AreOwn actions
+are_own may [] none named few = tt
+are_own may (a ∷ actions) none named few = (
+  not_outside may a.kind none named.0 (omega (arith, few)),
+  are_own may actions none named.1 (omega (arith, few)),
+)
 
--- then each run leads to what is kept, where stray wake-ups are searched; else the search is complete
-module _ (p : Program) (wf : WellFormed p) (kept : List SourceState) where
-  module _ (opens : IsKept kept (opening p)) (expanded : All (IsExpanded p true kept) kept) where
-    goes_to_kept : (actions done : List Action) (s e : SourceState) → Leads p (opening p) done s → IsKept kept s
-        → Leads p s actions e → AreFrom true actions → IsKept kept e
-    goes_to_kept [] done s e run is led from = subst (IsKept kept) led is
-    goes_to_kept (a ∷ actions) done s e run is led from =
-        let expands : IsExpanded p true kept s =
-        expanded_like p true kept s is.0 (like_back is.0 s is.2)
-        (All-contains (IsExpanded p true kept) kept is.0 expanded is.1) in
-        goes_to_kept actions (done ++ a ∷ []) led.0 e (leads_more p (opening p) s led.0 done a run led.1)
-        (expands a (is_there p wf done s a led.0 run led.1) from.0 led.0 led.1) led.2 from.1
+-- an action of a run is searched where it comes: each kill is of one process more
+from_run : (may : Outside) (s : SourceState) (k : Kind) → IsNamed may k → killed_in s + one_kill k ≤ may.kills
+    → IsFrom may s k
+from_run may s (Stray c) named few = named
+from_run may s (Kill resumed last) named few = omega (arith, few)
+from_run may s other named few = tt
 
-    all_kept : (actions : List Action) (s : SourceState) → Leads p (opening p) actions s → AreFrom true actions
-        → IsKept kept s
-    all_kept actions s led from = goes_to_kept actions [] (opening p) s refl opens led from
+-- then each run leads to what is kept, where something from outside is searched; else the search is complete
+module _ (p : Program) (wf : WellFormed p) (may : Outside) (kept : List SourceState) where
+  module _ (opens : IsKept kept (opening p)) (expanded : All (IsExpanded p may kept) kept) (any : is_any may ≡ true)
+    where
+      goes_to_kept : (actions done : List Action) (s e : SourceState) → Leads p (opening p) done s → IsKept kept s
+          → Leads p s actions e → AreNamed may actions → killed_in s + kills_of actions ≤ may.kills → IsKept kept e
+      goes_to_kept [] done s e run is led named few = subst (IsKept kept) led is
+      goes_to_kept (a ∷ actions) done s e run is led named few =
+          let expands : IsExpanded p may kept s =
+          expanded_like p may kept s is.0 (like_back is.0 s is.2)
+          (All-contains (IsExpanded p may kept) kept is.0 expanded is.1) in
+          let next : IsSeen p (is_any may) kept led.0 =
+          expands a (is_there p wf done s a led.0 run led.1)
+          (from_run may s a.kind named.0 (omega (arith, few))) led.0 led.1 in
+          let more = killed_more p s a led.0 led.1 in
+          goes_to_kept actions (done ++ a ∷ []) led.0 e (leads_more p (opening p) s led.0 done a run led.1)
+          (subst (λ (b : Bool). IsSeen p b kept led.0) any next) led.2 named.1 (omega (arith, few, more))
 
-  complete : (n : ℕ) × IsCovered p kept n (opening p) → All (IsExpanded p false kept) kept → IsComplete p kept
-  complete opens expanded = record {
+      all_kept : (actions : List Action) (s : SourceState) → Leads p (opening p) actions s → AreFrom may actions
+          → IsKept kept s
+      all_kept actions s led from =
+          let none = killed_opening p in
+          goes_to_kept actions [] (opening p) s refl opens led from.0 (omega (arith, from.1, none))
+
+  complete : (n : ℕ) × IsCovered p kept n (opening p) → All (IsExpanded p may kept) kept → is_any may ≡ false
+      → IsComplete p kept
+  complete opens expanded none = record {
     opens = opens;
     expanded = λ s is a s' x.
-        All-contains (IsExpanded p false kept) kept s expanded is a (ap is_some x.stands)
-        (own_from a.kind (subst IsOwn (sym x.named)
+        subst (λ (b : Bool). IsSeen p b kept s') none
+        (All-contains (IsExpanded p may kept) kept s expanded is a (ap is_some x.stands)
+        (own_from may s a.kind (subst IsOwn (sym x.named)
         (own_kind (offer p s.variable x.before) x.label x.effect x.after (plain p s.variable x.before) x.acts)))
-        s' (inl x);
+        s' (inl x));
   }
 
-  no_stuck : (strays : Bool) → IsSeen p strays kept (opening p) → All (IsExpanded p strays kept) kept
-      → All (λ s. IsStuck p s → ⊥) kept → LeadsNowhere p strays (IsStuck p)
-  no_stuck true opens expanded none actions s run from bad =
-      let is : IsKept kept s = all_kept opens expanded actions s run from in
-      All-contains (λ s. IsStuck p s → ⊥) kept is.0 none is.1 (like_stuck p s is.0 (like_back is.0 s is.2) bad)
-  no_stuck false opens expanded none actions s run from bad =
-      never_stuck p kept wf (complete opens expanded)
-      (λ r is. All-contains (λ s. IsStuck p s → ⊥) kept r none is)
-      actions s (own_leads p (opening p) s actions run (are_own actions from)) bad
+  module _ (expanded : All (IsExpanded p may kept) kept) where
+    no_stuck : (b : Bool) → is_any may ≡ b → IsSeen p b kept (opening p)
+        → All (λ s. IsStuck p s → ⊥) kept → LeadsNowhere p may (IsStuck p)
+    no_stuck true any opens none actions s run from bad =
+        let is : IsKept kept s = all_kept opens expanded any actions s run from in
+        All-contains (λ s. IsStuck p s → ⊥) kept is.0 none is.1 (like_stuck p s is.0 (like_back is.0 s is.2) bad)
+    no_stuck false any opens none actions s run from bad =
+        never_stuck p kept wf (complete opens expanded any)
+        (λ r is. All-contains (λ s. IsStuck p s → ⊥) kept r none is)
+        actions s (own_leads p (opening p) s actions run (are_own may actions any from.0 from.1)) bad
 
-  no_aborted : (strays : Bool) → IsSeen p strays kept (opening p) → All (IsExpanded p strays kept) kept
-      → All (λ s. HasAborted s → ⊥) kept → LeadsNowhere p strays HasAborted
-  no_aborted true opens expanded none actions s run from bad =
-      let is : IsKept kept s = all_kept opens expanded actions s run from in
-      All-contains (λ s. HasAborted s → ⊥) kept is.0 none is.1 (like_aborted s is.0 (like_back is.0 s is.2) bad)
-  no_aborted false opens expanded none actions s run from bad =
-      never_aborted p kept wf (complete opens expanded)
-      (λ r is. All-contains (λ s. HasAborted s → ⊥) kept r none is)
-      actions s (own_leads p (opening p) s actions run (are_own actions from)) bad
+    no_aborted : (b : Bool) → is_any may ≡ b → IsSeen p b kept (opening p)
+        → All (λ s. HasFailed may s → ⊥) kept → LeadsNowhere p may (HasFailed may)
+    no_aborted true any opens none actions s run from bad =
+        let is : IsKept kept s = all_kept opens expanded any actions s run from in
+        All-contains (λ s. HasFailed may s → ⊥) kept is.0 none is.1 (like_failed may s is.0 (like_back is.0 s is.2) bad)
+    no_aborted false any opens none actions s run from bad =
+        never_aborted p kept wf (complete opens expanded any)
+        (λ r is aborted. All-contains (λ s. HasFailed may s → ⊥) kept r none is (fails_too may r any aborted))
+        actions s (own_leads p (opening p) s actions run (are_own may actions any from.0 from.1)) (bad.0, bad.1.0, bad.1.1)
 
 -- no run leads to an end that the search hasn't found
-module _ (p : Program) (wf : WellFormed p) (strays : Bool) (first kept : List SourceState)
-    (opens : IsSeen p strays first (opening p)) (longer : IsLonger first kept)
-    (expanded : All (IsExpanded p strays kept) kept)
+module _ (p : Program) (wf : WellFormed p) (may : Outside) (first kept : List SourceState)
+    (opens : IsSeen p (is_any may) first (opening p)) (longer : IsLonger first kept)
+    (expanded : All (IsExpanded p may kept) kept)
   where
     pub nowhere_stuck : (stuck : Option ℕ) → NoneIs (IsStuck p) kept stuck → stuck ≡ None
-        → LeadsNowhere p strays (IsStuck p)
+        → LeadsNowhere p may (IsStuck p)
     nowhere_stuck stuck none e =
-        no_stuck p wf kept strays (seen_still first kept longer p strays (opening p) opens) expanded (none e)
+        no_stuck p wf may kept expanded (is_any may) refl (seen_still first kept longer p (is_any may) (opening p) opens)
+        (none e)
 
-    pub nowhere_aborted : (aborted : Option ℕ) → NoneIs HasAborted kept aborted → aborted ≡ None
-        → LeadsNowhere p strays HasAborted
+    pub nowhere_aborted : (aborted : Option ℕ) → NoneIs (HasFailed may) kept aborted → aborted ≡ None
+        → LeadsNowhere p may (HasFailed may)
     nowhere_aborted aborted none e =
-        no_aborted p wf kept strays (seen_still first kept longer p strays (opening p) opens) expanded (none e)
+        no_aborted p wf may kept expanded (is_any may) refl (seen_still first kept longer p (is_any may) (opening p) opens)
+        (none e)

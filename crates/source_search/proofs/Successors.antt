@@ -1,11 +1,12 @@
 -- Where actions lead to from states that are alike.
-use Rattle.std.proofs.Common.{◌≡◌, ℕ, Bool, List, [], Option, Some, refl, sym, ap, ◌∙◌, inl}
+use Rattle.std.proofs.Common.{◌≡◌, ◌<◌, ℕ, List, [], Option, Some, refl, sym, ap, ◌∙◌, inl}
 use Rattle.std.proofs.Common.{inr}
 use Rattle.std.proofs.Common.{subst}
 use Rattle.std.specs.Prelude.{IsSome}
 use Rattle.words.specs.Updates.{put}
 use Rattle.program.specs.Trees.{Program}
-use Rattle.meaning.specs.Labels.{Action, Killed}
+use Rattle.words.specs.Limits.{most_threads}
+use Rattle.meaning.specs.Labels.{Action, Kill, Killed, Kind, Stray}
 use Rattle.meaning.specs.Offers.{offer}
 use Rattle.meaning.specs.Processes.{Dying, Process}
 use Rattle.meaning.specs.Runs.{IsKill, IsLeft, IsNotifying, IsStep}
@@ -14,6 +15,8 @@ use Rattle.meaning.specs.Table.{AllowsKill, AllowsStray}
 use Rattle.meaning.proofs.Unique.{step_once}
 use Rattle.proof_exploration.specs.Exploring.{IsLike}
 use Rattle.proof_exploration.proofs.Alike.{like_action, like_after, like_back, like_same, printing}
+use Rattle.source_search.specs.Found.{IsFrom, is_any, killed_in, killed_to}
+use Rattle.source_search.specs.declared.outside.Outside.{Outside}
 use Rattle.source_search.specs.Kept.{IsExpanded}
 use Rattle.source_search.proofs.Keeping.{seen_like}
 
@@ -81,11 +84,21 @@ module _ (p : Program) (s c : SourceState) (a : Action) (is : c ≡ record s { p
       let led : LeadsAlike p c a s' = step_alike p s c (without_like s c is) a s' x in
       like_back s' n (like_same s' led.0 n led.2 (step_once p a c led.0 n led.1 step))
 
+-- states that are alike have as many killed
+killed_alike : (s c : SourceState) → IsLike s c → killed_in s ≡ killed_in c
+killed_alike s c like = ap (λ (f : ℕ → Option Process). killed_to f most_threads) like.process
+
+from_alike : (may : Outside) (s c : SourceState) (kind : Kind) → IsLike s c → IsFrom may s kind → IsFrom may c kind
+from_alike may s c (Stray m) like from = from
+from_alike may s c (Kill resumed last) like from = subst (λ (n : ℕ). n < may.kills) (killed_alike s c like) from
+from_alike may s c kind like from = tt
+
 -- where all that follows the one is kept, all that follows the other is
-pub expanded_like : (p : Program) (strays : Bool) (kept : List SourceState) (s c : SourceState) → IsLike s c
-    → IsExpanded p strays kept c → IsExpanded p strays kept s
-expanded_like p strays kept s c like expanded a there from s' x =
+pub expanded_like : (p : Program) (may : Outside) (kept : List SourceState) (s c : SourceState) → IsLike s c
+    → IsExpanded p may kept c → IsExpanded p may kept s
+expanded_like p may kept s c like expanded a there from s' x =
     let led : LeadsAlike p c a s' = step_alike p s c like a s' x in
-    seen_like p strays kept led.0 s'
-    (expanded a (subst (λ (f : ℕ → Option Process). IsSome (f a.process)) like.process there) from led.0 led.1)
+    seen_like p (is_any may) kept led.0 s'
+    (expanded a (subst (λ (f : ℕ → Option Process). IsSome (f a.process)) like.process there)
+    (from_alike may s c a.kind like from) led.0 led.1)
     (like_back s' led.0 led.2)

@@ -2,7 +2,7 @@
 use Rattle.std.proofs.Common.{◌≡◌, ◌<◌, ◌≤◌, ◌+◌, ◌↔◌, ℕ, Bool, true, false, List, [], ◌∷◌, ◌++◌, Option, Some, None}
 use Rattle.std.proofs.Common.{Contains}
 use Rattle.std.proofs.Common.{refl, sym, ap, ◌∙◌, subst, arith, map, inl, inr, filter, zero, suc, length}
-use Rattle.std.proofs.lemmas.List.Elements.{Contains-append_left, Contains-push}
+use Rattle.std.proofs.lemmas.List.Elements.{Contains-append_left, Contains-append_right, Contains-push}
 use Rattle.std.proofs.lemmas.List.Kept.{IsStrictlyIncreasing-filter}
 use Rattle.std.proofs.lemmas.Option.{IfSome_then}
 use Rattle.std.proofs.lemmas.Result.{IfOk-weaker}
@@ -12,21 +12,23 @@ use Rattle.std.specs.Prelude.{option_map, IfOk, IfSome, Result, Vec}
 use Rattle.words.specs.declared.outcome.Fault.TheVariants.{HandleNotJoinable, ProcessTableFull}
 use Rattle.program.specs.declared.kinds.Member.{Member}
 use Rattle.program.specs.Trees.{Program}
-use Rattle.meaning.specs.Labels.{Action, End, Kind, Stray, Fork, Claim, Join, Fails, Enter, Resume, Notify, Broadcast}
+use Rattle.meaning.specs.Labels.{Action, End, Kill, Kind, Stray, Fork, Claim, Join, Fails, Enter, Resume, Notify, Broadcast}
 use Rattle.meaning.specs.Labels.{Label}
 use Rattle.meaning.specs.Labels.{Forks, FindsFull, Claims, FindsClaimed, Enters, Resumes, Notifies, Broadcasts, kind_of}
 use Rattle.meaning.specs.Offers.{Effect, Offer, Does, Takes, MakesOne, ClaimsOne, JoinsOne}
 use Rattle.meaning.specs.Offers.{NotifiesSome, NotifiesAll, TakesUp, offer}
 use Rattle.meaning.specs.Processes.{Process}
-use Rattle.meaning.specs.Runs.{IsAction}
+use Rattle.meaning.specs.Runs.{IsAction, IsKill}
 use Rattle.meaning.specs.States.{SourceState}
 use Rattle.meaning.specs.Table.{Table, Allows}
 use Rattle.proof_exploration.specs.Exploring.{SameMembers}
 use Rattle.proof_exploration.proofs.Resuming.{without_same}
 use Rattle.source_states.specs.Actions.{action_of}
 use Rattle.source_states.specs.declared.action.Action.{Action as ActionOf}
-use Rattle.source_search.specs.Choices.{AllTakeUp, AreChoices, AreOwnChoices, HasEachSet, IsTried, by}
-use Rattle.source_search.specs.Found.{IsFrom}
+use Rattle.source_search.specs.Choices.{AllTakeUp, AreChoices, AreKills, AreOwnChoices, HasEachSet, HasKills, HasStray}
+use Rattle.source_search.specs.Choices.{IsTried, by}
+use Rattle.source_search.specs.Found.{IsFrom, killed_in}
+use Rattle.source_search.specs.declared.outside.Outside.{Outside}
 use Rattle.source_search.proofs.Subsets.{among, contains_map, is_one_of, one_of, passes, stays}
 
 -- all that takes up the offer has this name
@@ -248,36 +250,60 @@ absent_choices p s n actions is kind s' x =
     absurd (let differ : None ≡ Some (offer p s.variable x.before) =
     is ∙ ap (option_map (offer p s.variable)) x.stands in cc)
 
--- what the process may do of its own, and with strays its stray wake-up, where it waits
-with_strays : (p : Program) (strays : Bool) (s : SourceState) (n : ℕ) (own actions : List Action)
-    → AreOwnChoices p s n own → ((a : Action) → Contains own a → Contains actions a)
-    → ((c : Member) → strays ≡ true → s.table.waits n ≡ Some c → Contains actions (by n (Stray c)))
-    → AreChoices p strays s n actions
-with_strays p strays s n own actions are all stray kind s' from (inl x) =
+-- what a process may do of its own, its stray wake-up where that is searched, and its kills where there may be one more
+pub all_choices : (p : Program) (may : Outside) (s : SourceState) (n : ℕ) (own others actions : List Action)
+    → AreOwnChoices p s n own → HasStray may.strays s.table n own others → HasKills p may.kills s n others actions
+    → AreChoices p may s n actions
+all_choices p may s n own others actions are stray kills kind s' from (inl x) =
     let tried : (k : Kind) × Contains own (by n k) × IsAction p s (by n k) s' = are kind s' x in
-    (by n tried.0, all (by n tried.0) tried.1, inl tried.2)
-with_strays p strays s n own actions are all stray kind s' from (inr (inl x)) = (
+    (by n tried.0, kills.all (by n tried.0) (stray.all (by n tried.0) tried.1), inl tried.2)
+all_choices p may s n own others actions are stray kills kind s' from (inr (inl x)) = (
   by n (Stray x.0),
-  stray x.0 (subst (IsFrom strays) x.1 from) x.2.allows.0,
+  kills.all (by n (Stray x.0)) (stray.stray x.0 (subst (IsFrom may s) x.1 from) x.2.allows.0),
   inr (inl (x.0, refl, x.2)),
 )
-with_strays p strays s n own actions are all stray kind s' from (inr (inr x)) =
-    absurd (subst (IsFrom strays) x.2 from)
+all_choices p may s n own others actions are stray kills kind s' from (inr (inr x)) =
+    let found : (r : List ℕ) × Contains actions (by n (Kill r x.1)) × IsKill p s n r x.1 s' =
+    kills.each (subst (IsFrom may s) x.2 from) x.0 x.1 s' x.3 in
+    (by n (Kill found.0 x.1), found.1, inr (inr (found.0, x.1, refl, found.2)))
 
-module _ (p : Program) (strays : Bool) (s : SourceState) (n : ℕ) (own : List Action) (are : AreOwnChoices p s n own)
-  where
-    pub not_searched : strays ≡ false → AreChoices p strays s n own
-    not_searched e = with_strays p strays s n own own are (λ a i. i)
-        (λ c searched waits. absurd (let differ : true ≡ false = sym searched ∙ e in cc))
+module _ (strays : Bool) (t : Table) (n : ℕ) (own : List Action) where
+  pub not_searched : strays ≡ false → HasStray strays t n own own
+  not_searched e = record {
+    all = λ a i. i;
+    stray = λ c searched waits. absurd (let differ : true ≡ false = sym searched ∙ e in cc);
+  }
 
-    pub not_waiting : s.table.waits n ≡ None → AreChoices p strays s n own
-    not_waiting e = with_strays p strays s n own own are (λ a i. i)
-        (λ c searched waits. absurd (let differ : Some c ≡ None = sym waits ∙ e in cc))
+  pub not_waiting : t.waits n ≡ None → HasStray strays t n own own
+  not_waiting e = record {
+    all = λ a i. i;
+    stray = λ c searched waits. absurd (let differ : Some c ≡ None = sym waits ∙ e in cc);
+  }
 
-    pub waiting : (c : Member) (actions : List Action) → s.table.waits n ≡ Some c → actions ≡ own ++ by n (Stray c) ∷ []
-        → AreChoices p strays s n actions
-    waiting c actions e is = with_strays p strays s n own actions are
-        (λ a i. subst (λ l. Contains l a) (sym is) (Contains-append_left own (by n (Stray c) ∷ []) a i))
-        (λ d searched waits. subst (λ l. Contains l (by n (Stray d))) (sym is)
+  pub waiting : (c : Member) (actions : List Action) → t.waits n ≡ Some c → actions ≡ own ++ by n (Stray c) ∷ []
+      → HasStray strays t n own actions
+  waiting c actions e is = record {
+    all = λ a i. subst (λ l. Contains l a) (sym is) (Contains-append_left own (by n (Stray c) ∷ []) a i);
+    stray = λ d searched waits. subst (λ l. Contains l (by n (Stray d))) (sym is)
         (subst (λ x. Contains (own ++ by n (Stray c) ∷ []) (by n (Stray x))) (some_once c d (sym e ∙ waits))
-        (Contains-push own (by n (Stray c)))))
+        (Contains-push own (by n (Stray c))));
+  }
+
+-- kills behind what else may be done
+module _ (p : Program) (kills : ℕ) (s : SourceState) (n : ℕ) (others : List Action) where
+  pub no_more : kills ≤ killed_in s → HasKills p kills s n others others
+  no_more full = record { all = λ a i. i; each = λ less. absurd (omega (arith, full, less)) }
+
+  pub some_more : (more actions : List Action) → AreKills p s n more → actions ≡ others ++ more
+      → HasKills p kills s n others actions
+  some_more more actions are is = record {
+    all = λ a i. subst (λ l. Contains l a) (sym is) (Contains-append_left others more a i);
+    each = λ less resumed last s' x.
+        let found : (r : List ℕ) × Contains more (by n (Kill r last)) × IsKill p s n r last s' =
+        are resumed last s' x in (
+          found.0,
+          subst (λ l. Contains l (by n (Kill found.0 last))) (sym is)
+              (Contains-append_right others more (by n (Kill found.0 last)) found.1),
+          found.2,
+        );
+  }

@@ -8,7 +8,8 @@ use Rattle.meaning.specs.States.{SourceState}
 use Rattle.proof_exploration.specs.Exploring.{IsLike}
 use Rattle.proof_exploration.specs.Searching.{IsCovered, IsKept}
 use Rattle.source_search.specs.Choices.{by}
-use Rattle.source_search.specs.Found.{IsFrom}
+use Rattle.source_search.specs.Found.{IsFrom, is_any}
+use Rattle.source_search.specs.declared.outside.Outside.{Outside}
 use Rattle.source_search.specs.Packed.{unpacked}
 use Rattle.source_search.specs.declared.packed.Packed.{Packed as PackedOf}
 
@@ -24,23 +25,23 @@ IsKeptAt states place s = (x : PackedOf) × (slice_get states place ≡ Some x) 
 abbrev pub IsLonger : List SourceState → List SourceState → Type 0
 IsLonger kept kept' = (more : List SourceState) × (kept' ≡ kept ++ more)
 
--- the state is kept, where stray wake-ups are searched; else it is covered by what is kept
+-- the state is kept, where something from outside is searched; else it is covered by what is kept
 abbrev pub IsSeen : Program → Bool → List SourceState → SourceState → Type 0
 IsSeen p true kept s = IsKept kept s
 IsSeen p false kept s = (n : ℕ) × IsCovered p kept n s
 
 -- where this action leads to from a state is kept, or covered
-abbrev pub LeadsToKept : Program → Bool → List SourceState → SourceState → Action → Type 0
-LeadsToKept p strays kept s a = (s' : SourceState) → IsStep p s a s' → IsSeen p strays kept s'
+abbrev pub LeadsToKept : Program → Outside → List SourceState → SourceState → Action → Type 0
+LeadsToKept p may kept s a = (s' : SourceState) → IsStep p s a s' → IsSeen p (is_any may) kept s'
 
--- so is wherever an action of this process leads to: its own, or with strays a stray wake-up
-abbrev pub IsFollowed : Program → Bool → List SourceState → SourceState → ℕ → Type 0
-IsFollowed p strays kept s n = (kind : Kind) → IsFrom strays kind → LeadsToKept p strays kept s (by n kind)
+-- so is wherever an action of this process leads to: its own, or what is searched from outside
+abbrev pub IsFollowed : Program → Outside → List SourceState → SourceState → ℕ → Type 0
+IsFollowed p may kept s n = (kind : Kind) → IsFrom may s kind → LeadsToKept p may kept s (by n kind)
 
 -- and wherever one of any process leads to that was made
-abbrev pub IsExpanded : Program → Bool → List SourceState → SourceState → Type 0
-IsExpanded p strays kept s = (a : Action) → IsSome (s.process a.process) → IsFrom strays a.kind
-    → LeadsToKept p strays kept s a
+abbrev pub IsExpanded : Program → Outside → List SourceState → SourceState → Type 0
+IsExpanded p may kept s = (a : Action) → IsSome (s.process a.process) → IsFrom may s a.kind
+    → LeadsToKept p may kept s a
 
 -- none of these states is such an end, where none was found
 abbrev pub NoneIs : (SourceState → Type 0) → List SourceState → Option ℕ → Type 0

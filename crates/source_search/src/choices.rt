@@ -9,8 +9,10 @@ ghost use Rattle.source_offers.specs.Offered.{offer_with};
 ghost use Rattle.source_offers.specs.declared.process.Process.{Process as ProcessOf};
 ghost use Rattle.source_states.specs.Actions.{action_of, kind_of};
 ghost use Rattle.source_states.specs.States.{state_of};
-ghost use Rattle.source_search.specs.Choices.{AllTakeUp, AreChoices, AreOwnChoices, by, lists_in};
+ghost use Rattle.source_search.specs.Choices.{AllTakeUp, AreChoices, AreOwnChoices, HasKills, HasStray, by, lists_in};
 
+use crate::killing::kills_of;
+use crate::outside::{Outside, killed_in};
 use crate::sets::sets;
 use program::{Checked, Member};
 use source_offers::{Offer, Offered};
@@ -196,9 +198,8 @@ fn with_stray(
     strays: bool,
     own: Vec<Action>,
 ) -> Result<Vec<Action>, AllocError>
-    ensures { IfOk result (λ v. (p : ProgramOf)
-        → AreOwnChoices p (state_of state.now) process (map action_of own.items)
-        → AreChoices p strays (state_of state.now) process (map action_of v.items)) }
+    ensures { IfOk result (λ v. HasStray strays (state_of state.now).table process
+        (map action_of own.items) (map action_of v.items)) }
 {
     if !strays {
         return Ok(own);
@@ -214,22 +215,48 @@ fn with_stray(
     Ok(actions)
 }
 
-/// What a process may do next, or with `strays` what may be done to it by a stray wake-up: whatever it is, one of these
-/// is possible and leads to the same state. Of a notify there is one for each set of processes that it may resume. Not
-/// all of them are possible. None where there are too many.
+// The same, and its kills, where there may be one more.
+fn with_kills<'a>(
+    alloc: Global,
+    checked: &'a Checked,
+    state: &SourceState<'a>,
+    process: u64,
+    kills: u32,
+    others: Vec<Action>,
+) -> Result<Option<Vec<Action>>, AllocError>
+    ensures { IfOk result (λ o. IfSome o (λ v. HasKills (program_of checked.now.tree) kills (state_of state.now)
+        process (map action_of others.items) (map action_of v.items))) }
+{
+    if kills == 0 {
+        return Ok(Some(others));
+    }
+    if killed_in(state) >= kills {
+        return Ok(Some(others));
+    }
+    let Some(mut kills) = kills_of(alloc, checked, state, process)? else {
+        return Ok(None);
+    };
+    let mut actions = others;
+    actions.append(&mut kills)?;
+    Ok(Some(actions))
+}
+
+/// What a process may do next, or what may be done to it from outside: whatever it is, one of these is possible and
+/// leads to the same state. Of a notify there is one for each set of processes that it may resume, and so there is of a
+/// kill. Not all of them are possible. None where there are too many.
 pub(crate) fn choices<'a>(
     alloc: Global,
     checked: &'a Checked,
     state: &SourceState<'a>,
     process: u64,
-    strays: bool,
+    outside: Outside,
 ) -> Result<Option<Vec<Action>>, AllocError>
-    ensures { IfOk result (λ o. IfSome o (λ v. AreChoices (program_of checked.now.tree) strays
+    ensures { IfOk result (λ o. IfSome o (λ v. AreChoices (program_of checked.now.tree) outside
         (state_of state.now) process (map action_of v.items))) }
 {
     let Some(own) = own_actions(alloc, checked, state, process)? else {
         return Ok(None);
     };
-    let actions = with_stray(state, process, strays, own)?;
-    Ok(Some(actions))
+    let actions = with_stray(state, process, outside.strays, own)?;
+    with_kills(alloc, checked, state, process, outside.kills, actions)
 }

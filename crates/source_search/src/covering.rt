@@ -1,6 +1,7 @@
 use crate::follow::{Followed, follow_calm, is_lost};
 use crate::kept::{Kept, Way};
 use crate::next::next_state;
+use crate::outside::Outside;
 use program::Checked;
 use source_states::{Action, SourceState};
 use std::alloc::{AllocError, Global};
@@ -11,6 +12,7 @@ impl<'a> Kept<'a> {
     ghost use Rattle.source_states.specs.Actions.{action_of};
     ghost use Rattle.source_states.specs.States.{state_of};
     ghost use Rattle.source_search.specs.Covered.{AllCovered, LeadsToCovered};
+    ghost use Rattle.source_search.specs.Found.{is_any};
     ghost use Rattle.source_search.specs.Kept.{IsLonger, IsSeen, states_in};
 
     // Follows calm actions behind one of several, and keeps the state that they lead to; false where no more can be
@@ -65,23 +67,23 @@ impl<'a> Kept<'a> {
         Ok(true)
     }
 
-    /// Keeps a state, unless one like it is kept; without strays the states in its place to which calm actions lead
-    /// from it, of one process at a time; false, where no more can be kept.
+    /// Keeps a state, unless one like it is kept; with nothing from outside the states in its place to which calm
+    /// actions lead from it, of one process at a time; false, where no more can be kept.
     pub fn cover(
         &mut self,
         alloc: Global,
         checked: &'a Checked,
         state: SourceState<'a>,
         way: Way,
-        strays: bool,
+        outside: Outside,
     ) -> Result<bool, AllocError>
         ensures longer { OnOk result
             (IsLonger (states_in self.old.states.items) (states_in self.new.states.items)) }
         ensures kept { IfOk result (λ kept. kept ≡ true
-            → IsSeen (program_of checked.now.tree) strays (states_in self.new.states.items)
+            → IsSeen (program_of checked.now.tree) (is_any outside) (states_in self.new.states.items)
             (state_of state.entry)) }
     {
-        if strays {
+        if outside.is_any() {
             return self.keep(alloc, checked, state, way);
         }
         let mut after = state;

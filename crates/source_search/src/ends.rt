@@ -4,14 +4,16 @@ ghost use Rattle.meaning.specs.Labels.{Aborted, Cause as CauseIn};
 ghost use Rattle.meaning.specs.Processes.{Over};
 ghost use Rattle.source_offers.specs.Stages.{process_of};
 ghost use Rattle.source_states.specs.States.{state_of};
-ghost use Rattle.proof_exploration.specs.Exploring.{HasAborted, IsOver, IsStuck};
-ghost use Rattle.source_search.specs.Found.{AbortedAt, GoesOn};
+ghost use Rattle.proof_exploration.specs.Exploring.{IsOver, IsStuck};
+ghost use Rattle.source_search.specs.Found.{FailedAt, GoesOn, HasFailed, IsCounted};
 
+use crate::outside::Outside;
 use program::Checked;
 use source_offers::{End, Process, Stage};
 use source_states::SourceState;
 use sourcemeaning::movers;
 use std::alloc::{AllocError, Global};
+use words::Cause;
 
 // Whether a process is over.
 fn is_over(process: &Process) -> bool
@@ -21,15 +23,25 @@ fn is_over(process: &Process) -> bool
     matches!(process.stage, Stage::Over(_))
 }
 
-// Whether a process has aborted.
-fn is_aborted(process: &Process) -> bool
+// Whether an end of this cause is looked for.
+fn is_counted(cause: Cause, outside: Outside) -> bool
+    ensures { MatchBool result (IsCounted outside cause) (IsCounted outside cause → ⊥) }
+{
+    match cause {
+        Cause::Faulted(_) => true,
+        Cause::Killed => outside.kills == 0,
+    }
+}
+
+// Whether a process has aborted of a cause that is looked for.
+fn has_failed_so(process: &Process, outside: Outside) -> bool
     ensures { MatchBool result
-        ((cause : CauseIn) × (process_of process.now ≡ Over (Aborted cause)))
-        ((cause : CauseIn) → process_of process.now ≡ Over (Aborted cause) → ⊥) }
+        ((cause : CauseIn) × (process_of process.now ≡ Over (Aborted cause)) × IsCounted outside cause)
+        ((cause : CauseIn) → process_of process.now ≡ Over (Aborted cause) → IsCounted outside cause → ⊥) }
 {
     match &process.stage {
         Stage::Over(end) => match end {
-            End::Aborted(_) => true,
+            End::Aborted(cause) => is_counted(*cause, outside),
             End::Ended(_) => false,
         },
         _ => false,
@@ -47,14 +59,14 @@ fn goes_on_at(state: &SourceState, number: u64) -> bool
     }
 }
 
-// Whether there is such a process, and it has aborted.
-fn has_aborted_at(state: &SourceState, number: u64) -> bool
-    ensures { MatchBool result (AbortedAt (state_of state.now) number)
-        (AbortedAt (state_of state.now) number → ⊥) }
+// Whether there is such a process, and it has aborted of a cause that is looked for.
+fn has_failed_at(state: &SourceState, number: u64, outside: Outside) -> bool
+    ensures { MatchBool result (FailedAt outside (state_of state.now) number)
+        (FailedAt outside (state_of state.now) number → ⊥) }
 {
     match state.process(number) {
         None => false,
-        Some(process) => is_aborted(process),
+        Some(process) => has_failed_so(process, outside),
     }
 }
 
@@ -71,13 +83,13 @@ fn goes_on(state: &SourceState, numbers: &[u64]) -> bool
     false
 }
 
-// Whether one of these processes has aborted.
-fn some_aborted(state: &SourceState, numbers: &[u64]) -> bool
-    ensures { MatchBool result ((q : ℕ) × AbortedAt (state_of state.now) q)
-        (All (λ q. AbortedAt (state_of state.now) q → ⊥) numbers.now) }
+// Whether one of these processes has aborted of a cause that is looked for.
+fn some_failed(state: &SourceState, numbers: &[u64], outside: Outside) -> bool
+    ensures { MatchBool result ((q : ℕ) × FailedAt outside (state_of state.now) q)
+        (All (λ q. FailedAt outside (state_of state.now) q → ⊥) numbers.now) }
 {
     for number in numbers {
-        if has_aborted_at(state, *number) {
+        if has_failed_at(state, *number, outside) {
             return true;
         }
     }
@@ -104,12 +116,16 @@ pub(crate) fn is_stuck(
     Ok(stuck)
 }
 
-/// Whether some process has aborted.
-pub(crate) fn has_aborted(alloc: Global, state: &SourceState) -> Result<bool, AllocError>
-    ensures { IfOk result (λ aborted. MatchBool aborted (HasAborted (state_of state.now))
-        (HasAborted (state_of state.now) → ⊥)) }
+/// Whether some process has aborted of a cause that is looked for.
+pub(crate) fn has_failed(
+    alloc: Global,
+    state: &SourceState,
+    outside: Outside,
+) -> Result<bool, AllocError>
+    ensures { IfOk result (λ failed. MatchBool failed (HasFailed outside (state_of state.now))
+        (HasFailed outside (state_of state.now) → ⊥)) }
 {
     let all = state.numbers(alloc)?;
-    let aborted = some_aborted(state, all.as_slice());
-    Ok(aborted)
+    let failed = some_failed(state, all.as_slice(), outside);
+    Ok(failed)
 }

@@ -7,6 +7,7 @@ mod digest;
 mod ends;
 mod follow;
 mod kept;
+mod killing;
 mod next;
 mod outside;
 mod packed;
@@ -16,4 +17,5 @@ mod runs;
 mod search;
 mod sets;
 
+pub use outside::Outside;
 pub use runs::{Exploration, explore};

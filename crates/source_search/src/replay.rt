@@ -1,6 +1,7 @@
 use crate::choices::choices;
 use crate::follow::{Followed, follow_calm};
 use crate::kept::Way;
+use crate::outside::Outside;
 use program::Checked;
 use source_states::{Action, SourceState};
 use std::alloc::{AllocError, Global};
@@ -36,9 +37,9 @@ fn action_at<'a>(
     checked: &'a Checked,
     state: &SourceState<'a>,
     way: Way,
-    strays: bool,
+    outside: Outside,
 ) -> Result<Option<Action>, AllocError> {
-    match choices(alloc, checked, state, way.process, strays)? {
+    match choices(alloc, checked, state, way.process, outside)? {
         None => Ok(None),
         Some(actions) => Ok(actions.into_iter().nth(way.choice)),
     }
@@ -73,23 +74,23 @@ pub(crate) fn actions_to(
     checked: &Checked,
     ways: &[Way],
     place: usize,
-    strays: bool,
+    outside: Outside,
 ) -> Result<Vec<Action>, AllocError> {
     let back = ways_back(alloc, ways, place)?;
     let mut actions = Vec::new(alloc);
     let mut state = SourceState::opening(alloc, checked)?;
-    if !strays {
+    if !outside.is_any() {
         follow_on(alloc, checked, &mut state, OPENING, &mut actions)?;
     }
     for way in back.as_slice().iter().rev() {
-        let Some(action) = action_at(alloc, checked, &state, *way, strays)? else {
+        let Some(action) = action_at(alloc, checked, &state, *way, outside)? else {
             return Ok(actions);
         };
         if !state.advance(alloc, checked.program(), &action)? {
             return Ok(actions);
         }
         actions.push(action)?;
-        if !strays {
+        if !outside.is_any() {
             follow_on(alloc, checked, &mut state, *way, &mut actions)?;
         }
     }

@@ -1,11 +1,11 @@
 ghost use Rattle.std.specs.Prelude.{◌≡◌, IfOk, IfSome, None, true};
 ghost use Rattle.program.specs.Views.{program_of};
-ghost use Rattle.proof_exploration.specs.Exploring.{HasAborted, IsStuck};
-ghost use Rattle.source_search.specs.Found.{LeadsNowhere, LeadsTo};
+ghost use Rattle.proof_exploration.specs.Exploring.{IsStuck};
+ghost use Rattle.source_search.specs.Found.{HasFailed, LeadsNowhere, LeadsTo};
 
-use crate::ends::{has_aborted, is_stuck};
+use crate::ends::{has_failed, is_stuck};
 use crate::kept::{Kept, Way};
-use crate::outside::are_from;
+use crate::outside::{Outside, are_from};
 use crate::replay::{OPENING, actions_to};
 use crate::search::{Findings, search};
 use program::Checked;
@@ -21,7 +21,7 @@ pub struct Exploration {
     pub complete: bool,
     /// A run at whose end no process can move and not all are over, where one was found.
     pub stuck: Option<Vec<Action>>,
-    /// A run at whose end some process has aborted, where one was found.
+    /// A run at whose end some process has aborted, and not of a kill where kills are searched, where one was found.
     pub aborted: Option<Vec<Action>>,
 }
 
@@ -30,12 +30,12 @@ fn is_stuck_run(
     alloc: Global,
     checked: &Checked,
     actions: &[Action],
-    strays: bool,
+    outside: Outside,
 ) -> Result<bool, AllocError>
-    ensures { IfOk result (λ is. is ≡ true → LeadsTo (program_of checked.now.tree) strays
+    ensures { IfOk result (λ is. is ≡ true → LeadsTo (program_of checked.now.tree) outside
         (IsStuck (program_of checked.now.tree)) actions.now) }
 {
-    if !are_from(actions, strays) {
+    if !are_from(actions, outside) {
         return Ok(false);
     }
     let walked = accepts(alloc, checked, actions)?;
@@ -53,19 +53,19 @@ fn is_aborted_run(
     alloc: Global,
     checked: &Checked,
     actions: &[Action],
-    strays: bool,
+    outside: Outside,
 ) -> Result<bool, AllocError>
     ensures { IfOk result (λ is. is ≡ true
-        → LeadsTo (program_of checked.now.tree) strays HasAborted actions.now) }
+        → LeadsTo (program_of checked.now.tree) outside (HasFailed outside) actions.now) }
 {
-    if !are_from(actions, strays) {
+    if !are_from(actions, outside) {
         return Ok(false);
     }
     let walked = accepts(alloc, checked, actions)?;
     match walked {
         None => Ok(false),
         Some(state) => {
-            let aborted = has_aborted(alloc, &state)?;
+            let aborted = has_failed(alloc, &state, outside)?;
             Ok(aborted)
         }
     }
@@ -77,17 +77,17 @@ fn stuck_run(
     checked: &Checked,
     ways: &[Way],
     place: Option<usize>,
-    strays: bool,
+    outside: Outside,
 ) -> Result<Option<Vec<Action>>, AllocError>
-    ensures { IfOk result (λ o. IfSome o (λ v. LeadsTo (program_of checked.now.tree) strays
+    ensures { IfOk result (λ o. IfSome o (λ v. LeadsTo (program_of checked.now.tree) outside
         (IsStuck (program_of checked.now.tree)) v.items)) }
 {
     let Some(place) = place else {
         return Ok(None);
     };
-    let actions = actions_to(alloc, checked, ways, place, strays)?;
+    let actions = actions_to(alloc, checked, ways, place, outside)?;
     let listed = actions.as_slice();
-    if is_stuck_run(alloc, checked, listed, strays)? {
+    if is_stuck_run(alloc, checked, listed, outside)? {
         return Ok(Some(actions));
     }
     Ok(None)
@@ -99,17 +99,17 @@ fn aborted_run(
     checked: &Checked,
     ways: &[Way],
     place: Option<usize>,
-    strays: bool,
+    outside: Outside,
 ) -> Result<Option<Vec<Action>>, AllocError>
     ensures { IfOk result (λ o. IfSome o
-        (λ v. LeadsTo (program_of checked.now.tree) strays HasAborted v.items)) }
+        (λ v. LeadsTo (program_of checked.now.tree) outside (HasFailed outside) v.items)) }
 {
     let Some(place) = place else {
         return Ok(None);
     };
-    let actions = actions_to(alloc, checked, ways, place, strays)?;
+    let actions = actions_to(alloc, checked, ways, place, outside)?;
     let listed = actions.as_slice();
-    if is_aborted_run(alloc, checked, listed, strays)? {
+    if is_aborted_run(alloc, checked, listed, outside)? {
         return Ok(Some(actions));
     }
     Ok(None)
@@ -140,34 +140,35 @@ fn is_complete(
         && is_told(findings.aborted, aborted)
 }
 
-/// Searches all runs of actions of a program's own processes, and with `strays` those too in which a process that waits
-/// resumes though nobody notified it; breadth first, keeping at most so many states: for one that gets stuck, and for
-/// one in which a process aborts. Without strays a process whose next action is calm, so that none of the others races
-/// with it, is followed alone. What is found is such a run. Where the search came to its end and none was found, there
-/// is none.
+/// Searches all runs of actions of a program's own processes, and of what may come from outside: with strays those too
+/// in which a process that waits resumes though nobody notified it, and with kills those in which so many processes at
+/// most are killed, wherever they stand; breadth first, keeping at most so many states: for one that gets stuck, and for
+/// one in which a process aborts. Where nothing comes from outside a process whose next action is calm, so that none of
+/// the others races with it, is followed alone. What is found is such a run. Where the search came to its end and none
+/// was found, there is none.
 pub fn explore(
     alloc: Global,
     checked: &Checked,
     most_states: usize,
-    strays: bool,
+    outside: Outside,
 ) -> Result<Exploration, AllocError>
-    ensures stuck { IfOk result (λ e. IfSome e.stuck (λ v. LeadsTo (program_of checked.now.tree) strays
+    ensures stuck { IfOk result (λ e. IfSome e.stuck (λ v. LeadsTo (program_of checked.now.tree) outside
         (IsStuck (program_of checked.now.tree)) v.items)) }
     ensures aborted { IfOk result (λ e. IfSome e.aborted
-        (λ v. LeadsTo (program_of checked.now.tree) strays HasAborted v.items)) }
+        (λ v. LeadsTo (program_of checked.now.tree) outside (HasFailed outside) v.items)) }
     ensures never_stuck { IfOk result (λ e. e.complete ≡ true → e.stuck ≡ None
-        → LeadsNowhere (program_of checked.now.tree) strays (IsStuck (program_of checked.now.tree))) }
+        → LeadsNowhere (program_of checked.now.tree) outside (IsStuck (program_of checked.now.tree))) }
     ensures never_aborted { IfOk result (λ e. e.complete ≡ true → e.aborted ≡ None
-        → LeadsNowhere (program_of checked.now.tree) strays HasAborted) }
+        → LeadsNowhere (program_of checked.now.tree) outside (HasFailed outside)) }
 {
     let _program = checked.program();
     let mut kept = Kept::new(alloc, most_states);
     let opening = SourceState::opening(alloc, checked)?;
-    let opens = kept.cover(alloc, checked, opening, OPENING, strays)?;
-    let findings = search(alloc, checked, &mut kept, most_states, strays)?;
+    let opens = kept.cover(alloc, checked, opening, OPENING, outside)?;
+    let findings = search(alloc, checked, &mut kept, most_states, outside)?;
     let ways = kept.ways.as_slice();
-    let stuck = stuck_run(alloc, checked, ways, findings.stuck, strays)?;
-    let aborted = aborted_run(alloc, checked, ways, findings.aborted, strays)?;
+    let stuck = stuck_run(alloc, checked, ways, findings.stuck, outside)?;
+    let aborted = aborted_run(alloc, checked, ways, findings.aborted, outside)?;
     let complete = is_complete(opens, &findings, &stuck, &aborted);
     Ok(Exploration {
         states: kept.states.len(),

@@ -1,14 +1,16 @@
 ghost use Rattle.std.specs.Prelude.{◌≡◌, All, IfOk, None, OnOk, length, true};
 ghost use Rattle.program.specs.Views.{program_of};
-ghost use Rattle.proof_exploration.specs.Exploring.{HasAborted, IsStuck};
+ghost use Rattle.proof_exploration.specs.Exploring.{IsStuck};
+ghost use Rattle.source_search.specs.Found.{HasFailed};
 ghost use Rattle.source_states.specs.Actions.{action_of};
 ghost use Rattle.source_states.specs.States.{state_of};
 ghost use Rattle.source_search.specs.Kept.{IsExpanded, IsLonger, NoneIs, states_in};
 
 use crate::choices::choices;
-use crate::ends::{has_aborted, is_stuck};
+use crate::ends::{has_failed, is_stuck};
 use crate::kept::{Kept, Way};
 use crate::next::next_state;
+use crate::outside::Outside;
 use program::Checked;
 use source_states::{Action, SourceState};
 use sourcemeaning::can_move;
@@ -33,17 +35,18 @@ impl Findings {
         checked: &Checked,
         state: &SourceState,
         place: usize,
+        outside: Outside,
     ) -> Result<(), AllocError>
         ensures complete { OnOk result (self.new.complete ≡ self.old.complete) }
         ensures stuck { OnOk result (self.new.stuck ≡ None → (self.old.stuck ≡ None)
             × (IsStuck (program_of checked.now.tree) (state_of state.now) → ⊥)) }
         ensures aborted { OnOk result (self.new.aborted ≡ None → (self.old.aborted ≡ None)
-            × (HasAborted (state_of state.now) → ⊥)) }
+            × (HasFailed outside (state_of state.now) → ⊥)) }
     {
         if self.stuck.is_none() && is_stuck(alloc, checked, state)? {
             self.stuck = Some(place);
         }
-        if self.aborted.is_none() && has_aborted(alloc, state)? {
+        if self.aborted.is_none() && has_failed(alloc, state, outside)? {
             self.aborted = Some(place);
         }
         Ok(())
@@ -65,18 +68,18 @@ impl<'a> Kept<'a> {
         state: &SourceState<'a>,
         action: &Action,
         way: Way,
-        strays: bool,
+        outside: Outside,
     ) -> Result<bool, AllocError>
         ensures longer { OnOk result
             (IsLonger (states_in self.old.states.items) (states_in self.new.states.items)) }
         ensures kept { IfOk result (λ kept. kept ≡ true
-            → LeadsToKept (program_of checked.now.tree) strays (states_in self.new.states.items)
+            → LeadsToKept (program_of checked.now.tree) outside (states_in self.new.states.items)
             (state_of state.now) (action_of action.now)) }
     {
         let found = next_state(alloc, checked, state, action)?;
         match found {
             None => Ok(true),
-            Some(next) => self.cover(alloc, checked, next, way, strays),
+            Some(next) => self.cover(alloc, checked, next, way, outside),
         }
     }
 
@@ -89,12 +92,12 @@ impl<'a> Kept<'a> {
         before: usize,
         process: u64,
         actions: &[Action],
-        strays: bool,
+        outside: Outside,
     ) -> Result<bool, AllocError>
         ensures longer { OnOk result
             (IsLonger (states_in self.old.states.items) (states_in self.new.states.items)) }
         ensures kept { IfOk result (λ kept. kept ≡ true
-            → All (LeadsToKept (program_of checked.now.tree) strays (states_in self.new.states.items)
+            → All (LeadsToKept (program_of checked.now.tree) outside (states_in self.new.states.items)
             (state_of state.now)) (map action_of actions.now)) }
     {
         for choice in 0..actions.len() {
@@ -104,7 +107,7 @@ impl<'a> Kept<'a> {
                 choice,
                 later: 0,
             };
-            if !self.take(alloc, checked, state, &actions[choice], way, strays)? {
+            if !self.take(alloc, checked, state, &actions[choice], way, outside)? {
                 return Ok(false);
             }
         }
@@ -119,22 +122,22 @@ impl<'a> Kept<'a> {
         state: &SourceState<'a>,
         before: usize,
         process: u64,
-        strays: bool,
+        outside: Outside,
     ) -> Result<bool, AllocError>
         ensures longer { OnOk result
             (IsLonger (states_in self.old.states.items) (states_in self.new.states.items)) }
         ensures kept { IfOk result (λ kept. kept ≡ true
-            → IsFollowed (program_of checked.now.tree) strays (states_in self.new.states.items)
+            → IsFollowed (program_of checked.now.tree) outside (states_in self.new.states.items)
             (state_of state.now) process) }
     {
-        if !strays && !can_move(state, checked, process) {
+        if !outside.is_any() && !can_move(state, checked, process) {
             return Ok(true);
         }
-        let Some(actions) = choices(alloc, checked, state, process, strays)? else {
+        let Some(actions) = choices(alloc, checked, state, process, outside)? else {
             return Ok(false);
         };
         let listed = actions.as_slice();
-        let all = self.take_all(alloc, checked, state, before, process, listed, strays)?;
+        let all = self.take_all(alloc, checked, state, before, process, listed, outside)?;
         Ok(all)
     }
 
@@ -145,18 +148,18 @@ impl<'a> Kept<'a> {
         checked: &'a Checked,
         state: &SourceState<'a>,
         before: usize,
-        strays: bool,
+        outside: Outside,
     ) -> Result<bool, AllocError>
         ensures longer { OnOk result
             (IsLonger (states_in self.old.states.items) (states_in self.new.states.items)) }
         ensures kept { IfOk result (λ kept. kept ≡ true
-            → IsExpanded (program_of checked.now.tree) strays (states_in self.new.states.items)
+            → IsExpanded (program_of checked.now.tree) outside (states_in self.new.states.items)
             (state_of state.now)) }
     {
         let all = state.numbers(alloc)?;
         let numbers = all.as_slice();
         for number in numbers {
-            if !self.follow(alloc, checked, state, before, *number, strays)? {
+            if !self.follow(alloc, checked, state, before, *number, outside)? {
                 return Ok(false);
             }
         }
@@ -170,17 +173,17 @@ pub(crate) fn search<'a>(
     checked: &'a Checked,
     kept: &mut Kept<'a>,
     most: usize,
-    strays: bool,
+    outside: Outside,
 ) -> Result<Findings, AllocError>
     ensures longer { OnOk result
         (IsLonger (states_in kept.old.states.items) (states_in kept.new.states.items)) }
     ensures expanded { IfOk result (λ f. f.complete ≡ true
-        → All (IsExpanded (program_of checked.now.tree) strays (states_in kept.new.states.items))
+        → All (IsExpanded (program_of checked.now.tree) outside (states_in kept.new.states.items))
         (states_in kept.new.states.items)) }
     ensures stuck { IfOk result (λ f. f.complete ≡ true
         → NoneIs (IsStuck (program_of checked.now.tree)) (states_in kept.new.states.items) f.stuck) }
     ensures aborted { IfOk result (λ f. f.complete ≡ true
-        → NoneIs HasAborted (states_in kept.new.states.items) f.aborted) }
+        → NoneIs (HasFailed outside) (states_in kept.new.states.items) f.aborted) }
 {
     let mut findings = Findings {
         complete: false,
@@ -196,8 +199,8 @@ pub(crate) fn search<'a>(
         let Some(state) = kept.next(alloc, place)? else {
             return Ok(findings);
         };
-        findings.look(alloc, checked, &state, place)?;
-        if !kept.expand(alloc, checked, &state, place, strays)? {
+        findings.look(alloc, checked, &state, place, outside)?;
+        if !kept.expand(alloc, checked, &state, place, outside)? {
             return Ok(findings);
         }
     }

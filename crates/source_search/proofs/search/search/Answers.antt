@@ -10,7 +10,7 @@ use Rattle.source_search.proofs.search.search.Goals as goal
 
 pub loop-place-init : goal.loop-place-init
 loop-place-init c = record {
-  so_far = at_first (program_of c.args.checked.now.tree) c.args.strays (states_in c.args.kept.now.states.items);
+  so_far = at_first (program_of c.args.checked.now.tree) c.args.outside (states_in c.args.kept.now.states.items);
   goes_on = refl;
 }
 
@@ -22,7 +22,7 @@ loop-place-preserved c =
     let here : IsKeptAt states c.loop-place.place (state_of c.in-Some.state) =
     subst (λ xs. IsKeptAt xs c.loop-place.place (state_of c.in-Some.state)) c.in_ok-state.ensures.states there in
     record {
-      so_far = goes_on (program_of c.args.checked.now.tree) c.args.strays (states_in c.args.kept.now.states.items)
+      so_far = goes_on (program_of c.args.checked.now.tree) c.args.outside (states_in c.args.kept.now.states.items)
           (states_in states) (states_in c.expand.new.self.states.items) c.loop-place.place c.loop-place.findings.stuck
           c.look.new.self.stuck c.loop-place.findings.aborted c.look.new.self.aborted c.loop-place.invariant.so_far
           (subst (λ xs. IsLonger (states_in xs) (states_in c.expand.new.self.states.items)) c.in_ok-state.ensures.states
@@ -40,7 +40,7 @@ returns-then-place-known-clause-expanded c = λ e.
       ap length c.as_slice-known.ensures.value,
       length-map c.loop-place.kept.states.items unpacked,
     ) in
-    all_expanded (program_of c.args.checked.now.tree) c.args.strays (states_in c.args.kept.now.states.items)
+    all_expanded (program_of c.args.checked.now.tree) c.args.outside (states_in c.args.kept.now.states.items)
     (states_in c.loop-place.kept.states.items) c.loop-place.place c.loop-place.findings.stuck
     c.loop-place.findings.aborted c.loop-place.invariant.so_far end
 
@@ -52,7 +52,7 @@ returns-then-place-known-clause-stuck c = λ e.
       ap length c.as_slice-known.ensures.value,
       length-map c.loop-place.kept.states.items unpacked,
     ) in
-    none_stuck (program_of c.args.checked.now.tree) c.args.strays (states_in c.args.kept.now.states.items)
+    none_stuck (program_of c.args.checked.now.tree) c.args.outside (states_in c.args.kept.now.states.items)
     (states_in c.loop-place.kept.states.items) c.loop-place.place c.loop-place.findings.stuck
     c.loop-place.findings.aborted c.loop-place.invariant.so_far end
 
@@ -64,7 +64,7 @@ returns-then-place-known-clause-aborted c = λ e.
       ap length c.as_slice-known.ensures.value,
       length-map c.loop-place.kept.states.items unpacked,
     ) in
-    none_aborted (program_of c.args.checked.now.tree) c.args.strays (states_in c.args.kept.now.states.items)
+    none_aborted (program_of c.args.checked.now.tree) c.args.outside (states_in c.args.kept.now.states.items)
     (states_in c.loop-place.kept.states.items) c.loop-place.place c.loop-place.findings.stuck
     c.loop-place.findings.aborted c.loop-place.invariant.so_far end
 
@@ -79,7 +79,7 @@ returns-clause-expanded c = λ e.
       ap length c.as_slice-all.ensures.value,
       length-map c.loop-place.kept.states.items unpacked,
     ) in
-    all_expanded (program_of c.args.checked.now.tree) c.args.strays (states_in c.args.kept.now.states.items)
+    all_expanded (program_of c.args.checked.now.tree) c.args.outside (states_in c.args.kept.now.states.items)
     (states_in c.loop-place.kept.states.items) c.loop-place.place c.loop-place.findings.stuck
     c.loop-place.findings.aborted c.loop-place.invariant.so_far end
 
@@ -94,7 +94,7 @@ returns-clause-stuck c = λ e.
       ap length c.as_slice-all.ensures.value,
       length-map c.loop-place.kept.states.items unpacked,
     ) in
-    none_stuck (program_of c.args.checked.now.tree) c.args.strays (states_in c.args.kept.now.states.items)
+    none_stuck (program_of c.args.checked.now.tree) c.args.outside (states_in c.args.kept.now.states.items)
     (states_in c.loop-place.kept.states.items) c.loop-place.place c.loop-place.findings.stuck
     c.loop-place.findings.aborted c.loop-place.invariant.so_far end
 
@@ -109,6 +109,6 @@ returns-clause-aborted c = λ e.
       ap length c.as_slice-all.ensures.value,
       length-map c.loop-place.kept.states.items unpacked,
     ) in
-    none_aborted (program_of c.args.checked.now.tree) c.args.strays (states_in c.args.kept.now.states.items)
+    none_aborted (program_of c.args.checked.now.tree) c.args.outside (states_in c.args.kept.now.states.items)
     (states_in c.loop-place.kept.states.items) c.loop-place.place c.loop-place.findings.stuck
     c.loop-place.findings.aborted c.loop-place.invariant.so_far end

@@ -14,15 +14,15 @@ loop-number-preserved c =
       longer = longer_twice (states_in c.args.self.now.states.items) kept kept' c.loop-number.invariant.longer
           c.in_ok-follow.ensures.longer;
       all = followed_more kept kept' c.in_ok-follow.ensures.longer (program_of c.args.checked.now.tree)
-          c.args.strays (state_of c.args.state.now) c.as_slice-numbers.result.now c.loop-number.number-index
+          c.args.outside (state_of c.args.state.now) c.as_slice-numbers.result.now c.loop-number.number-index
           c.loop-number-test.true c.loop-number.invariant.all (c.in_ok-follow.ensures.kept c.if-not-branch.false);
     }
 
 pub returns-clause-kept : goal.returns-clause-kept
 returns-clause-kept c = λ e.
     let kept = states_in c.loop-number.self.states.items in
-    all_expanded (program_of c.args.checked.now.tree) c.args.strays kept (state_of c.args.state.now)
+    all_expanded (program_of c.args.checked.now.tree) c.args.outside kept (state_of c.args.state.now)
     c.in_ok-all.all.items c.in_ok-all.ensures.all
-    (subst (All (IsFollowed (program_of c.args.checked.now.tree) c.args.strays kept (state_of c.args.state.now)))
+    (subst (All (IsFollowed (program_of c.args.checked.now.tree) c.args.outside kept (state_of c.args.state.now)))
     (take_all c.loop-number.number-index c.as_slice-numbers.result.now c.loop-number-test.false
     ∙ c.as_slice-numbers.ensures.value) c.loop-number.invariant.all)

@@ -7,6 +7,6 @@ use Rattle.source_search.proofs.kept.Kept.expand.Given as goal
 abbrev pub invariant-loop-number : goal.invariant-loop-number
 invariant-loop-number l = record {
   longer : IsLonger (states_in l.fn.self.states.items) (states_in l.self.states.items);
-  all : All (IsFollowed (program_of l.checked.tree) l.strays (states_in l.self.states.items) (state_of l.state))
+  all : All (IsFollowed (program_of l.checked.tree) l.outside (states_in l.self.states.items) (state_of l.state))
       (take l.number-index l.numbers);
 }

@@ -12,8 +12,8 @@ returns-clause-kept c = λ e.
     let p = program_of c.args.checked.now.tree in
     let s = state_of c.args.state.now in
     let kept = states_in c.take_all.new.self.states.items in
-    let are : AreChoices p c.args.strays s c.args.process (map action_of c.in-Some.actions.items) =
+    let are : AreChoices p c.args.outside s c.args.process (map action_of c.in-Some.actions.items) =
     rw c.in-Some.is at c.in_ok-actions.ensures in
-    all_followed p c.args.strays kept s c.args.process (map action_of c.in-Some.actions.items) are
-    (subst (λ xs. All (LeadsToKept p c.args.strays kept s) (map action_of xs)) c.as_slice-listed.ensures.value
+    all_followed p c.args.outside kept s c.args.process (map action_of c.in-Some.actions.items) are
+    (subst (λ xs. All (LeadsToKept p c.args.outside kept s) (map action_of xs)) c.as_slice-listed.ensures.value
     (c.in_ok-all.ensures.kept e))

@@ -5,6 +5,7 @@ use Rattle.meaning.specs.States.{SourceState}
 use Rattle.proof_exploration.specs.Exploring.{IsLike}
 use Rattle.source_states.specs.Actions.{action_of}
 use Rattle.source_states.specs.States.{state_of}
+use Rattle.source_search.specs.Found.{is_any}
 use Rattle.source_search.specs.Kept.{states_in}
 use Rattle.source_search.proofs.Keeping.{seen_like}
 use Rattle.source_search.proofs.kept.Kept.take.Goals as goal
@@ -24,7 +25,7 @@ returns-in-Some c =
     record {
       longer = c.cover.ensures.longer;
       kept = IfOk-weaker c.cover.result _ _ (λ b h e s' x.
-          seen_like (program_of c.args.checked.now.tree) c.args.strays (states_in c.cover.new.self.states.items)
+          seen_like (program_of c.args.checked.now.tree) (is_any c.args.outside) (states_in c.cover.new.self.states.items)
           (state_of c.in-Some.next) s' (h e) (next s' x))
           c.cover.ensures.kept;
     }

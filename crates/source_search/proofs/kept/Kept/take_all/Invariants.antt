@@ -8,6 +8,6 @@ use Rattle.source_search.proofs.kept.Kept.take_all.Given as goal
 abbrev pub invariant-loop-choice : goal.invariant-loop-choice
 invariant-loop-choice l = record {
   longer : IsLonger (states_in l.fn.self.states.items) (states_in l.self.states.items);
-  all : All (LeadsToKept (program_of l.checked.tree) l.strays (states_in l.self.states.items) (state_of l.state))
+  all : All (LeadsToKept (program_of l.checked.tree) l.outside (states_in l.self.states.items) (state_of l.state))
       (map action_of (take l.choice l.actions));
 }
