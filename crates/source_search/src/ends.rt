@@ -1,4 +1,4 @@
-ghost use Rattle.std.specs.Prelude.{◌≡◌, All, Contains, IfOk, MatchBool, Some, true, ℕ};
+ghost use Rattle.std.specs.Prelude.{◌≡◌, All, IfOk, MatchBool, Some, true, ℕ};
 ghost use Rattle.program.specs.Views.{program_of};
 ghost use Rattle.meaning.specs.Labels.{Aborted, Cause as CauseIn};
 ghost use Rattle.meaning.specs.Processes.{Over};

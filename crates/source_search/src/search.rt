@@ -1,4 +1,4 @@
-ghost use Rattle.std.specs.Prelude.{◌≡◌, All, IfOk, None, OnOk, length, true};
+ghost use Rattle.std.specs.Prelude.{◌≡◌, All, IfOk, None, OnOk, true};
 ghost use Rattle.program.specs.Views.{program_of};
 ghost use Rattle.proof_exploration.specs.Exploring.{IsStuck};
 ghost use Rattle.source_search.specs.Found.{HasFailed};
@@ -54,8 +54,7 @@ impl Findings {
 }
 
 impl<'a> Kept<'a> {
-    ghost use Rattle.meaning.specs.Labels.{Action as ActionIn};
-    ghost use Rattle.std.specs.Prelude.{Contains, map};
+    ghost use Rattle.std.specs.Prelude.{map};
     ghost use Rattle.source_states.specs.Actions.{action_of};
     ghost use Rattle.source_states.specs.States.{state_of};
     ghost use Rattle.source_search.specs.Kept.{IsExpanded, IsFollowed, IsLonger, LeadsToKept, states_in};
