@@ -2,7 +2,7 @@
 use Rattle.std.proofs.Common.{◌≡◌, ◌⊎◌, inl, inr, ℕ, List, Option, None, codes}
 use Rattle.clap.specs.Words.{Row, first_of}
 use Rattle.commandline.specs.CommandLine.{IsCheckOf, IsCompileOf, IsEmitOf, IsExplainOf, IsListOf, AsksForExec}
-use Rattle.commandline.specs.CommandLine.{IsExploreOf, ReadsChart, ReadsStates}
+use Rattle.commandline.specs.CommandLine.{IsExploreOf, ReadsChart, ReadsKills, ReadsStates}
 use Rattle.commandline.specs.declared.options.ChartOptions.{ChartOptions}
 use Rattle.commandline.specs.CommandLine.{AsksForReplay, AsksForRun, IsExplainedBy, IsReplayedBy, ReadsOptions}
 use Rattle.commandline.specs.CommandLine.{ReadsWorkers}
@@ -66,8 +66,10 @@ no_emit rows other missing h = h
 
 pub no_explore : (rows : List Row) (job : Job)
     → (first_of (codes "FILE") rows ≡ None) ⊎ (((n : ℕ) → ReadsStates rows n → ⊥)
-    ⊎ ((c : Option ChartOptions) → ReadsChart rows c → ⊥)) → IsExploreOf rows job → ⊥
-no_explore rows (Explore file states strays chart timeline hints) (inl none) h = no_value _ _ none h.0
-no_explore rows (Explore file states strays chart timeline hints) (inr (inl none)) h = none states h.1
-no_explore rows (Explore file states strays chart timeline hints) (inr (inr none)) h = none chart h.3
+    ⊎ (((n : ℕ) → ReadsKills rows n → ⊥) ⊎ ((c : Option ChartOptions) → ReadsChart rows c → ⊥)))
+    → IsExploreOf rows job → ⊥
+no_explore rows (Explore file states strays kills chart timeline hints) (inl none) h = no_value _ _ none h.0
+no_explore rows (Explore file states strays kills chart timeline hints) (inr (inl none)) h = none states h.1
+no_explore rows (Explore file states strays kills chart timeline hints) (inr (inr (inl none))) h = none kills h.3
+no_explore rows (Explore file states strays kills chart timeline hints) (inr (inr (inr none))) h = none chart h.4
 no_explore rows other missing h = h

@@ -157,11 +157,11 @@ explain_command =
     strays_option) kills_option) (valued (codes "schedule"))) (valued (codes "log")))) (valued (codes "timeline")))
     (flag (codes "places"))) (flag (codes "hints"))
 
--- `explore FILE [--states N] [--strays] [--chart OUT [--from N] [--to N]] [--timeline OUT] [--hints]`
+-- `explore FILE [--states N] [--strays] [--kills N] [--chart OUT [--from N] [--to N]] [--timeline OUT] [--hints]`
 abbrev pub explore_command : App
 explore_command =
-    with_rule (with_rule (with_chart_options (with_rule (with_rule (with_rule (new_app (codes "explore"))
-    (positional (codes "FILE"))) states_option) (flag (codes "strays")))) (valued (codes "timeline")))
+    with_rule (with_rule (with_chart_options (with_rule (with_rule (with_rule (with_rule (new_app (codes "explore"))
+    (positional (codes "FILE"))) states_option) (flag (codes "strays"))) kills_option)) (valued (codes "timeline")))
     (flag (codes "hints"))
 
 -- whether the words have this argument; its default, which they don't have, is no such
@@ -338,9 +338,9 @@ IsEmitOf rows other = ⊥
 
 -- a job of searching all runs
 abbrev pub IsExploreOf : List Row → Job → Type 0
-IsExploreOf rows (Explore file states strays chart timeline hints) =
+IsExploreOf rows (Explore file states strays kills chart timeline hints) =
     (first_of (codes "FILE") rows ≡ Some file.now) × ReadsStates rows states × ReadsFlag (codes "strays") rows strays
-    × ReadsChart rows chart
+    × ReadsKills rows kills × ReadsChart rows chart
     × (first_of (codes "timeline") rows ≡ option_map (λ out. out.now) timeline) × ReadsFlag (codes "hints") rows hints
 IsExploreOf rows other = ⊥
 

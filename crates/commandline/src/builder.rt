@@ -48,6 +48,8 @@ const STRAYS: &str =
 // What its kills are, and how many there are where no number stands.
 const KILLS: &str = "Beside --seed: kills at most N threads, each drawn, where it stands";
 
+const ALL_KILLS: &str = "Searches the runs too in which at most N processes are killed";
+
 const NO_KILLS: &str = "0";
 
 // What the file of a timeline is.
@@ -160,7 +162,7 @@ fn with_run_options<'a>(alloc: Global, command: Command<'a>) -> Result<Command<'
         .arg(flag(alloc, "in-order", IN_ORDER))?
         .arg(seed_option(alloc))?
         .arg(strays_option(alloc))?
-        .arg(kills_option(alloc))?
+        .arg(kills_option(alloc, KILLS))?
         .arg(flag(alloc, "trace", TRACE))?
         .arg(valued(alloc, "log", "OUT", "Where the log is written"))
 }
@@ -206,7 +208,7 @@ pub fn explain_command<'a>(alloc: Global) -> Result<Command<'a>, AllocError>
         .arg(steps_option(alloc))?
         .arg(seed_option(alloc))?
         .arg(strays_option(alloc))?
-        .arg(kills_option(alloc))?
+        .arg(kills_option(alloc, KILLS))?
         .arg(valued(alloc, "schedule", "SCHEDULE", "The threads of its steps"))?
         .arg(valued(alloc, "log", "LOG", "The log of the run"))?;
     with_chart_options(alloc, command, RUN_CHART)?
@@ -235,7 +237,8 @@ pub fn explore_command<'a>(alloc: Global) -> Result<Command<'a>, AllocError>
         .about("Searches all runs of a source text for one that gets stuck or aborts")
         .arg(positional(alloc, "FILE", "The source text"))?
         .arg(states_option(alloc))?
-        .arg(flag(alloc, "strays", ALL_STRAYS))?;
+        .arg(flag(alloc, "strays", ALL_STRAYS))?
+        .arg(kills_option(alloc, ALL_KILLS))?;
     with_chart_options(alloc, command, FOUND_CHART)?
         .arg(valued(alloc, "timeline", "OUT", TIMELINE))?
         .arg(flag(alloc, "hints", HINTS))
@@ -314,7 +317,7 @@ fn strays_option<'a>(alloc: Global) -> Arg<'a>
         .help(STRAYS)
 }
 
-fn kills_option<'a>(alloc: Global) -> Arg<'a>
+fn kills_option<'a>(alloc: Global, help: &'a str) -> Arg<'a>
     ensures rule { rule_of result ≡ line.kills_option }
     ensures local { result.global ≡ false }
 {
@@ -323,7 +326,7 @@ fn kills_option<'a>(alloc: Global) -> Arg<'a>
         .value_name("N")
         .value_parser(ValueParser::unsigned(0, u32::MAX as u64))
         .default_value(NO_KILLS)
-        .help(KILLS)
+        .help(help)
 }
 
 // An option `--NAME N`, the number of an action.

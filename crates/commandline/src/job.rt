@@ -12,7 +12,7 @@ use crate::fault::WordsFault;
 use crate::options::{ChartOptions, ExplainedBy, ReplayedBy, RunOptions};
 use crate::refusing::refusal_of;
 use crate::sources::{explained_by, replayed_by};
-use crate::values::{chart_of, options_of, states_of, workers_of};
+use crate::values::{chart_of, kills_of, options_of, states_of, workers_of};
 use clap::{ArgMatches, Command, Error};
 use std::alloc::Global;
 
@@ -107,6 +107,8 @@ pub enum Job<'a> {
         states: u32,
         /// Whether the runs with stray wakes are searched too.
         strays: bool,
+        /// How many processes may be killed in a run that is searched, at most.
+        kills: u32,
         /// The picture of it, where one is wanted.
         chart: Option<ChartOptions<'a>>,
         /// The name of the timeline's file, where one is wanted.
@@ -301,6 +303,7 @@ fn explore_of<'a>(matches: &ArgMatches<'a>) -> Option<Job<'a>>
     let file = matches.get_str("FILE")?;
     let states = states_of(matches)?;
     let strays = matches.get_flag("strays");
+    let kills = kills_of(matches)?;
     let chart = chart_of(matches)?;
     let timeline = matches.get_str("timeline");
     let hints = matches.get_flag("hints");
@@ -308,6 +311,7 @@ fn explore_of<'a>(matches: &ArgMatches<'a>) -> Option<Job<'a>>
         file,
         states,
         strays,
+        kills,
         chart,
         timeline,
         hints,

@@ -8,6 +8,8 @@ use Rattle.commandline.proofs.builder.explore_command.Goals as goal
 pub with_chart_options-requires : goal.with_chart_options-requires
 with_chart_options-requires c = rw (
   c.in_ok-command.ensures.globals,
+  c.kills_option.ensures.local,
+  c.in_ok-arg-3.ensures.globals,
   c.flag.ensures.local,
   c.in_ok-arg-2.ensures.globals,
   c.states_option.ensures.local,
@@ -25,19 +27,21 @@ returns-clause-app c =
     ∙ ap₂ with_rule new c.positional.ensures.rule in
     let second = c.in_ok-arg-2.ensures.shape c.states_option.ensures.local
     ∙ ap₂ with_rule first c.states_option.ensures.rule in
-    let third = c.in_ok-command.ensures.shape c.flag.ensures.local
+    let third = c.in_ok-arg-3.ensures.shape c.flag.ensures.local
     ∙ ap₂ with_rule second c.flag.ensures.rule in
-    let fourth = c.in_ok-with_chart_options.ensures.app ∙ ap line.with_chart_options third in
-    let fifth = c.in_ok-arg-3.ensures.shape c.valued.ensures.local
-    ∙ ap₂ with_rule fourth c.valued.ensures.rule in
-    IfOk-weaker c.arg-5.result _ _ (λ r h. h.shape c.flag-2.ensures.local
-    ∙ ap₂ with_rule fifth c.flag-2.ensures.rule) c.arg-5.ensures
+    let fourth = c.in_ok-command.ensures.shape c.kills_option.ensures.local
+    ∙ ap₂ with_rule third c.kills_option.ensures.rule in
+    let fifth = c.in_ok-with_chart_options.ensures.app ∙ ap line.with_chart_options fourth in
+    let sixth = c.in_ok-arg-4.ensures.shape c.valued.ensures.local
+    ∙ ap₂ with_rule fifth c.valued.ensures.rule in
+    IfOk-weaker c.arg-6.result _ _ (λ r h. h.shape c.flag-2.ensures.local
+    ∙ ap₂ with_rule sixth c.flag-2.ensures.rule) c.arg-6.ensures
 
 pub returns-clause-local : goal.returns-clause-local
-returns-clause-local c = IfOk-weaker c.arg-5.result _ _ (λ r h. rw (
+returns-clause-local c = IfOk-weaker c.arg-6.result _ _ (λ r h. rw (
   h.globals,
   c.flag-2.ensures.local,
-  c.in_ok-arg-3.ensures.globals,
+  c.in_ok-arg-4.ensures.globals,
   c.valued.ensures.local,
   c.in_ok-with_chart_options.ensures.local,
-) refl) c.arg-5.ensures
+) refl) c.arg-6.ensures

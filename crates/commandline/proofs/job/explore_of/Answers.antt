@@ -14,9 +14,13 @@ pub returns-in_err-states-clause-none : goal.returns-in_err-states-clause-none
 returns-in_err-states-clause-none c = λ _ job.
     no_explore (rows_of (found_of c.args.matches.now)) job (inr (inl (c.in_err-states.ensures.none refl)))
 
+pub returns-in_err-kills-clause-none : goal.returns-in_err-kills-clause-none
+returns-in_err-kills-clause-none c = λ _ job.
+    no_explore (rows_of (found_of c.args.matches.now)) job (inr (inr (inl (c.in_err-kills.ensures.none refl))))
+
 pub returns-in_err-chart-clause-none : goal.returns-in_err-chart-clause-none
 returns-in_err-chart-clause-none c = λ _ job.
-    no_explore (rows_of (found_of c.args.matches.now)) job (inr (inr (c.in_err-chart.ensures.none refl)))
+    no_explore (rows_of (found_of c.args.matches.now)) job (inr (inr (inr (c.in_err-chart.ensures.none refl))))
 
 pub returns-clause-job : goal.returns-clause-job
 returns-clause-job c =
@@ -28,6 +32,7 @@ returns-clause-job c =
       search rules,
       c.in_ok-states.ensures.number,
       (search rules, search rules),
+      c.in_ok-kills.ensures.number,
       c.in_ok-chart.ensures.chart,
       sym timeline ∙ sym c.get_str-timeline.ensures,
       (search rules, search rules),
