@@ -1,12 +1,9 @@
 -- Which threads a held bucket is in the way of.
-use Rattle.std.proofs.Common.{◌≡◌, ℕ, ◌<◌, ◌≤◌, Bool, true, false, Some, None, []}
-use Rattle.std.proofs.Common.{length, refl, sym, ap, ◌∙◌, inl, inr, subst, arith}
+use Rattle.std.proofs.Common.{◌≡◌, ℕ, ◌<◌, ◌≤◌, Bool, true, false, Some, None}
+use Rattle.std.proofs.Common.{length, refl, sym, ap, ◌∙◌, subst}
 use Rattle.std.specs.Prelude.{MatchBool}
-use Rattle.std.proofs.lemmas.Bool.{both_ways}
 use Rattle.isa.specs.Programs.{Program}
-use Rattle.buckets.specs.Places.{names}
 use Rattle.futexcalls.specs.declared.pieces.FutexCall.{FutexCall}
-use Rattle.futexcalls.specs.Pieces.{held_at}
 use Rattle.locals.specs.Threads.{Thread, Exits}
 use Rattle.locals.specs.declared.request.Request.{Request as Told}
 use Rattle.locals.specs.declared.request.NextStep.TheVariants as next
@@ -18,7 +15,7 @@ use Rattle.machine.specs.RequestMeanings.{asked_of}
 use Rattle.machine.specs.States.{ConcreteState, thread_of, state_of}
 use Rattle.machine.specs.ConcreteSteps.{can_move}
 use Rattle.machine.specs.ConcretePieces.{MakesCall}
-use Rattle.machine.specs.PieceStates.{PieceState, request_of, call_of, call_at, called, held, IsHeldRight}
+use Rattle.machine.specs.PieceStates.{PieceState, request_of, call_of, call_at}
 use Rattle.machine.specs.PieceSteps.{BlocksAt, BlocksCall, CanTakePiece}
 use Rattle.machine.specs.Views.{View, concrete, IsWellFormed}
 use Rattle.machine.proofs.Landing.{HasPlace, has_place}
@@ -94,23 +91,6 @@ exit_blocked v s t phase b base x at is h =
     let looks = leaves_as (look v.program t x) phase is in
     both b h (λ w. blocked_by v.program s t x (Leaves phase) stands looks w)
     (λ free. unblocked_by v.program s t x (Leaves phase) stands looks free)
-
--- who holds a bucket was made
-holder_made : (p : Program) (k : ConcreteState) (s : PieceState) (b u : ℕ) → IsWellFormed p k → IsHeldRight p s
-    → s.base ≡ state_of k → s.holder b ≡ Some u → HasPlace k u
-holder_made p k s b u well right base h = elim (right.apart u) [
-  | inr w ↦ has_place p k u w.thread well (sym (ap (λ z. z.thread u) base) ∙ w.stands)
-  | inl first ↦ absurd (let held_now : names [] b ≡ true =
-      sym (ap (λ f. names (held_at s.buckets f (called p u (s.base.thread u))) b) first) ∙ right.right b u h in cc)
-]
-
--- where no thread in range holds a bucket nobody does
-pub nobody_holds : (p : Program) (k : ConcreteState) (s : PieceState) (b : ℕ) → IsWellFormed p k → IsHeldRight p s
-    → s.base ≡ state_of k → ((u : ℕ) → 0 < u → u ≤ length k.threads → names (held p s u) b ≡ false)
-    → (u : ℕ) → s.holder b ≡ Some u → ⊥
-nobody_holds p k s b well right base none u h =
-    let place = holder_made p k s b u well right base h in
-    both_ways (names (held p s u) b) (none u (omega (arith, place.some)) place.few) (right.right b u h)
 
 -- a thread that can move takes a piece, unless a held bucket is in its way
 pub can_take : (p : Program) (k : ConcreteState) (s : PieceState) (t : ℕ) → s.base ≡ state_of k → can_move k t ≡ true

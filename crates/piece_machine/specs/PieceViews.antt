@@ -1,5 +1,5 @@
 -- A machine whose threads take futex calls in pieces, as contracts see it, and its steps.
-use Rattle.std.specs.Prelude.{ℕ, ◌≡◌, ◌<◌, ◌==◌, Bool, List, [], ◌∷◌, Option, Some, None, false, length, slice_index_or}
+use Rattle.std.specs.Prelude.{ℕ, ◌≡◌, ◌<◌, ◌==◌, Bool, List, [], ◌∷◌, Some, None, false, length, slice_index_or}
 use Rattle.words.specs.Limits.{most_threads}
 use Rattle.isa.specs.Programs.{Program}
 use Rattle.futexcalls.specs.declared.pieces.FutexCall.{FutexCall}
@@ -86,11 +86,6 @@ pub record IsApart (p : Program) (s : PieceState) (t : ℕ) : Type 0 where
   pub awake : s.base.asleep t ≡ None
   pub none : call_at (look p t thread) ≡ None
   pub free : BlocksAt s t (look p t thread) → ⊥
-
--- the bucket of an option, as a list
-abbrev pub bucket_list : Option ℕ → List ℕ
-bucket_list None = []
-bucket_list (Some b) = b ∷ []
 
 -- thread t was made, and a held bucket is in its way
 pub record IsBlocked (p : Program) (s : PieceState) (t : ℕ) : Type 0 where

@@ -1,13 +1,16 @@
 //! What comes to a machine in pieces from outside.
-ghost use Rattle.std.specs.Prelude.{◌≡◌, ◌<◌, ℕ, Some, None, true, take, IfOk, IfErr};
+ghost use Rattle.std.specs.Prelude.{◌≡◌, ◌<◌, ◌≤◌, ℕ, length, Some, None, true, take, IfOk, IfErr};
 ghost use Rattle.buckets.specs.Places.{names, with_place};
 ghost use Rattle.buckets.specs.Sleepers.{bucket_count, holder_of};
 ghost use Rattle.futexcalls.specs.Pieces.{buckets_of, held_at};
+ghost use Rattle.machine.specs.PieceStates.{called};
+ghost use Rattle.machine.specs.States.{thread_of};
 ghost use Rattle.machine.specs.Views.{concrete};
 ghost use Rattle.piece_machine.specs.PieceViews.{pieces, Strays, RefusesStray, Kills, RefusesKill};
 
-use crate::piece_machine::PieceMachine;
+use crate::piece_machine::{PieceMachine, call_in};
 use futexcalls::{FutexCall, FutexPhase};
+use locals::NextStep;
 use machine::{Event, Machine, StepFault};
 
 // Thread `t` gives up the first bucket of its call, which it holds.
@@ -107,5 +110,16 @@ impl PieceMachine {
         self.phases[t as usize] = FutexPhase::First;
         let event = self.machine.kill(t)?;
         Ok(event)
+    }
+
+    // The futex call that thread `t` makes, if it makes one.
+    fn call_at(&self, t: u32) -> Option<FutexCall>
+        requires { (0 < t) × (t ≤ length self.now.view.threads) }
+        ensures { result ≡ called self.now.view.program t (thread_of (concrete self.now.view) t) }
+    {
+        match self.machine.next_step(t) {
+            NextStep::Shared(request) => call_in(request),
+            _ => None,
+        }
     }
 }
