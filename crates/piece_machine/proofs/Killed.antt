@@ -1,6 +1,6 @@
 -- A kill from outside is a step of the machine with pieces: the thread has left its call, and its buckets are free.
 use Rattle.std.proofs.Common.{◌≡◌, ℕ, ◌==◌, Bool, true, false, not, Option, Some, None, List, [], Ok}
-use Rattle.std.proofs.Common.{slice_set, inl, inr, refl, sym, ap, ◌∙◌, subst}
+use Rattle.std.proofs.Common.{slice_set, inl, inr, refl, sym, ap, ◌∙◌}
 use Rattle.std.specs.Prelude.{slice_index_or}
 use Rattle.std.proofs.Math.Path.{fun_ext}
 use Rattle.std.proofs.lemmas.Bool.{both_ways, cases_eq}
@@ -25,7 +25,10 @@ use Rattle.machine.specs.Views.{View, concrete}
 use Rattle.machine.proofs.Killing.{kills_so}
 use Rattle.machine.proofs.Placing.{put-here, put-there}
 use Rattle.proof_pieces.proofs.Calls.{asks_alive}
-use Rattle.piece_machine.specs.PieceViews.{phase_in, IsKept, Kills}
+use Rattle.proof_pieces.proofs.Runs.{held_kept}
+use Rattle.piece_machine.specs.PieceConcrete.{PieceConcrete, pieces_at, killed}
+use Rattle.piece_machine.specs.PieceDetermined.{IsFit}
+use Rattle.piece_machine.specs.PieceViews.{phase_in, parts, kill_step, IsKept, Kills}
 use Rattle.piece_machine.proofs.OwnCalls.{one_thread, made_of}
 use Rattle.piece_machine.proofs.Owns.{phase_put, phase_at, has_phase}
 
@@ -50,55 +53,64 @@ not_true true h = refl
 not_true false h = absurd cc
 
 -- the state behind a kill
-killed_is : (v v' : View) (phases : List FutexPhase) (t : ℕ) (x : Thread) (begins : Bool)
-    → IsHeldRight v.program (pieces_of v (phase_in phases)) → thread_of (concrete v) t ≡ Some x
-    → begins ≡ not (is_dying x) → state_of (concrete v') ≡ killed_to begins (state_of (concrete v)) t
-    → phase_in (slice_set phases t First) ≡ put (phase_in phases) t First
-    → holder_of v'.sleepers ≡ with_place (holder_of v.sleepers) (held v.program (pieces_of v (phase_in phases)) t) None
-    → bucket_count v'.sleepers ≡ bucket_count v.sleepers
-    → pieces_of v' (phase_in (slice_set phases t First))
-    ≡ killed_piece v.program begins (pieces_of v (phase_in phases)) t
-killed_is v v' phases t x true right stands is state phase holders count = λ i. record {
+killed_is : (p : Program) (k : PieceConcrete) (c : ConcreteState) (t : ℕ) (x : Thread) (begins : Bool)
+    → IsHeldRight p (pieces_at k) → thread_of k.concrete t ≡ Some x → begins ≡ not (is_dying x)
+    → state_of c ≡ killed_to begins (state_of k.concrete) t
+    → pieces_at (killed p k t c) ≡ killed_piece p begins (pieces_at k) t
+killed_is p k c t x true right stands is state = λ i. record {
   base = state i;
-  phase = phase i;
-  holder = holders i;
-  buckets = count i;
+  phase = put k.phase t First;
+  holder = with_place k.holder (held p (pieces_at k) t) None;
+  buckets = k.buckets;
 }
-killed_is v v' phases t x false right stands is state phase holders count =
-    let s = pieces_of v (phase_in phases) in
-    let first : phase_in phases t ≡ First = dying_first v.program s t x right stands (not_true (is_dying x) is) in
-    let none : held v.program s t ≡ [] =
-    ap (λ f. held_at s.buckets f (called v.program t (s.base.thread t))) first in λ i. record {
+killed_is p k c t x false right stands is state =
+    let first : k.phase t ≡ First = dying_first p (pieces_at k) t x right stands (not_true (is_dying x) is) in
+    let none : held p (pieces_at k) t ≡ [] =
+    ap (λ f. held_at k.buckets f (called p t (thread_of k.concrete t))) first in λ i. record {
       base = state i;
-      phase = (phase ∙ unput (phase_in phases) t First first) i;
-      holder = (holders ∙ ap (λ bs. with_place (holder_of v.sleepers) bs None) none) i;
-      buckets = count i;
+      phase = unput k.phase t First first i;
+      holder = ap (λ bs. with_place k.holder bs None) none i;
+      buckets = k.buckets;
     }
 
--- a kill is a step of the machine with pieces
-pub kills_piece : (v v1 v' : View) (phases : List FutexPhase) (t : ℕ) (call : Option FutexCall) (phase : FutexPhase)
-    (e : Event) → IsKept v phases → (thread_of (concrete v) t ≡ None → ⊥)
-    → call ≡ called v.program t (thread_of (concrete v) t) → phase ≡ slice_index_or phases t phase
-    → concrete v1 ≡ concrete v → kill_of (concrete v1) t ≡ Ok (concrete v', e)
-    → holder_of v1.sleepers ≡ with_place (holder_of v.sleepers) (held_at (bucket_count v.sleepers) phase call) None
-    → bucket_count v1.sleepers ≡ bucket_count v.sleepers → v'.sleepers.holders ≡ v1.sleepers.holders
-    → Kills v.program (pieces_of v (phase_in phases)) t e (pieces_of v' (phase_in (slice_set phases t First)))
-kills_piece v v1 v' phases t call phase e kept made calls at same done holders count held_as =
-    let r = kills_so v.program (concrete v) (concrete v') t e kept.well
-    (subst (λ (k : ConcreteState). kill_of k t ≡ Ok (concrete v', e)) same done) in
-    let m = made_of (thread_of (concrete v) t) made in
-    let stands_in = phase_at v phases t m.0 phase kept m.1 at in
-    let gave : holder_of v1.sleepers
-    ≡ with_place (holder_of v.sleepers) (held v.program (pieces_of v (phase_in phases)) t) None =
-    holders ∙ (λ i. with_place (holder_of v.sleepers)
-    (held_at (bucket_count v.sleepers) (sym stands_in i) (calls i)) None) in
-    record {
+-- a kill is a step of the machine with pieces, and keeps what always holds
+pub kill_done : (p : Program) (k : PieceConcrete) (c : ConcreteState) (t : ℕ) (e : Event) → IsFit p k
+    → kill_of k.concrete t ≡ Ok (c, e)
+    → Kills p (pieces_at k) t e (pieces_at (killed p k t c)) × IsFit p (killed p k t c)
+kill_done p k c t e fit done =
+    let r = kills_so p k.concrete c t e fit.well done in
+    let s : Kills p (pieces_at k) t e (pieces_at (killed p k t c)) = record {
       step = record {
         kills = r.1;
-        after = killed_is v v' phases t r.1.thread (e.value == 1) kept.right r.1.stands r.1.begins_so r.1.after
-            (phase_put phases t First (has_phase v phases t m.0 kept m.1))
-            (same_holders v1.sleepers v'.sleepers held_as ∙ gave)
-            (same_count v1.sleepers v'.sleepers held_as ∙ count);
+        after = killed_is p k c t r.1.thread (e.value == 1) fit.right r.1.stands r.1.begins_so r.1.after;
       };
       told = r.0;
+    } in (
+      s,
+      record {
+        well = r.2;
+        right = held_kept p (pieces_at k) (pieces_at (killed p k t c)) (kill_step t (e.value == 1)) fit.right s.step;
+      },
+    )
+
+-- what is kept behind it, where the thread gave up what its phase says
+pub killed_parts : (v v1 v' : View) (phases : List FutexPhase) (t : ℕ) (call : Option FutexCall) (phase : FutexPhase)
+    → IsKept v phases → (thread_of (concrete v) t ≡ None → ⊥) → call ≡ called v.program t (thread_of (concrete v) t)
+    → phase ≡ slice_index_or phases t phase
+    → holder_of v1.sleepers ≡ with_place (holder_of v.sleepers) (held_at (bucket_count v.sleepers) phase call) None
+    → bucket_count v1.sleepers ≡ bucket_count v.sleepers → v'.sleepers.holders ≡ v1.sleepers.holders
+    → parts (record { view = v'; phases = slice_set phases t First })
+    ≡ killed v.program (parts (record { view = v; phases = phases })) t (concrete v')
+killed_parts v v1 v' phases t call phase kept made calls at holders count held_as =
+    let m = made_of (thread_of (concrete v) t) made in
+    let stands_in = phase_at v phases t m.0 phase kept m.1 at in
+    let put_first = phase_put phases t First (has_phase v phases t m.0 kept m.1) in
+    let gave : holder_of v'.sleepers
+    ≡ with_place (holder_of v.sleepers) (held v.program (pieces_of v (phase_in phases)) t) None =
+    same_holders v1.sleepers v'.sleepers held_as ∙ holders ∙ (λ i. with_place (holder_of v.sleepers)
+    (held_at (bucket_count v.sleepers) (sym stands_in i) (calls i)) None) in λ i. record {
+      concrete = concrete v';
+      phase = put_first i;
+      holder = gave i;
+      buckets = (same_count v1.sleepers v'.sleepers held_as ∙ count) i;
     }

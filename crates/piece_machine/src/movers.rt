@@ -1,7 +1,8 @@
 //! Which threads can take a step.
 ghost use Rattle.std.specs.Prelude.{◌≡◌, ◌≤◌, ◌<◌, ℕ, Some, None, true, length, MatchBool};
 ghost use Rattle.machine.specs.PieceSteps.{BlocksCall, CanTakePiece};
-ghost use Rattle.piece_machine.specs.PieceViews.{pieces, IsBlocked, IsAtRest};
+ghost use Rattle.piece_machine.specs.PieceConcrete.{can_take};
+ghost use Rattle.piece_machine.specs.PieceViews.{pieces, parts, IsBlocked, IsAtRest};
 
 use crate::piece_machine::{PieceMachine, call_in};
 use futexcalls::FutexCall;
@@ -10,7 +11,8 @@ use locals::NextStep;
 impl PieceMachine {
     /// Whether thread `t` can take a step: it was made, neither sleeps nor has ended, and no held bucket is in its way.
     pub fn can_move(&self, t: u32) -> bool
-        ensures { MatchBool result (CanTakePiece self.now.view.program (pieces self.now) t)
+        ensures value { result ≡ can_take self.now.view.program (parts self.now) t }
+        ensures exact { MatchBool result (CanTakePiece self.now.view.program (pieces self.now) t)
             (CanTakePiece self.now.view.program (pieces self.now) t → ⊥) }
     {
         self.machine.can_move(t) && !self.is_blocked(t)
