@@ -7,3 +7,4 @@ pub mod Acted
 pub mod Determined
 pub mod Refused
 pub mod Beyond
+pub mod Locally

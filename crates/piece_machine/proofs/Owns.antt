@@ -104,7 +104,7 @@ phase_put phases t phase l = fun_ext (λ u. elim (cases_eq u t) [
 ])
 
 -- a run and one step more
-goes_more : (p : Program) (s mid s' : PieceState) (steps : List Step) (step : Step) → GoesByPieces p s steps mid
+pub goes_more : (p : Program) (s mid s' : PieceState) (steps : List Step) (step : Step) → GoesByPieces p s steps mid
     → IsPieceStep p mid step s' → GoesByPieces p s (steps ++ step ∷ []) s'
 goes_more p s mid s' [] step h one =
     (s', subst (λ (q : PieceState). IsPieceStep p q step s') (sym h) one, refl)

@@ -10,6 +10,8 @@ use Rattle.futexcalls.specs.declared.pieces.FutexPhase.TheVariants.{First}
 use Rattle.futexcalls.specs.Pieces.{takes_at}
 use Rattle.locals.specs.Threads.{Thread}
 use Rattle.locals.specs.Looks.{look}
+use Rattle.locals.specs.Steps.{local_after}
+use Rattle.machine.specs.States.{thread_of}
 use Rattle.machine.specs.Views.{View, concrete, IsWellFormed}
 use Rattle.machine.specs.ConcretePieces.{pieces_of}
 use Rattle.machine.specs.declared.event.Event.{Event as Told}
@@ -135,3 +137,10 @@ pub record Kills (p : Program) (s : PieceState) (t : ℕ) (e : Told) (s' : Piece
 abbrev pub RefusesKill : PieceState → ℕ → StepFault → Type 0
 RefusesKill s t CannotMove = s.base.thread t ≡ None
 RefusesKill s t Broken = ⊥
+
+-- thread t stands in the machine, and some number of local steps leads it here
+pub record GoesTo (v : View) (t : ℕ) (here : Thread) : Type 0 where
+  pub origin : Thread
+  pub count : ℕ
+  pub stands : thread_of (concrete v) t ≡ Some origin
+  pub goes : local_after v.program t count origin ≡ Some here

@@ -3,6 +3,7 @@
 #![tactic(auto)]
 
 mod laws;
+mod local_steps;
 mod movers;
 mod outside;
 mod piece_event;
