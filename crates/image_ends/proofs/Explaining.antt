@@ -1,6 +1,7 @@
 -- A run that explains a run of the machine has stray wake-ups only where that has, and has its ends.
 use Rattle.std.proofs.Common.{◌≡◌, ◌⊎◌, ◌<◌, ◌^◌, ℕ, Bool, true, false, cond, List, [], ◌∷◌, filter, length, map}
-use Rattle.std.proofs.Common.{Option}
+use Rattle.std.specs.Prelude.{if◌then◌else◌}
+use Rattle.std.proofs.Common.{Option, ap, arith, subst}
 use Rattle.std.proofs.Common.{Some, None, refl, sym, ◌∙◌, inl, inr}
 use Rattle.words.specs.declared.outcome.Outcome.TheVariants as outcome
 use Rattle.isa.specs.Programs.{Program as Image}
@@ -11,21 +12,20 @@ use Rattle.words.specs.declared.outcome.Cause.{Cause}
 use Rattle.meaning.specs.Labels.{Aborted, Action, Ended, Kill, Kind, Stray}
 use Rattle.meaning.specs.Processes.{Over, Process}
 use Rattle.meaning.specs.States.{SourceState}
-use Rattle.proof_exploration.specs.Exploring.{HasAborted, IsOver, IsStuck}
+use Rattle.proof_exploration.specs.Exploring.{IsOver, IsStuck}
 use Rattle.refinement.specs.Refines.{Explained, Refines, is_kill_kind, is_stray_kind, processes_of}
 use Rattle.refinement.specs.Seen.{machine_end, process_end}
-use Rattle.source_search.specs.Found.{AreFrom, IsFrom, LeadsNowhere}
+use Rattle.source_search.specs.Found.{AreFrom, AreNamed, HasFailed, IsCounted, IsNamed, LeadsNowhere, kills_of, one_kill}
+use Rattle.source_search.specs.declared.outside.Outside.{Outside}
 use Rattle.image_ends.specs.Ending.{AllOver, IsSearched}
 
-is_from : (strays : Bool) (k : Kind) → (strays ≡ false → is_stray_kind k ≡ false) → is_kill_kind k ≡ false
-    → IsFrom strays k
-is_from strays (Stray c) a b = searched strays a
+is_named : (may : Outside) (k : Kind) → (may.strays ≡ false → is_stray_kind k ≡ false) → IsNamed may k
+is_named may (Stray c) none = searched may.strays none
   where
     searched : (strays : Bool) → (strays ≡ false → true ≡ false) → strays ≡ true
     searched true none = refl
     searched false none = absurd (let no : true ≡ false = none refl in cc)
-is_from strays (Kill resumed last) a b = absurd (cc)
-is_from strays other a b = tt
+is_named may other none = tt
 
 -- where none of these kinds is among actions, the first is none
 none_first : (test : Kind → Bool) (x : Action) (xs : List Action) → processes_of test (x ∷ xs) ≡ []
@@ -38,37 +38,63 @@ none_first test x xs e = at (test x.kind) refl e
     at true is e = absurd (cc)
     at false is e = (is, e)
 
-are_from : (strays : Bool) (actions : List Action) → (strays ≡ false → processes_of is_stray_kind actions ≡ [])
-    → processes_of is_kill_kind actions ≡ [] → AreFrom strays actions
-are_from strays [] a b = tt
-are_from strays (x ∷ xs) a b =
-    let kill : (is_kill_kind x.kind ≡ false) × (processes_of is_kill_kind xs ≡ []) = none_first is_kill_kind x xs b in (
-      is_from strays x.kind (λ e. (none_first is_stray_kind x xs (a e)).0) kill.0,
-      are_from strays xs (λ e. (none_first is_stray_kind x xs (a e)).1) kill.1,
-    )
+are_named : (may : Outside) (actions : List Action) → (may.strays ≡ false → processes_of is_stray_kind actions ≡ [])
+    → AreNamed may actions
+are_named may [] none = tt
+are_named may (x ∷ xs) none = (
+  is_named may x.kind (λ e. (none_first is_stray_kind x xs (none e)).0),
+  are_named may xs (λ e. (none_first is_stray_kind x xs (none e)).1),
+)
+
+-- as many kills as processes that are killed
+one_of : (k : Kind) → one_kill k ≡ (if is_kill_kind k then 1 else 0)
+one_of (Kill resumed last) = refl
+one_of other = refl
+
+kills_are : (actions : List Action) → kills_of actions ≡ length (processes_of is_kill_kind actions)
+kills_are [] = refl
+kills_are (x ∷ xs) = at (kills_are xs) (is_kill_kind x.kind) refl
+  where
+    rest : List Action
+    rest = filter (λ a. is_kill_kind a.kind) xs
+
+    at : kills_of xs ≡ length (processes_of is_kill_kind xs) → (b : Bool) → is_kill_kind x.kind ≡ b
+        → kills_of (x ∷ xs) ≡ length (map (λ (a : Action). a.process) (cond b (x ∷ rest) rest))
+    at more true is =
+        let here : one_kill x.kind ≡ 1 = one_of x.kind ∙ ap (λ (c : Bool). if c then 1 else 0) is in
+        omega (arith, here, more)
+    at more false is =
+        let here : one_kill x.kind ≡ 0 = one_of x.kind ∙ ap (λ (c : Bool). if c then 1 else 0) is in
+        omega (arith, here, more)
 
 is_over : (at : Process) → IsOver at ⊎ (IsOver at → ⊥)
 is_over (Over end) = inl tt
 is_over other = inr (λ h. h)
 
-has_aborted : (s : SourceState) (q : ℕ) (cause : Cause) (x : Option Process) → s.process q ≡ x
-    → process_end x ≡ Some (outcome.Aborted cause) → HasAborted s
-has_aborted s q cause None is e = absurd (cc)
-has_aborted s q cause (Some (Over (Aborted c))) is e = (q, c, is)
-has_aborted s q cause (Some (Over (Ended z))) is e = absurd (cc)
-has_aborted s q cause (Some other) is e = absurd (cc)
+same_cause : (c cause : Cause) → process_end (Some (Over (Aborted c))) ≡ Some (outcome.Aborted cause) → c ≡ cause
+same_cause c cause e = cc
 
-module _ (p : Program) (image : Image) (strays : Bool) (steps : List Step) (s : State) (refines : Refines p image)
+has_failed : (may : Outside) (s : SourceState) (q : ℕ) (cause : Cause) (x : Option Process) → s.process q ≡ x
+    → process_end x ≡ Some (outcome.Aborted cause) → IsCounted may cause → HasFailed may s
+has_failed may s q cause None is e counted = absurd (cc)
+has_failed may s q cause (Some (Over (Aborted c))) is e counted =
+    (q, (c, is, subst (IsCounted may) (sym (same_cause c cause e)) counted))
+has_failed may s q cause (Some (Over (Ended z))) is e counted = absurd (cc)
+has_failed may s q cause (Some other) is e counted = absurd (cc)
+
+module _ (p : Program) (image : Image) (may : Outside) (steps : List Step) (s : State) (refines : Refines p image)
     (run : MachineRun image steps s) (few : length steps < 2 ^ 32)
-    (calm : IsSearched p strays steps) where
+    (calm : IsSearched p may steps) where
   explained : Explained p image steps s
   explained = refines.follows steps s run few
 
-  from : AreFrom strays explained.actions
-  from = are_from strays explained.actions (λ e. explained.strays ∙ calm.called_for e)
-      (explained.kills ∙ calm.unkilled)
+  from : AreFrom may explained.actions
+  from = (
+    are_named may explained.actions (λ e. explained.strays ∙ calm.called_for e),
+    omega (arith, kills_are explained.actions, ap length explained.kills, calm.killed),
+  )
 
-  pub all_over : LeadsNowhere p strays (IsStuck p) → ((t : ℕ) → CanStep s t → ⊥) → AllOver p s
+  pub all_over : LeadsNowhere p may (IsStuck p) → ((t : ℕ) → CanStep s t → ⊥) → AllOver p s
   all_over nowhere rests = record {
     actions = explained.actions;
     source = explained.source;
@@ -89,8 +115,8 @@ module _ (p : Program) (image : Image) (strays : Bool) (steps : List Step) (s : 
             goes_on = not;
           }))
 
-  pub none_aborted : LeadsNowhere p strays HasAborted → (q : ℕ) (cause : Cause)
-      → machine_end s q ≡ Some (outcome.Aborted cause) → ⊥
-  none_aborted nowhere q cause e =
+  pub none_aborted : LeadsNowhere p may (HasFailed may) → (q : ℕ) (cause : Cause)
+      → machine_end s q ≡ Some (outcome.Aborted cause) → IsCounted may cause → ⊥
+  none_aborted nowhere q cause e counted =
       nowhere explained.actions explained.source explained.run from
-      (has_aborted explained.source q cause (explained.source.process q) refl (sym (explained.ends q) ∙ e))
+      (has_failed may explained.source q cause (explained.source.process q) refl (sym (explained.ends q) ∙ e) counted)

@@ -1,5 +1,5 @@
 -- A machine at whose end all processes are over.
-use Rattle.std.specs.Prelude.{ℕ, ◌≡◌, Bool, false, List, [], Some}
+use Rattle.std.specs.Prelude.{ℕ, ◌≡◌, ◌≤◌, false, List, [], Some, length}
 use Rattle.machine.specs.Runs.{Step}
 use Rattle.machine.specs.States.{State}
 use Rattle.program.specs.Trees.{Program}
@@ -10,6 +10,7 @@ use Rattle.meaning.specs.States.{SourceState}
 use Rattle.proof_exploration.specs.Exploring.{IsOver}
 use Rattle.refinement.specs.Outside.{killed_threads, stray_threads}
 use Rattle.refinement.specs.Seen.{machine_end, source_end}
+use Rattle.source_search.specs.declared.outside.Outside.{Outside}
 
 -- the machine has printed what a run of the program prints, and its threads have the ends of the run's processes, all of
 -- which are over
@@ -21,8 +22,8 @@ pub record AllOver (p : Program) (s : State) : Type 0 where
   pub ends : (q : ℕ) → machine_end s q ≡ source_end source q
   pub over : (q : ℕ) (at : Process) → source.process q ≡ Some at → IsOver at
 
--- what came from outside in these steps of the machine is what was searched: nobody is killed, and without stray
--- wake-ups nobody who waits on a condition is woken from outside
-pub record IsSearched (p : Program) (strays : Bool) (steps : List Step) : Type 0 where
-  pub unkilled : killed_threads steps ≡ []
-  pub called_for : strays ≡ false → stray_threads p steps ≡ []
+-- what came from outside in these steps of the machine is what was searched: no more are killed than may be, and without
+-- stray wake-ups nobody who waits on a condition is woken from outside
+pub record IsSearched (p : Program) (may : Outside) (steps : List Step) : Type 0 where
+  pub killed : length (killed_threads steps) ≤ may.kills
+  pub called_for : may.strays ≡ false → stray_threads p steps ≡ []

@@ -1,31 +1,32 @@
-ghost use Rattle.std.specs.Prelude.{◌≡◌, ◌<◌, ◌^◌, ℕ, Bool, List, Some, length};
+ghost use Rattle.std.specs.Prelude.{◌≡◌, ◌<◌, ◌^◌, ℕ, List, Some, length};
 ghost use Rattle.words.specs.declared.outcome.Outcome.TheVariants.{Aborted};
 ghost use Rattle.isa.specs.Programs.{Program as Image};
 ghost use Rattle.machine.specs.Runs.{CanStep, MachineRun, Step};
 ghost use Rattle.machine.specs.States.{State};
 ghost use Rattle.program.specs.Trees.{Program};
 ghost use Rattle.words.specs.declared.outcome.Cause.{Cause};
-ghost use Rattle.proof_exploration.specs.Exploring.{HasAborted, IsStuck};
+ghost use Rattle.proof_exploration.specs.Exploring.{IsStuck};
 ghost use Rattle.refinement.specs.Refines.{Refines};
 ghost use Rattle.refinement.specs.Seen.{machine_end};
-ghost use Rattle.source_search.specs.Found.{LeadsNowhere};
+ghost use Rattle.source_search.specs.Found.{HasFailed, IsCounted, LeadsNowhere};
+ghost use Rattle.source_search.specs.declared.outside.Outside.{Outside};
 ghost use Rattle.image_ends.specs.Ending.{AllOver, IsSearched};
 
 /// Of each run of an image that refines a program, under whatever schedule, of fewer than 2^32 steps: where no run of
 /// the program gets stuck, and no thread can move, each process of the run of the program that explains it is over; and
-/// where no process aborts in any run of the program, no thread has aborted. This is said of the runs of the image in
-/// which nobody is killed; and where the runs of the program are those without stray wake-ups, of those in which nobody
-/// who waits on a condition is woken from outside.
+/// where no process aborts in any run of the program, no thread has aborted; where kills are searched, none by a fault.
+/// This is said of the runs of the image in which no more are killed than in the runs of the program; and where those are
+/// the ones without stray wake-ups, of those in which nobody who waits on a condition is woken from outside.
 pub fn image_laws()
-    ensures never_hangs { (p : Program) (image : Image) (strays : Bool) (steps : List Step)
+    ensures never_hangs { (p : Program) (image : Image) (may : Outside) (steps : List Step)
         (s : State)
-        → Refines p image → LeadsNowhere p strays (IsStuck p) → MachineRun image steps s
-        → length steps < 2 ^ 32 → IsSearched p strays steps
+        → Refines p image → LeadsNowhere p may (IsStuck p) → MachineRun image steps s
+        → length steps < 2 ^ 32 → IsSearched p may steps
         → ((t : ℕ) → CanStep s t → ⊥) → AllOver p s }
-    ensures never_aborts { (p : Program) (image : Image) (strays : Bool) (steps : List Step)
+    ensures never_aborts { (p : Program) (image : Image) (may : Outside) (steps : List Step)
         (s : State) (q : ℕ)
         (cause : Cause)
-        → Refines p image → LeadsNowhere p strays HasAborted → MachineRun image steps s
-        → length steps < 2 ^ 32 → IsSearched p strays steps
-        → machine_end s q ≡ Some (Aborted cause) → ⊥ }
+        → Refines p image → LeadsNowhere p may (HasFailed may) → MachineRun image steps s
+        → length steps < 2 ^ 32 → IsSearched p may steps
+        → machine_end s q ≡ Some (Aborted cause) → IsCounted may cause → ⊥ }
 {}

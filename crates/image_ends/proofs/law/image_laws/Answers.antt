@@ -2,9 +2,9 @@ use Rattle.image_ends.proofs.Explaining.{all_over, none_aborted}
 use Rattle.image_ends.proofs.law.image_laws.Goals as goal
 
 pub returns-clause-never_hangs : goal.returns-clause-never_hangs
-returns-clause-never_hangs c = λ p image strays steps s refines nowhere run few calm rests.
-    all_over p image strays steps s refines run few calm nowhere rests
+returns-clause-never_hangs c = λ p image may steps s refines nowhere run few calm rests.
+    all_over p image may steps s refines run few calm nowhere rests
 
 pub returns-clause-never_aborts : goal.returns-clause-never_aborts
-returns-clause-never_aborts c = λ p image strays steps s q cause refines nowhere run few calm e.
-    none_aborted p image strays steps s refines run few calm nowhere q cause e
+returns-clause-never_aborts c = λ p image may steps s q cause refines nowhere run few calm e counted.
+    none_aborted p image may steps s refines run few calm nowhere q cause e counted
