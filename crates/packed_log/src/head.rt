@@ -1,5 +1,5 @@
 //! The head of an entry, as the crate's page has its bits.
-ghost use Rattle.std.specs.Prelude.{◌≡◌, ◌==◌, ◌<◌, ◌^◌, if◌then◌else◌, MatchBool};
+ghost use Rattle.std.specs.Prelude.{◌≡◌, ◌==◌, ◌<◌, if◌then◌else◌, MatchBool};
 ghost use Rattle.packed_log.specs.Packing.{entry_of, event_of, kind_in, name_of, set_at as set_in, sets_in};
 ghost use Rattle.packed_log.specs.Views.{IsHeadOf, HasHead};
 
