@@ -14,8 +14,11 @@
 //! | 28 to 59 | 32 | the step's value |
 //! | 60 to 63 | 4 | 0 |
 //!
-//! The numbers of 1,000 threads have room, and so have 10 kinds more. Sets of so many threads will have two forms, of one
-//! thread in 8 bytes and of several in as many as they have threads: the numbers 2 and 3 of bits 24 to 27 are free for it.
+//! The numbers of 1,000 threads have room, and so have 10 kinds more. Sets of so many threads will want two forms, one
+//! thread in 8 bytes and several as bits in 128: the numbers 2 and 3 of bits 24 to 27 are free for that.
+//!
+//! An entry of a thread above 1,023, or of more than 511 local steps, has no head. From the first such entry on a log's
+//! entries stand whole, in a third list. No run makes such an entry, but a log that somebody wrote may have one.
 #![tactic(auto)]
 
 mod head;

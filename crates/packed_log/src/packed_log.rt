@@ -15,7 +15,7 @@ pub struct PackedLog {
     heads: Vec<u64>,
     // The sets beside the heads, in the order of the entries, of each entry that of the woken threads first.
     sets: Vec<ThreadSet>,
-    // The entries from the first on that doesn't fit into a head.
+    // The entries from the first on that has no head.
     whole: Vec<Entry>,
 }
 
