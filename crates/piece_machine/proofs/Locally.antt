@@ -10,19 +10,17 @@ use Rattle.locals.specs.Steps.{local_next, local_step, and_step, local_after}
 use Rattle.machine.specs.declared.event.EventName.TheVariants as name
 use Rattle.machine.specs.States.{thread_at}
 use Rattle.machine.specs.ConcreteServing.{plain}
-use Rattle.machine.specs.ConcreteSteps.{thread_step, on_machine, step_awake, step_thread, step_of, put_thread}
+use Rattle.machine.specs.ConcreteSteps.{thread_step, on_machine, step_awake, step_thread, step_of, put_thread, can_move}
 use Rattle.machine.specs.PieceStates.{PieceState, opening_pieces}
 use Rattle.machine.specs.PieceSteps.{IsPieceStep}
 use Rattle.machine.specs.Runs.{Step}
 use Rattle.machine.specs.Views.{View, concrete}
 use Rattle.machine.proofs.Placing.{thread_at-put}
+use Rattle.machine.proofs.Refusing.{moves_so}
 use Rattle.piece_machine.specs.PieceConcrete.{PieceConcrete, pieces_at}
 use Rattle.piece_machine.specs.PieceDetermined.{IsFit}
-use Rattle.piece_machine.specs.PieceViews.{phase_in, parts, own_step, IsKept, IsComeTo}
+use Rattle.piece_machine.specs.PieceViews.{parts, own_step, IsKept, IsComeTo, GoesTo}
 use Rattle.piece_machine.proofs.Determined.{Stands, apart, whole_done}
-use Rattle.machine.specs.ConcreteSteps.{can_move}
-use Rattle.machine.proofs.Refusing.{moves_so}
-use Rattle.piece_machine.specs.PieceViews.{GoesTo}
 use Rattle.piece_machine.proofs.Owns.{goes_more, kept_fit}
 
 -- one thread changed

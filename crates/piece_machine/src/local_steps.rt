@@ -14,9 +14,11 @@ impl PieceMachine {
     pub fn copy_local(&mut self, t: u32, local: &Local)
         requires can_move { can_move (concrete self.old.view) t ≡ true }
         requires goes { GoesTo self.old.view t local.now }
-        ensures { self.new ≡ record self.old { view = record self.old.view {
+        ensures { self.new ≡ record self.old {
+          view = record self.old.view {
             threads = slice_set self.old.view.threads (t - 1) local.now;
-        } } }
+          };
+        } }
     {
         self.machine.copy_local(t, local);
     }

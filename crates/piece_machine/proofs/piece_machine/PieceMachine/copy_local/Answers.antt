@@ -2,7 +2,7 @@
 use Rattle.std.proofs.Common.{◌≡◌, true, subst, sym}
 use Rattle.machine.specs.ConcreteSteps.{can_move}
 use Rattle.machine.specs.Views.{concrete}
-use Rattle.piece_machine.specs.PieceViews.{PieceView, GoesTo, IsKept}
+use Rattle.piece_machine.specs.PieceViews.{PieceView, GoesTo}
 use Rattle.piece_machine.proofs.Locally.{local_put}
 use Rattle.piece_machine.proofs.piece_machine.PieceMachine.copy_local.Goals as goal
 

@@ -1,7 +1,6 @@
 -- Local steps in place are steps in pieces.
 use Rattle.std.proofs.Common.{◌≡◌, true, subst, sym}
 use Rattle.machine.specs.ConcreteSteps.{can_move}
-use Rattle.machine.specs.LocalRuns.{RunsOn}
 use Rattle.machine.specs.Views.{concrete}
 use Rattle.piece_machine.specs.PieceViews.{PieceView}
 use Rattle.piece_machine.proofs.Locally.{local_put}
