@@ -32,7 +32,7 @@ pub enum Job<'a> {
         file: &'a str,
         /// The name of the image's file.
         out: &'a str,
-        /// How many workers make the code, from 1 to `MOST_WORKERS`.
+        /// How many workers make the code, from 1 to 64.
         workers: u32,
         /// Whether hints stand behind a refusal of the source text.
         hints: bool,

@@ -11,4 +11,4 @@ mod values;
 
 pub use fault::WordsFault;
 pub use job::{Job, line};
-pub use options::{ChartOptions, ExplainedBy, MOST_WORKERS, Order, ReplayedBy, RunOptions};
+pub use options::{ChartOptions, ExplainedBy, Order, ReplayedBy, RunOptions};

@@ -1,5 +1,5 @@
-/// The most workers that compile a text.
-pub const MOST_WORKERS: u32 = 64;
+// The most workers that compile a text, as `codegen_workers` has it: this crate stands on none of the compiler.
+pub(crate) const MOST_WORKERS: u32 = 64;
 
 /// Who moves the threads of a run, and in which order.
 #[derive(Clone, Copy, PartialEq, Eq, Debug)]

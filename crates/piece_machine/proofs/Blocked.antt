@@ -1,12 +1,9 @@
 -- Which threads a held bucket is in the way of.
-use Rattle.std.proofs.Common.{◌≡◌, ℕ, ◌<◌, ◌≤◌, Bool, true, false, Some, None, []}
-use Rattle.std.proofs.Common.{length, refl, sym, ap, ◌∙◌, inl, inr, subst, arith}
+use Rattle.std.proofs.Common.{◌≡◌, ℕ, ◌<◌, ◌≤◌, Bool, true, false, Some, None}
+use Rattle.std.proofs.Common.{length, refl, sym, ap, ◌∙◌, subst}
 use Rattle.std.specs.Prelude.{MatchBool}
-use Rattle.std.proofs.lemmas.Bool.{both_ways}
 use Rattle.isa.specs.Programs.{Program}
-use Rattle.buckets.specs.Places.{names}
 use Rattle.futexcalls.specs.declared.pieces.FutexCall.{FutexCall}
-use Rattle.futexcalls.specs.Pieces.{held_at}
 use Rattle.locals.specs.Threads.{Thread, Exits}
 use Rattle.locals.specs.declared.request.Request.{Request as Told}
 use Rattle.locals.specs.declared.request.NextStep.TheVariants as next
@@ -16,14 +13,12 @@ use Rattle.robustexit.specs.declared.phase.ExitPhase.{ExitPhase}
 use Rattle.robustexit.specs.declared.phase.ExitPhase.TheVariants.{Ended}
 use Rattle.machine.specs.RequestMeanings.{asked_of}
 use Rattle.machine.specs.States.{ConcreteState, thread_of, state_of}
-use Rattle.machine.specs.ConcreteSteps.{can_move}
 use Rattle.machine.specs.ConcretePieces.{MakesCall}
-use Rattle.machine.specs.PieceStates.{PieceState, request_of, call_of, call_at, called, held, IsHeldRight}
+use Rattle.machine.specs.PieceStates.{PieceState, request_of, call_of, call_at}
 use Rattle.machine.specs.PieceSteps.{BlocksAt, BlocksCall, CanTakePiece}
 use Rattle.machine.specs.Views.{View, concrete, IsWellFormed}
 use Rattle.machine.proofs.Landing.{HasPlace, has_place}
 use Rattle.machine.proofs.Steps.{asked_back}
-use Rattle.machine.proofs.Refusing.{moves_so}
 use Rattle.machine.proofs.Whole.{stands_at}
 use Rattle.piece_machine.specs.PieceViews.{IsBlocked}
 use Rattle.piece_machine.proofs.OwnCalls.{one_thread, one_phase, no_exit, call_back, call_blocks}
@@ -94,49 +89,6 @@ exit_blocked v s t phase b base x at is h =
     let looks = leaves_as (look v.program t x) phase is in
     both b h (λ w. blocked_by v.program s t x (Leaves phase) stands looks w)
     (λ free. unblocked_by v.program s t x (Leaves phase) stands looks free)
-
--- who holds a bucket was made
-holder_made : (p : Program) (k : ConcreteState) (s : PieceState) (b u : ℕ) → IsWellFormed p k → IsHeldRight p s
-    → s.base ≡ state_of k → s.holder b ≡ Some u → HasPlace k u
-holder_made p k s b u well right base h = elim (right.apart u) [
-  | inr w ↦ has_place p k u w.thread well (sym (ap (λ z. z.thread u) base) ∙ w.stands)
-  | inl first ↦ absurd (let held_now : names [] b ≡ true =
-      sym (ap (λ f. names (held_at s.buckets f (called p u (s.base.thread u))) b) first) ∙ right.right b u h in cc)
-]
-
--- where no thread in range holds a bucket nobody does
-pub nobody_holds : (p : Program) (k : ConcreteState) (s : PieceState) (b : ℕ) → IsWellFormed p k → IsHeldRight p s
-    → s.base ≡ state_of k → ((u : ℕ) → 0 < u → u ≤ length k.threads → names (held p s u) b ≡ false)
-    → (u : ℕ) → s.holder b ≡ Some u → ⊥
-nobody_holds p k s b well right base none u h =
-    let place = holder_made p k s b u well right base h in
-    both_ways (names (held p s u) b) (none u (omega (arith, place.some)) place.few) (right.right b u h)
-
--- a thread that can move takes a piece, unless a held bucket is in its way
-pub can_take : (p : Program) (k : ConcreteState) (s : PieceState) (t : ℕ) → s.base ≡ state_of k → can_move k t ≡ true
-    → (IsBlocked p s t → ⊥) → CanTakePiece p s t
-can_take p k s t base can free =
-    let c = (moves_so k t).0 can in
-    let stands : s.base.thread t ≡ Some c.thread = ap (λ z. z.thread t) base ∙ c.stands in
-    record {
-      thread = c.thread;
-      stands = stands;
-      awake = ap (λ z. z.asleep t) base ∙ c.awake;
-      goes_on = c.goes_on;
-      free = λ b. free (blocked_by p s t c.thread (look p t c.thread) stands refl b);
-    }
-
-pub takes_can : (p : Program) (k : ConcreteState) (s : PieceState) (t : ℕ) → s.base ≡ state_of k → CanTakePiece p s t
-    → can_move k t ≡ true
-takes_can p k s t base c = (moves_so k t).1 (record {
-  thread = c.thread;
-  stands = sym (ap (λ z. z.thread t) base) ∙ c.stands;
-  awake = sym (ap (λ z. z.asleep t) base) ∙ c.awake;
-  goes_on = c.goes_on;
-})
-
-pub takes_free : (p : Program) (s : PieceState) (t : ℕ) → CanTakePiece p s t → IsBlocked p s t → ⊥
-takes_free p s t c b = unblocked_by p s t c.thread (look p t c.thread) c.stands refl c.free b
 
 -- who can take a piece was made
 pub mover_made : (p : Program) (k : ConcreteState) (s : PieceState) (t : ℕ) → IsWellFormed p k → s.base ≡ state_of k

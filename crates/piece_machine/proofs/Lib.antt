@@ -1,5 +1,10 @@
 pub mod OwnCalls
 pub mod Owns
 pub mod Blocked
-pub mod Strayed
 pub mod Killed
+pub mod Wanted
+pub mod Acted
+pub mod Determined
+pub mod Refused
+pub mod Beyond
+pub mod Locally

@@ -111,7 +111,7 @@ pub call_blocks : (s : PieceState) (t : ℕ) (call : FutexCall) (go : ℕ → Th
 call_blocks s t call go h = rw (call_back call) h
 
 -- a request that is told as a call is that call's
-told_call : (r : Request) (call : FutexCall) → call_of r ≡ Some call → r ≡ request_of call
+pub told_call : (r : Request) (call : FutexCall) → call_of r ≡ Some call → r ≡ request_of call
 told_call (AskWait a expected) call h = ap request_of (one_call _ call h)
 told_call (AskWake a wakes) call h = ap request_of (one_call _ call h)
 told_call (AskRequeue a b wakes moves expected) call h = ap request_of (one_call _ call h)
@@ -205,22 +205,6 @@ apart_leaves v s t phase base awake made is free =
       none = n.0;
       free = n.1;
     }
-
--- a held bucket is in the way of a thread in its exit
-pub leaves_blocked : (v : View) (s : PieceState) (t : ℕ) (phase : ExitPhase) → s.base ≡ state_of (concrete v)
-    → (thread_of (concrete v) t ≡ None → ⊥)
-    → ((x : Thread) → thread_of (concrete v) t ≡ Some x → next.Exit phase ≡ next_step_of (look v.program t x))
-    → BlocksAt s t (Leaves phase) → CanTakePiece v.program s t → ⊥
-leaves_blocked v s t phase base made is blocks =
-    let m = made_of (thread_of (concrete v) t) made in
-    in_the_way v.program s t m.0 (look v.program t m.0) (ap (λ (b : State). b.thread t) base ∙ m.1) refl
-    (exits (look v.program t m.0) (is m.0 m.1)) where
-      exits : (l : Look) → next.Exit phase ≡ next_step_of l → BlocksAt s t l
-      exits (Goes y) q = absurd cc
-      exits (Asks r go) q = absurd (no_exit r phase (sym q))
-      exits (Leaves f) q = subst (λ (g : ExitPhase). BlocksAt s t (Leaves g)) (one_phase phase f q) blocks
-      exits Breaks q = absurd cc
-      exits Rests q = absurd cc
 
 -- a thread before any other step
 pub others : (s : PieceState) (t : ℕ) (l : Look) (n : NextStep) → n ≡ next_step_of l

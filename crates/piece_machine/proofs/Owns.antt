@@ -1,5 +1,5 @@
 -- A step of a thread's own is one of the machine with pieces.
-use Rattle.std.proofs.Common.{◌≡◌, ℕ, ◌<◌, ◌%◌, Option, Some, None, List, [], ◌∷◌, ◌++◌, length, slice_set, Ok, Err}
+use Rattle.std.proofs.Common.{◌≡◌, ℕ, ◌<◌, ◌%◌, Option, Some, None, List, [], ◌∷◌, ◌++◌, length, slice_set}
 use Rattle.std.proofs.Common.{refl, sym, ap, ◌∙◌, inl, inr, subst, arith}
 use Rattle.std.specs.Prelude.{slice_index_or}
 use Rattle.std.proofs.Math.Path.{fun_ext}
@@ -7,29 +7,24 @@ use Rattle.std.proofs.lemmas.Bool.{cases_eq}
 use Rattle.std.proofs.lemmas.List.{get_or-set_same, get_or-set_other, get_or_default}
 use Rattle.isa.specs.Programs.{Program}
 use Rattle.words.specs.Updates.{put}
-use Rattle.buckets.specs.Sleepers.{bucket_count, holder_of}
 use Rattle.futexcalls.specs.declared.pieces.FutexPhase.{FutexPhase}
 use Rattle.futexcalls.specs.declared.pieces.FutexPhase.TheVariants.{First}
+use Rattle.futexcalls.proofs.SameHolders.{same_count, same_holders}
 use Rattle.locals.specs.Threads.{Thread}
 use Rattle.locals.specs.Looks.{Look, Goes, Asks, Leaves, Breaks, Rests, look}
-use Rattle.machine.specs.declared.event.Event.{Event}
-use Rattle.machine.specs.declared.event.StepFault.{StepFault}
-use Rattle.machine.specs.declared.event.StepFault.TheVariants.{CannotMove, Broken}
-use Rattle.machine.specs.States.{State, state_of, thread_of}
+use Rattle.machine.specs.States.{ConcreteState, State, state_of, thread_of}
 use Rattle.machine.specs.Runs.{Moves, Step}
-use Rattle.machine.specs.ConcreteSteps.{step_of}
 use Rattle.machine.specs.ConcretePieces.{pieces_of}
 use Rattle.machine.specs.PieceStates.{PieceState, call_at, IsHeldRight, opening_pieces}
 use Rattle.machine.specs.PieceSteps.{Piece, IsLocal, IsPlain, IsExit, BlocksAt, IsPieceStep, GoesByPieces}
 use Rattle.machine.specs.Views.{View, concrete, IsWellFormed}
 use Rattle.machine.proofs.Placing.{put-here, put-there}
 use Rattle.machine.proofs.Landing.{has_place}
-use Rattle.machine.proofs.Stepping.{steps_so}
-use Rattle.machine.proofs.Refusing.{breaks_so, refuses_so}
 use Rattle.piece_machine.proofs.OwnCalls.{call_back}
 use Rattle.proof_pieces.proofs.Runs.{held_kept}
-use Rattle.piece_machine.specs.declared.piece_event.PieceEvent.TheVariants as told
-use Rattle.piece_machine.specs.PieceViews.{phase_in, IsKept, IsApart, Refuses, Steps, own_step}
+use Rattle.piece_machine.specs.PieceConcrete.{PieceConcrete, pieces_at}
+use Rattle.piece_machine.specs.PieceDetermined.{IsFit}
+use Rattle.piece_machine.specs.PieceViews.{phase_in, parts, IsKept, own_step}
 
 inside : (x y : Thread) → Some x ≡ Some y → x ≡ y
 inside x y h = cc
@@ -59,73 +54,45 @@ unput f t c e u = elim (cases_eq u t) [
 ]
 
 -- a thread that stays outside calls
-outside : (v v' : View) (phases : ℕ → FutexPhase) (t : ℕ) (b : State) → phases t ≡ First
-    → holder_of v'.sleepers ≡ holder_of v.sleepers → bucket_count v'.sleepers ≡ bucket_count v.sleepers
-    → state_of (concrete v') ≡ b
-    → pieces_of v' phases
-    ≡ record (pieces_of v phases) { base = b; phase = put phases t First; holder = holder_of v.sleepers }
-outside v v' phases t b at holders count state = λ i. record {
+outside : (k : PieceConcrete) (c : ConcreteState) (t : ℕ) (b : State) → k.phase t ≡ First → state_of c ≡ b
+    → pieces_at (record k { concrete = c })
+    ≡ record (pieces_at k) { base = b; phase = put k.phase t First; holder = k.holder }
+outside k c t b at state = λ i. record {
   base = state i;
-  phase = sym (fun_ext (unput phases t First (sym at))) i;
-  holder = holders i;
-  buckets = count i;
+  phase = sym (fun_ext (unput k.phase t First (sym at))) i;
+  holder = k.holder;
+  buckets = k.buckets;
 }
 
 -- such a step as a piece
-pub whole_is_piece : (p : Program) (v v' : View) (phases : ℕ → FutexPhase) (t : ℕ) (x : Thread) (woken : List ℕ)
-    (l : Look) → look p t x ≡ l → Moves (state_of (concrete v)) t woken l (state_of (concrete v')) → call_at l ≡ None
-    → (BlocksAt (pieces_of v phases) t l → ⊥) → phases t ≡ First
-    → holder_of v'.sleepers ≡ holder_of v.sleepers → bucket_count v'.sleepers ≡ bucket_count v.sleepers
-    → Piece p (pieces_of v phases) t x woken (pieces_of v' phases)
-whole_is_piece p v v' phases t x woken (Goes y) is h none free at holders count =
-    IsLocal y is at h.0 (outside v v' phases t _ at holders count h.1)
-whole_is_piece p v v' phases t x woken (Asks request go) is h none free at holders count =
-    IsPlain request go h.0 h.1 is none at h.2 (outside v v' phases t _ at holders count h.3)
-whole_is_piece p v v' phases t x woken (Leaves phase) is h none free at holders count =
-    IsExit phase h.0 h.1 is at h.2
-    (λ a w. free_of (holder_of v.sleepers (a % bucket_count v.sleepers)) (λ u e. free (a, u, w, e)))
-    (outside v v' phases t _ at holders count h.3)
-whole_is_piece p v v' phases t x woken Breaks is h none free at holders count = absurd h
-whole_is_piece p v v' phases t x woken Rests is h none free at holders count = absurd h
+pub whole_is_piece : (p : Program) (k : PieceConcrete) (c : ConcreteState) (t : ℕ) (x : Thread) (woken : List ℕ) (l : Look)
+    → look p t x ≡ l → Moves (state_of k.concrete) t woken l (state_of c) → call_at l ≡ None
+    → (BlocksAt (pieces_at k) t l → ⊥) → k.phase t ≡ First
+    → Piece p (pieces_at k) t x woken (pieces_at (record k { concrete = c }))
+whole_is_piece p k c t x woken (Goes y) is h none free at = IsLocal y is at h.0 (outside k c t _ at h.1)
+whole_is_piece p k c t x woken (Asks request go) is h none free at =
+    IsPlain request go h.0 h.1 is none at h.2 (outside k c t _ at h.3)
+whole_is_piece p k c t x woken (Leaves phase) is h none free at =
+    IsExit phase h.0 h.1 is at h.2 (λ a w. free_of (k.holder (a % k.buckets)) (λ u e. free (a, u, w, e)))
+    (outside k c t _ at h.3)
+whole_is_piece p k c t x woken Breaks is h none free at = absurd h
+whole_is_piece p k c t x woken Rests is h none free at = absurd h
 
--- a step that is none of a call
-pub whole_steps : (v v' : View) (phases : List FutexPhase) (t : ℕ) (e : Event) → IsKept v phases
-    → IsApart v.program (pieces_of v (phase_in phases)) t → step_of v.program (concrete v) t ≡ Ok (concrete v', e)
-    → holder_of v'.sleepers ≡ holder_of v.sleepers → bucket_count v'.sleepers ≡ bucket_count v.sleepers
-    → Steps v.program (pieces_of v (phase_in phases)) t (told.Event e) (pieces_of v' (phase_in phases))
-whole_steps v v' phases t e kept apart done holders count =
-    let r = steps_so v.program (concrete v) (concrete v') t e kept.well done in
-    let same : r.2.thread ≡ apart.thread = inside _ _ (sym r.2.stands ∙ apart.stands) in
-    let at = apart_first v.program (pieces_of v (phase_in phases)) t apart.thread kept.right apart.stands apart.none in
-    record {
-      woken = r.0;
-      step = record {
-        thread = apart.thread;
-        stands = apart.stands;
-        awake = apart.awake;
-        piece = whole_is_piece v.program v v' (phase_in phases) t apart.thread r.0 (look v.program t apart.thread) refl
-            (subst (λ (y : Thread). Moves (state_of (concrete v)) t r.0 (look v.program t y) (state_of (concrete v')))
-            same r.2.moves) apart.none apart.free at holders count;
-        pauses = refl;
-      };
-      told = r.1;
-    }
+-- what always holds, of what is kept
+pub kept_fit : (v : View) (phases : List FutexPhase) → IsKept v phases
+    → IsFit v.program (parts (record { view = v; phases = phases }))
+kept_fit v phases kept = record { well = kept.well; right = kept.right }
 
--- a refusal of such a step
-pub whole_refused : (v : View) (phases : List FutexPhase) (t : ℕ) (f : StepFault) → IsKept v phases
-    → IsApart v.program (pieces_of v (phase_in phases)) t → step_of v.program (concrete v) t ≡ Err f
-    → Refuses v.program (pieces_of v (phase_in phases)) t f
-whole_refused v phases t CannotMove kept apart h = λ can.
-    (refuses_so v.program (concrete v) t).0 h (record {
-      thread = can.thread;
-      stands = can.stands;
-      awake = can.awake;
-      goes_on = can.goes_on;
-    })
-whole_refused v phases t Broken kept apart h = (
-  apart_first v.program (pieces_of v (phase_in phases)) t apart.thread kept.right apart.stands apart.none,
-  (breaks_so v.program (concrete v) t kept.well).0 h,
-)
+-- the holders are as before
+pub same_parts : (v v' : View) (phases : List FutexPhase) → v'.sleepers.holders ≡ v.sleepers.holders
+    → parts (record { view = v'; phases = phases })
+    ≡ record (parts (record { view = v; phases = phases })) { concrete = concrete v' }
+same_parts v v' phases holders = λ i. record {
+  concrete = concrete v';
+  phase = phase_in phases;
+  holder = same_holders v.sleepers v'.sleepers holders i;
+  buckets = same_count v.sleepers v'.sleepers holders i;
+}
 
 -- the phase of one thread changes
 pub phase_put : (phases : List FutexPhase) (t : ℕ) (phase : FutexPhase) → t < length phases
@@ -137,7 +104,7 @@ phase_put phases t phase l = fun_ext (λ u. elim (cases_eq u t) [
 ])
 
 -- a run and one step more
-goes_more : (p : Program) (s mid s' : PieceState) (steps : List Step) (step : Step) → GoesByPieces p s steps mid
+pub goes_more : (p : Program) (s mid s' : PieceState) (steps : List Step) (step : Step) → GoesByPieces p s steps mid
     → IsPieceStep p mid step s' → GoesByPieces p s (steps ++ step ∷ []) s'
 goes_more p s mid s' [] step h one =
     (s', subst (λ (q : PieceState). IsPieceStep p q step s') (sym h) one, refl)

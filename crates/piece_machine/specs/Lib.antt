@@ -1,1 +1,3 @@
+pub mod PieceConcrete
 pub mod PieceViews
+pub mod PieceDetermined

@@ -1,6 +1,7 @@
 -- A machine whose threads take futex calls in pieces, as contracts see it, and its steps.
-use Rattle.std.specs.Prelude.{ℕ, ◌≡◌, ◌<◌, ◌==◌, Bool, List, [], ◌∷◌, Option, Some, None, false, length, slice_index_or}
+use Rattle.std.specs.Prelude.{ℕ, ◌≡◌, ◌<◌, ◌==◌, Bool, List, [], ◌∷◌, Some, None, false, length, slice_index_or}
 use Rattle.words.specs.Limits.{most_threads}
+use Rattle.buckets.specs.Sleepers.{bucket_count, holder_of}
 use Rattle.isa.specs.Programs.{Program}
 use Rattle.futexcalls.specs.declared.pieces.FutexCall.{FutexCall}
 use Rattle.futexcalls.specs.declared.pieces.FutexCall.TheVariants.{Wait, Wake, Requeue}
@@ -9,6 +10,8 @@ use Rattle.futexcalls.specs.declared.pieces.FutexPhase.TheVariants.{First}
 use Rattle.futexcalls.specs.Pieces.{takes_at}
 use Rattle.locals.specs.Threads.{Thread}
 use Rattle.locals.specs.Looks.{look}
+use Rattle.locals.specs.Steps.{local_after}
+use Rattle.machine.specs.States.{thread_of}
 use Rattle.machine.specs.Views.{View, concrete, IsWellFormed}
 use Rattle.machine.specs.ConcretePieces.{pieces_of}
 use Rattle.machine.specs.declared.event.Event.{Event as Told}
@@ -18,6 +21,7 @@ use Rattle.machine.specs.PieceStates.{PieceState, IsHeldRight, call_at, called}
 use Rattle.machine.specs.PieceSteps.{IsPieceStep, PieceRun, BlocksAt, CanTakePiece, NextPieceIsBroken}
 use Rattle.machine.specs.Runs.{Own, Strayed, Killed, Step, is_paused}
 use Rattle.machine.specs.ThreadSets.{set_of}
+use Rattle.piece_machine.specs.PieceConcrete.{PieceConcrete}
 use Rattle.piece_machine.specs.declared.piece_event.PieceEvent.{PieceEvent}
 use Rattle.piece_machine.specs.declared.piece_event.PieceEvent.TheVariants.{Lock, Compare, Event}
 
@@ -33,6 +37,15 @@ phase_in phases t = slice_index_or phases t First
 -- the state that it stands for
 abbrev pub pieces : PieceView → PieceState
 pieces v = pieces_of v.view (phase_in v.phases)
+
+-- what it keeps
+abbrev pub parts : PieceView → PieceConcrete
+parts v = record {
+  concrete = concrete v.view;
+  phase = phase_in v.phases;
+  holder = holder_of v.view.sleepers;
+  buckets = bucket_count v.view.sleepers;
+}
 
 -- a run of the program from its opening, over some number of buckets, leads to the state
 pub record IsComeTo (p : Program) (s : PieceState) : Type 0 where
@@ -87,11 +100,6 @@ pub record IsApart (p : Program) (s : PieceState) (t : ℕ) : Type 0 where
   pub none : call_at (look p t thread) ≡ None
   pub free : BlocksAt s t (look p t thread) → ⊥
 
--- the bucket of an option, as a list
-abbrev pub bucket_list : Option ℕ → List ℕ
-bucket_list None = []
-bucket_list (Some b) = b ∷ []
-
 -- thread t was made, and a held bucket is in its way
 pub record IsBlocked (p : Program) (s : PieceState) (t : ℕ) : Type 0 where
   pub thread : Thread
@@ -129,3 +137,10 @@ pub record Kills (p : Program) (s : PieceState) (t : ℕ) (e : Told) (s' : Piece
 abbrev pub RefusesKill : PieceState → ℕ → StepFault → Type 0
 RefusesKill s t CannotMove = s.base.thread t ≡ None
 RefusesKill s t Broken = ⊥
+
+-- thread t stands in the machine, and some number of local steps leads it here
+pub record GoesTo (v : View) (t : ℕ) (here : Thread) : Type 0 where
+  pub origin : Thread
+  pub count : ℕ
+  pub stands : thread_of (concrete v) t ≡ Some origin
+  pub goes : local_after v.program t count origin ≡ Some here

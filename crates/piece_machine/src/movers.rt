@@ -1,32 +1,18 @@
 //! Which threads can take a step.
 ghost use Rattle.std.specs.Prelude.{◌≡◌, ◌≤◌, ◌<◌, ℕ, Some, None, true, length, MatchBool};
-ghost use Rattle.buckets.specs.Places.{names};
-ghost use Rattle.buckets.specs.Sleepers.{bucket_count};
-ghost use Rattle.futexcalls.specs.Pieces.{held_at};
-ghost use Rattle.machine.specs.PieceStates.{called, held};
 ghost use Rattle.machine.specs.PieceSteps.{BlocksCall, CanTakePiece};
-ghost use Rattle.machine.specs.States.{thread_of};
-ghost use Rattle.machine.specs.Views.{concrete};
-ghost use Rattle.piece_machine.specs.PieceViews.{pieces, bucket_list, IsBlocked, IsAtRest};
+ghost use Rattle.piece_machine.specs.PieceConcrete.{can_take};
+ghost use Rattle.piece_machine.specs.PieceViews.{pieces, parts, IsBlocked, IsAtRest};
 
 use crate::piece_machine::{PieceMachine, call_in};
-use futexcalls::{FutexCall, FutexPhase};
+use futexcalls::FutexCall;
 use locals::NextStep;
-
-// Whether it is this bucket.
-fn is_bucket(bucket: Option<u32>, k: u32) -> bool
-    ensures { result ≡ names (bucket_list bucket) k }
-{
-    match bucket {
-        Some(number) => number == k,
-        None => false,
-    }
-}
 
 impl PieceMachine {
     /// Whether thread `t` can take a step: it was made, neither sleeps nor has ended, and no held bucket is in its way.
     pub fn can_move(&self, t: u32) -> bool
-        ensures { MatchBool result (CanTakePiece self.now.view.program (pieces self.now) t)
+        ensures value { result ≡ can_take self.now.view.program (parts self.now) t }
+        ensures exact { MatchBool result (CanTakePiece self.now.view.program (pieces self.now) t)
             (CanTakePiece self.now.view.program (pieces self.now) t → ⊥) }
     {
         self.machine.can_move(t) && !self.is_blocked(t)
@@ -72,57 +58,8 @@ impl PieceMachine {
             return false;
         }
         match self.machine.next_bucket(call, self.phases[t as usize]) {
-            Some(bucket) => self.is_held(bucket),
+            Some(bucket) => self.machine.holder(bucket).is_some(),
             None => false,
-        }
-    }
-
-    // Whether a thread holds bucket `k`.
-    fn is_held(&self, k: u32) -> bool
-        ensures { MatchBool result ((u : ℕ) × ((pieces self.now).holder k ≡ Some u)) ((u : ℕ)
-            → (pieces self.now).holder k ≡ Some u → ⊥) }
-    {
-        for t in 0..self.machine.threads() {
-            if self.holds(t + 1, k) {
-                return true;
-            }
-        }
-        false
-    }
-
-    // Whether thread `t` holds bucket `k`.
-    fn holds(&self, t: u32, k: u32) -> bool
-        requires { (0 < t) × (t ≤ length self.now.view.threads) }
-        ensures { result ≡ names (held self.now.view.program (pieces self.now) t) k }
-    {
-        match self.call_at(t) {
-            Some(call) => self.has_taken(call, self.phases[t as usize], k),
-            None => false,
-        }
-    }
-
-    // The futex call that thread `t` makes, if it makes one.
-    pub(crate) fn call_at(&self, t: u32) -> Option<FutexCall>
-        requires { (0 < t) × (t ≤ length self.now.view.threads) }
-        ensures { result ≡ called self.now.view.program t (thread_of (concrete self.now.view) t) }
-    {
-        match self.machine.next_step(t) {
-            NextStep::Shared(request) => call_in(request),
-            _ => None,
-        }
-    }
-
-    // Whether a call that stands before the piece of this phase has taken bucket `k`.
-    fn has_taken(&self, call: FutexCall, phase: FutexPhase, k: u32) -> bool
-        ensures { result
-            ≡ names (held_at (bucket_count self.now.view.sleepers) phase (Some call)) k }
-    {
-        let first = is_bucket(self.machine.next_bucket(call, FutexPhase::First), k);
-        let second = is_bucket(self.machine.next_bucket(call, FutexPhase::Second), k);
-        match phase {
-            FutexPhase::First => false,
-            FutexPhase::Second => first,
-            FutexPhase::Compare | FutexPhase::Act => first || second,
         }
     }
 }

@@ -1,13 +1,17 @@
 //! What comes to a machine in pieces from outside.
-ghost use Rattle.std.specs.Prelude.{◌≡◌, ◌<◌, ℕ, Some, None, true, take, IfOk, IfErr};
+ghost use Rattle.std.specs.Prelude.{◌≡◌, ◌<◌, ◌≤◌, ℕ, length, Some, None, Ok, Err, true, take, IfOk, IfErr};
 ghost use Rattle.buckets.specs.Places.{names, with_place};
 ghost use Rattle.buckets.specs.Sleepers.{bucket_count, holder_of};
 ghost use Rattle.futexcalls.specs.Pieces.{buckets_of, held_at};
+ghost use Rattle.machine.specs.PieceStates.{called};
+ghost use Rattle.machine.specs.States.{thread_of};
 ghost use Rattle.machine.specs.Views.{concrete};
-ghost use Rattle.piece_machine.specs.PieceViews.{pieces, Strays, RefusesStray, Kills, RefusesKill};
+ghost use Rattle.piece_machine.specs.PieceConcrete.{stray_piece, kill_piece};
+ghost use Rattle.piece_machine.specs.PieceViews.{pieces, parts, Strays, RefusesStray, Kills, RefusesKill};
 
-use crate::piece_machine::PieceMachine;
+use crate::piece_machine::{PieceMachine, call_in};
 use futexcalls::{FutexCall, FutexPhase};
+use locals::NextStep;
 use machine::{Event, Machine, StepFault};
 
 // Thread `t` gives up the first bucket of its call, which it holds.
@@ -75,8 +79,10 @@ impl PieceMachine {
     ///
     /// Refuses with `CannotMove` where there is no such thread or it doesn't sleep; then nothing has changed.
     pub fn stray(&mut self, t: u32) -> Result<Event, StepFault>
+        ensures gives { IfOk result (λ e. stray_piece (parts self.old) t ≡ Ok (parts self.new, e)) }
         ensures done { IfOk result (λ e. Strays self.old.view.program (pieces self.old) t e
             (pieces self.new)) }
+        ensures refused { IfErr result (λ f. stray_piece (parts self.old) t ≡ Err f) }
         ensures err { IfErr result
             (λ f. RefusesStray (pieces self.old) t f × (self.new ≡ self.old)) }
         ensures program { self.new.view.program ≡ self.old.view.program }
@@ -92,8 +98,11 @@ impl PieceMachine {
     ///
     /// Refuses with `CannotMove` where there is no such thread; then nothing has changed.
     pub fn kill(&mut self, t: u32) -> Result<Event, StepFault>
+        ensures gives { IfOk result (λ e. kill_piece self.old.view.program (parts self.old) t
+            ≡ Ok (parts self.new, e)) }
         ensures done { IfOk result (λ e. Kills self.old.view.program (pieces self.old) t e
             (pieces self.new)) }
+        ensures refused { IfErr result (λ f. kill_piece self.old.view.program (parts self.old) t ≡ Err f) }
         ensures err { IfErr result
             (λ f. RefusesKill (pieces self.old) t f × (self.new ≡ self.old)) }
         ensures program { self.new.view.program ≡ self.old.view.program }
@@ -107,5 +116,16 @@ impl PieceMachine {
         self.phases[t as usize] = FutexPhase::First;
         let event = self.machine.kill(t)?;
         Ok(event)
+    }
+
+    // The futex call that thread `t` makes, if it makes one.
+    fn call_at(&self, t: u32) -> Option<FutexCall>
+        requires { (0 < t) × (t ≤ length self.now.view.threads) }
+        ensures { result ≡ called self.now.view.program t (thread_of (concrete self.now.view) t) }
+    {
+        match self.machine.next_step(t) {
+            NextStep::Shared(request) => call_in(request),
+            _ => None,
+        }
     }
 }

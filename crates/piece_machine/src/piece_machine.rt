@@ -3,7 +3,8 @@ ghost use Rattle.buckets.specs.BucketCount.{IsBucketCount};
 ghost use Rattle.machine.specs.ConcretePieces.{MakesCall};
 ghost use Rattle.machine.specs.PieceStates.{opening_pieces, call_of};
 ghost use Rattle.machine.specs.RequestMeanings.{asked_of};
-ghost use Rattle.piece_machine.specs.PieceViews.{pieces, IsComeTo, Steps, Refuses, IsApart, expected_of};
+ghost use Rattle.piece_machine.specs.PieceConcrete.{opening_at};
+ghost use Rattle.piece_machine.specs.PieceViews.{pieces, parts, IsComeTo, Steps, Refuses, IsApart, expected_of};
 
 use crate::piece_event::PieceEvent;
 use futexcalls::{FutexCall, FutexPhase};
@@ -84,6 +85,7 @@ impl PieceMachine {
     pub fn new(alloc: Global, image: &Image, buckets: u32) -> Result<PieceMachine, AllocError>
         requires { IsBucketCount buckets }
         ensures program { IfOk result (λ m. m.view.program ≡ image.now) }
+        ensures parts { IfOk result (λ m. parts m ≡ opening_at image.now buckets) }
         ensures opening { IfOk result (λ m. pieces m ≡ opening_pieces image.now buckets) }
     {
         Ok(PieceMachine {

@@ -4,6 +4,7 @@
 //! ```text
 //! TxN     up to N steps of thread T, local or shared, as long as none is refused
 //! sT      a wake of thread T from outside
+//! kT      a kill of thread T
 //! movers  prints the threads that can take a step, or that none can
 //! ```
 //!
@@ -17,6 +18,7 @@ use crate::failure::Failure;
 use crate::show::{show_movers, show_refusal, show_step};
 use buckets::Buckets;
 use isa::{Image, decode};
+use machine::{Event, StepFault};
 use piece_machine::{PieceEvent, PieceMachine};
 use std::alloc::Global;
 use std::io;
@@ -60,16 +62,25 @@ fn take_word<R: Print>(rt: &R, machine: &mut PieceMachine, word: &str) -> Result
         return Ok(show_movers(rt, machine)?);
     }
     if let Some(sleeper) = word.strip_prefix('s') {
-        return wake_sleeper(rt, machine, number(sleeper)?);
+        let thread = number(sleeper)?;
+        return show_outside(rt, thread, machine.stray(thread));
+    }
+    if let Some(killed) = word.strip_prefix('k') {
+        let thread = number(killed)?;
+        return show_outside(rt, thread, machine.kill(thread));
     }
     let (thread, steps) = word.split_once('x').ok_or(Failure::Row)?;
     let steps = number(steps)?.min(MOST_STEPS);
     take_steps(rt, machine, number(thread)?, steps)
 }
 
-// Wakes a thread from outside.
-fn wake_sleeper<R: Print>(rt: &R, machine: &mut PieceMachine, thread: u32) -> Result<(), Failure> {
-    match machine.stray(thread) {
+// Prints what came to a thread from outside.
+fn show_outside<R: Print>(
+    rt: &R,
+    thread: u32,
+    outcome: Result<Event, StepFault>,
+) -> Result<(), Failure> {
+    match outcome {
         Ok(event) => show_step(rt, thread, PieceEvent::Event(event))?,
         Err(fault) => show_refusal(rt, thread, fault)?,
     }

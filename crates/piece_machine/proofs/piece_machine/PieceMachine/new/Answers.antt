@@ -18,6 +18,18 @@ all_first zero t = refl
 all_first (suc n) zero = refl
 all_first (suc n) (suc t) = all_first n t
 
+pub returns-clause-parts : goal.returns-clause-parts
+returns-clause-parts c =
+    let e = c.in_ok-new.ensures in
+    let items : c.in_ok-vec.field-0.items ≡ replicate 65 First = c.in_ok-vec.ensures.items_if_clones_equal
+    (λ y k. search rules) in
+    λ i. record {
+      concrete = e.opening i;
+      phase = (ap phase_in items ∙ fun_ext (all_first 65)) i;
+      holder = fun_ext e.free i;
+      buckets = e.buckets i;
+    }
+
 pub returns-clause-opening : goal.returns-clause-opening
 returns-clause-opening c =
     let v = c.in_ok-new.field-0 in

@@ -1,10 +1,11 @@
 -- A wake from outside changes no holder and no phase.
-use Rattle.std.proofs.Common.{refl, ◌∙◌, subst}
-use Rattle.machine.specs.ConcretePieces.{pieces_of}
+use Rattle.std.proofs.Common.{◌≡◌, Ok, refl, sym, ap, ◌∙◌, subst}
+use Rattle.machine.specs.Views.{concrete}
 use Rattle.machine.proofs.Steps.{hand_on}
-use Rattle.piece_machine.specs.PieceViews.{PieceView, pieces, phase_in, stray_step, Strays, RefusesStray}
-use Rattle.piece_machine.proofs.Owns.{kept_by}
-use Rattle.piece_machine.proofs.Strayed.{strays_piece, stray_refused}
+use Rattle.piece_machine.specs.PieceConcrete.{PieceConcrete, OutsideOutcome, pieces_at, stray_piece, strayed_at}
+use Rattle.piece_machine.specs.PieceViews.{PieceView, pieces, parts, stray_step, Strays, RefusesStray}
+use Rattle.piece_machine.proofs.Beyond.{stray_done, stray_refused}
+use Rattle.piece_machine.proofs.Owns.{kept_by, kept_fit, same_parts}
 use Rattle.piece_machine.proofs.piece_machine.PieceMachine.stray.Goals as goal
 
 pub invariant_of-self-2 : goal.invariant_of-self-2
@@ -13,8 +14,24 @@ invariant_of-self-2 c =
     let v' = c.stray.new.self in
     let ph = c.self.inside.phases.items in
     let e = c.in_ok-event.ensures in
-    let r = strays_piece v v' ph c.args.t c.in_ok-event.event c.self.invariant.well e.done e.holders in
-    kept_by v v' ph ph (stray_step c.args.t c.in_ok-event.event.value) c.self.invariant e.program e.holds refl r.step
+    let k = parts (record { view = v; phases = ph }) in
+    let r = stray_done v.program k (concrete v') c.args.t c.in_ok-event.event (kept_fit v ph c.self.invariant) e.done in
+    let s : Strays v.program (pieces_at k) c.args.t c.in_ok-event.event (pieces (record { view = v'; phases = ph })) =
+    subst (λ (q : PieceConcrete). Strays v.program (pieces_at k) c.args.t c.in_ok-event.event (pieces_at q))
+    (sym (same_parts v v' ph e.holders)) r.0 in
+    kept_by v v' ph ph (stray_step c.args.t c.in_ok-event.event.value) c.self.invariant e.program e.holds refl s.step
+
+pub returns-clause-gives : goal.returns-clause-gives
+returns-clause-gives c =
+    let v = c.self.inside.machine in
+    let v' = c.stray.new.self in
+    let ph = c.self.inside.phases.items in
+    let e = c.in_ok-event.ensures in
+    let k = parts (record { view = v; phases = ph }) in
+    subst (λ (q : PieceView). stray_piece (parts q) c.args.t
+    ≡ (let o : OutsideOutcome = Ok (parts (record { view = v'; phases = ph }), c.in_ok-event.event) in o))
+    c.self.view_is
+    (ap (strayed_at k) e.done ∙ (λ i. Ok (sym (same_parts v v' ph e.holders) i, c.in_ok-event.event)))
 
 pub returns-clause-done : goal.returns-clause-done
 returns-clause-done c =
@@ -22,9 +39,12 @@ returns-clause-done c =
     let v' = c.stray.new.self in
     let ph = c.self.inside.phases.items in
     let e = c.in_ok-event.ensures in
+    let k = parts (record { view = v; phases = ph }) in
+    let r = stray_done v.program k (concrete v') c.args.t c.in_ok-event.event (kept_fit v ph c.self.invariant) e.done in
     subst (λ (q : PieceView). Strays q.view.program (pieces q) c.args.t c.in_ok-event.event
-    (pieces_of v' (phase_in ph))) c.self.view_is
-    (strays_piece v v' ph c.args.t c.in_ok-event.event c.self.invariant.well e.done e.holders)
+    (pieces (record { view = v'; phases = ph }))) c.self.view_is
+    (subst (λ (q : PieceConcrete). Strays v.program (pieces_at k) c.args.t c.in_ok-event.event (pieces_at q))
+    (sym (same_parts v v' ph e.holders)) r.0)
 
 pub returns-in_err-event-clause-err : goal.returns-in_err-event-clause-err
 returns-in_err-event-clause-err c =
@@ -34,6 +54,6 @@ returns-in_err-event-clause-err c =
     let err = c.in_err-event.ensures.err in
     hand_on c.from_residual.result f _ c.from_residual.ensures.1 (
       subst (λ (q : PieceView). RefusesStray (pieces q) c.args.t f) c.self.view_is
-          (stray_refused v ph c.args.t f err.0),
+          (stray_refused (parts (record { view = v; phases = ph })) c.args.t f err.0),
       (λ i. record { view = err.1 i; phases = ph }) ∙ c.self.view_is,
     )

@@ -1,0 +1,15 @@
+use Rattle.std.proofs.Common.{rules}
+use Rattle.packed_log.proofs.Fields.{step_head}
+use Rattle.packed_log.proofs.head.head_of.Goals as goal
+
+pub returns-in-Some : goal.returns-in-Some
+returns-in-Some c =
+    step_head c.args.entry c.in-Some.event _ _ c.number_of.result _ _ _
+    (record {
+      step = c.in-Some.is;
+      fits = c.requires;
+      kind = c.number_of.ensures.name;
+      small = c.number_of.ensures.small;
+      value = search rules;
+    })
+    c.from.ensures c.from-2.ensures c.beside.ensures c.beside-in-Some.ensures c.from-in-Some.ensures

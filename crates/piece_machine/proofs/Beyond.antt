@@ -1,0 +1,94 @@
+-- What comes from outside, as functions, is of the relation.
+use Rattle.std.proofs.Common.{◌≡◌, ℕ, Option, Some, None, Result, Ok, Err, refl, ap}
+use Rattle.std.proofs.Common.{subst}
+use Rattle.isa.specs.Programs.{Program}
+use Rattle.machine.specs.declared.event.Event.{Event as Told}
+use Rattle.machine.specs.declared.event.StepFault.{StepFault}
+use Rattle.machine.specs.declared.event.StepFault.TheVariants.{CannotMove, Broken}
+use Rattle.machine.specs.States.{ConcreteState}
+use Rattle.machine.specs.ConcreteOutside.{stray_at, stray_of, kill_of}
+use Rattle.machine.specs.PieceStates.{opening_pieces}
+use Rattle.machine.proofs.Killing.{kill_refused_so}
+use Rattle.machine.proofs.Outside.{strays_so, stray_refused_so}
+use Rattle.machine.proofs.Stepping.{opens_so}
+use Rattle.proof_pieces.proofs.Runs.{held_kept}
+use Rattle.piece_machine.specs.PieceViews.{Strays, Kills, RefusesStray, stray_step}
+use Rattle.piece_machine.specs.PieceConcrete.{PieceConcrete, OutsideOutcome, pieces_at, strayed_at, killed_at}
+use Rattle.piece_machine.specs.PieceDetermined.{IsFit, PieceStraysSo, PieceStrayRefusedSo, PieceKillsSo}
+use Rattle.piece_machine.specs.PieceDetermined.{PieceKillRefusedSo, PiecesOpenSo}
+use Rattle.piece_machine.proofs.Killed.{kill_done}
+
+inside : (x y : PieceConcrete × Told) → (let a : OutsideOutcome = Ok x in a) ≡ (let b : OutsideOutcome = Ok y in b) → x ≡ y
+inside x y h = cc
+
+strayed_err : (k : PieceConcrete) (r : Result (ConcreteState × Told) StepFault) (f : StepFault) → strayed_at k r ≡ Err f
+    → r ≡ Err f
+strayed_err k (Ok q) f h = absurd cc
+strayed_err k (Err g) f h = let e : g ≡ f = cc in ap (λ x. Err x) e
+
+killed_err : (p : Program) (k : PieceConcrete) (t : ℕ) (r : Result (ConcreteState × Told) StepFault) (f : StepFault)
+    → killed_at p k t r ≡ Err f → r ≡ Err f
+killed_err p k t (Ok q) f h = absurd cc
+killed_err p k t (Err g) f h = let e : g ≡ f = cc in ap (λ x. Err x) e
+
+-- a wake from outside
+pub stray_done : (p : Program) (k : PieceConcrete) (c : ConcreteState) (t : ℕ) (e : Told) → IsFit p k
+    → stray_of k.concrete t ≡ Ok (c, e)
+    → Strays p (pieces_at k) t e (pieces_at (record k { concrete = c })) × IsFit p (record k { concrete = c })
+stray_done p k c t e fit done =
+    let r = strays_so p k.concrete c t e fit.well done in
+    let s : Strays p (pieces_at k) t e (pieces_at (record k { concrete = c })) =
+    record { step = record { strays = r.1; others = refl }; told = r.0 } in (
+      s,
+      record {
+        well = r.2;
+        right = held_kept p (pieces_at k) (pieces_at (record k { concrete = c })) (stray_step t e.value) fit.right s.step;
+      },
+    )
+
+strays_by : (p : Program) (k k' : PieceConcrete) (t : ℕ) (e : Told) (r : Result (ConcreteState × Told) StepFault)
+    → IsFit p k → stray_of k.concrete t ≡ r → strayed_at k r ≡ Ok (k', e)
+    → Strays p (pieces_at k) t e (pieces_at k') × IsFit p k'
+strays_by p k k' t e (Ok q) fit done h =
+    subst (λ (z : PieceConcrete × Told). Strays p (pieces_at k) t z.1 (pieces_at z.0) × IsFit p z.0)
+    (inside _ (k', e) h) (stray_done p k q.0 t q.1 fit done)
+strays_by p k k' t e (Err f) fit done h = absurd cc
+
+pub piece_strays_so : PieceStraysSo
+piece_strays_so p k k' t e fit h = strays_by p k k' t e (stray_of k.concrete t) fit refl h
+
+pub piece_stray_refused_so : PieceStrayRefusedSo
+piece_stray_refused_so k t = (
+  λ h. (stray_refused_so k.concrete t).0 (strayed_err k (stray_of k.concrete t) CannotMove h),
+  λ h. ap (strayed_at k) ((stray_refused_so k.concrete t).1 h),
+)
+
+never_broken : (k : ConcreteState) (t : ℕ) (o : Option ℕ) → stray_at k t o ≡ Err Broken → ⊥
+never_broken k t None h = cc
+never_broken k t (Some a) h = cc
+
+pub stray_refused : (k : PieceConcrete) (t : ℕ) (f : StepFault) → stray_of k.concrete t ≡ Err f
+    → RefusesStray (pieces_at k) t f
+stray_refused k t CannotMove h = (stray_refused_so k.concrete t).0 h
+stray_refused k t Broken h = never_broken k.concrete t (k.concrete.common.asleep t) h
+
+-- a kill
+kills_by : (p : Program) (k k' : PieceConcrete) (t : ℕ) (e : Told) (r : Result (ConcreteState × Told) StepFault)
+    → IsFit p k → kill_of k.concrete t ≡ r → killed_at p k t r ≡ Ok (k', e)
+    → Kills p (pieces_at k) t e (pieces_at k') × IsFit p k'
+kills_by p k k' t e (Ok q) fit done h =
+    subst (λ (z : PieceConcrete × Told). Kills p (pieces_at k) t z.1 (pieces_at z.0) × IsFit p z.0)
+    (inside _ (k', e) h) (kill_done p k q.0 t q.1 fit done)
+kills_by p k k' t e (Err f) fit done h = absurd cc
+
+pub piece_kills_so : PieceKillsSo
+piece_kills_so p k k' t e fit h = kills_by p k k' t e (kill_of k.concrete t) fit refl h
+
+pub piece_kill_refused_so : PieceKillRefusedSo
+piece_kill_refused_so p k t = (
+  λ h. (kill_refused_so k.concrete t).0 (killed_err p k t (kill_of k.concrete t) CannotMove h),
+  λ h. ap (killed_at p k t) ((kill_refused_so k.concrete t).1 h),
+)
+
+pub pieces_open_so : PiecesOpenSo
+pieces_open_so p n = λ i. record (opening_pieces p n) { base = (opens_so p).0 i }
