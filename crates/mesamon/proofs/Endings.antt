@@ -13,7 +13,7 @@ use Rattle.runner.specs.Logs.{Outside}
 use Rattle.runner.specs.Reports.{IsReport}
 use Rattle.commandline.specs.CommandLine.{AsksFor}
 use Rattle.commandline.specs.declared.job.Job.{Job}
-use Rattle.mesamon.specs.Asked.{asks_for_more}
+use Rattle.mesamon.specs.Asked.{asks_for_more, searched_by}
 use Rattle.mesamon.specs.Commands.{HasAnswered, HasDone, HasEnded, HasExecuted, HasExplained, HasListed, HasRun}
 use Rattle.mesamon.specs.Commands.{IsReportOf}
 use Rattle.mesamon.specs.Commands.{status_of_verdict}
@@ -23,45 +23,52 @@ use Rattle.runner.specs.declared.report.Verdict.{Verdict}
 use Rattle.runner.specs.declared.report.Verdict.TheVariants as verdict
 
 -- a run that came to its end so has ended so
-pub done-at : (m : Bool) (W E : List ℕ → Type 0) (v : Verdict) (s : Status) → HasEnded m W E (status_of_verdict v)
-    → s ≡ status_of_verdict v → HasDone m W E s
-done-at m W E verdict.Done s h e = subst (HasDone m W E) (sym e) (inr (inr (inl h)))
-done-at m W E verdict.Stuck s h e = subst (HasDone m W E) (sym e) h
-done-at m W E verdict.Limit s h e = subst (HasDone m W E) (sym e) h
+pub done-at : (j : Job) (W E : List ℕ → Type 0) (v : Verdict) (s : Status) → HasEnded j W E (status_of_verdict v)
+    → s ≡ status_of_verdict v → HasDone j W E s
+done-at j W E verdict.Done s h e = subst (HasDone j W E) (sym e) (inr (inr (inl h)))
+done-at j W E verdict.Stuck s h e = subst (HasDone j W E) (sym e) h
+done-at j W E verdict.Limit s h e = subst (HasDone j W E) (sym e) h
 
 -- a run ended as its verdict says
-pub ran : (m : Bool) (W E : List ℕ → Type 0) (s : Status) → HasRun W E s → HasDone m W E s
-ran m W E s h =
-    done-at m W E h.report.verdict s (inl (subst (HasRun W E) h.ended h)) h.ended
+pub ran : (j : Job) (W E : List ℕ → Type 0) (s : Status) → HasRun W E s → HasDone j W E s
+ran j W E s h =
+    done-at j W E h.report.verdict s (inl (subst (HasRun W E) h.ended h)) h.ended
 
 -- so did that of an image
-pub executed : (m : Bool) (W E : List ℕ → Type 0) (s : Status) → HasExecuted W E s → HasDone m W E s
-executed m W E s h =
-    done-at m W E h.report.verdict s (inr (inl (subst (HasExecuted W E) h.ended h))) h.ended
+pub executed : (j : Job) (W E : List ℕ → Type 0) (s : Status) → HasExecuted W E s → HasDone j W E s
+executed j W E s h =
+    done-at j W E h.report.verdict s (inr (inl (subst (HasExecuted W E) h.ended h))) h.ended
 
 -- so did one that was explained
-pub explained : (m : Bool) (W E : List ℕ → Type 0) (s : Status) → E [] → HasExplained m W s → HasDone m W E s
-explained m W E s told h =
-    done-at m W E h.explained_run.report.verdict s (inr (inr (inl (subst (HasExplained m W) h.ended h, told)))) h.ended
+explained : (j : Job) (W E : List ℕ → Type 0) (s : Status) → E [] → HasExplained (asks_for_more j) W s
+    → HasDone j W E s
+explained j W E s told h =
+    done-at j W E h.explained_run.report.verdict s
+    (inr (inr (inl (subst (HasExplained (asks_for_more j) W) h.ended h, told)))) h.ended
 
-found-at : (m : Bool) (W E : List ℕ → Type 0) (stuck complete : Bool) (s : Status)
-    → HasEnded m W E (found_status stuck complete) → s ≡ found_status stuck complete → HasDone m W E s
-found-at m W E true complete s h e = subst (HasDone m W E) (sym e) h
-found-at m W E false true s h e = subst (HasDone m W E) (sym e) (inr (inr (inl h)))
-found-at m W E false false s h e = subst (HasDone m W E) (sym e) h
+found-at : (j : Job) (W E : List ℕ → Type 0) (stuck complete : Bool) (s : Status)
+    → HasEnded j W E (found_status stuck complete) → s ≡ found_status stuck complete → HasDone j W E s
+found-at j W E true complete s h e = subst (HasDone j W E) (sym e) h
+found-at j W E false true s h e = subst (HasDone j W E) (sym e) (inr (inr (inl h)))
+found-at j W E false false s h e = subst (HasDone j W E) (sym e) h
 
 -- so did a search over all runs
-pub explored : (m : Bool) (W E : List ℕ → Type 0) (s : Status) → E [] → HasExplored W s → HasDone m W E s
-explored m W E s told h =
+explored : (j : Job) (W E : List ℕ → Type 0) (s : Status) → E [] → HasExplored (searched_by j) W s → HasDone j W E s
+explored j W E s told h =
     let found = h.explored_text.exploration in
-    found-at m W E (is_some found.stuck) found.complete s (inr (inr (inr (subst (HasExplored W) h.ended h, told))))
-    h.ended
+    found-at j W E (is_some found.stuck) found.complete s
+    (inr (inr (inr (subst (HasExplored (searched_by j) W) h.ended h, told)))) h.ended
 
 -- what a job asks for, of the job that it is
 pub explained_as : (W E : List ℕ → Type 0) (s : Status) (job same : Job) → job ≡ same → E []
-    → HasExplained (asks_for_more same) W s → HasDone (asks_for_more job) W E s
+    → HasExplained (asks_for_more same) W s → HasDone job W E s
 explained_as W E s job same is told h =
-    subst (λ (j : Job). HasDone (asks_for_more j) W E s) (sym is) (explained (asks_for_more same) W E s told h)
+    subst (λ (j : Job). HasDone j W E s) (sym is) (explained same W E s told h)
+
+pub explored_as : (W E : List ℕ → Type 0) (s : Status) (job same : Job) → job ≡ same → E []
+    → HasExplored (searched_by same) W s → HasDone job W E s
+explored_as W E s job same is told h =
+    subst (λ (j : Job). HasDone j W E s) (sym is) (explored same W E s told h)
 
 pub listed_as : (W : List ℕ → Type 0) (job same : Job) → job ≡ same → HasListed (asks_for_more same) W
     → HasListed (asks_for_more job) W
@@ -69,7 +76,7 @@ listed_as W job same is h = subst (λ (j : Job). HasListed (asks_for_more j) W) 
 
 -- where a job was done, the words were answered that ask for it
 pub answered : (words : List (List ℕ)) (W E : List ℕ → Type 0) (F : Type 0) (job : Job) (r : Result Status F)
-    → AsksFor words job → IfOk r (HasDone (asks_for_more job) W E) → IfOk r (HasAnswered words W E)
+    → AsksFor words job → IfOk r (HasDone job W E) → IfOk r (HasAnswered words W E)
 answered words W E F job (Ok s) asks done = record { job = job; asks = asks; done = done }
 answered words W E F job (Err f) asks done = tt
 
@@ -107,55 +114,55 @@ has_executed W E F bytes image may limit trace report (Ok s) spelled is run ende
 has_executed W E F bytes image may limit trace report (Err f) spelled is run ended wrote told = tt
 
 -- a command that ran nothing was done
-pub done_by : (m : Bool) (W E : List ℕ → Type 0) (F : Type 0) (A : Type 0) (r : Result Status F)
-    → (A → HasDone m W E Done) → IfOk r (λ s. s ≡ Done) → OnOk r A → IfOk r (HasDone m W E)
-done_by m W E F A (Ok s) goes is wrote = subst (HasDone m W E) (sym is) (goes wrote)
-done_by m W E F A (Err f) goes is wrote = tt
+pub done_by : (j : Job) (W E : List ℕ → Type 0) (F : Type 0) (A : Type 0) (r : Result Status F)
+    → (A → HasDone j W E Done) → IfOk r (λ s. s ≡ Done) → OnOk r A → IfOk r (HasDone j W E)
+done_by j W E F A (Ok s) goes is wrote = subst (HasDone j W E) (sym is) (goes wrote)
+done_by j W E F A (Err f) goes is wrote = tt
 
 -- status 0 is that of a command that was done
-done-zero : (m : Bool) (W E : List ℕ → Type 0) (s : Status) (n : ℕ) → HasDone m W E s → n ≡ status_code s → n ≡ 0
-    → HasDone m W E Done
-done-zero m W E Done n h c z = h
-done-zero m W E Refused n h c z = absurd h
-done-zero m W E Usage n h c z = absurd h
-done-zero m W E Stuck n h c z = absurd (omega (arith, c, z))
-done-zero m W E Limit n h c z = absurd (omega (arith, c, z))
-done-zero m W E Memory n h c z = absurd h
-done-zero m W E Failed n h c z = absurd h
+done-zero : (j : Job) (W E : List ℕ → Type 0) (s : Status) (n : ℕ) → HasDone j W E s → n ≡ status_code s → n ≡ 0
+    → HasDone j W E Done
+done-zero j W E Done n h c z = h
+done-zero j W E Refused n h c z = absurd h
+done-zero j W E Usage n h c z = absurd h
+done-zero j W E Stuck n h c z = absurd (omega (arith, c, z))
+done-zero j W E Limit n h c z = absurd (omega (arith, c, z))
+done-zero j W E Memory n h c z = absurd h
+done-zero j W E Failed n h c z = absurd h
 
 -- status 3 is that of one that was stuck, and 4 of one that came to its limit
-stuck-three : (m : Bool) (W E : List ℕ → Type 0) (s : Status) (n : ℕ) → HasDone m W E s → n ≡ status_code s → n ≡ 3
-    → HasEnded m W E Stuck
-stuck-three m W E Stuck n h c z = h
-stuck-three m W E Refused n h c z = absurd h
-stuck-three m W E Usage n h c z = absurd h
-stuck-three m W E Done n h c z = absurd (omega (arith, c, z))
-stuck-three m W E Limit n h c z = absurd (omega (arith, c, z))
-stuck-three m W E Memory n h c z = absurd h
-stuck-three m W E Failed n h c z = absurd h
+stuck-three : (j : Job) (W E : List ℕ → Type 0) (s : Status) (n : ℕ) → HasDone j W E s → n ≡ status_code s → n ≡ 3
+    → HasEnded j W E Stuck
+stuck-three j W E Stuck n h c z = h
+stuck-three j W E Refused n h c z = absurd h
+stuck-three j W E Usage n h c z = absurd h
+stuck-three j W E Done n h c z = absurd (omega (arith, c, z))
+stuck-three j W E Limit n h c z = absurd (omega (arith, c, z))
+stuck-three j W E Memory n h c z = absurd h
+stuck-three j W E Failed n h c z = absurd h
 
-limit-four : (m : Bool) (W E : List ℕ → Type 0) (s : Status) (n : ℕ) → HasDone m W E s → n ≡ status_code s → n ≡ 4
-    → HasEnded m W E Limit
-limit-four m W E Limit n h c z = h
-limit-four m W E Refused n h c z = absurd h
-limit-four m W E Usage n h c z = absurd h
-limit-four m W E Done n h c z = absurd (omega (arith, c, z))
-limit-four m W E Stuck n h c z = absurd (omega (arith, c, z))
-limit-four m W E Memory n h c z = absurd h
-limit-four m W E Failed n h c z = absurd h
+limit-four : (j : Job) (W E : List ℕ → Type 0) (s : Status) (n : ℕ) → HasDone j W E s → n ≡ status_code s → n ≡ 4
+    → HasEnded j W E Limit
+limit-four j W E Limit n h c z = h
+limit-four j W E Refused n h c z = absurd h
+limit-four j W E Usage n h c z = absurd h
+limit-four j W E Done n h c z = absurd (omega (arith, c, z))
+limit-four j W E Stuck n h c z = absurd (omega (arith, c, z))
+limit-four j W E Memory n h c z = absurd h
+limit-four j W E Failed n h c z = absurd h
 
 -- the same of a command that did what the words ask for
 pub answered-zero : (words : List (List ℕ)) (W E : List ℕ → Type 0) (s : Status) (n : ℕ) → HasAnswered words W E s
     → n ≡ status_code s → n ≡ 0 → HasAnswered words W E Done
 answered-zero words W E s n h c z =
-    record { job = h.job; asks = h.asks; done = done-zero (asks_for_more h.job) W E s n h.done c z }
+    record { job = h.job; asks = h.asks; done = done-zero h.job W E s n h.done c z }
 
 pub answered-three : (words : List (List ℕ)) (W E : List ℕ → Type 0) (s : Status) (n : ℕ) → HasAnswered words W E s
     → n ≡ status_code s → n ≡ 3 → HasAnswered words W E Stuck
 answered-three words W E s n h c z =
-    record { job = h.job; asks = h.asks; done = stuck-three (asks_for_more h.job) W E s n h.done c z }
+    record { job = h.job; asks = h.asks; done = stuck-three h.job W E s n h.done c z }
 
 pub answered-four : (words : List (List ℕ)) (W E : List ℕ → Type 0) (s : Status) (n : ℕ) → HasAnswered words W E s
     → n ≡ status_code s → n ≡ 4 → HasAnswered words W E Limit
 answered-four words W E s n h c z =
-    record { job = h.job; asks = h.asks; done = limit-four (asks_for_more h.job) W E s n h.done c z }
+    record { job = h.job; asks = h.asks; done = limit-four h.job W E s n h.done c z }

@@ -1,5 +1,5 @@
 -- What a search says of a program's image.
-use Rattle.std.proofs.Common.{◌≡◌, ◌<◌, ◌^◌, ℕ, Bool, List, Some, length, subst}
+use Rattle.std.proofs.Common.{◌≡◌, ◌<◌, ◌^◌, ℕ, List, Some, length, subst}
 use Rattle.words.specs.declared.outcome.Cause.{Cause}
 use Rattle.words.specs.declared.outcome.Outcome.TheVariants.{Aborted}
 use Rattle.isa.specs.Programs.{Program as Image}
@@ -7,10 +7,11 @@ use Rattle.machine.specs.Runs.{CanStep, MachineRun, Step}
 use Rattle.machine.specs.States.{State}
 use Rattle.program.specs.Trees.{Program}
 use Rattle.lowering.specs.Pieces.{code_of}
-use Rattle.proof_exploration.specs.Exploring.{HasAborted, IsStuck}
+use Rattle.proof_exploration.specs.Exploring.{IsStuck}
 use Rattle.refinement.specs.Refines.{Refines}
 use Rattle.refinement.specs.Seen.{machine_end}
-use Rattle.source_search.specs.Found.{LeadsNowhere}
+use Rattle.source_search.specs.Found.{HasFailed, IsCounted, LeadsNowhere}
+use Rattle.source_search.specs.declared.outside.Outside.{Outside}
 use Rattle.image_ends.specs.Ending.{AllOver, IsSearched}
 use Rattle.compiler.specs.Accepts.{AcceptsText}
 use Rattle.compiler.specs.Compiles.{IsCompiled}
@@ -20,24 +21,24 @@ use Rattle.mesamon.specs.Exploring.{HoldsOfImage, IsFoundOf}
 -- an image of a program no run of which gets stuck hangs nowhere
 abbrev NeverHangs : Type 0
 NeverHangs =
-    (p : Program) (image : Image) (strays : Bool) (steps : List Step) (s : State) → Refines p image
-    → LeadsNowhere p strays (IsStuck p) → MachineRun image steps s → length steps < 2 ^ 32
-    → IsSearched p strays steps → ((t : ℕ) → CanStep s t → ⊥) → AllOver p s
+    (p : Program) (image : Image) (may : Outside) (steps : List Step) (s : State) → Refines p image
+    → LeadsNowhere p may (IsStuck p) → MachineRun image steps s → length steps < 2 ^ 32
+    → IsSearched p may steps → ((t : ℕ) → CanStep s t → ⊥) → AllOver p s
 
 -- one of a program in no run of which a process aborts has no thread that does
 abbrev NeverAborts : Type 0
 NeverAborts =
-    (p : Program) (image : Image) (strays : Bool) (steps : List Step) (s : State) (q : ℕ) (cause : Cause)
-    → Refines p image → LeadsNowhere p strays HasAborted → MachineRun image steps s → length steps < 2 ^ 32
-    → IsSearched p strays steps → machine_end s q ≡ Some (Aborted cause) → ⊥
+    (p : Program) (image : Image) (may : Outside) (steps : List Step) (s : State) (q : ℕ) (cause : Cause)
+    → Refines p image → LeadsNowhere p may (HasFailed may) → MachineRun image steps s → length steps < 2 ^ 32
+    → IsSearched p may steps → machine_end s q ≡ Some (Aborted cause) → IsCounted may cause → ⊥
 
-pub holds_of_image : NeverHangs → NeverAborts → (p : Program) (strays : Bool) (e : Exploration) → Refines p (code_of p)
-    → IsFoundOf p strays e → HoldsOfImage p strays e
-holds_of_image hangs aborts p strays e refines found = record {
+pub holds_of_image : NeverHangs → NeverAborts → (p : Program) (may : Outside) (e : Exploration) → Refines p (code_of p)
+    → IsFoundOf p may e → HoldsOfImage p may e
+holds_of_image hangs aborts p may e refines found = record {
   never_hangs = λ complete none steps s run few calm rests.
-      hangs p (code_of p) strays steps s refines (found.never_stuck complete none) run few calm rests;
-  never_faults = λ complete none steps s q cause run few calm h.
-      aborts p (code_of p) strays steps s q cause refines (found.never_aborted complete none) run few calm h;
+      hangs p (code_of p) may steps s refines (found.never_stuck complete none) run few calm rests;
+  never_faults = λ complete none steps s q cause run few calm h counted.
+      aborts p (code_of p) may steps s q cause refines (found.never_aborted complete none) run few calm h counted;
 }
 
 -- the image that a text is compiled to refines the text's one program

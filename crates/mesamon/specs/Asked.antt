@@ -5,12 +5,13 @@ use Rattle.commandline.specs.declared.options.ExplainedBy.TheVariants.{Order, Se
 use Rattle.commandline.specs.declared.options.Order.{Order as OrderOf}
 use Rattle.commandline.specs.declared.options.Order.TheVariants.{Workers, InOrder, Seed as InSeed}
 use Rattle.commandline.specs.declared.job.Job.{Job}
-use Rattle.commandline.specs.declared.job.Job.TheVariants.{Explain, List as ListImage}
+use Rattle.commandline.specs.declared.job.Job.TheVariants.{Explain, Explore, List as ListImage}
 use Rattle.commandline.specs.declared.options.ReplayedBy.{ReplayedBy}
 use Rattle.commandline.specs.declared.options.ReplayedBy.TheVariants.{Schedule as BySchedule, Log as ByLog}
 use Rattle.runner.specs.Logs.{Outside, nothing_outside, outside_of}
 use Rattle.runner.specs.declared.report.Report.{Report}
 use Rattle.runner.specs.declared.schedule.Turn.{Turn}
+use Rattle.source_search.specs.declared.outside.Outside.{Outside as Searched}
 use Rattle.mesamon.specs.declared.explained_run.ExplainedRun.{ExplainedRun}
 use Rattle.mesamon.specs.Explaining.{IsExplanation, IsExplanationOfText}
 use Rattle.mesamon.specs.Replaying.{IsReplayOfText}
@@ -27,6 +28,11 @@ abbrev pub asks_for_more : Job → Bool
 asks_for_more (ListImage image source hints) = is_some source
 asks_for_more (Explain file by chart timeline places hints) = places
 asks_for_more other = false
+
+-- what may come from outside in the runs that a job searches
+abbrev pub searched_by : Job → Searched
+searched_by (Explore file states strays kills chart timeline hints) = record { strays = strays; kills = kills }
+searched_by other = record { strays = false; kills = 0 }
 
 -- the run that is explained, by what is named
 abbrev pub IsExplainedAs : ExplainedBy → List ℕ → ExplainedRun → Type 0

@@ -21,7 +21,7 @@ use Rattle.commandline.specs.declared.job.Job.{Job}
 use Rattle.compiler.specs.Accepts.{AcceptsText}
 use Rattle.compiler.specs.Compiles.{IsCompiled}
 use Rattle.mesamon.specs.declared.explained_run.ExplainedRun.{ExplainedRun}
-use Rattle.mesamon.specs.Asked.{asks_for_more}
+use Rattle.mesamon.specs.Asked.{asks_for_more, searched_by}
 use Rattle.mesamon.specs.Running.{IsRunOfText}
 use Rattle.mesamon.specs.Explaining.{IsExplanation, IsExplanationOfText}
 use Rattle.mesamon.specs.Replaying.{IsReplayOfText}
@@ -124,22 +124,24 @@ pub record HasExplained (more : Bool) (Wrote : List ℕ → Type 0) (status : St
 
 -- a command that ended so has run some text or some image, has explained a run, or has searched all runs of some text,
 -- with nothing told of it as an error where it ran nothing
-abbrev pub HasEnded : Bool → (Wrote WroteErrors : List ℕ → Type 0) → Status → Type 0
-HasEnded more Wrote WroteErrors status =
+abbrev pub HasEnded : Job → (Wrote WroteErrors : List ℕ → Type 0) → Status → Type 0
+HasEnded job Wrote WroteErrors status =
     HasRun Wrote WroteErrors status ⊎ (HasExecuted Wrote WroteErrors status
-    ⊎ ((HasExplained more Wrote status × WroteErrors []) ⊎ (HasExplored Wrote status × WroteErrors [])))
+    ⊎ ((HasExplained (asks_for_more job) Wrote status × WroteErrors [])
+    ⊎ (HasExplored (searched_by job) Wrote status × WroteErrors [])))
 
 -- a command that ended well has compiled, has listed, has run, has explained or has checked
-abbrev pub HasDone : Bool → (Wrote WroteErrors : List ℕ → Type 0) → Status → Type 0
-HasDone more Wrote WroteErrors Done =
-    HasCompiled Wrote ⊎ (HasListed more Wrote ⊎ (HasEnded more Wrote WroteErrors Done ⊎ HasChecked Wrote))
-HasDone more Wrote WroteErrors Stuck = HasEnded more Wrote WroteErrors Stuck
-HasDone more Wrote WroteErrors Limit = HasEnded more Wrote WroteErrors Limit
-HasDone more Wrote WroteErrors _ = ⊥
+abbrev pub HasDone : Job → (Wrote WroteErrors : List ℕ → Type 0) → Status → Type 0
+HasDone job Wrote WroteErrors Done =
+    HasCompiled Wrote ⊎ (HasListed (asks_for_more job) Wrote
+    ⊎ (HasEnded job Wrote WroteErrors Done ⊎ HasChecked Wrote))
+HasDone job Wrote WroteErrors Stuck = HasEnded job Wrote WroteErrors Stuck
+HasDone job Wrote WroteErrors Limit = HasEnded job Wrote WroteErrors Limit
+HasDone job Wrote WroteErrors _ = ⊥
 
 -- a command ended so that did the job which the words ask for: more stands beside its lines only where that job asks
--- for it
+-- for it, and what may come from outside in the runs that it searches is what that job says
 pub record HasAnswered (words : List (List ℕ)) (Wrote WroteErrors : List ℕ → Type 0) (status : Status) : Type 0 where
   pub job : Job
   pub asks : AsksFor words job
-  pub done : HasDone (asks_for_more job) Wrote WroteErrors status
+  pub done : HasDone job Wrote WroteErrors status

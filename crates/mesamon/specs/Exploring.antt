@@ -1,6 +1,6 @@
 -- What a search over all runs of a source text's program answers, and what is told of it.
 use Rattle.std.specs.Prelude.{ℕ, ◌≡◌, ◌<◌, ◌^◌, ◌++◌, Bool, length, true, false, IfSome, List, [], Option, Some, None, Vec, codes, map}
-use Rattle.std.specs.Prelude.{is_some, if◌then◌else◌}
+use Rattle.std.specs.Prelude.{is_some, if◌then◌else◌, nat_lt}
 use Rattle.std.specs.Fmt.{decimal}
 use Rattle.std.specs.Global.{Global}
 use Rattle.std.specs.List.{flat_map}
@@ -11,12 +11,13 @@ use Rattle.machine.specs.States.{State}
 use Rattle.program.specs.Names.{Naming, said_by}
 use Rattle.program.specs.Trees.{Program}
 use Rattle.lowering.specs.Pieces.{code_of}
-use Rattle.proof_exploration.specs.Exploring.{HasAborted, IsStuck}
+use Rattle.proof_exploration.specs.Exploring.{IsStuck}
 use Rattle.refinement.specs.Seen.{machine_end}
 use Rattle.image_ends.specs.Ending.{AllOver, IsSearched}
 use Rattle.source_states.specs.declared.action.Action.{Action}
 use Rattle.source_states.specs.Actions.{action_of}
-use Rattle.source_search.specs.Found.{LeadsNowhere, LeadsTo}
+use Rattle.source_search.specs.Found.{HasFailed, IsCounted, LeadsNowhere, LeadsTo}
+use Rattle.source_search.specs.declared.outside.Outside.{Outside}
 use Rattle.source_search.specs.declared.runs.Exploration.{Exploration}
 use Rattle.actionlines.specs.Lines.{line}
 use Rattle.compiler.specs.Accepts.{AcceptsText}
@@ -25,31 +26,31 @@ use Rattle.mesamon.specs.declared.exploring.ExploredText.{ExploredText}
 use Rattle.mesamon.specs.declared.status.Status.{Status}
 use Rattle.mesamon.specs.declared.status.Status.TheVariants.{Done, Stuck, Limit}
 
--- what was found of a program, without stray wakes or with them: runs with such an end; and where the search was
+-- what was found of a program, with as much from outside as may be: runs with such an end; and where the search was
 -- complete and found none, there is none
-pub record IsFoundOf (p : Program) (strays : Bool) (e : Exploration) : Type 0 where
-  pub stuck : IfSome e.stuck (λ v. LeadsTo p strays (IsStuck p) v.items)
-  pub aborted : IfSome e.aborted (λ v. LeadsTo p strays HasAborted v.items)
-  pub never_stuck : e.complete ≡ true → e.stuck ≡ None → LeadsNowhere p strays (IsStuck p)
-  pub never_aborted : e.complete ≡ true → e.aborted ≡ None → LeadsNowhere p strays HasAborted
+pub record IsFoundOf (p : Program) (may : Outside) (e : Exploration) : Type 0 where
+  pub stuck : IfSome e.stuck (λ v. LeadsTo p may (IsStuck p) v.items)
+  pub aborted : IfSome e.aborted (λ v. LeadsTo p may (HasFailed may) v.items)
+  pub never_stuck : e.complete ≡ true → e.stuck ≡ None → LeadsNowhere p may (IsStuck p)
+  pub never_aborted : e.complete ≡ true → e.aborted ≡ None → LeadsNowhere p may (HasFailed may)
 
--- of each run of the program's image, under whatever schedule, of fewer than 2^32 steps, in which nobody is killed, and,
--- where no stray wakes were searched, nobody who waits on a condition is woken from outside: where the search was complete and found no run
--- that gets stuck, all processes are over wherever no thread can move; and where it found none that aborts, no thread
--- has aborted
-pub record HoldsOfImage (p : Program) (strays : Bool) (e : Exploration) : Type 0 where
+-- of each run of the program's image, under whatever schedule, of fewer than 2^32 steps, in which no more are killed than
+-- may be, and, where no stray wakes were searched, nobody who waits on a condition is woken from outside: where the
+-- search was complete and found no run that gets stuck, all processes are over wherever no thread can move; and where it
+-- found none that aborts, no thread has aborted, or where kills were searched none but by a kill
+pub record HoldsOfImage (p : Program) (may : Outside) (e : Exploration) : Type 0 where
   pub never_hangs : e.complete ≡ true → e.stuck ≡ None → (steps : List Step) (s : State)
-      → MachineRun (code_of p) steps s → length steps < 2 ^ 32 → IsSearched p strays steps
+      → MachineRun (code_of p) steps s → length steps < 2 ^ 32 → IsSearched p may steps
       → ((t : ℕ) → CanStep s t → ⊥) → AllOver p s
   pub never_faults : e.complete ≡ true → e.aborted ≡ None → (steps : List Step) (s : State) (q : ℕ) (cause : Cause)
-      → MachineRun (code_of p) steps s → length steps < 2 ^ 32 → IsSearched p strays steps
-      → machine_end s q ≡ Some (outcome.Aborted cause) → ⊥
+      → MachineRun (code_of p) steps s → length steps < 2 ^ 32 → IsSearched p may steps
+      → machine_end s q ≡ Some (outcome.Aborted cause) → IsCounted may cause → ⊥
 
 -- the text's program, what was found of it, and what that says of its image
-pub record IsExploredText (text : List ℕ) (strays : Bool) (r : ExploredText) : Type 0 where
+pub record IsExploredText (text : List ℕ) (may : Outside) (r : ExploredText) : Type 0 where
   pub accepts : AcceptsText text (said_by r.checked)
-  pub found : IsFoundOf (said_by r.checked) strays r.exploration
-  pub image : HoldsOfImage (said_by r.checked) strays r.exploration
+  pub found : IsFoundOf (said_by r.checked) may r.exploration
+  pub image : HoldsOfImage (said_by r.checked) may r.exploration
 
 -- the line of how many states were kept
 abbrev pub states_line : ℕ → Bool → List ℕ
@@ -61,12 +62,17 @@ end_lines names word none complete (Some v) = word ++ flat_map (line names) (map
 end_lines names word none true None = none
 end_lines names word none false None = []
 
+-- the line of a complete search that found no process to abort: whom a kill meets has aborted
+abbrev pub none_aborts : Outside → List ℕ
+none_aborts may =
+    if nat_lt 0 may.kills then codes "no process aborts but by a kill\n" else codes "no process aborts\n"
+
 -- all that is told
-abbrev pub explored_lines : ExploredText → List ℕ
-explored_lines r =
+abbrev pub explored_lines : Outside → ExploredText → List ℕ
+explored_lines may r =
     let e = r.exploration in
     (states_line e.states e.complete ++ end_lines r.checked.names (codes "stuck\n") (codes "no run is stuck\n") e.complete e.stuck)
-    ++ end_lines r.checked.names (codes "aborted\n") (codes "no process aborts\n") e.complete e.aborted
+    ++ end_lines r.checked.names (codes "aborted\n") (none_aborts may) e.complete e.aborted
 
 -- how the search ended, by whether a run gets stuck and whether all were seen
 abbrev pub found_status : Bool → Bool → Status
@@ -77,11 +83,10 @@ found_status false false = Limit
 abbrev pub explored_status : Exploration → Status
 explored_status e = found_status (is_some e.stuck) e.complete
 
--- all runs of some text were searched, without stray wakes or with them, and what was found was written
-pub record HasExplored (Wrote : List ℕ → Type 0) (status : Status) : Type 0 where
+-- all runs of some text were searched, with as much from outside as may be, and what was found was written
+pub record HasExplored (may : Outside) (Wrote : List ℕ → Type 0) (status : Status) : Type 0 where
   pub text : List ℕ
-  pub strays : Bool
   pub explored_text : ExploredText
-  pub explored : IsExploredText text strays explored_text
+  pub explored : IsExploredText text may explored_text
   pub ended : status ≡ explored_status explored_text.exploration
-  pub wrote : Wrote (explored_lines explored_text)
+  pub wrote : Wrote (explored_lines may explored_text)

@@ -23,6 +23,7 @@ use devices::Counted;
 use emit::emit;
 use isa::{Image, encode};
 use program::Checked;
+use source_search::Outside;
 use std::alloc::Global;
 use std::io;
 use std::io::Write;
@@ -159,12 +160,14 @@ fn do_job<'a, R: Files + AllocGlobal + Threads + Wait + Sync, O: Write, E: Write
             file,
             states,
             strays,
+            kills,
             chart,
             timeline,
             hints,
         } => {
             let drawings = Drawings { chart, timeline };
-            explore_file(rt, file, states, strays, drawings, hints, output, told)
+            let outside = Outside { strays, kills };
+            explore_file(rt, file, states, outside, drawings, hints, output, told)
         }
     }
 }

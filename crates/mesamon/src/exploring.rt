@@ -3,7 +3,7 @@ ghost use Rattle.devices.specs.Writing.{HasAll};
 ghost use Rattle.scanner.specs.Refusals.{out_of_memory};
 ghost use Rattle.program.specs.Names.{naming_of, said_by};
 ghost use Rattle.compiler.specs.Accepts.{RefusesText};
-ghost use Rattle.mesamon.specs.Exploring.{end_lines, explored_lines, explored_status, states_line};
+ghost use Rattle.mesamon.specs.Exploring.{end_lines, explored_lines, explored_status, none_aborts, states_line};
 ghost use Rattle.mesamon.specs.Exploring.{HasExplored, IsExploredText, IsFoundOf};
 
 use crate::drawing::{Drawings, ShownRun};
@@ -19,7 +19,7 @@ use devices::{Counted, write_bytes};
 use image_ends::image_laws;
 use program::{Checked, Names};
 use scanner::Refusal;
-use source_search::{Exploration, explore};
+use source_search::{Exploration, Outside, explore};
 use source_states::Action;
 use std::alloc::{AllocError, Global};
 use std::fmt::Write as _;
@@ -36,10 +36,12 @@ pub struct ExploredText<'a> {
 }
 
 /// Searches all runs of the program of a source text, keeping at most so many states: for one that gets stuck, and for
-/// one in which a process aborts. With strays, processes that wait on a condition are also woken by nobody.
+/// one in which a process aborts. With strays, processes that wait on a condition are also woken by nobody; with kills,
+/// so many processes at most are killed, wherever they stand, and who was killed doesn't count as one that aborts.
 ///
 /// Where the search was complete and found none, there is none, and so no schedule of the text's image hangs, or has a
-/// thread that aborts: with strays whatever wakes come from outside, else as long as none do.
+/// thread that aborts: with strays whatever wakes come from outside, else as long as none do; and as long as no more
+/// threads are killed.
 ///
 /// # Errors
 ///
@@ -48,15 +50,15 @@ pub fn explore_source<'a>(
     alloc: Global,
     text: &'a [u8],
     most_states: usize,
-    strays: bool,
+    outside: Outside,
 ) -> Result<ExploredText<'a>, Refusal>
-    ensures { MatchResult result (λ explored. IsExploredText text.now strays explored)
+    ensures { MatchResult result (λ explored. IsExploredText text.now outside explored)
         (λ e. (e ≡ out_of_memory) ⊎ RefusesText text.now e) }
 {
     text_laws();
     image_laws();
     let (checked, _lowered) = compile_checked(alloc, text)?;
-    let exploration = explore_checked(alloc, &checked, most_states, strays)?;
+    let exploration = explore_checked(alloc, &checked, most_states, outside)?;
     Ok(ExploredText {
         checked,
         exploration,
@@ -68,27 +70,27 @@ fn explore_checked(
     alloc: Global,
     checked: &Checked,
     most_states: usize,
-    strays: bool,
+    outside: Outside,
 ) -> Result<Exploration, AllocError>
-    ensures { IfOk result (λ e. IsFoundOf (said_by checked.now) strays e) }
+    ensures { IfOk result (λ e. IsFoundOf (said_by checked.now) outside e) }
 {
-    explore(alloc, checked, most_states, strays)
+    explore(alloc, checked, most_states, outside)
 }
 
-/// Searches all runs of the source text of a file, with stray wakes or without, prints what is found, and shows it in
-/// other files where they are named and anything was found.
+/// Searches all runs of the source text of a file, with as much from outside as may be, prints what is found, and shows
+/// it in other files where they are named and anything was found.
 pub fn explore_file<'a, R: Files + AllocGlobal, O: Write>(
     rt: &R,
     file: &'a str,
     most_states: u32,
-    strays: bool,
+    outside: Outside,
     drawings: Drawings<'a>,
     hints: bool,
     output: &mut Counted<O>,
     told: &mut String,
 ) -> Result<Status, Failure<'a>>
     ensures { IfOk result
-        (λ s. HasExplored (HasAll O.contents output.old output.new) s) }
+        (λ s. HasExplored outside (HasAll O.contents output.old output.new) s) }
 {
     let bytes = bytes_of(rt, file)?;
     let text = SourceText {
@@ -96,8 +98,8 @@ pub fn explore_file<'a, R: Files + AllocGlobal, O: Write>(
         bytes: bytes.as_slice(),
         hints,
     };
-    let explored = explore_text(rt.alloc(), &text, most_states, strays)?;
-    let lines = lines_of(rt.alloc(), &explored)?;
+    let explored = explore_text(rt.alloc(), &text, most_states, outside)?;
+    let lines = lines_of(rt.alloc(), &explored, outside)?;
     let found = shown(&explored.exploration);
     tell_found(rt.alloc(), told, &text, &explored.checked, found);
     put_found(rt, drawings, &text, &explored)?;
@@ -110,11 +112,11 @@ fn explore_text<'a, 't>(
     alloc: Global,
     text: &SourceText<'t>,
     most_states: u32,
-    strays: bool,
+    outside: Outside,
 ) -> Result<ExploredText<'t>, Failure<'a>>
-    ensures { IfOk result (λ explored. IsExploredText text.now.bytes.now strays explored) }
+    ensures { IfOk result (λ explored. IsExploredText text.now.bytes.now outside explored) }
 {
-    explore_source(alloc, text.bytes, most_states as usize, strays).map_err(|refusal| hinted(
+    explore_source(alloc, text.bytes, most_states as usize, outside).map_err(|refusal| hinted(
         alloc,
         text,
         Failure::from(refusal),
@@ -166,8 +168,12 @@ fn status_of_found(found: &Exploration) -> Status
 }
 
 // What is told of a search.
-fn lines_of(alloc: Global, explored: &ExploredText<'_>) -> Result<Vec<u8>, AllocError>
-    ensures { IfOk result (λ v. v.items ≡ explored_lines explored.now) }
+fn lines_of(
+    alloc: Global,
+    explored: &ExploredText<'_>,
+    outside: Outside,
+) -> Result<Vec<u8>, AllocError>
+    ensures { IfOk result (λ v. v.items ≡ explored_lines outside explored.now) }
 {
     let names = explored.checked.names();
     let found = &explored.exploration;
@@ -187,11 +193,22 @@ fn lines_of(alloc: Global, explored: &ExploredText<'_>) -> Result<Vec<u8>, Alloc
         &mut lines,
         names,
         "aborted\n",
-        "no process aborts\n",
+        none_aborts(outside),
         complete,
         &found.aborted,
     )?;
     Ok(lines)
+}
+
+// What is told where no process was found to abort.
+fn none_aborts(outside: Outside) -> &'static str
+    ensures { result.now ≡ none_aborts outside }
+{
+    if outside.kills > 0 {
+        "no process aborts but by a kill\n"
+    } else {
+        "no process aborts\n"
+    }
 }
 
 fn first_line(alloc: Global, states: usize, complete: bool) -> Result<Vec<u8>, AllocError>

@@ -2,7 +2,7 @@
 
 use crate::failure::Failure;
 use compiler::compile_checked;
-use source_search::{Exploration, explore};
+use source_search::{Exploration, Outside, explore};
 use source_states::Action;
 use std::alloc::Global;
 use std::io;
@@ -20,18 +20,25 @@ fn search(alloc: Global, said: &str) -> Result<Exploration, Failure> {
     let (most, said) = said.split_once(' ').ok_or(Failure::Row)?;
     let (runs, text) = said.split_once(' ').ok_or(Failure::Row)?;
     let most: usize = most.parse().map_err(|_| Failure::Row)?;
-    let strays = has_strays(runs)?;
+    let outside = outside_of(runs)?;
     let (checked, _lowered) = compile_checked(alloc, text.as_bytes())?;
-    Ok(explore(alloc, &checked, most, strays)?)
+    Ok(explore(alloc, &checked, most, outside)?)
 }
 
-// Whether the runs that are searched have stray wake-ups.
-fn has_strays(runs: &str) -> Result<bool, Failure> {
-    match runs {
-        "own" => Ok(false),
-        "strays" => Ok(true),
-        _ => Err(Failure::Row),
-    }
+// What comes from outside in the runs that are searched.
+fn outside_of(runs: &str) -> Result<Outside, Failure> {
+    let strays = runs == "strays";
+    let kills = match runs {
+        "own" | "strays" => 0,
+        _ => kills_of(runs)?,
+    };
+    Ok(Outside { strays, kills })
+}
+
+// How many kills a word says, as `kills1`.
+fn kills_of(runs: &str) -> Result<u32, Failure> {
+    let digits = runs.strip_prefix("kills").ok_or(Failure::Row)?;
+    digits.parse().map_err(|_| Failure::Row)
 }
 
 fn show<R: Print>(rt: &R, found: &Exploration) -> io::Result<()> {

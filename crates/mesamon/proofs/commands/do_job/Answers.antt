@@ -1,6 +1,6 @@
 use Rattle.std.proofs.Common.{inl, inr, map}
 use Rattle.std.proofs.lemmas.Result.{IfOk-weaker}
-use Rattle.mesamon.proofs.Endings.{answered, done_by, executed, explained_as, explored, listed_as}
+use Rattle.mesamon.proofs.Endings.{answered, done_by, executed, explained_as, explored_as, listed_as}
 use Rattle.mesamon.proofs.Endings.{nothing_written, ran}
 use Rattle.commandline.proofs.Workers.{compiling_workers}
 use Rattle.mesamon.proofs.commands.do_job.Goals as goal
@@ -57,4 +57,4 @@ returns-in-Emit g c =
 pub returns-in-Explore : goal.returns-in-Explore
 returns-in-Explore g c =
     answered _ _ _ _ c.in_ok-file.field-0 c.explore_file.result c.in_ok-file.ensures.job
-    (IfOk-weaker c.explore_file.result _ _ (λ s h. explored _ _ _ s (nothing_written _) h) c.explore_file.ensures)
+    (IfOk-weaker c.explore_file.result _ _ (λ s h. explored_as _ _ s _ _ c.in-Explore.is (nothing_written _) h) c.explore_file.ensures)

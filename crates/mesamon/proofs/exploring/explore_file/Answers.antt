@@ -4,7 +4,6 @@ use Rattle.mesamon.proofs.exploring.explore_file.Goals as goal
 pub returns : goal.returns
 returns g c = record {
   text = _;
-  strays = c.args.strays;
   explored_text = _;
   explored = c.in_ok-explored.ensures;
   ended = c.status_of_found.ensures;
